@@ -1,0 +1,177 @@
+-- "The book": 8 relations and 32 registers, each empty or holding a set of pairs or of states; each call's effect and answer; a whole list.
+-- Assumes nothing.
+use mathlib.Core.Bool.{Bool, true, false, not, cond, _&&_}
+use mathlib.Core.List.{List, [], _∷_, _++_}
+use mathlib.Core.Option.{Option, none, some}
+use Prim.Native.Nat.{ℕ, zero, suc, _+_, _*_, _^_, min}
+use lib.Dec.{leb, ltb}
+use Rattle.mucalculus.specs.Sets.{mem, table, all}
+use Rattle.mucalculus.specs.Order.{weight}
+use Rattle.mucalculus.specs.Form.{Form, Pairs, Model, put, filled}
+use Rattle.mucalculus.specs.Means.{means, meansPair}
+use Rattle.mucalculus.specs.Answer.{noEnv}
+use Rattle.formula.specs.Form.{Got, fails, got, formulaOf}
+use Rattle.formula.specs.Checks.{laterRefusal}
+use Rattle.formula.specs.declared.Kind.the-variants.{Relation, Set}
+use Rattle.diagram.specs.Level.{Fn}
+use Rattle.diagram.specs.Need.{need}
+use Rattle.book.specs.Bridge.{fnOf, fnOfPairs}
+use Rattle.book.specs.Ticks.{contents, ticks, pairTicks, Verdict, counted, full, spent, verdict}
+use Rattle.book.specs.Read.{asForm}
+
+-- "The table has N rows, 32 registers, 8 relations and a tally"
+abbrev pub registers : ℕ
+registers = 32
+
+abbrev pub relations : ℕ
+relations = 8
+
+-- where the tally stays
+abbrev pub tallyTop : ℕ
+tallyTop = 4_294_967_295
+
+-- the book: n and N of the answered fresh, what is filled and with what, and the tally
+pub record Book : Type 0 where
+  pub n : ℕ
+  pub N : ℕ
+  pub rel : ℕ → Option Pairs
+  pub reg : ℕ → Option (List Bool)
+  pub tally : ℕ
+
+-- "All start empty"
+abbrev pub fresh : ℕ → ℕ → Book
+fresh n N = record { n = n; N = N; rel = λ t. none; reg = λ r. none; tally = 0 }
+
+-- "Fresh takes n, a row count N (1 to 60,000) and at least 256 + 12 × N words": n from 1 to 16, and so many words lent
+abbrev pub freshFits : ℕ → ℕ → ℕ → Bool
+freshFits n N words = (leb 1 n && leb n 16) && ((leb 1 N && leb N 60_000) && leb (256 + 12 * N) words)
+
+-- a call: its kind and arguments, formula bytes and R included
+pub data Call : Type 0 where
+  relation : ℕ → List ℕ → Call  -- relation t, bytes
+  set : ℕ → ℕ → List ℕ → Call  -- set r, R, bytes
+  clear : ℕ → Call  -- clear r
+  collect : Call
+  node : ℕ → Call  -- node r
+  member : ℕ → ℕ → Call  -- member r, state
+  count : ℕ → Call  -- count r
+  tally : Call
+
+-- an answer: the refusal's number or 0, the rounds, and the value where the rules settle it (a node number above 1 is the builder's)
+pub record Answer : Type 0 where
+  pub number : ℕ
+  pub rounds : ℕ
+  pub value : Option ℕ
+
+-- "Returned: number, zeros"
+abbrev pub refused : ℕ → Answer
+refused k = record { number = k; rounds = 0; value = some 0 }
+
+-- answered, with a value and no rounds
+abbrev pub answered : Option ℕ → Answer
+answered x = record { number = 0; rounds = 0; value = x }
+
+-- ---- what a call sees of the book
+
+-- what its formula is read over
+abbrev pub modelOf : Book → Model
+modelOf b = record { n = b .n; rel = b .rel; reg = b .reg }
+
+-- "all filled registers and relations" are live, the old content of the target too
+abbrev pub liveOf : Book → List Fn
+liveOf b = contents (fnOf (b .n)) registers (b .reg) ++ contents (fnOfPairs (b .n)) relations (b .rel)
+
+-- which registers and relations are filled
+abbrev pub filledRegs : Book → List Bool
+filledRegs b = table registers (λ r. filled (b .reg r))
+
+abbrev pub filledRels : Book → List Bool
+filledRels b = table relations (λ t. filled (b .rel t))
+
+-- the number of checks 4 to 7 on what was read, 0 where they pass
+abbrev pub checks : Book → Got → ℕ
+checks b g = laterRefusal (filledRegs b) (filledRels b) g
+
+-- ---- the effect of each call
+
+-- a call's effect and its answer
+abbrev pub Done : Type 0
+Done = Book × Answer
+
+-- "A call refused changes nothing"
+abbrev pub refuse : Book → ℕ → Done
+refuse b k = (b, refused k)
+
+-- relation t holds Q
+abbrev pub withRel : Book → ℕ → Option Pairs → Book
+withRel b t Q = record { n = b .n; N = b .N; rel = put (b .rel) t Q; reg = b .reg; tally = b .tally }
+
+-- register r holds A, and the tally is k
+abbrev pub withReg : Book → ℕ → Option (List Bool) → ℕ → Book
+withReg b r A k = record { n = b .n; N = b .N; rel = b .rel; reg = put (b .reg) r A; tally = k }
+
+-- "the rounds of all answered set calls since fresh, staying at 4,294,967,295 once it would pass that"
+abbrev pub tallied : ℕ → ℕ → ℕ
+tallied k q = min (k + q) tallyTop
+
+-- the node number where it is settled: "An arrow is 0 (nothing), 1 (everything) or a used row", and numbers above 1 are the builder's
+abbrev pub nodeOf : List Bool → Option ℕ
+nodeOf A = cond (all (λ a. not a) A) (some 0) (cond (all (λ a. a) A) (some 1) none)
+
+-- the steps' verdict decides: 8, 9, or what a call leaves and answers after its rounds
+abbrev pub ended : Book → Verdict → (ℕ → Done) → Done
+ended b (counted q) go = go q
+ended b full go = refuse b 8
+ended b spent go = refuse b 9
+
+-- "relation t then holds exactly the pairs in which the formula holds"
+abbrev pub relationDone : Book → ℕ → Form → Done
+relationDone b t f = (withRel b t (some (meansPair (b .n) f)), answered (some 0))
+
+-- "register r exactly the states": the set A, made in q rounds
+abbrev pub setDone : Book → ℕ → List Bool → ℕ → Done
+setDone b r A q = (withReg b r (some A) (tallied (b .tally) q), record { number = 0; rounds = q; value = nodeOf A })
+
+-- relation t, after its checks
+abbrev pub relationSteps : Book → ℕ → Form → Done
+relationSteps b t f = ended b (verdict (b .N) 0 0 (pairTicks (b .n) (liveOf b) f)) (λ q. relationDone b t f)
+
+-- set r, after its checks
+abbrev pub setSteps : Book → ℕ → ℕ → Form → Done
+setSteps b r R f = ended b (verdict (b .N) R 0 (ticks (modelOf b) noEnv (liveOf b) f)) (λ q. setDone b r (means (modelOf b) noEnv f) q)
+
+-- go on where the number is 0, else refuse with it
+abbrev pub passing : Book → ℕ → Done → Done
+passing b zero go = go
+passing b (suc k) go = refuse b (suc k)
+
+-- checks 4 to 7 over the whole formula, then its steps
+abbrev pub formulaCall : Book → Got → (Form → Done) → Done
+formulaCall b fails go = refuse b 4
+formulaCall b (got f e) go = let d = go (asForm f) in passing b (checks b (got f e)) d
+
+-- a question of register r, which is refused where it is empty
+abbrev pub asked : Book → Option (List Bool) → (List Bool → Option ℕ) → Done
+asked b none g = refuse b 7
+asked b (some A) g = (b, answered (g A))
+
+-- a Boolean answer as a value
+abbrev pub oneOf : Bool → ℕ
+oneOf true = 1
+oneOf false = 0
+
+-- each call, its checks in the order of the table of refusals
+abbrev pub does : Book → Call → Done
+does b (relation t bs) = let d = formulaCall b (formulaOf (b .n) Relation bs) (relationSteps b t) in cond (ltb t relations) d (refuse b 3)
+does b (set r R bs) = let d = formulaCall b (formulaOf (b .n) Set bs) (setSteps b r R) in cond (ltb r registers) d (refuse b 3)
+does b (clear r) = cond (ltb r registers) (withReg b r none (b .tally), answered (some 0)) (refuse b 3)
+does b collect = (b, answered (some (need (2 * b .n) (liveOf b))))
+does b (node r) = cond (ltb r registers) (asked b (b .reg r) nodeOf) (refuse b 3)
+does b (member r s) = cond (ltb r registers) (cond (ltb s (2 ^ b .n)) (asked b (b .reg r) (λ A. some (oneOf (mem A s)))) (refuse b 3)) (refuse b 3)
+does b (count r) = cond (ltb r registers) (asked b (b .reg r) (λ A. some (weight true A))) (refuse b 3)
+does b tally = (b, answered (some (b .tally)))
+
+-- a whole list of calls: the book after it, and the answers in order
+abbrev pub play : Book → List Call → Book × List Answer
+play b [] = (b, [])
+play b (c ∷ cs) = let d = does b c in let e = play (d .0) cs in (e .0, d .1 ∷ e .1)

@@ -1,0 +1,111 @@
+-- Roots are the arrows that a step must keep: each live function is denoted by one of them, and each denotes a live function, in any order.
+-- So what a step answers in the table is what it comes to in the book. Assumes nothing.
+use mathlib.Core.Path.{_≡_, refl, sym, ap, _∙_, subst, fun-ext}
+use mathlib.Core.Logic.{⊎-elim}
+use mathlib.Core.Bool.{Bool, true, false, cond}
+use mathlib.Core.List.{List, _∷_, map, List·Memᴰ as Mem, List·Memᴰ·head as here, List·Memᴰ·tail as there, List·Memᴰ·cases-cons as mem-cases, Memᴰ·cast as mem-cast, Memᴰ·map as mem-map, Memᴰ·of-map as mem-of-map}
+use Prim.Native.Nat.{ℕ, _*_, _≤_, _<_}
+use native.Mathlib.Omega.{arith}
+use lib.Dec.{leb, le→leb, leb→le}
+use Rattle.mucalculus.specs.Sets.{true-of, false-of}
+use Rattle.diagram.specs.Level.{Fn}
+use Rattle.diagram.specs.Rows.{Rows, Arrow, den}
+use Rattle.diagram.specs.Need.{need}
+use Rattle.diagram.specs.Needed.{need-same}
+use Rattle.diagram.specs.Post.{Outcome as Tried, done, full as noRows, Denotes}
+use Rattle.diagram.specs.Step.{Keeps, row-trans, reach-kept, StepPost}
+use Rattle.book.specs.Run.{Outcome, full, stepNeed, step}
+
+pub record Held (m : ℕ) (rows : Rows) (roots : List ℕ) (live : List Fn) : Type 0 where
+  pub each : (f : Fn) → Mem f live → (a : ℕ) × Mem a roots × Denotes m rows a f
+  pub only : (a : ℕ) → Mem a roots → (f : Fn) × Mem f live × Denotes m rows a f
+
+-- what denotes f, denotes each function with the same values
+pub denotes-same : {m : ℕ} {rows : Rows} {a : ℕ} {F G : Fn} → F ≡ G → Denotes m rows a F → Denotes m rows a G
+denotes-same {m} {rows} {a} e d = subst (λ (H : Fn). Denotes m rows a H) e d
+
+-- a function that is denoted is the one that the arrow denotes
+pub denoted : {m : ℕ} {rows : Rows} {a : ℕ} {F : Fn} → Denotes m rows a F → den m rows a ≡ F
+denoted d = fun-ext (d .same)
+
+-- an arrow that is kept denotes what it did
+pub keeps-denotes : {m : ℕ} {before after : Rows} {a : ℕ} {F : Fn} → Keeps m before after a → Denotes m before a F → Denotes m after a F
+keeps-denotes k d = record { arrow = k .arrow; same = λ v. k .same v ∙ d .same v }
+
+pub keeps-trans : {m : ℕ} {before mid after : Rows} {a : ℕ} → Keeps m before mid a → Keeps m mid after a → Keeps m before after a
+keeps-trans k l = record { arrow = l .arrow; same = λ v. l .same v ∙ k .same v; rows = λ i r. row-trans (k .rows i r) (l .rows i (reach-kept (k .rows) r)) }
+
+module _ {m : ℕ} {rows : Rows} {roots : List ℕ} {live : List Fn} (h : Held m rows roots live) where
+  pub held-arrow : (a : ℕ) → Mem a roots → Arrow rows a
+  held-arrow a i = let (f, j, d) = h .only a i in d .arrow
+
+  -- one value more on both sides
+  pub held-push : {a : ℕ} {F : Fn} → Denotes m rows a F → Held m rows (a ∷ roots) (F ∷ live)
+  held-push {a} {F} d = record {
+    each = λ f i. ⊎-elim (λ e. (a, here refl, denotes-same (sym e) d)) (λ j. let (b, k, c) = h .each f j in (b, there k, c)) (mem-cases i);
+    only = λ b i. ⊎-elim (λ e. (F, here refl, subst (λ (x : ℕ). Denotes m rows x F) (sym e) d)) (λ j. let (f, k, c) = h .only b j in (f, there k, c)) (mem-cases i);
+  }
+
+  -- an operand that is live already, as a relation is
+  pub held-operand : {F : Fn} → Mem F live → Held m rows roots (F ∷ live)
+  held-operand {F} k = record {
+    each = λ f i. ⊎-elim (λ e. h .each f (mem-cast e k)) (λ j. h .each f j) (mem-cases i);
+    only = λ b i. let (f, j, c) = h .only b i in (f, there j, c);
+  }
+
+  -- kept roots hold the same functions
+  pub held-keeps : {after : Rows} → ((a : ℕ) → Mem a roots → Keeps m rows after a) → Held m after roots live
+  held-keeps k = record {
+    each = λ f i. let (a, j, d) = h .each f i in (a, j, keeps-denotes (k a j) d);
+    only = λ a i. let (f, j, d) = h .only a i in (f, j, keeps-denotes (k a i) d);
+  }
+
+  -- the live functions are those that the roots denote
+  live-of : (f : Fn) → Mem f (map (den m rows) roots) → Mem f live
+  live-of f j =
+      let (a, k, e) = mem-of-map (den m rows) roots j in
+      let (g, l, d) = h .only a k in
+      mem-cast (sym e ∙ denoted d) l
+
+  root-of : (f : Fn) → Mem f live → Mem f (map (den m rows) roots)
+  root-of f j =
+      let (a, k, d) = h .each f j in
+      mem-cast (sym (denoted d)) (mem-map (den m rows) k)
+
+  -- so both need the same rows
+  pub held-rows : need m (map (den m rows) roots) ≡ need m live
+  held-rows = need-same m (map (den m rows) roots) live live-of root-of
+
+  -- and a step needs the same over either
+  pub held-need : (F : Fn) → need m (F ∷ map (den m rows) roots) ≡ need m (F ∷ live)
+  held-need F = need-same m (F ∷ map (den m rows) roots) (F ∷ live)
+      (λ f i. ⊎-elim (λ e. here e) (λ j. there (live-of f j)) (mem-cases i))
+      (λ f i. ⊎-elim (λ e. here e) (λ j. there (root-of f j)) (mem-cases i))
+
+-- the step was answered
+abbrev pub answered : Tried → Bool
+answered (done a) = true
+answered noRows = false
+
+-- go on where the step is answered
+abbrev pub goesOn : Tried → Outcome → Outcome
+goesOn (done a) o = o
+goesOn noRows o = full
+
+module _ (n N : ℕ) {before after : Rows} {roots : List ℕ} {live : List Fn} {F : Fn} (h : Held (2 * n) before roots live) where
+  -- a step is answered in the table exactly where its need in the book is at most N
+  pub step-fits : (answer : Tried) → StepPost (2 * n) N before after roots answer F → leb (stepNeed n live F) N ≡ answered answer
+  step-fits (done a) p =
+      let k : stepNeed n live F ≤ N = subst (λ (x : ℕ). x ≤ N) (held-need h F) (p .result .1) in
+      true-of (leb (stepNeed n live F) N) (le→leb (stepNeed n live F) N k)
+  step-fits noRows p =
+      let k : N < stepNeed n live F = subst (λ (x : ℕ). N < x) (held-need h F) (p .result) in
+      false-of (leb (stepNeed n live F) N) (λ t. let l = leb→le (stepNeed n live F) N t in omega arith)
+
+  -- what a step answers in the table is what it comes to in the book
+  pub step-taken : (answer : Tried) → StepPost (2 * n) N before after roots answer F → (go : Outcome) → step n N live F go ≡ goesOn answer go
+  step-taken answer p go = ap (λ (b : Bool). cond b go full) (step-fits answer p) ∙ pick answer
+    where
+      pick : (answer : Tried) → cond (answered answer) go full ≡ goesOn answer go
+      pick (done a) = refl
+      pick noRows = refl

@@ -1,0 +1,56 @@
+-- Bigger limits keep a verdict, and the peak of a list of ticks tells a full one. Assumes nothing.
+use mathlib.Core.Path.{_≡_, refl, sym, ap, _∙_, subst}
+use mathlib.Core.Logic.{_↔_}
+use mathlib.Core.Bool.{Bool, true, false, cond, _&&_}
+use mathlib.Core.List.{List, [], _∷_}
+use Prim.Native.Nat.{ℕ, suc, _≤_, _<_, max}
+use native.Mathlib.Omega.{arith}
+use native.Mathlib.Nat.{lt-of-not-le}
+use lib.Dec.{T, leb, leb→le, le→leb, ltb, ltb→lt, lt→ltb}
+use Rattle.mucalculus.specs.Sets.{true-of, false-of}
+use Rattle.book.specs.Ticks.{Tick, step, round, counted, full, spent, verdict, reached}
+use Rattle.book.specs.Exact.{fit}
+use Rattle.book.specs.Verdicts.{verdict-full}
+
+-- what is answered with some N and R is answered alike with more
+pub verdict-more : (N M R S : ℕ) → N ≤ M → R ≤ S → (r : ℕ) (l : List Tick) (q : ℕ) → verdict N R r l ≡ counted q → verdict M S r l ≡ counted q
+verdict-more N M R S i j r [] q e = e
+verdict-more N M R S i j r (step k ∷ l) q e = go (leb k N) refl (verdict-more N M R S i j r l q) e
+  where
+    go : (t : Bool) → leb k N ≡ t → (verdict N R r l ≡ counted q → verdict M S r l ≡ counted q) → cond t (verdict N R r l) full ≡ counted q → cond (leb k M) (verdict M S r l) full ≡ counted q
+    go true u below h =
+        let k≤N = leb→le k N (subst T (sym u) tt) in
+        ap (λ (t : Bool). cond t (verdict M S r l) full) (true-of (leb k M) (le→leb k M (omega arith))) ∙ below h
+    go false u below h = let z : _≡_ {A = ℕ} 0 1 = cc in absurd (omega arith)
+verdict-more N M R S i j r (round ∷ l) q e = go (ltb r R) refl (verdict-more N M R S i j (suc r) l q) e
+  where
+    go : (t : Bool) → ltb r R ≡ t → (verdict N R (suc r) l ≡ counted q → verdict M S (suc r) l ≡ counted q) → cond t (verdict N R (suc r) l) spent ≡ counted q → cond (ltb r S) (verdict M S (suc r) l) spent ≡ counted q
+    go true u below h =
+        let r<R = ltb→lt r R (subst T (sym u) tt) in
+        ap (λ (t : Bool). cond t (verdict M S (suc r) l) spent) (true-of (ltb r S) (lt→ltb r S (omega arith))) ∙ below h
+    go false u below h = let z : _≡_ {A = ℕ} 0 1 = cc in absurd (omega arith)
+
+-- the largest need, 0 without a step
+abbrev pub peak : List ℕ → ℕ
+peak [] = 0
+peak (k ∷ ks) = max k (peak ks)
+
+-- every need is at most N exactly where the peak is
+pub fit-peak : (N : ℕ) (ks : List ℕ) → fit N ks ≡ leb (peak ks) N
+fit-peak N [] = sym (true-of (leb 0 N) (le→leb 0 N (omega arith)))
+fit-peak N (k ∷ ks) = ap (λ (b : Bool). leb k N && b) (fit-peak N ks) ∙ go (leb k N) (leb (peak ks) N) refl refl
+  where
+    p : ℕ
+    p = peak ks
+
+    go : (s t : Bool) → leb k N ≡ s → leb p N ≡ t → (s && t) ≡ leb (max k p) N
+    go true true u v = let x = leb→le k N (subst T (sym u) tt) in let y = leb→le p N (subst T (sym v) tt) in sym (true-of (leb (max k p) N) (le→leb (max k p) N (omega arith)))
+    go true false u v = sym (false-of (leb (max k p) N) (λ t. let z = leb→le (max k p) N t in let y : T false = subst T v (le→leb p N (omega arith)) in y))
+    go false t u v = sym (false-of (leb (max k p) N) (λ t. let z = leb→le (max k p) N t in let y : T false = subst T u (le→leb k N (omega arith)) in y))
+
+-- full exactly where the peak over the steps reached within the rounds would pass N
+pub full-peak : (N R r : ℕ) (l : List Tick) → (verdict N R r l ≡ full) ↔ (N < peak (reached R r l))
+full-peak N R r l =
+    let w = verdict-full N R r l in
+    let p = peak (reached R r l) in
+    ((λ e. lt-of-not-le (λ h. subst T (sym (fit-peak N (reached R r l)) ∙ w .0 e) (le→leb p N h))), (λ h. w .1 (fit-peak N (reached R r l) ∙ false-of (leb p N) (λ t. let z = leb→le p N t in absurd (omega arith)))))

@@ -1,0 +1,173 @@
+-- Tables after a call: with other rows, with an arrow stored, or a register emptied, they show the book after it. Assumes nothing.
+use mathlib.Core.Path.{_≡_, refl, subst, sym, _∙_, ap₂}
+use mathlib.Core.Bool.{Bool, true, false, cond, true≢false}
+use mathlib.Core.List.{List, List·Memᴰ as Mem, Memᴰ·append-left as mem-left, Memᴰ·append-right as mem-right}
+use mathlib.Core.Option.{Option, none, some}
+use Prim.Native.Nat.{ℕ, _*_, _<_}
+use lib.Dec.{eqb}
+use Rattle.mucalculus.specs.Form.{Pairs, put, filled}
+use Rattle.mucalculus.specs.Sets.{table}
+use Rattle.mucalculus.specs.Laws.{table-ext}
+use Rattle.formula.specs.Form.{Got}
+use Rattle.formula.specs.Checks.{laterRefusal}
+use Rattle.diagram.specs.Level.{Fn}
+use Rattle.diagram.specs.Rows.{Rows, WellFormed}
+use Rattle.diagram.specs.Post.{Denotes}
+use Rattle.diagram.specs.Step.{Keeps, SameRow, row-refl}
+use Rattle.book.specs.Bridge.{fnOf, fnOfPairs}
+use Rattle.book.specs.Run.{value}
+use Rattle.book.specs.Book.{Book, tally, registers, relations, withRel, withReg, fresh, checks}
+use Rattle.book.specs.Table.{Table, Reply, Place, Shows, KeptRows}
+use Rattle.book.specs.Held.{keeps-denotes}
+use Rattle.book.specs.Roots.{rootsOf, arrowsOf, arrowsOf-mem}
+
+-- the table with other rows
+abbrev pub withRows : Table → Rows → Table
+withRows t rows = record { n = t .n; N = t .N; tally = t .tally; rows = rows; reg = t .reg; rel = t .rel }
+
+-- with the arrow in register r and the tally k
+abbrev pub storeReg : Table → ℕ → Option ℕ → ℕ → Table
+storeReg t r a k = record { n = t .n; N = t .N; tally = k; rows = t .rows; reg = put (t .reg) r a; rel = t .rel }
+
+abbrev pub storeRel : Table → ℕ → Option ℕ → Table
+storeRel t q a = record { n = t .n; N = t .N; tally = t .tally; rows = t .rows; reg = t .reg; rel = put (t .rel) q a }
+
+place-keeps : {X : Type 0} (m : ℕ) (before after : Rows) (f : X → Fn) (o : Option X) (u : Option ℕ) → ((a : ℕ) → u ≡ some a → Keeps m before after a) → Place m before f o u → Place m after f o u
+place-keeps m before after f none none k p = tt
+place-keeps m before after f none (some a) k p = absurd p
+place-keeps m before after f (some x) none k p = absurd p
+place-keeps m before after f (some x) (some a) k p = keeps-denotes (k a refl) p
+
+place-put : {X : Type 0} (m : ℕ) (rows : Rows) (f : X → Fn) (h : ℕ → Option X) (g : ℕ → Option ℕ) (i : ℕ) (o : Option X) (u : Option ℕ) → Place m rows f o u → (j : ℕ) → Place m rows f (h j) (g j)
+    → Place m rows f (put h i o j) (put g i u j)
+place-put m rows f h g i o u p j q = go (eqb j i)
+  where
+    go : (t : Bool) → Place m rows f (cond t o (h j)) (cond t u (g j))
+    go true = p
+    go false = q
+
+module _ (b : Book) (t : Table) (s : Shows b t) where
+  -- other rows that keep the roots
+  pub shows-rows : (rows : Rows) → WellFormed (2 * b .n) (b .N) rows → ((a : ℕ) → Mem a (rootsOf t) → Keeps (2 * b .n) (t .rows) rows a) → Shows b (withRows t rows)
+  shows-rows rows wf k = record {
+    n = s .n;
+    N = s .N;
+    tally = s .tally;
+    wf = wf;
+    reg = λ r l. place-keeps (2 * b .n) (t .rows) rows (fnOf (b .n)) (b .reg r) (t .reg r) (λ a e. k a (mem-left {s = arrowsOf registers (t .reg)} (arrowsOf relations (t .rel)) (arrowsOf-mem registers (t .reg) r a l e))) (s .reg r l);
+    rel = λ r l. place-keeps (2 * b .n) (t .rows) rows (fnOfPairs (b .n)) (b .rel r) (t .rel r) (λ a e. k a (mem-right (arrowsOf registers (t .reg)) (arrowsOf-mem relations (t .rel) r a l e))) (s .rel r l);
+  }
+
+  -- an arrow stored in a register, or a register emptied
+  pub shows-reg : (r k : ℕ) (o : Option (List Bool)) (u : Option ℕ) → Place (2 * b .n) (t .rows) (fnOf (b .n)) o u → Shows (withReg b r o k) (storeReg t r u k)
+  shows-reg r k o u p = record {
+    n = s .n;
+    N = s .N;
+    tally = refl;
+    wf = s .wf;
+    reg = λ q l. place-put (2 * b .n) (t .rows) (fnOf (b .n)) (b .reg) (t .reg) r o u p q (s .reg q l);
+    rel = s .rel;
+  }
+
+  -- an arrow stored in a relation
+  pub shows-rel : (r : ℕ) (o : Option Pairs) (u : Option ℕ) → Place (2 * b .n) (t .rows) (fnOfPairs (b .n)) o u → Shows (withRel b r o) (storeRel t r u)
+  shows-rel r o u p = record {
+    n = s .n;
+    N = s .N;
+    tally = s .tally;
+    wf = s .wf;
+    reg = s .reg;
+    rel = λ q l. place-put (2 * b .n) (t .rows) (fnOfPairs (b .n)) (b .rel) (t .rel) r o u p q (s .rel q l);
+  }
+
+-- rows kept by a step are kept for every register and relation
+pub kept-rows : (b : Book) (t : Table) (rows : Rows) → ((a : ℕ) → Mem a (rootsOf t) → Keeps (2 * b .n) (t .rows) rows a) → KeptRows t (withRows t rows)
+kept-rows b t rows k = record {
+  reg = λ r l a e. k a (mem-left {s = arrowsOf registers (t .reg)} (arrowsOf relations (t .rel)) (arrowsOf-mem registers (t .reg) r a l e)) .rows;
+  rel = λ q l a e. k a (mem-right (arrowsOf registers (t .reg)) (arrowsOf-mem relations (t .rel) q a l e)) .rows;
+}
+
+-- what a call that makes no row keeps
+pub kept-all : (t t′ : Table) → t′ .rows ≡ t .rows → KeptRows t t′
+kept-all t t′ e = record {
+  reg = λ r l a h i g. subst (λ (x : Rows). SameRow (t .rows) x i) (sym e) (row-refl (t .rows) i);
+  rel = λ q l a h i g. subst (λ (x : Rows). SameRow (t .rows) x i) (sym e) (row-refl (t .rows) i);
+}
+
+-- a reply with a number and zeros
+abbrev pub plain : ℕ → Reply
+plain k = record { number = k; rounds = 0; value = 0 }
+
+-- an answer with a value
+abbrev pub valued : ℕ → Reply
+valued x = record { number = 0; rounds = 0; value = x }
+
+-- ---- what a register of the table says of the book's
+
+-- a filled register of the table holds the arrow of the book's set
+pub shows-filled : (b : Book) (t : Table) (r a : ℕ) → Shows b t → r < registers → t .reg r ≡ some a → (A : List Bool) × (b .reg r ≡ some A) × Denotes (2 * b .n) (t .rows) a (fnOf (b .n) A)
+shows-filled b t r a s l e = go (b .reg r) refl (subst (λ (u : Option ℕ). Place (2 * b .n) (t .rows) (fnOf (b .n)) (b .reg r) u) e (s .reg r l))
+  where
+    go : (o : Option (List Bool)) → b .reg r ≡ o → Place (2 * b .n) (t .rows) (fnOf (b .n)) o (some a) → (A : List Bool) × (b .reg r ≡ some A) × Denotes (2 * b .n) (t .rows) a (fnOf (b .n) A)
+    go none i p = absurd p
+    go (some A) i p = (A, i, p)
+
+-- an empty one is empty in the book
+pub shows-empty : (b : Book) (t : Table) (r : ℕ) → Shows b t → r < registers → t .reg r ≡ none → b .reg r ≡ none
+shows-empty b t r s l e = go (b .reg r) (subst (λ (u : Option ℕ). Place (2 * b .n) (t .rows) (fnOf (b .n)) (b .reg r) u) e (s .reg r l))
+  where
+    go : (o : Option (List Bool)) → Place (2 * b .n) (t .rows) (fnOf (b .n)) o none → o ≡ none
+    go none p = refl
+    go (some A) p = absurd p
+
+-- ---- what the reader is told is filled
+
+-- the registers that the table has filled
+abbrev pub regsFilled : Table → List Bool
+regsFilled t = table registers (λ r. filled (t .reg r))
+
+abbrev pub relsFilled : Table → List Bool
+relsFilled t = table relations (λ q. filled (t .rel q))
+
+place-filled : {X : Type 0} (m : ℕ) (rows : Rows) (f : X → Fn) (o : Option X) (a : Option ℕ) → Place m rows f o a → filled o ≡ filled a
+place-filled m rows f none none p = refl
+place-filled m rows f none (some a) p = absurd p
+place-filled m rows f (some x) none p = absurd p
+place-filled m rows f (some x) (some a) p = refl
+
+-- registers and relations are filled exactly where the book's are
+module _ (b : Book) (t : Table) (s : Shows b t) where
+  pub reg-filled : (r : ℕ) → r < registers → filled (b .reg r) ≡ filled (t .reg r)
+  reg-filled r i = place-filled (2 * b .n) (t .rows) (fnOf (b .n)) (b .reg r) (t .reg r) (s .reg r i)
+
+  pub rel-filled : (q : ℕ) → q < relations → filled (b .rel q) ≡ filled (t .rel q)
+  rel-filled q i = place-filled (2 * b .n) (t .rows) (fnOfPairs (b .n)) (b .rel q) (t .rel q) (s .rel q i)
+
+  -- so the reader's number is the book's
+  pub checks-same : (g : Got) → checks b g ≡ laterRefusal (regsFilled t) (relsFilled t) g
+  checks-same g = ap₂ (λ (x y : List Bool). laterRefusal x y g) (table-ext registers (λ r. filled (b .reg r)) (λ r. filled (t .reg r)) reg-filled) (table-ext relations (λ q. filled (b .rel q)) (λ q. filled (t .rel q)) rel-filled)
+
+-- ---- fresh
+
+-- a table just made: no row used, nothing filled, the tally at 0
+pub record Empty (n N : ℕ) (t : Table) : Type 0 where
+  pub bits : t .n ≡ n
+  pub size : t .N ≡ N
+  pub tally : t .tally ≡ 0
+  pub unused : (i : ℕ) → t .rows .used i ≡ false
+  pub reg : (r : ℕ) → r < registers → t .reg r ≡ none
+  pub rel : (q : ℕ) → q < relations → t .rel q ≡ none
+
+pub shows-fresh : (n N : ℕ) (t : Table) → Empty n N t → Shows (fresh n N) t
+shows-fresh n N t e = record {
+  n = e .bits;
+  N = e .size;
+  tally = e .tally;
+  wf = record {
+    bounded = λ i u. absurd (true≢false (sym u ∙ e .unused i));
+    ok = λ i u. absurd (true≢false (sym u ∙ e .unused i));
+    shared = λ i j u w a b c. absurd (true≢false (sym u ∙ e .unused i));
+  };
+  reg = λ r l. subst (λ (o : Option ℕ). Place (2 * n) (t .rows) (fnOf n) none o) (sym (e .reg r l)) tt;
+  rel = λ q l. subst (λ (o : Option ℕ). Place (2 * n) (t .rows) (fnOfPairs n) none o) (sym (e .rel q l)) tt;
+}

@@ -1,0 +1,106 @@
+-- "Steps of evaluation" with their needs: the value and its rounds, or 8 or 9, whichever comes first in step order. Assumes nothing.
+use mathlib.Core.Bool.{Bool, true, false, _&&_, cond}
+use mathlib.Core.List.{List, _∷_}
+use Prim.Native.Nat.{ℕ, zero, suc, _*_, _^_}
+use lib.Dec.{leb, ltb}
+use Rattle.mucalculus.specs.Sets.{table, same}
+use Rattle.mucalculus.specs.Order.{start}
+use Rattle.mucalculus.specs.Form.{Form, bot, top, neg, conj, disj, now, next, var, reg, box, dia, mu, nu, Pairs, Model, Env, put, inside}
+use Rattle.mucalculus.specs.Means.{clip, compl, inter, union, bit, sometimes, size}
+use Rattle.diagram.specs.Level.{Fn}
+use Rattle.diagram.specs.Steps.{andF, shiftF, existsF}
+use Rattle.book.specs.Bridge.{fnOf, fnOfPairs}
+pub use Rattle.book.specs.Ticks.{stepNeed, addFilled, contents, pairF}
+
+-- what the steps of a set's formula come to
+pub data Outcome : Type 0 where
+  value : List Bool → ℕ → Outcome  -- the set, and the rounds counted
+  full : Outcome  -- 8: a step needs more than N rows
+  spent : Outcome  -- 9: rounds used up
+
+-- go on with a value and its count
+abbrev pub andThen : Outcome → (List Bool → ℕ → Outcome) → Outcome
+andThen (value A r) g = g A r
+andThen full g = full
+andThen spent g = spent
+
+-- "A reached step with a need above N is refusal 8"
+abbrev pub step : ℕ → ℕ → List Fn → Fn → Outcome → Outcome
+step n N live result go = cond (leb (stepNeed n live result) N) go full
+
+-- EXISTS at levels 2j − 1, 2j − 3, down to 1, each a step
+abbrev pub existsSteps : ℕ → ℕ → List Fn → ℕ → Fn → Outcome → Outcome
+existsSteps n N live zero F go = go
+existsSteps n N live (suc j) F go =
+    let E = existsF (suc (2 * j)) F in
+    let rest = existsSteps n N live j E go in
+    step n N (F ∷ live) E rest
+
+-- NOT of the value A
+abbrev pub notStep : ℕ → ℕ → List Fn → List Bool → ℕ → Outcome
+notStep n N live A q = let B = compl (2 ^ n) A in step n N (fnOf n A ∷ live) (fnOf n B) (value B q)
+
+-- AND or OR of the values A and B
+abbrev pub twoStep : ℕ → ℕ → List Fn → (List Bool → List Bool → List Bool) → List Bool → List Bool → ℕ → Outcome
+twoStep n N live op A B q = let C = op A B in step n N (fnOf n B ∷ fnOf n A ∷ live) (fnOf n C) (value C q)
+
+-- "Diamond of f: SHIFT f, AND with the relation, EXISTS at levels 2n − 1, 2n − 3, down to 1"
+abbrev pub diaSteps : ℕ → ℕ → List Fn → Pairs → List Bool → ℕ → Outcome
+diaSteps n N live R A q =
+    let B = sometimes (2 ^ n) R A in
+    let S = shiftF (fnOf n A) in
+    let C = andF S (fnOfPairs n R) in
+    let rest = existsSteps n N live n C (value B q) in
+    let more = step n N (S ∷ fnOfPairs n R ∷ live) C rest in
+    step n N (fnOf n A ∷ live) S more
+
+-- "Box: NOT f, diamond, NOT"
+abbrev pub boxSteps : ℕ → ℕ → List Fn → Pairs → List Bool → ℕ → Outcome
+boxSteps n N live R A q = andThen (notStep n N live A q) (λ B p. andThen (diaSteps n N live R B p) (λ C o. notStep n N live C o))
+
+-- rounds from the set A with r counted: "Every evaluated body is one round, counted as its evaluation starts; a round wanted when R are
+-- counted gives 9. If the value is the same set the binder ends with it." No more than R rounds can start, so R is enough fuel
+abbrev pub loop : ℕ → (List Bool → ℕ → Outcome) → ℕ → List Bool → ℕ → Outcome
+loop R g zero A r = spent
+loop R g (suc j) A r =
+    let go = andThen (g A (suc r)) (λ B q. let more = loop R g j B q in cond (same B A) (value B q) more) in
+    cond (ltb r R) go spent
+
+-- the steps of f with r rounds counted before them. `live` are the functions live throughout: filled registers and relations, current sets
+-- of open binders, values made and not yet used
+abbrev pub run : Model → ℕ → ℕ → Env → List Fn → Form → ℕ → Outcome
+run m N R e live bot r = value (table (size m) (λ s. false)) r
+run m N R e live top r = value (table (size m) (λ s. true)) r
+run m N R e live (neg f) r = andThen (run m N R e live f r) (λ A q. notStep (m .n) N live A q)
+run m N R e live (conj f g) r =
+    andThen (run m N R e live f r) (λ A q. andThen (run m N R e (fnOf (m .n) A ∷ live) g q) (λ B p. twoStep (m .n) N live (inter (size m)) A B p))
+run m N R e live (disj f g) r =
+    andThen (run m N R e live f r) (λ A q. andThen (run m N R e (fnOf (m .n) A ∷ live) g q) (λ B p. twoStep (m .n) N live (union (size m)) A B p))
+run m N R e live (now p) r = let A = table (size m) (λ s. bit p s) in step (m .n) N live (fnOf (m .n) A) (value A r)
+run m N R e live (next p) r = value (table (size m) (λ s. false)) r
+run m N R e live (var P) r = value (clip (size m) (e P)) r
+run m N R e live (reg x) r = value (clip (size m) (inside (m .reg x))) r
+run m N R e live (box t f) r = andThen (run m N R e live f r) (λ A q. boxSteps (m .n) N live (inside (m .rel t)) A q)
+run m N R e live (dia t f) r = andThen (run m N R e live f r) (λ A q. diaSteps (m .n) N live (inside (m .rel t)) A q)
+run m N R e live (mu P f) r = loop R (λ A q. run m N R (put e P A) (fnOf (m .n) A ∷ live) f q) R (start true (size m)) r
+run m N R e live (nu P f) r = loop R (λ A q. run m N R (put e P A) (fnOf (m .n) A ∷ live) f q) R (start false (size m)) r
+
+-- ---- relation calls: no rounds, so the values are the meanings of the parts
+
+-- every step of a relation's formula needs at most N rows; the tokens of set calls alone take no step here
+abbrev pub pairsFit : ℕ → ℕ → List Fn → Form → Bool
+pairsFit n N live bot = true
+pairsFit n N live top = true
+pairsFit n N live (neg f) = pairsFit n N live f && leb (stepNeed n (pairF n f ∷ live) (pairF n (neg f))) N
+pairsFit n N live (conj f g) =
+    pairsFit n N live f && (pairsFit n N (pairF n f ∷ live) g && leb (stepNeed n (pairF n g ∷ pairF n f ∷ live) (pairF n (conj f g))) N)
+pairsFit n N live (disj f g) =
+    pairsFit n N live f && (pairsFit n N (pairF n f ∷ live) g && leb (stepNeed n (pairF n g ∷ pairF n f ∷ live) (pairF n (disj f g))) N)
+pairsFit n N live (now p) = leb (stepNeed n live (pairF n (now p))) N
+pairsFit n N live (next p) = leb (stepNeed n live (pairF n (next p))) N
+pairsFit n N live (var P) = true
+pairsFit n N live (reg x) = true
+pairsFit n N live (box t f) = true
+pairsFit n N live (dia t f) = true
+pairsFit n N live (mu P f) = true
+pairsFit n N live (nu P f) = true

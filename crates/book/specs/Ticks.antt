@@ -1,0 +1,146 @@
+-- "Steps of evaluation" as one list of ticks: each step with its need and each round, in order, without N and R; and the verdict on such a
+-- list, which is the book's third rule word for word. Values are meanings. Assumes nothing.
+use mathlib.Core.Bool.{Bool, true, false, cond}
+use mathlib.Core.List.{List, [], _∷_, _++_}
+use mathlib.Core.Option.{Option, none, some}
+use Prim.Native.Nat.{ℕ, zero, suc, _*_, _^_}
+use lib.Dec.{leb, ltb}
+use Rattle.mucalculus.specs.Sets.{table, same}
+use Rattle.mucalculus.specs.Form.{Form, bot, top, neg, conj, disj, now, next, var, reg, box, dia, mu, nu, Pairs, Model, Env, put, inside}
+use Rattle.mucalculus.specs.Means.{compl, inter, union, sometimes, size, means, meansPair}
+use Rattle.diagram.specs.Level.{Fn}
+use Rattle.diagram.specs.Need.{need}
+use Rattle.diagram.specs.Steps.{andF, shiftF, existsF}
+use Rattle.book.specs.Bridge.{fnOf, fnOfPairs}
+
+-- what an evaluation does, in order
+pub data Tick : Type 0 where
+  step : ℕ → Tick  -- a step, with its need
+  round : Tick  -- the evaluation of a binder's body starts
+
+-- ---- live functions and needs
+
+-- the content of a filled place, in front
+abbrev pub addFilled : {X : Type 0} → (X → Fn) → Option X → List Fn → List Fn
+addFilled f none l = l
+addFilled f (some x) l = f x ∷ l
+
+-- the contents of the filled places below k
+abbrev pub contents : {X : Type 0} → (X → Fn) → ℕ → (ℕ → Option X) → List Fn
+contents f zero h = []
+contents f (suc k) h = addFilled f (h 0) (contents f k (λ i. h (suc i)))
+
+-- "A step's need is the rows needed by its result and all that is live at it", its operands included
+abbrev pub stepNeed : ℕ → List Fn → Fn → ℕ
+stepNeed n live result = need (2 * n) (result ∷ live)
+
+-- EXISTS at levels 2j − 1, 2j − 3, down to 1
+abbrev pub existsNeeds : ℕ → List Fn → ℕ → Fn → List ℕ
+existsNeeds n live zero F = []
+existsNeeds n live (suc j) F = let E = existsF (suc (2 * j)) F in stepNeed n (F ∷ live) E ∷ existsNeeds n live j E
+
+-- NOT of the value A
+abbrev pub notNeed : ℕ → List Fn → List Bool → ℕ
+notNeed n live A = stepNeed n (fnOf n A ∷ live) (fnOf n (compl (2 ^ n) A))
+
+-- AND or OR of the values A and B
+abbrev pub twoNeed : ℕ → List Fn → (List Bool → List Bool → List Bool) → List Bool → List Bool → ℕ
+twoNeed n live op A B = stepNeed n (fnOf n B ∷ fnOf n A ∷ live) (fnOf n (op A B))
+
+-- "Diamond of f: SHIFT f, AND with the relation, EXISTS at levels 2n − 1, 2n − 3, down to 1"
+abbrev pub diaNeeds : ℕ → List Fn → Pairs → List Bool → List ℕ
+diaNeeds n live R A =
+    let S = shiftF (fnOf n A) in
+    let C = andF S (fnOfPairs n R) in
+    stepNeed n (fnOf n A ∷ live) S ∷ stepNeed n (S ∷ fnOfPairs n R ∷ live) C ∷ existsNeeds n live n C
+
+-- "Box: NOT f, diamond, NOT"
+abbrev pub boxNeeds : ℕ → List Fn → Pairs → List Bool → List ℕ
+boxNeeds n live R A =
+    let B = compl (2 ^ n) A in
+    notNeed n live A ∷ (diaNeeds n live R B ++ (notNeed n live (sometimes (2 ^ n) R B) ∷ []))
+
+-- ---- ticks of a set's formula
+
+-- steps and no round
+abbrev pub steps : List ℕ → List Tick
+steps [] = []
+steps (k ∷ ks) = step k ∷ steps ks
+
+-- "Mu starts from the empty set, nu from all states"
+abbrev pub noStates : ℕ → List Bool
+noStates k = table k (λ s. false)
+
+abbrev pub allStates : ℕ → List Bool
+allStates k = table k (λ s. true)
+
+-- the rounds of a binder from the set A on: the body's ticks at A are h A and its value is F A. "If the value is the same set the binder ends
+-- with it, otherwise it becomes the current set"; j bounds the rounds
+abbrev pub roundTicks : (List Bool → List Tick) → (List Bool → List Bool) → ℕ → List Bool → List Tick
+roundTicks h F zero A = []
+roundTicks h F (suc j) A = let B = F A in let more = roundTicks h F j B in round ∷ (h A ++ cond (same B A) [] more)
+
+-- the ticks of f: "Left before right, parts before operator". `live` are the functions live throughout: filled registers and relations,
+-- current sets of open binders, values made and not yet used. A binder has ended after 2^n + 1 rounds
+abbrev pub ticks : Model → Env → List Fn → Form → List Tick
+ticks m e live bot = []
+ticks m e live top = []
+ticks m e live (neg f) = ticks m e live f ++ steps (notNeed (m .n) live (means m e f) ∷ [])
+ticks m e live (conj f g) =
+    let A = means m e f in
+    ticks m e live f ++ (ticks m e (fnOf (m .n) A ∷ live) g ++ steps (twoNeed (m .n) live (inter (size m)) A (means m e g) ∷ []))
+ticks m e live (disj f g) =
+    let A = means m e f in
+    ticks m e live f ++ (ticks m e (fnOf (m .n) A ∷ live) g ++ steps (twoNeed (m .n) live (union (size m)) A (means m e g) ∷ []))
+ticks m e live (now p) = steps (stepNeed (m .n) live (fnOf (m .n) (means m e (now p))) ∷ [])
+ticks m e live (next p) = []
+ticks m e live (var P) = []
+ticks m e live (reg x) = []
+ticks m e live (box t f) = ticks m e live f ++ steps (boxNeeds (m .n) live (inside (m .rel t)) (means m e f))
+ticks m e live (dia t f) = ticks m e live f ++ steps (diaNeeds (m .n) live (inside (m .rel t)) (means m e f))
+ticks m e live (mu P f) = roundTicks (λ A. ticks m (put e P A) (fnOf (m .n) A ∷ live) f) (λ A. means m (put e P A) f) (suc (size m)) (noStates (size m))
+ticks m e live (nu P f) = roundTicks (λ A. ticks m (put e P A) (fnOf (m .n) A ∷ live) f) (λ A. means m (put e P A) f) (suc (size m)) (allStates (size m))
+
+-- ---- ticks of a relation's formula
+
+-- a relation formula's value as a function of levels
+abbrev pub pairF : ℕ → Form → Fn
+pairF n f = fnOfPairs n (meansPair n f)
+
+-- "relation has no rounds"; the tokens of set calls alone take no step here
+abbrev pub pairTicks : ℕ → List Fn → Form → List Tick
+pairTicks n live bot = []
+pairTicks n live top = []
+pairTicks n live (neg f) = pairTicks n live f ++ steps (stepNeed n (pairF n f ∷ live) (pairF n (neg f)) ∷ [])
+pairTicks n live (conj f g) =
+    pairTicks n live f ++ (pairTicks n (pairF n f ∷ live) g ++ steps (stepNeed n (pairF n g ∷ pairF n f ∷ live) (pairF n (conj f g)) ∷ []))
+pairTicks n live (disj f g) =
+    pairTicks n live f ++ (pairTicks n (pairF n f ∷ live) g ++ steps (stepNeed n (pairF n g ∷ pairF n f ∷ live) (pairF n (disj f g)) ∷ []))
+pairTicks n live (now p) = steps (stepNeed n live (pairF n (now p)) ∷ [])
+pairTicks n live (next p) = steps (stepNeed n live (pairF n (next p)) ∷ [])
+pairTicks n live (var P) = []
+pairTicks n live (reg x) = []
+pairTicks n live (box t f) = []
+pairTicks n live (dia t f) = []
+pairTicks n live (mu P f) = []
+pairTicks n live (nu P f) = []
+
+-- ---- the verdict
+
+pub data Verdict : Type 0 where
+  counted : ℕ → Verdict  -- every step fits, and so many rounds are counted
+  full : Verdict  -- 8: a reached step needs more than N rows
+  spent : Verdict  -- 9: a round is wanted when R are counted
+
+-- "A reached step with a need above N is refusal 8; a round wanted beyond R before any such step is 9": the first in order decides, r rounds
+-- being counted before
+abbrev pub verdict : ℕ → ℕ → ℕ → List Tick → Verdict
+verdict N R r [] = counted r
+verdict N R r (step k ∷ l) = let more = verdict N R r l in cond (leb k N) more full
+verdict N R r (round ∷ l) = let more = verdict N R (suc r) l in cond (ltb r R) more spent
+
+-- the needs of the steps that come before a round beyond R is wanted
+abbrev pub reached : ℕ → ℕ → List Tick → List ℕ
+reached R r [] = []
+reached R r (step k ∷ l) = k ∷ reached R r l
+reached R r (round ∷ l) = let more = reached R (suc r) l in cond (ltb r R) more []

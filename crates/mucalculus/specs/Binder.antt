@@ -1,0 +1,48 @@
+-- The meaning of a binder whose variable is read even: it is a fixpoint, the least or the greatest, and iteration finds it in time.
+-- With b `true` this is mu, with `false` nu. Assumes nothing.
+use mathlib.Core.Path.{_≡_, refl, _∙_, subst}
+use mathlib.Core.Bool.{Bool, true, false}
+use mathlib.Core.List.{List}
+use Prim.Native.Nat.{ℕ, suc}
+use lib.Dec.{T}
+use lib.ListN.{length}
+use Rattle.mucalculus.specs.Order.{Dir, start}
+use Rattle.mucalculus.specs.Fixpoint.{fix, iter, Mono, fix-bound, fix-fixed, iter-found, stable}
+use Rattle.mucalculus.specs.Form.{Form, Model, Env, put, even, bind}
+use Rattle.mucalculus.specs.Means.{size, means, length-means}
+use Rattle.mucalculus.specs.Polarity.{means-turns}
+
+-- the body as a function of the bound variable's set
+abbrev pub body : Model → Env → ℕ → Form → List Bool → List Bool
+body m e P f A = means m (put e P A) f
+
+pub body-length : (m : Model) (e : Env) (P : ℕ) (f : Form) (A : List Bool) → length (body m e P f A) ≡ size m
+body-length m e P f A = length-means m (put e P A) f
+
+pub means-bind : (m : Model) (e : Env) (P : ℕ) (f : Form) (b : Bool) → fix b (size m) (body m e P f) ≡ means m e (bind b P f)
+means-bind m e P f true = refl
+means-bind m e P f false = refl
+
+-- the least set is below each set A with f(A) = A, the greatest above
+pub binder-bound : (m : Model) (e : Env) (P : ℕ) (f : Form) (b : Bool) (A : List Bool) → means m (put e P A) f ≡ A → Dir b (means m e (bind b P f)) A
+binder-bound m e P f b A h = subst (λ (X : List Bool). Dir b X A) (means-bind m e P f b) (fix-bound (size m) (body m e P f) (body-length m e P f) b A h)
+
+module _ (m : Model) (v : ℕ → Bool) (e : Env) (P : ℕ) (f : Form) (t : T (even (put v P true) f)) (b : Bool) where
+  pub body-mono : Mono (body m e P f)
+  body-mono = means-turns m v e P true f t
+
+  -- it is a set A with f(A) = A
+  pub binder-fixed : means m (put e P (means m e (bind b P f))) f ≡ means m e (bind b P f)
+  binder-fixed = subst (λ (X : List Bool). body m e P f X ≡ X) (means-bind m e P f b) (fix-fixed (size m) (body m e P f) (body-length m e P f) body-mono b)
+
+  -- the j-th set of the iteration: from no state for mu, from all for nu, each the body's value at the one before
+  abbrev pub round : ℕ → List Bool
+  round j = iter (body m e P f) j (start b (size m))
+
+  -- where a round leaves its set as it is, that set is the binder's meaning
+  pub round-found : (j : ℕ) → round (suc j) ≡ round j → round j ≡ means m e (bind b P f)
+  round-found j h = iter-found (size m) (body m e P f) (body-length m e P f) body-mono b j h ∙ means-bind m e P f b
+
+  -- that comes to pass in round 2^n + 1 at the latest
+  pub round-ends : round (suc (size m)) ≡ round (size m)
+  round-ends = stable (size m) (body m e P f) (body-length m e P f) body-mono b

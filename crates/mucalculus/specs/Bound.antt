@@ -1,0 +1,80 @@
+-- With one binder in the formula the rounds are at most 2^n + 1. Assumes nothing.
+use mathlib.Core.Path.{_≡_, refl}
+use mathlib.Core.Logic.{_⊎_, inl, inr}
+use mathlib.Core.Bool.{Bool, true, false, cond}
+use mathlib.Core.List.{List}
+use Prim.Native.Nat.{ℕ, zero, suc, _+_, _≤_, zero-le}
+use native.Mathlib.Omega.{arith}
+use native.Mathlib.Nat.{suc-ne-zero}
+use Rattle.mucalculus.specs.Sets.{same}
+use Rattle.mucalculus.specs.Order.{start}
+use Rattle.mucalculus.specs.Form.{Form, bot, top, neg, conj, disj, now, next, var, reg, box, dia, mu, nu, Model, Env, put}
+use Rattle.mucalculus.specs.Means.{size}
+use Rattle.mucalculus.specs.Binder.{body}
+use Rattle.mucalculus.specs.Rounds.{runs, rounds}
+
+-- how many binders the formula has
+abbrev pub binders : Form → ℕ
+binders bot = zero
+binders top = zero
+binders (neg f) = binders f
+binders (conj f g) = binders f + binders g
+binders (disj f g) = binders f + binders g
+binders (now p) = zero
+binders (next p) = zero
+binders (var P) = zero
+binders (reg r) = zero
+binders (box t f) = binders f
+binders (dia t f) = binders f
+binders (mu P f) = suc (binders f)
+binders (nu P f) = suc (binders f)
+
+rounds-none : (m : Model) (e : Env) (f : Form) → binders f ≡ zero → rounds m e f ≡ zero
+rounds-none m e bot h = refl
+rounds-none m e top h = refl
+rounds-none m e (neg f) h = rounds-none m e f h
+rounds-none m e (conj f g) h = omega (arith, rounds-none m e f (omega arith), rounds-none m e g (omega arith))
+rounds-none m e (disj f g) h = omega (arith, rounds-none m e f (omega arith), rounds-none m e g (omega arith))
+rounds-none m e (now p) h = refl
+rounds-none m e (next p) h = refl
+rounds-none m e (var P) h = refl
+rounds-none m e (reg r) h = refl
+rounds-none m e (box t f) h = rounds-none m e f h
+rounds-none m e (dia t f) h = rounds-none m e f h
+rounds-none m e (mu P f) h = absurd (suc-ne-zero (binders f) h)
+rounds-none m e (nu P f) h = absurd (suc-ne-zero (binders f) h)
+
+runs-bound : (F : List Bool → List Bool) (c : List Bool → ℕ) → ((A : List Bool) → c A ≡ zero) → (j : ℕ) (A : List Bool) → runs F c j A ≤ j
+runs-bound F c h zero A = zero-le
+runs-bound F c h (suc j) A = go (same (F A) A) (h A) (runs-bound F c h j (F A))
+  where
+    go : (t : Bool) → c A ≡ zero → runs F c j (F A) ≤ j → suc (c A) + cond t zero (runs F c j (F A)) ≤ suc j
+    go true i l = omega arith
+    go false i l = omega arith
+
+one-of : (a b : ℕ) → a + b ≤ 1 → (a ≡ zero) ⊎ (b ≡ zero)
+one-of zero b h = inl refl
+one-of (suc a) b h = inr (omega arith)
+
+two-bound : (m : Model) (e : Env) (f g : Form) → (binders f ≤ 1 → rounds m e f ≤ suc (size m)) → (binders g ≤ 1 → rounds m e g ≤ suc (size m))
+    → binders f + binders g ≤ 1 → rounds m e f + rounds m e g ≤ suc (size m)
+two-bound m e f g i j h = go (one-of (binders f) (binders g) h)
+  where
+    go : (binders f ≡ zero) ⊎ (binders g ≡ zero) → rounds m e f + rounds m e g ≤ suc (size m)
+    go (inl z) = omega (arith, rounds-none m e f z, j (omega arith))
+    go (inr z) = omega (arith, rounds-none m e g z, i (omega arith))
+
+pub rounds-bound : (m : Model) (e : Env) (f : Form) → binders f ≤ 1 → rounds m e f ≤ suc (size m)
+rounds-bound m e bot h = zero-le
+rounds-bound m e top h = zero-le
+rounds-bound m e (neg f) h = rounds-bound m e f h
+rounds-bound m e (conj f g) h = two-bound m e f g (rounds-bound m e f) (rounds-bound m e g) h
+rounds-bound m e (disj f g) h = two-bound m e f g (rounds-bound m e f) (rounds-bound m e g) h
+rounds-bound m e (now p) h = zero-le
+rounds-bound m e (next p) h = zero-le
+rounds-bound m e (var P) h = zero-le
+rounds-bound m e (reg r) h = zero-le
+rounds-bound m e (box t f) h = rounds-bound m e f h
+rounds-bound m e (dia t f) h = rounds-bound m e f h
+rounds-bound m e (mu P f) h = runs-bound (body m e P f) (λ A. rounds m (put e P A) f) (λ A. rounds-none m (put e P A) f (omega arith)) (suc (size m)) (start true (size m))
+rounds-bound m e (nu P f) h = runs-bound (body m e P f) (λ A. rounds m (put e P A) f) (λ A. rounds-none m (put e P A) f (omega arith)) (suc (size m)) (start false (size m))

@@ -1,0 +1,125 @@
+-- Formulas of the mu-calculus as trees, what they are read over, and the conditions that checks 4 to 6 put on a tree. Assumes nothing.
+use mathlib.Core.Bool.{Bool, true, false, not, _&&_, _||_, cond}
+use mathlib.Core.List.{List, []}
+use mathlib.Core.Option.{Option, none, some}
+use Prim.Native.Nat.{ℕ, suc, max}
+use lib.Dec.{eqb}
+use lib.ListN.{getD, set, replicate}
+
+-- a formula; the comment gives its bytes
+pub data Form : Type 0 where
+  bot top : Form  -- 00, 01
+  neg : Form → Form  -- 02 f
+  conj disj : Form → Form → Form  -- 03 f g, 04 f g
+  now next : ℕ → Form  -- 10 + p, 20 + p: current bit p, next bit p
+  var reg : ℕ → Form  -- 30 + P, 40 + r: variable P, register r
+  box dia : ℕ → Form → Form  -- 60 + t f, 68 + t f: over relation t
+  mu nu : ℕ → Form → Form  -- 70 + P f, 80 + P f: variable P bound in f
+
+-- mu with `true`, nu with `false`
+abbrev pub bind : Bool → ℕ → Form → Form
+bind true P f = mu P f
+bind false P f = nu P f
+
+-- a set of pairs: place s of the list holds the set of the next states of s
+abbrev pub Pairs : Type 0
+Pairs = List (List Bool)
+
+-- what a formula is read over: n state bits, relations and registers, each empty or filled
+pub record Model : Type 0 where
+  pub n : ℕ
+  pub rel : ℕ → Option Pairs
+  pub reg : ℕ → Option (List Bool)
+
+-- a set for each variable
+abbrev pub Env : Type 0
+Env = ℕ → List Bool
+
+-- no variable has a member
+abbrev pub noEnv : Env
+noEnv P = []
+
+-- h with the value x at P
+abbrev pub put : {X : Type 0} → (ℕ → X) → ℕ → X → ℕ → X
+put h P x Q = cond (eqb Q P) x (h Q)
+
+-- what is in a register or relation; an empty one is read as no member
+abbrev pub inside : {X : Type 0} → Option (List X) → List X
+inside none = []
+inside (some l) = l
+
+-- a register or relation has a content
+abbrev pub filled : {X : Type 0} → Option X → Bool
+filled none = false
+filled (some x) = true
+
+-- ---- conditions on a tree
+
+-- "A leaf has depth 1, an operator one more than its deepest part"
+unfoldable pub depth : Form → ℕ
+depth bot = 1
+depth top = 1
+depth (neg f) = suc (depth f)
+depth (conj f g) = suc (max (depth f) (depth g))
+depth (disj f g) = suc (max (depth f) (depth g))
+depth (now p) = 1
+depth (next p) = 1
+depth (var P) = 1
+depth (reg r) = 1
+depth (box t f) = suc (depth f)
+depth (dia t f) = suc (depth f)
+depth (mu P f) = suc (depth f)
+depth (nu P f) = suc (depth f)
+
+-- check 5, "variable unbound, or bound inside itself": each variable stands below a binder of it, and no binder below a binder of its
+-- variable; `scope` says which variables are open
+unfoldable pub bound : List Bool → Form → Bool
+bound scope bot = true
+bound scope top = true
+bound scope (neg f) = bound scope f
+bound scope (conj f g) = bound scope f && bound scope g
+bound scope (disj f g) = bound scope f && bound scope g
+bound scope (now p) = true
+bound scope (next p) = true
+bound scope (var P) = getD scope P false
+bound scope (reg r) = true
+bound scope (box t f) = bound scope f
+bound scope (dia t f) = bound scope f
+bound scope (mu P f) = not (getD scope P false) && bound (set scope P true) f
+bound scope (nu P f) = not (getD scope P false) && bound (set scope P true) f
+
+-- no variable is open: the 16 variables at a formula's start
+abbrev pub noneOpen : List Bool
+noneOpen = replicate 16 false
+
+-- "each NOT turns an even reading odd and an odd one even": no P is read odd, where the reading begins even or not
+unfoldable pub reads : Bool → ℕ → Form → Bool
+reads even P bot = true
+reads even P top = true
+reads even P (neg f) = reads (not even) P f
+reads even P (conj f g) = reads even P f && reads even P g
+reads even P (disj f g) = reads even P f && reads even P g
+reads even P (now p) = true
+reads even P (next p) = true
+reads even P (var Q) = even || not (eqb Q P)
+reads even P (reg r) = true
+reads even P (box t f) = reads even P f
+reads even P (dia t f) = reads even P f
+reads even P (mu Q f) = reads even P f
+reads even P (nu Q f) = reads even P f
+
+-- check 6, "Polarity: below its binder P is read even"
+unfoldable pub steady : Form → Bool
+steady bot = true
+steady top = true
+steady (neg f) = steady f
+steady (conj f g) = steady f && steady g
+steady (disj f g) = steady f && steady g
+steady (now p) = true
+steady (next p) = true
+steady (var P) = true
+steady (reg r) = true
+steady (box t f) = steady f
+steady (dia t f) = steady f
+steady (mu P f) = reads true P f && steady f
+steady (nu P f) = reads true P f && steady f

@@ -1,0 +1,91 @@
+-- Laws that the table's evaluator asks for: membership in what the operations make, box by diamond, and that only bound variables count.
+-- Assumes nothing.
+use mathlib.Core.Path.{_≡_, refl, sym, ap, ap₂, _∙_, subst, fun-ext}
+use mathlib.Core.Bool.{Bool, true, false, not, _&&_, _||_, cond}
+use mathlib.Core.List.{List, [], _∷_, List·Memᴰ, List·Memᴰ·head, List·Memᴰ·tail, List·Memᴰ·not-nil}
+use Prim.Native.Nat.{ℕ, zero, suc, _^_, _<_, suc-le-suc, zero-le}
+use native.Mathlib.Nat.{le-of-suc-le-suc, not-suc-le-zero}
+use lib.Dec.{T, eqb}
+use lib.ListN.{length, getD}
+use lib.Seq.{ext-getD}
+use Rattle.mucalculus.specs.Sets.{mem, table, length-table, all, any, and-out}
+use Rattle.mucalculus.specs.Fixpoint.{fix}
+use Rattle.mucalculus.specs.Form.{Form, bot, top, neg, conj, disj, now, next, var, reg, box, dia, mu, nu, Pairs, Model, Env, put, inside, bound}
+use Rattle.mucalculus.specs.Means.{clip, compl, inter, union, pair, always, sometimes, size, means, meansPair, holds}
+
+-- ---- tables
+
+pub getD-table : {X : Type 0} (k : ℕ) (h : ℕ → X) (i : ℕ) (d : X) → i < k → getD (table k h) i d ≡ h i
+getD-table zero h i d l = absurd (not-suc-le-zero l)
+getD-table (suc k) h zero d l = refl
+getD-table (suc k) h (suc i) d l = getD-table k (λ j. h (suc j)) i d (le-of-suc-le-suc l)
+
+pub table-ext : {X : Type 0} (k : ℕ) (g h : ℕ → X) → ((i : ℕ) → i < k → g i ≡ h i) → table k g ≡ table k h
+table-ext zero g h e = refl
+table-ext {X} (suc k) g h e = ap₂ (λ (x : X) (l : List X). x ∷ l) (e zero (suc-le-suc zero-le)) (table-ext k (λ i. g (suc i)) (λ i. h (suc i)) (λ i l. e (suc i) (suc-le-suc l)))
+
+-- a set of k states is the table of its membership
+pub clip-same : (k : ℕ) (A : List Bool) → length A ≡ k → clip k A ≡ A
+clip-same k A e = ext-getD false (clip k A) A (length-table k (mem A) ∙ sym e) (λ i l. getD-table k (mem A) i false (subst (λ (n : ℕ). i < n) (length-table k (mem A)) l))
+
+-- the elements of a table
+pub table-out : {X : Type 0} (k : ℕ) (h : ℕ → X) (P : X → Type 0) → ((i : ℕ) → i < k → P (h i)) → (x : X) → List·Memᴰ x (table k h) → P x
+table-out zero h P c x m = absurd (List·Memᴰ·not-nil m)
+table-out (suc k) h P c x (List·Memᴰ·head e) = subst P (sym e) (c zero (suc-le-suc zero-le))
+table-out (suc k) h P c x (List·Memᴰ·tail m) = table-out k (λ i. h (suc i)) P (λ i l. c (suc i) (suc-le-suc l)) x m
+
+-- a relation's meaning holds the pairs in which its formula holds
+pub pair-means : (n : ℕ) (f : Form) (s t : ℕ) → s < 2 ^ n → t < 2 ^ n → pair (meansPair n f) s t ≡ holds f s t
+pair-means n f s t h i = ap (λ (A : List Bool). mem A t) (getD-table (2 ^ n) (λ u. table (2 ^ n) (λ w. holds f u w)) s [] h) ∙ getD-table (2 ^ n) (λ w. holds f s w) t false i
+
+-- ---- box by diamond
+
+all-any : {X : Type 0} (q r : X → Bool) (l : List X) → ((x : X) → List·Memᴰ x l → q x ≡ not (r x)) → all q l ≡ not (any r l)
+all-any q r [] h = refl
+all-any {X} q r (x ∷ l) h = ap₂ _&&_ (h x (List·Memᴰ·head refl)) (all-any q r l (λ y m. h y (List·Memᴰ·tail m))) ∙ go (r x)
+  where
+    go : (a : Bool) → (not a && not (any r l)) ≡ not (a || any r l)
+    go true = refl
+    go false = refl
+
+-- box is NOT, diamond, NOT
+pub box-dual : (k : ℕ) (R : Pairs) (A : List Bool) → always k R A ≡ compl k (sometimes k R (compl k A))
+box-dual k R A = table-ext k _ _ (λ s l. all-any (λ t. not (pair R s t) || mem A t) (λ t. pair R s t && mem (compl k A) t) (table k (λ t. t)) (table-out k (λ t. t) _ (λ t i. inner s t i)) ∙ sym (ap not (getD-table k _ s false l)))
+  where
+    inner : (s t : ℕ) → t < k → (not (pair R s t) || mem A t) ≡ not (pair R s t && mem (compl k A) t)
+    inner s t i = go (pair R s t) (mem A t) ∙ sym (ap (λ (b : Bool). not (pair R s t && b)) (getD-table k (λ u. not (mem A u)) t false i))
+      where
+        go : (a b : Bool) → (not a || b) ≡ not (a && not b)
+        go true true = refl
+        go true false = refl
+        go false b = refl
+
+-- ---- only bound variables count
+
+-- the environments agree on the bound variables
+abbrev pub Alike : (ℕ → Bool) → Env → Env → Type 0
+Alike b e e′ = (P : ℕ) → T (b P) → e P ≡ e′ P
+
+put-alike : (b : ℕ → Bool) (e e′ : Env) (P : ℕ) (A : List Bool) → Alike b e e′ → Alike (put b P true) (put e P A) (put e′ P A)
+put-alike b e e′ P A h Q = go (eqb Q P)
+  where
+    go : (c : Bool) → T (cond c true (b Q)) → cond c A (e Q) ≡ cond c A (e′ Q)
+    go true t = refl
+    go false t = h Q t
+
+pub means-alike : (m : Model) (b : ℕ → Bool) (e e′ : Env) (f : Form) → T (bound b f) → Alike b e e′ → means m e f ≡ means m e′ f
+means-alike m b e e′ bot t h = refl
+means-alike m b e e′ top t h = refl
+means-alike m b e e′ (neg f) t h = ap (compl (size m)) (means-alike m b e e′ f t h)
+means-alike m b e e′ (conj f g) t h = let w = and-out (bound b f) (bound b g) t in ap₂ (inter (size m)) (means-alike m b e e′ f (w .0) h) (means-alike m b e e′ g (w .1) h)
+means-alike m b e e′ (disj f g) t h = let w = and-out (bound b f) (bound b g) t in ap₂ (union (size m)) (means-alike m b e e′ f (w .0) h) (means-alike m b e e′ g (w .1) h)
+means-alike m b e e′ (now p) t h = refl
+means-alike m b e e′ (next p) t h = refl
+means-alike m b e e′ (var P) t h = ap (clip (size m)) (h P t)
+means-alike m b e e′ (reg r) t h = refl
+means-alike m b e e′ (box x f) t h = ap (always (size m) (inside (m .rel x))) (means-alike m b e e′ f t h)
+means-alike m b e e′ (dia x f) t h = ap (sometimes (size m) (inside (m .rel x))) (means-alike m b e e′ f t h)
+means-alike m b e e′ (mu P f) t h =
+    ap (fix true (size m)) (fun-ext (λ A. means-alike m (put b P true) (put e P A) (put e′ P A) f (and-out (not (b P)) (bound (put b P true) f) t .1) (put-alike b e e′ P A h)))
+means-alike m b e e′ (nu P f) t h =
+    ap (fix false (size m)) (fun-ext (λ A. means-alike m (put b P true) (put e P A) (put e′ P A) f (and-out (not (b P)) (bound (put b P true) f) t .1) (put-alike b e e′ P A h)))

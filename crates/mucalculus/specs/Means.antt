@@ -1,0 +1,102 @@
+-- The set of the states in which a formula holds, and the set of the pairs in which a relation's formula holds. Assumes nothing.
+use mathlib.Core.Path.{_≡_}
+use mathlib.Core.Bool.{Bool, true, false, not, _&&_, _||_}
+use mathlib.Core.List.{List, []}
+use Prim.Native.Nat.{ℕ, _^_, _/_, _%_}
+use lib.Dec.{eqb}
+use lib.ListN.{length, getD}
+use Rattle.mucalculus.specs.Sets.{mem, table, length-table, all, any}
+use Rattle.mucalculus.specs.Fixpoint.{least, greatest, length-fix}
+use Rattle.mucalculus.specs.Form.{Form, bot, top, neg, conj, disj, now, next, var, reg, box, dia, mu, nu, Pairs, Model, Env, put, inside}
+
+-- ---- operations on sets of k states
+
+-- A with exactly k places
+abbrev pub clip : ℕ → List Bool → List Bool
+clip k A = table k (λ s. mem A s)
+
+-- the states that are not in A
+abbrev pub compl : ℕ → List Bool → List Bool
+compl k A = table k (λ s. not (mem A s))
+
+-- the states in A and in B
+abbrev pub inter : ℕ → List Bool → List Bool → List Bool
+inter k A B = table k (λ s. mem A s && mem B s)
+
+-- the states in A or in B
+abbrev pub union : ℕ → List Bool → List Bool → List Bool
+union k A B = table k (λ s. mem A s || mem B s)
+
+-- bit p of state s
+abbrev pub bit : ℕ → ℕ → Bool
+bit p s = eqb (s / 2 ^ p % 2) 1
+
+-- t is a next state of s
+abbrev pub pair : Pairs → ℕ → ℕ → Bool
+pair R s t = mem (getD R s []) t
+
+-- the states of which every next state is in A
+abbrev pub always : ℕ → Pairs → List Bool → List Bool
+always k R A = table k (λ s. all (λ t. not (pair R s t) || mem A t) (table k (λ t. t)))
+
+-- the states of which some next state is in A
+abbrev pub sometimes : ℕ → Pairs → List Bool → List Bool
+sometimes k R A = table k (λ s. any (λ t. pair R s t && mem A t) (table k (λ t. t)))
+
+-- ---- the meaning
+
+-- how many states there are
+abbrev pub size : Model → ℕ
+size m = 2 ^ (m .n)
+
+-- the states in which f holds (a next bit is of relation calls only, and holds nowhere)
+abbrev pub means : Model → Env → Form → List Bool
+means m e bot = table (size m) (λ s. false)
+means m e top = table (size m) (λ s. true)
+means m e (neg f) = compl (size m) (means m e f)
+means m e (conj f g) = inter (size m) (means m e f) (means m e g)
+means m e (disj f g) = union (size m) (means m e f) (means m e g)
+means m e (now p) = table (size m) (λ s. bit p s)
+means m e (next p) = table (size m) (λ s. false)
+means m e (var P) = clip (size m) (e P)
+means m e (reg r) = clip (size m) (inside (m .reg r))
+means m e (box t f) = always (size m) (inside (m .rel t)) (means m e f)
+means m e (dia t f) = sometimes (size m) (inside (m .rel t)) (means m e f)
+means m e (mu P f) = least (size m) (λ A. means m (put e P A) f)
+means m e (nu P f) = greatest (size m) (λ A. means m (put e P A) f)
+
+-- a relation's formula holds in the pair (s, t); the other tokens are of set calls only, and hold nowhere
+abbrev pub holds : Form → ℕ → ℕ → Bool
+holds bot s t = false
+holds top s t = true
+holds (neg f) s t = not (holds f s t)
+holds (conj f g) s t = holds f s t && holds g s t
+holds (disj f g) s t = holds f s t || holds g s t
+holds (now p) s t = bit p s
+holds (next p) s t = bit p t
+holds (var P) s t = false
+holds (reg r) s t = false
+holds (box r f) s t = false
+holds (dia r f) s t = false
+holds (mu P f) s t = false
+holds (nu P f) s t = false
+
+-- the pairs in which a relation's formula holds, over n state bits
+abbrev pub meansPair : ℕ → Form → Pairs
+meansPair n f = table (2 ^ n) (λ s. table (2 ^ n) (λ t. holds f s t))
+
+-- a meaning has a place for each state
+pub length-means : (m : Model) (e : Env) (f : Form) → length (means m e f) ≡ size m
+length-means m e bot = length-table (size m) (λ s. false)
+length-means m e top = length-table (size m) (λ s. true)
+length-means m e (neg f) = length-table (size m) _
+length-means m e (conj f g) = length-table (size m) _
+length-means m e (disj f g) = length-table (size m) _
+length-means m e (now p) = length-table (size m) (λ s. bit p s)
+length-means m e (next p) = length-table (size m) (λ s. false)
+length-means m e (var P) = length-table (size m) (λ s. mem (e P) s)
+length-means m e (reg r) = length-table (size m) (λ s. mem (inside (m .reg r)) s)
+length-means m e (box t f) = length-table (size m) _
+length-means m e (dia t f) = length-table (size m) _
+length-means m e (mu P f) = length-fix true (size m) (λ A. means m (put e P A) f)
+length-means m e (nu P f) = length-fix false (size m) (λ A. means m (put e P A) f)
