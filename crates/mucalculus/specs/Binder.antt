@@ -1,4 +1,4 @@
--- The meaning of a binder whose variable is read even: it is a fixpoint, the least or the greatest, and iteration finds it in time.
+-- The meaning of a binder that passes check 6: it is a fixpoint, the least or the greatest, and iteration finds it in time.
 -- With b `true` this is mu, with `false` nu. Assumes nothing.
 use mathlib.Core.Path.{_≡_, refl, _∙_, subst}
 use mathlib.Core.Bool.{Bool, true, false}
@@ -6,9 +6,10 @@ use mathlib.Core.List.{List}
 use Prim.Native.Nat.{ℕ, suc}
 use lib.Dec.{T}
 use lib.ListN.{length}
-use Rattle.mucalculus.specs.Order.{Dir, start}
+use Rattle.mucalculus.specs.Sets.{and-out}
+use Rattle.mucalculus.specs.Order.{Below, Dir, start}
 use Rattle.mucalculus.specs.Fixpoint.{fix, iter, Mono, fix-bound, fix-fixed, iter-found, stable}
-use Rattle.mucalculus.specs.Form.{Form, Model, Env, put, even, bind}
+use Rattle.mucalculus.specs.Form.{Form, mu, nu, Model, Env, put, reads, steady, bind}
 use Rattle.mucalculus.specs.Means.{size, means, length-means}
 use Rattle.mucalculus.specs.Polarity.{means-turns}
 
@@ -27,9 +28,9 @@ means-bind m e P f false = refl
 pub binder-bound : (m : Model) (e : Env) (P : ℕ) (f : Form) (b : Bool) (A : List Bool) → means m (put e P A) f ≡ A → Dir b (means m e (bind b P f)) A
 binder-bound m e P f b A h = subst (λ (X : List Bool). Dir b X A) (means-bind m e P f b) (fix-bound (size m) (body m e P f) (body-length m e P f) b A h)
 
-module _ (m : Model) (v : ℕ → Bool) (e : Env) (P : ℕ) (f : Form) (t : T (even (put v P true) f)) (b : Bool) where
+module _ (m : Model) (e : Env) (P : ℕ) (f : Form) (s : T (steady f)) (t : T (reads true P f)) (b : Bool) where
   pub body-mono : Mono (body m e P f)
-  body-mono = means-turns m v e P true f t
+  body-mono = means-turns m f s P true t e
 
   -- it is a set A with f(A) = A
   pub binder-fixed : means m (put e P (means m e (bind b P f))) f ≡ means m e (bind b P f)
@@ -46,3 +47,30 @@ module _ (m : Model) (v : ℕ → Bool) (e : Env) (P : ℕ) (f : Form) (t : T (e
   -- that comes to pass in round 2^n + 1 at the latest
   pub round-ends : round (suc (size m)) ≡ round (size m)
   round-ends = stable (size m) (body m e P f) (body-length m e P f) body-mono b
+
+-- ---- the same in plain words
+
+-- A is the least set with F A = A
+pub record Least (F : List Bool → List Bool) (A : List Bool) : Type 0 where
+  pub fixed : F A ≡ A
+  pub least : (B : List Bool) → F B ≡ B → Below A B
+
+-- A is the greatest set with F A = A
+pub record Greatest (F : List Bool → List Bool) (A : List Bool) : Type 0 where
+  pub fixed : F A ≡ A
+  pub greatest : (B : List Bool) → F B ≡ B → Below B A
+
+module _ (m : Model) (e : Env) (P : ℕ) (f : Form) where
+  -- "mu P: least set A with f(A) = A", for a formula that passes check 6
+  pub mu-least : T (steady (mu P f)) → Least (body m e P f) (means m e (mu P f))
+  unfolding steady
+  mu-least s =
+      let u = and-out (reads true P f) (steady f) s in
+      record { fixed = binder-fixed m e P f (u .1) (u .0) true; least = λ B h. binder-bound m e P f true B h }
+
+  -- "nu P: greatest such set"
+  pub nu-greatest : T (steady (nu P f)) → Greatest (body m e P f) (means m e (nu P f))
+  unfolding steady
+  nu-greatest s =
+      let u = and-out (reads true P f) (steady f) s in
+      record { fixed = binder-fixed m e P f (u .1) (u .0) false; greatest = λ B h. binder-bound m e P f false B h }

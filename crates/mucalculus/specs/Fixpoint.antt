@@ -2,14 +2,14 @@
 -- Both are one notion in the direction b: `true` is least, `false` is greatest. Assumes nothing.
 use mathlib.Core.Path.{_≡_, sym, ap, _∙_, subst, subst₂}
 use mathlib.Core.Logic.{_⊎_, inl, inr}
-use mathlib.Core.Bool.{Bool, true, false, not}
+use mathlib.Core.Bool.{Bool, true, false}
 use mathlib.Core.List.{List, List·Memᴰ}
 use Prim.Native.Nat.{ℕ, zero, suc, _<_}
 use native.Mathlib.Omega.{arith}
 use lib.Dec.{T, ltb, lt→ltb}
 use lib.ListN.{length}
 use Rattle.mucalculus.specs.Sets.{mem, table, length-table, mem-table, mem-lt, and-in, and-out, all, all-in, all-out, any, any-in, any-out, keep, keep-in, keep-out, sets, sets-all, same, same-refl, same-eq}
-use Rattle.mucalculus.specs.Order.{Below, Dir, dir-refl, dir-trans, dir-eq, dir-antisym, start, start-dir, weight, weight-le, rise}
+use Rattle.mucalculus.specs.Order.{Below, Dir, dir-refl, dir-trans, dir-eq, dir-antisym, start, length-start, start-dir, weight, weight-le, rise}
 
 -- all sets A of k states with F A = A
 abbrev pub fixpoints : ℕ → (List Bool → List Bool) → List (List Bool)
@@ -34,8 +34,8 @@ iter F zero A = A
 iter F (suc j) A = F (iter F j A)
 
 pub length-fix : (b : Bool) (k : ℕ) (F : List Bool → List Bool) → length (fix b k F) ≡ k
-length-fix true k F = length-table k (λ s. all (λ A. mem A s) (fixpoints k F))
-length-fix false k F = length-table k (λ s. any (λ A. mem A s) (fixpoints k F))
+length-fix true k F = length-table k _
+length-fix false k F = length-table k _
 
 -- F keeps the order
 abbrev pub Mono : (List Bool → List Bool) → Type 0
@@ -84,7 +84,7 @@ module _ (k : ℕ) (F : List Bool → List Bool) (len : (A : List Bool) → leng
     nth j = iter F j (start b k)
 
     length-nth : (j : ℕ) → length (nth j) ≡ k
-    length-nth zero = length-table k (λ s. not b)
+    length-nth zero = length-start b k
     length-nth (suc j) = len (nth j)
 
     -- each set of the iteration is below each fixpoint

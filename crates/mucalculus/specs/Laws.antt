@@ -1,17 +1,14 @@
--- Laws that the table's evaluator asks for: membership in what the operations make, box by diamond, and that only bound variables count.
--- Assumes nothing.
-use mathlib.Core.Path.{_≡_, refl, sym, ap, ap₂, _∙_, subst, fun-ext}
-use mathlib.Core.Bool.{Bool, true, false, not, _&&_, _||_, cond}
+-- Laws of the operations on sets: membership in what they make, and box by diamond. Assumes nothing.
+use mathlib.Core.Path.{_≡_, refl, sym, ap, ap₂, _∙_, subst}
+use mathlib.Core.Bool.{Bool, true, false, not, _&&_, _||_}
 use mathlib.Core.List.{List, [], _∷_, List·Memᴰ, List·Memᴰ·head, List·Memᴰ·tail, List·Memᴰ·not-nil}
 use Prim.Native.Nat.{ℕ, zero, suc, _^_, _<_, suc-le-suc, zero-le}
 use native.Mathlib.Nat.{le-of-suc-le-suc, not-suc-le-zero}
-use lib.Dec.{T, eqb}
 use lib.ListN.{length, getD}
 use lib.Seq.{ext-getD}
-use Rattle.mucalculus.specs.Sets.{mem, table, length-table, all, any, and-out}
-use Rattle.mucalculus.specs.Fixpoint.{fix}
-use Rattle.mucalculus.specs.Form.{Form, bot, top, neg, conj, disj, now, next, var, reg, box, dia, mu, nu, Pairs, Model, Env, put, inside, bound}
-use Rattle.mucalculus.specs.Means.{clip, compl, inter, union, pair, always, sometimes, size, means, meansPair, holds}
+use Rattle.mucalculus.specs.Sets.{mem, table, length-table, all, any}
+use Rattle.mucalculus.specs.Form.{Form, Pairs}
+use Rattle.mucalculus.specs.Means.{clip, compl, pair, always, sometimes, meansPair, holds}
 
 -- ---- tables
 
@@ -59,33 +56,3 @@ box-dual k R A = table-ext k _ _ (λ s l. all-any (λ t. not (pair R s t) || mem
         go true true = refl
         go true false = refl
         go false b = refl
-
--- ---- only bound variables count
-
--- the environments agree on the bound variables
-abbrev pub Alike : (ℕ → Bool) → Env → Env → Type 0
-Alike b e e′ = (P : ℕ) → T (b P) → e P ≡ e′ P
-
-put-alike : (b : ℕ → Bool) (e e′ : Env) (P : ℕ) (A : List Bool) → Alike b e e′ → Alike (put b P true) (put e P A) (put e′ P A)
-put-alike b e e′ P A h Q = go (eqb Q P)
-  where
-    go : (c : Bool) → T (cond c true (b Q)) → cond c A (e Q) ≡ cond c A (e′ Q)
-    go true t = refl
-    go false t = h Q t
-
-pub means-alike : (m : Model) (b : ℕ → Bool) (e e′ : Env) (f : Form) → T (bound b f) → Alike b e e′ → means m e f ≡ means m e′ f
-means-alike m b e e′ bot t h = refl
-means-alike m b e e′ top t h = refl
-means-alike m b e e′ (neg f) t h = ap (compl (size m)) (means-alike m b e e′ f t h)
-means-alike m b e e′ (conj f g) t h = let w = and-out (bound b f) (bound b g) t in ap₂ (inter (size m)) (means-alike m b e e′ f (w .0) h) (means-alike m b e e′ g (w .1) h)
-means-alike m b e e′ (disj f g) t h = let w = and-out (bound b f) (bound b g) t in ap₂ (union (size m)) (means-alike m b e e′ f (w .0) h) (means-alike m b e e′ g (w .1) h)
-means-alike m b e e′ (now p) t h = refl
-means-alike m b e e′ (next p) t h = refl
-means-alike m b e e′ (var P) t h = ap (clip (size m)) (h P t)
-means-alike m b e e′ (reg r) t h = refl
-means-alike m b e e′ (box x f) t h = ap (always (size m) (inside (m .rel x))) (means-alike m b e e′ f t h)
-means-alike m b e e′ (dia x f) t h = ap (sometimes (size m) (inside (m .rel x))) (means-alike m b e e′ f t h)
-means-alike m b e e′ (mu P f) t h =
-    ap (fix true (size m)) (fun-ext (λ A. means-alike m (put b P true) (put e P A) (put e′ P A) f (and-out (not (b P)) (bound (put b P true) f) t .1) (put-alike b e e′ P A h)))
-means-alike m b e e′ (nu P f) t h =
-    ap (fix false (size m)) (fun-ext (λ A. means-alike m (put b P true) (put e P A) (put e′ P A) f (and-out (not (b P)) (bound (put b P true) f) t .1) (put-alike b e e′ P A h)))

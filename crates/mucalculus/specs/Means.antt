@@ -5,7 +5,7 @@ use mathlib.Core.List.{List, []}
 use Prim.Native.Nat.{ℕ, _^_, _/_, _%_}
 use lib.Dec.{eqb}
 use lib.ListN.{length, getD}
-use Rattle.mucalculus.specs.Sets.{mem, table, length-table, all, any}
+use Rattle.mucalculus.specs.Sets.{mem, table, length-table, noStates, allStates, all, any}
 use Rattle.mucalculus.specs.Fixpoint.{least, greatest, length-fix}
 use Rattle.mucalculus.specs.Form.{Form, bot, top, neg, conj, disj, now, next, var, reg, box, dia, mu, nu, Pairs, Model, Env, put, inside}
 
@@ -31,6 +31,10 @@ union k A B = table k (λ s. mem A s || mem B s)
 abbrev pub bit : ℕ → ℕ → Bool
 bit p s = eqb (s / 2 ^ p % 2) 1
 
+-- the states whose bit p is 1
+abbrev pub bitStates : ℕ → ℕ → List Bool
+bitStates k p = table k (λ s. bit p s)
+
 -- t is a next state of s
 abbrev pub pair : Pairs → ℕ → ℕ → Bool
 pair R s t = mem (getD R s []) t
@@ -51,13 +55,13 @@ size m = 2 ^ (m .n)
 
 -- the states in which f holds (a next bit is of relation calls only, and holds nowhere)
 abbrev pub means : Model → Env → Form → List Bool
-means m e bot = table (size m) (λ s. false)
-means m e top = table (size m) (λ s. true)
+means m e bot = noStates (size m)
+means m e top = allStates (size m)
 means m e (neg f) = compl (size m) (means m e f)
 means m e (conj f g) = inter (size m) (means m e f) (means m e g)
 means m e (disj f g) = union (size m) (means m e f) (means m e g)
-means m e (now p) = table (size m) (λ s. bit p s)
-means m e (next p) = table (size m) (λ s. false)
+means m e (now p) = bitStates (size m) p
+means m e (next p) = noStates (size m)
 means m e (var P) = clip (size m) (e P)
 means m e (reg r) = clip (size m) (inside (m .reg r))
 means m e (box t f) = always (size m) (inside (m .rel t)) (means m e f)

@@ -7,9 +7,9 @@ use mathlib.Core.List.{List, [], _∷_}
 use Prim.Native.Nat.{ℕ, zero, suc, _≤_, _<_, zero-le, suc-le-suc}
 use native.Mathlib.Nat.{suc-inj, suc-ne-zero, le-of-eq, le-of-lt, le-suc, le-trans}
 use native.Mathlib.Omega.{arith}
-use lib.Dec.{T, ltb, lt→ltb}
+use lib.Dec.{T}
 use lib.ListN.{length}
-use Rattle.mucalculus.specs.Sets.{mem, table, mem-table, mem-lt, and-in, and-out}
+use Rattle.mucalculus.specs.Sets.{mem, length-table, noStates, allStates, mem-noStates, mem-allStates, mem-lt}
 
 -- every member of A is one of B
 abbrev pub Below : List Bool → List Bool → Type 0
@@ -35,13 +35,18 @@ dir-flip false A B h = h
 pub dir-eq : (b : Bool) {A B : List Bool} → A ≡ B → Dir b A B
 dir-eq b {A} {B} e = subst (λ (C : List Bool). Dir b A C) e (dir-refl b A)
 
--- the set where the iteration in direction b starts: none of the states, or all k
+-- "Mu starts from the empty set, nu from all states": where the iteration in direction b starts
 abbrev pub start : Bool → ℕ → List Bool
-start b k = table k (λ s. not b)
+start true k = noStates k
+start false k = allStates k
+
+pub length-start : (b : Bool) (k : ℕ) → length (start b k) ≡ k
+length-start true k = length-table k _
+length-start false k = length-table k _
 
 pub start-dir : (b : Bool) (k : ℕ) (A : List Bool) → length A ≡ k → Dir b (start b k) A
-start-dir true k A e = λ s p. absurd (and-out (ltb s k) false (subst T (mem-table k (λ i. false) s) p) .1)
-start-dir false k A e = λ s p. subst T (sym (mem-table k (λ i. true) s)) (and-in (ltb s k) true (lt→ltb s k (subst (λ (n : ℕ). s < n) e (mem-lt A s p))) tt)
+start-dir true k A e = λ s p. absurd (mem-noStates k s p)
+start-dir false k A e = λ s p. mem-allStates k s (subst (λ (n : ℕ). s < n) e (mem-lt A s p))
 
 -- ---- weight
 
