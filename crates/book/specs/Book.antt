@@ -1,23 +1,22 @@
--- "The book": 8 relations and 32 registers, each empty or holding a set of pairs or of states; each call's effect and answer; a whole list.
--- Assumes nothing.
+-- "The book": 8 relations and 32 registers, each empty or holding a set of pairs or of states; each call's effect and answer, a whole list of
+-- calls, and the answer to each question. It stores the meaning; steps give the number and the rounds. Assumes nothing.
 use mathlib.Core.Bool.{Bool, true, false, not, cond, _&&_}
 use mathlib.Core.List.{List, [], _∷_, _++_}
 use mathlib.Core.Option.{Option, none, some}
 use Prim.Native.Nat.{ℕ, zero, suc, _+_, _*_, _^_, min}
 use lib.Dec.{leb, ltb}
-use Rattle.mucalculus.specs.Sets.{mem, table, all}
+use Rattle.mucalculus.specs.Sets.{mem, all}
 use Rattle.mucalculus.specs.Order.{weight}
-use Rattle.mucalculus.specs.Form.{Form, Pairs, Model, put, filled}
+use Rattle.mucalculus.specs.Form.{Form, Pairs, Model, noEnv, put, filled}
 use Rattle.mucalculus.specs.Means.{means, meansPair}
-use Rattle.mucalculus.specs.Answer.{noEnv}
-use Rattle.formula.specs.Form.{Got, fails, got, formulaOf}
-use Rattle.formula.specs.Checks.{laterRefusal}
-use Rattle.formula.specs.declared.Kind.the-variants.{Relation, Set}
+use Rattle.tokens.specs.declared.Kind.{Kind}
+use Rattle.formula.specs.Parse.{formOf, formulaOf}
+use Rattle.formula.specs.Checks.{firstRefusal}
+use Rattle.tokens.specs.declared.Kind.the-variants.{Relation, Set}
 use Rattle.diagram.specs.Level.{Fn}
 use Rattle.diagram.specs.Need.{need}
 use Rattle.book.specs.Bridge.{fnOf, fnOfPairs}
 use Rattle.book.specs.Ticks.{contents, ticks, pairTicks, Verdict, counted, full, spent, verdict}
-use Rattle.book.specs.Read.{asForm}
 
 -- "The table has N rows, 32 registers, 8 relations and a tally"
 abbrev pub registers : ℕ
@@ -46,18 +45,21 @@ fresh n N = record { n = n; N = N; rel = λ t. none; reg = λ r. none; tally = 0
 abbrev pub freshFits : ℕ → ℕ → ℕ → Bool
 freshFits n N words = (leb 1 n && leb n 16) && ((leb 1 N && leb N 60_000) && leb (256 + 12 * N) words)
 
--- a call: its kind and arguments, formula bytes and R included
+-- a call of the third demand's list: its kind and arguments, "formula bytes and R included"
 pub data Call : Type 0 where
   relation : ℕ → List ℕ → Call  -- relation t, bytes
   set : ℕ → ℕ → List ℕ → Call  -- set r, R, bytes
   clear : ℕ → Call  -- clear r
   collect : Call
-  node : ℕ → Call  -- node r
-  member : ℕ → ℕ → Call  -- member r, state
-  count : ℕ → Call  -- count r
-  tally : Call
 
--- an answer: the refusal's number or 0, the rounds, and the value where the rules settle it (a node number above 1 is the builder's)
+-- a question, which changes nothing
+pub data Question : Type 0 where
+  node : ℕ → Question  -- node r
+  member : ℕ → ℕ → Question  -- member r, state
+  count : ℕ → Question  -- count r
+  tally : Question
+
+-- an answer: the refusal's number or 0, the rounds, and the value where the rules settle it ("Free for the builder: node numbers above 1")
 pub record Answer : Type 0 where
   pub number : ℕ
   pub rounds : ℕ
@@ -81,16 +83,20 @@ modelOf b = record { n = b .n; rel = b .rel; reg = b .reg }
 abbrev pub liveOf : Book → List Fn
 liveOf b = contents (fnOf (b .n)) registers (b .reg) ++ contents (fnOfPairs (b .n)) relations (b .rel)
 
--- which registers and relations are filled
-abbrev pub filledRegs : Book → List Bool
-filledRegs b = table registers (λ r. filled (b .reg r))
+-- "where a check asks what is filled, as 7 does, the book's own registers and relations count"
+abbrev pub regFilled : Book → ℕ → Bool
+regFilled b r = ltb r registers && filled (b .reg r)
 
-abbrev pub filledRels : Book → List Bool
-filledRels b = table relations (λ t. filled (b .rel t))
+abbrev pub relFilled : Book → ℕ → Bool
+relFilled b t = ltb t relations && filled (b .rel t)
 
--- the number of checks 4 to 7 on what was read, 0 where they pass
-abbrev pub checks : Book → Got → ℕ
-checks b g = laterRefusal (filledRegs b) (filledRels b) g
+-- the number of checks 4 to 7 on a call's formula bytes, 0 where they pass
+abbrev pub checks : Book → Kind → List ℕ → ℕ
+checks b k bs = firstRefusal k (b .n) (regFilled b) (relFilled b) bs
+
+-- the formula of the bytes, where check 4 passes
+abbrev pub formulaIn : Book → Kind → List ℕ → Form
+formulaIn b k bs = formOf (formulaOf k (b .n) bs)
 
 -- ---- the effect of each call
 
@@ -98,7 +104,7 @@ checks b g = laterRefusal (filledRegs b) (filledRels b) g
 abbrev pub Done : Type 0
 Done = Book × Answer
 
--- "A call refused changes nothing"
+-- "A call refused by a check before its steps changes nothing"; nor do 8 and 9
 abbrev pub refuse : Book → ℕ → Done
 refuse b k = (b, refused k)
 
@@ -114,7 +120,7 @@ withReg b r A k = record { n = b .n; N = b .N; rel = b .rel; reg = put (b .reg) 
 abbrev pub tallied : ℕ → ℕ → ℕ
 tallied k q = min (k + q) tallyTop
 
--- the node number where it is settled: "An arrow is 0 (nothing), 1 (everything) or a used row", and numbers above 1 are the builder's
+-- the node number where it is settled: "An arrow is 0 (nothing), 1 (everything) or a used row"
 abbrev pub nodeOf : List Bool → Option ℕ
 nodeOf A = cond (all (λ a. not a) A) (some 0) (cond (all (λ a. a) A) (some 1) none)
 
@@ -128,15 +134,15 @@ ended b spent go = refuse b 9
 abbrev pub relationDone : Book → ℕ → Form → Done
 relationDone b t f = (withRel b t (some (meansPair (b .n) f)), answered (some 0))
 
--- "register r exactly the states": the set A, made in q rounds
+-- "register r exactly the states": the set A, made in q rounds; set "returns node number and rounds"
 abbrev pub setDone : Book → ℕ → List Bool → ℕ → Done
 setDone b r A q = (withReg b r (some A) (tallied (b .tally) q), record { number = 0; rounds = q; value = nodeOf A })
 
--- relation t, after its checks
+-- relation t, after its checks: "relation has no rounds"
 abbrev pub relationSteps : Book → ℕ → Form → Done
 relationSteps b t f = ended b (verdict (b .N) 0 0 (pairTicks (b .n) (liveOf b) f)) (λ q. relationDone b t f)
 
--- set r, after its checks
+-- set r, after its checks: the states "by the meaning above over the book as it stood before the call"
 abbrev pub setSteps : Book → ℕ → ℕ → Form → Done
 setSteps b r R f = ended b (verdict (b .N) R 0 (ticks (modelOf b) noEnv (liveOf b) f)) (λ q. setDone b r (means (modelOf b) noEnv f) q)
 
@@ -146,32 +152,36 @@ passing b zero go = go
 passing b (suc k) go = refuse b (suc k)
 
 -- checks 4 to 7 over the whole formula, then its steps
-abbrev pub formulaCall : Book → Got → (Form → Done) → Done
-formulaCall b fails go = refuse b 4
-formulaCall b (got f e) go = let d = go (asForm f) in passing b (checks b (got f e)) d
+abbrev pub formulaCall : Book → Kind → List ℕ → (Form → Done) → Done
+formulaCall b k bs go = let d = go (formulaIn b k bs) in passing b (checks b k bs) d
 
--- a question of register r, which is refused where it is empty
-abbrev pub asked : Book → Option (List Bool) → (List Bool → Option ℕ) → Done
-asked b none g = refuse b 7
-asked b (some A) g = (b, answered (g A))
+-- each call, its checks in the order of the table of refusals
+abbrev pub does : Book → Call → Done
+does b (relation t bs) = let d = formulaCall b Relation bs (relationSteps b t) in cond (ltb t relations) d (refuse b 3)
+does b (set r R bs) = let d = formulaCall b Set bs (setSteps b r R) in cond (ltb r registers) d (refuse b 3)
+does b (clear r) = cond (ltb r registers) (withReg b r none (b .tally), answered (some 0)) (refuse b 3)
+does b collect = (b, answered (some (need (2 * b .n) (liveOf b))))
+
+-- a whole list of calls: the book after it, and the answers in order
+abbrev pub play : Book → List Call → Book × List Answer
+play b [] = (b, [])
+play b (c ∷ cs) = let d = does b c in let e = play (d .0) cs in (e .0, d .1 ∷ e .1)
+
+-- ---- the answer to each question
+
+-- a question of a register, which is refused where it is empty
+abbrev pub asked : Option (List Bool) → (List Bool → Option ℕ) → Answer
+asked none g = refused 7
+asked (some A) g = answered (g A)
 
 -- a Boolean answer as a value
 abbrev pub oneOf : Bool → ℕ
 oneOf true = 1
 oneOf false = 0
 
--- each call, its checks in the order of the table of refusals
-abbrev pub does : Book → Call → Done
-does b (relation t bs) = let d = formulaCall b (formulaOf (b .n) Relation bs) (relationSteps b t) in cond (ltb t relations) d (refuse b 3)
-does b (set r R bs) = let d = formulaCall b (formulaOf (b .n) Set bs) (setSteps b r R) in cond (ltb r registers) d (refuse b 3)
-does b (clear r) = cond (ltb r registers) (withReg b r none (b .tally), answered (some 0)) (refuse b 3)
-does b collect = (b, answered (some (need (2 * b .n) (liveOf b))))
-does b (node r) = cond (ltb r registers) (asked b (b .reg r) nodeOf) (refuse b 3)
-does b (member r s) = cond (ltb r registers) (cond (ltb s (2 ^ b .n)) (asked b (b .reg r) (λ A. some (oneOf (mem A s)))) (refuse b 3)) (refuse b 3)
-does b (count r) = cond (ltb r registers) (asked b (b .reg r) (λ A. some (weight true A))) (refuse b 3)
-does b tally = (b, answered (some (b .tally)))
-
--- a whole list of calls: the book after it, and the answers in order
-abbrev pub play : Book → List Call → Book × List Answer
-play b [] = (b, [])
-play b (c ∷ cs) = let d = does b c in let e = play (d .0) cs in (e .0, d .1 ∷ e .1)
+-- each question, its checks in the order of the table of refusals; count is "states in the set"
+abbrev pub answer : Book → Question → Answer
+answer b (node r) = cond (ltb r registers) (asked (b .reg r) nodeOf) (refused 3)
+answer b (member r s) = cond (ltb r registers && ltb s (2 ^ b .n)) (asked (b .reg r) (λ A. some (oneOf (mem A s)))) (refused 3)
+answer b (count r) = cond (ltb r registers) (asked (b .reg r) (λ A. some (weight true A))) (refused 3)
+answer b tally = answered (some (b .tally))

@@ -1,6 +1,6 @@
 -- The book that a sound table stands for: the sets and pairs of its arrows. The table shows it, it is whole, and it is the only such book; so
 -- contracts stated with it hold on any sound table, not only after fresh. Assumes nothing.
-use mathlib.Core.Path.{_≡_, refl, sym, ap, _∙_, subst}
+use mathlib.Core.Path.{_≡_, refl, sym, ap, _∙_, subst, fun-ext}
 use mathlib.Core.Bool.{Bool, true, false, cond}
 use mathlib.Core.List.{List, [], _∷_, List·Memᴰ·head as here}
 use mathlib.Core.Option.{Option, none, some}
@@ -17,7 +17,8 @@ use Rattle.diagram.specs.Even.{ReadsOn, even, reads-levels, levels-read}
 use Rattle.book.specs.States.{nowOf, nextOf, pairVal, nowOf-bit, pairVal-now, pairVal-next}
 use Rattle.book.specs.Bridge.{fnOf, fnOfPairs, setOf, pairsOf, Sized, SizedPairs, sized-table, setOf-fnOf, pairsOf-fnOfPairs, fnOf-setOf, fnOfPairs-table, fnOf-even}
 use Rattle.book.specs.Book.{Book, registers, relations}
-use Rattle.book.specs.Stored.{Whole, some-inj}
+use Rattle.book.specs.Stored.{Whole, some-inj, none-some}
+use Rattle.book.specs.Effects.{in-range}
 use Rattle.book.specs.Table.{Table, Place, Shows}
 use Rattle.book.specs.Held.{denoted}
 use Rattle.book.specs.Leaves.{shows-filled}
@@ -38,20 +39,31 @@ abbrev pub bookOf : Table → Book
 bookOf t = record {
   n = t .n;
   N = t .N;
-  rel = λ q. standsFor (pairsOf (t .n)) (den (2 * t .n) (t .rows)) (t .rel q);
-  reg = λ r. standsFor (setOf (t .n)) (den (2 * t .n) (t .rows)) (t .reg r);
+  rel = λ q. cond (ltb q relations) (standsFor (pairsOf (t .n)) (den (2 * t .n) (t .rows)) (t .rel q)) none;
+  reg = λ r. cond (ltb r registers) (standsFor (setOf (t .n)) (den (2 * t .n) (t .rows)) (t .reg r)) none;
   tally = t .tally;
 }
 
+-- what holds of a filled place below a limit
+limited : {X : Type 0} (P : ℕ → X → Type 0) (k limit : ℕ) (o : Option X) → (k < limit → (x : X) → o ≡ some x → P k x) → (x : X) → cond (ltb k limit) o none ≡ some x → P k x
+limited {X} P k limit o h x = go (ltb k limit) refl
+  where
+    go : (u : Bool) → ltb k limit ≡ u → cond u o none ≡ some x → P k x
+    go true e i = h (ltb→lt k limit (subst T (sym e) tt)) x i
+    go false e i = absurd (none-some i)
+
 pub whole-bookOf : (t : Table) → Whole (bookOf t)
-whole-bookOf t = record { reg = λ r. sets (t .reg r); rel = λ q. pairs (t .rel q) }
+whole-bookOf t = record {
+  reg = λ r. limited (λ i A. Sized (t .n) A × (i < registers)) r registers (standsFor (setOf (t .n)) (den (2 * t .n) (t .rows)) (t .reg r)) (λ l A e. (sets (t .reg r) A e, l));
+  rel = λ q. limited (λ i Q. SizedPairs (t .n) Q × (i < relations)) q relations (standsFor (pairsOf (t .n)) (den (2 * t .n) (t .rows)) (t .rel q)) (λ l Q e. (pairs (t .rel q) Q e, l));
+}
   where
     sets : (o : Option ℕ) (A : List Bool) → standsFor (setOf (t .n)) (den (2 * t .n) (t .rows)) o ≡ some A → Sized (t .n) A
-    sets none A e = let z : _≡_ {A = ℕ} 0 1 = cc in absurd (omega arith)
+    sets none A e = absurd (none-some e)
     sets (some a) A e = subst (Sized (t .n)) (some-inj e) (length-table (2 ^ t .n) (λ s. den (2 * t .n) (t .rows) a (pairVal s 0)))
 
     pairs : (o : Option ℕ) (Q : Pairs) → standsFor (pairsOf (t .n)) (den (2 * t .n) (t .rows)) o ≡ some Q → SizedPairs (t .n) Q
-    pairs none Q e = let z : _≡_ {A = ℕ} 0 1 = cc in absurd (omega arith)
+    pairs none Q e = absurd (none-some e)
     pairs (some a) Q e = subst (SizedPairs (t .n)) (some-inj e) (sized-table (t .n) (λ s u. den (2 * t .n) (t .rows) a (pairVal s u)))
 
 -- a function of n current bits, by the levels that it reads
@@ -92,8 +104,8 @@ shows-bookOf t s = record {
   N = refl;
   tally = refl;
   wf = s .wf;
-  reg = λ r l. sets (t .reg r) (s .reg r l);
-  rel = λ q l. pairs (t .rel q) (s .rel q l);
+  reg = λ r l. subst (λ (o : Option (List Bool)). Place (2 * t .n) (t .rows) (fnOf (t .n)) o (t .reg r)) (sym (in-range _ none r registers l)) (sets (t .reg r) (s .reg r l));
+  rel = λ q l. subst (λ (o : Option Pairs). Place (2 * t .n) (t .rows) (fnOfPairs (t .n)) o (t .rel q)) (sym (in-range _ none q relations l)) (pairs (t .rel q) (s .rel q l));
 }
   where
     m : ℕ
@@ -113,27 +125,49 @@ shows-bookOf t s = record {
     pairs none h = tt
     pairs (some a) h = record { arrow = h a refl; same = λ v. sym (pairs-back (t .n) (D a) (den-reads-all (s .wf) a (h a refl)) v) }
 
--- a whole book that the table shows is that one
+-- a place of a whole book that the table shows stands for the table's
 module _ (b : Book) (t : Table) (w : Whole b) (s : Shows b t) where
-  pub reg-bookOf : (r : ℕ) → r < registers → b .reg r ≡ bookOf t .reg r
-  reg-bookOf r l = go (b .reg r) (t .reg r) (w .reg r) (s .reg r l)
+  set-stands : (r : ℕ) → r < registers → b .reg r ≡ standsFor (setOf (t .n)) (den (2 * t .n) (t .rows)) (t .reg r)
+  set-stands r l = go (b .reg r) (t .reg r) (w .reg r) (s .reg r l)
     where
-      go : (o : Option (List Bool)) (u : Option ℕ) → ((A : List Bool) → o ≡ some A → Sized (b .n) A) → Place (2 * b .n) (t .rows) (fnOf (b .n)) o u → o ≡ standsFor (setOf (t .n)) (den (2 * t .n) (t .rows)) u
+      go : (o : Option (List Bool)) (u : Option ℕ) → ((A : List Bool) → o ≡ some A → Sized (b .n) A × (r < registers)) → Place (2 * b .n) (t .rows) (fnOf (b .n)) o u → o ≡ standsFor (setOf (t .n)) (den (2 * t .n) (t .rows)) u
       go none none z p = refl
       go none (some a) z p = absurd p
       go (some A) none z p = absurd p
       go (some A) (some a) z p =
-          subst (λ (n : ℕ). some A ≡ some (setOf n (den (2 * n) (t .rows) a))) (sym (s .n)) (ap some (sym (ap (setOf (b .n)) (denoted p) ∙ setOf-fnOf (b .n) A (z A refl))))
+          subst (λ (n : ℕ). some A ≡ some (setOf n (den (2 * n) (t .rows) a))) (sym (s .n)) (ap some (sym (ap (setOf (b .n)) (denoted p) ∙ setOf-fnOf (b .n) A (z A refl .0))))
 
-  pub rel-bookOf : (q : ℕ) → q < relations → b .rel q ≡ bookOf t .rel q
-  rel-bookOf q l = go (b .rel q) (t .rel q) (w .rel q) (s .rel q l)
+  pairs-stand : (q : ℕ) → q < relations → b .rel q ≡ standsFor (pairsOf (t .n)) (den (2 * t .n) (t .rows)) (t .rel q)
+  pairs-stand q l = go (b .rel q) (t .rel q) (w .rel q) (s .rel q l)
     where
-      go : (o : Option Pairs) (u : Option ℕ) → ((Q : Pairs) → o ≡ some Q → SizedPairs (b .n) Q) → Place (2 * b .n) (t .rows) (fnOfPairs (b .n)) o u → o ≡ standsFor (pairsOf (t .n)) (den (2 * t .n) (t .rows)) u
+      go : (o : Option Pairs) (u : Option ℕ) → ((Q : Pairs) → o ≡ some Q → SizedPairs (b .n) Q × (q < relations)) → Place (2 * b .n) (t .rows) (fnOfPairs (b .n)) o u → o ≡ standsFor (pairsOf (t .n)) (den (2 * t .n) (t .rows)) u
       go none none z p = refl
       go none (some a) z p = absurd p
       go (some Q) none z p = absurd p
       go (some Q) (some a) z p =
-          subst (λ (n : ℕ). some Q ≡ some (pairsOf n (den (2 * n) (t .rows) a))) (sym (s .n)) (ap some (sym (ap (pairsOf (b .n)) (denoted p) ∙ pairsOf-fnOfPairs (b .n) Q (z Q refl))))
+          subst (λ (n : ℕ). some Q ≡ some (pairsOf n (den (2 * n) (t .rows) a))) (sym (s .n)) (ap some (sym (ap (pairsOf (b .n)) (denoted p) ∙ pairsOf-fnOfPairs (b .n) Q (z Q refl .0))))
+
+  -- nothing is filled past the limit
+  limited-is : {X : Type 0} (h : ℕ → Option X) (k limit : ℕ) (o : Option X) → ((x : X) → h k ≡ some x → k < limit) → (k < limit → h k ≡ o) → h k ≡ cond (ltb k limit) o none
+  limited-is {X} h k limit o most e = go (ltb k limit) refl
+    where
+      empty : (z : Option X) → h k ≡ z → ltb k limit ≡ false → z ≡ none
+      empty none i u = refl
+      empty (some x) i u = absurd (subst T u (lt→ltb k limit (most x i)))
+
+      go : (u : Bool) → ltb k limit ≡ u → h k ≡ cond u o none
+      go true i = e (ltb→lt k limit (subst T (sym i) tt))
+      go false i = empty (h k) refl i
+
+  -- THE ONLY BOOK: a whole book that the table shows is the one that it stands for
+  pub only-book : b ≡ bookOf t
+  only-book = λ i. record {
+    n = sym (s .n) i;
+    N = sym (s .N) i;
+    rel = fun-ext (λ q. limited-is (b .rel) q relations _ (λ Q e. w .rel q Q e .1) (pairs-stand q)) i;
+    reg = fun-ext (λ r. limited-is (b .reg) r registers _ (λ A e. w .reg r A e .1) (set-stands r)) i;
+    tally = sym (s .tally) i;
+  }
 
 -- a table that shows a book is sound: its registers denote sets of states, which read current bits only
 pub sound-shows : (b : Book) (t : Table) → Shows b t → SoundTable t

@@ -7,9 +7,9 @@ use native.Mathlib.Omega.{arith}
 use lib.Dec.{T, eqb, eqb-refl}
 use lib.ListN.{length, getD}
 use lib.Seq.{ext-getD}
-use Rattle.mucalculus.specs.Sets.{mem, table, length-table}
+use Rattle.mucalculus.specs.Sets.{mem, table, length-table, noStates, allStates}
 use Rattle.mucalculus.specs.Form.{Form, neg, conj, disj, now, next, Pairs}
-use Rattle.mucalculus.specs.Means.{clip, compl, inter, union, bit, pair, holds, meansPair}
+use Rattle.mucalculus.specs.Means.{clip, compl, inter, union, bit, bitStates, pair, holds, meansPair}
 use Rattle.mucalculus.specs.Laws.{getD-table}
 use Rattle.diagram.specs.Level.{Val, Fn, Reads, T-true}
 use Rattle.diagram.specs.Even.{ReadsOn, even}
@@ -114,17 +114,17 @@ module _ (n : ℕ) where
 
   -- ---- the steps
 
-  pub fnOf-none : fnOf n (table (2 ^ n) (λ s. false)) ≡ (λ v. false)
+  pub fnOf-none : fnOf n (noStates (2 ^ n)) ≡ (λ v. false)
   fnOf-none = fnOf-table n (λ s. false)
 
-  pub fnOf-all : fnOf n (table (2 ^ n) (λ s. true)) ≡ (λ v. true)
+  pub fnOf-all : fnOf n (allStates (2 ^ n)) ≡ (λ v. true)
   fnOf-all = fnOf-table n (λ s. true)
 
   pub fnOf-clip : (A : List Bool) → fnOf n (clip (2 ^ n) A) ≡ fnOf n A
   fnOf-clip A = fnOf-table n (mem A)
 
   -- a bit: current bit p is level 2p
-  pub fnOf-bit : (p : ℕ) → p < n → fnOf n (table (2 ^ n) (λ s. bit p s)) ≡ bitF (2 * p)
+  pub fnOf-bit : (p : ℕ) → p < n → fnOf n (bitStates (2 ^ n) p) ≡ bitF (2 * p)
   fnOf-bit p l = fnOf-table n (bit p) ∙ fun-ext (λ v. nowOf-bit n v p l)
 
   -- NOT, AND, OR

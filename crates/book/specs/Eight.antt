@@ -9,16 +9,13 @@ use native.Mathlib.Omega.{arith}
 use native.Mathlib.Nat.{lt-of-not-le}
 use lib.Dec.{T, leb, leb→le, le→leb}
 use Rattle.mucalculus.specs.Sets.{all-out, false-of}
+use Rattle.mucalculus.specs.Form.{noEnv}
 use Rattle.mucalculus.specs.Means.{means}
-use Rattle.mucalculus.specs.Answer.{noEnv}
-use Rattle.formula.specs.Form.{Form as Tree, got, formulaOf}
-use Rattle.formula.specs.declared.Kind.the-variants.{Relation, Set}
+use Rattle.tokens.specs.declared.Kind.the-variants.{Relation, Set}
 use Rattle.book.specs.Ticks.{Tick, ticks, pairTicks, Verdict, counted, full, spent, verdict, reached}
-use Rattle.book.specs.Exact.{fit}
-use Rattle.book.specs.Verdicts.{verdict-full}
-use Rattle.book.specs.Read.{asForm}
-use Rattle.book.specs.Book.{Book, Call, relation, set, clear, collect, node, member, count, tally, registers, relations, modelOf, liveOf, checks, Done, ended, relationDone, setDone, does}
-use Rattle.book.specs.Formulas.{does-set, does-relation}
+use Rattle.book.specs.Verdicts.{fit, verdict-full}
+use Rattle.book.specs.Effects.{does-set, does-relation}
+use Rattle.book.specs.Book.{formulaIn, Book, Call, relation, set, clear, collect, registers, relations, modelOf, liveOf, checks, Done, ended, relationDone, setDone, does}
 
 -- some number of the list is above N
 abbrev pub Above : ℕ → List ℕ → Type 0
@@ -47,32 +44,25 @@ eight b N R l go z =
     let y = verdict-full N R 0 l in
     ((λ e. above-out N (reached R 0 l) (y .0 (x .0 e))), (λ w. x .1 (y .1 (above-in N (reached R 0 l) w))))
 
--- the claim for a call and the number k that it returned
+-- "refused as full exactly when, at a step of document 01 reached within its rounds, the live sets and that step's result need more rows
+-- than the table has": the claim for a call and the number k that it returned
 abbrev pub EightAt : Book → Call → ℕ → Type 0
 EightAt b (relation t bs) k =
-    (f : Tree) (e : ℕ) → t < relations → formulaOf (b .n) Relation bs ≡ got f e → checks b (formulaOf (b .n) Relation bs) ≡ 0
-    → (k ≡ 8) ↔ Above (b .N) (reached 0 0 (pairTicks (b .n) (liveOf b) (asForm f)))
+    t < relations → checks b Relation bs ≡ 0 → (k ≡ 8) ↔ Above (b .N) (reached 0 0 (pairTicks (b .n) (liveOf b) (formulaIn b Relation bs)))
 EightAt b (set r R bs) k =
-    (f : Tree) (e : ℕ) → r < registers → formulaOf (b .n) Set bs ≡ got f e → checks b (formulaOf (b .n) Set bs) ≡ 0
-    → (k ≡ 8) ↔ Above (b .N) (reached R 0 (ticks (modelOf b) noEnv (liveOf b) (asForm f)))
+    r < registers → checks b Set bs ≡ 0 → (k ≡ 8) ↔ Above (b .N) (reached R 0 (ticks (modelOf b) noEnv (liveOf b) (formulaIn b Set bs)))
 EightAt b (clear r) k = Unit {0}
 EightAt b collect k = Unit {0}
-EightAt b (node r) k = Unit {0}
-EightAt b (member r s) k = Unit {0}
-EightAt b (count r) k = Unit {0}
-EightAt b tally k = Unit {0}
 
 -- the book's own numbers
 pub eight-exact : (b : Book) (c : Call) → EightAt b c (does b c .1 .number)
-eight-exact b (relation t bs) = λ f e l i z.
-    subst (λ (d : Done). (d .1 .number ≡ 8) ↔ Above (b .N) (reached 0 0 (pairTicks (b .n) (liveOf b) (asForm f)))) (sym (does-relation b t bs f e l i z))
-    (eight b (b .N) 0 (pairTicks (b .n) (liveOf b) (asForm f)) (λ q. relationDone b t (asForm f)) (λ q. refl))
-eight-exact b (set r R bs) = λ f e l i z.
-    subst (λ (d : Done). (d .1 .number ≡ 8) ↔ Above (b .N) (reached R 0 (ticks (modelOf b) noEnv (liveOf b) (asForm f)))) (sym (does-set b r R bs f e l i z))
-    (eight b (b .N) R (ticks (modelOf b) noEnv (liveOf b) (asForm f)) (λ q. setDone b r (means (modelOf b) noEnv (asForm f)) q) (λ q. refl))
+eight-exact b (relation t bs) = λ l z.
+    let f = formulaIn b Relation bs in
+    subst (λ (d : Done). (d .1 .number ≡ 8) ↔ Above (b .N) (reached 0 0 (pairTicks (b .n) (liveOf b) f))) (sym (does-relation b t bs l z))
+    (eight b (b .N) 0 (pairTicks (b .n) (liveOf b) f) (λ q. relationDone b t f) (λ q. refl))
+eight-exact b (set r R bs) = λ l z.
+    let f = formulaIn b Set bs in
+    subst (λ (d : Done). (d .1 .number ≡ 8) ↔ Above (b .N) (reached R 0 (ticks (modelOf b) noEnv (liveOf b) f))) (sym (does-set b r R bs l z))
+    (eight b (b .N) R (ticks (modelOf b) noEnv (liveOf b) f) (λ q. setDone b r (means (modelOf b) noEnv f) q) (λ q. refl))
 eight-exact b (clear r) = tt
 eight-exact b collect = tt
-eight-exact b (node r) = tt
-eight-exact b (member r s) = tt
-eight-exact b (count r) = tt
-eight-exact b tally = tt

@@ -2,19 +2,21 @@
 -- proof cites one lemma of here for each way through its code. Assumes nothing.
 use mathlib.Core.Path.{_≡_, refl, sym, ap, ap₂, _∙_, subst}
 use mathlib.Core.Bool.{Bool, true, false}
-use mathlib.Core.List.{List, _∷_, List·Memᴰ as Mem, List·Memᴰ·head as here, List·Memᴰ·tail as there}
+use mathlib.Core.List.{List, _∷_, List·Memᴰ·head as here, List·Memᴰ·tail as there}
 use Prim.Native.Nat.{ℕ, _*_, _^_, _<_}
 use Rattle.mucalculus.specs.Sets.{table}
 use Rattle.mucalculus.specs.Means.{clip, bit, compl}
 use Rattle.diagram.specs.Level.{Fn}
 use Rattle.diagram.specs.Rows.{Rows, den, WellFormed}
 use Rattle.diagram.specs.Den.{den-zero, den-one}
-use Rattle.diagram.specs.Post.{Outcome as Tried, done, full as noRows, Denotes}
-use Rattle.diagram.specs.Step.{Keeps, row-refl, StepPost}
+use Rattle.diagram.specs.Post.{Result, at, full as noRows, Denotes}
+use Rattle.diagram.specs.Count.{Within}
+use Rattle.diagram.specs.Keep.{Keeps, keeps-refl, keeps-trans, keeps-within, keeps-on, keeps-denotes}
+use Rattle.diagram.specs.Step.{StepPost}
 use Rattle.diagram.specs.Steps.{bitF, notF}
 use Rattle.book.specs.Bridge.{fnOf, fnOf-none, fnOf-all, fnOf-bit, fnOf-not, fnOf-clip}
 use Rattle.book.specs.Run.{Outcome, value, full, spent, andThen, step, notStep, twoStep}
-use Rattle.book.specs.Held.{Held, denotes-same, denoted, keeps-denotes, keeps-trans, held-arrow, held-push, held-keeps, goesOn, step-taken}
+use Rattle.book.specs.Held.{Held, denotes-same, denoted, held-arrow, held-push, held-keeps, goesOn, step-taken}
 
 -- what the evaluator answers: an arrow and the rounds counted, 8, or 9
 pub data Ended : Type 0 where
@@ -36,12 +38,12 @@ Matches n rows spent nine = Unit {0}
 -- the evaluator went from one table to another, kept the roots, and answered with the book's outcome
 pub record Evals (n N : ℕ) (before after : Rows) (roots : List ℕ) (o : Outcome) (y : Ended) : Type 0 where
   pub wf : WellFormed (2 * n) N after
-  pub kept : (a : ℕ) → Mem a roots → Keeps (2 * n) before after a
+  pub kept : Keeps before after roots
   pub result : Matches n after o y
 
 -- a step's answer, with the rounds counted before it
-abbrev pub endedBy : Tried → ℕ → Ended
-endedBy (done a) q = ends a q
+abbrev pub endedBy : Result → ℕ → Ended
+endedBy (at a) q = ends a q
 endedBy noRows q = eight
 
 -- the answer is no value
@@ -58,7 +60,7 @@ module _ (n N : ℕ) where
 
   pub evals-leaf : {rows : Rows} {roots : List ℕ} {live : List Fn} {a : ℕ} {A : List Bool} (q : ℕ) → WellFormed (2 * n) N rows → Held (2 * n) rows roots live
       → Denotes (2 * n) rows a (fnOf n A) → Evals n N rows rows roots (value A q) (ends a q)
-  evals-leaf q wf h d = record { wf = wf; kept = λ a i. record { arrow = held-arrow h a i; same = λ v. refl; rows = λ j r. row-refl _ j }; result = (d, refl) }
+  evals-leaf q wf h d = record { wf = wf; kept = keeps-refl wf (held-arrow h); result = (d, refl) }
 
   pub denotes-none : (rows : Rows) → Denotes (2 * n) rows 0 (fnOf n (table (2 ^ n) (λ s. false)))
   denotes-none rows = record { arrow = tt; same = λ v. den-zero (2 * n) rows v ∙ sym (ap (λ (F : Fn). F v) (fnOf-none n)) }
@@ -72,16 +74,16 @@ module _ (n N : ℕ) where
 
   -- ---- one step
 
-  module _ {before mid after : Rows} {roots roots′ : List ℕ} {live′ : List Fn} {F : Fn} (C : List Bool) (q : ℕ)
-      (kept : (a : ℕ) → Mem a roots → Keeps (2 * n) before mid a) (within : (a : ℕ) → Mem a roots → Mem a roots′) (h : Held (2 * n) mid roots′ live′) (e : F ≡ fnOf n C) where
-    step-ends : (answer : Tried) → StepPost (2 * n) N mid after roots′ answer (fnOf n C) → Evals n N before after roots (goesOn answer (value C q)) (endedBy answer q)
-    step-ends (done b) p = record { wf = p .wf; kept = λ a i. keeps-trans (kept a i) (p .kept a (within a i)); result = (p .result .0, refl) }
-    step-ends noRows p = record { wf = p .wf; kept = λ a i. keeps-trans (kept a i) (p .kept a (within a i)); result = tt }
+  module _ {limit : ℕ} {before mid after : Rows} {roots roots′ : List ℕ} {live′ : List Fn} {F : Fn} (C : List Bool) (q : ℕ)
+      (keeping : Keeps mid after roots′ → Keeps before after roots) (h : Held (2 * n) mid roots′ live′) (e : F ≡ fnOf n C) where
+    step-ends : (answer : Result) → StepPost (2 * n) N limit mid after roots′ answer (fnOf n C) → Evals n N before after roots (goesOn answer (value C q)) (endedBy answer q)
+    step-ends (at b) p = record { wf = p .wf; kept = keeping (p .kept); result = (p .result .0, refl) }
+    step-ends noRows p = record { wf = p .wf; kept = keeping (p .kept); result = tt }
 
     -- a step after others: its result is the set C
-    pub evals-step : (answer : Tried) → StepPost (2 * n) N mid after roots′ answer F → Evals n N before after roots (step n N live′ (fnOf n C) (value C q)) (endedBy answer q)
+    pub evals-step : (answer : Result) → StepPost (2 * n) N limit mid after roots′ answer F → Evals n N before after roots (step n limit live′ (fnOf n C) (value C q)) (endedBy answer q)
     evals-step answer p′ =
-        let p : StepPost (2 * n) N mid after roots′ answer (fnOf n C) = subst (λ (G : Fn). StepPost (2 * n) N mid after roots′ answer G) e p′ in
+        let p : StepPost (2 * n) N limit mid after roots′ answer (fnOf n C) = subst (λ (G : Fn). StepPost (2 * n) N limit mid after roots′ answer G) e p′ in
         evals-same (sym (step-taken n N h answer p (value C q))) (step-ends answer p)
 
   -- ---- what stopped stays so
@@ -102,9 +104,9 @@ module _ (n N : ℕ) where
       go rows spent nine s m = m
 
   -- an evaluation with more roots, from a later table
-  pub evals-from : {before mid after : Rows} {roots roots′ : List ℕ} {o : Outcome} {y : Ended} → ((a : ℕ) → Mem a roots → Keeps (2 * n) before mid a)
-      → ((a : ℕ) → Mem a roots → Mem a roots′) → Evals n N mid after roots′ o y → Evals n N before after roots o y
-  evals-from k within p = record { wf = p .wf; kept = λ a i. keeps-trans (k a i) (p .kept a (within a i)); result = p .result }
+  pub evals-from : {before mid after : Rows} {roots roots′ : List ℕ} {o : Outcome} {y : Ended} → Keeps before mid roots → Within roots roots′ → Evals n N mid after roots′ o y
+      → Evals n N before after roots o y
+  evals-from k within p = record { wf = p .wf; kept = keeps-trans k (keeps-within within (p .kept)); result = p .result }
 
   -- what follows a value
   pub evals-then : {before mid after : Rows} {roots : List ℕ} {a p : ℕ} {y : Ended} (o : Outcome) (G : List Bool → ℕ → Outcome) → Evals n N before mid roots o (ends a p)
@@ -118,33 +120,32 @@ module _ (n N : ℕ) where
 
   module _ {before : Rows} {roots : List ℕ} {live : List Fn} (h : Held (2 * n) before roots live) where
     -- a bit: current bit p is level 2p
-    pub evals-bit : {after : Rows} (p q : ℕ) → p < n → (answer : Tried) → StepPost (2 * n) N before after roots answer (bitF (2 * p))
-        → Evals n N before after roots (let A = table (2 ^ n) (λ s. bit p s) in step n N live (fnOf n A) (value A q)) (endedBy answer q)
-    evals-bit p q l answer s =
-        evals-step (table (2 ^ n) (λ s. bit p s)) q (λ a i. record { arrow = held-arrow h a i; same = λ v. refl; rows = λ j r. row-refl _ j }) (λ a i. i) h (sym (fnOf-bit n p l)) answer s
+    pub evals-bit : {limit : ℕ} {after : Rows} (p q : ℕ) → p < n → (answer : Result) → StepPost (2 * n) N limit before after roots answer (bitF (2 * p))
+        → Evals n N before after roots (let A = table (2 ^ n) (λ s. bit p s) in step n limit live (fnOf n A) (value A q)) (endedBy answer q)
+    evals-bit p q l answer s = evals-step (table (2 ^ n) (λ s. bit p s)) q (λ k. k) h (sym (fnOf-bit n p l)) answer s
 
     -- NOT
-    pub evals-not : {mid after : Rows} {a p : ℕ} (o : Outcome) → Evals n N before mid roots o (ends a p)
-        → (answer : Tried) → StepPost (2 * n) N mid after (a ∷ roots) answer (notF (den (2 * n) mid a))
-        → Evals n N before after roots (andThen o (λ A q. notStep n N live A q)) (endedBy answer p)
+    pub evals-not : {limit : ℕ} {mid after : Rows} {a p : ℕ} (o : Outcome) → Evals n N before mid roots o (ends a p)
+        → (answer : Result) → StepPost (2 * n) N limit mid after (a ∷ roots) answer (notF (den (2 * n) mid a))
+        → Evals n N before after roots (andThen o (λ A q. notStep n limit live A q)) (endedBy answer p)
     evals-not {p = p} o d answer s = evals-then o _ d (λ A e.
-        evals-step (compl (2 ^ n) A) p (d .kept) (λ b i. there i) (held-push (held-keeps h (d .kept)) e) (ap notF (denoted e) ∙ sym (fnOf-not n A)) answer s)
+        evals-step (compl (2 ^ n) A) p (keeps-on (d .kept)) (held-push (held-keeps h (d .kept)) e) (ap notF (denoted e) ∙ sym (fnOf-not n A)) answer s)
 
     -- AND and OR: the left part's value is live during the right part's steps
     pub evals-two : (op : List Bool → List Bool → List Bool) (opF : Fn → Fn → Fn) → ((A B : List Bool) → fnOf n (op A B) ≡ opF (fnOf n A) (fnOf n B))
-        → {mid late after : Rows} {a b p q : ℕ} (o : Outcome) (G : List Bool → ℕ → Outcome) → Evals n N before mid roots o (ends a p)
+        → {limit : ℕ} {mid late after : Rows} {a b p q : ℕ} (o : Outcome) (G : List Bool → ℕ → Outcome) → Evals n N before mid roots o (ends a p)
         → ((A : List Bool) → Denotes (2 * n) mid a (fnOf n A) → Evals n N mid late (a ∷ roots) (G A p) (ends b q))
-        → (answer : Tried) → StepPost (2 * n) N late after (b ∷ a ∷ roots) answer (opF (den (2 * n) late a) (den (2 * n) late b))
-        → Evals n N before after roots (andThen o (λ A r. andThen (G A r) (λ B t. twoStep n N live op A B t))) (endedBy answer q)
-    evals-two op opF same {mid} {late} {after} {a} {b} {p} {q} o G d k answer s = evals-then o _ d (λ A e. right A e (k A e))
+        → (answer : Result) → StepPost (2 * n) N limit late after (b ∷ a ∷ roots) answer (opF (den (2 * n) late a) (den (2 * n) late b))
+        → Evals n N before after roots (andThen o (λ A r. andThen (G A r) (λ B t. twoStep n limit live op A B t))) (endedBy answer q)
+    evals-two op opF same {limit} {mid} {late} {after} {a} {b} {p} {q} o G d k answer s = evals-then o _ d (λ A e. right A e (k A e))
       where
         right : (A : List Bool) → Denotes (2 * n) mid a (fnOf n A) → Evals n N mid late (a ∷ roots) (G A p) (ends b q)
-            → Evals n N before after roots (andThen (G A p) (λ B t. twoStep n N live op A B t)) (endedBy answer q)
+            → Evals n N before after roots (andThen (G A p) (λ B t. twoStep n limit live op A B t)) (endedBy answer q)
         right A e c =
             let w = evals-from (d .kept) (λ x i. there i) c in
-            let e′ = keeps-denotes (c .kept a (here refl)) e in
-            evals-then (G A p) (λ B t. twoStep n N live op A B t) w (λ B f.
-            evals-step (op A B) q (w .kept) (λ x i. there (there i)) (held-push (held-push (held-keeps h (w .kept)) e′) f)
+            let e′ = keeps-denotes (c .kept) (here refl) e in
+            evals-then (G A p) (λ B t. twoStep n limit live op A B t) w (λ B f.
+            evals-step (op A B) q (λ l. keeps-trans (w .kept) (keeps-within (λ x i. there (there i)) l)) (held-push (held-push (held-keeps h (w .kept)) e′) f)
             (ap₂ opF (denoted e′) (denoted f) ∙ sym (same A B)) answer s)
 
     -- the right part stopped

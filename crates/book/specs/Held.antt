@@ -10,11 +10,12 @@ use lib.Dec.{leb, le→leb, leb→le}
 use Rattle.mucalculus.specs.Sets.{true-of, false-of}
 use Rattle.diagram.specs.Level.{Fn}
 use Rattle.diagram.specs.Rows.{Rows, Arrow, den}
-use Rattle.diagram.specs.Need.{need}
+use Rattle.diagram.specs.Need.{need, stepNeed}
 use Rattle.diagram.specs.Needed.{need-same}
-use Rattle.diagram.specs.Post.{Outcome as Tried, done, full as noRows, Denotes}
-use Rattle.diagram.specs.Step.{Keeps, row-trans, reach-kept, StepPost}
-use Rattle.book.specs.Run.{Outcome, full, stepNeed, step}
+use Rattle.diagram.specs.Post.{Result, at, full as noRows, Denotes}
+use Rattle.diagram.specs.Keep.{Keeps, keeps-denotes}
+use Rattle.diagram.specs.Step.{StepPost}
+use Rattle.book.specs.Run.{Outcome, full, step}
 
 pub record Held (m : ℕ) (rows : Rows) (roots : List ℕ) (live : List Fn) : Type 0 where
   pub each : (f : Fn) → Mem f live → (a : ℕ) × Mem a roots × Denotes m rows a f
@@ -27,13 +28,6 @@ denotes-same {m} {rows} {a} e d = subst (λ (H : Fn). Denotes m rows a H) e d
 -- a function that is denoted is the one that the arrow denotes
 pub denoted : {m : ℕ} {rows : Rows} {a : ℕ} {F : Fn} → Denotes m rows a F → den m rows a ≡ F
 denoted d = fun-ext (d .same)
-
--- an arrow that is kept denotes what it did
-pub keeps-denotes : {m : ℕ} {before after : Rows} {a : ℕ} {F : Fn} → Keeps m before after a → Denotes m before a F → Denotes m after a F
-keeps-denotes k d = record { arrow = k .arrow; same = λ v. k .same v ∙ d .same v }
-
-pub keeps-trans : {m : ℕ} {before mid after : Rows} {a : ℕ} → Keeps m before mid a → Keeps m mid after a → Keeps m before after a
-keeps-trans k l = record { arrow = l .arrow; same = λ v. l .same v ∙ k .same v; rows = λ i r. row-trans (k .rows i r) (l .rows i (reach-kept (k .rows) r)) }
 
 module _ {m : ℕ} {rows : Rows} {roots : List ℕ} {live : List Fn} (h : Held m rows roots live) where
   pub held-arrow : (a : ℕ) → Mem a roots → Arrow rows a
@@ -54,10 +48,10 @@ module _ {m : ℕ} {rows : Rows} {roots : List ℕ} {live : List Fn} (h : Held m
   }
 
   -- kept roots hold the same functions
-  pub held-keeps : {after : Rows} → ((a : ℕ) → Mem a roots → Keeps m rows after a) → Held m after roots live
+  pub held-keeps : {after : Rows} → Keeps rows after roots → Held m after roots live
   held-keeps k = record {
-    each = λ f i. let (a, j, d) = h .each f i in (a, j, keeps-denotes (k a j) d);
-    only = λ a i. let (f, j, d) = h .only a i in (f, j, keeps-denotes (k a i) d);
+    each = λ f i. let (a, j, d) = h .each f i in (a, j, keeps-denotes k j d);
+    only = λ a i. let (f, j, d) = h .only a i in (f, j, keeps-denotes k i d);
   }
 
   -- the live functions are those that the roots denote
@@ -77,35 +71,35 @@ module _ {m : ℕ} {rows : Rows} {roots : List ℕ} {live : List Fn} (h : Held m
   held-rows = need-same m (map (den m rows) roots) live live-of root-of
 
   -- and a step needs the same over either
-  pub held-need : (F : Fn) → need m (F ∷ map (den m rows) roots) ≡ need m (F ∷ live)
+  pub held-need : (F : Fn) → stepNeed m (map (den m rows) roots) F ≡ stepNeed m live F
   held-need F = need-same m (F ∷ map (den m rows) roots) (F ∷ live)
       (λ f i. ⊎-elim (λ e. here e) (λ j. there (live-of f j)) (mem-cases i))
       (λ f i. ⊎-elim (λ e. here e) (λ j. there (root-of f j)) (mem-cases i))
 
 -- the step was answered
-abbrev pub answered : Tried → Bool
-answered (done a) = true
+abbrev pub answered : Result → Bool
+answered (at a) = true
 answered noRows = false
 
 -- go on where the step is answered
-abbrev pub goesOn : Tried → Outcome → Outcome
-goesOn (done a) o = o
+abbrev pub goesOn : Result → Outcome → Outcome
+goesOn (at a) o = o
 goesOn noRows o = full
 
-module _ (n N : ℕ) {before after : Rows} {roots : List ℕ} {live : List Fn} {F : Fn} (h : Held (2 * n) before roots live) where
-  -- a step is answered in the table exactly where its need in the book is at most N
-  pub step-fits : (answer : Tried) → StepPost (2 * n) N before after roots answer F → leb (stepNeed n live F) N ≡ answered answer
-  step-fits (done a) p =
-      let k : stepNeed n live F ≤ N = subst (λ (x : ℕ). x ≤ N) (held-need h F) (p .result .1) in
-      true-of (leb (stepNeed n live F) N) (le→leb (stepNeed n live F) N k)
+module _ (n N : ℕ) {limit : ℕ} {before after : Rows} {roots : List ℕ} {live : List Fn} {F : Fn} (h : Held (2 * n) before roots live) where
+  -- a step is answered in the table exactly where its need in the book is at most `limit`
+  pub step-fits : (answer : Result) → StepPost (2 * n) N limit before after roots answer F → leb (stepNeed (2 * n) live F) limit ≡ answered answer
+  step-fits (at a) p =
+      let k : stepNeed (2 * n) live F ≤ limit = subst (λ (x : ℕ). x ≤ limit) (held-need h F) (p .result .1) in
+      true-of (leb (stepNeed (2 * n) live F) limit) (le→leb (stepNeed (2 * n) live F) limit k)
   step-fits noRows p =
-      let k : N < stepNeed n live F = subst (λ (x : ℕ). N < x) (held-need h F) (p .result) in
-      false-of (leb (stepNeed n live F) N) (λ t. let l = leb→le (stepNeed n live F) N t in omega arith)
+      let k : limit < stepNeed (2 * n) live F = subst (λ (x : ℕ). limit < x) (held-need h F) (p .result) in
+      false-of (leb (stepNeed (2 * n) live F) limit) (λ t. let l = leb→le (stepNeed (2 * n) live F) limit t in omega arith)
 
   -- what a step answers in the table is what it comes to in the book
-  pub step-taken : (answer : Tried) → StepPost (2 * n) N before after roots answer F → (go : Outcome) → step n N live F go ≡ goesOn answer go
+  pub step-taken : (answer : Result) → StepPost (2 * n) N limit before after roots answer F → (go : Outcome) → step n limit live F go ≡ goesOn answer go
   step-taken answer p go = ap (λ (b : Bool). cond b go full) (step-fits answer p) ∙ pick answer
     where
-      pick : (answer : Tried) → cond (answered answer) go full ≡ goesOn answer go
-      pick (done a) = refl
+      pick : (answer : Result) → cond (answered answer) go full ≡ goesOn answer go
+      pick (at a) = refl
       pick noRows = refl

@@ -9,8 +9,7 @@ use native.Mathlib.Nat.{lt-of-not-le}
 use lib.Dec.{T, leb, leb→le, le→leb, ltb, ltb→lt, lt→ltb}
 use Rattle.mucalculus.specs.Sets.{true-of, false-of}
 use Rattle.book.specs.Ticks.{Tick, step, round, counted, full, spent, verdict, reached}
-use Rattle.book.specs.Exact.{fit}
-use Rattle.book.specs.Verdicts.{verdict-full}
+use Rattle.book.specs.Verdicts.{fit, verdict-full}
 
 -- what is answered with some N and R is answered alike with more
 pub verdict-more : (N M R S : ℕ) → N ≤ M → R ≤ S → (r : ℕ) (l : List Tick) (q : ℕ) → verdict N R r l ≡ counted q → verdict M S r l ≡ counted q

@@ -1,23 +1,18 @@
--- "its set is what the last answered set of it says": where a register of the book is filled, the call that last set it, and that its set is
--- the meaning of that call's formula over the book as it stood then. Assumes nothing.
+-- "as relations and registers stood at the answered calls that last set them": where a register of the book is filled, the call that last set
+-- it, and that its set is the meaning of that call's formula over the book as it stood then. Assumes nothing.
 use mathlib.Core.Path.{_≡_, refl, sym, ap, _∙_, subst}
 use mathlib.Core.Logic.{_⊎_, inl, inr}
 use mathlib.Core.Bool.{Bool, true, false, cond, _&&_}
 use mathlib.Core.List.{List, [], _∷_, _++_}
 use mathlib.Core.Option.{none, some}
-use Prim.Native.Nat.{ℕ, suc, _^_}
-use native.Mathlib.Omega.{arith}
-use lib.Dec.{T, ltb, eqb, eqb→eq, eqb-refl, eqb·suc-zero}
-use Rattle.mucalculus.specs.Sets.{mem, true-of}
-use Rattle.mucalculus.specs.Order.{weight}
+use Prim.Native.Nat.{ℕ}
+use lib.Dec.{T, eqb, eqb→eq, eqb-refl, eqb·suc-zero}
+use Rattle.mucalculus.specs.Sets.{true-of}
+use Rattle.mucalculus.specs.Form.{noEnv}
 use Rattle.mucalculus.specs.Means.{means}
-use Rattle.mucalculus.specs.Answer.{noEnv}
-use Rattle.formula.specs.Form.{Form as Tree, got, formulaOf}
-use Rattle.formula.specs.declared.Kind.the-variants.{Relation, Set}
-use Rattle.book.specs.Ticks.{ticks, pairTicks, verdict}
-use Rattle.book.specs.Read.{asForm}
-use Rattle.book.specs.Book.{Book, Call, relation, set, clear, collect, node, member, count, tally, Answer, answered, registers, relations, modelOf, liveOf, Done, refuse, withReg, nodeOf, relationSteps, setSteps, setDone, oneOf, does, play}
-use Rattle.book.specs.Stored.{cond-cases, formula-cases, asked-cases, ended-cases, some-inj, set-means}
+use Rattle.tokens.specs.declared.Kind.the-variants.{Set}
+use Rattle.book.specs.Book.{formulaIn, Book, Call, relation, set, clear, collect, Answer, answered, registers, modelOf, Done, withReg, setDone, does, play}
+use Rattle.book.specs.Stored.{range-cases, set-cases, relation-cases, some-inj, none-some, Passed, set-means}
 
 -- the call was an answered set or clear of register r
 abbrev pub touches : ℕ → Call → Answer → Bool
@@ -25,10 +20,6 @@ touches r (relation t bs) a = false
 touches r (set q R bs) a = eqb (a .number) 0 && eqb r q
 touches r (clear q) a = eqb (a .number) 0 && eqb r q
 touches r collect a = false
-touches r (node q) a = false
-touches r (member q s) a = false
-touches r (count q) a = false
-touches r tally a = false
 
 -- no call of the list was
 abbrev pub Untouched : ℕ → Book → List Call → Type 0
@@ -44,18 +35,13 @@ pub record LastSet (b : Book) (cs : List Call) (r : ℕ) (A : List Bool) : Type 
   pub split : cs ≡ before ++ (set r R bytes ∷ after)
   pub answered : does (play b before .0) (set r R bytes) .1 .number ≡ 0
   pub last : Untouched r (does (play b before .0) (set r R bytes) .0) after
-  pub tree : Tree
-  pub end : ℕ
-  pub read : formulaOf (play b before .0 .n) Set bytes ≡ got tree end
-  pub holds : A ≡ means (modelOf (play b before .0)) noEnv (asForm tree)
+  -- its bytes were a formula that passed the checks, and A holds exactly the states in which it held over the book as it stood then
+  pub passed : Passed (play b before .0) Set bytes
+  pub holds : A ≡ means (modelOf (play b before .0)) noEnv (formulaIn (play b before .0) Set bytes)
 
 -- one call that leaves A in register r: it did not touch r, or it was an answered set of it
 abbrev Comes : Book → ℕ → List Bool → Call → Done → Type 0
 Comes b r A c d = ((touches r c (d .1) ≡ false) × (b .reg r ≡ some A)) ⊎ ((R : ℕ) × (bs : List ℕ) × (c ≡ set r R bs) × (d .1 .number ≡ 0))
-
--- what a refused call leaves
-refused-comes : (b : Book) (r : ℕ) (A : List Bool) (q R : ℕ) (bs : List ℕ) (k : ℕ) → b .reg r ≡ some A → Comes b r A (set q R bs) (refuse b (suc k))
-refused-comes b r A q R bs k h = inl (ap (λ (x : Bool). x && eqb r q) (eqb·suc-zero k), h)
 
 -- what an answered set leaves
 stored-comes : (b : Book) (r : ℕ) (A X : List Bool) (q R : ℕ) (bs : List ℕ) (k : ℕ) → setDone b q X k .0 .reg r ≡ some A → Comes b r A (set q R bs) (setDone b q X k)
@@ -70,49 +56,28 @@ cleared-comes : (b : Book) (r : ℕ) (A : List Bool) (q : ℕ) → withReg b q n
 cleared-comes b r A q = go (eqb r q)
   where
     go : (t : Bool) → cond t none (b .reg r) ≡ some A → ((t ≡ false) × (b .reg r ≡ some A)) ⊎ ((R′ : ℕ) × (bs′ : List ℕ) × (clear q ≡ set r R′ bs′) × (_≡_ {A = ℕ} 0 0))
-    go true h = let z : _≡_ {A = ℕ} 0 1 = cc in absurd (omega arith)
+    go true h = absurd (none-some h)
     go false h = inl (refl, h)
 
 comes : (b : Book) (r : ℕ) (A : List Bool) (c : Call) → does b c .0 .reg r ≡ some A → Comes b r A c (does b c)
-comes b r A (relation t bs) =
-    let P : Done → Type 0 = λ d. d .0 .reg r ≡ some A → Comes b r A (relation t bs) d in
-    cond-cases P (ltb t relations) _ _
-    (formula-cases P b (formulaOf (b .n) Relation bs) (relationSteps b t) (λ k h. inl (refl, h))
-    (λ f e i p. ended-cases P b (verdict (b .N) 0 0 (pairTicks (b .n) (liveOf b) (asForm f))) _ (λ q h. inl (refl, h)) (λ h. inl (refl, h)) (λ h. inl (refl, h))))
-    (λ h. inl (refl, h))
+comes b r A (relation t bs) = relation-cases (λ (d : Done). d .0 .reg r ≡ some A → Comes b r A (relation t bs) d) b t bs (λ k i j h. inl (refl, h)) (λ l p h. inl (refl, h))
 comes b r A (set q R bs) =
-    let P : Done → Type 0 = λ d. d .0 .reg r ≡ some A → Comes b r A (set q R bs) d in
-    cond-cases P (ltb q registers) _ _
-    (formula-cases P b (formulaOf (b .n) Set bs) (setSteps b q R) (λ k h. refused-comes b r A q R bs k h)
-    (λ f e i p. ended-cases P b (verdict (b .N) R 0 (ticks (modelOf b) noEnv (liveOf b) (asForm f))) _
-    (λ k h. stored-comes b r A (means (modelOf b) noEnv (asForm f)) q R bs k h) (λ h. inl (refl, h)) (λ h. inl (refl, h))))
-    (λ h. inl (refl, h))
+    set-cases (λ (d : Done). d .0 .reg r ≡ some A → Comes b r A (set q R bs) d) b q R bs (λ k i j h. inl (ap (λ (x : Bool). x && eqb r q) (eqb·suc-zero k), h))
+    (λ l p k h. stored-comes b r A (means (modelOf b) noEnv (formulaIn b Set bs)) q R bs k h)
 comes b r A (clear q) =
-    cond-cases (λ (d : Done). d .0 .reg r ≡ some A → Comes b r A (clear q) d) (ltb q registers) _ _ (λ h. cleared-comes b r A q h) (λ h. inl (refl, h))
+    range-cases (λ (d : Done). d .0 .reg r ≡ some A → Comes b r A (clear q) d) q registers _ _ (λ l h. cleared-comes b r A q h) (λ l h. inl (refl, h))
 comes b r A collect = λ h. inl (refl, h)
-comes b r A (node q) =
-    let P : Done → Type 0 = λ d. d .0 .reg r ≡ some A → Comes b r A (node q) d in
-    cond-cases P (ltb q registers) _ _ (asked-cases P b (b .reg q) nodeOf (λ h. inl (refl, h)) (λ X h. inl (refl, h))) (λ h. inl (refl, h))
-comes b r A (member q s) =
-    let P : Done → Type 0 = λ d. d .0 .reg r ≡ some A → Comes b r A (member q s) d in
-    cond-cases P (ltb q registers) _ _
-    (cond-cases P (ltb s (2 ^ b .n)) _ _ (asked-cases P b (b .reg q) (λ X. some (oneOf (mem X s))) (λ h. inl (refl, h)) (λ X h. inl (refl, h))) (λ h. inl (refl, h)))
-    (λ h. inl (refl, h))
-comes b r A (count q) =
-    let P : Done → Type 0 = λ d. d .0 .reg r ≡ some A → Comes b r A (count q) d in
-    cond-cases P (ltb q registers) _ _ (asked-cases P b (b .reg q) (λ X. some (weight true X)) (λ h. inl (refl, h)) (λ X h. inl (refl, h))) (λ h. inl (refl, h))
-comes b r A tally = λ h. inl (refl, h)
 
 -- an answered set of register r leaves its formula's meaning there
 set-holds : (b : Book) (r R : ℕ) (bs : List ℕ) (A : List Bool) → does b (set r R bs) .1 .number ≡ 0 → does b (set r R bs) .0 .reg r ≡ some A
-    → (f : Tree) × (e : ℕ) × (formulaOf (b .n) Set bs ≡ got f e) × (A ≡ means (modelOf b) noEnv (asForm f))
+    → Passed b Set bs × (A ≡ means (modelOf b) noEnv (formulaIn b Set bs))
 set-holds b r R bs A z h =
     let w = set-means b r R bs z in
-    let M = means (modelOf b) noEnv (asForm (w .tree)) in
+    let M = means (modelOf b) noEnv (formulaIn b Set bs) in
     let new : does b (set r R bs) .0 .reg r ≡ some M =
     ap (λ (x : Book). x .reg r) (w .stored .book) ∙ ap (λ (t : Bool). cond t (some M) (b .reg r)) (true-of (eqb r r) (eqb-refl r))
     in
-    (w .tree, w .end, w .read, some-inj (sym h ∙ new))
+    (w .passed, some-inj (sym h ∙ new))
 
 -- a filled register was filled at the start and never touched since, or has a last answered set
 pub last-set : (cs : List Call) (b : Book) (r : ℕ) (A : List Bool) → play b cs .0 .reg r ≡ some A → (Untouched r b cs × (b .reg r ≡ some A)) ⊎ LastSet b cs r A
@@ -133,10 +98,8 @@ last-set (c ∷ cs) b r A h = go (last-set cs (does b c .0) r A h)
           split = ap (λ (k : Call). k ∷ cs) (w .2);
           answered = x .0;
           last = x .1;
-          tree = y .0;
-          end = y .1;
-          read = y .2;
-          holds = y .3;
+          passed = y .0;
+          holds = y .1;
         })
 
     go : (Untouched r (does b c .0) cs × (does b c .0 .reg r ≡ some A)) ⊎ LastSet (does b c .0) cs r A → (Untouched r b (c ∷ cs) × (b .reg r ≡ some A)) ⊎ LastSet b (c ∷ cs) r A
@@ -149,8 +112,6 @@ last-set (c ∷ cs) b r A h = go (last-set cs (does b c .0) r A h)
       split = ap (λ (l : List Call). c ∷ l) (w .split);
       answered = w .answered;
       last = w .last;
-      tree = w .tree;
-      end = w .end;
-      read = w .read;
+      passed = w .passed;
       holds = w .holds;
     })

@@ -1,25 +1,24 @@
 -- Tables after a call: with other rows, with an arrow stored, or a register emptied, they show the book after it. Assumes nothing.
-use mathlib.Core.Path.{_≡_, refl, subst, sym, _∙_, ap₂}
-use mathlib.Core.Bool.{Bool, true, false, cond, true≢false}
+use mathlib.Core.Path.{_≡_, refl, subst, sym, ap₂, fun-ext}
+use mathlib.Core.Bool.{Bool, true, false, cond, _&&_}
 use mathlib.Core.List.{List, List·Memᴰ as Mem, Memᴰ·append-left as mem-left, Memᴰ·append-right as mem-right}
 use mathlib.Core.Option.{Option, none, some}
 use Prim.Native.Nat.{ℕ, _*_, _<_}
-use lib.Dec.{eqb}
+use lib.Dec.{T, eqb, ltb, ltb→lt}
 use Rattle.mucalculus.specs.Form.{Pairs, put, filled}
-use Rattle.mucalculus.specs.Sets.{table}
-use Rattle.mucalculus.specs.Laws.{table-ext}
-use Rattle.formula.specs.Form.{Got}
-use Rattle.formula.specs.Checks.{laterRefusal}
+use Rattle.tokens.specs.declared.Kind.{Kind}
+use Rattle.formula.specs.Checks.{firstRefusal}
 use Rattle.diagram.specs.Level.{Fn}
 use Rattle.diagram.specs.Rows.{Rows, WellFormed}
 use Rattle.diagram.specs.Post.{Denotes}
-use Rattle.diagram.specs.Step.{Keeps, SameRow, row-refl}
+use Rattle.diagram.specs.Keep.{Keeps, keeps-refl, keeps-denotes}
+use Rattle.diagram.specs.Grow.{empty-wellFormed}
 use Rattle.book.specs.Bridge.{fnOf, fnOfPairs}
 use Rattle.book.specs.Run.{value}
 use Rattle.book.specs.Book.{Book, tally, registers, relations, withRel, withReg, fresh, checks}
-use Rattle.book.specs.Table.{Table, Reply, Place, Shows, KeptRows}
-use Rattle.book.specs.Held.{keeps-denotes}
-use Rattle.book.specs.Roots.{rootsOf, arrowsOf, arrowsOf-mem}
+use Rattle.book.specs.Table.{Table, Reply, Place, Shows, arrowsOf, rootsOf}
+use Rattle.book.specs.Held.{held-arrow}
+use Rattle.book.specs.Roots.{arrowsOf-mem, shows-held}
 
 -- the table with other rows
 abbrev pub withRows : Table → Rows → Table
@@ -32,11 +31,12 @@ storeReg t r a k = record { n = t .n; N = t .N; tally = k; rows = t .rows; reg =
 abbrev pub storeRel : Table → ℕ → Option ℕ → Table
 storeRel t q a = record { n = t .n; N = t .N; tally = t .tally; rows = t .rows; reg = t .reg; rel = put (t .rel) q a }
 
-place-keeps : {X : Type 0} (m : ℕ) (before after : Rows) (f : X → Fn) (o : Option X) (u : Option ℕ) → ((a : ℕ) → u ≡ some a → Keeps m before after a) → Place m before f o u → Place m after f o u
-place-keeps m before after f none none k p = tt
-place-keeps m before after f none (some a) k p = absurd p
-place-keeps m before after f (some x) none k p = absurd p
-place-keeps m before after f (some x) (some a) k p = keeps-denotes (k a refl) p
+place-keeps : {X : Type 0} (m : ℕ) (before after : Rows) (roots : List ℕ) (f : X → Fn) (o : Option X) (u : Option ℕ) → Keeps before after roots → ((a : ℕ) → u ≡ some a → Mem a roots)
+    → Place m before f o u → Place m after f o u
+place-keeps m before after roots f none none k i p = tt
+place-keeps m before after roots f none (some a) k i p = absurd p
+place-keeps m before after roots f (some x) none k i p = absurd p
+place-keeps m before after roots f (some x) (some a) k i p = keeps-denotes k (i a refl) p
 
 place-put : {X : Type 0} (m : ℕ) (rows : Rows) (f : X → Fn) (h : ℕ → Option X) (g : ℕ → Option ℕ) (i : ℕ) (o : Option X) (u : Option ℕ) → Place m rows f o u → (j : ℕ) → Place m rows f (h j) (g j)
     → Place m rows f (put h i o j) (put g i u j)
@@ -48,14 +48,14 @@ place-put m rows f h g i o u p j q = go (eqb j i)
 
 module _ (b : Book) (t : Table) (s : Shows b t) where
   -- other rows that keep the roots
-  pub shows-rows : (rows : Rows) → WellFormed (2 * b .n) (b .N) rows → ((a : ℕ) → Mem a (rootsOf t) → Keeps (2 * b .n) (t .rows) rows a) → Shows b (withRows t rows)
+  pub shows-rows : (rows : Rows) → WellFormed (2 * b .n) (b .N) rows → Keeps (t .rows) rows (rootsOf t) → Shows b (withRows t rows)
   shows-rows rows wf k = record {
     n = s .n;
     N = s .N;
     tally = s .tally;
     wf = wf;
-    reg = λ r l. place-keeps (2 * b .n) (t .rows) rows (fnOf (b .n)) (b .reg r) (t .reg r) (λ a e. k a (mem-left {s = arrowsOf registers (t .reg)} (arrowsOf relations (t .rel)) (arrowsOf-mem registers (t .reg) r a l e))) (s .reg r l);
-    rel = λ r l. place-keeps (2 * b .n) (t .rows) rows (fnOfPairs (b .n)) (b .rel r) (t .rel r) (λ a e. k a (mem-right (arrowsOf registers (t .reg)) (arrowsOf-mem relations (t .rel) r a l e))) (s .rel r l);
+    reg = λ r l. place-keeps (2 * b .n) (t .rows) rows (rootsOf t) (fnOf (b .n)) (b .reg r) (t .reg r) k (λ a e. mem-left {s = arrowsOf registers (t .reg)} (arrowsOf relations (t .rel)) (arrowsOf-mem registers (t .reg) r a l e)) (s .reg r l);
+    rel = λ r l. place-keeps (2 * b .n) (t .rows) rows (rootsOf t) (fnOfPairs (b .n)) (b .rel r) (t .rel r) k (λ a e. mem-right (arrowsOf registers (t .reg)) (arrowsOf-mem relations (t .rel) r a l e)) (s .rel r l);
   }
 
   -- an arrow stored in a register, or a register emptied
@@ -80,19 +80,9 @@ module _ (b : Book) (t : Table) (s : Shows b t) where
     rel = λ q l. place-put (2 * b .n) (t .rows) (fnOfPairs (b .n)) (b .rel) (t .rel) r o u p q (s .rel q l);
   }
 
--- rows kept by a step are kept for every register and relation
-pub kept-rows : (b : Book) (t : Table) (rows : Rows) → ((a : ℕ) → Mem a (rootsOf t) → Keeps (2 * b .n) (t .rows) rows a) → KeptRows t (withRows t rows)
-kept-rows b t rows k = record {
-  reg = λ r l a e. k a (mem-left {s = arrowsOf registers (t .reg)} (arrowsOf relations (t .rel)) (arrowsOf-mem registers (t .reg) r a l e)) .rows;
-  rel = λ q l a e. k a (mem-right (arrowsOf registers (t .reg)) (arrowsOf-mem relations (t .rel) q a l e)) .rows;
-}
-
--- what a call that makes no row keeps
-pub kept-all : (t t′ : Table) → t′ .rows ≡ t .rows → KeptRows t t′
-kept-all t t′ e = record {
-  reg = λ r l a h i g. subst (λ (x : Rows). SameRow (t .rows) x i) (sym e) (row-refl (t .rows) i);
-  rel = λ q l a h i g. subst (λ (x : Rows). SameRow (t .rows) x i) (sym e) (row-refl (t .rows) i);
-}
+-- a call that makes no row keeps all
+pub kept-all : (b : Book) (t : Table) → Shows b t → Keeps (t .rows) (t .rows) (rootsOf t)
+kept-all b t s = keeps-refl (s .wf) (held-arrow (shows-held b t s))
 
 -- a reply with a number and zeros
 abbrev pub plain : ℕ → Reply
@@ -120,20 +110,28 @@ shows-empty b t r s l e = go (b .reg r) (subst (λ (u : Option ℕ). Place (2 * 
     go none p = refl
     go (some A) p = absurd p
 
--- ---- what the reader is told is filled
+-- ---- what is filled
 
--- the registers that the table has filled
-abbrev pub regsFilled : Table → List Bool
-regsFilled t = table registers (λ r. filled (t .reg r))
+-- which registers and relations the table has filled
+abbrev pub regsFilled : Table → ℕ → Bool
+regsFilled t r = ltb r registers && filled (t .reg r)
 
-abbrev pub relsFilled : Table → List Bool
-relsFilled t = table relations (λ q. filled (t .rel q))
+abbrev pub relsFilled : Table → ℕ → Bool
+relsFilled t q = ltb q relations && filled (t .rel q)
 
 place-filled : {X : Type 0} (m : ℕ) (rows : Rows) (f : X → Fn) (o : Option X) (a : Option ℕ) → Place m rows f o a → filled o ≡ filled a
 place-filled m rows f none none p = refl
 place-filled m rows f none (some a) p = absurd p
 place-filled m rows f (some x) none p = absurd p
 place-filled m rows f (some x) (some a) p = refl
+
+-- two tests that agree below a limit
+below : (k limit : ℕ) (x y : Bool) → (k < limit → x ≡ y) → (ltb k limit && x) ≡ (ltb k limit && y)
+below k limit x y h = go (ltb k limit) refl
+  where
+    go : (u : Bool) → ltb k limit ≡ u → (u && x) ≡ (u && y)
+    go true e = h (ltb→lt k limit (subst T (sym e) tt))
+    go false e = refl
 
 -- registers and relations are filled exactly where the book's are
 module _ (b : Book) (t : Table) (s : Shows b t) where
@@ -144,8 +142,8 @@ module _ (b : Book) (t : Table) (s : Shows b t) where
   rel-filled q i = place-filled (2 * b .n) (t .rows) (fnOfPairs (b .n)) (b .rel q) (t .rel q) (s .rel q i)
 
   -- so the reader's number is the book's
-  pub checks-same : (g : Got) → checks b g ≡ laterRefusal (regsFilled t) (relsFilled t) g
-  checks-same g = ap₂ (λ (x y : List Bool). laterRefusal x y g) (table-ext registers (λ r. filled (b .reg r)) (λ r. filled (t .reg r)) reg-filled) (table-ext relations (λ q. filled (b .rel q)) (λ q. filled (t .rel q)) rel-filled)
+  pub checks-same : (c : Kind) (bs : List ℕ) → checks b c bs ≡ firstRefusal c (b .n) (regsFilled t) (relsFilled t) bs
+  checks-same c bs = ap₂ (λ (x y : ℕ → Bool). firstRefusal c (b .n) x y bs) (fun-ext (λ r. below r registers (filled (b .reg r)) (filled (t .reg r)) (reg-filled r))) (fun-ext (λ q. below q relations (filled (b .rel q)) (filled (t .rel q)) (rel-filled q)))
 
 -- ---- fresh
 
@@ -163,11 +161,7 @@ shows-fresh n N t e = record {
   n = e .bits;
   N = e .size;
   tally = e .tally;
-  wf = record {
-    bounded = λ i u. absurd (true≢false (sym u ∙ e .unused i));
-    ok = λ i u. absurd (true≢false (sym u ∙ e .unused i));
-    shared = λ i j u w a b c. absurd (true≢false (sym u ∙ e .unused i));
-  };
+  wf = empty-wellFormed (2 * n) N (t .rows) (e .unused);
   reg = λ r l. subst (λ (o : Option ℕ). Place (2 * n) (t .rows) (fnOf n) none o) (sym (e .reg r l)) tt;
   rel = λ q l. subst (λ (o : Option ℕ). Place (2 * n) (t .rows) (fnOfPairs n) none o) (sym (e .rel q l)) tt;
 }

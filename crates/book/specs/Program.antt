@@ -1,14 +1,15 @@
 -- "Program": what `roomrules` writes for what it reads, by the book. Assumes nothing.
-use mathlib.Core.Path.{_≡_, refl, ap, _∙_}
+use mathlib.Core.Path.{_≡_, refl, sym, ap, _∙_, subst}
 use mathlib.Core.Bool.{Bool, true, false, cond, _&&_}
 use mathlib.Core.List.{List, [], _∷_, _++_}
 use mathlib.Core.Option.{Option, none, some}
-use Prim.Native.Nat.{ℕ, zero, suc, _+_, _*_, _-_, _/_, _%_}
+use Prim.Native.Nat.{ℕ, zero, suc, _+_, _*_, _-_, _/_, _%_, _^_, _≤_, _<_}
+use native.Mathlib.Nat.{pow-suc, lt-of-not-le}
 use native.Mathlib.Omega.{arith}
-use lib.Dec.{leb, ltb, eqb}
+use lib.Dec.{T, leb, ltb, ltb→lt, lt→ltb, eqb}
 use lib.ListN.{length, getD, take, drop}
 use Rattle.mucalculus.specs.Order.{weight}
-use Rattle.book.specs.Book.{Book, fresh, freshFits, Call, relation, set, clear, collect, node, member, count, tally, Done, does}
+use Rattle.book.specs.Book.{Book, fresh, freshFits, Call, relation, set, clear, collect, count, Done, does, answer}
 use Rattle.book.specs.Compute.{computing}
 
 -- a line: four decimal fields, or the last one
@@ -16,10 +17,11 @@ pub data Line : Type 0 where
   fields : ℕ → ℕ → ℕ → ℕ → Line  -- operation, refusal or 0, value, rounds
   endOk endBad : Line
 
--- what a record asks
+-- what a record asks: fresh, a call, or a count
 pub data Command : Type 0 where
-  start : ℕ → ℕ → Command  -- fresh n, N
-  ask : Call → Command
+  start : ℕ → ℕ → Command  -- 1: fresh n, N
+  call : Call → Command  -- 2, 3, 4, 6
+  states : ℕ → Command  -- 5: count r
 
 -- ---- records
 
@@ -27,62 +29,57 @@ pub data Command : Type 0 where
 abbrev pub wordsLent : ℕ
 wordsLent = 16_384
 
--- the operations, by the bytes after the version: fixed arguments of another length are no command
+-- "Operations: 1 fresh n, N (two bytes); 2 relation t, formula; 3 set r, R (four bytes), formula; 4 clear r; 5 count r; 6 collect", by the
+-- bytes after the version; fixed arguments of another length are no command, and "a formula is the rest of its record"
 abbrev pub commandOf : ℕ → List ℕ → Option Command
-commandOf op as′ =
-    cond (eqb op 1) (cond (eqb (length as′) 3) (some (start (at 0) (at 1 * 256 + at 2))) none)
-    (cond (eqb op 2) (cond (leb 1 (length as′)) (some (ask (relation (at 0) (drop 1 as′)))) none)
-    (cond (eqb op 3) (cond (leb 5 (length as′)) (some (ask (set (at 0) (((at 1 * 256 + at 2) * 256 + at 3) * 256 + at 4) (drop 5 as′)))) none)
-    (cond (eqb op 4) (cond (eqb (length as′) 1) (some (ask (clear (at 0)))) none)
-    (cond (eqb op 5) (cond (eqb (length as′) 1) (some (ask (count (at 0)))) none)
-    (cond (eqb op 6) (cond (eqb (length as′) 0) (some (ask collect)) none)
+commandOf op xs =
+    cond (eqb op 1) (cond (eqb (length xs) 3) (some (start (at 0) (at 1 * 256 + at 2))) none)
+    (cond (eqb op 2) (cond (leb 1 (length xs)) (some (call (relation (at 0) (drop 1 xs)))) none)
+    (cond (eqb op 3) (cond (leb 5 (length xs)) (some (call (set (at 0) (((at 1 * 256 + at 2) * 256 + at 3) * 256 + at 4) (drop 5 xs)))) none)
+    (cond (eqb op 4) (cond (eqb (length xs) 1) (some (call (clear (at 0)))) none)
+    (cond (eqb op 5) (cond (eqb (length xs) 1) (some (states (at 0))) none)
+    (cond (eqb op 6) (cond (eqb (length xs) 0) (some (call collect)) none)
     none)))))
   where
     at : ℕ → ℕ
-    at i = getD as′ i 0
+    at i = getD xs i 0
 
 -- ---- what is written
 
 -- the states in a set, 0 in none
-abbrev pub states : Option (List Bool) → ℕ
-states none = 0
-states (some A) = weight true A
+abbrev pub statesIn : Option (List Bool) → ℕ
+statesIn none = 0
+statesIn (some A) = weight true A
 
 abbrev pub valueOf : Option ℕ → ℕ
 valueOf none = 0
 valueOf (some x) = x
 
--- the operation of a call; the library's other calls have none
+-- the operation of a call
 abbrev pub opOf : Call → ℕ
 opOf (relation t bs) = 2
 opOf (set r R bs) = 3
 opOf (clear r) = 4
 opOf collect = 6
-opOf (node r) = 0
-opOf (member r s) = 0
-opOf (count r) = 5
-opOf tally = 0
 
--- "value (3 and 5: states in r; 6: rows; else 0)"; what a refusal leaves is not looked at
+-- "value (3 and 5: states in r; 6: rows; else 0)", of an answered call
 abbrev pub shown : Call → Done → ℕ
 shown (relation t bs) d = 0
-shown (set r R bs) d = states (d .0 .reg r)
+shown (set r R bs) d = statesIn (d .0 .reg r)
 shown (clear r) d = 0
 shown collect d = valueOf (d .1 .value)
-shown (node r) d = 0
-shown (member r s) d = 0
-shown (count r) d = valueOf (d .1 .value)
-shown tally d = 0
 
 -- "A refused record has 0 in the last two fields"
 abbrev pub lineOf : Call → Done → Line
 lineOf c d = fields (opOf c) (d .1 .number) (cond (eqb (d .1 .number) 0) (shown c d) 0) (d .1 .rounds)
 
--- one command: no book is there before the first answered fresh, since all zero words are unsound (check 2)
+-- one command: no book is there before the first answered fresh, since "All zero words are unsound" (check 2)
 abbrev pub obey : Option Book → Command → Option Book × Line
 obey o (start n N) = cond (freshFits n N wordsLent) (some (fresh n N), fields 1 0 0 0) (o, fields 1 1 0 0)
-obey none (ask c) = (none, fields (opOf c) 2 0 0)
-obey (some b) (ask c) = let d = does b c in (some (d .0), lineOf c d)
+obey none (call c) = (none, fields (opOf c) 2 0 0)
+obey none (states r) = (none, fields 5 2 0 0)
+obey (some b) (call c) = let d = does b c in (some (d .0), lineOf c d)
+obey (some b) (states r) = let a = answer b (count r) in (some b, fields 5 (a .number) (valueOf (a .value)) 0)
 
 -- the length of the record that begins here, and whether it is whole, in range and of version 1
 abbrev pub recordLength : List ℕ → ℕ
@@ -179,6 +176,52 @@ digits-read (suc j) k = go (ltb k 10) (digits-read j (k / 10))
     go : (t : Bool) → readDigits 0 (digits j (k / 10)) ≡ k / 10 → readDigits 0 (cond t ((48 + k) ∷ []) (digits j (k / 10) ++ ((48 + k % 10) ∷ []))) ≡ k
     go true h = omega arith
     go false h = read-append 0 (digits j (k / 10)) (48 + k % 10) ∙ omega arith
+
+-- each byte that stands for a number is a digit
+abbrev pub Digit : ℕ → Type 0
+Digit d = (48 ≤ d) × (d ≤ 57)
+
+abbrev pub AllDigits : List ℕ → Type 0
+AllDigits [] = Unit {0}
+AllDigits (d ∷ l) = Digit d × AllDigits l
+
+digits-append : (l : List ℕ) (d : ℕ) → AllDigits l → Digit d → AllDigits (l ++ (d ∷ []))
+digits-append [] d h i = (i, tt)
+digits-append (c ∷ l) d h i = (h .0, digits-append l d (h .1) i)
+
+-- a number below 10^(j + 1) has digits alone
+pub digits-only : (j k : ℕ) → k < 10 ^ suc j → AllDigits (digits j k)
+digits-only zero k h = ((omega arith, omega (arith, pow-suc 10 0)), tt)
+digits-only (suc j) k h = go (ltb k 10) refl (digits-only j (k / 10))
+  where
+    go : (t : Bool) → ltb k 10 ≡ t → (k / 10 < 10 ^ suc j → AllDigits (digits j (k / 10))) → AllDigits (cond t ((48 + k) ∷ []) (digits j (k / 10) ++ ((48 + k % 10) ∷ [])))
+    go true e below = let l = ltb→lt k 10 (subst T (sym e) tt) in ((omega arith, omega arith), tt)
+    go false e below = digits-append (digits j (k / 10)) (48 + k % 10) (below (omega (arith, pow-suc 10 (suc j)))) (omega arith, omega arith)
+
+-- "decimals without leading zeros": the first digit of a number that is not 0 is not 0
+pub first-digit : (j k : ℕ) → 1 ≤ k → k < 10 ^ suc j → (d : ℕ) (l : List ℕ) → digits j k ≡ d ∷ l → 49 ≤ d
+first-digit zero k a b d l e = let i : 48 + k ≡ d = cc in omega arith
+first-digit (suc j) k a b d l e = go (ltb k 10) refl (digits j (k / 10)) (first-digit j (k / 10)) (some-digit j (k / 10)) e
+  where
+    -- a number has a digit
+    some-digit : (i x : ℕ) → digits i x ≡ [] → ⊥
+    some-digit zero x q = let z : _≡_ {A = ℕ} 0 1 = cc in absurd (omega arith)
+    some-digit (suc i) x q = pick (ltb x 10) (digits i (x / 10)) q
+      where
+        pick : (t : Bool) (m : List ℕ) → cond t ((48 + x) ∷ []) (m ++ ((48 + x % 10) ∷ [])) ≡ [] → ⊥
+        pick true m q = let z : _≡_ {A = ℕ} 0 1 = cc in absurd (omega arith)
+        pick false [] q = let z : _≡_ {A = ℕ} 0 1 = cc in absurd (omega arith)
+        pick false (y ∷ m) q = let z : _≡_ {A = ℕ} 0 1 = cc in absurd (omega arith)
+
+    go : (t : Bool) → ltb k 10 ≡ t → (m : List ℕ) → (1 ≤ k / 10 → k / 10 < 10 ^ suc j → (c : ℕ) (n : List ℕ) → m ≡ c ∷ n → 49 ≤ c) → (m ≡ [] → ⊥)
+        → cond t ((48 + k) ∷ []) (m ++ ((48 + k % 10) ∷ [])) ≡ d ∷ l → 49 ≤ d
+    go true u m below full q = let i : 48 + k ≡ d = cc in omega arith
+    go false u [] below full q = absurd (full refl)
+    go false u (c ∷ m) below full q =
+        let i : c ≡ d = cc in
+        let g : 10 < suc k = lt-of-not-le (λ h. subst T u (lt→ltb k 10 h)) in
+        let n = below (omega arith) (omega (arith, pow-suc 10 (suc j))) c m refl in
+        omega arith
 
 -- the largest count has ten digits
 pub decimal-example : decimal 4_294_967_295 ≡ 52 ∷ 50 ∷ 57 ∷ 52 ∷ 57 ∷ 54 ∷ 55 ∷ 50 ∷ 57 ∷ 53 ∷ []

@@ -1,7 +1,7 @@
 -- The roots of a table, the arrows in its filled registers and relations, hold what is live in the book that it shows. Assumes nothing.
 use mathlib.Core.Path.{_≡_, refl, sym, subst}
 use mathlib.Core.Logic.{⊎-elim}
-use mathlib.Core.List.{List, [], _∷_, _++_, List·Memᴰ as Mem, List·Memᴰ·head as here, List·Memᴰ·tail as there, List·Memᴰ·not-nil as mem-nil, Memᴰ·append-left as mem-left, Memᴰ·append-right as mem-right, List·Memᴰ·append-cases as append-cases}
+use mathlib.Core.List.{List, [], _++_, List·Memᴰ as Mem, List·Memᴰ·head as here, List·Memᴰ·tail as there, List·Memᴰ·not-nil as mem-nil, Memᴰ·append-left as mem-left, Memᴰ·append-right as mem-right, List·Memᴰ·append-cases as append-cases}
 use mathlib.Core.Option.{Option, none, some}
 use Prim.Native.Nat.{ℕ, zero, suc, _*_, _<_}
 use native.Mathlib.Omega.{arith}
@@ -10,21 +10,8 @@ use Rattle.diagram.specs.Rows.{Rows}
 use Rattle.book.specs.Bridge.{fnOf, fnOfPairs}
 use Rattle.book.specs.Run.{addFilled, contents}
 use Rattle.book.specs.Book.{Book, registers, relations, liveOf}
-use Rattle.book.specs.Table.{Table, Place, Shows}
+use Rattle.book.specs.Table.{Table, Place, Shows, addRoot, arrowsOf, rootsOf}
 use Rattle.book.specs.Held.{Held, held-push}
-
-abbrev pub addRoot : Option ℕ → List ℕ → List ℕ
-addRoot none l = l
-addRoot (some a) l = a ∷ l
-
--- the arrows in the filled places below k
-abbrev pub arrowsOf : ℕ → (ℕ → Option ℕ) → List ℕ
-arrowsOf zero h = []
-arrowsOf (suc k) h = addRoot (h 0) (arrowsOf k (λ i. h (suc i)))
-
--- what every step of a call keeps: the arrows of all filled registers and relations
-abbrev pub rootsOf : Table → List ℕ
-rootsOf t = arrowsOf registers (t .reg) ++ arrowsOf relations (t .rel)
 
 pub arrowsOf-mem : (k : ℕ) (h : ℕ → Option ℕ) (i a : ℕ) → i < k → h i ≡ some a → Mem a (arrowsOf k h)
 arrowsOf-mem zero h i a l e = absurd (omega arith)

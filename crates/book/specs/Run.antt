@@ -3,14 +3,15 @@ use mathlib.Core.Bool.{Bool, true, false, _&&_, cond}
 use mathlib.Core.List.{List, _∷_}
 use Prim.Native.Nat.{ℕ, zero, suc, _*_, _^_}
 use lib.Dec.{leb, ltb}
-use Rattle.mucalculus.specs.Sets.{table, same}
+use Rattle.mucalculus.specs.Sets.{noStates, allStates, same}
 use Rattle.mucalculus.specs.Order.{start}
 use Rattle.mucalculus.specs.Form.{Form, bot, top, neg, conj, disj, now, next, var, reg, box, dia, mu, nu, Pairs, Model, Env, put, inside}
-use Rattle.mucalculus.specs.Means.{clip, compl, inter, union, bit, sometimes, size}
+use Rattle.mucalculus.specs.Means.{clip, compl, inter, union, bitStates, sometimes, size}
 use Rattle.diagram.specs.Level.{Fn}
+use Rattle.diagram.specs.Need.{stepNeed}
 use Rattle.diagram.specs.Steps.{andF, shiftF, existsF}
 use Rattle.book.specs.Bridge.{fnOf, fnOfPairs}
-pub use Rattle.book.specs.Ticks.{stepNeed, addFilled, contents, pairF}
+pub use Rattle.book.specs.Ticks.{addFilled, contents, pairF}
 
 -- what the steps of a set's formula come to
 pub data Outcome : Type 0 where
@@ -26,7 +27,7 @@ andThen spent g = spent
 
 -- "A reached step with a need above N is refusal 8"
 abbrev pub step : ℕ → ℕ → List Fn → Fn → Outcome → Outcome
-step n N live result go = cond (leb (stepNeed n live result) N) go full
+step n N live result go = cond (leb (stepNeed (2 * n) live result) N) go full
 
 -- EXISTS at levels 2j − 1, 2j − 3, down to 1, each a step
 abbrev pub existsSteps : ℕ → ℕ → List Fn → ℕ → Fn → Outcome → Outcome
@@ -69,15 +70,15 @@ loop R g (suc j) A r =
 -- the steps of f with r rounds counted before them. `live` are the functions live throughout: filled registers and relations, current sets
 -- of open binders, values made and not yet used
 abbrev pub run : Model → ℕ → ℕ → Env → List Fn → Form → ℕ → Outcome
-run m N R e live bot r = value (table (size m) (λ s. false)) r
-run m N R e live top r = value (table (size m) (λ s. true)) r
+run m N R e live bot r = value (noStates (size m)) r
+run m N R e live top r = value (allStates (size m)) r
 run m N R e live (neg f) r = andThen (run m N R e live f r) (λ A q. notStep (m .n) N live A q)
 run m N R e live (conj f g) r =
     andThen (run m N R e live f r) (λ A q. andThen (run m N R e (fnOf (m .n) A ∷ live) g q) (λ B p. twoStep (m .n) N live (inter (size m)) A B p))
 run m N R e live (disj f g) r =
     andThen (run m N R e live f r) (λ A q. andThen (run m N R e (fnOf (m .n) A ∷ live) g q) (λ B p. twoStep (m .n) N live (union (size m)) A B p))
-run m N R e live (now p) r = let A = table (size m) (λ s. bit p s) in step (m .n) N live (fnOf (m .n) A) (value A r)
-run m N R e live (next p) r = value (table (size m) (λ s. false)) r
+run m N R e live (now p) r = let A = bitStates (size m) p in step (m .n) N live (fnOf (m .n) A) (value A r)
+run m N R e live (next p) r = value (noStates (size m)) r
 run m N R e live (var P) r = value (clip (size m) (e P)) r
 run m N R e live (reg x) r = value (clip (size m) (inside (m .reg x))) r
 run m N R e live (box t f) r = andThen (run m N R e live f r) (λ A q. boxSteps (m .n) N live (inside (m .rel t)) A q)
@@ -91,13 +92,13 @@ run m N R e live (nu P f) r = loop R (λ A q. run m N R (put e P A) (fnOf (m .n)
 abbrev pub pairsFit : ℕ → ℕ → List Fn → Form → Bool
 pairsFit n N live bot = true
 pairsFit n N live top = true
-pairsFit n N live (neg f) = pairsFit n N live f && leb (stepNeed n (pairF n f ∷ live) (pairF n (neg f))) N
+pairsFit n N live (neg f) = pairsFit n N live f && leb (stepNeed (2 * n) (pairF n f ∷ live) (pairF n (neg f))) N
 pairsFit n N live (conj f g) =
-    pairsFit n N live f && (pairsFit n N (pairF n f ∷ live) g && leb (stepNeed n (pairF n g ∷ pairF n f ∷ live) (pairF n (conj f g))) N)
+    pairsFit n N live f && (pairsFit n N (pairF n f ∷ live) g && leb (stepNeed (2 * n) (pairF n g ∷ pairF n f ∷ live) (pairF n (conj f g))) N)
 pairsFit n N live (disj f g) =
-    pairsFit n N live f && (pairsFit n N (pairF n f ∷ live) g && leb (stepNeed n (pairF n g ∷ pairF n f ∷ live) (pairF n (disj f g))) N)
-pairsFit n N live (now p) = leb (stepNeed n live (pairF n (now p))) N
-pairsFit n N live (next p) = leb (stepNeed n live (pairF n (next p))) N
+    pairsFit n N live f && (pairsFit n N (pairF n f ∷ live) g && leb (stepNeed (2 * n) (pairF n g ∷ pairF n f ∷ live) (pairF n (disj f g))) N)
+pairsFit n N live (now p) = leb (stepNeed (2 * n) live (pairF n (now p))) N
+pairsFit n N live (next p) = leb (stepNeed (2 * n) live (pairF n (next p))) N
 pairsFit n N live (var P) = true
 pairsFit n N live (reg x) = true
 pairsFit n N live (box t f) = true

@@ -2,61 +2,105 @@
 -- filled place of the book has its full size. Assumes nothing.
 use mathlib.Core.Path.{_≡_, refl, sym, ap, _∙_, subst}
 use mathlib.Core.Bool.{Bool, true, false, cond}
-use mathlib.Core.List.{List}
+use mathlib.Core.List.{List, [], _∷_}
 use mathlib.Core.Option.{Option, none, some}
-use Prim.Native.Nat.{ℕ, zero, suc, _+_, _^_, _≤_, zero-le}
+use Prim.Native.Nat.{ℕ, zero, suc, _+_, _≤_, _<_, zero-le}
 use native.Mathlib.Omega.{arith}
-use lib.Dec.{T, ltb, eqb}
+use native.Mathlib.Nat.{lt-of-not-le}
+use lib.Dec.{T, ltb, ltb→lt, lt→ltb, eqb, eqb→eq}
 use lib.ListN.{length}
-use Rattle.mucalculus.specs.Form.{Form, Pairs, put, even}
+use Rattle.mucalculus.specs.Form.{Form, bound, noneOpen, steady, Pairs, noEnv, put}
 use Rattle.mucalculus.specs.Means.{means, meansPair, holds, length-means}
 use Rattle.mucalculus.specs.Rounds.{rounds}
-use Rattle.mucalculus.specs.Answer.{noEnv}
-use Rattle.formula.specs.Tokens.{pick}
-use Rattle.formula.specs.Form.{Form as Tree, Got, fails, got, formulaOf}
-use Rattle.formula.specs.Checks.{bound, steady, filled, noneOpen}
-use Rattle.formula.specs.declared.Kind.the-variants.{Relation, Set}
+use Rattle.tokens.specs.declared.Kind.{Kind}
+use Rattle.formula.specs.Parse.{isFormula, formulaOf}
+use Rattle.formula.specs.Checks.{filled, firstOf, firstRefusal}
+use Rattle.tokens.specs.declared.Kind.the-variants.{Relation, Set}
 use Rattle.book.specs.Bridge.{Sized, SizedPairs, sized-table}
 use Rattle.book.specs.Ticks.{ticks, pairTicks, Verdict, counted, full, spent, verdict}
-use Rattle.book.specs.Verdicts.{settle, run-ticks}
-use Rattle.book.specs.Outcomes.{run-value}
-use Rattle.book.specs.Read.{asForm, checked-even}
-use Rattle.book.specs.Book.{Book, fresh, Call, relation, set, clear, collect, node, member, count, tally, answered, registers, relations, modelOf, liveOf, filledRegs, filledRels, checks, Done, refuse, withRel, withReg, tallied, tallyTop, ended, relationDone, setDone, relationSteps, setSteps, passing, formulaCall, asked, does}
+use Rattle.book.specs.Verdicts.{verdict-counted, ticks-rounds}
+use Rattle.book.specs.Book.{formulaIn, Book, fresh, Call, relation, set, clear, collect, registers, relations, modelOf, liveOf, regFilled, relFilled, checks, Done, refuse, withRel, withReg, tallied, tallyTop, ended, relationDone, setDone, relationSteps, setSteps, passing, formulaCall, does}
 
 -- ---- the checks
 
--- what checks 5, 6 and 7 give where none refuses
-pub record Passed (b : Book) (f : Tree) : Type 0 where
-  pub isBound : T (bound noneOpen f)
-  pub isSteady : T (steady f)
-  pub isFilled : T (filled (filledRegs b) (filledRels b) f)
+-- what checks 4 to 7 give where none refuses
+pub record Passed (b : Book) (c : Kind) (bs : List ℕ) : Type 0 where
+  pub isRead : T (isFormula (formulaOf c (b .n) bs))
+  pub isBound : T (bound noneOpen (formulaIn b c bs))
+  pub isSteady : T (steady (formulaIn b c bs))
+  pub isFilled : T (filled (regFilled b) (relFilled b) (formulaIn b c bs))
 
-pub checks-passed : (b : Book) (f : Tree) (e : ℕ) → checks b (got f e) ≡ 0 → Passed b f
-checks-passed b f e h = go (bound noneOpen f) (steady f) (filled (filledRegs b) (filledRels b) f) refl refl refl h
+-- the first refusal by the four tests
+tested : Bool → Bool → Bool → Bool → ℕ
+tested w x y z = firstOf ((w, 4) ∷ (x, 5) ∷ (y, 6) ∷ (z, 7) ∷ [])
+
+tested-all : (w x y z : Bool) → tested w x y z ≡ 0 → T w × T x × T y × T z
+unfolding tested
+tested-all true true true true i = (tt, tt, tt, tt)
+tested-all true true true false i = absurd (omega arith)
+tested-all true true false z i = absurd (omega arith)
+tested-all true false y z i = absurd (omega arith)
+tested-all false x y z i = absurd (omega arith)
+
+tested-range : (k : ℕ) (w x y z : Bool) → tested w x y z ≡ suc k → (3 ≤ k) × (k ≤ 6)
+unfolding tested
+tested-range k true true true true i = absurd (omega arith)
+tested-range k true true true false i = (omega arith, omega arith)
+tested-range k true true false z i = (omega arith, omega arith)
+tested-range k true false y z i = (omega arith, omega arith)
+tested-range k false x y z i = (omega arith, omega arith)
+
+module _ (b : Book) (c : Kind) (bs : List ℕ) where
+  number-is : checks b c bs ≡ tested (isFormula (formulaOf c (b .n) bs)) (bound noneOpen (formulaIn b c bs)) (steady (formulaIn b c bs)) (filled (regFilled b) (relFilled b) (formulaIn b c bs))
+  unfolding firstRefusal tested
+  number-is = refl
+
+  pub checks-passed : checks b c bs ≡ 0 → Passed b c bs
+  checks-passed h =
+      let u = tested-all (isFormula (formulaOf c (b .n) bs)) (bound noneOpen (formulaIn b c bs)) (steady (formulaIn b c bs)) (filled (regFilled b) (relFilled b) (formulaIn b c bs)) (sym number-is ∙ h) in
+      record { isRead = u .0; isBound = u .1; isSteady = u .2; isFilled = u .3 }
+
+  -- the checks' number is 0 or one of 4 to 7
+  checks-range : (k : ℕ) → checks b c bs ≡ suc k → (3 ≤ k) × (k ≤ 6)
+  checks-range k h = tested-range k (isFormula (formulaOf c (b .n) bs)) (bound noneOpen (formulaIn b c bs)) (steady (formulaIn b c bs)) (filled (regFilled b) (relFilled b) (formulaIn b c bs)) (sym number-is ∙ h)
+
+  -- a call that takes a formula is refused by a check, 4 to 7, or goes on with a formula that passed
+  formula-cases : (P : Done → Type 0) (go : Form → Done) → ((k : ℕ) → 3 ≤ k → k ≤ 6 → P (refuse b (suc k))) → (Passed b c bs → P (go (formulaIn b c bs))) → P (formulaCall b c bs go)
+  formula-cases P go refuses goes = pass (checks b c bs) refl
+    where
+      pass : (k : ℕ) → checks b c bs ≡ k → P (passing b k (go (formulaIn b c bs)))
+      pass zero h = goes (checks-passed h)
+      pass (suc k) h = let r = checks-range k h in refuses k (r .0) (r .1)
+
+-- a number in range, or out of it
+pub range-cases : {X : Type 0} (P : X → Type 0) (k limit : ℕ) (x y : X) → (k < limit → P x) → (limit ≤ k → P y) → P (cond (ltb k limit) x y)
+range-cases {X} P k limit x y p q = go (ltb k limit) refl
   where
-    go : (x y z : Bool) → bound noneOpen f ≡ x → steady f ≡ y → filled (filledRegs b) (filledRels b) f ≡ z → _≡_ {A = ℕ} (pick x (pick y (pick z 0 7) 6) 5) 0 → Passed b f
-    go true true true p q r i = record { isBound = subst T (sym p) tt; isSteady = subst T (sym q) tt; isFilled = subst T (sym r) tt }
-    go true true false p q r i = absurd (omega arith)
-    go true false z p q r i = absurd (omega arith)
-    go false y z p q r i = absurd (omega arith)
+    go : (t : Bool) → ltb k limit ≡ t → P (cond t x y)
+    go true e = p (ltb→lt k limit (subst T (sym e) tt))
+    go false e = let h : limit < suc k = lt-of-not-le (λ l. subst T e (lt→ltb k limit l)) in q (omega arith)
 
--- a call that takes a formula is refused by a check, or goes on with a formula that passed
-pub formula-cases : (P : Done → Type 0) (b : Book) (g : Got) (go : Form → Done)
-    → ((k : ℕ) → P (refuse b (suc k))) → ((f : Tree) (e : ℕ) → g ≡ got f e → Passed b f → P (go (asForm f))) → P (formulaCall b g go)
-formula-cases P b fails go refuses goes = refuses 3
-formula-cases P b (got f e) go refuses goes = pass (checks b (got f e)) refl
-  where
-    pass : (k : ℕ) → checks b (got f e) ≡ k → P (passing b k (go (asForm f)))
-    pass zero h = goes f e refl (checks-passed b f e h)
-    pass (suc k) h = refuses k
+ended-cases : (P : Done → Type 0) (b : Book) (w : Verdict) (go : ℕ → Done) → ((q : ℕ) → P (go q)) → P (refuse b 8) → P (refuse b 9) → P (ended b w go)
+ended-cases P b (counted q) go k x y = k q
+ended-cases P b full go k x y = x
+ended-cases P b spent go k x y = y
 
-pub cond-cases : {X : Type 0} (P : X → Type 0) (t : Bool) (x y : X) → P x → P y → P (cond t x y)
-cond-cases P true x y p q = p
-cond-cases P false x y p q = q
+-- a property of what a set or relation call leaves and answers holds if it holds of each refusal, 3 to 9, and of what is stored
+pub set-cases : (P : Done → Type 0) (b : Book) (r R : ℕ) (bs : List ℕ) → ((k : ℕ) → 2 ≤ k → k ≤ 8 → P (refuse b (suc k)))
+    → (r < registers → Passed b Set bs → (q : ℕ) → P (setDone b r (means (modelOf b) noEnv (formulaIn b Set bs)) q)) → P (does b (set r R bs))
+set-cases P b r R bs refuses goes =
+    range-cases P r registers _ _
+    (λ l. formula-cases b Set bs P (setSteps b r R) (λ k i j. refuses k (omega arith) (omega arith))
+    (λ p. ended-cases P b (verdict (b .N) R 0 (ticks (modelOf b) noEnv (liveOf b) (formulaIn b Set bs))) _ (goes l p) (refuses 7 (omega arith) (omega arith)) (refuses 8 (omega arith) (omega arith))))
+    (λ l. refuses 2 (omega arith) (omega arith))
 
-pub asked-cases : (P : Done → Type 0) (b : Book) (o : Option (List Bool)) (g : List Bool → Option ℕ) → P (refuse b 7) → ((A : List Bool) → P (b, answered (g A))) → P (asked b o g)
-asked-cases P b none g p q = p
-asked-cases P b (some A) g p q = q A
+pub relation-cases : (P : Done → Type 0) (b : Book) (t : ℕ) (bs : List ℕ) → ((k : ℕ) → 2 ≤ k → k ≤ 8 → P (refuse b (suc k)))
+    → (t < relations → Passed b Relation bs → P (relationDone b t (formulaIn b Relation bs))) → P (does b (relation t bs))
+relation-cases P b t bs refuses goes =
+    range-cases P t relations _ _
+    (λ l. formula-cases b Relation bs P (relationSteps b t) (λ k i j. refuses k (omega arith) (omega arith))
+    (λ p. ended-cases P b (verdict (b .N) 0 0 (pairTicks (b .n) (liveOf b) (formulaIn b Relation bs))) _ (λ q. goes l p) (refuses 7 (omega arith) (omega arith)) (refuses 8 (omega arith) (omega arith))))
+    (λ l. refuses 2 (omega arith) (omega arith))
 
 -- ---- what is stored
 
@@ -66,57 +110,42 @@ pub record SetStored (b : Book) (r R : ℕ) (f : Form) (d : Done) : Type 0 where
   pub count : d .1 .rounds ≡ rounds (modelOf b) noEnv f
   pub within : rounds (modelOf b) noEnv f ≤ R
 
-pub set-stored : (b : Book) (r R : ℕ) (f : Form) → T (even (λ P. true) f) → setSteps b r R f .1 .number ≡ 0 → SetStored b r R f (setSteps b r R f)
-set-stored b r R f t h = go (verdict (b .N) R 0 (ticks (modelOf b) noEnv (liveOf b) f)) refl h
+pub set-stored : (b : Book) (r R : ℕ) (f : Form) → setSteps b r R f .1 .number ≡ 0 → SetStored b r R f (setSteps b r R f)
+set-stored b r R f h = go (verdict (b .N) R 0 (ticks (modelOf b) noEnv (liveOf b) f)) refl h
   where
     A : List Bool
     A = means (modelOf b) noEnv f
 
     go : (w : Verdict) → verdict (b .N) R 0 (ticks (modelOf b) noEnv (liveOf b) f) ≡ w → ended b w (λ q. setDone b r A q) .1 .number ≡ 0 → SetStored b r R f (ended b w (λ q. setDone b r A q))
     go (counted q) e z =
-        let d = run-value (modelOf b) (b .N) R noEnv (liveOf b) f 0 (λ P. true) t zero-le A q (run-ticks (b .N) R (modelOf b) (λ P. true) noEnv (liveOf b) f 0 t ∙ ap (settle A) e) in
-        let i : q ≡ rounds (modelOf b) noEnv f = omega (arith, d .1) in
-        record { book = ap (λ (k : ℕ). withReg b r (some A) (tallied (b .tally) k)) i; count = i; within = omega (arith, d .2) }
+        let d = verdict-counted (b .N) R 0 (ticks (modelOf b) noEnv (liveOf b) f) q zero-le e in
+        let i : q ≡ rounds (modelOf b) noEnv f = omega (arith, d .0, ticks-rounds (modelOf b) noEnv (liveOf b) f) in
+        record { book = ap (λ (k : ℕ). withReg b r (some A) (tallied (b .tally) k)) i; count = i; within = omega (arith, d .1) }
     go full e z = absurd (omega arith)
     go spent e z = absurd (omega arith)
 
--- "relation t then holds exactly the pairs in which the formula holds"
-pub relation-stored : (b : Book) (t : ℕ) (f : Form) → relationSteps b t f .1 .number ≡ 0 → relationSteps b t f .0 ≡ withRel b t (some (meansPair (b .n) f))
-relation-stored b t f h = go (verdict (b .N) 0 0 (pairTicks (b .n) (liveOf b) f)) h
-  where
-    go : (w : Verdict) → ended b w (λ q. relationDone b t f) .1 .number ≡ 0 → ended b w (λ q. relationDone b t f) .0 ≡ withRel b t (some (meansPair (b .n) f))
-    go (counted q) z = refl
-    go full z = absurd (omega arith)
-    go spent z = absurd (omega arith)
-
 -- an answered set call: its bytes were a formula, which passed the checks, and its meaning is what register r holds
 pub record Sets (b : Book) (r R : ℕ) (bs : List ℕ) (d : Done) : Type 0 where
-  pub tree : Tree
-  pub end : ℕ
-  pub read : formulaOf (b .n) Set bs ≡ got tree end
-  pub passed : Passed b tree
-  pub stored : SetStored b r R (asForm tree) d
+  pub range : r < registers
+  pub passed : Passed b Set bs
+  pub stored : SetStored b r R (formulaIn b Set bs) d
 
 pub set-means : (b : Book) (r R : ℕ) (bs : List ℕ) → does b (set r R bs) .1 .number ≡ 0 → Sets b r R bs (does b (set r R bs))
 set-means b r R bs =
-    cond-cases (λ (d : Done). d .1 .number ≡ 0 → Sets b r R bs d) (ltb r registers) _ _
-    (formula-cases (λ (d : Done). d .1 .number ≡ 0 → Sets b r R bs d) b (formulaOf (b .n) Set bs) (setSteps b r R) (λ k z. absurd (omega arith))
-    (λ f e i p z. record { tree = f; end = e; read = i; passed = p; stored = set-stored b r R (asForm f) (checked-even f (p .isBound) (p .isSteady)) z }))
-    (λ z. absurd (omega arith))
+    range-cases (λ (d : Done). d .1 .number ≡ 0 → Sets b r R bs d) r registers _ _
+    (λ l. formula-cases b Set bs (λ (d : Done). d .1 .number ≡ 0 → Sets b r R bs d) (setSteps b r R) (λ k i j z. absurd (omega arith))
+    (λ p z. record { range = l; passed = p; stored = set-stored b r R (formulaIn b Set bs) z }))
+    (λ l z. absurd (omega arith))
 
 -- an answered relation call: its bytes were a formula, and the pairs in which it holds are what relation t holds
 pub record Relates (b : Book) (t : ℕ) (bs : List ℕ) (d : Done) : Type 0 where
-  pub tree : Tree
-  pub end : ℕ
-  pub read : formulaOf (b .n) Relation bs ≡ got tree end
-  pub stored : d .0 ≡ withRel b t (some (meansPair (b .n) (asForm tree)))
+  pub range : t < relations
+  pub passed : Passed b Relation bs
+  pub stored : d .0 ≡ withRel b t (some (meansPair (b .n) (formulaIn b Relation bs)))
 
 pub relation-means : (b : Book) (t : ℕ) (bs : List ℕ) → does b (relation t bs) .1 .number ≡ 0 → Relates b t bs (does b (relation t bs))
 relation-means b t bs =
-    cond-cases (λ (d : Done). d .1 .number ≡ 0 → Relates b t bs d) (ltb t relations) _ _
-    (formula-cases (λ (d : Done). d .1 .number ≡ 0 → Relates b t bs d) b (formulaOf (b .n) Relation bs) (relationSteps b t) (λ k z. absurd (omega arith))
-    (λ f e i p z. record { tree = f; end = e; read = i; stored = relation-stored b t (asForm f) z }))
-    (λ z. absurd (omega arith))
+    relation-cases (λ (d : Done). d .1 .number ≡ 0 → Relates b t bs d) b t bs (λ k i j z. absurd (omega arith)) (λ l p z. record { range = l; passed = p; stored = refl })
 
 -- ---- the tally
 
@@ -130,60 +159,46 @@ tally-stays k q h = omega arith
 pub tally-counts : (k q : ℕ) → k + q ≤ tallyTop → tallied k q ≡ k + q
 tally-counts k q h = omega arith
 
--- ---- every filled place has its full size
+-- ---- every filled place has its full size, and none is filled past the registers and relations
 
 pub record Whole (b : Book) : Type 0 where
-  pub reg : (r : ℕ) (A : List Bool) → b .reg r ≡ some A → Sized (b .n) A
-  pub rel : (t : ℕ) (Q : Pairs) → b .rel t ≡ some Q → SizedPairs (b .n) Q
+  pub reg : (r : ℕ) (A : List Bool) → b .reg r ≡ some A → Sized (b .n) A × (r < registers)
+  pub rel : (t : ℕ) (Q : Pairs) → b .rel t ≡ some Q → SizedPairs (b .n) Q × (t < relations)
 
 -- a place of a filled or emptied function: the new one or an old one
-put-cases : {X : Type 0} (h : ℕ → Option X) (i : ℕ) (o : Option X) (P : X → Type 0) → ((x : X) → o ≡ some x → P x) → ((j : ℕ) (x : X) → h j ≡ some x → P x)
-    → (j : ℕ) (x : X) → put h i o j ≡ some x → P x
-put-cases h i o P new old j x = go (eqb j i)
+put-cases : {X : Type 0} (h : ℕ → Option X) (i : ℕ) (o : Option X) (P : ℕ → X → Type 0) → ((x : X) → o ≡ some x → P i x) → ((j : ℕ) (x : X) → h j ≡ some x → P j x)
+    → (j : ℕ) (x : X) → put h i o j ≡ some x → P j x
+put-cases h i o P new old j x = go (eqb j i) refl
   where
-    go : (t : Bool) → cond t o (h j) ≡ some x → P x
-    go true e = new x e
-    go false e = old j x e
+    go : (t : Bool) → eqb j i ≡ t → cond t o (h j) ≡ some x → P j x
+    go true u e = subst (λ (k : ℕ). P k x) (sym (eqb→eq j i (subst T (sym u) tt))) (new x e)
+    go false u e = old j x e
 
 pub some-inj : {X : Type 0} {x y : X} → some x ≡ some y → x ≡ y
 some-inj e = cc
 
+pub none-some : {X : Type 0} {x : X} → none ≡ some x → ⊥
+none-some e = let z : _≡_ {A = ℕ} 0 1 = cc in absurd (omega arith)
+
 pub whole-fresh : (n N : ℕ) → Whole (fresh n N)
-whole-fresh n N = record { reg = λ r A e. let z : _≡_ {A = ℕ} 0 1 = cc in absurd (omega arith); rel = λ t Q e. let z : _≡_ {A = ℕ} 0 1 = cc in absurd (omega arith) }
+whole-fresh n N = record { reg = λ r A e. absurd (none-some e); rel = λ t Q e. absurd (none-some e) }
 
-whole-reg : (b : Book) (r k : ℕ) (o : Option (List Bool)) → Whole b → ((A : List Bool) → o ≡ some A → Sized (b .n) A) → Whole (withReg b r o k)
-whole-reg b r k o w h = record { reg = put-cases (b .reg) r o (Sized (b .n)) h (w .reg); rel = w .rel }
+whole-reg : (b : Book) (r k : ℕ) (o : Option (List Bool)) → Whole b → ((A : List Bool) → o ≡ some A → Sized (b .n) A × (r < registers)) → Whole (withReg b r o k)
+whole-reg b r k o w h = record { reg = put-cases (b .reg) r o (λ i A. Sized (b .n) A × (i < registers)) h (w .reg); rel = w .rel }
 
-pub ended-cases : (P : Done → Type 0) (b : Book) (w : Verdict) (go : ℕ → Done) → ((q : ℕ) → P (go q)) → P (refuse b 8) → P (refuse b 9) → P (ended b w go)
-ended-cases P b (counted q) go k x y = k q
-ended-cases P b full go k x y = x
-ended-cases P b spent go k x y = y
-
-whole-set : (b : Book) (r R : ℕ) (f : Form) → Whole b → Whole (setSteps b r R f .0)
-whole-set b r R f w =
-    ended-cases (λ (d : Done). Whole (d .0)) b (verdict (b .N) R 0 (ticks (modelOf b) noEnv (liveOf b) f)) _
-    (λ q. whole-reg b r (tallied (b .tally) q) (some (means (modelOf b) noEnv f)) w (λ B i. ap length (sym (some-inj i)) ∙ length-means (modelOf b) noEnv f)) w w
-
-whole-relation : (b : Book) (t : ℕ) (f : Form) → Whole b → Whole (relationSteps b t f .0)
-whole-relation b t f w =
-    ended-cases (λ (d : Done). Whole (d .0)) b (verdict (b .N) 0 0 (pairTicks (b .n) (liveOf b) f)) _
-    (λ q. record { reg = w .reg; rel = put-cases (b .rel) t (some (meansPair (b .n) f)) (SizedPairs (b .n)) (λ Q i. subst (SizedPairs (b .n)) (some-inj i) (sized-table (b .n) (holds f))) (w .rel) })
-    w w
+whole-rel : (b : Book) (t : ℕ) (f : Form) → t < relations → Whole b → Whole (withRel b t (some (meansPair (b .n) f)))
+whole-rel b t f l w = record {
+  reg = w .reg;
+  rel = put-cases (b .rel) t (some (meansPair (b .n) f)) (λ i Q. SizedPairs (b .n) Q × (i < relations)) (λ Q i. (subst (SizedPairs (b .n)) (some-inj i) (sized-table (b .n) (holds f)), l)) (w .rel);
+}
 
 -- a call keeps the book whole
 pub whole-does : (b : Book) (c : Call) → Whole b → Whole (does b c .0)
-whole-does b (relation t bs) w =
-    cond-cases (λ (d : Done). Whole (d .0)) (ltb t relations) _ _
-    (formula-cases (λ (d : Done). Whole (d .0)) b (formulaOf (b .n) Relation bs) (relationSteps b t) (λ k. w) (λ f e i p. whole-relation b t (asForm f) w)) w
+whole-does b (relation t bs) w = relation-cases (λ (d : Done). Whole (d .0)) b t bs (λ k i j. w) (λ l p. whole-rel b t (formulaIn b Relation bs) l w)
 whole-does b (set r R bs) w =
-    cond-cases (λ (d : Done). Whole (d .0)) (ltb r registers) _ _
-    (formula-cases (λ (d : Done). Whole (d .0)) b (formulaOf (b .n) Set bs) (setSteps b r R) (λ k. w)
-    (λ f e i p. whole-set b r R (asForm f) w)) w
-whole-does b (clear r) w = cond-cases (λ (d : Done). Whole (d .0)) (ltb r registers) _ _ (whole-reg b r (b .tally) none w (λ A i. let z : _≡_ {A = ℕ} 0 1 = cc in absurd (omega arith))) w
+    set-cases (λ (d : Done). Whole (d .0)) b r R bs (λ k i j. w) (λ l p q.
+    let f = formulaIn b Set bs in
+    whole-reg b r (tallied (b .tally) q) (some (means (modelOf b) noEnv f)) w (λ B i. (ap length (sym (some-inj i)) ∙ length-means (modelOf b) noEnv f, l)))
+whole-does b (clear r) w =
+    range-cases (λ (d : Done). Whole (d .0)) r registers _ _ (λ l. whole-reg b r (b .tally) none w (λ A i. absurd (none-some i))) (λ l. w)
 whole-does b collect w = w
-whole-does b (node r) w = cond-cases (λ (d : Done). Whole (d .0)) (ltb r registers) _ _ (asked-cases (λ (d : Done). Whole (d .0)) b (b .reg r) _ w (λ A. w)) w
-whole-does b (member r s) w =
-    cond-cases (λ (d : Done). Whole (d .0)) (ltb r registers) _ _
-    (cond-cases (λ (d : Done). Whole (d .0)) (ltb s (2 ^ b .n)) _ _ (asked-cases (λ (d : Done). Whole (d .0)) b (b .reg r) _ w (λ A. w)) w) w
-whole-does b (count r) w = cond-cases (λ (d : Done). Whole (d .0)) (ltb r registers) _ _ (asked-cases (λ (d : Done). Whole (d .0)) b (b .reg r) _ w (λ A. w)) w
-whole-does b tally w = w

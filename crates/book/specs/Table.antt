@@ -1,18 +1,17 @@
--- A table seen apart from its words, when it shows a book, and what one call's contract has to give. Assumes nothing.
+-- A table seen apart from its words, when it shows a book, and what a call's and a question's contract has to give. Assumes nothing.
 use mathlib.Core.Path.{_≡_}
-use mathlib.Core.Bool.{Bool, false, _&&_, cond}
-use mathlib.Core.List.{[], _∷_}
+use mathlib.Core.Bool.{Bool, true, false, _&&_, cond}
+use mathlib.Core.List.{List, [], _∷_, _++_}
 use mathlib.Core.Option.{Option, none, some}
-use Prim.Native.Nat.{ℕ, _*_, _<_}
-use lib.Dec.{T, eqb}
+use Prim.Native.Nat.{ℕ, zero, suc, _*_, _<_}
+use lib.Dec.{eqb}
 use Rattle.diagram.specs.Level.{Fn}
 use Rattle.diagram.specs.Rows.{Rows, WellFormed}
 use Rattle.diagram.specs.Post.{Denotes}
 use Rattle.diagram.specs.Reach.{Reach}
-use Rattle.diagram.specs.Step.{SameRow}
+use Rattle.diagram.specs.Keep.{Keeps}
 use Rattle.book.specs.Bridge.{fnOf, fnOfPairs}
-use Rattle.book.specs.Book.{Book, fresh, freshFits, Call, relation, set, clear, collect, node, member, count, tally, Answer, registers, relations, does}
-use Rattle.book.specs.Stored.{Whole}
+use Rattle.book.specs.Book.{Book, Call, relation, set, clear, collect, Question, node, member, count, tally, Answer, registers, relations, does, answer}
 
 -- a table: its header, its rows, and the arrow in each register and relation
 pub record Table : Type 0 where
@@ -23,7 +22,7 @@ pub record Table : Type 0 where
   pub reg : ℕ → Option ℕ
   pub rel : ℕ → Option ℕ
 
--- what a call returned: a refusal's number or 0, the rounds, and a value (of set and node the node number)
+-- what a call or a question returned: a refusal's number or 0, the rounds, and a value (of set and node the node number)
 pub record Reply : Type 0 where
   pub number : ℕ
   pub rounds : ℕ
@@ -45,16 +44,37 @@ pub record Shows (b : Book) (t : Table) : Type 0 where
   pub reg : (r : ℕ) → r < registers → Place (2 * b .n) (t .rows) (fnOf (b .n)) (b .reg r) (t .reg r)
   pub rel : (r : ℕ) → r < relations → Place (2 * b .n) (t .rows) (fnOfPairs (b .n)) (b .rel r) (t .rel r)
 
+-- the arrows in the filled places below k
+abbrev pub addRoot : Option ℕ → List ℕ → List ℕ
+addRoot none l = l
+addRoot (some a) l = a ∷ l
+
+abbrev pub arrowsOf : ℕ → (ℕ → Option ℕ) → List ℕ
+arrowsOf zero h = []
+arrowsOf (suc k) h = addRoot (h 0) (arrowsOf k (λ i. h (suc i)))
+
+-- the roots of a table: the arrows in its filled registers and relations
+abbrev pub rootsOf : Table → List ℕ
+rootsOf t = arrowsOf registers (t .reg) ++ arrowsOf relations (t .rel)
+
+-- ---- what a reply has to be
+
 -- a value is the book's where the rules settle it
-abbrev pub Settled : Option ℕ → ℕ → Type 0
-Settled none x = Unit {0}
-Settled (some y) x = x ≡ y
+abbrev pub SettledTo : Option ℕ → ℕ → Type 0
+SettledTo none x = Unit {0}
+SettledTo (some y) x = x ≡ y
 
 -- "answered where the book answers it, and elsewhere refused with the book's number", with its rounds and values
 pub record Agrees (a : Answer) (y : Reply) : Type 0 where
   pub number : y .number ≡ a .number
   pub rounds : y .rounds ≡ a .rounds
-  pub value : Settled (a .value) (y .value)
+  pub value : SettledTo (a .value) (y .value)
+
+-- "Returned: number, zeros"
+abbrev pub Refusal : ℕ → Reply → Type 0
+Refusal k y = (y .number ≡ k) × (y .rounds ≡ 0) × (y .value ≡ 0)
+
+-- ---- a call
 
 -- "A register keeps its number until it is set or cleared": register r's number after a call, from the one before it
 abbrev pub noted : Option ℕ → Call → Reply → ℕ → Option ℕ
@@ -62,10 +82,6 @@ noted x (relation t bs) y r = x
 noted x (set q R bs) y r = cond (eqb (y .number) 0 && eqb r q) (some (y .value)) x
 noted x (clear q) y r = cond (eqb (y .number) 0 && eqb r q) none x
 noted x collect y r = x
-noted x (node q) y r = x
-noted x (member q s) y r = x
-noted x (count q) y r = x
-noted x tally y r = x
 
 -- the call was an answered relation q
 abbrev pub storesRel : Call → Reply → ℕ → Bool
@@ -73,51 +89,34 @@ storesRel (relation t bs) y q = eqb (y .number) 0 && eqb q t
 storesRel (set r R bs) y q = false
 storesRel (clear r) y q = false
 storesRel collect y q = false
-storesRel (node r) y q = false
-storesRel (member r s) y q = false
-storesRel (count r) y q = false
-storesRel tally y q = false
 
--- "node answers the same"
-abbrev pub NodeSays : Table → Call → Reply → Type 0
-NodeSays t (relation q bs) y = Unit {0}
-NodeSays t (set q R bs) y = Unit {0}
-NodeSays t (clear q) y = Unit {0}
-NodeSays t collect y = Unit {0}
-NodeSays t (node q) y = y .number ≡ 0 → t .reg q ≡ some (y .value)
-NodeSays t (member q s) y = Unit {0}
-NodeSays t (count q) y = Unit {0}
-NodeSays t tally y = Unit {0}
-
--- "rows they need" are kept row by row: each row that a register or relation reaches stays used, with its level, low and high
-pub record KeptRows (before after : Table) : Type 0 where
-  pub reg : (r : ℕ) → r < registers → (a : ℕ) → before .reg r ≡ some a → (i : ℕ) → Reach (before .rows) (a ∷ []) i → SameRow (before .rows) (after .rows) i
-  pub rel : (q : ℕ) → q < relations → (a : ℕ) → before .rel q ≡ some a → (i : ℕ) → Reach (before .rows) (a ∷ []) i → SameRow (before .rows) (after .rows) i
+-- "unneeded rows (none is left used by an answered collect)": each used row is reached from a register or relation
+abbrev pub Swept : Call → Table → Type 0
+Swept (relation t bs) after = Unit {0}
+Swept (set r R bs) after = Unit {0}
+Swept (clear r) after = Unit {0}
+Swept collect after = (i : ℕ) → after .rows .used i ≡ true → Reach (after .rows) (rootsOf after) i
 
 -- what one call's contract gives on a table that shows the book
 pub record Serves (b : Book) (c : Call) (before after : Table) (y : Reply) : Type 0 where
   pub shows : Shows (does b c .0) after
   pub agrees : Agrees (does b c .1) y
   pub numbers : (r : ℕ) → r < registers → after .reg r ≡ noted (before .reg r) c y r
-  pub rels : (q : ℕ) → storesRel c y q ≡ false → after .rel q ≡ before .rel q
-  pub nodeSays : NodeSays before c y
-  pub kept : KeptRows before after
+  pub rels : (q : ℕ) → q < relations → storesRel c y q ≡ false → after .rel q ≡ before .rel q
+  -- "Kept: registers, relations, tally, rows they need", row by row
+  pub kept : Keeps (before .rows) (after .rows) (rootsOf before)
+  pub swept : Swept c after
 
--- a reply with a refusal's number and zeros
-abbrev pub Refusal : ℕ → Reply → Type 0
-Refusal k y = (y .number ≡ k) × (y .rounds ≡ 0) × (y .value ≡ 0)
+-- ---- a question
 
--- what fresh's contract gives: "fresh is answered wherever its checks find no cause", and "an answered fresh leaves a sound one"
-pub record Starts {W : Type 0} (sound : W → Type 0) (view : W → Table) (n N words : ℕ) (before after : W) (y : Reply) : Type 0 where
-  pub answers : T (freshFits n N words) → Refusal 0 y × sound after × Shows (fresh n N) (view after)
-  pub refuses : freshFits n N words ≡ false → Refusal 1 y × (after ≡ before)
+-- "node answers the same": an answered node gives the number in its register, h r
+abbrev pub NodeSays : (ℕ → Option ℕ) → Question → Reply → Type 0
+NodeSays h (node q) y = y .number ≡ 0 → h q ≡ some (y .value)
+NodeSays h (member q s) y = Unit {0}
+NodeSays h (count q) y = Unit {0}
+NodeSays h tally y = Unit {0}
 
--- an implementation over bare words W: how many there are, which are sound, how a table is seen in them, and the contracts of fresh (words
--- before, n, N, words after, reply) and of the later calls (words before, call, words after, reply)
-pub record Implements (W : Type 0) (words : W → ℕ) (sound : W → Type 0) (view : W → Table)
-    (makes : W → ℕ → ℕ → W → Reply → Type 0) (contract : W → Call → W → Reply → Type 0) : Type 0 where
-  pub starts : (w w′ : W) (n N : ℕ) (y : Reply) → makes w n N w′ y → Starts sound view n N (words w) w w′ y
-  -- "every later call on a sound table leaves a sound one"
-  pub serves : (b : Book) → Whole b → (w w′ : W) (c : Call) (y : Reply) → sound w → Shows b (view w) → contract w c w′ y → sound w′ × Serves b c (view w) (view w′) y
-  -- "table unsound: 2, all words kept"
-  pub unsound : (w w′ : W) (c : Call) (y : Reply) → (sound w → ⊥) → contract w c w′ y → Refusal 2 y × (w′ ≡ w)
+-- what one question's contract gives on a table that shows the book
+pub record Tells (b : Book) (q : Question) (h : ℕ → Option ℕ) (y : Reply) : Type 0 where
+  pub agrees : Agrees (answer b q) y
+  pub nodeSays : NodeSays h q y

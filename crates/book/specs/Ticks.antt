@@ -5,11 +5,12 @@ use mathlib.Core.List.{List, [], _∷_, _++_}
 use mathlib.Core.Option.{Option, none, some}
 use Prim.Native.Nat.{ℕ, zero, suc, _*_, _^_}
 use lib.Dec.{leb, ltb}
-use Rattle.mucalculus.specs.Sets.{table, same}
+use Rattle.mucalculus.specs.Sets.{same}
+use Rattle.mucalculus.specs.Order.{start}
 use Rattle.mucalculus.specs.Form.{Form, bot, top, neg, conj, disj, now, next, var, reg, box, dia, mu, nu, Pairs, Model, Env, put, inside}
 use Rattle.mucalculus.specs.Means.{compl, inter, union, sometimes, size, means, meansPair}
 use Rattle.diagram.specs.Level.{Fn}
-use Rattle.diagram.specs.Need.{need}
+use Rattle.diagram.specs.Need.{stepNeed}
 use Rattle.diagram.specs.Steps.{andF, shiftF, existsF}
 use Rattle.book.specs.Bridge.{fnOf, fnOfPairs}
 
@@ -30,29 +31,25 @@ abbrev pub contents : {X : Type 0} → (X → Fn) → ℕ → (ℕ → Option X)
 contents f zero h = []
 contents f (suc k) h = addFilled f (h 0) (contents f k (λ i. h (suc i)))
 
--- "A step's need is the rows needed by its result and all that is live at it", its operands included
-abbrev pub stepNeed : ℕ → List Fn → Fn → ℕ
-stepNeed n live result = need (2 * n) (result ∷ live)
-
 -- EXISTS at levels 2j − 1, 2j − 3, down to 1
 abbrev pub existsNeeds : ℕ → List Fn → ℕ → Fn → List ℕ
 existsNeeds n live zero F = []
-existsNeeds n live (suc j) F = let E = existsF (suc (2 * j)) F in stepNeed n (F ∷ live) E ∷ existsNeeds n live j E
+existsNeeds n live (suc j) F = let E = existsF (suc (2 * j)) F in stepNeed (2 * n) (F ∷ live) E ∷ existsNeeds n live j E
 
 -- NOT of the value A
 abbrev pub notNeed : ℕ → List Fn → List Bool → ℕ
-notNeed n live A = stepNeed n (fnOf n A ∷ live) (fnOf n (compl (2 ^ n) A))
+notNeed n live A = stepNeed (2 * n) (fnOf n A ∷ live) (fnOf n (compl (2 ^ n) A))
 
 -- AND or OR of the values A and B
 abbrev pub twoNeed : ℕ → List Fn → (List Bool → List Bool → List Bool) → List Bool → List Bool → ℕ
-twoNeed n live op A B = stepNeed n (fnOf n B ∷ fnOf n A ∷ live) (fnOf n (op A B))
+twoNeed n live op A B = stepNeed (2 * n) (fnOf n B ∷ fnOf n A ∷ live) (fnOf n (op A B))
 
 -- "Diamond of f: SHIFT f, AND with the relation, EXISTS at levels 2n − 1, 2n − 3, down to 1"
 abbrev pub diaNeeds : ℕ → List Fn → Pairs → List Bool → List ℕ
 diaNeeds n live R A =
     let S = shiftF (fnOf n A) in
     let C = andF S (fnOfPairs n R) in
-    stepNeed n (fnOf n A ∷ live) S ∷ stepNeed n (S ∷ fnOfPairs n R ∷ live) C ∷ existsNeeds n live n C
+    stepNeed (2 * n) (fnOf n A ∷ live) S ∷ stepNeed (2 * n) (S ∷ fnOfPairs n R ∷ live) C ∷ existsNeeds n live n C
 
 -- "Box: NOT f, diamond, NOT"
 abbrev pub boxNeeds : ℕ → List Fn → Pairs → List Bool → List ℕ
@@ -67,13 +64,6 @@ abbrev pub steps : List ℕ → List Tick
 steps [] = []
 steps (k ∷ ks) = step k ∷ steps ks
 
--- "Mu starts from the empty set, nu from all states"
-abbrev pub noStates : ℕ → List Bool
-noStates k = table k (λ s. false)
-
-abbrev pub allStates : ℕ → List Bool
-allStates k = table k (λ s. true)
-
 -- the rounds of a binder from the set A on: the body's ticks at A are h A and its value is F A. "If the value is the same set the binder ends
 -- with it, otherwise it becomes the current set"; j bounds the rounds
 abbrev pub roundTicks : (List Bool → List Tick) → (List Bool → List Bool) → ℕ → List Bool → List Tick
@@ -81,7 +71,8 @@ roundTicks h F zero A = []
 roundTicks h F (suc j) A = let B = F A in let more = roundTicks h F j B in round ∷ (h A ++ cond (same B A) [] more)
 
 -- the ticks of f: "Left before right, parts before operator". `live` are the functions live throughout: filled registers and relations,
--- current sets of open binders, values made and not yet used. A binder has ended after 2^n + 1 rounds
+-- current sets of open binders, values made and not yet used. "Mu starts from the empty set, nu from all states"; a binder has ended after
+-- 2^n + 1 rounds
 abbrev pub ticks : Model → Env → List Fn → Form → List Tick
 ticks m e live bot = []
 ticks m e live top = []
@@ -92,14 +83,14 @@ ticks m e live (conj f g) =
 ticks m e live (disj f g) =
     let A = means m e f in
     ticks m e live f ++ (ticks m e (fnOf (m .n) A ∷ live) g ++ steps (twoNeed (m .n) live (union (size m)) A (means m e g) ∷ []))
-ticks m e live (now p) = steps (stepNeed (m .n) live (fnOf (m .n) (means m e (now p))) ∷ [])
+ticks m e live (now p) = steps (stepNeed (2 * m .n) live (fnOf (m .n) (means m e (now p))) ∷ [])
 ticks m e live (next p) = []
 ticks m e live (var P) = []
 ticks m e live (reg x) = []
 ticks m e live (box t f) = ticks m e live f ++ steps (boxNeeds (m .n) live (inside (m .rel t)) (means m e f))
 ticks m e live (dia t f) = ticks m e live f ++ steps (diaNeeds (m .n) live (inside (m .rel t)) (means m e f))
-ticks m e live (mu P f) = roundTicks (λ A. ticks m (put e P A) (fnOf (m .n) A ∷ live) f) (λ A. means m (put e P A) f) (suc (size m)) (noStates (size m))
-ticks m e live (nu P f) = roundTicks (λ A. ticks m (put e P A) (fnOf (m .n) A ∷ live) f) (λ A. means m (put e P A) f) (suc (size m)) (allStates (size m))
+ticks m e live (mu P f) = roundTicks (λ A. ticks m (put e P A) (fnOf (m .n) A ∷ live) f) (λ A. means m (put e P A) f) (suc (size m)) (start true (size m))
+ticks m e live (nu P f) = roundTicks (λ A. ticks m (put e P A) (fnOf (m .n) A ∷ live) f) (λ A. means m (put e P A) f) (suc (size m)) (start false (size m))
 
 -- ---- ticks of a relation's formula
 
@@ -111,13 +102,13 @@ pairF n f = fnOfPairs n (meansPair n f)
 abbrev pub pairTicks : ℕ → List Fn → Form → List Tick
 pairTicks n live bot = []
 pairTicks n live top = []
-pairTicks n live (neg f) = pairTicks n live f ++ steps (stepNeed n (pairF n f ∷ live) (pairF n (neg f)) ∷ [])
+pairTicks n live (neg f) = pairTicks n live f ++ steps (stepNeed (2 * n) (pairF n f ∷ live) (pairF n (neg f)) ∷ [])
 pairTicks n live (conj f g) =
-    pairTicks n live f ++ (pairTicks n (pairF n f ∷ live) g ++ steps (stepNeed n (pairF n g ∷ pairF n f ∷ live) (pairF n (conj f g)) ∷ []))
+    pairTicks n live f ++ (pairTicks n (pairF n f ∷ live) g ++ steps (stepNeed (2 * n) (pairF n g ∷ pairF n f ∷ live) (pairF n (conj f g)) ∷ []))
 pairTicks n live (disj f g) =
-    pairTicks n live f ++ (pairTicks n (pairF n f ∷ live) g ++ steps (stepNeed n (pairF n g ∷ pairF n f ∷ live) (pairF n (disj f g)) ∷ []))
-pairTicks n live (now p) = steps (stepNeed n live (pairF n (now p)) ∷ [])
-pairTicks n live (next p) = steps (stepNeed n live (pairF n (next p)) ∷ [])
+    pairTicks n live f ++ (pairTicks n (pairF n f ∷ live) g ++ steps (stepNeed (2 * n) (pairF n g ∷ pairF n f ∷ live) (pairF n (disj f g)) ∷ []))
+pairTicks n live (now p) = steps (stepNeed (2 * n) live (pairF n (now p)) ∷ [])
+pairTicks n live (next p) = steps (stepNeed (2 * n) live (pairF n (next p)) ∷ [])
 pairTicks n live (var P) = []
 pairTicks n live (reg x) = []
 pairTicks n live (box t f) = []

@@ -2,23 +2,24 @@
 use mathlib.Core.Path.{_≡_, refl, sym, ap, _∙_, subst}
 use mathlib.Core.Logic.{_≢_}
 use mathlib.Core.Bool.{Bool, true, false, cond}
-use mathlib.Core.List.{List, _∷_, List·Memᴰ as Mem, List·Memᴰ·head as here, List·Memᴰ·tail as there}
+use mathlib.Core.List.{List, _∷_, List·Memᴰ·head as here, List·Memᴰ·tail as there}
 use Prim.Native.Nat.{ℕ, zero, suc, _+_, _*_, _^_, _≤_, _<_}
 use native.Mathlib.Omega.{arith}
 use lib.Dec.{T, leb, ltb, lt→ltb, ltb→lt}
 use Rattle.mucalculus.specs.Sets.{table, length-table, same, same-refl, same-eq, true-of, false-of}
-use Rattle.mucalculus.specs.Order.{start}
+use Rattle.mucalculus.specs.Order.{start, length-start}
 use Rattle.mucalculus.specs.Form.{Form, bot, top, neg, conj, disj, now, next, var, reg, box, dia, mu, nu, Pairs, Model, Env, put, inside}
 use Rattle.mucalculus.specs.Means.{compl, inter, union, sometimes, bit, size}
 use Rattle.diagram.specs.Level.{Fn}
+use Rattle.diagram.specs.Need.{stepNeed}
 use Rattle.diagram.specs.Rows.{Rows, den, WellFormed}
 use Rattle.diagram.specs.Canon.{canonical}
 use Rattle.diagram.specs.Post.{Denotes}
-use Rattle.diagram.specs.Step.{Keeps, row-refl}
+use Rattle.diagram.specs.Keep.{Keeps, keeps-refl, keeps-on, keeps-denotes}
 use Rattle.diagram.specs.Steps.{existsF}
 use Rattle.book.specs.Bridge.{fnOf, Sized, fnOf-inj}
-use Rattle.book.specs.Run.{Outcome, value, full, spent, andThen, stepNeed, step, existsSteps, notStep, diaSteps, loop, run}
-use Rattle.book.specs.Held.{Held, keeps-denotes, keeps-trans, held-arrow}
+use Rattle.book.specs.Run.{Outcome, value, full, spent, andThen, step, existsSteps, notStep, diaSteps, loop, run}
+use Rattle.book.specs.Held.{Held, held-arrow}
 use Rattle.book.specs.Follow.{Ended, ends, nine, Matches, Evals, Stops, evals-same, evals-stop, evals-from, denotes-none, denotes-all}
 
 -- ---- every value of a run has a place for each state, and no round is uncounted
@@ -39,7 +40,7 @@ cond-good n r true o u h i = h
 cond-good n r false o u h i = i
 
 step-good : (n r N : ℕ) (live : List Fn) (F : Fn) (go : Outcome) → Good n r go → Good n r (step n N live F go)
-step-good n r N live F go h = cond-good n r (leb (stepNeed n live F) N) go full h tt
+step-good n r N live F go h = cond-good n r (leb (stepNeed (2 * n) live F) N) go full h tt
 
 -- a set made by a test, as the value of a step
 made-good : (n r : ℕ) (h : ℕ → Bool) → Good n r (value (table (2 ^ n) h) r)
@@ -116,7 +117,7 @@ pub record Turning (n N R : ℕ) (before rows : Rows) (roots : List ℕ) (G : Li
   pub enough : R ≤ r + fuel
   pub sized : Sized n A
   pub wf : WellFormed (2 * n) N rows
-  pub kept : (b : ℕ) → Mem b roots → Keeps (2 * n) before rows b
+  pub kept : Keeps before rows roots
   pub denotes : Denotes (2 * n) rows a (fnOf n A)
   pub rest : o ≡ loop R G fuel A r
 
@@ -145,9 +146,9 @@ module _ (n N R : ℕ) {before : Rows} {roots : List ℕ} (G : List Bool → ℕ
     A = start b (2 ^ n);
     fuel = R;
     enough = omega arith;
-    sized = length-table (2 ^ n) _;
+    sized = length-start b (2 ^ n);
     wf = wf;
-    kept = λ c i. record { arrow = held-arrow h c i; same = λ v. refl; rows = λ j r. row-refl _ j };
+    kept = keeps-refl wf (held-arrow h);
     denotes = starts b;
     rest = refl;
   }
@@ -177,9 +178,9 @@ module _ (n N R : ℕ) {before : Rows} {roots : List ℕ} (G : List Bool → ℕ
           go : (k : ℕ) (u : Outcome) → Good n (suc r) u → Matches n after u (ends b q)
               → Evals n N before after roots (andThen u (λ B q. cond (same B (t .A)) (value B q) (loop R G k B q))) (ends b q)
           go k (value B p) g m =
-              let s = arrow-same n N (d .wf) (t .A) B (keeps-denotes (d .kept a (here refl)) (t .denotes)) (m .0) (t .sized) (g .0) e in
+              let s = arrow-same n N (d .wf) (t .A) B (keeps-denotes (d .kept) (here refl) (t .denotes)) (m .0) (t .sized) (g .0) e in
               evals-same (sym (ap (λ (x : Bool). cond x (value B p) (loop R G k B p)) (true-of (same B (t .A)) s)))
-              (record { wf = d .wf; kept = λ c i. keeps-trans (t .kept c i) (d .kept c (there i)); result = m })
+              (record { wf = d .wf; kept = keeps-on (t .kept) (d .kept); result = m })
           go k full g m = absurd m
           go k spent g m = absurd m
 
@@ -192,14 +193,14 @@ module _ (n N R : ℕ) {before : Rows} {roots : List ℕ} (G : List Bool → ℕ
           go : (k : ℕ) → t .fuel ≡ suc k → (u : Outcome) → o ≡ andThen u (λ B q. cond (same B (t .A)) (value B q) (loop R G k B q)) → Good n (suc r) u → Matches n after u (ends b q)
               → Turning n N R before after roots G o b q
           go k i (value B p) f g m =
-              let s = arrow-apart n N (d .wf) (t .A) B (keeps-denotes (d .kept a (here refl)) (t .denotes)) (m .0) ne in
+              let s = arrow-apart n N (d .wf) (t .A) B (keeps-denotes (d .kept) (here refl) (t .denotes)) (m .0) ne in
               record {
                 A = B;
                 fuel = k;
                 enough = omega (arith, t .enough, i, g .1, m .1);
                 sized = g .0;
                 wf = d .wf;
-                kept = λ c j. keeps-trans (t .kept c j) (d .kept c (there j));
+                kept = keeps-on (t .kept) (d .kept);
                 denotes = m .0;
                 rest = f ∙ ap (λ (x : Bool). cond x (value B p) (loop R G k B p)) s ∙ ap (loop R G k B) (sym (m .1));
               }

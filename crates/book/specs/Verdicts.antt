@@ -1,26 +1,38 @@
--- The verdict on the ticks is what the computing runs answer: `run` for sets, `pairsFit` for relations; and 8 exactly where a need within the
--- rounds is above N. Assumes nothing.
-use mathlib.Core.Path.{_≡_, refl, sym, ap, _∙_, subst}
+-- The verdict on the ticks is what the computing runs answer: `run` for sets, `pairsFit` for relations. Its count is the formula's rounds; 8
+-- and 9 come exactly by their causes. Assumes nothing.
+use mathlib.Core.Path.{_≡_, refl, sym, ap, ap₂, _∙_, subst}
 use mathlib.Core.Logic.{_↔_}
-use mathlib.Core.Bool.{Bool, true, false, not, _&&_, cond}
+use mathlib.Core.Bool.{Bool, true, false, _&&_, cond}
 use mathlib.Core.List.{List, [], _∷_, _++_}
-use Prim.Native.Nat.{ℕ, zero, suc, _+_, _≤_}
+use Prim.Native.Nat.{ℕ, zero, suc, _+_, _*_, _^_, _≤_, _<_}
 use native.Mathlib.Omega.{arith}
-use native.Mathlib.Nat.{add-zero}
-use lib.Dec.{T, leb, ltb, ltb→lt}
+use native.Mathlib.Nat.{add-zero, lt-of-not-le}
+use lib.Dec.{T, leb, ltb, ltb→lt, lt→ltb}
 use lib.ListN.{length}
-use Rattle.mucalculus.specs.Sets.{same, same-eq, same-refl, and-out, false-of}
+use Rattle.mucalculus.specs.Sets.{same, same-eq, same-refl, and-out, false-of, all}
 use Rattle.mucalculus.specs.Order.{start}
 use Rattle.mucalculus.specs.Fixpoint.{fix, iter, Mono, iter-found, stable}
-use Rattle.mucalculus.specs.Form.{Form, bot, top, neg, conj, disj, now, next, var, reg, box, dia, mu, nu, Model, Env, put, inside, even}
-use Rattle.mucalculus.specs.Means.{inter, union, size, means}
+use Rattle.mucalculus.specs.Form.{Form, bot, top, neg, conj, disj, now, next, var, reg, box, dia, mu, nu, Pairs, Model, Env, put, inside, reads, steady}
+use Rattle.mucalculus.specs.Means.{compl, inter, union, always, sometimes, size, means}
+use Rattle.mucalculus.specs.Laws.{box-dual}
 use Rattle.mucalculus.specs.Binder.{body, body-length, body-mono}
-use Rattle.mucalculus.specs.Eval.{value as valued}
+use Rattle.mucalculus.specs.Rounds.{runs, rounds}
 use Rattle.diagram.specs.Level.{Fn}
-use Rattle.book.specs.Bridge.{fnOf}
-use Rattle.book.specs.Ticks.{Tick, step, round, steps, stepNeed, roundTicks, ticks, pairF, pairTicks, notNeed, twoNeed, diaNeeds, boxNeeds, Verdict, counted, full, spent, verdict, reached}
-use Rattle.book.specs.Run.{Outcome, value, full as fullRun, spent as spentRun, andThen, notStep, twoStep, diaSteps, boxSteps, loop, run, pairsFit}
-use Rattle.book.specs.Exact.{fit, judge, judge-step, not-judge, two-judge, dia-judge, box-judge}
+use Rattle.diagram.specs.Need.{stepNeed}
+use Rattle.diagram.specs.Steps.{andF, shiftF, existsF}
+use Rattle.book.specs.Bridge.{fnOf, fnOfPairs}
+use Rattle.book.specs.Ticks.{Tick, step, round, steps, roundTicks, ticks, pairF, pairTicks, existsNeeds, notNeed, twoNeed, diaNeeds, boxNeeds, Verdict, counted, full, spent, verdict, reached}
+use Rattle.book.specs.Run.{Outcome, value, full as fullRun, spent as spentRun, andThen, existsSteps, notStep, twoStep, diaSteps, boxSteps, loop, run, pairsFit}
+
+-- every need is at most N
+abbrev pub fit : ℕ → List ℕ → Bool
+fit N ks = all (λ k. leb k N) ks
+
+-- how many rounds a list of ticks has
+abbrev pub roundsIn : List Tick → ℕ
+roundsIn [] = zero
+roundsIn (step k ∷ l) = roundsIn l
+roundsIn (round ∷ l) = suc (roundsIn l)
 
 -- the verdict with the set A as a run's outcome
 abbrev pub settle : List Bool → Verdict → Outcome
@@ -29,10 +41,14 @@ settle A full = fullRun
 settle A spent = spentRun
 
 -- go on with the count
-abbrev pub verdictThen : Verdict → (ℕ → Verdict) → Verdict
+abbrev verdictThen : Verdict → (ℕ → Verdict) → Verdict
 verdictThen (counted q) h = h q
 verdictThen full h = full
 verdictThen spent h = spent
+
+steps-append : (xs ys : List ℕ) → steps (xs ++ ys) ≡ steps xs ++ steps ys
+steps-append [] ys = refl
+steps-append (x ∷ xs) ys = ap (λ (l : List Tick). step x ∷ l) (steps-append xs ys)
 
 module _ (N R : ℕ) where
   -- one list after the other
@@ -74,10 +90,11 @@ module _ (N R : ℕ) where
       go true e = e
       go false e = refl
 
-  judge-settle : (A : List Bool) (r : ℕ) (ks : List ℕ) → judge N ks (valued A r) ≡ settle A (verdict N R r (steps ks))
-  judge-settle A r ks = go (fit N ks) ∙ ap (settle A) (sym (steps-verdict r ks))
+  -- one step more in front
+  settle-step : (C : List Bool) (r k : ℕ) (l : List Tick) → settle C (verdict N R r (step k ∷ l)) ≡ cond (leb k N) (settle C (verdict N R r l)) fullRun
+  settle-step C r k l = go (leb k N)
     where
-      go : (t : Bool) → cond t (value A r) fullRun ≡ settle A (cond t (counted r) full)
+      go : (t : Bool) → settle C (cond t (verdict N R r l) full) ≡ cond t (settle C (verdict N R r l)) fullRun
       go true = refl
       go false = refl
 
@@ -90,6 +107,40 @@ module _ (N R : ℕ) where
       go (counted q) e = h q (verdict-grows r xs q e)
       go full e = refl
       go spent e = refl
+
+  -- ---- the steps
+
+  -- a last step
+  last-step : (C : List Bool) (q k : ℕ) → cond (leb k N) (value C q) fullRun ≡ settle C (verdict N R q (steps (k ∷ [])))
+  last-step C q k = sym (settle-step C q k [])
+
+  exists-ticks : (n : ℕ) (live : List Fn) (C : List Bool) (q j : ℕ) (F : Fn) → existsSteps n N live j F (value C q) ≡ settle C (verdict N R q (steps (existsNeeds n live j F)))
+  exists-ticks n live C q zero F = refl
+  exists-ticks n live C q (suc j) F =
+      let E = existsF (suc (2 * j)) F in
+      let k = stepNeed (2 * n) (F ∷ live) E in
+      ap (λ (o : Outcome). cond (leb k N) o fullRun) (exists-ticks n live C q j E) ∙ sym (settle-step C q k (steps (existsNeeds n live j E)))
+
+  dia-ticks : (n : ℕ) (live : List Fn) (Q : Pairs) (A : List Bool) (q : ℕ) → diaSteps n N live Q A q ≡ settle (sometimes (2 ^ n) Q A) (verdict N R q (steps (diaNeeds n live Q A)))
+  dia-ticks n live Q A q =
+      let S = shiftF (fnOf n A) in
+      let C = andF S (fnOfPairs n Q) in
+      let B = sometimes (2 ^ n) Q A in
+      let k = stepNeed (2 * n) (fnOf n A ∷ live) S in
+      let l = stepNeed (2 * n) (S ∷ fnOfPairs n Q ∷ live) C in
+      ap (λ (o : Outcome). cond (leb k N) o fullRun)
+      (ap (λ (o : Outcome). cond (leb l N) o fullRun) (exists-ticks n live B q n C) ∙ sym (settle-step B q l (steps (existsNeeds n live n C))))
+      ∙ sym (settle-step B q k (step l ∷ steps (existsNeeds n live n C)))
+
+  box-ticks : (n : ℕ) (live : List Fn) (Q : Pairs) (A : List Bool) (q : ℕ) → boxSteps n N live Q A q ≡ settle (always (2 ^ n) Q A) (verdict N R q (steps (boxNeeds n live Q A)))
+  box-ticks n live Q A q =
+      let B = compl (2 ^ n) A in
+      let C = sometimes (2 ^ n) Q B in
+      let D = compl (2 ^ n) C in
+      let last = notNeed n live C ∷ [] in
+      settle-then (notStep n N live A q) B D q (steps (notNeed n live A ∷ [])) (steps (diaNeeds n live Q B) ++ steps last) _ (last-step B q (notNeed n live A))
+      (λ p h. settle-then (diaSteps n N live Q B p) C D p (steps (diaNeeds n live Q B)) (steps last) (λ X o. notStep n N live X o) (dia-ticks n live Q B p) (λ o i. last-step D o (notNeed n live C)))
+      ∙ ap₂ (λ (X : List Bool) (l : List Tick). settle X (verdict N R q (step (notNeed n live A) ∷ l))) (sym (box-dual (2 ^ n) Q A)) (sym (steps-append (diaNeeds n live Q B) last))
 
   -- a binder's rounds, given those of its body
   module _ (k : ℕ) (b : Bool) (F : List Bool → List Bool) (h : List Bool → List Tick) (g : List Bool → ℕ → Outcome)
@@ -146,36 +197,38 @@ module _ (N R : ℕ) where
         settle-then (run m N R e live f r) A (op A B) r (ticks m e live f) (ticks m e l g ++ steps last) _ i
         (λ q h.
         settle-then (run m N R e l g q) B (op A B) q (ticks m e l g) (steps last) (λ X p. twoStep (m .n) N live op A X p) (j l q)
-        (λ p o. two-judge N (m .n) live op A B p ∙ judge-settle (op A B) p last))
+        (λ p o. last-step (op A B) p (twoNeed (m .n) live op A B)))
 
     -- THE VERDICT IS THE RUN'S ANSWER: the value is the meaning, and its rounds, 8 and 9 are the verdict's
-    pub run-ticks : (v : ℕ → Bool) (e : Env) (live : List Fn) (f : Form) (r : ℕ) → T (even v f) → run m N R e live f r ≡ settle (means m e f) (verdict N R r (ticks m e live f))
-    run-ticks v e live bot r t = refl
-    run-ticks v e live top r t = refl
-    run-ticks v e live (neg f) r t =
-        settle-then (run m N R e live f r) (means m e f) (means m e (neg f)) r (ticks m e live f) _ (λ A q. notStep (m .n) N live A q) (run-ticks (λ P. not (v P)) e live f r t)
-        (λ q l. not-judge N (m .n) live (means m e f) q ∙ judge-settle (means m e (neg f)) q (notNeed (m .n) live (means m e f) ∷ []))
-    run-ticks v e live (conj f g) r t =
-        let w = and-out (even v f) (even v g) t in two-ticks e live f g r (inter (size m)) (run-ticks v e live f r (w .0)) (λ l q. run-ticks v e l g q (w .1))
-    run-ticks v e live (disj f g) r t =
-        let w = and-out (even v f) (even v g) t in two-ticks e live f g r (union (size m)) (run-ticks v e live f r (w .0)) (λ l q. run-ticks v e l g q (w .1))
-    run-ticks v e live (now p) r t =
-        judge-step N (m .n) live (fnOf (m .n) (means m e (now p))) [] (valued (means m e (now p)) r) _ refl ∙ judge-settle (means m e (now p)) r (stepNeed (m .n) live (fnOf (m .n) (means m e (now p))) ∷ [])
-    run-ticks v e live (next p) r t = refl
-    run-ticks v e live (var P) r t = refl
-    run-ticks v e live (reg x) r t = refl
-    run-ticks v e live (box x f) r t =
-        settle-then (run m N R e live f r) (means m e f) (means m e (box x f)) r (ticks m e live f) _ (λ A q. boxSteps (m .n) N live (inside (m .rel x)) A q) (run-ticks v e live f r t)
-        (λ q l. box-judge N (m .n) live (inside (m .rel x)) (means m e f) q ∙ judge-settle (means m e (box x f)) q (boxNeeds (m .n) live (inside (m .rel x)) (means m e f)))
-    run-ticks v e live (dia x f) r t =
-        settle-then (run m N R e live f r) (means m e f) (means m e (dia x f)) r (ticks m e live f) _ (λ A q. diaSteps (m .n) N live (inside (m .rel x)) A q) (run-ticks v e live f r t)
-        (λ q l. dia-judge N (m .n) live (inside (m .rel x)) (means m e f) q ∙ judge-settle (means m e (dia x f)) q (diaNeeds (m .n) live (inside (m .rel x)) (means m e f)))
-    run-ticks v e live (mu P f) r t =
+    pub run-ticks : (e : Env) (live : List Fn) (f : Form) (r : ℕ) → T (steady f) → run m N R e live f r ≡ settle (means m e f) (verdict N R r (ticks m e live f))
+    unfolding steady
+    run-ticks e live bot r t = refl
+    run-ticks e live top r t = refl
+    run-ticks e live (neg f) r t =
+        settle-then (run m N R e live f r) (means m e f) (means m e (neg f)) r (ticks m e live f) _ (λ A q. notStep (m .n) N live A q) (run-ticks e live f r t)
+        (λ q l. last-step (means m e (neg f)) q (notNeed (m .n) live (means m e f)))
+    run-ticks e live (conj f g) r t =
+        let w = and-out (steady f) (steady g) t in two-ticks e live f g r (inter (size m)) (run-ticks e live f r (w .0)) (λ l q. run-ticks e l g q (w .1))
+    run-ticks e live (disj f g) r t =
+        let w = and-out (steady f) (steady g) t in two-ticks e live f g r (union (size m)) (run-ticks e live f r (w .0)) (λ l q. run-ticks e l g q (w .1))
+    run-ticks e live (now p) r t = last-step (means m e (now p)) r (stepNeed (2 * m .n) live (fnOf (m .n) (means m e (now p))))
+    run-ticks e live (next p) r t = refl
+    run-ticks e live (var P) r t = refl
+    run-ticks e live (reg x) r t = refl
+    run-ticks e live (box x f) r t =
+        settle-then (run m N R e live f r) (means m e f) (means m e (box x f)) r (ticks m e live f) _ (λ A q. boxSteps (m .n) N live (inside (m .rel x)) A q) (run-ticks e live f r t)
+        (λ q l. box-ticks (m .n) live (inside (m .rel x)) (means m e f) q)
+    run-ticks e live (dia x f) r t =
+        settle-then (run m N R e live f r) (means m e f) (means m e (dia x f)) r (ticks m e live f) _ (λ A q. diaSteps (m .n) N live (inside (m .rel x)) A q) (run-ticks e live f r t)
+        (λ q l. dia-ticks (m .n) live (inside (m .rel x)) (means m e f) q)
+    run-ticks e live (mu P f) r t =
+        let w = and-out (reads true P f) (steady f) t in
         loop-ticks (size m) true (body m e P f) (λ A. ticks m (put e P A) (fnOf (m .n) A ∷ live) f) (λ A q. run m N R (put e P A) (fnOf (m .n) A ∷ live) f q)
-        (body-length m e P f) (body-mono m v e P f t true) (λ A q. run-ticks (put v P true) (put e P A) (fnOf (m .n) A ∷ live) f q t) R (size m) zero r (omega arith) (omega arith)
-    run-ticks v e live (nu P f) r t =
+        (body-length m e P f) (body-mono m e P f (w .1) (w .0) true) (λ A q. run-ticks (put e P A) (fnOf (m .n) A ∷ live) f q (w .1)) R (size m) zero r (omega arith) (omega arith)
+    run-ticks e live (nu P f) r t =
+        let w = and-out (reads true P f) (steady f) t in
         loop-ticks (size m) false (body m e P f) (λ A. ticks m (put e P A) (fnOf (m .n) A ∷ live) f) (λ A q. run m N R (put e P A) (fnOf (m .n) A ∷ live) f q)
-        (body-length m e P f) (body-mono m v e P f t false) (λ A q. run-ticks (put v P true) (put e P A) (fnOf (m .n) A ∷ live) f q t) R (size m) zero r (omega arith) (omega arith)
+        (body-length m e P f) (body-mono m e P f (w .1) (w .0) false) (λ A q. run-ticks (put e P A) (fnOf (m .n) A ∷ live) f q (w .1)) R (size m) zero r (omega arith) (omega arith)
 
   -- ---- relations
 
@@ -225,3 +278,91 @@ module _ (N R : ℕ) where
       go : (t : Bool) → (verdict N R (suc r) l ≡ full) ↔ (fit N (reached R (suc r) l) ≡ false) → (cond t (verdict N R (suc r) l) spent ≡ full) ↔ (fit N (cond t (reached R (suc r) l) []) ≡ false)
       go true h = h
       go false h = ((λ e. let z : _≡_ {A = ℕ} 0 1 = cc in absurd (omega arith)), (λ e. let z : _≡_ {A = ℕ} 0 1 = cc in absurd (omega arith)))
+
+  -- ---- the count, and 9 exactly
+
+  -- what is counted is the rounds of the list, and they are within R
+  pub verdict-counted : (r : ℕ) (l : List Tick) (q : ℕ) → r ≤ R → verdict N R r l ≡ counted q → (q ≡ r + roundsIn l) × (q ≤ R)
+  verdict-counted r [] q h e = let i : r ≡ q = cc in (omega arith, omega arith)
+  verdict-counted r (step k ∷ l) q h e = go (leb k N) (verdict-counted r l q h) e
+    where
+      go : (t : Bool) → (verdict N R r l ≡ counted q → (q ≡ r + roundsIn l) × (q ≤ R)) → cond t (verdict N R r l) full ≡ counted q → (q ≡ r + roundsIn l) × (q ≤ R)
+      go true below i = below i
+      go false below i = let z : _≡_ {A = ℕ} 0 1 = cc in absurd (omega arith)
+  verdict-counted r (round ∷ l) q h e = go (ltb r R) refl (verdict-counted (suc r) l q) e
+    where
+      go : (t : Bool) → ltb r R ≡ t → (suc r ≤ R → verdict N R (suc r) l ≡ counted q → (q ≡ suc r + roundsIn l) × (q ≤ R)) → cond t (verdict N R (suc r) l) spent ≡ counted q
+          → (q ≡ r + suc (roundsIn l)) × (q ≤ R)
+      go true u below i = let w = below (ltb→lt r R (subst T (sym u) tt)) i in (omega (arith, w .0), w .1)
+      go false u below i = let z : _≡_ {A = ℕ} 0 1 = cc in absurd (omega arith)
+
+  -- 9 exactly where every need within the rounds is at most N and the list has more rounds than R
+  pub verdict-spent : (r : ℕ) (l : List Tick) → r ≤ R → (verdict N R r l ≡ spent) ↔ (T (fit N (reached R r l)) × (R < r + roundsIn l))
+  verdict-spent r [] h = ((λ e. let z : _≡_ {A = ℕ} 0 1 = cc in absurd (omega arith)), (λ w. absurd (omega (arith, w .1))))
+  verdict-spent r (step k ∷ l) h = go (leb k N) (verdict-spent r l h)
+    where
+      go : (t : Bool) → (verdict N R r l ≡ spent) ↔ (T (fit N (reached R r l)) × (R < r + roundsIn l))
+          → (cond t (verdict N R r l) full ≡ spent) ↔ (T (t && fit N (reached R r l)) × (R < r + roundsIn l))
+      go true below = below
+      go false below = ((λ e. let z : _≡_ {A = ℕ} 0 1 = cc in absurd (omega arith)), (λ w. absurd (w .0)))
+  verdict-spent r (round ∷ l) h = go (ltb r R) refl (verdict-spent (suc r) l)
+    where
+      go : (t : Bool) → ltb r R ≡ t → (suc r ≤ R → (verdict N R (suc r) l ≡ spent) ↔ (T (fit N (reached R (suc r) l)) × (R < suc r + roundsIn l)))
+          → (cond t (verdict N R (suc r) l) spent ≡ spent) ↔ (T (fit N (cond t (reached R (suc r) l) [])) × (R < r + suc (roundsIn l)))
+      go true u below =
+          let w = below (ltb→lt r R (subst T (sym u) tt)) in
+          ((λ e. (w .0 e .0, omega (arith, w .0 e .1))), (λ x. w .1 (x .0, omega (arith, x .1))))
+      go false u below = ((λ e. (tt, let n : R ≤ r = ge u in omega arith)), (λ x. refl))
+        where
+          ge : ltb r R ≡ false → R ≤ r
+          ge i = let l : R < suc r = lt-of-not-le (λ l. subst T i (lt→ltb r R l)) in omega arith
+
+-- ---- the rounds of a formula's ticks are the formula's rounds
+
+rounds-append : (xs ys : List Tick) → roundsIn (xs ++ ys) ≡ roundsIn xs + roundsIn ys
+rounds-append [] ys = omega arith
+rounds-append (step k ∷ xs) ys = rounds-append xs ys
+rounds-append (round ∷ xs) ys = omega (arith, rounds-append xs ys)
+
+rounds-steps : (ks : List ℕ) → roundsIn (steps ks) ≡ zero
+rounds-steps [] = refl
+rounds-steps (k ∷ ks) = rounds-steps ks
+
+-- a part, and the steps after it
+rounds-then : (xs : List Tick) (ks : List ℕ) (q : ℕ) → roundsIn xs ≡ q → roundsIn (xs ++ steps ks) ≡ q
+rounds-then xs ks q e = omega (arith, rounds-append xs (steps ks), rounds-steps ks)
+
+rounds-two : (xs ys : List Tick) (ks : List ℕ) (p q : ℕ) → roundsIn xs ≡ p → roundsIn ys ≡ q → roundsIn (xs ++ (ys ++ steps ks)) ≡ p + q
+rounds-two xs ys ks p q d e = omega (arith, rounds-append xs (ys ++ steps ks), rounds-then ys ks q e)
+
+rounds-loop : (h : List Bool → List Tick) (F : List Bool → List Bool) (c : List Bool → ℕ) → ((A : List Bool) → roundsIn (h A) ≡ c A) → (j : ℕ) (A : List Bool) → roundsIn (roundTicks h F j A) ≡ runs F c j A
+rounds-loop h F c e zero A = refl
+rounds-loop h F c e (suc j) A = omega (arith, rounds-append (h A) (cond (same (F A) A) [] (roundTicks h F j (F A))), e A, go (same (F A) A) (rounds-loop h F c e j (F A)))
+  where
+    go : (t : Bool) → roundsIn (roundTicks h F j (F A)) ≡ runs F c j (F A) → roundsIn (cond t [] (roundTicks h F j (F A))) ≡ cond t zero (runs F c j (F A))
+    go true i = refl
+    go false i = i
+
+-- "Every evaluated body, inner ones included, is one round"
+pub ticks-rounds : (m : Model) (e : Env) (live : List Fn) (f : Form) → roundsIn (ticks m e live f) ≡ rounds m e f
+ticks-rounds m e live bot = refl
+ticks-rounds m e live top = refl
+ticks-rounds m e live (neg f) = rounds-then (ticks m e live f) (notNeed (m .n) live (means m e f) ∷ []) (rounds m e f) (ticks-rounds m e live f)
+ticks-rounds m e live (conj f g) =
+    let l = fnOf (m .n) (means m e f) ∷ live in
+    rounds-two (ticks m e live f) (ticks m e l g) (twoNeed (m .n) live (inter (size m)) (means m e f) (means m e g) ∷ []) (rounds m e f) (rounds m e g) (ticks-rounds m e live f) (ticks-rounds m e l g)
+ticks-rounds m e live (disj f g) =
+    let l = fnOf (m .n) (means m e f) ∷ live in
+    rounds-two (ticks m e live f) (ticks m e l g) (twoNeed (m .n) live (union (size m)) (means m e f) (means m e g) ∷ []) (rounds m e f) (rounds m e g) (ticks-rounds m e live f) (ticks-rounds m e l g)
+ticks-rounds m e live (now p) = refl
+ticks-rounds m e live (next p) = refl
+ticks-rounds m e live (var P) = refl
+ticks-rounds m e live (reg x) = refl
+ticks-rounds m e live (box t f) = rounds-then (ticks m e live f) (boxNeeds (m .n) live (inside (m .rel t)) (means m e f)) (rounds m e f) (ticks-rounds m e live f)
+ticks-rounds m e live (dia t f) = rounds-then (ticks m e live f) (diaNeeds (m .n) live (inside (m .rel t)) (means m e f)) (rounds m e f) (ticks-rounds m e live f)
+ticks-rounds m e live (mu P f) =
+    rounds-loop (λ A. ticks m (put e P A) (fnOf (m .n) A ∷ live) f) (body m e P f) (λ A. rounds m (put e P A) f) (λ A. ticks-rounds m (put e P A) (fnOf (m .n) A ∷ live) f)
+    (suc (size m)) (start true (size m))
+ticks-rounds m e live (nu P f) =
+    rounds-loop (λ A. ticks m (put e P A) (fnOf (m .n) A ∷ live) f) (body m e P f) (λ A. rounds m (put e P A) f) (λ A. ticks-rounds m (put e P A) (fnOf (m .n) A ∷ live) f)
+    (suc (size m)) (start false (size m))

@@ -1,74 +1,91 @@
--- The list theorem is not empty: tables that follow the rules implement the book, and here is a list that they play, with its demand. Assumes
--- nothing.
+-- The list theorem is not empty: tables themselves, under the contracts, implement the book, and here is a list that they play, with its
+-- demand. Assumes nothing.
 use mathlib.Core.Path.{_≡_, refl}
 use mathlib.Core.Bool.{false}
 use mathlib.Core.List.{List, [], _∷_}
 use mathlib.Core.Option.{none, some}
 use Prim.Native.Nat.{ℕ}
 use native.Mathlib.Omega.{arith}
-use lib.Dec.{T}
-use Rattle.formula.specs.Form.{leaf}
-use Rattle.formula.specs.declared.Leaf.the-variants.{True}
 use Rattle.diagram.specs.Rows.{Rows}
-use Rattle.book.specs.Book.{freshFits, set, clear, node, tally}
+use Rattle.book.specs.Book.{Call, Question, set, clear, fresh}
 use Rattle.book.specs.Compute.{computing}
-use Rattle.book.specs.Bench.{frame}
-use Rattle.book.specs.Table.{Table, Reply, Refusal, Implements}
+use Rattle.book.specs.Listed.{frame}
+use Rattle.book.specs.Table.{Table, Reply, Shows}
 use Rattle.book.specs.Follow.{ends, evals-leaf, denotes-all}
 use Rattle.book.specs.Roots.{shows-held}
-use Rattle.book.specs.Leaves.{plain, valued, storeReg, Empty}
+use Rattle.book.specs.Leaves.{plain, valued, storeReg, Empty, shows-fresh}
+use Rattle.book.specs.BookOf.{SoundTable, bookOf, shows-bookOf, sound-shows}
+use Rattle.book.specs.Contract.{Starts, Performs, Answers, Implements}
+use Rattle.book.specs.Formulas.{set-serves}
+use Rattle.book.specs.Calls.{clear-serves}
 use Rattle.book.specs.Demand.{Event, stop, go, Session, Demand, third-demand}
-use Rattle.book.specs.Rules.{Rule, set-run, noded, cleared, node-empty, tallied, rules-implement}
 
 -- the program's words
 abbrev lent : ℕ
 lent = 16_384
 
+-- fresh, a call and a question as relations of tables
+abbrev pub makes : Table → ℕ → ℕ → Table → Reply → Type 0
+makes t n N t′ y = Starts SoundTable (λ x. x) n N lent t t′ y
+
+abbrev pub performs : Table → Call → Table → Reply → Type 0
+performs t c t′ y = Performs SoundTable (λ x. x) c t t′ y
+
+abbrev pub answers : Table → Question → Table → Reply → Type 0
+answers t q t′ y = Answers SoundTable (λ x. x) q t t′ y
+
+pub tables-implement : Implements Table (λ t. lent) SoundTable (λ t. t) makes performs answers
+tables-implement = record { good = λ w s. s; starts = λ w w′ n N y p. p; performs = λ w w′ c y p. p; answers = λ w w′ q y p. p }
+
+-- ---- a list: set 0 to all states, clear 0
+
 abbrev noRows : Rows
 noRows = record { used = λ i. false; level = λ i. 0; low = λ i. 0; high = λ i. 0 }
 
--- nothing filled
-abbrev blank : ℕ → ℕ → Table
-blank n N = record { n = n; N = N; tally = 0; rows = noRows; reg = λ r. none; rel = λ q. none }
+-- nothing filled, n = 1 and N = 100
+abbrev blank : Table
+blank = record { n = 1; N = 100; tally = 0; rows = noRows; reg = λ r. none; rel = λ q. none }
 
--- fresh as a relation of tables
-abbrev pub makes : Table → ℕ → ℕ → Table → Reply → Type 0
-makes t n N t′ y = (T (freshFits n N lent) → Refusal 0 y × Unit {0} × Empty n N t′) × (freshFits n N lent ≡ false → Refusal 1 y × (t′ ≡ t))
-
--- tables themselves, every one of them taken as sound, under the rules
-pub tables-implement : Implements Table (λ t. lent) (λ t. Unit {0}) (λ t. t) makes (λ t c t′ y. Rule t c t′ y)
-tables-implement =
-    rules-implement Table (λ t. lent) (λ t. Unit {0}) (λ t. t) makes (λ t c t′ y. Rule t c t′ y) (λ w w′ n N y p. p .0) (λ w w′ n N y p. p .1) (λ w w′ c y ok p. (tt, p)) (λ w w′ c y no p. absurd (no tt))
-
--- set 0 to all states, node 0, clear 0, node 0, tally
-abbrev pub events : List Event
-events = (set 0 100 (frame (0x01 ∷ [])), valued 1) ∷ (node 0, valued 1) ∷ (clear 0, plain 0) ∷ (node 0, plain 7) ∷ (tally, valued 0) ∷ []
-
--- the table with register 0 as all states
-abbrev full : Table
-full = storeReg (blank 1 100) 0 (some 1) 0
+-- register 0 as all states
+abbrev stored : Table
+stored = storeReg blank 0 (some 1) 0
 
 abbrev emptied : Table
-emptied = storeReg full 0 none 0
+emptied = storeReg stored 0 none 0
 
-pub played : Session Table makes (λ t c t′ y. Rule t c t′ y) 1 100 events emptied
+abbrev pub events : List Event
+events = (set 0 100 (frame (0x01 ∷ [])), valued 1) ∷ (clear 0, plain 0) ∷ []
+
+empty : Empty 1 100 blank
+empty = record { bits = refl; size = refl; tally = refl; unused = λ i. refl; reg = λ r l. refl; rel = λ q l. refl }
+
+blank-sound : SoundTable blank
+blank-sound = sound-shows (fresh 1 100) blank (shows-fresh 1 100 blank empty)
+
+first : Performs SoundTable (λ x. x) (set 0 100 (frame (0x01 ∷ []))) blank stored (valued 1)
 unfolding computing
+first =
+    let s : Shows (bookOf blank) blank = shows-bookOf blank blank-sound in
+    let d = set-serves (bookOf blank) blank 0 100 (frame (0x01 ∷ [])) noRows (ends 1 0) s (omega arith) refl (evals-leaf 1 100 0 (s .wf) (shows-held (bookOf blank) blank s) (denotes-all 1 100 noRows)) in
+    record { unsound = λ n. absurd (n blank-sound); served = λ k. (sound-shows _ stored (d .shows), d) }
+
+stored-sound : SoundTable stored
+stored-sound = first .served blank-sound .0
+
+second : Performs SoundTable (λ x. x) (clear 0) stored emptied (plain 0)
+second =
+    let d = clear-serves (bookOf stored) stored 0 (shows-bookOf stored stored-sound) (omega arith) in
+    record { unsound = λ n. absurd (n stored-sound); served = λ k. (sound-shows _ emptied (d .shows), d) }
+
+pub played : Session Table makes performs 1 100 events emptied
 played = record {
-  lent = blank 0 0;
-  made = blank 1 100;
+  lent = blank;
+  made = blank;
   reply = plain 0;
-  start = (
-    (λ i. ((refl, refl, refl), tt, record { bits = refl; size = refl; tally = refl; unused = λ i. refl; reg = λ r l. refl; rel = λ q l. refl })),
-    (λ i. let z : _≡_ {A = ℕ} 0 1 = cc in absurd (omega arith)),
-  );
+  start = record { answers = λ i. ((refl, refl, refl), blank-sound, empty); refuses = λ i. let z : _≡_ {A = ℕ} 0 1 = cc in absurd (omega arith) };
   answered = refl;
-  rest =
-      go {v = full} (set-run {r = 0} {R = 100} {bs = frame (0x01 ∷ [])} (leaf True) 4 noRows (ends 1 0) (omega arith) refl refl (λ b w s. evals-leaf (b .n) (b .N) 0 (s .wf) (shows-held b (blank 1 100) s) (denotes-all (b .n) (b .N) noRows)))
-      (go {v = full} (noded {r = 0} {a = 1} (omega arith) refl)
-      (go {v = emptied} (cleared {r = 0} (omega arith))
-      (go {v = emptied} (node-empty {r = 0} (omega arith) refl)
-      (go tallied stop))));
+  rest = go {v = stored} first (go {v = emptied} second stop);
 }
 
-pub shown : Demand 1 100 emptied events
-shown = third-demand tables-implement 1 100 played .1
+pub shown : Demand SoundTable (λ t. t) answers 1 100 events emptied
+shown = third-demand tables-implement 1 100 played

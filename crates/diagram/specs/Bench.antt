@@ -1,45 +1,28 @@
--- Document 01's test bench, n = 2: bit 0 AND bit 1, with both bits live, needs 3 rows. Assumes nothing.
+-- Document 01's test bench: the needs of the steps that decide between an answer and 8. Assumes nothing.
 use mathlib.Core.Path.{_≡_, refl}
-use mathlib.Core.Bool.{Bool, true, false, cond, _&&_, not}
-use mathlib.Core.List.{[], _∷_, flatMap}
-use Rattle.diagram.specs.Level.{Val, Fn, splice}
-use lib.Dec.{ltb, eqb}
-use Rattle.diagram.specs.Rows.{Rows, row, den}
-use Rattle.diagram.specs.Count.{upTo}
-use Rattle.diagram.specs.Need.{bitLists, fix, cofactors, table, has, equal, among, insert, distinct, needed, need}
+use mathlib.Core.List.{[], _∷_}
+use Rattle.diagram.specs.Level.{Fn}
+use Rattle.diagram.specs.Need.{need, counting}
+use Rattle.diagram.specs.Steps.{bitF, notF, andF}
 
 -- Current bit 0 and current bit 1.
 abbrev bit0 : Fn
-bit0 v = v 0
+bit0 = bitF 0
 
 abbrev bit1 : Fn
-bit1 v = v 2
+bit1 = bitF 2
 
-pub and-needs : need 4 ((λ v. bit0 v && bit1 v) ∷ bit0 ∷ bit1 ∷ []) ≡ 3
-unfolding splice upTo bitLists fix flatMap cofactors table has equal among insert distinct needed need
-and-needs = refl
-
--- n = 1: NOT bit 0, with bit 0 live, needs 2 rows, and so more than N = 1.
-pub not-needs : need 2 ((λ v. not (bit0 v)) ∷ bit0 ∷ []) ≡ 2
-unfolding splice upTo bitLists fix flatMap cofactors table has equal among insert distinct needed need
+-- "N = 1: 02 10 gives 8", n = 1: NOT with its operand.
+pub not-needs : need 2 (notF bit0 ∷ bit0 ∷ []) ≡ 2
+unfolding counting
 not-needs = refl
 
--- n = 2: bit 1 and NOT bit 1 together need 2 rows.
-pub cleared-needs : need 4 ((λ v. not (bit1 v)) ∷ bit1 ∷ []) ≡ 2
-unfolding splice upTo bitLists fix flatMap cofactors table has equal among insert distinct needed need
+-- "n = 2, registers and relations empty: 03 10 11 needs N = 3; N = 2 gives 8": AND with its two operands.
+pub and-needs : need 4 (andF bit0 bit1 ∷ bit0 ∷ bit1 ∷ []) ≡ 3
+unfolding counting
+and-needs = refl
+
+-- "n = 2, N = 2: set 0 to bit 0, 1 to bit 1, clear 0, set 0 to 02 11: answered": NOT with its operand, which register 1 holds too.
+pub cleared-needs : need 4 (notF bit1 ∷ bit1 ∷ bit1 ∷ []) ≡ 2
+unfolding counting
 cleared-needs = refl
-
--- Two rows: bit 1 at level 2, and over it bit 0 AND bit 1 at level 0.
-abbrev two : Rows
-two = record { used = λ i. ltb i 2; level = λ i. cond (eqb i 0) 2 0; low = λ i. 0; high = λ i. cond (eqb i 0) 1 (row 0) }
-
--- What row 1 denotes.
-pub and-denoted : (v : Val) → den 4 two (row 1) v ≡ (bit0 v && bit1 v)
-unfolding den
-and-denoted v = by-bits (v 0) (v 2)
-  where
-    by-bits : (a b : Bool) → cond a (cond b true false) false ≡ (a && b)
-    by-bits true true = refl
-    by-bits true false = refl
-    by-bits false true = refl
-    by-bits false false = refl

@@ -6,8 +6,8 @@ use Prim.Native.Nat.{ℕ, zero, suc, _+_, _≤_, _<_}
 use native.Mathlib.Decide.{decLt, ℕ-discrete}
 use native.Mathlib.Omega.{arith}
 use Rattle.diagram.specs.Level.{Val, Reads, Varies, upd, upd-other, upd-unread}
-use Rattle.diagram.specs.Rows.{Rows, row, Arrow, levelOf, den, WellFormed}
-use Rattle.diagram.specs.Den.{den-zero, den-one, den-reads, den-row-low, den-row-high}
+use Rattle.diagram.specs.Rows.{Rows, row, Arrow, levelOf, child, den, WellFormed}
+use Rattle.diagram.specs.Den.{den-zero, den-one, den-reads, den-child}
 
 -- A valuation at which two arrows differ.
 pub record Differ (m : ℕ) (rows : Rows) (a b : ℕ) : Type 0 where
@@ -27,29 +27,18 @@ not-true true h = absurd (h refl)
 not-true false h = refl
 
 module _ {m N : ℕ} {rows : Rows} (wf : WellFormed m N rows) where
-  -- A difference of the low, or of the high, parts at level l is one of the rows.
-  lift-low : (i b : ℕ) → rows .used i ≡ true → Arrow rows b → rows .level i < levelOf m rows b → Differ m rows (rows .low i) b → Differ m rows (row i) b
-  lift-low i b u ub lb d = record {
-    at = upd (d .at) (rows .level i) false;
-    apart = λ e. d .apart (sym (den-row-low wf i u (d .at)) ∙ e ∙ upd-unread (d .at) (rows .level i) false (den-reads wf m b ub) lb);
+  -- A difference of a row's arrow for the bit b is one of the row: from an arrow that leads past its level, and from a row of the same level.
+  lift : (i : ℕ) (b : Bool) (c : ℕ) → rows .used i ≡ true → Arrow rows c → rows .level i < levelOf m rows c → Differ m rows (child rows i b) c → Differ m rows (row i) c
+  lift i b c u uc lc d = record {
+    at = upd (d .at) (rows .level i) b;
+    apart = λ e. d .apart (sym (den-child wf i b u (d .at)) ∙ e ∙ upd-unread (d .at) (rows .level i) b (den-reads wf m c uc) lc);
   }
 
-  lift-high : (i b : ℕ) → rows .used i ≡ true → Arrow rows b → rows .level i < levelOf m rows b → Differ m rows (rows .high i) b → Differ m rows (row i) b
-  lift-high i b u ub lb d = record {
-    at = upd (d .at) (rows .level i) true;
-    apart = λ e. d .apart (sym (den-row-high wf i u (d .at)) ∙ e ∙ upd-unread (d .at) (rows .level i) true (den-reads wf m b ub) lb);
-  }
-
-  both-low : (i j : ℕ) → rows .used i ≡ true → rows .used j ≡ true → rows .level i ≡ rows .level j → Differ m rows (rows .low i) (rows .low j) → Differ m rows (row i) (row j)
-  both-low i j u w el d = record {
-    at = upd (d .at) (rows .level i) false;
-    apart = λ e. d .apart (sym (den-row-low wf i u (d .at)) ∙ e ∙ ap (λ l. den m rows (row j) (upd (d .at) l false)) el ∙ den-row-low wf j w (d .at));
-  }
-
-  both-high : (i j : ℕ) → rows .used i ≡ true → rows .used j ≡ true → rows .level i ≡ rows .level j → Differ m rows (rows .high i) (rows .high j) → Differ m rows (row i) (row j)
-  both-high i j u w el d = record {
-    at = upd (d .at) (rows .level i) true;
-    apart = λ e. d .apart (sym (den-row-high wf i u (d .at)) ∙ e ∙ ap (λ l. den m rows (row j) (upd (d .at) l true)) el ∙ den-row-high wf j w (d .at));
+  lift-both : (i j : ℕ) (b : Bool) → rows .used i ≡ true → rows .used j ≡ true → rows .level i ≡ rows .level j → Differ m rows (child rows i b) (child rows j b)
+      → Differ m rows (row i) (row j)
+  lift-both i j b u w el d = record {
+    at = upd (d .at) (rows .level i) b;
+    apart = λ e. d .apart (sym (den-child wf i b u (d .at)) ∙ e ∙ ap (λ l. den m rows (row j) (upd (d .at) l b)) el ∙ den-child wf j b w (d .at));
   }
 
   -- What the induction gives: arrows that differ and lead past level k differ at a valuation.
@@ -61,8 +50,8 @@ module _ {m N : ℕ} {rows : Rows} (wf : WellFormed m N rows) where
   one-side i b u ub lb below =
       let o = wf .ok i u in
       by-cases (ℕ-discrete (rows .low i) b)
-      (λ e. lift-high i b u ub lb (below (rows .high i) b (o .high-arrow) ub (o .high-deeper) lb (λ g. o .reduced (e ∙ sym g))))
-      (λ h. lift-low i b u ub lb (below (rows .low i) b (o .low-arrow) ub (o .low-deeper) lb h))
+      (λ e. lift i true b u ub lb (below (rows .high i) b (o .high-arrow) ub (o .high-deeper) lb (λ g. o .reduced (e ∙ sym g))))
+      (λ h. lift i false b u ub lb (below (rows .low i) b (o .low-arrow) ub (o .low-deeper) lb h))
 
   -- Two rows of one level.
   two-side : (i j : ℕ) → rows .used i ≡ true → rows .used j ≡ true → rows .level i ≡ rows .level j → row i ≢ row j → Below (rows .level i) → Differ m rows (row i) (row j)
@@ -70,10 +59,10 @@ module _ {m N : ℕ} {rows : Rows} (wf : WellFormed m N rows) where
       let o = wf .ok i u in
       let p = wf .ok j w in
       by-cases (ℕ-discrete (rows .low i) (rows .low j))
-      (λ e. both-high i j u w el
+      (λ e. lift-both i j true u w el
       (below (rows .high i) (rows .high j) (o .high-arrow) (p .high-arrow) (o .high-deeper) (rw el (p .high-deeper))
       (λ g. ne (ap row (wf .shared i j u w el e g)))))
-      (λ h. both-low i j u w el
+      (λ h. lift-both i j false u w el
       (below (rows .low i) (rows .low j) (o .low-arrow) (p .low-arrow) (o .low-deeper) (rw el (p .low-deeper)) h))
 
   -- Two rows: the one of the lesser level is taken apart.
@@ -143,6 +132,6 @@ module _ {m N : ℕ} {rows : Rows} (wf : WellFormed m N rows) where
       let d = differ (rows .low i) (rows .high i) (o .low-arrow) (o .high-arrow) (o .reduced) in
       let l = rows .level i in
       absurd
-      (d .apart (sym (den-row-low wf i u (d .at)) ∙ r _ _ (λ j kj _. upd-other (d .at) l false j (omega arith) ∙ sym (upd-other (d .at) l true j (omega arith)))
-      ∙ den-row-high wf i u (d .at))))
+      (d .apart (sym (den-child wf i false u (d .at)) ∙ r _ _ (λ j kj _. upd-other (d .at) l false j (omega arith) ∙ sym (upd-other (d .at) l true j (omega arith)))
+      ∙ den-child wf i true u (d .at))))
       (λ h. omega arith)

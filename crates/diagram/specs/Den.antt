@@ -1,11 +1,11 @@
 -- What an arrow denotes in a well-formed table: how much fuel is enough, which levels are read, and one step of the walk.
 -- Assumes nothing.
-use mathlib.Core.Path.{_≡_, refl, sym}
-use mathlib.Core.Bool.{true, false, cond}
-use Prim.Native.Nat.{ℕ, zero, suc, _+_, _≤_}
+use mathlib.Core.Path.{_≡_, refl, sym, ap, _∙_}
+use mathlib.Core.Bool.{Bool, true, false, cond}
+use Prim.Native.Nat.{ℕ, zero, suc, _+_, _≤_, _<_}
 use native.Mathlib.Omega.{arith}
 use Rattle.diagram.specs.Level.{Val, Reads, reads-from, Splits, upd, upd-same, upd-unread}
-use Rattle.diagram.specs.Rows.{Rows, row, Arrow, levelOf, den, WellFormed}
+use Rattle.diagram.specs.Rows.{Rows, row, Arrow, levelOf, child, den, WellFormed}
 
 -- Arrows 0 and 1 denote nothing and everything.
 pub den-zero : (f : ℕ) (rows : Rows) (v : Val) → den f rows 0 v ≡ false
@@ -74,19 +74,21 @@ module _ {m N : ℕ} {rows : Rows} (wf : WellFormed m N rows) where
         reads1 = reads-from _ (o .high-deeper) (den-reads m (rows .high i) (o .high-arrow));
       }
 
-  -- A row where its own level is set to 0 is its low part, and where it is set to 1 its high part.
-  pub den-row-low : (i : ℕ) → rows .used i ≡ true → (v : Val) → den m rows (row i) (upd v (rows .level i) false) ≡ den m rows (rows .low i) v
-  den-row-low i u v =
-      let o = wf .ok i u in
-      let e = upd-same v (rows .level i) false in
-      let d = den-row i u (upd v (rows .level i) false) in
-      let r = upd-unread v (rows .level i) false (den-reads m (rows .low i) (o .low-arrow)) (o .low-deeper) in
-      cc (e, d, r)
+  -- A row's arrows are arrows, lead further, and are what it is where its level has their bit.
+  pub child-arrow : (i : ℕ) (b : Bool) → rows .used i ≡ true → Arrow rows (child rows i b)
+  child-arrow i false u = wf .ok i u .low-arrow
+  child-arrow i true u = wf .ok i u .high-arrow
 
-  pub den-row-high : (i : ℕ) → rows .used i ≡ true → (v : Val) → den m rows (row i) (upd v (rows .level i) true) ≡ den m rows (rows .high i) v
-  den-row-high i u v =
-      let o = wf .ok i u in
-      let e = upd-same v (rows .level i) true in
-      let d = den-row i u (upd v (rows .level i) true) in
-      let r = upd-unread v (rows .level i) true (den-reads m (rows .high i) (o .high-arrow)) (o .high-deeper) in
-      cc (e, d, r)
+  pub child-deeper : (i : ℕ) (b : Bool) → rows .used i ≡ true → rows .level i < levelOf m rows (child rows i b)
+  child-deeper i false u = wf .ok i u .low-deeper
+  child-deeper i true u = wf .ok i u .high-deeper
+
+  pub den-chosen : (i : ℕ) (b : Bool) → rows .used i ≡ true → (v : Val) → v (rows .level i) ≡ b → den m rows (row i) v ≡ den m rows (child rows i b) v
+  den-chosen i false u v e = den-row i u v ∙ ap (λ c. cond c (den m rows (rows .high i) v) (den m rows (rows .low i) v)) e
+  den-chosen i true u v e = den-row i u v ∙ ap (λ c. cond c (den m rows (rows .high i) v) (den m rows (rows .low i) v)) e
+
+  -- A row where its own level is set to b is its arrow for b.
+  pub den-child : (i : ℕ) (b : Bool) → rows .used i ≡ true → (v : Val) → den m rows (row i) (upd v (rows .level i) b) ≡ den m rows (child rows i b) v
+  den-child i b u v =
+      den-chosen i b u _ (upd-same v (rows .level i) b)
+      ∙ upd-unread v (rows .level i) b (den-reads m (child rows i b) (child-arrow i b u)) (child-deeper i b u)

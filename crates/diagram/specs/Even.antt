@@ -10,9 +10,9 @@ use native.Mathlib.Omega.{arith}
 use lib.Dec.{eqb}
 use Rattle.diagram.specs.Level.{Val, Fn, upd, upd-same, upd-other, splice-below, splice-above, Reads, CofactorOf}
 use Rattle.diagram.specs.Rows.{Rows, row, Arrow, den, WellFormed}
-use Rattle.diagram.specs.Den.{den-row-low, den-row-high}
+use Rattle.diagram.specs.Den.{den-child}
 use Rattle.diagram.specs.Canon.{differ}
-use Rattle.diagram.specs.Steps.{existsF, shiftF}
+use Rattle.diagram.specs.Steps.{twoF, existsF, shiftF}
 use Rattle.diagram.specs.Reach.{Reach, Reached, reached-low, reached-high, reach-used, reach-cofactor}
 
 -- f reads no level but those that pass the test P.
@@ -41,9 +41,9 @@ module _ {m N : ℕ} {rows : Rows} (wf : WellFormed m N rows) (P : ℕ → Bool)
       let off : (k : ℕ) → P k ≡ true → k ≢ rows .level i = λ k p e. ne (ap P (sym e) ∙ p) in
       absurd
       (d .apart
-      (sym (den-row-low wf i u (d .at))
+      (sym (den-child wf i false u (d .at))
       ∙ r _ _ (λ k p. upd-other (d .at) (rows .level i) false k (off k p) ∙ sym (upd-other (d .at) (rows .level i) true k (off k p)))
-      ∙ den-row-high wf i u (d .at))))
+      ∙ den-child wf i true u (d .at))))
 
   -- An arrow reads only levels that pass P exactly where all rows reached from it are at such levels.
   pub levels-read : (a : ℕ) → Arrow rows a → ReadsOn P (den m rows a) → (i : ℕ) → Reach rows (a ∷ []) i → P (rows .level i) ≡ true
@@ -67,7 +67,7 @@ reads-levels rows P roots all (suc f) (suc (suc i)) r v w h =
     cc (e, eh, el)
 
 -- What the steps read. NOT, AND and OR read what their operands do.
-pub readsOn-two : {P : ℕ → Bool} {f g : Fn} (op : Bool → Bool → Bool) → ReadsOn P f → ReadsOn P g → ReadsOn P (λ v. op (f v) (g v))
+pub readsOn-two : {P : ℕ → Bool} {f g : Fn} (op : Bool → Bool → Bool) → ReadsOn P f → ReadsOn P g → ReadsOn P (twoF op f g)
 readsOn-two op r s v w h =
     let p = r v w h in
     let q = s v w h in

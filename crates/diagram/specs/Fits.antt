@@ -1,6 +1,6 @@
 -- A table that holds some functions has rows enough for them, and one that is truly full has too few. So refusal 8 is exact.
 -- Assumes nothing.
-use mathlib.Core.Path.{_≡_, refl, sym, ap, _∙_}
+use mathlib.Core.Path.{_≡_, refl, sym, _∙_}
 use mathlib.Core.Logic.{⊎-elim, by-cases}
 use mathlib.Core.Bool.{true, Bool-discrete}
 use mathlib.Core.List.{List, [], _∷_, map}
@@ -12,11 +12,12 @@ use Rattle.diagram.specs.Level.{Val, Fn, Reads, CofactorOf, Varies}
 use Rattle.diagram.specs.Rows.{Rows, row, Arrow, den, WellFormed}
 use Rattle.diagram.specs.Grow.{den-extends}
 use Rattle.diagram.specs.Canon.{not-true, row-varies}
-use Rattle.diagram.specs.Count.{Within, nodup-length, nodup-map, upTo, length-upTo, mem-upTo, upTo-below, nodup-upTo}
-use Rattle.diagram.specs.Need.{table, needed, need}
-use Rattle.diagram.specs.Needed.{table-inj, table-cong, needed-source, mem-needed, nodup-needed, cofactor-reads}
+use Rattle.diagram.specs.Count.{Within, nodup-length, nodup-map}
+use Rattle.diagram.specs.Used.{usedRows, usedCount, mem-usedRows, usedRows-mem, nodup-usedRows}
+use Rattle.diagram.specs.Need.{truthTable, needed, need}
+use Rattle.diagram.specs.Needed.{truthTable-inj, truthTable-cong, needed-source, mem-needed, nodup-needed, cofactor-reads}
 use Rattle.diagram.specs.Reach.{Reach, reach-cofactor, cofactor-row, den-reads-all, tab, tab-inj}
-use Rattle.diagram.specs.Post.{done, full, Denotes, OpPost, denotes-extends, cofactor-same}
+use Rattle.diagram.specs.Post.{full, Denotes, OpPost, cofactor-same}
 
 -- g is a cofactor of a function of the list.
 pub record Part (fs : List Fn) (g : Fn) : Type 0 where
@@ -25,46 +26,46 @@ pub record Part (fs : List Fn) (g : Fn) : Type 0 where
   pub cofactor : CofactorOf of g
 
 module _ {m N : ℕ} {rows : Rows} (wf : WellFormed m N rows) where
-  -- Functions that a table denotes need at most its rows.
-  pub need-le : (fs : List Fn) → ((f : Fn) → Mem f fs → (a : ℕ) × Denotes m rows a f) → need m fs ≤ N
+  -- Functions that a table denotes need at most its used rows.
+  pub need-le : (fs : List Fn) → ((f : Fn) → Mem f fs → (a : ℕ) × Denotes m rows a f) → need m fs ≤ usedCount rows N
   unfolding need
   need-le fs held =
-      let n = nodup-length (needed m fs) (map (tab wf) (upTo N)) (nodup-needed m fs) (λ t h.
+      let n = nodup-length (needed m fs) (map (tab wf) (usedRows rows N)) (nodup-needed m fs) (λ t h.
       let s = needed-source m fs t h in
       let (a, d) = held (s .of) (s .listed) in
       let c : CofactorOf (den m rows a) (s .part) =
       record { upto = s .cofactor .upto; fixed = s .cofactor .fixed; same = λ v. s .cofactor .same v ∙ sym (d .same _) }
       in
       let (i, r, w, q) = cofactor-row wf (a ∷ []) a (s .part) (here refl) (d .arrow) c (s .varies) in
-      mem-cast (sym (table-cong m q ∙ s .told)) (mem-map (tab wf) (mem-upTo N i (wf .bounded i w))))
+      mem-cast (sym (truthTable-cong m q ∙ s .told)) (mem-map (tab wf) (mem-usedRows rows N i (wf .bounded i w) w)))
       in
-      let e = length-map (upTo N) (tab wf) in
-      let g = length-upTo N in
+      let e = length-map (usedRows rows N) (tab wf) in
       omega arith
 
-  -- All N rows are used by parts of some functions, and one more part is denoted by none: the functions need more than N rows.
-  pub need-gt : (fs : List Fn) → ((f : Fn) → Mem f fs → Reads 0 m f) → ((i : ℕ) → i < N → rows .used i ≡ true)
+  -- At least `limit` rows are used, all by parts of some functions, and one more part is denoted by none: the functions need more than
+  -- `limit` rows.
+  pub need-gt : {limit : ℕ} (fs : List Fn) → ((f : Fn) → Mem f fs → Reads 0 m f) → limit ≤ usedCount rows N
       → ((i : ℕ) → rows .used i ≡ true → Part fs (den m rows (row i))) → (lost : Fn) → Part fs lost → Varies lost
-      → ((i : ℕ) → rows .used i ≡ true → ((v : Val) → den m rows (row i) v ≡ lost v) → ⊥) → N < need m fs
+      → ((i : ℕ) → rows .used i ≡ true → ((v : Val) → den m rows (row i) v ≡ lost v) → ⊥) → limit < need m fs
   unfolding need
-  need-gt fs reads all part lost p y absent =
-      let used : (i : ℕ) → Mem i (upTo N) → rows .used i ≡ true = λ i h. all i (upTo-below N i h) in
-      let apart : Mem (table m lost) (map (tab wf) (upTo N)) → ⊥ = λ h.
-      let (i, mi, e) = mem-of-map (tab wf) (upTo N) h in
-      absent i (used i mi) (table-inj (den-reads-all wf (row i) (used i mi)) (cofactor-reads (reads (p .of) (p .listed)) (p .cofactor)) e)
+  need-gt fs reads run-out part lost p y absent =
+      let is = usedRows rows N in
+      let used : (i : ℕ) → Mem i is → rows .used i ≡ true = λ i h. usedRows-mem rows N i h .1 in
+      let apart : Mem (truthTable m lost) (map (tab wf) is) → ⊥ = λ h.
+      let (i, mi, e) = mem-of-map (tab wf) is h in
+      absent i (used i mi) (truthTable-inj (den-reads-all wf (row i) (used i mi)) (cofactor-reads (reads (p .of) (p .listed)) (p .cofactor)) e)
       in
-      let inj : (i j : ℕ) → Mem i (upTo N) → Mem j (upTo N) → tab wf i ≡ tab wf j → i ≡ j = λ i j mi mj e. tab-inj wf i j (used i mi) (used j mj) e in
-      let within : Within (table m lost ∷ map (tab wf) (upTo N)) (needed m fs) = λ t h.
+      let inj : (i j : ℕ) → Mem i is → Mem j is → tab wf i ≡ tab wf j → i ≡ j = λ i j mi mj e. tab-inj wf i j (used i mi) (used j mj) e in
+      let within : Within (truthTable m lost ∷ map (tab wf) is) (needed m fs) = λ t h.
       ⊎-elim (λ e. mem-cast e (mem-needed fs (p .listed) (reads (p .of) (p .listed)) (p .cofactor) y))
       (λ q.
-      let (i, mi, e) = mem-of-map (tab wf) (upTo N) q in
+      let (i, mi, e) = mem-of-map (tab wf) is q in
       let s = part i (used i mi) in
       mem-cast (sym e) (mem-needed fs (s .listed) (reads (s .of) (s .listed)) (s .cofactor) (row-varies wf i (used i mi))))
       (mem-cases h)
       in
-      let n = nodup-length (table m lost ∷ map (tab wf) (upTo N)) (needed m fs) (apart, nodup-map (tab wf) (upTo N) inj (nodup-upTo N)) within in
-      let e = length-map (upTo N) (tab wf) in
-      let g = length-upTo N in
+      let n = nodup-length (truthTable m lost ∷ map (tab wf) is) (needed m fs) (apart, nodup-map (tab wf) is inj (nodup-usedRows rows N)) within in
+      let e = length-map is (tab wf) in
       omega arith
 
   -- In a table of which only what the roots reach is used, every used row is a part of what they denote.
@@ -74,23 +75,16 @@ module _ {m N : ℕ} {rows : Rows} (wf : WellFormed m N rows) where
       let (a, ma, c) = reach-cofactor wf arrows (all i u) in
       record { of = den m rows a; listed = mem-map (den m rows) ma; cofactor = c }
 
-module _ {m N : ℕ} {before after : Rows} {F : Fn} (wf : WellFormed m N before) (live : List Fn) where
-  -- An answered step: its result and what is live need at most N rows.
-  pub step-done : {a : ℕ} → ((f : Fn) → Mem f live → (b : ℕ) × Denotes m before b f) → OpPost m N before after (done a) F → need m (F ∷ live) ≤ N
-  step-done {a} held p = need-le (p .wf) (F ∷ live) (λ f h.
-      ⊎-elim (λ e. (a, record { arrow = p .result .arrow; same = λ v. p .result .same v ∙ ap (λ (q : Fn). q v) (sym e) }))
-      (λ q. let (b, d) = held f q in (b, denotes-extends wf (p .kept) d))
-      (mem-cases h))
-
-  -- A step that ran out, from a table of which only parts of what is live were used: they need more than N rows.
-  pub step-full : ((f : Fn) → Mem f (F ∷ live) → Reads 0 m f) → ((i : ℕ) → before .used i ≡ true → Part live (den m before (row i)))
-      → OpPost m N before after full F → N < need m (F ∷ live)
-  step-full reads parts p =
-      let r = p .result in
-      need-gt (p .wf) (F ∷ live) reads (r .all-used)
-      (λ i u. by-cases (Bool-discrete (before .used i) true)
-      (λ w.
-      let s = parts i w in
-      record { of = s .of; listed = there (s .listed); cofactor = cofactor-same (s .cofactor) (den-extends (p .kept) wf m (row i) w) })
-      (λ w. record { of = F; listed = here refl; cofactor = p .fresh i u (not-true _ w) }))
-      (r .lost) (record { of = F; listed = here refl; cofactor = r .cofactor }) (r .varies) (r .absent)
+-- A try that ran out, from a table of which only parts of what is live were used: they and the result need more than `limit` rows.
+pub try-full : {m N limit : ℕ} {before after : Rows} {F : Fn} → WellFormed m N before → (live : List Fn)
+    → ((f : Fn) → Mem f (F ∷ live) → Reads 0 m f) → ((i : ℕ) → before .used i ≡ true → Part live (den m before (row i)))
+    → OpPost m N limit before after full F → limit < need m (F ∷ live)
+try-full {m} {before = before} {F = F} wf live reads parts p =
+    let r = p .result in
+    need-gt (p .wf) (F ∷ live) reads (r .run-out)
+    (λ i u. by-cases (Bool-discrete (before .used i) true)
+    (λ w.
+    let s = parts i w in
+    record { of = s .of; listed = there (s .listed); cofactor = cofactor-same (s .cofactor) (den-extends (p .kept) wf m (row i) w) })
+    (λ w. record { of = F; listed = here refl; cofactor = p .fresh i u (not-true _ w) }))
+    (r .lost) (record { of = F; listed = here refl; cofactor = r .cofactor }) (r .varies) (r .absent)

@@ -7,7 +7,7 @@ use native.Mathlib.Decide.{ℕ-discrete}
 use native.Mathlib.Omega.{arith}
 use lib.Dec.{eqb, eqb-refl, eqb→eq}
 use Rattle.diagram.specs.Level.{Val, T-true, T-false}
-use Rattle.diagram.specs.Rows.{Rows, row, Arrow, levelOf, den, RowOk, WellFormed, Extends, Same, Adds}
+use Rattle.diagram.specs.Rows.{Rows, Arrow, levelOf, den, RowOk, WellFormed, Extends, Same, Adds}
 
 pub extends-refl : (rows : Rows) → Extends rows rows
 extends-refl rows = record { used = λ i u. u; level = λ i u. refl; low = λ i u. refl; high = λ i u. refl }

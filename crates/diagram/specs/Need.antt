@@ -2,49 +2,38 @@
 -- levels 0 to k − 1, in all ways, for every k." A function of m levels is told by its truth table over all lists of m bits. To fix all m
 -- levels, or more, leaves constants, so k goes from 0 to m. Assumes nothing.
 use mathlib.Core.Bool.{Bool, true, false, cond, _&&_, _||_, Bool·beq}
-use mathlib.Core.List.{List, [], _∷_, _++_, map, flatMap}
-use Prim.Native.Nat.{ℕ, zero, suc}
+use mathlib.Core.List.{List, [], _∷_, map, flatMap}
+use Prim.Native.Nat.{ℕ, suc}
 use lib.ListN.{length, getD}
+use Rattle.mucalculus.specs.Sets.{bitLists, same}
 use Rattle.diagram.specs.Level.{Val, Fn, splice}
 use Rattle.diagram.specs.Count.{upTo}
-
--- All lists of k bits.
-unfoldable pub bitLists : ℕ → List (List Bool)
-bitLists zero = [] ∷ []
-bitLists (suc k) = map (λ bits. false ∷ bits) (bitLists k) ++ map (λ bits. true ∷ bits) (bitLists k)
 
 -- The valuation whose level l is entry l of the list, and 0 past its end.
 abbrev pub val : List Bool → Val
 val bits l = getD bits l false
 
 -- f with levels 0 to k − 1 fixed to the list's k bits.
-unfoldable pub fix : List Bool → Fn → Fn
-fix bits f v = f (splice (length bits) (val bits) v)
+unfoldable pub fixLevels : List Bool → Fn → Fn
+fixLevels bits f v = f (splice (length bits) (val bits) v)
 
 -- The functions got from f by fixing levels 0 to k − 1, in all ways, for every k from 0 to m.
 unfoldable pub cofactors : ℕ → Fn → List Fn
-cofactors m f = flatMap (λ k. map (λ bits. fix bits f) (bitLists k)) (upTo (suc m))
+cofactors m f = flatMap (λ k. map (λ bits. fixLevels bits f) (bitLists k)) (upTo (suc m))
 
 -- The truth table of a function of m levels.
-unfoldable pub table : ℕ → Fn → List Bool
-table m f = map (λ bits. f (val bits)) (bitLists m)
+unfoldable pub truthTable : ℕ → Fn → List Bool
+truthTable m f = map (λ bits. f (val bits)) (bitLists m)
 
 -- Whether a bit is in a table.
 unfoldable pub has : Bool → List Bool → Bool
 has b [] = false
 has b (c ∷ cs) = Bool·beq b c || has b cs
 
--- Whether two tables are equal.
-unfoldable pub equal : List Bool → List Bool → Bool
-equal [] [] = true
-equal [] (c ∷ cs) = false
-equal (b ∷ bs) [] = false
-equal (b ∷ bs) (c ∷ cs) = Bool·beq b c && equal bs cs
-
 -- Whether a table is among others.
 unfoldable pub among : List Bool → List (List Bool) → Bool
 among t [] = false
-among t (s ∷ ss) = equal t s || among t ss
+among t (s ∷ ss) = same t s || among t ss
 
 -- A table put in front of others, unless it is constant or among them already.
 unfoldable pub insert : List Bool → List (List Bool) → List (List Bool)
@@ -57,8 +46,17 @@ distinct (t ∷ ts) = insert t (distinct ts)
 
 -- The distinct non-constant functions, as tables, got from those of fs by fixing levels 0 to k − 1, in all ways, for every k.
 unfoldable pub needed : ℕ → List Fn → List (List Bool)
-needed m fs = distinct (map (table m) (flatMap (cofactors m) fs))
+needed m fs = distinct (map (truthTable m) (flatMap (cofactors m) fs))
 
 -- The rows that fs need: their number.
 unfoldable pub need : ℕ → List Fn → ℕ
 need m fs = length (needed m fs)
+
+-- "A step's need is the rows needed by its result and all that is live at it", its operands included.
+abbrev pub stepNeed : ℕ → List Fn → Fn → ℕ
+stepNeed m live result = need m (result ∷ live)
+
+-- One name for all that a closed need computes through: `unfolding counting` opens them.
+unfoldable pub counting : Unit {0}
+unfolding splice upTo bitLists fixLevels flatMap cofactors truthTable has among insert distinct needed need
+counting = tt

@@ -1,5 +1,5 @@
 -- What `needed` holds: the tables of the non-constant cofactors of its functions, each once. Assumes nothing.
-use mathlib.Core.Path.{_≡_, refl, sym, ap, _∙_, fun-ext}
+use mathlib.Core.Path.{_≡_, refl, sym, ap, _∙_, subst, fun-ext}
 use mathlib.Core.Logic.{_⊎_, inl, inr, ⊎-elim, by-cases}
 use mathlib.Core.Bool.{Bool, true, false, cond, _&&_, _||_, Bool·beq, true≢false, false≢true}
 use mathlib.Core.List.{List, [], _∷_, map, flatMap, head-eq-of-cons-eq, tail-eq-of-cons-eq}
@@ -8,9 +8,11 @@ use Prim.Native.Nat.{ℕ, zero, suc, _≤_, _<_}
 use native.Mathlib.Decide.{decLe}
 use native.Mathlib.Omega.{arith}
 use lib.ListN.{length}
+use lib.Dec.{T}
+use Rattle.mucalculus.specs.Sets.{bitLists, bitLists-all, same, same-eq, same-refl, true-of}
 use Rattle.diagram.specs.Level.{Val, Fn, splice, splice-below, splice-above, Reads, CofactorOf, Varies, cofactor-trans}
 use Rattle.diagram.specs.Count.{NoDup, Within, nodup-length, upTo, mem-upTo}
-use Rattle.diagram.specs.Need.{bitLists, val, fix, cofactors, table, has, equal, among, insert, distinct, needed, need}
+use Rattle.diagram.specs.Need.{val, fixLevels, cofactors, truthTable, has, among, insert, distinct, needed, need}
 
 -- Membership in a `flatMap`, both ways.
 mem-flatMap : {A B : Type 0} (g : A → List B) {x : A} {y : B} (xs : List A) → Mem x xs → Mem y (g x) → Mem y (flatMap g xs)
@@ -41,16 +43,8 @@ val-bitsOf zero v l h = absurd (omega arith)
 val-bitsOf (suc k) v zero h = refl
 val-bitsOf (suc k) v (suc l) h = val-bitsOf k (λ j. v (suc j)) l (omega arith)
 
--- Every list of k bits is in `bitLists k`, and no other list.
-mem-cons-bit : (b : Bool) {bits : List Bool} (k : ℕ) → Mem bits (bitLists k) → Mem (b ∷ bits) (bitLists (suc k))
-unfolding bitLists
-mem-cons-bit false k m = mem-left _ (mem-map (λ bits. false ∷ bits) m)
-mem-cons-bit true k m = mem-right (map (λ bits. false ∷ bits) (bitLists k)) (mem-map (λ bits. true ∷ bits) m)
-
 pub mem-bitsOf : (k : ℕ) (v : Val) → Mem (bitsOf k v) (bitLists k)
-unfolding bitsOf bitLists
-mem-bitsOf zero v = here refl
-mem-bitsOf (suc k) v = mem-cons-bit (v zero) k (mem-bitsOf k (λ l. v (suc l)))
+mem-bitsOf k v = subst (λ (j : ℕ). Mem (bitsOf k v) (bitLists j)) (length-bitsOf k v) (bitLists-all (bitsOf k v))
 
 -- Equal tables say the same at each list of bits.
 map-same : {A B : Type 0} (f g : A → B) {x : A} (xs : List A) → map f xs ≡ map g xs → Mem x xs → f x ≡ g x
@@ -63,13 +57,13 @@ at-bits : {m : ℕ} {f : Fn} → Reads 0 m f → (v : Val) → f (val (bitsOf m 
 at-bits {m} r v = r _ _ (λ l _ h. val-bitsOf m v l h)
 
 -- Two functions of m levels with one table are the same function.
-pub table-inj : {m : ℕ} {f g : Fn} → Reads 0 m f → Reads 0 m g → table m f ≡ table m g → (v : Val) → f v ≡ g v
-unfolding table
-table-inj {m} {f} {g} rf rg e v =
+pub truthTable-inj : {m : ℕ} {f g : Fn} → Reads 0 m f → Reads 0 m g → truthTable m f ≡ truthTable m g → (v : Val) → f v ≡ g v
+unfolding truthTable
+truthTable-inj {m} {f} {g} rf rg e v =
     sym (at-bits rf v) ∙ map-same (λ bits. f (val bits)) (λ bits. g (val bits)) (bitLists m) e (mem-bitsOf m v) ∙ at-bits rg v
 
-pub table-cong : (m : ℕ) {f g : Fn} → ((v : Val) → f v ≡ g v) → table m f ≡ table m g
-table-cong m e = ap (table m) (fun-ext e)
+pub truthTable-cong : (m : ℕ) {f g : Fn} → ((v : Val) → f v ≡ g v) → truthTable m f ≡ truthTable m g
+truthTable-cong m e = ap (truthTable m) (fun-ext e)
 
 -- The tests of bits, of tables and of lists of tables, as facts.
 beq-true : (b c : Bool) → Bool·beq b c ≡ true → b ≡ c
@@ -105,32 +99,16 @@ mem-has b [] m = absurd (mem-nil m)
 mem-has b (c ∷ cs) m =
     ⊎-elim (λ h. rw (← h, beq-refl b)) (λ h. or-right (Bool·beq b c) (has b cs) (mem-has b cs h)) (mem-cases m)
 
-equal-true : (s t : List Bool) → equal s t ≡ true → s ≡ t
-unfolding equal
-equal-true [] [] e = refl
-equal-true [] (c ∷ cs) e = absurd (false≢true e)
-equal-true (b ∷ bs) [] e = absurd (false≢true e)
-equal-true (b ∷ bs) (c ∷ cs) e =
-    let h = and-true (Bool·beq b c) (equal bs cs) e in
-    let p = beq-true b c (h .0) in
-    let q = equal-true bs cs (h .1) in
-    cc (p, q)
-
-equal-refl : (t : List Bool) → equal t t ≡ true
-unfolding equal
-equal-refl [] = refl
-equal-refl (b ∷ bs) = rw (beq-refl b) (equal-refl bs)
-
 among-mem : (t : List Bool) (ts : List (List Bool)) → among t ts ≡ true → Mem t ts
 unfolding among
 among-mem t [] e = absurd (false≢true e)
-among-mem t (s ∷ ss) e = ⊎-elim (λ h. here (equal-true t s h)) (λ h. there (among-mem t ss h)) (or-true (equal t s) (among t ss) e)
+among-mem t (s ∷ ss) e = ⊎-elim (λ h. here (same-eq t s (subst T (sym h) tt))) (λ h. there (among-mem t ss h)) (or-true (same t s) (among t ss) e)
 
 mem-among : (t : List Bool) (ts : List (List Bool)) → Mem t ts → among t ts ≡ true
 unfolding among
 mem-among t [] m = absurd (mem-nil m)
 mem-among t (s ∷ ss) m =
-    ⊎-elim (λ h. rw (← h, equal-refl t)) (λ h. or-right (equal t s) (among t ss) (mem-among t ss h)) (mem-cases m)
+    ⊎-elim (λ h. rw (← h, true-of (same t t) (same-refl t))) (λ h. or-right (same t s) (among t ss) (mem-among t ss h)) (mem-cases m)
 
 -- A table that is not constant.
 abbrev pub mixed : List Bool → Bool
@@ -190,20 +168,20 @@ nodup-distinct [] = tt
 nodup-distinct (t ∷ ts) = nodup-insert t (distinct ts) (nodup-distinct ts)
 
 -- A function of m levels is constant exactly where its table is.
-pub varies-mixed : {m : ℕ} {f : Fn} → Reads 0 m f → Varies f → mixed (table m f) ≡ true
-unfolding table
+pub varies-mixed : {m : ℕ} {f : Fn} → Reads 0 m f → Varies f → mixed (truthTable m f) ≡ true
+unfolding truthTable
 varies-mixed {m} {f} r y =
-    let at : (v : Val) (b : Bool) → f v ≡ b → has b (table m f) ≡ true = λ v b e.
-    mem-has b (table m f) (mem-cast (sym (at-bits r v ∙ e)) (mem-map (λ bits. f (val bits)) (mem-bitsOf m v)))
+    let at : (v : Val) (b : Bool) → f v ≡ b → has b (truthTable m f) ≡ true = λ v b e.
+    mem-has b (truthTable m f) (mem-cast (sym (at-bits r v ∙ e)) (mem-map (λ bits. f (val bits)) (mem-bitsOf m v)))
     in
     rw (at (y .off) false (y .at-off)) (at (y .on) true (y .at-on))
 
-pub mixed-varies : (m : ℕ) {f : Fn} → mixed (table m f) ≡ true → Varies f
-unfolding table
+pub mixed-varies : (m : ℕ) {f : Fn} → mixed (truthTable m f) ≡ true → Varies f
+unfolding truthTable
 mixed-varies m {f} e =
-    let h = and-true (has false (table m f)) (has true (table m f)) e in
-    let (x, mx, ex) = mem-of-map (λ bits. f (val bits)) (bitLists m) (has-mem false (table m f) (h .0)) in
-    let (y, my, ey) = mem-of-map (λ bits. f (val bits)) (bitLists m) (has-mem true (table m f) (h .1)) in
+    let h = and-true (has false (truthTable m f)) (has true (truthTable m f)) e in
+    let (x, mx, ex) = mem-of-map (λ bits. f (val bits)) (bitLists m) (has-mem false (truthTable m f) (h .0)) in
+    let (y, my, ey) = mem-of-map (λ bits. f (val bits)) (bitLists m) (has-mem true (truthTable m f) (h .1)) in
     record { off = val x; on = val y; at-off = ex; at-on = ey }
 
 -- A cofactor reads no more levels.
@@ -214,9 +192,9 @@ cofactor-reads r c v w h =
     (λ k. splice-below (c .upto) (c .fixed) v l (omega arith) ∙ sym (splice-below (c .upto) (c .fixed) w l (omega arith)))) ∙ sym (c .same w)
 
 -- To fix the first bits of u is to fix its levels.
-fix-bitsOf : (k : ℕ) (u : Val) (f : Fn) (v : Val) → fix (bitsOf k u) f v ≡ f (splice k u v)
-unfolding fix
-fix-bitsOf k u f v =
+fixLevels-bitsOf : (k : ℕ) (u : Val) (f : Fn) (v : Val) → fixLevels (bitsOf k u) f v ≡ f (splice k u v)
+unfolding fixLevels
+fixLevels-bitsOf k u f v =
     rw (length-bitsOf k u)
     (ap f (fun-ext λ l. by-cases (decLe k l)
     (λ h. splice-above k (val (bitsOf k u)) v l h ∙ sym (splice-above k u v l h))
@@ -229,16 +207,16 @@ pub record Source (m : ℕ) (fs : List Fn) (t : List Bool) : Type 0 where
   pub part : Fn
   pub cofactor : CofactorOf of part
   pub varies : Varies part
-  pub told : table m part ≡ t
+  pub told : truthTable m part ≡ t
 
 pub needed-source : (m : ℕ) (fs : List Fn) (t : List Bool) → Mem t (needed m fs) → Source m fs t
-unfolding needed cofactors fix
+unfolding needed cofactors fixLevels
 needed-source m fs t h =
-    let d = mem-distinct t (map (table m) (flatMap (cofactors m) fs)) h in
-    let (g, mg, eg) = mem-of-map (table m) (flatMap (cofactors m) fs) (d .0) in
+    let d = mem-distinct t (map (truthTable m) (flatMap (cofactors m) fs)) h in
+    let (g, mg, eg) = mem-of-map (truthTable m) (flatMap (cofactors m) fs) (d .0) in
     let (f, mf, mc) = mem-of-flatMap (cofactors m) fs mg in
-    let (k, mk, mb) = mem-of-flatMap (λ k. map (λ bits. fix bits f) (bitLists k)) (upTo (suc m)) mc in
-    let (bits, mbits, eb) = mem-of-map (λ bits. fix bits f) (bitLists k) mb in
+    let (k, mk, mb) = mem-of-flatMap (λ k. map (λ bits. fixLevels bits f) (bitLists k)) (upTo (suc m)) mc in
+    let (bits, mbits, eb) = mem-of-map (λ bits. fixLevels bits f) (bitLists k) mb in
     record {
       of = f;
       listed = mf;
@@ -249,20 +227,20 @@ needed-source m fs t h =
     }
 
 -- Every non-constant cofactor of a listed function of m levels is among the needed.
-mem-cofactors : (m k : ℕ) (u : Val) (f : Fn) → k ≤ m → Mem (fix (bitsOf k u) f) (cofactors m f)
+mem-cofactors : (m k : ℕ) (u : Val) (f : Fn) → k ≤ m → Mem (fixLevels (bitsOf k u) f) (cofactors m f)
 unfolding cofactors
 mem-cofactors m k u f h =
-    mem-flatMap (λ j. map (λ bits. fix bits f) (bitLists j)) (upTo (suc m)) (mem-upTo (suc m) k (omega arith))
-    (mem-map (λ bits. fix bits f) (mem-bitsOf k u))
+    mem-flatMap (λ j. map (λ bits. fixLevels bits f) (bitLists j)) (upTo (suc m)) (mem-upTo (suc m) k (omega arith))
+    (mem-map (λ bits. fixLevels bits f) (mem-bitsOf k u))
 
-pub mem-needed : {m : ℕ} {f g : Fn} (fs : List Fn) → Mem f fs → Reads 0 m f → CofactorOf f g → Varies g → Mem (table m g) (needed m fs)
+pub mem-needed : {m : ℕ} {f g : Fn} (fs : List Fn) → Mem f fs → Reads 0 m f → CofactorOf f g → Varies g → Mem (truthTable m g) (needed m fs)
 unfolding needed
 mem-needed {m} {f} {g} fs mf r c y =
     by-cases (decLe (c .upto) m)
     (λ h.
-    let e : fix (bitsOf (c .upto) (c .fixed)) f ≡ g = fun-ext (λ v. fix-bitsOf (c .upto) (c .fixed) f v ∙ sym (c .same v)) in
+    let e : fixLevels (bitsOf (c .upto) (c .fixed)) f ≡ g = fun-ext (λ v. fixLevels-bitsOf (c .upto) (c .fixed) f v ∙ sym (c .same v)) in
     let mc : Mem g (flatMap (cofactors m) fs) = mem-cast (sym e) (mem-flatMap (cofactors m) fs mf (mem-cofactors m (c .upto) (c .fixed) f h)) in
-    distinct-mem (table m g) (map (table m) (flatMap (cofactors m) fs)) (mem-map (table m) mc) (varies-mixed (cofactor-reads r c) y))
+    distinct-mem (truthTable m g) (map (truthTable m) (flatMap (cofactors m) fs)) (mem-map (truthTable m) mc) (varies-mixed (cofactor-reads r c) y))
     (λ h. absurd
     (false≢true (sym (y .at-off) ∙ c .same (y .off)
     ∙ r _ _ (λ l a b. splice-below (c .upto) (c .fixed) (y .off) l (omega arith) ∙ sym (splice-below (c .upto) (c .fixed) (y .on) l (omega arith)))
@@ -270,16 +248,16 @@ mem-needed {m} {f} {g} fs mf r c y =
 
 pub nodup-needed : (m : ℕ) (fs : List Fn) → NoDup (needed m fs)
 unfolding needed
-nodup-needed m fs = nodup-distinct (map (table m) (flatMap (cofactors m) fs))
+nodup-needed m fs = nodup-distinct (map (truthTable m) (flatMap (cofactors m) fs))
 
 -- More functions need no fewer rows, and neither order nor repeats count.
 needed-within : (m : ℕ) (fs gs : List Fn) → Within fs gs → Within (needed m fs) (needed m gs)
 unfolding needed
 needed-within m fs gs w t h =
-    let d = mem-distinct t (map (table m) (flatMap (cofactors m) fs)) h in
-    let (g, mg, eg) = mem-of-map (table m) (flatMap (cofactors m) fs) (d .0) in
+    let d = mem-distinct t (map (truthTable m) (flatMap (cofactors m) fs)) h in
+    let (g, mg, eg) = mem-of-map (truthTable m) (flatMap (cofactors m) fs) (d .0) in
     let (f, mf, mc) = mem-of-flatMap (cofactors m) fs mg in
-    distinct-mem t (map (table m) (flatMap (cofactors m) gs)) (mem-cast (sym eg) (mem-map (table m) (mem-flatMap (cofactors m) gs (w f mf) mc))) (d .1)
+    distinct-mem t (map (truthTable m) (flatMap (cofactors m) gs)) (mem-cast (sym eg) (mem-map (truthTable m) (mem-flatMap (cofactors m) gs (w f mf) mc))) (d .1)
 
 pub need-mono : (m : ℕ) (fs gs : List Fn) → Within fs gs → need m fs ≤ need m gs
 unfolding need

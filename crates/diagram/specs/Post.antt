@@ -9,51 +9,54 @@ use native.Mathlib.Omega.{arith}
 use Rattle.diagram.specs.Level.{Val, Fn, Reads, Splits, CofactorOf, Varies, cofactor-refl, cofactor-trans, splits-low, splits-high}
 use Rattle.diagram.specs.Rows.{Rows, row, Arrow, levelOf, den, WellFormed, Extends, Same, Adds}
 use Rattle.diagram.specs.Den.{den-row}
-use Rattle.diagram.specs.Grow.{extends-refl, extends-trans, arrow-extends, den-extends, same-wellFormed, adds-wellFormed, put, put-adds}
+use Rattle.diagram.specs.Grow.{extends-refl, extends-trans, arrow-extends, den-extends, same-wellFormed, adds-wellFormed, put-adds}
+use Rattle.diagram.specs.Used.{usedCount, usedCount-extends}
 use Rattle.diagram.specs.Canon.{not-true, canonical, row-varies, reads-level}
 
--- What an operation answers: an arrow, or that the rows ran out.
-pub data Outcome : Type 0 where
-  done : ℕ → Outcome
-  full : Outcome
+-- What an operation answers: the arrow of its result, or that the rows ran out.
+pub data Result : Type 0 where
+  at : ℕ → Result
+  full : Result
 
 -- The arrow a denotes F.
 pub record Denotes (m : ℕ) (rows : Rows) (a : ℕ) (F : Fn) : Type 0 where
   pub arrow : Arrow rows a
   pub same : (v : Val) → den m rows a v ≡ F v
 
--- All N rows are used, and some non-constant cofactor of F is denoted by none of them.
-pub record Full (m N : ℕ) (rows : Rows) (F : Fn) : Type 0 where
-  pub all-used : (i : ℕ) → i < N → rows .used i ≡ true
+-- The rows have run out, the cause of refusal 8, "step needs more than N rows": at least `limit` of the N rows are used, and some
+-- non-constant cofactor of F, which its result needs a row for, is denoted by none of them. `limit` is N (module Whole) or less.
+pub record Full (m N limit : ℕ) (rows : Rows) (F : Fn) : Type 0 where
+  pub run-out : limit ≤ usedCount rows N
   pub lost : Fn
   pub cofactor : CofactorOf F lost
   pub varies : Varies lost
   pub absent : (i : ℕ) → rows .used i ≡ true → ((v : Val) → den m rows (row i) v ≡ lost v) → ⊥
 
 -- What the answer means, in the table that is left.
-abbrev pub Result : ℕ → ℕ → Rows → Outcome → Fn → Type 0
-Result m N rows (done a) F = Denotes m rows a F
-Result m N rows full F = Full m N rows F
+abbrev pub Answers : ℕ → ℕ → ℕ → Rows → Result → Fn → Type 0
+Answers m N limit rows (at a) F = Denotes m rows a F
+Answers m N limit rows full F = Full m N limit rows F
 
 -- The table stays well formed, used rows stay as they were, every row that became used denotes a cofactor of F (no constant:
 -- `row-varies`), and the answer is an arrow that denotes F, or truly full.
-pub record OpPost (m N : ℕ) (before after : Rows) (answer : Outcome) (F : Fn) : Type 0 where
+pub record OpPost (m N limit : ℕ) (before after : Rows) (answer : Result) (F : Fn) : Type 0 where
   pub wf : WellFormed m N after
   pub kept : Extends before after
   pub fresh : (i : ℕ) → after .used i ≡ true → before .used i ≡ false → CofactorOf F (den m after (row i))
-  pub result : Result m N after answer F
+  pub result : Answers m N limit after answer F
 
--- What the making of a row of level l with arrows a and b does: it takes a where the two are the same, finds the row, adds it, or finds all used.
-pub data Made (m N : ℕ) (before after : Rows) (l a b : ℕ) : Outcome → Type 0 where
-  equal-arrows : a ≡ b → Same before after → Made m N before after l a b (done a)
+-- What the making of a row of level l with arrows a and b does: it takes a where the two are the same, finds the row, adds it, or finds at
+-- least `limit` rows used.
+pub data Making (m N limit : ℕ) (before after : Rows) (l a b : ℕ) : Result → Type 0 where
+  equal-arrows : a ≡ b → Same before after → Making m N limit before after l a b (at a)
   found-row : (i : ℕ) → before .used i ≡ true → before .level i ≡ l → before .low i ≡ a → before .high i ≡ b → Same before after
-      → Made m N before after l a b (done (row i))
+      → Making m N limit before after l a b (at (row i))
   added-row : (i : ℕ) → i < N → a ≢ b → Adds before after i l a b
       → ((j : ℕ) → before .used j ≡ true → before .level j ≡ l → before .low j ≡ a → before .high j ≡ b → ⊥)
-      → Made m N before after l a b (done (row i))
-  no-row : a ≢ b → ((i : ℕ) → i < N → before .used i ≡ true)
+      → Making m N limit before after l a b (at (row i))
+  no-row : a ≢ b → limit ≤ usedCount before N
       → ((j : ℕ) → before .used j ≡ true → before .level j ≡ l → before .low j ≡ a → before .high j ≡ b → ⊥)
-      → Same before after → Made m N before after l a b full
+      → Same before after → Making m N limit before after l a b full
 
 -- An arrow denotes in a larger table what it denoted.
 pub denotes-extends : {m N : ℕ} {old new : Rows} {a : ℕ} {F : Fn} → WellFormed m N old → Extends old new → Denotes m old a F → Denotes m new a F
@@ -65,7 +68,7 @@ pub cofactor-same : {f g h : Fn} → CofactorOf f g → ((v : Val) → h v ≡ g
 cofactor-same c e = record { upto = c .upto; fixed = c .fixed; same = λ v. e v ∙ c .same v }
 
 -- An arrow that is there already answers for its function.
-pub post-arrow : {m N : ℕ} {rows : Rows} {a : ℕ} {F : Fn} → WellFormed m N rows → Denotes m rows a F → OpPost m N rows rows (done a) F
+pub post-arrow : {m N limit : ℕ} {rows : Rows} {a : ℕ} {F : Fn} → WellFormed m N rows → Denotes m rows a F → OpPost m N limit rows rows (at a) F
 post-arrow {rows = rows} wf d = record {
   wf = wf;
   kept = extends-refl rows;
@@ -74,23 +77,23 @@ post-arrow {rows = rows} wf d = record {
 }
 
 -- A promise for F is one for each function with the same values.
-pub post-cong : {m N : ℕ} {before after : Rows} {answer : Outcome} {F G : Fn} → ((v : Val) → F v ≡ G v) → OpPost m N before after answer F → OpPost m N before after answer G
-post-cong {m} {N} {before} {after} {answer} e p = subst (λ H. OpPost m N before after answer H) (fun-ext e) p
+pub post-cong : {m N limit : ℕ} {before after : Rows} {answer : Result} {F G : Fn} → ((v : Val) → F v ≡ G v) → OpPost m N limit before after answer F → OpPost m N limit before after answer G
+post-cong {m} {N} {limit} {before} {after} {answer} e p = subst (λ H. OpPost m N limit before after answer H) (fun-ext e) p
 
 -- A full table is full for each function that has F as a cofactor.
-pub post-full : {m N : ℕ} {before after : Rows} {F G : Fn} → CofactorOf G F → OpPost m N before after full F → OpPost m N before after full G
+pub post-full : {m N limit : ℕ} {before after : Rows} {F G : Fn} → CofactorOf G F → OpPost m N limit before after full F → OpPost m N limit before after full G
 post-full c p =
     let r = p .result in
     record {
       wf = p .wf;
       kept = p .kept;
       fresh = λ i u n. cofactor-trans c (p .fresh i u n);
-      result = record { all-used = r .all-used; lost = r .lost; cofactor = cofactor-trans c (r .cofactor); varies = r .varies; absent = r .absent };
+      result = record { run-out = r .run-out; lost = r .lost; cofactor = cofactor-trans c (r .cofactor); varies = r .varies; absent = r .absent };
     }
 
 -- An operation for a cofactor G of F, and after it one for F, are one for F.
-pub post-then : {m N : ℕ} {before mid after : Rows} {part answer : Outcome} {F G : Fn}
-    → CofactorOf F G → OpPost m N before mid part G → OpPost m N mid after answer F → OpPost m N before after answer F
+pub post-then : {m N limit : ℕ} {before mid after : Rows} {part answer : Result} {F G : Fn}
+    → CofactorOf F G → OpPost m N limit before mid part G → OpPost m N limit mid after answer F → OpPost m N limit before after answer F
 post-then {m} {mid = mid} c p q = record {
   wf = q .wf;
   kept = extends-trans (p .kept) (q .kept);
@@ -101,8 +104,8 @@ post-then {m} {mid = mid} c p q = record {
 }
 
 -- An operation that then changes no row, as by remembering its result, is the same operation.
-pub post-same : {m N : ℕ} {before mid after : Rows} {answer : Outcome} {F : Fn} → Same mid after → OpPost m N before mid answer F → OpPost m N before after answer F
-post-same {m} {N} {mid = mid} {after = after} {answer = answer} {F = F} s p = record {
+pub post-same : {m N limit : ℕ} {before mid after : Rows} {answer : Result} {F : Fn} → Same mid after → OpPost m N limit before mid answer F → OpPost m N limit before after answer F
+post-same {m} {N} {limit} {mid = mid} {after = after} {answer = answer} {F = F} s p = record {
   wf = same-wellFormed s (p .wf);
   kept = extends-trans (p .kept) (s .forth);
   fresh = λ i u n.
@@ -111,10 +114,10 @@ post-same {m} {N} {mid = mid} {after = after} {answer = answer} {F = F} s p = re
   result = keeps answer (p .result);
 }
   where
-    keeps : (o : Outcome) → Result m N mid o F → Result m N after o F
-    keeps (done a) r = denotes-extends (p .wf) (s .forth) r
+    keeps : (o : Result) → Answers m N limit mid o F → Answers m N limit after o F
+    keeps (at a) r = denotes-extends (p .wf) (s .forth) r
     keeps full r = record {
-      all-used = λ i h. s .forth .used i (r .all-used i h);
+      run-out = let g = usedCount-extends N (s .forth) in omega (arith, r .run-out, g);
       lost = r .lost;
       cofactor = r .cofactor;
       varies = r .varies;
@@ -161,16 +164,16 @@ module _ {m N : ℕ} {before : Rows} {l a b : ℕ} {F F0 F1 : Fn} (wf : WellForm
       row-denotes wf′ f (s .used) (s .level) (s .low) (s .high) (denotes-extends wf (s .kept) d0) (denotes-extends wf (s .kept) d1)
 
   -- Where no used row is that row, none denotes F, and F is not constant: seen in the table with the row put at N.
-  missing : a ≢ b → ((i : ℕ) → i < N → before .used i ≡ true)
-      → ((j : ℕ) → before .used j ≡ true → before .level j ≡ l → before .low j ≡ a → before .high j ≡ b → ⊥) → Full m N before F
-  missing ne all fresh =
+  missing : {limit : ℕ} → a ≢ b → limit ≤ usedCount before N
+      → ((j : ℕ) → before .used j ≡ true → before .level j ≡ l → before .low j ≡ a → before .high j ≡ b → ⊥) → Full m N limit before F
+  missing ne out-of fresh =
       let out : before .used N ≡ false = not-true _ (λ u. let h = wf .bounded N u in omega arith) in
       let s = put-adds before N l a b out in
       let wf′ = grown {N′ = suc N} s (omega arith) (omega arith) ne fresh in
       let d = added-denotes s wf′ in
       let y = row-varies wf′ N (s .used) in
       record {
-        all-used = all;
+        run-out = out-of;
         lost = F;
         cofactor = cofactor-refl F;
         varies = record { off = y .off; on = y .on; at-off = sym (d .same (y .off)) ∙ y .at-off; at-on = sym (d .same (y .on)) ∙ y .at-on };
@@ -182,7 +185,7 @@ module _ {m N : ℕ} {before : Rows} {l a b : ℕ} {F F0 F1 : Fn} (wf : WellForm
             omega arith;
       }
 
-  pub post-make : {after : Rows} {answer : Outcome} → Made m N before after l a b answer → OpPost m N before after answer F
+  pub post-make : {limit : ℕ} {after : Rows} {answer : Result} → Making m N limit before after l a b answer → OpPost m N limit before after answer F
   post-make (equal-arrows e s) =
       post-same s (post-arrow wf (record {
         arrow = d0 .arrow;
@@ -194,7 +197,7 @@ module _ {m N : ℕ} {before : Rows} {l a b : ℕ} {F F0 F1 : Fn} (wf : WellForm
             cc (e, e0, e1, c, p);
       }))
   post-make (found-row i u el ea eb s) = post-same s (post-arrow wf (row-denotes wf f u el ea eb d0 d1))
-  post-make {after} (added-row i room ne s fresh) =
+  post-make {after = after} (added-row i room ne s fresh) =
       let wf′ = grown s room (omega arith) ne fresh in
       let d = added-denotes s wf′ in
       record {
@@ -205,28 +208,28 @@ module _ {m N : ℕ} {before : Rows} {l a b : ℕ} {F F0 F1 : Fn} (wf : WellForm
             (λ h. absurd (true≢false (sym (s .only j u h) ∙ n)));
         result = d;
       }
-  post-make (no-row ne all fresh s) =
+  post-make (no-row ne out-of fresh s) =
       post-same s (record {
         wf = wf;
         kept = extends-refl before;
         fresh = λ i u n. absurd (true≢false (sym u ∙ n));
-        result = missing ne all fresh;
+        result = missing ne out-of fresh;
       })
 
 -- What an operation does at level l, by the three ways out of it: the low part is computed, then the high part in the table that the
 -- first left, then a row is made over the two answers. F0 is what the first call computes. F1 is what the second computes, and says it of
 -- the table that it starts from.
-pub data Run (m N : ℕ) (before after : Rows) (l : ℕ) (F0 : Fn) (F1 : Rows → Fn) : Outcome → Type 0 where
-  low-full : OpPost m N before after full F0 → Run m N before after l F0 F1 full
-  high-full : {mid : Rows} {a : ℕ} → OpPost m N before mid (done a) F0 → OpPost m N mid after full (F1 mid) → Run m N before after l F0 F1 full
-  made : {mid high : Rows} {a b : ℕ} {answer : Outcome} → OpPost m N before mid (done a) F0 → OpPost m N mid high (done b) (F1 mid)
-      → Made m N high after l a b answer → Run m N before after l F0 F1 answer
+pub data Run (m N limit : ℕ) (before after : Rows) (l : ℕ) (F0 : Fn) (F1 : Rows → Fn) : Result → Type 0 where
+  low-full : OpPost m N limit before after full F0 → Run m N limit before after l F0 F1 full
+  high-full : {mid : Rows} {a : ℕ} → OpPost m N limit before mid (at a) F0 → OpPost m N limit mid after full (F1 mid) → Run m N limit before after l F0 F1 full
+  made : {mid high : Rows} {a b : ℕ} {answer : Result} → OpPost m N limit before mid (at a) F0 → OpPost m N limit mid high (at b) (F1 mid)
+      → Making m N limit high after l a b answer → Run m N limit before after l F0 F1 answer
 
 -- THE COMPOSITION that every operation shares: such a run is an operation for F, where F splits at level l, below m, into F0 and F1, and
 -- larger tables do not change F1.
-pub compose : {m N : ℕ} {before after : Rows} {l : ℕ} {F F0 : Fn} {F1 : Rows → Fn} {answer : Outcome}
+pub compose : {m N limit : ℕ} {before after : Rows} {l : ℕ} {F F0 : Fn} {F1 : Rows → Fn} {answer : Result}
     → l < m → Splits m l F F0 (F1 before) → ((mid : Rows) → Extends before mid → (v : Val) → F1 mid v ≡ F1 before v)
-    → Run m N before after l F0 F1 answer → OpPost m N before after answer F
+    → Run m N limit before after l F0 F1 answer → OpPost m N limit before after answer F
 compose lm s stable (low-full p) = post-full (splits-low s) p
 compose lm s stable (high-full {mid = mid} p q) = post-then (splits-low s) p (post-full (splits-high s) (post-cong (stable mid (p .kept)) q))
 compose lm s stable (made {mid = mid} p q r) =

@@ -10,12 +10,12 @@ use native.Mathlib.Decide.{decLe}
 use native.Mathlib.Omega.{arith}
 use lib.ListN.{length, length-map}
 use Rattle.diagram.specs.Level.{Val, Fn, splice, splice-below, splice-above, Reads, reads-from, CofactorOf, Varies, cofactor-refl, cofactor-trans, splits-low, splits-high}
-use Rattle.diagram.specs.Rows.{Rows, row, Arrow, levelOf, den, WellFormed}
-use Rattle.diagram.specs.Den.{den-zero, den-one, den-reads, den-row, row-splits}
+use Rattle.diagram.specs.Rows.{Rows, row, Arrow, levelOf, child, den, WellFormed}
+use Rattle.diagram.specs.Den.{den-zero, den-one, den-reads, row-splits, child-arrow, child-deeper, den-chosen}
 use Rattle.diagram.specs.Canon.{canonical, row-varies}
 use Rattle.diagram.specs.Count.{NoDup, Within, nodup-same-length, nodup-map}
-use Rattle.diagram.specs.Need.{table, needed, need}
-use Rattle.diagram.specs.Needed.{table-inj, table-cong, needed-source, mem-needed, nodup-needed}
+use Rattle.diagram.specs.Need.{truthTable, needed, need}
+use Rattle.diagram.specs.Needed.{truthTable-inj, truthTable-cong, needed-source, mem-needed, nodup-needed}
 
 -- Row i is reached from the roots, which are arrows.
 pub data Reach (rows : Rows) (roots : List ℕ) : ℕ → Type 0 where
@@ -52,6 +52,10 @@ module _ (rows : Rows) (roots : List ℕ) where
   reached-high r (suc zero) e = tt
   reached-high r (suc (suc j)) e = by-high r e
 
+  reached-child : {i : ℕ} (b : Bool) → Reach rows roots i → Reached rows roots (child rows i b)
+  reached-child false r = reached-low r _ refl
+  reached-child true r = reached-high r _ refl
+
 module _ {m N : ℕ} {rows : Rows} (wf : WellFormed m N rows) where
   -- An arrow denotes a function of the m levels.
   pub den-reads-all : (a : ℕ) → Arrow rows a → Reads 0 m (den m rows a)
@@ -86,24 +90,12 @@ module _ {m N : ℕ} {rows : Rows} (wf : WellFormed m N rows) where
     Walked a = Arrived m rows roots (λ v. den m rows a (splice k u v))
 
     -- A row of a level below k is left by the arrow of the fixed bit.
-    walk-on : (i : ℕ) (b : Bool) → u (rows .level i) ≡ b → rows .used i ≡ true → rows .level i < k → Walked (rows .high i) → Walked (rows .low i) → Walked (row i)
-    walk-on i true e w h hi lo = record {
-      arrow = hi .arrow;
-      reached = hi .reached;
-      is-arrow = hi .is-arrow;
-      same = λ v.
-          let s = den-row wf i w (splice k u v) in
-          let t = splice-below k u v (rows .level i) h in
-          hi .same v ∙ cc (s, t, e);
-    }
-    walk-on i false e w h hi lo = record {
-      arrow = lo .arrow;
-      reached = lo .reached;
-      is-arrow = lo .is-arrow;
-      same = λ v.
-          let s = den-row wf i w (splice k u v) in
-          let t = splice-below k u v (rows .level i) h in
-          lo .same v ∙ cc (s, t, e);
+    walk-on : (i : ℕ) (b : Bool) → u (rows .level i) ≡ b → rows .used i ≡ true → rows .level i < k → Walked (child rows i b) → Walked (row i)
+    walk-on i b e w h c = record {
+      arrow = c .arrow;
+      reached = c .reached;
+      is-arrow = c .is-arrow;
+      same = λ v. c .same v ∙ sym (den-chosen wf i b w (splice k u v) (splice-below k u v (rows .level i) h ∙ e));
     }
 
     walk-step : (a : ℕ) → Reached rows roots a → Arrow rows a
@@ -111,7 +103,7 @@ module _ {m N : ℕ} {rows : Rows} (wf : WellFormed m N rows) where
     walk-step zero r w below = record { arrow = 0; reached = tt; is-arrow = tt; same = λ v. den-zero m rows v ∙ sym (den-zero m rows _) }
     walk-step (suc zero) r w below = record { arrow = 1; reached = tt; is-arrow = tt; same = λ v. den-one m rows v ∙ sym (den-one m rows _) }
     walk-step (suc (suc i)) r w below =
-        let o = wf .ok i w in
+        let b = u (rows .level i) in
         by-cases (decLe k (rows .level i))
         (λ h. record {
           arrow = row i;
@@ -119,9 +111,7 @@ module _ {m N : ℕ} {rows : Rows} (wf : WellFormed m N rows) where
           is-arrow = w;
           same = λ v. den-reads wf m (row i) w v _ (λ l a b. sym (splice-above k u v l (omega arith)));
         })
-        (λ h. walk-on i (u (rows .level i)) refl w (omega arith)
-        (below (rows .high i) (o .high-deeper) (reached-high rows roots r (rows .high i) refl) (o .high-arrow))
-        (below (rows .low i) (o .low-deeper) (reached-low rows roots r (rows .low i) refl) (o .low-arrow)))
+        (λ h. walk-on i b refl w (omega arith) (below (child rows i b) (child-deeper wf i b w) (reached-child rows roots b r) (child-arrow wf i b w)))
 
     walk-by : (d a : ℕ) → m ≤ levelOf m rows a + d → Reached rows roots a → Arrow rows a → Walked a
     walk-by zero a h r w = walk-step a r w (λ c g r′ w′. let q = level-le c w′ in absurd (omega arith))
@@ -149,11 +139,11 @@ module _ {m N : ℕ} {rows : Rows} (wf : WellFormed m N rows) where
 
   -- The table of what row i denotes. Different rows have different tables.
   abbrev pub tab : ℕ → List Bool
-  tab i = table m (den m rows (row i))
+  tab i = truthTable m (den m rows (row i))
 
   pub tab-inj : (i j : ℕ) → rows .used i ≡ true → rows .used j ≡ true → tab i ≡ tab j → i ≡ j
   tab-inj i j u w e =
-      let q = canonical wf (row i) (row j) u w (table-inj (den-reads-all (row i) u) (den-reads-all (row j) w) e) in
+      let q = canonical wf (row i) (row j) u w (truthTable-inj (den-reads-all (row i) u) (den-reads-all (row j) w) e) in
       omega arith
 
   -- THE COUNT: the rows reachable from the roots are as many as what the roots denote needs.
@@ -171,7 +161,7 @@ module _ {m N : ℕ} {rows : Rows} (wf : WellFormed m N rows) where
         let s = needed-source m (map (den m rows) roots) t h in
         let (a, ma, e) = mem-of-map (den m rows) roots (s .listed) in
         let (i, r, w, q) = cofactor-row roots a (s .part) ma (arrows a ma) (subst (λ f. CofactorOf f (s .part)) (sym e) (s .cofactor)) (s .varies) in
-        mem-cast (sym (table-cong m q ∙ s .told)) (mem-map tab (all i r))
+        mem-cast (sym (truthTable-cong m q ∙ s .told)) (mem-map tab (all i r))
 
     pub reach-count : NoDup is → length is ≡ need m (map (den m rows) roots)
     unfolding need

@@ -1,7 +1,7 @@
 -- The five recursive steps meet the side conditions of `compose`: which two calls and which row make AND, OR, NOT, SHIFT and EXISTS.
 -- Assumes nothing.
 use mathlib.Core.Path.{_≡_, sym, ap, _∙_, subst₂, fun-ext}
-use mathlib.Core.Bool.{true, false, not, true≢false}
+use mathlib.Core.Bool.{Bool, true, false, not, true≢false}
 use mathlib.Core.Logic.{_≢_}
 use Prim.Native.Nat.{ℕ, zero, suc, _≤_, _<_, _%_}
 use native.Mathlib.Omega.{arith}
@@ -10,31 +10,31 @@ use Rattle.diagram.specs.Level.{Val, Fn, T-false, upd, Splits, Reads, re
 use Rattle.diagram.specs.Rows.{Rows, row, Arrow, levelOf, den, WellFormed, Extends}
 use Rattle.diagram.specs.Den.{den-zero, den-one, den-reads, row-splits}
 use Rattle.diagram.specs.Grow.{den-extends}
-use Rattle.diagram.specs.Post.{Outcome, done, Denotes, OpPost, Made, Run, denotes-extends, post-arrow, post-make, post-cong, compose}
-use Rattle.diagram.specs.Steps.{bitF, bit-splits, exists-past, shift-reads, notF, andF, orF, shiftF, existsF, not-splits, and-splits, or-splits, shift-splits, exists-splits, exists-here, lowAt, highAt, parts}
+use Rattle.diagram.specs.Post.{Result, at, Denotes, OpPost, Making, Run, denotes-extends, post-arrow, post-make, post-cong, compose}
+use Rattle.diagram.specs.Steps.{bitF, bit-splits, exists-past, shift-reads, notF, twoF, orF, shiftF, existsF, not-splits, two-splits, shift-splits, exists-splits, exists-here, lowAt, highAt, parts}
 use Rattle.diagram.specs.Even.{ReadsOn, even, cofactor-readsOn, row-level-read, even-reads}
 
 -- Where no call is made: the answer is an arrow that is there already.
 module _ {m N : ℕ} {rows : Rows} (wf : WellFormed m N rows) where
-  answer-arrow : (a : ℕ) (F : Fn) → Arrow rows a → ((v : Val) → den m rows a v ≡ F v) → OpPost m N rows rows (done a) F
+  answer-arrow : {limit : ℕ} (a : ℕ) (F : Fn) → Arrow rows a → ((v : Val) → den m rows a v ≡ F v) → OpPost m N limit rows rows (at a) F
   answer-arrow a F u e = post-arrow wf (record { arrow = u; same = e })
 
-  pub answer-zero : (F : Fn) → ((v : Val) → F v ≡ false) → OpPost m N rows rows (done 0) F
+  pub answer-zero : {limit : ℕ} (F : Fn) → ((v : Val) → F v ≡ false) → OpPost m N limit rows rows (at 0) F
   answer-zero F e = answer-arrow 0 F tt (λ v. den-zero m rows v ∙ sym (e v))
 
-  pub answer-one : (F : Fn) → ((v : Val) → F v ≡ true) → OpPost m N rows rows (done 1) F
+  pub answer-one : {limit : ℕ} (F : Fn) → ((v : Val) → F v ≡ true) → OpPost m N limit rows rows (at 1) F
   answer-one F e = answer-arrow 1 F tt (λ v. den-one m rows v ∙ sym (e v))
 
-  pub answer-same : (a : ℕ) (F : Fn) → Arrow rows a → ((v : Val) → F v ≡ den m rows a v) → OpPost m N rows rows (done a) F
+  pub answer-same : {limit : ℕ} (a : ℕ) (F : Fn) → Arrow rows a → ((v : Val) → F v ≡ den m rows a v) → OpPost m N limit rows rows (at a) F
   answer-same a F u e = answer-arrow a F u (λ v. sym (e v))
 
   -- EXISTS at a level less than the arrow's.
-  pub exists-leaf : (x a : ℕ) → Arrow rows a → x < levelOf m rows a → OpPost m N rows rows (done a) (existsF x (den m rows a))
+  pub exists-leaf : {limit : ℕ} (x a : ℕ) → Arrow rows a → x < levelOf m rows a → OpPost m N limit rows rows (at a) (existsF x (den m rows a))
   exists-leaf x a u h = answer-same a (existsF x (den m rows a)) u (exists-past x h (den-reads wf m a u))
 
 -- The step that makes a bit.
-pub bit-made : {m N l : ℕ} {before after : Rows} {answer : Outcome} → WellFormed m N before → l < m → Made m N before after l 0 1 answer
-    → OpPost m N before after answer (bitF l)
+pub bit-made : {m N limit l : ℕ} {before after : Rows} {answer : Result} → WellFormed m N before → l < m → Making m N limit before after l 0 1 answer
+    → OpPost m N limit before after answer (bitF l)
 bit-made {m} {before = before} wf lm r =
     post-make wf lm (bit-splits m _) (record { arrow = tt; same = λ v. den-zero m before v }) (record { arrow = tt; same = λ v. den-one m before v }) r
 
@@ -46,43 +46,32 @@ remembered {m} {old = old} {new = new} G a b r wf e ua ub d =
     let eb : den m old b ≡ den m new b = fun-ext (λ v. sym (den-extends e wf m b ub v)) in
     subst₂ (λ f g. Denotes m new r (G f g)) ea eb (denotes-extends wf e d)
 
--- AND and OR of the arrows a and b at a level l no greater than theirs.
-module _ {m N : ℕ} {before after : Rows} {answer : Outcome} (l a b : ℕ) (wf : WellFormed m N before) (lm : l < m)
+-- AND and OR, by `op`, of the arrows a and b at a level l no greater than theirs.
+module _ {m N limit : ℕ} {before after : Rows} {answer : Result} (l a b : ℕ) (wf : WellFormed m N before) (lm : l < m)
     (ua : Arrow before a) (ub : Arrow before b) (la : l ≤ levelOf m before a) (lb : l ≤ levelOf m before b) where
-  pub and-run : Run m N before after l (andF (den m before (lowAt before l a)) (den m before (lowAt before l b)))
-      (λ t. andF (den m t (highAt before l a)) (den m t (highAt before l b))) answer
-      → OpPost m N before after answer (andF (den m before a) (den m before b))
-  and-run r =
+  pub two-run : (op : Bool → Bool → Bool) → Run m N limit before after l (twoF op (den m before (lowAt before l a)) (den m before (lowAt before l b)))
+      (λ t. twoF op (den m t (highAt before l a)) (den m t (highAt before l b))) answer
+      → OpPost m N limit before after answer (twoF op (den m before a) (den m before b))
+  two-run op r =
       let s = parts wf l a lm ua la in
       let t = parts wf l b lm ub lb in
-      compose lm (and-splits (s .splits) (t .splits)) (λ mid e v.
-      let p = den-extends e wf m (highAt before l a) (s .high-arrow) v in
-      let q = den-extends e wf m (highAt before l b) (t .high-arrow) v in
-      cc (p, q)) r
-
-  pub or-run : Run m N before after l (orF (den m before (lowAt before l a)) (den m before (lowAt before l b)))
-      (λ t. orF (den m t (highAt before l a)) (den m t (highAt before l b))) answer
-      → OpPost m N before after answer (orF (den m before a) (den m before b))
-  or-run r =
-      let s = parts wf l a lm ua la in
-      let t = parts wf l b lm ub lb in
-      compose lm (or-splits (s .splits) (t .splits)) (λ mid e v.
+      compose lm (two-splits (s .splits) op (t .splits)) (λ mid e v.
       let p = den-extends e wf m (highAt before l a) (s .high-arrow) v in
       let q = den-extends e wf m (highAt before l b) (t .high-arrow) v in
       cc (p, q)) r
 
 -- NOT, EXISTS and SHIFT at row i.
-module _ {m N : ℕ} {before after : Rows} {answer : Outcome} (i : ℕ) (wf : WellFormed m N before) (u : before .used i ≡ true) where
-  pub not-run : Run m N before after (before .level i) (notF (den m before (before .low i))) (λ t. notF (den m t (before .high i))) answer
-      → OpPost m N before after answer (notF (den m before (row i)))
+module _ {m N limit : ℕ} {before after : Rows} {answer : Result} (i : ℕ) (wf : WellFormed m N before) (u : before .used i ≡ true) where
+  pub not-run : Run m N limit before after (before .level i) (notF (den m before (before .low i))) (λ t. notF (den m t (before .high i))) answer
+      → OpPost m N limit before after answer (notF (den m before (row i)))
   not-run r =
       let o = wf .ok i u in
       compose (o .shallow) (not-splits (row-splits wf i u)) (λ mid e v. ap not (den-extends e wf m (before .high i) (o .high-arrow) v)) r
 
   -- EXISTS at a level x greater than the row's.
   pub exists-run : (x : ℕ) → before .level i < x
-      → Run m N before after (before .level i) (existsF x (den m before (before .low i))) (λ t. existsF x (den m t (before .high i))) answer
-      → OpPost m N before after answer (existsF x (den m before (row i)))
+      → Run m N limit before after (before .level i) (existsF x (den m before (before .low i))) (λ t. existsF x (den m t (before .high i))) answer
+      → OpPost m N limit before after answer (existsF x (den m before (row i)))
   exists-run x h r =
       let o = wf .ok i u in
       compose (o .shallow) (exists-splits (row-splits wf i u) x h) (λ mid e v.
@@ -91,8 +80,8 @@ module _ {m N : ℕ} {before after : Rows} {answer : Outcome} (i : ℕ) (wf : We
       cc (p, q)) r
 
   -- EXISTS at the row's own level is OR of its arrows.
-  pub exists-or : OpPost m N before after answer (orF (den m before (before .low i)) (den m before (before .high i)))
-      → OpPost m N before after answer (existsF (before .level i) (den m before (row i)))
+  pub exists-or : OpPost m N limit before after answer (orF (den m before (before .low i)) (den m before (before .high i)))
+      → OpPost m N limit before after answer (existsF (before .level i) (den m before (row i)))
   exists-or p = post-cong (λ v. sym (exists-here (row-splits wf i u) v)) p
 
 -- The number after an odd one is even.
@@ -107,10 +96,10 @@ shift-reads-all zero em on r = λ v w h. r _ _ (λ l a b. absurd (omega arith))
 shift-reads-all (suc k) em on r = reads-from 0 (omega arith) (shift-reads (even-reads 0 k (odd-pred k em) on r))
 
 -- SHIFT at row i of a function of even levels, where m is even: the row that is made is one level further.
-pub shift-run : (m : ℕ) {N : ℕ} {before after : Rows} {answer : Outcome} (i : ℕ) → even m ≡ true → (wf : WellFormed m N before)
+pub shift-run : (m : ℕ) {N limit : ℕ} {before after : Rows} {answer : Result} (i : ℕ) → even m ≡ true → (wf : WellFormed m N before)
     → before .used i ≡ true → ReadsOn even (den m before (row i))
-    → Run m N before after (suc (before .level i)) (shiftF (den m before (before .low i))) (λ t. shiftF (den m t (before .high i))) answer
-    → OpPost m N before after answer (shiftF (den m before (row i)))
+    → Run m N limit before after (suc (before .level i)) (shiftF (den m before (before .low i))) (λ t. shiftF (den m t (before .high i))) answer
+    → OpPost m N limit before after answer (shiftF (den m before (row i)))
 shift-run zero i em wf u on r = absurd (let o = wf .ok i u in omega arith)
 shift-run (suc k) {before = before} i em wf u on r =
     let o = wf .ok i u in

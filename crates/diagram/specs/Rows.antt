@@ -1,22 +1,23 @@
--- A table of decision-diagram rows, seen apart from its words: arrows, well-formed tables, and what an arrow denotes. Assumes nothing.
+-- A table of decision-diagram rows, seen apart from its words: arrows (edges), well-formed tables, and what an arrow denotes. Assumes
+-- nothing.
 use mathlib.Core.Path.{_≡_}
 use mathlib.Core.Logic.{_≢_}
 use mathlib.Core.Bool.{Bool, true, false, cond}
 use Prim.Native.Nat.{ℕ, zero, suc, _<_}
 use Rattle.diagram.specs.Level.{Fn}
 
--- The rows: which are used, and each one's level, low arrow and high arrow.
+-- "A used row has a level, a low arrow (level's bit 0) and a high arrow (bit 1)."
 pub record Rows : Type 0 where
   pub used : ℕ → Bool
   pub level : ℕ → ℕ
   pub low : ℕ → ℕ
   pub high : ℕ → ℕ
 
--- The arrow to row i. Arrow 0 is nothing, and arrow 1 everything.
+-- The arrow to row i.
 abbrev pub row : ℕ → ℕ
 row i = suc (suc i)
 
--- An arrow is 0, 1 or leads to a used row.
+-- "An arrow is 0 (nothing), 1 (everything) or a used row."
 abbrev pub Arrow : Rows → ℕ → Type 0
 Arrow rows zero = Unit {0}
 Arrow rows (suc zero) = Unit {0}
@@ -28,6 +29,11 @@ levelOf m rows zero = m
 levelOf m rows (suc zero) = m
 levelOf m rows (suc (suc i)) = rows .level i
 
+-- A row's arrow for a bit of its level.
+abbrev pub child : Rows → ℕ → Bool → ℕ
+child rows i false = rows .low i
+child rows i true = rows .high i
+
 -- What an arrow denotes: the walk from it along the bits of v, at most `fuel` rows long.
 unfoldable pub den : ℕ → Rows → ℕ → Fn
 den zero rows zero v = false
@@ -37,7 +43,8 @@ den (suc fuel) rows zero v = false
 den (suc fuel) rows (suc zero) v = true
 den (suc fuel) rows (suc (suc i)) v = cond (v (rows .level i)) (den fuel rows (rows .high i) v) (den fuel rows (rows .low i) v)
 
--- What a well-formed table asks of a used row: its arrows are arrows, lead to greater levels, and differ.
+-- What a well-formed table asks of a used row: "row levels are under 2n, and each arrow to a row leads to a greater level; low and high
+-- differ". The levels are m, of any number; 0 and 1 count as at level m.
 pub record RowOk (m : ℕ) (rows : Rows) (i : ℕ) : Type 0 where
   pub shallow : rows .level i < m
   pub low-arrow : Arrow rows (rows .low i)
@@ -46,7 +53,7 @@ pub record RowOk (m : ℕ) (rows : Rows) (i : ℕ) : Type 0 where
   pub high-deeper : rows .level i < levelOf m rows (rows .high i)
   pub reduced : rows .low i ≢ rows .high i
 
--- A well-formed table of N rows over m levels: no two used rows agree in all three.
+-- A well-formed table of N rows over m levels: each used row is as above, "and no two used rows agree in all three".
 pub record WellFormed (m N : ℕ) (rows : Rows) : Type 0 where
   pub bounded : (i : ℕ) → rows .used i ≡ true → i < N
   pub ok : (i : ℕ) → rows .used i ≡ true → RowOk m rows i

@@ -18,11 +18,15 @@ bitF l v = v l
 abbrev pub notF : Fn → Fn
 notF f v = not (f v)
 
+-- AND and OR are one law over the operation on bits.
+abbrev pub twoF : (Bool → Bool → Bool) → Fn → Fn → Fn
+twoF op f g v = op (f v) (g v)
+
 abbrev pub andF : Fn → Fn → Fn
-andF f g v = f v && g v
+andF = twoF _&&_
 
 abbrev pub orF : Fn → Fn → Fn
-orF f g v = f v || g v
+orF = twoF _||_
 
 -- Every level becomes the next one: of a set of states, each current bit becomes its next bit.
 abbrev pub shiftF : Fn → Fn
@@ -49,7 +53,7 @@ bit-splits m l = record { same = λ v. bit (v l); reads0 = λ v w h. refl; reads
     bit false = refl
 
 -- The steps read no more levels than their operands.
-pub two-reads : {lo hi : ℕ} {f g : Fn} (op : Bool → Bool → Bool) → Reads lo hi f → Reads lo hi g → Reads lo hi (λ v. op (f v) (g v))
+pub two-reads : {lo hi : ℕ} {f g : Fn} (op : Bool → Bool → Bool) → Reads lo hi f → Reads lo hi g → Reads lo hi (twoF op f g)
 two-reads op r s v w h =
     let p = r v w h in
     let q = s v w h in
@@ -81,7 +85,7 @@ module _ {m l : ℕ} {f f0 f1 : Fn} (s : Splits m l f f0 f1) where
   }
 
   -- An operation on two functions, as AND and OR.
-  two-splits : (op : Bool → Bool → Bool) {g g0 g1 : Fn} → Splits m l g g0 g1 → Splits m l (λ v. op (f v) (g v)) (λ v. op (f0 v) (g0 v)) (λ v. op (f1 v) (g1 v))
+  pub two-splits : (op : Bool → Bool → Bool) {g g0 g1 : Fn} → Splits m l g g0 g1 → Splits m l (twoF op f g) (twoF op f0 g0) (twoF op f1 g1)
   two-splits op {g} {g0} {g1} t = record {
     same = λ v.
         let p = s .same v in
@@ -91,12 +95,6 @@ module _ {m l : ℕ} {f f0 f1 : Fn} (s : Splits m l f f0 f1) where
     reads0 = two-reads op (s .reads0) (t .reads0);
     reads1 = two-reads op (s .reads1) (t .reads1);
   }
-
-  pub and-splits : {g g0 g1 : Fn} → Splits m l g g0 g1 → Splits m l (andF f g) (andF f0 g0) (andF f1 g1)
-  and-splits t = two-splits _&&_ t
-
-  pub or-splits : {g g0 g1 : Fn} → Splits m l g g0 g1 → Splits m l (orF f g) (orF f0 g0) (orF f1 g1)
-  or-splits t = two-splits _||_ t
 
   -- SHIFT, of a function that reads levels below m: the result reads levels below m + 1, and splits one level further.
   pub shift-splits : Splits (suc m) (suc l) (shiftF f) (shiftF f0) (shiftF f1)

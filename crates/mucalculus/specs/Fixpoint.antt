@@ -8,12 +8,12 @@ use Prim.Native.Nat.{ℕ, zero, suc, _<_}
 use native.Mathlib.Omega.{arith}
 use lib.Dec.{T, ltb, lt→ltb}
 use lib.ListN.{length}
-use Rattle.mucalculus.specs.Sets.{mem, table, length-table, mem-table, mem-lt, and-in, and-out, all, all-in, all-out, any, any-in, any-out, keep, keep-in, keep-out, sets, sets-all, same, same-refl, same-eq}
+use Rattle.mucalculus.specs.Sets.{mem, table, length-table, mem-table, mem-lt, and-in, and-out, all, all-in, all-out, any, any-in, any-out, keep, keep-in, keep-out, bitLists, bitLists-all, same, same-refl, same-eq}
 use Rattle.mucalculus.specs.Order.{Below, Dir, dir-refl, dir-trans, dir-eq, dir-antisym, start, length-start, start-dir, weight, weight-le, rise}
 
 -- all sets A of k states with F A = A
 abbrev pub fixpoints : ℕ → (List Bool → List Bool) → List (List Bool)
-fixpoints k F = keep (λ A. same (F A) A) (sets k)
+fixpoints k F = keep (λ A. same (F A) A) (bitLists k)
 
 -- the least: the states that are in every such set
 abbrev pub least : ℕ → (List Bool → List Bool) → List Bool
@@ -48,11 +48,11 @@ module _ (k : ℕ) (F : List Bool → List Bool) (len : (A : List Bool) → leng
   -- a set with F A = A is among the enumerated ones
   fixed-in : (A : List Bool) → F A ≡ A → List·Memᴰ A (fixpoints k F)
   fixed-in A e =
-      keep-in (λ (B : List Bool). same (F B) B) (subst (λ (n : ℕ). List·Memᴰ A (sets n)) (fixed-length A e) (sets-all A))
+      keep-in (λ (B : List Bool). same (F B) B) (subst (λ (n : ℕ). List·Memᴰ A (bitLists n)) (fixed-length A e) (bitLists-all A))
       (subst (λ (B : List Bool). T (same B A)) (sym e) (same-refl A))
 
   fixed-out : (A : List Bool) → List·Memᴰ A (fixpoints k F) → F A ≡ A
-  fixed-out A m = same-eq (F A) A (keep-out (λ (B : List Bool). same (F B) B) (sets k) m)
+  fixed-out A m = same-eq (F A) A (keep-out (λ (B : List Bool). same (F B) B) (bitLists k) m)
 
   -- the least is below each fixpoint, the greatest above
   pub fix-bound : (b : Bool) (A : List Bool) → F A ≡ A → Dir b (fix b k F) A

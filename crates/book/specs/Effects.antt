@@ -1,0 +1,45 @@
+-- The effect of each call by the outcome of its checks: 3 out of range, then 4 to 7, then the steps. Assumes nothing.
+use mathlib.Core.Path.{_≡_, ap, _∙_}
+use mathlib.Core.Bool.{Bool, cond}
+use mathlib.Core.List.{List}
+use Prim.Native.Nat.{ℕ, suc, _≤_, _<_}
+use native.Mathlib.Omega.{arith}
+use lib.Dec.{ltb, lt→ltb, ltb→lt}
+use Rattle.mucalculus.specs.Sets.{true-of, false-of}
+use Rattle.tokens.specs.declared.Kind.the-variants.{Relation, Set}
+use Rattle.book.specs.Book.{formulaIn, Book, relation, set, registers, relations, checks, Done, refuse, relationSteps, setSteps, passing, formulaCall, does}
+
+-- ---- a number in range, and out of it
+
+module _ {X : Type 0} (x y : X) (k limit : ℕ) where
+  pub in-range : k < limit → cond (ltb k limit) x y ≡ x
+  in-range l = ap (λ (t : Bool). cond t x y) (true-of (ltb k limit) (lt→ltb k limit l))
+
+  pub out-of-range : limit ≤ k → cond (ltb k limit) x y ≡ y
+  out-of-range l = ap (λ (t : Bool). cond t x y) (false-of (ltb k limit) (λ t. let h = ltb→lt k limit t in omega arith))
+
+-- ---- set and relation
+
+-- a call whose number is in range goes by the number of its checks
+checked : (b : Book) (x limit k j : ℕ) (d : Done) → x < limit → k ≡ j → cond (ltb x limit) (passing b k d) (refuse b 3) ≡ passing b j d
+checked b x limit k j d l z = in-range (passing b k d) (refuse b 3) x limit l ∙ ap (λ (i : ℕ). passing b i d) z
+
+module _ (b : Book) (r R : ℕ) (bs : List ℕ) where
+  pub does-set : r < registers → checks b Set bs ≡ 0 → does b (set r R bs) ≡ setSteps b r R (formulaIn b Set bs)
+  does-set l z = checked b r registers (checks b Set bs) 0 (setSteps b r R (formulaIn b Set bs)) l z
+
+  pub set-refused : (k : ℕ) → r < registers → checks b Set bs ≡ suc k → does b (set r R bs) ≡ refuse b (suc k)
+  set-refused k l z = checked b r registers (checks b Set bs) (suc k) (setSteps b r R (formulaIn b Set bs)) l z
+
+  pub set-out-of-range : registers ≤ r → does b (set r R bs) ≡ refuse b 3
+  set-out-of-range l = out-of-range (formulaCall b Set bs (setSteps b r R)) (refuse b 3) r registers l
+
+module _ (b : Book) (t : ℕ) (bs : List ℕ) where
+  pub does-relation : t < relations → checks b Relation bs ≡ 0 → does b (relation t bs) ≡ relationSteps b t (formulaIn b Relation bs)
+  does-relation l z = checked b t relations (checks b Relation bs) 0 (relationSteps b t (formulaIn b Relation bs)) l z
+
+  pub relation-refused : (k : ℕ) → t < relations → checks b Relation bs ≡ suc k → does b (relation t bs) ≡ refuse b (suc k)
+  relation-refused k l z = checked b t relations (checks b Relation bs) (suc k) (relationSteps b t (formulaIn b Relation bs)) l z
+
+  pub relation-out-of-range : relations ≤ t → does b (relation t bs) ≡ refuse b 3
+  relation-out-of-range l = out-of-range (formulaCall b Relation bs (relationSteps b t)) (refuse b 3) t relations l

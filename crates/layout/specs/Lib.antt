@@ -1,0 +1,7 @@
+pub mod Places
+pub mod View
+pub mod Same
+pub mod Header
+pub mod Arrows
+pub mod Roots
+pub mod Refusals

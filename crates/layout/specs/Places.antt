@@ -1,0 +1,121 @@
+-- Names for the places of a table's words; docs/LAYOUT.md has the same list. Assumes nothing.
+use Prim.Native.Nat.{ℕ, _+_, _*_}
+
+-- "The table has N rows, 32 registers, 8 relations and a tally"
+abbrev pub REGISTERS : ℕ
+REGISTERS = 32
+
+abbrev pub RELATIONS : ℕ
+RELATIONS = 8
+
+-- "n from 1 to 16", "N (1 to 60,000)"
+abbrev pub MAX-BITS : ℕ
+MAX-BITS = 16
+
+abbrev pub MAX-ROWS : ℕ
+MAX-ROWS = 60000
+
+-- "at least 256 + 12 × N words": the words before the rows, and those for each row in all
+abbrev pub HEADER : ℕ
+HEADER = 256
+
+abbrev pub ROW-WORDS : ℕ
+ROW-WORDS = 12
+
+-- how many words a table of N rows has
+abbrev pub wordsFor : ℕ → ℕ
+wordsFor N = HEADER + ROW-WORDS * N
+
+-- the header: n
+abbrev pub BITS : ℕ
+BITS = 0
+
+-- N
+abbrev pub ROWS : ℕ
+ROWS = 1
+
+-- the rounds of all answered set calls
+abbrev pub TALLY : ℕ
+TALLY = 2
+
+-- how many rows are used
+abbrev pub USED : ℕ
+USED = 3
+
+-- where the search for an unused row starts
+abbrev pub CURSOR : ℕ
+CURSOR = 4
+
+-- how many slots for remembered results are active, and how many were stored
+abbrev pub SLOTS : ℕ
+SLOTS = 5
+
+abbrev pub STORED : ℕ
+STORED = 6
+
+-- the roots: registers, then relations
+abbrev pub FIRST-REGISTER : ℕ
+FIRST-REGISTER = 16
+
+abbrev pub FIRST-RELATION : ℕ
+FIRST-RELATION = 48
+
+abbrev pub ROOTS-END : ℕ
+ROOTS-END = 56
+
+-- how many roots there are
+abbrev pub ROOTS : ℕ
+ROOTS = 40
+
+-- a row's words: low arrow, high arrow, level
+abbrev pub LOW : ℕ
+LOW = 0
+
+abbrev pub HIGH : ℕ
+HIGH = 1
+
+abbrev pub LEVEL : ℕ
+LEVEL = 2
+
+-- the next row of its chain: 0 or the row + 1
+abbrev pub NEXT : ℕ
+NEXT = 3
+
+-- its place in the list of used rows
+abbrev pub RANK : ℕ
+RANK = 4
+
+-- a remembered unary result: what was asked, and the answer
+abbrev pub MEMO-KEY : ℕ
+MEMO-KEY = 5
+
+abbrev pub MEMO-VALUE : ℕ
+MEMO-VALUE = 6
+
+-- how many words a row has for itself; after N times as many words begins the list of used rows
+abbrev pub CELLS : ℕ
+CELLS = 8
+
+-- after N times as many words begin the heads of the chains
+abbrev pub HEADS : ℕ
+HEADS = 9
+
+-- after N times as many words begin the slots for remembered binary results
+abbrev pub SLOTTED : ℕ
+SLOTTED = 10
+
+-- where row i, the list, the heads and the slots begin, and what is beyond the table
+abbrev pub cellsAt : ℕ → ℕ
+cellsAt i = HEADER + CELLS * i
+
+abbrev pub listAt : ℕ → ℕ
+listAt N = HEADER + CELLS * N
+
+abbrev pub headsAt : ℕ → ℕ
+headsAt N = HEADER + HEADS * N
+
+abbrev pub slotsAt : ℕ → ℕ
+slotsAt N = HEADER + SLOTTED * N
+
+abbrev pub beyondAt : ℕ → ℕ
+beyondAt N = wordsFor N

@@ -1,0 +1,24 @@
+-- Document 01's table of causes. Assumes nothing.
+use Prim.Native.Nat.{ℕ}
+use Rattle.layout.specs.declared.Refusal.{Refusal}
+use Rattle.layout.specs.declared.Refusal.the-variants.{Sizes, Unsound, Range, Syntax, Unbound, Odd, Empty, Full, Spent}
+
+abbrev pub refusalNumber : Refusal → ℕ
+-- "fresh: n, N or slice length"
+refusalNumber Sizes = 1
+-- "table unsound"
+refusalNumber Unsound = 2
+-- "register, relation or state number out of range"
+refusalNumber Range = 3
+-- "bytes not a formula for this call"
+refusalNumber Syntax = 4
+-- "variable unbound, or bound inside itself"
+refusalNumber Unbound = 5
+-- "variable read odd"
+refusalNumber Odd = 6
+-- "register or relation named is empty"
+refusalNumber Empty = 7
+-- "step needs more than N rows"
+refusalNumber Full = 8
+-- "rounds used up"
+refusalNumber Spent = 9

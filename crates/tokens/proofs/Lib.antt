@@ -1,0 +1,4 @@
+-- Modules that belong to no one function.
+pub mod Table
+pub mod Leads
+pub mod Bytes

@@ -1,0 +1,183 @@
+// The tokens of document 01: what each formula byte means, and which tokens a call takes.
+ghost use mathlib.Core.Path.{_≡_};
+ghost use Prim.Native.Nat.{_≤_};
+ghost use Rattle.tokens.specs.Tokens.{tokenOf, grammarOf, isStates, leafAllowed, allowed, leadAt};
+ghost use Rattle.tokens.specs.declared.Lead.the-variants.{Is};
+
+// The call that a formula is for.
+pub enum Kind {
+    Relation,
+    Set,
+}
+
+// What a formula speaks of: pairs of states, or states.
+pub enum Grammar {
+    Pairs,
+    States,
+}
+
+impl Grammar {
+    pub const VERSION: u8 = 1;
+
+    // How many variables there are.
+    pub const VARIABLES: usize = 16;
+}
+
+// How a call's formula is read, where its version is known.
+pub enum Reading {
+    Is(Grammar),
+    Unknown,
+}
+
+// A formula of one byte.
+pub enum Leaf {
+    False,
+    True,
+    Now(u32),
+    Next(u32),
+    Var(u32),
+    Reg(u32),
+}
+
+pub enum Join {
+    And,
+    Or,
+}
+
+// Box and diamond.
+pub enum Mode {
+    All,
+    Some,
+}
+
+pub enum Fix {
+    Mu,
+    Nu,
+}
+
+// A token: a leaf, or an operator with the number that its byte holds.
+pub enum Token {
+    Leaf(Leaf),
+    Not,
+    Both(Join),
+    Modal(Mode, u32),
+    Binder(Fix, u32),
+}
+
+// What stands at a place: a token, or none that can be read.
+pub enum Lead {
+    Is(Token),
+    Bad,
+}
+
+// The grammar of a call's formula, by the version byte.
+pub fn grammar_of(kind: Kind, version: u8) -> Reading
+    ensures { λ r. ⌜ r ≡ grammarOf kind version ⌝ }
+{
+    if version != Grammar::VERSION {
+        return Reading::Unknown;
+    }
+    match kind {
+        Kind::Relation => Reading::Is(Grammar::Pairs),
+        Kind::Set => Reading::Is(Grammar::States),
+    }
+}
+
+// A byte as a word.
+fn wide(b: u8) -> u32
+    ensures { λ r. ⌜ r ≡ b ⌝ }
+{
+    b as u32
+}
+
+// The token of a byte 60 to 6F: box or diamond, and the relation.
+fn modal_of(b: u8) -> Token
+    requires { ⌜ (0x60 ≤ b) × (b ≤ 0x6F) ⌝ }
+    ensures { λ r. ⌜ Is r ≡ tokenOf b ⌝ }
+{
+    let byte = wide(b);
+    if byte < 0x68 {
+        return Token::Modal(Mode::All, byte - 0x60);
+    }
+    Token::Modal(Mode::Some, byte - 0x68)
+}
+
+// The meaning of a byte.
+pub fn token_of(b: u8) -> Lead
+    ensures { λ r. ⌜ r ≡ tokenOf b ⌝ }
+{
+    let byte = wide(b);
+    match b {
+        0x00 => Lead::Is(Token::Leaf(Leaf::False)),
+        0x01 => Lead::Is(Token::Leaf(Leaf::True)),
+        0x02 => Lead::Is(Token::Not),
+        0x03 => Lead::Is(Token::Both(Join::And)),
+        0x04 => Lead::Is(Token::Both(Join::Or)),
+        0x10..=0x1F => Lead::Is(Token::Leaf(Leaf::Now(byte - 0x10))),
+        0x20..=0x2F => Lead::Is(Token::Leaf(Leaf::Next(byte - 0x20))),
+        0x30..=0x3F => Lead::Is(Token::Leaf(Leaf::Var(byte - 0x30))),
+        0x40..=0x5F => Lead::Is(Token::Leaf(Leaf::Reg(byte - 0x40))),
+        0x60..=0x6F => Lead::Is(modal_of(b)),
+        0x70..=0x7F => Lead::Is(Token::Binder(Fix::Mu, byte - 0x70)),
+        0x80..=0x8F => Lead::Is(Token::Binder(Fix::Nu, byte - 0x80)),
+        _ => Lead::Bad,
+    }
+}
+
+// Whether formulas speak of states.
+pub fn is_states(grammar: Grammar) -> bool
+    ensures { λ r. ⌜ r ≡ isStates grammar ⌝ }
+{
+    match grammar {
+        Grammar::Pairs => false,
+        Grammar::States => true,
+    }
+}
+
+// Whether the grammar takes the leaf.
+pub fn leaf_allowed(l: Leaf, n: u32, grammar: Grammar) -> bool
+    ensures { λ r. ⌜ r ≡ leafAllowed l n grammar ⌝ }
+{
+    match l {
+        Leaf::False => true,
+        Leaf::True => true,
+        Leaf::Now(p) => p < n,
+        Leaf::Next(p) => {
+            if is_states(grammar) {
+                return false;
+            }
+            p < n
+        }
+        Leaf::Var(_) => is_states(grammar),
+        Leaf::Reg(_) => is_states(grammar),
+    }
+}
+
+// Whether the grammar takes the token.
+pub fn token_allowed(t: Token, n: u32, grammar: Grammar) -> bool
+    ensures { λ r. ⌜ r ≡ allowed t n grammar ⌝ }
+{
+    match t {
+        Token::Leaf(l) => leaf_allowed(l, n, grammar),
+        Token::Not => true,
+        Token::Both(_) => true,
+        Token::Modal(_, _) => is_states(grammar),
+        Token::Binder(_, _) => is_states(grammar),
+    }
+}
+
+// The token at a place, where there is a byte and the grammar takes its token.
+pub fn lead_at(bytes: &[u8], n: u32, grammar: Grammar, at: usize) -> Lead
+    ensures { λ r. ⌜ r ≡ leadAt n grammar (now (bytes .entry)) at ⌝ }
+{
+    if at < bytes.len() {
+        let Lead::Is(t) = token_of(bytes[at]) else {
+            return Lead::Bad;
+        };
+        if token_allowed(t, n, grammar) {
+            return Lead::Is(t);
+        }
+        return Lead::Bad;
+    }
+    Lead::Bad
+}
