@@ -43,12 +43,17 @@ module _ {W : Type 0} (sound : W → Type 0) (view : W → Table) (asks : W → 
   unfolding computing
   always-one d = let z : _≡_ {A = ℕ} 1 0 = d .agree .0 .value in absurd (omega arith)
 
-  -- and so does one that gives one number to two sets that differ
+  -- or one number to two sets that differ
   pub one-number : (a : ℕ) → Claim (replied 0 (0x10 ∷ []) 0 0 a ∷ replied 1 (0x02 ∷ 0x10 ∷ []) 0 0 a ∷ []) → ⊥
   unfolding computing
   one-number a d =
       let e : false ∷ true ∷ [] ≡ true ∷ false ∷ [] = d .numbers 0 1 (omega arith) (omega arith) (false ∷ true ∷ []) (true ∷ false ∷ []) a a refl refl refl refl .0 refl in
       false≢true (ap first e)
+
+  -- and one that gives two numbers to one set
+  pub two-numbers : (a c : ℕ) → Claim (replied 0 (0x10 ∷ []) 0 0 a ∷ replied 1 (0x03 ∷ 0x10 ∷ 0x10 ∷ []) 0 0 c ∷ []) → a ≡ c
+  unfolding computing
+  two-numbers a c d = d .numbers 0 1 (omega arith) (omega arith) (false ∷ true ∷ []) (false ∷ true ∷ []) a c refl refl refl refl .1 refl
 
   -- one that stores nothing
   pub stores-nothing : (a : ℕ) → view w .reg 0 ≡ none → Claim (replied 0 (0x01 ∷ []) 0 0 a ∷ []) → ⊥
