@@ -3,8 +3,8 @@
 use mathlib.Core.Path.{_≡_, refl, sym, ap, _∙_, subst}
 use mathlib.Core.Logic.{by-cases}
 use mathlib.Core.Bool.{Bool, true, false, true≢false, false≢true}
-use mathlib.Core.List.{List, map}
-use mathlib.Core.List.{List·Memᴰ as Mem, Memᴰ·cast as mem-cast, Memᴰ·map as mem-map, Memᴰ·of-map as mem-of-map}
+use mathlib.Core.List.{List, [], _∷_, map}
+use mathlib.Core.List.{List·Memᴰ as Mem, List·Memᴰ·head as here, List·Memᴰ·eq-of-singleton as mem-only, Memᴰ·cast as mem-cast, Memᴰ·map as mem-map, Memᴰ·of-map as mem-of-map}
 use Prim.Native.Nat.{ℕ, zero, suc, _+_, _≤_, _<_}
 use native.Mathlib.Decide.{decLe}
 use native.Mathlib.Omega.{arith}
@@ -55,6 +55,23 @@ module _ (rows : Rows) (roots : List ℕ) where
   reached-child : {i : ℕ} (b : Bool) → Reach rows roots i → Reached rows roots (child rows i b)
   reached-child false r = reached-low r _ refl
   reached-child true r = reached-high r _ refl
+
+-- From one root: what holds of it holds of every root.
+pub one-root : (P : ℕ → Type 0) {a : ℕ} → P a → (b : ℕ) → Mem b (a ∷ []) → P b
+one-root P p b h = subst P (sym (mem-only h)) p
+
+module _ {rows : Rows} {roots : List ℕ} where
+  -- What a reached arrow reaches is reached.
+  pub reach-on : {a j : ℕ} → Reached rows roots a → Reach rows (a ∷ []) j → Reach rows roots j
+  reach-on {a} r (root {i = j} h) = one-root (Reached rows roots) r (row j) h
+  reach-on r (by-low t e) = by-low (reach-on r t) e
+  reach-on r (by-high t e) = by-high (reach-on r t) e
+
+  -- What is reached is reached from one of the roots.
+  pub reach-from : {j : ℕ} → Reach rows roots j → (a : ℕ) × Mem a roots × Reach rows (a ∷ []) j
+  reach-from (root {i = j} h) = (row j, h, root (here refl))
+  reach-from (by-low t e) = let (a, ma, s) = reach-from t in (a, ma, by-low s e)
+  reach-from (by-high t e) = let (a, ma, s) = reach-from t in (a, ma, by-high s e)
 
 module _ {m N : ℕ} {rows : Rows} (wf : WellFormed m N rows) where
   -- An arrow denotes a function of the m levels.

@@ -92,6 +92,10 @@ MEMO-KEY = 5
 abbrev pub MEMO-VALUE : ℕ
 MEMO-VALUE = 6
 
+-- a word that nothing writes
+abbrev pub SPARE : ℕ
+SPARE = 7
+
 -- how many words a row has for itself; after N times as many words begins the list of used rows
 abbrev pub CELLS : ℕ
 CELLS = 8

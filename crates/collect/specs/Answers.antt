@@ -1,0 +1,52 @@
+-- What a collection asks and answers. Assumes nothing.
+use mathlib.Core.Path.{_≡_, _∙_}
+use mathlib.Core.Logic.{⊎-elim}
+use mathlib.Core.List.{List, map, List·Memᴰ as Mem, List·Memᴰ·append-cases as append-cases, Memᴰ·append-left as append-left}
+use Prim.Native.Nat.{ℕ, _*_}
+use Rattle.diagram.specs.Rows.{Arrow, den}
+use Rattle.diagram.specs.Need.{need}
+use Rattle.layout.specs.Places.{MAX-ROWS, BITS, ROWS, USED, FIRST-REGISTER, ROOTS-END}
+use Rattle.layout.specs.View.{View, view, headerOf}
+use Rattle.layout.specs.declared.Refusal.the-variants.{Unsound}
+use Rattle.soundness.specs.Used.{rowsOf}
+use Rattle.soundness.specs.Mark.{On, Base}
+use Rattle.soundness.specs.Roots.{Held, MarksAll}
+use Rattle.soundness.specs.Sound.{Sound, tableOf}
+use Rattle.soundness.specs.Filled.{filled, filled-arrow}
+use Rattle.collect.specs.Gather.{Gathered}
+use Rattle.collect.specs.Lent.{live, filled-marks}
+use Rattle.collect.specs.Freed.{Freed, freed, freed-count}
+use Rattle.collect.specs.declared.Collected.{Collected}
+use Rattle.collect.specs.declared.Collected.the-variants.{Rows, Refused}
+
+-- what freeing rows asks
+pub record FreePre (W : View) (xs : List ℕ) : Type 0 where
+  pub sound : Sound W
+  pub arrows : (a : ℕ) → Mem a xs → Arrow (rowsOf W) a
+
+-- "collect: frees unneeded rows; returns the rows still needed by registers and relations"
+pub record CollectPost (W X : View) (r : ℕ) : Type 0 where
+  pub freed : Freed W X (filled W)
+  pub needs : r ≡ need (2 * W .header BITS) (map (den (2 * W .header BITS) (rowsOf W)) (filled W))
+
+-- a sound table is collected, and any other words are kept
+abbrev pub CollectAnswer : List ℕ → List ℕ → Collected → Type 0
+CollectAnswer old new (Rows n) = Sound (tableOf old) × CollectPost (tableOf old) (view (headerOf old ROWS) new) n
+CollectAnswer old new (Refused r) = (Sound (tableOf old) → ⊥) × (r ≡ Unsound) × (new ≡ old)
+
+-- what marking asks of a sound table
+pub sound-base : {W : View} → Sound W → Base W MAX-ROWS
+sound-base s = record { words = s .good .sizes .room; rows = s .good .rows; room = s .good .sizes .N-max }
+
+live-arrow : {W : View} {xs : List ℕ} → FreePre W xs → (a : ℕ) → Mem a (live W xs) → Arrow (rowsOf W) a
+live-arrow {W} p a h = ⊎-elim (filled-arrow (p .sound) a) (p .arrows a) (append-cases (filled W) h)
+
+-- the steps of `free_rows`, and of `collect_rows`
+module _ (W X : View) (z m : List ℕ) (none : (i : ℕ) → On z i → ⊥) (g : Gathered W X m) where
+  pub free-by : (xs : List ℕ) → FreePre W xs → MarksAll (rowsOf W) z m (λ a. Mem a (live W xs)) → Freed W X (live W xs)
+  free-by xs p k = freed W (p .sound) (live W xs) (live-arrow p) (λ a h. append-left xs h) z m none k X g
+
+  pub collect-by : Sound W → MarksAll (rowsOf W) z m (Held W FIRST-REGISTER ROOTS-END) → {r : ℕ} → r ≡ X .header USED → CollectPost W X r
+  collect-by s k e =
+      let f = freed W s (filled W) (filled-arrow s) (λ a h. h) z m none (filled-marks k) X g in
+      record { freed = f; needs = e ∙ freed-count W X (filled W) s f }

@@ -1,0 +1,4 @@
+pub mod Gather
+pub mod Lent
+pub mod Freed
+pub mod Answers

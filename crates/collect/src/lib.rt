@@ -1,0 +1,135 @@
+// Collecting: the rows that no root needs become unused.
+use layout::Refusal;
+use layout::Table;
+use layout::get;
+use layout::header_word;
+use layout::listed;
+use layout::put_head;
+use layout::put_header;
+use soundness::bucket_of;
+use soundness::mark;
+use soundness::mark_refs;
+use soundness::sound;
+use table::append;
+ghost use mathlib.Core.Path.{_≡_};
+ghost use mathlib.Core.List.{List·Memᴰ as Mem};
+ghost use Prim.Native.Nat.{ℕ, _*_, _<_, _≤_};
+ghost use lib.ListN.{length};
+ghost use Rattle.layout.specs.Places.{MAX-ROWS, USED, FIRST-REGISTER, ROOTS-END, wordsFor};
+ghost use Rattle.layout.specs.View.{view, listOf, putHeader};
+ghost use Rattle.soundness.specs.Used.{rowsOf};
+ghost use Rattle.soundness.specs.Mark.{On};
+ghost use Rattle.soundness.specs.Roots.{MarksAll, RefsPre};
+ghost use Rattle.soundness.specs.Sound.{Good, Sound};
+ghost use Rattle.collect.specs.Lent.{LentPre, live};
+ghost use Rattle.collect.specs.Gather.{Headed, Part, GatherPre, Gathered};
+ghost use Rattle.collect.specs.Freed.{Freed};
+ghost use Rattle.collect.specs.Answers.{FreePre, CollectPost, CollectAnswer};
+
+// Marks the rows that a list of arrows reaches.
+fn mark_list(words: &[u32], rows: u32, marks: &mut [u8], roots: &[u32])
+    requires { ⌜ LentPre (view rows (now words)) (length (now marks)) (now roots) ⌝ }
+    ensures { λ _. ⌜ MarksAll (rowsOf (view rows (now (words .entry)))) (now (marks .entry)) (now (marks .exit)) (λ a. Mem a (now (roots .entry))) ⌝ }
+{
+    let mut k = 0;
+    while k < roots.len() {
+        mark(words, rows, marks, roots[k]);
+        k += 1;
+    }
+}
+
+// Marks the rows that registers, relations and further roots reach.
+fn mark_roots(words: &[u32], rows: u32, marks: &mut [u8], roots: &[u32])
+    requires { ⌜ RefsPre (view rows (now words)) (length (now marks)) FIRST-REGISTER ROOTS-END × LentPre (view rows (now words)) (length (now marks)) (now roots) ⌝ }
+    ensures { λ _. ⌜ MarksAll (rowsOf (view rows (now (words .entry)))) (now (marks .entry)) (now (marks .exit)) (λ a. Mem a (live (view rows (now (words .entry))) (now (roots .entry)))) ⌝ }
+{
+    mark_refs(words, rows, marks, Table::FIRST_REGISTER, Table::ROOTS_END);
+    mark_list(words, rows, marks, roots);
+}
+
+// The heads of the buckets of the first `total` listed rows become empty.
+fn clear_heads(words: &mut [u32], rows: u32, total: u32)
+    requires { ⌜ (total ≤ rows) × (rows ≤ MAX-ROWS) × (wordsFor rows ≤ length (now words)) × ((k : ℕ) → k < total → listOf rows (now words) k < rows) ⌝ }
+    ensures { λ _. ⌜ Headed (view rows (now (words .entry))) (view rows (now (words .exit))) ⌝ }
+{
+    let mut k = 0;
+    while k < total {
+        let i = listed(words, rows, k);
+        let level = get(words, rows, i, Table::LEVEL);
+        let low = get(words, rows, i, Table::LOW);
+        let high = get(words, rows, i, Table::HIGH);
+        put_head(words, rows, bucket_of(rows, level, low, high), 0);
+        k += 1;
+    }
+}
+
+// The marked rows of the first `total` listed rows become used, in their order.
+fn regather(words: &mut [u32], rows: u32, total: u32, marks: &[u8])
+    requires { ⌜ GatherPre (view rows (now words)) total (length (now marks)) ⌝ }
+    ensures { λ _. ⌜ Part (putHeader (view rows (now (words .entry))) 3 total) (λ j. On (now (marks .entry)) j) total (view rows (now (words .exit))) ⌝ }
+{
+    let mut k = 0;
+    while k < total {
+        let i = listed(words, rows, k);
+        let at = i as usize;
+        if marks[at] == 1 {
+            append(words, rows, i);
+        }
+        k += 1;
+    }
+}
+
+// The rows without a mark become unused, and the index is made anew.
+fn gather(words: &mut [u32], rows: u32, marks: &[u8])
+    requires { ⌜ Good (view rows (now words)) × (rows ≤ length (now marks)) ⌝ }
+    ensures { λ _. ⌜ Gathered (view rows (now (words .entry))) (view rows (now (words .exit))) (now (marks .entry)) ⌝ }
+{
+    let total = header_word(words, Table::USED);
+    put_header(words, rows, Table::USED, 0);
+    clear_heads(words, rows, total);
+    regather(words, rows, total, marks);
+}
+
+// Frees the rows that no register, no relation and none of the further roots needs.
+pub fn free_rows(words: &mut [u32], rows: u32, roots: &[u32])
+    requires { ⌜ FreePre (view rows (now words)) (now roots) ⌝ }
+    ensures { λ _. ⌜ Freed (view rows (now (words .entry))) (view rows (now (words .exit))) (live (view rows (now (words .entry))) (now (roots .entry))) ⌝ }
+{
+    let mut marks = [0u8; Table::MAX_ROWS as usize];
+    mark_roots(words, rows, &mut marks, roots);
+    gather(words, rows, &marks);
+}
+
+// Frees the rows that no register and no relation needs, and returns how many are left.
+fn collect_rows(words: &mut [u32], rows: u32) -> u32
+    requires { ⌜ Sound (view rows (now words)) ⌝ }
+    ensures { λ r. ⌜ CollectPost (view rows (now (words .entry))) (view rows (now (words .exit))) r ⌝ }
+{
+    let mut marks = [0u8; Table::MAX_ROWS as usize];
+    mark_refs(
+        words,
+        rows,
+        &mut marks,
+        Table::FIRST_REGISTER,
+        Table::ROOTS_END,
+    );
+    gather(words, rows, &marks);
+    header_word(words, Table::USED)
+}
+
+// What a collection answers: how many rows are left, or why not.
+pub enum Collected {
+    Rows(u32),
+    Refused(Refusal),
+}
+
+// Frees the rows that no register and no relation needs.
+pub fn collect(words: &mut [u32]) -> Collected
+    ensures { λ r. ⌜ CollectAnswer (now (words .entry)) (now (words .exit)) r ⌝ }
+{
+    if !sound(words) {
+        return Collected::Refused(Refusal::Unsound);
+    }
+    let rows = header_word(words, Table::ROWS);
+    Collected::Rows(collect_rows(words, rows))
+}

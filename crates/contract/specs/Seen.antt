@@ -1,0 +1,63 @@
+-- The table that lent words hold, as the book sees it. Assumes nothing.
+use mathlib.Core.Path.{_≡_, refl, sym, ap, _∙_, subst}
+use mathlib.Core.Bool.{true}
+use mathlib.Core.List.{List, [], _∷_}
+use mathlib.Core.Option.{Option, none, some}
+use Prim.Native.Nat.{ℕ, zero, suc, _+_, _*_, _<_}
+use native.Mathlib.Omega.{arith}
+use Rattle.layout.specs.Places.{BITS, TALLY, FIRST-REGISTER, FIRST-RELATION}
+use Rattle.layout.specs.View.{View}
+use Rattle.diagram.specs.Rows.{Arrow}
+use Rattle.diagram.specs.Reach.{Reach}
+use Rattle.diagram.specs.Even.{even}
+use Rattle.soundness.specs.Used.{rowsOf}
+use Rattle.soundness.specs.Roots.{Ref}
+use Rattle.soundness.specs.Sound.{Sound, tableOf}
+use Rattle.book.specs.Book.{registers, relations}
+use Rattle.book.specs.Stored.{some-inj, none-some}
+use Rattle.book.specs.Table.{Table, Shows}
+use Rattle.book.specs.BookOf.{SoundTable, bookOf, shows-bookOf}
+
+-- the arrow in a root's word: 0 is empty, else the arrow + 1
+abbrev pub arrowIn : ℕ → Option ℕ
+arrowIn zero = none
+arrowIn (suc a) = some a
+
+-- n, N, tally, rows, registers and relations of a view
+abbrev pub seenIn : View → Table
+seenIn W = record {
+  n = W .header BITS;
+  N = W .rows;
+  tally = W .header TALLY;
+  rows = rowsOf W;
+  reg = λ r. arrowIn (W .header (FIRST-REGISTER + r));
+  rel = λ t. arrowIn (W .header (FIRST-RELATION + t));
+}
+
+-- of lent words
+abbrev pub seen : List ℕ → Table
+seen ws = seenIn (tableOf ws)
+
+-- "A table is sound when", of lent words
+abbrev pub SoundWords : List ℕ → Type 0
+SoundWords ws = Sound (tableOf ws)
+
+-- ---- a sound table stands for a book, and shows it
+
+-- a filled root's word
+pub word-of : (w a : ℕ) → arrowIn w ≡ some a → w ≡ suc a
+word-of zero a e = absurd (none-some e)
+word-of (suc b) a e = ap suc (some-inj e)
+
+pub sound-table : (W : View) → Sound W → SoundTable (seenIn W)
+sound-table W s = record {
+  wf = s .good .rows;
+  reg = λ r l a e.
+      let w = word-of (W .header (FIRST-REGISTER + r)) a e in
+      (subst (Ref (rowsOf W)) w (s .refs (FIRST-REGISTER + r) (omega arith) (omega arith)), λ i. s .even (FIRST-REGISTER + r) (omega arith) (omega arith) a w i);
+  rel = λ t l a e. subst (Ref (rowsOf W)) (word-of (W .header (FIRST-RELATION + t)) a e) (s .refs (FIRST-RELATION + t) (omega arith) (omega arith));
+}
+
+-- the book that words stand for is the one that they show
+pub sound-shows-book : (ws : List ℕ) → SoundWords ws → Shows (bookOf (seen ws)) (seen ws)
+sound-shows-book ws s = shows-bookOf (seen ws) (sound-table (tableOf ws) s)

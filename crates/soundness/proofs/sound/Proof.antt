@@ -1,0 +1,17 @@
+-- `sound` meets its contract: words of the wrong sizes are no sound table, and the rest is `table_ok`. Assumes nothing.
+use mathlib.Core.Path.{sym}
+use native.Mathlib.Omega.{arith}
+use borrow.Author.Needs.{needs}
+use Rattle.soundness.specs.Says.{fails, says-pass, says-fail}
+use Rattle.soundness.proofs.sound.Statement.{statement}
+use Rattle.soundness.proofs.sound.Tie as tie
+
+pub sound-spec : {M : Type 1} → statement M
+sound-spec =
+    tie.close
+    (tie.spec
+    (λ c κs. search needs)
+    (λ c. fails (λ q. says-fail (c .if1 .taken) (c .before .sizes-ok .ensures) (q .good .sizes)))
+    (λ c κs. let s = says-pass (c .if1 .left) (c .before .sizes-ok .ensures) in omega arith)
+    (λ c κs. let s = says-pass (c .before .if1 .left) (c .before .before .sizes-ok .ensures) in (rw (c .header-word .ensures) s, sym (c .header-word .ensures)))
+    (λ c. rw (c .before .header-word .ensures) at (c .table-ok .ensures)))

@@ -1,0 +1,159 @@
+-- When a table is sound, and that the parts of the check decide it. Assumes nothing.
+use mathlib.Core.Path.{_≡_, subst}
+use mathlib.Core.Bool.{true}
+use mathlib.Core.Logic.{⊎-elim}
+use mathlib.Core.List.{List, [], _∷_}
+use Prim.Native.Nat.{ℕ, zero, suc, _*_, _%_, _≤_, _<_}
+use native.Mathlib.Omega.{arith}
+use lib.ListN.{replicate}
+use borrow.Author.Tests.{eq-eqb, eqb-true}
+use Rattle.layout.specs.Places.{BITS, ROWS, USED, FIRST-REGISTER, FIRST-RELATION, ROOTS-END, LOW, HIGH, LEVEL, RANK}
+use Rattle.diagram.specs.Rows.{Arrow, levelOf, RowOk, WellFormed}
+use Rattle.diagram.specs.Reach.{Reach, one-root}
+use Rattle.diagram.specs.Even.{even}
+use Rattle.layout.specs.View.{View, view, headerOf}
+use Rattle.soundness.specs.Used.{Sizes, used, used-in, Ranked, listed-used, rowsOf}
+use Rattle.soundness.specs.Index.{Index, hit-one}
+use Rattle.soundness.specs.Mark.{On, OnArrow, Closed, closed-reach, reaches-used}
+use Rattle.soundness.specs.Roots.{Ref, Held, MarksAll}
+use Rattle.soundness.specs.Checks.{Room, Placed, Leads, RowGood, Finds, Links, EvenMarked}
+
+-- "each register is empty or an arrow whose rows all have even levels"
+abbrev pub EvenRegs : View → Type 0
+EvenRegs W = (h : ℕ) → FIRST-REGISTER ≤ h → h < FIRST-RELATION → (a : ℕ) → W .header h ≡ suc a → (i : ℕ) → Reach (rowsOf W) (a ∷ []) i → even (rowsOf W .level i) ≡ true
+
+-- the rows are sound
+pub record Good (W : View) : Type 0 where
+  -- "n and N are in range and the slice is long enough"
+  pub sizes : Sizes (W .header BITS) (W .rows) (W .size)
+  pub rows-is : W .header ROWS ≡ W .rows
+  -- "a list of unused rows, if one is kept, holds those and only those, each once": ours is that of the used rows
+  pub ranked : Ranked W
+  -- "row levels are under 2n, and each arrow to a row leads to a greater level", "low and high differ, and no two used rows agree in all three"
+  pub rows : WellFormed (2 * W .header BITS) (W .rows) (rowsOf W)
+  -- "the lookup index finds every used row"
+  pub index : Index W
+
+-- "A table is sound when": its rows are, and
+pub record Sound (W : View) : Type 0 where
+  pub good : Good W
+  -- "each register is empty or an arrow"; "each relation is empty or any arrow"
+  pub refs : (h : ℕ) → FIRST-REGISTER ≤ h → h < ROOTS-END → Ref (rowsOf W) (W .header h)
+  pub even : EvenRegs W
+
+-- the table that words hold
+abbrev pub tableOf : List ℕ → View
+tableOf ws = view (headerOf ws ROWS) ws
+
+-- what the parts of the check find
+pub record Parts (W : View) : Type 0 where
+  pub sizes : Sizes (W .header BITS) (W .rows) (W .size)
+  pub rows-is : W .header ROWS ≡ W .rows
+  pub count-le : W .header USED ≤ W .rows
+  pub list : (k : ℕ) → k < W .header USED → Placed W k
+  pub rows : (k : ℕ) → k < W .header USED → RowGood W (2 * W .header BITS) (W .list k)
+  pub index : (k : ℕ) → k < W .header USED → Finds W (W .list k)
+
+module _ (W : View) where
+  abbrev m : ℕ
+  m = 2 * W .header BITS
+
+  pub ranked-of : W .header USED ≤ W .rows → ((k : ℕ) → k < W .header USED → Placed W k) → Ranked W
+  ranked-of c p = record { count-le = c; within = λ k h. p k h .0; back = λ k h. p k h .1 }
+
+  pub room-of : {n : ℕ} → Sizes n (W .rows) (W .size) → W .header USED ≤ W .rows → Room W
+  room-of z c = record { words = z .room; count-le = c; max = z .N-max }
+
+  -- what holds along the list holds of each used row
+  pub along : (P : ℕ → Type 0) → ((k : ℕ) → k < W .header USED → P (W .list k)) → (i : ℕ) → used W i ≡ true → P i
+  along P h i u = let q = used-in (W .rows) (W .header USED) (λ x. W .cell x RANK) (W .list) i u in subst P (q .there) (h (W .cell i RANK) (q .place))
+
+  pub links-of : Room W → ((k : ℕ) → k < W .header USED → RowGood W m (W .list k)) → Links W
+  links-of r h = record { room = r; nexts = λ i u. along (λ i. RowGood W m i) h i u .next }
+
+  leads-arrow : (above a : ℕ) → Leads W above a → Arrow (rowsOf W) a
+  leads-arrow above zero l = tt
+  leads-arrow above (suc zero) l = tt
+  leads-arrow above (suc (suc i)) l = l .0
+
+  leads-deeper : (above a : ℕ) → above < m → Leads W above a → above < levelOf m (rowsOf W) a
+  leads-deeper above zero h l = h
+  leads-deeper above (suc zero) h l = h
+  leads-deeper above (suc (suc j)) h l = l .1
+
+  arrow-leads : (above a : ℕ) → Arrow (rowsOf W) a → above < levelOf m (rowsOf W) a → Leads W above a
+  arrow-leads above zero u g = tt
+  arrow-leads above (suc zero) u g = tt
+  arrow-leads above (suc (suc j)) u g = (u, g)
+
+  module _ (p : Parts W) where
+    good-row : (i : ℕ) → used W i ≡ true → RowGood W m i
+    good-row = along (λ i. RowGood W m i) (p .rows)
+
+    finds : (i : ℕ) → used W i ≡ true → Finds W i
+    finds = along (λ i. Finds W i) (p .index)
+
+    ok-of : (i : ℕ) → used W i ≡ true → RowOk m (rowsOf W) i
+    ok-of i u = let g = good-row i u in record {
+      shallow = g .level;
+      low-arrow = leads-arrow (W .cell i LEVEL) (W .cell i LOW) (g .low);
+      high-arrow = leads-arrow (W .cell i LEVEL) (W .cell i HIGH) (g .high);
+      low-deeper = leads-deeper (W .cell i LEVEL) (W .cell i LOW) (g .level) (g .low);
+      high-deeper = leads-deeper (W .cell i LEVEL) (W .cell i HIGH) (g .level) (g .high);
+      reduced = g .differ;
+    }
+
+    shared-of : (i j : ℕ) → used W i ≡ true → used W j ≡ true → W .cell i LEVEL ≡ W .cell j LEVEL → W .cell i LOW ≡ W .cell j LOW → W .cell i HIGH ≡ W .cell j HIGH → i ≡ j
+    shared-of i j u v el elo ehi = let a : Finds W i = finds i u in hit-one (rw (el, elo, ehi) at a) (finds j v)
+
+    pub good-of : Good W
+    good-of = record {
+      sizes = p .sizes;
+      rows-is = p .rows-is;
+      ranked = ranked-of (p .count-le) (p .list);
+      rows = record { bounded = λ i u. used-in (W .rows) (W .header USED) (λ x. W .cell x RANK) (W .list) i u .row; ok = ok-of; shared = shared-of };
+      index = record { nexts = λ i u. good-row i u .next; found = finds };
+    }
+
+  module _ (g : Good W) where
+    row-good : (i : ℕ) → used W i ≡ true → RowGood W m i
+    row-good i u = let o : RowOk m (rowsOf W) i = g .rows .ok i u in record {
+      level = o .shallow;
+      differ = o .reduced;
+      low = arrow-leads (W .cell i LEVEL) (W .cell i LOW) (o .low-arrow) (o .low-deeper);
+      high = arrow-leads (W .cell i LEVEL) (W .cell i HIGH) (o .high-arrow) (o .high-deeper);
+      next = g .index .nexts i u;
+    }
+
+    pub of-good : Parts W
+    of-good = record {
+      sizes = g .sizes;
+      rows-is = g .rows-is;
+      count-le = g .ranked .count-le;
+      list = λ k h. (g .ranked .within k h, g .ranked .back k h);
+      rows = λ k h. row-good (W .list k) (listed-used W (g .ranked) k h);
+      index = λ k h. g .index .found (W .list k) (listed-used W (g .ranked) k h);
+    }
+
+-- nothing is marked in a list of zeros
+pub no-marks : (n i : ℕ) → On (replicate n 0) i → ⊥
+no-marks zero i o = absurd (omega arith)
+no-marks (suc n) zero o = absurd (omega arith)
+no-marks (suc n) (suc i) o = no-marks n i o
+
+-- the registers' rows are those that were marked from them
+module _ (W : View) (ranked : Ranked W) (wf : WellFormed (2 * W .header BITS) (W .rows) (rowsOf W)) (z z′ : List ℕ) (none : (i : ℕ) → On z i → ⊥)
+    (k : MarksAll (rowsOf W) z z′ (Held W FIRST-REGISTER FIRST-RELATION)) (refs : (h : ℕ) → FIRST-REGISTER ≤ h → h < FIRST-RELATION → Ref (rowsOf W) (W .header h)) where
+  pub marked-even : EvenMarked W z′ → EvenRegs W
+  marked-even e h a b x q i r =
+      let d : Held W FIRST-REGISTER FIRST-RELATION x = record { at = h; from = a; below = b; holds = q } in
+      let c : Closed (rowsOf W) z′ = k .closed (record { low = λ j o. absurd (none j o); high = λ j o. absurd (none j o) }) in
+      let o : On z′ i = closed-reach c (one-root (OnArrow z′) (k .has x d)) r in
+      let u : used W i ≡ true = reaches-used wf (subst (Ref (rowsOf W)) q (refs h a b)) r in
+      eq-eqb _ _ (along W (λ j. On z′ j → W .cell j LEVEL % 2 ≡ 0) e i u o)
+
+  pub even-marked : EvenRegs W → EvenMarked W z′
+  even-marked e p l o =
+      ⊎-elim (λ n. absurd (none (W .list p) n))
+      (λ t. let d = t .1 in eqb-true _ _ (e (d .at) (d .from) (d .below) (t .0) (d .holds) (W .list p) (t .2)))
+      (k .only (W .list p) o)

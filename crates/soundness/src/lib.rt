@@ -1,0 +1,392 @@
+// Whether words are a sound table.
+use layout::Table;
+use layout::get;
+use layout::head;
+use layout::header_word;
+use layout::is_row;
+use layout::listed;
+use layout::row_of;
+ghost use mathlib.Core.Path.{_≡_};
+ghost use Prim.Native.Nat.{ℕ, suc, _*_, _<_, _≤_};
+ghost use lib.ListN.{length};
+ghost use Rattle.layout.specs.Places.{MAX-ROWS, HEADER, wordsFor, BITS, ROWS, FIRST-REGISTER, FIRST-RELATION};
+ghost use Rattle.layout.specs.View.{view, headerOf, listOf, headOf};
+ghost use Rattle.soundness.specs.Used.{Sizes, used, rowsOf, Ranked};
+ghost use Rattle.soundness.specs.Index.{bucket, live, Has, Hit, Down, Link};
+ghost use Rattle.soundness.specs.Mark.{Marks, MarkPre};
+ghost use Rattle.soundness.specs.Roots.{Ref, MarksAll, RefPre, RefsPre, Held};
+ghost use Rattle.soundness.specs.Says.{Says};
+ghost use Rattle.soundness.specs.Checks.{Room, Placed, Leads, RowGood, Finds, Links, EvenMarked};
+ghost use Rattle.soundness.specs.Sound.{EvenRegs, Sound, tableOf};
+
+// The bucket of a row's three words in a table of `rows` rows.
+pub fn bucket_of(rows: u32, level: u32, low: u32, high: u32) -> u32
+    requires { ⌜ (0 < rows) × (rows ≤ MAX-ROWS) ⌝ }
+    ensures { λ r. ⌜ (r ≡ bucket rows level low high) × (r < rows) ⌝ }
+{
+    let x = 2654435761 * (low as u64) % 4294967296;
+    let y = 2246822519 * (high as u64) % 4294967296;
+    let z = 3266489917 * (level as u64) % 4294967296;
+    let h = (x + (y + z)) % 4294967296;
+    (h * (rows as u64) / 4294967296) as u32
+}
+
+// Whether row i is used.
+pub fn used_row(words: &[u32], rows: u32, i: u32) -> bool
+    requires { ⌜ Room (view rows (now words)) ⌝ }
+    ensures { λ r. ⌜ r ≡ used (view rows (now (words .entry))) i ⌝ }
+{
+    if i >= rows {
+        return false;
+    }
+    let k = get(words, rows, i, Table::RANK);
+    if k >= header_word(words, Table::USED) {
+        return false;
+    }
+    if listed(words, rows, k) != i {
+        return false;
+    }
+    true
+}
+
+// Whether an arrow is 0, 1 or leads to a used row of a level above a bound.
+fn lead_ok(words: &[u32], rows: u32, above: u32, a: u32) -> bool
+    requires { ⌜ Room (view rows (now words)) ⌝ }
+    ensures { λ r. ⌜ Says (Leads (view rows (now (words .entry))) above a) r ⌝ }
+{
+    if !is_row(a) {
+        return true;
+    }
+    let i = row_of(a);
+    if !used_row(words, rows, i) {
+        return false;
+    }
+    if get(words, rows, i, Table::LEVEL) <= above {
+        return false;
+    }
+    true
+}
+
+// Whether a link is 0 or leads to a used row of a rank below a bound.
+fn link_ok(words: &[u32], rows: u32, below: u32, p: u32) -> bool
+    requires { ⌜ Room (view rows (now words)) ⌝ }
+    ensures { λ r. ⌜ Says (Down (view rows (now (words .entry))) below p) r ⌝ }
+{
+    if p == 0 {
+        return true;
+    }
+    let j = p - 1;
+    if !used_row(words, rows, j) {
+        return false;
+    }
+    if get(words, rows, j, Table::RANK) >= below {
+        return false;
+    }
+    true
+}
+
+// Whether row i is in order: its level, its arrows and its link.
+fn row_ok(words: &[u32], rows: u32, levels: u32, i: u32) -> bool
+    requires { ⌜ (i < rows) × Room (view rows (now words)) ⌝ }
+    ensures { λ r. ⌜ Says (RowGood (view rows (now (words .entry))) levels i) r ⌝ }
+{
+    let level = get(words, rows, i, Table::LEVEL);
+    if level >= levels {
+        return false;
+    }
+    let low = get(words, rows, i, Table::LOW);
+    let high = get(words, rows, i, Table::HIGH);
+    if low == high {
+        return false;
+    }
+    if !lead_ok(words, rows, level, low) {
+        return false;
+    }
+    if !lead_ok(words, rows, level, high) {
+        return false;
+    }
+    link_ok(
+        words,
+        rows,
+        get(words, rows, i, Table::RANK),
+        get(words, rows, i, Table::NEXT),
+    )
+}
+
+// Whether each place of the list of used rows has a row whose rank it is.
+fn list_ok(words: &[u32], rows: u32, used: u32) -> bool
+    requires { ⌜ (used ≤ rows) × (wordsFor rows ≤ length (now words)) ⌝ }
+    ensures { λ r. ⌜ Says ((k : ℕ) → k < used → Placed (view rows (now (words .entry))) k) r ⌝ }
+{
+    let mut k = 0;
+    while k < used {
+        let i = listed(words, rows, k);
+        if i >= rows {
+            return false;
+        }
+        if get(words, rows, i, Table::RANK) != k {
+            return false;
+        }
+        k += 1;
+    }
+    true
+}
+
+// Whether every used row is in order.
+fn rows_ok(words: &[u32], rows: u32, used: u32, levels: u32) -> bool
+    requires { ⌜ (used ≤ rows) × Room (view rows (now words)) × ((k : ℕ) → k < used → Placed (view rows (now words)) k) ⌝ }
+    ensures { λ r. ⌜ Says ((k : ℕ) → k < used → RowGood (view rows (now (words .entry))) levels (listOf rows (now (words .entry)) k)) r ⌝ }
+{
+    let mut k = 0;
+    while k < used {
+        if !row_ok(words, rows, levels, listed(words, rows, k)) {
+            return false;
+        }
+        k += 1;
+    }
+    true
+}
+
+// Whether row j has these three words.
+pub fn same_row(words: &[u32], rows: u32, j: u32, level: u32, low: u32, high: u32) -> bool
+    requires { ⌜ (j < rows) × (wordsFor rows ≤ length (now words)) ⌝ }
+    ensures { λ r. ⌜ Says (Has (view rows (now (words .entry))) j level low high) r ⌝ }
+{
+    if get(words, rows, j, Table::LEVEL) != level {
+        return false;
+    }
+    if get(words, rows, j, Table::LOW) != low {
+        return false;
+    }
+    if get(words, rows, j, Table::HIGH) != high {
+        return false;
+    }
+    true
+}
+
+// The first link of bucket b: its head, or 0 where the head names no used row.
+pub fn first(words: &[u32], rows: u32, b: u32) -> u32
+    requires { ⌜ (b < rows) × Room (view rows (now words)) ⌝ }
+    ensures { λ r. ⌜ r ≡ live (used (view rows (now (words .entry)))) (headOf rows (now (words .entry)) b) ⌝ }
+{
+    let p = head(words, rows, b);
+    if p == 0 {
+        return 0;
+    }
+    if !used_row(words, rows, p - 1) {
+        return 0;
+    }
+    p
+}
+
+// Whether the walk from a link meets row i first of all rows with these three words.
+fn hits(words: &[u32], rows: u32, link: u32, level: u32, low: u32, high: u32, i: u32) -> bool
+    requires { ⌜ Links (view rows (now words)) × Link (used (view rows (now words))) link ⌝ }
+    ensures { λ r. ⌜ Says (Hit (view rows (now (words .entry))) level low high link i) r ⌝ }
+{
+    let mut p = link;
+    while p != 0 {
+        let j = p - 1;
+        if same_row(words, rows, j, level, low, high) {
+            return j == i;
+        }
+        p = get(words, rows, j, Table::NEXT);
+    }
+    false
+}
+
+// Whether the lookup of row i finds row i.
+fn found_row(words: &[u32], rows: u32, i: u32) -> bool
+    requires { ⌜ (i < rows) × Links (view rows (now words)) ⌝ }
+    ensures { λ r. ⌜ Says (Finds (view rows (now (words .entry))) i) r ⌝ }
+{
+    let level = get(words, rows, i, Table::LEVEL);
+    let low = get(words, rows, i, Table::LOW);
+    let high = get(words, rows, i, Table::HIGH);
+    let b = bucket_of(rows, level, low, high);
+    hits(words, rows, first(words, rows, b), level, low, high, i)
+}
+
+// Whether the lookup of every used row finds it.
+fn index_ok(words: &[u32], rows: u32, used: u32) -> bool
+    requires { ⌜ (used ≤ rows) × Links (view rows (now words)) × ((k : ℕ) → k < used → Placed (view rows (now words)) k) ⌝ }
+    ensures { λ r. ⌜ Says ((k : ℕ) → k < used → Finds (view rows (now (words .entry))) (listOf rows (now (words .entry)) k)) r ⌝ }
+{
+    let mut k = 0;
+    while k < used {
+        if !found_row(words, rows, listed(words, rows, k)) {
+            return false;
+        }
+        k += 1;
+    }
+    true
+}
+
+// Whether a register or relation is empty or an arrow.
+fn ref_ok(words: &[u32], rows: u32, r: u32) -> bool
+    requires { ⌜ Room (view rows (now words)) ⌝ }
+    ensures { λ b. ⌜ Says (Ref (rowsOf (view rows (now (words .entry)))) r) b ⌝ }
+{
+    if r == 0 {
+        return true;
+    }
+    let a = r - 1;
+    if !is_row(a) {
+        return true;
+    }
+    used_row(words, rows, row_of(a))
+}
+
+// Whether the header's words from `from` up to `to` are empty or arrows.
+fn refs_ok(words: &[u32], rows: u32, from: usize, to: usize) -> bool
+    requires { ⌜ (to ≤ HEADER) × Room (view rows (now words)) ⌝ }
+    ensures { λ r. ⌜ Says ((h : ℕ) → from ≤ h → h < to → Ref (rowsOf (view rows (now (words .entry)))) (headerOf (now (words .entry)) h)) r ⌝ }
+{
+    let mut k = from;
+    while k < to {
+        if !ref_ok(words, rows, header_word(words, k)) {
+            return false;
+        }
+        k += 1;
+    }
+    true
+}
+
+// Marks the rows that arrow a reaches.
+pub fn mark(words: &[u32], rows: u32, marks: &mut [u8], a: u32)
+    requires { ⌜ MarkPre (view rows (now words)) (length (now marks)) a ⌝ }
+    ensures { λ _. ⌜ Marks (rowsOf (view rows (now (words .entry)))) (now (marks .entry)) (now (marks .exit)) a ⌝ }
+{
+    if !is_row(a) {
+        return;
+    }
+    let i = row_of(a);
+    let at = i as usize;
+    if marks[at] == 1 {
+        return;
+    }
+    mark(words, rows, marks, get(words, rows, i, Table::LOW));
+    mark(words, rows, marks, get(words, rows, i, Table::HIGH));
+    marks[at] = 1;
+}
+
+// Marks the rows that a register or relation reaches.
+pub fn mark_ref(words: &[u32], rows: u32, marks: &mut [u8], r: u32)
+    requires { ⌜ RefPre (view rows (now words)) (length (now marks)) r ⌝ }
+    ensures { λ _. ⌜ MarksAll (rowsOf (view rows (now (words .entry)))) (now (marks .entry)) (now (marks .exit)) (λ a. r ≡ suc a) ⌝ }
+{
+    if r == 0 {
+        return;
+    }
+    mark(words, rows, marks, r - 1);
+}
+
+// Marks the rows that the header's words from `from` up to `to` reach.
+pub fn mark_refs(words: &[u32], rows: u32, marks: &mut [u8], from: usize, to: usize)
+    requires { ⌜ RefsPre (view rows (now words)) (length (now marks)) from to ⌝ }
+    ensures { λ _. ⌜ MarksAll (rowsOf (view rows (now (words .entry)))) (now (marks .entry)) (now (marks .exit)) (Held (view rows (now (words .entry))) from to) ⌝ }
+{
+    let mut k = from;
+    while k < to {
+        mark_ref(words, rows, marks, header_word(words, k));
+        k += 1;
+    }
+}
+
+// Whether every marked row has an even level.
+fn evens(words: &[u32], rows: u32, marks: &[u8]) -> bool
+    requires { ⌜ Ranked (view rows (now words)) × (rows ≤ length (now marks)) × (wordsFor rows ≤ length (now words)) ⌝ }
+    ensures { λ r. ⌜ Says (EvenMarked (view rows (now (words .entry))) (now (marks .entry))) r ⌝ }
+{
+    let used = header_word(words, Table::USED);
+    let mut k = 0;
+    while k < used {
+        let i = listed(words, rows, k);
+        let at = i as usize;
+        if marks[at] == 1 {
+            if get(words, rows, i, Table::LEVEL) % 2 == 1 {
+                return false;
+            }
+        }
+        k += 1;
+    }
+    true
+}
+
+// Whether the registers' rows have even levels.
+fn even_registers(words: &[u32], rows: u32) -> bool
+    requires { ⌜ Ranked (view rows (now words)) × RefsPre (view rows (now words)) MAX-ROWS FIRST-REGISTER FIRST-RELATION ⌝ }
+    ensures { λ r. ⌜ Says (EvenRegs (view rows (now (words .entry)))) r ⌝ }
+{
+    let mut marks = [0u8; 60000];
+    mark_refs(
+        words,
+        rows,
+        &mut marks,
+        Table::FIRST_REGISTER,
+        Table::FIRST_RELATION,
+    );
+    evens(words, rows, &marks)
+}
+
+// Whether n, N and the number of words are in range.
+fn sizes_ok(words: &[u32]) -> bool
+    ensures { λ r. ⌜ Says (Sizes (headerOf (now (words .entry)) BITS) (headerOf (now (words .entry)) ROWS) (length (now (words .entry)))) r ⌝ }
+{
+    if words.len() < Table::HEADER {
+        return false;
+    }
+    let n = header_word(words, Table::BITS);
+    if n < 1 {
+        return false;
+    }
+    if n > Table::MAX_BITS {
+        return false;
+    }
+    let rows = header_word(words, Table::ROWS);
+    if rows < 1 {
+        return false;
+    }
+    if rows > Table::MAX_ROWS {
+        return false;
+    }
+    if words.len() < Table::HEADER + Table::ROW_WORDS * (rows as usize) {
+        return false;
+    }
+    true
+}
+
+// Whether a table of the right size is sound.
+fn table_ok(words: &[u32], rows: u32) -> bool
+    requires { ⌜ Sizes (headerOf (now words) BITS) rows (length (now words)) × (headerOf (now words) ROWS ≡ rows) ⌝ }
+    ensures { λ r. ⌜ Says (Sound (view rows (now (words .entry)))) r ⌝ }
+{
+    let used = header_word(words, Table::USED);
+    if used > rows {
+        return false;
+    }
+    let bits = header_word(words, Table::BITS);
+    if !list_ok(words, rows, used) {
+        return false;
+    }
+    if !rows_ok(words, rows, used, 2 * bits) {
+        return false;
+    }
+    if !index_ok(words, rows, used) {
+        return false;
+    }
+    if !refs_ok(words, rows, Table::FIRST_REGISTER, Table::ROOTS_END) {
+        return false;
+    }
+    even_registers(words, rows)
+}
+
+// Whether the table is sound.
+pub fn sound(words: &[u32]) -> bool
+    ensures { λ r. ⌜ Says (Sound (tableOf (now (words .entry)))) r ⌝ }
+{
+    if !sizes_ok(words) {
+        return false;
+    }
+    table_ok(words, header_word(words, Table::ROWS))
+}

@@ -1,0 +1,144 @@
+-- A row joins the list of used rows and the index. Assumes nothing.
+use mathlib.Core.Path.{_≡_, refl, ap, sym, _∙_, subst}
+use mathlib.Core.Bool.{Bool, true, false, true≢false}
+use mathlib.Core.Logic.{_≢_, by-cases}
+use Prim.Native.Nat.{ℕ, zero, suc, _+_, _<_}
+use native.Mathlib.Numerals.{add-one}
+use native.Mathlib.Omega.{arith}
+use native.Mathlib.Decide.{ℕ-discrete}
+use borrow.Author.Tests.{eq-eqb, ne-eqb}
+use Rattle.layout.specs.Places.{USED, LOW, HIGH, LEVEL, NEXT, RANK}
+use Rattle.layout.specs.View.{View, putCell, putHeader, putList, putHead}
+use Rattle.soundness.specs.Used.{used, used-yes, used-in, Ranked, listed-used}
+use Rattle.soundness.specs.Index.{bucket, keyOf, live, live-used, live-not, live-zero, live-link, Link, Has, Hit, stop, skip, Down, down-link, Index}
+use Rattle.soundness.specs.Checks.{hit-zero}
+
+-- row i takes the next place of the list, and becomes the first of its chain
+abbrev pub appended : View → ℕ → View
+appended W i =
+    putHeader (putHead (putList (putCell (putCell W i NEXT (live (used W) (W .head (keyOf W i)))) i 4 (W .header USED)) (W .header USED) i) (keyOf W i) (i + 1)) 3 (W .header 3 + 1)
+
+-- a walk along used rows does not see a change of other rows
+module _ (W X : View) (nexts : (j : ℕ) → used W j ≡ true → Down W (W .cell j RANK) (W .cell j NEXT))
+    (level : (j : ℕ) → used W j ≡ true → X .cell j LEVEL ≡ W .cell j LEVEL) (low : (j : ℕ) → used W j ≡ true → X .cell j LOW ≡ W .cell j LOW)
+    (high : (j : ℕ) → used W j ≡ true → X .cell j HIGH ≡ W .cell j HIGH) (next : (j : ℕ) → used W j ≡ true → X .cell j NEXT ≡ W .cell j NEXT) where
+  pub has-frame : (j l lo hi : ℕ) → used W j ≡ true → Has W j l lo hi → Has X j l lo hi
+  has-frame j l lo hi u h = record { level = level j u ∙ h .level; low = low j u ∙ h .low; high = high j u ∙ h .high }
+
+  pub has-back : (j l lo hi : ℕ) → used W j ≡ true → Has X j l lo hi → Has W j l lo hi
+  has-back j l lo hi u h = record { level = sym (level j u) ∙ h .level; low = sym (low j u) ∙ h .low; high = sym (high j u) ∙ h .high }
+
+  pub hit-frame : {l lo hi p i : ℕ} → Hit W l lo hi p i → Link (used W) p → Hit X l lo hi p i
+  hit-frame {l} {lo} {hi} (stop {j} h) u = stop (has-frame j l lo hi u h)
+  hit-frame {l} {lo} {hi} {i = i} (skip {j} n r) u =
+      skip (λ h. n (has-back j l lo hi u h)) (subst (λ (p : ℕ). Hit X l lo hi p i) (sym (next j u)) (hit-frame r (down-link W (W .cell j RANK) (W .cell j NEXT) (nexts j u))))
+
+-- a head that counts for a lookup counts too where more rows are used
+pub live-more : {W : View} {l lo hi i : ℕ} (u v : ℕ → Bool) → ((j : ℕ) → u j ≡ true → v j ≡ true) → (p : ℕ) → Hit W l lo hi (live u p) i → live v p ≡ live u p
+live-more u v f zero r = absurd (hit-zero r (live-zero u))
+live-more {W} {l} {lo} {hi} {i} u v f (suc j) r = go (u j) refl
+  where
+    go : (b : Bool) → u j ≡ b → live v (suc j) ≡ live u (suc j)
+    go true e = live-used v j (f j e) ∙ sym (live-used u j e)
+    go false e = absurd (hit-zero r (live-not u j e))
+
+module _ (W : View) (i : ℕ) (ranked : Ranked W) (index : Index W) (row : i < W .rows) (unused : used W i ≡ false) (space : W .header USED < W .rows)
+    (alone : (j : ℕ) → used W j ≡ true → Has W j (W .cell i LEVEL) (W .cell i LOW) (W .cell i HIGH) → ⊥) where
+  abbrev X : View
+  X = appended W i
+
+  apart : (j : ℕ) → used W j ≡ true → j ≢ i
+  apart j u e = true≢false (sym u ∙ ap (used W) e ∙ unused)
+
+  rank-new : X .cell i RANK ≡ W .header USED
+  rank-new = rw (eq-eqb i i refl)
+
+  rank-old : (j : ℕ) → j ≢ i → X .cell j RANK ≡ W .cell j RANK
+  rank-old j n = rw (ne-eqb j i n)
+
+  next-new : X .cell i NEXT ≡ live (used W) (W .head (keyOf W i))
+  next-new = rw (eq-eqb i i refl)
+
+  next-old : (j : ℕ) → j ≢ i → X .cell j NEXT ≡ W .cell j NEXT
+  next-old j n = rw (ne-eqb j i n)
+
+  list-new : X .list (W .header USED) ≡ i
+  list-new = rw (eq-eqb (W .header USED) (W .header USED) refl)
+
+  list-old : (k : ℕ) → k ≢ W .header USED → X .list k ≡ W .list k
+  list-old k n = rw (ne-eqb k (W .header USED) n)
+
+  head-new : X .head (keyOf W i) ≡ suc i
+  head-new = rw (eq-eqb (keyOf W i) (keyOf W i) refl) (add-one i)
+
+  head-old : (b : ℕ) → b ≢ keyOf W i → X .head b ≡ W .head b
+  head-old b n = rw (ne-eqb b (keyOf W i) n)
+
+  -- the used rows are those of before, and row i
+  pub append-used : used X i ≡ true
+  append-used = used-yes _ _ _ _ _ (record { row = row; place = rw rank-new (omega arith); there = rw rank-new list-new })
+
+  pub append-kept : (j : ℕ) → used W j ≡ true → used X j ≡ true
+  append-kept j u =
+      let p = used-in (W .rows) (W .header USED) (λ x. W .cell x RANK) (W .list) j u in
+      let e = rank-old j (apart j u) in
+      let l = p .place in
+      used-yes _ _ _ _ _ (record { row = p .row; place = rw e (omega arith); there = rw e (list-old (W .cell j RANK) (omega arith) ∙ p .there) })
+
+  pub append-only : (j : ℕ) → used X j ≡ true → j ≢ i → used W j ≡ true
+  append-only j u n =
+      let p = used-in (W .rows) (W .header 3 + 1) (λ x. X .cell x RANK) (X .list) j u in
+      let e = rank-old j n in
+      let l : W .cell j RANK < W .header 3 + 1 = rw e at (p .place) in
+      let t : X .list (W .cell j RANK) ≡ j = rw e at (p .there) in
+      let m : W .cell j RANK ≢ W .header USED = λ q. n (sym t ∙ ap (X .list) q ∙ list-new) in
+      used-yes _ _ _ _ _ (record { row = p .row; place = omega arith; there = sym (list-old (W .cell j RANK) m) ∙ t })
+
+  pub append-ranked : Ranked X
+  append-ranked = record {
+    count-le = omega arith;
+    within = λ k h. by-cases (ℕ-discrete k (W .header USED))
+        (λ e. rw (e, list-new) row)
+        (λ n. rw (list-old k n) (ranked .within k (omega arith)));
+    back = λ k h. by-cases (ℕ-discrete k (W .header USED))
+        (λ e. rw (e, list-new, rank-new))
+        (λ n. rw (list-old k n) (rank-old (W .list k) (apart (W .list k) (listed-used W ranked k (omega arith))) ∙ ranked .back k (omega arith)));
+  }
+
+  down-more : (k p : ℕ) → Down W k p → Down X k p
+  down-more k zero d = tt
+  down-more k (suc j) d = (append-kept j (d .0), rw (rank-old j (apart j (d .0))) (d .1))
+
+  link-down : (p : ℕ) → Link (used W) p → Down X (W .header USED) p
+  link-down zero l = tt
+  link-down (suc j) u = (append-kept j u, rw (rank-old j (apart j u)) (used-in (W .rows) (W .header USED) (λ x. W .cell x RANK) (W .list) j u .place))
+
+  old-hit : {l lo hi p j : ℕ} → Hit W l lo hi p j → Link (used W) p → Hit X l lo hi p j
+  old-hit r u = hit-frame W X (index .nexts) (λ j u. refl) (λ j u. refl) (λ j u. refl) (λ j u. next-old j (apart j u)) r u
+
+  -- a used row of before is found
+  found-old : (j : ℕ) → used W j ≡ true → Hit X (W .cell j LEVEL) (W .cell j LOW) (W .cell j HIGH) (live (used X) (X .head (keyOf W j))) j
+  found-old j u =
+      let f = index .found j u in
+      let r : Hit X (W .cell j LEVEL) (W .cell j LOW) (W .cell j HIGH) (live (used W) (W .head (keyOf W j))) j = old-hit f (live-link (used W) (W .head (keyOf W j))) in
+      by-cases (ℕ-discrete (keyOf W j) (keyOf W i))
+      (λ e.
+      let q : Hit X (W .cell j LEVEL) (W .cell j LOW) (W .cell j HIGH) (X .cell i NEXT) j = rw next-new (rw e at r) in
+      rw (e, head-new, live-used (used X) i append-used) (skip (λ h. alone j u (record { level = sym (h .level); low = sym (h .low); high = sym (h .high) })) q))
+      (λ n. rw (head-old (keyOf W j) n, live-more (used W) (used X) append-kept (W .head (keyOf W j)) f) r)
+
+  pub append-index : Index X
+  append-index = record {
+    nexts = λ j u. by-cases (ℕ-discrete j i)
+        (λ e. rw (e, rank-new, next-new) (link-down (live (used W) (W .head (keyOf W i))) (live-link (used W) (W .head (keyOf W i)))))
+        (λ n. rw (rank-old j n, next-old j n) (down-more (W .cell j RANK) (W .cell j NEXT) (index .nexts j (append-only j u n))));
+    found = λ j u. by-cases (ℕ-discrete j i)
+        (λ e. rw (e, head-new, live-used (used X) i append-used) (stop (record { level = refl; low = refl; high = refl })))
+        (λ n. found-old j (append-only j u n));
+  }
+
+-- the steps of `append`
+pub append-by : (W : View) (i : ℕ) {W₁ W₂ W₃ W₄ W₅ : View} {x y z b f u : ℕ} → x ≡ W .cell i LEVEL → y ≡ W .cell i LOW → z ≡ W .cell i HIGH → b ≡ bucket (W .rows) x y z
+    → f ≡ live (used W) (W .head b) → u ≡ W .header USED
+    → W₁ ≡ putCell W i NEXT f → W₂ ≡ putCell W₁ i RANK u → W₃ ≡ putList W₂ u i → W₄ ≡ putHead W₃ b (i + 1) → W₅ ≡ putHeader W₄ USED (u + 1) → W₅ ≡ appended W i
+append-by W i ex ey ez eb ef eu e₁ e₂ e₃ e₄ e₅ = rw (e₅, e₄, e₃, e₂, e₁, ef, eb, ex, ey, ez, eu)

@@ -1,0 +1,102 @@
+-- A fresh table: its header is the header maker's and its heads are 0; it is sound whatever stands in the other words. Assumes nothing.
+use mathlib.Core.Path.{_≡_, refl, ap, sym, _∙_, subst}
+use mathlib.Core.Bool.{true}
+use mathlib.Core.Logic.{_≢_}
+use mathlib.Core.List.{List}
+use Prim.Native.Nat.{ℕ, _+_, _<_}
+use native.Mathlib.Omega.{arith}
+use lib.ListN.{length, getD}
+use Rattle.layout.specs.Places.{HEADER, BITS, ROWS, USED, RANK}
+use Rattle.layout.specs.View.{View, view, headerOf, header-is, putHeader, putHead, header-past, head-past}
+use Rattle.layout.specs.Header.{headerWords, header-bits, header-rows, header-zero}
+use Rattle.layout.specs.declared.Refusal.the-variants.{Sizes as Size}
+use Rattle.soundness.specs.Used.{Sizes, used, used-in}
+use Rattle.soundness.specs.Sound.{Sound}
+use Rattle.table.specs.Columns.{over, over-none, over-more, over-all, setHeader, setHeads}
+use Rattle.table.specs.declared.Started.{Started}
+use Rattle.table.specs.declared.Started.the-variants as started
+
+-- "Fresh empties them all, the tally at 0": nothing but the header and the heads is written
+abbrev pub emptied : View → ℕ → ℕ → View
+emptied W n N = setHeader (setHeads W (λ b. 0)) (headerOf (headerWords n N))
+
+-- the first k heads are emptied
+pub record HeadsBelow (old new : View) (k : ℕ) : Type 0 where
+  pub is : new ≡ setHeads old (over k (λ b. 0) (old .head))
+
+pub heads-none : (W : View) → HeadsBelow W W 0
+heads-none W = record { is = ap (setHeads W) (over-none (λ b. 0) (W .head)) }
+
+pub heads-more : {W X Y : View} (k : ℕ) → HeadsBelow W X k → Y ≡ putHead X k 0 → HeadsBelow W Y (k + 1)
+heads-more {W} k h e = record { is = e ∙ ap (λ (v : View). putHead v k 0) (h .is) ∙ ap (setHeads W) (over-more (λ b. 0) (W .head) k) }
+
+pub heads-all : (N : ℕ) (old new : List ℕ) → HeadsBelow (view N old) (view N new) N → view N new ≡ setHeads (view N old) (λ b. 0)
+heads-all N old new h = h .is ∙ ap (setHeads (view N old)) (over-all (λ b. 0) (view N old .head) N (head-past N old))
+
+-- the first k words of the header are those of a list
+pub record HeaderBelow (old new : View) (xs : List ℕ) (k : ℕ) : Type 0 where
+  pub is : new ≡ setHeader old (over k (headerOf xs) (old .header))
+
+pub header-none : (W : View) (xs : List ℕ) → HeaderBelow W W xs 0
+header-none W xs = record { is = ap (setHeader W) (over-none (headerOf xs) (W .header)) }
+
+pub header-more : {W X Y : View} {xs : List ℕ} (k : ℕ) → k < HEADER → HeaderBelow W X xs k → Y ≡ putHeader X k (getD xs k 0) → HeaderBelow W Y xs (k + 1)
+header-more {W} {xs = xs} k l h e = record {
+  is = e ∙ ap (putHeader _ k) (sym (header-is xs k l)) ∙ ap (λ (v : View). putHeader v k (headerOf xs k)) (h .is) ∙ ap (setHeader W) (over-more (headerOf xs) (W .header) k);
+}
+
+pub header-all : (N : ℕ) (old new xs : List ℕ) → HeaderBelow (view N old) (view N new) xs HEADER → view N new ≡ setHeader (view N old) (headerOf xs)
+header-all N old new xs h =
+    h .is ∙ ap (setHeader (view N old)) (over-all (headerOf xs) (headerOf old) HEADER (λ j l. header-past old j l ∙ sym (header-past xs j l)))
+
+-- a table with a fresh header is sound
+module _ (W : View) (n : ℕ) (z : Sizes n (W .rows) (W .size)) (e : (h : ℕ) → W .header h ≡ headerOf (headerWords n (W .rows)) h) where
+  zero-at : (h : ℕ) → h < HEADER → h ≢ BITS → h ≢ ROWS → W .header h ≡ 0
+  zero-at h l a b = e h ∙ header-is (headerWords n (W .rows)) h l ∙ header-zero n (W .rows) h l a b
+
+  bits-is : W .header BITS ≡ n
+  bits-is = e BITS ∙ header-is (headerWords n (W .rows)) BITS (omega arith) ∙ header-bits n (W .rows)
+
+  rows-is : W .header ROWS ≡ W .rows
+  rows-is = e ROWS ∙ header-is (headerWords n (W .rows)) ROWS (omega arith) ∙ header-rows n (W .rows)
+
+  none : W .header USED ≡ 0
+  none = zero-at USED (omega arith) (omega arith) (omega arith)
+
+  none-used : (i : ℕ) → used W i ≡ true → ⊥
+  none-used i u = let q = used-in (W .rows) (W .header USED) (λ x. W .cell x RANK) (W .list) i u .place in let r = none in omega arith
+
+  pub fresh-sound : Sound W
+  fresh-sound = record {
+    good = record {
+      sizes = rw bits-is z;
+      rows-is = rows-is;
+      ranked = let r = none in record { count-le = omega arith; within = λ k h. absurd (omega arith); back = λ k h. absurd (omega arith) };
+      rows = record { bounded = λ i u. absurd (none-used i u); ok = λ i u. absurd (none-used i u); shared = λ i j u. absurd (none-used i u) };
+      index = record { nexts = λ j u. absurd (none-used j u); found = λ i u. absurd (none-used i u) };
+    };
+    refs = λ h a l. rw (zero-at h (omega arith) (omega arith) (omega arith)) tt;
+    even = λ h a l b q i r. let o = zero-at h (omega arith) (omega arith) (omega arith) in absurd (omega arith);
+  }
+
+-- an answered fresh
+pub record Ready (old new : List ℕ) (n N : ℕ) : Type 0 where
+  pub sizes : Sizes n N (length old)
+  pub words : view N new ≡ emptied (view N old) n N
+  pub sound : Sound (view N new)
+
+-- the steps of `fresh`: mid has its heads emptied
+pub ready-by : (old mid new xs : List ℕ) (n N : ℕ) → Sizes n N (length old) → view N mid ≡ setHeads (view N old) (λ b. 0) → xs ≡ headerWords n N
+    → view N new ≡ setHeader (view N mid) (headerOf xs) → Ready old new n N
+ready-by old mid new xs n N z eh ex e =
+    let w : view N new ≡ emptied (view N old) n N = e ∙ ap (λ (v : View). setHeader v (headerOf xs)) eh ∙ ap (λ (ys : List ℕ). setHeader (setHeads (view N old) (λ b. 0)) (headerOf ys)) ex in
+    record {
+      sizes = z;
+      words = w;
+      sound = subst Sound (sym w) (fresh-sound (emptied (view N old) n N) n z (λ h. refl));
+    }
+
+-- what the call answers: n, N and the length are in range, or all words are kept
+abbrev pub FreshAnswer : List ℕ → List ℕ → ℕ → ℕ → Started → Type 0
+FreshAnswer old new n N started.Ready = Ready old new n N
+FreshAnswer old new n N (started.Refused r) = (Sizes n N (length old) → ⊥) × (r ≡ Size) × (new ≡ old)
