@@ -1,22 +1,20 @@
 -- One step of reading: what `parse` does by the token at a place. Assumes nothing.
 use mathlib.Core.Path.{_≡_, refl, sym, ap, _∙_}
-use mathlib.Core.Bool.{Bool, true, false}
 use mathlib.Core.List.{List}
 use Prim.Native.Nat.{ℕ, zero, suc, _+_, _-_, _<_}
 use native.Mathlib.Omega.{arith}
 use native.Mathlib.Numerals.{sub-one}
 use lib.ListN.{length}
-use lib.Dec.{ltb}
-use borrow.Author.Tests.{ltb-true}
 use Rattle.mucalculus.specs.Form.{Form, neg}
 use Rattle.tokens.specs.Tokens.{leadAt}
+use Rattle.tokens.proofs.Leads.{lead-read}
 use Rattle.tokens.specs.declared.Grammar.{Grammar}
 use Rattle.tokens.specs.declared.Mode.{Mode}
 use Rattle.tokens.specs.declared.Fix.{Fix}
 use Rattle.tokens.specs.declared.Token.{Token}
 use Rattle.tokens.specs.declared.Token.the-variants.{Not, Modal, Binder}
 use Rattle.tokens.specs.declared.Lead.{Lead}
-use Rattle.tokens.specs.declared.Lead.the-variants.{Is, Bad}
+use Rattle.tokens.specs.declared.Lead.the-variants.{Is}
 use Rattle.formula.specs.Parse.{modalForm, binderForm, Got, fails, got, one, grown, parse}
 
 -- an operator of one part: its token, and what it makes of the part
@@ -28,18 +26,10 @@ pub data Unary : Token → (Form → Form) → Type 0 where
 pub not-got : {f : Form} {e : ℕ} → fails ≡ got f e → ⊥
 not-got z = let y : _≡_ {A = ℕ} 0 1 = cc in omega arith
 
-pub not-is : {t : Token} → Bad ≡ Is t → ⊥
-not-is z = let y : _≡_ {A = ℕ} 0 1 = cc in omega arith
-
 module _ (n : ℕ) (g : Grammar) (bs : List ℕ) (at : ℕ) where
   -- a token was read only inside the bytes
   pub lead-inside : {t : Token} → leadAt n g bs at ≡ Is t → at < length bs
-  unfolding leadAt
-  lead-inside {t} e = go (ltb at (length bs)) refl
-    where
-      go : (b : Bool) → ltb at (length bs) ≡ b → at < length bs
-      go true h = ltb-true at (length bs) h
-      go false h = absurd (not-is {t = t} (rw h at e))
+  lead-inside e = lead-read n g bs at e .inside
 
   module _ (d : ℕ) where
     -- with no depth left nothing is read

@@ -1,0 +1,319 @@
+//! The book: calls over sets, and the refusals in document 01's order.
+
+use crate::evaluate::{self, Evaluated, Held, Limits};
+use crate::formula::{self, Formula, Kind};
+use crate::refusal::Refusal;
+use crate::states::{state_count, PairSet, StateSet};
+
+/// "The table has N rows, 32 registers, 8 relations and a tally."
+pub const REGISTERS: usize = 32;
+pub const RELATIONS: usize = 8;
+/// "A room has n state bits, n from 1 to 16."
+pub const MAX_STATE_BITS: u64 = 16;
+/// "a row count N (1 to 60,000)".
+pub const MAX_ROWS: u64 = 60_000;
+
+/// A call after fresh, with its arguments; numbers may be out of range.
+#[derive(Clone, Debug, PartialEq, Eq)]
+pub enum Call {
+    Relation {
+        t: u64,
+        formula: Vec<u8>,
+    },
+    Set {
+        r: u64,
+        rounds: u32,
+        formula: Vec<u8>,
+    },
+    Clear {
+        r: u64,
+    },
+    Collect,
+    Node {
+        r: u64,
+    },
+    Member {
+        r: u64,
+        state: u64,
+    },
+    Count {
+        r: u64,
+    },
+    Tally,
+}
+
+/// Refusal number or 0, rounds, and the value, which is None where a node
+/// number is free. "Returned: number, zeros" where refused.
+#[derive(Clone, Copy, Debug, PartialEq, Eq)]
+pub struct Answer {
+    pub number: u8,
+    pub rounds: u32,
+    pub value: Option<u64>,
+}
+
+/// What an answered set call returns: "node number and rounds".
+#[derive(Clone, Copy, Debug, PartialEq, Eq)]
+pub struct SetAnswer {
+    pub node: Option<u64>,
+    pub rounds: u32,
+}
+
+/// "It has 8 relations and 32 registers, each empty or holding a set of pairs
+/// or of states, which may have no members."
+#[derive(Clone, Debug, PartialEq, Eq)]
+pub struct Book {
+    n: u32,
+    rows: usize,
+    registers: Vec<Option<StateSet>>,
+    relations: Vec<Option<PairSet>>,
+    tally: u32,
+}
+
+impl Book {
+    /// "Fresh takes n, a row count N (1 to 60,000) and at least 256 + 12 × N
+    /// words"; "Fresh empties them all, the tally at 0."
+    pub fn fresh(n: u64, rows: u64, words: u64) -> Result<Book, Refusal> {
+        let n_fits = (1..=MAX_STATE_BITS).contains(&n);
+        let rows_fit = (1..=MAX_ROWS).contains(&rows);
+        if !n_fits || !rows_fit || words < words_for(rows) {
+            return Err(Refusal::BadFresh);
+        }
+        Ok(Book {
+            n: n as u32,
+            rows: rows as usize,
+            registers: vec![None; REGISTERS],
+            relations: vec![None; RELATIONS],
+            tally: 0,
+        })
+    }
+
+    pub fn n(&self) -> u32 {
+        self.n
+    }
+
+    pub fn rows(&self) -> usize {
+        self.rows
+    }
+
+    pub fn registers(&self) -> &[Option<StateSet>] {
+        &self.registers
+    }
+
+    pub fn relations(&self) -> &[Option<PairSet>] {
+        &self.relations
+    }
+
+    pub fn held(&self) -> Held<'_> {
+        Held {
+            n: self.n,
+            registers: &self.registers,
+            relations: &self.relations,
+        }
+    }
+
+    /// "relation t: stores the relation of exactly the pairs in which its
+    /// formula holds."
+    pub fn relation(&mut self, t: u64, bytes: &[u8]) -> Result<(), Refusal> {
+        let done = self.evaluate_relation(t, bytes)?;
+        self.relations[t as usize] = Some(done.value);
+        Ok(())
+    }
+
+    /// "set r with R: stores the set of exactly the states in which its formula
+    /// holds; returns node number and rounds."
+    pub fn set(&mut self, r: u64, rounds: u32, bytes: &[u8]) -> Result<SetAnswer, Refusal> {
+        let done = self.evaluate_set(r, rounds, bytes)?;
+        let node = settled_node(&done.value);
+        self.registers[r as usize] = Some(done.value);
+        // "staying at 4,294,967,295 once it would pass that".
+        self.tally = self.tally.saturating_add(done.rounds);
+        Ok(SetAnswer {
+            node,
+            rounds: done.rounds,
+        })
+    }
+
+    /// The checks and steps of relation, without its change.
+    pub fn evaluate_relation(&self, t: u64, bytes: &[u8]) -> Result<Evaluated<PairSet>, Refusal> {
+        in_range(t, RELATIONS)?;
+        let formula = self.check(Kind::Relation, bytes)?;
+        evaluate::relation(self.held(), self.rows, &formula)
+    }
+
+    /// The checks and steps of set, without its change.
+    pub fn evaluate_set(
+        &self,
+        r: u64,
+        rounds: u32,
+        bytes: &[u8],
+    ) -> Result<Evaluated<StateSet>, Refusal> {
+        in_range(r, REGISTERS)?;
+        let formula = self.check(Kind::Set, bytes)?;
+        let limits = Limits {
+            rows: self.rows,
+            rounds,
+        };
+        evaluate::set(self.held(), limits, &formula)
+    }
+
+    /// "where a check asks what is filled, as 7 does, the book's own registers
+    /// and relations count."
+    fn check(&self, kind: Kind, bytes: &[u8]) -> Result<Formula, Refusal> {
+        let register_filled = |r: usize| self.registers[r].is_some();
+        let relation_filled = |t: usize| self.relations[t].is_some();
+        formula::check(self.n, kind, bytes, register_filled, relation_filled)
+    }
+
+    /// "Clear of an empty register is answered."
+    pub fn clear(&mut self, r: u64) -> Result<(), Refusal> {
+        let r = in_range(r, REGISTERS)?;
+        self.registers[r] = None;
+        Ok(())
+    }
+
+    /// "returns the rows still needed by registers and relations"; "collect
+    /// changes nothing".
+    pub fn collect(&self) -> u64 {
+        self.held().rows().count() as u64
+    }
+
+    /// None where the number is the builder's: "Free for the builder: node
+    /// numbers above 1".
+    pub fn node(&self, r: u64) -> Result<Option<u64>, Refusal> {
+        Ok(settled_node(self.filled(r)?))
+    }
+
+    pub fn member(&self, r: u64, state: u64) -> Result<bool, Refusal> {
+        in_range(r, REGISTERS)?;
+        let state = in_range(state, state_count(self.n))?;
+        Ok(self.filled(r)?.contains(state))
+    }
+
+    pub fn count(&self, r: u64) -> Result<u64, Refusal> {
+        Ok(self.filled(r)?.count())
+    }
+
+    /// "the rounds of all answered set calls since fresh".
+    pub fn tally(&self) -> u32 {
+        self.tally
+    }
+
+    /// The set in register r: checks 3 and 7.
+    fn filled(&self, r: u64) -> Result<&StateSet, Refusal> {
+        let r = in_range(r, REGISTERS)?;
+        self.registers[r].as_ref().ok_or(Refusal::Empty)
+    }
+
+    /// Makes any call and gives its answer in one form.
+    pub fn call(&mut self, call: &Call) -> Answer {
+        let value_only = |value| (0, value);
+        let result = match call {
+            Call::Relation { t, formula } => self.relation(*t, formula).map(|()| (0, Some(0))),
+            Call::Set { r, rounds, formula } => {
+                let answer = self.set(*r, *rounds, formula);
+                answer.map(|answer| (answer.rounds, answer.node))
+            }
+            Call::Clear { r } => self.clear(*r).map(|()| (0, Some(0))),
+            Call::Collect => Ok((0, Some(self.collect()))),
+            Call::Node { r } => self.node(*r).map(value_only),
+            Call::Member { r, state } => {
+                let member = self.member(*r, *state);
+                member.map(|member| (0, Some(u64::from(member))))
+            }
+            Call::Count { r } => self.count(*r).map(|count| (0, Some(count))),
+            Call::Tally => Ok((0, Some(u64::from(self.tally)))),
+        };
+        Answer::new(result)
+    }
+}
+
+impl Answer {
+    fn new(result: Result<(u32, Option<u64>), Refusal>) -> Self {
+        match result {
+            Ok((rounds, value)) => Answer {
+                number: 0,
+                rounds,
+                value,
+            },
+            Err(refusal) => Answer {
+                number: refusal.number(),
+                rounds: 0,
+                value: Some(0),
+            },
+        }
+    }
+}
+
+/// "at least 256 + 12 × N words".
+pub fn words_for(rows: u64) -> u64 {
+    256 + 12 * rows
+}
+
+/// Check 3.
+fn in_range(number: u64, bound: usize) -> Result<usize, Refusal> {
+    if number < bound as u64 {
+        Ok(number as usize)
+    } else {
+        Err(Refusal::OutOfRange)
+    }
+}
+
+/// "An arrow is 0 (nothing), 1 (everything) or a used row."
+fn settled_node(set: &StateSet) -> Option<u64> {
+    if set.is_empty() {
+        Some(0)
+    } else if set.is_full() {
+        Some(1)
+    } else {
+        None
+    }
+}
+
+#[cfg(test)]
+mod tests {
+    use super::*;
+    use crate::formula::frame;
+
+    fn book_with_tally(tally: u32) -> Book {
+        let mut book = Book::fresh(1, 100, 16_384).unwrap();
+        book.relation(
+            0,
+            &frame(&[0x04, 0x03, 0x20, 0x02, 0x10, 0x03, 0x02, 0x20, 0x10]),
+        )
+        .unwrap();
+        book.tally = tally;
+        book
+    }
+
+    fn three_rounds(book: &mut Book) {
+        let answer = book.set(0, 100, &frame(&[0x70, 0x04, 0x10, 0x68, 0x30]));
+        assert_eq!(answer.unwrap().rounds, 3);
+    }
+
+    #[test]
+    fn tally_reaches_its_greatest_value_exactly() {
+        let mut book = book_with_tally(u32::MAX - 3);
+        three_rounds(&mut book);
+        assert_eq!(book.tally(), u32::MAX);
+    }
+
+    #[test]
+    fn tally_stays_once_it_would_pass() {
+        let mut book = book_with_tally(u32::MAX - 2);
+        three_rounds(&mut book);
+        assert_eq!(book.tally(), u32::MAX);
+        three_rounds(&mut book);
+        assert_eq!(book.tally(), u32::MAX);
+    }
+
+    #[test]
+    fn tally_counts_answered_set_calls_only() {
+        let mut book = book_with_tally(0);
+        three_rounds(&mut book);
+        let refused = book.set(0, 2, &frame(&[0x70, 0x04, 0x10, 0x68, 0x30]));
+        assert_eq!(refused, Err(Refusal::RoundsUsedUp));
+        assert_eq!(book.tally(), 3);
+        three_rounds(&mut book);
+        assert_eq!(book.tally(), 6);
+    }
+}

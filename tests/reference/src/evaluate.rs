@@ -1,0 +1,311 @@
+//! Steps of evaluation: live sets, needs, rounds, refusals 8 and 9.
+
+use crate::formula::{Fixpoint, Formula, Kind, Modality};
+use crate::refusal::Refusal;
+use crate::rows::Rows;
+use crate::states::{PairSet, StateSet};
+
+/// What the registers and relations hold at the start of the call. The call
+/// changes none of them before its end: "The old content of the target is live
+/// throughout the call."
+#[derive(Clone, Copy)]
+pub struct Held<'a> {
+    pub n: u32,
+    pub registers: &'a [Option<StateSet>],
+    pub relations: &'a [Option<PairSet>],
+}
+
+impl Held<'_> {
+    /// Rows needed by all filled registers and relations.
+    pub fn rows(&self) -> Rows {
+        let mut rows = Rows::new();
+        self.registers
+            .iter()
+            .flatten()
+            .for_each(|set| rows.add_set(set));
+        self.relations
+            .iter()
+            .flatten()
+            .for_each(|r| rows.add_relation(r));
+        rows
+    }
+}
+
+/// N and R of the call.
+#[derive(Clone, Copy)]
+pub struct Limits {
+    pub rows: usize,
+    pub rounds: u32,
+}
+
+/// An answered evaluation.
+#[derive(Clone, Debug, PartialEq, Eq)]
+pub struct Evaluated<T> {
+    pub value: T,
+    pub rounds: u32,
+    /// The greatest need of its steps, 0 where it takes no step.
+    pub highest_need: usize,
+}
+
+/// Takes the steps of a relation call, which "has no rounds".
+pub fn relation(held: Held, rows: usize, formula: &Formula) -> Result<Evaluated<PairSet>, Refusal> {
+    let limits = Limits { rows, rounds: 0 };
+    let done = Evaluator::new(held, limits, Kind::Relation).run(formula)?;
+    Ok(done.map(Value::into_pairs))
+}
+
+/// Takes the steps of a set call.
+pub fn set(held: Held, limits: Limits, formula: &Formula) -> Result<Evaluated<StateSet>, Refusal> {
+    let done = Evaluator::new(held, limits, Kind::Set).run(formula)?;
+    Ok(done.map(Value::into_states))
+}
+
+impl<T> Evaluated<T> {
+    fn map<U>(self, change: impl FnOnce(T) -> U) -> Evaluated<U> {
+        Evaluated {
+            value: change(self.value),
+            rounds: self.rounds,
+            highest_need: self.highest_need,
+        }
+    }
+}
+
+/// A value of a step or a leaf.
+#[derive(Clone, Debug)]
+enum Value {
+    States(StateSet),
+    Pairs(PairSet),
+}
+
+impl Value {
+    fn not(&self) -> Value {
+        match self {
+            Value::States(f) => Value::States(f.not()),
+            Value::Pairs(f) => Value::Pairs(f.not()),
+        }
+    }
+
+    fn and(&self, other: &Value) -> Value {
+        match (self, other) {
+            (Value::States(f), Value::States(g)) => Value::States(f.and(g)),
+            (Value::Pairs(f), Value::Pairs(g)) => Value::Pairs(f.and(g)),
+            _ => unreachable!("operands of one kind"),
+        }
+    }
+
+    fn or(&self, other: &Value) -> Value {
+        match (self, other) {
+            (Value::States(f), Value::States(g)) => Value::States(f.or(g)),
+            (Value::Pairs(f), Value::Pairs(g)) => Value::Pairs(f.or(g)),
+            _ => unreachable!("operands of one kind"),
+        }
+    }
+
+    fn shift(&self) -> Value {
+        Value::Pairs(PairSet::shift(&self.clone().into_states()))
+    }
+
+    fn exists_next(&self, p: u32) -> Value {
+        Value::Pairs(self.clone().into_pairs().exists_next(p))
+    }
+
+    fn into_pairs(self) -> PairSet {
+        match self {
+            Value::Pairs(pairs) => pairs,
+            Value::States(_) => unreachable!("a set where pairs are meant"),
+        }
+    }
+
+    fn into_states(self) -> StateSet {
+        match self {
+            Value::States(states) => states,
+            Value::Pairs(_) => unreachable!("pairs where a set is meant"),
+        }
+    }
+
+    fn add_rows(&self, rows: &mut Rows) {
+        match self {
+            Value::States(set) => rows.add_set(set),
+            Value::Pairs(relation) => rows.add_relation(relation),
+        }
+    }
+}
+
+struct Evaluator<'a> {
+    held: Held<'a>,
+    limits: Limits,
+    kind: Kind,
+    /// Rows of "all filled registers and relations".
+    held_rows: Rows,
+    /// "the current set of each open binder", with its variable.
+    open: Vec<(u8, StateSet)>,
+    /// Left operands that wait while their right operand is evaluated: "each
+    /// value made and not yet used".
+    waiting: Vec<Value>,
+    rounds: u32,
+    highest_need: usize,
+}
+
+impl<'a> Evaluator<'a> {
+    fn new(held: Held<'a>, limits: Limits, kind: Kind) -> Self {
+        Evaluator {
+            held,
+            limits,
+            kind,
+            held_rows: held.rows(),
+            open: Vec::new(),
+            waiting: Vec::new(),
+            rounds: 0,
+            highest_need: 0,
+        }
+    }
+
+    fn run(mut self, formula: &Formula) -> Result<Evaluated<Value>, Refusal> {
+        let value = self.value(formula)?;
+        Ok(Evaluated {
+            value,
+            rounds: self.rounds,
+            highest_need: self.highest_need,
+        })
+    }
+
+    /// "Left before right, parts before operator." "Constants, registers and
+    /// variables take no step."
+    fn value(&mut self, formula: &Formula) -> Result<Value, Refusal> {
+        match formula {
+            Formula::Constant(value) => Ok(self.constant(*value)),
+            Formula::Variable(p) => Ok(Value::States(self.current(*p).clone())),
+            Formula::Register(r) => Ok(Value::States(self.register(*r).clone())),
+            Formula::NowBit(p) => self.step(&[], self.now_bit(*p)),
+            Formula::NextBit(p) => self.step(&[], Value::Pairs(PairSet::next_bit(self.held.n, *p))),
+            Formula::Not(f) => {
+                let operand = self.value(f)?;
+                self.not(operand)
+            }
+            Formula::And(f, g) => self.binary(f, g, Value::and),
+            Formula::Or(f, g) => self.binary(f, g, Value::or),
+            Formula::Modal(modality, t, f) => self.modal(*modality, *t, f),
+            Formula::Binder(fixpoint, p, body) => self.binder(*fixpoint, *p, body),
+        }
+    }
+
+    fn constant(&self, value: bool) -> Value {
+        match self.kind {
+            Kind::Relation => Value::Pairs(PairSet::constant(self.held.n, value)),
+            Kind::Set => Value::States(StateSet::constant(self.held.n, value)),
+        }
+    }
+
+    fn now_bit(&self, p: u32) -> Value {
+        match self.kind {
+            Kind::Relation => Value::Pairs(PairSet::now_bit(self.held.n, p)),
+            Kind::Set => Value::States(StateSet::bit(self.held.n, p)),
+        }
+    }
+
+    fn current(&self, p: u8) -> &StateSet {
+        let binder = self.open.iter().find(|(q, _)| *q == p);
+        &binder.expect("bound by check 5").1
+    }
+
+    fn register(&self, r: usize) -> &StateSet {
+        self.held.registers[r].as_ref().expect("filled by check 7")
+    }
+
+    fn not(&mut self, operand: Value) -> Result<Value, Refusal> {
+        let result = operand.not();
+        self.step(&[&operand], result)
+    }
+
+    fn binary(
+        &mut self,
+        f: &Formula,
+        g: &Formula,
+        operator: fn(&Value, &Value) -> Value,
+    ) -> Result<Value, Refusal> {
+        let left = self.value(f)?;
+        self.waiting.push(left);
+        let right = self.value(g)?;
+        let left = self.waiting.pop().expect("pushed above");
+        let result = operator(&left, &right);
+        self.step(&[&left, &right], result)
+    }
+
+    /// "Box: NOT f, diamond, NOT."
+    fn modal(&mut self, modality: Modality, t: usize, f: &Formula) -> Result<Value, Refusal> {
+        let operand = self.value(f)?;
+        match modality {
+            Modality::Diamond => self.diamond(t, operand),
+            Modality::Box => {
+                let negated = self.not(operand)?;
+                let escape = self.diamond(t, negated)?;
+                self.not(escape)
+            }
+        }
+    }
+
+    /// "Diamond of f: SHIFT f, AND with the relation, EXISTS at levels 2n − 1,
+    /// 2n − 3, down to 1."
+    fn diamond(&mut self, t: usize, operand: Value) -> Result<Value, Refusal> {
+        let relation = self.held.relations[t].as_ref().expect("filled by check 7");
+        let relation = Value::Pairs(relation.clone());
+        let shifted = self.step(&[&operand], operand.shift())?;
+        let mut pairs = self.step(&[&shifted, &relation], shifted.and(&relation))?;
+        for p in (0..self.held.n).rev() {
+            pairs = self.step(&[&pairs], pairs.exists_next(p))?;
+        }
+        Ok(Value::States(pairs.into_pairs().as_state_set()))
+    }
+
+    /// "Mu starts from the empty set, nu from all states." "An inner binder
+    /// starts anew at each evaluation."
+    fn binder(&mut self, fixpoint: Fixpoint, p: u8, body: &Formula) -> Result<Value, Refusal> {
+        let mut current = StateSet::constant(self.held.n, fixpoint == Fixpoint::Nu);
+        loop {
+            let value = self.round(p, &current, body)?;
+            // "If the value is the same set the binder ends with it, otherwise
+            // it becomes the current set."
+            if value == current {
+                return Ok(Value::States(value));
+            }
+            current = value;
+        }
+    }
+
+    /// "A round evaluates the body with P as the current set."
+    fn round(&mut self, p: u8, current: &StateSet, body: &Formula) -> Result<StateSet, Refusal> {
+        // "a round wanted when R are counted gives 9."
+        if self.rounds == self.limits.rounds {
+            return Err(Refusal::RoundsUsedUp);
+        }
+        self.rounds += 1;
+        self.open.push((p, current.clone()));
+        let value = self.value(body)?;
+        self.open.pop();
+        Ok(value.into_states())
+    }
+
+    /// "A step's need is the rows needed by its result and all that is live at
+    /// it." "A reached step with a need above N is refusal 8."
+    fn step(&mut self, operands: &[&Value], result: Value) -> Result<Value, Refusal> {
+        let need = self.need(operands, &result);
+        self.highest_need = self.highest_need.max(need);
+        if need > self.limits.rows {
+            return Err(Refusal::Full);
+        }
+        Ok(result)
+    }
+
+    /// "Live at a step: all filled registers and relations, the current set of
+    /// each open binder, each value made and not yet used, the step's operands."
+    fn need(&self, operands: &[&Value], result: &Value) -> usize {
+        let mut rows = Rows::new();
+        self.open.iter().for_each(|(_, set)| rows.add_set(set));
+        self.waiting
+            .iter()
+            .for_each(|value| value.add_rows(&mut rows));
+        operands.iter().for_each(|value| value.add_rows(&mut rows));
+        result.add_rows(&mut rows);
+        self.held_rows.count_with(&rows)
+    }
+}

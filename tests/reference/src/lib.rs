@@ -1,0 +1,16 @@
+//! Separate evaluator that enumerates states, written from document 01 alone.
+//!
+//! Sets of states are bit vectors, relations are bit matrices, and rows are
+//! counted by enumerating the functions got by fixing levels. Quotations in
+//! comments are sentences of document 01.
+
+pub mod book;
+pub mod evaluate;
+pub mod formula;
+pub mod lists;
+pub mod meaning;
+pub mod random;
+pub mod records;
+pub mod refusal;
+pub mod rows;
+pub mod states;

@@ -1,0 +1,398 @@
+//! Random lists of calls with the book's answers, as plain text blocks.
+//!
+//! A block is:
+//! ```text
+//! list 1
+//! n 1
+//! N 4
+//! relation 0 000a01... -> 0 0 0       relation t, framed formula
+//! set 0 3 000601...    -> 0 3 1       set r, R, framed formula; value: node
+//! member 0 1           -> 0 0 1       number, rounds, value; `-`: node free
+//! register 0 11                       filled at the end, state 0 first
+//! matrix 0 0110                       relation filled at the end, by now, next
+//! end
+//! ```
+
+use crate::book::{words_for, Answer, Book, Call, MAX_ROWS};
+use crate::formula::{frame, Kind};
+use crate::random::Random;
+use std::fmt::Write;
+
+/// A list of calls on a fresh table.
+#[derive(Clone, Debug, PartialEq, Eq)]
+pub struct List {
+    pub n: u32,
+    pub rows: u64,
+    pub calls: Vec<Call>,
+}
+
+impl List {
+    /// The answers of the book and the book after the list.
+    pub fn run(&self) -> (Vec<Answer>, Book) {
+        let mut book = fresh(self.n, self.rows);
+        let answers = self.calls.iter().map(|call| book.call(call)).collect();
+        (answers, book)
+    }
+
+    /// The block of text described at the top of this module.
+    pub fn block(&self, title: usize) -> String {
+        let (answers, book) = self.run();
+        let mut text = format!("list {title}\nn {}\nN {}\n", self.n, self.rows);
+        for (call, answer) in self.calls.iter().zip(&answers) {
+            writeln!(text, "{} -> {}", call_text(call), answer_text(answer)).unwrap();
+        }
+        text + &contents(&book) + "end\n"
+    }
+}
+
+fn fresh(n: u32, rows: u64) -> Book {
+    Book::fresh(u64::from(n), rows, words_for(rows)).expect("n and N in range")
+}
+
+fn call_text(call: &Call) -> String {
+    match call {
+        Call::Relation { t, formula } => format!("relation {t} {}", hex(formula)),
+        Call::Set { r, rounds, formula } => format!("set {r} {rounds} {}", hex(formula)),
+        Call::Clear { r } => format!("clear {r}"),
+        Call::Collect => "collect".to_string(),
+        Call::Node { r } => format!("node {r}"),
+        Call::Member { r, state } => format!("member {r} {state}"),
+        Call::Count { r } => format!("count {r}"),
+        Call::Tally => "tally".to_string(),
+    }
+}
+
+fn hex(bytes: &[u8]) -> String {
+    bytes.iter().map(|byte| format!("{byte:02x}")).collect()
+}
+
+fn answer_text(answer: &Answer) -> String {
+    let value = answer.value.map_or("-".to_string(), |v| v.to_string());
+    format!("{} {} {value}", answer.number, answer.rounds)
+}
+
+fn contents(book: &Book) -> String {
+    let mut text = String::new();
+    for (r, set) in book.registers().iter().enumerate() {
+        if let Some(set) = set {
+            writeln!(text, "register {r} {}", set.bit_string()).unwrap();
+        }
+    }
+    for (t, relation) in book.relations().iter().enumerate() {
+        if let Some(relation) = relation {
+            writeln!(text, "matrix {t} {}", relation.bit_string()).unwrap();
+        }
+    }
+    text
+}
+
+/// Draws a list of eight to twelve calls.
+pub fn generate(random: &mut Random, n: u32) -> List {
+    let mut drawer = Drawer {
+        random,
+        n,
+        scratch: fresh(n, MAX_ROWS),
+        needs: Vec::new(),
+    };
+    let length = 8 + drawer.random.below(5);
+    let calls = (0..length).map(|index| drawer.call(index)).collect();
+    let rows = drawer.rows();
+    List { n, rows, calls }
+}
+
+/// Draws calls, and makes them on a scratch book with rows in plenty to learn
+/// what is filled, how many rounds a set takes and how many rows it needs.
+struct Drawer<'a> {
+    random: &'a mut Random,
+    n: u32,
+    scratch: Book,
+    needs: Vec<usize>,
+}
+
+impl Drawer<'_> {
+    fn call(&mut self, index: u64) -> Call {
+        let call = match self.random.below(100) {
+            0..=59 if index == 0 => self.relation_call(),
+            0..=19 => self.relation_call(),
+            20..=64 => self.set_call(),
+            65..=71 => Call::Clear { r: self.register() },
+            72..=77 => Call::Collect,
+            78..=82 => Call::Node { r: self.asked() },
+            83..=89 => self.member_call(),
+            90..=95 => Call::Count { r: self.asked() },
+            _ => Call::Tally,
+        };
+        self.scratch.call(&call);
+        call
+    }
+
+    fn relation_call(&mut self) -> Call {
+        let t = self.relation();
+        let formula = self.formula(Kind::Relation);
+        if let Ok(done) = self.scratch.evaluate_relation(t, &formula) {
+            self.needs.push(done.highest_need);
+        }
+        Call::Relation { t, formula }
+    }
+
+    fn set_call(&mut self) -> Call {
+        let r = self.register();
+        let formula = self.formula(Kind::Set);
+        let mut rounds = 100;
+        if let Ok(done) = self.scratch.evaluate_set(r, u32::MAX, &formula) {
+            self.needs.push(done.highest_need);
+            rounds = self.round_limit(done.rounds);
+        }
+        Call::Set { r, rounds, formula }
+    }
+
+    /// R, mostly the rounds taken or one fewer.
+    fn round_limit(&mut self, taken: u32) -> u32 {
+        match self.random.below(100) {
+            0..=39 => taken,
+            40..=59 => taken.saturating_sub(1),
+            60..=64 => 0,
+            65..=89 => 100,
+            _ => u32::MAX,
+        }
+    }
+
+    fn member_call(&mut self) -> Call {
+        let r = self.asked();
+        let states = 1 << self.n;
+        let state = match self.random.chance(10) {
+            true => states + self.random.below(2),
+            false => self.random.below(states),
+        };
+        Call::Member { r, state }
+    }
+
+    fn register(&mut self) -> u64 {
+        match self.random.below(100) {
+            0..=3 => self.random.pick(&[32, 33, 255]),
+            4..=6 => 31,
+            _ => self.random.below(3),
+        }
+    }
+
+    /// A register to ask about, mostly a filled one.
+    fn asked(&mut self) -> u64 {
+        let filled = filled(self.scratch.registers());
+        match filled.is_empty() || self.random.chance(30) {
+            true => self.register(),
+            false => u64::from(self.random.pick(&filled)),
+        }
+    }
+
+    fn relation(&mut self) -> u64 {
+        match self.random.below(100) {
+            0..=3 => self.random.pick(&[8, 9, 255]),
+            4..=6 => 7,
+            _ => self.random.below(3),
+        }
+    }
+
+    /// N at a need of some call or one below it.
+    fn rows(&mut self) -> u64 {
+        let highest = self.needs.iter().copied().max().unwrap_or(1) as u64;
+        let need = match self.random.chance(60) || self.needs.is_empty() {
+            true => highest,
+            false => self.random.pick(&self.needs) as u64,
+        };
+        need.saturating_sub(self.random.below(2)).max(1)
+    }
+
+    /// Framed formula bytes, sometimes spoilt.
+    fn formula(&mut self, kind: Kind) -> Vec<u8> {
+        let size = self.size(kind);
+        let binders = if self.n == 1 { 2 } else { 1 };
+        let mut writer = Writer {
+            kind,
+            n: self.n as u8,
+            slip: self.random.chance(15),
+            registers: filled(self.scratch.registers()),
+            relations: filled(self.scratch.relations()),
+            binders_left: binders,
+            bound: Vec::new(),
+            nots: 0,
+            bytes: Vec::new(),
+            random: self.random,
+        };
+        writer.formula(size);
+        let bytes = writer.bytes;
+        match self.random.chance(5) {
+            true => self.spoil(bytes),
+            false => frame(&bytes),
+        }
+    }
+
+    /// Tokens wanted; few at n = 2, where each step is dearer.
+    fn size(&mut self, kind: Kind) -> u64 {
+        match (kind, self.n) {
+            (Kind::Relation, _) => self.random.pick(&[1, 3, 4, 5, 6, 7]),
+            (Kind::Set, 1) => 1 + self.random.below(9),
+            (Kind::Set, _) => 1 + self.random.below(6),
+        }
+    }
+
+    /// Bytes that break one rule of the prefix order or of the frame.
+    fn spoil(&mut self, mut body: Vec<u8>) -> Vec<u8> {
+        let fault = self.random.below(7);
+        match fault {
+            0 => body.push(0x01),
+            1 => body[0] = self.random.pick(&[0x05, 0x0F, 0x90, 0xFF]),
+            2 => body.insert(0, 0x03),
+            _ => {}
+        }
+        let mut bytes = frame(&body);
+        match fault {
+            3 => bytes.push(0x00),
+            4 => bytes[2] = 2,
+            5 => bytes[1] += 1,
+            6 => bytes.truncate(bytes.len() - 1),
+            _ => {}
+        }
+        bytes
+    }
+}
+
+fn filled<T>(places: &[Option<T>]) -> Vec<u8> {
+    (0u8..)
+        .zip(places)
+        .filter(|(_, place)| place.is_some())
+        .map(|(number, _)| number)
+        .collect()
+}
+
+/// Writes formula bytes in prefix order. A slip may break checks 4 to 7.
+struct Writer<'a> {
+    random: &'a mut Random,
+    kind: Kind,
+    n: u8,
+    slip: bool,
+    registers: Vec<u8>,
+    relations: Vec<u8>,
+    binders_left: u32,
+    /// Bound variables with the number of NOTs above their binder.
+    bound: Vec<(u8, u32)>,
+    nots: u32,
+    bytes: Vec<u8>,
+}
+
+impl Writer<'_> {
+    fn formula(&mut self, size: u64) {
+        if size <= 1 {
+            return self.leaf();
+        }
+        let binder_first = self.bound.is_empty() && self.random.chance(50);
+        if self.may_bind() && (binder_first || self.random.chance(15)) {
+            self.binder(size);
+        } else if self.may_be_modal() && self.random.chance(40) {
+            self.modal(size);
+        } else if size == 2 || self.random.chance(if self.slip { 50 } else { 25 }) {
+            self.not(size);
+        } else {
+            self.binary(size);
+        }
+    }
+
+    fn may_bind(&self) -> bool {
+        self.kind == Kind::Set && self.binders_left > 0
+    }
+
+    fn may_be_modal(&self) -> bool {
+        self.kind == Kind::Set && (self.slip || !self.relations.is_empty())
+    }
+
+    fn not(&mut self, size: u64) {
+        self.bytes.push(0x02);
+        self.nots += 1;
+        self.formula(size - 1);
+        self.nots -= 1;
+    }
+
+    fn binary(&mut self, size: u64) {
+        let operator = self.random.pick(&[0x03, 0x04]);
+        self.bytes.push(operator);
+        let left = 1 + self.random.below(size - 2);
+        self.formula(left);
+        self.formula(size - 1 - left);
+    }
+
+    fn modal(&mut self, size: u64) {
+        self.modal_word();
+        self.formula(size - 1);
+    }
+
+    fn modal_word(&mut self) {
+        let t = match self.slip && self.random.chance(50) || self.relations.is_empty() {
+            true => self.random.below(3) as u8,
+            false => self.random.pick(&self.relations),
+        };
+        let base = self.random.pick(&[0x60, 0x68]);
+        self.bytes.push(base + t);
+    }
+
+    fn binder(&mut self, size: u64) {
+        self.binders_left -= 1;
+        let p = match self.slip {
+            true => self.random.below(2) as u8,
+            false => self.bound.len() as u8,
+        };
+        let base = self.random.pick(&[0x70, 0x80]);
+        self.bytes.push(base + p);
+        self.bound.push((p, self.nots));
+        match self.may_be_modal() && self.random.chance(50) {
+            true => self.reach(p),
+            false => self.formula(size - 1),
+        }
+        self.bound.pop();
+    }
+
+    /// The usual body of a fixpoint: a leaf with a modal word over P.
+    fn reach(&mut self, p: u8) {
+        let operator = self.random.pick(&[0x03, 0x04]);
+        self.bytes.push(operator);
+        self.leaf();
+        self.modal_word();
+        self.bytes.push(0x30 + p);
+    }
+
+    fn leaf(&mut self) {
+        let tokens = match self.slip && self.random.chance(40) {
+            true => self.any_leaves(),
+            false => self.fit_leaves(),
+        };
+        let token = self.random.pick(&tokens);
+        self.bytes.push(token);
+    }
+
+    /// Leaves that pass the checks, the wanted ones listed more than once.
+    fn fit_leaves(&self) -> Vec<u8> {
+        let mut tokens = vec![0x00, 0x01];
+        for p in 0..self.n {
+            tokens.extend([0x10 + p; 2]);
+        }
+        match self.kind {
+            Kind::Relation => (0..self.n).for_each(|p| tokens.extend([0x20 + p; 3])),
+            Kind::Set => {
+                tokens.extend(self.registers.iter().map(|r| 0x40 + r));
+                for &(p, nots) in &self.bound {
+                    if (self.nots - nots).is_multiple_of(2) {
+                        tokens.extend([0x30 + p; 6]);
+                    }
+                }
+            }
+        }
+        tokens
+    }
+
+    /// Leaves that may be refused with 4, 5, 6 or 7.
+    fn any_leaves(&self) -> Vec<u8> {
+        let mut tokens = vec![0x10 + self.n, 0x20, 0x30, 0x31, 0x40, 0x41, 0x42];
+        for &(p, _) in &self.bound {
+            tokens.extend([0x30 + p; 6]);
+        }
+        tokens
+    }
+}

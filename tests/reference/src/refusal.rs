@@ -1,0 +1,30 @@
+//! Refusal numbers.
+
+/// The table "Cause | No." of document 01; the discriminant is the number.
+#[derive(Clone, Copy, Debug, PartialEq, Eq, PartialOrd, Ord, Hash)]
+pub enum Refusal {
+    /// "fresh: n, N or slice length"
+    BadFresh = 1,
+    /// "table unsound"
+    Unsound = 2,
+    /// "register, relation or state number out of range"
+    OutOfRange = 3,
+    /// "bytes not a formula for this call"
+    NotAFormula = 4,
+    /// "variable unbound, or bound inside itself"
+    BadScope = 5,
+    /// "variable read odd"
+    ReadOdd = 6,
+    /// "register or relation named is empty"
+    Empty = 7,
+    /// "step needs more than N rows"
+    Full = 8,
+    /// "rounds used up"
+    RoundsUsedUp = 9,
+}
+
+impl Refusal {
+    pub fn number(self) -> u8 {
+        self as u8
+    }
+}
