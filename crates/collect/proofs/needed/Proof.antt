@@ -8,7 +8,6 @@ use borrow.Author.Needs.{needs}
 use Rattle.collect.proofs.needed.Statement.{statement}
 use Rattle.collect.proofs.needed.Tie as tie
 
-
 pub needed-spec : {M : Type 1} → statement M
 needed-spec =
     tie.close
