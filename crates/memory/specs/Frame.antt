@@ -2,17 +2,16 @@
 use mathlib.Core.Path.{_≡_, refl, ap, sym, _∙_, subst}
 use mathlib.Core.Bool.{true}
 use mathlib.Core.Logic.{_≢_}
-use Prim.Native.Nat.{ℕ, zero, suc, _*_, _≤_, _<_}
+use Prim.Native.Nat.{ℕ, _≤_, _<_}
 use native.Mathlib.Omega.{arith}
 use borrow.Author.Tests.{ne-eqb}
-use Rattle.diagram.specs.Rows.{Rows, WellFormed}
-use Rattle.layout.specs.Places.{BITS, ROWS, USED, SLOTS, STORED, LOW, HIGH, LEVEL, NEXT, RANK, MEMO-KEY, MEMO-VALUE}
+use Rattle.diagram.specs.Rows.{Rows}
+use Rattle.layout.specs.Places.{BITS, ROWS, USED, SLOTS, STORED, LOW, HIGH, LEVEL, RANK, MEMO-KEY, MEMO-VALUE}
 use Rattle.layout.specs.View.{View, putHeader, putCell}
-use Rattle.soundness.specs.Used.{used, usedAt, rowsOf, Sizes, Ranked}
-use Rattle.soundness.specs.Index.{bucket, keyOf, live, live-link, Hit, Down}
+use Rattle.soundness.specs.Used.{used, usedAt, rowsOf}
+use Rattle.soundness.specs.Index.{keyOf}
+use Rattle.soundness.specs.Alike.{Alike}
 use Rattle.soundness.specs.Checks.{Room}
-use Rattle.soundness.specs.Sound.{Good}
-use Rattle.table.specs.Append.{hit-frame}
 
 -- the slots become those given
 abbrev pub setSlots : View → (ℕ → ℕ) → View
@@ -58,9 +57,6 @@ memo-key W i v = record { rows = refl; size = refl; header = λ h _ _. refl; cel
 pub memo-value : (W : View) (i v : ℕ) → MemoFrame W (putCell W i MEMO-VALUE v)
 memo-value W i v = record { rows = refl; size = refl; header = λ h _ _. refl; cell = λ j k a b. rw (ne-eqb k 6 b); list = refl; head = refl; beyond = refl }
 
-hit-at : {X : View} {l l′ lo lo′ hi hi′ p p′ i : ℕ} → l′ ≡ l → lo′ ≡ lo → hi′ ≡ hi → p′ ≡ p → Hit X l lo hi p i → Hit X l′ lo′ hi′ p′ i
-hit-at a b c d h = rw (a, b, c, d) h
-
 module _ {W X : View} (f : MemoFrame W X) where
   low-header : (h : ℕ) → h < SLOTS → X .header h ≡ W .header h
   low-header h l = f .header h (omega arith) (omega arith)
@@ -80,40 +76,19 @@ module _ {W X : View} (f : MemoFrame W X) where
   pub used-same : (j : ℕ) → used X j ≡ true → used W j ≡ true
   used-same j u = subst (λ (r : Rows). r .used j ≡ true) rows-same u
 
-  same-used : (j : ℕ) → used W j ≡ true → used X j ≡ true
-  same-used j u = subst (λ (r : Rows). r .used j ≡ true) (sym rows-same) u
-
-  down-same : (k p : ℕ) → Down W k p → Down X k p
-  down-same k zero d = tt
-  down-same k (suc j) d = (same-used j (d .0), rw (low-cell j RANK (omega arith)) (d .1))
-
-  first-same : (j : ℕ) → live (used X) (X .head (keyOf X j)) ≡ live (used W) (W .head (keyOf W j))
-  first-same j = λ q.
-      live (rows-same q .used) (f .head q (bucket (f .rows q) (low-cell j LEVEL (omega arith) q) (low-cell j LOW (omega arith) q) (low-cell j HIGH (omega arith) q)))
-
-  -- so a good table stays good
-  pub good-memo : Good W → Good X
-  good-memo g = record {
-    sizes = rw (low-header BITS (omega arith), f .rows, f .size) (g .sizes);
-    rows-is = low-header ROWS (omega arith) ∙ g .rows-is ∙ sym (f .rows);
-    ranked = record {
-      count-le = rw (low-header USED (omega arith), f .rows) (g .ranked .count-le);
-      within = λ k l. rw (ap (λ (t : ℕ → ℕ). t k) (f .list), f .rows) (g .ranked .within k (rw (low-header USED (omega arith)) at l));
-      back = λ k l. low-cell (X .list k) RANK (omega arith) ∙ rw (ap (λ (t : ℕ → ℕ). t k) (f .list)) (g .ranked .back k (rw (low-header USED (omega arith)) at l));
-    };
-    rows = subst (λ (r : Rows). WellFormed (2 * X .header BITS) (X .rows) r) (sym rows-same) (rw (low-header BITS (omega arith), f .rows) (g .rows));
-    index = record {
-      nexts = λ j u. rw (low-cell j RANK (omega arith), low-cell j NEXT (omega arith)) (down-same (W .cell j RANK) (W .cell j NEXT) (g .index .nexts j (used-same j u)));
-      found = λ j u. found-same j (used-same j u);
-    };
+  -- and soundness does not see the difference
+  pub memo-alike : Alike W X
+  memo-alike = record {
+    rows = f .rows;
+    size = f .size;
+    bits = low-header BITS (omega arith);
+    count = low-header ROWS (omega arith);
+    used = low-header USED (omega arith);
+    roots = λ h a l. f .header h (omega arith) (omega arith);
+    list = λ k l. ap (λ (t : ℕ → ℕ). t k) (f .list);
+    cell = λ k h l m. low-cell (W .list k) l (omega arith);
+    head = λ k h. ap (λ (t : ℕ → ℕ). t (keyOf W (W .list k))) (f .head);
   }
-    where
-      found-same : (j : ℕ) → used W j ≡ true → Hit X (X .cell j LEVEL) (X .cell j LOW) (X .cell j HIGH) (live (used X) (X .head (keyOf X j))) j
-      found-same j u =
-          let r : Hit X (W .cell j LEVEL) (W .cell j LOW) (W .cell j HIGH) (live (used W) (W .head (keyOf W j))) j =
-          hit-frame W X (g .index .nexts) (λ x w. low-cell x LEVEL (omega arith)) (λ x w. low-cell x LOW (omega arith)) (λ x w. low-cell x HIGH (omega arith)) (λ x w. low-cell x NEXT (omega arith))
-          (g .index .found j u) (live-link (used W) (W .head (keyOf W j))) in
-          hit-at (low-cell j LEVEL (omega arith)) (low-cell j LOW (omega arith)) (low-cell j HIGH (omega arith)) (first-same j) r
 
 -- and the words still have room
 pub room-memo : {W X Y : View} → MemoFrame W Y → X ≡ Y → Room W → Room X

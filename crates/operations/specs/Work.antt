@@ -15,13 +15,14 @@ use Rattle.layout.specs.View.{View}
 use Rattle.soundness.specs.Used.{rowsOf}
 use Rattle.soundness.specs.Checks.{Room}
 use Rattle.soundness.specs.Sound.{Good}
+use Rattle.soundness.specs.Alike.{alike-good}
 use Rattle.table.specs.Add.{Frame, Fit}
 use Rattle.table.specs.Make.{result, MakePre, MakePost}
 use Rattle.table.specs.Find.{good-room}
 use Rattle.table.specs.Keep.{made-extends}
 use Rattle.table.specs.declared.Made.{Made}
 use Rattle.table.specs.declared.Made.the-variants as answer
-use Rattle.memory.specs.Frame.{MemoFrame, rows-same, good-memo}
+use Rattle.memory.specs.Frame.{MemoFrame, rows-same, memo-alike}
 use Rattle.memory.specs.Memo.{Remembers, unaryF, remembers-extends}
 
 -- what no operation changes: the header but for count, cursor and the numbers of slots, the spare word of rows, and the words beyond the table
@@ -113,7 +114,7 @@ worked-cong e w = record { good = w .good; memory = w .memory; frame = w .frame;
 -- remembering changes no row
 pub worked-kept : {m N limit : ℕ} {W X Y : View} {o : Made} {F : Fn} → Worked m N limit W X o F → MemoFrame X Y → Remembers m Y → Worked m N limit W Y o F
 worked-kept {m} {N} {limit} {W} {o = o} {F = F} w f g = record {
-  good = good-memo f (w .good);
+  good = alike-good (memo-alike f) (w .good);
   memory = g;
   frame = op-trans (w .frame) (op-memo f);
   post = subst (λ (t : Rows). OpPost m N limit (rowsOf W) t (result o) F) (sym (rows-same f)) (w .post);
