@@ -1,11 +1,10 @@
+-- `double` meets its contract: the new half is empty, so no entry is there that was not. Assumes nothing.
 use native.Mathlib.Omega.{arith}
-use mathlib.Core.Path.{sym}
 use Rattle.memory.specs.Frame.{room-memo, memo-stored}
 use Rattle.memory.specs.Store.{fewer-stored, fewer-doubled}
 use borrow.Author.Needs.{needs}
 use Rattle.memory.proofs.double.Statement.{statement}
 use Rattle.memory.proofs.double.Tie as tie
-
 
 pub double-spec : {M : Type 1} → statement M
 double-spec =

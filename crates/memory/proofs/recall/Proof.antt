@@ -1,8 +1,8 @@
+-- `recall` meets its contract: the slot that is found holds both arrows. Assumes nothing.
 use mathlib.Core.Path.{sym, _∙_}
 use borrow.Author.Needs.{needs}
 use Rattle.memory.proofs.recall.Statement.{statement}
 use Rattle.memory.proofs.recall.Tie as tie
-
 
 pub recall-spec : {M : Type 1} → statement M
 recall-spec =

@@ -1,9 +1,9 @@
+-- `remember` meets its contract: the result is counted and then written. Assumes nothing.
 use mathlib.Core.Path.{refl}
 use Rattle.memory.specs.Frame.{room-memo}
 use borrow.Author.Needs.{needs}
 use Rattle.memory.proofs.remember.Statement.{statement}
 use Rattle.memory.proofs.remember.Tie as tie
-
 
 pub remember-spec : {M : Type 1} → statement M
 remember-spec =

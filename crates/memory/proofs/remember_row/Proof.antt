@@ -1,9 +1,9 @@
+-- `remember_row` meets its contract: two words of the row are written. Assumes nothing.
 use mathlib.Core.Path.{refl}
 use Rattle.memory.specs.Store.{kept-by}
 use borrow.Author.Needs.{needs}
 use Rattle.memory.proofs.remember_row.Statement.{statement}
 use Rattle.memory.proofs.remember_row.Tie as tie
-
 
 pub remember-row-spec : {M : Type 1} → statement M
 remember-row-spec =

@@ -1,10 +1,10 @@
+-- `slot_of` meets its contract: the masked hash is at most the mask. Assumes nothing.
 use native.Mathlib.Omega.{arith}
 use lib.Bits.{and-le-r}
 use Prim.Native.Nat.{_-_, _+_, _*_, _/_, _%_}
 use borrow.Author.Needs.{needs}
 use Rattle.memory.proofs.slot_of.Statement.{statement}
 use Rattle.memory.proofs.slot_of.Tie as tie
-
 
 pub slot-of-spec : {M : Type 1} → statement M
 slot-of-spec =

@@ -1,10 +1,10 @@
+-- `known` meets its contract: at once, or as it is remembered. Assumes nothing.
 use mathlib.Core.Path.{sym, _∙_}
 use Rattle.layout.specs.View.{view}
 use Rattle.operations.specs.Pairs.{at-once, known-recalled}
 use borrow.Author.Needs.{needs}
 use Rattle.operations.proofs.known.Statement.{statement}
 use Rattle.operations.proofs.known.Tie as tie
-
 
 pub known-spec : {M : Type 1} → statement M
 known-spec =

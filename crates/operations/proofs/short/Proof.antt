@@ -1,10 +1,10 @@
+-- `short` meets its contract: one law for each way through. Assumes nothing.
 use mathlib.Core.Path.{refl}
 use borrow.Author.Tests.{eq-eqb, ne-eqb}
 use Rattle.operations.specs.Pairs.{short-same, short-row, short-constant}
 use borrow.Author.Needs.{needs}
 use Rattle.operations.proofs.short.Statement.{statement}
 use Rattle.operations.proofs.short.Tie as tie
-
 
 pub short-spec : {M : Type 1} → statement M
 short-spec =

@@ -1,8 +1,8 @@
+-- `top` meets its contract: the lesser of two numbers. Assumes nothing.
 use native.Mathlib.Omega.{arith}
 use borrow.Author.Needs.{needs}
 use Rattle.operations.proofs.top.Statement.{statement}
 use Rattle.operations.proofs.top.Tie as tie
-
 
 pub top-spec : {M : Type 1} → statement M
 top-spec =
