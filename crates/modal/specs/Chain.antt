@@ -2,7 +2,7 @@
 use mathlib.Core.Path.{_≡_, refl, sym, ap, ap₂, _∙_, subst}
 use mathlib.Core.Logic.{⊎-elim}
 use mathlib.Core.Bool.{Bool, true, false, _&&_}
-use mathlib.Core.List.{List, [], _∷_, _++_, map, List·Memᴰ as Mem, List·Memᴰ·head as here, List·Memᴰ·tail as there, List·Memᴰ·cases-cons as mem-cases, Memᴰ·map as mem-map, Memᴰ·of-map as mem-of-map}
+use mathlib.Core.List.{List, [], _∷_, _++_, map, List·Memᴰ as Mem, List·Memᴰ·head as here, List·Memᴰ·tail as there, List·Memᴰ·cases-cons as mem-cases, Memᴰ·map as mem-map, Memᴰ·of-map as mem-of-map, List·Memᴰ·append-cases as append-cases, Memᴰ·append-left as append-left, Memᴰ·append-right as append-right}
 use Prim.Native.Nat.{ℕ, zero, suc, _+_, _*_, _≤_, _<_}
 use native.Mathlib.Omega.{arith}
 use lib.Dec.{leb}
@@ -17,12 +17,15 @@ use Rattle.diagram.specs.Keep.{Keeps, keeps-trans, keeps-within}
 use Rattle.diagram.specs.Step.{StepPost, StepResult}
 use Rattle.soundness.specs.Used.{rowsOf}
 use Rattle.soundness.specs.Sound.{Sound}
-use Rattle.soundness.specs.Filled.{push, held}
+use Rattle.soundness.specs.Filled.{push, held, filled, filled-arrow}
 use Rattle.table.specs.Make.{result}
 use Rattle.table.specs.declared.Made.{Made}
 use Rattle.table.specs.declared.Made.the-variants as made
 use Rattle.collect.specs.Lent.{live}
-use Rattle.steps.specs.Step.{Remembers, OpFrame, op-refl, op-trans, Ready, StepPre, Stepped}
+use Rattle.memory.specs.Memo.{Remembers}
+use Rattle.operations.specs.Work.{OpFrame, op-refl, op-trans, Ready}
+use Rattle.steps.specs.declared.Step.{Step}
+use Rattle.steps.specs.Steps.{stepF, operandsOf, Fits, StepPre, Stepped, operand-arrow}
 use Rattle.book.specs.Held.{Held, held-arrow, held-need}
 use Rattle.book.specs.Pairs.{PairMatches, PairEvals, pair-stop, pair-then, pair-step}
 
@@ -43,10 +46,10 @@ alike-cons x s = record {
 }
 
 -- a member once more
-pub alike-twice : {A : Type 0} {xs : List A} {x : A} → Mem x xs → Alike (x ∷ xs) xs
-alike-twice {A} {xs} {x} m = record {
-  to = λ a h. ⊎-elim (λ e. subst (λ (y : A). Mem y xs) (sym e) m) (λ i. i) (mem-cases h);
-  from = λ a h. there h;
+pub alike-once : {A : Type 0} {xs : List A} {x : A} → Mem x xs → Alike xs (x ∷ xs)
+alike-once {A} {xs} {x} m = record {
+  to = λ a h. there h;
+  from = λ a h. ⊎-elim (λ e. subst (λ (y : A). Mem y xs) (sym e) m) (λ i. i) (mem-cases h);
 }
 
 -- what is held by some roots is held by others with the same members
@@ -97,9 +100,6 @@ moved-refl {W = W} b = record { sound = b .sound; memory = b .ready .memory; fra
 pub moved-trans : {n : ℕ} {U W X : View} → Moved n U W → Moved n W X → Moved n U X
 moved-trans p q = record { sound = q .sound; memory = q .memory; frame = op-trans (p .frame) (q .frame) }
 
-pub stepped-moved : {n N limit : ℕ} {W X : View} {roots : List ℕ} {o : Made} {F : Fn} → Stepped (2 * n) N limit W X roots o F → Moved n W X
-stepped-moved p = record { sound = p .sound; memory = p .memory; frame = p .frame }
-
 module _ {n N limit : ℕ} {W : View} (b : Base n N limit W) where
   pub base-next : {X : View} → Moved n W X → Base n N limit X
   base-next {X} p = record {
@@ -124,13 +124,37 @@ module _ {n N limit : ℕ} {W : View} (b : Base n N limit W) where
   pub base-some : 1 ≤ n
   base-some = let e = b .ready .levels-is in let l = b .sound .good .sizes .n-pos in omega arith
 
-  -- what a step asks, with the arrows that it is lent and its operands
-  pub step-pre : {xs : List ℕ} → ((a : ℕ) → Mem a xs → Arrow (rowsOf W) a) → StepPre (2 * n) N limit W xs
-  step-pre u = record { ready = b .ready; sound = b .sound; arrows = u }
+  -- what a step asks, with the arrows that it is lent
+  pub step-pre : {lent : List ℕ} {s : Step} → ((a : ℕ) → Mem a lent → Arrow (rowsOf W) a) → Fits (2 * n) (rowsOf W) s → StepPre (2 * n) N limit W lent s
+  step-pre u f = record { sound = b .sound; ready = b .ready; lent = u; fits = f }
 
--- an operand more
-pub arrows-cons : {rows : Rows} {xs : List ℕ} {a : ℕ} → Arrow rows a → ((b : ℕ) → Mem b xs → Arrow rows b) → (b : ℕ) → Mem b (a ∷ xs) → Arrow rows b
-arrows-cons {rows} u w b h = ⊎-elim (λ e. subst (Arrow rows) (sym e) u) (w b) (mem-cases h)
+  -- registers, relations and lent arrows are arrows
+  pub live-arrows : {lent : List ℕ} → ((a : ℕ) → Mem a lent → Arrow (rowsOf W) a) → (a : ℕ) → Mem a (live W lent) → Arrow (rowsOf W) a
+  live-arrows u a h = ⊎-elim (filled-arrow (b .sound) a) (u a) (append-cases (filled W) h)
+
+-- a step for F, whose roots have its operands among them
+pub record Took (n N limit : ℕ) (W X : View) (roots : List ℕ) (o : Made) (F : Fn) : Type 0 where
+  pub moved : Moved n W X
+  pub post : StepPost (2 * n) N limit (rowsOf W) (rowsOf X) roots (result o) F
+
+-- operands at the end or at the front
+operands-first : {A : Type 0} (xs ys zs : List A) → Alike (xs ++ (ys ++ zs)) (zs ++ (xs ++ ys))
+operands-first xs ys zs = record {
+  to = λ a h. ⊎-elim (λ i. append-right zs (append-left {s = xs} ys i))
+      (λ j. ⊎-elim (λ i. append-right zs (append-right xs i)) (λ k. append-left {s = zs} (xs ++ ys) k) (append-cases ys j)) (append-cases xs h);
+  from = λ a h. ⊎-elim (λ k. append-right xs (append-right ys k))
+      (λ j. ⊎-elim (λ i. append-left {s = xs} (ys ++ zs) i) (λ i. append-right xs (append-left {s = ys} zs i)) (append-cases xs j)) (append-cases zs h);
+}
+
+pub took : {n N limit : ℕ} {W X : View} {lent : List ℕ} {s : Step} {o : Made} → Base n N limit W → StepPre (2 * n) N limit W lent s → Stepped (2 * n) N limit W X lent s o
+    → Took n N limit W X (operandsOf s ++ live W lent) o (stepF (2 * n) (rowsOf W) s)
+took {n} {W = W} {lent = lent} {s = s} {o = o} b q p = record {
+  moved = record { sound = p .sound; memory = p .memory; frame = p .frame };
+  post = step-roots (result o) arrows (operands-first (filled W) lent (operandsOf s)) (p .post);
+}
+  where
+    arrows : (a : ℕ) → Mem a (operandsOf s ++ live W lent) → Arrow (rowsOf W) a
+    arrows a h = ⊎-elim (operand-arrow (2 * n) (rowsOf W) s (q .fits) a) (live-arrows b (q .lent) a) (append-cases (operandsOf s) h)
 
 -- no step changes a register or relation
 held-frame : {W X : View} → OpFrame W X → (k : ℕ) → held X FIRST-REGISTER k ≡ held W FIRST-REGISTER k
@@ -150,9 +174,9 @@ pub record Ran (n N : ℕ) (W X : View) (roots : List ℕ) (fits : Bool) (F : Fn
 
 -- one step is a chain: its roots `ys`, with the operands among them, hold `fs`
 pub ran-step : {n N limit : ℕ} {W X : View} {roots ys : List ℕ} {fs : List Fn} {o : Made} {F : Fn} → Held (2 * n) (rowsOf W) ys fs → Within roots ys
-    → Stepped (2 * n) N limit W X ys o F → Ran n N W X roots (leb (stepNeed (2 * n) fs F) limit) F o
+    → Took n N limit W X ys o F → Ran n N W X roots (leb (stepNeed (2 * n) fs F) limit) F o
 ran-step {n} {N} {o = o} {F = F} h w p = record {
-  moved = stepped-moved p;
+  moved = p .moved;
   evals = pair-step n N (held-own (λ a i. held-arrow h a (w a i))) F (keeps-within w) h refl (result o) (p .post);
 }
 

@@ -16,12 +16,13 @@ use Rattle.diagram.specs.Keep.{Keeps, keeps-refl, keeps-trans, keeps-arrow, kee
 use Rattle.diagram.specs.Step.{StepPost}
 use Rattle.diagram.specs.Steps.{notF, andF, shiftF, existsF}
 use Rattle.soundness.specs.Used.{rowsOf}
-use Rattle.soundness.specs.Filled.{filled, filled-arrow}
+use Rattle.soundness.specs.Filled.{filled}
 use Rattle.table.specs.Make.{result}
 use Rattle.table.specs.declared.Made.{Made}
 use Rattle.table.specs.declared.Made.the-variants as made
 use Rattle.collect.specs.Lent.{live}
-use Rattle.steps.specs.Step.{OpFrame, StepPre, Stepped}
+use Rattle.steps.specs.declared.Step.the-variants.{Not, And, Shift, Exists}
+use Rattle.steps.specs.Steps.{StepPre}
 use Rattle.book.specs.Ticks.{existsNeeds, diamondNeeds, counted, full as fullVerdict, Verdict}
 use Rattle.book.specs.Run.{Outcome, value, full as fullRun, existsSteps}
 use Rattle.book.specs.Diamond.{existsNext, diamondF, boxF}
@@ -29,12 +30,8 @@ use Rattle.book.specs.Verdicts.{fit, settle, steps-verdict, exists-ticks}
 use Rattle.book.specs.Held.{Held, denoted, held-arrow, held-push, held-operand, held-keeps}
 use Rattle.book.specs.Pairs.{PairEvals, PairMatches}
 use Rattle.book.specs.Modal.{Quantifies, quantify-start, quantify-on, quantify-out, quantify-end}
-use Rattle.modal.specs.Chain.{Alike, alike-refl, alike-cons, alike-twice, held-alike, denotes-own, held-own, Base, Moved, moved-refl, moved-trans, stepped-moved, base-next, base-wf, base-bits, step-pre, arrows-cons, live-frame, Ran, ran-step, ran-stop, ran-kept, ran-value, ran-then}
+use Rattle.modal.specs.Chain.{alike-cons, alike-once, held-alike, denotes-own, held-own, Base, Moved, moved-refl, moved-trans, base-next, base-wf, step-pre, live-arrows, Took, live-frame, Ran, ran-step, ran-stop, ran-kept, ran-value, ran-then}
 use Rattle.modal.specs.Modal.{boxedNeeds, QuantifyPre, ModalPre, QuantifyPost, DiamondPost, BoxPost}
-
--- registers, relations and lent arrows are arrows
-pub live-arrows : {n N limit : ℕ} {W : View} {lent : List ℕ} → Base n N limit W → ((b : ℕ) → Mem b lent → Arrow (rowsOf W) b) → (b : ℕ) → Mem b (live W lent) → Arrow (rowsOf W) b
-live-arrows {W = W} b u a h = ⊎-elim (filled-arrow (b .sound) a) (u a) (append-cases (filled W) h)
 
 -- ---- the loop of EXISTS
 
@@ -69,10 +66,13 @@ module _ {n N limit : ℕ} {W : View} {lent : List ℕ} {a : ℕ} (p : QuantifyP
     at-own : Quantifies n N limit (rowsOf W) (rowsOf X) (live W lent) (map (den (2 * n) (rowsOf W)) (live W lent)) (den (2 * n) (rowsOf W) a) j c
     at-own = q .steps _ own
 
-    pub quantify-asks : StepPre (2 * n) N limit X (c ∷ lent)
-    quantify-asks = step-pre (base-next (p .base) (q .moved)) (arrows-cons (at-own .denotes .arrow) (λ b h. keeps-arrow (at-own .kept) b (append-right (filled W) h)))
+    pub quantify-base : Base n N limit X
+    quantify-base = base-next (p .base) (q .moved)
 
-    module _ {Y : View} {o : Made} (less : 0 < j) (s : Stepped (2 * n) N limit X Y (c ∷ live X lent) o (existsF (2 * (j - 1) + 1) (den (2 * n) (rowsOf X) c))) where
+    pub quantify-asks : {x : ℕ} → x < 2 * n → StepPre (2 * n) N limit X lent (Exists x c)
+    quantify-asks l = step-pre quantify-base (λ b h. keeps-arrow (at-own .kept) b (append-right (filled W) h)) (at-own .denotes .arrow, l)
+
+    module _ {Y : View} {o : Made} (less : 0 < j) (s : Took n N limit X Y (c ∷ live X lent) o (existsF (2 * (j - 1) + 1) (den (2 * n) (rowsOf X) c))) where
       turn : (fs : List Fn) → Held (2 * n) (rowsOf W) (live W lent) fs → Quantifies n N limit (rowsOf W) (rowsOf X) (live W lent) fs (den (2 * n) (rowsOf W) a) (suc (j - 1)) c
       turn fs h =
           let e : j ≡ suc (j - 1) = omega arith in
@@ -87,7 +87,7 @@ module _ {n N limit : ℕ} {W : View} {lent : List ℕ} {a : ℕ} (p : QuantifyP
 
       pub quantify-turns : {d : ℕ} → o ≡ made.At d → Quantified n N limit W Y lent a (j - 1) d
       quantify-turns {d} e = record {
-        moved = moved-trans (q .moved) (stepped-moved s);
+        moved = moved-trans (q .moved) (s .moved);
         steps = λ fs h. quantify-on n N limit h (j - 1) c d (turn fs h) (post e);
       }
 
@@ -97,7 +97,7 @@ module _ {n N limit : ℕ} {W : View} {lent : List ℕ} {a : ℕ} (p : QuantifyP
           let t = turn fs h in
           let out = fit-false (fit limit (existsNeeds n fs n C)) (sym (quantify-out n N limit h (j - 1) c t (post e) (value [] 0)) ∙ fit-steps n limit fs C) in
           record {
-            moved = moved-trans (q .moved) (stepped-moved s);
+            moved = moved-trans (q .moved) (s .moved);
             evals = record {
               wf = post e .wf;
               kept = keeps-on (t .kept) (post e .kept);
@@ -174,15 +174,18 @@ module _ {n N limit : ℕ} {W : View} {lent : List ℕ} {t a : ℕ} (p : ModalPr
   all-held : Held (2 * n) (rowsOf W) (live W lent) all
   all-held = held-own (live-arrows (p .base) (p .arrows))
 
-  pub modal-asks : StepPre (2 * n) N limit W (a ∷ lent)
-  modal-asks = step-pre (p .base) (arrows-cons (p .operand) (p .arrows))
+  pub shift-asks : StepPre (2 * n) N limit W lent (Shift a)
+  shift-asks = step-pre (p .base) (p .arrows) (p .operand, p .even)
+
+  pub not-asks : StepPre (2 * n) N limit W lent (Not a)
+  not-asks = step-pre (p .base) (p .arrows) (p .operand)
 
   -- a first step from the operand
-  first-step : {X : View} {o : Made} {G : Fn} → Stepped (2 * n) N limit W X (a ∷ live W lent) o G → (fs : List Fn) → Held (2 * n) (rowsOf W) (live W lent) fs
+  first-step : {X : View} {o : Made} {G : Fn} → Took n N limit W X (a ∷ live W lent) o G → (fs : List Fn) → Held (2 * n) (rowsOf W) (live W lent) fs
       → Ran n N W X (live W lent) (leb (stepNeed (2 * n) (F ∷ fs) G) limit) G o
   first-step s fs h = ran-step (held-push h (denotes-own (p .operand))) (λ b i. there i) s
 
-  module _ {X : View} {o : Made} (s : Stepped (2 * n) N limit W X (a ∷ live W lent) o (shiftF F)) where
+  module _ {X : View} {o : Made} (s : Took n N limit W X (a ∷ live W lent) o (shiftF F)) where
     pub shift-full : o ≡ made.Full → DiamondPost n N limit W X lent t a made.Full
     shift-full e fs h = ran-stop _ (diamondF n R F) e (first-step s fs h)
 
@@ -199,20 +202,23 @@ module _ {n N limit : ℕ} {W : View} {lent : List ℕ} {t a : ℕ} (p : ModalPr
       t-is : Denotes (2 * n) (rowsOf X) t R
       t-is = keeps-denotes k1 (p .relation) (denotes-own (live-arrows (p .base) (p .arrows) t (p .relation)))
 
-      pub and-asks : StepPre (2 * n) N limit X (t ∷ x ∷ lent)
-      and-asks = step-pre (base-next (p .base) (stepped-moved s)) (arrows-cons (t-is .arrow) (arrows-cons (x-is .arrow) (kept-lent W lent k1)))
+      pub and-base : Base n N limit X
+      and-base = base-next (p .base) (s .moved)
 
-      module _ {Y : View} {u : Made} (v : Stepped (2 * n) N limit X Y (t ∷ x ∷ live X lent) u (andF (den (2 * n) (rowsOf X) x) (den (2 * n) (rowsOf X) t))) where
-        v1 : Stepped (2 * n) N limit X Y (t ∷ x ∷ live W lent) u (andF (shiftF F) R)
+      pub and-asks : StepPre (2 * n) N limit X lent (And x t)
+      and-asks = step-pre and-base (kept-lent W lent k1) (x-is .arrow, t-is .arrow)
+
+      module _ {Y : View} {u : Made} (v : Took n N limit X Y (x ∷ t ∷ live X lent) u (andF (den (2 * n) (rowsOf X) x) (den (2 * n) (rowsOf X) t))) where
+        v1 : Took n N limit X Y (x ∷ t ∷ live W lent) u (andF (shiftF F) R)
         v1 =
-            subst (λ (G : Fn). Stepped (2 * n) N limit X Y (t ∷ x ∷ live W lent) u G) (ap₂ andF (denoted x-is) (denoted t-is))
-            (subst (λ (xs : List ℕ). Stepped (2 * n) N limit X Y (t ∷ x ∷ xs) u (andF (den (2 * n) (rowsOf X) x) (den (2 * n) (rowsOf X) t))) (live-frame (s .frame) lent) v)
+            subst (λ (G : Fn). Took n N limit X Y (x ∷ t ∷ live W lent) u G) (ap₂ andF (denoted x-is) (denoted t-is))
+            (subst (λ (xs : List ℕ). Took n N limit X Y (x ∷ t ∷ xs) u (andF (den (2 * n) (rowsOf X) x) (den (2 * n) (rowsOf X) t))) (live-frame (s .moved .frame) lent) v)
 
         joined : (fs : List Fn) → Held (2 * n) (rowsOf W) (live W lent) fs
             → Ran n N X Y (live W lent) (leb (stepNeed (2 * n) (shiftF F ∷ R ∷ fs) (andF (shiftF F) R)) limit) (andF (shiftF F) R) u
         joined fs h =
             let g : Held (2 * n) (rowsOf X) (x ∷ live W lent) (shiftF F ∷ R ∷ fs) = held-push (held-operand (held-keeps h k1) (held-mem h (p .relation))) x-is in
-            ran-step (held-alike (record { to = alike-twice {xs = x ∷ live W lent} (there (p .relation)) .from; from = alike-twice {xs = x ∷ live W lent} (there (p .relation)) .to }) g) (λ b i. there (there i)) v1
+            ran-step (held-alike (alike-cons x (alike-once (p .relation))) g) (λ b i. there (there i)) v1
 
         pub and-full : u ≡ made.Full → DiamondPost n N limit W Y lent t a made.Full
         and-full f fs h = ran-then e (shifted fs h) (ran-stop _ (diamondF n R F) f (joined fs h))
@@ -225,7 +231,7 @@ module _ {n N limit : ℕ} {W : View} {lent : List ℕ} {t a : ℕ} (p : ModalPr
           c-is = ran-value f (joined all all-held)
 
           m2 : Moved n W Y
-          m2 = moved-trans (stepped-moved s) (stepped-moved v)
+          m2 = moved-trans (s .moved) (v .moved)
 
           pub loop-asks : QuantifyPre n N limit Y lent c
           loop-asks = record { base = base-next (p .base) m2; arrows = kept-lent W lent (keeps-trans k1 k2); operand = c-is .arrow }
@@ -238,7 +244,7 @@ module _ {n N limit : ℕ} {W : View} {lent : List ℕ} {t a : ℕ} (p : ModalPr
 
   -- ---- box
 
-  module _ {X : View} {o : Made} (s : Stepped (2 * n) N limit W X (a ∷ live W lent) o (notF F)) where
+  module _ {X : View} {o : Made} (s : Took n N limit W X (a ∷ live W lent) o (notF F)) where
     pub not-full : o ≡ made.Full → BoxPost n N limit W X lent t a made.Full
     not-full e fs h = ran-stop _ (boxF n R F) e (first-step s fs h)
 
@@ -254,9 +260,9 @@ module _ {n N limit : ℕ} {W : View} {lent : List ℕ} {t a : ℕ} (p : ModalPr
 
       pub diamond-asks : ModalPre n N limit X lent t b
       diamond-asks = record {
-        base = base-next (p .base) (stepped-moved s);
+        base = base-next (p .base) (s .moved);
         arrows = kept-lent W lent b-kept;
-        relation = subst (λ (xs : List ℕ). Mem t xs) (sym (live-frame (s .frame) lent)) (p .relation);
+        relation = subst (λ (xs : List ℕ). Mem t xs) (sym (live-frame (s .moved .frame) lent)) (p .relation);
         operand = b-is .arrow;
         even = λ v w g. b-is .same v ∙ ap not (p .even v w g) ∙ sym (b-is .same w);
       }
@@ -264,10 +270,10 @@ module _ {n N limit : ℕ} {W : View} {lent : List ℕ} {t a : ℕ} (p : ModalPr
       module _ {Y : View} {u : Made} (d : DiamondPost n N limit X Y lent t b u) where
         inner : (fs : List Fn) → Held (2 * n) (rowsOf W) (live W lent) fs → Ran n N X Y (live W lent) (fit limit (diamondNeeds n fs R (notF F))) (diamondF n R (notF F)) u
         inner fs h =
-            let l = d fs (held-moved lent (stepped-moved s) b-kept h) in
+            let l = d fs (held-moved lent (s .moved) b-kept h) in
             let l1 = subst (λ (G : Fn). Ran n N X Y (live X lent) (fit limit (diamondNeeds n fs (den (2 * n) (rowsOf X) t) G)) (diamondF n (den (2 * n) (rowsOf X) t) G) u) (denoted b-is) l in
             let l2 = subst (λ (G : Fn). Ran n N X Y (live X lent) (fit limit (diamondNeeds n fs G (notF F))) (diamondF n G (notF F)) u) (denoted r-is) l1 in
-            ran-from lent (stepped-moved s) l2
+            ran-from lent (s .moved) l2
 
         pub inner-full : u ≡ made.Full → BoxPost n N limit W Y lent t a made.Full
         inner-full f fs h = box-chain limit R F fs (ran-then e (first-step s fs h) (ran-stop _ (boxF n R F) f (inner fs h)))
@@ -280,15 +286,18 @@ module _ {n N limit : ℕ} {W : View} {lent : List ℕ} {t a : ℕ} (p : ModalPr
           d-is = ran-value f (inner all all-held)
 
           c-moved : Moved n W Y
-          c-moved = moved-trans (stepped-moved s) (inner all all-held .moved)
+          c-moved = moved-trans (s .moved) (inner all all-held .moved)
 
-          pub last-asks : StepPre (2 * n) N limit Y (c ∷ lent)
-          last-asks = step-pre (base-next (p .base) c-moved) (arrows-cons (d-is .arrow) (kept-lent W lent (keeps-trans b-kept c-kept)))
+          pub last-base : Base n N limit Y
+          last-base = base-next (p .base) c-moved
 
-          pub box-ends : {Z : View} {r : Made} → Stepped (2 * n) N limit Y Z (c ∷ live Y lent) r (notF (den (2 * n) (rowsOf Y) c)) → BoxPost n N limit W Z lent t a r
+          pub last-asks : StepPre (2 * n) N limit Y lent (Not c)
+          last-asks = step-pre last-base (kept-lent W lent (keeps-trans b-kept c-kept)) (d-is .arrow)
+
+          pub box-ends : {Z : View} {r : Made} → Took n N limit Y Z (c ∷ live Y lent) r (notF (den (2 * n) (rowsOf Y) c)) → BoxPost n N limit W Z lent t a r
           box-ends {Z} {r} v fs h =
               let D : Fn = diamondF n R (notF F) in
-              let v1 = subst (λ (G : Fn). Stepped (2 * n) N limit Y Z (c ∷ live Y lent) r (notF G)) (denoted d-is) v in
+              let v1 = subst (λ (G : Fn). Took n N limit Y Z (c ∷ live Y lent) r (notF G)) (denoted d-is) v in
               let g : Held (2 * n) (rowsOf Y) (c ∷ live Y lent) (D ∷ fs) = held-push (held-moved lent c-moved (keeps-trans b-kept c-kept) h) d-is in
               let l : Ran n N Y Z (live Y lent) (leb (stepNeed (2 * n) (D ∷ fs) (notF D)) limit) (notF D) r = ran-step g (λ b i. there i) v1 in
               box-chain limit R F fs (ran-then e (first-step s fs h) (ran-then f (inner fs h) (ran-from lent c-moved l)))
