@@ -45,6 +45,12 @@ alike-cons x s = record {
   from = λ a h. ⊎-elim (λ e. here e) (λ i. there (s .from a i)) (mem-cases h);
 }
 
+pub alike-trans : {A : Type 0} {xs ys zs : List A} → Alike xs ys → Alike ys zs → Alike xs zs
+alike-trans s t = record { to = λ a h. t .to a (s .to a h); from = λ a h. s .from a (t .from a h) }
+
+pub alike-sym : {A : Type 0} {xs ys : List A} → Alike xs ys → Alike ys xs
+alike-sym s = record { to = s .from; from = s .to }
+
 -- a member once more
 pub alike-once : {A : Type 0} {xs : List A} {x : A} → Mem x xs → Alike xs (x ∷ xs)
 alike-once {A} {xs} {x} m = record {
@@ -75,7 +81,7 @@ pub step-roots : {m N limit : ℕ} {before after : Rows} {xs ys : List ℕ} {F :
 step-roots {m} {N} {limit} {before} {after} {xs} {ys} {F} answer u s p = record { wf = p .wf; kept = keeps-within (s .from) (p .kept); result = go answer (p .result) }
   where
     same : stepNeed m (map (den m before) xs) F ≡ stepNeed m (map (den m before) ys) F
-    same = held-need (held-alike (record { to = s .from; from = s .to }) (held-own u)) F
+    same = held-need (held-alike (alike-sym s) (held-own u)) F
 
     go : (answer : Result) → StepResult m limit before after xs answer F → StepResult m limit before after ys answer F
     go (at a) r = (r .0, subst (λ (k : ℕ). k ≤ limit) same (r .1))
@@ -138,7 +144,7 @@ pub record Took (n N limit : ℕ) (W X : View) (roots : List ℕ) (o : Made) (F 
   pub post : StepPost (2 * n) N limit (rowsOf W) (rowsOf X) roots (result o) F
 
 -- operands at the end or at the front
-operands-first : {A : Type 0} (xs ys zs : List A) → Alike (xs ++ (ys ++ zs)) (zs ++ (xs ++ ys))
+pub operands-first : {A : Type 0} (xs ys zs : List A) → Alike (xs ++ (ys ++ zs)) (zs ++ (xs ++ ys))
 operands-first xs ys zs = record {
   to = λ a h. ⊎-elim (λ i. append-right zs (append-left {s = xs} ys i))
       (λ j. ⊎-elim (λ i. append-right zs (append-right xs i)) (λ k. append-left {s = zs} (xs ++ ys) k) (append-cases ys j)) (append-cases xs h);
