@@ -10,6 +10,11 @@ use borrow.Author.Tests.{ltb-true}
 use lib.ListN.{length, getD, take}
 use Rattle.mucalculus.specs.Form.{Form, bot, top, now, next, var, reg, bound, inside, filled as hasContent}
 use Rattle.mucalculus.specs.Means.{clip}
+use Rattle.tokens.specs.Tokens.{leafAllowed}
+use Rattle.tokens.specs.declared.Grammar.the-variants.{States}
+use Rattle.tokens.specs.declared.Leaf.{Leaf}
+use Rattle.tokens.specs.declared.Leaf.the-variants.{Now}
+use Rattle.formula.specs.Parse.{leafForm}
 use Rattle.formula.specs.Checks.{filled}
 use Rattle.layout.specs.Places.{HEADER, FIRST-REGISTER, wordsFor}
 use Rattle.layout.specs.View.{View}
@@ -96,3 +101,13 @@ module _ {L : Limits} {W : View} {stack places : List ℕ} {held : ℕ} {σ : Sc
       moved = t .moved;
       evals = λ q. evals-bit (L .bits) (L .rows) (R .lives) p q l (result o) (took-roots [] R (λ a h. absurd (mem-nil h)) t);
     }
+
+-- by the leaf that stands there
+pub as-leaf : {scope : List Bool} {regs rels : ℕ → Bool} {l : Leaf} (m : Leaf) → l ≡ m → Named scope regs rels (leafForm l) → Named scope regs rels (leafForm m)
+as-leaf {scope} {regs} {rels} m e h = subst (λ (x : Leaf). Named scope regs rels (leafForm x)) e h
+
+pub leaf-as : {L : Limits} {W X : View} {σ : Scene} {o : Made} {l : Leaf} (m : Leaf) → l ≡ m → LeafAnswers L W X σ (leafForm m) o → LeafAnswers L W X σ (leafForm l) o
+leaf-as {L} {W} {X} {σ} {o} m e h = subst (λ (x : Leaf). LeafAnswers L W X σ (leafForm x) o) (sym e) h
+
+pub now-taken : {n : ℕ} {l : Leaf} {p : ℕ} → l ≡ Now p → leafAllowed l n States ≡ true → p < n
+now-taken {n} {l} {p} e h = ltb-true p n (subst (λ (x : Leaf). leafAllowed x n States ≡ true) e h)

@@ -5,5 +5,5 @@ pub mod Parts
 pub mod Outcomes
 pub mod Steps
 pub mod Leaves
-pub mod Over
+pub mod Relations
 pub mod Rounds

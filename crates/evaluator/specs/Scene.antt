@@ -6,16 +6,18 @@ use mathlib.Core.Option.{Option}
 use Prim.Native.Nat.{ℕ, _+_, _*_, _≤_, _<_}
 use lib.Dec.{ltb}
 use lib.ListN.{length, getD, set, take}
-use Rattle.mucalculus.specs.Form.{Form, Pairs, Model, Env, put, bound, filled as hasContent}
+use Rattle.mucalculus.specs.Form.{Form, neg, Pairs, Model, Env, put, bound, filled as hasContent}
 use Rattle.tokens.specs.declared.Grammar.{Grammar}
 use Rattle.tokens.specs.declared.Grammar.the-variants.{States}
+use Rattle.tokens.specs.Tokens.{leafAllowed}
+use Rattle.tokens.specs.declared.Leaf.{Leaf}
 use Rattle.tokens.specs.declared.Fix.{Fix}
 use Rattle.tokens.specs.declared.Fix.the-variants.{Mu, Nu}
 use Rattle.tokens.specs.declared.Join.{Join}
 use Rattle.tokens.specs.declared.Join.the-variants.{And, Or}
 use Rattle.tokens.specs.declared.Mode.{Mode}
 use Rattle.tokens.specs.declared.Mode.the-variants.{All, Some}
-use Rattle.formula.specs.Parse.{got, parse, depthLimit}
+use Rattle.formula.specs.Parse.{leafForm, joinForm, modalForm, binderForm, got, parse, depthLimit}
 use Rattle.formula.specs.Checks.{filled}
 use Rattle.layout.specs.Places.{FIRST-REGISTER, FIRST-RELATION}
 use Rattle.layout.specs.View.{View}
@@ -144,3 +146,89 @@ isLeast Nu = false
 abbrev pub OverPost : Mode → ℕ → ℕ → ℕ → View → View → List ℕ → ℕ → ℕ → Made → Type 0
 OverPost All = BoxPost
 OverPost Some = DiamondPost
+
+-- ---- what the functions ask, and what they promise in every scene that the words and the stack hold
+
+pub record EvalPre (L : Limits) (W : View) (stack bs : List ℕ) (at depth held : ℕ) (places : List ℕ) : Type 0 where
+  pub room : held + depth ≤ depthLimit
+  pub scene : Scene
+  pub form : Form
+  pub end : ℕ
+  pub ready : Ready L W stack places held scene
+  pub part : Part (L .bits) bs at depth (scene .scope) (holdsReg scene) (holdsRel scene) form end
+
+abbrev pub EvalPost : Limits → View → View → List ℕ → List ℕ → List ℕ → ℕ → ℕ → ℕ → List ℕ → ℕ → Evaluated → Type 0
+EvalPost L W X stack after bs at depth held places rounds r =
+    (σ : Scene) (f : Form) (e : ℕ) → Ready L W stack places held σ → Part (L .bits) bs at depth (σ .scope) (holdsReg σ) (holdsRel σ) f e
+    → Answers L W X stack after held rounds σ f e r
+
+-- NOT: f is its part
+pub record NegatePre (L : Limits) (W : View) (stack bs : List ℕ) (at depth held : ℕ) (places : List ℕ) : Type 0 where
+  pub room : held + depth < depthLimit
+  pub scene : Scene
+  pub form : Form
+  pub end : ℕ
+  pub ready : Ready L W stack places held scene
+  pub part : Part (L .bits) bs at depth (scene .scope) (holdsReg scene) (holdsRel scene) form end
+
+abbrev pub NegatePost : Limits → View → View → List ℕ → List ℕ → List ℕ → ℕ → ℕ → ℕ → List ℕ → ℕ → Evaluated → Type 0
+NegatePost L W X stack after bs at depth held places rounds r =
+    (σ : Scene) (f : Form) (e : ℕ) → Ready L W stack places held σ → Part (L .bits) bs at depth (σ .scope) (holdsReg σ) (holdsRel σ) f e
+    → Answers L W X stack after held rounds σ (neg f) e r
+
+-- AND and OR: f and, after it, g are the parts
+pub record BothPre (L : Limits) (W : View) (stack bs : List ℕ) (at depth held : ℕ) (places : List ℕ) : Type 0 where
+  pub room : held + depth < depthLimit
+  pub scene : Scene
+  pub left : Form
+  pub right : Form
+  pub middle : ℕ
+  pub end : ℕ
+  pub ready : Ready L W stack places held scene
+  pub first : Part (L .bits) bs at depth (scene .scope) (holdsReg scene) (holdsRel scene) left middle
+  pub second : Part (L .bits) bs middle depth (scene .scope) (holdsReg scene) (holdsRel scene) right end
+
+abbrev pub BothPost : Limits → View → View → List ℕ → List ℕ → List ℕ → ℕ → ℕ → ℕ → List ℕ → ℕ → Join → Evaluated → Type 0
+BothPost L W X stack after bs at depth held places rounds j r =
+    (σ : Scene) (f g : Form) (m e : ℕ) → Ready L W stack places held σ → Part (L .bits) bs at depth (σ .scope) (holdsReg σ) (holdsRel σ) f m
+    → Part (L .bits) bs m depth (σ .scope) (holdsReg σ) (holdsRel σ) g e → Answers L W X stack after held rounds σ (joinForm j f g) e r
+
+-- box and diamond over relation t: f is the part
+pub record ModePre (L : Limits) (W : View) (stack bs : List ℕ) (at depth held : ℕ) (places : List ℕ) (t : ℕ) : Type 0 where
+  pub room : held + depth < depthLimit
+  pub scene : Scene
+  pub form : Form
+  pub end : ℕ
+  pub ready : Ready L W stack places held scene
+  pub part : Part (L .bits) bs at depth (scene .scope) (holdsReg scene) (holdsRel scene) form end
+  pub relation : holdsRel scene t ≡ true
+
+abbrev pub ModePost : Limits → View → View → List ℕ → List ℕ → List ℕ → ℕ → ℕ → ℕ → List ℕ → ℕ → Mode → ℕ → Evaluated → Type 0
+ModePost L W X stack after bs at depth held places rounds m t r =
+    (σ : Scene) (f : Form) (e : ℕ) → Ready L W stack places held σ → Part (L .bits) bs at depth (σ .scope) (holdsReg σ) (holdsRel σ) f e
+    → holdsRel σ t ≡ true → Answers L W X stack after held rounds σ (modalForm m t f) e r
+
+-- mu and nu: f is the body, in which P is open
+pub record BindPre (L : Limits) (W : View) (stack bs : List ℕ) (at depth held : ℕ) (places : List ℕ) (P : ℕ) : Type 0 where
+  pub room : held + depth < depthLimit
+  pub scene : Scene
+  pub form : Form
+  pub end : ℕ
+  pub ready : Ready L W stack places held scene
+  pub part : Part (L .bits) bs at depth (set (scene .scope) P true) (holdsReg scene) (holdsRel scene) form end
+
+abbrev pub BindPost : Limits → View → View → List ℕ → List ℕ → List ℕ → ℕ → ℕ → ℕ → List ℕ → ℕ → Fix → ℕ → Evaluated → Type 0
+BindPost L W X stack after bs at depth held places rounds x P r =
+    (σ : Scene) (f : Form) (e : ℕ) → Ready L W stack places held σ → Part (L .bits) bs at depth (set (σ .scope) P true) (holdsReg σ) (holdsRel σ) f e
+    → Answers L W X stack after held rounds σ (binderForm x P f) e r
+
+-- a leaf
+pub record LeafPre (L : Limits) (W : View) (stack : List ℕ) (held : ℕ) (places : List ℕ) (l : Leaf) : Type 0 where
+  pub scene : Scene
+  pub ready : Ready L W stack places held scene
+  pub named : Named (scene .scope) (holdsReg scene) (holdsRel scene) (leafForm l)
+  pub taken : leafAllowed l (L .bits) States ≡ true
+
+abbrev pub LeafPost : Limits → View → View → List ℕ → ℕ → List ℕ → Leaf → Made → Type 0
+LeafPost L W X stack held places l o =
+    (σ : Scene) → Ready L W stack places held σ → Named (σ .scope) (holdsReg σ) (holdsRel σ) (leafForm l) → LeafAnswers L W X σ (leafForm l) o
