@@ -91,10 +91,8 @@ module _ {L : Limits} {W : View} {stack places : List ℕ} {held : ℕ} {σ : Sc
           value-round = subst (λ (y : Evaluated). Evals (L .bits) (L .rows) (rowsOf X) (rowsOf Y) (a ∷ σ .roots) (body L σ P f (T .turning .A) (suc counted)) (endedOf y)) is round-evals
 
           -- the same set: the binder ends with it
-          pub bind-ends : b ≡ a → Answers L W Y stack last held rounds σ (binderForm x P f) e r
-          bind-ends same =
-              subst (λ (y : Evaluated). Answers L W Y stack last held rounds σ (binderForm x P f) e y) (sym is)
-              (whole (subst (EndsAt e) is (B .end)) (turn-end (L .bits) (L .rows) (L .rounds) (body L σ P f) (body-good L σ P f) (T .turning) more value-round same))
+          pub bind-ends : b ≡ a → Answers L W Y stack last held rounds σ (binderForm x P f) e (Value b k q)
+          bind-ends same = whole {y = Value b k q} (subst (EndsAt e) is (B .end)) (turn-end (L .bits) (L .rows) (L .rounds) (body L σ P f) (body-good L σ P f) (T .turning) more value-round same)
 
           -- otherwise it becomes the current set
           pub bind-turns : b ≢ a → Bound L W Y stack last held rounds σ x P f b q

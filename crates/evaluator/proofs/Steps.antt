@@ -7,10 +7,12 @@ use mathlib.Core.Option.{Option, none, some}
 use Prim.Native.Nat.{ℕ, zero, suc, _+_, _-_, _*_, _^_, _≤_, _<_}
 use native.Mathlib.Omega.{arith}
 use lib.ListN.{length, getD, set, take, length-set}
-use Rattle.mucalculus.specs.Form.{Form, neg}
+use Rattle.mucalculus.specs.Form.{Form, neg, inside}
+use Rattle.tokens.specs.declared.Leaf.{Leaf}
+use Rattle.tokens.specs.declared.Mode.{Mode}
 use Rattle.tokens.specs.declared.Join.{Join}
 use Rattle.tokens.specs.declared.Join.the-variants.{And, Or}
-use Rattle.formula.specs.Parse.{joinForm, depthLimit}
+use Rattle.formula.specs.Parse.{leafForm, joinForm, modalForm, depthLimit}
 use Rattle.layout.specs.View.{View}
 use Rattle.diagram.specs.Level.{Fn}
 use Rattle.diagram.specs.Rows.{Rows, Arrow, den}
@@ -22,19 +24,20 @@ use Rattle.soundness.specs.Used.{rowsOf}
 use Rattle.table.specs.Make.{result}
 use Rattle.table.specs.declared.Made.{Made}
 use Rattle.collect.specs.Lent.{live}
+use Rattle.steps.specs.declared.Step.{Step}
 use Rattle.steps.specs.declared.Step.the-variants as step
-use Rattle.steps.specs.Steps.{stepF, operandsOf, Fits, StepPre}
+use Rattle.steps.specs.Steps.{stepF, operandsOf, Fits, StepPre, Stepped}
 use Rattle.book.specs.Bridge.{fnOf}
 use Rattle.book.specs.Held.{held-arrow}
 use Rattle.book.specs.Run.{Outcome, value, andThen, notStep, twoStep, run}
 use Rattle.book.specs.Follow.{ends, Evals, endedBy, evals-same, evals-stop, evals-not, evals-two, evals-two-stop}
 use Rattle.modal.specs.declared.Limits.{Limits}
-use Rattle.modal.specs.Chain.{Alike, alike-trans, alike-cons, step-roots, Moved, moved-trans, step-pre, Took}
-use Rattle.evaluator.specs.Scene.{Scene, modelIn, pushed, Ready, Part, endedOf, EndsAt, Answers, fromMade, joinStep, holdsReg, holdsRel}
+use Rattle.modal.specs.Chain.{Alike, alike-trans, alike-cons, step-roots, Moved, moved-trans, step-pre, Took, took}
+use Rattle.evaluator.specs.Scene.{Scene, modelIn, pushed, Ready, Part, endedOf, EndsAt, Answers, fromMade, joinStep, LeafAnswers}
 use Rattle.evaluator.specs.declared.Evaluated.{Evaluated}
 use Rattle.evaluator.specs.declared.Evaluated.the-variants.{Value}
 use Rattle.evaluator.proofs.State.{still-below, lent-arrows, ready-next, ready-push}
-use Rattle.evaluator.proofs.Outcomes.{Halts, halts-stops, halts-end, made-ended, made-end, evals-value, joinOp, joinF, join-exact, run-join}
+use Rattle.evaluator.proofs.Outcomes.{Halts, halts-stops, halts-end, made-ended, made-end, evals-value, joinOp, joinF, join-exact, run-join, overSteps, run-modal}
 
 -- the run of f in a scene
 abbrev pub runIn : Limits → Scene → Form → ℕ → Outcome
@@ -66,6 +69,11 @@ answers-made {L} {W} {X} {stack} {after} {held} {rounds} {σ} f {e} k q o {r} at
       end = made-end e q o;
     })
 
+-- a leaf's value or step
+pub eval-leaf : {L : Limits} {W X : View} {stack : List ℕ} {held rounds : ℕ} {σ : Scene} {f : Form} (l : Leaf) {e k : ℕ} {o : Made} {r : Evaluated} → f ≡ leafForm l → e ≡ k
+    → LeafAnswers L W X σ (leafForm l) o → r ≡ fromMade k rounds o → Answers L W X stack stack held rounds σ f e r
+eval-leaf {rounds = rounds} l {k = k} {o = o} q at-e A made = answers-same q (answers-made (leafForm l) k rounds o (sym at-e) made (A .moved) refl (A .evals rounds))
+
 alike-append : {A : Type 0} {xs ys : List A} (ops : List A) → Alike xs ys → Alike (ops ++ xs) (ops ++ ys)
 alike-append [] s = s
 alike-append (x ∷ ops) s = alike-cons x (alike-append ops s)
@@ -88,6 +96,19 @@ one-arrow rows a u b h = ⊎-elim (λ e. subst (Arrow rows) (sym e) u) (λ i. ab
 
 two-arrows : (rows : Rows) (a c : ℕ) → Arrow rows a → Arrow rows c → (b : ℕ) → Mem b (a ∷ c ∷ []) → Arrow rows b
 two-arrows rows a c u v b h = ⊎-elim (λ e. subst (Arrow rows) (sym e) u) (one-arrow rows c v b) (mem-cases h)
+
+-- ---- a part that is no value
+
+module _ {L : Limits} {W X : View} {stack after : List ℕ} {held rounds : ℕ} {σ : Scene} {f : Form} {e : ℕ} {r : Evaluated} (A : Answers L W X stack after held rounds σ f e r) (s : Halts r) where
+  pub negate-stops : Answers L W X stack after held rounds σ (neg f) e r
+  negate-stops = answers-stop A s (neg f) e (λ C p. notStep (L .bits) (L .limit) (σ .fns) C p) refl
+
+  pub first-stops : (j : Join) (g : Form) (e′ : ℕ) → Answers L W X stack after held rounds σ (joinForm j f g) e′ r
+  first-stops j g e′ = answers-stop A s (joinForm j f g) e′ _ (run-join (modelIn (L .bits) σ) (L .limit) (L .rounds) (σ .env) (σ .fns) j f g rounds)
+
+  pub mode-stops : (m : Mode) (t : ℕ) → Answers L W X stack after held rounds σ (modalForm m t f) e r
+  mode-stops m t = answers-stop A s (modalForm m t f) e (λ C p. overSteps m (L .bits) (L .limit) (σ .fns) (inside (σ .rel t)) C p)
+      (run-modal (modelIn (L .bits) σ) (L .limit) (L .rounds) (σ .env) (σ .fns) m t f rounds)
 
 -- ---- after a part's value
 
@@ -119,12 +140,18 @@ module _ {L : Limits} {W X : View} {stack after places : List ℕ} {held rounds 
   pub negate-asks : StepPre (2 * L .bits) (L .rows) (L .limit) X (take held after) (step.Not a)
   negate-asks = step-pre (value-ready .base) (lent-arrows value-ready) (value-is .arrow)
 
-  pub negate-ends : {Y : View} {o : Made} {r′ : Evaluated} → Took (L .bits) (L .rows) (L .limit) X Y (a ∷ live X (take held after)) o (notF (den (2 * L .bits) (rowsOf X) a))
-      → r′ ≡ fromMade k q o → Answers L W Y stack after held rounds σ (neg f) e r′
-  negate-ends {Y} {o} t made = answers-made (neg f) k q o value-end made (moved-trans (A .moved) (t .moved)) (A .kept)
+  pub negate-ends : {Y : View} {o : Made} {r′ : Evaluated} → Stepped (2 * L .bits) (L .rows) (L .limit) X Y (take held after) (step.Not a) o → r′ ≡ fromMade k q o
+      → Answers L W Y stack after held rounds σ (neg f) e r′
+  negate-ends {Y} {o} s made =
+      let t = took (value-ready .base) negate-asks s in
+      answers-made (neg f) k q o value-end made (moved-trans (A .moved) (t .moved)) (A .kept)
       (evals-not (L .bits) (L .rows) (R .lives) (runIn L σ f rounds) value-evals (result o) (took-roots (a ∷ []) value-ready (one-arrow (rowsOf X) a (value-is .arrow)) t))
 
   -- ---- AND and OR
+
+  -- the second formula stands where the first one ends
+  pub both-part : {n : ℕ} {bs : List ℕ} {depth : ℕ} {scope : List Bool} {regs rels : ℕ → Bool} {g : Form} {e′ : ℕ} → Part n bs e depth scope regs rels g e′ → Part n bs k depth scope regs rels g e′
+  both-part {n} {bs} {depth} {scope} {regs} {rels} {g} {e′} p = subst (λ (x : ℕ). Part n bs x depth scope regs rels g e′) (sym value-end) p
 
   module _ (room : held < depthLimit) where
     pub both-ready : (C : List Bool) → Denotes (2 * L .bits) (rowsOf X) a (fnOf (L .bits) C) → Ready L X (set after held a) places (held + 1) (pushed (L .bits) σ a C)
@@ -163,20 +190,22 @@ module _ {L : Limits} {W X : View} {stack after places : List ℕ} {held rounds 
         pub both-state : Ready L Y last places held σ
         both-state = ready-next value-ready (B₀ .moved) (keeps-within (λ x i. there i) (B₀ .evals .kept)) last z′ below
 
-        pub both-asks : (j : Join) → StepPre (2 * L .bits) (L .rows) (L .limit) Y (take held last) (joinStep j a b)
-        both-asks j = step-pre (both-state .base) (lent-arrows both-state) (fits j)
+        pub both-asks : (j : Join) {s : Step} → s ≡ joinStep j a b → StepPre (2 * L .bits) (L .rows) (L .limit) Y (take held last) s
+        both-asks j e = step-pre (both-state .base) (lent-arrows both-state) (subst (Fits (2 * L .bits) (rowsOf Y)) (sym e) (fits j))
           where
             fits : (j : Join) → Fits (2 * L .bits) (rowsOf Y) (joinStep j a b)
             fits And = (first-arrow, second-arrow)
             fits Or = (first-arrow, second-arrow)
 
-        pub both-ends : (j : Join) {Z : View} {o : Made} {r″ : Evaluated}
-            → Took (L .bits) (L .rows) (L .limit) Y Z (operandsOf (joinStep j a b) ++ live Y (take held last)) o (stepF (2 * L .bits) (rowsOf Y) (joinStep j a b))
+        pub both-ends : (j : Join) {s : Step} → s ≡ joinStep j a b → {Z : View} {o : Made} {r″ : Evaluated} → Stepped (2 * L .bits) (L .rows) (L .limit) Y Z (take held last) s o
             → r″ ≡ fromMade k′ q′ o → Answers L W Z stack last held rounds σ (joinForm j f g) e′ r″
-        both-ends j {Z} {o} t made = answers-made (joinForm j f g) k′ q′ o (subst (EndsAt e′) is′ (B₀ .end)) made (moved-trans (A .moved) (moved-trans (B₀ .moved) (t .moved))) (below ∙ A .kept)
+        both-ends j {s} e {Z} {o} p made =
+            let t = took (both-state .base) (both-asks j e) p in
+            let t1 = subst (λ (x : Step). Took (L .bits) (L .rows) (L .limit) Y Z (operandsOf x ++ live Y (take held last)) o (stepF (2 * L .bits) (rowsOf Y) x)) e t in
+            answers-made (joinForm j f g) k′ q′ o (subst (EndsAt e′) is′ (B₀ .end)) made (moved-trans (A .moved) (moved-trans (B₀ .moved) (t .moved))) (below ∙ A .kept)
             (evals-same (sym (run-join (modelIn (L .bits) σ) (L .limit) (L .rounds) (σ .env) (σ .fns) j f g rounds))
             (evals-two (L .bits) (L .rows) (R .lives) (joinOp j (2 ^ L .bits)) (joinF j) (join-exact (L .bits) j) (runIn L σ f rounds) (λ C p. runIn L (pushed (L .bits) σ a C) g p)
-            value-evals second-evals (result o) (post j t)))
+            value-evals second-evals (result o) (post j t1)))
           where
             arrows : (x : ℕ) → Mem x (b ∷ a ∷ σ .roots) → Arrow (rowsOf Y) x
             arrows x h = ⊎-elim (two-arrows (rowsOf Y) b a second-arrow first-arrow x) (held-arrow (both-state .lives) x) (append-cases (b ∷ a ∷ []) h)

@@ -127,3 +127,166 @@ fn over(words: &mut [u32], limits: Limits, roots: &[u32], m: Mode, relation: u32
         Mode::Some => diamond(words, limits, roots, relation, a),
     }
 }
+
+// Evaluates the formula at `at`, of depth at most `depth`. The first `held` words of the stack are live.
+fn eval(
+    words: &mut [u32],
+    stack: &mut [u32],
+    bytes: &[u8],
+    limits: Limits,
+    at: usize,
+    depth: usize,
+    held: usize,
+    places: Places,
+    rounds: u32,
+) -> Evaluated
+    requires { ⌜ EvalPre limits (view (limits .rows) (now words)) (now stack) (now bytes) at depth held places ⌝ }
+    ensures { λ r. ⌜ EvalPost limits (view (limits .rows) (now (words .entry))) (view (limits .rows) (now (words .exit))) (now (stack .entry)) (now (stack .exit)) (now (bytes .entry)) at depth held places rounds r ⌝ }
+{
+    let Lead::Is(t) = lead_at(bytes, limits.bits, Grammar::States, at) else {
+        return Evaluated::Full;
+    };
+    let next = at + 1;
+    let left = depth - 1;
+    match t {
+        Token::Leaf(l) => answer(leaf(words, stack, limits, held, places, l), next, rounds),
+        Token::Not => negate(words, stack, bytes, limits, next, left, held, places, rounds),
+        Token::Both(j) => both(words, stack, bytes, limits, next, left, held, places, rounds, j),
+        Token::Modal(m, t) => modal(words, stack, bytes, limits, next, left, held, places, rounds, m, t),
+        Token::Binder(x, p) => bind(words, stack, bytes, limits, next, left, held, places, rounds, x, p),
+    }
+}
+
+// Evaluates the formula at `at`, and takes the step NOT.
+fn negate(
+    words: &mut [u32],
+    stack: &mut [u32],
+    bytes: &[u8],
+    limits: Limits,
+    at: usize,
+    depth: usize,
+    held: usize,
+    places: Places,
+    rounds: u32,
+) -> Evaluated
+    requires { ⌜ NegatePre limits (view (limits .rows) (now words)) (now stack) (now bytes) at depth held places ⌝ }
+    ensures { λ r. ⌜ NegatePost limits (view (limits .rows) (now (words .entry))) (view (limits .rows) (now (words .exit))) (now (stack .entry)) (now (stack .exit)) (now (bytes .entry)) at depth held places rounds r ⌝ }
+{
+    let part = eval(words, stack, bytes, limits, at, depth, held, places, rounds);
+    let Evaluated::Value {
+        arrow: a,
+        next: end,
+        rounds: counted,
+    } = part else {
+        return part;
+    };
+    let made = take(words, limits.rows, 2 * limits.bits, limits.limit, &stack[..held], Step::Not(a));
+    answer(made, end, counted)
+}
+
+// Evaluates the two formulas from `at` on, the first one's value being live meanwhile, and takes the step AND or OR.
+fn both(
+    words: &mut [u32],
+    stack: &mut [u32],
+    bytes: &[u8],
+    limits: Limits,
+    at: usize,
+    depth: usize,
+    held: usize,
+    places: Places,
+    rounds: u32,
+    j: Join,
+) -> Evaluated
+    requires { ⌜ BothPre limits (view (limits .rows) (now words)) (now stack) (now bytes) at depth held places ⌝ }
+    ensures { λ r. ⌜ BothPost limits (view (limits .rows) (now (words .entry))) (view (limits .rows) (now (words .exit))) (now (stack .entry)) (now (stack .exit)) (now (bytes .entry)) at depth held places rounds j r ⌝ }
+{
+    let first = eval(words, stack, bytes, limits, at, depth, held, places, rounds);
+    let Evaluated::Value {
+        arrow: a,
+        next: middle,
+        rounds: counted,
+    } = first else {
+        return first;
+    };
+    stack[held] = a;
+    let second = eval(words, stack, bytes, limits, middle, depth, held + 1, places, counted);
+    let Evaluated::Value {
+        arrow: b,
+        next: end,
+        rounds: total,
+    } = second else {
+        return second;
+    };
+    let made = take(words, limits.rows, 2 * limits.bits, limits.limit, &stack[..held], join_of(j, a, b));
+    answer(made, end, total)
+}
+
+// Evaluates the formula at `at`, and takes the steps of box or diamond over relation t.
+fn modal(
+    words: &mut [u32],
+    stack: &mut [u32],
+    bytes: &[u8],
+    limits: Limits,
+    at: usize,
+    depth: usize,
+    held: usize,
+    places: Places,
+    rounds: u32,
+    m: Mode,
+    t: u32,
+) -> Evaluated
+    requires { ⌜ ModePre limits (view (limits .rows) (now words)) (now stack) (now bytes) at depth held places t ⌝ }
+    ensures { λ r. ⌜ ModePost limits (view (limits .rows) (now (words .entry))) (view (limits .rows) (now (words .exit))) (now (stack .entry)) (now (stack .exit)) (now (bytes .entry)) at depth held places rounds m t r ⌝ }
+{
+    let part = eval(words, stack, bytes, limits, at, depth, held, places, rounds);
+    let Evaluated::Value {
+        arrow: a,
+        next: end,
+        rounds: counted,
+    } = part else {
+        return part;
+    };
+    let h = Table::FIRST_RELATION + (t as usize);
+    let relation = root_arrow(words, h);
+    let made = over(words, limits, &stack[..held], m, relation, a);
+    answer(made, end, counted)
+}
+
+// Rounds of the body at `at`, variable p being the current set, which is live; until a round gives the same set again.
+fn bind(
+    words: &mut [u32],
+    stack: &mut [u32],
+    bytes: &[u8],
+    limits: Limits,
+    at: usize,
+    depth: usize,
+    held: usize,
+    places: Places,
+    rounds: u32,
+    x: Fix,
+    p: u32,
+) -> Evaluated
+    requires { ⌜ BindPre limits (view (limits .rows) (now words)) (now stack) (now bytes) at depth held places p ⌝ }
+    ensures { λ r. ⌜ BindPost limits (view (limits .rows) (now (words .entry))) (view (limits .rows) (now (words .exit))) (now (stack .entry)) (now (stack .exit)) (now (bytes .entry)) at depth held places rounds x p r ⌝ }
+{
+    let inner = opened(places, p, held);
+    let mut current = start_of(x);
+    let mut counted = rounds;
+    while counted < limits.rounds {
+        stack[held] = current;
+        let body = eval(words, stack, bytes, limits, at, depth, held + 1, inner, counted + 1);
+        let Evaluated::Value {
+            arrow: a,
+            next: _,
+            rounds: total,
+        } = body else {
+            return body;
+        };
+        if a == current {
+            return body;
+        }
+        current = a;
+        counted = total;
+    }
+    Evaluated::Spent
+}
