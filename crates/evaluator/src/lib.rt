@@ -5,7 +5,7 @@ use modal::Limits;
 use modal::boxed;
 use modal::diamond;
 use steps::Step;
-use steps::take;
+use steps::take_step;
 use table::Made;
 use tokens::Fix;
 use tokens::Grammar;
@@ -107,7 +107,7 @@ fn leaf(words: &mut [u32], stack: &[u32], limits: Limits, held: usize, places: P
     match l {
         Leaf::False => Made::At(Table::NOTHING),
         Leaf::True => Made::At(Table::EVERYTHING),
-        Leaf::Now(p) => take(words, limits.rows, 2 * limits.bits, limits.limit, &stack[..held], Step::Bit(2 * p)),
+        Leaf::Now(p) => take_step(words, limits.rows, 2 * limits.bits, limits.limit, &stack[..held], Step::Bit(2 * p)),
         Leaf::Next(_) => Made::At(Table::NOTHING),
         Leaf::Var(p) => Made::At(variable(stack, places, p)),
         Leaf::Reg(r) => {
@@ -180,7 +180,7 @@ fn negate(
     } = part else {
         return part;
     };
-    let made = take(words, limits.rows, 2 * limits.bits, limits.limit, &stack[..held], Step::Not(a));
+    let made = take_step(words, limits.rows, 2 * limits.bits, limits.limit, &stack[..held], Step::Not(a));
     answer(made, end, counted)
 }
 
@@ -217,7 +217,7 @@ fn both(
     } = second else {
         return second;
     };
-    let made = take(words, limits.rows, 2 * limits.bits, limits.limit, &stack[..held], join_of(j, a, b));
+    let made = take_step(words, limits.rows, 2 * limits.bits, limits.limit, &stack[..held], join_of(j, a, b));
     answer(made, end, total)
 }
 

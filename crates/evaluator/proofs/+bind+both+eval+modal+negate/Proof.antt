@@ -44,7 +44,7 @@ use Rattle.evaluator.proofs.opened.Reads as opened-reads
 use Rattle.evaluator.proofs.over.Reads as over-reads
 use Rattle.evaluator.proofs.root_arrow.Reads as root-arrow-reads
 use Rattle.evaluator.proofs.start_of.Reads as start-of-reads
-use Rattle.steps.proofs.take.Reads as take-reads
+use Rattle.steps.proofs.take_step.Reads as take-step-reads
 use Rattle.tokens.proofs.lead_at.Reads as lead-at-reads
 
 abbrev μ-bind : Measures 3 bind-kinds.ps ℕ
@@ -137,8 +137,8 @@ pub +bind+both+eval+modal+negate-spec : {M : Type 1} → statement M
       eval.Post,
       join-of-reads.Asked,
       join-of-reads.Learnt,
-      take-reads.Asked,
-      take-reads.Learnt,
+      take-step-reads.Asked,
+      take-step-reads.Learnt,
       answer-reads.Asked,
       answer-reads.Learnt,
     )
@@ -163,9 +163,9 @@ pub +bind+both+eval+modal+negate-spec : {M : Type 1} → statement M
     (λ c κs. search needs)
     (λ c κs. let P = c .before .before .before .before .before .before .before .before .before .before .before .before .before .before .before .before .before .before .before .before .before .before .before .before .before .before .before .pre .1 in let A = c .before .before .before .before .before .before .before .before .before .before .before .before .before .before .before .before .before .before .before .before .before .eval .ensures (P .scene) (P .left) (P .middle) (P .ready) (P .first) in let l = P .room in both-asks (P .ready) A (c .before .before .before .before .before .before .before .before .before .before .before .before .before .before .before .before .before .before .before .before .before .eval .kept .1 .0) (c .before .before .before .before .before .before .before .before .before .before .before .before .before .before .before .first .given .1) (omega arith) (simp length-set at (c .before .before .before .before .before .before .before .before .before .before .before .eval2 .kept .1 .0)) (λ C d. c .before .before .before .before .before .before .before .before .before .before .before .eval2 .ensures _ (P .right) (P .end) (both-ready (P .ready) A (c .before .before .before .before .before .before .before .before .before .before .before .before .before .before .before .before .before .before .before .before .before .eval .kept .1 .0) (c .before .before .before .before .before .before .before .before .before .before .before .before .before .before .before .first .given .1) (omega arith) C d) (both-part (P .ready) A (c .before .before .before .before .before .before .before .before .before .before .before .before .before .before .before .before .before .before .before .before .before .eval .kept .1 .0) (c .before .before .before .before .before .before .before .before .before .before .before .before .before .before .before .first .given .1) (P .second))) (c .before .before .before .before .before .second .given .1) (c .before .before .before .before .before .before .before .before .before .before .before .before .before .before .before .before .before .before .before .before .before .before .before .before .before .before .before .args .j) (c .join-of .ensures))
     (λ c κs. search needs)
-    (λ c. c .before .before .before .take .kept .0 ∙ c .before .before .before .before .before .before .before .before .before .before .before .before .before .before .before .eval2 .kept .0 ∙ c .before .before .before .before .before .before .before .before .before .before .before .before .before .before .before .before .before .before .before .before .before .before .before .before .before .eval .kept .0)
+    (λ c. c .before .before .before .take-step .kept .0 ∙ c .before .before .before .before .before .before .before .before .before .before .before .before .before .before .before .eval2 .kept .0 ∙ c .before .before .before .before .before .before .before .before .before .before .before .before .before .before .before .before .before .before .before .before .before .before .before .before .before .eval .kept .0)
     (λ c. (simp length-set at (c .before .before .before .before .before .before .before .before .before .before .before .before .before .before .before .eval2 .kept .1 .0)) ∙ c .before .before .before .before .before .before .before .before .before .before .before .before .before .before .before .before .before .before .before .before .before .before .before .before .before .eval .kept .1 .0)
-    (λ c. λ σ f g m e R p q. let A = c .before .before .before .before .before .before .before .before .before .before .before .before .before .before .before .before .before .before .before .before .before .before .before .before .before .eval .ensures σ f m R p in let l = c .before .before .before .before .before .before .before .before .before .before .before .before .before .before .before .before .before .before .before .before .before .before .before .before .before .before .before .before .before .before .before .pre .1 .room in both-ends R A (c .before .before .before .before .before .before .before .before .before .before .before .before .before .before .before .before .before .before .before .before .before .before .before .before .before .eval .kept .1 .0) (c .before .before .before .before .before .before .before .before .before .before .before .before .before .before .before .before .before .before .before .first .given .1) (omega arith) (simp length-set at (c .before .before .before .before .before .before .before .before .before .before .before .before .before .before .before .eval2 .kept .1 .0)) (λ C d. c .before .before .before .before .before .before .before .before .before .before .before .before .before .before .before .eval2 .ensures _ g e (both-ready R A (c .before .before .before .before .before .before .before .before .before .before .before .before .before .before .before .before .before .before .before .before .before .before .before .before .before .eval .kept .1 .0) (c .before .before .before .before .before .before .before .before .before .before .before .before .before .before .before .before .before .before .before .first .given .1) (omega arith) C d) (both-part R A (c .before .before .before .before .before .before .before .before .before .before .before .before .before .before .before .before .before .before .before .before .before .before .before .before .before .eval .kept .1 .0) (c .before .before .before .before .before .before .before .before .before .before .before .before .before .before .before .before .before .before .before .first .given .1) q)) (c .before .before .before .before .before .before .before .before .before .second .given .1) (c .before .before .before .before .before .before .before .before .before .before .before .before .before .before .before .before .before .before .before .before .before .before .before .before .before .before .before .before .before .before .before .args .j) (c .before .before .before .before .join-of .ensures) (c .before .before .before .take .ensures) (c .answer .ensures)))
+    (λ c. λ σ f g m e R p q. let A = c .before .before .before .before .before .before .before .before .before .before .before .before .before .before .before .before .before .before .before .before .before .before .before .before .before .eval .ensures σ f m R p in let l = c .before .before .before .before .before .before .before .before .before .before .before .before .before .before .before .before .before .before .before .before .before .before .before .before .before .before .before .before .before .before .before .pre .1 .room in both-ends R A (c .before .before .before .before .before .before .before .before .before .before .before .before .before .before .before .before .before .before .before .before .before .before .before .before .before .eval .kept .1 .0) (c .before .before .before .before .before .before .before .before .before .before .before .before .before .before .before .before .before .before .before .first .given .1) (omega arith) (simp length-set at (c .before .before .before .before .before .before .before .before .before .before .before .before .before .before .before .eval2 .kept .1 .0)) (λ C d. c .before .before .before .before .before .before .before .before .before .before .before .before .before .before .before .eval2 .ensures _ g e (both-ready R A (c .before .before .before .before .before .before .before .before .before .before .before .before .before .before .before .before .before .before .before .before .before .before .before .before .before .eval .kept .1 .0) (c .before .before .before .before .before .before .before .before .before .before .before .before .before .before .before .before .before .before .before .first .given .1) (omega arith) C d) (both-part R A (c .before .before .before .before .before .before .before .before .before .before .before .before .before .before .before .before .before .before .before .before .before .before .before .before .before .eval .kept .1 .0) (c .before .before .before .before .before .before .before .before .before .before .before .before .before .before .before .before .before .before .before .first .given .1) q)) (c .before .before .before .before .before .before .before .before .before .second .given .1) (c .before .before .before .before .before .before .before .before .before .before .before .before .before .before .before .before .before .before .before .before .before .before .before .before .before .before .before .before .before .before .before .args .j) (c .before .before .before .before .join-of .ensures) (c .before .before .before .take-step .ensures) (c .answer .ensures)))
     (λ t. eval-lts.spec (
       lead-at-reads.Asked,
       lead-at-reads.Learnt,
@@ -245,8 +245,8 @@ pub +bind+both+eval+modal+negate-spec : {M : Type 1} → statement M
     λ t. negate-lts.spec (
       eval-below t,
       eval.Post,
-      take-reads.Asked,
-      take-reads.Learnt,
+      take-step-reads.Asked,
+      take-step-reads.Learnt,
       answer-reads.Asked,
       answer-reads.Learnt,
     )
@@ -262,6 +262,6 @@ pub +bind+both+eval+modal+negate-spec : {M : Type 1} → statement M
     (λ c. sym (length-take-le _ _ (omega (arith, c .before .before .before .before .before .before .before .before .before .before .before .before .before .before .before .before .pre .1 .ready .within, c .before .before .before .before .before .before .before .before .before .before .before .before .before .before .before .before .pre .1 .ready .size, c .before .before .before .before .before .before .before .before .before .before .eval .kept .1 .0))))
     (λ c κs. let P = c .before .before .before .before .before .before .before .before .before .before .before .before .before .before .before .before .pre .1 in negate-asks (P .ready) (c .before .before .before .before .before .before .before .before .before .before .eval .ensures (P .scene) (P .form) (P .end) (P .ready) (P .part)) (c .before .before .before .before .before .before .before .before .before .before .eval .kept .1 .0) (c .before .before .before .before .part .given .1))
     (λ c κs. search needs)
-    (λ c. c .before .before .before .take .kept .0 ∙ c .before .before .before .before .before .before .before .before .before .before .before .before .before .before .eval .kept .0)
+    (λ c. c .before .before .before .take-step .kept .0 ∙ c .before .before .before .before .before .before .before .before .before .before .before .before .before .before .eval .kept .0)
     (λ c. search needs)
-    (λ c. λ σ f e R p. negate-ends R (c .before .before .before .before .before .before .before .before .before .before .before .before .before .before .eval .ensures σ f e R p) (c .before .before .before .before .before .before .before .before .before .before .before .before .before .before .eval .kept .1 .0) (c .before .before .before .before .before .before .before .before .part .given .1) (c .before .before .before .take .ensures) (c .answer .ensures))
+    (λ c. λ σ f e R p. negate-ends R (c .before .before .before .before .before .before .before .before .before .before .before .before .before .before .eval .ensures σ f e R p) (c .before .before .before .before .before .before .before .before .before .before .before .before .before .before .eval .kept .1 .0) (c .before .before .before .before .before .before .before .before .part .given .1) (c .before .before .before .take-step .ensures) (c .answer .ensures))

@@ -11,7 +11,7 @@ use Rattle.evaluator.proofs.leaf.Reads as reads
 use Rattle.evaluator.proofs.leaf.Lts as lts
 use Rattle.evaluator.proofs.root_arrow.Reads as root-arrow-reads
 use Rattle.evaluator.proofs.variable.Reads as variable-reads
-use Rattle.steps.proofs.take.Reads as take-reads
+use Rattle.steps.proofs.take_step.Reads as take-step-reads
 
 
 pub leaf-spec : {M : Type 1} → statement M
@@ -35,7 +35,7 @@ leaf-spec =
     (λ c. λ σ R h. leaf-as False (c .enum-told .given .1) (leaf-none R))
     (λ c. λ σ R h. leaf-as True (c .enum-told2 .given .1) (leaf-all R))
     (λ c. search needs)
-    (λ c. λ σ R h. let l = now-taken (c .before .before .before .before .before .before .before .l .given .1) (c .before .before .before .before .before .before .before .before .before .before .before .pre .taken) in leaf-as (Now _) (c .before .before .before .before .before .before .before .l .given .1) (leaf-bit R l (took (R .base) (bit-asks R l) (c .before .before .take .ensures))))
+    (λ c. λ σ R h. let l = now-taken (c .before .before .before .before .before .before .before .l .given .1) (c .before .before .before .before .before .before .before .before .before .before .before .pre .taken) in leaf-as (Now _) (c .before .before .before .before .before .before .before .l .given .1) (leaf-bit R l (took (R .base) (bit-asks R l) (c .before .before .take-step .ensures))))
     (λ c. λ σ R h. leaf-as (Next _) (c .enum-told3 .given .1) (leaf-next R _))
     (λ c. λ σ R h. leaf-as (Var _) (c .before .before .l2 .given .1) (rw (c .variable .ensures) (leaf-var R (as-leaf (Var _) (c .before .before .l2 .given .1) h))))
     (λ c. search needs)
