@@ -1,0 +1,35 @@
+-- THE THIRD DEMAND over the lent words: the predicates that stand in the functions' `ensures` implement the book, so the whole claim holds after
+-- every list of calls from an answered fresh. Assumes nothing.
+use mathlib.Core.Path.{_≡_, sym, subst}
+use mathlib.Core.List.{List}
+use Prim.Native.Nat.{ℕ}
+use lib.ListN.{length}
+use Rattle.soundness.specs.Sound.{tableOf}
+use Rattle.book.specs.Book.{Call, Question}
+use Rattle.book.specs.Table.{Reply}
+use Rattle.book.specs.Contract.{Answers, Implements}
+use Rattle.book.specs.Demand.{Event, Session, Demand, third-demand}
+use Rattle.contract.specs.Seen.{seen, SoundWords, sound-table}
+use Rattle.contract.specs.Posts.{FreshPost, CallPost, AskPost}
+
+-- fresh, a call and a question as relations of the words before and after
+abbrev pub makes : List ℕ → ℕ → ℕ → List ℕ → Reply → Type 0
+makes old n N new y = FreshPost n N old new y
+
+abbrev pub performs : List ℕ → Call → List ℕ → Reply → Type 0
+performs old c new y = CallPost c old new y
+
+abbrev pub asks : List ℕ → Question → List ℕ → Reply → Type 0
+asks old q new y = (new ≡ old) × AskPost q old y
+
+pub words-implement : Implements (List ℕ) length SoundWords seen makes performs asks
+words-implement = record {
+  good = λ w s. sound-table (tableOf w) s;
+  starts = λ w w′ n N y p. p;
+  performs = λ w w′ c y p. p .performs;
+  answers = λ w w′ q y p. subst (λ (x : List ℕ). Answers SoundWords seen q w x y) (sym (p .0)) (p .1);
+}
+
+-- every list of relation, set, clear and collect calls after one answered fresh, refused calls included
+pub words-demand : (n N : ℕ) {end : List ℕ} {l : List Event} → Session (List ℕ) makes performs n N l end → Demand SoundWords seen asks n N l end
+words-demand n N x = third-demand words-implement n N x
