@@ -3,6 +3,7 @@ use mathlib.Core.Path.{_≡_, _∙_}
 use mathlib.Core.Logic.{⊎-elim}
 use mathlib.Core.List.{List, map, List·Memᴰ as Mem, List·Memᴰ·append-cases as append-cases, Memᴰ·append-left as append-left}
 use Prim.Native.Nat.{ℕ, _*_}
+use lib.ListN.{length}
 use Rattle.diagram.specs.Rows.{Arrow, den}
 use Rattle.diagram.specs.Need.{need}
 use Rattle.layout.specs.Places.{MAX-ROWS, BITS, ROWS, USED, FIRST-REGISTER, ROOTS-END}
@@ -15,6 +16,7 @@ use Rattle.soundness.specs.Sound.{Sound, tableOf}
 use Rattle.soundness.specs.Filled.{filled, filled-arrow}
 use Rattle.collect.specs.Gather.{Gathered}
 use Rattle.collect.specs.Lent.{live, filled-marks}
+use Rattle.collect.specs.Needed.{chosen, chosen-need}
 use Rattle.collect.specs.Freed.{Freed, freed, freed-count}
 use Rattle.collect.specs.declared.Collected.{Collected}
 use Rattle.collect.specs.declared.Collected.the-variants.{Rows, Refused}
@@ -40,6 +42,11 @@ sound-base s = record { words = s .good .sizes .room; rows = s .good .rows; room
 
 live-arrow : {W : View} {xs : List ℕ} → FreePre W xs → (a : ℕ) → Mem a (live W xs) → Arrow (rowsOf W) a
 live-arrow {W} p a h = ⊎-elim (filled-arrow (p .sound) a) (p .arrows a) (append-cases (filled W) h)
+
+-- the steps of `needed`: z and m are the marks before and after
+pub live-need : (W : View) (xs z m : List ℕ) → FreePre W xs → ((i : ℕ) → On z i → ⊥) → MarksAll (rowsOf W) z m (λ a. Mem a (live W xs)) → {r : ℕ} → r ≡ length (chosen W m (W .header USED))
+    → r ≡ need (2 * W .header BITS) (map (den (2 * W .header BITS) (rowsOf W)) (live W xs))
+live-need W xs z m p none k e = e ∙ chosen-need W (p .sound .good) z m (live W xs) none (live-arrow p) k
 
 -- the steps of `free_rows`, and of `collect_rows`
 module _ (W X : View) (z m : List ℕ) (none : (i : ℕ) → On z i → ⊥) (g : Gathered W X m) where

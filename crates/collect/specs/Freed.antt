@@ -1,26 +1,26 @@
 -- What marking from some roots and gathering leave: a sound table with exactly the rows that the roots reach, as many as they need. Assumes nothing.
 use mathlib.Core.Path.{_≡_, ap, sym, _∙_, subst}
 use mathlib.Core.Bool.{true}
-use mathlib.Core.Logic.{⊎-elim}
 use mathlib.Core.List.{List, [], _∷_, map, List·Memᴰ as Mem}
 use Prim.Native.Nat.{ℕ, zero, suc, _*_, _≤_, _<_}
 use native.Mathlib.Omega.{arith}
 use Rattle.diagram.specs.Rows.{Rows, Extends, Arrow, WellFormed, den}
 use Rattle.diagram.specs.Need.{need}
 use Rattle.diagram.specs.Used.{usedCount}
-use Rattle.diagram.specs.Reach.{Reach, reached-root, reach-on, reach-used, one-root}
+use Rattle.diagram.specs.Reach.{Reach, reach-used, one-root}
 use Rattle.diagram.specs.Keep.{Keeps, keeps-arrow, keeps-map, keeps-within, keeps-reach-back}
 use Rattle.diagram.specs.Collect.{Collects, collects-keeps, collects-wellFormed, collects-count}
 use Rattle.diagram.specs.Even.{even}
 use Rattle.layout.specs.Places.{BITS, ROWS, USED, FIRST-REGISTER, ROOTS-END, LOW, HIGH, LEVEL}
 use Rattle.layout.specs.View.{View}
 use Rattle.soundness.specs.Used.{used, rowsOf}
-use Rattle.soundness.specs.Mark.{On, OnArrow, Closed, closed-reach}
+use Rattle.soundness.specs.Mark.{On}
 use Rattle.soundness.specs.Roots.{Ref, MarksAll}
 use Rattle.soundness.specs.Sound.{Good, Sound, EvenRegs}
 use Rattle.soundness.specs.Filled.{filled, filled-mem}
 use Rattle.table.specs.Add.{Frame}
 use Rattle.table.specs.Count.{count-used}
+use Rattle.collect.specs.Lent.{marked-reach, reach-marked}
 use Rattle.collect.specs.Gather.{Gathered}
 
 -- what a collection leaves, W before and X after: "Freed rows are used again", and nothing else is written
@@ -32,12 +32,6 @@ pub record Freed (W X : View) (roots : List ℕ) : Type 0 where
 -- the roots are arrows, with all registers and relations among them
 module _ (W : View) (s : Sound W) (roots : List ℕ) (arrows : (a : ℕ) → Mem a roots → Arrow (rowsOf W) a) (all : (a : ℕ) → Mem a (filled W) → Mem a roots)
     (z m : List ℕ) (none : (i : ℕ) → On z i → ⊥) (k : MarksAll (rowsOf W) z m (λ a. Mem a roots)) (X : View) (g : Gathered W X m) where
-  closed : Closed (rowsOf W) m
-  closed = k .closed (record { low = λ j o. absurd (none j o); high = λ j o. absurd (none j o) })
-
-  on-reach : (i : ℕ) → On m i → Reach (rowsOf W) roots i
-  on-reach i o = ⊎-elim (λ p. absurd (none i p)) (λ t. reach-on (reached-root (rowsOf W) roots (t .0) (t .1)) (t .2)) (k .only i o)
-
   cell : (j l : ℕ) → l < 3 → X .cell j l ≡ W .cell j l
   cell j l h = g .cells j l (omega arith) (omega arith)
 
@@ -49,8 +43,8 @@ module _ (W : View) (s : Sound W) (roots : List ℕ) (arrows : (a : ℕ) → Mem
       low = λ i u. sym (cell i LOW (omega arith));
       high = λ i u. sym (cell i HIGH (omega arith));
     };
-    only = λ i u. on-reach i (g .from i u .1);
-    all = λ i r. g .has i (reach-used (s .good .rows) arrows r) (closed-reach closed (k .has) r);
+    only = λ i u. marked-reach none k i (g .from i u .1);
+    all = λ i r. g .has i (reach-used (s .good .rows) arrows r) (reach-marked none k i r);
   }
 
   keeps : Keeps (rowsOf W) (rowsOf X) roots

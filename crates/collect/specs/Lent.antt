@@ -8,10 +8,11 @@ use native.Mathlib.Omega.{arith}
 use lib.ListN.{length, getD, take}
 use lib.Seq.{take-suc, take-all}
 use Rattle.diagram.specs.Rows.{Rows, Arrow}
+use Rattle.diagram.specs.Reach.{Reach, reached-root, reach-on}
 use Rattle.layout.specs.Places.{FIRST-REGISTER, ROOTS-END}
 use Rattle.layout.specs.View.{View}
 use Rattle.soundness.specs.Used.{rowsOf}
-use Rattle.soundness.specs.Mark.{Marks, Base}
+use Rattle.soundness.specs.Mark.{On, Marks, Base, closed-reach}
 use Rattle.soundness.specs.Roots.{MarksAll, Held, marks-none, marks-one, marks-more, marks-same}
 use Rattle.soundness.specs.Filled.{filled, mem-filled, filled-mem}
 
@@ -58,3 +59,11 @@ live-marks {W} {xs = xs} p q = marks-more p q
 
 pub filled-marks : {W : View} {m m′ : List ℕ} → MarksAll (rowsOf W) m m′ (Held W FIRST-REGISTER ROOTS-END) → MarksAll (rowsOf W) m m′ (λ a. Mem a (filled W))
 filled-marks {W} p = marks-same p (filled-mem W) (mem-filled W)
+
+-- where nothing was marked before, a row is marked exactly where the roots reach it
+module _ {rows : Rows} {z m roots : List ℕ} (none : (i : ℕ) → On z i → ⊥) (k : MarksAll rows z m (λ a. Mem a roots)) where
+  pub marked-reach : (i : ℕ) → On m i → Reach rows roots i
+  marked-reach i o = ⊎-elim (λ p. absurd (none i p)) (λ t. reach-on (reached-root rows roots (t .0) (t .1)) (t .2)) (k .only i o)
+
+  pub reach-marked : (i : ℕ) → Reach rows roots i → On m i
+  reach-marked i r = closed-reach (k .closed (record { low = λ j o. absurd (none j o); high = λ j o. absurd (none j o) })) (k .has) r

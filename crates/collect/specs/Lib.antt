@@ -1,4 +1,5 @@
 pub mod Gather
 pub mod Lent
+pub mod Needed
 pub mod Freed
 pub mod Answers

@@ -12,17 +12,20 @@ use soundness::mark_refs;
 use soundness::sound;
 use table::append;
 ghost use mathlib.Core.Path.{_≡_};
-ghost use mathlib.Core.List.{List·Memᴰ as Mem};
+ghost use mathlib.Core.List.{map, List·Memᴰ as Mem};
 ghost use Prim.Native.Nat.{ℕ, _*_, _<_, _≤_};
 ghost use lib.ListN.{length};
-ghost use Rattle.layout.specs.Places.{MAX-ROWS, USED, FIRST-REGISTER, ROOTS-END, wordsFor};
-ghost use Rattle.layout.specs.View.{view, listOf, putHeader};
-ghost use Rattle.soundness.specs.Used.{rowsOf};
+ghost use Rattle.layout.specs.Places.{MAX-ROWS, BITS, USED, FIRST-REGISTER, ROOTS-END, wordsFor};
+ghost use Rattle.layout.specs.View.{view, headerOf, listOf, putHeader};
+ghost use Rattle.soundness.specs.Used.{rowsOf, Ranked};
 ghost use Rattle.soundness.specs.Mark.{On};
 ghost use Rattle.soundness.specs.Roots.{MarksAll, RefsPre};
 ghost use Rattle.soundness.specs.Sound.{Good, Sound};
 ghost use Rattle.collect.specs.Lent.{LentPre, live};
 ghost use Rattle.collect.specs.Gather.{Headed, Part, GatherPre, Gathered};
+ghost use Rattle.diagram.specs.Rows.{den};
+ghost use Rattle.diagram.specs.Need.{need};
+ghost use Rattle.collect.specs.Needed.{markOf, chosen};
 ghost use Rattle.collect.specs.Freed.{Freed};
 ghost use Rattle.collect.specs.Answers.{FreePre, CollectPost, CollectAnswer};
 
@@ -45,6 +48,43 @@ fn mark_roots(words: &[u32], rows: u32, marks: &mut [u8], roots: &[u32])
 {
     mark_refs(words, rows, marks, Table::FIRST_REGISTER, Table::ROOTS_END);
     mark_list(words, rows, marks, roots);
+}
+
+// 1 where row i is marked, else 0.
+fn mark_of(marks: &[u8], i: u32) -> u32
+    requires { ⌜ i < length (now marks) ⌝ }
+    ensures { λ r. ⌜ r ≡ markOf (now (marks .entry)) i ⌝ }
+{
+    let at = i as usize;
+    if marks[at] == 1 {
+        return 1;
+    }
+    0
+}
+
+// How many rows are marked.
+fn count_marks(words: &[u32], rows: u32, marks: &[u8]) -> u32
+    requires { ⌜ Ranked (view rows (now words)) × (rows ≤ length (now marks)) × (wordsFor rows ≤ length (now words)) ⌝ }
+    ensures { λ r. ⌜ r ≡ length (chosen (view rows (now (words .entry))) (now (marks .entry)) (headerOf (now (words .entry)) USED)) ⌝ }
+{
+    let used = header_word(words, Table::USED);
+    let mut found: u32 = 0;
+    let mut k = 0;
+    while k < used {
+        found += mark_of(marks, listed(words, rows, k));
+        k += 1;
+    }
+    found
+}
+
+// How many rows registers, relations and further roots need.
+pub fn needed(words: &[u32], rows: u32, roots: &[u32]) -> u32
+    requires { ⌜ FreePre (view rows (now words)) (now roots) ⌝ }
+    ensures { λ r. ⌜ r ≡ need (2 * headerOf (now (words .entry)) BITS) (map (den (2 * headerOf (now (words .entry)) BITS) (rowsOf (view rows (now (words .entry))))) (live (view rows (now (words .entry))) (now (roots .entry)))) ⌝ }
+{
+    let mut marks = [0u8; Table::MAX_ROWS as usize];
+    mark_roots(words, rows, &mut marks, roots);
+    count_marks(words, rows, &marks)
 }
 
 // The heads of the buckets of the first `total` listed rows become empty.

@@ -4,5 +4,7 @@ pub mod Mark
 pub mod Roots
 pub mod Says
 pub mod Checks
+pub mod Framed
 pub mod Sound
 pub mod Filled
+pub mod Alike

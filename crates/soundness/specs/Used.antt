@@ -14,16 +14,11 @@ use Rattle.layout.specs.Arrows.{isRow, rowOf, row-is}
 unfoldable pub usedAt : ℕ → ℕ → (ℕ → ℕ) → (ℕ → ℕ) → ℕ → Bool
 usedAt N count rank list i = cond (ltb i N) (cond (ltb (rank i) count) (eqb (list (rank i)) i) false) false
 
--- how many rows are used, and a row's rank, which is its place in the list
-abbrev pub count : View → ℕ
-count W = W .header USED
-
-abbrev pub rank : View → ℕ → ℕ
-rank W i = W .cell i RANK
-
+-- row i of a table is used: "An arrow is 0 (nothing), 1 (everything) or a used row"
 abbrev pub used : View → ℕ → Bool
 used W = usedAt (W .rows) (W .header USED) (λ i. W .cell i RANK) (W .list)
 
+-- its rows
 abbrev pub rowsOf : View → Rows
 rowsOf W = record { used = used W; level = λ i. W .cell i LEVEL; low = λ i. W .cell i LOW; high = λ i. W .cell i HIGH }
 

@@ -11,7 +11,8 @@ use Rattle.diagram.specs.Grow.{adds-wellFormed}
 use Rattle.layout.specs.View.{View, putCell, putHeader}
 use Rattle.soundness.specs.Used.{used, rowsOf, Ranked}
 use Rattle.soundness.specs.Index.{keyOf, live, live-link, Has, Hit, Down, Index}
-use Rattle.table.specs.Append.{appended, hit-frame, append-used, append-kept, append-only, append-ranked, append-index}
+use Rattle.soundness.specs.Framed.{hit-frame}
+use Rattle.table.specs.Append.{appended, append-used, append-kept, append-only, append-ranked, append-index}
 use Rattle.table.specs.Count.{unused-room}
 use Rattle.soundness.specs.Checks.{Room}
 use Rattle.soundness.specs.Sound.{Good}

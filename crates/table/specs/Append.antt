@@ -10,37 +10,13 @@ use borrow.Author.Tests.{eq-eqb, ne-eqb}
 use Rattle.layout.specs.Places.{USED, LOW, HIGH, LEVEL, NEXT, RANK}
 use Rattle.layout.specs.View.{View, putCell, putHeader, putList, putHead}
 use Rattle.soundness.specs.Used.{used, used-yes, used-in, Ranked, listed-used}
-use Rattle.soundness.specs.Index.{bucket, keyOf, live, live-used, live-not, live-zero, live-link, Link, Has, Hit, stop, skip, Down, down-link, Index}
-use Rattle.soundness.specs.Checks.{hit-zero}
+use Rattle.soundness.specs.Index.{bucket, keyOf, live, live-used, live-link, Link, Has, Hit, stop, skip, Down, down-link, Index}
+use Rattle.soundness.specs.Framed.{hit-frame, live-more}
 
 -- row i takes the next place of the list, and becomes the first of its chain
 abbrev pub appended : View → ℕ → View
 appended W i =
     putHeader (putHead (putList (putCell (putCell W i NEXT (live (used W) (W .head (keyOf W i)))) i 4 (W .header USED)) (W .header USED) i) (keyOf W i) (i + 1)) 3 (W .header 3 + 1)
-
--- a walk along used rows does not see a change of other rows
-module _ (W X : View) (nexts : (j : ℕ) → used W j ≡ true → Down W (W .cell j RANK) (W .cell j NEXT))
-    (level : (j : ℕ) → used W j ≡ true → X .cell j LEVEL ≡ W .cell j LEVEL) (low : (j : ℕ) → used W j ≡ true → X .cell j LOW ≡ W .cell j LOW)
-    (high : (j : ℕ) → used W j ≡ true → X .cell j HIGH ≡ W .cell j HIGH) (next : (j : ℕ) → used W j ≡ true → X .cell j NEXT ≡ W .cell j NEXT) where
-  pub has-frame : (j l lo hi : ℕ) → used W j ≡ true → Has W j l lo hi → Has X j l lo hi
-  has-frame j l lo hi u h = record { level = level j u ∙ h .level; low = low j u ∙ h .low; high = high j u ∙ h .high }
-
-  pub has-back : (j l lo hi : ℕ) → used W j ≡ true → Has X j l lo hi → Has W j l lo hi
-  has-back j l lo hi u h = record { level = sym (level j u) ∙ h .level; low = sym (low j u) ∙ h .low; high = sym (high j u) ∙ h .high }
-
-  pub hit-frame : {l lo hi p i : ℕ} → Hit W l lo hi p i → Link (used W) p → Hit X l lo hi p i
-  hit-frame {l} {lo} {hi} (stop {j} h) u = stop (has-frame j l lo hi u h)
-  hit-frame {l} {lo} {hi} {i = i} (skip {j} n r) u =
-      skip (λ h. n (has-back j l lo hi u h)) (subst (λ (p : ℕ). Hit X l lo hi p i) (sym (next j u)) (hit-frame r (down-link W (W .cell j RANK) (W .cell j NEXT) (nexts j u))))
-
--- a head that counts for a lookup counts too where more rows are used
-pub live-more : {W : View} {l lo hi i : ℕ} (u v : ℕ → Bool) → ((j : ℕ) → u j ≡ true → v j ≡ true) → (p : ℕ) → Hit W l lo hi (live u p) i → live v p ≡ live u p
-live-more u v f zero r = absurd (hit-zero r (live-zero u))
-live-more {W} {l} {lo} {hi} {i} u v f (suc j) r = go (u j) refl
-  where
-    go : (b : Bool) → u j ≡ b → live v (suc j) ≡ live u (suc j)
-    go true e = live-used v j (f j e) ∙ sym (live-used u j e)
-    go false e = absurd (hit-zero r (live-not u j e))
 
 module _ (W : View) (i : ℕ) (ranked : Ranked W) (index : Index W) (row : i < W .rows) (unused : used W i ≡ false) (space : W .header USED < W .rows)
     (alone : (j : ℕ) → used W j ≡ true → Has W j (W .cell i LEVEL) (W .cell i LOW) (W .cell i HIGH) → ⊥) where

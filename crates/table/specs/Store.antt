@@ -11,7 +11,7 @@ use Rattle.diagram.specs.Rows.{Rows, WellFormed}
 use Rattle.layout.specs.View.{View, putHeader}
 use Rattle.soundness.specs.Used.{used, usedAt, rowsOf, Sizes}
 use Rattle.soundness.specs.Index.{keyOf, live, live-link, Hit, Down}
-use Rattle.table.specs.Append.{hit-frame}
+use Rattle.soundness.specs.Framed.{hit-frame}
 use Rattle.diagram.specs.Reach.{Reach}
 use Rattle.diagram.specs.Even.{even}
 use Rattle.soundness.specs.Roots.{Ref}
