@@ -14,7 +14,7 @@ pub token-of-spec : {M : Type 1} → statement M
 token-of-spec =
     tie.close
     (tie.spec
-    (λ c κs. search needs)
+    (λ c κs. tt)
     (λ c. search needs)
     (λ c. search needs)
     (λ c. search needs)
