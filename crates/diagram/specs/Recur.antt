@@ -1,4 +1,4 @@
--- The five recursive steps meet the side conditions of `compose`: which two calls and which row make AND, OR, NOT, SHIFT and EXISTS.
+-- The five recursive steps meet the side conditions of `compose`: which two calls and which level make AND, OR, NOT, SHIFT and EXISTS.
 -- Assumes nothing.
 use mathlib.Core.Path.{_≡_, sym, ap, _∙_, subst₂, fun-ext}
 use mathlib.Core.Bool.{Bool, true, false, not, true≢false}
@@ -11,7 +11,7 @@ use Rattle.diagram.specs.Rows.{Rows, row, Arrow, levelOf, den, WellForme
 use Rattle.diagram.specs.Den.{den-zero, den-one, den-reads, row-splits}
 use Rattle.diagram.specs.Grow.{den-extends}
 use Rattle.diagram.specs.Post.{Result, at, Denotes, OpPost, Making, Run, denotes-extends, post-arrow, post-make, post-cong, compose}
-use Rattle.diagram.specs.Steps.{bitF, bit-splits, exists-past, shift-reads, notF, twoF, orF, shiftF, existsF, not-splits, two-splits, shift-splits, exists-splits, exists-here, lowAt, highAt, parts}
+use Rattle.diagram.specs.Steps.{bitF, bit-splits, exists-past, shift-reads, notF, twoF, orF, shiftF, existsF, not-splits, two-splits, shift-splits, exists-splits, exists-here, Parts}
 use Rattle.diagram.specs.Even.{ReadsOn, even, cofactor-readsOn, row-level-read, even-reads}
 
 -- Where no call is made: the answer is an arrow that is there already.
@@ -46,43 +46,49 @@ remembered {m} {old = old} {new = new} G a b r wf e ua ub d =
     let eb : den m old b ≡ den m new b = fun-ext (λ v. sym (den-extends e wf m b ub v)) in
     subst₂ (λ f g. Denotes m new r (G f g)) ea eb (denotes-extends wf e d)
 
--- AND and OR, by `op`, of the arrows a and b at a level l no greater than theirs.
-module _ {m N limit : ℕ} {before after : Rows} {answer : Result} (l a b : ℕ) (wf : WellFormed m N before) (lm : l < m)
-    (ua : Arrow before a) (ub : Arrow before b) (la : l ≤ levelOf m before a) (lb : l ≤ levelOf m before b) where
-  pub two-run : (op : Bool → Bool → Bool) → Run m N limit before after l (twoF op (den m before (lowAt before l a)) (den m before (lowAt before l b)))
-      (λ t. twoF op (den m t (highAt before l a)) (den m t (highAt before l b))) answer
-      → OpPost m N limit before after answer (twoF op (den m before a) (den m before b))
-  two-run op r =
-      let s = parts wf l a lm ua la in
-      let t = parts wf l b lm ub lb in
-      compose lm (two-splits (s .splits) op (t .splits)) (λ mid e v.
-      let p = den-extends e wf m (highAt before l a) (s .high-arrow) v in
-      let q = den-extends e wf m (highAt before l b) (t .high-arrow) v in
-      cc (p, q)) r
+-- F is made at level l of what two calls compute: F0, and F1, which says it of the table that it starts from.
+pub record Divides (m : ℕ) (before : Rows) (l : ℕ) (F F0 : Fn) (F1 : Rows → Fn) : Type 0 where
+  pub shallow : l < m
+  pub splits : Splits m l F F0 (F1 before)
+  pub stable : (mid : Rows) → Extends before mid → (v : Val) → F1 mid v ≡ F1 before v
 
--- NOT, EXISTS and SHIFT at row i.
-module _ {m N limit : ℕ} {before after : Rows} {answer : Result} (i : ℕ) (wf : WellFormed m N before) (u : before .used i ≡ true) where
-  pub not-run : Run m N limit before after (before .level i) (notF (den m before (before .low i))) (λ t. notF (den m t (before .high i))) answer
-      → OpPost m N limit before after answer (notF (den m before (row i)))
-  not-run r =
-      let o = wf .ok i u in
-      compose (o .shallow) (not-splits (row-splits wf i u)) (λ mid e v. ap not (den-extends e wf m (before .high i) (o .high-arrow) v)) r
+-- The two calls and a row make F.
+pub divided : {m N limit l : ℕ} {before after : Rows} {answer : Result} {F F0 : Fn} {F1 : Rows → Fn} → Divides m before l F F0 F1
+    → Run m N limit before after l F0 F1 answer → OpPost m N limit before after answer F
+divided d r = compose (d .shallow) (d .splits) (d .stable) r
 
-  -- EXISTS at a level x greater than the row's.
-  pub exists-run : (x : ℕ) → before .level i < x
-      → Run m N limit before after (before .level i) (existsF x (den m before (before .low i))) (λ t. existsF x (den m t (before .high i))) answer
-      → OpPost m N limit before after answer (existsF x (den m before (row i)))
-  exists-run x h r =
-      let o = wf .ok i u in
-      compose (o .shallow) (exists-splits (row-splits wf i u) x h) (λ mid e v.
-      let p = den-extends e wf m (before .high i) (o .high-arrow) (upd v x false) in
-      let q = den-extends e wf m (before .high i) (o .high-arrow) (upd v x true) in
-      cc (p, q)) r
+-- Operations on an arrow a at a level l no greater than its own, where its parts are x and y.
+module _ {m N l a x y : ℕ} {before : Rows} (wf : WellFormed m N before) (lm : l < m) (s : Parts m before l a x y) where
+  -- AND and OR, by `op`.
+  pub two-divides : (op : Bool → Bool → Bool) {b z w : ℕ} → Parts m before l b z w
+      → Divides m before l (twoF op (den m before a) (den m before b)) (twoF op (den m before x) (den m before z)) (λ t. twoF op (den m t y) (den m t w))
+  two-divides op {w = w} t = record {
+    shallow = lm;
+    splits = two-splits (s .splits) op (t .splits);
+    stable = λ mid e v.
+        let p = den-extends e wf m y (s .high-arrow) v in
+        let q = den-extends e wf m w (t .high-arrow) v in
+        cc (p, q);
+  }
 
-  -- EXISTS at the row's own level is OR of its arrows.
-  pub exists-or : OpPost m N limit before after answer (orF (den m before (before .low i)) (den m before (before .high i)))
-      → OpPost m N limit before after answer (existsF (before .level i) (den m before (row i)))
-  exists-or p = post-cong (λ v. sym (exists-here (row-splits wf i u) v)) p
+  pub not-divides : Divides m before l (notF (den m before a)) (notF (den m before x)) (λ t. notF (den m t y))
+  not-divides = record { shallow = lm; splits = not-splits (s .splits); stable = λ mid e v. ap not (den-extends e wf m y (s .high-arrow) v) }
+
+  -- EXISTS at a greater level k.
+  pub exists-divides : (k : ℕ) → l < k → Divides m before l (existsF k (den m before a)) (existsF k (den m before x)) (λ t. existsF k (den m t y))
+  exists-divides k h = record {
+    shallow = lm;
+    splits = exists-splits (s .splits) k h;
+    stable = λ mid e v.
+        let p = den-extends e wf m y (s .high-arrow) (upd v k false) in
+        let q = den-extends e wf m y (s .high-arrow) (upd v k true) in
+        cc (p, q);
+  }
+
+-- EXISTS at the level of the parts is OR of them.
+pub exists-or : {m N limit l a x y : ℕ} {before after : Rows} {answer : Result} → Parts m before l a x y
+    → OpPost m N limit before after answer (orF (den m before x) (den m before y)) → OpPost m N limit before after answer (existsF l (den m before a))
+exists-or s p = post-cong (λ v. sym (exists-here (s .splits) v)) p
 
 -- The number after an odd one is even.
 odd-pred : (k : ℕ) → even (suc k) ≡ true → even k ≡ false
@@ -96,12 +102,11 @@ shift-reads-all zero em on r = λ v w h. r _ _ (λ l a b. absurd (omega arith))
 shift-reads-all (suc k) em on r = reads-from 0 (omega arith) (shift-reads (even-reads 0 k (odd-pred k em) on r))
 
 -- SHIFT at row i of a function of even levels, where m is even: the row that is made is one level further.
-pub shift-run : (m : ℕ) {N limit : ℕ} {before after : Rows} {answer : Result} (i : ℕ) → even m ≡ true → (wf : WellFormed m N before)
+pub shift-divides : (m : ℕ) {N : ℕ} {before : Rows} (i : ℕ) → even m ≡ true → (wf : WellFormed m N before)
     → before .used i ≡ true → ReadsOn even (den m before (row i))
-    → Run m N limit before after (suc (before .level i)) (shiftF (den m before (before .low i))) (λ t. shiftF (den m t (before .high i))) answer
-    → OpPost m N limit before after answer (shiftF (den m before (row i)))
-shift-run zero i em wf u on r = absurd (let o = wf .ok i u in omega arith)
-shift-run (suc k) {before = before} i em wf u on r =
+    → Divides m before (suc (before .level i)) (shiftF (den m before (row i))) (shiftF (den m before (before .low i))) (λ t. shiftF (den m t (before .high i)))
+shift-divides zero i em wf u on = absurd (let o = wf .ok i u in omega arith)
+shift-divides (suc k) {before = before} i em wf u on =
     let o = wf .ok i u in
     let s = row-splits wf i u in
     let l = before .level i in
@@ -114,4 +119,4 @@ shift-run (suc k) {before = before} i em wf u on r =
       reads1 = even-reads (suc l) k odd (cofactor-readsOn on (splits-high s)) (s .reads1);
     }
     in
-    compose (omega (arith, o .shallow)) (shift-splits s′) (λ mid e v. den-extends e wf (suc k) (before .high i) (o .high-arrow) (λ j. v (suc j))) r
+    record { shallow = omega (arith, o .shallow); splits = shift-splits s′; stable = λ mid e v. den-extends e wf (suc k) (before .high i) (o .high-arrow) (λ j. v (suc j)) }

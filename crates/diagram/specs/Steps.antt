@@ -159,38 +159,34 @@ module _ {m N : ℕ} {rows : Rows} (wf : WellFormed m N rows) where
       twice true c = refl
       twice false c = refl
 
--- What an operation needs of an operand at level l, no greater than the operand's: the arrows followed there, and that they split it.
-pub record Parts (m : ℕ) (rows : Rows) (l a : ℕ) : Type 0 where
-  pub low-arrow : Arrow rows (lowAt rows l a)
-  pub high-arrow : Arrow rows (highAt rows l a)
-  pub low-deeper : l < levelOf m rows (lowAt rows l a)
-  pub high-deeper : l < levelOf m rows (highAt rows l a)
-  pub splits : Splits m l (den m rows a) (den m rows (lowAt rows l a)) (den m rows (highAt rows l a))
+-- What an operation needs of an operand at level l, no greater than the operand's: the arrows followed there where the level is 0 and where
+-- it is 1, and that they split it.
+pub record Parts (m : ℕ) (rows : Rows) (l a lo hi : ℕ) : Type 0 where
+  pub low-arrow : Arrow rows lo
+  pub high-arrow : Arrow rows hi
+  pub low-deeper : l < levelOf m rows lo
+  pub high-deeper : l < levelOf m rows hi
+  pub splits : Splits m l (den m rows a) (den m rows lo) (den m rows hi)
 
 module _ {m N : ℕ} {rows : Rows} (wf : WellFormed m N rows) where
-  parts-from : (l a x y : ℕ) → lowAt rows l a ≡ x → highAt rows l a ≡ y → Arrow rows x → Arrow rows y → l < levelOf m rows x → l < levelOf m rows y
-      → Splits m l (den m rows a) (den m rows x) (den m rows y) → Parts m rows l a
-  parts-from l a x y ex ey ux uy dx dy s = record {
-    low-arrow = rw ex ux;
-    high-arrow = rw ey uy;
-    low-deeper = rw ex dx;
-    high-deeper = rw ey dy;
-    splits = rw (ex, ey) s;
-  }
-
-  parts-row : (l i : ℕ) (b : Bool) → eqb (rows .level i) l ≡ b → rows .used i ≡ true → l ≤ rows .level i → Parts m rows l (row i)
-  unfolding lowAt highAt
-  parts-row l i true e u h =
+  -- A row at its own level, and an arrow at a lesser one.
+  pub parts-row : (i : ℕ) → rows .used i ≡ true → Parts m rows (rows .level i) (row i) (rows .low i) (rows .high i)
+  parts-row i u =
       let o = wf .ok i u in
-      let q : rows .level i ≡ l = eqb→eq (rows .level i) l (rw e tt) in
-      parts-from l (row i) (rows .low i) (rows .high i) (rw e) (rw e) (o .low-arrow) (o .high-arrow) (rw (← q) (o .low-deeper)) (rw (← q) (o .high-deeper))
-      (rw q at (row-splits wf i u))
-  parts-row l i false e u h =
-      let ne : rows .level i ≢ l = λ q. true≢false (sym (T-true (eqb (rows .level i) l) (rw q (eqb-refl l))) ∙ e) in
-      parts-from l (row i) (row i) (row i) (rw e) (rw e) u u (omega arith) (omega arith) (skip-splits wf l (row i) u (omega arith))
+      record { low-arrow = o .low-arrow; high-arrow = o .high-arrow; low-deeper = o .low-deeper; high-deeper = o .high-deeper; splits = row-splits wf i u }
 
-  pub parts : (l a : ℕ) → l < m → Arrow rows a → l ≤ levelOf m rows a → Parts m rows l a
+  parts-skip : (l a : ℕ) → Arrow rows a → l < levelOf m rows a → Parts m rows l a a a
+  parts-skip l a u h = record { low-arrow = u; high-arrow = u; low-deeper = h; high-deeper = h; splits = skip-splits wf l a u h }
+
+  parts-at : (l i : ℕ) (b : Bool) → eqb (rows .level i) l ≡ b → rows .used i ≡ true → l ≤ rows .level i
+      → Parts m rows l (row i) (cond b (rows .low i) (row i)) (cond b (rows .high i) (row i))
+  parts-at l i true e u h = let q : rows .level i ≡ l = eqb→eq (rows .level i) l (rw e tt) in rw q at (parts-row i u)
+  parts-at l i false e u h =
+      let ne : rows .level i ≢ l = λ q. true≢false (sym (T-true (eqb (rows .level i) l) (rw q (eqb-refl l))) ∙ e) in
+      parts-skip l (row i) u (omega arith)
+
+  pub parts : (l a : ℕ) → l < m → Arrow rows a → l ≤ levelOf m rows a → Parts m rows l a (lowAt rows l a) (highAt rows l a)
   unfolding lowAt highAt
-  parts l zero lm u h = record { low-arrow = tt; high-arrow = tt; low-deeper = lm; high-deeper = lm; splits = skip-splits wf l 0 tt lm }
-  parts l (suc zero) lm u h = record { low-arrow = tt; high-arrow = tt; low-deeper = lm; high-deeper = lm; splits = skip-splits wf l 1 tt lm }
-  parts l (suc (suc i)) lm u h = parts-row l i (eqb (rows .level i) l) refl u h
+  parts l zero lm u h = parts-skip l 0 tt lm
+  parts l (suc zero) lm u h = parts-skip l 1 tt lm
+  parts l (suc (suc i)) lm u h = parts-at l i (eqb (rows .level i) l) refl u h

@@ -94,8 +94,9 @@ module _ {W X : View} (e : Alike W X) where
         rw (h, m, cell-is i w LEVEL (omega arith), cell-is i w LOW (omega arith), cell-is i w HIGH (omega arith)) r;
   }
 
-  good : Good W → Good X
-  good g = record {
+  -- such words leave a good table good
+  pub alike-good : Good W → Good X
+  alike-good g = record {
     sizes = rw (e .bits, e .rows, e .size) (g .sizes);
     rows-is = e .count ∙ g .rows-is ∙ sym (e .rows);
     ranked = record {
@@ -112,10 +113,10 @@ module _ {W X : View} (e : Alike W X) where
   ref zero u = tt
   ref (suc a) u = arrow-extends (same .forth) a u
 
-  -- such words do not make a table unsound
+  -- and a sound one sound
   pub alike-sound : Sound W → Sound X
   alike-sound s = record {
-    good = good (s .good);
+    good = alike-good (s .good);
     refs = λ h a l. rw (e .roots h a l) (ref (W .header h) (s .refs h a l));
     even = λ h a l b q i r.
         let q′ : W .header h ≡ suc b = sym (e .roots h a (omega arith)) ∙ q in

@@ -1,9 +1,10 @@
 -- A row is added to a good table. Assumes nothing.
 use mathlib.Core.Path.{_≡_, refl, sym, ap, _∙_}
 use mathlib.Core.Bool.{true, false, true≢false}
-use mathlib.Core.Logic.{_≢_}
+use mathlib.Core.Logic.{_≢_, by-cases}
 use Prim.Native.Nat.{ℕ, zero, suc, _+_, _*_, _≤_, _<_}
 use native.Mathlib.Omega.{arith}
+use native.Mathlib.Decide.{ℕ-discrete}
 use borrow.Author.Tests.{eq-eqb, ne-eqb}
 use Rattle.layout.specs.Places.{BITS, USED, CURSOR, LOW, HIGH, LEVEL, NEXT, RANK, MEMO-KEY}
 use Rattle.diagram.specs.Rows.{Rows, Arrow, levelOf, Adds}
@@ -18,23 +19,23 @@ use Rattle.soundness.specs.Checks.{Room}
 use Rattle.soundness.specs.Sound.{Good}
 use Rattle.table.specs.Find.{Absent}
 
--- row i gets its three words
+-- row i gets its three words, and remembers nothing
 abbrev pub rowPut : View → ℕ → ℕ → ℕ → ℕ → View
-rowPut W i l lo hi = putCell (putCell (putCell W i 0 lo) i 1 hi) i LEVEL l
+rowPut W i l lo hi = putCell (putCell (putCell (putCell W i 0 lo) i 1 hi) i LEVEL l) i MEMO-KEY 0
 
--- row i gets its three words, and joins the list and the index; the cursor moves past it
+-- row i gets its words, and joins the list and the index; the cursor moves past it
 abbrev pub written : View → ℕ → ℕ → ℕ → ℕ → View
 written W i l lo hi = rowPut (putHeader W CURSOR (i + 1)) i l lo hi
 
 abbrev pub rowAdded : View → ℕ → ℕ → ℕ → ℕ → View
 rowAdded W i l lo hi = appended (written W i l lo hi) i
 
--- what no operation on rows changes: the header but for count and cursor, the last three words of rows, and the words past the heads
+-- what no operation on rows changes: the header but for count and cursor, the last two words of rows, and the words past the heads
 pub record Frame (W X : View) : Type 0 where
   pub rows : X .rows ≡ W .rows
   pub size : X .size ≡ W .size
   pub header : (h : ℕ) → h ≢ USED → h ≢ CURSOR → X .header h ≡ W .header h
-  pub memo : (j k : ℕ) → MEMO-KEY ≤ k → X .cell j k ≡ W .cell j k
+  pub memo : (j k : ℕ) → MEMO-KEY < k → X .cell j k ≡ W .cell j k
   pub slot : X .slot ≡ W .slot
   pub beyond : X .beyond ≡ W .beyond
 
@@ -66,10 +67,18 @@ frame-written W i l lo hi = record {
   rows = refl;
   size = refl;
   header = λ h a b. rw (ne-eqb h 4 b);
-  memo = λ j k g. rw (ne-eqb k 2 (omega arith), ne-eqb k 1 (omega arith), ne-eqb k 0 (omega arith));
+  memo = λ j k g. rw (ne-eqb k 5 (omega arith), ne-eqb k 2 (omega arith), ne-eqb k 1 (omega arith), ne-eqb k 0 (omega arith));
   slot = refl;
   beyond = refl;
 }
+
+-- a row that was used keeps what it remembers, and a new one remembers nothing
+pub record Keys (W X : View) : Type 0 where
+  pub kept : (j : ℕ) → used W j ≡ true → X .cell j MEMO-KEY ≡ W .cell j MEMO-KEY
+  pub fresh : (j : ℕ) → used W j ≡ false → used X j ≡ true → X .cell j MEMO-KEY ≡ 0
+
+pub keys-refl : (W : View) → Keys W W
+keys-refl W = record { kept = λ j u. refl; fresh = λ j n u. absurd (true≢false (sym u ∙ n)) }
 
 -- what a row needs to be added: its arrows lead to greater levels
 pub record Fit (m : ℕ) (r : Rows) (l lo hi : ℕ) : Type 0 where
@@ -140,6 +149,12 @@ module _ (W : View) (i l lo hi : ℕ) (g : Good W) (row : i < W .rows) (unused :
     high = rw (eq-eqb i i refl);
   }
 
+  pub added-keys : Keys W X
+  added-keys = record {
+    kept = λ j u. rw (ne-eqb j i (other j u));
+    fresh = λ j n u. by-cases (ℕ-discrete j i) (λ e. rw (eq-eqb j i e)) (λ d. absurd (true≢false (sym (added-adds .only j u d) ∙ n)));
+  }
+
   pub added-good : Fit (2 * W .header BITS) (rowsOf W) l lo hi → lo ≢ hi → Good X
   added-good f ne = record {
     sizes = g .sizes;
@@ -151,8 +166,9 @@ module _ (W : View) (i l lo hi : ℕ) (g : Good W) (row : i < W .rows) (unused :
   }
 
 -- the steps of `write_row`
-pub put-by : (W : View) (i l lo hi : ℕ) {W₁ W₂ W₃ : View} → W₁ ≡ putCell W i LOW lo → W₂ ≡ putCell W₁ i HIGH hi → W₃ ≡ putCell W₂ i LEVEL l → W₃ ≡ rowPut W i l lo hi
-put-by W i l lo hi e₁ e₂ e₃ = rw (e₃, e₂, e₁)
+pub put-by : (W : View) (i l lo hi : ℕ) {W₁ W₂ W₃ W₄ : View} → W₁ ≡ putCell W i LOW lo → W₂ ≡ putCell W₁ i HIGH hi → W₃ ≡ putCell W₂ i LEVEL l → W₄ ≡ putCell W₃ i MEMO-KEY 0
+    → W₄ ≡ rowPut W i l lo hi
+put-by W i l lo hi e₁ e₂ e₃ e₄ = rw (e₄, e₃, e₂, e₁)
 
 -- the steps of `add`
 pub added-by : (W : View) (i l lo hi : ℕ) {W₁ W₂ W₃ : View} → W₁ ≡ putHeader W CURSOR (i + 1) → W₂ ≡ rowPut W₁ i l lo hi → W₃ ≡ appended W₂ i → W₃ ≡ rowAdded W i l lo hi

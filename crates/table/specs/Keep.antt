@@ -1,6 +1,6 @@
 -- A table that grew is sound if the old one was: what a call that makes rows leaves. Assumes nothing.
 use mathlib.Core.Path.{_≡_, ap, sym, _∙_, subst}
-use Prim.Native.Nat.{ℕ, zero, suc}
+use Prim.Native.Nat.{ℕ, zero, suc, _≤_, _<_}
 use mathlib.Core.List.{[], _∷_}
 use native.Mathlib.Omega.{arith}
 use Rattle.diagram.specs.Rows.{Rows, Arrow, WellFormed, Extends}
@@ -9,12 +9,12 @@ use Rattle.diagram.specs.Even.{even}
 use Rattle.diagram.specs.Reach.{Reach, one-root}
 use Rattle.diagram.specs.Keep.{extends-keeps, keeps-reach-back}
 use Rattle.diagram.specs.Post.{Result, Making, equal-arrows, found-row, added-row, no-row}
+use Rattle.layout.specs.Places.{FIRST-REGISTER, ROOTS-END}
 use Rattle.layout.specs.View.{View}
 use Rattle.soundness.specs.Used.{rowsOf}
 use Rattle.soundness.specs.Mark.{reaches-used}
 use Rattle.soundness.specs.Roots.{Ref}
 use Rattle.soundness.specs.Sound.{Good, Sound}
-use Rattle.table.specs.Add.{Frame}
 use Rattle.table.specs.Make.{MakePost}
 use Rattle.table.specs.declared.Made.{Made}
 
@@ -22,13 +22,13 @@ use Rattle.table.specs.declared.Made.{Made}
 pub reach-back : {m N : ℕ} {old new : Rows} → Extends old new → WellFormed m N old → {a i : ℕ} → Arrow old a → Reach new (a ∷ []) i → Reach old (a ∷ []) i
 reach-back {old = old} e wf u = keeps-reach-back (extends-keeps wf (one-root (Arrow old) u) e)
 
--- the steps of an operation keep the table sound
-pub sound-extends : {W X : View} → Sound W → Good X → Frame W X → Extends (rowsOf W) (rowsOf X) → Sound X
+-- a good table with more rows and the same registers and relations is sound
+pub sound-extends : {W X : View} → Sound W → Good X → ((h : ℕ) → FIRST-REGISTER ≤ h → h < ROOTS-END → X .header h ≡ W .header h) → Extends (rowsOf W) (rowsOf X) → Sound X
 sound-extends {W} {X} s g f e = record {
   good = g;
-  refs = λ h a l. subst (λ (v : ℕ). Ref (rowsOf X) v) (sym (f .header h (omega arith) (omega arith))) (ref (W .header h) (s .refs h a l));
+  refs = λ h a l. subst (λ (v : ℕ). Ref (rowsOf X) v) (sym (f h a l)) (ref (W .header h) (s .refs h a l));
   even = λ h a l b q i r.
-      let q′ : W .header h ≡ suc b = sym (f .header h (omega arith) (omega arith)) ∙ q in
+      let q′ : W .header h ≡ suc b = sym (f h a (omega arith)) ∙ q in
       let u : Arrow (rowsOf W) b = subst (λ (v : ℕ). Ref (rowsOf W) v) q′ (s .refs h a (omega arith)) in
       let t = reach-back e (s .good .rows) u r in
       ap even (e .level i (reaches-used (s .good .rows) u t)) ∙ s .even h a l b q′ i t;
@@ -46,4 +46,4 @@ made-extends (added-row i h n s f) = s .kept
 made-extends (no-row n all f s) = s .forth
 
 pub sound-made : {W X : View} {limit l lo hi : ℕ} {r : Made} → Sound W → MakePost W X limit l lo hi r → Sound X
-sound-made s p = sound-extends s (p .good) (p .frame) (made-extends (p .made))
+sound-made s p = sound-extends s (p .good) (λ h a l. p .frame .header h (omega arith) (omega arith)) (made-extends (p .made))

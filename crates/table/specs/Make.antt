@@ -14,7 +14,7 @@ use Rattle.diagram.specs.Used.{usedCount-all}
 use Rattle.table.specs.Count.{count-used}
 use Rattle.soundness.specs.Sound.{Good}
 use Rattle.table.specs.Find.{Absent, FindPost, UnusedPost}
-use Rattle.table.specs.Add.{Frame, frame-refl, frame-trans, frame-append, frame-written, Fit, written, rowAdded, added-adds, added-good}
+use Rattle.table.specs.Add.{Frame, Keys, keys-refl, added-keys, frame-refl, frame-trans, frame-append, frame-written, Fit, written, rowAdded, added-adds, added-good}
 use Rattle.table.specs.declared.Made.{Made}
 use Rattle.table.specs.declared.Made.the-variants as made
 use Rattle.table.specs.declared.Found.the-variants as find
@@ -28,6 +28,7 @@ result made.Full = full
 pub record MakePost (W X : View) (limit l lo hi : ℕ) (r : Made) : Type 0 where
   pub good : Good X
   pub frame : Frame W X
+  pub keys : Keys W X
   pub made : Making (2 * W .header BITS) (W .rows) limit (rowsOf W) (rowsOf X) l lo hi (result r)
 
 -- what making a row asks
@@ -44,21 +45,21 @@ pub record AddPre (W : View) (limit l lo hi : ℕ) : Type 0 where
 
 module _ (W : View) (limit l lo hi : ℕ) where
   pub make-same : Good W → lo ≡ hi → MakePost W W limit l lo hi (made.At lo)
-  make-same g e = record { good = g; frame = frame-refl W; made = equal-arrows e (same-refl (rowsOf W)) }
+  make-same g e = record { good = g; frame = frame-refl W; keys = keys-refl W; made = equal-arrows e (same-refl (rowsOf W)) }
 
   pub make-found : Good W → (i : ℕ) → FindPost W l lo hi (find.At i) → MakePost W W limit l lo hi (made.At (row i))
-  make-found g i p = record { good = g; frame = frame-refl W; made = found-row i (p .0) (p .1 .level) (p .1 .low) (p .1 .high) (same-refl (rowsOf W)) }
+  make-found g i p = record { good = g; frame = frame-refl W; keys = keys-refl W; made = found-row i (p .0) (p .1 .level) (p .1 .low) (p .1 .high) (same-refl (rowsOf W)) }
 
   module _ (a : AddPre W limit l lo hi) where
     lost : (j : ℕ) → used W j ≡ true → W .cell j LEVEL ≡ l → W .cell j LOW ≡ lo → W .cell j HIGH ≡ hi → ⊥
     lost j u x y z = a .absent j u (record { level = x; low = y; high = z })
 
     pub add-full : (i : ℕ) → UnusedPost W i → W .rows ≤ i → MakePost W W limit l lo hi made.Full
-    add-full i p h = record { good = a .pre .good; frame = frame-refl W; made = no-row (a .differ) (let n = usedCount-all (rowsOf W) (W .rows) (p .all h) in let m = a .pre .limit-le in omega (arith, n, m)) lost (same-refl (rowsOf W)) }
+    add-full i p h = record { good = a .pre .good; frame = frame-refl W; keys = keys-refl W; made = no-row (a .differ) (let n = usedCount-all (rowsOf W) (W .rows) (p .all h) in let m = a .pre .limit-le in omega (arith, n, m)) lost (same-refl (rowsOf W)) }
 
     -- at least `limit` rows are used
     pub add-over : limit ≤ W .header USED → MakePost W W limit l lo hi made.Full
-    add-over h = record { good = a .pre .good; frame = frame-refl W; made = no-row (a .differ) (let e = count-used W (a .pre .good .ranked) in omega (arith, e, h)) lost (same-refl (rowsOf W)) }
+    add-over h = record { good = a .pre .good; frame = frame-refl W; keys = keys-refl W; made = no-row (a .differ) (let e = count-used W (a .pre .good .ranked) in omega (arith, e, h)) lost (same-refl (rowsOf W)) }
 
     pub add-at : (i : ℕ) → UnusedPost W i → i < W .rows → {X : View} → X ≡ rowAdded W i l lo hi → MakePost W X limit l lo hi (made.At (row i))
     add-at i p h e =
@@ -66,5 +67,6 @@ module _ (W : View) (limit l lo hi : ℕ) where
         subst (λ (X : View). MakePost W X limit l lo hi (made.At (row i))) (sym e) (record {
           good = added-good W i l lo hi g h (p .free h) (a .absent) (a .pre .fit) (a .differ);
           frame = frame-trans (frame-written W i l lo hi) (frame-append (written W i l lo hi) i);
+          keys = added-keys W i l lo hi g h (p .free h) (a .absent);
           made = added-row i h (a .differ) (added-adds W i l lo hi g h (p .free h) (a .absent)) lost;
         })

@@ -138,7 +138,7 @@ fn unused_row(words: &[u32], rows: u32) -> u32
     rows
 }
 
-// Row i gets its level and arrows.
+// Row i gets its level and arrows, and remembers nothing.
 fn write_row(words: &mut [u32], rows: u32, i: u32, level: u32, low: u32, high: u32)
     requires { ⌜ (i < rows) × (wordsFor rows ≤ length (now words)) ⌝ }
     ensures { λ _. ⌜ view rows (now (words .exit)) ≡ rowPut (view rows (now (words .entry))) i level low high ⌝ }
@@ -146,6 +146,7 @@ fn write_row(words: &mut [u32], rows: u32, i: u32, level: u32, low: u32, high: u
     put(words, rows, i, Table::LOW, low);
     put(words, rows, i, Table::HIGH, high);
     put(words, rows, i, Table::LEVEL, level);
+    put(words, rows, i, Table::MEMO_KEY, 0);
 }
 
 // Row i takes the next place of the list of used rows, and becomes the first of its chain.

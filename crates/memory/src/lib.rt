@@ -1,0 +1,230 @@
+// Remembered results of operations: an entry is absent or right.
+use layout::Table;
+use layout::get;
+use layout::header_word;
+use layout::listed;
+use layout::put;
+use layout::put_header;
+use layout::put_slot;
+use layout::slot;
+use table::Found;
+use table::Made;
+
+ghost use mathlib.Core.Path.{_≡_};
+ghost use Prim.Native.Nat.{ℕ, _*_, _<_, _≤_};
+ghost use lib.ListN.{length};
+ghost use Rattle.layout.specs.Places.{CELLS, SLOTS, wordsFor};
+ghost use Rattle.layout.specs.View.{view, headerOf, listOf};
+ghost use Rattle.soundness.specs.Checks.{Room};
+ghost use Rattle.soundness.specs.Sound.{Good};
+ghost use Rattle.memory.specs.Memo.{firstOf, secondOf, Slots, RecallPost, RowPost};
+ghost use Rattle.memory.specs.Store.{Emptied, Fewer, Wrote, RememberPost, keepRow};
+ghost use Rattle.memory.specs.Forget.{FirstSlots, RowsForgot, Forgot};
+
+// What is fixed of remembered results.
+pub struct Memory {
+    pub slots: u32,
+}
+
+impl Memory {
+    // The words of an entry: two arrows and what they give.
+    pub const ENTRY: u32 = 3;
+
+    // The number of active slots starts near this and twice the used rows.
+    pub const FEWEST: u32 = 256;
+
+    // What a row remembers: nothing, NOT, SHIFT, or EXISTS at level 0 and so on.
+    pub const NOTHING: u32 = 0;
+
+    pub const NOT: u32 = 1;
+
+    pub const SHIFT: u32 = 2;
+
+    pub const EXISTS: u32 = 3;
+}
+
+// The operations on two arrows.
+pub enum Op {
+    And,
+    Or,
+}
+
+// Two arrows in the order of an entry: the lesser first for AND, the greater first for OR.
+pub struct Pair {
+    pub x: u32,
+    pub y: u32,
+}
+
+// The order in which an operation on a lesser and a greater arrow is remembered.
+fn pair_of(op: Op, lo: u32, hi: u32) -> Pair
+    ensures { λ r. ⌜ (r .x ≡ firstOf op lo hi) × (r .y ≡ secondOf op lo hi) ⌝ }
+{
+    match op {
+        Op::And => Pair { x: lo, y: hi },
+        Op::Or => Pair { x: hi, y: lo },
+    }
+}
+
+// The slot of a pair among the active ones, a power of two: a multiplicative hash under a mask.
+fn slot_of(slots: u32, x: u32, y: u32) -> u32
+    requires { ⌜ 0 < slots ⌝ }
+    ensures { λ r. ⌜ r < slots ⌝ }
+{
+    let a = 2654435761 * (x as u64) % 4294967296;
+    let b = 2246822519 * (y as u64) % 4294967296;
+    ((a + b) / 32768 & ((slots - 1) as u64)) as u32
+}
+
+// What is remembered of an operation on a lesser and a greater arrow.
+pub fn recall(words: &[u32], rows: u32, op: Op, lo: u32, hi: u32) -> Found
+    requires { ⌜ Room (view rows (now words)) × Slots (view rows (now words)) ⌝ }
+    ensures { λ r. ⌜ RecallPost (view rows (now (words .entry))) (firstOf op lo hi) (secondOf op lo hi) r ⌝ }
+{
+    let slots = header_word(words, Table::SLOTS);
+    if slots == 0 {
+        return Found::Nothing;
+    }
+    let p = pair_of(op, lo, hi);
+    let at = Memory::ENTRY * slot_of(slots, p.x, p.y);
+    if slot(words, rows, at) != p.x {
+        return Found::Nothing;
+    }
+    if slot(words, rows, at + 1) != p.y {
+        return Found::Nothing;
+    }
+    Found::At(slot(words, rows, at + 2))
+}
+
+// Empties the entries from one up to another.
+fn empty_slots(words: &mut [u32], rows: u32, from: u32, to: u32)
+    requires { ⌜ (from ≤ to) × (3 * to ≤ 2 * rows) × Room (view rows (now words)) ⌝ }
+    ensures { λ _. ⌜ Emptied (view rows (now (words .entry))) (view rows (now (words .exit))) from to ⌝ }
+{
+    let mut s = from;
+    while s < to {
+        put_slot(words, rows, Memory::ENTRY * s, 0);
+        s += 1;
+    }
+}
+
+// Doubles the active slots if there is room, and counts anew.
+fn double(words: &mut [u32], rows: u32, slots: u32)
+    requires { ⌜ Room (view rows (now words)) × Slots (view rows (now words)) × (slots ≡ headerOf (now words) SLOTS) ⌝ }
+    ensures { λ _. ⌜ Fewer (view rows (now (words .entry))) (view rows (now (words .exit))) ⌝ }
+{
+    put_header(words, rows, Table::STORED, 0);
+    if Memory::ENTRY * (2 * slots) > 2 * rows {
+        return;
+    }
+    empty_slots(words, rows, slots, 2 * slots);
+    put_header(words, rows, Table::SLOTS, 2 * slots);
+}
+
+// Counts one more result. When half as many as there are active slots were stored, these double.
+fn count_stored(words: &mut [u32], rows: u32)
+    requires { ⌜ Room (view rows (now words)) × Slots (view rows (now words)) ⌝ }
+    ensures { λ _. ⌜ Fewer (view rows (now (words .entry))) (view rows (now (words .exit))) ⌝ }
+{
+    let slots = header_word(words, Table::SLOTS);
+    let stored = header_word(words, Table::STORED) + 1;
+    if 2 * stored > slots {
+        double(words, rows, slots);
+        return;
+    }
+    put_header(words, rows, Table::STORED, stored);
+}
+
+// The entry of x and y gets the result r.
+fn write_entry(words: &mut [u32], rows: u32, x: u32, y: u32, r: u32)
+    requires { ⌜ Room (view rows (now words)) × Slots (view rows (now words)) ⌝ }
+    ensures { λ _. ⌜ Wrote (view rows (now (words .entry))) (view rows (now (words .exit))) x y r ⌝ }
+{
+    let slots = header_word(words, Table::SLOTS);
+    if slots == 0 {
+        return;
+    }
+    let at = Memory::ENTRY * slot_of(slots, x, y);
+    put_slot(words, rows, at, x);
+    put_slot(words, rows, at + 1, y);
+    put_slot(words, rows, at + 2, r);
+}
+
+// Remembers what an operation on a lesser and a greater arrow gives, if it was made.
+pub fn remember(words: &mut [u32], rows: u32, op: Op, lo: u32, hi: u32, made: Made)
+    requires { ⌜ Room (view rows (now words)) × Slots (view rows (now words)) ⌝ }
+    ensures { λ _. ⌜ RememberPost (view rows (now (words .entry))) (view rows (now (words .exit))) (firstOf op lo hi) (secondOf op lo hi) made ⌝ }
+{
+    let Made::At(r) = made else {
+        return;
+    };
+    count_stored(words, rows);
+    let p = pair_of(op, lo, hi);
+    write_entry(words, rows, p.x, p.y, r);
+}
+
+// What row i remembers, if it is a result of this kind.
+pub fn recall_row(words: &[u32], rows: u32, i: u32, key: u32) -> Found
+    requires { ⌜ (i < rows) × (wordsFor rows ≤ length (now words)) ⌝ }
+    ensures { λ r. ⌜ RowPost (view rows (now (words .entry))) i key r ⌝ }
+{
+    if get(words, rows, i, Table::MEMO_KEY) != key {
+        return Found::Nothing;
+    }
+    Found::At(get(words, rows, i, Table::MEMO_VALUE))
+}
+
+// Row i remembers a result of this kind, if it was made.
+pub fn remember_row(words: &mut [u32], rows: u32, i: u32, key: u32, made: Made)
+    requires { ⌜ (i < rows) × (wordsFor rows ≤ length (now words)) ⌝ }
+    ensures { λ _. ⌜ view rows (now (words .exit)) ≡ keepRow (view rows (now (words .entry))) i key made ⌝ }
+{
+    let Made::At(r) = made else {
+        return;
+    };
+    put(words, rows, i, Table::MEMO_KEY, key);
+    put(words, rows, i, Table::MEMO_VALUE, r);
+}
+
+// How many slots are active at first: a power of two near 256 and twice the used rows, and none where not one entry fits.
+fn first_slots(rows: u32, used: u32) -> u32
+    requires { ⌜ FirstSlots rows used ⌝ }
+    ensures { λ r. ⌜ 3 * r ≤ 2 * rows ⌝ }
+{
+    if 2 * rows < Memory::ENTRY {
+        return 0;
+    }
+    let mut slots = 1;
+    while slots < Memory::FEWEST + 2 * used {
+        if Memory::ENTRY * (2 * slots) > 2 * rows {
+            return slots;
+        }
+        slots *= 2;
+    }
+    slots
+}
+
+// The first `used` listed rows remember nothing.
+fn forget_rows(words: &mut [u32], rows: u32, used: u32)
+    requires { ⌜ (used ≤ rows) × (wordsFor rows ≤ length (now words)) × ((k : ℕ) → k < used → listOf rows (now words) k < rows) ⌝ }
+    ensures { λ _. ⌜ RowsForgot (view rows (now (words .entry))) (view rows (now (words .exit))) used ⌝ }
+{
+    let mut k = 0;
+    while k < used {
+        let i = listed(words, rows, k);
+        put(words, rows, i, Table::MEMO_KEY, Memory::NOTHING);
+        k += 1;
+    }
+}
+
+// Forgets all remembered results, whatever the words for them hold.
+pub fn forget(words: &mut [u32], rows: u32)
+    requires { ⌜ Good (view rows (now words)) ⌝ }
+    ensures { λ _. ⌜ Forgot (view rows (now (words .entry))) (view rows (now (words .exit))) ⌝ }
+{
+    let used = header_word(words, Table::USED);
+    let slots = first_slots(rows, used);
+    put_header(words, rows, Table::SLOTS, slots);
+    put_header(words, rows, Table::STORED, 0);
+    empty_slots(words, rows, 0, slots);
+    forget_rows(words, rows, used);
+}

@@ -1,0 +1,4 @@
+pub mod Work
+pub mod Open
+pub mod Rows
+pub mod Pairs

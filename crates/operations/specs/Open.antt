@@ -1,0 +1,61 @@
+-- An arrow to a row, taken apart: its row, level and arrows, and the levels that are left from an arrow on. Assumes nothing.
+use mathlib.Core.Path.{_≡_, refl, sym, ap, _∙_, subst}
+use mathlib.Core.Bool.{Bool, true, false, not}
+use Prim.Native.Nat.{ℕ, zero, suc, _-_, _≤_, _<_}
+use native.Mathlib.Omega.{arith}
+use Rattle.diagram.specs.Rows.{Rows, row, Arrow, levelOf, WellFormed, Extends}
+use Rattle.diagram.specs.Grow.{arrow-extends, level-extends}
+use Rattle.diagram.specs.Steps.{Parts, parts-row}
+use Rattle.layout.specs.Arrows.{isRow, rowOf, row-is}
+use Rattle.soundness.specs.Used.{of-arrow}
+use Rattle.soundness.specs.Says.{test-yes}
+
+-- level, low and high of row i
+pub record RowIs (rows : Rows) (i l lo hi : ℕ) : Type 0 where
+  pub level : l ≡ rows .level i
+  pub low : lo ≡ rows .low i
+  pub high : hi ≡ rows .high i
+
+-- a is the arrow to row i, which is used
+pub record RowAt (rows : Rows) (a i : ℕ) : Type 0 where
+  pub is : a ≡ row i
+  pub used : rows .used i ≡ true
+
+-- as the code finds it: b is the answer of its test
+pub row-at : {rows : Rows} {i : ℕ} {b : Bool} (a : ℕ) → Arrow rows a → b ≡ isRow a → not b ≡ false → i ≡ rowOf a → RowAt rows a i
+row-at {rows} a u t n e = let h = test-yes t n in record { is = row-is a h ∙ ap row (sym e); used = of-arrow rows a h e u }
+
+-- a row of level l with parts lo and hi
+pub record Opened (m : ℕ) (rows : Rows) (a i l lo hi : ℕ) : Type 0 where
+  pub at : RowAt rows a i
+  pub words : RowIs rows i l lo hi
+  pub level : levelOf m rows a ≡ l
+  pub shallow : l < m
+  pub parts : Parts m rows l a lo hi
+
+opened-row : {m N : ℕ} {rows : Rows} (i : ℕ) → WellFormed m N rows → rows .used i ≡ true → Opened m rows (row i) i (rows .level i) (rows .low i) (rows .high i)
+opened-row i wf u = record {
+  at = record { is = refl; used = u };
+  words = record { level = refl; low = refl; high = refl };
+  level = refl;
+  shallow = wf .ok i u .shallow;
+  parts = parts-row wf i u;
+}
+
+pub opened : {m N : ℕ} {rows : Rows} {a i l lo hi : ℕ} → WellFormed m N rows → RowAt rows a i → RowIs rows i l lo hi → Opened m rows a i l lo hi
+opened {i = i} wf r n = rw (r .is, n .level, n .low, n .high) (opened-row i wf (r .used))
+
+-- "Recursion over a diagram descends to greater levels only": the levels from an arrow's on
+abbrev pub depth : ℕ → Rows → ℕ → ℕ
+depth m rows a = m - levelOf m rows a
+
+module _ {m : ℕ} {rows : Rows} {a i l lo hi : ℕ} (o : Opened m rows a i l lo hi) where
+  pub low-falls : depth m rows lo < depth m rows a
+  low-falls = let p = o .parts .low-deeper in let q = o .level in let s = o .shallow in omega arith
+
+  -- and in the larger table that the first call leaves
+  pub high-falls : {new : Rows} → Extends rows new → depth m new hi < depth m rows a
+  high-falls {new} e = let p = o .parts .high-deeper in let q = o .level in let s = o .shallow in rw (level-extends e m hi (o .parts .high-arrow)) (omega arith)
+
+  pub high-later : {new : Rows} → Extends rows new → Arrow new hi
+  high-later e = arrow-extends e hi (o .parts .high-arrow)

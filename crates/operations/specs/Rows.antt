@@ -1,0 +1,121 @@
+-- NOT, SHIFT and EXISTS, by rows: what is known at once, what two calls make, and what a row remembers. Assumes nothing.
+use mathlib.Core.Path.{_≡_, refl, sym, ap, _∙_, subst, fun-ext}
+use mathlib.Core.Bool.{Bool, true, false, not, _||_, or-self}
+use mathlib.Core.Logic.{_≢_}
+use Prim.Native.Nat.{ℕ, zero, suc, _+_, _-_, _*_, _%_, _≤_, _<_}
+use native.Mathlib.Omega.{arith}
+use native.Mathlib.Numerals.{add-one}
+use borrow.Author.Tests.{eq-eqb}
+use Rattle.diagram.specs.Level.{Val, Fn, splits-low, splits-high, upd}
+use Rattle.diagram.specs.Rows.{Rows, row, Arrow, levelOf, den, WellFormed, Extends}
+use Rattle.diagram.specs.Den.{den-zero, den-one}
+use Rattle.diagram.specs.Grow.{arrow-extends, den-extends}
+use Rattle.diagram.specs.Even.{ReadsOn, even, cofactor-readsOn}
+use Rattle.diagram.specs.Post.{Denotes, OpPost}
+use Rattle.diagram.specs.Steps.{notF, shiftF, existsF, orF, exists-past, Parts}
+use Rattle.diagram.specs.Recur.{Divides, not-divides, exists-divides, shift-divides, exists-or, exists-leaf}
+use Rattle.layout.specs.Places.{BITS, MEMO-KEY, MEMO-VALUE}
+use Rattle.layout.specs.View.{View}
+use Rattle.layout.specs.Arrows.{isRow, no-row}
+use Rattle.soundness.specs.Used.{used, rowsOf}
+use Rattle.table.specs.declared.Made.{Made}
+use Rattle.table.specs.declared.Made.the-variants as answer
+use Rattle.table.specs.declared.Found.{Found}
+use Rattle.table.specs.declared.Found.the-variants as find
+use Rattle.memory.specs.Memo.{Remembers, unaryF, RowPost, row-right, unary-extends}
+use Rattle.memory.specs.Store.{keepRow, keepRow-frame, RightRow, remembers-row}
+use Rattle.operations.specs.Work.{Ready, Worked, ready-wf, ready-next, worked-there, worked-kept, worked-cong}
+use Rattle.operations.specs.Open.{RowAt, Opened}
+
+-- m is even
+pub even-levels : {m N limit : ℕ} {W : View} → Ready m N limit W → even m ≡ true
+even-levels {m} r = let e = r .levels-is in let z : m % 2 ≡ 0 = omega arith in eq-eqb (m % 2) 0 z
+
+-- NOT and SHIFT of the constants; EXISTS of them is a case of `exists-leaf`
+not-is : (m : ℕ) (rows : Rows) (a : ℕ) → a < 2 → Denotes m rows (1 - a) (notF (den m rows a))
+not-is m rows zero h = record { arrow = tt; same = λ v. den-one m rows v ∙ sym (ap not (den-zero m rows v)) }
+not-is m rows (suc zero) h = record { arrow = tt; same = λ v. den-zero m rows v ∙ sym (ap not (den-one m rows v)) }
+not-is m rows (suc (suc i)) h = absurd (omega arith)
+
+shift-is : (m : ℕ) (rows : Rows) (a : ℕ) → a < 2 → Denotes m rows a (shiftF (den m rows a))
+shift-is m rows zero h = record { arrow = tt; same = λ v. den-zero m rows v ∙ sym (den-zero m rows (λ l. v (suc l))) }
+shift-is m rows (suc zero) h = record { arrow = tt; same = λ v. den-one m rows v ∙ sym (den-one m rows (λ l. v (suc l))) }
+shift-is m rows (suc (suc i)) h = absurd (omega arith)
+
+level-constant : (m : ℕ) (rows : Rows) (a : ℕ) → a < 2 → levelOf m rows a ≡ m
+level-constant m rows zero h = refl
+level-constant m rows (suc zero) h = refl
+level-constant m rows (suc (suc i)) h = absurd (omega arith)
+
+module _ {m N limit : ℕ} {W : View} (r : Ready m N limit W) where
+  pub not-constant : (a : ℕ) → isRow a ≡ false → Worked m N limit W W (answer.At (1 - a)) (notF (den m (rowsOf W) a))
+  not-constant a h = worked-there r (not-is m (rowsOf W) a (no-row a h))
+
+  pub shift-constant : (a : ℕ) → isRow a ≡ false → Worked m N limit W W (answer.At a) (shiftF (den m (rowsOf W) a))
+  shift-constant a h = worked-there r (shift-is m (rowsOf W) a (no-row a h))
+
+  -- EXISTS at x below the arrow's level
+  pub exists-deeper : (x a : ℕ) → Arrow (rowsOf W) a → x < levelOf m (rowsOf W) a → Worked m N limit W W (answer.At a) (existsF x (den m (rowsOf W) a))
+  exists-deeper x a u h = let p = exists-leaf (ready-wf r) {limit = limit} x a u h in worked-there r (p .result)
+
+  pub exists-constant : (x a : ℕ) → x < m → Arrow (rowsOf W) a → isRow a ≡ false → Worked m N limit W W (answer.At a) (existsF x (den m (rowsOf W) a))
+  exists-constant x a h u n = exists-deeper x a u (rw (level-constant m (rowsOf W) a (no-row a n)) h)
+
+  -- what row i remembers
+  pub row-known : {a i v : ℕ} {f : Found} (key : ℕ) → key ≢ 0 → RowAt (rowsOf W) a i → f ≡ find.At v → RowPost W i key f
+      → Worked m N limit W W (answer.At v) (unaryF key (den m (rowsOf W) a))
+  row-known {a} {i} {v = v} key n o e p =
+      worked-there r (subst (λ (b : ℕ). Denotes m (rowsOf W) v (unaryF key (den m (rowsOf W) b))) (sym (o .is)) (row-right (r .memory) (o .used) n (rw e at p)))
+
+  -- the result is remembered by the operand's row
+  pub row-kept : {X Y : View} {o : Made} {a i : ℕ} (key : ℕ) → RowAt (rowsOf W) a i → Worked m N limit W X o (unaryF key (den m (rowsOf W) a)) → Y ≡ keepRow X i key o
+      → Worked m N limit W Y o (unaryF key (den m (rowsOf W) a))
+  row-kept {X} {o = o} {a = a} {i = i} key p w e =
+      subst (λ (v : View). Worked m N limit W v o (unaryF key (den m (rowsOf W) a))) (sym e)
+      (worked-kept w (keepRow-frame X i key o) (remembers-row X i key o (w .memory) (right o w)))
+    where
+      right : (t : Made) → Worked m N limit W X t (unaryF key (den m (rowsOf W) a)) → RightRow m (rowsOf X) i key t
+      right (answer.At v) q =
+          let e : den m (rowsOf W) a ≡ den m (rowsOf X) (row i) = ap (den m (rowsOf W)) (p .is) ∙ fun-ext (λ x. sym (den-extends (q .post .kept) (ready-wf r) m (row i) (p .used) x)) in
+          subst (λ (f : Fn). Denotes m (rowsOf X) v (unaryF key f)) e (q .post .result)
+      right answer.Full q = tt
+
+-- what the two calls compute
+module _ {m N limit : ℕ} {W : View} {a i l lo hi : ℕ} (r : Ready m N limit W) (o : Opened m (rowsOf W) a i l lo hi) where
+  pub not-calls : Divides m (rowsOf W) l (notF (den m (rowsOf W) a)) (notF (den m (rowsOf W) lo)) (λ t. notF (den m t hi))
+  not-calls = not-divides (ready-wf r) (o .shallow) (o .parts)
+
+  pub exists-calls : (x : ℕ) → l < x → Divides m (rowsOf W) l (existsF x (den m (rowsOf W) a)) (existsF x (den m (rowsOf W) lo)) (λ t. existsF x (den m t hi))
+  exists-calls x h = exists-divides (ready-wf r) (o .shallow) (o .parts) x h
+
+  -- EXISTS at the row's level is OR of its arrows
+  pub exists-own : {X : View} {t : Made} → Worked m N limit W X t (orF (den m (rowsOf W) lo) (den m (rowsOf W) hi)) → Worked m N limit W X t (existsF l (den m (rowsOf W) a))
+  exists-own w = record { good = w .good; memory = w .memory; frame = w .frame; post = exists-or (o .parts) (w .post) }
+
+  -- SHIFT, of a function of even levels
+  module _ (on : ReadsOn even (den m (rowsOf W) a)) where
+    pub shift-calls : Divides m (rowsOf W) (l + 1) (shiftF (den m (rowsOf W) a)) (shiftF (den m (rowsOf W) lo)) (λ t. shiftF (den m t hi))
+    shift-calls =
+        rw (o .at .is, add-one, o .words .level, o .words .low, o .words .high) (shift-divides m i (even-levels r) (ready-wf r) (o .at .used) (rw (o .at .is) at on))
+
+    pub shift-low : ReadsOn even (den m (rowsOf W) lo)
+    shift-low = cofactor-readsOn on (splits-low (o .parts .splits))
+
+    pub shift-high : {new : Rows} → Extends (rowsOf W) new → ReadsOn even (den m new hi)
+    shift-high e =
+        let q : ReadsOn even (den m (rowsOf W) hi) = cofactor-readsOn on (splits-high (o .parts .splits)) in
+        let d = den-extends e (ready-wf r) m hi (o .parts .high-arrow) in
+        λ v w h. d v ∙ q v w h ∙ sym (d w)
+
+-- the key of EXISTS at x
+pub exists-key : (x : ℕ) (f : Fn) → unaryF (3 + x) f ≡ existsF x f
+exists-key x f = let e : 3 + x ≡ suc (suc (suc x)) = omega arith in rw e
+
+module _ {m N limit : ℕ} {W : View} {a i : ℕ} (r : Ready m N limit W) (x : ℕ) (q : RowAt (rowsOf W) a i) where
+  pub exists-known : {v : ℕ} {f : Found} → f ≡ find.At v → RowPost W i (3 + x) f → Worked m N limit W W (answer.At v) (existsF x (den m (rowsOf W) a))
+  exists-known {v} e p = subst (λ (f : Fn). Worked m N limit W W (answer.At v) f) (exists-key x (den m (rowsOf W) a)) (row-known r (3 + x) (omega arith) q e p)
+
+  pub exists-kept : {X Y : View} {o : Made} → Worked m N limit W X o (existsF x (den m (rowsOf W) a)) → Y ≡ keepRow X i (3 + x) o → Worked m N limit W Y o (existsF x (den m (rowsOf W) a))
+  exists-kept {X} {Y} {o} w e =
+      let k = exists-key x (den m (rowsOf W) a) in
+      subst (λ (f : Fn). Worked m N limit W Y o f) k (row-kept r (3 + x) q (subst (λ (f : Fn). Worked m N limit W X o f) (sym k) w) e)

@@ -1,0 +1,251 @@
+// The operations on arrows: a bit, NOT, AND, OR, SHIFT and EXISTS at one level. None of them frees a row.
+use layout::Table;
+use layout::get;
+use layout::is_row;
+use layout::row_of;
+use memory::Memory;
+use memory::Op;
+use memory::recall;
+use memory::recall_row;
+use memory::remember;
+use memory::remember_row;
+use table::Found;
+use table::Made;
+use table::make;
+
+ghost use mathlib.Core.Path.{_≡_};
+ghost use mathlib.Core.Bool.{true};
+ghost use Prim.Native.Nat.{_<_, _≤_, min, max};
+ghost use lib.ListN.{length};
+ghost use Rattle.diagram.specs.Rows.{Arrow, den};
+ghost use Rattle.diagram.specs.Even.{ReadsOn, even};
+ghost use Rattle.diagram.specs.Steps.{bitF, notF, shiftF, existsF, twoF, lowAt, highAt};
+ghost use Rattle.layout.specs.Places.{wordsFor};
+ghost use Rattle.layout.specs.View.{view};
+ghost use Rattle.layout.specs.Arrows.{isRow, rowOf};
+ghost use Rattle.soundness.specs.Used.{rowsOf};
+ghost use Rattle.soundness.specs.Checks.{Room};
+ghost use Rattle.memory.specs.Memo.{Slots, bitOp};
+ghost use Rattle.operations.specs.Work.{Ready, Worked};
+ghost use Rattle.operations.specs.Open.{RowIs};
+ghost use Rattle.operations.specs.Pairs.{absorb, shortOf, KnownPost, BothRows};
+
+// A row's level and arrows.
+pub struct Node {
+    pub level: u32,
+    pub low: u32,
+    pub high: u32,
+}
+
+// The level and arrows of row i.
+fn node_at(words: &[u32], rows: u32, i: u32) -> Node
+    requires { ⌜ (i < rows) × (wordsFor rows ≤ length (now words)) ⌝ }
+    ensures { λ r. ⌜ RowIs (rowsOf (view rows (now (words .entry)))) i (r .level) (r .low) (r .high) ⌝ }
+{
+    Node {
+        level: get(words, rows, i, Table::LEVEL),
+        low: get(words, rows, i, Table::LOW),
+        high: get(words, rows, i, Table::HIGH),
+    }
+}
+
+// The function of one level.
+pub fn bit(words: &mut [u32], rows: u32, levels: u32, limit: u32, level: u32) -> Made
+    requires { ⌜ Ready levels rows limit (view rows (now words)) × (level < levels) ⌝ }
+    ensures { λ r. ⌜ Worked levels rows limit (view rows (now (words .entry))) (view rows (now (words .exit))) r (bitF level) ⌝ }
+{
+    make(words, rows, limit, level, Table::NOTHING, Table::EVERYTHING)
+}
+
+// NOT of an arrow.
+pub fn not(words: &mut [u32], rows: u32, levels: u32, limit: u32, a: u32) -> Made
+    requires { ⌜ Ready levels rows limit (view rows (now words)) × Arrow (rowsOf (view rows (now words))) a ⌝ }
+    ensures { λ r. ⌜ Worked levels rows limit (view rows (now (words .entry))) (view rows (now (words .exit))) r (notF (den levels (rowsOf (view rows (now (words .entry)))) a)) ⌝ }
+{
+    if !is_row(a) {
+        return Made::At(Table::EVERYTHING - a);
+    }
+    let i = row_of(a);
+    let known = recall_row(words, rows, i, Memory::NOT);
+    if let Found::At(r) = known {
+        return Made::At(r);
+    }
+    let n = node_at(words, rows, i);
+    let Made::At(low) = not(words, rows, levels, limit, n.low) else {
+        return Made::Full;
+    };
+    let Made::At(high) = not(words, rows, levels, limit, n.high) else {
+        return Made::Full;
+    };
+    let made = make(words, rows, limit, n.level, low, high);
+    remember_row(words, rows, i, Memory::NOT, made);
+    made
+}
+
+// SHIFT of an arrow whose rows all have even levels: every level becomes the next one.
+pub fn shift(words: &mut [u32], rows: u32, levels: u32, limit: u32, a: u32) -> Made
+    requires { ⌜ Ready levels rows limit (view rows (now words)) × Arrow (rowsOf (view rows (now words))) a × ReadsOn even (den levels (rowsOf (view rows (now words))) a) ⌝ }
+    ensures { λ r. ⌜ Worked levels rows limit (view rows (now (words .entry))) (view rows (now (words .exit))) r (shiftF (den levels (rowsOf (view rows (now (words .entry)))) a)) ⌝ }
+{
+    if !is_row(a) {
+        return Made::At(a);
+    }
+    let i = row_of(a);
+    let known = recall_row(words, rows, i, Memory::SHIFT);
+    if let Found::At(r) = known {
+        return Made::At(r);
+    }
+    let n = node_at(words, rows, i);
+    let Made::At(low) = shift(words, rows, levels, limit, n.low) else {
+        return Made::Full;
+    };
+    let Made::At(high) = shift(words, rows, levels, limit, n.high) else {
+        return Made::Full;
+    };
+    let made = make(words, rows, limit, n.level + 1, low, high);
+    remember_row(words, rows, i, Memory::SHIFT, made);
+    made
+}
+
+// Two arrows, the lesser first.
+pub struct Sorted {
+    pub lo: u32,
+    pub hi: u32,
+}
+
+// Two arrows in order.
+fn sort(a: u32, b: u32) -> Sorted
+    ensures { λ r. ⌜ (r .lo ≡ min a b) × (r .hi ≡ max a b) ⌝ }
+{
+    if a <= b {
+        return Sorted { lo: a, hi: b };
+    }
+    Sorted { lo: b, hi: a }
+}
+
+// The constant that decides an operation.
+fn absorbing(op: Op) -> u32
+    ensures { λ r. ⌜ r ≡ absorb op ⌝ }
+{
+    match op {
+        Op::And => Table::NOTHING,
+        Op::Or => Table::EVERYTHING,
+    }
+}
+
+// An operation on a lesser and a greater arrow, where they are the same or the lesser is a constant.
+fn short(op: Op, lo: u32, hi: u32) -> Found
+    ensures { λ r. ⌜ r ≡ shortOf op lo hi ⌝ }
+{
+    if lo == hi {
+        return Found::At(lo);
+    }
+    if is_row(lo) {
+        return Found::Nothing;
+    }
+    if lo == absorbing(op) {
+        return Found::At(lo);
+    }
+    Found::At(hi)
+}
+
+// What is known of an operation on a lesser and a greater arrow: at once, or remembered.
+fn known(words: &[u32], rows: u32, op: Op, lo: u32, hi: u32) -> Found
+    requires { ⌜ Room (view rows (now words)) × Slots (view rows (now words)) ⌝ }
+    ensures { λ r. ⌜ KnownPost (view rows (now (words .entry))) op lo hi r ⌝ }
+{
+    let found = short(op, lo, hi);
+    if let Found::At(r) = found {
+        return Found::At(r);
+    }
+    recall(words, rows, op, lo, hi)
+}
+
+// The lesser level of two arrows to rows.
+fn top(words: &[u32], rows: u32, lo: u32, hi: u32) -> u32
+    requires { ⌜ BothRows lo hi × (rowOf lo < rows) × (rowOf hi < rows) × (wordsFor rows ≤ length (now words)) ⌝ }
+    ensures { λ r. ⌜ r ≡ min (rowsOf (view rows (now (words .entry))) .level (rowOf lo)) (rowsOf (view rows (now (words .entry))) .level (rowOf hi)) ⌝ }
+{
+    let k = get(words, rows, row_of(lo), Table::LEVEL);
+    let l = get(words, rows, row_of(hi), Table::LEVEL);
+    if k <= l {
+        return k;
+    }
+    l
+}
+
+// The arrows that are followed from an arrow where a level is 0 and where it is 1.
+pub struct Halves {
+    pub low: u32,
+    pub high: u32,
+}
+
+// The halves of an arrow to a row at a level.
+fn halve(words: &[u32], rows: u32, level: u32, a: u32) -> Halves
+    requires { ⌜ (isRow a ≡ true) × (rowOf a < rows) × (wordsFor rows ≤ length (now words)) ⌝ }
+    ensures { λ r. ⌜ (r .low ≡ lowAt (rowsOf (view rows (now (words .entry)))) level a) × (r .high ≡ highAt (rowsOf (view rows (now (words .entry)))) level a) ⌝ }
+{
+    let n = node_at(words, rows, row_of(a));
+    if n.level != level {
+        return Halves { low: a, high: a };
+    }
+    Halves { low: n.low, high: n.high }
+}
+
+// AND or OR of two arrows.
+pub fn apply(words: &mut [u32], rows: u32, levels: u32, limit: u32, op: Op, a: u32, b: u32) -> Made
+    requires { ⌜ Ready levels rows limit (view rows (now words)) × Arrow (rowsOf (view rows (now words))) a × Arrow (rowsOf (view rows (now words))) b ⌝ }
+    ensures { λ r. ⌜ Worked levels rows limit (view rows (now (words .entry))) (view rows (now (words .exit))) r (twoF (bitOp op) (den levels (rowsOf (view rows (now (words .entry)))) a) (den levels (rowsOf (view rows (now (words .entry)))) b)) ⌝ }
+{
+    let p = sort(a, b);
+    let found = known(words, rows, op, p.lo, p.hi);
+    if let Found::At(r) = found {
+        return Made::At(r);
+    }
+    let level = top(words, rows, p.lo, p.hi);
+    let x = halve(words, rows, level, p.lo);
+    let y = halve(words, rows, level, p.hi);
+    let Made::At(low) = apply(words, rows, levels, limit, op, x.low, y.low) else {
+        return Made::Full;
+    };
+    let Made::At(high) = apply(words, rows, levels, limit, op, x.high, y.high) else {
+        return Made::Full;
+    };
+    let made = make(words, rows, limit, level, low, high);
+    remember(words, rows, op, p.lo, p.hi, made);
+    made
+}
+
+// EXISTS at level x of an arrow.
+pub fn exists(words: &mut [u32], rows: u32, levels: u32, limit: u32, x: u32, a: u32) -> Made
+    requires { ⌜ Ready levels rows limit (view rows (now words)) × Arrow (rowsOf (view rows (now words))) a × (x < levels) ⌝ }
+    ensures { λ r. ⌜ Worked levels rows limit (view rows (now (words .entry))) (view rows (now (words .exit))) r (existsF x (den levels (rowsOf (view rows (now (words .entry)))) a)) ⌝ }
+{
+    if !is_row(a) {
+        return Made::At(a);
+    }
+    let i = row_of(a);
+    let n = node_at(words, rows, i);
+    if n.level > x {
+        return Made::At(a);
+    }
+    let key = Memory::EXISTS + x;
+    let found = recall_row(words, rows, i, key);
+    if let Found::At(r) = found {
+        return Made::At(r);
+    }
+    if n.level == x {
+        let made = apply(words, rows, levels, limit, Op::Or, n.low, n.high);
+        remember_row(words, rows, i, key, made);
+        return made;
+    }
+    let Made::At(low) = exists(words, rows, levels, limit, x, n.low) else {
+        return Made::Full;
+    };
+    let Made::At(high) = exists(words, rows, levels, limit, x, n.high) else {
+        return Made::Full;
+    };
+    let made = make(words, rows, limit, n.level, low, high);
+    remember_row(words, rows, i, key, made);
+    made
+}
