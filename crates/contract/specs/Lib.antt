@@ -1,3 +1,5 @@
 pub mod Seen
 pub mod Kept
 pub mod Posts
+pub mod Roots
+pub mod Checked

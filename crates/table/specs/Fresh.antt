@@ -48,19 +48,19 @@ header-all N old new xs h =
 
 -- a table with a fresh header is sound
 module _ (W : View) (n : ℕ) (z : Sizes n (W .rows) (W .size)) (e : (h : ℕ) → W .header h ≡ headerOf (headerWords n (W .rows)) h) where
-  zero-at : (h : ℕ) → h < HEADER → h ≢ BITS → h ≢ ROWS → W .header h ≡ 0
+  pub zero-at : (h : ℕ) → h < HEADER → h ≢ BITS → h ≢ ROWS → W .header h ≡ 0
   zero-at h l a b = e h ∙ header-is (headerWords n (W .rows)) h l ∙ header-zero n (W .rows) h l a b
 
-  bits-is : W .header BITS ≡ n
+  pub bits-is : W .header BITS ≡ n
   bits-is = e BITS ∙ header-is (headerWords n (W .rows)) BITS (omega arith) ∙ header-bits n (W .rows)
 
-  rows-is : W .header ROWS ≡ W .rows
+  pub rows-is : W .header ROWS ≡ W .rows
   rows-is = e ROWS ∙ header-is (headerWords n (W .rows)) ROWS (omega arith) ∙ header-rows n (W .rows)
 
   none : W .header USED ≡ 0
   none = zero-at USED (omega arith) (omega arith) (omega arith)
 
-  none-used : (i : ℕ) → used W i ≡ true → ⊥
+  pub none-used : (i : ℕ) → used W i ≡ true → ⊥
   none-used i u = let q = used-in (W .rows) (W .header USED) (λ x. W .cell x RANK) (W .list) i u .place in let r = none in omega arith
 
   pub fresh-sound : Sound W
@@ -78,8 +78,8 @@ module _ (W : View) (n : ℕ) (z : Sizes n (W .rows) (W .size)) (e : (h : ℕ) �
 
 -- the steps of `make_empty`: mid has its heads emptied
 pub emptied-by : (W : View) (n N : ℕ) {X Y : View} {xs : List ℕ} → X ≡ setHeads W (λ b. 0) → xs ≡ headerWords n N → Y ≡ setHeader X (headerOf xs) → Y ≡ emptied W n N
-emptied-by W n N eh ex e =
-    e ∙ ap (λ (v : View). setHeader v (headerOf _)) eh ∙ ap (λ (ys : List ℕ). setHeader (setHeads W (λ b. 0)) (headerOf ys)) ex
+emptied-by W n N {xs = xs} eh ex e =
+    e ∙ ap (λ (v : View). setHeader v (headerOf xs)) eh ∙ ap (λ (ys : List ℕ). setHeader (setHeads W (λ b. 0)) (headerOf ys)) ex
 
 -- so an empty table is sound, whatever the words were
 pub emptied-sound : (W : View) (n : ℕ) → Sizes n (W .rows) (W .size) → Sound (emptied W n (W .rows))
