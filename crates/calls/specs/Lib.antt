@@ -1,0 +1,4 @@
+pub mod Replies
+pub mod Fresh
+pub mod Changes
+pub mod Questions
