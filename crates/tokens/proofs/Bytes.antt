@@ -2,7 +2,7 @@
 use mathlib.Core.Path.{_≡_, refl, ap, subst, _∙_}
 use mathlib.Core.Bool.{Bool, true, false, _&&_, cond}
 use mathlib.Core.List.{List, [], _∷_}
-use Prim.Native.Nat.{ℕ, _+_, _-_, _<_, _≤_}
+use Prim.Native.Nat.{ℕ, _+_, _-_, _≤_}
 use native.Mathlib.Omega.{arith}
 use lib.Dec.{ltb, leb}
 use lib.ListN.{take, drop}
@@ -14,8 +14,7 @@ use Rattle.tokens.specs.declared.Mode.the-variants.{All, Some}
 use Rattle.tokens.specs.declared.Fix.the-variants.{Mu, Nu}
 use Rattle.tokens.specs.declared.Token.{Token}
 use Rattle.tokens.specs.declared.Token.the-variants.{Leaf as LeafToken, Not, Both, Modal, Binder}
-use Rattle.tokens.specs.declared.Lead.{Lead}
-use Rattle.tokens.specs.declared.Lead.the-variants.{Is, Bad}
+use Rattle.tokens.specs.declared.Lead.the-variants.{Is}
 use Rattle.tokens.proofs.Table.{both-true, endBelow, in-line}
 
 abbrev pub byteOf : Token → ℕ

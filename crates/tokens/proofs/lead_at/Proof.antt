@@ -1,12 +1,9 @@
+-- `lead_at`: Each way through the code is a case of `leadAt`. Assumes nothing.
 use mathlib.Core.Path.{sym, _∙_}
 use Rattle.tokens.proofs.Leads.{lead-is, lead-refused, lead-bad, lead-past}
 use borrow.Author.Needs.{needs}
 use Rattle.tokens.proofs.lead_at.Statement.{statement}
 use Rattle.tokens.proofs.lead_at.Tie as tie
-use Rattle.tokens.proofs.lead_at.Reads as reads
-use Rattle.tokens.proofs.lead_at.Lts as lts
-use Rattle.tokens.proofs.token_allowed.Reads as token-allowed-reads
-use Rattle.tokens.proofs.token_of.Reads as token-of-reads
 
 pub lead-at-spec : {M : Type 1} → statement M
 lead-at-spec =

@@ -1,12 +1,10 @@
-use mathlib.Core.Path.{_≡_, refl, sym, ap, _∙_}
+-- `leaf_allowed`: The definition computes at each leaf. Assumes nothing.
+use mathlib.Core.Path.{_≡_}
 use mathlib.Core.Bool.{false}
 use Rattle.tokens.specs.Tokens.{isStates}
 use borrow.Author.Needs.{needs}
 use Rattle.tokens.proofs.leaf_allowed.Statement.{statement}
 use Rattle.tokens.proofs.leaf_allowed.Tie as tie
-use Rattle.tokens.proofs.leaf_allowed.Reads as reads
-use Rattle.tokens.proofs.leaf_allowed.Lts as lts
-use Rattle.tokens.proofs.is_states.Reads as is-states-reads
 
 pub leaf-allowed-spec : {M : Type 1} → statement M
 leaf-allowed-spec =
