@@ -103,12 +103,11 @@ module _ (v : ℕ) (f : Form) where
   frame-framed : length (bytesOf f) ≤ 1023 → framed (frameOf v f) ≡ true
   unfolding framed
   frame-framed short =
-      rw (
-        frame-size,
-        le-leb 2 (1 + length (bytesOf f)) (omega (arith, bytes-some (tree f))),
-        le-leb (1 + length (bytesOf f)) 1024 (omega arith),
-        eq-eqb (length (frameOf v f)) (1 + length (bytesOf f) + 2) (omega arith),
-      )
+      rw
+      (frame-size,
+      le-leb 2 (1 + length (bytesOf f)) (omega (arith, bytes-some (tree f))),
+      le-leb (1 + length (bytesOf f)) 1024 (omega arith),
+      eq-eqb (length (frameOf v f)) (1 + length (bytesOf f) + 2) (omega arith))
 
 module _ (k : Kind) (n : ℕ) (bs : List ℕ) (f : Form) where
   frame-accepted : (v : ℕ) (g : Grammar) → grammarOf k v ≡ Reading-is g → depth f ≤ depthLimit → takes n g f ≡ true → length (bytesOf f) ≤ 1023 → formulaOf k n (frameOf v f) ≡ got f (length (frameOf v f))

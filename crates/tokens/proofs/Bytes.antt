@@ -85,46 +85,21 @@ alone : (b : ℕ) (t : Token) → byteOf t ≡ b → fits t ≡ true → (p : �
 alone b t e w p h = record { byte = e ∙ omega arith; within = w }
 
 table-right : RightLines table
-table-right = (
-  alone 0x00 (LeafToken False) refl refl,
-  (
-    alone 0x01 (LeafToken True) refl refl,
-    (
-      alone 0x02 Not refl refl,
-      (
-        alone 0x03 (Both And) refl refl,
-        (
-          alone 0x04 (Both Or) refl refl,
-          (
-            λ p h. record { byte = refl; within = lt-ltb p 16 (omega arith) },
-            (
-              λ p h. record { byte = refl; within = lt-ltb p 16 (omega arith) },
-              (
-                λ p h. record { byte = refl; within = lt-ltb p 16 (omega arith) },
-                (
-                  λ r h. record { byte = refl; within = lt-ltb r 32 (omega arith) },
-                  (
-                    λ t h. record { byte = refl; within = lt-ltb t 8 (omega arith) },
-                    (
-                      λ t h. record { byte = refl; within = lt-ltb t 8 (omega arith) },
-                      (
-                        λ p h. record { byte = refl; within = lt-ltb p 16 (omega arith) },
-                        (
-                          λ p h. record { byte = refl; within = lt-ltb p 16 (omega arith) },
-                          tt,
-                        ),
-                      ),
-                    ),
-                  ),
-                ),
-              ),
-            ),
-          ),
-        ),
-      ),
-    ),
-  ),
-)
+table-right =
+    (alone 0x00 (LeafToken False) refl refl,
+    (alone 0x01 (LeafToken True) refl refl,
+    (alone 0x02 Not refl refl,
+    (alone 0x03 (Both And) refl refl,
+    (alone 0x04 (Both Or) refl refl,
+    (λ p h. record { byte = refl; within = lt-ltb p 16 (omega arith) },
+    (λ p h. record { byte = refl; within = lt-ltb p 16 (omega arith) },
+    (λ p h. record { byte = refl; within = lt-ltb p 16 (omega arith) },
+    (λ r h. record { byte = refl; within = lt-ltb r 32 (omega arith) },
+    (λ t h. record { byte = refl; within = lt-ltb t 8 (omega arith) },
+    (λ t h. record { byte = refl; within = lt-ltb t 8 (omega arith) },
+    (λ p h. record { byte = refl; within = lt-ltb p 16 (omega arith) },
+    (λ p h. record { byte = refl; within = lt-ltb p 16 (omega arith) },
+    tt)))))))))))))
 
 lookup-right : (ls : List Line) → RightLines ls → (b : ℕ) {t : Token} → lookup ls b ≡ Is t → Right b t
 unfolding lookup

@@ -11,6 +11,7 @@ use Rattle.formula.proofs.grammar_in.Lts as lts
 use Rattle.formula.proofs.is_framed.Reads as is-framed-reads
 use Rattle.tokens.proofs.grammar_of.Reads as grammar-of-reads
 
+
 pub grammar-in-spec : {M : Type 1} → statement M
 grammar-in-spec =
     tie.close

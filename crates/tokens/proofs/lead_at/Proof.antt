@@ -9,6 +9,7 @@ use Rattle.tokens.proofs.lead_at.Lts as lts
 use Rattle.tokens.proofs.token_allowed.Reads as token-allowed-reads
 use Rattle.tokens.proofs.token_of.Reads as token-of-reads
 
+
 pub lead-at-spec : {M : Type 1} → statement M
 lead-at-spec =
     tie.close

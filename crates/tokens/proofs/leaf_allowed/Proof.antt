@@ -8,6 +8,7 @@ use Rattle.tokens.proofs.leaf_allowed.Reads as reads
 use Rattle.tokens.proofs.leaf_allowed.Lts as lts
 use Rattle.tokens.proofs.is_states.Reads as is-states-reads
 
+
 pub leaf-allowed-spec : {M : Type 1} → statement M
 leaf-allowed-spec =
     tie.close

@@ -8,5 +8,6 @@ use Rattle.tokens.proofs.modal_of.Reads as reads
 use Rattle.tokens.proofs.modal_of.Lts as lts
 use Rattle.tokens.proofs.wide.Reads as wide-reads
 
+
 pub modal-of-spec : {M : Type 1} → statement M
 modal-of-spec = tie.close (tie.spec (λ c κs. search needs) (λ c. search needs) (λ c. rw (c .before .wide .ensures) (sym (in-line _ 9 refl refl (omega arith) (omega arith)))) (λ c. rw (c .before .wide .ensures) (sym (in-line _ 10 refl refl (omega arith) (omega arith)))))

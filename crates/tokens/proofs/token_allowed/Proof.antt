@@ -6,6 +6,7 @@ use Rattle.tokens.proofs.token_allowed.Lts as lts
 use Rattle.tokens.proofs.is_states.Reads as is-states-reads
 use Rattle.tokens.proofs.leaf_allowed.Reads as leaf-allowed-reads
 
+
 pub token-allowed-spec : {M : Type 1} → statement M
 token-allowed-spec =
     tie.close

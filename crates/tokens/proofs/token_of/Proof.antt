@@ -9,6 +9,7 @@ use Rattle.tokens.proofs.token_of.Lts as lts
 use Rattle.tokens.proofs.modal_of.Reads as modal-of-reads
 use Rattle.tokens.proofs.wide.Reads as wide-reads
 
+
 pub token-of-spec : {M : Type 1} → statement M
 token-of-spec =
     tie.close
