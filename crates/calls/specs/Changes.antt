@@ -3,15 +3,15 @@ use mathlib.Core.Path.{_≡_, refl, ap, sym, _∙_, subst, fun-ext}
 use mathlib.Core.Bool.{Bool, true, false, cond, _||_, true≢false}
 use mathlib.Core.Logic.{_≢_}
 use mathlib.Core.List.{List}
-use mathlib.Core.Option.{Option, none}
+use mathlib.Core.Option.{none}
 use Prim.Native.Nat.{ℕ, _+_, _≤_, _<_}
 use native.Mathlib.Omega.{arith}
 use lib.Dec.{eqb}
-use lib.ListN.{length, set}
+use lib.ListN.{set}
 use borrow.Author.Tests.{ne-eqb, eq-eqb, eqb-true, eqb-false}
 use Rattle.mucalculus.specs.Form.{put}
 use Rattle.diagram.specs.Used.{usedCount}
-use Rattle.layout.specs.Places.{REGISTERS, HEADER, ROWS, TALLY, USED, CURSOR, SPARE, FIRST-REGISTER, FIRST-RELATION}
+use Rattle.layout.specs.Places.{REGISTERS, ROWS, TALLY, SPARE, FIRST-REGISTER, FIRST-RELATION}
 use Rattle.layout.specs.View.{View, view, headerOf, putHeader, view-header}
 use Rattle.layout.specs.Same.{view-same, same-beyond}
 use Rattle.soundness.specs.Used.{rowsOf}

@@ -1,19 +1,18 @@
 -- NODE, MEMBER, COUNT and TALLY: from what is read and found to the questions' contracts. Assumes nothing.
 use mathlib.Core.Path.{_≡_, refl, ap, sym, _∙_, subst}
 use mathlib.Core.Bool.{Bool, true}
-use mathlib.Core.Logic.{_≢_}
+use mathlib.Core.Logic.{_≢_, by-cases}
 use mathlib.Core.List.{List}
 use mathlib.Core.Option.{none, some}
 use Prim.Native.Nat.{ℕ, suc, _+_, _-_, _*_, _/_, _%_, _^_, _≤_, _<_}
 use native.Mathlib.Omega.{arith}
 use native.Mathlib.Nat.{div-add-mod', mod-lt, div-eq-of-lt}
 use native.Mathlib.Decide.{decLt}
-use mathlib.Core.Logic.{by-cases}
 use lib.Pow.{pow-pos}
 use Rattle.mucalculus.specs.Order.{weight}
 use Rattle.diagram.specs.Rows.{den}
 use Rattle.layout.specs.Places.{REGISTERS, BITS, ROWS, TALLY, FIRST-REGISTER}
-use Rattle.layout.specs.View.{View, view, headerOf}
+use Rattle.layout.specs.View.{view, headerOf}
 use Rattle.soundness.specs.Used.{rowsOf}
 use Rattle.soundness.specs.Roots.{ref-arrow}
 use Rattle.soundness.specs.Sound.{tableOf}

@@ -2,10 +2,9 @@
 -- kept. Assumes nothing.
 use mathlib.Core.Path.{_≡_, refl}
 use mathlib.Core.List.{List}
-use Prim.Native.Nat.{ℕ, suc, _<_, _≤_}
+use Prim.Native.Nat.{ℕ, suc}
 use native.Mathlib.Omega.{arith}
 use Rattle.book.specs.Book.{Call, relation, set, clear, collect, Question, refused, refuse, does, answer}
-use Rattle.book.specs.Table.{Table}
 use Rattle.book.specs.BookOf.{bookOf}
 use Rattle.book.specs.Leaves.{plain}
 use Rattle.book.specs.Calls.{refusal-serves}

@@ -1,7 +1,7 @@
 -- The roots in the header's words are the roots of the table as the book sees it. Assumes nothing.
 use mathlib.Core.Path.{_≡_, refl, sym, ap, _∙_}
 use mathlib.Core.Logic.{⊎-elim, by-cases}
-use mathlib.Core.List.{List, List·Memᴰ as Mem, List·Memᴰ·cases-cons as mem-cases, List·Memᴰ·not-nil as mem-nil, List·Memᴰ·append-cases as append-cases, Memᴰ·append-left as mem-left, Memᴰ·append-right as mem-right}
+use mathlib.Core.List.{List·Memᴰ as Mem, List·Memᴰ·cases-cons as mem-cases, List·Memᴰ·not-nil as mem-nil, List·Memᴰ·append-cases as append-cases, Memᴰ·append-left as mem-left, Memᴰ·append-right as mem-right}
 use mathlib.Core.Option.{Option, none, some}
 use Prim.Native.Nat.{ℕ, zero, suc, _+_, _-_, _<_}
 use native.Mathlib.Omega.{arith}
@@ -9,7 +9,7 @@ use native.Mathlib.Decide.{decLt}
 use Rattle.layout.specs.Places.{FIRST-REGISTER, FIRST-RELATION}
 use Rattle.layout.specs.View.{View}
 use Rattle.diagram.specs.Rows.{Rows}
-use Rattle.diagram.specs.Reach.{Reach, reached-root, reach-on, reach-from}
+use Rattle.diagram.specs.Reach.{reached-root, reach-on, reach-from}
 use Rattle.diagram.specs.Collect.{Collects}
 use Rattle.soundness.specs.Used.{rowsOf}
 use Rattle.soundness.specs.Filled.{filled, mem-filled, filled-mem}

@@ -12,7 +12,7 @@ use soundness::first;
 use soundness::same_row;
 use soundness::used_row;
 ghost use mathlib.Core.Path.{_≡_};
-ghost use Prim.Native.Nat.{_+_, _*_, _<_, _≤_};
+ghost use Prim.Native.Nat.{_+_, _<_, _≤_};
 ghost use lib.ListN.{length};
 ghost use Rattle.layout.specs.Places.{HEADER, USED, wordsFor};
 ghost use Rattle.layout.specs.View.{view, headerOf};

@@ -1,5 +1,4 @@
 -- `fresh` meets its contract: its one test decides the sizes, and the rest is `make_empty`. Assumes nothing.
-use native.Mathlib.Omega.{arith}
 use Rattle.soundness.specs.Says.{says-pass, says-fail}
 use mathlib.Core.Path.{refl}
 use Rattle.calls.specs.Fresh.{fresh-refused, fresh-ready}
