@@ -1,9 +1,9 @@
 -- The roots in the header's words are the roots of the table as the book sees it. Assumes nothing.
-use mathlib.Core.Path.{_≡_, refl, sym, ap, _∙_}
+use mathlib.Core.Path.{_≡_, ap, _∙_}
 use mathlib.Core.Logic.{⊎-elim, by-cases}
-use mathlib.Core.List.{List·Memᴰ as Mem, List·Memᴰ·cases-cons as mem-cases, List·Memᴰ·not-nil as mem-nil, List·Memᴰ·append-cases as append-cases, Memᴰ·append-left as mem-left, Memᴰ·append-right as mem-right}
-use mathlib.Core.Option.{Option, none, some}
-use Prim.Native.Nat.{ℕ, zero, suc, _+_, _-_, _<_}
+use mathlib.Core.List.{List·Memᴰ as Mem, List·Memᴰ·append-cases as append-cases, Memᴰ·append-left as mem-left, Memᴰ·append-right as mem-right}
+use mathlib.Core.Option.{some}
+use Prim.Native.Nat.{ℕ, suc, _+_, _-_}
 use native.Mathlib.Omega.{arith}
 use native.Mathlib.Decide.{decLt}
 use Rattle.layout.specs.Places.{FIRST-REGISTER, FIRST-RELATION}
@@ -14,26 +14,9 @@ use Rattle.diagram.specs.Collect.{Collects}
 use Rattle.soundness.specs.Used.{rowsOf}
 use Rattle.soundness.specs.Filled.{filled, mem-filled, filled-mem}
 use Rattle.book.specs.Book.{registers, relations}
-use Rattle.book.specs.Table.{addRoot, arrowsOf, rootsOf}
-use Rattle.book.specs.Roots.{arrowsOf-mem}
+use Rattle.book.specs.Table.{arrowsOf, rootsOf}
+use Rattle.book.specs.Roots.{arrowsOf-mem, of-arrowsOf}
 use Rattle.contract.specs.Seen.{arrowIn, seenIn, word-of}
-
--- a filled place below k that has arrow a
-record Place (k : ℕ) (h : ℕ → Option ℕ) (a : ℕ) : Type 0 where
-  pub at : ℕ
-  pub below : at < k
-  pub holds : h at ≡ some a
-
-place-later : {k a : ℕ} {h : ℕ → Option ℕ} → Place k (λ i. h (suc i)) a → Place (suc k) h a
-place-later p = let l = p .below in record { at = suc (p .at); below = omega arith; holds = p .holds }
-
-mem-place : (k : ℕ) (h : ℕ → Option ℕ) (a : ℕ) → Mem a (arrowsOf k h) → Place k h a
-mem-place zero h a m = absurd (mem-nil m)
-mem-place (suc k) h a m = first (h 0) refl (mem-place k (λ i. h (suc i)) a) m
-  where
-    first : (o : Option ℕ) → h 0 ≡ o → (Mem a (arrowsOf k (λ i. h (suc i))) → Place k (λ i. h (suc i)) a) → Mem a (addRoot o (arrowsOf k (λ i. h (suc i)))) → Place (suc k) h a
-    first none e rest m = place-later (rest m)
-    first (some b) e rest m = ⊎-elim (λ q. record { at = 0; below = omega arith; holds = e ∙ ap some (sym q) }) (λ r. place-later (rest r)) (mem-cases m)
 
 module _ (W : View) where
   -- the arrow in word start + k, as the book sees it
@@ -53,8 +36,8 @@ module _ (W : View) where
 
   pub root-filled : (a : ℕ) → Mem a (rootsOf (seenIn W)) → Mem a (filled W)
   root-filled a m = ⊎-elim
-      (λ r. let p = mem-place registers (seenIn W .reg) a r in let l = p .below in filled-mem W a (record { at = FIRST-REGISTER + p .at; from = omega arith; below = omega arith; holds = word-of (W .header (FIRST-REGISTER + p .at)) a (p .holds) }))
-      (λ r. let p = mem-place relations (seenIn W .rel) a r in let l = p .below in filled-mem W a (record { at = FIRST-RELATION + p .at; from = omega arith; below = omega arith; holds = word-of (W .header (FIRST-RELATION + p .at)) a (p .holds) }))
+      (λ r. let p = of-arrowsOf registers (seenIn W .reg) a r in let l = p .1 in filled-mem W a (record { at = FIRST-REGISTER + p .0; from = omega arith; below = omega arith; holds = word-of (W .header (FIRST-REGISTER + p .0)) a (p .2) }))
+      (λ r. let p = of-arrowsOf relations (seenIn W .rel) a r in let l = p .1 in filled-mem W a (record { at = FIRST-RELATION + p .0; from = omega arith; below = omega arith; holds = word-of (W .header (FIRST-RELATION + p .0)) a (p .2) }))
       (append-cases (arrowsOf registers (seenIn W .reg)) m)
 
   -- a collection from the one list is a collection from the other
