@@ -140,8 +140,14 @@ module _ {m : ℕ} (W : View) (s x y r : ℕ) (g : Remembers m W) (e : Entry m (
 
   new : Entry m (rowsOf W) (Y .slot (3 * s)) (Y .slot (3 * s + 1)) (Y .slot (3 * s + 2))
   new =
-      rw (ne-eqb (3 * s) (3 * s + 2) (omega arith), ne-eqb (3 * s) (3 * s + 1) (omega arith), eq-eqb (3 * s) (3 * s) refl, ne-eqb (3 * s + 1) (3 * s + 2) (omega arith),
-      eq-eqb (3 * s + 1) (3 * s + 1) refl, eq-eqb (3 * s + 2) (3 * s + 2) refl) e
+      rw (
+        ne-eqb (3 * s) (3 * s + 2) (omega arith),
+        ne-eqb (3 * s) (3 * s + 1) (omega arith),
+        eq-eqb (3 * s) (3 * s) refl,
+        ne-eqb (3 * s + 1) (3 * s + 2) (omega arith),
+        eq-eqb (3 * s + 1) (3 * s + 1) refl,
+        eq-eqb (3 * s + 2) (3 * s + 2) refl,
+      ) e
 
   old : (t p : ℕ) → t ≢ s → 3 * t ≤ p → p < 3 * t + 3 → W .slot p ≡ Y .slot p
   old t p n a b = rw (ne-eqb p (3 * s + 2) (omega arith), ne-eqb p (3 * s + 1) (omega arith), ne-eqb p (3 * s) (omega arith))

@@ -9,7 +9,6 @@ use layout::put_slot;
 use layout::slot;
 use table::Found;
 use table::Made;
-
 ghost use mathlib.Core.Path.{_≡_};
 ghost use Prim.Native.Nat.{ℕ, _*_, _<_, _≤_};
 ghost use lib.ListN.{length};

@@ -12,7 +12,6 @@ use memory::remember_row;
 use table::Found;
 use table::Made;
 use table::make;
-
 ghost use mathlib.Core.Path.{_≡_};
 ghost use mathlib.Core.Bool.{true};
 ghost use Prim.Native.Nat.{_<_, _≤_, min, max};
@@ -189,7 +188,10 @@ fn halve(words: &[u32], rows: u32, level: u32, a: u32) -> Halves
     if n.level != level {
         return Halves { low: a, high: a };
     }
-    Halves { low: n.low, high: n.high }
+    Halves {
+        low: n.low,
+        high: n.high,
+    }
 }
 
 // AND or OR of two arrows.

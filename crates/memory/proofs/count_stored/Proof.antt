@@ -4,7 +4,6 @@ use borrow.Author.Needs.{needs}
 use Rattle.memory.proofs.count_stored.Statement.{statement}
 use Rattle.memory.proofs.count_stored.Tie as tie
 
-
 pub count-stored-spec : {M : Type 1} → statement M
 count-stored-spec =
     tie.close

@@ -6,7 +6,6 @@ use borrow.Author.Needs.{needs}
 use Rattle.memory.proofs.double.Statement.{statement}
 use Rattle.memory.proofs.double.Tie as tie
 
-
 pub double-spec : {M : Type 1} → statement M
 double-spec =
     tie.close

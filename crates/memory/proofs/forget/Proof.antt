@@ -4,7 +4,6 @@ use borrow.Author.Needs.{needs}
 use Rattle.memory.proofs.forget.Statement.{statement}
 use Rattle.memory.proofs.forget.Tie as tie
 
-
 pub forget-spec : {M : Type 1} → statement M
 forget-spec =
     tie.close

@@ -3,7 +3,6 @@ use borrow.Author.Needs.{needs}
 use Rattle.memory.proofs.recall.Statement.{statement}
 use Rattle.memory.proofs.recall.Tie as tie
 
-
 pub recall-spec : {M : Type 1} → statement M
 recall-spec =
     tie.close

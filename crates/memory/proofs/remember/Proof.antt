@@ -4,7 +4,6 @@ use borrow.Author.Needs.{needs}
 use Rattle.memory.proofs.remember.Statement.{statement}
 use Rattle.memory.proofs.remember.Tie as tie
 
-
 pub remember-spec : {M : Type 1} → statement M
 remember-spec =
     tie.close

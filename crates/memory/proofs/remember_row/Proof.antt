@@ -4,7 +4,6 @@ use borrow.Author.Needs.{needs}
 use Rattle.memory.proofs.remember_row.Statement.{statement}
 use Rattle.memory.proofs.remember_row.Tie as tie
 
-
 pub remember-row-spec : {M : Type 1} → statement M
 remember-row-spec =
     tie.close

@@ -4,7 +4,6 @@ use borrow.Author.Needs.{needs}
 use Rattle.memory.proofs.write_entry.Statement.{statement}
 use Rattle.memory.proofs.write_entry.Tie as tie
 
-
 pub write-entry-spec : {M : Type 1} → statement M
 write-entry-spec =
     tie.close

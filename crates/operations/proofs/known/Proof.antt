@@ -5,7 +5,6 @@ use borrow.Author.Needs.{needs}
 use Rattle.operations.proofs.known.Statement.{statement}
 use Rattle.operations.proofs.known.Tie as tie
 
-
 pub known-spec : {M : Type 1} → statement M
 known-spec =
     tie.close

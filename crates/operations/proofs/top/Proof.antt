@@ -3,7 +3,6 @@ use borrow.Author.Needs.{needs}
 use Rattle.operations.proofs.top.Statement.{statement}
 use Rattle.operations.proofs.top.Tie as tie
 
-
 pub top-spec : {M : Type 1} → statement M
 top-spec =
     tie.close
