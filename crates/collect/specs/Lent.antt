@@ -1,7 +1,7 @@
 -- Marking from a lent list of roots, and from registers and relations with it. Assumes nothing.
 use mathlib.Core.Path.{_≡_, refl, sym, subst}
 use mathlib.Core.Logic.{_⊎_, inl, inr, ⊎-elim}
-use mathlib.Core.List.{List, [], _∷_, _++_, List·Memᴰ as Mem, List·Memᴰ·head as first, List·Memᴰ·tail as later, List·Memᴰ·not-nil as mem-nil, List·Memᴰ·eq-of-singleton as mem-only, List·Memᴰ·append-cases as append-cases, Memᴰ·append-left as append-left, Memᴰ·append-right as append-right}
+use mathlib.Core.List.{List, [], _∷_, _++_, append-assoc, List·Memᴰ as Mem, List·Memᴰ·head as first, List·Memᴰ·tail as later, List·Memᴰ·not-nil as mem-nil, List·Memᴰ·eq-of-singleton as mem-only, List·Memᴰ·append-cases as append-cases, Memᴰ·append-left as append-left, Memᴰ·append-right as append-right}
 use Prim.Native.Nat.{ℕ, zero, suc, _+_, _≤_, _<_}
 use native.Mathlib.Numerals.{add-one}
 use native.Mathlib.Omega.{arith}
@@ -56,6 +56,12 @@ live-marks {W} {xs = xs} p q = marks-more p q
     (λ a x. append-left xs (filled-mem W a x))
     (λ a h. append-right (filled W) h)
     (λ a h. ⊎-elim (λ x. inl (mem-filled W a x)) (λ y. inr y) (append-cases (filled W) h))
+
+-- and from a second list
+pub more-marks : (W : View) {m₀ m₁ m₂ : List ℕ} (xs ys : List ℕ) → MarksAll (rowsOf W) m₀ m₁ (λ a. Mem a (live W xs)) → MarksAll (rowsOf W) m₁ m₂ (λ a. Mem a ys)
+    → MarksAll (rowsOf W) m₀ m₂ (λ a. Mem a (live W (xs ++ ys)))
+more-marks W xs ys p q =
+    rw (← append-assoc (filled W) xs ys) (marks-more p q (λ a h. append-left ys h) (λ a h. append-right (live W xs) h) (λ a h. append-cases (live W xs) h))
 
 pub filled-marks : {W : View} {m m′ : List ℕ} → MarksAll (rowsOf W) m m′ (Held W FIRST-REGISTER ROOTS-END) → MarksAll (rowsOf W) m m′ (λ a. Mem a (filled W))
 filled-marks {W} p = marks-same p (filled-mem W) (mem-filled W)

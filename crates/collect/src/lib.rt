@@ -10,7 +10,7 @@ use soundness::mark;
 use soundness::mark_refs;
 use table::append;
 ghost use mathlib.Core.Path.{_≡_};
-ghost use mathlib.Core.List.{map, List·Memᴰ as Mem};
+ghost use mathlib.Core.List.{map, _++_, List·Memᴰ as Mem};
 ghost use Prim.Native.Nat.{ℕ, _*_, _<_, _≤_};
 ghost use lib.ListN.{length};
 ghost use Rattle.layout.specs.Places.{MAX-ROWS, BITS, USED, FIRST-REGISTER, ROOTS-END, wordsFor};
@@ -128,13 +128,14 @@ fn gather(words: &mut [u32], rows: u32, marks: &[u8])
     regather(words, rows, total, marks);
 }
 
-// Frees the rows that no register, no relation and none of the further roots needs.
-pub fn free_rows(words: &mut [u32], rows: u32, roots: &[u32])
-    requires { ⌜ FreePre (view rows (now words)) (now roots) ⌝ }
-    ensures { λ _. ⌜ Freed (view rows (now (words .entry))) (view rows (now (words .exit))) (live (view rows (now (words .entry))) (now (roots .entry))) ⌝ }
+// Frees the rows that no register, no relation and none of two lists of further roots needs.
+pub fn free_rows(words: &mut [u32], rows: u32, roots: &[u32], more: &[u32])
+    requires { ⌜ FreePre (view rows (now words)) (now roots ++ now more) ⌝ }
+    ensures { λ _. ⌜ Freed (view rows (now (words .entry))) (view rows (now (words .exit))) (live (view rows (now (words .entry))) (now (roots .entry) ++ now (more .entry))) ⌝ }
 {
     let mut marks = [0u8; Table::MAX_ROWS as usize];
     mark_roots(words, rows, &mut marks, roots);
+    mark_list(words, rows, &mut marks, more);
     gather(words, rows, &marks);
 }
 

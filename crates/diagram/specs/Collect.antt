@@ -2,14 +2,14 @@
 -- the roots need. Assumes nothing.
 use mathlib.Core.Path.{_≡_, sym}
 use mathlib.Core.Bool.{true}
-use mathlib.Core.List.{List, map}
+use mathlib.Core.List.{List, map, List·Memᴰ as Mem}
 use Prim.Native.Nat.{ℕ}
 use Rattle.diagram.specs.Rows.{Rows, row, den, WellFormed, Extends}
 use Rattle.diagram.specs.Grow.{freed-wellFormed}
 use Rattle.diagram.specs.Used.{usedRows, usedCount, mem-usedRows, usedRows-mem, nodup-usedRows}
 use Rattle.diagram.specs.Need.{need}
 use Rattle.diagram.specs.Reach.{Reach, reached-low, reached-high, reach-used, reach-count}
-use Rattle.diagram.specs.Keep.{Keeps, keeps-reached, keeps-arrow, keeps-reach}
+use Rattle.diagram.specs.Keep.{Keeps, reach-within, keeps-reached, keeps-arrow, keeps-reach}
 use Rattle.diagram.specs.Fits.{Part, collected-parts}
 
 -- "collect: frees unneeded rows": the new table has just the rows of the old one that the roots reach, unchanged.
@@ -26,6 +26,11 @@ collects-keeps c = record {
   low = λ i r. sym (c .kept .low i (c .all i r));
   high = λ i r. sym (c .kept .high i (c .all i r));
 }
+
+-- Which roots are arrows to rows is all that counts.
+pub collects-same : {old new : Rows} {xs ys : List ℕ} → ((i : ℕ) → Mem (row i) xs → Mem (row i) ys) → ((i : ℕ) → Mem (row i) ys → Mem (row i) xs)
+    → Collects old new xs → Collects old new ys
+collects-same f g c = record { kept = c .kept; only = λ i u. reach-within f (c .only i u); all = λ i r. c .all i (reach-within g r) }
 
 module _ {m N : ℕ} {old new : Rows} {roots : List ℕ} (wf : WellFormed m N old) (c : Collects old new roots) where
   pub collects-wellFormed : WellFormed m N new

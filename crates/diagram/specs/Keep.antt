@@ -6,7 +6,7 @@ use mathlib.Core.List.{List, [], _∷_, map}
 use mathlib.Core.List.{List·Memᴰ as Mem, List·Memᴰ·head as here, List·Memᴰ·tail as there}
 use Prim.Native.Nat.{ℕ, zero, suc}
 use Rattle.diagram.specs.Level.{Val, Fn}
-use Rattle.diagram.specs.Rows.{Rows, Arrow, den, WellFormed, Extends}
+use Rattle.diagram.specs.Rows.{Rows, row, Arrow, den, WellFormed, Extends}
 use Rattle.diagram.specs.Count.{Within}
 use Rattle.diagram.specs.Grow.{extends-refl}
 use Rattle.diagram.specs.Post.{Denotes}
@@ -79,18 +79,18 @@ keeps-trans p q = record {
   high = λ i r. q .high i (keeps-reach p r) ∙ p .high i r;
 }
 
--- Fewer roots reach less.
-reach-within : {rows : Rows} {few roots : List ℕ} → Within few roots → {i : ℕ} → Reach rows few i → Reach rows roots i
-reach-within w (root h) = root (w _ h)
+-- Fewer roots reach less; only roots that are arrows to rows count.
+pub reach-within : {rows : Rows} {few roots : List ℕ} → ((j : ℕ) → Mem (row j) few → Mem (row j) roots) → {i : ℕ} → Reach rows few i → Reach rows roots i
+reach-within w (root {i = i} h) = root (w i h)
 reach-within w (by-low r e) = by-low (reach-within w r) e
 reach-within w (by-high r e) = by-high (reach-within w r) e
 
 pub keeps-within : {before after : Rows} {few roots : List ℕ} → Within few roots → Keeps before after roots → Keeps before after few
 keeps-within w k = record {
-  used = λ i r. k .used i (reach-within w r);
-  level = λ i r. k .level i (reach-within w r);
-  low = λ i r. k .low i (reach-within w r);
-  high = λ i r. k .high i (reach-within w r);
+  used = λ i r. k .used i (reach-within (λ j. w (row j)) r);
+  level = λ i r. k .level i (reach-within (λ j. w (row j)) r);
+  low = λ i r. k .low i (reach-within (λ j. w (row j)) r);
+  high = λ i r. k .high i (reach-within (λ j. w (row j)) r);
 }
 
 -- What is kept, and then kept with one root more.

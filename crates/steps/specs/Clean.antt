@@ -1,0 +1,111 @@
+-- Collecting at a step: just the rows that what is live and one more arrow need are left, and nothing is remembered. Assumes nothing.
+use mathlib.Core.Path.{_≡_, refl, sym, ap, _∙_, subst}
+use mathlib.Core.Logic.{_⊎_, inl, inr, ⊎-elim}
+use mathlib.Core.List.{List, [], _∷_, _++_, List·Memᴰ as Mem, List·Memᴰ·head as here, List·Memᴰ·tail as there, List·Memᴰ·cases-cons as mem-cases, List·Memᴰ·not-nil as mem-nil, List·Memᴰ·append-cases as append-cases, Memᴰ·append-left as append-left, Memᴰ·append-right as append-right}
+use Prim.Native.Nat.{ℕ, zero, suc}
+use native.Mathlib.Omega.{arith}
+use Rattle.diagram.specs.Rows.{Rows, row, Arrow}
+use Rattle.diagram.specs.Collect.{Collects, collects-same}
+use Rattle.layout.specs.View.{View}
+use Rattle.soundness.specs.Used.{rowsOf}
+use Rattle.soundness.specs.Sound.{Sound}
+use Rattle.soundness.specs.Filled.{filled}
+use Rattle.soundness.specs.Alike.{alike-sound}
+use Rattle.collect.specs.Lent.{live}
+use Rattle.collect.specs.Freed.{Freed}
+use Rattle.collect.specs.Answers.{FreePre}
+use Rattle.memory.specs.Frame.{MemoFrame, rows-same, memo-alike}
+use Rattle.memory.specs.Memo.{Remembers}
+use Rattle.memory.specs.Forget.{Forgot, forgot-remembers}
+use Rattle.operations.specs.Work.{OpFrame, op-trans, op-made, op-memo}
+use Rattle.steps.specs.Steps.{operandsOf, firstOperand, secondOperand, liveAt}
+use Rattle.steps.specs.declared.Step.{Step}
+use Rattle.steps.specs.declared.Step.the-variants as step
+
+-- what it asks: all of these are arrows
+pub record CleanPre (W : View) (roots : List ℕ) (s : Step) (kept : ℕ) : Type 0 where
+  pub sound : Sound W
+  pub arrows : (a : ℕ) → Mem a roots → Arrow (rowsOf W) a
+  pub operands : (a : ℕ) → Mem a (operandsOf s) → Arrow (rowsOf W) a
+  pub kept-arrow : Arrow (rowsOf W) kept
+
+-- what it leaves
+pub record Cleaned (W X : View) (roots : List ℕ) (s : Step) (kept : ℕ) : Type 0 where
+  pub sound : Sound X
+  pub memory : (m : ℕ) → Remembers m X
+  pub frame : OpFrame W X
+  pub collects : Collects (rowsOf W) (rowsOf X) (kept ∷ liveAt W roots s)
+
+-- the operands as the code lends them, and one more arrow
+abbrev pub lent : Step → ℕ → List ℕ
+lent s kept = firstOperand s ∷ secondOperand s ∷ kept ∷ []
+
+-- arrows to rows among them are operands, or that arrow
+padded : {b c kept a : ℕ} (xs : List ℕ) → (a ≡ b → Mem a xs) → (a ≡ c → Mem a xs) → Mem a (b ∷ c ∷ kept ∷ []) → Mem a xs ⊎ (a ≡ kept)
+padded xs f g h =
+    ⊎-elim (λ e. inl (f e)) (λ t. ⊎-elim (λ e. inl (g e)) (λ u. ⊎-elim (λ e. inr e) (λ n. absurd (mem-nil n)) (mem-cases u)) (mem-cases t)) (mem-cases h)
+
+no-row : {A : Type 0} (i : ℕ) → row i ≡ 0 → A
+no-row i e = absurd (omega arith)
+
+lent-mem : (s : Step) (kept i : ℕ) → Mem (row i) (lent s kept) → Mem (row i) (operandsOf s) ⊎ (row i ≡ kept)
+lent-mem (step.Bit l) kept i = padded [] (no-row i) (no-row i)
+lent-mem (step.Not a) kept i = padded (a ∷ []) here (no-row i)
+lent-mem (step.And a b) kept i = padded (a ∷ b ∷ []) here (λ e. there (here e))
+lent-mem (step.Or a b) kept i = padded (a ∷ b ∷ []) here (λ e. there (here e))
+lent-mem (step.Shift a) kept i = padded (a ∷ []) here (no-row i)
+lent-mem (step.Exists x a) kept i = padded (a ∷ []) here (no-row i)
+
+-- the operands are among them
+one-lent : {a b c kept : ℕ} → Mem a (b ∷ []) → Mem a (b ∷ c ∷ kept ∷ [])
+one-lent h = ⊎-elim (λ e. here e) (λ n. absurd (mem-nil n)) (mem-cases h)
+
+two-lent : {a b c kept : ℕ} → Mem a (b ∷ c ∷ []) → Mem a (b ∷ c ∷ kept ∷ [])
+two-lent h = ⊎-elim (λ e. here e) (λ t. ⊎-elim (λ e. there (here e)) (λ n. absurd (mem-nil n)) (mem-cases t)) (mem-cases h)
+
+mem-lent : (s : Step) (kept a : ℕ) → Mem a (operandsOf s) → Mem a (lent s kept)
+mem-lent (step.Bit l) kept a h = absurd (mem-nil h)
+mem-lent (step.Not b) kept a h = one-lent h
+mem-lent (step.And b c) kept a h = two-lent h
+mem-lent (step.Or b c) kept a h = two-lent h
+mem-lent (step.Shift b) kept a h = one-lent h
+mem-lent (step.Exists x b) kept a h = one-lent h
+
+kept-lent : (s : Step) (kept : ℕ) → Mem kept (lent s kept)
+kept-lent s kept = there (there (here refl))
+
+-- what freeing asks
+module _ {W : View} {roots : List ℕ} {s : Step} {kept a b : ℕ} (ea : a ≡ firstOperand s) (eb : b ≡ secondOperand s) (p : CleanPre W roots s kept) where
+  lent-arrow : (c : ℕ) → Mem c (lent s kept) → Arrow (rowsOf W) c
+  lent-arrow zero h = tt
+  lent-arrow (suc zero) h = tt
+  lent-arrow (suc (suc i)) h = ⊎-elim (p .operands (row i)) (λ e. subst (Arrow (rowsOf W)) (sym e) (p .kept-arrow)) (lent-mem s kept i h)
+
+  pub free-pre : FreePre W (roots ++ (a ∷ b ∷ kept ∷ []))
+  free-pre = rw (ea, eb) (record { sound = p .sound; arrows = λ c h. ⊎-elim (p .arrows c) (lent-arrow c) (append-cases roots h) })
+
+  -- the rows that are left
+  to-live : (i : ℕ) → Mem (row i) (live W (roots ++ lent s kept)) → Mem (row i) (kept ∷ liveAt W roots s)
+  to-live i h =
+      ⊎-elim (λ f. there (append-left (roots ++ operandsOf s) f))
+      (λ t. ⊎-elim (λ r. there (append-right (filled W) (append-left (operandsOf s) r)))
+      (λ u. ⊎-elim (λ o. there (append-right (filled W) (append-right roots o))) (λ e. here e) (lent-mem s kept i u)) (append-cases roots t))
+      (append-cases (filled W) h)
+
+  to-lent : (i : ℕ) → Mem (row i) (kept ∷ liveAt W roots s) → Mem (row i) (live W (roots ++ lent s kept))
+  to-lent i h =
+      ⊎-elim (λ e. append-right (filled W) (append-right roots (subst (λ (c : ℕ). Mem c (lent s kept)) (sym e) (kept-lent s kept))))
+      (λ t. ⊎-elim (λ f. append-left (roots ++ lent s kept) f)
+      (λ u. append-right (filled W) (⊎-elim (λ r. append-left (lent s kept) r) (λ o. append-right roots (mem-lent s kept (row i) o)) (append-cases roots u)))
+      (append-cases (filled W) t))
+      (mem-cases h)
+
+  pub cleaned-by : {W₁ X : View} → Freed W W₁ (live W (roots ++ (a ∷ b ∷ kept ∷ []))) → Forgot W₁ X → Cleaned W X roots s kept
+  cleaned-by {W₁} {X} f g =
+      let f′ : Freed W W₁ (live W (roots ++ lent s kept)) = rw (ea, eb) at f in
+      record {
+        sound = alike-sound (memo-alike (g .frame)) (f .sound);
+        memory = λ m. forgot-remembers m g;
+        frame = op-trans (op-made (f .frame)) (op-memo (g .frame));
+        collects = subst (λ (t : Rows). Collects (rowsOf W) t (kept ∷ liveAt W roots s)) (sym (rows-same (g .frame))) (collects-same to-live to-lent (f′ .collects));
+      }

@@ -1,0 +1,4 @@
+pub mod Steps
+pub mod Clean
+pub mod Settle
+pub mod Again

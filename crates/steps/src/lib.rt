@@ -1,0 +1,117 @@
+// The steps of an evaluation: a step is tried; where the rows run out, the table is collected and the step tried once more.
+use collect::free_rows;
+use layout::Table;
+use layout::header_word;
+use memory::Op;
+use memory::forget;
+use operations::apply;
+use operations::bit;
+use operations::exists;
+use operations::not;
+use operations::shift;
+use table::Made;
+
+ghost use mathlib.Core.Path.{_≡_};
+ghost use Rattle.layout.specs.View.{view};
+ghost use Rattle.soundness.specs.Used.{rowsOf};
+ghost use Rattle.operations.specs.Work.{Ready, Worked};
+ghost use Rattle.steps.specs.Steps.{stepF, firstOperand, secondOperand, Fits, StepPre, Stepped};
+ghost use Rattle.steps.specs.Clean.{CleanPre, Cleaned};
+ghost use Rattle.steps.specs.Settle.{SettlePre, SettlePost};
+ghost use Rattle.steps.specs.Again.{Retried};
+
+// A step and its operands: bits and EXISTS have a level first.
+pub enum Step {
+    Bit(u32),
+    Not(u32),
+    And(u32, u32),
+    Or(u32, u32),
+    Shift(u32),
+    Exists(u32, u32),
+}
+
+// Two operands.
+pub struct Operands {
+    pub first: u32,
+    pub second: u32,
+}
+
+// A step's operands, and nothing for those that it does not have.
+fn operands_of(step: Step) -> Operands
+    ensures { λ r. ⌜ (r .first ≡ firstOperand step) × (r .second ≡ secondOperand step) ⌝ }
+{
+    match step {
+        Step::Bit(_) => Operands { first: Table::NOTHING, second: Table::NOTHING },
+        Step::Not(a) => Operands { first: a, second: Table::NOTHING },
+        Step::And(a, b) => Operands { first: a, second: b },
+        Step::Or(a, b) => Operands { first: a, second: b },
+        Step::Shift(a) => Operands { first: a, second: Table::NOTHING },
+        Step::Exists(_, a) => Operands { first: a, second: Table::NOTHING },
+    }
+}
+
+// Tries a step.
+fn try_step(words: &mut [u32], rows: u32, levels: u32, limit: u32, step: Step) -> Made
+    requires { ⌜ Ready levels rows limit (view rows (now words)) × Fits levels (rowsOf (view rows (now words))) step ⌝ }
+    ensures { λ r. ⌜ Worked levels rows limit (view rows (now (words .entry))) (view rows (now (words .exit))) r (stepF levels (rowsOf (view rows (now (words .entry)))) step) ⌝ }
+{
+    match step {
+        Step::Bit(l) => bit(words, rows, levels, limit, l),
+        Step::Not(a) => not(words, rows, levels, limit, a),
+        Step::And(a, b) => apply(words, rows, levels, limit, Op::And, a, b),
+        Step::Or(a, b) => apply(words, rows, levels, limit, Op::Or, a, b),
+        Step::Shift(a) => shift(words, rows, levels, limit, a),
+        Step::Exists(x, a) => exists(words, rows, levels, limit, x, a),
+    }
+}
+
+// Frees the rows that no register, no relation, no lent root, no operand and not one more arrow needs, and forgets what is remembered.
+fn clean(words: &mut [u32], rows: u32, roots: &[u32], step: Step, kept: u32)
+    requires { ⌜ CleanPre (view rows (now words)) (now roots) step kept ⌝ }
+    ensures { λ _. ⌜ Cleaned (view rows (now (words .entry))) (view rows (now (words .exit))) (now (roots .entry)) step kept ⌝ }
+{
+    let p = operands_of(step);
+    let more = [p.first, p.second, kept];
+    free_rows(words, rows, roots, &more);
+    forget(words, rows);
+}
+
+// The answer of a step from that of its last try: where more than `limit` rows are used, those that are reached decide.
+fn settle(words: &mut [u32], rows: u32, limit: u32, roots: &[u32], step: Step, made: Made) -> Made
+    requires { ⌜ SettlePre (view rows (now words)) (now roots) step made ⌝ }
+    ensures { λ r. ⌜ SettlePost limit (view rows (now (words .entry))) (view rows (now (words .exit))) (now (roots .entry)) step made r ⌝ }
+{
+    let Made::At(a) = made else {
+        return Made::Full;
+    };
+    if header_word(words, Table::USED) <= limit {
+        return Made::At(a);
+    }
+    clean(words, rows, roots, step, a);
+    if header_word(words, Table::USED) <= limit {
+        return Made::At(a);
+    }
+    Made::Full
+}
+
+// Collects, and tries a step again.
+fn retry(words: &mut [u32], rows: u32, levels: u32, limit: u32, roots: &[u32], step: Step) -> Made
+    requires { ⌜ StepPre levels rows limit (view rows (now words)) (now roots) step ⌝ }
+    ensures { λ r. ⌜ Retried levels rows limit (view rows (now (words .entry))) (view rows (now (words .exit))) (now (roots .entry)) step r ⌝ }
+{
+    clean(words, rows, roots, step, Table::NOTHING);
+    let made = try_step(words, rows, levels, limit, step);
+    settle(words, rows, limit, roots, step, made)
+}
+
+// Takes a step: refused exactly where its result and all that is live need more than `limit` rows.
+pub fn take_step(words: &mut [u32], rows: u32, levels: u32, limit: u32, roots: &[u32], step: Step) -> Made
+    requires { ⌜ StepPre levels rows limit (view rows (now words)) (now roots) step ⌝ }
+    ensures { λ r. ⌜ Stepped levels rows limit (view rows (now (words .entry))) (view rows (now (words .exit))) (now (roots .entry)) step r ⌝ }
+{
+    let made = try_step(words, rows, levels, limit, step);
+    match made {
+        Made::At(a) => settle(words, rows, limit, roots, step, Made::At(a)),
+        Made::Full => retry(words, rows, levels, limit, roots, step),
+    }
+}
