@@ -12,7 +12,7 @@ use table::Made;
 ghost use mathlib.Core.Path.{_≡_};
 ghost use Prim.Native.Nat.{ℕ, _*_, _<_, _≤_};
 ghost use lib.ListN.{length};
-ghost use Rattle.layout.specs.Places.{CELLS, SLOTS, wordsFor};
+ghost use Rattle.layout.specs.Places.{SLOTS, wordsFor};
 ghost use Rattle.layout.specs.View.{view, headerOf, listOf};
 ghost use Rattle.soundness.specs.Checks.{Room};
 ghost use Rattle.soundness.specs.Sound.{Good};

@@ -1,7 +1,7 @@
 -- An arrow to a row, taken apart: its row, level and arrows, and the levels that are left from an arrow on. Assumes nothing.
-use mathlib.Core.Path.{_≡_, refl, sym, ap, _∙_, subst}
+use mathlib.Core.Path.{_≡_, refl, sym, ap, _∙_}
 use mathlib.Core.Bool.{Bool, true, false, not}
-use Prim.Native.Nat.{ℕ, zero, suc, _-_, _≤_, _<_}
+use Prim.Native.Nat.{ℕ, _-_, _<_}
 use native.Mathlib.Omega.{arith}
 use Rattle.diagram.specs.Rows.{Rows, row, Arrow, levelOf, WellFormed, Extends}
 use Rattle.diagram.specs.Grow.{arrow-extends, level-extends}

@@ -1,14 +1,14 @@
 -- AND and OR: what is known at once, what two calls make, and what is remembered of a pair. Assumes nothing.
 use mathlib.Core.Path.{_≡_, refl, sym, ap, ap₂, _∙_, subst}
-use mathlib.Core.Bool.{Bool, true, false, cond, _&&_, _||_, true≢false}
+use mathlib.Core.Bool.{Bool, true, false, cond, true≢false}
 use mathlib.Core.Logic.{_≢_, by-cases}
 use Prim.Native.Nat.{ℕ, zero, suc, _-_, _≤_, _<_, min, max}
 use native.Mathlib.Decide.{decLe}
 use native.Mathlib.Omega.{arith}
 use lib.Dec.{eqb}
 use borrow.Author.Tests.{eqb-true, eqb-false, eq-eqb, ne-eqb}
-use Rattle.diagram.specs.Level.{Val, Fn}
-use Rattle.diagram.specs.Rows.{Rows, row, Arrow, levelOf, den, WellFormed, Extends}
+use Rattle.diagram.specs.Level.{Val}
+use Rattle.diagram.specs.Rows.{Rows, Arrow, levelOf, den, WellFormed, Extends}
 use Rattle.diagram.specs.Den.{den-zero, den-one}
 use Rattle.diagram.specs.Grow.{arrow-extends, den-extends, level-extends}
 use Rattle.diagram.specs.Post.{Denotes}
@@ -17,14 +17,13 @@ use Rattle.diagram.specs.Recur.{Divides, two-divides}
 use Rattle.layout.specs.View.{View}
 use Rattle.layout.specs.Arrows.{isRow, rowOf, row-is, row-yes, no-row}
 use Rattle.soundness.specs.Used.{rowsOf, of-arrow}
-use Rattle.soundness.specs.Sound.{Good}
 use Rattle.table.specs.declared.Made.{Made}
 use Rattle.table.specs.declared.Made.the-variants as answer
 use Rattle.table.specs.declared.Found.{Found}
 use Rattle.table.specs.declared.Found.the-variants as find
 use Rattle.memory.specs.declared.Op.{Op}
 use Rattle.memory.specs.declared.Op.the-variants as op
-use Rattle.memory.specs.Memo.{bitOp, firstOf, secondOf, Held, RecallPost, Entry, held-entry, entry-op, op-entry}
+use Rattle.memory.specs.Memo.{bitOp, firstOf, secondOf, Held, RecallPost, held-entry, entry-op, op-entry}
 use Rattle.memory.specs.Store.{RememberPost, remember-frame, RightPair, remembers-pair}
 use Rattle.operations.specs.Work.{Ready, Worked, ready-wf, worked-there, worked-kept, worked-cong}
 use Rattle.operations.specs.Open.{RowIs}

@@ -1,20 +1,19 @@
 -- NOT, SHIFT and EXISTS, by rows: what is known at once, what two calls make, and what a row remembers. Assumes nothing.
 use mathlib.Core.Path.{_≡_, refl, sym, ap, _∙_, subst, fun-ext}
-use mathlib.Core.Bool.{Bool, true, false, not, _||_, or-self}
+use mathlib.Core.Bool.{true, false, not}
 use mathlib.Core.Logic.{_≢_}
-use Prim.Native.Nat.{ℕ, zero, suc, _+_, _-_, _*_, _%_, _≤_, _<_}
+use Prim.Native.Nat.{ℕ, zero, suc, _+_, _-_, _%_, _<_}
 use native.Mathlib.Omega.{arith}
 use native.Mathlib.Numerals.{add-one}
 use borrow.Author.Tests.{eq-eqb}
-use Rattle.diagram.specs.Level.{Val, Fn, splits-low, splits-high, upd}
-use Rattle.diagram.specs.Rows.{Rows, row, Arrow, levelOf, den, WellFormed, Extends}
+use Rattle.diagram.specs.Level.{Fn, splits-low, splits-high}
+use Rattle.diagram.specs.Rows.{Rows, row, Arrow, levelOf, den, Extends}
 use Rattle.diagram.specs.Den.{den-zero, den-one}
-use Rattle.diagram.specs.Grow.{arrow-extends, den-extends}
+use Rattle.diagram.specs.Grow.{den-extends}
 use Rattle.diagram.specs.Even.{ReadsOn, even, cofactor-readsOn}
-use Rattle.diagram.specs.Post.{Denotes, OpPost}
-use Rattle.diagram.specs.Steps.{notF, shiftF, existsF, orF, exists-past, Parts}
+use Rattle.diagram.specs.Post.{Denotes}
+use Rattle.diagram.specs.Steps.{notF, shiftF, existsF, orF}
 use Rattle.diagram.specs.Recur.{Divides, not-divides, exists-divides, shift-divides, exists-or, exists-leaf}
-use Rattle.layout.specs.Places.{BITS, MEMO-KEY, MEMO-VALUE}
 use Rattle.layout.specs.View.{View}
 use Rattle.layout.specs.Arrows.{isRow, no-row}
 use Rattle.soundness.specs.Used.{used, rowsOf}
@@ -22,9 +21,9 @@ use Rattle.table.specs.declared.Made.{Made}
 use Rattle.table.specs.declared.Made.the-variants as answer
 use Rattle.table.specs.declared.Found.{Found}
 use Rattle.table.specs.declared.Found.the-variants as find
-use Rattle.memory.specs.Memo.{Remembers, unaryF, RowPost, row-right, unary-extends}
+use Rattle.memory.specs.Memo.{unaryF, RowPost, row-right}
 use Rattle.memory.specs.Store.{keepRow, keepRow-frame, RightRow, remembers-row}
-use Rattle.operations.specs.Work.{Ready, Worked, ready-wf, ready-next, worked-there, worked-kept, worked-cong}
+use Rattle.operations.specs.Work.{Ready, Worked, ready-wf, worked-there, worked-kept}
 use Rattle.operations.specs.Open.{RowAt, Opened}
 
 -- m is even

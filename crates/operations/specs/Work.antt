@@ -4,10 +4,9 @@ use Prim.Native.Nat.{ℕ, suc, _*_, _≤_, _<_}
 use mathlib.Core.Logic.{_≢_}
 use native.Mathlib.Omega.{arith}
 use Rattle.diagram.specs.Level.{Val, Fn, Reads}
-use Rattle.diagram.specs.Rows.{Rows, row, Arrow, levelOf, den, WellFormed, Extends}
-use Rattle.diagram.specs.Grow.{arrow-extends, den-extends}
+use Rattle.diagram.specs.Rows.{Rows, levelOf, WellFormed}
 use Rattle.diagram.specs.Canon.{reads-level}
-use Rattle.diagram.specs.Post.{Result, at, full, Denotes, OpPost, Making, Run, low-full, high-full, made, denotes-extends, post-arrow, post-cong}
+use Rattle.diagram.specs.Post.{at, Denotes, OpPost, Making, low-full, high-full, made, denotes-extends, post-arrow, post-cong}
 use Rattle.diagram.specs.Steps.{bitF}
 use Rattle.diagram.specs.Recur.{Divides, divided, bit-made}
 use Rattle.layout.specs.Places.{BITS, USED, CURSOR, SLOTS, STORED, MEMO-VALUE}
@@ -23,7 +22,7 @@ use Rattle.table.specs.Keep.{made-extends}
 use Rattle.table.specs.declared.Made.{Made}
 use Rattle.table.specs.declared.Made.the-variants as answer
 use Rattle.memory.specs.Frame.{MemoFrame, rows-same, memo-alike}
-use Rattle.memory.specs.Memo.{Remembers, unaryF, remembers-extends}
+use Rattle.memory.specs.Memo.{Remembers, remembers-extends}
 
 -- what no operation changes: the header but for count, cursor and the numbers of slots, the spare word of rows, and the words beyond the table
 pub record OpFrame (W X : View) : Type 0 where

@@ -1,16 +1,16 @@
 -- A step by one try, or by a second one after collecting. Assumes nothing.
-use mathlib.Core.Path.{_≡_, refl, sym, ap, _∙_, subst}
-use mathlib.Core.List.{List, _∷_, List·Memᴰ as Mem, List·Memᴰ·tail as there, List·Memᴰ·cases-cons as mem-cases}
+use mathlib.Core.Path.{_≡_, sym, ap, _∙_, subst}
+use mathlib.Core.List.{List, List·Memᴰ as Mem, List·Memᴰ·tail as there, List·Memᴰ·cases-cons as mem-cases}
 use mathlib.Core.Logic.{⊎-elim}
-use Prim.Native.Nat.{ℕ, _*_, _≤_, _<_}
+use Prim.Native.Nat.{ℕ, _*_}
 use native.Mathlib.Omega.{arith}
-use Rattle.diagram.specs.Rows.{Rows, row, Arrow, den, WellFormed, Extends}
+use Rattle.diagram.specs.Rows.{Rows, Arrow}
 use Rattle.diagram.specs.Grow.{arrow-extends}
 use Rattle.diagram.specs.Keep.{Keeps, keeps-arrow, keeps-within, keeps-trans, extends-keeps}
-use Rattle.diagram.specs.Post.{Result, at, full, OpPost}
+use Rattle.diagram.specs.Post.{Result, at, OpPost}
 use Rattle.diagram.specs.Collect.{Collects, collects-same, collects-keeps}
-use Rattle.diagram.specs.Step.{Settled, StepPost, step-first, step-again}
-use Rattle.layout.specs.Places.{BITS, FIRST-REGISTER, ROOTS-END}
+use Rattle.diagram.specs.Step.{Settled, step-first, step-again}
+use Rattle.layout.specs.Places.{BITS}
 use Rattle.layout.specs.View.{View}
 use Rattle.soundness.specs.Used.{rowsOf}
 use Rattle.soundness.specs.Sound.{Sound}
@@ -19,9 +19,9 @@ use Rattle.table.specs.Keep.{sound-extends}
 use Rattle.table.specs.declared.Made.{Made}
 use Rattle.table.specs.declared.Made.the-variants as answer
 use Rattle.memory.specs.Memo.{Remembers}
-use Rattle.operations.specs.Work.{OpFrame, op-trans, Ready, Worked, ready-wf, ready-next}
+use Rattle.operations.specs.Work.{OpFrame, op-trans, Worked, ready-wf, ready-next}
 use Rattle.operations.specs.Rows.{even-levels}
-use Rattle.steps.specs.Steps.{stepF, operandsOf, Fits, liveAt, StepPre, Stepped, operand-arrow, fits-keeps, stepF-keeps, stepF-reads, live-arrows, operand-live, root-live, live-same}
+use Rattle.steps.specs.Steps.{stepF, operandsOf, liveAt, StepPre, Stepped, operand-arrow, fits-keeps, stepF-keeps, stepF-reads, live-arrows, operand-live, root-live, live-same}
 use Rattle.steps.specs.Clean.{CleanPre, Cleaned}
 use Rattle.steps.specs.Settle.{AnswerArrow, SettlePre, SettlePost}
 use Rattle.steps.specs.declared.Step.{Step}

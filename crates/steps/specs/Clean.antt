@@ -1,5 +1,5 @@
 -- Collecting at a step: just the rows that what is live and one more arrow need are left, and nothing is remembered. Assumes nothing.
-use mathlib.Core.Path.{_≡_, refl, sym, ap, _∙_, subst}
+use mathlib.Core.Path.{_≡_, refl, sym, subst}
 use mathlib.Core.Logic.{_⊎_, inl, inr, ⊎-elim}
 use mathlib.Core.List.{List, [], _∷_, _++_, List·Memᴰ as Mem, List·Memᴰ·head as here, List·Memᴰ·tail as there, List·Memᴰ·cases-cons as mem-cases, List·Memᴰ·not-nil as mem-nil, List·Memᴰ·append-cases as append-cases, Memᴰ·append-left as append-left, Memᴰ·append-right as append-right}
 use Prim.Native.Nat.{ℕ, zero, suc}
@@ -14,7 +14,7 @@ use Rattle.soundness.specs.Alike.{alike-sound}
 use Rattle.collect.specs.Lent.{live}
 use Rattle.collect.specs.Freed.{Freed}
 use Rattle.collect.specs.Answers.{FreePre}
-use Rattle.memory.specs.Frame.{MemoFrame, rows-same, memo-alike}
+use Rattle.memory.specs.Frame.{rows-same, memo-alike}
 use Rattle.memory.specs.Memo.{Remembers}
 use Rattle.memory.specs.Forget.{Forgot, forgot-remembers}
 use Rattle.operations.specs.Work.{OpFrame, op-trans, op-made, op-memo}

@@ -6,14 +6,14 @@ use mathlib.Core.List.{List, [], _∷_, _++_, List·Memᴰ as Mem, List·Memᴰ�
 use Prim.Native.Nat.{ℕ, zero, suc, _+_, _≤_, _<_}
 use native.Mathlib.Omega.{arith}
 use Rattle.diagram.specs.Level.{Val, Fn, Reads, upd}
-use Rattle.diagram.specs.Rows.{Rows, row, Arrow, den, WellFormed}
+use Rattle.diagram.specs.Rows.{Rows, Arrow, den, WellFormed}
 use Rattle.diagram.specs.Reach.{den-reads-all}
 use Rattle.diagram.specs.Even.{ReadsOn, even}
 use Rattle.diagram.specs.Keep.{Keeps, keeps-arrow, keeps-den}
 use Rattle.diagram.specs.Steps.{bitF, notF, andF, orF, shiftF, existsF, not-reads, two-reads, exists-reads}
 use Rattle.diagram.specs.Recur.{shift-reads-all}
 use Rattle.diagram.specs.Step.{StepPost}
-use Rattle.layout.specs.Places.{FIRST-REGISTER, ROOTS-END, ROOTS}
+use Rattle.layout.specs.Places.{FIRST-REGISTER, ROOTS}
 use Rattle.layout.specs.View.{View}
 use Rattle.soundness.specs.Used.{rowsOf}
 use Rattle.soundness.specs.Sound.{Sound}

@@ -10,7 +10,6 @@ use operations::exists;
 use operations::not;
 use operations::shift;
 use table::Made;
-
 ghost use mathlib.Core.Path.{_≡_};
 ghost use Rattle.layout.specs.View.{view};
 ghost use Rattle.soundness.specs.Used.{rowsOf};
@@ -41,12 +40,30 @@ fn operands_of(step: Step) -> Operands
     ensures { λ r. ⌜ (r .first ≡ firstOperand step) × (r .second ≡ secondOperand step) ⌝ }
 {
     match step {
-        Step::Bit(_) => Operands { first: Table::NOTHING, second: Table::NOTHING },
-        Step::Not(a) => Operands { first: a, second: Table::NOTHING },
-        Step::And(a, b) => Operands { first: a, second: b },
-        Step::Or(a, b) => Operands { first: a, second: b },
-        Step::Shift(a) => Operands { first: a, second: Table::NOTHING },
-        Step::Exists(_, a) => Operands { first: a, second: Table::NOTHING },
+        Step::Bit(_) => Operands {
+            first: Table::NOTHING,
+            second: Table::NOTHING,
+        },
+        Step::Not(a) => Operands {
+            first: a,
+            second: Table::NOTHING,
+        },
+        Step::And(a, b) => Operands {
+            first: a,
+            second: b,
+        },
+        Step::Or(a, b) => Operands {
+            first: a,
+            second: b,
+        },
+        Step::Shift(a) => Operands {
+            first: a,
+            second: Table::NOTHING,
+        },
+        Step::Exists(_, a) => Operands {
+            first: a,
+            second: Table::NOTHING,
+        },
     }
 }
 
@@ -105,7 +122,14 @@ fn retry(words: &mut [u32], rows: u32, levels: u32, limit: u32, roots: &[u32], s
 }
 
 // Takes a step: refused exactly where its result and all that is live need more than `limit` rows.
-pub fn take_step(words: &mut [u32], rows: u32, levels: u32, limit: u32, roots: &[u32], step: Step) -> Made
+pub fn take_step(
+    words: &mut [u32],
+    rows: u32,
+    levels: u32,
+    limit: u32,
+    roots: &[u32],
+    step: Step,
+) -> Made
     requires { ⌜ StepPre levels rows limit (view rows (now words)) (now roots) step ⌝ }
     ensures { λ r. ⌜ Stepped levels rows limit (view rows (now (words .entry))) (view rows (now (words .exit))) (now (roots .entry)) step r ⌝ }
 {

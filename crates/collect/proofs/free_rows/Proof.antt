@@ -10,7 +10,6 @@ use borrow.Author.Needs.{needs}
 use Rattle.collect.proofs.free_rows.Statement.{statement}
 use Rattle.collect.proofs.free_rows.Tie as tie
 
-
 pub free-rows-spec : {M : Type 1} → statement M
 free-rows-spec =
     tie.close

@@ -1,3 +1,4 @@
+-- `count_stored` meets its contract: it counts, or doubles. Assumes nothing.
 use native.Mathlib.Omega.{arith}
 use Rattle.memory.specs.Store.{fewer-stored}
 use borrow.Author.Needs.{needs}

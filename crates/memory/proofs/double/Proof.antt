@@ -1,5 +1,5 @@
+-- `double` meets its contract: the new half is empty, so no entry is there that was not. Assumes nothing.
 use native.Mathlib.Omega.{arith}
-use mathlib.Core.Path.{sym}
 use Rattle.memory.specs.Frame.{room-memo, memo-stored}
 use Rattle.memory.specs.Store.{fewer-stored, fewer-doubled}
 use borrow.Author.Needs.{needs}

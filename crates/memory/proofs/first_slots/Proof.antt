@@ -1,4 +1,4 @@
-use borrow.Author.Needs.{needs}
+-- `first_slots` meets its contract: the number of slots doubles only while twice as many have room. Assumes nothing.
 use Prim.Native.Nat.{_-_, _*_, _≤_}
 use native.Mathlib.Omega.{arith}
 use Rattle.memory.proofs.first_slots.Statement.{statement}

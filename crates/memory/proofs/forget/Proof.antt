@@ -1,3 +1,4 @@
+-- `forget` meets its contract: the active slots are emptied, and so are the keys of the listed rows, which are the used ones. Assumes nothing.
 use native.Mathlib.Omega.{arith}
 use Rattle.memory.specs.Forget.{forget-room, forget-list, forgot-by}
 use borrow.Author.Needs.{needs}

@@ -1,4 +1,4 @@
-use borrow.Author.Needs.{needs}
+-- `forget_rows` meets its contract: the loop has emptied the keys of the rows before place k. Assumes nothing.
 use mathlib.Core.Path.{_≡_, refl, _∙_}
 use Prim.Native.Nat.{_-_, _≤_}
 use native.Mathlib.Omega.{arith}

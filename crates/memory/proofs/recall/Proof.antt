@@ -1,3 +1,4 @@
+-- `recall` meets its contract: the slot that is found holds both arrows. Assumes nothing.
 use mathlib.Core.Path.{sym, _∙_}
 use borrow.Author.Needs.{needs}
 use Rattle.memory.proofs.recall.Statement.{statement}

@@ -1,3 +1,4 @@
+-- `remember` meets its contract: the result is counted and then written. Assumes nothing.
 use mathlib.Core.Path.{refl}
 use Rattle.memory.specs.Frame.{room-memo}
 use borrow.Author.Needs.{needs}

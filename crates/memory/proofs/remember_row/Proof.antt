@@ -1,3 +1,4 @@
+-- `remember_row` meets its contract: two words of the row are written. Assumes nothing.
 use mathlib.Core.Path.{refl}
 use Rattle.memory.specs.Store.{kept-by}
 use borrow.Author.Needs.{needs}

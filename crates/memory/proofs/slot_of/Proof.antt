@@ -1,3 +1,4 @@
+-- `slot_of` meets its contract: the masked hash is at most the mask. Assumes nothing.
 use native.Mathlib.Omega.{arith}
 use lib.Bits.{and-le-r}
 use Prim.Native.Nat.{_-_, _+_, _*_, _/_, _%_}

@@ -1,3 +1,4 @@
+-- `write_entry` meets its contract: three words of one active slot are written. Assumes nothing.
 use mathlib.Core.Path.{refl}
 use Rattle.memory.specs.Store.{no-slot, wrote-by}
 use borrow.Author.Needs.{needs}

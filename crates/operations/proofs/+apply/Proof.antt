@@ -1,3 +1,4 @@
+-- `apply` meets its contract: the two calls on the halves at the lesser level and the row are what `pair-calls` says; levels grow. Assumes nothing.
 use borrow.Author.Needs.{needs}
 use native.Mathlib.Omega.{arith}
 use Rattle.table.specs.Find.{good-room}

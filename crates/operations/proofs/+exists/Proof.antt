@@ -1,3 +1,4 @@
+-- `exists` meets its contract: below level x the two calls and the row are what `exists-calls` says, at level x OR of the arrows; levels grow. Assumes nothing.
 use borrow.Author.Needs.{needs}
 use native.Mathlib.Omega.{arith}
 use Rattle.layout.specs.View.{view}

@@ -1,3 +1,4 @@
+-- `not` meets its contract: the two calls and the row are what `not-calls` says; levels grow. Assumes nothing.
 use borrow.Author.Needs.{needs}
 use native.Mathlib.Omega.{arith}
 use Rattle.layout.specs.View.{view}

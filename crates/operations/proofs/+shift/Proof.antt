@@ -1,7 +1,7 @@
+-- `shift` meets its contract: the two calls and the row, one level further, are what `shift-calls` says; levels grow. Assumes nothing.
 use borrow.Author.Needs.{needs}
 use native.Mathlib.Omega.{arith}
 use Rattle.layout.specs.View.{view}
-use Rattle.layout.specs.Arrows.{no-row}
 use Rattle.soundness.specs.Used.{rowsOf}
 use Rattle.soundness.specs.Says.{test-yes, test-no}
 use Rattle.operations.specs.Work.{ready-wf, ready-next, low-stops, high-stops, row-pre, row-made}

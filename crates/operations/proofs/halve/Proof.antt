@@ -1,3 +1,4 @@
+-- `halve` meets its contract: the row is at the level, or past it. Assumes nothing.
 use Rattle.operations.specs.Pairs.{halves-past, halves-here}
 use borrow.Author.Needs.{needs}
 use Rattle.operations.proofs.halve.Statement.{statement}

@@ -1,3 +1,4 @@
+-- `known` meets its contract: at once, or as it is remembered. Assumes nothing.
 use mathlib.Core.Path.{sym, _∙_}
 use Rattle.layout.specs.View.{view}
 use Rattle.operations.specs.Pairs.{at-once, known-recalled}

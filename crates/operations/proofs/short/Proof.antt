@@ -1,3 +1,4 @@
+-- `short` meets its contract: one law for each way through. Assumes nothing.
 use mathlib.Core.Path.{refl}
 use borrow.Author.Tests.{eq-eqb, ne-eqb}
 use Rattle.operations.specs.Pairs.{short-same, short-row, short-constant}

@@ -1,3 +1,4 @@
+-- `top` meets its contract: the lesser of two numbers. Assumes nothing.
 use native.Mathlib.Omega.{arith}
 use borrow.Author.Needs.{needs}
 use Rattle.operations.proofs.top.Statement.{statement}

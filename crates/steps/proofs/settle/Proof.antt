@@ -1,8 +1,8 @@
+-- `settle` meets its contract: few rows are used, or those that are reached are counted. Assumes nothing.
 use Rattle.steps.specs.Settle.{settle-full, settle-few, settle-clean, settle-reached, settle-many}
 use borrow.Author.Needs.{needs}
 use Rattle.steps.proofs.settle.Statement.{statement}
 use Rattle.steps.proofs.settle.Tie as tie
-
 
 pub settle-spec : {M : Type 1} → statement M
 settle-spec =

@@ -1,8 +1,8 @@
+-- `take_step` meets its contract: the first try is answered, or the second decides. Assumes nothing.
 use Rattle.steps.specs.Again.{settle-pre, again-pre, stepped-first, stepped-again}
 use borrow.Author.Needs.{needs}
 use Rattle.steps.proofs.take_step.Statement.{statement}
 use Rattle.steps.proofs.take_step.Tie as tie
-
 
 pub take-step-spec : {M : Type 1} → statement M
 take-step-spec =

@@ -1,7 +1,7 @@
+-- `try_step` meets its contract: each operation promises it. Assumes nothing.
 use borrow.Author.Needs.{needs}
 use Rattle.steps.proofs.try_step.Statement.{statement}
 use Rattle.steps.proofs.try_step.Tie as tie
-
 
 pub try-step-spec : {M : Type 1} → statement M
 try-step-spec =
