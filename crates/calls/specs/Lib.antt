@@ -3,3 +3,4 @@ pub mod Fresh
 pub mod Changes
 pub mod Questions
 pub mod Evaluated
+pub mod Caught
