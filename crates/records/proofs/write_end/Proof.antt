@@ -1,0 +1,20 @@
+use borrow.Author.Needs.{needs}
+use Rattle.records.proofs.write_end.Statement.{statement}
+use Rattle.records.proofs.write_end.Tie as tie
+use Rattle.records.proofs.write_end.Reads as reads
+use Rattle.records.proofs.write_end.Lts as lts
+use Rattle.records.proofs.write_text.Reads as write-text-reads
+
+
+pub write-end-spec : {M : Type 1} → statement M
+write-end-spec =
+    tie.close
+    (tie.spec
+    (λ c. search needs)
+    (λ c κs. search needs)
+    (λ c. search needs)
+    (λ c. rw (c .before .before .before .before .before .if1 .taken) (c .before .before .write-text .ensures))
+    (λ c. search needs)
+    (λ c κs. search needs)
+    (λ c. search needs)
+    (λ c. rw (c .before .before .before .before .before .if1 .left) (c .before .before .write-text2 .ensures)))
