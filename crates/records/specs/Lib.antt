@@ -1,3 +1,5 @@
 pub mod Record
 pub mod Text
 pub mod Reading
+pub mod Links
+pub mod Promises

@@ -22,7 +22,7 @@ use Rattle.records.specs.Record.{inRange, takes, commandIn, argumentsIn,
 
 -- ---- tests
 
-and-true : (a b : Bool) → (a && b) ≡ true → (a ≡ true) × (b ≡ true)
+pub and-true : (a b : Bool) → (a && b) ≡ true → (a ≡ true) × (b ≡ true)
 and-true true b e = (refl, e)
 and-true false b e = let z : _≡_ {A = ℕ} 0 1 = cc in absurd (omega arith)
 
@@ -36,7 +36,7 @@ passes true true e h = refl
 passes true false e h = sym e
 passes false t e h = let z : _≡_ {A = ℕ} 0 1 = cc in absurd (omega arith)
 
-fails : (a t : Bool) → (a && not t) ≡ true → (a ≡ true) × (t ≡ false)
+pub fails : (a t : Bool) → (a && not t) ≡ true → (a ≡ true) × (t ≡ false)
 fails true true e = let z : _≡_ {A = ℕ} 0 1 = cc in absurd (omega arith)
 fails true false e = (refl, refl)
 fails false t e = let z : _≡_ {A = ℕ} 0 1 = cc in absurd (omega arith)
@@ -46,7 +46,7 @@ fails false t e = let z : _≡_ {A = ℕ} 0 1 = cc in absurd (omega arith)
 pub range-within : (L : ℕ) → 2 ≤ L → L ≤ 1_100 → inRange L ≡ true
 range-within L a b = rw (le-leb 2 L a, le-leb L 1_100 b)
 
-range-parts : (L : ℕ) → inRange L ≡ true → (2 ≤ L) × (L ≤ 1_100)
+pub range-parts : (L : ℕ) → inRange L ≡ true → (2 ≤ L) × (L ≤ 1_100)
 range-parts L e = let p = and-true (leb 2 L) (leb L 1_100) e in (leb-true 2 L (p .0), leb-true L 1_100 (p .1))
 
 pub range-below : (L : ℕ) → L < 2 → inRange L ≡ false
