@@ -3,3 +3,4 @@ pub mod Text
 pub mod Reading
 pub mod Links
 pub mod Promises
+pub mod Cuts

@@ -20,7 +20,7 @@ use Rattle.records.specs.Reading.{range-within, takes-none, doomed-three
 use Rattle.records.specs.Links.{read-cases, operations, same-byte, same-length, doomed-stays, partial-none, found-whole, found-command}
 
 -- two answers that differ
-never : {A : Type 0} → _≡_ {A = ℕ} 0 1 → A
+pub never : {A : Type 0} → _≡_ {A = ℕ} 0 1 → A
 never e = absurd (omega arith)
 
 -- ---- a record
