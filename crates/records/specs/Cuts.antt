@@ -1,11 +1,11 @@
 -- Folding `readRecord` over the input, however it is cut into reads, gives the book's lines and text. Assumes nothing.
-use mathlib.Core.Path.{_≡_, refl, sym, ap, _∙_, subst}
+use mathlib.Core.Path.{_≡_, refl, sym, ap, _∙_}
 use mathlib.Core.Bool.{Bool, true, false, cond}
 use mathlib.Core.List.{List, [], _∷_, _++_, append-nil, append-assoc, flatten}
 use mathlib.Core.Option.{Option, none, some}
-use Prim.Native.Nat.{ℕ, zero, suc, _+_, _-_, _≤_, _<_}
+use Prim.Native.Nat.{ℕ, zero, suc, _+_, _≤_, _<_}
 use native.Mathlib.Omega.{arith}
-use lib.ListN.{length, getD, take, drop, length-append, length-drop}
+use lib.ListN.{length, getD, drop, length-append, length-drop}
 use lib.Seq.{drop-append-le}
 use Rattle.book.specs.Book.{Book}
 use Rattle.book.specs.Program.{Line, endOk, endBad, obey, recordLength, commandAt, told, lines, roomrules, textOf, textsOf, written}
@@ -13,7 +13,7 @@ use Rattle.book.specs.Program as program
 use Rattle.records.specs.declared.Command.{Command}
 use Rattle.records.specs.declared.Found.{Found}
 use Rattle.records.specs.declared.Found.the-variants.{End, More, Bad, Record}
-use Rattle.records.specs.Record.{commandIn, argumentsIn, doomed, readRecord, asked}
+use Rattle.records.specs.Record.{commandIn, argumentsIn, readRecord, asked}
 use Rattle.records.specs.Text.{text-then}
 use Rattle.records.specs.Links.{read-cases, doomed-stays, partial-none}
 use Rattle.records.specs.Promises.{Recorded, found-record, never}
@@ -131,7 +131,7 @@ step-follows o bs ended rest last =
     recorded c size r =
         lines-next o (bs ++ rest) (asked bs size c) (omega (arith, length-append bs rest, r .within, r .least)) (r .command-is rest)
         ∙ ap (λ (l : List ℕ). obey o (asked bs size c) .1 ∷ linesFrom (obey o (asked bs size c) .0) l)
-          (ap (λ (k : ℕ). drop k (bs ++ rest)) (r .length-is rest) ∙ drop-append-le size bs rest (r .within))
+        (ap (λ (k : ℕ). drop k (bs ++ rest)) (r .length-is rest) ∙ drop-append-le size bs rest (r .within))
 
 -- a step that writes leaves fewer bytes, and a step waits only where more may come
 abbrev Lessens : List ℕ → Bool → Step → Type 0
@@ -186,6 +186,24 @@ any-cut parts = follows (suc (effort [] false parts)) none [] false parts (λ t.
 pub any-cut-text : (parts : List (List ℕ)) → textsOf (linesOfParts parts) ≡ written (flatten parts)
 any-cut-text parts = ap textsOf (any-cut parts)
 
--- a line's text, and then that of the lines after it
-pub texts-next : (l : Line) (ls : List Line) → textsOf (l ∷ ls) ≡ textOf l [] ++ textsOf ls
-texts-next l ls = text-then l (textsOf ls)
+-- ---- the text, a step at a time: what is written so far and `textFrom` of what is left stay the book's text
+
+abbrev pub textFrom : Option Book → List ℕ → List ℕ
+textFrom o bs = textsOf (linesFrom o bs)
+
+abbrev pub textAfter : Option Book → List ℕ → List ℕ → Step → List ℕ
+textAfter o bs rest (writes l o′ left) = textOf l [] ++ textFrom o′ (left ++ rest)
+textAfter o bs rest waits = textFrom o (bs ++ rest)
+textAfter o bs rest (ends l) = textOf l []
+
+pub text-starts : (input : List ℕ) → textFrom none input ≡ written input
+text-starts input = refl
+
+pub text-follows : (o : Option Book) (bs : List ℕ) (ended : Bool) (rest : List ℕ) → (ended ≡ true → rest ≡ [])
+    → textFrom o (bs ++ rest) ≡ textAfter o bs rest (step o bs ended)
+text-follows o bs ended rest last = ap textsOf (step-follows o bs ended rest last) ∙ as-text (step o bs ended)
+  where
+    as-text : (s : Step) → textsOf (linesAfter o bs rest s) ≡ textAfter o bs rest s
+    as-text (writes l o′ left) = text-then l (textFrom o′ (left ++ rest))
+    as-text waits = refl
+    as-text (ends l) = refl

@@ -1,8 +1,8 @@
 -- What `readRecord` says of every continuation of the bytes at hand, by the book's own reading (`commandAt`, `recordLength`). Assumes nothing.
 use mathlib.Core.Path.{_≡_, refl, sym, ap, _∙_, subst}
-use mathlib.Core.Bool.{Bool, true, false, not, cond, _&&_, _||_}
-use mathlib.Core.List.{List, [], _∷_, _++_, append-nil}
-use mathlib.Core.Option.{Option, none, some}
+use mathlib.Core.Bool.{Bool, true, false, cond, _&&_, _||_}
+use mathlib.Core.List.{List, [], _∷_, _++_}
+use mathlib.Core.Option.{none, some}
 use Prim.Native.Nat.{ℕ, zero, suc, _+_, _*_, _-_, _≤_, _<_}
 use native.Mathlib.Omega.{arith}
 use lib.Dec.{leb, eqb}
@@ -12,11 +12,10 @@ use borrow.Author.Tests.{leb-true, leb-false, eqb-true, eqb-false, le-leb, eq-eq
 use Rattle.book.specs.Program.{recordLength, whole, commandOf, commandAt}
 use Rattle.book.specs.Program as program
 use Rattle.book.specs.Book as book
-use Rattle.records.specs.declared.Command.{Command}
 use Rattle.records.specs.declared.Found.{Found}
 use Rattle.records.specs.declared.Found.the-variants.{End, More, Bad, Record}
-use Rattle.records.specs.Record.{inRange, takes, commandIn, argumentsIn, badLength, badVersion, badArguments, doomed, partial, readRecord, asked, startOf}
-use Rattle.records.specs.Reading.{and-true, fails, range-within, range-parts, takes-none, command-last, arguments-length, doomed-two, read-none, read-bad, read-partial, read-whole, hopeful-length, hopeful-version, hopeful-takes}
+use Rattle.records.specs.Record.{inRange, takes, commandIn, argumentsIn, badLength, badVersion, badArguments, doomed, partial, readRecord, asked}
+use Rattle.records.specs.Reading.{and-true, fails, range-within, range-parts, arguments-length, doomed-two, read-none, read-bad, read-partial, read-whole, hopeful-length, hopeful-version, hopeful-takes}
 
 -- ---- the ways of reading, for any property of what was found
 
@@ -126,7 +125,7 @@ whole-parts bs e =
       least = r .0;
       most = r .1;
       there = leb-true (2 + recordLength bs) (length bs) (s .0);
-      version = eqb-true (getD bs 2 0) 1 (s .1)
+      version = eqb-true (getD bs 2 0) 1 (s .1);
     }
 
 whole-is : (bs : List ℕ) → Wholly bs → whole bs ≡ true
@@ -177,7 +176,7 @@ module _ (bs rest : List ℕ) where
         least = omega (arith, w .least);
         most = omega (arith, w .most);
         there = omega (arith, w .there);
-        version = v ∙ w .version
+        version = v ∙ w .version;
       }
 
   -- a whole record is the same record whatever follows it
@@ -238,4 +237,4 @@ found-command bs rest d s =
     ∙ command-whole bs w
     ∙ command-taken bs (getD bs 3 0)
     ∙ ap (λ (t : Bool). cond t (some (asked bs (2 + recordLength bs) (commandIn (getD bs 3 0) (argumentsIn bs)))) none)
-      (ap (takes (getD bs 3 0)) (arguments-length bs s) ∙ hopeful-takes bs d (omega (arith, w .least)))
+    (ap (takes (getD bs 3 0)) (arguments-length bs s) ∙ hopeful-takes bs d (omega (arith, w .least)))

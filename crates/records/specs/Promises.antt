@@ -1,22 +1,22 @@
 -- What each answer of `readRecord` promises: a record is the book's command whatever follows, `Bad` is exactly the book's `end bad`, and more is
 -- asked for only where the bytes at hand do not decide. Assumes nothing.
 use mathlib.Core.Path.{_≡_, refl, sym, ap, _∙_, subst}
-use mathlib.Core.Bool.{Bool, true, false, not, cond}
+use mathlib.Core.Bool.{Bool, true, false, not}
 use mathlib.Core.List.{List, [], _∷_, _++_, append-nil, append-assoc}
-use mathlib.Core.Option.{Option, none, some}
-use Prim.Native.Nat.{ℕ, zero, suc, _+_, _*_, _-_, _≤_, _<_}
+use mathlib.Core.Option.{none, some}
+use Prim.Native.Nat.{ℕ, _+_, _-_, _≤_, _<_}
 use native.Mathlib.Nat.{lt-of-not-le}
 use native.Mathlib.Omega.{arith}
-use lib.Dec.{leb, eqb}
+use lib.Dec.{eqb}
 use lib.ListN.{length, getD, replicate, length-append, length-replicate}
 use lib.Seq.{getD-at}
-use borrow.Author.Tests.{leb-true, eqb-true, eqb-false, le-leb, eq-eqb, ne-eqb}
+use borrow.Author.Tests.{leb-true, eqb-true, eqb-false, le-leb}
 use Rattle.book.specs.Program.{recordLength, commandAt}
 use Rattle.book.specs.Program as program
 use Rattle.records.specs.declared.Command.{Command}
 use Rattle.records.specs.declared.Found.the-variants.{End, More, Bad, Record}
 use Rattle.records.specs.Record.{takes, commandIn, argumentsIn, doomed, readRecord, asked, startOf}
-use Rattle.records.specs.Reading.{range-within, takes-none, doomed-three, doomed-four, doomed-takes, hopeful-length, hopeful-version, hopeful-takes}
+use Rattle.records.specs.Reading.{range-within, takes-none, doomed-four, doomed-takes, hopeful-length, hopeful-version, hopeful-takes}
 use Rattle.records.specs.Links.{read-cases, operations, same-byte, same-length, doomed-stays, partial-none, found-whole, found-command}
 
 -- two answers that differ
@@ -56,7 +56,7 @@ found-record bs d s =
       most = omega (arith, w .most);
       starts = omega (arith, w .least, start-within (getD bs 3 0) (recordLength bs - 2) (argumentsIn bs) (hopeful-takes bs d (omega (arith, w .least))));
       length-is = λ rest. ap (λ (k : ℕ). 2 + k) (same-length bs rest (w .started));
-      command-is = λ rest. found-command bs rest d s
+      command-is = λ rest. found-command bs rest d s;
     }
 
 pub record-read : (bs : List ℕ) (ended : Bool) (c : Command) (size : ℕ) → readRecord bs ended ≡ Record c size → Recorded bs c size
@@ -67,9 +67,9 @@ record-read bs ended c size =
     (λ h d e. never (cc))
     (λ h t d s e. never (cc))
     (λ d s e.
-      let p : commandIn (getD bs 3 0) (argumentsIn bs) ≡ c = cc in
-      let q : 2 + recordLength bs ≡ size = cc in
-      subst (Recorded bs c) q (subst (λ (x : Command). Recorded bs x (2 + recordLength bs)) p (found-record bs d s)))
+    let p : commandIn (getD bs 3 0) (argumentsIn bs) ≡ c = cc in
+    let q : 2 + recordLength bs ≡ size = cc in
+    subst (Recorded bs c) q (subst (λ (x : Command). Recorded bs x (2 + recordLength bs)) p (found-record bs d s)))
 
 -- ---- the end
 
@@ -143,9 +143,9 @@ completes-arguments bs d h =
     let n = length-append bs zeros in
     let z = length-replicate {A = ℕ} (2 + recordLength bs - length bs) 0 in
     let t = doomed-takes (bs ++ zeros) (omega arith) (same-byte bs zeros 2 (omega arith) ∙ hopeful-version bs d (omega arith)) (range-within (recordLength (bs ++ zeros)) (omega arith) (omega arith))
-          ∙ ap (λ (op : ℕ). not (takes op (recordLength (bs ++ zeros) - 2))) (same-byte bs zeros 3 (omega arith))
-          ∙ ap (λ (k : ℕ). not (takes (getD bs 3 0) (k - 2))) e
-          ∙ ap not (hopeful-takes bs d h) in
+    ∙ ap (λ (op : ℕ). not (takes op (recordLength (bs ++ zeros) - 2))) (same-byte bs zeros 3 (omega arith))
+    ∙ ap (λ (k : ℕ). not (takes (getD bs 3 0) (k - 2))) e
+    ∙ ap not (hopeful-takes bs d h) in
     (zeros, _, sym (ap commandAt (append-nil (bs ++ zeros))) ∙ found-command (bs ++ zeros) [] t (omega arith))
   where
     zeros : List ℕ
@@ -159,9 +159,9 @@ completes-with bs d h op t =
     let e = same-length bs (op ∷ []) (omega arith) in
     one-more bs op (completes-arguments (bs ++ (op ∷ []))
     (doomed-takes (bs ++ (op ∷ [])) (omega arith) (same-byte bs (op ∷ []) 2 (omega arith) ∙ hopeful-version bs d (omega arith)) (range-within (recordLength (bs ++ (op ∷ []))) (omega arith) (omega arith))
-      ∙ ap (λ (x : ℕ). not (takes x (recordLength (bs ++ (op ∷ [])) - 2))) (one-byte bs op 3 h)
-      ∙ ap (λ (k : ℕ). not (takes op (k - 2))) e
-      ∙ ap not t)
+    ∙ ap (λ (x : ℕ). not (takes x (recordLength (bs ++ (op ∷ [])) - 2))) (one-byte bs op 3 h)
+    ∙ ap (λ (k : ℕ). not (takes op (k - 2))) e
+    ∙ ap not t)
     (omega arith))
 
 -- collect where L leaves nothing, else relation

@@ -1,24 +1,19 @@
 -- What `readRecord` says of every continuation of the bytes at hand, by the book's reading. Assumes nothing.
-use mathlib.Core.Path.{_≡_, refl, sym, ap, _∙_, subst}
+use mathlib.Core.Path.{_≡_, refl, sym, ap, _∙_}
 use mathlib.Core.Bool.{Bool, true, false, not, cond, _&&_, _||_}
-use mathlib.Core.List.{List, [], _∷_, _++_, append-nil}
-use mathlib.Core.Logic.{⊎-elim}
-use mathlib.Core.Option.{Option, none, some}
-use Prim.Native.Nat.{ℕ, zero, suc, _+_, _*_, _-_, _≤_, _<_}
+use mathlib.Core.List.{List}
+use Prim.Native.Nat.{ℕ, _+_, _-_, _≤_, _<_}
 use native.Mathlib.Nat.{lt-of-not-le}
 use native.Mathlib.Omega.{arith}
 use lib.Dec.{leb, eqb}
-use lib.ListN.{length, getD, take, drop, length-take, length-drop, List·getD-append, length-append}
-use lib.Seq.{take-append-le, drop-append-le, drop-drop, length-take-le}
-use borrow.Author.Tests.{leb-true, leb-false, eqb-true, eqb-false, le-leb, lt-leb, eq-eqb, ne-eqb}
-use Rattle.book.specs.Program.{recordLength, whole, commandOf, commandAt}
-use Rattle.book.specs.Program as program
-use Rattle.book.specs.Book as book
+use lib.ListN.{length, getD, take, drop, length-drop}
+use lib.Seq.{length-take-le}
+use borrow.Author.Tests.{leb-true, eqb-true, le-leb, lt-leb, eq-eqb, ne-eqb}
+use Rattle.book.specs.Program.{recordLength}
 use Rattle.records.specs.declared.Command.{Command}
-use Rattle.records.specs.declared.Command.the-variants.{Fresh, Relation, Set, Clear, Count, Collect}
-use Rattle.records.specs.declared.Found.{Found}
+use Rattle.records.specs.declared.Command.the-variants.{Collect}
 use Rattle.records.specs.declared.Found.the-variants.{End, More, Bad, Record}
-use Rattle.records.specs.Record.{inRange, takes, commandIn, argumentsIn, badLength, badVersion, badArguments, doomed, partial, readRecord, asked, startOf}
+use Rattle.records.specs.Record.{inRange, takes, commandIn, argumentsIn, badLength, badVersion, badArguments, doomed, partial, readRecord}
 
 -- ---- tests
 

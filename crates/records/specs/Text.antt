@@ -2,20 +2,33 @@
 use mathlib.Core.Path.{_≡_, refl, sym, ap, _∙_, subst}
 use mathlib.Core.Bool.{Bool, true, false, cond}
 use mathlib.Core.List.{List, [], _∷_, _++_, append-assoc}
-use Prim.Native.Nat.{ℕ, zero, suc, _+_, _*_, _/_, _%_, _^_, _≤_, _<_}
+use Prim.Native.Nat.{ℕ, zero, suc, _+_, _/_, _%_, _^_, _≤_, _<_}
 use native.Mathlib.Nat.{pow-suc}
 use native.Mathlib.Numerals.{add-one}
 use native.Mathlib.Omega.{arith}
 use lib.Dec.{ltb}
-use lib.ListN.{length, getD, set, take, length-append}
-use lib.Seq.{sets, take-suc, take-all, length-take-le}
+use lib.ListN.{length, getD, set, take, drop, length-append}
+use lib.Seq.{sets, sets-eq, take-suc, take-all, take-at, length-take-le}
 use borrow.Author.Tests.{lt-ltb, le-ltb}
-use Rattle.book.specs.Program.{Line, endOk, endBad, fields, digits, decimal, textOf, textsOf}
+use Rattle.book.specs.Program.{Line, endOk, endBad, fields, digits, decimal, textOf}
 
 -- bytes stand in the new contents from a place on, up to the end, and all else is as it was
 pub record Wrote (old : List ℕ) (at : ℕ) (bytes new : List ℕ) (end : ℕ) : Type 0 where
   pub contents : new ≡ sets old at bytes
   pub past : end ≡ at + length bytes
+
+-- the same, as parts: what was before the place, the bytes, and what was after them
+pub wrote-parts : {old new : List ℕ} {at end : ℕ} (bytes : List ℕ) → at + length bytes ≤ length old → Wrote old at bytes new end
+    → new ≡ take at old ++ bytes ++ drop end old
+wrote-parts {old} {new} {at} {end} bytes room w =
+    w .contents ∙ sets-eq bytes old at room ∙ ap (λ (k : ℕ). take at old ++ bytes ++ drop k old) (sym (w .past))
+
+-- what is written grows at its end
+pub wrote-front : {old new : List ℕ} {at end : ℕ} (bytes : List ℕ) → at + length bytes ≤ length old → Wrote old at bytes new end
+    → take end new ≡ take at old ++ bytes
+wrote-front {old} {new} {at} {end} bytes room w =
+    ap (take end) (wrote-parts bytes room w)
+    ∙ take-at (take at old ++ bytes) (drop end old) end (length-append (take at old) bytes ∙ ap (λ (k : ℕ). k + length bytes) (length-take-le at old (omega arith)) ∙ sym (w .past))
 
 -- "Last line `end ok`, or .. `end bad`"
 abbrev pub endLine : Bool → Line
@@ -29,9 +42,9 @@ sets-append l i (x ∷ xs) ys = ap (λ (k : ℕ). sets (sets (set l i x) (suc i)
 
 pub wrote-then : {l m n : List ℕ} {i j k : ℕ} (xs ys : List ℕ) → Wrote l i xs m j → Wrote m j ys n k → Wrote l i (xs ++ ys) n k
 wrote-then {l} {m} {n} {i} {j} {k} xs ys a b = record {
-    contents = b .contents ∙ ap (λ (o : List ℕ). sets o j ys) (a .contents) ∙ ap (λ (h : ℕ). sets (sets l i xs) h ys) (a .past) ∙ sets-append l i xs ys;
-    past = omega (arith, b .past, a .past, length-append xs ys)
-  }
+  contents = b .contents ∙ ap (λ (o : List ℕ). sets o j ys) (a .contents) ∙ ap (λ (h : ℕ). sets (sets l i xs) h ys) (a .past) ∙ sets-append l i xs ys;
+  past = omega (arith, b .past, a .past, length-append xs ys);
+}
 
 -- one byte
 pub wrote-byte : (l : List ℕ) (i b : ℕ) → Wrote l i (b ∷ []) (set l i b) (i + 1)

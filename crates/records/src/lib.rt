@@ -1,7 +1,7 @@
 // The record format of document 01's program: what the bytes at hand ask, and the line that is written for it.
 ghost use mathlib.Core.Path.{_≡_};
 ghost use mathlib.Core.Bool.{true, false};
-ghost use mathlib.Core.List.{[], _∷_, _++_};
+ghost use mathlib.Core.List.{[]};
 ghost use Prim.Native.Nat.{_+_, _*_, _≤_};
 ghost use lib.ListN.{length, getD};
 ghost use Rattle.book.specs.Program.{decimal, textOf, fields};
@@ -30,6 +30,7 @@ pub enum Found {
 pub struct Format;
 
 impl Format {
+    // L's range; the version and the operation are its least.
     pub const LEAST: usize = 2;
 
     pub const MOST: usize = 1100;
@@ -41,12 +42,18 @@ impl Format {
     pub const OPERATION_AT: usize = 3;
 
     pub const ARGUMENTS: usize = 4;
+
+    // Where a formula begins.
+    pub const RELATION_FORMULA: usize = 5;
+
+    pub const SET_FORMULA: usize = 9;
 }
 
-// The room that a line takes at most: four numbers of ten digits, and a byte after each.
+// The bytes of a line.
 pub struct Text;
 
 impl Text {
+    // The room that a line takes at most: four numbers of ten digits, and a byte after each.
     pub const LINE: usize = 44;
 
     pub const SPACE: u8 = 32;
@@ -91,26 +98,26 @@ pub fn takes(op: u8, count: usize) -> bool
 pub fn doomed(bytes: &[u8]) -> bool
     ensures { λ r. ⌜ r ≡ doomed (now (bytes .entry)) ⌝ }
 {
-    if bytes.len() < 2 {
+    if bytes.len() < Format::VERSION_AT {
         return false;
     }
-    let size = pair(bytes, 0) as usize;
-    if size < Format::LEAST {
+    let length = pair(bytes, 0) as usize;
+    if length < Format::LEAST {
         return true;
     }
-    if size > Format::MOST {
+    if length > Format::MOST {
         return true;
     }
-    if bytes.len() < 3 {
+    if bytes.len() < Format::OPERATION_AT {
         return false;
     }
     if bytes[Format::VERSION_AT] != Format::VERSION {
         return true;
     }
-    if bytes.len() < 4 {
+    if bytes.len() < Format::ARGUMENTS {
         return false;
     }
-    !takes(bytes[Format::OPERATION_AT], size - 2)
+    !takes(bytes[Format::OPERATION_AT], length - Format::LEAST)
 }
 
 // The command of an operation and its arguments.
@@ -125,12 +132,12 @@ pub fn command_in(op: u8, arguments: &[u8]) -> Command
         },
         2 => Command::Relation {
             t: arguments[0] as u32,
-            start: 5,
+            start: Format::RELATION_FORMULA,
         },
         3 => Command::Set {
             r: arguments[0] as u32,
             rounds: quad(arguments, 1),
-            start: 9,
+            start: Format::SET_FORMULA,
         },
         4 => Command::Clear {
             r: arguments[0] as u32,
@@ -168,7 +175,7 @@ pub fn read_record(bytes: &[u8], ended: bool) -> Found
     if bytes.len() < Format::ARGUMENTS {
         return partial(ended);
     }
-    let size = 2 + pair(bytes, 0) as usize;
+    let size = Format::VERSION_AT + pair(bytes, 0) as usize;
     if bytes.len() < size {
         return partial(ended);
     }

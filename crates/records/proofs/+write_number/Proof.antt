@@ -1,7 +1,8 @@
+-- `records::write_number` meets its contract: a number is its last digit, or what stands before it and its last digit; the number falls.
+-- Assumes nothing.
 use borrow.Author.Needs.{needs}
 use native.Mathlib.Omega.{arith}
-use mathlib.Core.Path.{_≡_, sym, ap, _∙_}
-use lib.ListN.{length, length-set}
+use lib.ListN.{length-set}
 use Rattle.records.specs.Text.{number-last, number-more, decimal-one, decimal-longer}
 use Prim.Native.Nat.{ℕ, _<_}
 use borrow.Fn.Kinds.{In}

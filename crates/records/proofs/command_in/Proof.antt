@@ -1,3 +1,5 @@
+-- `records::command_in` meets its contract: each arm is the definition at its operation, which takes as many bytes as the arm reads.
+-- Assumes nothing.
 use lib.ListN.{length}
 use mathlib.Core.Path.{sym, _∙_}
 use native.Mathlib.Omega.{arith}
@@ -6,11 +8,6 @@ use Rattle.records.specs.Reading.{takes-at, command-at, command-last}
 use borrow.Author.Needs.{needs}
 use Rattle.records.proofs.command_in.Statement.{statement}
 use Rattle.records.proofs.command_in.Tie as tie
-use Rattle.records.proofs.command_in.Reads as reads
-use Rattle.records.proofs.command_in.Lts as lts
-use Rattle.records.proofs.pair.Reads as pair-reads
-use Rattle.records.proofs.quad.Reads as quad-reads
-
 
 pub command-in-spec : {M : Type 1} → statement M
 command-in-spec =

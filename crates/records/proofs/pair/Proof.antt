@@ -1,11 +1,10 @@
+-- `records::pair` meets its contract: each byte is below 256, so the sum fits.
+-- Assumes nothing.
 use Prim.Native.Nat.{_+_}
 use native.Mathlib.Omega.{arith}
 use borrow.Author.Needs.{needs}
 use Rattle.records.proofs.pair.Statement.{statement}
 use Rattle.records.proofs.pair.Tie as tie
-use Rattle.records.proofs.pair.Reads as reads
-use Rattle.records.proofs.pair.Lts as lts
-
 
 pub pair-spec : {M : Type 1} → statement M
 pair-spec =

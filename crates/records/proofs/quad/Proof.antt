@@ -1,3 +1,5 @@
+-- `records::quad` meets its contract: two pairs, the first 65,536 times as much.
+-- Assumes nothing.
 use mathlib.Core.Path.{_≡_, ap}
 use Prim.Native.Nat.{ℕ, _+_}
 use lib.ListN.{getD}
@@ -5,10 +7,6 @@ use native.Mathlib.Omega.{arith}
 use borrow.Author.Needs.{needs}
 use Rattle.records.proofs.quad.Statement.{statement}
 use Rattle.records.proofs.quad.Tie as tie
-use Rattle.records.proofs.quad.Reads as reads
-use Rattle.records.proofs.quad.Lts as lts
-use Rattle.records.proofs.pair.Reads as pair-reads
-
 
 pub quad-spec : {M : Type 1} → statement M
 quad-spec =

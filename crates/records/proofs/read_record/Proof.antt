@@ -1,17 +1,12 @@
-use mathlib.Core.Path.{_≡_, sym, _∙_}
+-- `records::read_record` meets its contract: each `return` is one of the four ways of reading.
+-- Assumes nothing.
+use mathlib.Core.Path.{sym, _∙_}
 use mathlib.Core.Bool.{true, false}
 use native.Mathlib.Omega.{arith}
 use Rattle.records.specs.Reading.{read-none, read-bad, read-partial, read-command, hopeful-length, hopeful-short, arguments-taken}
 use borrow.Author.Needs.{needs}
 use Rattle.records.proofs.read_record.Statement.{statement}
 use Rattle.records.proofs.read_record.Tie as tie
-use Rattle.records.proofs.read_record.Reads as reads
-use Rattle.records.proofs.read_record.Lts as lts
-use Rattle.records.proofs.command_in.Reads as command-in-reads
-use Rattle.records.proofs.doomed.Reads as doomed-reads
-use Rattle.records.proofs.pair.Reads as pair-reads
-use Rattle.records.proofs.partial.Reads as partial-reads
-
 
 pub read-record-spec : {M : Type 1} → statement M
 read-record-spec =

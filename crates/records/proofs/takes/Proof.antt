@@ -1,11 +1,9 @@
-use borrow.Author.Needs.{needs}
+-- `records::takes` meets its contract: each arm is the definition at its operation.
+-- Assumes nothing.
 use mathlib.Core.Path.{sym}
 use Rattle.records.specs.Reading.{takes-at, takes-none}
 use Rattle.records.proofs.takes.Statement.{statement}
 use Rattle.records.proofs.takes.Tie as tie
-use Rattle.records.proofs.takes.Reads as reads
-use Rattle.records.proofs.takes.Lts as lts
-
 
 pub takes-spec : {M : Type 1} → statement M
 takes-spec =

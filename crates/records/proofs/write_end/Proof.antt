@@ -1,10 +1,8 @@
+-- `records::write_end` meets its contract: the two texts are the definition's.
+-- Assumes nothing.
 use borrow.Author.Needs.{needs}
 use Rattle.records.proofs.write_end.Statement.{statement}
 use Rattle.records.proofs.write_end.Tie as tie
-use Rattle.records.proofs.write_end.Reads as reads
-use Rattle.records.proofs.write_end.Lts as lts
-use Rattle.records.proofs.write_text.Reads as write-text-reads
-
 
 pub write-end-spec : {M : Type 1} → statement M
 write-end-spec =

@@ -1,13 +1,10 @@
+-- `records::write_field` meets its contract: the number, then the byte after it.
+-- Assumes nothing.
 use native.Mathlib.Omega.{arith}
-use lib.ListN.{length-set}
 use Rattle.records.specs.Text.{decimal-length, wrote-field}
 use borrow.Author.Needs.{needs}
 use Rattle.records.proofs.write_field.Statement.{statement}
 use Rattle.records.proofs.write_field.Tie as tie
-use Rattle.records.proofs.write_field.Reads as reads
-use Rattle.records.proofs.write_field.Lts as lts
-use Rattle.records.proofs.write_number.Reads as write-number-reads
-
 
 pub write-field-spec : {M : Type 1} → statement M
 write-field-spec =

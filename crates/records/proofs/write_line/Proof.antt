@@ -1,12 +1,10 @@
+-- `records::write_line` meets its contract: a line is its four fields one after the other, each of 11 bytes at most.
+-- Assumes nothing.
 use native.Mathlib.Omega.{arith}
 use Rattle.records.specs.Text.{field-length, wrote-line}
 use borrow.Author.Needs.{needs}
 use Rattle.records.proofs.write_line.Statement.{statement}
 use Rattle.records.proofs.write_line.Tie as tie
-use Rattle.records.proofs.write_line.Reads as reads
-use Rattle.records.proofs.write_line.Lts as lts
-use Rattle.records.proofs.write_field.Reads as write-field-reads
-
 
 pub write-line-spec : {M : Type 1} → statement M
 write-line-spec =

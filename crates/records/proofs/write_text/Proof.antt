@@ -1,13 +1,13 @@
-use mathlib.Core.Path.{_≡_, refl, sym, ap, _∙_}
+-- `records::write_text` meets its contract. The loop's invariant: the first i bytes of the text are written.
+-- Assumes nothing.
+use mathlib.Core.Path.{_≡_, refl}
 use borrow.Author.Needs.{needs}
 use native.Mathlib.Omega.{arith}
-use Prim.Native.Nat.{ℕ, _+_, _-_, _≤_}
+use Prim.Native.Nat.{_+_, _-_, _≤_}
 use lib.ListN.{length, take, length-set}
 use Rattle.records.specs.Text.{Wrote, wrote-none, wrote-turn, wrote-all}
 use Rattle.records.proofs.write_text.Statement.{statement}
 use Rattle.records.proofs.write_text.Tie as tie
-use Rattle.records.proofs.write_text.Reads as reads
-use Rattle.records.proofs.write_text.Lts as lts
 
 abbrev Inv-loop : tie.InvT-loop
 Inv-loop out₀ at text i₀ out i = (i ≤ length text) × (length out ≡ length out₀) × Wrote out₀ at (take i text) out (at + i)
