@@ -15,8 +15,9 @@ use Rattle.records.specs.declared.Found.{Found}
 use Rattle.records.specs.declared.Found.the-variants.{End, More, Bad, Record}
 use Rattle.records.specs.Record.{commandIn, argumentsIn, readRecord, asked}
 use Rattle.records.specs.Text.{text-then}
+use Rattle.records.specs.Reading.{never}
 use Rattle.records.specs.Links.{read-cases, doomed-stays, partial-none}
-use Rattle.records.specs.Promises.{Recorded, found-record, never}
+use Rattle.records.specs.Promises.{Recorded, found-record}
 
 -- ---- one step
 

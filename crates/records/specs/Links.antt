@@ -9,13 +9,14 @@ use lib.Dec.{leb, eqb}
 use lib.ListN.{length, getD, take, drop, length-append, length-drop, List·getD-append}
 use lib.Seq.{take-append-le, drop-append-le, drop-drop, take-nil}
 use borrow.Author.Tests.{leb-true, leb-false, eqb-true, eqb-false, le-leb, eq-eqb, ne-eqb}
+use Rattle.tokens.proofs.Table.{both-true}
 use Rattle.book.specs.Program.{recordLength, whole, commandOf, commandAt}
 use Rattle.book.specs.Program as program
 use Rattle.book.specs.Book as book
 use Rattle.records.specs.declared.Found.{Found}
 use Rattle.records.specs.declared.Found.the-variants.{End, More, Bad, Record}
 use Rattle.records.specs.Record.{inRange, takes, commandIn, argumentsIn, badLength, badVersion, badArguments, doomed, partial, readRecord, asked}
-use Rattle.records.specs.Reading.{and-true, fails, range-within, range-parts, arguments-length, doomed-two, read-none, read-bad, read-partial, read-whole, hopeful-length, hopeful-version, hopeful-takes}
+use Rattle.records.specs.Reading.{never, fails, range-within, range-parts, arguments-length, doomed-two, read-none, read-bad, read-partial, read-whole, hopeful-length, hopeful-version, hopeful-takes}
 
 -- ---- the ways of reading, for any property of what was found
 
@@ -116,10 +117,10 @@ pub record Wholly (bs : List ℕ) : Type 0 where
 
 whole-parts : (bs : List ℕ) → whole bs ≡ true → Wholly bs
 whole-parts bs e =
-    let p = and-true (leb 2 (length bs) && (leb 2 (recordLength bs) && leb (recordLength bs) 1_100)) (leb (2 + recordLength bs) (length bs) && eqb (getD bs 2 0) 1) e in
-    let q = and-true (leb 2 (length bs)) (leb 2 (recordLength bs) && leb (recordLength bs) 1_100) (p .0) in
+    let p = both-true (leb 2 (length bs) && (leb 2 (recordLength bs) && leb (recordLength bs) 1_100)) (leb (2 + recordLength bs) (length bs) && eqb (getD bs 2 0) 1) e in
+    let q = both-true (leb 2 (length bs)) (leb 2 (recordLength bs) && leb (recordLength bs) 1_100) (p .0) in
     let r = range-parts (recordLength bs) (q .1) in
-    let s = and-true (leb (2 + recordLength bs) (length bs)) (eqb (getD bs 2 0) 1) (p .1) in
+    let s = both-true (leb (2 + recordLength bs) (length bs)) (eqb (getD bs 2 0) 1) (p .1) in
     record {
       started = leb-true 2 (length bs) (q .0);
       least = r .0;
@@ -215,8 +216,7 @@ module _ (bs rest : List ℕ) where
           command-none (bs ++ rest) (λ w.
           let g = range-within (recordLength bs) (omega (arith, w .least)) (omega (arith, w .most)) in
           let z : true ≡ false = sym g ∙ f .1 in
-          let o : _≡_ {A = ℕ} 0 1 = cc in
-          absurd (omega arith))
+          never (cc))
       first false q = second (badVersion bs) refl (ap (λ (t : Bool). t || (badVersion bs || badArguments bs)) (sym q) ∙ d)
 
 -- a record that is not whole has no command

@@ -16,12 +16,8 @@ use Rattle.book.specs.Program as program
 use Rattle.records.specs.declared.Command.{Command}
 use Rattle.records.specs.declared.Found.the-variants.{End, More, Bad, Record}
 use Rattle.records.specs.Record.{takes, commandIn, argumentsIn, doomed, readRecord, asked, startOf}
-use Rattle.records.specs.Reading.{range-within, takes-none, doomed-four, doomed-takes, hopeful-length, hopeful-version, hopeful-takes}
+use Rattle.records.specs.Reading.{never, range-within, takes-none, doomed-four, doomed-takes, hopeful-length, hopeful-version, hopeful-takes}
 use Rattle.records.specs.Links.{read-cases, operations, same-byte, same-length, doomed-stays, partial-none, found-whole, found-command}
-
--- two answers that differ
-pub never : {A : Type 0} → _≡_ {A = ℕ} 0 1 → A
-never e = absurd (omega arith)
 
 -- ---- a record
 

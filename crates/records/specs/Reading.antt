@@ -1,4 +1,4 @@
--- What `readRecord` says of every continuation of the bytes at hand, by the book's reading. Assumes nothing.
+-- The laws by which the reader's code meets `takes`, `commandIn`, `doomed` and `readRecord`. Assumes nothing.
 use mathlib.Core.Path.{_≡_, refl, sym, ap, _∙_}
 use mathlib.Core.Bool.{Bool, true, false, not, cond, _&&_, _||_}
 use mathlib.Core.List.{List}
@@ -9,32 +9,33 @@ use lib.Dec.{leb, eqb}
 use lib.ListN.{length, getD, take, drop, length-drop}
 use lib.Seq.{length-take-le}
 use borrow.Author.Tests.{leb-true, eqb-true, le-leb, lt-leb, eq-eqb, ne-eqb}
+use Rattle.tokens.proofs.Table.{both-true}
 use Rattle.book.specs.Program.{recordLength}
 use Rattle.records.specs.declared.Command.{Command}
 use Rattle.records.specs.declared.Command.the-variants.{Collect}
 use Rattle.records.specs.declared.Found.the-variants.{End, More, Bad, Record}
 use Rattle.records.specs.Record.{inRange, takes, commandIn, argumentsIn, badLength, badVersion, badArguments, doomed, partial, readRecord}
 
+-- two constructors that differ
+pub never : {A : Type 0} → _≡_ {A = ℕ} 0 1 → A
+never e = absurd (omega arith)
+
 -- ---- tests
 
-pub and-true : (a b : Bool) → (a && b) ≡ true → (a ≡ true) × (b ≡ true)
-and-true true b e = (refl, e)
-and-true false b e = let z : _≡_ {A = ℕ} 0 1 = cc in absurd (omega arith)
-
-or-false : (a b : Bool) → (a || b) ≡ false → (a ≡ false) × (b ≡ false)
-or-false true b e = let z : _≡_ {A = ℕ} 0 1 = cc in absurd (omega arith)
-or-false false b e = (refl, e)
+either-false : (a b : Bool) → (a || b) ≡ false → (a ≡ false) × (b ≡ false)
+either-false true b e = never (cc)
+either-false false b e = (refl, e)
 
 -- a test that is made once there are bytes enough
 passes : (a t : Bool) → (a && not t) ≡ false → a ≡ true → t ≡ true
 passes true true e h = refl
 passes true false e h = sym e
-passes false t e h = let z : _≡_ {A = ℕ} 0 1 = cc in absurd (omega arith)
+passes false t e h = never (cc)
 
 pub fails : (a t : Bool) → (a && not t) ≡ true → (a ≡ true) × (t ≡ false)
-fails true true e = let z : _≡_ {A = ℕ} 0 1 = cc in absurd (omega arith)
+fails true true e = never (cc)
 fails true false e = (refl, refl)
-fails false t e = let z : _≡_ {A = ℕ} 0 1 = cc in absurd (omega arith)
+fails false t e = never (cc)
 
 -- ---- where the reading ends early
 
@@ -42,7 +43,7 @@ pub range-within : (L : ℕ) → 2 ≤ L → L ≤ 1_100 → inRange L ≡ true
 range-within L a b = rw (le-leb 2 L a, le-leb L 1_100 b)
 
 pub range-parts : (L : ℕ) → inRange L ≡ true → (2 ≤ L) × (L ≤ 1_100)
-range-parts L e = let p = and-true (leb 2 L) (leb L 1_100) e in (leb-true 2 L (p .0), leb-true L 1_100 (p .1))
+range-parts L e = let p = both-true (leb 2 L) (leb L 1_100) e in (leb-true 2 L (p .0), leb-true L 1_100 (p .1))
 
 pub range-below : (L : ℕ) → L < 2 → inRange L ≡ false
 range-below L a = rw (lt-leb 2 L a)
@@ -107,11 +108,11 @@ read-whole bs ended d s = rw (ne-eqb (length bs) 0 (λ e. omega arith), d, le-le
 -- what is known of bytes that are not doomed
 module _ (bs : List ℕ) (d : doomed bs ≡ false) where
   later : (badVersion bs ≡ false) × (badArguments bs ≡ false)
-  later = or-false (badVersion bs) (badArguments bs) (or-false (badLength bs) (badVersion bs || badArguments bs) d .1)
+  later = either-false (badVersion bs) (badArguments bs) (either-false (badLength bs) (badVersion bs || badArguments bs) d .1)
 
   pub hopeful-length : 2 ≤ length bs → (2 ≤ recordLength bs) × (recordLength bs ≤ 1_100)
   hopeful-length h =
-      range-parts (recordLength bs) (passes (leb 2 (length bs)) (inRange (recordLength bs)) (or-false (badLength bs) (badVersion bs || badArguments bs) d .0) (le-leb 2 (length bs) h))
+      range-parts (recordLength bs) (passes (leb 2 (length bs)) (inRange (recordLength bs)) (either-false (badLength bs) (badVersion bs || badArguments bs) d .0) (le-leb 2 (length bs) h))
 
   pub hopeful-version : 3 ≤ length bs → getD bs 2 0 ≡ 1
   hopeful-version h = eqb-true (getD bs 2 0) 1 (passes (leb 3 (length bs)) (eqb (getD bs 2 0) 1) (later .0) (le-leb 3 (length bs) h))
