@@ -190,6 +190,7 @@ module _ (bs rest : List ℕ) where
 
   -- bytes that are doomed stay so
   pub doomed-stays : doomed bs ≡ true → commandAt (bs ++ rest) ≡ none
+  unfolding doomed
   doomed-stays d = first (badLength bs) refl
     where
       third : badArguments bs ≡ true → commandAt (bs ++ rest) ≡ none

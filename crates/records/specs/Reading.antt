@@ -53,12 +53,15 @@ range-above L a = rw (lt-leb L 1_100 a, le-leb 2 L (omega arith))
 
 -- no test is made before its bytes are there
 pub doomed-two : (bs : List ℕ) → length bs < 2 → doomed bs ≡ false
+unfolding doomed
 doomed-two bs h = rw (lt-leb 2 (length bs) h, lt-leb 3 (length bs) (omega arith), lt-leb 4 (length bs) (omega arith))
 
 pub doomed-length : (bs : List ℕ) → 2 ≤ length bs → inRange (recordLength bs) ≡ false → doomed bs ≡ true
+unfolding doomed
 doomed-length bs h e = rw (le-leb 2 (length bs) h, e)
 
 pub doomed-three : (bs : List ℕ) → length bs < 3 → inRange (recordLength bs) ≡ true → doomed bs ≡ false
+unfolding doomed
 doomed-three bs h e = rw (lt-leb 3 (length bs) h, lt-leb 4 (length bs) (omega arith), e) (both-ways (leb 2 (length bs)))
   where
     both-ways : (a : Bool) → ((a && false) || false) ≡ false
@@ -66,13 +69,16 @@ doomed-three bs h e = rw (lt-leb 3 (length bs) h, lt-leb 4 (length bs) (omega ar
     both-ways false = refl
 
 pub doomed-version : (bs : List ℕ) → 3 ≤ length bs → (getD bs 2 0 ≡ 1 → ⊥) → inRange (recordLength bs) ≡ true → doomed bs ≡ true
+unfolding doomed
 doomed-version bs h v e = rw (le-leb 2 (length bs) (omega arith), le-leb 3 (length bs) h, ne-eqb (getD bs 2 0) 1 v, e)
 
 pub doomed-four : (bs : List ℕ) → 3 ≤ length bs → length bs < 4 → getD bs 2 0 ≡ 1 → inRange (recordLength bs) ≡ true → doomed bs ≡ false
+unfolding doomed
 doomed-four bs g h v e = rw (le-leb 2 (length bs) (omega arith), le-leb 3 (length bs) g, lt-leb 4 (length bs) h, eq-eqb (getD bs 2 0) 1 v, e)
 
 pub doomed-takes : (bs : List ℕ) → 4 ≤ length bs → getD bs 2 0 ≡ 1 → inRange (recordLength bs) ≡ true
     → doomed bs ≡ not (takes (getD bs 3 0) (recordLength bs - 2))
+unfolding doomed
 doomed-takes bs h v e =
     rw (le-leb 2 (length bs) (omega arith), le-leb 3 (length bs) (omega arith), le-leb 4 (length bs) h, eq-eqb (getD bs 2 0) 1 v, e)
 
@@ -93,24 +99,30 @@ command-last op xs a b c d e = rw (ne-eqb op 1 a, ne-eqb op 2 b, ne-eqb op 3 c, 
 -- ---- the four ways of reading
 
 pub read-none : (bs : List ℕ) (ended : Bool) → length bs ≡ 0 → readRecord bs ended ≡ cond ended End More
+unfolding readRecord
 read-none bs ended h = rw (eq-eqb (length bs) 0 h)
 
 pub read-bad : (bs : List ℕ) (ended : Bool) → 1 ≤ length bs → doomed bs ≡ true → readRecord bs ended ≡ Bad
+unfolding readRecord
 read-bad bs ended h d = rw (ne-eqb (length bs) 0 (λ e. omega arith), d)
 
 pub read-partial : (bs : List ℕ) (ended : Bool) → 1 ≤ length bs → doomed bs ≡ false → length bs < 2 + recordLength bs → readRecord bs ended ≡ partial ended
+unfolding readRecord
 read-partial bs ended h d s = rw (ne-eqb (length bs) 0 (λ e. omega arith), d, lt-leb (2 + recordLength bs) (length bs) s)
 
 pub read-whole : (bs : List ℕ) (ended : Bool) → doomed bs ≡ false → 2 + recordLength bs ≤ length bs
     → readRecord bs ended ≡ Record (commandIn (getD bs 3 0) (argumentsIn bs)) (2 + recordLength bs)
+unfolding readRecord
 read-whole bs ended d s = rw (ne-eqb (length bs) 0 (λ e. omega arith), d, le-leb (2 + recordLength bs) (length bs) s)
 
 -- what is known of bytes that are not doomed
 module _ (bs : List ℕ) (d : doomed bs ≡ false) where
   later : (badVersion bs ≡ false) × (badArguments bs ≡ false)
+  unfolding doomed
   later = either-false (badVersion bs) (badArguments bs) (either-false (badLength bs) (badVersion bs || badArguments bs) d .1)
 
   pub hopeful-length : 2 ≤ length bs → (2 ≤ recordLength bs) × (recordLength bs ≤ 1_100)
+  unfolding doomed
   hopeful-length h =
       range-parts (recordLength bs) (passes (leb 2 (length bs)) (inRange (recordLength bs)) (either-false (badLength bs) (badVersion bs || badArguments bs) d .0) (le-leb 2 (length bs) h))
 

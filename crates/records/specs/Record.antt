@@ -58,15 +58,15 @@ abbrev pub badArguments : List ℕ → Bool
 badArguments bs = leb 4 (length bs) && not (takes (getD bs 3 0) (recordLength bs - 2))
 
 -- the bytes at hand are enough to say `end bad`
-abbrev pub doomed : List ℕ → Bool
+unfoldable pub doomed : List ℕ → Bool
 doomed bs = badLength bs || (badVersion bs || badArguments bs)
 
 -- a record that is not whole: "`end bad` at a record cut short", where no more bytes will come
 abbrev pub partial : Bool → Found
 partial ended = cond ended Bad More
 
--- what stands in the bytes at hand
-abbrev pub readRecord : List ℕ → Bool → Found
+-- what stands in the bytes at hand; `ended`: no more will come
+unfoldable pub readRecord : List ℕ → Bool → Found
 readRecord bs ended =
     cond (eqb (length bs) 0) (cond ended End More)
     (cond (doomed bs) Bad
