@@ -17,7 +17,12 @@ pub record Wrote (old : List ℕ) (at : ℕ) (bytes new : List ℕ) (end : ℕ) 
   pub contents : new ≡ sets old at bytes
   pub past : end ≡ at + length bytes
 
--- the same, as parts: what was before the place, the bytes, and what was after them
+-- the same, in so much room at most
+pub record WroteWithin (room : ℕ) (old : List ℕ) (at : ℕ) (bytes new : List ℕ) (end : ℕ) : Type 0 where
+  pub wrote : Wrote old at bytes new end
+  pub within : end ≤ at + room
+
+-- as parts: what was before the place, the bytes, and what was after them
 pub wrote-parts : {old new : List ℕ} {at end : ℕ} (bytes : List ℕ) → at + length bytes ≤ length old → Wrote old at bytes new end
     → new ≡ take at old ++ bytes ++ drop end old
 wrote-parts {old} {new} {at} {end} bytes room w =
@@ -80,22 +85,6 @@ decimal-last k h = rw (lt-ltb k 10 h)
 pub decimal-more : (k : ℕ) → 10 ≤ k → k < 10 ^ 10 → decimal k ≡ decimal (k / 10) ++ ((48 + k % 10) ∷ [])
 decimal-more k g h = rw (le-ltb k 10 g) (ap (λ (l : List ℕ). l ++ ((48 + k % 10) ∷ [])) (sym (digits-more 8 (k / 10) (omega (arith, pow-suc 10 9)))))
 
--- a number is its last digit, or what stands before it and its last digit
-pub number-last : (l : List ℕ) (i k : ℕ) → k < 10 → Wrote l i (decimal k) (set l i (48 + k)) (i + 1)
-number-last l i k h = subst (λ (ds : List ℕ). Wrote l i ds (set l i (48 + k)) (i + 1)) (sym (decimal-last k h)) (wrote-byte l i (48 + k))
-
-pub number-more : {l m : List ℕ} {i j : ℕ} (k : ℕ) → 10 ≤ k → k < 10 ^ 10 → Wrote l i (decimal (k / 10)) m j
-    → Wrote l i (decimal k) (set m j (48 + k % 10)) (j + 1)
-number-more {l} {m} {i} {j} k g h w =
-    subst (λ (ds : List ℕ). Wrote l i ds (set m j (48 + k % 10)) (j + 1)) (sym (decimal-more k g h))
-    (wrote-then (decimal (k / 10)) ((48 + k % 10) ∷ []) w (wrote-byte m j (48 + k % 10)))
-
-pub decimal-one : (k : ℕ) → k < 10 → length (decimal k) ≡ 1
-decimal-one k h = ap length (decimal-last k h)
-
-pub decimal-longer : (k : ℕ) → 10 ≤ k → k < 10 ^ 10 → length (decimal k) ≡ length (decimal (k / 10)) + 1
-decimal-longer k g h = ap length (decimal-more k g h) ∙ length-append (decimal (k / 10)) ((48 + k % 10) ∷ [])
-
 -- a number of j + 1 digits at most
 digits-length : (j k : ℕ) → length (digits j k) ≤ suc j
 digits-length zero k = omega arith
@@ -108,6 +97,21 @@ digits-length (suc j) k = go (ltb k 10) (digits j (k / 10)) (digits-length j (k 
 pub decimal-length : (k : ℕ) → length (decimal k) ≤ 10
 decimal-length k = digits-length 9 k
 
+-- a number is its last digit, or what stands before it and its last digit
+pub number-last : (l : List ℕ) (i k : ℕ) → k < 10 → WroteWithin 10 l i (decimal k) (set l i (48 + k)) (i + 1)
+number-last l i k h = record {
+  wrote = subst (λ (ds : List ℕ). Wrote l i ds (set l i (48 + k)) (i + 1)) (sym (decimal-last k h)) (wrote-byte l i (48 + k));
+  within = omega arith;
+}
+
+pub number-more : {l m : List ℕ} {i j : ℕ} (k : ℕ) → 10 ≤ k → k < 10 ^ 10 → Wrote l i (decimal (k / 10)) m j
+    → WroteWithin 10 l i (decimal k) (set m j (48 + k % 10)) (j + 1)
+number-more {l} {m} {i} {j} k g h w =
+    let v : Wrote l i (decimal k) (set m j (48 + k % 10)) (j + 1) =
+    subst (λ (ds : List ℕ). Wrote l i ds (set m j (48 + k % 10)) (j + 1)) (sym (decimal-more k g h))
+    (wrote-then (decimal (k / 10)) ((48 + k % 10) ∷ []) w (wrote-byte m j (48 + k % 10))) in
+    record { wrote = v; within = omega (arith, v .past, decimal-length k) }
+
 -- ---- lines
 
 -- a number and the byte after it
@@ -118,18 +122,26 @@ fieldText k after = decimal k ++ (after ∷ [])
 pub line-fields : (a b c d : ℕ) → ((fieldText a 32 ++ fieldText b 32) ++ fieldText c 32) ++ fieldText d 10 ≡ textOf (fields a b c d) []
 line-fields a b c d = simp append-assoc
 
-pub wrote-field : {l m : List ℕ} {i j : ℕ} (k after : ℕ) → Wrote l i (decimal k) m j → Wrote l i (fieldText k after) (set m j after) (j + 1)
-wrote-field {l} {m} {i} {j} k after w = wrote-then (decimal k) (after ∷ []) w (wrote-byte m j after)
+pub wrote-field : {l m : List ℕ} {i j : ℕ} (k after : ℕ) → WroteWithin 10 l i (decimal k) m j → WroteWithin 11 l i (fieldText k after) (set m j after) (j + 1)
+wrote-field {l} {m} {i} {j} k after w = record {
+  wrote = wrote-then (decimal k) (after ∷ []) (w .wrote) (wrote-byte m j after);
+  within = omega (arith, w .within);
+}
 
-pub field-length : (k after : ℕ) → length (fieldText k after) ≤ 11
-field-length k after = omega (arith, decimal-length k, length-append (decimal k) (after ∷ []))
+pub wrote-line : {l m₁ m₂ m₃ n : List ℕ} {i j₁ j₂ j₃ e : ℕ} (a b c d : ℕ) → WroteWithin 11 l i (fieldText a 32) m₁ j₁ → WroteWithin 11 m₁ j₁ (fieldText b 32) m₂ j₂
+    → WroteWithin 11 m₂ j₂ (fieldText c 32) m₃ j₃ → WroteWithin 11 m₃ j₃ (fieldText d 10) n e → WroteWithin 44 l i (textOf (fields a b c d) []) n e
+wrote-line {l} {m₁} {m₂} {m₃} {n} {i} {j₁} {j₂} {j₃} {e} a b c d w₁ w₂ w₃ w₄ = record {
+  wrote =
+      subst (λ (ys : List ℕ). Wrote l i ys n e) (line-fields a b c d)
+      (wrote-then ((fieldText a 32 ++ fieldText b 32) ++ fieldText c 32) (fieldText d 10)
+      (wrote-then (fieldText a 32 ++ fieldText b 32) (fieldText c 32) (wrote-then (fieldText a 32) (fieldText b 32) (w₁ .wrote) (w₂ .wrote)) (w₃ .wrote)) (w₄ .wrote));
+  within = omega (arith, w₁ .within, w₂ .within, w₃ .within, w₄ .within);
+}
 
-pub wrote-line : {l m₁ m₂ m₃ n : List ℕ} {i j₁ j₂ j₃ e : ℕ} (a b c d : ℕ) → Wrote l i (fieldText a 32) m₁ j₁ → Wrote m₁ j₁ (fieldText b 32) m₂ j₂
-    → Wrote m₂ j₂ (fieldText c 32) m₃ j₃ → Wrote m₃ j₃ (fieldText d 10) n e → Wrote l i (textOf (fields a b c d) []) n e
-wrote-line {l} {m₁} {m₂} {m₃} {n} {i} {j₁} {j₂} {j₃} {e} a b c d w₁ w₂ w₃ w₄ =
-    subst (λ (ys : List ℕ). Wrote l i ys n e) (line-fields a b c d)
-    (wrote-then ((fieldText a 32 ++ fieldText b 32) ++ fieldText c 32) (fieldText d 10)
-    (wrote-then (fieldText a 32 ++ fieldText b 32) (fieldText c 32) (wrote-then (fieldText a 32) (fieldText b 32) w₁ w₂) w₃) w₄)
+-- the last line
+pub wrote-end : {l m : List ℕ} {i e : ℕ} (ok : Bool) → Wrote l i (textOf (endLine ok) []) m e → WroteWithin 8 l i (textOf (endLine ok) []) m e
+wrote-end true w = record { wrote = w; within = omega (arith, w .past) }
+wrote-end false w = record { wrote = w; within = omega (arith, w .past) }
 
 -- what follows a line follows its text
 pub text-then : (x : Line) (more : List ℕ) → textOf x more ≡ textOf x [] ++ more

@@ -6,7 +6,7 @@ ghost use Prim.Native.Nat.{_+_, _*_, _≤_};
 ghost use lib.ListN.{length, getD};
 ghost use Rattle.book.specs.Program.{decimal, textOf, fields};
 ghost use Rattle.records.specs.Record.{takes, doomed, commandIn, partial, readRecord};
-ghost use Rattle.records.specs.Text.{Wrote, fieldText, endLine};
+ghost use Rattle.records.specs.Text.{Wrote, WroteWithin, fieldText, endLine};
 
 // What a record asks; `start` is where the formula begins in the record.
 pub enum Command {
@@ -153,10 +153,7 @@ pub fn command_in(op: u8, arguments: &[u8]) -> Command
 fn partial(ended: bool) -> Found
     ensures { λ r. ⌜ r ≡ partial ended ⌝ }
 {
-    if ended {
-        return Found::Bad;
-    }
-    Found::More
+    if ended { Found::Bad } else { Found::More }
 }
 
 // What stands in the bytes at hand; `ended` says that no more will come.
@@ -183,10 +180,10 @@ pub fn read_record(bytes: &[u8], ended: bool) -> Found
     Found::Record { command, size }
 }
 
-// Writes a number in decimal, and answers the place after it.
+// Writes a number in decimal, and answers the place after it; there is room for a byte after ten digits.
 fn write_number(out: &mut [u8], at: usize, x: u32) -> usize
-    requires { ⌜ at + length (decimal x) ≤ length (now out) ⌝ }
-    ensures { λ r. ⌜ Wrote (now (out .entry)) at (decimal x) (now (out .exit)) r ⌝ }
+    requires { ⌜ at + 11 ≤ length (now out) ⌝ }
+    ensures { λ r. ⌜ WroteWithin 10 (now (out .entry)) at (decimal x) (now (out .exit)) r ⌝ }
 {
     if x < 10 {
         out[at] = Text::ZERO + x as u8;
@@ -200,7 +197,7 @@ fn write_number(out: &mut [u8], at: usize, x: u32) -> usize
 // Writes a number and the byte after it, and answers the place after both.
 fn write_field(out: &mut [u8], at: usize, x: u32, after: u8) -> usize
     requires { ⌜ at + 11 ≤ length (now out) ⌝ }
-    ensures { λ r. ⌜ Wrote (now (out .entry)) at (fieldText x after) (now (out .exit)) r ⌝ }
+    ensures { λ r. ⌜ WroteWithin 11 (now (out .entry)) at (fieldText x after) (now (out .exit)) r ⌝ }
 {
     let end = write_number(out, at, x);
     out[end] = after;
@@ -210,7 +207,7 @@ fn write_field(out: &mut [u8], at: usize, x: u32, after: u8) -> usize
 // Writes the line of a record, and answers the place after it.
 pub fn write_line(out: &mut [u8], at: usize, op: u32, number: u32, value: u32, rounds: u32) -> usize
     requires { ⌜ at + 44 ≤ length (now out) ⌝ }
-    ensures { λ r. ⌜ Wrote (now (out .entry)) at (textOf (fields op number value rounds) []) (now (out .exit)) r ⌝ }
+    ensures { λ r. ⌜ WroteWithin 44 (now (out .entry)) at (textOf (fields op number value rounds) []) (now (out .exit)) r ⌝ }
 {
     let second = write_field(out, at, op, Text::SPACE);
     let third = write_field(out, second, number, Text::SPACE);
@@ -234,7 +231,7 @@ fn write_text(out: &mut [u8], at: usize, text: &[u8]) -> usize
 // Writes the last line, and answers the place after it.
 pub fn write_end(out: &mut [u8], at: usize, ok: bool) -> usize
     requires { ⌜ at + 8 ≤ length (now out) ⌝ }
-    ensures { λ r. ⌜ Wrote (now (out .entry)) at (textOf (endLine ok) []) (now (out .exit)) r ⌝ }
+    ensures { λ r. ⌜ WroteWithin 8 (now (out .entry)) at (textOf (endLine ok) []) (now (out .exit)) r ⌝ }
 {
     if ok {
         return write_text(out, at, b"end ok\n");

@@ -3,7 +3,7 @@
 use borrow.Author.Needs.{needs}
 use native.Mathlib.Omega.{arith}
 use lib.ListN.{length-set}
-use Rattle.records.specs.Text.{number-last, number-more, decimal-one, decimal-longer}
+use Rattle.records.specs.Text.{number-last, number-more}
 use Prim.Native.Nat.{ℕ, _<_}
 use borrow.Fn.Kinds.{In}
 use borrow.Fn.PlainCycle.{Measures, is, falls, and}
@@ -37,14 +37,14 @@ pub +write-number-spec : {M : Type 1} → statement M
     write-number.Post
     (λ c. search needs)
     (λ c. search needs)
-    (λ c. omega (arith, c .before .before .pre .1, decimal-one (c .before .before .args .x) (omega arith)))
+    (λ c. omega (arith, c .before .before .pre .1))
     (λ c. search needs)
     (λ c. search needs)
-    (λ c. number-last _ _ _ (omega arith))
-    (λ c κs. (omega (arith, c .before .before .before .pre .0), omega (arith, c .before .before .before .pre .1, decimal-longer (c .before .before .before .args .x) (omega arith) (omega arith))))
+    (λ c. number-last _ _ (c .before .before .args .x) (omega arith))
+    (λ c κs. (omega (arith, c .before .before .before .pre .0), omega (arith, c .before .before .before .pre .1)))
+    (λ c. omega arith)
     (λ c. search needs)
-    (λ c. search needs)
-    (λ c. omega (arith, c .before .before .before .before .before .before .pre .1, c .before .before .write-number .ensures .past, c .before .before .write-number .kept .0, decimal-longer (c .before .before .before .before .before .before .args .x) (omega arith) (omega arith)))
-    (λ c. omega (arith, c .before .before .before .before .before .before .pre .1, c .before .before .write-number .ensures .past, decimal-longer (c .before .before .before .before .before .before .args .x) (omega arith) (omega arith)))
+    (λ c. omega (arith, c .before .before .before .before .before .before .pre .1, c .before .before .write-number .ensures .within, c .before .before .write-number .kept .0))
+    (λ c. omega (arith, c .before .before .before .before .before .before .pre .1, c .before .before .write-number .ensures .within))
     (λ c. simp length-set (c .before .before .write-number .kept .0))
-    (λ c. number-more (c .before .before .before .before .before .before .args .x) (omega arith) (omega arith) (c .before .before .write-number .ensures))
+    (λ c. number-more (c .before .before .before .before .before .before .args .x) (omega arith) (omega arith) (c .before .before .write-number .ensures .wrote))
