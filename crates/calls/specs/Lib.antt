@@ -2,5 +2,4 @@ pub mod Replies
 pub mod Fresh
 pub mod Changes
 pub mod Questions
-pub mod Evaluated
 pub mod Caught
