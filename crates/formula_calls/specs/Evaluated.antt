@@ -40,6 +40,10 @@ or-right : (a b : Bool) → (a || b) ≡ false → b ≡ false
 or-right true b e = absurd (true≢false e)
 or-right false b e = e
 
+pub or-true : (a : Bool) → (a || true) ≡ true
+or-true true = refl
+or-true false = refl
+
 -- a word that is not free is none of the index's and the slots'
 module _ (h : ℕ) (e : freeWord h ≡ false) where
   not-used : h ≢ USED
@@ -86,10 +90,6 @@ module _ (c : Call) (y : Reply) where
     beyond = l .beyond;
   }
     where
-      or-true : (a : Bool) → (a || true) ≡ true
-      or-true true = refl
-      or-true false = refl
-
       answered : (h : ℕ) → h ≡ k → (eqb (y .number) 0 && target c h) ≡ true
       answered h q = rw (eq-eqb (y .number) 0 z, q) t
 
@@ -193,7 +193,7 @@ tidied-left c y {W} (as-it-was e) l = subst (Left c y W) (sym e) l
 tidied-left c y (freed g f k) l = left-op c y l f
 
 -- neither set nor relation settles all words
-abbrev takesFormula : Call → Type 0
+abbrev pub takesFormula : Call → Type 0
 takesFormula (relation t bs) = Unit {0}
 takesFormula (set r R bs) = Unit {0}
 takesFormula (clear r) = ⊥
