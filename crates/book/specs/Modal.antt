@@ -64,7 +64,7 @@ module _ (n N limit : ℕ) {before : Rows} {roots : List ℕ} {live : List Fn} (
       q .steps go ∙ step-taken n N g noRows p (existsSteps n limit live j (existsF (suc (2 * j)) (q .F)) go)
 
   -- no level is left
-  quantify-end : {rows : Rows} {C : Fn} {c : ℕ} → Quantifies n N limit before rows roots live C 0 c → Denotes (2 * n) rows c (existsNext n C)
+  pub quantify-end : {rows : Rows} {C : Fn} {c : ℕ} → Quantifies n N limit before rows roots live C 0 c → Denotes (2 * n) rows c (existsNext n C)
   unfolding existsNext
   quantify-end q = denotes-same (sym (q .rest)) (q .denotes)
 

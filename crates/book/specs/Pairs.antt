@@ -40,7 +40,7 @@ module _ (n N : ℕ) where
       go false m = tt
 
   -- what follows a value: its steps so far fit
-  pair-then : {before mid after : Rows} {roots : List ℕ} {F G : Fn} {a : ℕ} {y : Result} (b c : Bool) → PairEvals n N before mid roots b F (at a)
+  pub pair-then : {before mid after : Rows} {roots : List ℕ} {F G : Fn} {a : ℕ} {y : Result} (b c : Bool) → PairEvals n N before mid roots b F (at a)
       → (Denotes (2 * n) mid a F → PairEvals n N before after roots c G y) → PairEvals n N before after roots (b && c) G y
   pair-then true c d k = k (d .result)
   pair-then false c d k = absurd (d .result)
@@ -64,7 +64,7 @@ module _ (n N : ℕ) where
 
     -- ---- a step after others
 
-    pair-step : {limit : ℕ} {mid after : Rows} {roots′ : List ℕ} {live′ : List Fn} {F : Fn} (G : Fn) → (Keeps mid after roots′ → Keeps before after roots)
+    pub pair-step : {limit : ℕ} {mid after : Rows} {roots′ : List ℕ} {live′ : List Fn} {F : Fn} (G : Fn) → (Keeps mid after roots′ → Keeps before after roots)
         → Held (2 * n) mid roots′ live′ → F ≡ G → (answer : Result) → StepPost (2 * n) N limit mid after roots′ answer F
         → PairEvals n N before after roots (leb (stepNeed (2 * n) live′ G) limit) G answer
     pair-step {limit} {mid} {after} {roots′} {live′} G keeping g e answer p′ =

@@ -44,12 +44,16 @@ notNeed n live A = stepNeed (2 * n) (fnOf n A ∷ live) (fnOf n (compl (2 ^ n) A
 abbrev pub twoNeed : ℕ → List Fn → (List Bool → List Bool → List Bool) → List Bool → List Bool → ℕ
 twoNeed n live op A B = stepNeed (2 * n) (fnOf n B ∷ fnOf n A ∷ live) (fnOf n (op A B))
 
--- "Diamond of f: SHIFT f, AND with the relation, EXISTS at levels 2n − 1, 2n − 3, down to 1"
+-- "Diamond of f: SHIFT f, AND with the relation, EXISTS at levels 2n − 1, 2n − 3, down to 1", of functions of levels
+abbrev pub diamondNeeds : ℕ → List Fn → Fn → Fn → List ℕ
+diamondNeeds n live R F =
+    let S = shiftF F in
+    let C = andF S R in
+    stepNeed (2 * n) (F ∷ live) S ∷ stepNeed (2 * n) (S ∷ R ∷ live) C ∷ existsNeeds n live n C
+
+-- of the set A over the relation R
 abbrev pub diaNeeds : ℕ → List Fn → Pairs → List Bool → List ℕ
-diaNeeds n live R A =
-    let S = shiftF (fnOf n A) in
-    let C = andF S (fnOfPairs n R) in
-    stepNeed (2 * n) (fnOf n A ∷ live) S ∷ stepNeed (2 * n) (S ∷ fnOfPairs n R ∷ live) C ∷ existsNeeds n live n C
+diaNeeds n live R A = diamondNeeds n live (fnOfPairs n R) (fnOf n A)
 
 -- "Box: NOT f, diamond, NOT"
 abbrev pub boxNeeds : ℕ → List Fn → Pairs → List Bool → List ℕ

@@ -114,14 +114,14 @@ module _ (N R : ℕ) where
   last-step : (C : List Bool) (q k : ℕ) → cond (leb k N) (value C q) fullRun ≡ settle C (verdict N R q (steps (k ∷ [])))
   last-step C q k = sym (settle-step C q k [])
 
-  exists-ticks : (n : ℕ) (live : List Fn) (C : List Bool) (q j : ℕ) (F : Fn) → existsSteps n N live j F (value C q) ≡ settle C (verdict N R q (steps (existsNeeds n live j F)))
+  pub exists-ticks : (n : ℕ) (live : List Fn) (C : List Bool) (q j : ℕ) (F : Fn) → existsSteps n N live j F (value C q) ≡ settle C (verdict N R q (steps (existsNeeds n live j F)))
   exists-ticks n live C q zero F = refl
   exists-ticks n live C q (suc j) F =
       let E = existsF (suc (2 * j)) F in
       let k = stepNeed (2 * n) (F ∷ live) E in
       ap (λ (o : Outcome). cond (leb k N) o fullRun) (exists-ticks n live C q j E) ∙ sym (settle-step C q k (steps (existsNeeds n live j E)))
 
-  dia-ticks : (n : ℕ) (live : List Fn) (Q : Pairs) (A : List Bool) (q : ℕ) → diaSteps n N live Q A q ≡ settle (sometimes (2 ^ n) Q A) (verdict N R q (steps (diaNeeds n live Q A)))
+  pub dia-ticks : (n : ℕ) (live : List Fn) (Q : Pairs) (A : List Bool) (q : ℕ) → diaSteps n N live Q A q ≡ settle (sometimes (2 ^ n) Q A) (verdict N R q (steps (diaNeeds n live Q A)))
   dia-ticks n live Q A q =
       let S = shiftF (fnOf n A) in
       let C = andF S (fnOfPairs n Q) in
@@ -132,7 +132,7 @@ module _ (N R : ℕ) where
       (ap (λ (o : Outcome). cond (leb l N) o fullRun) (exists-ticks n live B q n C) ∙ sym (settle-step B q l (steps (existsNeeds n live n C))))
       ∙ sym (settle-step B q k (step l ∷ steps (existsNeeds n live n C)))
 
-  box-ticks : (n : ℕ) (live : List Fn) (Q : Pairs) (A : List Bool) (q : ℕ) → boxSteps n N live Q A q ≡ settle (always (2 ^ n) Q A) (verdict N R q (steps (boxNeeds n live Q A)))
+  pub box-ticks : (n : ℕ) (live : List Fn) (Q : Pairs) (A : List Bool) (q : ℕ) → boxSteps n N live Q A q ≡ settle (always (2 ^ n) Q A) (verdict N R q (steps (boxNeeds n live Q A)))
   box-ticks n live Q A q =
       let B = compl (2 ^ n) A in
       let C = sometimes (2 ^ n) Q B in

@@ -73,14 +73,17 @@ module _ {m N limit : ℕ} {W : View} (r : Ready m N limit W) where
   ready-room = good-room W (r .good)
 
   -- the table is ready for the next operation
-  pub ready-next : {X : View} {o : Made} {F : Fn} → Worked m N limit W X o F → Ready m N limit X
-  ready-next w = record {
-    good = w .good;
-    memory = w .memory;
-    levels-is = r .levels-is ∙ ap (λ (b : ℕ). 2 * b) (sym (w .frame .header BITS (omega arith) (omega arith) (omega arith) (omega arith)));
-    rows-is = r .rows-is ∙ sym (w .frame .rows);
+  pub ready-frame : {X : View} → OpFrame W X → Good X → Remembers m X → Ready m N limit X
+  ready-frame f g k = record {
+    good = g;
+    memory = k;
+    levels-is = r .levels-is ∙ ap (λ (b : ℕ). 2 * b) (sym (f .header BITS (omega arith) (omega arith) (omega arith) (omega arith)));
+    rows-is = r .rows-is ∙ sym (f .rows);
     limit-le = r .limit-le;
   }
+
+  pub ready-next : {X : View} {o : Made} {F : Fn} → Worked m N limit W X o F → Ready m N limit X
+  ready-next w = ready-frame (w .frame) (w .good) (w .memory)
 
   -- an answer that is there already
   pub worked-there : {a : ℕ} {F : Fn} → Denotes m (rowsOf W) a F → Worked m N limit W W (answer.At a) F

@@ -2,7 +2,7 @@
 use mathlib.Core.Path.{_≡_, sym, ap, _∙_, subst}
 use mathlib.Core.List.{List, List·Memᴰ as Mem, List·Memᴰ·tail as there, List·Memᴰ·cases-cons as mem-cases}
 use mathlib.Core.Logic.{⊎-elim}
-use Prim.Native.Nat.{ℕ, _*_}
+use Prim.Native.Nat.{ℕ, _*_, _≤_}
 use native.Mathlib.Omega.{arith}
 use Rattle.diagram.specs.Rows.{Rows, Arrow}
 use Rattle.diagram.specs.Grow.{arrow-extends}
@@ -14,12 +14,15 @@ use Rattle.layout.specs.Places.{BITS}
 use Rattle.layout.specs.View.{View}
 use Rattle.soundness.specs.Used.{rowsOf}
 use Rattle.soundness.specs.Sound.{Sound}
+use Rattle.soundness.specs.Alike.{alike-sound}
 use Rattle.table.specs.Make.{result}
 use Rattle.table.specs.Keep.{sound-extends}
 use Rattle.table.specs.declared.Made.{Made}
 use Rattle.table.specs.declared.Made.the-variants as answer
+use Rattle.memory.specs.Frame.{memo-alike}
 use Rattle.memory.specs.Memo.{Remembers}
-use Rattle.operations.specs.Work.{OpFrame, op-trans, Worked, ready-wf, ready-next}
+use Rattle.memory.specs.Forget.{Forgot, forgot-remembers}
+use Rattle.operations.specs.Work.{OpFrame, op-trans, Ready, Worked, ready-wf, ready-frame, ready-next}
 use Rattle.operations.specs.Rows.{even-levels}
 use Rattle.steps.specs.Steps.{stepF, operandsOf, liveAt, StepPre, Stepped, operand-arrow, fits-keeps, stepF-keeps, stepF-reads, live-arrows, operand-live, root-live, live-same}
 use Rattle.steps.specs.Clean.{CleanPre, Cleaned}
@@ -93,6 +96,10 @@ module _ {m N limit : ℕ} {W : View} {roots : List ℕ} {s : Step} (p : StepPre
         post = step-first (liveAt W roots s) (ready-wf (p .ready)) live-are (w .post) (settled-at w z);
       }
 
+  -- the table is ready for the next step
+  pub stepped-ready : {X : View} {o : Made} → Stepped m N limit W X roots s o → Ready m N limit X
+  stepped-ready z = ready-frame (p .ready) (z .frame) (z .sound .good) (z .memory)
+
   -- it ran out, and the second try decides
   pub stepped-again : {X Y : View} {o r : Made} → o ≡ answer.Full → Worked m N limit W X o (stepF m (rowsOf W) s) → Retried m N limit X Y roots s r → Stepped m N limit W Y roots s r
   stepped-again {X} {Y} {o} {r} e w′ z =
@@ -120,13 +127,7 @@ module _ {m N limit : ℕ} {W : View} {roots : List ℕ} {s : Step} (p : StepPre
     pub cleaned-pre : StepPre m N limit C roots s
     cleaned-pre = record {
       sound = c .sound;
-      ready = record {
-        good = c .sound .good;
-        memory = c .memory m;
-        levels-is = p .ready .levels-is ∙ ap (λ (b : ℕ). 2 * b) (sym (c .frame .header BITS (omega arith) (omega arith) (omega arith) (omega arith)));
-        rows-is = p .ready .rows-is ∙ sym (c .frame .rows);
-        limit-le = p .ready .limit-le;
-      };
+      ready = ready-frame (p .ready) (c .frame) (c .sound .good) (c .memory m);
       arrows = λ a h. keeps-arrow keeps a (root-live W roots s a h);
       fits = fits-keeps m s (keeps-within (operand-live W roots s) keeps) (p .fits);
     }
@@ -144,3 +145,17 @@ retried {m} {N} {limit} {W} {C} {X} {Y} {roots} {s} {o} {r} p c w z = record {
   post = w .post;
   settled = subst (λ (xs : List ℕ). Settled N limit (rowsOf X) (rowsOf Y) xs (result o) (result r)) (live-same roots s (c .frame)) (settled-at (cleaned-pre p c) w z);
 }
+
+-- where an evaluation starts, all is forgotten: "Remembered results of earlier steps count for nothing at the start of a call."
+pub start-ready : {m N limit : ℕ} {W X : View} → Sound W → Forgot W X → m ≡ 2 * W .header BITS → N ≡ W .rows → limit ≤ N → Sound X × Ready m N limit X
+start-ready {m} z f e n l =
+    let y = alike-sound (memo-alike (f .frame)) z in (
+      y,
+      record {
+        good = y .good;
+        memory = forgot-remembers m f;
+        levels-is = e ∙ ap (λ (b : ℕ). 2 * b) (sym (f .frame .header BITS (omega arith) (omega arith)));
+        rows-is = n ∙ sym (f .frame .rows);
+        limit-le = l;
+      },
+    )

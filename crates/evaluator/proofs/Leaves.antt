@@ -1,0 +1,113 @@
+-- Leaves: constants, registers and variables take no step, a current bit is one. Assumes nothing.
+use mathlib.Core.Path.{_≡_, refl, sym, ap, _∙_, subst}
+use mathlib.Core.Bool.{Bool, true, false, _&&_}
+use mathlib.Core.List.{List, [], List·Memᴰ·not-nil as mem-nil}
+use mathlib.Core.Option.{Option, some}
+use Prim.Native.Nat.{ℕ, suc, _+_, _-_, _*_, _^_, _≤_, _<_}
+use native.Mathlib.Omega.{arith}
+use lib.Dec.{ltb}
+use borrow.Author.Tests.{ltb-true}
+use lib.ListN.{length, getD, take}
+use Rattle.mucalculus.specs.Form.{Form, bot, top, now, next, var, reg, bound, inside, filled as hasContent}
+use Rattle.mucalculus.specs.Means.{clip}
+use Rattle.tokens.specs.Tokens.{leafAllowed}
+use Rattle.tokens.specs.declared.Grammar.the-variants.{States}
+use Rattle.tokens.specs.declared.Leaf.{Leaf}
+use Rattle.tokens.specs.declared.Leaf.the-variants.{Now}
+use Rattle.formula.specs.Parse.{leafForm}
+use Rattle.formula.specs.Checks.{filled}
+use Rattle.layout.specs.Places.{HEADER, FIRST-REGISTER, wordsFor}
+use Rattle.layout.specs.View.{View}
+use Rattle.diagram.specs.Post.{Denotes}
+use Rattle.diagram.specs.Steps.{bitF}
+use Rattle.soundness.specs.Used.{rowsOf}
+use Rattle.table.specs.Make.{result}
+use Rattle.table.specs.declared.Made.{Made}
+use Rattle.table.specs.declared.Made.the-variants as made
+use Rattle.collect.specs.Lent.{live}
+use Rattle.steps.specs.declared.Step.the-variants as step
+use Rattle.steps.specs.Steps.{StepPre}
+use Rattle.book.specs.Bridge.{fnOf}
+use Rattle.book.specs.Book.{registers}
+use Rattle.book.specs.Run.{value}
+use Rattle.book.specs.Follow.{evals-same, evals-leaf, denotes-none, denotes-all, denotes-clip, evals-bit}
+use Rattle.modal.specs.declared.Limits.{Limits}
+use Rattle.modal.specs.Chain.{Moved, moved-refl, base-wf, step-pre, Took}
+use Rattle.evaluator.specs.Scene.{Scene, modelIn, holdsReg, holdsRel, Named, Ready, LeafAnswers}
+use Rattle.evaluator.proofs.Parts.{and-first, and-second}
+use Rattle.evaluator.proofs.State.{in-scope, lent-arrows, filled-place}
+use Rattle.evaluator.proofs.Steps.{runIn, took-roots}
+
+module _ {L : Limits} {W : View} {stack places : List ℕ} {held : ℕ} {σ : Scene} (R : Ready L W stack places held σ) where
+  -- a leaf that takes no step
+  still : (f : Form) (a : ℕ) (A : List Bool) → ((q : ℕ) → runIn L σ f q ≡ value A q) → Denotes (2 * L .bits) (rowsOf W) a (fnOf (L .bits) A) → LeafAnswers L W W σ f (made.At a)
+  still f a A e d = record {
+    moved = moved-refl (R .base);
+    evals = λ q. evals-same (sym (e q)) (evals-leaf (L .bits) (L .rows) q (base-wf (R .base)) (R .lives) d);
+  }
+
+  pub leaf-none : LeafAnswers L W W σ bot (made.At 0)
+  leaf-none = still bot 0 _ (λ q. refl) (denotes-none (L .bits) (L .rows) (rowsOf W))
+
+  pub leaf-all : LeafAnswers L W W σ top (made.At 1)
+  leaf-all = still top 1 _ (λ q. refl) (denotes-all (L .bits) (L .rows) (rowsOf W))
+
+  pub leaf-next : (p : ℕ) → LeafAnswers L W W σ (next p) (made.At 0)
+  leaf-next p = still (next p) 0 _ (λ q. refl) (denotes-none (L .bits) (L .rows) (rowsOf W))
+
+  -- a variable
+  module _ {P : ℕ} (h : Named (σ .scope) (holdsReg σ) (holdsRel σ) (var P)) where
+    is-open : getD (σ .scope) P false ≡ true
+    unfolding bound
+    is-open = h .is-bound
+
+    pub var-slot : P < 16
+    var-slot = let l = in-scope (σ .scope) P is-open in let v = R .vars in omega arith
+
+    pub var-below : getD places P 0 < length stack
+    var-below = let w = R .open-at P is-open .below in let a = R .within in let b = R .size in omega arith
+
+    pub leaf-var : LeafAnswers L W W σ (var P) (made.At (getD stack (getD places P 0) 0))
+    leaf-var = still (var P) _ (clip (2 ^ L .bits) (σ .env P)) (λ q. refl) (denotes-clip (L .bits) (L .rows) (σ .env P) (R .open-at P is-open .denotes))
+
+  -- a register
+  module _ {r : ℕ} (h : Named (σ .scope) (holdsReg σ) (holdsRel σ) (reg r)) where
+    is-filled : holdsReg σ r ≡ true
+    unfolding filled
+    is-filled = h .is-filled
+
+    pub reg-range : r < registers
+    reg-range = ltb-true r registers (and-first (ltb r registers) _ is-filled)
+
+    content : (A : List Bool) × (σ .reg r ≡ some A) × (a : ℕ) × (W .header (FIRST-REGISTER + r) ≡ suc a) × Denotes (2 * L .bits) (rowsOf W) a (fnOf (L .bits) A)
+    content = filled-place (2 * L .bits) (rowsOf W) (fnOf (L .bits)) (σ .reg r) (W .header (FIRST-REGISTER + r)) (and-second (ltb r registers) _ is-filled) (R .reg r reg-range)
+
+    pub reg-some : 0 < W .header (FIRST-REGISTER + r)
+    reg-some = let e = content .3 in omega arith
+
+    pub leaf-reg : {x : ℕ} → x + 1 ≡ W .header (FIRST-REGISTER + r) → LeafAnswers L W W σ (reg r) (made.At x)
+    leaf-reg {x} e =
+        let same : content .2 ≡ x = let c = content .3 in omega arith in
+        let d = subst (λ (a : ℕ). Denotes (2 * L .bits) (rowsOf W) a (fnOf (L .bits) (content .0))) same (content .4) in
+        still (reg r) x (clip (2 ^ L .bits) (content .0)) (λ q. ap (λ (o : Option (List Bool)). value (clip (2 ^ L .bits) (inside o)) q) (content .1)) (denotes-clip (L .bits) (L .rows) (content .0) d)
+
+  -- a current bit
+  module _ {p : ℕ} (l : p < L .bits) where
+    pub bit-asks : StepPre (2 * L .bits) (L .rows) (L .limit) W (take held stack) (step.Bit (2 * p))
+    bit-asks = step-pre (R .base) (lent-arrows R) (omega arith)
+
+    pub leaf-bit : {X : View} {o : Made} → Took (L .bits) (L .rows) (L .limit) W X (live W (take held stack)) o (bitF (2 * p)) → LeafAnswers L W X σ (now p) o
+    leaf-bit {X} {o} t = record {
+      moved = t .moved;
+      evals = λ q. evals-bit (L .bits) (L .rows) (R .lives) p q l (result o) (took-roots [] R (λ a h. absurd (mem-nil h)) t);
+    }
+
+-- by the leaf that stands there
+pub as-leaf : {scope : List Bool} {regs rels : ℕ → Bool} {l : Leaf} (m : Leaf) → l ≡ m → Named scope regs rels (leafForm l) → Named scope regs rels (leafForm m)
+as-leaf {scope} {regs} {rels} m e h = subst (λ (x : Leaf). Named scope regs rels (leafForm x)) e h
+
+pub leaf-as : {L : Limits} {W X : View} {σ : Scene} {o : Made} {l : Leaf} (m : Leaf) → l ≡ m → LeafAnswers L W X σ (leafForm m) o → LeafAnswers L W X σ (leafForm l) o
+leaf-as {L} {W} {X} {σ} {o} m e h = subst (λ (x : Leaf). LeafAnswers L W X σ (leafForm x) o) (sym e) h
+
+pub now-taken : {n : ℕ} {l : Leaf} {p : ℕ} → l ≡ Now p → leafAllowed l n States ≡ true → p < n
+now-taken {n} {l} {p} e h = ltb-true p n (subst (λ (x : Leaf). leafAllowed x n States ≡ true) e h)

@@ -1,0 +1,9 @@
+-- Modules that belong to no one function.
+pub mod State
+pub mod Tokens
+pub mod Parts
+pub mod Outcomes
+pub mod Steps
+pub mod Leaves
+pub mod Relations
+pub mod Rounds

@@ -1,0 +1,144 @@
+-- From what a part's evaluation and a chain of steps give to the book's outcome of the whole. Assumes nothing.
+use mathlib.Core.Path.{_≡_, refl, sym, ap, ap₂, _∙_, subst}
+use mathlib.Core.Logic.{_⊎_, ⊎-elim}
+use mathlib.Core.Bool.{Bool, true, false, cond}
+use mathlib.Core.List.{List, [], _∷_, _++_}
+use Prim.Native.Nat.{ℕ, _*_, _^_}
+use native.Mathlib.Omega.{arith}
+use denote.Enum.Declared.{tagOf, declared}
+use Rattle.mucalculus.specs.Form.{Form, Pairs, Model, Env, put, inside}
+use Rattle.mucalculus.specs.Means.{inter, union, compl, sometimes, always, size}
+use Rattle.mucalculus.specs.Order.{start}
+use Rattle.tokens.specs.declared.Join.{Join}
+use Rattle.tokens.specs.declared.Join.the-variants.{And, Or}
+use Rattle.tokens.specs.declared.Mode.{Mode}
+use Rattle.tokens.specs.declared.Mode.the-variants.{All, Some}
+use Rattle.tokens.specs.declared.Fix.{Fix}
+use Rattle.tokens.specs.declared.Fix.the-variants.{Mu, Nu}
+use Rattle.formula.specs.Parse.{joinForm, modalForm, binderForm}
+use Rattle.diagram.specs.Level.{Fn}
+use Rattle.diagram.specs.Rows.{Rows}
+use Rattle.diagram.specs.Post.{Result, at, full as noRows, Denotes}
+use Rattle.table.specs.Make.{result}
+use Rattle.table.specs.declared.Made.{Made}
+use Rattle.table.specs.declared.Made.the-variants as made
+use Rattle.diagram.specs.Need.{stepNeed}
+use Rattle.diagram.specs.Steps.{notF, andF, orF}
+use Rattle.book.specs.Bridge.{fnOf, fnOfPairs, fnOf-not, fnOf-and, fnOf-or}
+use Rattle.book.specs.Diamond.{diamondF, boxF, diamond-exact, box-exact}
+use Rattle.book.specs.Ticks.{Verdict, counted, full as fullVerdict, diamondNeeds, diaNeeds, boxNeeds}
+use Rattle.book.specs.Verdicts.{fit, settle, steps-verdict, dia-ticks, box-ticks}
+use Rattle.book.specs.Run.{Outcome, value, full, spent, andThen, twoStep, diaSteps, boxSteps, loop, run}
+use Rattle.book.specs.Follow.{Ended, ends, eight, nine, Matches, Evals, endedBy, Stops, evals-same, evals-then, evals-from}
+use Rattle.book.specs.Pairs.{PairEvals, PairMatches}
+use Rattle.modal.specs.Modal.{boxedNeeds}
+use Rattle.evaluator.specs.Scene.{endedOf, EndsAt, fromMade, isLeast}
+use Rattle.evaluator.specs.declared.Evaluated.{Evaluated}
+use Rattle.evaluator.specs.declared.Evaluated.the-variants.{Value, Full, Spent}
+use Rattle.evaluator.proofs.Evaluated.{enum}
+
+-- ---- answers
+
+-- the answer is no value
+abbrev pub Halts : Evaluated → Type 0
+Halts r = (tagOf (declared enum) r ≡ 1) ⊎ (tagOf (declared enum) r ≡ 2)
+
+pub halts-stops : (r : Evaluated) → Halts r → Stops (endedOf r)
+halts-stops (Value a k q) h = ⊎-elim (λ x. omega arith) (λ x. omega arith) h
+halts-stops Full h = tt
+halts-stops Spent h = tt
+
+pub halts-end : (e : ℕ) (r : Evaluated) → Halts r → EndsAt e r
+halts-end e (Value a k q) h = absurd (⊎-elim (λ x. omega arith) (λ x. omega arith) h)
+halts-end e Full h = tt
+halts-end e Spent h = tt
+
+-- a step's answer
+pub made-ended : (e q : ℕ) (o : Made) → endedBy (result o) q ≡ endedOf (fromMade e q o)
+made-ended e q (made.At a) = refl
+made-ended e q made.Full = refl
+
+pub made-end : (e q : ℕ) (o : Made) → EndsAt e (fromMade e q o)
+made-end e q (made.At a) = refl
+made-end e q made.Full = tt
+
+-- a value stands for a set that its arrow denotes
+pub evals-value : {n N : ℕ} {before after : Rows} {roots : List ℕ} {a p : ℕ} (o : Outcome) → Evals n N before after roots o (ends a p)
+    → (A : List Bool) × (o ≡ value A p) × Denotes (2 * n) after a (fnOf n A)
+evals-value {n} {after = after} {a = a} {p = p} o d = go o (d .result)
+  where
+    go : (o : Outcome) → Matches n after o (ends a p) → (A : List Bool) × (o ≡ value A p) × Denotes (2 * n) after a (fnOf n A)
+    go (value A q) m = (A, ap (value A) (sym (m .1)), m .0)
+    go full m = absurd m
+    go spent m = absurd m
+
+-- ---- what the run of an operator is, AND and OR alike, box and diamond, mu and nu
+
+abbrev pub joinOp : Join → ℕ → List Bool → List Bool → List Bool
+joinOp And = inter
+joinOp Or = union
+
+abbrev pub joinF : Join → Fn → Fn → Fn
+joinF And = andF
+joinF Or = orF
+
+pub join-exact : (n : ℕ) (j : Join) (A B : List Bool) → fnOf n (joinOp j (2 ^ n) A B) ≡ joinF j (fnOf n A) (fnOf n B)
+join-exact n And A B = fnOf-and n A B
+join-exact n Or A B = fnOf-or n A B
+
+pub run-join : (m : Model) (N R : ℕ) (e : Env) (live : List Fn) (j : Join) (f g : Form) (r : ℕ) → run m N R e live (joinForm j f g) r
+    ≡ andThen (run m N R e live f r) (λ A q. andThen (run m N R e (fnOf (m .n) A ∷ live) g q) (λ B p. twoStep (m .n) N live (joinOp j (size m)) A B p))
+run-join m N R e live And f g r = refl
+run-join m N R e live Or f g r = refl
+
+abbrev pub overSteps : Mode → ℕ → ℕ → List Fn → Pairs → List Bool → ℕ → Outcome
+overSteps All = boxSteps
+overSteps Some = diaSteps
+
+pub run-modal : (m : Model) (N R : ℕ) (e : Env) (live : List Fn) (o : Mode) (t : ℕ) (f : Form) (r : ℕ) → run m N R e live (modalForm o t f) r
+    ≡ andThen (run m N R e live f r) (λ A q. overSteps o (m .n) N live (inside (m .rel t)) A q)
+run-modal m N R e live All t f r = refl
+run-modal m N R e live Some t f r = refl
+
+pub run-binder : (m : Model) (N R : ℕ) (e : Env) (live : List Fn) (x : Fix) (P : ℕ) (f : Form) (r : ℕ) → run m N R e live (binderForm x P f) r
+    ≡ loop R (λ A q. run m N R (put e P A) (fnOf (m .n) A ∷ live) f q) R (start (isLeast x) (size m)) r
+run-binder m N R e live Mu P f r = refl
+run-binder m N R e live Nu P f r = refl
+
+-- ---- a chain of steps
+
+-- a chain for the set C
+pub chain-evals : {n N : ℕ} {before after : Rows} {roots : List ℕ} {F : Fn} (fits : Bool) (y : Result) (C : List Bool) (q : ℕ) → F ≡ fnOf n C → PairEvals n N before after roots fits F y
+    → Evals n N before after roots (settle C (cond fits (counted q) fullVerdict)) (endedBy y q)
+chain-evals {n} {after = after} {F = F} fits y C q e p = record { wf = p .wf; kept = p .kept; result = go fits y (p .result) }
+  where
+    go : (fits : Bool) (y : Result) → PairMatches n after fits F y → Matches n after (settle C (cond fits (counted q) fullVerdict)) (endedBy y q)
+    go true (at a) m = (subst (λ (G : Fn). Denotes (2 * n) after a G) e m, refl)
+    go true noRows m = absurd m
+    go false (at a) m = absurd m
+    go false noRows m = tt
+
+-- the needs of box over the set's function and over the set
+box-needs : (n : ℕ) (fs : List Fn) (Q : Pairs) (A : List Bool) → boxedNeeds n fs (fnOfPairs n Q) (fnOf n A) ≡ boxNeeds n fs Q A
+box-needs n fs Q A =
+    ap (λ (G : Fn). stepNeed (2 * n) (fnOf n A ∷ fs) G ∷ (diamondNeeds n fs (fnOfPairs n Q) G ++ (stepNeed (2 * n) (diamondF n (fnOfPairs n Q) G ∷ fs) (notF (diamondF n (fnOfPairs n Q) G)) ∷ [])))
+    (sym (fnOf-not n A))
+    ∙ ap (λ (D : Fn). stepNeed (2 * n) (fnOf n A ∷ fs) (fnOf n B) ∷ (diaNeeds n fs Q B ++ (stepNeed (2 * n) (D ∷ fs) (notF D) ∷ []))) (sym (diamond-exact n Q B))
+    ∙ ap (λ (G : Fn). stepNeed (2 * n) (fnOf n A ∷ fs) (fnOf n B) ∷ (diaNeeds n fs Q B ++ (stepNeed (2 * n) (fnOf n (sometimes (2 ^ n) Q B) ∷ fs) G ∷ []))) (sym (fnOf-not n (sometimes (2 ^ n) Q B)))
+  where
+    B : List Bool
+    B = compl (2 ^ n) A
+
+module _ {n N : ℕ} (limit : ℕ) {before after : Rows} {roots : List ℕ} (fs : List Fn) (Q : Pairs) (A : List Bool) (y : Result) (q : ℕ) where
+  pub diamond-evals : PairEvals n N before after roots (fit limit (diamondNeeds n fs (fnOfPairs n Q) (fnOf n A))) (diamondF n (fnOfPairs n Q) (fnOf n A)) y
+      → Evals n N before after roots (diaSteps n limit fs Q A q) (endedBy y q)
+  diamond-evals p =
+      evals-same (ap (settle (sometimes (2 ^ n) Q A)) (sym (steps-verdict limit 0 q (diaNeeds n fs Q A))) ∙ sym (dia-ticks limit 0 n fs Q A q))
+      (chain-evals (fit limit (diaNeeds n fs Q A)) y (sometimes (2 ^ n) Q A) q (sym (diamond-exact n Q A)) p)
+
+  pub box-evals : PairEvals n N before after roots (fit limit (boxedNeeds n fs (fnOfPairs n Q) (fnOf n A))) (boxF n (fnOfPairs n Q) (fnOf n A)) y
+      → Evals n N before after roots (boxSteps n limit fs Q A q) (endedBy y q)
+  box-evals p =
+      evals-same (ap (settle (always (2 ^ n) Q A)) (sym (steps-verdict limit 0 q (boxNeeds n fs Q A))) ∙ sym (box-ticks limit 0 n fs Q A q))
+      (chain-evals (fit limit (boxNeeds n fs Q A)) y (always (2 ^ n) Q A) q (sym (box-exact n Q A))
+      (subst (λ (ks : List ℕ). PairEvals n N before after roots (fit limit ks) (boxF n (fnOfPairs n Q) (fnOf n A)) y) (box-needs n fs Q A) p))

@@ -1,0 +1,220 @@
+-- One law for each call and each return of the evaluator's functions. Assumes nothing.
+use mathlib.Core.Path.{_≡_, refl, sym, ap, ap₂, _∙_, subst}
+use mathlib.Core.Logic.{_≢_, ⊎-elim}
+use mathlib.Core.Bool.{Bool, true, false, cond, _&&_}
+use mathlib.Core.List.{List, [], _∷_, _++_, List·Memᴰ as Mem, List·Memᴰ·head as here, List·Memᴰ·tail as there, List·Memᴰ·cases-cons as mem-cases, List·Memᴰ·append-cases as append-cases, List·Memᴰ·not-nil as mem-nil}
+use mathlib.Core.Option.{Option, none, some}
+use Prim.Native.Nat.{ℕ, zero, suc, _+_, _-_, _*_, _^_, _≤_, _<_}
+use native.Mathlib.Omega.{arith}
+use lib.ListN.{length, getD, set, take, length-set}
+use Rattle.mucalculus.specs.Form.{Form, neg, inside}
+use Rattle.tokens.specs.declared.Leaf.{Leaf}
+use Rattle.tokens.specs.declared.Mode.{Mode}
+use Rattle.tokens.specs.declared.Join.{Join}
+use Rattle.tokens.specs.declared.Join.the-variants.{And, Or}
+use Rattle.formula.specs.Parse.{leafForm, joinForm, modalForm, depthLimit}
+use Rattle.layout.specs.View.{View}
+use Rattle.diagram.specs.Level.{Fn}
+use Rattle.diagram.specs.Rows.{Rows, Arrow, den}
+use Rattle.diagram.specs.Post.{Result, Denotes}
+use Rattle.diagram.specs.Keep.{Keeps, keeps-within, keeps-denotes}
+use Rattle.diagram.specs.Step.{StepPost}
+use Rattle.diagram.specs.Steps.{notF}
+use Rattle.soundness.specs.Used.{rowsOf}
+use Rattle.table.specs.Make.{result}
+use Rattle.table.specs.declared.Made.{Made}
+use Rattle.collect.specs.Lent.{live}
+use Rattle.steps.specs.declared.Step.{Step}
+use Rattle.steps.specs.declared.Step.the-variants as step
+use Rattle.steps.specs.Steps.{stepF, operandsOf, Fits, StepPre, Stepped}
+use Rattle.book.specs.Bridge.{fnOf}
+use Rattle.book.specs.Held.{held-arrow}
+use Rattle.book.specs.Run.{Outcome, value, andThen, notStep, twoStep, run}
+use Rattle.book.specs.Follow.{ends, Evals, endedBy, evals-same, evals-stop, evals-not, evals-two, evals-two-stop}
+use Rattle.modal.specs.declared.Limits.{Limits}
+use Rattle.modal.specs.Chain.{Alike, alike-trans, alike-cons, step-roots, Moved, moved-trans, step-pre, Took, took}
+use Rattle.evaluator.specs.Scene.{Scene, modelIn, pushed, Ready, Part, endedOf, EndsAt, Answers, fromMade, joinStep, LeafAnswers}
+use Rattle.evaluator.specs.declared.Evaluated.{Evaluated}
+use Rattle.evaluator.specs.declared.Evaluated.the-variants.{Value}
+use Rattle.evaluator.proofs.State.{still-below, lent-arrows, ready-next, ready-push}
+use Rattle.evaluator.proofs.Outcomes.{Halts, halts-stops, halts-end, made-ended, made-end, evals-value, joinOp, joinF, join-exact, run-join, overSteps, run-modal}
+
+-- the run of f in a scene
+abbrev pub runIn : Limits → Scene → Form → ℕ → Outcome
+runIn L σ f r = run (modelIn (L .bits) σ) (L .limit) (L .rounds) (σ .env) (σ .fns) f r
+
+-- a part's answer that is no value is the answer of what goes on with its value
+pub answers-stop : {L : Limits} {W X : View} {stack after : List ℕ} {held rounds : ℕ} {σ : Scene} {f : Form} {e : ℕ} {r : Evaluated} → Answers L W X stack after held rounds σ f e r → Halts r
+    → (h : Form) (e′ : ℕ) (G : List Bool → ℕ → Outcome) → runIn L σ h rounds ≡ andThen (runIn L σ f rounds) G → Answers L W X stack after held rounds σ h e′ r
+answers-stop {L} {rounds = rounds} {σ = σ} {f = f} {r = r} A s h e′ G q = record {
+  moved = A .moved;
+  kept = A .kept;
+  evals = evals-same (sym q) (evals-stop (L .bits) (L .rows) (runIn L σ f rounds) (endedOf r) G (halts-stops r s) (A .evals));
+  end = halts-end e′ r s;
+}
+
+-- a formula that is another one
+pub answers-same : {L : Limits} {W X : View} {stack after : List ℕ} {held rounds : ℕ} {σ : Scene} {f g : Form} {e : ℕ} {r : Evaluated} → f ≡ g → Answers L W X stack after held rounds σ g e r
+    → Answers L W X stack after held rounds σ f e r
+answers-same {L} {W} {X} {stack} {after} {held} {rounds} {σ} {e = e} {r = r} q A = subst (λ (h : Form). Answers L W X stack after held rounds σ h e r) (sym q) A
+
+-- a step's answer after a value
+pub answers-made : {L : Limits} {W X : View} {stack after : List ℕ} {held rounds : ℕ} {σ : Scene} (f : Form) {e : ℕ} (k q : ℕ) (o : Made) {r : Evaluated} → k ≡ e → r ≡ fromMade k q o → Moved (L .bits) W X
+    → take held after ≡ take held stack → Evals (L .bits) (L .rows) (rowsOf W) (rowsOf X) (σ .roots) (runIn L σ f rounds) (endedBy (result o) q) → Answers L W X stack after held rounds σ f e r
+answers-made {L} {W} {X} {stack} {after} {held} {rounds} {σ} f {e} k q o {r} at-e is m s v =
+    subst (λ (x : Evaluated). Answers L W X stack after held rounds σ f e x) (sym (is ∙ ap (λ (x : ℕ). fromMade x q o) at-e)) (record {
+      moved = m;
+      kept = s;
+      evals = subst (Evals (L .bits) (L .rows) (rowsOf W) (rowsOf X) (σ .roots) (runIn L σ f rounds)) (made-ended e q o) v;
+      end = made-end e q o;
+    })
+
+-- a leaf's value or step
+pub eval-leaf : {L : Limits} {W X : View} {stack : List ℕ} {held rounds : ℕ} {σ : Scene} {f : Form} (l : Leaf) {e k : ℕ} {o : Made} {r : Evaluated} → f ≡ leafForm l → e ≡ k
+    → LeafAnswers L W X σ (leafForm l) o → r ≡ fromMade k rounds o → Answers L W X stack stack held rounds σ f e r
+eval-leaf {rounds = rounds} l {k = k} {o = o} q at-e A made = answers-same q (answers-made (leafForm l) k rounds o (sym at-e) made (A .moved) refl (A .evals rounds))
+
+alike-append : {A : Type 0} {xs ys : List A} (ops : List A) → Alike xs ys → Alike (ops ++ xs) (ops ++ ys)
+alike-append [] s = s
+alike-append (x ∷ ops) s = alike-cons x (alike-append ops s)
+
+alike-swap : {A : Type 0} (x y : A) (zs : List A) → Alike (x ∷ y ∷ zs) (y ∷ x ∷ zs)
+alike-swap x y zs = record { to = λ a h. go x y a h; from = λ a h. go y x a h }
+  where
+    go : {A : Type 0} {zs : List A} (x y a : A) → Mem a (x ∷ y ∷ zs) → Mem a (y ∷ x ∷ zs)
+    go x y a h = ⊎-elim (λ e. there (here e)) (λ i. ⊎-elim (λ e. here e) (λ j. there (there j)) (mem-cases i)) (mem-cases h)
+
+-- a step in a scene: its roots are its operands and the scene's
+pub took-roots : {L : Limits} {W X : View} {stack places : List ℕ} {held : ℕ} {σ : Scene} {o : Made} {F : Fn} (ops : List ℕ) → Ready L W stack places held σ
+    → ((a : ℕ) → Mem a ops → Arrow (rowsOf W) a) → Took (L .bits) (L .rows) (L .limit) W X (ops ++ live W (take held stack)) o F
+    → StepPost (2 * L .bits) (L .rows) (L .limit) (rowsOf W) (rowsOf X) (ops ++ σ .roots) (result o) F
+took-roots {W = W} {σ = σ} {o = o} ops R u t =
+    step-roots (result o) (λ a h. ⊎-elim (u a) (held-arrow (R .lives) a) (append-cases ops h)) (alike-append ops (R .roots)) (t .post)
+
+one-arrow : (rows : Rows) (a : ℕ) → Arrow rows a → (b : ℕ) → Mem b (a ∷ []) → Arrow rows b
+one-arrow rows a u b h = ⊎-elim (λ e. subst (Arrow rows) (sym e) u) (λ i. absurd (mem-nil i)) (mem-cases h)
+
+two-arrows : (rows : Rows) (a c : ℕ) → Arrow rows a → Arrow rows c → (b : ℕ) → Mem b (a ∷ c ∷ []) → Arrow rows b
+two-arrows rows a c u v b h = ⊎-elim (λ e. subst (Arrow rows) (sym e) u) (one-arrow rows c v b) (mem-cases h)
+
+-- ---- a part that is no value
+
+module _ {L : Limits} {W X : View} {stack after : List ℕ} {held rounds : ℕ} {σ : Scene} {f : Form} {e : ℕ} {r : Evaluated} (A : Answers L W X stack after held rounds σ f e r) (s : Halts r) where
+  pub negate-stops : Answers L W X stack after held rounds σ (neg f) e r
+  negate-stops = answers-stop A s (neg f) e (λ C p. notStep (L .bits) (L .limit) (σ .fns) C p) refl
+
+  pub first-stops : (j : Join) (g : Form) (e′ : ℕ) → Answers L W X stack after held rounds σ (joinForm j f g) e′ r
+  first-stops j g e′ = answers-stop A s (joinForm j f g) e′ _ (run-join (modelIn (L .bits) σ) (L .limit) (L .rounds) (σ .env) (σ .fns) j f g rounds)
+
+  pub mode-stops : (m : Mode) (t : ℕ) → Answers L W X stack after held rounds σ (modalForm m t f) e r
+  mode-stops m t = answers-stop A s (modalForm m t f) e (λ C p. overSteps m (L .bits) (L .limit) (σ .fns) (inside (σ .rel t)) C p)
+      (run-modal (modelIn (L .bits) σ) (L .limit) (L .rounds) (σ .env) (σ .fns) m t f rounds)
+
+-- ---- after a part's value
+
+module _ {L : Limits} {W X : View} {stack after places : List ℕ} {held rounds : ℕ} {σ : Scene} {f : Form} {e : ℕ} {r : Evaluated} (R : Ready L W stack places held σ)
+    (A : Answers L W X stack after held rounds σ f e r) (z : length after ≡ length stack) {a k q : ℕ} (is : r ≡ Value a k q) where
+  pub value-evals : Evals (L .bits) (L .rows) (rowsOf W) (rowsOf X) (σ .roots) (runIn L σ f rounds) (ends a q)
+  value-evals = subst (λ (x : Evaluated). Evals (L .bits) (L .rows) (rowsOf W) (rowsOf X) (σ .roots) (runIn L σ f rounds) (endedOf x)) is (A .evals)
+
+  pub value-end : k ≡ e
+  value-end = subst (EndsAt e) is (A .end)
+
+  -- the set
+  pub value-set : List Bool
+  value-set = evals-value (runIn L σ f rounds) value-evals .0
+
+  pub value-run : runIn L σ f rounds ≡ value value-set q
+  unfolding value-set
+  value-run = evals-value (runIn L σ f rounds) value-evals .1
+
+  pub value-is : Denotes (2 * L .bits) (rowsOf X) a (fnOf (L .bits) value-set)
+  unfolding value-set
+  value-is = evals-value (runIn L σ f rounds) value-evals .2
+
+  pub value-ready : Ready L X after places held σ
+  value-ready = ready-next R (A .moved) (A .evals .kept) after z (A .kept)
+
+  -- ---- NOT
+
+  pub negate-asks : StepPre (2 * L .bits) (L .rows) (L .limit) X (take held after) (step.Not a)
+  negate-asks = step-pre (value-ready .base) (lent-arrows value-ready) (value-is .arrow)
+
+  pub negate-ends : {Y : View} {o : Made} {r′ : Evaluated} → Stepped (2 * L .bits) (L .rows) (L .limit) X Y (take held after) (step.Not a) o → r′ ≡ fromMade k q o
+      → Answers L W Y stack after held rounds σ (neg f) e r′
+  negate-ends {Y} {o} s made =
+      let t = took (value-ready .base) negate-asks s in
+      answers-made (neg f) k q o value-end made (moved-trans (A .moved) (t .moved)) (A .kept)
+      (evals-not (L .bits) (L .rows) (R .lives) (runIn L σ f rounds) value-evals (result o) (took-roots (a ∷ []) value-ready (one-arrow (rowsOf X) a (value-is .arrow)) t))
+
+  -- ---- AND and OR
+
+  -- the second formula stands where the first one ends
+  pub both-part : {n : ℕ} {bs : List ℕ} {depth : ℕ} {scope : List Bool} {regs rels : ℕ → Bool} {g : Form} {e′ : ℕ} → Part n bs e depth scope regs rels g e′ → Part n bs k depth scope regs rels g e′
+  both-part {n} {bs} {depth} {scope} {regs} {rels} {g} {e′} p = subst (λ (x : ℕ). Part n bs x depth scope regs rels g e′) (sym value-end) p
+
+  module _ (room : held < depthLimit) where
+    pub both-ready : (C : List Bool) → Denotes (2 * L .bits) (rowsOf X) a (fnOf (L .bits) C) → Ready L X (set after held a) places (held + 1) (pushed (L .bits) σ a C)
+    both-ready C d = ready-push value-ready a C d room
+
+    -- what the second part's evaluation gives, whatever set the first one's arrow denotes
+    module _ {Y : View} {last : List ℕ} {g : Form} {e′ : ℕ} {r′ : Evaluated} (z′ : length last ≡ length after)
+        (B : (C : List Bool) → Denotes (2 * L .bits) (rowsOf X) a (fnOf (L .bits) C) → Answers L X Y (set after held a) last (held + 1) q (pushed (L .bits) σ a C) g e′ r′) where
+      B₀ : Answers L X Y (set after held a) last (held + 1) q (pushed (L .bits) σ a value-set) g e′ r′
+      B₀ = B value-set value-is
+
+      below : take held last ≡ take held after
+      below = still-below held last after a (B₀ .kept)
+
+      pub both-stops : (j : Join) → Halts r′ → Answers L W Y stack last held rounds σ (joinForm j f g) e′ r′
+      both-stops j s = record {
+        moved = moved-trans (A .moved) (B₀ .moved);
+        kept = below ∙ A .kept;
+        evals = evals-same (sym (run-join (modelIn (L .bits) σ) (L .limit) (L .rounds) (σ .env) (σ .fns) j f g rounds))
+            (evals-two-stop (L .bits) (L .rows) (R .lives) (runIn L σ f rounds) (λ C p. runIn L (pushed (L .bits) σ a C) g p)
+            (λ C U p. twoStep (L .bits) (L .limit) (σ .fns) (joinOp j (2 ^ L .bits)) C U p) value-evals (λ C d. B C d .evals) (halts-stops r′ s));
+        end = halts-end e′ r′ s;
+      }
+
+      module _ {b k′ q′ : ℕ} (is′ : r′ ≡ Value b k′ q′) where
+        second-evals : (C : List Bool) → Denotes (2 * L .bits) (rowsOf X) a (fnOf (L .bits) C)
+            → Evals (L .bits) (L .rows) (rowsOf X) (rowsOf Y) (a ∷ σ .roots) (runIn L (pushed (L .bits) σ a C) g q) (ends b q′)
+        second-evals C d = subst (λ (x : Evaluated). Evals (L .bits) (L .rows) (rowsOf X) (rowsOf Y) (a ∷ σ .roots) (runIn L (pushed (L .bits) σ a C) g q) (endedOf x)) is′ (B C d .evals)
+
+        first-arrow : Arrow (rowsOf Y) a
+        first-arrow = keeps-denotes (B₀ .evals .kept) (here refl) value-is .arrow
+
+        second-arrow : Arrow (rowsOf Y) b
+        second-arrow = evals-value _ (second-evals value-set value-is) .2 .arrow
+
+        pub both-state : Ready L Y last places held σ
+        both-state = ready-next value-ready (B₀ .moved) (keeps-within (λ x i. there i) (B₀ .evals .kept)) last z′ below
+
+        pub both-asks : (j : Join) {s : Step} → s ≡ joinStep j a b → StepPre (2 * L .bits) (L .rows) (L .limit) Y (take held last) s
+        both-asks j e = step-pre (both-state .base) (lent-arrows both-state) (subst (Fits (2 * L .bits) (rowsOf Y)) (sym e) (fits j))
+          where
+            fits : (j : Join) → Fits (2 * L .bits) (rowsOf Y) (joinStep j a b)
+            fits And = (first-arrow, second-arrow)
+            fits Or = (first-arrow, second-arrow)
+
+        pub both-ends : (j : Join) {s : Step} → s ≡ joinStep j a b → {Z : View} {o : Made} {r″ : Evaluated} → Stepped (2 * L .bits) (L .rows) (L .limit) Y Z (take held last) s o
+            → r″ ≡ fromMade k′ q′ o → Answers L W Z stack last held rounds σ (joinForm j f g) e′ r″
+        both-ends j {s} e {Z} {o} p made =
+            let t = took (both-state .base) (both-asks j e) p in
+            let t1 = subst (λ (x : Step). Took (L .bits) (L .rows) (L .limit) Y Z (operandsOf x ++ live Y (take held last)) o (stepF (2 * L .bits) (rowsOf Y) x)) e t in
+            answers-made (joinForm j f g) k′ q′ o (subst (EndsAt e′) is′ (B₀ .end)) made (moved-trans (A .moved) (moved-trans (B₀ .moved) (t .moved))) (below ∙ A .kept)
+            (evals-same (sym (run-join (modelIn (L .bits) σ) (L .limit) (L .rounds) (σ .env) (σ .fns) j f g rounds))
+            (evals-two (L .bits) (L .rows) (R .lives) (joinOp j (2 ^ L .bits)) (joinF j) (join-exact (L .bits) j) (runIn L σ f rounds) (λ C p. runIn L (pushed (L .bits) σ a C) g p)
+            value-evals second-evals (result o) (post j t1)))
+          where
+            arrows : (x : ℕ) → Mem x (b ∷ a ∷ σ .roots) → Arrow (rowsOf Y) x
+            arrows x h = ⊎-elim (two-arrows (rowsOf Y) b a second-arrow first-arrow x) (held-arrow (both-state .lives) x) (append-cases (b ∷ a ∷ []) h)
+
+            swapped : {F : Fn} → StepPost (2 * L .bits) (L .rows) (L .limit) (rowsOf Y) (rowsOf Z) (a ∷ b ∷ σ .roots) (result o) F
+                → StepPost (2 * L .bits) (L .rows) (L .limit) (rowsOf Y) (rowsOf Z) (b ∷ a ∷ σ .roots) (result o) F
+            swapped p = step-roots (result o) arrows (alike-swap a b (σ .roots)) p
+
+            post : (j : Join) → Took (L .bits) (L .rows) (L .limit) Y Z (operandsOf (joinStep j a b) ++ live Y (take held last)) o (stepF (2 * L .bits) (rowsOf Y) (joinStep j a b))
+                → StepPost (2 * L .bits) (L .rows) (L .limit) (rowsOf Y) (rowsOf Z) (b ∷ a ∷ σ .roots) (result o) (joinF j (den (2 * L .bits) (rowsOf Y) a) (den (2 * L .bits) (rowsOf Y) b))
+            post And t = swapped (took-roots (a ∷ b ∷ []) both-state (two-arrows (rowsOf Y) a b first-arrow second-arrow) t)
+            post Or t = swapped (took-roots (a ∷ b ∷ []) both-state (two-arrows (rowsOf Y) a b first-arrow second-arrow) t)

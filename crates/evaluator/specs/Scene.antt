@@ -1,0 +1,234 @@
+-- What an evaluation of a set's formula stands in, what it asks, and what it answers. Assumes nothing.
+use mathlib.Core.Path.{_≡_}
+use mathlib.Core.Bool.{Bool, true, false, _&&_}
+use mathlib.Core.List.{List, _∷_}
+use mathlib.Core.Option.{Option}
+use Prim.Native.Nat.{ℕ, _+_, _*_, _≤_, _<_}
+use lib.Dec.{ltb}
+use lib.ListN.{length, getD, set, take}
+use Rattle.mucalculus.specs.Form.{Form, neg, Pairs, Model, Env, put, bound, filled as hasContent}
+use Rattle.tokens.specs.declared.Grammar.{Grammar}
+use Rattle.tokens.specs.declared.Grammar.the-variants.{States}
+use Rattle.tokens.specs.Tokens.{leafAllowed}
+use Rattle.tokens.specs.declared.Leaf.{Leaf}
+use Rattle.tokens.specs.declared.Fix.{Fix}
+use Rattle.tokens.specs.declared.Fix.the-variants.{Mu, Nu}
+use Rattle.tokens.specs.declared.Join.{Join}
+use Rattle.tokens.specs.declared.Join.the-variants.{And, Or}
+use Rattle.tokens.specs.declared.Mode.{Mode}
+use Rattle.tokens.specs.declared.Mode.the-variants.{All, Some}
+use Rattle.formula.specs.Parse.{leafForm, joinForm, modalForm, binderForm, got, parse, depthLimit}
+use Rattle.formula.specs.Checks.{filled}
+use Rattle.layout.specs.Places.{FIRST-REGISTER, FIRST-RELATION}
+use Rattle.layout.specs.View.{View}
+use Rattle.diagram.specs.Level.{Fn}
+use Rattle.diagram.specs.Post.{Denotes}
+use Rattle.soundness.specs.Used.{rowsOf}
+use Rattle.table.specs.Make.{result}
+use Rattle.table.specs.declared.Made.{Made}
+use Rattle.table.specs.declared.Made.the-variants as made
+use Rattle.collect.specs.Lent.{live}
+use Rattle.steps.specs.declared.Step.{Step}
+use Rattle.steps.specs.declared.Step.the-variants as step
+use Rattle.book.specs.Bridge.{fnOf, fnOfPairs}
+use Rattle.book.specs.Book.{registers, relations}
+use Rattle.book.specs.Table.{Place}
+use Rattle.book.specs.Run.{run}
+use Rattle.book.specs.Held.{Held}
+use Rattle.book.specs.Follow.{Ended, ends, eight, nine, Evals, endedBy}
+use Rattle.contract.specs.Seen.{arrowIn}
+use Rattle.modal.specs.declared.Limits.{Limits}
+use Rattle.modal.specs.Chain.{Alike, Base, Moved}
+use Rattle.modal.specs.Modal.{DiamondPost, BoxPost}
+use Rattle.evaluator.specs.declared.Evaluated.{Evaluated}
+use Rattle.evaluator.specs.declared.Evaluated.the-variants.{Value, Full, Spent}
+
+-- what a formula is evaluated over: the book's registers and relations, the open variables and their sets, and what is live: the roots and
+-- the functions that they hold
+pub record Scene : Type 0 where
+  pub reg : ℕ → Option (List Bool)
+  pub rel : ℕ → Option Pairs
+  pub scope : List Bool
+  pub env : Env
+  pub roots : List ℕ
+  pub fns : List Fn
+
+abbrev pub modelIn : ℕ → Scene → Model
+modelIn n σ = record { n = n; rel = σ .rel; reg = σ .reg }
+
+-- "each value made and not yet used": the set A at the arrow a is live too
+abbrev pub pushed : ℕ → Scene → ℕ → List Bool → Scene
+pushed n σ a A = record { reg = σ .reg; rel = σ .rel; scope = σ .scope; env = σ .env; roots = a ∷ σ .roots; fns = fnOf n A ∷ σ .fns }
+
+-- "the current set of each open binder": A is the set of variable P
+abbrev pub opened : ℕ → Scene → ℕ → ℕ → List Bool → Scene
+opened n σ P a A = record { reg = σ .reg; rel = σ .rel; scope = set (σ .scope) P true; env = put (σ .env) P A; roots = a ∷ σ .roots; fns = fnOf n A ∷ σ .fns }
+
+-- variable P's place on the stack is live, and holds its set
+pub record Open (n : ℕ) (W : View) (stack places : List ℕ) (held : ℕ) (A : List Bool) (P : ℕ) : Type 0 where
+  pub below : getD places P 0 < held
+  pub denotes : Denotes (2 * n) (rowsOf W) (getD stack (getD places P 0) 0) (fnOf n A)
+
+-- the words and the stack hold the scene
+pub record Ready (L : Limits) (W : View) (stack places : List ℕ) (held : ℕ) (σ : Scene) : Type 0 where
+  pub base : Base (L .bits) (L .rows) (L .limit) W
+  pub reg : (r : ℕ) → r < registers → Place (2 * L .bits) (rowsOf W) (fnOf (L .bits)) (σ .reg r) (arrowIn (W .header (FIRST-REGISTER + r)))
+  pub rel : (t : ℕ) → t < relations → Place (2 * L .bits) (rowsOf W) (fnOfPairs (L .bits)) (σ .rel t) (arrowIn (W .header (FIRST-RELATION + t)))
+  -- "Live at a step: all filled registers and relations, the current set of each open binder, each value made and not yet used"
+  pub roots : Alike (live W (take held stack)) (σ .roots)
+  pub lives : Held (2 * L .bits) (rowsOf W) (σ .roots) (σ .fns)
+  pub size : length stack ≡ depthLimit
+  pub within : held ≤ depthLimit
+  pub vars : length (σ .scope) ≡ 16
+  pub slots : length places ≡ 16
+  pub open-at : (P : ℕ) → getD (σ .scope) P false ≡ true → Open (L .bits) W stack places held (σ .env P) P
+
+-- the registers and relations that a formula may name
+abbrev pub holdsReg : Scene → ℕ → Bool
+holdsReg σ r = ltb r registers && hasContent (σ .reg r)
+
+abbrev pub holdsRel : Scene → ℕ → Bool
+holdsRel σ t = ltb t relations && hasContent (σ .rel t)
+
+-- f has passed checks 5 and 7, where `scope` has the open variables, and `regs` and `rels` what is filled
+pub record Named (scope : List Bool) (regs rels : ℕ → Bool) (f : Form) : Type 0 where
+  pub is-bound : bound scope f ≡ true
+  pub is-filled : filled regs rels f ≡ true
+
+-- f stands in the bytes at a place, with depth enough, and ends before the place e
+pub record Stands (n : ℕ) (g : Grammar) (bs : List ℕ) (at depth : ℕ) (f : Form) (e : ℕ) : Type 0 where
+  pub reads : parse n g depth bs at ≡ got f e
+
+-- a formula of states, or a part of one, that has passed the checks
+pub record Part (n : ℕ) (bs : List ℕ) (at depth : ℕ) (scope : List Bool) (regs rels : ℕ → Bool) (f : Form) (e : ℕ) : Type 0 where
+  pub stands : Stands n States bs at depth f e
+  pub named : Named scope regs rels f
+
+-- the answer as the book has it, and the place after the formula
+abbrev pub endedOf : Evaluated → Ended
+endedOf (Value a k q) = ends a q
+endedOf Full = eight
+endedOf Spent = nine
+
+abbrev pub EndsAt : ℕ → Evaluated → Type 0
+EndsAt e (Value a k q) = k ≡ e
+EndsAt e Full = Unit {0}
+EndsAt e Spent = Unit {0}
+
+-- the evaluation of f with `rounds` counted before: what it leaves of the words, the live part of the stack as it was, and the book's outcome
+pub record Answers (L : Limits) (W X : View) (stack after : List ℕ) (held rounds : ℕ) (σ : Scene) (f : Form) (e : ℕ) (r : Evaluated) : Type 0 where
+  pub moved : Moved (L .bits) W X
+  pub kept : take held after ≡ take held stack
+  pub evals : Evals (L .bits) (L .rows) (rowsOf W) (rowsOf X) (σ .roots) (run (modelIn (L .bits) σ) (L .limit) (L .rounds) (σ .env) (σ .fns) f rounds) (endedOf r)
+  pub end : EndsAt e r
+
+-- the value of a leaf, or its step: the same with any number of rounds counted before
+pub record LeafAnswers (L : Limits) (W X : View) (σ : Scene) (f : Form) (o : Made) : Type 0 where
+  pub moved : Moved (L .bits) W X
+  pub evals : (q : ℕ) → Evals (L .bits) (L .rows) (rowsOf W) (rowsOf X) (σ .roots) (run (modelIn (L .bits) σ) (L .limit) (L .rounds) (σ .env) (σ .fns) f q) (endedBy (result o) q)
+
+-- a step's result as an answer
+abbrev pub fromMade : ℕ → ℕ → Made → Evaluated
+fromMade e q (made.At a) = Value a e q
+fromMade e q made.Full = Full
+
+-- the step of AND or OR
+abbrev pub joinStep : Join → ℕ → ℕ → Step
+joinStep And a b = step.And a b
+joinStep Or a b = step.Or a b
+
+-- mu is the least fixpoint
+abbrev pub isLeast : Fix → Bool
+isLeast Mu = true
+isLeast Nu = false
+
+-- box or diamond over functions of levels
+abbrev pub OverPost : Mode → ℕ → ℕ → ℕ → View → View → List ℕ → ℕ → ℕ → Made → Type 0
+OverPost All = BoxPost
+OverPost Some = DiamondPost
+
+-- ---- what the functions ask, and what they promise in every scene that the words and the stack hold
+
+pub record EvalPre (L : Limits) (W : View) (stack bs : List ℕ) (at depth held : ℕ) (places : List ℕ) : Type 0 where
+  pub room : held + depth ≤ depthLimit
+  pub scene : Scene
+  pub form : Form
+  pub end : ℕ
+  pub ready : Ready L W stack places held scene
+  pub part : Part (L .bits) bs at depth (scene .scope) (holdsReg scene) (holdsRel scene) form end
+
+abbrev pub EvalPost : Limits → View → View → List ℕ → List ℕ → List ℕ → ℕ → ℕ → ℕ → List ℕ → ℕ → Evaluated → Type 0
+EvalPost L W X stack after bs at depth held places rounds r =
+    (σ : Scene) (f : Form) (e : ℕ) → Ready L W stack places held σ → Part (L .bits) bs at depth (σ .scope) (holdsReg σ) (holdsRel σ) f e
+    → Answers L W X stack after held rounds σ f e r
+
+-- NOT: f is its part
+pub record NegatePre (L : Limits) (W : View) (stack bs : List ℕ) (at depth held : ℕ) (places : List ℕ) : Type 0 where
+  pub room : held + depth < depthLimit
+  pub scene : Scene
+  pub form : Form
+  pub end : ℕ
+  pub ready : Ready L W stack places held scene
+  pub part : Part (L .bits) bs at depth (scene .scope) (holdsReg scene) (holdsRel scene) form end
+
+abbrev pub NegatePost : Limits → View → View → List ℕ → List ℕ → List ℕ → ℕ → ℕ → ℕ → List ℕ → ℕ → Evaluated → Type 0
+NegatePost L W X stack after bs at depth held places rounds r =
+    (σ : Scene) (f : Form) (e : ℕ) → Ready L W stack places held σ → Part (L .bits) bs at depth (σ .scope) (holdsReg σ) (holdsRel σ) f e
+    → Answers L W X stack after held rounds σ (neg f) e r
+
+-- AND and OR: f and, after it, g are the parts
+pub record BothPre (L : Limits) (W : View) (stack bs : List ℕ) (at depth held : ℕ) (places : List ℕ) : Type 0 where
+  pub room : held + depth < depthLimit
+  pub scene : Scene
+  pub left : Form
+  pub right : Form
+  pub middle : ℕ
+  pub end : ℕ
+  pub ready : Ready L W stack places held scene
+  pub first : Part (L .bits) bs at depth (scene .scope) (holdsReg scene) (holdsRel scene) left middle
+  pub second : Part (L .bits) bs middle depth (scene .scope) (holdsReg scene) (holdsRel scene) right end
+
+abbrev pub BothPost : Limits → View → View → List ℕ → List ℕ → List ℕ → ℕ → ℕ → ℕ → List ℕ → ℕ → Join → Evaluated → Type 0
+BothPost L W X stack after bs at depth held places rounds j r =
+    (σ : Scene) (f g : Form) (m e : ℕ) → Ready L W stack places held σ → Part (L .bits) bs at depth (σ .scope) (holdsReg σ) (holdsRel σ) f m
+    → Part (L .bits) bs m depth (σ .scope) (holdsReg σ) (holdsRel σ) g e → Answers L W X stack after held rounds σ (joinForm j f g) e r
+
+-- box and diamond over relation t: f is the part
+pub record ModePre (L : Limits) (W : View) (stack bs : List ℕ) (at depth held : ℕ) (places : List ℕ) (t : ℕ) : Type 0 where
+  pub room : held + depth < depthLimit
+  pub scene : Scene
+  pub form : Form
+  pub end : ℕ
+  pub ready : Ready L W stack places held scene
+  pub part : Part (L .bits) bs at depth (scene .scope) (holdsReg scene) (holdsRel scene) form end
+  pub relation : holdsRel scene t ≡ true
+
+abbrev pub ModePost : Limits → View → View → List ℕ → List ℕ → List ℕ → ℕ → ℕ → ℕ → List ℕ → ℕ → Mode → ℕ → Evaluated → Type 0
+ModePost L W X stack after bs at depth held places rounds m t r =
+    (σ : Scene) (f : Form) (e : ℕ) → Ready L W stack places held σ → Part (L .bits) bs at depth (σ .scope) (holdsReg σ) (holdsRel σ) f e
+    → holdsRel σ t ≡ true → Answers L W X stack after held rounds σ (modalForm m t f) e r
+
+-- mu and nu: f is the body, in which P is open
+pub record BindPre (L : Limits) (W : View) (stack bs : List ℕ) (at depth held : ℕ) (places : List ℕ) (P : ℕ) : Type 0 where
+  pub room : held + depth < depthLimit
+  pub scene : Scene
+  pub form : Form
+  pub end : ℕ
+  pub ready : Ready L W stack places held scene
+  pub part : Part (L .bits) bs at depth (set (scene .scope) P true) (holdsReg scene) (holdsRel scene) form end
+
+abbrev pub BindPost : Limits → View → View → List ℕ → List ℕ → List ℕ → ℕ → ℕ → ℕ → List ℕ → ℕ → Fix → ℕ → Evaluated → Type 0
+BindPost L W X stack after bs at depth held places rounds x P r =
+    (σ : Scene) (f : Form) (e : ℕ) → Ready L W stack places held σ → Part (L .bits) bs at depth (set (σ .scope) P true) (holdsReg σ) (holdsRel σ) f e
+    → Answers L W X stack after held rounds σ (binderForm x P f) e r
+
+-- a leaf
+pub record LeafPre (L : Limits) (W : View) (stack : List ℕ) (held : ℕ) (places : List ℕ) (l : Leaf) : Type 0 where
+  pub scene : Scene
+  pub ready : Ready L W stack places held scene
+  pub named : Named (scene .scope) (holdsReg scene) (holdsRel scene) (leafForm l)
+  pub taken : leafAllowed l (L .bits) States ≡ true
+
+abbrev pub LeafPost : Limits → View → View → List ℕ → ℕ → List ℕ → Leaf → Made → Type 0
+LeafPost L W X stack held places l o =
+    (σ : Scene) → Ready L W stack places held σ → Named (σ .scope) (holdsReg σ) (holdsRel σ) (leafForm l) → LeafAnswers L W X σ (leafForm l) o

@@ -1,0 +1,64 @@
+// Diamond and box over arrows: chains of steps, with no bytes.
+use steps::Step;
+use steps::take_step;
+use table::Made;
+
+ghost use Rattle.layout.specs.View.{view};
+ghost use Rattle.modal.specs.Modal.{QuantifyPre, QuantifyPost, ModalPre, DiamondPost, BoxPost};
+
+// The sizes of a table and what an evaluation may use of it: state bits, rows, the row limit and the rounds.
+pub struct Limits {
+    pub bits: u32,
+    pub rows: u32,
+    pub limit: u32,
+    pub rounds: u32,
+}
+
+// EXISTS at levels 2n − 1, 2n − 3, down to 1.
+fn quantify(words: &mut [u32], limits: Limits, roots: &[u32], a: u32) -> Made
+    requires { ⌜ QuantifyPre (limits .bits) (limits .rows) (limits .limit) (view (limits .rows) (now words)) (now roots) a ⌝ }
+    ensures { λ r. ⌜ QuantifyPost (limits .bits) (limits .rows) (limits .limit) (view (limits .rows) (now (words .entry))) (view (limits .rows) (now (words .exit))) (now (roots .entry)) a r ⌝ }
+{
+    let levels = 2 * limits.bits;
+    let mut c = a;
+    let mut left = limits.bits;
+    while 0 < left {
+        left -= 1;
+        let level = 2 * left + 1;
+        let Made::At(d) = take_step(words, limits.rows, levels, limits.limit, roots, Step::Exists(level, c)) else {
+            return Made::Full;
+        };
+        c = d;
+    }
+    Made::At(c)
+}
+
+// Diamond: SHIFT, AND with the relation, EXISTS at each next bit.
+pub fn diamond(words: &mut [u32], limits: Limits, roots: &[u32], relation: u32, a: u32) -> Made
+    requires { ⌜ ModalPre (limits .bits) (limits .rows) (limits .limit) (view (limits .rows) (now words)) (now roots) relation a ⌝ }
+    ensures { λ r. ⌜ DiamondPost (limits .bits) (limits .rows) (limits .limit) (view (limits .rows) (now (words .entry))) (view (limits .rows) (now (words .exit))) (now (roots .entry)) relation a r ⌝ }
+{
+    let levels = 2 * limits.bits;
+    let Made::At(x) = take_step(words, limits.rows, levels, limits.limit, roots, Step::Shift(a)) else {
+        return Made::Full;
+    };
+    let Made::At(c) = take_step(words, limits.rows, levels, limits.limit, roots, Step::And(x, relation)) else {
+        return Made::Full;
+    };
+    quantify(words, limits, roots, c)
+}
+
+// Box: NOT, diamond, NOT.
+pub fn boxed(words: &mut [u32], limits: Limits, roots: &[u32], relation: u32, a: u32) -> Made
+    requires { ⌜ ModalPre (limits .bits) (limits .rows) (limits .limit) (view (limits .rows) (now words)) (now roots) relation a ⌝ }
+    ensures { λ r. ⌜ BoxPost (limits .bits) (limits .rows) (limits .limit) (view (limits .rows) (now (words .entry))) (view (limits .rows) (now (words .exit))) (now (roots .entry)) relation a r ⌝ }
+{
+    let levels = 2 * limits.bits;
+    let Made::At(b) = take_step(words, limits.rows, levels, limits.limit, roots, Step::Not(a)) else {
+        return Made::Full;
+    };
+    let Made::At(c) = diamond(words, limits, roots, relation, b) else {
+        return Made::Full;
+    };
+    take_step(words, limits.rows, levels, limits.limit, roots, Step::Not(c))
+}
