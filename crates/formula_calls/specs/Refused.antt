@@ -1,0 +1,78 @@
+-- SET and RELATION refused by a check before their steps: 3 out of range, 4 to 7 by the reader's number. Assumes nothing.
+use mathlib.Core.Path.{_≡_, refl, sym, ap, ap₂, _∙_, fun-ext}
+use mathlib.Core.Bool.{Bool, true, false, cond, _&&_}
+use mathlib.Core.List.{List}
+use Prim.Native.Nat.{ℕ, zero, suc, _+_, _≤_, _<_}
+use native.Mathlib.Omega.{arith}
+use lib.Dec.{ltb, eqb·suc-zero}
+use Rattle.mucalculus.specs.Form.{filled}
+use Rattle.tokens.specs.declared.Kind.{Kind}
+use Rattle.tokens.specs.declared.Kind.the-variants.{Relation, Set}
+use Rattle.layout.specs.Places.{BITS, REGISTERS, RELATIONS, FIRST-REGISTER, FIRST-RELATION}
+use Rattle.layout.specs.View.{headerOf}
+use Rattle.layout.specs.Roots.{filledWord, filledRoot, filledRegister, filledRelation}
+use Rattle.layout.specs.Refusals.{refusalNumber}
+use Rattle.layout.specs.declared.Refusal.{Refusal}
+use Rattle.layout.specs.declared.Refusal.the-variants.{Sizes, Unsound, Range, Syntax, Unbound, Odd, Empty, Full, Spent}
+use Rattle.formula.specs.Checks.{firstRefusal}
+use Rattle.book.specs.Book.{Book, Call, relation, set, checks, refuse, does}
+use Rattle.book.specs.BookOf.{bookOf}
+use Rattle.book.specs.Leaves.{plain, checks-same}
+use Rattle.book.specs.Effects.{set-refused, set-out-of-range, relation-refused, relation-out-of-range}
+use Rattle.contract.specs.Seen.{arrowIn, seen, SoundWords, sound-shows-book}
+use Rattle.contract.specs.Posts.{CallPost}
+use Rattle.contract.specs.Checked.{call-refused}
+
+-- a root's word is filled where it is seen to be
+root-seen : (ws : List ℕ) (start total k : ℕ) → (ltb k total && filled (arrowIn (headerOf ws (start + k)))) ≡ filledRoot ws start total k
+unfolding filledRoot
+root-seen ws start total k = go (ltb k total) (headerOf ws (start + k))
+  where
+    go : (u : Bool) (w : ℕ) → (u && filled (arrowIn w)) ≡ cond u (filledWord w) false
+    go true zero = refl
+    go true (suc a) = rw (eqb·suc-zero a)
+    go false w = refl
+
+-- the refusal is none of 0
+pub refusal-some : (x : Refusal) → 1 ≤ refusalNumber x
+refusal-some Sizes = omega arith
+refusal-some Unsound = omega arith
+refusal-some Range = omega arith
+refusal-some Syntax = omega arith
+refusal-some Unbound = omega arith
+refusal-some Odd = omega arith
+refusal-some Empty = omega arith
+refusal-some Full = omega arith
+refusal-some Spent = omega arith
+
+module _ (ws : List ℕ) (s : SoundWords ws) where
+  abbrev b : Book
+  b = bookOf (seen ws)
+
+  -- the reader's number over the words is the book's
+  pub checks-read : (k : Kind) (bs : List ℕ) {n x : ℕ} → n ≡ headerOf ws BITS → x ≡ firstRefusal k n (filledRegister ws) (filledRelation ws) bs → checks b k bs ≡ x
+  checks-read k bs {n} {x} i e =
+      checks-same b (seen ws) (sound-shows-book ws s) k bs
+      ∙ ap₂ (λ (p q : ℕ → Bool). firstRefusal k (headerOf ws BITS) p q bs) (fun-ext (root-seen ws FIRST-REGISTER REGISTERS)) (fun-ext (root-seen ws FIRST-RELATION RELATIONS))
+      ∙ ap (λ (j : ℕ). firstRefusal k j (filledRegister ws) (filledRelation ws) bs) (sym i)
+      ∙ sym e
+
+  -- a call that the book refuses with the refusal's number
+  refused-by : (c : Call) (x : Refusal) → ((k : ℕ) → refusalNumber x ≡ suc k → does b c ≡ refuse b (suc k)) → CallPost c ws ws (plain (refusalNumber x))
+  refused-by c x h = go (refusalNumber x) refl
+    where
+      go : (k : ℕ) → refusalNumber x ≡ k → CallPost c ws ws (plain k)
+      go zero e = let l = refusal-some x in absurd (omega arith)
+      go (suc k) e = call-refused ws s k c (h k e)
+
+  pub set-range : (r R : ℕ) (bs : List ℕ) → REGISTERS ≤ r → CallPost (set r R bs) ws ws (plain 3)
+  set-range r R bs l = call-refused ws s 2 (set r R bs) (set-out-of-range b r R bs l)
+
+  pub set-checked : (r R : ℕ) (bs : List ℕ) (x : Refusal) → r < REGISTERS → checks b Set bs ≡ refusalNumber x → CallPost (set r R bs) ws ws (plain (refusalNumber x))
+  set-checked r R bs x l z = refused-by (set r R bs) x (λ k e. set-refused b r R bs k l (z ∙ e))
+
+  pub relation-range : (t : ℕ) (bs : List ℕ) → RELATIONS ≤ t → CallPost (relation t bs) ws ws (plain 3)
+  relation-range t bs l = call-refused ws s 2 (relation t bs) (relation-out-of-range b t bs l)
+
+  pub relation-checked : (t : ℕ) (bs : List ℕ) (x : Refusal) → t < RELATIONS → checks b Relation bs ≡ refusalNumber x → CallPost (relation t bs) ws ws (plain (refusalNumber x))
+  relation-checked t bs x l z = refused-by (relation t bs) x (λ k e. relation-refused b t bs k l (z ∙ e))
