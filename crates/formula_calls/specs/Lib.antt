@@ -1,3 +1,5 @@
 pub mod Evaluated
 pub mod Refused
 pub mod Ends
+pub mod Replies
+pub mod Store

@@ -1,14 +1,34 @@
 // The calls that take a formula. Each makes its checks in document 01's order, evaluates the formula, stores what it gives, and frees rows where many are not needed any more.
 use collect::collect_rows;
 use collect::needed;
+use evaluator::Evaluated;
+use layout::Refusal;
 use layout::Table;
 use layout::header_word;
+use layout::put_header;
+use table::Made;
 
 ghost use mathlib.Core.Path.{_≡_};
+ghost use Prim.Native.Nat.{_<_, _≤_};
+ghost use lib.ListN.{length};
+ghost use Rattle.layout.specs.Places.{REGISTERS, RELATIONS, wordsFor};
 ghost use Rattle.layout.specs.View.{view};
 ghost use Rattle.soundness.specs.Sound.{Sound};
 ghost use Rattle.book.specs.Book as book;
 ghost use Rattle.formula_calls.specs.Evaluated.{Tidied};
+ghost use Rattle.formula_calls.specs.Store.{Holds, storedOf, setStored, Carries, loadedOf, relationLoaded};
+
+// What set answers: the node number and the rounds.
+pub enum Stored {
+    Node { number: u32, rounds: u32 },
+    Refused(Refusal),
+}
+
+// What relation answers.
+pub enum Loaded {
+    Done,
+    Refused(Refusal),
+}
 
 // The tally after some rounds more: it stays at the top once it would pass that.
 fn tallied(tally: u32, rounds: u32) -> u32
@@ -39,4 +59,41 @@ fn tidy(words: &mut [u32], rows: u32)
         return;
     }
     collect_rows(words, rows);
+}
+
+// Stores what an evaluation gave in register r, and tallies its rounds.
+fn store_set(words: &mut [u32], rows: u32, r: u32, done: Evaluated) -> Stored
+    requires { ⌜ (r < REGISTERS) × (wordsFor rows ≤ length (now words)) × Holds done ⌝ }
+    ensures { λ x. ⌜ (x ≡ storedOf done) × (view rows (now (words .exit)) ≡ setStored (view rows (now (words .entry))) r done) ⌝ }
+{
+    match done {
+        Evaluated::Full => Stored::Refused(Refusal::Full),
+        Evaluated::Spent => Stored::Refused(Refusal::Spent),
+        Evaluated::Value {
+            arrow: a,
+            next: _,
+            rounds: q,
+        } => {
+            let tally = tallied(header_word(words, Table::TALLY), q);
+            let at = Table::FIRST_REGISTER + (r as usize);
+            put_header(words, rows, at, a + 1);
+            put_header(words, rows, Table::TALLY, tally);
+            Stored::Node { number: a, rounds: q }
+        }
+    }
+}
+
+// Stores what an evaluation gave in relation t.
+fn store_relation(words: &mut [u32], rows: u32, t: u32, done: Made) -> Loaded
+    requires { ⌜ (t < RELATIONS) × (wordsFor rows ≤ length (now words)) × Carries done ⌝ }
+    ensures { λ x. ⌜ (x ≡ loadedOf done) × (view rows (now (words .exit)) ≡ relationLoaded (view rows (now (words .entry))) t done) ⌝ }
+{
+    match done {
+        Made::Full => Loaded::Refused(Refusal::Full),
+        Made::At(a) => {
+            let at = Table::FIRST_RELATION + (t as usize);
+            put_header(words, rows, at, a + 1);
+            Loaded::Done
+        }
+    }
 }
