@@ -13,17 +13,17 @@ use Rattle.layout.specs.Places.{REGISTERS, RELATIONS, ROWS, TALLY, FIRST-REGIST
 use Rattle.layout.specs.View.{View, view, headerOf}
 use Rattle.diagram.specs.Post.{Result, at, full as noRows}
 use Rattle.soundness.specs.Used.{rowsOf}
-use Rattle.soundness.specs.Sound.{Good, tableOf}
+use Rattle.soundness.specs.Sound.{Good, Sound, tableOf}
 use Rattle.book.specs.Book.{Book, Call, relation, set, modelOf, liveOf, checks, formulaIn, tallied}
 use Rattle.book.specs.Table.{Table, Reply, rootsOf, Serves}
 use Rattle.book.specs.Run.{run, pairF, pairsFit}
 use Rattle.book.specs.Follow.{Ended, ends, eight, nine, Evals}
 use Rattle.book.specs.Pairs.{PairEvals}
 use Rattle.book.specs.Alike.{Alike, alike-serves}
-use Rattle.book.specs.BookOf.{bookOf}
+use Rattle.book.specs.BookOf.{bookOf, sound-shows}
 use Rattle.book.specs.Leaves.{plain, storeReg, storeRel}
 use Rattle.book.specs.Formulas.{setLeaves, setReply, set-serves, relationLeaves, relationReply, relation-serves}
-use Rattle.contract.specs.Seen.{seenIn, seen, SoundWords, sound-shows-book}
+use Rattle.contract.specs.Seen.{seenIn, seen, SoundWords, sound-shows-book, table-sound}
 use Rattle.contract.specs.Kept.{target}
 use Rattle.contract.specs.Posts.{CallPost}
 use Rattle.operations.specs.Work.{OpFrame}
@@ -50,7 +50,22 @@ alike-reg {t} {u} r o e a = record { n = a .n; N = a .N; tally = e; rows = a .ro
 alike-rel : {t u : Table} (r : ℕ) (o : Option ℕ) → Alike t u → Alike (storeRel t r o) (storeRel u r o)
 alike-rel {t} {u} r o a = record { n = a .n; N = a .N; tally = a .tally; rows = a .rows; reg = a .reg; rel = λ q l. put-same (u .rel) (t .rel) r o q (a .rel q l) }
 
--- ---- set
+-- ---- before the collection afterwards
+
+-- the words Y serve the book as the call and its reply ask, and no word changed that must not
+pub record Through (old : List ℕ) (c : Call) (y : Reply) (Y : View) : Type 0 where
+  pub good : Good Y
+  pub left : Left c y (tableOf old) Y
+  pub serves : Serves (bookOf (seen old)) c (seen old) (seenIn Y) y
+
+pub through-sound : {old : List ℕ} {c : Call} {y : Reply} {Y : View} → Through old c y Y → Sound Y
+through-sound {Y = Y} p = table-sound Y (p .good) (sound-shows _ (seenIn Y) (p .serves .shows))
+
+-- and with it
+pub through-done : {old : List ℕ} {c : Call} {y : Reply} {Y : View} → SoundWords old → takesFormula c → (1 ≤ y .number → y .number ≤ 7 → ⊥) → Through old c y Y → {Z : View} → Tidied Y Z
+    → {new : List ℕ} → view (headerOf old ROWS) new ≡ Z → CallPost c old new y
+through-done {old} {c} {y} s k late p {Z} t {new} is =
+    let d = tidied-served (bookOf (seen old)) c (seen old) y (p .good) t (p .serves) in formula-done c y old new k late s Z is (d .0) (tidied-left c y t (p .left)) (d .1)
 
 module _ (old : List ℕ) (s : SoundWords old) (X : View) (g : Good X) (f : OpFrame (tableOf old) X) where
   abbrev W : View
@@ -59,13 +74,11 @@ module _ (old : List ℕ) (s : SoundWords old) (X : View) (g : Good X) (f : OpFr
   abbrev b : Book
   b = bookOf (seen old)
 
-  -- what the call serves up to its collection it serves with it
-  done : (c : Call) (y : Reply) → takesFormula c → (1 ≤ y .number → y .number ≤ 7 → ⊥) → {Y Z : View} → Good Y → Left c y W Y → Tidied Y Z → Serves b c (seen old) (seenIn Y) y → {new : List ℕ} → view (headerOf old ROWS) new ≡ Z → CallPost c old new y
-  done c y k late {Y} {Z} h l t d {new} is = let p = tidied-served b c (seen old) y h t d in formula-done c y old new k late s Z is (p .0) (tidied-left c y t l) (p .1)
-
   -- the evaluator's words alone
   left : (c : Call) (y : Reply) → Left c y W X
   left c y = left-op c y (left-none c y W) f
+
+  -- ---- set
 
   module _ (r R : ℕ) (bs : List ℕ) (l : r < REGISTERS) (z : checks b Set bs ≡ 0) where
     abbrev c : Call
@@ -79,28 +92,28 @@ module _ (old : List ℕ) (s : SoundWords old) (X : View) (g : Good X) (f : OpFr
     serves y d = set-serves b (seen old) r R bs (rowsOf X) y (sound-shows-book old s) l z d
 
     -- "returns node number and rounds"
-    pub set-value : (a q : ℕ) → SetEnds (ends a q) → {v : ℕ} → v ≡ tallied (X .header TALLY) q → {Z : View} → Tidied (registerStored X r a v) Z → {new : List ℕ} → view (headerOf old ROWS) new ≡ Z → CallPost c old new (setReply (ends a q))
-    set-value a q d {v} e {Z} t is = done c (setReply (ends a q)) tt (λ i j. omega arith) (register-good X r a v l g) words t
-        (alike-serves (alike-trans (alike-reg r (some a) same (rows-seen W X f)) (register-seen X r a v l)) b c (seen old) (setReply (ends a q)) (serves (ends a q) d)) is
+    pub set-value : (a q : ℕ) → SetEnds (ends a q) → Through old c (setReply (ends a q)) (registerStored X r a (tallied (X .header TALLY) q))
+    set-value a q d = record {
+      good = register-good X r a v l g;
+      left = left-put c (setReply (ends a q)) TALLY v (left-put c (setReply (ends a q)) (FIRST-REGISTER + r) (suc a) (left c (setReply (ends a q))) refl own) refl (or-true (eqb TALLY (FIRST-REGISTER + r)));
+      serves = alike-serves (alike-trans (alike-reg r (some a) same (rows-seen W X f)) (register-seen X r a v l)) b c (seen old) (setReply (ends a q)) (serves (ends a q) d);
+    }
       where
+        v : ℕ
+        v = tallied (X .header TALLY) q
+
         same : v ≡ tallied (W .header TALLY) q
-        same = e ∙ ap (λ (k : ℕ). tallied k q) (f .header TALLY (omega arith) (omega arith) (omega arith) (omega arith))
+        same = ap (λ (k : ℕ). tallied k q) (f .header TALLY (omega arith) (omega arith) (omega arith) (omega arith))
 
-        words : Left c (setReply (ends a q)) W (registerStored X r a v)
-        words = left-put c (setReply (ends a q)) TALLY v (left-put c (setReply (ends a q)) (FIRST-REGISTER + r) (suc a) (left c (setReply (ends a q))) refl own) refl tally
-          where
-            own : target c (FIRST-REGISTER + r) ≡ true
-            own = rw (eq-eqb (FIRST-REGISTER + r) (FIRST-REGISTER + r) refl)
-
-            tally : target c TALLY ≡ true
-            tally = or-true (eqb TALLY (FIRST-REGISTER + r))
+        own : target c (FIRST-REGISTER + r) ≡ true
+        own = rw (eq-eqb (FIRST-REGISTER + r) (FIRST-REGISTER + r) refl)
 
     -- "8: step needs more than N rows", "9: rounds used up"
-    pub set-full : SetEnds eight → {Z : View} → Tidied X Z → {new : List ℕ} → view (headerOf old ROWS) new ≡ Z → CallPost c old new (plain 8)
-    set-full d t is = done c (plain 8) tt (λ i j. omega arith) g (left c (plain 8)) t (alike-serves (rows-seen W X f) b c (seen old) (plain 8) (serves eight d)) is
+    pub set-full : SetEnds eight → Through old c (plain 8) X
+    set-full d = record { good = g; left = left c (plain 8); serves = alike-serves (rows-seen W X f) b c (seen old) (plain 8) (serves eight d) }
 
-    pub set-spent : SetEnds nine → {Z : View} → Tidied X Z → {new : List ℕ} → view (headerOf old ROWS) new ≡ Z → CallPost c old new (plain 9)
-    set-spent d t is = done c (plain 9) tt (λ i j. omega arith) g (left c (plain 9)) t (alike-serves (rows-seen W X f) b c (seen old) (plain 9) (serves nine d)) is
+    pub set-spent : SetEnds nine → Through old c (plain 9) X
+    set-spent d = record { good = g; left = left c (plain 9); serves = alike-serves (rows-seen W X f) b c (seen old) (plain 9) (serves nine d) }
 
   -- ---- relation
 
@@ -114,15 +127,15 @@ module _ (old : List ℕ) (s : SoundWords old) (X : View) (g : Good X) (f : OpFr
     loads : (y : Result) → RelationEnds y → Serves b k (seen old) (relationLeaves (seen old) q (rowsOf X) y) (relationReply y)
     loads y d = relation-serves b (seen old) q bs (rowsOf X) y (sound-shows-book old s) l z d
 
-    pub relation-value : (a : ℕ) → RelationEnds (at a) → {Z : View} → Tidied (relationStored X q a) Z → {new : List ℕ} → view (headerOf old ROWS) new ≡ Z → CallPost k old new (plain 0)
-    relation-value a d t is = done k (plain 0) tt (λ i j. omega arith) (relation-good X q a l g) words t
-        (alike-serves (alike-trans (alike-rel q (some a) (rows-seen W X f)) (relation-seen X q a l)) b k (seen old) (plain 0) (loads (at a) d)) is
+    pub relation-value : (a : ℕ) → RelationEnds (at a) → Through old k (plain 0) (relationStored X q a)
+    relation-value a d = record {
+      good = relation-good X q a l g;
+      left = left-put k (plain 0) (FIRST-RELATION + q) (suc a) (left k (plain 0)) refl own;
+      serves = alike-serves (alike-trans (alike-rel q (some a) (rows-seen W X f)) (relation-seen X q a l)) b k (seen old) (plain 0) (loads (at a) d);
+    }
       where
-        words : Left k (plain 0) W (relationStored X q a)
-        words = left-put k (plain 0) (FIRST-RELATION + q) (suc a) (left k (plain 0)) refl own
-          where
-            own : target k (FIRST-RELATION + q) ≡ true
-            own = rw (eq-eqb (FIRST-RELATION + q) (FIRST-RELATION + q) refl)
+        own : target k (FIRST-RELATION + q) ≡ true
+        own = rw (eq-eqb (FIRST-RELATION + q) (FIRST-RELATION + q) refl)
 
-    pub relation-full : RelationEnds noRows → {Z : View} → Tidied X Z → {new : List ℕ} → view (headerOf old ROWS) new ≡ Z → CallPost k old new (plain 8)
-    relation-full d t is = done k (plain 8) tt (λ i j. omega arith) g (left k (plain 8)) t (alike-serves (rows-seen W X f) b k (seen old) (plain 8) (loads noRows d)) is
+    pub relation-full : RelationEnds noRows → Through old k (plain 8) X
+    relation-full d = record { good = g; left = left k (plain 8); serves = alike-serves (rows-seen W X f) b k (seen old) (plain 8) (loads noRows d) }

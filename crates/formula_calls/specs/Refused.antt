@@ -14,7 +14,8 @@ use Rattle.layout.specs.Roots.{filledWord, filledRoot, filledRegister, filledRe
 use Rattle.layout.specs.Refusals.{refusalNumber}
 use Rattle.layout.specs.declared.Refusal.{Refusal}
 use Rattle.layout.specs.declared.Refusal.the-variants.{Sizes, Unsound, Range, Syntax, Unbound, Odd, Empty, Full, Spent}
-use Rattle.formula.specs.Checks.{firstRefusal}
+use Rattle.formula.specs.Checks.{firstRefusal, numberOf}
+use Rattle.formula.specs.declared.Checked.{Checked}
 use Rattle.book.specs.Book.{Book, Call, relation, set, checks, refuse, does}
 use Rattle.book.specs.BookOf.{bookOf}
 use Rattle.book.specs.Leaves.{plain, checks-same}
@@ -56,6 +57,10 @@ module _ (ws : List ℕ) (s : SoundWords ws) where
       ∙ ap₂ (λ (p q : ℕ → Bool). firstRefusal k (headerOf ws BITS) p q bs) (fun-ext (root-seen ws FIRST-REGISTER REGISTERS)) (fun-ext (root-seen ws FIRST-RELATION RELATIONS))
       ∙ ap (λ (j : ℕ). firstRefusal k j (filledRegister ws) (filledRelation ws) bs) (sym i)
       ∙ sym e
+
+  -- and what the reader says is its number
+  pub checks-told : (k : Kind) (bs : List ℕ) {n : ℕ} {v w : Checked} → n ≡ headerOf ws BITS → numberOf v ≡ firstRefusal k n (filledRegister ws) (filledRelation ws) bs → v ≡ w → checks b k bs ≡ numberOf w
+  checks-told k bs i e h = checks-read k bs i e ∙ ap numberOf h
 
   -- a call that the book refuses with the refusal's number
   refused-by : (c : Call) (x : Refusal) → ((k : ℕ) → refusalNumber x ≡ suc k → does b c ≡ refuse b (suc k)) → CallPost c ws ws (plain (refusalNumber x))

@@ -1,27 +1,32 @@
 -- What set and relation store of an evaluation, and what they answer. Assumes nothing.
 use mathlib.Core.Path.{_≡_, refl, sym, ap, ap₂, _∙_, subst}
 use mathlib.Core.List.{List}
-use Prim.Native.Nat.{ℕ, suc, _+_, _≤_, _<_}
+use Prim.Native.Nat.{ℕ, zero, suc, _+_, _≤_, _<_}
 use native.Mathlib.Omega.{arith}
-use Rattle.layout.specs.Places.{REGISTERS, RELATIONS, ROWS, TALLY, FIRST-REGISTER, FIRST-RELATION}
+use lib.ListN.{length}
+use Rattle.layout.specs.Places.{REGISTERS, RELATIONS, MAX-ROWS, BITS, ROWS, TALLY, wordsFor, FIRST-REGISTER, FIRST-RELATION}
 use Rattle.layout.specs.View.{View, view, headerOf, putHeader}
 use Rattle.layout.specs.declared.Refusal.the-variants as refusal
 use Rattle.tokens.specs.declared.Kind.the-variants as kind
-use Rattle.diagram.specs.Post.{Result}
-use Rattle.soundness.specs.Sound.{Good, tableOf}
+use Rattle.diagram.specs.Rows.{Rows, Arrow, WellFormed}
+use Rattle.soundness.specs.Sound.{Sound, tableOf}
 use Rattle.table.specs.Make.{result}
 use Rattle.table.specs.declared.Made.{Made}
 use Rattle.table.specs.declared.Made.the-variants as made
 use Rattle.book.specs.Book.{set, relation, checks, tallied}
 use Rattle.book.specs.BookOf.{bookOf}
+use Rattle.book.specs.Run.{Outcome, value, full as noRows, spent}
+use Rattle.book.specs.Follow.{Evals}
 use Rattle.contract.specs.Seen.{seen, SoundWords}
 use Rattle.contract.specs.Posts.{CallPost}
+use Rattle.modal.specs.declared.Limits.{Limits}
 use Rattle.operations.specs.Work.{OpFrame}
 use Rattle.evaluator.specs.Scene.{endedOf}
+use Rattle.evaluator.specs.Whole.{SetPre, SetPost}
 use Rattle.evaluator.specs.declared.Evaluated.{Evaluated}
 use Rattle.evaluator.specs.declared.Evaluated.the-variants.{Value, Full, Spent}
 use Rattle.formula_calls.specs.Evaluated.{registerStored, relationStored, Tidied}
-use Rattle.formula_calls.specs.Ends.{SetEnds, set-value, set-full, set-spent, RelationEnds, relation-value, relation-full}
+use Rattle.formula_calls.specs.Ends.{Through, through-sound, through-done, SetEnds, set-value, set-full, set-spent, RelationEnds, relation-value, relation-full}
 use Rattle.formula_calls.specs.Replies.{storedReply, loadedReply}
 use Rattle.formula_calls.specs.declared.Stored.{Stored}
 use Rattle.formula_calls.specs.declared.Stored.the-variants as stored
@@ -58,17 +63,15 @@ abbrev pub relationLoaded : View → ℕ → Made → View
 relationLoaded X t (made.At a) = relationStored X t a
 relationLoaded X t made.Full = X
 
-module _ (old : List ℕ) (s : SoundWords old) (X : View) (g : Good X) (f : OpFrame (tableOf old) X) where
-  pub set-stored : (r R : ℕ) (bs : List ℕ) (l : r < REGISTERS) (z : checks (bookOf (seen old)) kind.Set bs ≡ 0) (y : Evaluated) → SetEnds old s X g f r R bs l z (endedOf y)
-      → {Z : View} → Tidied (setStored X r y) Z → {new : List ℕ} → view (headerOf old ROWS) new ≡ Z → CallPost (set r R bs) old new (storedReply (storedOf y))
-  set-stored r R bs l z (Value a k q) d t is = set-value old s X g f r R bs l z a q d refl t is
-  set-stored r R bs l z Full d t is = set-full old s X g f r R bs l z d t is
-  set-stored r R bs l z Spent d t is = set-spent old s X g f r R bs l z d t is
+-- neither ends in one of the checks' numbers
+stored-late : (y : Evaluated) → 1 ≤ storedReply (storedOf y) .number → storedReply (storedOf y) .number ≤ 7 → ⊥
+stored-late (Value a k q) i j = omega arith
+stored-late Full i j = omega arith
+stored-late Spent i j = omega arith
 
-  pub relation-loaded : (t : ℕ) (bs : List ℕ) (l : t < RELATIONS) (z : checks (bookOf (seen old)) kind.Relation bs ≡ 0) (y : Made) → RelationEnds old s X g f t bs l z (result y)
-      → {Z : View} → Tidied (relationLoaded X t y) Z → {new : List ℕ} → view (headerOf old ROWS) new ≡ Z → CallPost (relation t bs) old new (loadedReply (loadedOf y))
-  relation-loaded t bs l z (made.At a) d i is = relation-value old s X g f t bs l z a d i is
-  relation-loaded t bs l z made.Full d i is = relation-full old s X g f t bs l z d i is
+loaded-late : (y : Made) → 1 ≤ loadedReply (loadedOf y) .number → loadedReply (loadedOf y) .number ≤ 7 → ⊥
+loaded-late (made.At a) i j = omega arith
+loaded-late made.Full i j = omega arith
 
 -- ---- the steps of `store_set` and `store_relation`
 
@@ -96,3 +99,59 @@ module _ (X : View) (r : ℕ) where
 
   pub loaded-value : {y : Made} {a : ℕ} {Z : View} → y ≡ made.At a → Z ≡ putHeader X (FIRST-RELATION + r) (a + 1) → (loaded.Done ≡ loadedOf y) × (Z ≡ relationLoaded X r y)
   loaded-value {a = a} {Z = Z} e n = subst (λ (y : Made). (loaded.Done ≡ loadedOf y) × (Z ≡ relationLoaded X r y)) (sym e) (refl, n ∙ ap (λ (x : ℕ). putHeader X (FIRST-RELATION + r) x) (omega arith))
+
+-- an arrow's word fits
+arrow-fits : {m N : ℕ} {rows : Rows} → WellFormed m N rows → N ≤ MAX-ROWS → (a : ℕ) → Arrow rows a → suc a < 4_294_967_296
+arrow-fits wf l zero u = omega arith
+arrow-fits wf l (suc zero) u = omega arith
+arrow-fits wf l (suc (suc i)) u = let h = wf .bounded i u in omega arith
+
+ends-holds : {n N : ℕ} {before after : Rows} {roots : List ℕ} (o : Outcome) (y : Evaluated) → N ≤ MAX-ROWS → Evals n N before after roots o (endedOf y) → Holds y
+ends-holds (value A p) (Value a k q) l d = arrow-fits (d .wf) l a (d .result .0 .arrow)
+ends-holds noRows (Value a k q) l d = absurd (d .result)
+ends-holds spent (Value a k q) l d = absurd (d .result)
+ends-holds o Full l d = tt
+ends-holds o Spent l d = tt
+
+-- ---- the steps of `set_steps`: `rows`, `n` and `R` are what the code reads and hands on
+
+-- what a set call asks after its checks
+pub record SetReady (r : ℕ) (old bs : List ℕ) : Type 0 where
+  pub sound : SoundWords old
+  pub range : r < REGISTERS
+  pub passed : checks (bookOf (seen old)) kind.Set bs ≡ 0
+
+abbrev limitsOf : ℕ → ℕ → ℕ → Limits
+limitsOf n rows R = record { bits = n; rows = rows; limit = rows; rounds = R }
+
+module _ {old bs : List ℕ} {r R rows n : ℕ} (p : SetReady r old bs) (er : rows ≡ headerOf old ROWS) where
+  pub set-asks : n ≡ headerOf old BITS → SetPre (limitsOf n rows R) (view rows old) bs
+  set-asks en = rw er (record { sound = p .sound; bits = en; rows = refl; limit = omega arith; passed = p .passed })
+
+  module _ (mid : List ℕ) {y : Evaluated} (d : SetPost (limitsOf n rows R) (view rows old) (view rows mid) bs y) where
+    post : SetPost (limitsOf n (headerOf old ROWS) R) (tableOf old) (view (headerOf old ROWS) mid) bs y
+    post = rw er at d
+
+    through : Through old (set r R bs) (storedReply (storedOf y)) (setStored (view (headerOf old ROWS) mid) r y)
+    through = go y (post .evals)
+      where
+        X : View
+        X = view (headerOf old ROWS) mid
+
+        go : (y : Evaluated) → SetEnds old (p .sound) X (post .sound .good) (post .frame) r R bs (p .range) (p .passed) (endedOf y) → Through old (set r R bs) (storedReply (storedOf y)) (setStored X r y)
+        go (Value a k q) e = set-value old (p .sound) X (post .sound .good) (post .frame) r R bs (p .range) (p .passed) a q e
+        go Full e = set-full old (p .sound) X (post .sound .good) (post .frame) r R bs (p .range) (p .passed) e
+        go Spent e = set-spent old (p .sound) X (post .sound .good) (post .frame) r R bs (p .range) (p .passed) e
+
+    -- what `store_set` asks
+    pub set-storing : (r < REGISTERS) × (wordsFor rows ≤ length mid) × Holds y
+    set-storing = rw er (p .range, post .sound .good .sizes .room, ends-holds _ y (p .sound .good .sizes .N-max) (post .evals))
+
+    module _ (after : List ℕ) (e : view rows after ≡ setStored (view rows mid) r y) where
+      -- what `tidy` asks
+      pub set-tidying : Sound (view rows after)
+      set-tidying = subst Sound (sym e) (rw er (through-sound through))
+
+      -- the call
+      pub set-done : {x : Stored} → x ≡ storedOf y → (new : List ℕ) → Tidied (view rows after) (view rows new) → CallPost (set r R bs) old new (storedReply x)
+      set-done i new t = rw i (through-done (p .sound) tt (stored-late y) through (rw (sym er) (subst (λ (v : View). Tidied v (view rows new)) e t)) refl)

@@ -2,11 +2,17 @@
 use collect::collect_rows;
 use collect::needed;
 use evaluator::Evaluated;
+use evaluator::evaluate_set;
+use formula::Checked;
+use formula::check_formula;
 use layout::Refusal;
 use layout::Table;
 use layout::header_word;
 use layout::put_header;
+use modal::Limits;
+use soundness::sound;
 use table::Made;
+use tokens::Kind;
 
 ghost use mathlib.Core.Path.{_≡_};
 ghost use Prim.Native.Nat.{_<_, _≤_};
@@ -16,7 +22,9 @@ ghost use Rattle.layout.specs.View.{view};
 ghost use Rattle.soundness.specs.Sound.{Sound};
 ghost use Rattle.book.specs.Book as book;
 ghost use Rattle.formula_calls.specs.Evaluated.{Tidied};
-ghost use Rattle.formula_calls.specs.Store.{Holds, storedOf, setStored, Carries, loadedOf, relationLoaded};
+ghost use Rattle.contract.specs.Posts.{CallPost};
+ghost use Rattle.formula_calls.specs.Replies.{storedReply, loadedReply};
+ghost use Rattle.formula_calls.specs.Store.{SetReady, Holds, storedOf, setStored, Carries, loadedOf, relationLoaded};
 
 // What set answers: the node number and the rounds.
 pub enum Stored {
@@ -95,5 +103,41 @@ fn store_relation(words: &mut [u32], rows: u32, t: u32, done: Made) -> Loaded
             put_header(words, rows, at, a + 1);
             Loaded::Done
         }
+    }
+}
+
+// Evaluates a checked formula, stores its states in register r, and frees rows where many are not needed any more.
+fn set_steps(words: &mut [u32], r: u32, most: u32, bytes: &[u8]) -> Stored
+    requires { ⌜ SetReady r (now words) (now bytes) ⌝ }
+    ensures { λ x. ⌜ CallPost (book.set r most (now (bytes .entry))) (now (words .entry)) (now (words .exit)) (storedReply x) ⌝ }
+{
+    let rows = header_word(words, Table::ROWS);
+    let limits = Limits {
+        bits: header_word(words, Table::BITS),
+        rows: rows,
+        limit: rows,
+        rounds: most,
+    };
+    let done = evaluate_set(words, limits, bytes);
+    let answer = store_set(words, rows, r, done);
+    tidy(words, rows);
+    answer
+}
+
+// Register r holds the states of a formula, found in at most so many rounds; 2 on unsound words, 3 where there is no such register, 4 to 7 by
+// the formula, 8 where a step needs more rows than there are, 9 where the rounds are used up.
+pub fn set(words: &mut [u32], r: u32, most: u32, bytes: &[u8]) -> Stored
+    ensures { λ x. ⌜ CallPost (book.set r most (now (bytes .entry))) (now (words .entry)) (now (words .exit)) (storedReply x) ⌝ }
+{
+    if !sound(words) {
+        return Stored::Refused(Refusal::Unsound);
+    }
+    if r >= Table::REGISTERS {
+        return Stored::Refused(Refusal::Range);
+    }
+    let n = header_word(words, Table::BITS);
+    match check_formula(bytes, Kind::Set, n, words) {
+        Checked::Refused(x) => Stored::Refused(x),
+        Checked::Fit => set_steps(words, r, most, bytes),
     }
 }
