@@ -7,3 +7,4 @@ pub mod Steps
 pub mod Leaves
 pub mod Relations
 pub mod Rounds
+pub mod Starts

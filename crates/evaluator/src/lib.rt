@@ -1,6 +1,8 @@
 // The evaluation of a set's formula from its bytes, over the words of a table.
+use formula::Frame;
 use layout::Table;
 use layout::header_word;
+use memory::forget;
 use modal::Limits;
 use modal::boxed;
 use modal::diamond;
@@ -23,6 +25,7 @@ ghost use Rattle.layout.specs.Places.{HEADER};
 ghost use Rattle.layout.specs.View.{view, headerOf};
 ghost use Rattle.book.specs.Turns.{startArrow};
 ghost use Rattle.modal.specs.Modal.{ModalPre};
+ghost use Rattle.evaluator.specs.Whole.{SetPre, SetPost};
 ghost use Rattle.evaluator.specs.Scene.{fromMade, isLeast, joinStep, OverPost, LeafPre, LeafPost, EvalPre, EvalPost, NegatePre, NegatePost, BothPre, BothPost, ModePre, ModePost, BindPre, BindPost};
 
 // What an evaluation answers: the arrow of the set, the place after the formula and the rounds counted; or why there is none.
@@ -289,4 +292,15 @@ fn bind(
         counted = total;
     }
     Evaluated::Spent
+}
+
+// Evaluates the set's formula in `bytes`, which has passed the checks, with nothing remembered before.
+pub fn evaluate_set(words: &mut [u32], limits: Limits, bytes: &[u8]) -> Evaluated
+    requires { ⌜ SetPre limits (view (limits .rows) (now words)) (now bytes) ⌝ }
+    ensures { λ r. ⌜ SetPost limits (view (limits .rows) (now (words .entry))) (view (limits .rows) (now (words .exit))) (now (bytes .entry)) r ⌝ }
+{
+    forget(words, limits.rows);
+    let mut stack = [0u32; Table::DEPTH];
+    let places = [0usize; Grammar::VARIABLES];
+    eval(words, &mut stack, bytes, limits, Frame::START, Table::DEPTH, 0, places, 0)
 }

@@ -1,0 +1,157 @@
+-- The start of an evaluation: all is forgotten, the stack is empty, no variable is open. Assumes nothing.
+use mathlib.Core.Path.{_≡_, refl, sym, ap, _∙_, subst}
+use mathlib.Core.Logic.{⊎-elim, by-cases}
+use mathlib.Core.Bool.{Bool, true, false, cond, true≢false}
+use mathlib.Core.List.{List, [], _++_, append-nil}
+use mathlib.Core.Option.{Option}
+use Prim.Native.Nat.{ℕ, _+_, _*_, _≤_, _<_}
+use native.Mathlib.Omega.{arith}
+use lib.Dec.{eqb}
+use lib.ListN.{length, getD, take, replicate, length-replicate, getD-replicate}
+use Rattle.mucalculus.specs.Form.{Form, noneOpen, noEnv}
+use Rattle.tokens.specs.Tokens.{grammarOf}
+use Rattle.tokens.specs.declared.Kind.the-variants.{Set}
+use Rattle.tokens.specs.declared.Grammar.{Grammar}
+use Rattle.tokens.specs.declared.Grammar.the-variants.{States}
+use Rattle.tokens.specs.declared.Reading.the-variants.{Is as Reads, Unknown}
+use Rattle.formula.specs.Parse.{got, formOf, formulaOf, depthLimit, parse}
+use Rattle.formula.proofs.Accepted.{found}
+use Rattle.formula.proofs.Fits.{Fitting, fitting}
+use Rattle.layout.specs.Places.{BITS, FIRST-REGISTER, FIRST-RELATION}
+use Rattle.layout.specs.View.{View}
+use Rattle.diagram.specs.Level.{Fn}
+use Rattle.diagram.specs.Rows.{Rows}
+use Rattle.soundness.specs.Used.{rowsOf}
+use Rattle.soundness.specs.Sound.{Sound}
+use Rattle.soundness.specs.Filled.{filled}
+use Rattle.collect.specs.Lent.{live}
+use Rattle.memory.specs.Frame.{rows-same}
+use Rattle.memory.specs.Forget.{Forgot}
+use Rattle.operations.specs.Work.{OpFrame, op-memo, op-trans}
+use Rattle.steps.specs.Again.{start-ready}
+use Rattle.book.specs.Bridge.{fnOf, fnOfPairs}
+use Rattle.book.specs.Book.{registers, relations, regFilled, relFilled, liveOf, modelOf, formulaIn}
+use Rattle.book.specs.BookOf.{shows-bookOf}
+use Rattle.book.specs.Table.{Place, Shows, rootsOf}
+use Rattle.book.specs.Roots.{shows-held}
+use Rattle.book.specs.Run.{run}
+use Rattle.book.specs.Held.{Held}
+use Rattle.book.specs.Follow.{Evals, evals-same}
+use Rattle.contract.specs.Seen.{arrowIn, seenIn, sound-table}
+use Rattle.contract.specs.Roots.{filled-root, root-filled}
+use Rattle.modal.specs.declared.Limits.{Limits}
+use Rattle.modal.specs.Chain.{Alike, Base, live-frame}
+use Rattle.evaluator.specs.Scene.{Scene, modelIn, holdsReg, holdsRel, Named, Stands, Part, Ready, Answers, endedOf, EvalPre}
+use Rattle.evaluator.specs.Whole.{bookIn, SetPre, SetPost}
+use Rattle.evaluator.specs.declared.Evaluated.{Evaluated}
+use Rattle.evaluator.proofs.State.{in-scope}
+
+-- the scene that a table holds by itself
+abbrev pub sceneIn : View → Scene
+sceneIn W = record { reg = bookIn W .reg; rel = bookIn W .rel; scope = noneOpen; env = noEnv; roots = rootsOf (seenIn W); fns = liveOf (bookIn W) }
+
+-- no variable is open
+none-open : (P : ℕ) → getD noneOpen P false ≡ true → ⊥
+none-open P e =
+    let l : P < 16 = in-scope noneOpen P e in
+    true≢false (sym e ∙ getD-replicate 16 P false false l)
+
+-- the words after forgetting, of which the sizes are L's
+module _ (L : Limits) {W X : View} (s : Sound W) (bits : L .bits ≡ W .header BITS) (rows : L .rows ≡ W .rows) (limit : L .limit ≤ L .rows) (f : Forgot W X) where
+  shows : Shows (bookIn W) (seenIn W)
+  shows = shows-bookOf (seenIn W) (sound-table W s)
+
+  frame : OpFrame W X
+  frame = op-memo (f .frame)
+
+  same-rows : rowsOf W ≡ rowsOf X
+  same-rows = sym (rows-same (f .frame))
+
+  place : {Y : Type 0} (g : ℕ → Y → Fn) (o : Option Y) (h : ℕ) → FIRST-REGISTER ≤ h → Place (2 * W .header BITS) (rowsOf W) (g (W .header BITS)) o (arrowIn (W .header h))
+      → Place (2 * L .bits) (rowsOf X) (g (L .bits)) o (arrowIn (X .header h))
+  place g o h l p =
+      subst (λ (n : ℕ). Place (2 * n) (rowsOf X) (g n) o (arrowIn (X .header h))) (sym bits)
+      (subst (λ (u : Option ℕ). Place (2 * W .header BITS) (rowsOf X) (g (W .header BITS)) o u) (ap arrowIn (sym (frame .header h (omega arith) (omega arith) (omega arith) (omega arith))))
+      (subst (λ (t : Rows). Place (2 * W .header BITS) t (g (W .header BITS)) o (arrowIn (W .header h))) same-rows p))
+
+  pub start-base : Base (L .bits) (L .rows) (L .limit) X
+  start-base = let p = start-ready s f (ap (λ (n : ℕ). 2 * n) bits) rows limit in record { ready = p .1; sound = p .0 }
+
+  pub start-held : Held (2 * L .bits) (rowsOf X) (rootsOf (seenIn W)) (liveOf (bookIn W))
+  start-held =
+      subst (λ (n : ℕ). Held (2 * n) (rowsOf X) (rootsOf (seenIn W)) (liveOf (bookIn W))) (sym bits)
+      (subst (λ (t : Rows). Held (2 * W .header BITS) t (rootsOf (seenIn W)) (liveOf (bookIn W))) same-rows (shows-held (bookIn W) (seenIn W) shows))
+
+  pub start-roots : (stack : List ℕ) → Alike (live X (take 0 stack)) (rootsOf (seenIn W))
+  start-roots stack =
+      let e : filled W ≡ live X (take 0 stack) = sym (append-nil (filled W)) ∙ sym (live-frame frame []) in
+      subst (λ (xs : List ℕ). Alike xs (rootsOf (seenIn W))) e (record { to = filled-root W; from = root-filled W })
+
+  pub start-scene : Ready L X (replicate depthLimit 0) (replicate 16 0) 0 (sceneIn W)
+  start-scene = record {
+    base = start-base;
+    reg = λ r l. place fnOf (bookIn W .reg r) (FIRST-REGISTER + r) (omega arith) (shows .reg r l);
+    rel = λ t l. place fnOfPairs (bookIn W .rel t) (FIRST-RELATION + t) (omega arith) (shows .rel t l);
+    roots = start-roots (replicate depthLimit 0);
+    lives = start-held;
+    size = length-replicate {A = ℕ} depthLimit 0;
+    within = omega arith;
+    vars = length-replicate 16 false;
+    slots = length-replicate {A = ℕ} 16 0;
+    open-at = λ P o. absurd (none-open P o);
+  }
+
+-- a set's formula is one of states
+set-grammar : (v : ℕ) (g : Grammar) → grammarOf Set v ≡ Reads g → g ≡ States
+set-grammar v g e = go (eqb v 1) e
+  where
+    go : (b : Bool) → cond b (Reads States) Unknown ≡ Reads g → g ≡ States
+    go true q = cc
+    go false q = let z : _≡_ {A = ℕ} 0 1 = cc in absurd (omega arith)
+
+module _ {L : Limits} {W : View} {bs : List ℕ} (p : SetPre L W bs) where
+  fits : Fitting Set (W .header BITS) (regFilled (bookIn W)) (relFilled (bookIn W)) bs
+  fits = fitting Set (W .header BITS) (regFilled (bookIn W)) (relFilled (bookIn W)) bs (p .passed)
+
+  whole : Form
+  whole = fits .form
+
+  whole-part : Part (L .bits) bs 3 depthLimit noneOpen (holdsReg (sceneIn W)) (holdsRel (sceneIn W)) whole (length bs)
+  unfolding whole
+  whole-part =
+      let h = found Set (W .header BITS) bs (fits .form) (fits .read) in
+      record {
+        stands = record {
+          reads = subst (λ (n : ℕ). parse n States depthLimit bs 3 ≡ got (fits .form) (length bs)) (sym (p .bits))
+              (subst (λ (g : Grammar). parse (W .header BITS) g depthLimit bs 3 ≡ got (fits .form) (length bs)) (set-grammar (getD bs 2 0) (h .grammar) (h .known)) (h .parsed));
+        };
+        named = record { is-bound = fits .is-bound; is-filled = fits .is-filled };
+      }
+
+  module _ {X : View} (f : Forgot W X) where
+    pub set-asks : EvalPre L X (replicate depthLimit 0) bs 3 depthLimit 0 (replicate 16 0)
+    set-asks = record {
+      room = omega arith;
+      scene = sceneIn W;
+      form = whole;
+      end = length bs;
+      ready = start-scene L (p .sound) (p .bits) (p .rows) (p .limit) f;
+      part = whole-part;
+    }
+
+    pub set-ends : {Y : View} {after : List ℕ} {r : Evaluated}
+        → ((σ : Scene) (g : Form) (e : ℕ) → Ready L X (replicate depthLimit 0) (replicate 16 0) 0 σ → Part (L .bits) bs 3 depthLimit (σ .scope) (holdsReg σ) (holdsRel σ) g e
+        → Answers L X Y (replicate depthLimit 0) after 0 0 σ g e r)
+        → SetPost L W Y bs r
+    unfolding whole
+    set-ends {Y} {after} {r} E =
+        let A = E (sceneIn W) whole (length bs) (start-scene L (p .sound) (p .bits) (p .rows) (p .limit) f) whole-part in
+        let v0 = A .evals in
+        let v1 = subst (λ (t : Rows). Evals (L .bits) (L .rows) t (rowsOf Y) (rootsOf (seenIn W)) (run (modelIn (L .bits) (sceneIn W)) (L .limit) (L .rounds) noEnv (liveOf (bookIn W)) whole 0) (endedOf r)) (rows-same (f .frame)) v0 in
+        let v2 = subst (λ (N : ℕ). Evals (L .bits) N (rowsOf W) (rowsOf Y) (rootsOf (seenIn W)) (run (modelIn (L .bits) (sceneIn W)) (L .limit) (L .rounds) noEnv (liveOf (bookIn W)) whole 0) (endedOf r)) (p .rows) v1 in
+        let v3 = subst (λ (n : ℕ). Evals n (W .rows) (rowsOf W) (rowsOf Y) (rootsOf (seenIn W)) (run (modelIn n (sceneIn W)) (L .limit) (L .rounds) noEnv (liveOf (bookIn W)) whole 0) (endedOf r)) (p .bits) v2 in
+        record {
+          sound = A .moved .sound;
+          frame = op-trans (op-memo (f .frame)) (A .moved .frame);
+          evals = evals-same (ap (λ (g : Form). run (modelOf (bookIn W)) (L .limit) (L .rounds) noEnv (liveOf (bookIn W)) g 0) (sym (ap formOf (fits .read)))) v3;
+        }
