@@ -60,7 +60,7 @@ same-length-3 c = search needs
 
 -- src/lib.rt:136:1
 returns-3 : tie.Need-returns-3
-returns-3 c = set-checked _ (says-pass (c .before .before .before .before .before .before .before .before .if1 .left) (c .before .before .before .before .before .before .before .before .before .sound .ensures)) _ _ _ _ (c .before .before .before .before .before .before .before .if2 .left) (checks-told _ (says-pass (c .before .before .before .before .before .before .before .before .if1 .left) (c .before .before .before .before .before .before .before .before .before .sound .ensures)) Set _ (c .before .before .before .before .before .header-word .ensures) (c .before .before .before .check-formula .ensures) (c .before .x .given .1))
+returns-3 c = set-checked _ (says-pass (c .before .before .before .before .before .before .before .before .if1 .left) (c .before .before .before .before .before .before .before .before .before .sound .ensures)) _ _ _ (c .before .x .given .0 .0) (c .before .before .before .before .before .before .before .if2 .left) (checks-told _ (says-pass (c .before .before .before .before .before .before .before .before .if1 .left) (c .before .before .before .before .before .before .before .before .before .sound .ensures)) Set _ (c .before .before .before .before .before .header-word .ensures) (c .before .before .before .check-formula .ensures) (c .before .x .given .1))
 
 -- src/lib.rt:136:1
 same-length-4 : tie.Need-same-length-4

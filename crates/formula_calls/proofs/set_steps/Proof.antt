@@ -5,7 +5,7 @@ use Rattle.formula_calls.proofs.set_steps.Statement.{statement}
 use Rattle.formula_calls.proofs.set_steps.Tie as tie
 use Rattle.formula_calls.proofs.set_steps.Reads as reads
 use Rattle.formula_calls.proofs.set_steps.Lts as lts
-use Rattle.formula_calls.proofs.evaluate_set.Reads as evaluate-set-reads
+use Rattle.evaluator.proofs.evaluate_set.Reads as evaluate-set-reads
 use Rattle.formula_calls.proofs.store_set.Reads as store-set-reads
 use Rattle.formula_calls.proofs.tidy.Reads as tidy-reads
 use Rattle.layout.proofs.header_word.Reads as header-word-reads
