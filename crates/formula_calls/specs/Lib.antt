@@ -3,3 +3,4 @@ pub mod Refused
 pub mod Ends
 pub mod Replies
 pub mod Store
+pub mod Load

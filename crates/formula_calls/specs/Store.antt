@@ -69,7 +69,7 @@ stored-late (Value a k q) i j = omega arith
 stored-late Full i j = omega arith
 stored-late Spent i j = omega arith
 
-loaded-late : (y : Made) → 1 ≤ loadedReply (loadedOf y) .number → loadedReply (loadedOf y) .number ≤ 7 → ⊥
+pub loaded-late : (y : Made) → 1 ≤ loadedReply (loadedOf y) .number → loadedReply (loadedOf y) .number ≤ 7 → ⊥
 loaded-late (made.At a) i j = omega arith
 loaded-late made.Full i j = omega arith
 
@@ -101,7 +101,7 @@ module _ (X : View) (r : ℕ) where
   loaded-value {a = a} {Z = Z} e n = subst (λ (y : Made). (loaded.Done ≡ loadedOf y) × (Z ≡ relationLoaded X r y)) (sym e) (refl, n ∙ ap (λ (x : ℕ). putHeader X (FIRST-RELATION + r) x) (omega arith))
 
 -- an arrow's word fits
-arrow-fits : {m N : ℕ} {rows : Rows} → WellFormed m N rows → N ≤ MAX-ROWS → (a : ℕ) → Arrow rows a → suc a < 4_294_967_296
+pub arrow-fits : {m N : ℕ} {rows : Rows} → WellFormed m N rows → N ≤ MAX-ROWS → (a : ℕ) → Arrow rows a → suc a < 4_294_967_296
 arrow-fits wf l zero u = omega arith
 arrow-fits wf l (suc zero) u = omega arith
 arrow-fits wf l (suc (suc i)) u = let h = wf .bounded i u in omega arith
@@ -121,7 +121,7 @@ pub record SetReady (r : ℕ) (old bs : List ℕ) : Type 0 where
   pub range : r < REGISTERS
   pub passed : checks (bookOf (seen old)) kind.Set bs ≡ 0
 
-abbrev limitsOf : ℕ → ℕ → ℕ → Limits
+abbrev pub limitsOf : ℕ → ℕ → ℕ → Limits
 limitsOf n rows R = record { bits = n; rows = rows; limit = rows; rounds = R }
 
 module _ {old bs : List ℕ} {r R rows n : ℕ} (p : SetReady r old bs) (er : rows ≡ headerOf old ROWS) where

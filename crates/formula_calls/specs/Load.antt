@@ -1,0 +1,84 @@
+-- RELATION after its checks: from the evaluator's promise to the call's contract. Assumes nothing.
+use mathlib.Core.Path.{_≡_, refl, sym, subst}
+use mathlib.Core.Bool.{Bool, true, false}
+use mathlib.Core.List.{List}
+use Prim.Native.Nat.{ℕ, _*_, _≤_, _<_}
+use native.Mathlib.Omega.{arith}
+use lib.ListN.{length}
+use Rattle.layout.specs.Places.{RELATIONS, MAX-ROWS, BITS, ROWS, wordsFor}
+use Rattle.layout.specs.View.{View, view, headerOf}
+use Rattle.tokens.specs.declared.Kind.the-variants.{Relation}
+use Rattle.formula.specs.Checks.{firstRefusal}
+use Rattle.diagram.specs.Level.{Fn}
+use Rattle.diagram.specs.Rows.{Rows}
+use Rattle.soundness.specs.Sound.{Sound, tableOf}
+use Rattle.soundness.specs.Filled.{filled}
+use Rattle.table.specs.Make.{result}
+use Rattle.table.specs.declared.Made.{Made}
+use Rattle.table.specs.declared.Made.the-variants as made
+use Rattle.book.specs.Book.{Book, relation, checks, regFilled, relFilled, liveOf}
+use Rattle.book.specs.BookOf.{bookOf}
+use Rattle.book.specs.Table.{rootsOf}
+use Rattle.book.specs.Roots.{shows-held}
+use Rattle.book.specs.Pairs.{PairEvals}
+use Rattle.contract.specs.Seen.{seen, SoundWords, sound-shows-book}
+use Rattle.contract.specs.Roots.{filled-root, root-filled}
+use Rattle.contract.specs.Posts.{CallPost}
+use Rattle.modal.specs.declared.Limits.{Limits}
+use Rattle.modal.specs.Chain.{Alike}
+use Rattle.pairs.specs.Pairing.{PairsPre, PairsPost}
+use Rattle.formula_calls.specs.Evaluated.{Tidied}
+use Rattle.formula_calls.specs.Ends.{Through, through-sound, through-done, RelationEnds, relation-value, relation-full}
+use Rattle.formula_calls.specs.Replies.{loadedReply}
+use Rattle.formula_calls.specs.Store.{Carries, loadedOf, relationLoaded, loaded-late, arrow-fits, limitsOf}
+use Rattle.formula_calls.specs.declared.Loaded.{Loaded}
+
+ends-carries : {n N : ℕ} {before after : Rows} {roots : List ℕ} {F : Fn} (fits : Bool) (y : Made) → N ≤ MAX-ROWS → PairEvals n N before after roots fits F (result y) → Carries y
+ends-carries true (made.At a) l d = arrow-fits (d .wf) l a (d .result .arrow)
+ends-carries false (made.At a) l d = absurd (d .result)
+ends-carries fits made.Full l d = tt
+
+-- what a relation call asks after its checks
+pub record RelationReady (t : ℕ) (old bs : List ℕ) : Type 0 where
+  pub sound : SoundWords old
+  pub range : t < RELATIONS
+  pub passed : checks (bookOf (seen old)) Relation bs ≡ 0
+
+-- `rows` and `n` are what the code reads and hands on
+module _ {old bs : List ℕ} {t rows n : ℕ} (p : RelationReady t old bs) (er : rows ≡ headerOf old ROWS) (en : n ≡ headerOf old BITS) where
+  abbrev b : Book
+  b = bookOf (seen old)
+
+  pub relation-asks : PairsPre (limitsOf n rows 0) (view rows old) bs
+  relation-asks = rw (er, en) (record { sound = p .sound; bits-is = refl; rows-is = refl; limit-le = omega arith; regs = regFilled b; rels = relFilled b; passed = p .passed })
+
+  module _ (mid : List ℕ) {y : Made} (d : PairsPost (limitsOf n rows 0) (view rows old) (view rows mid) bs y) where
+    post : PairsPost (limitsOf (headerOf old BITS) (headerOf old ROWS) 0) (tableOf old) (view (headerOf old ROWS) mid) bs y
+    post = rw (er, en) at d
+
+    X : View
+    X = view (headerOf old ROWS) mid
+
+    -- registers and relations are the roots
+    evals : RelationEnds old (p .sound) X (post .moved .sound .good) (post .moved .frame) t bs (p .range) (p .passed) (result y)
+    evals = post .evals (rootsOf (seen old)) (liveOf b) (record { to = filled-root (tableOf old); from = root-filled (tableOf old) }) (shows-held b (seen old) (sound-shows-book old (p .sound)))
+
+    through : Through old (relation t bs) (loadedReply (loadedOf y)) (relationLoaded X t y)
+    through = go y evals
+      where
+        go : (y : Made) → RelationEnds old (p .sound) X (post .moved .sound .good) (post .moved .frame) t bs (p .range) (p .passed) (result y) → Through old (relation t bs) (loadedReply (loadedOf y)) (relationLoaded X t y)
+        go (made.At a) e = relation-value old (p .sound) X (post .moved .sound .good) (post .moved .frame) t bs (p .range) (p .passed) a e
+        go made.Full e = relation-full old (p .sound) X (post .moved .sound .good) (post .moved .frame) t bs (p .range) (p .passed) e
+
+    -- what `store_relation` asks
+    pub relation-storing : (t < RELATIONS) × (wordsFor rows ≤ length mid) × Carries y
+    relation-storing = rw er (p .range, post .moved .sound .good .sizes .room, ends-carries _ y (p .sound .good .sizes .N-max) evals)
+
+    module _ (after : List ℕ) (e : view rows after ≡ relationLoaded (view rows mid) t y) where
+      -- what `tidy` asks
+      pub relation-tidying : Sound (view rows after)
+      relation-tidying = subst Sound (sym e) (rw er (through-sound through))
+
+      -- the call
+      pub relation-done : {x : Loaded} → x ≡ loadedOf y → (new : List ℕ) → Tidied (view rows after) (view rows new) → CallPost (relation t bs) old new (loadedReply x)
+      relation-done i new w = rw i (through-done (p .sound) tt (loaded-late y) through (rw (sym er) (subst (λ (v : View). Tidied v (view rows new)) e w)) refl)
