@@ -7,13 +7,13 @@ use native.Mathlib.Omega.{arith}
 use lib.Dec.{eqb, eqb·suc-zero}
 use Rattle.diagram.specs.Rows.{Rows}
 use Rattle.diagram.specs.Used.{usedCount}
-use Rattle.diagram.specs.Keep.{keeps-reach}
+use Rattle.diagram.specs.Keep.{keeps-reach, keeps-trans, keeps-within}
 use Rattle.diagram.specs.Collect.{Collects, collects-keeps, collects-wellFormed, collects-count}
 use Rattle.book.specs.Run.{value}
 use Rattle.book.specs.Book.{Book, Call, relation, set, clear, collect, answered, registers, Done, refuse, withReg, does}
-use Rattle.book.specs.Table.{Table, Shows, Agrees, noted, rootsOf, Swept, Serves}
+use Rattle.book.specs.Table.{Table, Reply, Shows, Agrees, noted, rootsOf, Swept, Serves}
 use Rattle.book.specs.Held.{held-keeps, held-rows}
-use Rattle.book.specs.Roots.{shows-held}
+use Rattle.book.specs.Roots.{shows-held, kept-before, kept-after}
 use Rattle.book.specs.Leaves.{withRows, storeReg, shows-rows, shows-reg, kept-all, plain, valued}
 use Rattle.book.specs.Effects.{in-range, out-of-range}
 
@@ -27,7 +27,7 @@ clear-serves b t r s l = record {
   agrees = subst (λ (x : Done). Agrees (x .1) (plain 0)) (sym same) (record { number = refl; rounds = refl; value = refl });
   numbers = λ q h. refl;
   rels = λ q h z. refl;
-  kept = kept-all b t s;
+  kept = keeps-within (kept-before (clear r) (plain 0) t) (kept-all b t s);
   swept = tt;
 }
   where
@@ -42,7 +42,7 @@ collect-serves b t rows s c = record {
   agrees = record { number = refl; rounds = refl; value = collects-count (s .wf) c ∙ held-rows (held-keeps (shows-held b t s) (collects-keeps c)) };
   numbers = λ q h. refl;
   rels = λ q h z. refl;
-  kept = collects-keeps c;
+  kept = keeps-within (kept-before collect (valued (usedCount rows (b .N))) t) (collects-keeps c);
   swept = λ i u. keeps-reach (collects-keeps c) (c .only i u);
 }
 
@@ -53,7 +53,7 @@ refusal-serves b t c k s e = record {
   agrees = subst (λ (x : Done). Agrees (x .1) (plain (suc k))) (sym e) (record { number = refl; rounds = refl; value = refl });
   numbers = λ q h. noting c q;
   rels = λ q h z. refl;
-  kept = kept-all b t s;
+  kept = keeps-within (kept-before c (plain (suc k)) t) (kept-all b t s);
   swept = sweeps c e;
 }
   where
@@ -73,3 +73,20 @@ refusal-serves b t c k s e = record {
 -- CLEAR out of range
 pub clear-out-of-range : (b : Book) (r : ℕ) → registers ≤ r → does b (clear r) ≡ refuse b 3
 clear-out-of-range b r l = out-of-range _ (refuse b 3) r registers l
+
+-- A COLLECTION AFTERWARDS leaves what the call gives
+pub tidied-serves : (b : Book) (c : Call) (t u : Table) (y : Reply) (rows : Rows) → Serves b c t u y → Collects (u .rows) rows (rootsOf u) → Serves b c t (withRows u rows) y
+tidied-serves b c t u y rows s k = record {
+  shows = shows-rows (does b c .0) u (s .shows) rows (collects-wellFormed (s .shows .wf) k) (collects-keeps k);
+  agrees = s .agrees;
+  numbers = s .numbers;
+  rels = s .rels;
+  kept = keeps-trans (s .kept) (keeps-within (kept-after c y t u (s .numbers) (s .rels)) (collects-keeps k));
+  swept = sweeps c;
+}
+  where
+    sweeps : (c : Call) → Swept c (withRows u rows)
+    sweeps (relation x bs) = tt
+    sweeps (set x R bs) = tt
+    sweeps (clear x) = tt
+    sweeps collect = λ i h. keeps-reach (collects-keeps k) (k .only i h)

@@ -9,7 +9,7 @@ use Rattle.mucalculus.specs.Form.{Form, noEnv, steady}
 use Rattle.mucalculus.specs.Means.{means, meansPair, length-means}
 use Rattle.tokens.specs.declared.Kind.the-variants.{Relation, Set}
 use Rattle.diagram.specs.Rows.{Rows}
-use Rattle.diagram.specs.Keep.{Keeps}
+use Rattle.diagram.specs.Keep.{Keeps, keeps-within}
 use Rattle.diagram.specs.Post.{Result, at, full as noRows}
 use Rattle.book.specs.Ticks.{ticks, Verdict, counted, full, spent, verdict}
 use Rattle.book.specs.Run.{Outcome, run, pairF, pairsFit}
@@ -21,6 +21,7 @@ use Rattle.book.specs.ByRun.{relation-by-run}
 use Rattle.book.specs.Nodes.{node-settled}
 use Rattle.book.specs.Table.{Table, Reply, Shows, Agrees, noted, storesRel, rootsOf, Serves}
 use Rattle.book.specs.Follow.{Ended, ends, eight, nine, Matches, Evals}
+use Rattle.book.specs.Roots.{kept-before}
 use Rattle.book.specs.Pairs.{PairMatches, PairEvals}
 use Rattle.book.specs.Leaves.{withRows, storeReg, storeRel, shows-rows, shows-reg, shows-rel, plain}
 
@@ -77,7 +78,7 @@ set-serves b t r R bs rows y s l z d = record {
   agrees = subst (λ (x : Done). Agrees (x .1) (setReply y)) (sym same) (p .1);
   numbers = λ q h. noting y q;
   rels = λ q h z. relations-kept y q;
-  kept = keeping y;
+  kept = keeps-within (kept-before (set r R bs) (setReply y) t) (keeping y);
   swept = tt;
 }
   where
@@ -137,7 +138,7 @@ relation-serves b t q bs rows y s l z d = record {
   agrees = subst (λ (x : Done). Agrees (x .1) (relationReply y)) (sym same) (p .1);
   numbers = λ r h. noting y r;
   rels = λ r h z. others y r z;
-  kept = keeping y;
+  kept = keeps-within (kept-before (relation q bs) (relationReply y) t) (keeping y);
   swept = tt;
 }
   where

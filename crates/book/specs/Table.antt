@@ -90,6 +90,16 @@ storesRel (set r R bs) y q = false
 storesRel (clear r) y q = false
 storesRel collect y q = false
 
+-- the roots that a call leaves as they are: all but an answered call's target
+abbrev pub keptReg : Call → Reply → (ℕ → Option ℕ) → ℕ → Option ℕ
+keptReg (relation t bs) y h r = h r
+keptReg (set q R bs) y h r = cond (eqb (y .number) 0 && eqb r q) none (h r)
+keptReg (clear q) y h r = cond (eqb (y .number) 0 && eqb r q) none (h r)
+keptReg collect y h r = h r
+
+abbrev pub keptRoots : Call → Reply → Table → List ℕ
+keptRoots c y t = arrowsOf registers (keptReg c y (t .reg)) ++ arrowsOf relations (λ q. cond (storesRel c y q) none (t .rel q))
+
 -- "unneeded rows (none is left used by an answered collect)": each used row is reached from a register or relation
 abbrev pub Swept : Call → Table → Type 0
 Swept (relation t bs) after = Unit {0}
@@ -104,7 +114,7 @@ pub record Serves (b : Book) (c : Call) (before after : Table) (y : Reply) : Typ
   pub numbers : (r : ℕ) → r < registers → after .reg r ≡ noted (before .reg r) c y r
   pub rels : (q : ℕ) → q < relations → storesRel c y q ≡ false → after .rel q ≡ before .rel q
   -- "Kept: registers, relations, tally, rows they need", row by row
-  pub kept : Keeps (before .rows) (after .rows) (rootsOf before)
+  pub kept : Keeps (before .rows) (after .rows) (keptRoots c y before)
   pub swept : Swept c after
 
 -- ---- a question

@@ -1,4 +1,4 @@
--- What a collection asks and answers. Assumes nothing.
+-- What a collection asks and leaves. Assumes nothing.
 use mathlib.Core.Path.{_≡_, _∙_}
 use mathlib.Core.Logic.{⊎-elim}
 use mathlib.Core.List.{List, map, List·Memᴰ as Mem, List·Memᴰ·append-cases as append-cases, Memᴰ·append-left as append-left}
@@ -6,20 +6,17 @@ use Prim.Native.Nat.{ℕ, _*_}
 use lib.ListN.{length}
 use Rattle.diagram.specs.Rows.{Arrow, den}
 use Rattle.diagram.specs.Need.{need}
-use Rattle.layout.specs.Places.{MAX-ROWS, BITS, ROWS, USED, FIRST-REGISTER, ROOTS-END}
-use Rattle.layout.specs.View.{View, view, headerOf}
-use Rattle.layout.specs.declared.Refusal.the-variants.{Unsound}
+use Rattle.layout.specs.Places.{MAX-ROWS, BITS, USED, FIRST-REGISTER, ROOTS-END}
+use Rattle.layout.specs.View.{View}
 use Rattle.soundness.specs.Used.{rowsOf}
 use Rattle.soundness.specs.Mark.{On, Base}
 use Rattle.soundness.specs.Roots.{Held, MarksAll}
-use Rattle.soundness.specs.Sound.{Sound, tableOf}
+use Rattle.soundness.specs.Sound.{Sound}
 use Rattle.soundness.specs.Filled.{filled, filled-arrow}
 use Rattle.collect.specs.Gather.{Gathered}
 use Rattle.collect.specs.Lent.{live, filled-marks}
 use Rattle.collect.specs.Needed.{chosen, chosen-need}
 use Rattle.collect.specs.Freed.{Freed, freed, freed-count}
-use Rattle.collect.specs.declared.Collected.{Collected}
-use Rattle.collect.specs.declared.Collected.the-variants.{Rows, Refused}
 
 -- what freeing rows asks
 pub record FreePre (W : View) (xs : List ℕ) : Type 0 where
@@ -30,11 +27,6 @@ pub record FreePre (W : View) (xs : List ℕ) : Type 0 where
 pub record CollectPost (W X : View) (r : ℕ) : Type 0 where
   pub freed : Freed W X (filled W)
   pub needs : r ≡ need (2 * W .header BITS) (map (den (2 * W .header BITS) (rowsOf W)) (filled W))
-
--- a sound table is collected, and any other words are kept
-abbrev pub CollectAnswer : List ℕ → List ℕ → Collected → Type 0
-CollectAnswer old new (Rows n) = Sound (tableOf old) × CollectPost (tableOf old) (view (headerOf old ROWS) new) n
-CollectAnswer old new (Refused r) = (Sound (tableOf old) → ⊥) × (r ≡ Unsound) × (new ≡ old)
 
 -- what marking asks of a sound table
 pub sound-base : {W : View} → Sound W → Base W MAX-ROWS

@@ -1,5 +1,4 @@
 // Collecting: the rows that no root needs become unused.
-use layout::Refusal;
 use layout::Table;
 use layout::get;
 use layout::header_word;
@@ -9,7 +8,6 @@ use layout::put_header;
 use soundness::bucket_of;
 use soundness::mark;
 use soundness::mark_refs;
-use soundness::sound;
 use table::append;
 ghost use mathlib.Core.Path.{_≡_};
 ghost use mathlib.Core.List.{map, _++_, List·Memᴰ as Mem};
@@ -27,7 +25,7 @@ ghost use Rattle.diagram.specs.Rows.{den};
 ghost use Rattle.diagram.specs.Need.{need};
 ghost use Rattle.collect.specs.Needed.{markOf, chosen};
 ghost use Rattle.collect.specs.Freed.{Freed};
-ghost use Rattle.collect.specs.Answers.{FreePre, CollectPost, CollectAnswer};
+ghost use Rattle.collect.specs.Answers.{FreePre, CollectPost};
 
 // Marks the rows that a list of arrows reaches.
 fn mark_list(words: &[u32], rows: u32, marks: &mut [u8], roots: &[u32])
@@ -142,7 +140,7 @@ pub fn free_rows(words: &mut [u32], rows: u32, roots: &[u32], more: &[u32])
 }
 
 // Frees the rows that no register and no relation needs, and returns how many are left.
-fn collect_rows(words: &mut [u32], rows: u32) -> u32
+pub fn collect_rows(words: &mut [u32], rows: u32) -> u32
     requires { ⌜ Sound (view rows (now words)) ⌝ }
     ensures { λ r. ⌜ CollectPost (view rows (now (words .entry))) (view rows (now (words .exit))) r ⌝ }
 {
@@ -156,21 +154,4 @@ fn collect_rows(words: &mut [u32], rows: u32) -> u32
     );
     gather(words, rows, &marks);
     header_word(words, Table::USED)
-}
-
-// What a collection answers: how many rows are left, or why not.
-pub enum Collected {
-    Rows(u32),
-    Refused(Refusal),
-}
-
-// Frees the rows that no register and no relation needs.
-pub fn collect(words: &mut [u32]) -> Collected
-    ensures { λ r. ⌜ CollectAnswer (now (words .entry)) (now (words .exit)) r ⌝ }
-{
-    if !sound(words) {
-        return Collected::Refused(Refusal::Unsound);
-    }
-    let rows = header_word(words, Table::ROWS);
-    Collected::Rows(collect_rows(words, rows))
 }

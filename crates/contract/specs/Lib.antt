@@ -2,3 +2,5 @@ pub mod Seen
 pub mod Kept
 pub mod Posts
 pub mod Closed
+pub mod Roots
+pub mod Checked

@@ -4,10 +4,9 @@ use Prim.Native.Nat.{ℕ}
 use lib.ListN.{length}
 use Rattle.book.specs.Book.{Call, Question}
 use Rattle.book.specs.Table.{Reply}
-use Rattle.book.specs.Contract.{Starts, Performs, Answers, Implements}
-use Rattle.contract.specs.Seen.{seen, SoundWords, sound-table}
+use Rattle.book.specs.Contract.{Starts, Performs, Answers}
+use Rattle.contract.specs.Seen.{seen, SoundWords}
 use Rattle.contract.specs.Kept.{Kept}
-use Rattle.soundness.specs.Sound.{tableOf}
 
 -- fresh n, N
 abbrev pub FreshPost : ℕ → ℕ → List ℕ → List ℕ → Reply → Type 0

@@ -1,19 +1,18 @@
 -- The table that lent words hold, as the book sees it. Assumes nothing.
-use mathlib.Core.Path.{_≡_, refl, sym, ap, _∙_, subst}
-use mathlib.Core.Bool.{true}
-use mathlib.Core.List.{List, [], _∷_}
+use mathlib.Core.Path.{_≡_, refl, ap, _∙_, subst}
+use mathlib.Core.List.{List}
 use mathlib.Core.Option.{Option, none, some}
-use Prim.Native.Nat.{ℕ, zero, suc, _+_, _*_, _<_}
+use Prim.Native.Nat.{ℕ, zero, suc, _+_, _-_, _≤_}
+use mathlib.Core.Logic.{by-cases}
+use native.Mathlib.Decide.{decLt}
 use native.Mathlib.Omega.{arith}
 use Rattle.layout.specs.Places.{BITS, TALLY, FIRST-REGISTER, FIRST-RELATION}
 use Rattle.layout.specs.View.{View}
 use Rattle.diagram.specs.Rows.{Arrow}
-use Rattle.diagram.specs.Reach.{Reach}
 use Rattle.diagram.specs.Even.{even}
 use Rattle.soundness.specs.Used.{rowsOf}
 use Rattle.soundness.specs.Roots.{Ref}
-use Rattle.soundness.specs.Sound.{Sound, tableOf}
-use Rattle.book.specs.Book.{registers, relations}
+use Rattle.soundness.specs.Sound.{Good, Sound, tableOf}
 use Rattle.book.specs.Stored.{some-inj, none-some}
 use Rattle.book.specs.Table.{Table, Shows}
 use Rattle.book.specs.BookOf.{SoundTable, bookOf, shows-bookOf}
@@ -61,3 +60,26 @@ sound-table W s = record {
 -- the book that words stand for is the one that they show
 pub sound-shows-book : (ws : List ℕ) → SoundWords ws → Shows (bookOf (seen ws)) (seen ws)
 sound-shows-book ws s = shows-bookOf (seen ws) (sound-table (tableOf ws) s)
+
+-- a root's word, from what it is seen as
+ref-of : (W : View) (h start : ℕ) → start ≤ h → ((a : ℕ) → arrowIn (W .header (start + (h - start))) ≡ some a → Arrow (rowsOf W) a) → Ref (rowsOf W) (W .header h)
+ref-of W h start l f = go (W .header h) refl
+  where
+    at : start + (h - start) ≡ h
+    at = omega arith
+
+    go : (w : ℕ) → W .header h ≡ w → Ref (rowsOf W) w
+    go zero e = tt
+    go (suc a) e = f a (ap (λ (k : ℕ). arrowIn (W .header k)) at ∙ ap arrowIn e)
+
+-- a good table that is seen as a sound one is sound
+pub table-sound : (W : View) → Good W → SoundTable (seenIn W) → Sound W
+table-sound W g t = record {
+  good = g;
+  refs = λ h a l. by-cases (decLt h FIRST-RELATION)
+      (λ k. ref-of W h FIRST-REGISTER a (λ b e. t .reg (h - FIRST-REGISTER) (omega arith) b e .0))
+      (λ k. ref-of W h FIRST-RELATION (omega arith) (λ b e. t .rel (h - FIRST-RELATION) (omega arith) b e));
+  even = λ h a l b e i r.
+      let q : FIRST-REGISTER + (h - FIRST-REGISTER) ≡ h = omega arith in
+      t .reg (h - FIRST-REGISTER) (omega arith) b (ap (λ (k : ℕ). arrowIn (W .header k)) q ∙ ap arrowIn e) .1 i r;
+}

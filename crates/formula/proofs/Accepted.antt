@@ -1,13 +1,13 @@
 -- Check 4 accepts exactly the frames of formulas: the theorem over the whole slice, both directions. Assumes nothing.
 use mathlib.Core.Logic.{_↔_}
-use mathlib.Core.Path.{_≡_, refl, sym, ap, subst, _∙_}
-use mathlib.Core.Bool.{Bool, true, false, _&&_, cond}
+use mathlib.Core.Path.{_≡_, refl, sym, ap, _∙_}
+use mathlib.Core.Bool.{Bool, true, false, cond}
 use mathlib.Core.List.{List, [], _∷_, _++_, append-nil}
-use Prim.Native.Nat.{ℕ, _+_, _*_, _-_, _/_, _%_, _<_, _≤_}
+use Prim.Native.Nat.{ℕ, _+_, _*_, _/_, _%_, _<_, _≤_}
 use native.Mathlib.Nat.{div-add-mod', div-eq-of-lt-le, mod-eq-sub-div-mul}
 use native.Mathlib.Omega.{arith}
-use lib.Dec.{leb, eqb}
-use lib.ListN.{length, getD, drop, drop-of-length-le, length-drop}
+use lib.Dec.{eqb}
+use lib.ListN.{length, getD, drop, length-drop}
 use lib.Seq.{drop-cons, drop-length}
 use borrow.Author.Tests.{le-leb, eq-eqb, eqb-true}
 use Rattle.mucalculus.specs.Form.{Form, depth}
@@ -16,7 +16,7 @@ use Rattle.tokens.specs.declared.Kind.{Kind}
 use Rattle.tokens.specs.declared.Grammar.{Grammar}
 use Rattle.tokens.specs.declared.Reading.{Reading}
 use Rattle.tokens.specs.declared.Reading.the-variants.{Is as Reading-is, Unknown}
-use Rattle.formula.specs.Parse.{Got, fails, got, isFormula, parse, depthLimit, lengthOf, framed, grammarIn, filling, formulaBy, formulaOf}
+use Rattle.formula.specs.Parse.{Got, fails, got, isFormula, parse, depthLimit, lengthOf, framed, filling, formulaBy, formulaOf}
 use Rattle.formula.specs.Bytes.{bytesOf, takes, frameOf, Framing}
 use Rattle.formula.proofs.Steps.{not-got}
 use Rattle.formula.proofs.Frames.{framed-parts}
@@ -103,11 +103,12 @@ module _ (v : ℕ) (f : Form) where
   frame-framed : length (bytesOf f) ≤ 1023 → framed (frameOf v f) ≡ true
   unfolding framed
   frame-framed short =
-      rw
-      (frame-size,
-      le-leb 2 (1 + length (bytesOf f)) (omega (arith, bytes-some (tree f))),
-      le-leb (1 + length (bytesOf f)) 1024 (omega arith),
-      eq-eqb (length (frameOf v f)) (1 + length (bytesOf f) + 2) (omega arith))
+      rw (
+        frame-size,
+        le-leb 2 (1 + length (bytesOf f)) (omega (arith, bytes-some (tree f))),
+        le-leb (1 + length (bytesOf f)) 1024 (omega arith),
+        eq-eqb (length (frameOf v f)) (1 + length (bytesOf f) + 2) (omega arith),
+      )
 
 module _ (k : Kind) (n : ℕ) (bs : List ℕ) (f : Form) where
   frame-accepted : (v : ℕ) (g : Grammar) → grammarOf k v ≡ Reading-is g → depth f ≤ depthLimit → takes n g f ≡ true → length (bytesOf f) ≤ 1023 → formulaOf k n (frameOf v f) ≡ got f (length (frameOf v f))
@@ -123,3 +124,11 @@ module _ (k : Kind) (n : ℕ) (bs : List ℕ) (f : Form) where
   -- "bytes not a formula for this call": a slice of bytes is accepted exactly where it is the frame of a formula that the call takes
   pub accepted : ((i : ℕ) → getD bs i 0 < 256) → (formulaOf k n bs ≡ got f (length bs)) ↔ Framing k n bs f
   accepted small = (framing-of k n bs f small, accepted-of)
+
+-- the same with the formula left open
+pub accepts : (k : Kind) (n : ℕ) (bs : List ℕ) → ((i : ℕ) → getD bs i 0 < 256) → (isFormula (formulaOf k n bs) ≡ true) ↔ ((f : Form) × Framing k n bs f)
+accepts k n bs small = (λ h. go (formulaOf k n bs) refl h, λ F. ap isFormula (accepted-of k n bs (F .0) (F .1)))
+  where
+    go : (p : Got) → formulaOf k n bs ≡ p → isFormula p ≡ true → (f : Form) × Framing k n bs f
+    go fails e h = absurd (let z : _≡_ {A = ℕ} 0 1 = cc in omega arith)
+    go (got f e) q h = (f, framing-of k n bs f small (q ∙ ap (got f) (ends k n bs f q)))

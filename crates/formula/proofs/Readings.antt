@@ -4,7 +4,7 @@ use mathlib.Core.Bool.{Bool}
 use mathlib.Core.List.{List}
 use Prim.Native.Nat.{ℕ, zero, suc, _+_, _<_}
 use native.Mathlib.Omega.{arith}
-use Rattle.mucalculus.specs.Form.{Form, neg}
+use Rattle.mucalculus.specs.Form.{Form}
 use Rattle.tokens.specs.Tokens.{leadAt}
 use Rattle.tokens.specs.declared.Grammar.{Grammar}
 use Rattle.tokens.specs.declared.Leaf.{Leaf}
@@ -13,7 +13,7 @@ use Rattle.tokens.specs.declared.Token.{Token}
 use Rattle.tokens.specs.declared.Token.the-variants.{Leaf as LeafToken, Not, Both, Modal, Binder}
 use Rattle.tokens.specs.declared.Lead.{Lead}
 use Rattle.tokens.specs.declared.Lead.the-variants.{Is, Bad}
-use Rattle.formula.specs.Parse.{leafForm, joinForm, modalForm, binderForm, Got, fails, got, one, two, grown, parse}
+use Rattle.formula.specs.Parse.{leafForm, joinForm, Got, fails, got, one, two, grown, parse}
 use Rattle.formula.specs.Checks.{passOf}
 use Rattle.formula.specs.declared.Pass.{Pass}
 use Rattle.formula.specs.declared.Pass.the-variants.{Past}

@@ -10,6 +10,13 @@ use lib.Seq.{ext-getD}
 use Rattle.layout.specs.Places.{HEADER, CELLS, wordsFor, cellsAt, listAt, headsAt, slotsAt, beyondAt}
 use Rattle.layout.specs.View.{View, view, header-is, cell-is, list-is, head-is, slot-is, beyondOf}
 
+-- "words beyond that are never changed": the words past the table, one by one
+pub same-beyond : (N : ℕ) (a b : List ℕ) → beyondOf N a ≡ beyondOf N b → (p : ℕ) → beyondAt N ≤ p → getD a p 0 ≡ getD b p 0
+unfolding beyondOf
+same-beyond N a b e p h =
+    let q : beyondAt N + (p - beyondAt N) ≡ p = omega arith in
+    subst (λ (x : ℕ). getD a x 0 ≡ getD b x 0) q (ap (λ (f : ℕ → ℕ). f (p - beyondAt N)) e)
+
 module _ (N : ℕ) (a b : List ℕ) (e : view N a ≡ view N b) where
   -- the word at a place p that some reading has at s + k
   at : (s k p : ℕ) → s + k ≡ p → getD a (s + k) 0 ≡ getD b (s + k) 0 → getD a p 0 ≡ getD b p 0
@@ -45,8 +52,7 @@ module _ (N : ℕ) (a b : List ℕ) (e : view N a ≡ view N b) where
       at (slotsAt N) k p (omega arith) (sym (slot-is N a k u) ∙ ap (λ (v : View). v .slot k) e ∙ slot-is N b k u)
 
   in-beyond : (p : ℕ) → beyondAt N ≤ p → getD a p 0 ≡ getD b p 0
-  unfolding beyondOf
-  in-beyond p h = at (beyondAt N) (p - beyondAt N) p (omega arith) (ap (λ (v : View). v .beyond (p - beyondAt N)) e)
+  in-beyond p h = same-beyond N a b (ap (λ (v : View). v .beyond) e) p h
 
   same-word : (p : ℕ) → getD a p 0 ≡ getD b p 0
   same-word p =

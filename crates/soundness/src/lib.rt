@@ -329,31 +329,40 @@ fn even_registers(words: &[u32], rows: u32) -> bool
     evens(words, rows, &marks)
 }
 
-// Whether n, N and the number of words are in range.
-fn sizes_ok(words: &[u32]) -> bool
-    ensures { λ r. ⌜ Says (Sizes (headerOf (now (words .entry)) BITS) (headerOf (now (words .entry)) ROWS) (length (now (words .entry)))) r ⌝ }
+// Whether n, N and a number of words are in range.
+pub fn sizes_fit(n: u32, rows: u32, size: usize) -> bool
+    ensures { λ r. ⌜ Says (Sizes n rows size) r ⌝ }
 {
-    if words.len() < Table::HEADER {
-        return false;
-    }
-    let n = header_word(words, Table::BITS);
     if n < 1 {
         return false;
     }
     if n > Table::MAX_BITS {
         return false;
     }
-    let rows = header_word(words, Table::ROWS);
     if rows < 1 {
         return false;
     }
     if rows > Table::MAX_ROWS {
         return false;
     }
-    if words.len() < Table::HEADER + Table::ROW_WORDS * (rows as usize) {
+    if size < Table::HEADER + Table::ROW_WORDS * (rows as usize) {
         return false;
     }
     true
+}
+
+// Whether n, N and the number of words are in range, as the header has them.
+fn sizes_ok(words: &[u32]) -> bool
+    ensures { λ r. ⌜ Says (Sizes (headerOf (now (words .entry)) BITS) (headerOf (now (words .entry)) ROWS) (length (now (words .entry)))) r ⌝ }
+{
+    if words.len() < Table::HEADER {
+        return false;
+    }
+    sizes_fit(
+        header_word(words, Table::BITS),
+        header_word(words, Table::ROWS),
+        words.len(),
+    )
 }
 
 // Whether a table of the right size is sound.

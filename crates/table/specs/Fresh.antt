@@ -1,20 +1,17 @@
 -- A fresh table: its header is the header maker's and its heads are 0; it is sound whatever stands in the other words. Assumes nothing.
-use mathlib.Core.Path.{_≡_, refl, ap, sym, _∙_, subst}
+use mathlib.Core.Path.{_≡_, refl, ap, sym, _∙_}
 use mathlib.Core.Bool.{true}
 use mathlib.Core.Logic.{_≢_}
 use mathlib.Core.List.{List}
 use Prim.Native.Nat.{ℕ, _+_, _<_}
 use native.Mathlib.Omega.{arith}
-use lib.ListN.{length, getD}
+use lib.ListN.{getD}
 use Rattle.layout.specs.Places.{HEADER, BITS, ROWS, USED, RANK}
 use Rattle.layout.specs.View.{View, view, headerOf, header-is, putHeader, putHead, header-past, head-past}
 use Rattle.layout.specs.Header.{headerWords, header-bits, header-rows, header-zero}
-use Rattle.layout.specs.declared.Refusal.the-variants.{Sizes as Size}
 use Rattle.soundness.specs.Used.{Sizes, used, used-in}
 use Rattle.soundness.specs.Sound.{Sound}
 use Rattle.table.specs.Columns.{over, over-none, over-more, over-all, setHeader, setHeads}
-use Rattle.table.specs.declared.Started.{Started}
-use Rattle.table.specs.declared.Started.the-variants as started
 
 -- "Fresh empties them all, the tally at 0": nothing but the header and the heads is written
 abbrev pub emptied : View → ℕ → ℕ → View
@@ -51,19 +48,19 @@ header-all N old new xs h =
 
 -- a table with a fresh header is sound
 module _ (W : View) (n : ℕ) (z : Sizes n (W .rows) (W .size)) (e : (h : ℕ) → W .header h ≡ headerOf (headerWords n (W .rows)) h) where
-  zero-at : (h : ℕ) → h < HEADER → h ≢ BITS → h ≢ ROWS → W .header h ≡ 0
+  pub zero-at : (h : ℕ) → h < HEADER → h ≢ BITS → h ≢ ROWS → W .header h ≡ 0
   zero-at h l a b = e h ∙ header-is (headerWords n (W .rows)) h l ∙ header-zero n (W .rows) h l a b
 
-  bits-is : W .header BITS ≡ n
+  pub bits-is : W .header BITS ≡ n
   bits-is = e BITS ∙ header-is (headerWords n (W .rows)) BITS (omega arith) ∙ header-bits n (W .rows)
 
-  rows-is : W .header ROWS ≡ W .rows
+  pub rows-is : W .header ROWS ≡ W .rows
   rows-is = e ROWS ∙ header-is (headerWords n (W .rows)) ROWS (omega arith) ∙ header-rows n (W .rows)
 
   none : W .header USED ≡ 0
   none = zero-at USED (omega arith) (omega arith) (omega arith)
 
-  none-used : (i : ℕ) → used W i ≡ true → ⊥
+  pub none-used : (i : ℕ) → used W i ≡ true → ⊥
   none-used i u = let q = used-in (W .rows) (W .header USED) (λ x. W .cell x RANK) (W .list) i u .place in let r = none in omega arith
 
   pub fresh-sound : Sound W
@@ -79,24 +76,11 @@ module _ (W : View) (n : ℕ) (z : Sizes n (W .rows) (W .size)) (e : (h : ℕ) �
     even = λ h a l b q i r. let o = zero-at h (omega arith) (omega arith) (omega arith) in absurd (omega arith);
   }
 
--- an answered fresh
-pub record Ready (old new : List ℕ) (n N : ℕ) : Type 0 where
-  pub sizes : Sizes n N (length old)
-  pub words : view N new ≡ emptied (view N old) n N
-  pub sound : Sound (view N new)
+-- the steps of `make_empty`: mid has its heads emptied
+pub emptied-by : (W : View) (n N : ℕ) {X Y : View} {xs : List ℕ} → X ≡ setHeads W (λ b. 0) → xs ≡ headerWords n N → Y ≡ setHeader X (headerOf xs) → Y ≡ emptied W n N
+emptied-by W n N {xs = xs} eh ex e =
+    e ∙ ap (λ (v : View). setHeader v (headerOf xs)) eh ∙ ap (λ (ys : List ℕ). setHeader (setHeads W (λ b. 0)) (headerOf ys)) ex
 
--- the steps of `fresh`: mid has its heads emptied
-pub ready-by : (old mid new xs : List ℕ) (n N : ℕ) → Sizes n N (length old) → view N mid ≡ setHeads (view N old) (λ b. 0) → xs ≡ headerWords n N
-    → view N new ≡ setHeader (view N mid) (headerOf xs) → Ready old new n N
-ready-by old mid new xs n N z eh ex e =
-    let w : view N new ≡ emptied (view N old) n N = e ∙ ap (λ (v : View). setHeader v (headerOf xs)) eh ∙ ap (λ (ys : List ℕ). setHeader (setHeads (view N old) (λ b. 0)) (headerOf ys)) ex in
-    record {
-      sizes = z;
-      words = w;
-      sound = subst Sound (sym w) (fresh-sound (emptied (view N old) n N) n z (λ h. refl));
-    }
-
--- what the call answers: n, N and the length are in range, or all words are kept
-abbrev pub FreshAnswer : List ℕ → List ℕ → ℕ → ℕ → Started → Type 0
-FreshAnswer old new n N started.Ready = Ready old new n N
-FreshAnswer old new n N (started.Refused r) = (Sizes n N (length old) → ⊥) × (r ≡ Size) × (new ≡ old)
+-- so an empty table is sound, whatever the words were
+pub emptied-sound : (W : View) (n : ℕ) → Sizes n (W .rows) (W .size) → Sound (emptied W n (W .rows))
+emptied-sound W n z = fresh-sound (emptied W n (W .rows)) n z (λ h. refl)

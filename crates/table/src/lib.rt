@@ -1,5 +1,4 @@
 // The rows of a table: it is made, and rows are looked up and added.
-use layout::Refusal;
 use layout::Table;
 use layout::arrow_of;
 use layout::get;
@@ -13,14 +12,14 @@ use soundness::first;
 use soundness::same_row;
 use soundness::used_row;
 ghost use mathlib.Core.Path.{_≡_};
-ghost use Prim.Native.Nat.{_+_, _*_, _<_, _≤_};
+ghost use Prim.Native.Nat.{_+_, _<_, _≤_};
 ghost use lib.ListN.{length};
 ghost use Rattle.layout.specs.Places.{HEADER, USED, wordsFor};
 ghost use Rattle.layout.specs.View.{view, headerOf};
 ghost use Rattle.soundness.specs.Checks.{Room};
 ghost use Rattle.soundness.specs.Sound.{Good};
 ghost use Rattle.table.specs.Columns.{setHeader, setHeads};
-ghost use Rattle.table.specs.Fresh.{FreshAnswer};
+ghost use Rattle.table.specs.Fresh.{emptied};
 ghost use Rattle.table.specs.Append.{appended};
 ghost use Rattle.table.specs.Find.{FindPost, FreePost, UnusedPost};
 ghost use Rattle.table.specs.Add.{rowPut};
@@ -50,35 +49,14 @@ fn write_header(words: &mut [u32], rows: u32, header: &[u32; Table::HEADER])
     }
 }
 
-// What fresh answers.
-pub enum Started {
-    Ready,
-    Refused(Refusal),
-}
-
-// Makes an empty table of n bits and `rows` rows. Only the header and the heads are written.
-pub fn fresh(words: &mut [u32], n: u32, rows: u32) -> Started
-    ensures { λ r. ⌜ FreshAnswer (now (words .entry)) (now (words .exit)) n rows r ⌝ }
+// The words become an empty table of n bits and `rows` rows. Only the header and the heads are written.
+pub fn make_empty(words: &mut [u32], n: u32, rows: u32)
+    requires { ⌜ wordsFor rows ≤ length (now words) ⌝ }
+    ensures { λ _. ⌜ view rows (now (words .exit)) ≡ emptied (view rows (now (words .entry))) n rows ⌝ }
 {
-    if n < 1 {
-        return Started::Refused(Refusal::Sizes);
-    }
-    if n > Table::MAX_BITS {
-        return Started::Refused(Refusal::Sizes);
-    }
-    if rows < 1 {
-        return Started::Refused(Refusal::Sizes);
-    }
-    if rows > Table::MAX_ROWS {
-        return Started::Refused(Refusal::Sizes);
-    }
-    if words.len() < Table::HEADER + Table::ROW_WORDS * (rows as usize) {
-        return Started::Refused(Refusal::Sizes);
-    }
     empty_heads(words, rows);
     let header = Table::header(n, rows);
     write_header(words, rows, &header);
-    Started::Ready
 }
 
 // Where a row may be found.

@@ -2,7 +2,7 @@
 use mathlib.Core.Path.{_≡_, refl, ap, subst, _∙_}
 use mathlib.Core.Bool.{Bool, true, false, _&&_, cond}
 use mathlib.Core.List.{List, [], _∷_}
-use Prim.Native.Nat.{ℕ, _+_, _-_, _<_, _≤_}
+use Prim.Native.Nat.{ℕ, _+_, _-_, _≤_}
 use native.Mathlib.Omega.{arith}
 use lib.Dec.{ltb, leb}
 use lib.ListN.{take, drop}
@@ -14,8 +14,7 @@ use Rattle.tokens.specs.declared.Mode.the-variants.{All, Some}
 use Rattle.tokens.specs.declared.Fix.the-variants.{Mu, Nu}
 use Rattle.tokens.specs.declared.Token.{Token}
 use Rattle.tokens.specs.declared.Token.the-variants.{Leaf as LeafToken, Not, Both, Modal, Binder}
-use Rattle.tokens.specs.declared.Lead.{Lead}
-use Rattle.tokens.specs.declared.Lead.the-variants.{Is, Bad}
+use Rattle.tokens.specs.declared.Lead.the-variants.{Is}
 use Rattle.tokens.proofs.Table.{both-true, endBelow, in-line}
 
 abbrev pub byteOf : Token → ℕ
@@ -85,21 +84,46 @@ alone : (b : ℕ) (t : Token) → byteOf t ≡ b → fits t ≡ true → (p : �
 alone b t e w p h = record { byte = e ∙ omega arith; within = w }
 
 table-right : RightLines table
-table-right =
-    (alone 0x00 (LeafToken False) refl refl,
-    (alone 0x01 (LeafToken True) refl refl,
-    (alone 0x02 Not refl refl,
-    (alone 0x03 (Both And) refl refl,
-    (alone 0x04 (Both Or) refl refl,
-    (λ p h. record { byte = refl; within = lt-ltb p 16 (omega arith) },
-    (λ p h. record { byte = refl; within = lt-ltb p 16 (omega arith) },
-    (λ p h. record { byte = refl; within = lt-ltb p 16 (omega arith) },
-    (λ r h. record { byte = refl; within = lt-ltb r 32 (omega arith) },
-    (λ t h. record { byte = refl; within = lt-ltb t 8 (omega arith) },
-    (λ t h. record { byte = refl; within = lt-ltb t 8 (omega arith) },
-    (λ p h. record { byte = refl; within = lt-ltb p 16 (omega arith) },
-    (λ p h. record { byte = refl; within = lt-ltb p 16 (omega arith) },
-    tt)))))))))))))
+table-right = (
+  alone 0x00 (LeafToken False) refl refl,
+  (
+    alone 0x01 (LeafToken True) refl refl,
+    (
+      alone 0x02 Not refl refl,
+      (
+        alone 0x03 (Both And) refl refl,
+        (
+          alone 0x04 (Both Or) refl refl,
+          (
+            λ p h. record { byte = refl; within = lt-ltb p 16 (omega arith) },
+            (
+              λ p h. record { byte = refl; within = lt-ltb p 16 (omega arith) },
+              (
+                λ p h. record { byte = refl; within = lt-ltb p 16 (omega arith) },
+                (
+                  λ r h. record { byte = refl; within = lt-ltb r 32 (omega arith) },
+                  (
+                    λ t h. record { byte = refl; within = lt-ltb t 8 (omega arith) },
+                    (
+                      λ t h. record { byte = refl; within = lt-ltb t 8 (omega arith) },
+                      (
+                        λ p h. record { byte = refl; within = lt-ltb p 16 (omega arith) },
+                        (
+                          λ p h. record { byte = refl; within = lt-ltb p 16 (omega arith) },
+                          tt,
+                        ),
+                      ),
+                    ),
+                  ),
+                ),
+              ),
+            ),
+          ),
+        ),
+      ),
+    ),
+  ),
+)
 
 lookup-right : (ls : List Line) → RightLines ls → (b : ℕ) {t : Token} → lookup ls b ≡ Is t → Right b t
 unfolding lookup

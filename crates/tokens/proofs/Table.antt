@@ -1,6 +1,6 @@
 -- A byte is looked up in the table: lines that end below it are passed, a line that has it gives its token, and where all others begin above it there is none.
 -- Assumes nothing.
-use mathlib.Core.Path.{_≡_, refl, sym, ap, _∙_}
+use mathlib.Core.Path.{_≡_, refl, ap, _∙_}
 use mathlib.Core.Bool.{Bool, true, false, _&&_, cond}
 use mathlib.Core.List.{List, [], _∷_}
 use Prim.Native.Nat.{ℕ, zero, suc, _<_, _≤_, _-_}
@@ -9,8 +9,6 @@ use lib.Dec.{ltb, leb}
 use lib.ListN.{take, drop}
 use borrow.Author.Tests.{ltb-true, le-leb, lt-leb}
 use Rattle.tokens.specs.Tokens.{Line, table, lookup, tokenOf}
-use Rattle.tokens.specs.declared.Token.{Token}
-use Rattle.tokens.specs.declared.Lead.{Lead}
 use Rattle.tokens.specs.declared.Lead.the-variants.{Is, Bad}
 
 -- what a conjunction of tests says

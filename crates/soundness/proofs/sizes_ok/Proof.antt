@@ -1,7 +1,7 @@
--- `sizes_ok` meets its contract: each test decides one field of `Sizes`. Assumes nothing.
+-- `sizes_ok` meets its contract: with a header, the rest is `sizes_fit`. Assumes nothing.
 use native.Mathlib.Omega.{arith}
 use borrow.Author.Needs.{needs}
-use Rattle.soundness.specs.Says.{holds, fails}
+use Rattle.soundness.specs.Says.{fails}
 use Rattle.soundness.proofs.sizes_ok.Statement.{statement}
 use Rattle.soundness.proofs.sizes_ok.Tie as tie
 
@@ -11,13 +11,6 @@ sizes-ok-spec =
     (tie.spec
     (λ c. fails (λ q. omega arith))
     (λ c κs. search needs)
-    (λ c. fails (λ q. omega arith))
-    (λ c. fails (λ q. omega arith))
     (λ c κs. search needs)
-    (λ c. fails (λ q. omega arith))
-    (λ c. fails (λ q. omega arith))
-    (λ c. search needs)
-    (λ c. search needs)
-    (λ c. search needs)
-    (λ c. fails (λ q. omega arith))
-    (λ c. holds (omega arith)))
+    (λ c κs. search needs)
+    (λ c. rw (c .before .before .header-word .ensures, c .before .header-word2 .ensures) at (c .sizes-fit .ensures)))

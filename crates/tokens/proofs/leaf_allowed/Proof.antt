@@ -1,28 +1,25 @@
-use mathlib.Core.Path.{_≡_, refl, sym, ap, _∙_}
+-- `leaf_allowed`: The definition computes at each leaf. Assumes nothing.
+use mathlib.Core.Path.{_≡_}
 use mathlib.Core.Bool.{false}
 use Rattle.tokens.specs.Tokens.{isStates}
 use borrow.Author.Needs.{needs}
 use Rattle.tokens.proofs.leaf_allowed.Statement.{statement}
 use Rattle.tokens.proofs.leaf_allowed.Tie as tie
-use Rattle.tokens.proofs.leaf_allowed.Reads as reads
-use Rattle.tokens.proofs.leaf_allowed.Lts as lts
-use Rattle.tokens.proofs.is_states.Reads as is-states-reads
-
 
 pub leaf-allowed-spec : {M : Type 1} → statement M
 leaf-allowed-spec =
     tie.close
     (tie.spec
+    (λ c. c .match .keys1)
+    (λ c. c .match .keys2)
+    (λ c. c .match .keys3)
+    (λ c. c .match .keys4)
+    (λ c κs. tt)
     (λ c. search needs)
-    (λ c. search needs)
-    (λ c. search needs)
-    (λ c. search needs)
-    (λ c κs. search needs)
-    (λ c. search needs)
-    (λ c. search needs)
-    (λ c κs. search needs)
-    (λ c. search needs)
-    (λ c κs. search needs)
+    (λ c. c .match .keys5)
+    (λ c κs. tt)
+    (λ c. c .match .keys6)
+    (λ c κs. tt)
     (λ c. search needs)
     (λ c. search needs)
     (λ c. rw (c .before .l .given .1))

@@ -1,20 +1,16 @@
+-- `token_of`: Each arm knows between which limits the byte lies, and so in which line of the table, or between which. Assumes nothing.
 use mathlib.Core.Path.{refl, sym}
 use native.Mathlib.Omega.{arith}
 use Rattle.tokens.proofs.Table.{in-line, in-gap}
 use borrow.Author.Needs.{needs}
 use Rattle.tokens.proofs.token_of.Statement.{statement}
 use Rattle.tokens.proofs.token_of.Tie as tie
-use Rattle.tokens.proofs.token_of.Reads as reads
-use Rattle.tokens.proofs.token_of.Lts as lts
-use Rattle.tokens.proofs.modal_of.Reads as modal-of-reads
-use Rattle.tokens.proofs.wide.Reads as wide-reads
-
 
 pub token-of-spec : {M : Type 1} → statement M
 token-of-spec =
     tie.close
     (tie.spec
-    (λ c κs. search needs)
+    (λ c κs. tt)
     (λ c. search needs)
     (λ c. search needs)
     (λ c. search needs)

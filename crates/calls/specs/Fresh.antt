@@ -1,0 +1,72 @@
+-- FRESH: from what its checks and `make_empty` find and leave to its contract. Assumes nothing.
+use mathlib.Core.Path.{_≡_, refl, ap, sym, _∙_, subst}
+use mathlib.Core.Bool.{_&&_}
+use mathlib.Core.List.{List}
+use Prim.Native.Nat.{ℕ, _+_, _*_}
+use native.Mathlib.Omega.{arith}
+use lib.Dec.{T, leb, le→leb, leb→le}
+use lib.ListN.{length}
+use Rattle.mucalculus.specs.Sets.{and-in, and-out}
+use Rattle.diagram.specs.Canon.{not-true}
+use Rattle.layout.specs.Places.{ROWS, TALLY, FIRST-REGISTER, FIRST-RELATION}
+use Rattle.layout.specs.View.{View, view, headerOf}
+use Rattle.layout.specs.Header.{headerWords}
+use Rattle.soundness.specs.Used.{Sizes}
+use Rattle.soundness.specs.Sound.{Sound, tableOf}
+use Rattle.table.specs.Columns.{setHeader, setHeads}
+use Rattle.table.specs.Fresh.{emptied, emptied-sound, zero-at, bits-is, rows-is, none-used}
+use Rattle.book.specs.Book.{freshFits}
+use Rattle.book.specs.Leaves.{Empty, plain}
+use Rattle.contract.specs.Seen.{arrowIn, seenIn}
+use Rattle.contract.specs.Posts.{FreshPost}
+use Rattle.calls.specs.declared.Started.{Started}
+use Rattle.calls.specs.declared.Started.the-variants.{Ready, Refused}
+
+-- The words that fresh leaves: the header maker's header, and heads of 0; all others, those of rows and those past the table too, are as they
+-- were. A refused fresh keeps all words.
+abbrev pub FreshWords : ℕ → ℕ → List ℕ → List ℕ → Started → Type 0
+FreshWords n N old new Ready = view N new ≡ setHeads (setHeader (view N old) (headerOf (headerWords n N))) (λ b. 0)
+FreshWords n N old new (Refused r) = new ≡ old
+
+-- the checks of document 01's fresh are those of a sound table's sizes
+module _ {n N size : ℕ} where
+  sizes-fits : Sizes n N size → T (freshFits n N size)
+  sizes-fits z =
+      and-in (leb 1 n && leb n 16) _ (and-in (leb 1 n) (leb n 16) (le→leb 1 n (z .n-pos)) (le→leb n 16 (z .n-max)))
+      (and-in (leb 1 N && leb N 60_000) _ (and-in (leb 1 N) (leb N 60_000) (le→leb 1 N (z .N-pos)) (le→leb N 60_000 (z .N-max))) (le→leb (256 + 12 * N) size (z .room)))
+
+  fits-sizes : T (freshFits n N size) → Sizes n N size
+  fits-sizes t =
+      let (a, b) = and-out (leb 1 n && leb n 16) _ t in
+      let (c, d) = and-out (leb 1 N && leb N 60_000) (leb (256 + 12 * N) size) b in
+      let (e, f) = and-out (leb 1 n) (leb n 16) a in
+      let (g, h) = and-out (leb 1 N) (leb N 60_000) c in
+      record { n-pos = leb→le 1 n e; n-max = leb→le n 16 f; N-pos = leb→le 1 N g; N-max = leb→le N 60_000 h; room = leb→le (256 + 12 * N) size d }
+
+-- REFUSED: "fresh: n, N or slice length"
+pub fresh-refused : (n N : ℕ) (ws : List ℕ) → (Sizes n N (length ws) → ⊥) → FreshPost n N ws ws (plain 1)
+fresh-refused n N ws no-fit = record { answers = λ t. absurd (no-fit (fits-sizes t)); refuses = λ e. ((refl, refl, refl), refl) }
+
+-- ANSWERED: "Fresh empties them all, the tally at 0"
+module _ (n N : ℕ) (old new : List ℕ) (z : Sizes n N (length old)) (w : view N new ≡ emptied (view N old) n N) where
+  abbrev X : View
+  X = emptied (view N old) n N
+
+  table-is : tableOf new ≡ X
+  table-is = ap (λ (k : ℕ). view k new) (ap (λ (v : View). v .header ROWS) w ∙ rows-is X n z (λ h. refl)) ∙ w
+
+  empty : Empty n N (seenIn X)
+  empty = record {
+    bits = bits-is X n z (λ h. refl);
+    size = refl;
+    tally = zero-at X n z (λ h. refl) TALLY (omega arith) (omega arith) (omega arith);
+    unused = λ i. not-true _ (none-used X n z (λ h. refl) i);
+    reg = λ r l. ap arrowIn (zero-at X n z (λ h. refl) (FIRST-REGISTER + r) (omega arith) (omega arith) (omega arith));
+    rel = λ t l. ap arrowIn (zero-at X n z (λ h. refl) (FIRST-RELATION + t) (omega arith) (omega arith) (omega arith));
+  }
+
+  pub fresh-ready : FreshPost n N old new (plain 0)
+  fresh-ready = record {
+    answers = λ _. ((refl, refl, refl), subst Sound (sym table-is) (emptied-sound (view N old) n z), subst (λ (v : View). Empty n N (seenIn v)) (sym table-is) empty);
+    refuses = λ e. absurd (subst T e (sizes-fits z));
+  }
