@@ -23,7 +23,7 @@ use Rattle.table.specs.declared.Made.{Made}
 use Rattle.table.specs.declared.Made.the-variants as made
 use Rattle.collect.specs.Lent.{live}
 use Rattle.memory.specs.Memo.{Remembers}
-use Rattle.operations.specs.Work.{OpFrame, op-refl, op-trans, Ready}
+use Rattle.operations.specs.Work.{OpFrame, op-refl, op-trans, Ready, ready-wf, ready-frame}
 use Rattle.steps.specs.declared.Step.{Step}
 use Rattle.steps.specs.Steps.{stepF, operandsOf, Fits, StepPre, Stepped, operand-arrow}
 use Rattle.book.specs.Held.{Held, held-arrow, held-need}
@@ -108,21 +108,10 @@ moved-trans p q = record { sound = q .sound; memory = q .memory; frame = op-tran
 
 module _ {n N limit : ℕ} {W : View} (b : Base n N limit W) where
   pub base-next : {X : View} → Moved n W X → Base n N limit X
-  base-next {X} p = record {
-    ready = record {
-      good = p .sound .good;
-      memory = p .memory;
-      levels-is = b .ready .levels-is ∙ ap (λ (k : ℕ). 2 * k) (sym (p .frame .header BITS (omega arith) (omega arith) (omega arith) (omega arith)));
-      rows-is = b .ready .rows-is ∙ sym (p .frame .rows);
-      limit-le = b .ready .limit-le;
-    };
-    sound = p .sound;
-  }
+  base-next p = record { ready = ready-frame (b .ready) (p .frame) (p .sound .good) (p .memory); sound = p .sound }
 
   pub base-wf : WellFormed (2 * n) N (rowsOf W)
-  base-wf =
-      subst (λ (k : ℕ). WellFormed (2 * n) k (rowsOf W)) (sym (b .ready .rows-is))
-      (subst (λ (m : ℕ). WellFormed m (W .rows) (rowsOf W)) (sym (b .ready .levels-is)) (b .sound .good .rows))
+  base-wf = ready-wf (b .ready)
 
   pub base-bits : n ≤ MAX-BITS
   base-bits = let e = b .ready .levels-is in let l = b .sound .good .sizes .n-max in omega arith
@@ -132,7 +121,7 @@ module _ {n N limit : ℕ} {W : View} (b : Base n N limit W) where
 
   -- what a step asks, with the arrows that it is lent
   pub step-pre : {lent : List ℕ} {s : Step} → ((a : ℕ) → Mem a lent → Arrow (rowsOf W) a) → Fits (2 * n) (rowsOf W) s → StepPre (2 * n) N limit W lent s
-  step-pre u f = record { sound = b .sound; ready = b .ready; lent = u; fits = f }
+  step-pre u f = record { sound = b .sound; ready = b .ready; arrows = u; fits = f }
 
   -- registers, relations and lent arrows are arrows
   pub live-arrows : {lent : List ℕ} → ((a : ℕ) → Mem a lent → Arrow (rowsOf W) a) → (a : ℕ) → Mem a (live W lent) → Arrow (rowsOf W) a
@@ -160,7 +149,7 @@ took {n} {W = W} {lent = lent} {s = s} {o = o} b q p = record {
 }
   where
     arrows : (a : ℕ) → Mem a (operandsOf s ++ live W lent) → Arrow (rowsOf W) a
-    arrows a h = ⊎-elim (operand-arrow (2 * n) (rowsOf W) s (q .fits) a) (live-arrows b (q .lent) a) (append-cases (operandsOf s) h)
+    arrows a h = ⊎-elim (operand-arrow (2 * n) (rowsOf W) s (q .fits) a) (live-arrows b (q .arrows) a) (append-cases (operandsOf s) h)
 
 -- no step changes a register or relation
 held-frame : {W X : View} → OpFrame W X → (k : ℕ) → held X FIRST-REGISTER k ≡ held W FIRST-REGISTER k
