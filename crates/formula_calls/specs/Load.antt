@@ -2,31 +2,25 @@
 use mathlib.Core.Path.{_≡_, refl, sym, subst}
 use mathlib.Core.Bool.{Bool, true, false}
 use mathlib.Core.List.{List}
-use Prim.Native.Nat.{ℕ, _*_, _≤_, _<_}
+use Prim.Native.Nat.{ℕ, _≤_, _<_}
 use native.Mathlib.Omega.{arith}
 use lib.ListN.{length}
 use Rattle.layout.specs.Places.{RELATIONS, MAX-ROWS, BITS, ROWS, wordsFor}
 use Rattle.layout.specs.View.{View, view, headerOf}
 use Rattle.tokens.specs.declared.Kind.the-variants.{Relation}
-use Rattle.formula.specs.Checks.{firstRefusal}
 use Rattle.diagram.specs.Level.{Fn}
 use Rattle.diagram.specs.Rows.{Rows}
 use Rattle.soundness.specs.Sound.{Sound, tableOf}
-use Rattle.soundness.specs.Filled.{filled}
 use Rattle.table.specs.Make.{result}
 use Rattle.table.specs.declared.Made.{Made}
 use Rattle.table.specs.declared.Made.the-variants as made
-use Rattle.book.specs.Book.{Book, relation, checks, regFilled, relFilled, liveOf}
+use Rattle.book.specs.Book.{Book, relation, checks, regFilled, relFilled}
 use Rattle.book.specs.BookOf.{bookOf}
-use Rattle.book.specs.Table.{rootsOf}
-use Rattle.book.specs.Roots.{shows-held}
 use Rattle.book.specs.Pairs.{PairEvals}
 use Rattle.contract.specs.Seen.{seen, SoundWords, sound-shows-book}
-use Rattle.contract.specs.Roots.{filled-root, root-filled}
 use Rattle.contract.specs.Posts.{CallPost}
-use Rattle.modal.specs.declared.Limits.{Limits}
-use Rattle.modal.specs.Chain.{Alike}
 use Rattle.pairs.specs.Pairing.{PairsPre, PairsPost}
+use Rattle.pairs.specs.Served.{pairs-steps}
 use Rattle.formula_calls.specs.Evaluated.{Tidied}
 use Rattle.formula_calls.specs.Ends.{Through, through-sound, through-done, RelationEnds, relation-value, relation-full}
 use Rattle.formula_calls.specs.Replies.{loadedReply}
@@ -56,12 +50,12 @@ module _ {old bs : List ℕ} {t rows n : ℕ} (p : RelationReady t old bs) (er :
     post : PairsPost (limitsOf (headerOf old BITS) (headerOf old ROWS) 0) (tableOf old) (view (headerOf old ROWS) mid) bs y
     post = rw (er, en) at d
 
-    X : View
+    abbrev X : View
     X = view (headerOf old ROWS) mid
 
-    -- registers and relations are the roots
+    -- the book's steps
     evals : RelationEnds old (p .sound) X (post .moved .sound .good) (post .moved .frame) t bs (p .range) (p .passed) (result y)
-    evals = post .evals (rootsOf (seen old)) (liveOf b) (record { to = filled-root (tableOf old); from = root-filled (tableOf old) }) (shows-held b (seen old) (sound-shows-book old (p .sound)))
+    evals = pairs-steps b (sound-shows-book old (p .sound)) refl refl refl post
 
     through : Through old (relation t bs) (loadedReply (loadedOf y)) (relationLoaded X t y)
     through = go y evals

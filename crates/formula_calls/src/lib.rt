@@ -10,6 +10,7 @@ use layout::Table;
 use layout::header_word;
 use layout::put_header;
 use modal::Limits;
+use pairs::evaluate_pairs;
 use soundness::sound;
 use table::Made;
 use tokens::Kind;
@@ -23,6 +24,7 @@ ghost use Rattle.soundness.specs.Sound.{Sound};
 ghost use Rattle.book.specs.Book as book;
 ghost use Rattle.formula_calls.specs.Evaluated.{Tidied};
 ghost use Rattle.contract.specs.Posts.{CallPost};
+ghost use Rattle.formula_calls.specs.Load.{RelationReady};
 ghost use Rattle.formula_calls.specs.Replies.{storedReply, loadedReply};
 ghost use Rattle.formula_calls.specs.Store.{SetReady, Holds, storedOf, setStored, Carries, loadedOf, relationLoaded};
 
@@ -139,5 +141,40 @@ pub fn set(words: &mut [u32], r: u32, most: u32, bytes: &[u8]) -> Stored
     match check_formula(bytes, Kind::Set, n, words) {
         Checked::Refused(x) => Stored::Refused(x),
         Checked::Fit => set_steps(words, r, most, bytes),
+    }
+}
+
+// Evaluates a checked formula, stores its pairs in relation t, and frees rows where many are not needed any more.
+fn relation_steps(words: &mut [u32], t: u32, bytes: &[u8]) -> Loaded
+    requires { ⌜ RelationReady t (now words) (now bytes) ⌝ }
+    ensures { λ x. ⌜ CallPost (book.relation t (now (bytes .entry))) (now (words .entry)) (now (words .exit)) (loadedReply x) ⌝ }
+{
+    let rows = header_word(words, Table::ROWS);
+    let limits = Limits {
+        bits: header_word(words, Table::BITS),
+        rows: rows,
+        limit: rows,
+        rounds: 0,
+    };
+    let done = evaluate_pairs(words, limits, bytes);
+    let answer = store_relation(words, rows, t, done);
+    tidy(words, rows);
+    answer
+}
+
+// Relation t holds the pairs of a formula; 2 on unsound words, 3 where there is no such relation, 4 to 7 by the formula, 8 where a step needs more rows than there are.
+pub fn relation(words: &mut [u32], t: u32, bytes: &[u8]) -> Loaded
+    ensures { λ x. ⌜ CallPost (book.relation t (now (bytes .entry))) (now (words .entry)) (now (words .exit)) (loadedReply x) ⌝ }
+{
+    if !sound(words) {
+        return Loaded::Refused(Refusal::Unsound);
+    }
+    if t >= Table::RELATIONS {
+        return Loaded::Refused(Refusal::Range);
+    }
+    let n = header_word(words, Table::BITS);
+    match check_formula(bytes, Kind::Relation, n, words) {
+        Checked::Refused(x) => Loaded::Refused(x),
+        Checked::Fit => relation_steps(words, t, bytes),
     }
 }

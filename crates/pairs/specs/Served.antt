@@ -1,19 +1,18 @@
--- RELATION: the evaluation's promise is what the call's contract asks of the rows that it leaves. Assumes nothing.
+-- The evaluation's promise over the book that the table shows: its steps are the book's. Assumes nothing.
 use mathlib.Core.Path.{_≡_, sym, subst}
 use mathlib.Core.List.{List}
-use Prim.Native.Nat.{ℕ, _*_, _<_}
+use Prim.Native.Nat.{ℕ, _*_}
 use Rattle.tokens.specs.declared.Kind.the-variants.{Relation}
 use Rattle.layout.specs.View.{View}
 use Rattle.soundness.specs.Used.{rowsOf}
 use Rattle.table.specs.Make.{result}
 use Rattle.table.specs.declared.Made.{Made}
-use Rattle.book.specs.Book.{Book, relation, relations, liveOf, formulaIn, checks}
-use Rattle.book.specs.Table.{Shows, Serves, rootsOf}
+use Rattle.book.specs.Book.{Book, liveOf, formulaIn}
+use Rattle.book.specs.Table.{Shows, rootsOf}
 use Rattle.book.specs.Roots.{shows-held}
 use Rattle.book.specs.Held.{Held}
 use Rattle.book.specs.Run.{pairF, pairsFit}
 use Rattle.book.specs.Pairs.{PairEvals}
-use Rattle.book.specs.Formulas.{relationLeaves, relationReply, relation-serves}
 use Rattle.contract.specs.Seen.{seenIn}
 use Rattle.contract.specs.Roots.{filled-root, root-filled}
 use Rattle.modal.specs.declared.Limits.{Limits}
@@ -32,8 +31,3 @@ module _ (b : Book) {L : Limits} {W X : View} {bs : List ℕ} {o : Made} (s : Sh
 
       holds : Held (2 * L .bits) (rowsOf W) (rootsOf (seenIn W)) (liveOf b)
       holds = subst (λ (k : ℕ). Held (2 * k) (rowsOf W) (rootsOf (seenIn W)) (liveOf b)) (sym n) (shows-held b (seenIn W) s)
-
-  -- the call after its checks
-  pub pairs-serve : (t : ℕ) → t < relations → checks b Relation bs ≡ 0
-      → Serves b (relation t bs) (seenIn W) (relationLeaves (seenIn W) t (rowsOf X) (result o)) (relationReply (result o))
-  pairs-serve t l c = relation-serves b (seenIn W) t bs (rowsOf X) (result o) s l c pairs-steps

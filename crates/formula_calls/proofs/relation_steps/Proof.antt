@@ -1,0 +1,51 @@
+-- `relation_steps` hands the evaluation on to its storing, and that to the collection afterwards. Assumes nothing.
+use Rattle.formula_calls.specs.Load.{relation-asks, relation-storing, relation-tidying, relation-done}
+use borrow.Author.Needs.{needs}
+use Rattle.formula_calls.proofs.relation_steps.Statement.{statement}
+use Rattle.formula_calls.proofs.relation_steps.Tie as tie
+use Rattle.formula_calls.proofs.relation_steps.Reads as reads
+use Rattle.formula_calls.proofs.relation_steps.Lts as lts
+use Rattle.pairs.proofs.evaluate_pairs.Reads as evaluate-pairs-reads
+use Rattle.formula_calls.proofs.store_relation.Reads as store-relation-reads
+use Rattle.formula_calls.proofs.tidy.Reads as tidy-reads
+use Rattle.layout.proofs.header_word.Reads as header-word-reads
+
+-- src/lib.rt:121:9
+header-word-requires : tie.Need-header-word-requires
+header-word-requires c κs = search needs
+
+-- src/lib.rt:123:15
+header-word-requires-2 : tie.Need-header-word-requires-2
+header-word-requires-2 c κs = search needs
+
+-- src/lib.rt:128:9
+evaluate-pairs-requires : tie.Need-evaluate-pairs-requires
+evaluate-pairs-requires c κs = relation-asks (c .before .before .before .before .before .before .before .pre) (c .before .before .before .header-word .ensures) (c .before .header-word2 .ensures)
+
+-- src/lib.rt:129:9
+store-relation-requires : tie.Need-store-relation-requires
+store-relation-requires c κs = relation-storing (c .before .before .before .before .before .before .before .before .before .before .before .pre) (c .before .before .before .before .before .before .before .header-word .ensures) (c .before .before .before .before .before .header-word2 .ensures) _ (c .before .before .before .evaluate-pairs .ensures)
+
+-- src/lib.rt:130:5
+tidy-requires : tie.Need-tidy-requires
+tidy-requires c κs = relation-tidying (c .before .before .before .before .before .before .before .before .before .before .before .before .before .before .before .pre) (c .before .before .before .before .before .before .before .before .before .before .before .header-word .ensures) (c .before .before .before .before .before .before .before .before .before .header-word2 .ensures) _ (c .before .before .before .before .before .before .before .evaluate-pairs .ensures) _ (c .before .before .before .store-relation .ensures .1)
+
+-- src/lib.rt:117:1
+same-length : tie.Need-same-length
+same-length c = search needs
+
+-- src/lib.rt:117:1
+returns : tie.Need-returns
+returns c = relation-done (c .before .before .before .before .before .before .before .before .before .before .before .before .before .before .before .before .before .before .pre) (c .before .before .before .before .before .before .before .before .before .before .before .before .before .before .header-word .ensures) (c .before .before .before .before .before .before .before .before .before .before .before .before .header-word2 .ensures) _ (c .before .before .before .before .before .before .before .before .before .before .evaluate-pairs .ensures) _ (c .before .before .before .before .before .before .store-relation .ensures .1) (c .before .before .before .before .before .before .store-relation .ensures .0) _ (c .before .before .tidy .ensures)
+
+pub relation-steps-spec : {M : Type 1} → statement M
+relation-steps-spec =
+    tie.close
+    (tie.spec
+    header-word-requires
+    header-word-requires-2
+    evaluate-pairs-requires
+    store-relation-requires
+    tidy-requires
+    same-length
+    returns)
