@@ -1,129 +1,35 @@
-// The calls that take a formula. Each makes its checks in document 01's order, evaluates the formula, stores what it gives, and frees rows where many are not needed any more.
-use collect::collect_rows;
-use collect::needed;
-use evaluator::Evaluated;
-use evaluator::evaluate_set;
+// The entry points that take a formula. Each makes its checks in document 01's order, and then leaves the work to one lower function.
 use formula::Checked;
 use formula::check_formula;
+use formula_steps::Loaded;
+use formula_steps::Stored;
+use formula_steps::relation_steps;
+use formula_steps::set_steps;
 use layout::Refusal;
 use layout::Table;
 use layout::header_word;
-use layout::put_header;
-use modal::Limits;
-use pairs::evaluate_pairs;
 use soundness::sound;
-use table::Made;
 use tokens::Kind;
 
-ghost use mathlib.Core.Path.{_≡_};
-ghost use Prim.Native.Nat.{_<_, _≤_};
-ghost use lib.ListN.{length};
-ghost use Rattle.layout.specs.Places.{REGISTERS, RELATIONS, wordsFor};
-ghost use Rattle.layout.specs.View.{view};
-ghost use Rattle.soundness.specs.Sound.{Sound};
 ghost use Rattle.book.specs.Book as book;
-ghost use Rattle.formula_calls.specs.Evaluated.{Tidied};
 ghost use Rattle.contract.specs.Posts.{CallPost};
-ghost use Rattle.formula_calls.specs.Load.{RelationReady};
-ghost use Rattle.formula_calls.specs.Replies.{storedReply, loadedReply};
-ghost use Rattle.formula_calls.specs.Store.{SetReady, Holds, storedOf, setStored, Carries, loadedOf, relationLoaded};
+ghost use Rattle.formula_steps.specs.Replies.{storedReply, loadedReply};
 
-// What set answers: the node number and the rounds.
-pub enum Stored {
-    Node { number: u32, rounds: u32 },
-    Refused(Refusal),
-}
-
-// What relation answers.
-pub enum Loaded {
-    Done,
-    Refused(Refusal),
-}
-
-// The tally after some rounds more: it stays at the top once it would pass that.
-fn tallied(tally: u32, rounds: u32) -> u32
-    ensures { λ r. ⌜ r ≡ book.tallied tally rounds ⌝ }
+// Relation t holds the pairs of a formula; 2 on unsound words, 3 where there is no such relation, 4 to 7 by the formula, 8 where a step needs more rows than there are.
+pub fn relation(words: &mut [u32], t: u32, bytes: &[u8]) -> Loaded
+    ensures { λ x. ⌜ CallPost (book.relation t (now (bytes .entry))) (now (words .entry)) (now (words .exit)) (loadedReply x) ⌝ }
 {
-    if rounds > 4294967295 - tally {
-        return 4294967295;
+    if !sound(words) {
+        return Loaded::Refused(Refusal::Unsound);
     }
-    tally + rounds
-}
-
-// Whether the used rows are many more than those that registers and relations need.
-fn grown(words: &[u32], rows: u32) -> bool
-    requires { ⌜ Sound (view rows (now words)) ⌝ }
-{
-    let none = [0u32; 1];
-    let kept = needed(words, rows, &none[..0]) as u64;
-    let used = header_word(words, Table::USED) as u64;
-    4 * used > 5 * kept + 256
-}
-
-// Frees the rows that no register and no relation needs, where there are many.
-fn tidy(words: &mut [u32], rows: u32)
-    requires { ⌜ Sound (view rows (now words)) ⌝ }
-    ensures { λ _. ⌜ Tidied (view rows (now (words .entry))) (view rows (now (words .exit))) ⌝ }
-{
-    if !grown(words, rows) {
-        return;
+    if t >= Table::RELATIONS {
+        return Loaded::Refused(Refusal::Range);
     }
-    collect_rows(words, rows);
-}
-
-// Stores what an evaluation gave in register r, and tallies its rounds.
-fn store_set(words: &mut [u32], rows: u32, r: u32, done: Evaluated) -> Stored
-    requires { ⌜ (r < REGISTERS) × (wordsFor rows ≤ length (now words)) × Holds done ⌝ }
-    ensures { λ x. ⌜ (x ≡ storedOf done) × (view rows (now (words .exit)) ≡ setStored (view rows (now (words .entry))) r done) ⌝ }
-{
-    match done {
-        Evaluated::Full => Stored::Refused(Refusal::Full),
-        Evaluated::Spent => Stored::Refused(Refusal::Spent),
-        Evaluated::Value {
-            arrow: a,
-            next: _,
-            rounds: q,
-        } => {
-            let tally = tallied(header_word(words, Table::TALLY), q);
-            let at = Table::FIRST_REGISTER + (r as usize);
-            put_header(words, rows, at, a + 1);
-            put_header(words, rows, Table::TALLY, tally);
-            Stored::Node { number: a, rounds: q }
-        }
+    let n = header_word(words, Table::BITS);
+    match check_formula(bytes, Kind::Relation, n, words) {
+        Checked::Refused(x) => Loaded::Refused(x),
+        Checked::Fit => relation_steps(words, t, bytes),
     }
-}
-
-// Stores what an evaluation gave in relation t.
-fn store_relation(words: &mut [u32], rows: u32, t: u32, done: Made) -> Loaded
-    requires { ⌜ (t < RELATIONS) × (wordsFor rows ≤ length (now words)) × Carries done ⌝ }
-    ensures { λ x. ⌜ (x ≡ loadedOf done) × (view rows (now (words .exit)) ≡ relationLoaded (view rows (now (words .entry))) t done) ⌝ }
-{
-    match done {
-        Made::Full => Loaded::Refused(Refusal::Full),
-        Made::At(a) => {
-            let at = Table::FIRST_RELATION + (t as usize);
-            put_header(words, rows, at, a + 1);
-            Loaded::Done
-        }
-    }
-}
-
-// Evaluates a checked formula, stores its states in register r, and frees rows where many are not needed any more.
-fn set_steps(words: &mut [u32], r: u32, most: u32, bytes: &[u8]) -> Stored
-    requires { ⌜ SetReady r (now words) (now bytes) ⌝ }
-    ensures { λ x. ⌜ CallPost (book.set r most (now (bytes .entry))) (now (words .entry)) (now (words .exit)) (storedReply x) ⌝ }
-{
-    let rows = header_word(words, Table::ROWS);
-    let limits = Limits {
-        bits: header_word(words, Table::BITS),
-        rows: rows,
-        limit: rows,
-        rounds: most,
-    };
-    let done = evaluate_set(words, limits, bytes);
-    let answer = store_set(words, rows, r, done);
-    tidy(words, rows);
-    answer
 }
 
 // Register r holds the states of a formula, found in at most so many rounds; 2 on unsound words, 3 where there is no such register, 4 to 7 by
@@ -141,40 +47,5 @@ pub fn set(words: &mut [u32], r: u32, most: u32, bytes: &[u8]) -> Stored
     match check_formula(bytes, Kind::Set, n, words) {
         Checked::Refused(x) => Stored::Refused(x),
         Checked::Fit => set_steps(words, r, most, bytes),
-    }
-}
-
-// Evaluates a checked formula, stores its pairs in relation t, and frees rows where many are not needed any more.
-fn relation_steps(words: &mut [u32], t: u32, bytes: &[u8]) -> Loaded
-    requires { ⌜ RelationReady t (now words) (now bytes) ⌝ }
-    ensures { λ x. ⌜ CallPost (book.relation t (now (bytes .entry))) (now (words .entry)) (now (words .exit)) (loadedReply x) ⌝ }
-{
-    let rows = header_word(words, Table::ROWS);
-    let limits = Limits {
-        bits: header_word(words, Table::BITS),
-        rows: rows,
-        limit: rows,
-        rounds: 0,
-    };
-    let done = evaluate_pairs(words, limits, bytes);
-    let answer = store_relation(words, rows, t, done);
-    tidy(words, rows);
-    answer
-}
-
-// Relation t holds the pairs of a formula; 2 on unsound words, 3 where there is no such relation, 4 to 7 by the formula, 8 where a step needs more rows than there are.
-pub fn relation(words: &mut [u32], t: u32, bytes: &[u8]) -> Loaded
-    ensures { λ x. ⌜ CallPost (book.relation t (now (bytes .entry))) (now (words .entry)) (now (words .exit)) (loadedReply x) ⌝ }
-{
-    if !sound(words) {
-        return Loaded::Refused(Refusal::Unsound);
-    }
-    if t >= Table::RELATIONS {
-        return Loaded::Refused(Refusal::Range);
-    }
-    let n = header_word(words, Table::BITS);
-    match check_formula(bytes, Kind::Relation, n, words) {
-        Checked::Refused(x) => Loaded::Refused(x),
-        Checked::Fit => relation_steps(words, t, bytes),
     }
 }

@@ -10,7 +10,7 @@ use Rattle.formula_calls.proofs.relation.Tie as tie
 use Rattle.formula_calls.proofs.relation.Reads as reads
 use Rattle.formula_calls.proofs.relation.Lts as lts
 use Rattle.formula.proofs.check_formula.Reads as check-formula-reads
-use Rattle.formula_calls.proofs.relation_steps.Reads as relation-steps-reads
+use Rattle.formula_steps.proofs.relation_steps.Reads as relation-steps-reads
 use Rattle.layout.proofs.header_word.Reads as header-word-reads
 use Rattle.soundness.proofs.sound.Reads as sound-reads
 

@@ -1,13 +1,13 @@
 -- `set_steps` hands the evaluation on to its storing, and that to the collection afterwards. Assumes nothing.
-use Rattle.formula_calls.specs.Store.{set-asks, set-storing, set-tidying, set-done}
+use Rattle.formula_steps.specs.Store.{set-asks, set-storing, set-tidying, set-done}
 use borrow.Author.Needs.{needs}
-use Rattle.formula_calls.proofs.set_steps.Statement.{statement}
-use Rattle.formula_calls.proofs.set_steps.Tie as tie
-use Rattle.formula_calls.proofs.set_steps.Reads as reads
-use Rattle.formula_calls.proofs.set_steps.Lts as lts
+use Rattle.formula_steps.proofs.set_steps.Statement.{statement}
+use Rattle.formula_steps.proofs.set_steps.Tie as tie
+use Rattle.formula_steps.proofs.set_steps.Reads as reads
+use Rattle.formula_steps.proofs.set_steps.Lts as lts
 use Rattle.evaluator.proofs.evaluate_set.Reads as evaluate-set-reads
-use Rattle.formula_calls.proofs.store_set.Reads as store-set-reads
-use Rattle.formula_calls.proofs.tidy.Reads as tidy-reads
+use Rattle.formula_steps.proofs.store_set.Reads as store-set-reads
+use Rattle.formula_steps.proofs.tidy.Reads as tidy-reads
 use Rattle.layout.proofs.header_word.Reads as header-word-reads
 
 -- src/lib.rt:121:9

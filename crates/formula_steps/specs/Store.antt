@@ -25,13 +25,13 @@ use Rattle.evaluator.specs.Scene.{endedOf}
 use Rattle.evaluator.specs.Whole.{SetPre, SetPost}
 use Rattle.evaluator.specs.declared.Evaluated.{Evaluated}
 use Rattle.evaluator.specs.declared.Evaluated.the-variants.{Value, Full, Spent}
-use Rattle.formula_calls.specs.Evaluated.{registerStored, relationStored, Tidied}
-use Rattle.formula_calls.specs.Ends.{Through, through-sound, through-done, SetEnds, set-value, set-full, set-spent, RelationEnds, relation-value, relation-full}
-use Rattle.formula_calls.specs.Replies.{storedReply, loadedReply}
-use Rattle.formula_calls.specs.declared.Stored.{Stored}
-use Rattle.formula_calls.specs.declared.Stored.the-variants as stored
-use Rattle.formula_calls.specs.declared.Loaded.{Loaded}
-use Rattle.formula_calls.specs.declared.Loaded.the-variants as loaded
+use Rattle.formula_steps.specs.Evaluated.{registerStored, relationStored, Tidied}
+use Rattle.formula_steps.specs.Ends.{Through, through-sound, through-done, SetEnds, set-value, set-full, set-spent, RelationEnds, relation-value, relation-full}
+use Rattle.formula_steps.specs.Replies.{storedReply, loadedReply}
+use Rattle.formula_steps.specs.declared.Stored.{Stored}
+use Rattle.formula_steps.specs.declared.Stored.the-variants as stored
+use Rattle.formula_steps.specs.declared.Loaded.{Loaded}
+use Rattle.formula_steps.specs.declared.Loaded.the-variants as loaded
 
 -- an arrow whose word fits
 abbrev pub Holds : Evaluated → Type 0

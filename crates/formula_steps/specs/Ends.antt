@@ -27,7 +27,7 @@ use Rattle.contract.specs.Seen.{seenIn, seen, SoundWords, sound-shows-book, tab
 use Rattle.contract.specs.Kept.{target}
 use Rattle.contract.specs.Posts.{CallPost}
 use Rattle.operations.specs.Work.{OpFrame}
-use Rattle.formula_calls.specs.Evaluated.{Left, left-op, left-none, left-put, rows-seen, registerStored, register-seen, register-good, relationStored, relation-seen, relation-good, Tidied, tidied-served, tidied-left, takesFormula, or-true, formula-done}
+use Rattle.formula_steps.specs.Evaluated.{Left, left-op, left-none, left-put, rows-seen, registerStored, register-seen, register-good, relationStored, relation-seen, relation-good, Tidied, tidied-served, tidied-left, takesFormula, or-true, formula-done}
 
 -- ---- alike tables
 

@@ -1,12 +1,12 @@
 -- `store_set` writes an arrow's word and the tally, or nothing. Assumes nothing.
 use native.Mathlib.Omega.{arith}
-use Rattle.formula_calls.specs.Store.{holds-fits, stored-full, stored-spent, stored-value}
+use Rattle.formula_steps.specs.Store.{holds-fits, stored-full, stored-spent, stored-value}
 use borrow.Author.Needs.{needs}
-use Rattle.formula_calls.proofs.store_set.Statement.{statement}
-use Rattle.formula_calls.proofs.store_set.Tie as tie
-use Rattle.formula_calls.proofs.store_set.Reads as reads
-use Rattle.formula_calls.proofs.store_set.Lts as lts
-use Rattle.formula_calls.proofs.tallied.Reads as tallied-reads
+use Rattle.formula_steps.proofs.store_set.Statement.{statement}
+use Rattle.formula_steps.proofs.store_set.Tie as tie
+use Rattle.formula_steps.proofs.store_set.Reads as reads
+use Rattle.formula_steps.proofs.store_set.Lts as lts
+use Rattle.formula_steps.proofs.tallied.Reads as tallied-reads
 use Rattle.layout.proofs.header_word.Reads as header-word-reads
 use Rattle.layout.proofs.put_header.Reads as put-header-reads
 

@@ -21,11 +21,11 @@ use Rattle.contract.specs.Seen.{seen, SoundWords, sound-shows-book}
 use Rattle.contract.specs.Posts.{CallPost}
 use Rattle.pairs.specs.Pairing.{PairsPre, PairsPost}
 use Rattle.pairs.specs.Served.{pairs-steps}
-use Rattle.formula_calls.specs.Evaluated.{Tidied}
-use Rattle.formula_calls.specs.Ends.{Through, through-sound, through-done, RelationEnds, relation-value, relation-full}
-use Rattle.formula_calls.specs.Replies.{loadedReply}
-use Rattle.formula_calls.specs.Store.{Carries, loadedOf, relationLoaded, loaded-late, arrow-fits, limitsOf}
-use Rattle.formula_calls.specs.declared.Loaded.{Loaded}
+use Rattle.formula_steps.specs.Evaluated.{Tidied}
+use Rattle.formula_steps.specs.Ends.{Through, through-sound, through-done, RelationEnds, relation-value, relation-full}
+use Rattle.formula_steps.specs.Replies.{loadedReply}
+use Rattle.formula_steps.specs.Store.{Carries, loadedOf, relationLoaded, loaded-late, arrow-fits, limitsOf}
+use Rattle.formula_steps.specs.declared.Loaded.{Loaded}
 
 ends-carries : {n N : ℕ} {before after : Rows} {roots : List ℕ} {F : Fn} (fits : Bool) (y : Made) → N ≤ MAX-ROWS → PairEvals n N before after roots fits F (result y) → Carries y
 ends-carries true (made.At a) l d = arrow-fits (d .wf) l a (d .result .arrow)

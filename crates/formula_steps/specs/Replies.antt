@@ -2,10 +2,10 @@
 use Rattle.layout.specs.Refusals.{refusalNumber}
 use Rattle.book.specs.Table.{Reply}
 use Rattle.book.specs.Leaves.{plain}
-use Rattle.formula_calls.specs.declared.Stored.{Stored}
-use Rattle.formula_calls.specs.declared.Stored.the-variants as stored
-use Rattle.formula_calls.specs.declared.Loaded.{Loaded}
-use Rattle.formula_calls.specs.declared.Loaded.the-variants as loaded
+use Rattle.formula_steps.specs.declared.Stored.{Stored}
+use Rattle.formula_steps.specs.declared.Stored.the-variants as stored
+use Rattle.formula_steps.specs.declared.Loaded.{Loaded}
+use Rattle.formula_steps.specs.declared.Loaded.the-variants as loaded
 
 -- set "returns node number and rounds"
 abbrev pub storedReply : Stored → Reply

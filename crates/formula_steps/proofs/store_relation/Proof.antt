@@ -1,11 +1,11 @@
 -- `store_relation` writes an arrow's word, or nothing. Assumes nothing.
 use native.Mathlib.Omega.{arith}
-use Rattle.formula_calls.specs.Store.{carries-fits, loaded-full, loaded-value}
+use Rattle.formula_steps.specs.Store.{carries-fits, loaded-full, loaded-value}
 use borrow.Author.Needs.{needs}
-use Rattle.formula_calls.proofs.store_relation.Statement.{statement}
-use Rattle.formula_calls.proofs.store_relation.Tie as tie
-use Rattle.formula_calls.proofs.store_relation.Reads as reads
-use Rattle.formula_calls.proofs.store_relation.Lts as lts
+use Rattle.formula_steps.proofs.store_relation.Statement.{statement}
+use Rattle.formula_steps.proofs.store_relation.Tie as tie
+use Rattle.formula_steps.proofs.store_relation.Reads as reads
+use Rattle.formula_steps.proofs.store_relation.Lts as lts
 use Rattle.layout.proofs.put_header.Reads as put-header-reads
 
 -- src/lib.rt:92:39

@@ -1,10 +1,10 @@
 -- `grown` asks `needed` about no roots of its own. Assumes nothing.
 use mathlib.Core.List.{List·Memᴰ·not-nil as mem-nil}
 use borrow.Author.Needs.{needs}
-use Rattle.formula_calls.proofs.grown.Statement.{statement}
-use Rattle.formula_calls.proofs.grown.Tie as tie
-use Rattle.formula_calls.proofs.grown.Reads as reads
-use Rattle.formula_calls.proofs.grown.Lts as lts
+use Rattle.formula_steps.proofs.grown.Statement.{statement}
+use Rattle.formula_steps.proofs.grown.Tie as tie
+use Rattle.formula_steps.proofs.grown.Reads as reads
+use Rattle.formula_steps.proofs.grown.Lts as lts
 use Rattle.collect.proofs.needed.Reads as needed-reads
 use Rattle.layout.proofs.header_word.Reads as header-word-reads
 

@@ -1,0 +1,141 @@
+// The steps of the calls that take a formula, after their checks: the formula is evaluated, what it gives is stored, and rows are freed where many are not needed any more.
+use collect::collect_rows;
+use collect::needed;
+use evaluator::Evaluated;
+use evaluator::evaluate_set;
+use layout::Refusal;
+use layout::Table;
+use layout::header_word;
+use layout::put_header;
+use modal::Limits;
+use pairs::evaluate_pairs;
+use table::Made;
+
+ghost use mathlib.Core.Path.{_≡_};
+ghost use Prim.Native.Nat.{_<_, _≤_};
+ghost use lib.ListN.{length};
+ghost use Rattle.layout.specs.Places.{REGISTERS, RELATIONS, wordsFor};
+ghost use Rattle.layout.specs.View.{view};
+ghost use Rattle.soundness.specs.Sound.{Sound};
+ghost use Rattle.book.specs.Book as book;
+ghost use Rattle.formula_steps.specs.Evaluated.{Tidied};
+ghost use Rattle.contract.specs.Posts.{CallPost};
+ghost use Rattle.formula_steps.specs.Load.{RelationReady};
+ghost use Rattle.formula_steps.specs.Replies.{storedReply, loadedReply};
+ghost use Rattle.formula_steps.specs.Store.{SetReady, Holds, storedOf, setStored, Carries, loadedOf, relationLoaded};
+
+// What set answers: the node number and the rounds.
+pub enum Stored {
+    Node { number: u32, rounds: u32 },
+    Refused(Refusal),
+}
+
+// What relation answers.
+pub enum Loaded {
+    Done,
+    Refused(Refusal),
+}
+
+// The tally after some rounds more: it stays at the top once it would pass that.
+fn tallied(tally: u32, rounds: u32) -> u32
+    ensures { λ r. ⌜ r ≡ book.tallied tally rounds ⌝ }
+{
+    if rounds > 4294967295 - tally {
+        return 4294967295;
+    }
+    tally + rounds
+}
+
+// Whether the used rows are many more than those that registers and relations need.
+fn grown(words: &[u32], rows: u32) -> bool
+    requires { ⌜ Sound (view rows (now words)) ⌝ }
+{
+    let none = [0u32; 1];
+    let kept = needed(words, rows, &none[..0]) as u64;
+    let used = header_word(words, Table::USED) as u64;
+    4 * used > 5 * kept + 256
+}
+
+// Frees the rows that no register and no relation needs, where there are many.
+fn tidy(words: &mut [u32], rows: u32)
+    requires { ⌜ Sound (view rows (now words)) ⌝ }
+    ensures { λ _. ⌜ Tidied (view rows (now (words .entry))) (view rows (now (words .exit))) ⌝ }
+{
+    if !grown(words, rows) {
+        return;
+    }
+    collect_rows(words, rows);
+}
+
+// Stores what an evaluation gave in register r, and tallies its rounds.
+fn store_set(words: &mut [u32], rows: u32, r: u32, done: Evaluated) -> Stored
+    requires { ⌜ (r < REGISTERS) × (wordsFor rows ≤ length (now words)) × Holds done ⌝ }
+    ensures { λ x. ⌜ (x ≡ storedOf done) × (view rows (now (words .exit)) ≡ setStored (view rows (now (words .entry))) r done) ⌝ }
+{
+    match done {
+        Evaluated::Full => Stored::Refused(Refusal::Full),
+        Evaluated::Spent => Stored::Refused(Refusal::Spent),
+        Evaluated::Value {
+            arrow: a,
+            next: _,
+            rounds: q,
+        } => {
+            let tally = tallied(header_word(words, Table::TALLY), q);
+            let at = Table::FIRST_REGISTER + (r as usize);
+            put_header(words, rows, at, a + 1);
+            put_header(words, rows, Table::TALLY, tally);
+            Stored::Node { number: a, rounds: q }
+        }
+    }
+}
+
+// Stores what an evaluation gave in relation t.
+fn store_relation(words: &mut [u32], rows: u32, t: u32, done: Made) -> Loaded
+    requires { ⌜ (t < RELATIONS) × (wordsFor rows ≤ length (now words)) × Carries done ⌝ }
+    ensures { λ x. ⌜ (x ≡ loadedOf done) × (view rows (now (words .exit)) ≡ relationLoaded (view rows (now (words .entry))) t done) ⌝ }
+{
+    match done {
+        Made::Full => Loaded::Refused(Refusal::Full),
+        Made::At(a) => {
+            let at = Table::FIRST_RELATION + (t as usize);
+            put_header(words, rows, at, a + 1);
+            Loaded::Done
+        }
+    }
+}
+
+// Evaluates a checked formula, stores its states in register r, and frees rows where many are not needed any more.
+pub fn set_steps(words: &mut [u32], r: u32, most: u32, bytes: &[u8]) -> Stored
+    requires { ⌜ SetReady r (now words) (now bytes) ⌝ }
+    ensures { λ x. ⌜ CallPost (book.set r most (now (bytes .entry))) (now (words .entry)) (now (words .exit)) (storedReply x) ⌝ }
+{
+    let rows = header_word(words, Table::ROWS);
+    let limits = Limits {
+        bits: header_word(words, Table::BITS),
+        rows: rows,
+        limit: rows,
+        rounds: most,
+    };
+    let done = evaluate_set(words, limits, bytes);
+    let answer = store_set(words, rows, r, done);
+    tidy(words, rows);
+    answer
+}
+
+// Evaluates a checked formula, stores its pairs in relation t, and frees rows where many are not needed any more.
+pub fn relation_steps(words: &mut [u32], t: u32, bytes: &[u8]) -> Loaded
+    requires { ⌜ RelationReady t (now words) (now bytes) ⌝ }
+    ensures { λ x. ⌜ CallPost (book.relation t (now (bytes .entry))) (now (words .entry)) (now (words .exit)) (loadedReply x) ⌝ }
+{
+    let rows = header_word(words, Table::ROWS);
+    let limits = Limits {
+        bits: header_word(words, Table::BITS),
+        rows: rows,
+        limit: rows,
+        rounds: 0,
+    };
+    let done = evaluate_pairs(words, limits, bytes);
+    let answer = store_relation(words, rows, t, done);
+    tidy(words, rows);
+    answer
+}
