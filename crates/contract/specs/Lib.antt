@@ -4,3 +4,4 @@ pub mod Posts
 pub mod Closed
 pub mod Roots
 pub mod Checked
+pub mod Answered
