@@ -154,13 +154,13 @@ module _ {L : Limits} {W X : View} {stack after places : List ℕ} {held rounds 
   both-part {n} {bs} {depth} {scope} {regs} {rels} {g} {e′} p = subst (λ (x : ℕ). Part n bs x depth scope regs rels g e′) (sym value-end) p
 
   module _ (room : held < depthLimit) where
-    pub both-ready : (C : List Bool) → Denotes (2 * L .bits) (rowsOf X) a (fnOf (L .bits) C) → Ready L X (set after held a) places (held + 1) (pushed (L .bits) σ a C)
-    both-ready C d = ready-push value-ready a C d room
+    pub both-ready : (C : List Bool) → Denotes (2 * L .bits) (rowsOf X) a (fnOf (L .bits) C) → Ready L X (set after held a) places (held + 1) (pushed σ a (fnOf (L .bits) C))
+    both-ready C d = ready-push value-ready a (fnOf (L .bits) C) d room
 
     -- what the second part's evaluation gives, whatever set the first one's arrow denotes
     module _ {Y : View} {last : List ℕ} {g : Form} {e′ : ℕ} {r′ : Evaluated} (z′ : length last ≡ length after)
-        (B : (C : List Bool) → Denotes (2 * L .bits) (rowsOf X) a (fnOf (L .bits) C) → Answers L X Y (set after held a) last (held + 1) q (pushed (L .bits) σ a C) g e′ r′) where
-      B₀ : Answers L X Y (set after held a) last (held + 1) q (pushed (L .bits) σ a value-set) g e′ r′
+        (B : (C : List Bool) → Denotes (2 * L .bits) (rowsOf X) a (fnOf (L .bits) C) → Answers L X Y (set after held a) last (held + 1) q (pushed σ a (fnOf (L .bits) C)) g e′ r′) where
+      B₀ : Answers L X Y (set after held a) last (held + 1) q (pushed σ a (fnOf (L .bits) value-set)) g e′ r′
       B₀ = B value-set value-is
 
       below : take held last ≡ take held after
@@ -171,15 +171,15 @@ module _ {L : Limits} {W X : View} {stack after places : List ℕ} {held rounds 
         moved = moved-trans (A .moved) (B₀ .moved);
         kept = below ∙ A .kept;
         evals = evals-same (sym (run-join (modelIn (L .bits) σ) (L .limit) (L .rounds) (σ .env) (σ .fns) j f g rounds))
-            (evals-two-stop (L .bits) (L .rows) (R .lives) (runIn L σ f rounds) (λ C p. runIn L (pushed (L .bits) σ a C) g p)
+            (evals-two-stop (L .bits) (L .rows) (R .lives) (runIn L σ f rounds) (λ C p. runIn L (pushed σ a (fnOf (L .bits) C)) g p)
             (λ C U p. twoStep (L .bits) (L .limit) (σ .fns) (joinOp j (2 ^ L .bits)) C U p) value-evals (λ C d. B C d .evals) (halts-stops r′ s));
         end = halts-end e′ r′ s;
       }
 
       module _ {b k′ q′ : ℕ} (is′ : r′ ≡ Value b k′ q′) where
         second-evals : (C : List Bool) → Denotes (2 * L .bits) (rowsOf X) a (fnOf (L .bits) C)
-            → Evals (L .bits) (L .rows) (rowsOf X) (rowsOf Y) (a ∷ σ .roots) (runIn L (pushed (L .bits) σ a C) g q) (ends b q′)
-        second-evals C d = subst (λ (x : Evaluated). Evals (L .bits) (L .rows) (rowsOf X) (rowsOf Y) (a ∷ σ .roots) (runIn L (pushed (L .bits) σ a C) g q) (endedOf x)) is′ (B C d .evals)
+            → Evals (L .bits) (L .rows) (rowsOf X) (rowsOf Y) (a ∷ σ .roots) (runIn L (pushed σ a (fnOf (L .bits) C)) g q) (ends b q′)
+        second-evals C d = subst (λ (x : Evaluated). Evals (L .bits) (L .rows) (rowsOf X) (rowsOf Y) (a ∷ σ .roots) (runIn L (pushed σ a (fnOf (L .bits) C)) g q) (endedOf x)) is′ (B C d .evals)
 
         first-arrow : Arrow (rowsOf Y) a
         first-arrow = keeps-denotes (B₀ .evals .kept) (here refl) value-is .arrow
@@ -204,7 +204,7 @@ module _ {L : Limits} {W X : View} {stack after places : List ℕ} {held rounds 
             let t1 = subst (λ (x : Step). Took (L .bits) (L .rows) (L .limit) Y Z (operandsOf x ++ live Y (take held last)) o (stepF (2 * L .bits) (rowsOf Y) x)) e t in
             answers-made (joinForm j f g) k′ q′ o (subst (EndsAt e′) is′ (B₀ .end)) made (moved-trans (A .moved) (moved-trans (B₀ .moved) (t .moved))) (below ∙ A .kept)
             (evals-same (sym (run-join (modelIn (L .bits) σ) (L .limit) (L .rounds) (σ .env) (σ .fns) j f g rounds))
-            (evals-two (L .bits) (L .rows) (R .lives) (joinOp j (2 ^ L .bits)) (joinF j) (join-exact (L .bits) j) (runIn L σ f rounds) (λ C p. runIn L (pushed (L .bits) σ a C) g p)
+            (evals-two (L .bits) (L .rows) (R .lives) (joinOp j (2 ^ L .bits)) (joinF j) (join-exact (L .bits) j) (runIn L σ f rounds) (λ C p. runIn L (pushed σ a (fnOf (L .bits) C)) g p)
             value-evals second-evals (result o) (post j t1)))
           where
             arrows : (x : ℕ) → Mem x (b ∷ a ∷ σ .roots) → Arrow (rowsOf Y) x
