@@ -108,7 +108,7 @@ module _ {L : Limits} {W : View} {stack places : List ℕ} {held : ℕ} {σ : Sc
 
   -- ---- a value more
 
-  module _ (a : ℕ) (A : List Bool) (d : Denotes (2 * L .bits) (rowsOf W) a (fnOf (L .bits) A)) (room : held < depthLimit) where
+  module _ (a : ℕ) (F : Fn) (d : Denotes (2 * L .bits) (rowsOf W) a F) (room : held < depthLimit) where
     more-roots : Alike (live W (take (held + 1) (set stack held a))) (a ∷ σ .roots)
     more-roots =
         let t : take (held + 1) (set stack held a) ≡ take held stack ++ (a ∷ []) = rw (add-one held) (take-suc-set stack held a (let s = R .size in omega arith)) in
@@ -124,7 +124,7 @@ module _ {L : Limits} {W : View} {stack places : List ℕ} {held : ℕ} {σ : Sc
       denotes = subst (λ (x : ℕ). Denotes (2 * L .bits) (rowsOf W) x (fnOf (L .bits) (σ .env P))) (sym (below-same (getD places P 0) (w .below))) (w .denotes);
     }
 
-    pub ready-push : Ready L W (set stack held a) places (held + 1) (pushed (L .bits) σ a A)
+    pub ready-push : Ready L W (set stack held a) places (held + 1) (pushed σ a F)
     ready-push = record {
       base = R .base;
       reg = R .reg;
@@ -138,14 +138,15 @@ module _ {L : Limits} {W : View} {stack places : List ℕ} {held : ℕ} {σ : Sc
       open-at = still-open;
     }
 
-    -- ---- a variable opened
+  -- ---- a variable opened
 
+  module _ (a : ℕ) (A : List Bool) (d : Denotes (2 * L .bits) (rowsOf W) a (fnOf (L .bits) A)) (room : held < depthLimit) where
     pub ready-open : (P : ℕ) → Ready L W (set stack held a) (set places P held) (held + 1) (opened (L .bits) σ P a A)
     ready-open P = record {
       base = R .base;
       reg = R .reg;
       rel = R .rel;
-      roots = more-roots;
+      roots = more-roots a (fnOf (L .bits) A) d room;
       lives = held-push (R .lives) d;
       size = length-set stack held a ∙ R .size;
       within = omega arith;
@@ -169,7 +170,7 @@ module _ {L : Limits} {W : View} {stack places : List ℕ} {held : ℕ} {σ : Sc
 
         not-P : (Q : ℕ) → Q ≢ P → getD (σ .scope) Q false ≡ true → Open (L .bits) W (set stack held a) (set places P held) (held + 1) (put (σ .env) P A Q) Q
         not-P Q n o =
-            let w = still-open Q o in
+            let w = still-open a (fnOf (L .bits) A) d room Q o in
             let p : getD (set places P held) Q 0 ≡ getD places Q 0 = getD-set-other places P Q held 0 n in
             let B : put (σ .env) P A Q ≡ σ .env Q = ap (λ (b : Bool). cond b A (σ .env Q)) (ne-eqb Q P n) in
             record {

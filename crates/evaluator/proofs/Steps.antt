@@ -91,11 +91,34 @@ pub took-roots : {L : Limits} {W X : View} {stack places : List ℕ} {held : ℕ
 took-roots {W = W} {σ = σ} {o = o} ops R u t =
     step-roots (result o) (λ a h. ⊎-elim (u a) (held-arrow (R .lives) a) (append-cases ops h)) (alike-append ops (R .roots)) (t .post)
 
-one-arrow : (rows : Rows) (a : ℕ) → Arrow rows a → (b : ℕ) → Mem b (a ∷ []) → Arrow rows b
+pub one-arrow : (rows : Rows) (a : ℕ) → Arrow rows a → (b : ℕ) → Mem b (a ∷ []) → Arrow rows b
 one-arrow rows a u b h = ⊎-elim (λ e. subst (Arrow rows) (sym e) u) (λ i. absurd (mem-nil i)) (mem-cases h)
 
 two-arrows : (rows : Rows) (a c : ℕ) → Arrow rows a → Arrow rows c → (b : ℕ) → Mem b (a ∷ c ∷ []) → Arrow rows b
 two-arrows rows a c u v b h = ⊎-elim (λ e. subst (Arrow rows) (sym e) u) (one-arrow rows c v b) (mem-cases h)
+
+-- AND and OR ask for two arrows, and have them among their roots
+pub join-fits : (m : ℕ) (rows : Rows) (j : Join) (a b : ℕ) → Arrow rows a → Arrow rows b → Fits m rows (joinStep j a b)
+join-fits m rows And a b u v = (u, v)
+join-fits m rows Or a b u v = (u, v)
+
+pub took-join : {L : Limits} {W X : View} {stack places : List ℕ} {held : ℕ} {σ : Scene} {o : Made} {a b : ℕ} {s : Step} → Ready L W stack places held σ → (j : Join) → s ≡ joinStep j a b
+    → Arrow (rowsOf W) a → Arrow (rowsOf W) b → Took (L .bits) (L .rows) (L .limit) W X (operandsOf s ++ live W (take held stack)) o (stepF (2 * L .bits) (rowsOf W) s)
+    → StepPost (2 * L .bits) (L .rows) (L .limit) (rowsOf W) (rowsOf X) (b ∷ a ∷ σ .roots) (result o) (joinF j (den (2 * L .bits) (rowsOf W) a) (den (2 * L .bits) (rowsOf W) b))
+took-join {L} {W} {X} {stack} {places} {held} {σ} {o} {a} {b} R j e u v t =
+    post j (subst (λ (x : Step). Took (L .bits) (L .rows) (L .limit) W X (operandsOf x ++ live W (take held stack)) o (stepF (2 * L .bits) (rowsOf W) x)) e t)
+  where
+    arrows : (x : ℕ) → Mem x (b ∷ a ∷ σ .roots) → Arrow (rowsOf W) x
+    arrows x h = ⊎-elim (two-arrows (rowsOf W) b a v u x) (held-arrow (R .lives) x) (append-cases (b ∷ a ∷ []) h)
+
+    swapped : {F : Fn} → StepPost (2 * L .bits) (L .rows) (L .limit) (rowsOf W) (rowsOf X) (a ∷ b ∷ σ .roots) (result o) F
+        → StepPost (2 * L .bits) (L .rows) (L .limit) (rowsOf W) (rowsOf X) (b ∷ a ∷ σ .roots) (result o) F
+    swapped p = step-roots (result o) arrows (alike-swap a b (σ .roots)) p
+
+    post : (j : Join) → Took (L .bits) (L .rows) (L .limit) W X (operandsOf (joinStep j a b) ++ live W (take held stack)) o (stepF (2 * L .bits) (rowsOf W) (joinStep j a b))
+        → StepPost (2 * L .bits) (L .rows) (L .limit) (rowsOf W) (rowsOf X) (b ∷ a ∷ σ .roots) (result o) (joinF j (den (2 * L .bits) (rowsOf W) a) (den (2 * L .bits) (rowsOf W) b))
+    post And t = swapped (took-roots (a ∷ b ∷ []) R (two-arrows (rowsOf W) a b u v) t)
+    post Or t = swapped (took-roots (a ∷ b ∷ []) R (two-arrows (rowsOf W) a b u v) t)
 
 -- ---- a part that is no value
 
@@ -154,13 +177,13 @@ module _ {L : Limits} {W X : View} {stack after places : List ℕ} {held rounds 
   both-part {n} {bs} {depth} {scope} {regs} {rels} {g} {e′} p = subst (λ (x : ℕ). Part n bs x depth scope regs rels g e′) (sym value-end) p
 
   module _ (room : held < depthLimit) where
-    pub both-ready : (C : List Bool) → Denotes (2 * L .bits) (rowsOf X) a (fnOf (L .bits) C) → Ready L X (set after held a) places (held + 1) (pushed (L .bits) σ a C)
-    both-ready C d = ready-push value-ready a C d room
+    pub both-ready : (C : List Bool) → Denotes (2 * L .bits) (rowsOf X) a (fnOf (L .bits) C) → Ready L X (set after held a) places (held + 1) (pushed σ a (fnOf (L .bits) C))
+    both-ready C d = ready-push value-ready a (fnOf (L .bits) C) d room
 
     -- what the second part's evaluation gives, whatever set the first one's arrow denotes
     module _ {Y : View} {last : List ℕ} {g : Form} {e′ : ℕ} {r′ : Evaluated} (z′ : length last ≡ length after)
-        (B : (C : List Bool) → Denotes (2 * L .bits) (rowsOf X) a (fnOf (L .bits) C) → Answers L X Y (set after held a) last (held + 1) q (pushed (L .bits) σ a C) g e′ r′) where
-      B₀ : Answers L X Y (set after held a) last (held + 1) q (pushed (L .bits) σ a value-set) g e′ r′
+        (B : (C : List Bool) → Denotes (2 * L .bits) (rowsOf X) a (fnOf (L .bits) C) → Answers L X Y (set after held a) last (held + 1) q (pushed σ a (fnOf (L .bits) C)) g e′ r′) where
+      B₀ : Answers L X Y (set after held a) last (held + 1) q (pushed σ a (fnOf (L .bits) value-set)) g e′ r′
       B₀ = B value-set value-is
 
       below : take held last ≡ take held after
@@ -171,15 +194,15 @@ module _ {L : Limits} {W X : View} {stack after places : List ℕ} {held rounds 
         moved = moved-trans (A .moved) (B₀ .moved);
         kept = below ∙ A .kept;
         evals = evals-same (sym (run-join (modelIn (L .bits) σ) (L .limit) (L .rounds) (σ .env) (σ .fns) j f g rounds))
-            (evals-two-stop (L .bits) (L .rows) (R .lives) (runIn L σ f rounds) (λ C p. runIn L (pushed (L .bits) σ a C) g p)
+            (evals-two-stop (L .bits) (L .rows) (R .lives) (runIn L σ f rounds) (λ C p. runIn L (pushed σ a (fnOf (L .bits) C)) g p)
             (λ C U p. twoStep (L .bits) (L .limit) (σ .fns) (joinOp j (2 ^ L .bits)) C U p) value-evals (λ C d. B C d .evals) (halts-stops r′ s));
         end = halts-end e′ r′ s;
       }
 
       module _ {b k′ q′ : ℕ} (is′ : r′ ≡ Value b k′ q′) where
         second-evals : (C : List Bool) → Denotes (2 * L .bits) (rowsOf X) a (fnOf (L .bits) C)
-            → Evals (L .bits) (L .rows) (rowsOf X) (rowsOf Y) (a ∷ σ .roots) (runIn L (pushed (L .bits) σ a C) g q) (ends b q′)
-        second-evals C d = subst (λ (x : Evaluated). Evals (L .bits) (L .rows) (rowsOf X) (rowsOf Y) (a ∷ σ .roots) (runIn L (pushed (L .bits) σ a C) g q) (endedOf x)) is′ (B C d .evals)
+            → Evals (L .bits) (L .rows) (rowsOf X) (rowsOf Y) (a ∷ σ .roots) (runIn L (pushed σ a (fnOf (L .bits) C)) g q) (ends b q′)
+        second-evals C d = subst (λ (x : Evaluated). Evals (L .bits) (L .rows) (rowsOf X) (rowsOf Y) (a ∷ σ .roots) (runIn L (pushed σ a (fnOf (L .bits) C)) g q) (endedOf x)) is′ (B C d .evals)
 
         first-arrow : Arrow (rowsOf Y) a
         first-arrow = keeps-denotes (B₀ .evals .kept) (here refl) value-is .arrow
@@ -191,30 +214,13 @@ module _ {L : Limits} {W X : View} {stack after places : List ℕ} {held rounds 
         both-state = ready-next value-ready (B₀ .moved) (keeps-within (λ x i. there i) (B₀ .evals .kept)) last z′ below
 
         pub both-asks : (j : Join) {s : Step} → s ≡ joinStep j a b → StepPre (2 * L .bits) (L .rows) (L .limit) Y (take held last) s
-        both-asks j e = step-pre (both-state .base) (lent-arrows both-state) (subst (Fits (2 * L .bits) (rowsOf Y)) (sym e) (fits j))
-          where
-            fits : (j : Join) → Fits (2 * L .bits) (rowsOf Y) (joinStep j a b)
-            fits And = (first-arrow, second-arrow)
-            fits Or = (first-arrow, second-arrow)
+        both-asks j e = step-pre (both-state .base) (lent-arrows both-state) (subst (Fits (2 * L .bits) (rowsOf Y)) (sym e) (join-fits (2 * L .bits) (rowsOf Y) j a b first-arrow second-arrow))
 
         pub both-ends : (j : Join) {s : Step} → s ≡ joinStep j a b → {Z : View} {o : Made} {r″ : Evaluated} → Stepped (2 * L .bits) (L .rows) (L .limit) Y Z (take held last) s o
             → r″ ≡ fromMade k′ q′ o → Answers L W Z stack last held rounds σ (joinForm j f g) e′ r″
         both-ends j {s} e {Z} {o} p made =
             let t = took (both-state .base) (both-asks j e) p in
-            let t1 = subst (λ (x : Step). Took (L .bits) (L .rows) (L .limit) Y Z (operandsOf x ++ live Y (take held last)) o (stepF (2 * L .bits) (rowsOf Y) x)) e t in
             answers-made (joinForm j f g) k′ q′ o (subst (EndsAt e′) is′ (B₀ .end)) made (moved-trans (A .moved) (moved-trans (B₀ .moved) (t .moved))) (below ∙ A .kept)
             (evals-same (sym (run-join (modelIn (L .bits) σ) (L .limit) (L .rounds) (σ .env) (σ .fns) j f g rounds))
-            (evals-two (L .bits) (L .rows) (R .lives) (joinOp j (2 ^ L .bits)) (joinF j) (join-exact (L .bits) j) (runIn L σ f rounds) (λ C p. runIn L (pushed (L .bits) σ a C) g p)
-            value-evals second-evals (result o) (post j t1)))
-          where
-            arrows : (x : ℕ) → Mem x (b ∷ a ∷ σ .roots) → Arrow (rowsOf Y) x
-            arrows x h = ⊎-elim (two-arrows (rowsOf Y) b a second-arrow first-arrow x) (held-arrow (both-state .lives) x) (append-cases (b ∷ a ∷ []) h)
-
-            swapped : {F : Fn} → StepPost (2 * L .bits) (L .rows) (L .limit) (rowsOf Y) (rowsOf Z) (a ∷ b ∷ σ .roots) (result o) F
-                → StepPost (2 * L .bits) (L .rows) (L .limit) (rowsOf Y) (rowsOf Z) (b ∷ a ∷ σ .roots) (result o) F
-            swapped p = step-roots (result o) arrows (alike-swap a b (σ .roots)) p
-
-            post : (j : Join) → Took (L .bits) (L .rows) (L .limit) Y Z (operandsOf (joinStep j a b) ++ live Y (take held last)) o (stepF (2 * L .bits) (rowsOf Y) (joinStep j a b))
-                → StepPost (2 * L .bits) (L .rows) (L .limit) (rowsOf Y) (rowsOf Z) (b ∷ a ∷ σ .roots) (result o) (joinF j (den (2 * L .bits) (rowsOf Y) a) (den (2 * L .bits) (rowsOf Y) b))
-            post And t = swapped (took-roots (a ∷ b ∷ []) both-state (two-arrows (rowsOf Y) a b first-arrow second-arrow) t)
-            post Or t = swapped (took-roots (a ∷ b ∷ []) both-state (two-arrows (rowsOf Y) a b first-arrow second-arrow) t)
+            (evals-two (L .bits) (L .rows) (R .lives) (joinOp j (2 ^ L .bits)) (joinF j) (join-exact (L .bits) j) (runIn L σ f rounds) (λ C p. runIn L (pushed σ a (fnOf (L .bits) C)) g p)
+            value-evals second-evals (result o) (took-join both-state j e first-arrow second-arrow t)))

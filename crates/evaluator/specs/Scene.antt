@@ -56,9 +56,9 @@ pub record Scene : Type 0 where
 abbrev pub modelIn : ℕ → Scene → Model
 modelIn n σ = record { n = n; rel = σ .rel; reg = σ .reg }
 
--- "each value made and not yet used": the set A at the arrow a is live too
-abbrev pub pushed : ℕ → Scene → ℕ → List Bool → Scene
-pushed n σ a A = record { reg = σ .reg; rel = σ .rel; scope = σ .scope; env = σ .env; roots = a ∷ σ .roots; fns = fnOf n A ∷ σ .fns }
+-- "each value made and not yet used": the function F at the arrow a is live too
+abbrev pub pushed : Scene → ℕ → Fn → Scene
+pushed σ a F = record { reg = σ .reg; rel = σ .rel; scope = σ .scope; env = σ .env; roots = a ∷ σ .roots; fns = F ∷ σ .fns }
 
 -- "the current set of each open binder": A is the set of variable P
 abbrev pub opened : ℕ → Scene → ℕ → ℕ → List Bool → Scene

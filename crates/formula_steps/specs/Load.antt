@@ -14,13 +14,12 @@ use Rattle.soundness.specs.Sound.{Sound, tableOf}
 use Rattle.table.specs.Make.{result}
 use Rattle.table.specs.declared.Made.{Made}
 use Rattle.table.specs.declared.Made.the-variants as made
-use Rattle.book.specs.Book.{Book, relation, checks, regFilled, relFilled}
+use Rattle.book.specs.Book.{Book, relation, checks}
 use Rattle.book.specs.BookOf.{bookOf}
 use Rattle.book.specs.Pairs.{PairEvals}
-use Rattle.contract.specs.Seen.{seen, SoundWords, sound-shows-book}
+use Rattle.contract.specs.Seen.{seen, SoundWords}
 use Rattle.contract.specs.Posts.{CallPost}
 use Rattle.pairs.specs.Pairing.{PairsPre, PairsPost}
-use Rattle.pairs.specs.Served.{pairs-steps}
 use Rattle.formula_steps.specs.Evaluated.{Tidied}
 use Rattle.formula_steps.specs.Ends.{Through, through-sound, through-done, RelationEnds, relation-value, relation-full}
 use Rattle.formula_steps.specs.Replies.{loadedReply}
@@ -44,7 +43,7 @@ module _ {old bs : List ℕ} {t rows n : ℕ} (p : RelationReady t old bs) (er :
   b = bookOf (seen old)
 
   pub relation-asks : PairsPre (limitsOf n rows 0) (view rows old) bs
-  relation-asks = rw (er, en) (record { sound = p .sound; bits-is = refl; rows-is = refl; limit-le = omega arith; regs = regFilled b; rels = relFilled b; passed = p .passed })
+  relation-asks = rw (er, en) (record { sound = p .sound; bits = refl; rows = refl; limit = omega arith; passed = p .passed })
 
   module _ (mid : List ℕ) {y : Made} (d : PairsPost (limitsOf n rows 0) (view rows old) (view rows mid) bs y) where
     post : PairsPost (limitsOf (headerOf old BITS) (headerOf old ROWS) 0) (tableOf old) (view (headerOf old ROWS) mid) bs y
@@ -54,19 +53,19 @@ module _ {old bs : List ℕ} {t rows n : ℕ} (p : RelationReady t old bs) (er :
     X = view (headerOf old ROWS) mid
 
     -- the book's steps
-    evals : RelationEnds old (p .sound) X (post .moved .sound .good) (post .moved .frame) t bs (p .range) (p .passed) (result y)
-    evals = pairs-steps b (sound-shows-book old (p .sound)) refl refl refl post
+    evals : RelationEnds old (p .sound) X (post .sound .good) (post .frame) t bs (p .range) (p .passed) (result y)
+    evals = post .evals
 
     through : Through old (relation t bs) (loadedReply (loadedOf y)) (relationLoaded X t y)
     through = go y evals
       where
-        go : (y : Made) → RelationEnds old (p .sound) X (post .moved .sound .good) (post .moved .frame) t bs (p .range) (p .passed) (result y) → Through old (relation t bs) (loadedReply (loadedOf y)) (relationLoaded X t y)
-        go (made.At a) e = relation-value old (p .sound) X (post .moved .sound .good) (post .moved .frame) t bs (p .range) (p .passed) a e
-        go made.Full e = relation-full old (p .sound) X (post .moved .sound .good) (post .moved .frame) t bs (p .range) (p .passed) e
+        go : (y : Made) → RelationEnds old (p .sound) X (post .sound .good) (post .frame) t bs (p .range) (p .passed) (result y) → Through old (relation t bs) (loadedReply (loadedOf y)) (relationLoaded X t y)
+        go (made.At a) e = relation-value old (p .sound) X (post .sound .good) (post .frame) t bs (p .range) (p .passed) a e
+        go made.Full e = relation-full old (p .sound) X (post .sound .good) (post .frame) t bs (p .range) (p .passed) e
 
     -- what `store_relation` asks
     pub relation-storing : (t < RELATIONS) × (wordsFor rows ≤ length mid) × Carries y
-    relation-storing = rw er (p .range, post .moved .sound .good .sizes .room, ends-carries _ y (p .sound .good .sizes .N-max) evals)
+    relation-storing = rw er (p .range, post .sound .good .sizes .room, ends-carries _ y (p .sound .good .sizes .N-max) evals)
 
     module _ (after : List ℕ) (e : view rows after ≡ relationLoaded (view rows mid) t y) where
       -- what `tidy` asks

@@ -181,6 +181,11 @@ ran-stop {n} {N} {W} {X} {roots} {b} {F} c G e r =
     let p : PairEvals n N (rowsOf W) (rowsOf X) roots b F full = subst (λ (x : Made). PairEvals n N (rowsOf W) (rowsOf X) roots b F (result x)) e (r .evals) in
     record { moved = r .moved; evals = pair-stop n N b c G p }
 
+-- a value denotes its function
+pub pair-value : (n : ℕ) (rows : Rows) {a : ℕ} {F : Fn} (b : Bool) → PairMatches n rows b F (at a) → Denotes (2 * n) rows a F
+pair-value n rows true m = m
+pair-value n rows false m = absurd m
+
 -- a chain after a chain that answered `a`
 module _ {n N : ℕ} {W X : View} {roots : List ℕ} {b : Bool} {F : Fn} {o : Made} {a : ℕ} (e : o ≡ made.At a) (r : Ran n N W X roots b F o) where
   first : PairEvals n N (rowsOf W) (rowsOf X) roots b F (at a)
@@ -190,11 +195,7 @@ module _ {n N : ℕ} {W X : View} {roots : List ℕ} {b : Bool} {F : Fn} {o : Ma
   ran-kept = r .evals .kept
 
   pub ran-value : Denotes (2 * n) (rowsOf X) a F
-  ran-value = value b (first .result)
-    where
-      value : (b : Bool) → PairMatches n (rowsOf X) b F (at a) → Denotes (2 * n) (rowsOf X) a F
-      value true d = d
-      value false d = absurd d
+  ran-value = pair-value n (rowsOf X) b (first .result)
 
   pub ran-then : {Y : View} {c : Bool} {G : Fn} {t : Made} → Ran n N X Y roots c G t → Ran n N W Y roots (b && c) G t
   ran-then {c = c} q = record {
