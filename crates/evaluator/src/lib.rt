@@ -17,7 +17,6 @@ use tokens::Leaf;
 use tokens::Mode;
 use tokens::Token;
 use tokens::lead_at;
-
 ghost use mathlib.Core.Path.{_≡_};
 ghost use Prim.Native.Nat.{_+_, _<_, _≤_};
 ghost use lib.ListN.{length, getD, set};
@@ -30,7 +29,11 @@ ghost use Rattle.evaluator.specs.Scene.{fromMade, isLeast, joinStep, Ove
 
 // What an evaluation answers: the arrow of the set, the place after the formula and the rounds counted; or why there is none.
 pub enum Evaluated {
-    Value { arrow: u32, next: usize, rounds: u32 },
+    Value {
+        arrow: u32,
+        next: usize,
+        rounds: u32,
+    },
     Full,
     Spent,
 }
@@ -103,14 +106,28 @@ fn variable(stack: &[u32], places: Places, p: u32) -> u32
 }
 
 // A leaf: constants, registers and variables take no step, a current bit is one. A set's formula has no next bit.
-fn leaf(words: &mut [u32], stack: &[u32], limits: Limits, held: usize, places: Places, l: Leaf) -> Made
+fn leaf(
+    words: &mut [u32],
+    stack: &[u32],
+    limits: Limits,
+    held: usize,
+    places: Places,
+    l: Leaf,
+) -> Made
     requires { ⌜ LeafPre limits (view (limits .rows) (now words)) (now stack) held places l ⌝ }
     ensures { λ r. ⌜ LeafPost limits (view (limits .rows) (now (words .entry))) (view (limits .rows) (now (words .exit))) (now (stack .entry)) held places l r ⌝ }
 {
     match l {
         Leaf::False => Made::At(Table::NOTHING),
         Leaf::True => Made::At(Table::EVERYTHING),
-        Leaf::Now(p) => take_step(words, limits.rows, 2 * limits.bits, limits.limit, &stack[..held], Step::Bit(2 * p)),
+        Leaf::Now(p) => take_step(
+            words,
+            limits.rows,
+            2 * limits.bits,
+            limits.limit,
+            &stack[..held],
+            Step::Bit(2 * p),
+        ),
         Leaf::Next(_) => Made::At(Table::NOTHING),
         Leaf::Var(p) => Made::At(variable(stack, places, p)),
         Leaf::Reg(r) => {
@@ -153,10 +170,55 @@ fn eval(
     let left = depth - 1;
     match t {
         Token::Leaf(l) => answer(leaf(words, stack, limits, held, places, l), next, rounds),
-        Token::Not => negate(words, stack, bytes, limits, next, left, held, places, rounds),
-        Token::Both(j) => both(words, stack, bytes, limits, next, left, held, places, rounds, j),
-        Token::Modal(m, t) => modal(words, stack, bytes, limits, next, left, held, places, rounds, m, t),
-        Token::Binder(x, p) => bind(words, stack, bytes, limits, next, left, held, places, rounds, x, p),
+        Token::Not => negate(
+            words,
+            stack,
+            bytes,
+            limits,
+            next,
+            left,
+            held,
+            places,
+            rounds,
+        ),
+        Token::Both(j) => both(
+            words,
+            stack,
+            bytes,
+            limits,
+            next,
+            left,
+            held,
+            places,
+            rounds,
+            j,
+        ),
+        Token::Modal(m, t) => modal(
+            words,
+            stack,
+            bytes,
+            limits,
+            next,
+            left,
+            held,
+            places,
+            rounds,
+            m,
+            t,
+        ),
+        Token::Binder(x, p) => bind(
+            words,
+            stack,
+            bytes,
+            limits,
+            next,
+            left,
+            held,
+            places,
+            rounds,
+            x,
+            p,
+        ),
     }
 }
 
@@ -180,10 +242,18 @@ fn negate(
         arrow: a,
         next: end,
         rounds: counted,
-    } = part else {
+    } = part
+    else {
         return part;
     };
-    let made = take_step(words, limits.rows, 2 * limits.bits, limits.limit, &stack[..held], Step::Not(a));
+    let made = take_step(
+        words,
+        limits.rows,
+        2 * limits.bits,
+        limits.limit,
+        &stack[..held],
+        Step::Not(a),
+    );
     answer(made, end, counted)
 }
 
@@ -208,19 +278,38 @@ fn both(
         arrow: a,
         next: middle,
         rounds: counted,
-    } = first else {
+    } = first
+    else {
         return first;
     };
     stack[held] = a;
-    let second = eval(words, stack, bytes, limits, middle, depth, held + 1, places, counted);
+    let second = eval(
+        words,
+        stack,
+        bytes,
+        limits,
+        middle,
+        depth,
+        held + 1,
+        places,
+        counted,
+    );
     let Evaluated::Value {
         arrow: b,
         next: end,
         rounds: total,
-    } = second else {
+    } = second
+    else {
         return second;
     };
-    let made = take_step(words, limits.rows, 2 * limits.bits, limits.limit, &stack[..held], join_of(j, a, b));
+    let made = take_step(
+        words,
+        limits.rows,
+        2 * limits.bits,
+        limits.limit,
+        &stack[..held],
+        join_of(j, a, b),
+    );
     answer(made, end, total)
 }
 
@@ -246,7 +335,8 @@ fn modal(
         arrow: a,
         next: end,
         rounds: counted,
-    } = part else {
+    } = part
+    else {
         return part;
     };
     let h = Table::FIRST_RELATION + (t as usize);
@@ -277,12 +367,23 @@ fn bind(
     let mut counted = rounds;
     while counted < limits.rounds {
         stack[held] = current;
-        let body = eval(words, stack, bytes, limits, at, depth, held + 1, inner, counted + 1);
+        let body = eval(
+            words,
+            stack,
+            bytes,
+            limits,
+            at,
+            depth,
+            held + 1,
+            inner,
+            counted + 1,
+        );
         let Evaluated::Value {
             arrow: a,
             next: _,
             rounds: total,
-        } = body else {
+        } = body
+        else {
             return body;
         };
         if a == current {
@@ -302,5 +403,15 @@ pub fn evaluate_set(words: &mut [u32], limits: Limits, bytes: &[u8]) -> Evaluate
     forget(words, limits.rows);
     let mut stack = [0u32; Table::DEPTH];
     let places = [0usize; Grammar::VARIABLES];
-    eval(words, &mut stack, bytes, limits, Frame::START, Table::DEPTH, 0, places, 0)
+    eval(
+        words,
+        &mut stack,
+        bytes,
+        limits,
+        Frame::START,
+        Table::DEPTH,
+        0,
+        places,
+        0,
+    )
 }

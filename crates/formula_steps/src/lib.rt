@@ -10,7 +10,6 @@ use layout::put_header;
 use modal::Limits;
 use pairs::evaluate_pairs;
 use table::Made;
-
 ghost use mathlib.Core.Path.{_≡_};
 ghost use Prim.Native.Nat.{_<_, _≤_};
 ghost use lib.ListN.{length};
@@ -84,7 +83,10 @@ fn store_set(words: &mut [u32], rows: u32, r: u32, done: Evaluated) -> Stored
             let at = Table::FIRST_REGISTER + (r as usize);
             put_header(words, rows, at, a + 1);
             put_header(words, rows, Table::TALLY, tally);
-            Stored::Node { number: a, rounds: q }
+            Stored::Node {
+                number: a,
+                rounds: q,
+            }
         }
     }
 }

@@ -2,7 +2,6 @@
 use steps::Step;
 use steps::take_step;
 use table::Made;
-
 ghost use Rattle.layout.specs.View.{view};
 ghost use Rattle.modal.specs.Modal.{QuantifyPre, QuantifyPost, ModalPre, DiamondPost, BoxPost};
 
@@ -25,7 +24,14 @@ fn quantify(words: &mut [u32], limits: Limits, roots: &[u32], a: u32) -> Made
     while 0 < left {
         left -= 1;
         let level = 2 * left + 1;
-        let Made::At(d) = take_step(words, limits.rows, levels, limits.limit, roots, Step::Exists(level, c)) else {
+        let Made::At(d) = take_step(
+            words,
+            limits.rows,
+            levels,
+            limits.limit,
+            roots,
+            Step::Exists(level, c),
+        ) else {
             return Made::Full;
         };
         c = d;
@@ -39,10 +45,24 @@ pub fn diamond(words: &mut [u32], limits: Limits, roots: &[u32], relation: u32, 
     ensures { λ r. ⌜ DiamondPost (limits .bits) (limits .rows) (limits .limit) (view (limits .rows) (now (words .entry))) (view (limits .rows) (now (words .exit))) (now (roots .entry)) relation a r ⌝ }
 {
     let levels = 2 * limits.bits;
-    let Made::At(x) = take_step(words, limits.rows, levels, limits.limit, roots, Step::Shift(a)) else {
+    let Made::At(x) = take_step(
+        words,
+        limits.rows,
+        levels,
+        limits.limit,
+        roots,
+        Step::Shift(a),
+    ) else {
         return Made::Full;
     };
-    let Made::At(c) = take_step(words, limits.rows, levels, limits.limit, roots, Step::And(x, relation)) else {
+    let Made::At(c) = take_step(
+        words,
+        limits.rows,
+        levels,
+        limits.limit,
+        roots,
+        Step::And(x, relation),
+    ) else {
         return Made::Full;
     };
     quantify(words, limits, roots, c)
@@ -54,11 +74,25 @@ pub fn boxed(words: &mut [u32], limits: Limits, roots: &[u32], relation: u32, a:
     ensures { λ r. ⌜ BoxPost (limits .bits) (limits .rows) (limits .limit) (view (limits .rows) (now (words .entry))) (view (limits .rows) (now (words .exit))) (now (roots .entry)) relation a r ⌝ }
 {
     let levels = 2 * limits.bits;
-    let Made::At(b) = take_step(words, limits.rows, levels, limits.limit, roots, Step::Not(a)) else {
+    let Made::At(b) = take_step(
+        words,
+        limits.rows,
+        levels,
+        limits.limit,
+        roots,
+        Step::Not(a),
+    ) else {
         return Made::Full;
     };
     let Made::At(c) = diamond(words, limits, roots, relation, b) else {
         return Made::Full;
     };
-    take_step(words, limits.rows, levels, limits.limit, roots, Step::Not(c))
+    take_step(
+        words,
+        limits.rows,
+        levels,
+        limits.limit,
+        roots,
+        Step::Not(c),
+    )
 }

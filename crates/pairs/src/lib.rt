@@ -13,7 +13,6 @@ use tokens::Lead;
 use tokens::Leaf;
 use tokens::Token;
 use tokens::lead_at;
-
 ghost use mathlib.Core.Path.{_≡_};
 ghost use Rattle.layout.specs.View.{view};
 ghost use Rattle.pairs.specs.Pairing.{fromMade, LeafPre, LeafPost, RelatePre, RelatePost, NegatePre, NegatePost, BothPre, BothPost, PairsPre, PairsPost};
@@ -45,15 +44,37 @@ fn leaf(words: &mut [u32], stack: &[u32], limits: Limits, held: usize, l: Leaf) 
     match l {
         Leaf::False => Made::At(Table::NOTHING),
         Leaf::True => Made::At(Table::EVERYTHING),
-        Leaf::Now(p) => take_step(words, limits.rows, 2 * limits.bits, limits.limit, &stack[..held], Step::Bit(2 * p)),
-        Leaf::Next(p) => take_step(words, limits.rows, 2 * limits.bits, limits.limit, &stack[..held], Step::Bit(2 * p + 1)),
+        Leaf::Now(p) => take_step(
+            words,
+            limits.rows,
+            2 * limits.bits,
+            limits.limit,
+            &stack[..held],
+            Step::Bit(2 * p),
+        ),
+        Leaf::Next(p) => take_step(
+            words,
+            limits.rows,
+            2 * limits.bits,
+            limits.limit,
+            &stack[..held],
+            Step::Bit(2 * p + 1),
+        ),
         Leaf::Var(_) => Made::Full,
         Leaf::Reg(_) => Made::Full,
     }
 }
 
 // Evaluates the formula at `at`, of depth at most `depth`. The first `held` words of the stack are live.
-fn relate(words: &mut [u32], stack: &mut [u32], bytes: &[u8], limits: Limits, at: usize, depth: usize, held: usize) -> Related
+fn relate(
+    words: &mut [u32],
+    stack: &mut [u32],
+    bytes: &[u8],
+    limits: Limits,
+    at: usize,
+    depth: usize,
+    held: usize,
+) -> Related
     requires { ⌜ RelatePre limits (view (limits .rows) (now words)) (now stack) (now bytes) at depth held ⌝ }
     ensures { λ r. ⌜ RelatePost limits (view (limits .rows) (now (words .entry))) (view (limits .rows) (now (words .exit))) (now (stack .entry)) (now (stack .exit)) (now (bytes .entry)) at depth held r ⌝ }
 {
@@ -72,30 +93,73 @@ fn relate(words: &mut [u32], stack: &mut [u32], bytes: &[u8], limits: Limits, at
 }
 
 // Evaluates the formula at `at`, and takes the step NOT.
-fn negate(words: &mut [u32], stack: &mut [u32], bytes: &[u8], limits: Limits, at: usize, depth: usize, held: usize) -> Related
+fn negate(
+    words: &mut [u32],
+    stack: &mut [u32],
+    bytes: &[u8],
+    limits: Limits,
+    at: usize,
+    depth: usize,
+    held: usize,
+) -> Related
     requires { ⌜ NegatePre limits (view (limits .rows) (now words)) (now stack) (now bytes) at depth held ⌝ }
     ensures { λ r. ⌜ NegatePost limits (view (limits .rows) (now (words .entry))) (view (limits .rows) (now (words .exit))) (now (stack .entry)) (now (stack .exit)) (now (bytes .entry)) at depth held r ⌝ }
 {
-    let Related::Value { arrow: a, next: end } = relate(words, stack, bytes, limits, at, depth, held) else {
+    let Related::Value {
+        arrow: a,
+        next: end,
+    } = relate(words, stack, bytes, limits, at, depth, held)
+    else {
         return Related::Full;
     };
-    let made = take_step(words, limits.rows, 2 * limits.bits, limits.limit, &stack[..held], Step::Not(a));
+    let made = take_step(
+        words,
+        limits.rows,
+        2 * limits.bits,
+        limits.limit,
+        &stack[..held],
+        Step::Not(a),
+    );
     answer(made, end)
 }
 
 // Evaluates the two formulas from `at` on, the first one's value being live meanwhile, and takes the step AND or OR.
-fn both(words: &mut [u32], stack: &mut [u32], bytes: &[u8], limits: Limits, at: usize, depth: usize, held: usize, j: Join) -> Related
+fn both(
+    words: &mut [u32],
+    stack: &mut [u32],
+    bytes: &[u8],
+    limits: Limits,
+    at: usize,
+    depth: usize,
+    held: usize,
+    j: Join,
+) -> Related
     requires { ⌜ BothPre limits (view (limits .rows) (now words)) (now stack) (now bytes) at depth held ⌝ }
     ensures { λ r. ⌜ BothPost limits (view (limits .rows) (now (words .entry))) (view (limits .rows) (now (words .exit))) (now (stack .entry)) (now (stack .exit)) (now (bytes .entry)) at depth held j r ⌝ }
 {
-    let Related::Value { arrow: a, next: middle } = relate(words, stack, bytes, limits, at, depth, held) else {
+    let Related::Value {
+        arrow: a,
+        next: middle,
+    } = relate(words, stack, bytes, limits, at, depth, held)
+    else {
         return Related::Full;
     };
     stack[held] = a;
-    let Related::Value { arrow: b, next: end } = relate(words, stack, bytes, limits, middle, depth, held + 1) else {
+    let Related::Value {
+        arrow: b,
+        next: end,
+    } = relate(words, stack, bytes, limits, middle, depth, held + 1)
+    else {
         return Related::Full;
     };
-    let made = take_step(words, limits.rows, 2 * limits.bits, limits.limit, &stack[..held], join_of(j, a, b));
+    let made = take_step(
+        words,
+        limits.rows,
+        2 * limits.bits,
+        limits.limit,
+        &stack[..held],
+        join_of(j, a, b),
+    );
     answer(made, end)
 }
 
@@ -106,7 +170,15 @@ pub fn evaluate_pairs(words: &mut [u32], limits: Limits, bytes: &[u8]) -> Made
 {
     forget(words, limits.rows);
     let mut stack = [0u32; Table::DEPTH];
-    let Related::Value { arrow: a, next: _ } = relate(words, &mut stack, bytes, limits, Frame::START, Table::DEPTH, 0) else {
+    let Related::Value { arrow: a, next: _ } = relate(
+        words,
+        &mut stack,
+        bytes,
+        limits,
+        Frame::START,
+        Table::DEPTH,
+        0,
+    ) else {
         return Made::Full;
     };
     Made::At(a)

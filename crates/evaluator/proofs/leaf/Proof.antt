@@ -13,7 +13,6 @@ use Rattle.evaluator.proofs.root_arrow.Reads as root-arrow-reads
 use Rattle.evaluator.proofs.variable.Reads as variable-reads
 use Rattle.steps.proofs.take_step.Reads as take-step-reads
 
-
 pub leaf-spec : {M : Type 1} → statement M
 leaf-spec =
     tie.close

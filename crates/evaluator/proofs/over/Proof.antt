@@ -6,7 +6,6 @@ use Rattle.evaluator.proofs.over.Lts as lts
 use Rattle.modal.proofs.boxed.Reads as boxed-reads
 use Rattle.modal.proofs.diamond.Reads as diamond-reads
 
-
 pub over-spec : {M : Type 1} → statement M
 over-spec =
     tie.close

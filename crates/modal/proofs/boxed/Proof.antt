@@ -9,7 +9,6 @@ use Rattle.modal.proofs.boxed.Lts as lts
 use Rattle.modal.proofs.diamond.Reads as diamond-reads
 use Rattle.steps.proofs.take_step.Reads as take-step-reads
 
-
 pub boxed-spec : {M : Type 1} → statement M
 boxed-spec =
     tie.close

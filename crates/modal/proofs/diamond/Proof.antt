@@ -9,7 +9,6 @@ use Rattle.modal.proofs.diamond.Lts as lts
 use Rattle.modal.proofs.quantify.Reads as quantify-reads
 use Rattle.steps.proofs.take_step.Reads as take-step-reads
 
-
 pub diamond-spec : {M : Type 1} → statement M
 diamond-spec =
     tie.close

@@ -9,7 +9,6 @@ use Rattle.pairs.proofs.evaluate_pairs.Lts as lts
 use Rattle.memory.proofs.forget.Reads as forget-reads
 use Rattle.pairs.proofs.relate.Reads as relate-reads
 
-
 pub evaluate-pairs-spec : {M : Type 1} → statement M
 evaluate-pairs-spec =
     tie.close

@@ -13,7 +13,6 @@ use Rattle.pairs.proofs.leaf.Reads as reads
 use Rattle.pairs.proofs.leaf.Lts as lts
 use Rattle.steps.proofs.take_step.Reads as take-step-reads
 
-
 pub leaf-spec : {M : Type 1} → statement M
 leaf-spec =
     tie.close
