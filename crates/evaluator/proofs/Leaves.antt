@@ -1,14 +1,14 @@
 -- Leaves: constants, registers and variables take no step, a current bit is one. Assumes nothing.
-use mathlib.Core.Path.{_≡_, refl, sym, ap, _∙_, subst}
-use mathlib.Core.Bool.{Bool, true, false, _&&_}
+use mathlib.Core.Path.{_≡_, refl, sym, ap, subst}
+use mathlib.Core.Bool.{Bool, true, false}
 use mathlib.Core.List.{List, [], List·Memᴰ·not-nil as mem-nil}
 use mathlib.Core.Option.{Option, some}
-use Prim.Native.Nat.{ℕ, suc, _+_, _-_, _*_, _^_, _≤_, _<_}
+use Prim.Native.Nat.{ℕ, suc, _+_, _-_, _*_, _^_, _<_}
 use native.Mathlib.Omega.{arith}
 use lib.Dec.{ltb}
 use borrow.Author.Tests.{ltb-true}
 use lib.ListN.{length, getD, take}
-use Rattle.mucalculus.specs.Form.{Form, bot, top, now, next, var, reg, bound, inside, filled as hasContent}
+use Rattle.mucalculus.specs.Form.{Form, bot, top, now, next, var, reg, bound, inside}
 use Rattle.mucalculus.specs.Means.{clip}
 use Rattle.tokens.specs.Tokens.{leafAllowed}
 use Rattle.tokens.specs.declared.Grammar.the-variants.{States}
@@ -16,7 +16,7 @@ use Rattle.tokens.specs.declared.Leaf.{Leaf}
 use Rattle.tokens.specs.declared.Leaf.the-variants.{Now}
 use Rattle.formula.specs.Parse.{leafForm}
 use Rattle.formula.specs.Checks.{filled}
-use Rattle.layout.specs.Places.{HEADER, FIRST-REGISTER, wordsFor}
+use Rattle.layout.specs.Places.{FIRST-REGISTER}
 use Rattle.layout.specs.View.{View}
 use Rattle.diagram.specs.Post.{Denotes}
 use Rattle.diagram.specs.Steps.{bitF}
@@ -32,8 +32,8 @@ use Rattle.book.specs.Book.{registers}
 use Rattle.book.specs.Run.{value}
 use Rattle.book.specs.Follow.{evals-same, evals-leaf, denotes-none, denotes-all, denotes-clip, evals-bit}
 use Rattle.modal.specs.declared.Limits.{Limits}
-use Rattle.modal.specs.Chain.{Moved, moved-refl, base-wf, step-pre, Took}
-use Rattle.evaluator.specs.Scene.{Scene, modelIn, holdsReg, holdsRel, Named, Ready, LeafAnswers}
+use Rattle.modal.specs.Chain.{moved-refl, base-wf, step-pre, Took}
+use Rattle.evaluator.specs.Scene.{Scene, holdsReg, holdsRel, Named, Ready, LeafAnswers}
 use Rattle.evaluator.proofs.Parts.{and-first, and-second}
 use Rattle.evaluator.proofs.State.{in-scope, lent-arrows, filled-place}
 use Rattle.evaluator.proofs.Steps.{runIn, took-roots}

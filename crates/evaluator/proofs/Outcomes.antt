@@ -1,5 +1,5 @@
 -- From what a part's evaluation and a chain of steps give to the book's outcome of the whole. Assumes nothing.
-use mathlib.Core.Path.{_≡_, refl, sym, ap, ap₂, _∙_, subst}
+use mathlib.Core.Path.{_≡_, refl, sym, ap, _∙_, subst}
 use mathlib.Core.Logic.{_⊎_, ⊎-elim}
 use mathlib.Core.Bool.{Bool, true, false, cond}
 use mathlib.Core.List.{List, [], _∷_, _++_}
@@ -26,10 +26,10 @@ use Rattle.diagram.specs.Need.{stepNeed}
 use Rattle.diagram.specs.Steps.{notF, andF, orF}
 use Rattle.book.specs.Bridge.{fnOf, fnOfPairs, fnOf-not, fnOf-and, fnOf-or}
 use Rattle.book.specs.Diamond.{diamondF, boxF, diamond-exact, box-exact}
-use Rattle.book.specs.Ticks.{Verdict, counted, full as fullVerdict, diamondNeeds, diaNeeds, boxNeeds}
+use Rattle.book.specs.Ticks.{counted, full as fullVerdict, diamondNeeds, diaNeeds, boxNeeds}
 use Rattle.book.specs.Verdicts.{fit, settle, steps-verdict, dia-ticks, box-ticks}
 use Rattle.book.specs.Run.{Outcome, value, full, spent, andThen, twoStep, diaSteps, boxSteps, loop, run}
-use Rattle.book.specs.Follow.{Ended, ends, eight, nine, Matches, Evals, endedBy, Stops, evals-same, evals-then, evals-from}
+use Rattle.book.specs.Follow.{ends, Matches, Evals, endedBy, Stops, evals-same}
 use Rattle.book.specs.Pairs.{PairEvals, PairMatches}
 use Rattle.modal.specs.Modal.{boxedNeeds}
 use Rattle.evaluator.specs.Scene.{endedOf, EndsAt, fromMade, isLeast}

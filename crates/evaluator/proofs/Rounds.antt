@@ -2,8 +2,8 @@
 use mathlib.Core.Path.{_≡_, refl, sym, ap, _∙_, subst}
 use mathlib.Core.Logic.{_≢_}
 use mathlib.Core.Bool.{Bool}
-use mathlib.Core.List.{List, _∷_, List·Memᴰ·tail as there}
-use Prim.Native.Nat.{ℕ, suc, _+_, _*_, _^_, _≤_, _<_}
+use mathlib.Core.List.{List, _∷_}
+use Prim.Native.Nat.{ℕ, suc, _+_, _^_, _≤_, _<_}
 use native.Mathlib.Numerals.{add-one}
 use native.Mathlib.Omega.{arith}
 use lib.ListN.{length, set, take}
@@ -15,7 +15,7 @@ use Rattle.layout.specs.View.{View}
 use Rattle.soundness.specs.Used.{rowsOf}
 use Rattle.book.specs.Bridge.{fnOf}
 use Rattle.book.specs.Run.{Outcome, value, loop, run}
-use Rattle.book.specs.Follow.{Ended, ends, nine, Evals, evals-same}
+use Rattle.book.specs.Follow.{ends, Evals, evals-same}
 use Rattle.book.specs.Turns.{Good, run-good, Turning, startArrow, turn-start, turn-out, turn-stop, turn-end, turn-on}
 use Rattle.modal.specs.declared.Limits.{Limits}
 use Rattle.modal.specs.Chain.{Moved, moved-refl, moved-trans, base-wf}
@@ -24,7 +24,6 @@ use Rattle.evaluator.specs.declared.Evaluated.{Evaluated}
 use Rattle.evaluator.specs.declared.Evaluated.the-variants.{Value, Spent}
 use Rattle.evaluator.proofs.State.{still-below, ready-next, ready-open}
 use Rattle.evaluator.proofs.Outcomes.{Halts, halts-stops, halts-end, evals-value, run-binder}
-use Rattle.evaluator.proofs.Steps.{runIn}
 
 -- the body's run with the set A as variable P
 abbrev pub body : Limits → Scene → ℕ → Form → List Bool → ℕ → Outcome

@@ -1,8 +1,7 @@
 -- The start of an evaluation: all is forgotten, the stack is empty, no variable is open. Assumes nothing.
-use mathlib.Core.Path.{_≡_, refl, sym, ap, _∙_, subst}
-use mathlib.Core.Logic.{⊎-elim, by-cases}
+use mathlib.Core.Path.{_≡_, sym, ap, _∙_, subst}
 use mathlib.Core.Bool.{Bool, true, false, cond, true≢false}
-use mathlib.Core.List.{List, [], _++_, append-nil}
+use mathlib.Core.List.{List, [], append-nil}
 use mathlib.Core.Option.{Option}
 use Prim.Native.Nat.{ℕ, _+_, _*_, _≤_, _<_}
 use native.Mathlib.Omega.{arith}
@@ -14,7 +13,7 @@ use Rattle.tokens.specs.declared.Kind.the-variants.{Set}
 use Rattle.tokens.specs.declared.Grammar.{Grammar}
 use Rattle.tokens.specs.declared.Grammar.the-variants.{States}
 use Rattle.tokens.specs.declared.Reading.the-variants.{Is as Reads, Unknown}
-use Rattle.formula.specs.Parse.{got, formOf, formulaOf, depthLimit, parse}
+use Rattle.formula.specs.Parse.{got, formOf, depthLimit, parse}
 use Rattle.formula.proofs.Accepted.{found}
 use Rattle.formula.proofs.Fits.{Fitting, fitting}
 use Rattle.layout.specs.Places.{BITS, FIRST-REGISTER, FIRST-RELATION}
@@ -30,7 +29,7 @@ use Rattle.memory.specs.Forget.{Forgot}
 use Rattle.operations.specs.Work.{OpFrame, op-memo, op-trans}
 use Rattle.steps.specs.Again.{start-ready}
 use Rattle.book.specs.Bridge.{fnOf, fnOfPairs}
-use Rattle.book.specs.Book.{registers, relations, regFilled, relFilled, liveOf, modelOf, formulaIn}
+use Rattle.book.specs.Book.{regFilled, relFilled, liveOf, modelOf}
 use Rattle.book.specs.BookOf.{shows-bookOf}
 use Rattle.book.specs.Table.{Place, Shows, rootsOf}
 use Rattle.book.specs.Roots.{shows-held}
@@ -41,7 +40,7 @@ use Rattle.contract.specs.Seen.{arrowIn, seenIn, sound-table}
 use Rattle.contract.specs.Roots.{filled-root, root-filled}
 use Rattle.modal.specs.declared.Limits.{Limits}
 use Rattle.modal.specs.Chain.{Alike, Base, live-frame}
-use Rattle.evaluator.specs.Scene.{Scene, modelIn, holdsReg, holdsRel, Named, Stands, Part, Ready, Answers, endedOf, EvalPre}
+use Rattle.evaluator.specs.Scene.{Scene, modelIn, holdsReg, holdsRel, Part, Ready, Answers, endedOf, EvalPre}
 use Rattle.evaluator.specs.Whole.{bookIn, SetPre, SetPost}
 use Rattle.evaluator.specs.declared.Evaluated.{Evaluated}
 use Rattle.evaluator.proofs.State.{in-scope}

@@ -1,12 +1,10 @@
 -- One law for each call and each return of the evaluator's functions. Assumes nothing.
-use mathlib.Core.Path.{_≡_, refl, sym, ap, ap₂, _∙_, subst}
-use mathlib.Core.Logic.{_≢_, ⊎-elim}
-use mathlib.Core.Bool.{Bool, true, false, cond, _&&_}
+use mathlib.Core.Path.{_≡_, refl, sym, ap, _∙_, subst}
+use mathlib.Core.Logic.{⊎-elim}
+use mathlib.Core.Bool.{Bool}
 use mathlib.Core.List.{List, [], _∷_, _++_, List·Memᴰ as Mem, List·Memᴰ·head as here, List·Memᴰ·tail as there, List·Memᴰ·cases-cons as mem-cases, List·Memᴰ·append-cases as append-cases, List·Memᴰ·not-nil as mem-nil}
-use mathlib.Core.Option.{Option, none, some}
-use Prim.Native.Nat.{ℕ, zero, suc, _+_, _-_, _*_, _^_, _≤_, _<_}
-use native.Mathlib.Omega.{arith}
-use lib.ListN.{length, getD, set, take, length-set}
+use Prim.Native.Nat.{ℕ, _+_, _-_, _*_, _^_, _<_}
+use lib.ListN.{length, set, take}
 use Rattle.mucalculus.specs.Form.{Form, neg, inside}
 use Rattle.tokens.specs.declared.Leaf.{Leaf}
 use Rattle.tokens.specs.declared.Mode.{Mode}
@@ -16,10 +14,9 @@ use Rattle.formula.specs.Parse.{leafForm, joinForm, modalForm, depthLimit}
 use Rattle.layout.specs.View.{View}
 use Rattle.diagram.specs.Level.{Fn}
 use Rattle.diagram.specs.Rows.{Rows, Arrow, den}
-use Rattle.diagram.specs.Post.{Result, Denotes}
-use Rattle.diagram.specs.Keep.{Keeps, keeps-within, keeps-denotes}
+use Rattle.diagram.specs.Post.{Denotes}
+use Rattle.diagram.specs.Keep.{keeps-within, keeps-denotes}
 use Rattle.diagram.specs.Step.{StepPost}
-use Rattle.diagram.specs.Steps.{notF}
 use Rattle.soundness.specs.Used.{rowsOf}
 use Rattle.table.specs.Make.{result}
 use Rattle.table.specs.declared.Made.{Made}
@@ -32,7 +29,7 @@ use Rattle.book.specs.Held.{held-arrow}
 use Rattle.book.specs.Run.{Outcome, value, andThen, notStep, twoStep, run}
 use Rattle.book.specs.Follow.{ends, Evals, endedBy, evals-same, evals-stop, evals-not, evals-two, evals-two-stop}
 use Rattle.modal.specs.declared.Limits.{Limits}
-use Rattle.modal.specs.Chain.{Alike, alike-trans, alike-cons, step-roots, Moved, moved-trans, step-pre, Took, took}
+use Rattle.modal.specs.Chain.{Alike, alike-cons, step-roots, Moved, moved-trans, step-pre, Took, took}
 use Rattle.evaluator.specs.Scene.{Scene, modelIn, pushed, Ready, Part, endedOf, EndsAt, Answers, fromMade, joinStep, LeafAnswers}
 use Rattle.evaluator.specs.declared.Evaluated.{Evaluated}
 use Rattle.evaluator.specs.declared.Evaluated.the-variants.{Value}

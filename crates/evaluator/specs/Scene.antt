@@ -162,15 +162,7 @@ EvalPost L W X stack after bs at depth held places rounds r =
     (σ : Scene) (f : Form) (e : ℕ) → Ready L W stack places held σ → Part (L .bits) bs at depth (σ .scope) (holdsReg σ) (holdsRel σ) f e
     → Answers L W X stack after held rounds σ f e r
 
--- NOT: f is its part
-pub record NegatePre (L : Limits) (W : View) (stack bs : List ℕ) (at depth held : ℕ) (places : List ℕ) : Type 0 where
-  pub room : held + depth < depthLimit
-  pub scene : Scene
-  pub form : Form
-  pub end : ℕ
-  pub ready : Ready L W stack places held scene
-  pub part : Part (L .bits) bs at depth (scene .scope) (holdsReg scene) (holdsRel scene) form end
-
+-- NOT: f is its part, of which it asks what evaluating it does
 abbrev pub NegatePost : Limits → View → View → List ℕ → List ℕ → List ℕ → ℕ → ℕ → ℕ → List ℕ → ℕ → Evaluated → Type 0
 NegatePost L W X stack after bs at depth held places rounds r =
     (σ : Scene) (f : Form) (e : ℕ) → Ready L W stack places held σ → Part (L .bits) bs at depth (σ .scope) (holdsReg σ) (holdsRel σ) f e

@@ -25,7 +25,7 @@ ghost use Rattle.layout.specs.View.{view, headerOf};
 ghost use Rattle.book.specs.Turns.{startArrow};
 ghost use Rattle.modal.specs.Modal.{ModalPre};
 ghost use Rattle.evaluator.specs.Whole.{SetPre, SetPost};
-ghost use Rattle.evaluator.specs.Scene.{fromMade, isLeast, joinStep, OverPost, LeafPre, LeafPost, EvalPre, EvalPost, NegatePre, NegatePost, BothPre, BothPost, ModePre, ModePost, BindPre, BindPost};
+ghost use Rattle.evaluator.specs.Scene.{fromMade, isLeast, joinStep, OverPost, LeafPre, LeafPost, EvalPre, EvalPost, NegatePost, BothPre, BothPost, ModePre, ModePost, BindPre, BindPost};
 
 // What an evaluation answers: the arrow of the set, the place after the formula and the rounds counted; or why there is none.
 pub enum Evaluated {
@@ -234,7 +234,7 @@ fn negate(
     places: Places,
     rounds: u32,
 ) -> Evaluated
-    requires { ⌜ NegatePre limits (view (limits .rows) (now words)) (now stack) (now bytes) at depth held places ⌝ }
+    requires { ⌜ EvalPre limits (view (limits .rows) (now words)) (now stack) (now bytes) at depth held places ⌝ }
     ensures { λ r. ⌜ NegatePost limits (view (limits .rows) (now (words .entry))) (view (limits .rows) (now (words .exit))) (now (stack .entry)) (now (stack .exit)) (now (bytes .entry)) at depth held places rounds r ⌝ }
 {
     let part = eval(words, stack, bytes, limits, at, depth, held, places, rounds);

@@ -1,17 +1,16 @@
 -- Each call and each return of quantify, diamond and box: what it asks and what it gives. Assumes nothing.
 use mathlib.Core.Path.{_≡_, refl, sym, ap, ap₂, _∙_, subst}
-use mathlib.Core.Logic.{⊎-elim}
 use mathlib.Core.Bool.{Bool, true, false, not, _&&_, cond}
-use mathlib.Core.List.{List, [], _∷_, _++_, map, List·Memᴰ as Mem, List·Memᴰ·tail as there, Memᴰ·cast as mem-cast, List·Memᴰ·append-cases as append-cases, Memᴰ·append-right as append-right}
-use Prim.Native.Nat.{ℕ, zero, suc, _+_, _-_, _*_, _<_, _≤_}
+use mathlib.Core.List.{List, [], _∷_, _++_, map, List·Memᴰ as Mem, List·Memᴰ·tail as there, Memᴰ·cast as mem-cast, Memᴰ·append-right as append-right}
+use Prim.Native.Nat.{ℕ, suc, _+_, _-_, _*_, _<_, _≤_}
 use native.Mathlib.Omega.{arith}
 use lib.Dec.{leb}
 use Rattle.layout.specs.View.{View}
 use Rattle.diagram.specs.Level.{Fn}
 use Rattle.diagram.specs.Rows.{Rows, Arrow, den}
-use Rattle.diagram.specs.Even.{ReadsOn, even}
+use Rattle.diagram.specs.Even.{even}
 use Rattle.diagram.specs.Need.{stepNeed}
-use Rattle.diagram.specs.Post.{Result, at, full, Denotes}
+use Rattle.diagram.specs.Post.{at, full, Denotes}
 use Rattle.diagram.specs.Keep.{Keeps, keeps-refl, keeps-trans, keeps-arrow, keeps-denotes, keeps-on}
 use Rattle.diagram.specs.Step.{StepPost}
 use Rattle.diagram.specs.Steps.{notF, andF, shiftF, existsF}
@@ -23,12 +22,12 @@ use Rattle.table.specs.declared.Made.the-variants as made
 use Rattle.collect.specs.Lent.{live}
 use Rattle.steps.specs.declared.Step.the-variants.{Not, And, Shift, Exists}
 use Rattle.steps.specs.Steps.{StepPre}
-use Rattle.book.specs.Ticks.{existsNeeds, diamondNeeds, counted, full as fullVerdict, Verdict}
-use Rattle.book.specs.Run.{Outcome, value, full as fullRun, existsSteps}
+use Rattle.book.specs.Ticks.{existsNeeds, diamondNeeds, counted, full as fullVerdict}
+use Rattle.book.specs.Run.{value, full as fullRun, existsSteps}
 use Rattle.book.specs.Diamond.{existsNext, diamondF, boxF}
 use Rattle.book.specs.Verdicts.{fit, settle, steps-verdict, exists-ticks}
 use Rattle.book.specs.Held.{Held, denoted, held-arrow, held-push, held-operand, held-keeps}
-use Rattle.book.specs.Pairs.{PairEvals, PairMatches}
+use Rattle.book.specs.Pairs.{PairMatches}
 use Rattle.book.specs.Modal.{Quantifies, quantify-start, quantify-on, quantify-out, quantify-end}
 use Rattle.modal.specs.Chain.{alike-cons, alike-once, held-alike, denotes-own, held-own, Base, Moved, moved-refl, moved-trans, base-next, base-wf, step-pre, live-arrows, Took, live-frame, Ran, ran-step, ran-stop, ran-kept, ran-value, ran-then}
 use Rattle.modal.specs.Modal.{boxedNeeds, QuantifyPre, ModalPre, QuantifyPost, DiamondPost, BoxPost}

@@ -1,9 +1,8 @@
 -- One law for each call and each return. Assumes nothing.
 use mathlib.Core.Path.{_≡_, refl, sym, ap, _∙_, subst}
-use mathlib.Core.Logic.{⊎-elim}
-use mathlib.Core.Bool.{Bool, true, false, cond, _&&_, true≢false}
-use mathlib.Core.List.{List, [], _∷_, _++_, List·Memᴰ as Mem, List·Memᴰ·head as here, List·Memᴰ·tail as there, List·Memᴰ·not-nil as mem-nil}
-use Prim.Native.Nat.{ℕ, suc, _+_, _-_, _*_, _<_}
+use mathlib.Core.Bool.{Bool, true, false, cond, _&&_}
+use mathlib.Core.List.{List, [], _∷_, List·Memᴰ·head as here, List·Memᴰ·tail as there, List·Memᴰ·not-nil as mem-nil}
+use Prim.Native.Nat.{ℕ, _+_, _-_, _*_, _<_}
 use native.Mathlib.Numerals.{add-one}
 use native.Mathlib.Omega.{arith}
 use lib.Dec.{leb, eqb}
@@ -16,7 +15,7 @@ use Rattle.tokens.specs.declared.Grammar.{Grammar}
 use Rattle.tokens.specs.declared.Grammar.the-variants.{Pairs}
 use Rattle.tokens.specs.declared.Reading.the-variants.{Is as Reads, Unknown}
 use Rattle.tokens.specs.declared.Leaf.{Leaf}
-use Rattle.tokens.specs.declared.Leaf.the-variants.{False, True, Now, Next, Var, Reg}
+use Rattle.tokens.specs.declared.Leaf.the-variants.{Now, Next}
 use Rattle.tokens.specs.declared.Join.{Join}
 use Rattle.tokens.specs.declared.Join.the-variants.{And, Or}
 use Rattle.formula.specs.Parse.{leafForm, joinForm, got, formOf, parse, depthLimit}
@@ -25,7 +24,7 @@ use Rattle.formula.proofs.Fits.{Fitting, fitting}
 use Rattle.layout.specs.Places.{BITS}
 use Rattle.layout.specs.View.{View}
 use Rattle.diagram.specs.Level.{Fn}
-use Rattle.diagram.specs.Rows.{Rows, Arrow, den}
+use Rattle.diagram.specs.Rows.{Rows, Arrow}
 use Rattle.diagram.specs.Need.{stepNeed}
 use Rattle.diagram.specs.Post.{Result, at, full as noRows, Denotes}
 use Rattle.diagram.specs.Keep.{keeps-within, keeps-denotes}

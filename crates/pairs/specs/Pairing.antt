@@ -71,15 +71,7 @@ abbrev pub RelatePost : Limits → View → View → List ℕ → List ℕ → L
 RelatePost L W X stack after bs at depth held r =
     (σ : Scene) (f : Form) (e : ℕ) → Ready L W stack noPlaces held σ → Stands (L .bits) Pairs bs at depth f e → Relates L W X stack after held σ f e r
 
--- NOT: f is its part
-pub record NegatePre (L : Limits) (W : View) (stack bs : List ℕ) (at depth held : ℕ) : Type 0 where
-  pub room : held + depth < depthLimit
-  pub scene : Scene
-  pub form : Form
-  pub end : ℕ
-  pub ready : Ready L W stack noPlaces held scene
-  pub stands : Stands (L .bits) Pairs bs at depth form end
-
+-- NOT: f is its part, of which it asks what evaluating it does
 abbrev pub NegatePost : Limits → View → View → List ℕ → List ℕ → List ℕ → ℕ → ℕ → ℕ → Related → Type 0
 NegatePost L W X stack after bs at depth held r =
     (σ : Scene) (f : Form) (e : ℕ) → Ready L W stack noPlaces held σ → Stands (L .bits) Pairs bs at depth f e → Relates L W X stack after held σ (neg f) e r

@@ -15,7 +15,7 @@ use tokens::Token;
 use tokens::lead_at;
 ghost use mathlib.Core.Path.{_≡_};
 ghost use Rattle.layout.specs.View.{view};
-ghost use Rattle.pairs.specs.Pairing.{fromMade, LeafPre, LeafPost, RelatePre, RelatePost, NegatePre, NegatePost, BothPre, BothPost, PairsPre, PairsPost};
+ghost use Rattle.pairs.specs.Pairing.{fromMade, LeafPre, LeafPost, RelatePre, RelatePost, NegatePost, BothPre, BothPost, PairsPre, PairsPost};
 
 // What an evaluation answers: the arrow of the relation and the place after the formula, or that rows ran out.
 pub enum Related {
@@ -102,7 +102,7 @@ fn negate(
     depth: usize,
     held: usize,
 ) -> Related
-    requires { ⌜ NegatePre limits (view (limits .rows) (now words)) (now stack) (now bytes) at depth held ⌝ }
+    requires { ⌜ RelatePre limits (view (limits .rows) (now words)) (now stack) (now bytes) at depth held ⌝ }
     ensures { λ r. ⌜ NegatePost limits (view (limits .rows) (now (words .entry))) (view (limits .rows) (now (words .exit))) (now (stack .entry)) (now (stack .exit)) (now (bytes .entry)) at depth held r ⌝ }
 {
     let Related::Value {

@@ -1,6 +1,7 @@
+-- The cycle of the evaluator: each answer is a law of `Steps`, `Relations` or `Rounds` at the scene that the words hold; the depth falls. Assumes nothing.
 use borrow.Author.Needs.{needs}
 use native.Mathlib.Omega.{arith}
-use Prim.Native.Nat.{_*_, _+_, _-_, _≤_, ℕ, _<_}
+use Prim.Native.Nat.{_*_, _+_, _-_, ℕ, _<_}
 use lib.ListN.{length, set, length-set}
 use lib.Seq.{length-take-le}
 use mathlib.Core.Path.{_≡_, refl, sym, _∙_}
@@ -15,7 +16,7 @@ use mathlib.Core.Bool.{true}
 use Rattle.evaluator.specs.Scene.{Scene, Ready, Part, holdsReg, holdsRel, isLeast}
 use Rattle.evaluator.proofs.Tokens.{read-depth, read-token, read-inside, read-allowed, leaf-form, leaf-end, one-form, both-form}
 use Rattle.evaluator.proofs.Parts.{leaf-named, not-part, modal-part, modal-relation, binder-part, left-part, right-part}
-use Rattle.evaluator.proofs.Steps.{answers-same, eval-leaf, negate-stops, first-stops, mode-stops, value-ready, value-set, value-is, negate-asks, negate-ends, both-part, both-ready, both-stops, both-asks, both-ends}
+use Rattle.evaluator.proofs.Steps.{answers-same, eval-leaf, negate-stops, first-stops, mode-stops, value-set, value-is, negate-asks, negate-ends, both-part, both-ready, both-stops, both-asks, both-ends}
 use Rattle.evaluator.proofs.Relations.{rel-range, rel-some, over-asks, over-ends}
 use Rattle.evaluator.proofs.Rounds.{Bound, bind-starts, bind-out, bind-ready, bind-stops, bind-ends, bind-turns, bind-less}
 use borrow.Fn.Kinds.{In}

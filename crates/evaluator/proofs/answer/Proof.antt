@@ -1,3 +1,4 @@
+-- `answer` meets its contract, by the two cases of a step's result. Assumes nothing.
 use borrow.Author.Needs.{needs}
 use Rattle.evaluator.proofs.answer.Statement.{statement}
 use Rattle.evaluator.proofs.answer.Tie as tie

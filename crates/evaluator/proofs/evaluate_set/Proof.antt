@@ -1,3 +1,4 @@
+-- `evaluate_set` meets its contract: after forgetting, the table holds the scene of its own book. Assumes nothing.
 use Rattle.evaluator.proofs.Starts.{set-asks, set-ends}
 use borrow.Author.Needs.{needs}
 use Rattle.evaluator.proofs.evaluate_set.Statement.{statement}

@@ -1,3 +1,4 @@
+-- `join_of` meets its contract, by AND and OR. Assumes nothing.
 use borrow.Author.Needs.{needs}
 use Rattle.evaluator.proofs.join_of.Statement.{statement}
 use Rattle.evaluator.proofs.join_of.Tie as tie

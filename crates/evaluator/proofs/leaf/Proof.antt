@@ -1,4 +1,5 @@
-use mathlib.Core.Path.{_≡_, sym}
+-- `leaf` meets its contract: a law of `Leaves` for each leaf. Assumes nothing.
+use mathlib.Core.Path.{sym}
 use native.Mathlib.Omega.{arith}
 use lib.Seq.{length-take-le}
 use Rattle.tokens.specs.declared.Leaf.the-variants.{False, True, Now, Next, Var, Reg}

@@ -1,3 +1,4 @@
+-- `opened` meets its contract: a store past the places changes nothing. Assumes nothing.
 use mathlib.Core.Path.{_≡_, sym}
 use native.Mathlib.Omega.{arith}
 use lib.ListN.{length}

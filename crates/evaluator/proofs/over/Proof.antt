@@ -1,3 +1,4 @@
+-- `over` meets its contract, by box and diamond. Assumes nothing.
 use borrow.Author.Needs.{needs}
 use Rattle.evaluator.proofs.over.Statement.{statement}
 use Rattle.evaluator.proofs.over.Tie as tie

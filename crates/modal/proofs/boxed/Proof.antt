@@ -1,3 +1,4 @@
+-- `boxed` meets its contract: NOT, diamond and NOT are one chain of steps. Assumes nothing.
 use native.Mathlib.Omega.{arith}
 use Rattle.modal.specs.Chain.{base-bits, took}
 use Rattle.modal.specs.Laws.{not-asks, not-full, diamond-asks, inner-full, last-base, last-asks, box-ends}

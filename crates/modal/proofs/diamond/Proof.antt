@@ -1,3 +1,4 @@
+-- `diamond` meets its contract: SHIFT, AND and the loop are one chain of steps. Assumes nothing.
 use native.Mathlib.Omega.{arith}
 use Rattle.modal.specs.Chain.{base-bits, took}
 use Rattle.modal.specs.Laws.{shift-asks, shift-full, and-base, and-asks, and-full, loop-asks, diamond-ends}

@@ -1,9 +1,10 @@
+-- The cycle of the evaluator: each answer is a law of `Steps` at the scene that the words hold; the depth falls. Assumes nothing.
 use borrow.Author.Needs.{needs}
 use native.Mathlib.Omega.{arith}
-use Prim.Native.Nat.{_*_, _+_, _-_, _≤_, ℕ, _<_}
-use lib.ListN.{length, set, length-set}
+use Prim.Native.Nat.{_*_, _+_, _-_, ℕ, _<_}
+use lib.ListN.{length-set}
 use lib.Seq.{length-take-le}
-use mathlib.Core.Path.{_≡_, refl, sym, _∙_}
+use mathlib.Core.Path.{sym, _∙_}
 use mathlib.Core.Bool.{true≢false}
 use Rattle.formula.proofs.Steps.{is-not}
 use Rattle.modal.specs.Chain.{base-bits}

@@ -1,3 +1,4 @@
+-- `evaluate_pairs` meets its contract: after forgetting, the table holds the scene of its own book. Assumes nothing.
 use mathlib.Core.Path.{ap}
 use Rattle.pairs.specs.Pairing.{resultOf}
 use Rattle.pairs.proofs.Steps.{pairs-asks, pairs-ends}

@@ -1,8 +1,8 @@
-use mathlib.Core.Path.{_≡_, sym}
+-- `leaf` meets its contract: constants and bits; the grammar takes no other leaf. Assumes nothing.
+use mathlib.Core.Path.{sym}
 use mathlib.Core.Bool.{true≢false}
 use native.Mathlib.Omega.{arith}
 use lib.Seq.{length-take-le}
-use Prim.Native.Nat.{_*_, _+_}
 use Rattle.tokens.specs.declared.Leaf.the-variants.{False, True, Now, Next, Var, Reg}
 use Rattle.modal.specs.Chain.{base-bits}
 use Rattle.pairs.proofs.Steps.{leaf-none, leaf-all, bit-asks, leaf-now, leaf-next, leaf-as, as-taken, now-taken, next-taken}
