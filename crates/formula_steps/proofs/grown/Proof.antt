@@ -3,10 +3,6 @@ use mathlib.Core.List.{List·Memᴰ·not-nil as mem-nil}
 use borrow.Author.Needs.{needs}
 use Rattle.formula_steps.proofs.grown.Statement.{statement}
 use Rattle.formula_steps.proofs.grown.Tie as tie
-use Rattle.formula_steps.proofs.grown.Reads as reads
-use Rattle.formula_steps.proofs.grown.Lts as lts
-use Rattle.collect.proofs.needed.Reads as needed-reads
-use Rattle.layout.proofs.header_word.Reads as header-word-reads
 
 -- src/lib.rt:28:36
 array-share-prefix-none : tie.Need-array-share-prefix-none

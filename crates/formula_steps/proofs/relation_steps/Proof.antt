@@ -3,12 +3,6 @@ use Rattle.formula_steps.specs.Load.{relation-asks, relation-storing, re
 use borrow.Author.Needs.{needs}
 use Rattle.formula_steps.proofs.relation_steps.Statement.{statement}
 use Rattle.formula_steps.proofs.relation_steps.Tie as tie
-use Rattle.formula_steps.proofs.relation_steps.Reads as reads
-use Rattle.formula_steps.proofs.relation_steps.Lts as lts
-use Rattle.pairs.proofs.evaluate_pairs.Reads as evaluate-pairs-reads
-use Rattle.formula_steps.proofs.store_relation.Reads as store-relation-reads
-use Rattle.formula_steps.proofs.tidy.Reads as tidy-reads
-use Rattle.layout.proofs.header_word.Reads as header-word-reads
 
 -- src/lib.rt:121:9
 header-word-requires : tie.Need-header-word-requires

@@ -4,9 +4,6 @@ use Rattle.formula_steps.specs.Store.{carries-fits, loaded-full, loaded-
 use borrow.Author.Needs.{needs}
 use Rattle.formula_steps.proofs.store_relation.Statement.{statement}
 use Rattle.formula_steps.proofs.store_relation.Tie as tie
-use Rattle.formula_steps.proofs.store_relation.Reads as reads
-use Rattle.formula_steps.proofs.store_relation.Lts as lts
-use Rattle.layout.proofs.put_header.Reads as put-header-reads
 
 -- src/lib.rt:92:39
 enum-told : tie.Need-enum-told

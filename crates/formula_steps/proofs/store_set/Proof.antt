@@ -4,11 +4,6 @@ use Rattle.formula_steps.specs.Store.{holds-fits, stored-full, stored-sp
 use borrow.Author.Needs.{needs}
 use Rattle.formula_steps.proofs.store_set.Statement.{statement}
 use Rattle.formula_steps.proofs.store_set.Tie as tie
-use Rattle.formula_steps.proofs.store_set.Reads as reads
-use Rattle.formula_steps.proofs.store_set.Lts as lts
-use Rattle.formula_steps.proofs.tallied.Reads as tallied-reads
-use Rattle.layout.proofs.header_word.Reads as header-word-reads
-use Rattle.layout.proofs.put_header.Reads as put-header-reads
 
 -- src/lib.rt:70:44
 enum-told : tie.Need-enum-told

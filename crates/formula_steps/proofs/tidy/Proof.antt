@@ -5,10 +5,6 @@ use Rattle.formula_steps.specs.Evaluated.{as-it-was, freed}
 use borrow.Author.Needs.{needs}
 use Rattle.formula_steps.proofs.tidy.Statement.{statement}
 use Rattle.formula_steps.proofs.tidy.Tie as tie
-use Rattle.formula_steps.proofs.tidy.Reads as reads
-use Rattle.formula_steps.proofs.tidy.Lts as lts
-use Rattle.collect.proofs.collect_rows.Reads as collect-rows-reads
-use Rattle.formula_steps.proofs.grown.Reads as grown-reads
 
 -- src/lib.rt:38:9
 grown-requires : tie.Need-grown-requires
