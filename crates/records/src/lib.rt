@@ -121,7 +121,7 @@ pub fn doomed(bytes: &[u8]) -> bool
 }
 
 // The command of an operation and its arguments.
-pub fn command_in(op: u8, arguments: &[u8]) -> Command
+fn command_in(op: u8, arguments: &[u8]) -> Command
     requires { ⌜ takes op (length (now arguments)) ≡ true ⌝ }
     ensures { λ r. ⌜ r ≡ commandIn op (now (arguments .entry)) ⌝ }
 {
