@@ -23,6 +23,10 @@ operationOf (start n N) = 1
 operationOf (call c) = opOf c
 operationOf (states r) = 5
 
+-- an outcome without a node number and without rounds
+abbrev pub plainOutcome : ℕ → ℕ → ℕ → Outcome
+plainOutcome op k v = record { operation = op; number = k; node = 0; rounds = 0; value = v }
+
 -- number, rounds and the value shown, as a reply
 abbrev pub shownReply : Outcome → Reply
 shownReply x = record { number = x .number; rounds = x .rounds; value = x .value }
@@ -44,6 +48,10 @@ Beside (relation t bs) new x = x .node ≡ 0
 Beside (set r R bs) new x = (x .number ≡ 0 → AskPost (count r) new (valued (x .value))) × (1 ≤ x .number → x .value ≡ 0)
 Beside (clear r) new x = x .node ≡ 0
 Beside collect new x = x .node ≡ 0
+
+-- the value of a count of register r, 0 where it is refused
+abbrev pub StatesIn : ℕ → List ℕ → ℕ → Type 0
+StatesIn r ws k = (y : Reply) × AskPost (count r) ws y × (y .rounds ≡ 0) × (k ≡ y .value)
 
 -- a command under the contract of its call
 abbrev pub Posted : Command → List ℕ → List ℕ → Outcome → Type 0

@@ -21,7 +21,7 @@ ghost use lib.ListN.{length};
 ghost use Rattle.book.specs.Book as book;
 ghost use Rattle.book.specs.Program as program;
 ghost use Rattle.records.specs.Record.{startOf, asked};
-ghost use Rattle.commands.specs.Obey.{Obeys, TakePost};
+ghost use Rattle.commands.specs.Obey.{plainOutcome, Obeys, StatesIn, TakePost};
 
 // What a record returned: its operation, a refusal's number or 0, set's node number, the rounds, and the value that the program shows.
 pub struct Outcome {
@@ -59,7 +59,7 @@ impl Operation {
 
 // The outcome of a command that makes no node and takes no rounds.
 fn plain(operation: u32, number: u32, value: u32) -> Outcome
-    ensures { λ x. ⌜ (x .operation ≡ operation) × (x .number ≡ number) × (x .node ≡ 0) × (x .rounds ≡ 0) × (x .value ≡ value) ⌝ }
+    ensures { λ x. ⌜ x ≡ plainOutcome operation number value ⌝ }
 {
     Outcome {
         operation,
@@ -91,7 +91,9 @@ fn obey_relation(words: &mut [u32], t: u32, formula: &[u8]) -> Outcome
 }
 
 // The states in register r after an answered set.
-fn states_in(words: &[u32], r: u32) -> u32 {
+fn states_in(words: &[u32], r: u32) -> u32
+    ensures { λ k. ⌜ StatesIn r (now (words .entry)) k ⌝ }
+{
     match count(words, r) {
         Answer::Value(k) => k,
         Answer::Refused(_) => 0,
@@ -150,15 +152,15 @@ fn obey_collect(words: &mut [u32]) -> Outcome
     }
 }
 
-// The command of a whole record; its formula is the rest of the record.
-fn obey(words: &mut [u32], record: &[u8], command: Command) -> Outcome
-    requires { ⌜ startOf command ≤ length (now record) ⌝ }
-    ensures { λ x. ⌜ Obeys (asked (now (record .entry)) (length (now (record .entry))) command) (now (words .entry)) (now (words .exit)) x ⌝ }
+// The command of the record of so many bytes; its formula is the rest of the record.
+fn obey(words: &mut [u32], bytes: &[u8], size: usize, command: Command) -> Outcome
+    requires { ⌜ (startOf command ≤ size) × (size ≤ length (now bytes)) ⌝ }
+    ensures { λ x. ⌜ Obeys (asked (now (bytes .entry)) size command) (now (words .entry)) (now (words .exit)) x ⌝ }
 {
     match command {
         Command::Fresh { n, rows } => obey_fresh(words, n, rows),
-        Command::Relation { t, start } => obey_relation(words, t, &record[start..]),
-        Command::Set { r, rounds, start } => obey_set(words, r, rounds, &record[start..]),
+        Command::Relation { t, start } => obey_relation(words, t, &bytes[start..size]),
+        Command::Set { r, rounds, start } => obey_set(words, r, rounds, &bytes[start..size]),
         Command::Clear { r } => obey_clear(words, r),
         Command::Count { r } => obey_count(words, r),
         Command::Collect => obey_collect(words),
@@ -174,7 +176,7 @@ pub fn take_record(words: &mut [u32], bytes: &[u8], ended: bool) -> Taken
         Found::More => Taken::More,
         Found::Bad => Taken::Bad,
         Found::Record { command, size } => {
-            let outcome = obey(words, &bytes[..size], command);
+            let outcome = obey(words, bytes, size, command);
             Taken::Done { outcome, size }
         }
     }
