@@ -1,6 +1,6 @@
 -- The words that fresh leaves of zeros, and that set and clear leave of any words. Assumes nothing.
 use mathlib.Core.Path.{_≡_, refl, sym, ap, _∙_, fun-ext}
-use mathlib.Core.Logic.{by-cases}
+use mathlib.Core.Logic.{_≢_, by-cases}
 use mathlib.Core.List.{List}
 use Prim.Native.Nat.{ℕ, suc, _+_, _≤_, _<_}
 use native.Mathlib.Omega.{arith}
@@ -8,7 +8,7 @@ use native.Mathlib.Decide.{decLt}
 use lib.ListN.{length, replicate, set, length-set, length-replicate, getD-replicate}
 use Rattle.layout.specs.Places.{REGISTERS, HEADER, BITS, ROWS, TALLY, FIRST-REGISTER, wordsFor}
 use Rattle.layout.specs.View.{View, view, headerOf, headOf, putHeader, view-header, header-is, header-past, head-is, head-past}
-use Rattle.layout.specs.Header.{headerWords}
+use Rattle.layout.specs.Header.{headerWords, header-zero}
 use Rattle.table.specs.Fresh.{emptied}
 use Rattle.formula_steps.specs.Evaluated.{registerStored}
 
@@ -74,10 +74,11 @@ view-fresh n N k room =
       beyond = view N (zeros k) .beyond;
     })
 
+pub fresh-zero : (n N k h : ℕ) → wordsFor N ≤ k → h < HEADER → h ≢ BITS → h ≢ ROWS → headerOf (freshOf n N k) h ≡ 0
+fresh-zero n N k h room l a b = ap (λ (v : View). v .header h) (view-fresh n N k room) ∙ header-is (headerWords n N) h l ∙ header-zero n N h l a b
+
+-- ---- stored
+
 pub view-stored : (N r a v : ℕ) (ws : List ℕ) → wordsFor N ≤ length ws → r < REGISTERS → view N (storedIn ws r a v) ≡ registerStored (view N ws) r a v
 unfolding storedIn
 view-stored N r a v ws room l = two-written N (FIRST-REGISTER + r) TALLY (suc a) v ws room (omega arith) (omega arith)
-
-pub length-fresh : (n N k : ℕ) → length (freshOf n N k) ≡ k
-unfolding freshOf
-length-fresh n N k = length-set (set (zeros k) BITS n) ROWS N ∙ length-set (zeros k) BITS n ∙ length-zeros k
