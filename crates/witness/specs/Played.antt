@@ -3,13 +3,17 @@
 use mathlib.Core.Path.{_≡_, refl, sym, ap, _∙_, subst}
 use mathlib.Core.Bool.{true, false}
 use mathlib.Core.List.{List, [], _∷_}
+use mathlib.Core.Option.{none as nothing, some}
 use Prim.Native.Nat.{ℕ, _+_, _<_}
 use native.Mathlib.Omega.{arith}
 use lib.Dec.{T}
 use lib.ListN.{length, set as write}
+use borrow.Author.Tests.{ne-eqb}
 use Rattle.layout.specs.Places.{REGISTERS, RELATIONS, ROWS, TALLY, USED, FIRST-REGISTER, FIRST-RELATION}
 use Rattle.layout.specs.View.{View, headerOf, view-header}
-use Rattle.book.specs.Book.{freshFits, relation, set, clear, collect, tallied}
+use Rattle.book.specs.Book.{Book, freshFits, relation, set, clear, collect, tallied}
+use Rattle.book.specs.BookOf.{bookOf}
+use Rattle.book.specs.Compute.{computing}
 use Rattle.book.specs.Table.{Reply}
 use Rattle.book.specs.Leaves.{plain, valued}
 use Rattle.book.specs.Demand.{Event, stop, go, Session, Demand}
@@ -86,31 +90,27 @@ loaded-stands =
       used = ap (λ (v : View). v .header USED) e ∙ made-stands .used;
     }
 
+-- after an answered set
+stored-stands : {ws : List ℕ} {k : ℕ} (r R a q : ℕ) {bs : List ℕ} {y : Reply} → r < REGISTERS → Stands ws k → CallPost (set r R bs) ws (storedIn ws r a q) y → Stands (storedIn ws r a q) q
+stored-stands {ws} r R a q l s p =
+    let e = view-stored (headerOf ws ROWS) r a q ws (s .sound .good .sizes .room) l in
+    record {
+      sound = p .performs .served (s .sound) .0;
+      tally = ap (λ (v : View). v .header TALLY) e;
+      used = ap (λ (v : View). v .header USED) e ∙ rw (ne-eqb USED (FIRST-REGISTER + r) (omega arith)) (s .used);
+    }
+
 set-first : CallPost (set 0 100 (self false)) loaded once (node 1)
 set-first = self-done loaded (loaded-stands .sound) 0 (omega arith) false 100 (omega arith) 1 (sym (ap (λ (k : ℕ). tallied k 1) (loaded-stands .tally)))
 
 once-stands : Stands once 1
-once-stands =
-    let s = loaded-stands .sound in
-    let e = view-stored (headerOf loaded ROWS) 0 1 1 loaded (s .good .sizes .room) (omega arith) in
-    record {
-      sound = set-first .performs .served s .0;
-      tally = ap (λ (v : View). v .header TALLY) e;
-      used = ap (λ (v : View). v .header USED) e ∙ loaded-stands .used;
-    }
+once-stands = stored-stands 0 100 1 1 (omega arith) loaded-stands set-first
 
 set-second : CallPost (set 1 100 (self true)) once twice (node 0)
 set-second = self-done once (once-stands .sound) 1 (omega arith) true 100 (omega arith) 2 (sym (ap (λ (k : ℕ). tallied k 1) (once-stands .tally)))
 
 twice-stands : Stands twice 2
-twice-stands =
-    let s = once-stands .sound in
-    let e = view-stored (headerOf once ROWS) 1 0 2 once (s .good .sizes .room) (omega arith) in
-    record {
-      sound = set-second .performs .served s .0;
-      tally = ap (λ (v : View). v .header TALLY) e;
-      used = ap (λ (v : View). v .header USED) e ∙ once-stands .used;
-    }
+twice-stands = stored-stands 1 100 0 2 (omega arith) once-stands set-second
 
 -- the list under the calls' contracts
 pub played : Session (List ℕ) makes performs 1 100 events end
@@ -133,3 +133,8 @@ played =
 -- and what the closed list theorem says of it
 pub shown : Demand SoundWords seen asks 1 100 events end
 shown = words-demand 1 100 played
+
+-- so the words' register 1 holds the set without a state, and register 0 is empty
+pub left : (bookOf (seen end) .reg 1 ≡ some (false ∷ false ∷ [])) × (bookOf (seen end) .reg 0 ≡ nothing)
+unfolding computing
+left = (ap (λ (b : Book). b .reg 1) (shown .holds), ap (λ (b : Book). b .reg 0) (shown .holds))
