@@ -1,8 +1,8 @@
 -- Calls whose formulas take no step, on any words: each with the words that it leaves meets its contract. Assumes nothing.
-use mathlib.Core.Path.{_≡_, refl, sym, ap, _∙_, subst}
+use mathlib.Core.Path.{_≡_, refl, sym, _∙_, subst}
 use mathlib.Core.Bool.{Bool, true, false}
 use mathlib.Core.List.{List, [], _∷_}
-use Prim.Native.Nat.{ℕ, suc, _+_, _*_, _<_}
+use Prim.Native.Nat.{ℕ, _+_, _*_, _<_}
 use native.Mathlib.Omega.{arith}
 use lib.ListN.{set as write}
 use Rattle.mucalculus.specs.Form.{Form, bot, var, bind, noEnv}
@@ -11,7 +11,7 @@ use Rattle.layout.specs.Places.{REGISTERS, RELATIONS, ROWS, TALLY, USED, FIRST-
 use Rattle.layout.specs.View.{view, headerOf, view-header}
 use Rattle.diagram.specs.Post.{at}
 use Rattle.diagram.specs.Grow.{extends-refl}
-use Rattle.diagram.specs.Reach.{Reach, reach-used}
+use Rattle.diagram.specs.Reach.{reach-used}
 use Rattle.soundness.specs.Used.{Sizes, used, used-in, rowsOf}
 use Rattle.soundness.specs.Sound.{tableOf}
 use Rattle.soundness.specs.Filled.{filled, filled-arrow}
@@ -70,16 +70,16 @@ unfolding computing
 odd-refused n regs rels = refl
 
 -- 00: false
-abbrev pub none : List ℕ
-none = frame (0x00 ∷ [])
+abbrev pub noPairs : List ℕ
+noPairs = frame (0x00 ∷ [])
 
-none-form : (n : ℕ) → bot ≡ formOf (formulaOf Relation n none)
+noPairs-form : (n : ℕ) → bot ≡ formOf (formulaOf Relation n noPairs)
 unfolding computing
-none-form n = refl
+noPairs-form n = refl
 
-none-passes : (n : ℕ) (regs rels : ℕ → Bool) → firstRefusal Relation n regs rels none ≡ 0
+noPairs-passes : (n : ℕ) (regs rels : ℕ → Bool) → firstRefusal Relation n regs rels noPairs ≡ 0
 unfolding computing
-none-passes n regs rels = refl
+noPairs-passes n regs rels = refl
 
 -- ---- fresh
 
@@ -97,17 +97,16 @@ module _ (old : List ℕ) (s : SoundWords old) where
 
   -- relation t of no pairs
   module _ (t : ℕ) (l : t < RELATIONS) where
-    pub none-done : CallPost (relation t none) old (write old (FIRST-RELATION + t) 1) (plain 0)
-    none-done =
+    abbrev Loads : Form → Type 0
+    Loads f = PairEvals (b .n) (b .N) (rowsOf (tableOf old)) (rowsOf (tableOf old)) (rootsOf (seen old)) (pairsFit (b .n) (b .N) (liveOf b) f) (pairF (b .n) f) (at 0)
+
+    pub noPairs-done : CallPost (relation t noPairs) old (write old (FIRST-RELATION + t) 1) (plain 0)
+    noPairs-done =
         through-done s tt (λ a c. omega arith)
-        (relation-value old s (tableOf old) (s .good) (op-refl (tableOf old)) t none l (none-passes (b .n) (regFilled b) (relFilled b)) 0 loaded)
+        (relation-value old s (tableOf old) (s .good) (op-refl (tableOf old)) t noPairs l (noPairs-passes (b .n) (regFilled b) (relFilled b)) 0
+        (subst Loads (noPairs-form (b .n)) (pair-none (b .n) (b .N) held (b .N) (s .good .rows))))
         (as-it-was refl)
         (view-header (headerOf old ROWS) old (s .good .sizes .room) (FIRST-RELATION + t) 1 (omega arith))
-      where
-        loaded : PairEvals (b .n) (b .N) (rowsOf (tableOf old)) (rowsOf (tableOf old)) (rootsOf (seen old)) (pairsFit (b .n) (b .N) (liveOf b) (formOf (formulaOf Relation (b .n) none))) (pairF (b .n) (formOf (formulaOf Relation (b .n) none))) (at 0)
-        loaded =
-            subst (λ (f : Form). PairEvals (b .n) (b .N) (rowsOf (tableOf old)) (rowsOf (tableOf old)) (rootsOf (seen old)) (pairsFit (b .n) (b .N) (liveOf b) f) (pairF (b .n) f) (at 0)) (none-form (b .n))
-            (pair-none (b .n) (b .N) held (b .N) (s .good .rows))
 
   module _ (r : ℕ) (l : r < REGISTERS) where
     -- set r to mu P. P or nu P. P

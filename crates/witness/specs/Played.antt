@@ -3,13 +3,13 @@
 use mathlib.Core.Path.{_≡_, refl, sym, ap, _∙_, subst}
 use mathlib.Core.Bool.{true, false}
 use mathlib.Core.List.{List, [], _∷_}
-use mathlib.Core.Option.{none as nothing, some}
+use mathlib.Core.Option.{none, some}
 use Prim.Native.Nat.{ℕ, _+_, _<_}
 use native.Mathlib.Omega.{arith}
 use lib.Dec.{T}
-use lib.ListN.{length, set as write}
+use lib.ListN.{set as write}
 use borrow.Author.Tests.{ne-eqb}
-use Rattle.layout.specs.Places.{REGISTERS, RELATIONS, ROWS, TALLY, USED, FIRST-REGISTER, FIRST-RELATION}
+use Rattle.layout.specs.Places.{REGISTERS, ROWS, TALLY, USED, FIRST-REGISTER, FIRST-RELATION}
 use Rattle.layout.specs.View.{View, headerOf, view-header}
 use Rattle.book.specs.Book.{Book, freshFits, relation, set, clear, collect, tallied}
 use Rattle.book.specs.BookOf.{bookOf}
@@ -21,7 +21,7 @@ use Rattle.contract.specs.Seen.{seen, SoundWords}
 use Rattle.contract.specs.Posts.{FreshPost, CallPost}
 use Rattle.contract.specs.Closed.{makes, performs, asks, words-demand}
 use Rattle.witness.specs.Words.{zeros, freshOf, storedIn, length-zeros, fresh-zero, view-stored}
-use Rattle.witness.specs.Made.{none, self, odd, fresh-done, none-done, self-done, self-refused, odd-done, collected-done, empty-done}
+use Rattle.witness.specs.Made.{noPairs, self, odd, fresh-done, noPairs-done, self-done, self-refused, odd-done, collected-done, empty-done}
 
 -- ---- the list: n = 1, N = 100, the five calls, and refusals 6 and 9
 
@@ -31,7 +31,7 @@ node a = record { number = 0; rounds = 1; value = a }
 
 abbrev pub events : List Event
 events =
-    (relation 0 none, plain 0)
+    (relation 0 noPairs, plain 0)
     ∷ (set 0 100 (self false), node 1)
     ∷ (set 1 100 (self true), node 0)
     ∷ (set 1 100 odd, plain 6)
@@ -77,8 +77,8 @@ made-stands = record {
   used = fresh-zero 1 100 16_384 USED (omega arith) (omega arith) (omega arith) (omega arith);
 }
 
-relation-loaded : CallPost (relation 0 none) made loaded (plain 0)
-relation-loaded = none-done made (made-stands .sound) 0 (omega arith)
+relation-loaded : CallPost (relation 0 noPairs) made loaded (plain 0)
+relation-loaded = noPairs-done made (made-stands .sound) 0 (omega arith)
 
 loaded-stands : Stands loaded 0
 loaded-stands =
@@ -134,7 +134,7 @@ played =
 pub shown : Demand SoundWords seen asks 1 100 events end
 shown = words-demand 1 100 played
 
--- so the words' register 1 holds the set without a state, and register 0 is empty
-pub left : (bookOf (seen end) .reg 1 ≡ some (false ∷ false ∷ [])) × (bookOf (seen end) .reg 0 ≡ nothing)
+-- so the words hold what the book does: register 0 is empty, register 1 has no state, and two rounds are tallied
+pub left : (bookOf (seen end) .reg 0 ≡ none) × (bookOf (seen end) .reg 1 ≡ some (false ∷ false ∷ [])) × (headerOf end TALLY ≡ 2)
 unfolding computing
-left = (ap (λ (b : Book). b .reg 1) (shown .holds), ap (λ (b : Book). b .reg 0) (shown .holds))
+left = let e = shown .holds in (ap (λ (b : Book). b .reg 0) e, ap (λ (b : Book). b .reg 1) e, ap (λ (b : Book). b .tally) e)

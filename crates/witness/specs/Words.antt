@@ -1,5 +1,5 @@
--- The words that fresh leaves of zeros, and that set and clear leave of any words. Assumes nothing.
-use mathlib.Core.Path.{_≡_, refl, sym, ap, _∙_, fun-ext}
+-- The words that fresh leaves of zeros, and that a set without a new row leaves of any words. Assumes nothing.
+use mathlib.Core.Path.{_≡_, sym, ap, _∙_, fun-ext}
 use mathlib.Core.Logic.{_≢_, by-cases}
 use mathlib.Core.List.{List}
 use Prim.Native.Nat.{ℕ, suc, _+_, _≤_, _<_}
@@ -7,7 +7,7 @@ use native.Mathlib.Omega.{arith}
 use native.Mathlib.Decide.{decLt}
 use lib.ListN.{length, replicate, set, length-set, length-replicate, getD-replicate}
 use Rattle.layout.specs.Places.{REGISTERS, HEADER, BITS, ROWS, TALLY, FIRST-REGISTER, wordsFor}
-use Rattle.layout.specs.View.{View, view, headerOf, headOf, putHeader, view-header, header-is, header-past, head-is, head-past}
+use Rattle.layout.specs.View.{View, view, headerOf, headOf, upd, putHeader, view-header, header-is, header-past, head-is, head-past}
 use Rattle.layout.specs.Header.{headerWords, header-zero}
 use Rattle.table.specs.Fresh.{emptied}
 use Rattle.formula_steps.specs.Evaluated.{registerStored}
@@ -49,12 +49,11 @@ two-written N h i v w ws room l m =
     view-header N (set ws h v) (omega arith) i w m ∙ ap (λ (x : View). putHeader x i w) (view-header N ws room h v l)
 
 -- the header that fresh writes is zeros but for n and N
-header-fresh : (n N k : ℕ) → HEADER ≤ k → putHeader (putHeader (view N (zeros k)) BITS n) ROWS N .header ≡ headerOf (headerWords n N)
+header-fresh : (n N k : ℕ) → HEADER ≤ k → upd (upd (headerOf (zeros k)) BITS n) ROWS N ≡ headerOf (headerWords n N)
 unfolding headerWords zeros
 header-fresh n N k l =
     let same = length-replicate {A = ℕ} HEADER 0 in
-    ap (λ (f : ℕ → ℕ). putHeader (putHeader (record { rows = 0; size = 0; header = f; cell = λ i j. 0; list = λ i. 0; head = λ i. 0; slot = λ i. 0; beyond = λ i. 0 }) BITS n) ROWS N .header)
-        (fun-ext (λ h. header-zeros k l h ∙ sym (header-zeros HEADER (omega arith) h)))
+    ap (λ (f : ℕ → ℕ). upd (upd f BITS n) ROWS N) (fun-ext (λ h. header-zeros k l h ∙ sym (header-zeros HEADER (omega arith) h)))
     ∙ sym (ap (λ (x : View). x .header) (two-written 0 BITS ROWS n N (replicate HEADER 0) (omega arith) (omega arith) (omega arith)))
 
 -- "Fresh empties them all, the tally at 0"
