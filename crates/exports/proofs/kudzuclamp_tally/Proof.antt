@@ -1,4 +1,4 @@
--- `kudzuclamp_tally` meets its contract: its call's, whose answer it takes apart; a refusal's number is `refusal_number`'s. Assumes nothing.
+-- `kudzuclamp_tally` meets its contract, which is its call's over the numbers that the answer is taken apart into. Assumes nothing.
 use mathlib.Core.Path.{sym, ap, _∙_, subst}
 use Rattle.book.specs.Leaves.{plain}
 use Rattle.contract.specs.Posts.{AskPost}
