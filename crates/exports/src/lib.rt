@@ -15,6 +15,7 @@ use soundness::sound;
 use tokens::Kind;
 ghost use mathlib.Core.Path.{_≡_};
 ghost use Rattle.book.specs.Book as book;
+ghost use Rattle.calls.specs.Replies.{answerReply};
 ghost use Rattle.contract.specs.Posts.{FreshPost, CallPost, AskPost};
 ghost use Rattle.exports.specs.Given.{given, FreshLeft};
 ghost use Rattle.exports.specs.Check.{kindOf, CheckPost};
@@ -104,22 +105,28 @@ pub extern "C" fn kudzuclamp_collect(words: &mut [u32], rows: &mut u32) -> u32
     }
 }
 
+// Gives a question's value.
+fn give(x: Answer, value: &mut u32) -> u32
+    ensures { λ k. ⌜ given k 0 (now (value .exit)) ≡ answerReply x ⌝ }
+{
+    match x {
+        Answer::Value(v) => {
+            *value = v;
+            0
+        }
+        Answer::Refused(e) => {
+            *value = 0;
+            refusal_number(e)
+        }
+    }
+}
+
 // Gives the node number in register r.
 #[no_mangle]
 pub extern "C" fn kudzuclamp_node(words: &[u32], r: u32, node: &mut u32) -> u32
     ensures { λ k. ⌜ AskPost (book.node r) (now (words .entry)) (given k 0 (now (node .exit))) ⌝ }
 {
-    let x = calls::node(words, r);
-    match x {
-        Answer::Value(v) => {
-            *node = v;
-            0
-        }
-        Answer::Refused(e) => {
-            *node = 0;
-            refusal_number(e)
-        }
-    }
+    give(calls::node(words, r), node)
 }
 
 // Gives 1 where the set in register r has state s, else 0.
@@ -127,17 +134,7 @@ pub extern "C" fn kudzuclamp_node(words: &[u32], r: u32, node: &mut u32) -> u32
 pub extern "C" fn kudzuclamp_member(words: &[u32], r: u32, s: u32, value: &mut u32) -> u32
     ensures { λ k. ⌜ AskPost (book.member r s) (now (words .entry)) (given k 0 (now (value .exit))) ⌝ }
 {
-    let x = calls::member(words, r, s);
-    match x {
-        Answer::Value(v) => {
-            *value = v;
-            0
-        }
-        Answer::Refused(e) => {
-            *value = 0;
-            refusal_number(e)
-        }
-    }
+    give(calls::member(words, r, s), value)
 }
 
 // Gives how many states the set in register r has.
@@ -145,17 +142,7 @@ pub extern "C" fn kudzuclamp_member(words: &[u32], r: u32, s: u32, value: &mut u
 pub extern "C" fn kudzuclamp_count(words: &[u32], r: u32, value: &mut u32) -> u32
     ensures { λ k. ⌜ AskPost (book.count r) (now (words .entry)) (given k 0 (now (value .exit))) ⌝ }
 {
-    let x = calls::count(words, r);
-    match x {
-        Answer::Value(v) => {
-            *value = v;
-            0
-        }
-        Answer::Refused(e) => {
-            *value = 0;
-            refusal_number(e)
-        }
-    }
+    give(calls::count(words, r), value)
 }
 
 // Gives the rounds of all answered set calls since fresh.
@@ -163,17 +150,7 @@ pub extern "C" fn kudzuclamp_count(words: &[u32], r: u32, value: &mut u32) -> u3
 pub extern "C" fn kudzuclamp_tally(words: &[u32], value: &mut u32) -> u32
     ensures { λ k. ⌜ AskPost book.tally (now (words .entry)) (given k 0 (now (value .exit))) ⌝ }
 {
-    let x = calls::tally(words);
-    match x {
-        Answer::Value(v) => {
-            *value = v;
-            0
-        }
-        Answer::Refused(e) => {
-            *value = 0;
-            refusal_number(e)
-        }
-    }
+    give(calls::tally(words), value)
 }
 
 // The call that formula bytes are for: set at 0, else relation.

@@ -1,19 +1,9 @@
--- `kudzuclamp_member` meets its contract, which is its call's over the numbers that the answer is taken apart into. Assumes nothing.
-use mathlib.Core.Path.{sym, ap, _∙_, subst}
-use Rattle.book.specs.Leaves.{plain}
+-- `kudzuclamp_member` meets its contract, which is its call's over the numbers that `give` makes of the answer. Assumes nothing.
+use mathlib.Core.Path.{sym, subst}
 use Rattle.contract.specs.Posts.{AskPost}
-use Rattle.calls.specs.Replies.{answerReply}
 use borrow.Author.Needs.{needs}
 use Rattle.exports.proofs.kudzuclamp_member.Statement.{statement}
 use Rattle.exports.proofs.kudzuclamp_member.Tie as tie
 
 pub kudzuclamp-member-spec : {M : Type 1} → statement M
-kudzuclamp-member-spec =
-    tie.close
-    (tie.spec
-    (λ c κs. search needs)
-    (λ c. search needs)
-    (λ c. search needs)
-    (λ c κs. search needs)
-    (λ c. subst (AskPost _ _) (ap answerReply (c .before .x .given .1)) (c .before .before .before .member .ensures))
-    (λ c. subst (AskPost _ _) (ap answerReply (c .before .before .x2 .given .1) ∙ ap plain (sym (c .refusal-number .ensures))) (c .before .before .before .before .member .ensures)))
+kudzuclamp-member-spec = tie.close (tie.spec (λ c κs. search needs) (λ c κs. search needs) (λ c. subst (AskPost _ _) (sym (c .give .ensures)) (c .before .before .member .ensures)))
