@@ -87,6 +87,24 @@ impl Book {
         })
     }
 
+    /// A book with these contents, for a table that no list of calls has made.
+    pub fn with(
+        n: u32,
+        rows: usize,
+        registers: Vec<Option<StateSet>>,
+        relations: Vec<Option<PairSet>>,
+        tally: u32,
+    ) -> Book {
+        assert!(registers.len() == REGISTERS && relations.len() == RELATIONS);
+        Book {
+            n,
+            rows,
+            registers,
+            relations,
+            tally,
+        }
+    }
+
     pub fn n(&self) -> u32 {
         self.n
     }

@@ -1,0 +1,162 @@
+//! A list of steps on lent words, as lines of text that can be read again:
+//! ```text
+//! words 700 5              700 words of noise from seed 5; seed 0 gives zeros
+//! fresh 2 14 700           n, N and how many of the words are lent
+//! relation 0 000a01...     t, framed formula; `-` for no bytes
+//! set 0 3 000601...        r, R, framed formula
+//! clear 0
+//! collect
+//! node 0
+//! member 0 1
+//! count 0
+//! tally
+//! damage 17 5              writes 5 into word 17
+//! repair                   undoes all damage since the table was last repaired or made
+//! ```
+//! What follows ` -> ` in a line is not read.
+
+use reference::book::Call;
+use reference::random::Random;
+use std::fmt;
+
+/// A step of a list.
+#[derive(Clone, Debug, PartialEq, Eq)]
+pub enum Step {
+    Fresh { n: u32, rows: u32, lent: usize },
+    Call(Call),
+    Damage { place: usize, value: u32 },
+    Repair,
+}
+
+/// The words lent at the start, and the steps.
+#[derive(Clone, Debug, PartialEq, Eq)]
+pub struct List {
+    pub length: usize,
+    pub noise: u64,
+    pub steps: Vec<Step>,
+}
+
+impl List {
+    pub fn new(length: usize, noise: u64) -> List {
+        List {
+            length,
+            noise,
+            steps: Vec::new(),
+        }
+    }
+
+    /// The words as the list finds them.
+    pub fn words(&self) -> Vec<u32> {
+        if self.noise == 0 {
+            return vec![0; self.length];
+        }
+        let mut random = Random::new(self.noise);
+        (0..self.length).map(|_| random.word() as u32).collect()
+    }
+
+    /// The list that lines of text stand for.
+    pub fn read(text: &str) -> Option<List> {
+        let mut lines = text.lines().filter(|line| !line.trim().is_empty());
+        let first: Vec<&str> = lines.next()?.split_whitespace().collect();
+        let ["words", length, noise] = first[..] else {
+            return None;
+        };
+        let mut list = List::new(length.parse().ok()?, noise.parse().ok()?);
+        for line in lines {
+            list.steps.push(Step::read(line)?);
+        }
+        Some(list)
+    }
+}
+
+impl Step {
+    fn read(line: &str) -> Option<Step> {
+        let line = line.split(" -> ").next()?;
+        let fields: Vec<&str> = line.split_whitespace().collect();
+        Some(match fields[..] {
+            ["fresh", n, rows, lent] => Step::Fresh {
+                n: n.parse().ok()?,
+                rows: rows.parse().ok()?,
+                lent: lent.parse().ok()?,
+            },
+            ["damage", place, value] => Step::Damage {
+                place: place.parse().ok()?,
+                value: value.parse().ok()?,
+            },
+            ["repair"] => Step::Repair,
+            _ => Step::Call(read_call(&fields)?),
+        })
+    }
+}
+
+fn read_call(fields: &[&str]) -> Option<Call> {
+    Some(match *fields {
+        ["relation", t, bytes] => Call::Relation {
+            t: t.parse().ok()?,
+            formula: unhex(bytes)?,
+        },
+        ["set", r, rounds, bytes] => Call::Set {
+            r: r.parse().ok()?,
+            rounds: rounds.parse().ok()?,
+            formula: unhex(bytes)?,
+        },
+        ["clear", r] => Call::Clear { r: r.parse().ok()? },
+        ["collect"] => Call::Collect,
+        ["node", r] => Call::Node { r: r.parse().ok()? },
+        ["member", r, state] => Call::Member {
+            r: r.parse().ok()?,
+            state: state.parse().ok()?,
+        },
+        ["count", r] => Call::Count { r: r.parse().ok()? },
+        ["tally"] => Call::Tally,
+        _ => return None,
+    })
+}
+
+impl fmt::Display for List {
+    fn fmt(&self, f: &mut fmt::Formatter<'_>) -> fmt::Result {
+        writeln!(f, "words {} {}", self.length, self.noise)?;
+        self.steps.iter().try_for_each(|step| writeln!(f, "{step}"))
+    }
+}
+
+impl fmt::Display for Step {
+    fn fmt(&self, f: &mut fmt::Formatter<'_>) -> fmt::Result {
+        match self {
+            Step::Fresh { n, rows, lent } => write!(f, "fresh {n} {rows} {lent}"),
+            Step::Damage { place, value } => write!(f, "damage {place} {value}"),
+            Step::Repair => write!(f, "repair"),
+            Step::Call(call) => write_call(f, call),
+        }
+    }
+}
+
+fn write_call(f: &mut fmt::Formatter<'_>, call: &Call) -> fmt::Result {
+    match call {
+        Call::Relation { t, formula } => write!(f, "relation {t} {}", hex(formula)),
+        Call::Set { r, rounds, formula } => write!(f, "set {r} {rounds} {}", hex(formula)),
+        Call::Clear { r } => write!(f, "clear {r}"),
+        Call::Collect => write!(f, "collect"),
+        Call::Node { r } => write!(f, "node {r}"),
+        Call::Member { r, state } => write!(f, "member {r} {state}"),
+        Call::Count { r } => write!(f, "count {r}"),
+        Call::Tally => write!(f, "tally"),
+    }
+}
+
+fn hex(bytes: &[u8]) -> String {
+    match bytes.is_empty() {
+        true => "-".to_string(),
+        false => bytes.iter().map(|byte| format!("{byte:02x}")).collect(),
+    }
+}
+
+fn unhex(text: &str) -> Option<Vec<u8>> {
+    if text == "-" {
+        return Some(Vec::new());
+    }
+    let pairs = text.as_bytes().chunks(2);
+    pairs
+        .map(|pair| u8::from_str_radix(std::str::from_utf8(pair).ok()?, 16).ok())
+        .collect()
+}

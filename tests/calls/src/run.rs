@@ -1,0 +1,349 @@
+//! Runs steps on the library and on the book, and compares answers and words.
+
+use crate::kept::{self, Target};
+use crate::list::{List, Step};
+use crate::sound::sound;
+use crate::words::{table_size, Words, FIRST_REGISTER, FIRST_RELATION};
+use kudzuclamp::{Refusal, Stored, Table};
+use reference::book::{Answer, Book, Call, REGISTERS};
+use reference::formula::{self, Kind};
+use reference::states::state_count;
+
+/// Greatest n at which relations of a damaged table are enumerated.
+pub const MAX_BITS: u32 = 5;
+
+/// A difference between the library and the book, in words.
+pub type Difference = String;
+
+/// How often each number came, 0 for answered; and how many questions the checks after the lists
+/// asked.
+#[derive(Clone, Copy, Debug, Default, PartialEq, Eq)]
+pub struct Counts {
+    pub numbers: [u64; 10],
+    pub questions: u64,
+}
+
+/// What a sound table should be: the book, and each filled register's node number as it was last
+/// returned.
+#[derive(Clone)]
+pub struct Expected {
+    pub book: Book,
+    nodes: Vec<Option<u32>>,
+}
+
+/// Lent words, and what they should hold; None where they are no sound table.
+pub struct Runner {
+    table: Table<Vec<u32>>,
+    expected: Option<Expected>,
+    /// Words and expectation from before the first damage.
+    whole: Option<(Vec<u32>, Option<Expected>)>,
+    pub counts: Counts,
+}
+
+/// Runs a whole list.
+pub fn run(list: &List) -> Result<Counts, Difference> {
+    let mut runner = Runner::new(list);
+    list.steps.iter().try_for_each(|step| runner.step(step))?;
+    runner.compare_all()?;
+    Ok(runner.counts)
+}
+
+impl Runner {
+    /// Takes the list's words. The wrapper gives a table of lent words only by fresh, so these are
+    /// put in after one.
+    pub fn new(list: &List) -> Runner {
+        let words = list.words();
+        let spare = vec![0; words.len().max(table_size(1))];
+        let mut table = Table::fresh(spare, 1, 1).expect("sizes fit");
+        table.words_mut()[..words.len()].copy_from_slice(&words);
+        let expected = read_expected(&table);
+        Runner {
+            table,
+            expected,
+            whole: None,
+            counts: Counts::default(),
+        }
+    }
+
+    /// What the table should hold, unless it is unsound.
+    pub fn expected(&self) -> Option<&Expected> {
+        self.expected.as_ref()
+    }
+
+    /// What the table held before it was damaged.
+    pub fn undamaged(&self) -> Option<&Expected> {
+        match &self.whole {
+            Some((_, expected)) => expected.as_ref(),
+            None => self.expected(),
+        }
+    }
+
+    pub fn is_damaged(&self) -> bool {
+        self.whole.is_some()
+    }
+
+    pub fn words(&self) -> &[u32] {
+        self.table.words()
+    }
+
+    /// Makes one step and compares.
+    pub fn step(&mut self, step: &Step) -> Result<(), Difference> {
+        match step {
+            Step::Fresh { n, rows, lent } => self.fresh(*n, *rows, *lent),
+            Step::Call(call) => self.call(call),
+            Step::Damage { place, value } => {
+                self.damage(*place, *value);
+                Ok(())
+            }
+            Step::Repair => {
+                self.repair();
+                Ok(())
+            }
+        }
+        .map_err(|what| format!("at `{step}`: {what}"))
+    }
+
+    fn damage(&mut self, place: usize, value: u32) {
+        if self.whole.is_none() {
+            self.whole = Some((self.words().to_vec(), self.expected.clone()));
+        }
+        self.table.words_mut()[place] = value;
+        self.expected = read_expected(&self.table);
+    }
+
+    fn repair(&mut self) {
+        if let Some((words, expected)) = self.whole.take() {
+            self.table.words_mut().copy_from_slice(&words);
+            self.expected = expected;
+        }
+    }
+
+    fn fresh(&mut self, n: u32, rows: u32, lent: usize) -> Result<(), Difference> {
+        let wanted = Book::fresh(n.into(), rows.into(), lent as u64);
+        if wanted.is_ok() {
+            self.compare_all()?;
+        }
+        let before = self.words().to_vec();
+        let got = Table::fresh(&mut self.table.words_mut()[..lent], n, rows).map(|_| ());
+        let number = number_of(&got);
+        self.counts.numbers[number as usize] += 1;
+        let wanted_number = wanted.as_ref().map_or_else(|r| r.number(), |_| 0);
+        same("number", number, wanted_number)?;
+        let Ok(book) = wanted else {
+            return kept::all(&before, self.words());
+        };
+        let past = table_size(rows as usize);
+        kept::all(&before[past..], &self.words()[past..])?;
+        sound(self.words())?;
+        let nodes = vec![None; REGISTERS];
+        self.expected = Some(Expected { book, nodes });
+        self.whole = None;
+        Ok(())
+    }
+
+    fn call(&mut self, call: &Call) -> Result<(), Difference> {
+        self.compare_check(call)?;
+        let before = self.words().to_vec();
+        let got = make(&mut self.table, call);
+        self.counts.numbers[got.number as usize] += 1;
+        let Some(expected) = &mut self.expected else {
+            same("number", got.number, Refusal::Unsound.number() as u8)?;
+            same("answer", got, refused(got.number))?;
+            return kept::all(&before, self.words());
+        };
+        let wanted = expected.book.call(call);
+        compare_answer(expected, call, got, wanted)?;
+        note_node(expected, call, got);
+        compare_words(&before, self.words(), call, got.number)
+    }
+
+    /// The checks of a formula, asked without its call.
+    fn compare_check(&self, call: &Call) -> Result<(), Difference> {
+        let (kind, bytes, got) = match call {
+            Call::Relation { formula, .. } => {
+                (Kind::Relation, formula, self.table.check_relation(formula))
+            }
+            Call::Set { formula, .. } => (Kind::Set, formula, self.table.check_set(formula)),
+            _ => return Ok(()),
+        };
+        let wanted = match &self.expected {
+            None => Refusal::Unsound.number() as u8,
+            Some(expected) => check_number(&expected.book, kind, bytes),
+        };
+        same("checks alone", number_of(&got), wanted)
+    }
+
+    /// Every question about a sound table: all registers, all states, all pairs of registers, all
+    /// relations, the tally.
+    pub fn compare_all(&mut self) -> Result<(), Difference> {
+        let Some(expected) = &mut self.expected else {
+            return Ok(());
+        };
+        let before = self.table.words().to_vec();
+        sound(&before)?;
+        for call in questions(&expected.book) {
+            self.counts.questions += 1;
+            let wanted = expected.book.call(&call);
+            let got = make(&mut self.table, &call);
+            compare_answer(expected, &call, got, wanted)
+                .map_err(|what| format!("after the list `{}`: {what}", Step::Call(call)))?;
+        }
+        kept::all(&before, self.table.words())?;
+        compare_pairs(expected)?;
+        compare_relations(Words(&before), &expected.book)
+    }
+}
+
+/// What the words of a table should hold, where they are sound.
+fn read_expected(table: &Table<Vec<u32>>) -> Option<Expected> {
+    sound(table.words()).ok()?;
+    let words = Words(table.words());
+    assert!(words.n() <= MAX_BITS, "too many pairs to enumerate");
+    Some(Expected {
+        book: words.book(),
+        nodes: (0..REGISTERS as u32).map(|r| table.node(r).ok()).collect(),
+    })
+}
+
+/// Node, count and member of all registers and states, and the tally.
+fn questions(book: &Book) -> Vec<Call> {
+    let mut calls = vec![Call::Tally];
+    for r in 0..=REGISTERS as u64 {
+        calls.extend([Call::Node { r }, Call::Count { r }]);
+        let states = 0..=state_count(book.n()) as u64;
+        calls.extend(states.map(|state| Call::Member { r, state }));
+    }
+    calls
+}
+
+/// Makes a call on the library; its answer in the book's form.
+pub fn make(table: &mut Table<Vec<u32>>, call: &Call) -> Answer {
+    let plain = |value: u32| (0, value);
+    let none = |()| (0, 0);
+    let stored = |stored: Stored| (stored.rounds, stored.node);
+    let result = match call {
+        Call::Relation { t, formula } => table.relation(*t as u32, formula).map(none),
+        Call::Set { r, rounds, formula } => table.set(*r as u32, *rounds, formula).map(stored),
+        Call::Clear { r } => table.clear(*r as u32).map(none),
+        Call::Collect => table.collect().map(plain),
+        Call::Node { r } => table.node(*r as u32).map(plain),
+        Call::Member { r, state } => {
+            let member = table.member(*r as u32, *state as u32);
+            member.map(|member| plain(member.into()))
+        }
+        Call::Count { r } => table.count(*r as u32).map(plain),
+        Call::Tally => table.tally().map(plain),
+    };
+    match result {
+        Ok((rounds, value)) => Answer {
+            number: 0,
+            rounds,
+            value: Some(value.into()),
+        },
+        Err(refusal) => refused(refusal.number() as u8),
+    }
+}
+
+/// "number, zeros".
+fn refused(number: u8) -> Answer {
+    Answer {
+        number,
+        rounds: 0,
+        value: Some(0),
+    }
+}
+
+fn number_of<T>(result: &Result<T, Refusal>) -> u8 {
+    match result {
+        Ok(_) => 0,
+        Err(refusal) => refusal.number() as u8,
+    }
+}
+
+fn check_number(book: &Book, kind: Kind, bytes: &[u8]) -> u8 {
+    let register = |r: usize| book.registers()[r].is_some();
+    let relation = |t: usize| book.relations()[t].is_some();
+    match formula::check(book.n(), kind, bytes, register, relation) {
+        Ok(_) => 0,
+        Err(refusal) => refusal.number(),
+    }
+}
+
+fn same<T: PartialEq + std::fmt::Debug>(what: &str, got: T, wanted: T) -> Result<(), Difference> {
+    match got == wanted {
+        true => Ok(()),
+        false => Err(format!("{what}: the library {got:?}, the book {wanted:?}")),
+    }
+}
+
+/// Number, rounds and value. A node number that the book leaves free is above 1, and node answers
+/// the one last returned.
+fn compare_answer(
+    expected: &Expected,
+    call: &Call,
+    got: Answer,
+    wanted: Answer,
+) -> Result<(), Difference> {
+    let value = match (wanted.value, call) {
+        (Some(value), _) => Some(value),
+        (None, Call::Node { r }) => expected.nodes[*r as usize].map(u64::from),
+        (None, _) => got.value.filter(|&node| node > 1),
+    };
+    same("answer", got, Answer { value, ..wanted })
+}
+
+/// Keeps the number that an answered set returned.
+fn note_node(expected: &mut Expected, call: &Call, got: Answer) {
+    match call {
+        Call::Set { r, .. } if got.number == 0 => {
+            expected.nodes[*r as usize] = got.value.map(|node| node as u32);
+        }
+        Call::Clear { r } if got.number == 0 => expected.nodes[*r as usize] = None,
+        _ => {}
+    }
+}
+
+/// Refusals 2 to 7 and questions keep all words; the rest keeps what is needed. A sound table stays
+/// sound, and an answered collect leaves no unneeded row used.
+fn compare_words(before: &[u32], after: &[u32], call: &Call, number: u8) -> Result<(), Difference> {
+    let answered = number == 0;
+    let register = |r: u64| FIRST_REGISTER + r as usize;
+    let target = match call {
+        _ if !matches!(number, 0 | 8 | 9) => return kept::all(before, after),
+        Call::Set { r, .. } => (answered.then(|| register(*r)), answered),
+        Call::Relation { t, .. } => (answered.then(|| FIRST_RELATION + *t as usize), false),
+        Call::Clear { r } => (Some(register(*r)), false),
+        Call::Collect => (None, false),
+        _ => return kept::all(before, after),
+    };
+    let (root, tally) = target;
+    kept::needed(before, after, Target { root, tally })?;
+    sound(after)?;
+    match call {
+        Call::Collect => kept::swept(after),
+        _ => Ok(()),
+    }
+}
+
+/// "The node numbers of two filled registers … are equal exactly where the book's two sets are."
+fn compare_pairs(expected: &Expected) -> Result<(), Difference> {
+    let registers = expected.book.registers();
+    for (r, set) in registers.iter().enumerate() {
+        for (q, other) in registers.iter().enumerate().take(r) {
+            if set.is_some() && other.is_some() {
+                let numbers = expected.nodes[r] == expected.nodes[q];
+                same("nodes equal", numbers, set == other).map_err(|w| format!("{q} {r}: {w}"))?;
+            }
+        }
+    }
+    Ok(())
+}
+
+/// No call answers what a relation holds, so it is read from the words.
+fn compare_relations(words: Words, book: &Book) -> Result<(), Difference> {
+    for (t, relation) in book.relations().iter().enumerate() {
+        same("relation", words.relation(t).as_ref(), relation.as_ref())
+            .map_err(|what| format!("{t}: {what}"))?;
+    }
+    Ok(())
+}

@@ -1,0 +1,145 @@
+//! Random lists of calls, n = 1 to 5, on the library and on the separate evaluator.
+//!
+//! After each call: number, rounds, value, kept words, soundness. After each list: node, count and
+//! member of every register and state, node numbers over all pairs of registers, relations, tally.
+//! `KUDZUCLAMP_CALLS` calls (20,000) from seed `KUDZUCLAMP_SEED` (1). A difference prints its list;
+//! save it and run it again with `KUDZUCLAMP_REPLAY=FILE cargo test --offline --release replay`.
+
+use calls::draw::{draw_and_run, Drawn, CALLS};
+use calls::list::List;
+use calls::run::run;
+use std::env;
+use std::io::{stderr, Write};
+use std::sync::atomic::{AtomicU64, Ordering};
+use std::thread;
+use std::time::Instant;
+
+/// A number from the environment.
+fn setting(name: &str, default: u64) -> u64 {
+    let Ok(text) = env::var(name) else {
+        return default;
+    };
+    text.parse()
+        .unwrap_or_else(|_| panic!("{name} is no number"))
+}
+
+/// Sums over lists.
+#[derive(Default)]
+struct Totals {
+    numbers: [u64; 10],
+    questions: u64,
+    edge_answered: u64,
+    edge_refused: u64,
+    differences: Vec<String>,
+}
+
+impl Totals {
+    fn add(&mut self, index: u64, drawn: Drawn) {
+        let counts = drawn.runner.counts;
+        for (sum, count) in self.numbers.iter_mut().zip(counts.numbers) {
+            *sum += count;
+        }
+        self.questions += counts.questions;
+        self.edge_answered += drawn.edges.answered;
+        self.edge_refused += drawn.edges.refused;
+        if let Some(what) = drawn.difference {
+            let text = format!("list {index}: {what}\n{}", drawn.list);
+            self.differences.push(text);
+        }
+    }
+
+    fn join(&mut self, other: Totals) {
+        for (sum, count) in self.numbers.iter_mut().zip(other.numbers) {
+            *sum += count;
+        }
+        self.questions += other.questions;
+        self.edge_answered += other.edge_answered;
+        self.edge_refused += other.edge_refused;
+        self.differences.extend(other.differences);
+    }
+}
+
+/// Runs lists until all are taken.
+fn work(seed: u64, lists: u64, taken: &AtomicU64) -> Totals {
+    let mut totals = Totals::default();
+    loop {
+        let index = taken.fetch_add(1, Ordering::Relaxed);
+        if index >= lists || totals.differences.len() > 2 {
+            return totals;
+        }
+        totals.add(index, draw_and_run(seed, index));
+    }
+}
+
+#[test]
+fn random_lists() {
+    let calls = setting("KUDZUCLAMP_CALLS", 20_000);
+    let seed = setting("KUDZUCLAMP_SEED", 1);
+    let lists = calls.div_ceil(CALLS);
+    let (start, taken) = (Instant::now(), AtomicU64::new(0));
+    let threads = thread::available_parallelism().map_or(1, |count| count.get());
+    let mut totals = Totals::default();
+    thread::scope(|scope| {
+        let workers: Vec<_> = (0..threads)
+            .map(|_| scope.spawn(|| work(seed, lists, &taken)))
+            .collect();
+        for worker in workers {
+            totals.join(worker.join().expect("no panic"));
+        }
+    });
+    report(&totals, seed, lists, start.elapsed().as_secs_f64());
+    assert!(totals.differences.is_empty(), "{}", totals.differences[0]);
+    for number in 0..=9 {
+        assert!(totals.numbers[number] > 0, "no call gave {number}");
+    }
+    assert!(totals.edge_answered > 0 && totals.edge_refused > 0);
+}
+
+/// Written past the test runner's capture.
+fn report(totals: &Totals, seed: u64, lists: u64, seconds: f64) {
+    let made: u64 = totals.numbers.iter().sum();
+    let mut text = format!("seed {seed}: {lists} lists, {made} calls");
+    text += &format!(", {} questions after lists", totals.questions);
+    text += &format!(
+        ", {} differences, {seconds:.1} s\n",
+        totals.differences.len()
+    );
+    text += "answered";
+    for (number, count) in totals.numbers.iter().enumerate() {
+        match number {
+            0 => text += &format!(" {count}; refused"),
+            _ => text += &format!(" {number}: {count}"),
+        }
+    }
+    text += &format!(
+        "; needs N rows: {}; needs N + 1: {}\n",
+        totals.edge_answered, totals.edge_refused
+    );
+    stderr()
+        .write_all(text.as_bytes())
+        .expect("stderr takes text");
+}
+
+/// The list in the file that the environment names, if it names one.
+#[test]
+fn replay() {
+    let Ok(path) = env::var("KUDZUCLAMP_REPLAY") else {
+        return;
+    };
+    let text = std::fs::read_to_string(&path).expect("the file can be read");
+    let list = List::read(&text).expect("a list");
+    let counts = run(&list).unwrap_or_else(|what| panic!("{what}"));
+    stderr()
+        .write_all(format!("{counts:?}\n").as_bytes())
+        .expect("stderr takes text");
+}
+
+#[test]
+fn a_printed_list_is_read_again_and_runs_the_same() {
+    for index in 0..50 {
+        let drawn = draw_and_run(7, index);
+        let list = List::read(&drawn.list.to_string()).expect("a list");
+        assert_eq!(list, drawn.list);
+        assert_eq!(run(&list), Ok(drawn.runner.counts));
+    }
+}
