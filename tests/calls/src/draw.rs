@@ -1,8 +1,8 @@
 //! Draws the steps of a list, each for the book as it stands.
 
 use crate::list::{List, Step};
-use crate::run::{Difference, Runner};
-use crate::words::{table_size, HEADER, ROOTS_END, ROW};
+use crate::run::{Difference, Runner, MAX_BITS};
+use crate::words::{table_size, BITS, HEADER, ROOTS_END, ROW, TALLY};
 use crate::writer::{self, Plan};
 use reference::book::{words_for, Book, Call, MAX_ROWS, REGISTERS, RELATIONS};
 use reference::evaluate::{self, Limits};
@@ -125,7 +125,7 @@ impl Session {
                 false => (self.call_for_nothing(), None),
             };
         };
-        if runner.is_damaged() && self.random.chance(50) {
+        if runner.is_damaged() && self.random.chance(35) {
             return (Step::Repair, None);
         }
         match self.random.below(1000) {
@@ -172,6 +172,13 @@ impl Session {
 
     /// Changes one word of the table, mostly one that counts. n stays small enough to enumerate.
     fn damage(&mut self) -> Step {
+        if self.random.chance(10) {
+            let value = u32::MAX - self.random.below(5) as u32;
+            return Step::Damage {
+                place: TALLY,
+                value,
+            };
+        }
         let rows = self.rows as usize;
         let place = match self.random.below(10) {
             0..=1 => self.random.below(7) as usize,
@@ -179,18 +186,21 @@ impl Session {
             4..=7 => HEADER + self.random.below((ROW * rows) as u64) as usize,
             _ => HEADER + self.random.below((12 * rows) as u64) as usize,
         };
-        let old = self.drawn.runner.words()[place];
-        let value = match self.random.below(6) {
+        let value = self.damaged(self.drawn.runner.words()[place]);
+        match place == BITS && (MAX_BITS + 1..=16).contains(&value) {
+            true => Step::Damage { place, value: 17 },
+            false => Step::Damage { place, value },
+        }
+    }
+
+    fn damaged(&mut self, old: u32) -> u32 {
+        match self.random.below(6) {
             0 => old.wrapping_add(1),
             1 => old.wrapping_sub(1),
             2 => 0,
-            3 => self.random.below(rows as u64 + 3) as u32,
+            3 => self.random.below(u64::from(self.rows) + 3) as u32,
             4 => u32::MAX - self.random.below(10) as u32,
             _ => old ^ 1 << self.random.below(32),
-        };
-        match place == 0 && (6..=16).contains(&value) {
-            true => Step::Damage { place, value: 17 },
-            false => Step::Damage { place, value },
         }
     }
 

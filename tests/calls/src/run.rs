@@ -49,13 +49,15 @@ pub fn run(list: &List) -> Result<Counts, Difference> {
 }
 
 impl Runner {
-    /// Takes the list's words. The wrapper gives a table of lent words only by fresh, so these are
-    /// put in after one.
     pub fn new(list: &List) -> Runner {
-        let words = list.words();
-        let spare = vec![0; words.len().max(table_size(1))];
-        let mut table = Table::fresh(spare, 1, 1).expect("sizes fit");
-        table.words_mut()[..words.len()].copy_from_slice(&words);
+        Runner::over(list.words())
+    }
+
+    /// Takes any words, at least as many as a table of one row has. The wrapper takes words as a
+    /// table only where they are sound or by fresh, so they are put in after one.
+    pub fn over(words: Vec<u32>) -> Runner {
+        let mut table = Table::fresh(vec![0; words.len()], 1, 1).expect("sizes fit");
+        table.words_mut().copy_from_slice(&words);
         let expected = read_expected(&table);
         Runner {
             table,
@@ -154,7 +156,11 @@ impl Runner {
         let wanted = expected.book.call(call);
         compare_answer(expected, call, got, wanted)?;
         note_node(expected, call, got);
-        compare_words(&before, self.words(), call, got.number)
+        compare_words(&before, self.words(), call, got.number)?;
+        match got.number {
+            8 | 9 => self.compare_all(),
+            _ => Ok(()),
+        }
     }
 
     /// The checks of a formula, asked without its call.
@@ -186,7 +192,7 @@ impl Runner {
             let wanted = expected.book.call(&call);
             let got = make(&mut self.table, &call);
             compare_answer(expected, &call, got, wanted)
-                .map_err(|what| format!("after the list `{}`: {what}", Step::Call(call)))?;
+                .map_err(|what| format!("afterwards `{}`: {what}", Step::Call(call)))?;
         }
         kept::all(&before, self.table.words())?;
         compare_pairs(expected)?;

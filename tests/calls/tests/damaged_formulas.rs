@@ -1,0 +1,224 @@
+//! Damaged formulas: every change of one byte, every truncation, wrong frames, and the edges of
+//! depth and length, each as the separate evaluator decides it.
+
+use calls::list::Step;
+use calls::run::Runner;
+use calls::writer::{nots, tree, write, Plan};
+use kudzuclamp::{Refusal, Table};
+use reference::book::{words_for, Call};
+use reference::formula::{frame, Kind};
+use reference::random::Random;
+
+/// A table with registers 0 and 1 and relations 0 and 1 filled.
+fn room(n: u32, rows: u32) -> Runner {
+    let length = words_for(rows.into()) as usize;
+    let mut runner = Runner::over(vec![0; length]);
+    let last = n as u8 - 1;
+    let steps = [
+        Step::Fresh {
+            n,
+            rows,
+            lent: length,
+        },
+        relation(0, frame(&[0x04, 0x03, 0x20, 0x02, 0x10, 0x20 + last])),
+        relation(1, frame(&[0x03, 0x02, 0x10 + last, 0x20])),
+        set(0, frame(&[0x10])),
+        set(1, frame(&[0x02, 0x10 + last])),
+    ];
+    steps.iter().try_for_each(|s| runner.step(s)).unwrap();
+    runner
+}
+
+fn relation(t: u64, formula: Vec<u8>) -> Step {
+    Step::Call(Call::Relation { t, formula })
+}
+
+fn set(r: u64, formula: Vec<u8>) -> Step {
+    let rounds = 50;
+    Step::Call(Call::Set { r, rounds, formula })
+}
+
+/// Makes set and relation calls with the bytes and compares.
+fn compare(runner: &mut Runner, bytes: Vec<u8>) {
+    for step in [set(2, bytes.clone()), relation(2, bytes)] {
+        runner.step(&step).unwrap_or_else(|what| panic!("{what}"));
+    }
+}
+
+/// A formula that passes all checks in `room`.
+fn draw(random: &mut Random, kind: Kind, n: u32) -> Vec<u8> {
+    let plan = Plan {
+        kind,
+        n: n as u8,
+        registers: vec![0, 1],
+        relations: vec![0, 1],
+        size: 2 + random.below(9),
+        binders: match kind {
+            Kind::Set => random.below(3) as u32,
+            Kind::Relation => 0,
+        },
+        slip: false,
+    };
+    frame(&write(random, plan))
+}
+
+/// Every byte as every other byte.
+fn single_changes(bytes: &[u8]) -> Vec<Vec<u8>> {
+    let mut changed = Vec::new();
+    for place in 0..bytes.len() {
+        for value in (0..=255).filter(|&value| value != bytes[place]) {
+            let mut bytes = bytes.to_vec();
+            bytes[place] = value;
+            changed.push(bytes);
+        }
+    }
+    changed
+}
+
+/// Cut short, with the frame as it was and with one that fits.
+fn truncations(bytes: &[u8]) -> Vec<Vec<u8>> {
+    let as_it_was = (0..bytes.len()).map(|length| bytes[..length].to_vec());
+    let fitting = (3..bytes.len()).map(|length| frame(&bytes[3..length]));
+    as_it_was.chain(fitting).collect()
+}
+
+/// More bytes than the frame says, more than the formula fills, a lost byte, a doubled frame.
+fn wrong_frames(bytes: &[u8]) -> Vec<Vec<u8>> {
+    let body = &bytes[3..];
+    let mut wrong = vec![
+        [bytes, &[0x00]].concat(),
+        frame(&[body, &[0x01]].concat()),
+        frame(&[body, body].concat()),
+        frame(bytes),
+        body.to_vec(),
+        bytes[1..].to_vec(),
+        bytes[2..].to_vec(),
+        [&bytes[..2], body].concat(),
+        [bytes[1], bytes[0]]
+            .into_iter()
+            .chain(bytes[2..].iter().copied())
+            .collect(),
+    ];
+    for place in 3..bytes.len() {
+        let mut shorter = body.to_vec();
+        shorter.remove(place - 3);
+        wrong.push(frame(&shorter));
+    }
+    wrong
+}
+
+#[test]
+fn changed_and_cut_formulas() {
+    let mut random = Random::new(21);
+    for (n, rows, count) in [(1, 40, 8), (2, 60, 8), (2, 9, 6), (3, 80, 4)] {
+        let mut runner = room(n, rows);
+        for index in 0..2 * count {
+            let kind = [Kind::Set, Kind::Relation][index % 2];
+            let bytes = draw(&mut random, kind, n);
+            compare(&mut runner, bytes.clone());
+            let damaged = [
+                single_changes(&bytes),
+                truncations(&bytes),
+                wrong_frames(&bytes),
+            ];
+            for bytes in damaged.concat() {
+                compare(&mut runner, bytes);
+            }
+        }
+        runner.compare_all().unwrap();
+        println!("n {n}, N {rows}: {:?}", runner.counts.numbers);
+    }
+}
+
+#[test]
+fn noise_as_formulas() {
+    let mut random = Random::new(22);
+    let mut runner = room(2, 60);
+    for _ in 0..5_000 {
+        let length = random.below(12);
+        let bytes: Vec<u8> = (0..length).map(|_| random.below(0x90) as u8).collect();
+        compare(&mut runner, bytes.clone());
+        compare(&mut runner, frame(&bytes));
+    }
+}
+
+/// The number of a set call.
+fn number(runner: &mut Runner, body: &[u8]) -> usize {
+    let before = runner.counts.numbers;
+    runner.step(&set(3, frame(body))).unwrap();
+    let changed = (0..10).find(|&k| runner.counts.numbers[k] != before[k]);
+    changed.expect("a call has a number")
+}
+
+#[test]
+fn depth_64_and_65() {
+    let mut runner = room(2, 60);
+    let chain = |token: u8, depth: usize| [vec![token; depth - 1], vec![0x10]].concat();
+    for token in [0x02, 0x60, 0x69] {
+        assert_eq!(number(&mut runner, &chain(token, 64)), 0);
+        assert_eq!(number(&mut runner, &chain(token, 65)), 4);
+    }
+    for binary in [0x03, 0x04] {
+        let right = |depth: usize| [[binary, 0x11].repeat(depth - 1), vec![0x10]].concat();
+        let left = |depth: usize| [vec![binary; depth - 1], vec![0x11; depth]].concat();
+        assert_eq!(number(&mut runner, &right(64)), 0);
+        assert_eq!(number(&mut runner, &right(65)), 4);
+        assert_eq!(number(&mut runner, &left(64)), 0);
+        assert_eq!(number(&mut runner, &left(65)), 4);
+    }
+    for binder in [0x70, 0x8F] {
+        let under = |depth: usize| [vec![0x02; depth - 2], vec![binder, 0x10]].concat();
+        assert_eq!(number(&mut runner, &under(64)), 0);
+        assert_eq!(number(&mut runner, &under(65)), 4);
+    }
+    let relation_deep = |depth| relation(3, frame(&nots(depth, 0x21)));
+    runner.step(&relation_deep(64)).unwrap();
+    runner.step(&relation_deep(65)).unwrap();
+}
+
+#[test]
+fn length_1024_and_1025() {
+    let mut random = Random::new(23);
+    let mut runner = room(2, 60);
+    for _ in 0..5 {
+        let longest = tree(&mut random, 9, &[0x00, 0x10, 0x11, 0x40, 0x41]);
+        assert_eq!(longest.len(), 1_023);
+        assert_eq!(number(&mut runner, &longest), 0);
+        let longer = [vec![0x02], longest].concat();
+        assert_eq!(number(&mut runner, &longer), 4);
+    }
+}
+
+/// "Checks run in this order, 4 to 7 each over the whole formula".
+#[test]
+fn order_of_the_checks() {
+    let mut runner = room(1, 40);
+    // Faults in the order of their numbers: 4 an unknown byte, 5 P unbound, 6 P read odd, 7 register
+    // 9 empty. Each pair and triple, in all orders, below ANDs.
+    let faults: [(usize, &[u8]); 4] = [
+        (4, &[0x05]),
+        (5, &[0x3A]),
+        (6, &[0x71, 0x02, 0x31]),
+        (7, &[0x49]),
+    ];
+    for (a, first) in faults {
+        for (b, second) in faults {
+            for (c, third) in faults {
+                let body = [&[0x03], first, &[0x03], second, third].concat();
+                assert_eq!(number(&mut runner, &body), a.min(b).min(c), "{body:x?}");
+            }
+        }
+    }
+}
+
+/// "register, relation or state number out of range" comes before the checks of the formula.
+#[test]
+fn range_before_formula() {
+    let mut table = Table::new(1, 10).unwrap();
+    assert_eq!(table.set(32, 0, []), Err(Refusal::Range));
+    assert_eq!(table.relation(8, []), Err(Refusal::Range));
+    assert_eq!(table.set(31, 0, []), Err(Refusal::Syntax));
+    assert_eq!(table.relation(7, []), Err(Refusal::Syntax));
+    assert_eq!(table.member(0, 2), Err(Refusal::Range));
+    assert_eq!(table.member(0, 1), Err(Refusal::Empty));
+}

@@ -1,0 +1,190 @@
+//! Which words each refusal keeps: 1 to 7 all; 8 and 9 the registers, the relations, the tally and
+//! every register's set and number. Words past the table are never changed.
+
+use kudzuclamp::{words_for, Formula, Refusal, Table};
+
+const GUARD: u32 = 0xFEED_BEEF;
+const PAST: usize = 50;
+
+/// n = 2 with so many rows, guard words past the table, registers 0 to 2 and relation 0 filled;
+/// refused where the rows are too few.
+fn try_room(rows: u32) -> Result<Table<Vec<u32>>, Refusal> {
+    let words = vec![GUARD; words_for(rows) + PAST];
+    let mut table = Table::fresh(words, 2, rows)?;
+    let (open, echo) = (Formula::current(0), Formula::current(1));
+    let same = |a: Formula, b: Formula| (a.clone() & b.clone()) | (!a & !b);
+    let press = Formula::next(0) & same(Formula::next(1), open.clone());
+    table.relation(0, press)?;
+    table.set(0, 0, open.clone() & echo.clone())?;
+    table.set(1, 0, open | echo)?;
+    let howl = Formula::register(0) | Formula::diamond(0, Formula::var(0));
+    table.set(2, 100, Formula::mu(0, howl))?;
+    Ok(table)
+}
+
+fn room(rows: u32) -> Table<Vec<u32>> {
+    try_room(rows).expect("rows in plenty")
+}
+
+/// Everything that refusals 8 and 9 keep, as the calls answer it.
+fn contents(table: &Table<Vec<u32>>) -> Vec<Result<u32, Refusal>> {
+    let mut answers = vec![table.tally()];
+    for r in 0..32 {
+        answers.extend([table.node(r), table.count(r)]);
+        answers.extend((0..4).map(|state| table.member(r, state).map(u32::from)));
+    }
+    let roots = table.words()[16..56].iter();
+    answers.extend(roots.map(|&word| Ok(word)));
+    answers
+}
+
+fn assert_guards(table: &Table<Vec<u32>>, rows: u32) {
+    let past = &table.words()[words_for(rows)..];
+    assert!(past.len() == PAST && past.iter().all(|&word| word == GUARD));
+}
+
+/// Makes a call that is refused and keeps all words.
+fn keeps_all<T: std::fmt::Debug + PartialEq>(
+    refusal: Refusal,
+    call: impl Fn(&mut Table<Vec<u32>>) -> Result<T, Refusal>,
+) {
+    let mut table = room(100);
+    let before = table.words().to_vec();
+    assert_eq!(call(&mut table), Err(refusal));
+    assert_eq!(table.words(), before);
+}
+
+#[test]
+fn one() {
+    for (n, rows) in [
+        (0, 5),
+        (17, 5),
+        (u32::MAX, 5),
+        (2, 0),
+        (2, 60_001),
+        (2, 105),
+    ] {
+        keeps_all(Refusal::Sizes, |table| table.restart(n, rows));
+    }
+}
+
+#[test]
+fn two() {
+    let mut table = room(100);
+    for (place, value) in [(0, 0), (1, 0), (3, 101), (16, 99), (48, 99), (258, 4)] {
+        let sound = table.words().to_vec();
+        table.words_mut()[place] = value;
+        let before = table.words().to_vec();
+        assert_eq!(table.set(0, 9, Formula::always()), Err(Refusal::Unsound));
+        assert_eq!(table.relation(0, Formula::never()), Err(Refusal::Unsound));
+        assert_eq!(table.clear(0), Err(Refusal::Unsound));
+        assert_eq!(table.collect(), Err(Refusal::Unsound));
+        assert_eq!(table.words(), before, "word {place}");
+        table.words_mut().copy_from_slice(&sound);
+    }
+}
+
+#[test]
+fn three_to_seven() {
+    let var = || Formula::var(0);
+    keeps_all(Refusal::Range, |t| t.set(32, 9, Formula::always()));
+    keeps_all(Refusal::Range, |t| t.relation(8, Formula::always()));
+    keeps_all(Refusal::Range, |t| t.clear(32));
+    keeps_all(Refusal::Range, |t| t.member(0, 4));
+    keeps_all(Refusal::Syntax, |t| t.set(0, 9, Formula::next(0)));
+    keeps_all(Refusal::Syntax, |t| t.relation(0, Formula::register(0)));
+    keeps_all(Refusal::Unbound, |t| t.set(0, 9, var()));
+    keeps_all(Refusal::Odd, |t| t.set(0, 9, Formula::nu(0, !var())));
+    keeps_all(Refusal::Empty, |t| t.set(0, 9, Formula::register(9)));
+    keeps_all(Refusal::Empty, |t| {
+        t.set(0, 9, Formula::boxed(7, Formula::always()))
+    });
+    keeps_all(Refusal::Empty, |t| t.count(9));
+}
+
+/// Formulas that need many rows, for sets and for relations.
+fn large() -> (Formula, Formula) {
+    let bit = Formula::current;
+    let differ = |a: Formula, b: Formula| (a.clone() & !b.clone()) | (!a & b);
+    let set = differ(bit(0), bit(1));
+    let relation = differ(
+        differ(bit(0), Formula::next(1)),
+        differ(bit(1), Formula::next(0)),
+    );
+    (set, relation)
+}
+
+/// Makes a call; where it is refused with 8 all contents are kept.
+fn full_keeps<T>(
+    table: &mut Table<Vec<u32>>,
+    call: impl Fn(&mut Table<Vec<u32>>) -> Result<T, Refusal>,
+) -> bool {
+    let before = contents(table);
+    match call(table) {
+        Ok(_) => true,
+        Err(refusal) => {
+            assert_eq!(refusal, Refusal::Full);
+            assert_eq!(contents(table), before);
+            false
+        }
+    }
+}
+
+/// With every number of rows in which the room fits: 8 below some number, answered from there on.
+#[test]
+fn eight() {
+    let (set, relation) = large();
+    let (mut sets, mut relations) = (Vec::new(), Vec::new());
+    for rows in 1..40 {
+        let Ok(mut table) = try_room(rows) else {
+            continue;
+        };
+        sets.push(full_keeps(&mut table, |t| t.set(5, 9, &set)));
+        table.clear(5).unwrap();
+        relations.push(full_keeps(&mut table, |t| t.relation(5, &relation)));
+        assert_guards(&table, rows);
+    }
+    for answers in [sets, relations] {
+        assert!(answers.is_sorted() && answers.contains(&false) && answers.contains(&true));
+    }
+}
+
+#[test]
+fn nine() {
+    let mut table = room(100);
+    let step = Formula::diamond(0, Formula::var(0));
+    let reach = Formula::mu(0, Formula::register(0) | step);
+    let needed = table.set(3, u32::MAX, &reach).unwrap().rounds;
+    assert!(needed > 2);
+    let before = contents(&table);
+    for most in 0..needed {
+        assert_eq!(table.set(0, most, &reach), Err(Refusal::Spent));
+        assert_eq!(contents(&table), before);
+    }
+    assert_eq!(table.set(0, needed, &reach).unwrap().rounds, needed);
+    assert_guards(&table, 100);
+}
+
+#[test]
+fn answered_calls_keep_the_words_past_the_table() {
+    let mut table = room(100);
+    table.clear(0).unwrap();
+    table.collect().unwrap();
+    table.restart(16, 100).unwrap();
+    assert_guards(&table, 100);
+    table.restart(3, 90).unwrap();
+    assert_eq!(table.words()[words_for(100)..], [GUARD; PAST]);
+}
+
+/// "Fresh writes the header and the heads; every other word keeps its old content."
+#[test]
+fn fresh_writes_header_and_heads_only() {
+    let mut table = room(100);
+    let before = table.words().to_vec();
+    table.restart(2, 100).unwrap();
+    let after = table.words();
+    let heads = 256 + 9 * 100..256 + 10 * 100;
+    for place in (256..after.len()).filter(|place| !heads.contains(place)) {
+        assert_eq!(after[place], before[place], "word {place}");
+    }
+}
