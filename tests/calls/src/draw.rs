@@ -1,12 +1,11 @@
-//! Draws the steps of a list, each for the book as it stands.
+//! Draws the steps of a list, each for the table as it stands, and runs them.
 
+use crate::call::draw_call;
+use crate::compare::Difference;
 use crate::list::{List, Step};
-use crate::run::{Difference, Runner, MAX_BITS};
-use crate::words::{table_size, BITS, HEADER, ROOTS_END, ROW, TALLY};
-use crate::writer::{self, Plan};
-use reference::book::{words_for, Book, Call, MAX_ROWS, REGISTERS, RELATIONS};
-use reference::evaluate::{self, Limits};
-use reference::formula::{self, frame, Kind};
+use crate::run::{Runner, MAX_BITS};
+use crate::words::{table_size, BITS, FIRST_REGISTER, HEADER, ROW, TALLY};
+use reference::book::{words_for, Book, Call, MAX_ROWS};
 use reference::random::Random;
 
 /// Calls of a list: fresh, relation, set, clear, collect, node, member, count and tally.
@@ -88,12 +87,6 @@ fn draw_rows(random: &mut Random, n: u32) -> u32 {
     rows.max(1) as u32
 }
 
-fn checked(book: &Book, kind: Kind, bytes: &[u8]) -> Option<formula::Formula> {
-    let register = |r: usize| book.registers()[r].is_some();
-    let relation = |t: usize| book.relations()[t].is_some();
-    formula::check(book.n(), kind, bytes, register, relation).ok()
-}
-
 /// A list on its way.
 struct Session {
     random: Random,
@@ -119,7 +112,7 @@ impl Session {
     /// The next step, after so many calls, and its need where that is known.
     fn step(&mut self, calls: u64) -> (Step, Option<usize>) {
         let runner = &self.drawn.runner;
-        let Some(book) = runner.undamaged().map(|expected| expected.book.clone()) else {
+        let Some(expected) = runner.expected().or(runner.undamaged()) else {
             return match self.random.chance(70) {
                 true => (self.fresh(), None),
                 false => (self.call_for_nothing(), None),
@@ -133,7 +126,7 @@ impl Session {
             30..=44 if calls < CALLS - 10 => (self.fresh(), None),
             45..=99 if runner.expected().is_some() => (self.damage(), None),
             _ => {
-                let (call, need) = self.steered_call(&book);
+                let (call, need) = steered_call(&mut self.random, &expected.book);
                 (Step::Call(call), need)
             }
         }
@@ -182,7 +175,7 @@ impl Session {
         let rows = self.rows as usize;
         let place = match self.random.below(10) {
             0..=1 => self.random.below(7) as usize,
-            2..=3 => 16 + self.random.below((ROOTS_END - 16) as u64) as usize,
+            2..=3 => FIRST_REGISTER + self.random.below(40) as usize,
             4..=7 => HEADER + self.random.below((ROW * rows) as u64) as usize,
             _ => HEADER + self.random.below((12 * rows) as u64) as usize,
         };
@@ -204,25 +197,9 @@ impl Session {
         }
     }
 
-    /// A call, drawn again a few times until its need is N or N + 1.
-    fn steered_call(&mut self, book: &Book) -> (Call, Option<usize>) {
-        let mut drawn = draw_call(&mut self.random, book);
-        for _ in 0..self.random.below(3) {
-            match drawn.1 {
-                Some(need) if need < book.rows() || need > book.rows() + 1 => {
-                    drawn = draw_call(&mut self.random, book);
-                }
-                _ => break,
-            }
-        }
-        drawn
-    }
-
     /// Counts a call whose need is N, or N + 1.
     fn note_edge(&mut self, need: Option<usize>, full: bool) {
-        let runner = &self.drawn.runner;
-        let (Some(need), Some(expected), false) = (need, runner.expected(), runner.is_damaged())
-        else {
+        let (Some(need), Some(expected)) = (need, self.drawn.runner.expected()) else {
             return;
         };
         let rows = expected.book.rows();
@@ -231,190 +208,16 @@ impl Session {
     }
 }
 
-/// A call for a book, which is asked what is filled and how many rounds a set takes; and the
-/// greatest need of its steps, where it would be answered with rows in plenty.
-pub fn draw_call(random: &mut Random, book: &Book) -> (Call, Option<usize>) {
-    let few = book.relations().iter().flatten().count() < 2;
-    let call = match random.below(100) {
-        0..=39 if few => return relation_call(random, book),
-        0..=14 => return relation_call(random, book),
-        15..=66 => return set_call(random, book),
-        67..=73 => Call::Clear {
-            r: register(random),
-        },
-        74..=79 => Call::Collect,
-        80..=84 => Call::Node {
-            r: asked(random, book),
-        },
-        85..=90 => member_call(random, book),
-        91..=95 => Call::Count {
-            r: asked(random, book),
-        },
-        _ => Call::Tally,
-    };
-    (call, None)
-}
-
-fn relation_call(random: &mut Random, book: &Book) -> (Call, Option<usize>) {
-    let t = match random.below(100) {
-        0..=3 => random.pick(&[8, 9, 255, u64::from(u32::MAX)]),
-        4..=6 => 7,
-        _ => random.below(3),
-    };
-    let n = book.n() as u8;
-    let body = match random.below(100) {
-        0..=29 if n < 5 => writer::rules(random, n),
-        30..=35 if n < 4 => writer::counter(n),
-        36..=37 => special(random, book, Kind::Relation),
-        _ => plain(random, book, Kind::Relation),
-    };
-    let formula = framed(random, body);
-    let done = checked(book, Kind::Relation, &formula)
-        .and_then(|f| evaluate::relation(book.held(), MAX_ROWS as usize, &f).ok());
-    let need = done
-        .filter(|_| t < RELATIONS as u64)
-        .map(|done| done.highest_need);
-    (Call::Relation { t, formula }, need)
-}
-
-fn set_call(random: &mut Random, book: &Book) -> (Call, Option<usize>) {
-    let r = register(random);
-    let body = match random.below(100) {
-        0..=3 => special(random, book, Kind::Set),
-        _ => plain(random, book, Kind::Set),
-    };
-    let formula = framed(random, body);
-    let (rounds, need) = round_limit(random, book, &formula);
-    let need = need.filter(|_| r < REGISTERS as u64);
-    (Call::Set { r, rounds, formula }, need)
-}
-
-/// R, mostly the rounds taken or one fewer, never so many that the book takes long; and the need
-/// where R is enough.
-fn round_limit(random: &mut Random, book: &Book, bytes: &[u8]) -> (u32, Option<usize>) {
-    let most = match book.n() {
-        1..=2 => 2_000,
-        3 => 300,
-        4 => 100,
-        _ => 40,
-    };
-    let Some(formula) = checked(book, Kind::Set, bytes) else {
-        return (random.pick(&[0, 100, u32::MAX]), None);
-    };
-    let limits = Limits {
-        rows: MAX_ROWS as usize,
-        rounds: most,
-    };
-    let Ok(done) = evaluate::set(book.held(), limits, &formula) else {
-        return (random.below(u64::from(most) + 1) as u32, None);
-    };
-    let rounds = match random.below(100) {
-        0..=49 => done.rounds,
-        50..=64 => done.rounds.saturating_sub(1),
-        65..=69 => random.below(u64::from(done.rounds) + 1) as u32,
-        70..=89 => done.rounds + random.below(100) as u32,
-        _ => u32::MAX,
-    };
-    (
-        rounds,
-        Some(done.highest_need).filter(|_| rounds >= done.rounds),
-    )
-}
-
-fn member_call(random: &mut Random, book: &Book) -> Call {
-    let r = asked(random, book);
-    let states = 1u64 << book.n();
-    let state = match random.chance(15) {
-        true => random.pick(&[states, states + 1, u64::from(u32::MAX)]),
-        false => random.below(states),
-    };
-    Call::Member { r, state }
-}
-
-fn register(random: &mut Random) -> u64 {
-    match random.below(100) {
-        0..=3 => random.pick(&[32, 33, 255, u64::from(u32::MAX)]),
-        4..=6 => 31,
-        _ => random.below(5),
-    }
-}
-
-/// A register to ask about, mostly a filled one.
-fn asked(random: &mut Random, book: &Book) -> u64 {
-    let filled = filled(book.registers());
-    match filled.is_empty() || random.chance(30) {
-        true => register(random),
-        false => u64::from(random.pick(&filled)),
-    }
-}
-
-fn filled<T>(places: &[Option<T>]) -> Vec<u8> {
-    let numbered = (0u8..).zip(places);
-    let filled = numbered.filter(|(_, place)| place.is_some());
-    filled.map(|(number, _)| number).collect()
-}
-
-fn plain(random: &mut Random, book: &Book, kind: Kind) -> Vec<u8> {
-    let largest = match (kind, book.n()) {
-        (Kind::Relation, 1..=3) => 14,
-        (Kind::Relation, _) => 9,
-        (Kind::Set, 1..=2) => 40,
-        (Kind::Set, 3) => 24,
-        (Kind::Set, _) => 12,
-    };
-    let slip = random.chance(15);
-    let plan = Plan {
-        kind,
-        n: book.n() as u8,
-        registers: filled(book.registers()),
-        relations: filled(book.relations()),
-        size: 1 + random.below(largest),
-        binders: match kind {
-            Kind::Relation => 0,
-            Kind::Set => u32::from(slip) + random.below(4) as u32,
-        },
-        slip,
-    };
-    writer::write(random, plan)
-}
-
-/// Formulas at the edges of depth and length, and one with all sixteen binders.
-fn special(random: &mut Random, book: &Book, kind: Kind) -> Vec<u8> {
-    let leaf = 0x10 + random.below(book.n().into()) as u8;
-    let depth = 62 + random.below(5) as usize;
-    match random.below(4) {
-        0 => writer::nots(depth, leaf),
-        1 if book.n() < 3 => writer::tree(random, 9, &[0x00, 0x01, leaf]),
-        2 if book.n() < 3 => [vec![0x02], writer::tree(random, 9, &[0x00, leaf])].concat(),
-        _ if kind == Kind::Set => {
-            let binders = (0..16).map(|p| random.pick(&[0x70, 0x80]) + p);
-            binders.chain([0x30]).collect()
+/// A call, drawn again a few times until its need is N or N + 1.
+fn steered_call(random: &mut Random, book: &Book) -> (Call, Option<usize>) {
+    let mut drawn = draw_call(random, book);
+    for _ in 0..random.below(3) {
+        match drawn.1 {
+            Some(need) if need < book.rows() || need > book.rows() + 1 => {
+                drawn = draw_call(random, book);
+            }
+            _ => break,
         }
-        _ => vec![leaf],
     }
-}
-
-/// The framed bytes, now and then spoilt.
-fn framed(random: &mut Random, mut body: Vec<u8>) -> Vec<u8> {
-    let fault = match random.chance(4) {
-        true => random.below(8),
-        false => return frame(&body),
-    };
-    let at = random.below(body.len() as u64) as usize;
-    match fault {
-        0 => body.push(0x01),
-        1 => body[at] = random.below(256) as u8,
-        2 => body.insert(at, 0x03),
-        3 => body.truncate(at),
-        _ => {}
-    }
-    let mut bytes = frame(&body);
-    match fault {
-        4 => bytes.push(0x00),
-        5 => bytes[2] = random.pick(&[0, 2, 255]),
-        6 => bytes[1] = bytes[1].wrapping_add(1),
-        7 => bytes.truncate(random.below(bytes.len() as u64) as usize),
-        _ => {}
-    }
-    bytes
+    drawn
 }

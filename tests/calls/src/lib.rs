@@ -3,12 +3,14 @@
 //!
 //! - `words` and `sound` read a table's words plainly, from document 01 and docs/LAYOUT.md;
 //! - `kept` says which words a call may change;
-//! - `writer` and `draw` draw formulas and calls;
-//! - `list` is a list of calls as lines of text;
-//! - `run` makes each call on the library and on the book and compares.
+//! - `list` is a list of steps as lines of text;
+//! - `compare` and `run` make each step on the library and on the book, and compare;
+//! - `writer`, `call` and `draw` draw formulas, calls and lists.
 //!
 //! `cargo test --offline --release` needs `target/staticlib/libexports.a` (`rt staticlib exports`).
 
+pub mod call;
+pub mod compare;
 pub mod draw;
 pub mod kept;
 pub mod list;

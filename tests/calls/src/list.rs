@@ -54,11 +54,12 @@ impl List {
         (0..self.length).map(|_| random.word() as u32).collect()
     }
 
-    /// The list that lines of text stand for.
+    /// The list that lines of text stand for, from the line `words` on.
     pub fn read(text: &str) -> Option<List> {
         let mut lines = text.lines().filter(|line| !line.trim().is_empty());
-        let first: Vec<&str> = lines.next()?.split_whitespace().collect();
-        let ["words", length, noise] = first[..] else {
+        let first = lines.find(|line| line.starts_with("words "))?;
+        let first: Vec<&str> = first.split_whitespace().collect();
+        let [_, length, noise] = first[..] else {
             return None;
         };
         let mut list = List::new(length.parse().ok()?, noise.parse().ok()?);

@@ -1,10 +1,12 @@
 //! Damaged words: refusal 2 exactly where a slow plain check finds them unsound, with all words
 //! kept; an accepted table holds what its words say and stays sound through calls.
 
-use calls::draw::{draw_and_run, draw_call};
+use calls::call::draw_call;
+use calls::compare::make;
+use calls::draw::draw_and_run;
 use calls::kept;
 use calls::list::Step;
-use calls::run::{make, Runner, MAX_BITS};
+use calls::run::{Runner, MAX_BITS};
 use calls::sound::sound;
 use calls::words::*;
 use kudzuclamp::{Refusal, Table};

@@ -34,21 +34,18 @@ struct Totals {
 }
 
 impl Totals {
-    fn add(&mut self, index: u64, drawn: Drawn) {
-        let counts = drawn.runner.counts;
-        for (sum, count) in self.numbers.iter_mut().zip(counts.numbers) {
-            *sum += count;
-        }
-        self.questions += counts.questions;
-        self.edge_answered += drawn.edges.answered;
-        self.edge_refused += drawn.edges.refused;
-        if let Some(what) = drawn.difference {
-            let text = format!("list {index}: {what}\n{}", drawn.list);
-            self.differences.push(text);
+    fn of(index: u64, drawn: Drawn) -> Totals {
+        let text = |what| format!("list {index}: {what}\n{}", drawn.list);
+        Totals {
+            numbers: drawn.runner.counts.numbers,
+            questions: drawn.runner.counts.questions,
+            edge_answered: drawn.edges.answered,
+            edge_refused: drawn.edges.refused,
+            differences: drawn.difference.map(text).into_iter().collect(),
         }
     }
 
-    fn join(&mut self, other: Totals) {
+    fn add(&mut self, other: Totals) {
         for (sum, count) in self.numbers.iter_mut().zip(other.numbers) {
             *sum += count;
         }
@@ -67,7 +64,7 @@ fn work(seed: u64, lists: u64, taken: &AtomicU64) -> Totals {
         if index >= lists || totals.differences.len() > 2 {
             return totals;
         }
-        totals.add(index, draw_and_run(seed, index));
+        totals.add(Totals::of(index, draw_and_run(seed, index)));
     }
 }
 
@@ -84,7 +81,7 @@ fn random_lists() {
             .map(|_| scope.spawn(|| work(seed, lists, &taken)))
             .collect();
         for worker in workers {
-            totals.join(worker.join().expect("no panic"));
+            totals.add(worker.join().expect("no panic"));
         }
     });
     report(&totals, seed, lists, start.elapsed().as_secs_f64());

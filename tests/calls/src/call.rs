@@ -1,0 +1,202 @@
+//! Draws one call for a book as it stands.
+
+use crate::writer::{self, Plan};
+use reference::book::{Book, Call, MAX_ROWS, REGISTERS, RELATIONS};
+use reference::evaluate::{self, Limits};
+use reference::formula::{self, frame, Formula, Kind};
+use reference::random::Random;
+
+/// A call for a book, which is asked what is filled and how many rounds a set takes; and the
+/// greatest need of its steps, where it would be answered with rows in plenty.
+pub fn draw_call(random: &mut Random, book: &Book) -> (Call, Option<usize>) {
+    let few = book.relations().iter().flatten().count() < 2;
+    let call = match random.below(100) {
+        0..=39 if few => return relation_call(random, book),
+        0..=14 => return relation_call(random, book),
+        15..=66 => return set_call(random, book),
+        67..=73 => Call::Clear {
+            r: register(random),
+        },
+        74..=79 => Call::Collect,
+        80..=84 => Call::Node {
+            r: asked(random, book),
+        },
+        85..=90 => member_call(random, book),
+        91..=95 => Call::Count {
+            r: asked(random, book),
+        },
+        _ => Call::Tally,
+    };
+    (call, None)
+}
+
+fn relation_call(random: &mut Random, book: &Book) -> (Call, Option<usize>) {
+    let t = match random.below(100) {
+        0..=3 => random.pick(&[8, 9, 255, u64::from(u32::MAX)]),
+        4..=6 => 7,
+        _ => random.below(3),
+    };
+    let n = book.n() as u8;
+    let body = match random.below(100) {
+        0..=29 if n < 5 => writer::rules(random, n),
+        30..=35 if n < 4 => writer::counter(n),
+        36..=37 => special(random, book, Kind::Relation),
+        _ => plain(random, book, Kind::Relation),
+    };
+    let formula = framed(random, body);
+    let done = checked(book, Kind::Relation, &formula)
+        .and_then(|f| evaluate::relation(book.held(), MAX_ROWS as usize, &f).ok());
+    let need = done
+        .filter(|_| t < RELATIONS as u64)
+        .map(|done| done.highest_need);
+    (Call::Relation { t, formula }, need)
+}
+
+fn set_call(random: &mut Random, book: &Book) -> (Call, Option<usize>) {
+    let r = register(random);
+    let body = match random.below(100) {
+        0..=3 => special(random, book, Kind::Set),
+        _ => plain(random, book, Kind::Set),
+    };
+    let formula = framed(random, body);
+    let (rounds, need) = round_limit(random, book, &formula);
+    let need = need.filter(|_| r < REGISTERS as u64);
+    (Call::Set { r, rounds, formula }, need)
+}
+
+/// R, mostly the rounds taken or one fewer, never so many that the book takes long; and the need
+/// where R is enough.
+fn round_limit(random: &mut Random, book: &Book, bytes: &[u8]) -> (u32, Option<usize>) {
+    let most = match book.n() {
+        1..=2 => 2_000,
+        3 => 300,
+        4 => 100,
+        _ => 40,
+    };
+    let Some(formula) = checked(book, Kind::Set, bytes) else {
+        return (random.pick(&[0, 100, u32::MAX]), None);
+    };
+    let limits = Limits {
+        rows: MAX_ROWS as usize,
+        rounds: most,
+    };
+    let Ok(done) = evaluate::set(book.held(), limits, &formula) else {
+        return (random.below(u64::from(most) + 1) as u32, None);
+    };
+    let rounds = match random.below(100) {
+        0..=49 => done.rounds,
+        50..=64 => done.rounds.saturating_sub(1),
+        65..=69 => random.below(u64::from(done.rounds) + 1) as u32,
+        70..=89 => done.rounds + random.below(100) as u32,
+        _ => u32::MAX,
+    };
+    (
+        rounds,
+        Some(done.highest_need).filter(|_| rounds >= done.rounds),
+    )
+}
+
+/// The formula, where checks 4 to 7 find no cause.
+fn checked(book: &Book, kind: Kind, bytes: &[u8]) -> Option<Formula> {
+    let register = |r: usize| book.registers()[r].is_some();
+    let relation = |t: usize| book.relations()[t].is_some();
+    formula::check(book.n(), kind, bytes, register, relation).ok()
+}
+
+fn member_call(random: &mut Random, book: &Book) -> Call {
+    let r = asked(random, book);
+    let states = 1u64 << book.n();
+    let state = match random.chance(15) {
+        true => random.pick(&[states, states + 1, u64::from(u32::MAX)]),
+        false => random.below(states),
+    };
+    Call::Member { r, state }
+}
+
+fn register(random: &mut Random) -> u64 {
+    match random.below(100) {
+        0..=3 => random.pick(&[32, 33, 255, u64::from(u32::MAX)]),
+        4..=6 => 31,
+        _ => random.below(5),
+    }
+}
+
+/// A register to ask about, mostly a filled one.
+fn asked(random: &mut Random, book: &Book) -> u64 {
+    let filled = filled(book.registers());
+    match filled.is_empty() || random.chance(30) {
+        true => register(random),
+        false => u64::from(random.pick(&filled)),
+    }
+}
+
+fn filled<T>(places: &[Option<T>]) -> Vec<u8> {
+    let numbered = (0u8..).zip(places);
+    let filled = numbered.filter(|(_, place)| place.is_some());
+    filled.map(|(number, _)| number).collect()
+}
+
+fn plain(random: &mut Random, book: &Book, kind: Kind) -> Vec<u8> {
+    let largest = match (kind, book.n()) {
+        (Kind::Relation, 1..=3) => 14,
+        (Kind::Relation, _) => 9,
+        (Kind::Set, 1..=2) => 40,
+        (Kind::Set, 3) => 24,
+        (Kind::Set, _) => 12,
+    };
+    let slip = random.chance(15);
+    let plan = Plan {
+        kind,
+        n: book.n() as u8,
+        registers: filled(book.registers()),
+        relations: filled(book.relations()),
+        size: 1 + random.below(largest),
+        binders: match kind {
+            Kind::Relation => 0,
+            Kind::Set => u32::from(slip) + random.below(4) as u32,
+        },
+        slip,
+    };
+    writer::write(random, plan)
+}
+
+/// Formulas at the edges of depth and length, and one with all sixteen binders.
+fn special(random: &mut Random, book: &Book, kind: Kind) -> Vec<u8> {
+    let leaf = 0x10 + random.below(book.n().into()) as u8;
+    let depth = 62 + random.below(5) as usize;
+    match random.below(4) {
+        0 => writer::nots(depth, leaf),
+        1 if book.n() < 3 => writer::tree(random, 9, &[0x00, 0x01, leaf]),
+        2 if book.n() < 3 => [vec![0x02], writer::tree(random, 9, &[0x00, leaf])].concat(),
+        _ if kind == Kind::Set => {
+            let binders = (0..16).map(|p| random.pick(&[0x70, 0x80]) + p);
+            binders.chain([0x30]).collect()
+        }
+        _ => vec![leaf],
+    }
+}
+
+/// The framed bytes, now and then spoilt.
+fn framed(random: &mut Random, mut body: Vec<u8>) -> Vec<u8> {
+    let fault = match random.chance(4) {
+        true => random.below(8),
+        false => return frame(&body),
+    };
+    let at = random.below(body.len() as u64) as usize;
+    match fault {
+        0 => body.push(0x01),
+        1 => body[at] = random.below(256) as u8,
+        2 => body.insert(at, 0x03),
+        3 => body.truncate(at),
+        _ => {}
+    }
+    let mut bytes = frame(&body);
+    match fault {
+        4 => bytes.push(0x00),
+        5 => bytes[2] = random.pick(&[0, 2, 255]),
+        6 => bytes[1] = bytes[1].wrapping_add(1),
+        7 => bytes.truncate(random.below(bytes.len() as u64) as usize),
+        _ => {}
+    }
+    bytes
+}

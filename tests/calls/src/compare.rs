@@ -1,0 +1,172 @@
+//! Makes a call on the library, and compares answers, words and contents with the book.
+
+use crate::kept::{self, Target};
+use crate::sound::sound;
+use crate::words::{Words, FIRST_REGISTER, FIRST_RELATION};
+use kudzuclamp::{Refusal, Stored, Table};
+use reference::book::{Answer, Book, Call, REGISTERS};
+use reference::formula::{self, Kind};
+use reference::states::state_count;
+
+/// A difference between the library and the book, in words.
+pub type Difference = String;
+
+/// What a sound table should be: the book, and each filled register's node number as it was last
+/// returned.
+#[derive(Clone)]
+pub struct Expected {
+    pub book: Book,
+    pub nodes: Vec<Option<u32>>,
+}
+
+/// Node, count and member of all registers and states, and the tally.
+pub fn questions(book: &Book) -> Vec<Call> {
+    let mut calls = vec![Call::Tally];
+    for r in 0..=REGISTERS as u64 {
+        calls.extend([Call::Node { r }, Call::Count { r }]);
+        let states = 0..=state_count(book.n()) as u64;
+        calls.extend(states.map(|state| Call::Member { r, state }));
+    }
+    calls
+}
+
+/// Makes a call on the library; its answer in the book's form.
+pub fn make(table: &mut Table<Vec<u32>>, call: &Call) -> Answer {
+    let plain = |value: u32| (0, value);
+    let none = |()| (0, 0);
+    let stored = |stored: Stored| (stored.rounds, stored.node);
+    let result = match call {
+        Call::Relation { t, formula } => table.relation(*t as u32, formula).map(none),
+        Call::Set { r, rounds, formula } => table.set(*r as u32, *rounds, formula).map(stored),
+        Call::Clear { r } => table.clear(*r as u32).map(none),
+        Call::Collect => table.collect().map(plain),
+        Call::Node { r } => table.node(*r as u32).map(plain),
+        Call::Member { r, state } => {
+            let member = table.member(*r as u32, *state as u32);
+            member.map(|member| plain(member.into()))
+        }
+        Call::Count { r } => table.count(*r as u32).map(plain),
+        Call::Tally => table.tally().map(plain),
+    };
+    match result {
+        Ok((rounds, value)) => Answer {
+            number: 0,
+            rounds,
+            value: Some(value.into()),
+        },
+        Err(refusal) => refused(refusal.number() as u8),
+    }
+}
+
+/// "number, zeros".
+pub fn refused(number: u8) -> Answer {
+    Answer {
+        number,
+        rounds: 0,
+        value: Some(0),
+    }
+}
+
+pub fn number_of<T>(result: &Result<T, Refusal>) -> u8 {
+    match result {
+        Ok(_) => 0,
+        Err(refusal) => refusal.number() as u8,
+    }
+}
+
+pub fn check_number(book: &Book, kind: Kind, bytes: &[u8]) -> u8 {
+    let register = |r: usize| book.registers()[r].is_some();
+    let relation = |t: usize| book.relations()[t].is_some();
+    match formula::check(book.n(), kind, bytes, register, relation) {
+        Ok(_) => 0,
+        Err(refusal) => refusal.number(),
+    }
+}
+
+pub fn same<T: PartialEq + std::fmt::Debug>(
+    what: &str,
+    got: T,
+    wanted: T,
+) -> Result<(), Difference> {
+    match got == wanted {
+        true => Ok(()),
+        false => Err(format!("{what}: the library {got:?}, the book {wanted:?}")),
+    }
+}
+
+/// Number, rounds and value. A node number that the book leaves free is above 1, and node answers
+/// the one last returned.
+pub fn compare_answer(
+    expected: &Expected,
+    call: &Call,
+    got: Answer,
+    wanted: Answer,
+) -> Result<(), Difference> {
+    let value = match (wanted.value, call) {
+        (Some(value), _) => Some(value),
+        (None, Call::Node { r }) => expected.nodes[*r as usize].map(u64::from),
+        (None, _) => got.value.filter(|&node| node > 1),
+    };
+    same("answer", got, Answer { value, ..wanted })
+}
+
+/// Keeps the number that an answered set returned.
+pub fn note_node(expected: &mut Expected, call: &Call, got: Answer) {
+    match call {
+        Call::Set { r, .. } if got.number == 0 => {
+            expected.nodes[*r as usize] = got.value.map(|node| node as u32);
+        }
+        Call::Clear { r } if got.number == 0 => expected.nodes[*r as usize] = None,
+        _ => {}
+    }
+}
+
+/// Refusals 2 to 7 and questions keep all words; the rest keeps what is needed. A sound table stays
+/// sound, and an answered collect leaves no unneeded row used.
+pub fn compare_words(
+    before: &[u32],
+    after: &[u32],
+    call: &Call,
+    number: u8,
+) -> Result<(), Difference> {
+    let answered = number == 0;
+    let register = |r: u64| FIRST_REGISTER + r as usize;
+    let target = match call {
+        _ if !matches!(number, 0 | 8 | 9) => return kept::all(before, after),
+        Call::Set { r, .. } => (answered.then(|| register(*r)), answered),
+        Call::Relation { t, .. } => (answered.then(|| FIRST_RELATION + *t as usize), false),
+        Call::Clear { r } => (Some(register(*r)), false),
+        Call::Collect => (None, false),
+        _ => return kept::all(before, after),
+    };
+    let (root, tally) = target;
+    kept::needed(before, after, Target { root, tally })?;
+    sound(after)?;
+    match call {
+        Call::Collect => kept::swept(after),
+        _ => Ok(()),
+    }
+}
+
+/// "The node numbers of two filled registers … are equal exactly where the book's two sets are."
+pub fn compare_pairs(expected: &Expected) -> Result<(), Difference> {
+    let registers = expected.book.registers();
+    for (r, set) in registers.iter().enumerate() {
+        for (q, other) in registers.iter().enumerate().take(r) {
+            if set.is_some() && other.is_some() {
+                let numbers = expected.nodes[r] == expected.nodes[q];
+                same("nodes equal", numbers, set == other).map_err(|w| format!("{q} {r}: {w}"))?;
+            }
+        }
+    }
+    Ok(())
+}
+
+/// No call answers what a relation holds, so it is read from the words.
+pub fn compare_relations(words: Words, book: &Book) -> Result<(), Difference> {
+    for (t, relation) in book.relations().iter().enumerate() {
+        same("relation", words.relation(t).as_ref(), relation.as_ref())
+            .map_err(|what| format!("{t}: {what}"))?;
+    }
+    Ok(())
+}
