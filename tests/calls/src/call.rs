@@ -39,8 +39,9 @@ fn relation_call(random: &mut Random, book: &Book) -> (Call, Option<usize>) {
     let n = book.n() as u8;
     let body = match random.below(100) {
         0..=29 if n < 5 => writer::rules(random, n),
-        30..=35 if n < 4 => writer::counter(n),
-        36..=37 => special(random, book, Kind::Relation),
+        30..=44 if n < 4 => writer::counter(n, random.chance(50)),
+        30..=31 if n < 5 => writer::counter(n, random.chance(50)),
+        45..=46 => special(random, book, Kind::Relation),
         _ => plain(random, book, Kind::Relation),
     };
     let formula = framed(random, body);
@@ -117,7 +118,7 @@ fn register(random: &mut Random) -> u64 {
     match random.below(100) {
         0..=3 => random.pick(&[32, 33, 255, u64::from(u32::MAX)]),
         4..=6 => 31,
-        _ => random.below(5),
+        _ => random.below(7),
     }
 }
 

@@ -56,9 +56,9 @@ pub fn draw_and_run(seed: u64, index: u64) -> Drawn {
 
 fn draw_bits(random: &mut Random) -> u32 {
     match random.below(100) {
-        0..=24 => 1,
-        25..=59 => 2,
-        60..=89 => 3,
+        0..=16 => 1,
+        17..=54 => 2,
+        55..=89 => 3,
         90..=97 => 4,
         _ => 5,
     }
@@ -76,7 +76,7 @@ fn draw_rows(random: &mut Random, n: u32) -> u32 {
     let most = *needs.iter().max().expect("not empty");
     let need = match random.chance(60) {
         true => most,
-        false => random.pick(&needs),
+        false => random.pick(&needs).max(most / 2),
     };
     let rows = match random.below(10) {
         0..=3 => need,

@@ -74,6 +74,10 @@ impl Writer<'_> {
 
     fn binary(&mut self, size: u64) {
         let operator = self.random.pick(&[0x03, 0x04]);
+        self.operator(operator, size);
+    }
+
+    fn operator(&mut self, operator: u8, size: u64) {
         self.bytes.push(operator);
         let left = 1 + self.random.below(size - 2);
         self.formula(left);
@@ -90,15 +94,21 @@ impl Writer<'_> {
         self.bytes.push(base + t);
     }
 
+    /// Mu mostly over an OR and nu over an AND, since others soon end at a constant.
     fn binder(&mut self, size: u64) {
         self.binders -= 1;
         let p = self.variable();
-        let base = self.random.pick(&[0x70, 0x80]);
+        let (base, usual) = self.random.pick(&[(0x70, 0x04), (0x80, 0x03)]);
         self.bytes.push(base + p);
         self.bound.push((p, self.nots));
-        match self.may_be_modal() && self.random.chance(35) {
-            true => self.reach(p, size - 1),
-            false => self.formula(size - 1),
+        let operator = match self.random.chance(85) {
+            true => usual,
+            false => self.random.pick(&[0x03, 0x04]),
+        };
+        match self.random.below(100) {
+            0..=44 if self.may_be_modal() => self.reach(p, operator, size - 1),
+            0..=84 if size > 4 => self.operator(operator, size - 1),
+            _ => self.formula(size - 1),
         }
         self.bound.pop();
     }
@@ -117,8 +127,7 @@ impl Writer<'_> {
     }
 
     /// The usual body of a fixpoint: something, and a modal word over P.
-    fn reach(&mut self, p: u8, size: u64) {
-        let operator = self.random.pick(&[0x03, 0x04]);
+    fn reach(&mut self, p: u8, operator: u8, size: u64) {
         self.bytes.push(operator);
         self.formula(size.saturating_sub(3));
         self.modal_word();
@@ -138,18 +147,18 @@ impl Writer<'_> {
     fn fit_leaves(&self) -> Vec<u8> {
         let mut tokens = vec![0x00, 0x01];
         for p in 0..self.plan.n {
-            tokens.extend([0x10 + p; 3]);
+            tokens.extend([0x10 + p; 6]);
         }
         if self.plan.kind == Kind::Relation {
-            (0..self.plan.n).for_each(|p| tokens.extend([0x20 + p; 4]));
+            (0..self.plan.n).for_each(|p| tokens.extend([0x20 + p; 8]));
             return tokens;
         }
         for r in &self.plan.registers {
-            tokens.extend([0x40 + r; 2]);
+            tokens.extend([0x40 + r; 3]);
         }
         for &(p, nots) in &self.bound {
             if (self.nots - nots).is_multiple_of(2) {
-                tokens.extend([0x30 + p; 8]);
+                tokens.extend([0x30 + p; 12]);
             }
         }
         tokens
@@ -193,8 +202,8 @@ pub fn rules(random: &mut Random, n: u8) -> Vec<u8> {
 }
 
 /// The next state is the number after the current one, from the last on the first: the longest
-/// chain of states.
-pub fn counter(n: u8) -> Vec<u8> {
+/// chain of states. Without `last` the last state has no next one.
+pub fn counter(n: u8, last: bool) -> Vec<u8> {
     let mut body = vec![0x01];
     let mut carry = vec![0x01];
     for p in 0..n {
@@ -202,7 +211,10 @@ pub fn counter(n: u8) -> Vec<u8> {
         body = [vec![0x03], same(0x20 + p, &flipped), body].concat();
         carry = [vec![0x03, 0x10 + p], carry].concat();
     }
-    body
+    match last {
+        true => body,
+        false => [vec![0x03, 0x02], carry, body].concat(),
+    }
 }
 
 /// The bit is as the formula: both, or neither.
