@@ -164,3 +164,13 @@ module _ {bs : List ℕ} {ended : Bool} {old new out out′ : List ℕ} where
       go taken.End (m, e, q) = never (cc)
       go taken.More (e, q) = never (cc)
       go taken.Bad (m, e, q) = never (cc)
+
+  -- by what was matched
+  pub line-said : {r : Said} {used k : ℕ} → Replies bs ended old new out out′ r → r ≡ said.Line used k → LineFits bs out used k
+  line-said h e = line-fits (subst (Replies bs ended old new out out′) e h)
+
+  pub end-said : {r : Said} {k : ℕ} → Replies bs ended old new out out′ r → r ≡ said.End k → k ≤ length out
+  end-said h e = end-fits (subst (Replies bs ended old new out out′) e h)
+
+  pub more-said : {r : Said} → Replies bs ended old new out out′ r → r ≡ said.More → (ended ≡ false) × (length bs < 1_102)
+  more-said h e = more-fits (subst (Replies bs ended old new out out′) e h)
