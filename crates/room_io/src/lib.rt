@@ -6,7 +6,7 @@ use rooms::answer;
 ghost use mathlib.Core.Path.{_≡_};
 ghost use Prim.Native.Nat.{_-_, _≤_, _<_};
 ghost use lib.ListN.{length, take, drop};
-ghost use Rattle.room_io.specs.Places.{Placed, ReadWithin, longest};
+ghost use Rattle.room_io.specs.Places.{Placed, ReadWithin, Refilled, Turned, longest};
 
 // How far the program is: the bytes at hand stand in the input buffer from `start` to `end`, and `pending` bytes at the front of the output
 // buffer are still to be written. `ended`: no more bytes will come. `done`: the last line is written, or a read or a write failed.
@@ -56,7 +56,7 @@ fn to_front(input: &mut [u8], start: usize, end: usize) -> usize
 // More bytes after those at hand, which move to the front. There is room for more, so that a read of none is the end of the input.
 fn refill(input: &mut [u8], p: Progress) -> Progress
     requires { ⌜ (p .start ≤ p .end) × (p .end ≤ length (now input)) × (p .end - p .start < length (now input)) ⌝ }
-    ensures { λ r. ⌜ (r .start ≤ r .end) × (r .end ≤ length (now (input .exit))) × (r .pending ≡ p .pending) ⌝ }
+    ensures { λ r. ⌜ Refilled p r (now (input .entry)) (now (input .exit)) ⌝ }
 {
     let held = to_front(input, p.start, p.end);
     match read_some(&mut input[held..]) {
@@ -87,7 +87,7 @@ fn refill(input: &mut [u8], p: Progress) -> Progress
 // Writes what is pending.
 fn flush(output: &[u8], p: Progress) -> Progress
     requires { ⌜ p .pending ≤ length (now output) ⌝ }
-    ensures { λ r. ⌜ (r .start ≡ p .start) × (r .end ≡ p .end) × (r .pending ≡ 0) ⌝ }
+    ensures { λ r. ⌜ (r .start ≡ p .start) × (r .end ≡ p .end) × (r .pending ≡ 0) × (r .ended ≡ p .ended) ⌝ }
 {
     let pending = p.pending;
     let is_written = io::write_all(STDOUT_FILENO, &output[..pending]);
@@ -103,7 +103,7 @@ fn flush(output: &[u8], p: Progress) -> Progress
 // One answer, and the read or the write that it asks for.
 fn turn(words: &mut [u32], input: &mut [u8], output: &mut [u8], p: Progress) -> Progress
     requires { ⌜ Placed p (length (now input)) (length (now output)) ⌝ }
-    ensures { λ r. ⌜ Placed r (length (now (input .exit))) (length (now (output .exit))) ⌝ }
+    ensures { λ r. ⌜ Turned p r (now (words .entry)) (now (words .exit)) (now (input .entry)) (now (input .exit)) (now (output .entry)) (now (output .exit)) ⌝ }
 {
     let start = p.start;
     let end = p.end;

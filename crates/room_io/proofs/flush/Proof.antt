@@ -1,4 +1,4 @@
--- `room_io::flush` meets its contract: what is pending lies in the buffer.
+-- `room_io::flush` meets its contract: what is pending stands in the buffer.
 -- Assumes nothing.
 use mathlib.Core.Path.{sym}
 use lib.Seq.{length-take-le}

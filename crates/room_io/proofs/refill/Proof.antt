@@ -1,8 +1,8 @@
--- `room_io::refill` meets its contract: a read brings no more than there is room for behind the bytes at hand.
+-- `room_io::refill` meets its contract: the bytes at hand stand at the front, and what a read brought stands behind them.
 -- Assumes nothing.
-use mathlib.Core.Path.{refl}
+use mathlib.Core.Bool.{true, false}
 use native.Mathlib.Omega.{arith}
-use Rattle.room_io.specs.Places.{bytes-fit}
+use Rattle.room_io.specs.Turns.{bytes-fit, refilled-bytes, refilled-none}
 use borrow.Author.Needs.{needs}
 use Rattle.room_io.proofs.refill.Statement.{statement}
 use Rattle.room_io.proofs.refill.Tie as tie
@@ -21,8 +21,8 @@ refill-spec =
     (λ c. search needs)
     (λ c. search needs)
     (λ c. search needs)
-    (λ c. let n = bytes-fit (c .before .before .before .before .before .read-some .ensures) (c .before .n .given .1) in (omega arith, omega (arith, n, c .before .before .before .before .before .read-some .kept .0, c .before .before .before .before .before .before .before .before .before .to-front .ensures .0, c .before .before .before .before .before .before .before .before .before .to-front .kept .0), refl))
+    (λ c. refilled-bytes (c .before .before .before .before .before .before .before .before .before .before .before .before .args .p) (c .before .before .before .before .before .before .before .before .before .before .before .before .args .input .now) (c .before .before .before .before .before .before .before .before .before .to-front .last .0) (c .before .before .before .before .before .read-some .last .0) (omega (arith, c .before .before .before .before .before .before .before .before .before .to-front .ensures .0, c .before .before .before .before .before .before .before .before .before .to-front .kept .0)) (c .before .before .before .before .before .before .before .before .before .to-front .ensures .0) (c .before .before .before .before .before .before .before .before .before .to-front .ensures .1) (c .before .before .before .before .before .read-some .kept .0) (c .before .before .before .before .before .read-some .ensures) (c .before .n .given .1))
     (λ c. search needs)
+    (λ c. refilled-none (c .before .before .before .before .before .before .before .before .before .before .before .args .p) (c .before .before .before .before .before .before .before .before .before .before .before .args .input .now) (c .before .before .before .before .before .before .before .before .to-front .last .0) (c .before .before .before .before .read-some .last .0) (omega (arith, c .before .before .before .before .before .before .before .before .to-front .ensures .0, c .before .before .before .before .before .before .before .before .to-front .kept .0)) (c .before .before .before .before .before .before .before .before .to-front .ensures .0) (c .before .before .before .before .before .before .before .before .to-front .ensures .1) (c .before .before .before .before .read-some .kept .0) false)
     (λ c. search needs)
-    (λ c. search needs)
-    (λ c. search needs))
+    (λ c. refilled-none (c .before .before .before .before .before .before .before .before .before .before .before .args .p) (c .before .before .before .before .before .before .before .before .before .before .before .args .input .now) (c .before .before .before .before .before .before .before .before .to-front .last .0) (c .before .before .before .before .read-some .last .0) (omega (arith, c .before .before .before .before .before .before .before .before .to-front .ensures .0, c .before .before .before .before .before .before .before .before .to-front .kept .0)) (c .before .before .before .before .before .before .before .before .to-front .ensures .0) (c .before .before .before .before .before .before .before .before .to-front .ensures .1) (c .before .before .before .before .read-some .kept .0) true))
