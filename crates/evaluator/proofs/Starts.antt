@@ -27,6 +27,7 @@ use Rattle.collect.specs.Lent.{live}
 use Rattle.memory.specs.Frame.{rows-same}
 use Rattle.memory.specs.Forget.{Forgot}
 use Rattle.operations.specs.Work.{OpFrame, op-memo, op-trans}
+use Rattle.steps.specs.Steps.{live-same}
 use Rattle.steps.specs.Again.{start-ready}
 use Rattle.book.specs.Bridge.{fnOf, fnOfPairs}
 use Rattle.book.specs.Book.{regFilled, relFilled, liveOf, modelOf}
@@ -39,7 +40,7 @@ use Rattle.book.specs.Follow.{Evals, evals-same}
 use Rattle.contract.specs.Seen.{arrowIn, seenIn, sound-table}
 use Rattle.contract.specs.Roots.{filled-root, root-filled}
 use Rattle.modal.specs.declared.Limits.{Limits}
-use Rattle.modal.specs.Chain.{Alike, Base, live-frame}
+use Rattle.modal.specs.Chain.{Alike, Base}
 use Rattle.evaluator.specs.Scene.{Scene, modelIn, holdsReg, holdsRel, Part, Ready, Answers, endedOf, EvalPre}
 use Rattle.evaluator.specs.Whole.{bookIn, SetPre, SetPost}
 use Rattle.evaluator.specs.declared.Evaluated.{Evaluated}
@@ -83,7 +84,7 @@ module _ (L : Limits) {W X : View} (s : Sound W) (bits : L .bits ≡ W .header B
 
   pub start-roots : (stack : List ℕ) → Alike (live X (take 0 stack)) (rootsOf (seenIn W))
   start-roots stack =
-      let e : filled W ≡ live X (take 0 stack) = sym (append-nil (filled W)) ∙ sym (live-frame frame []) in
+      let e : filled W ≡ live X (take 0 stack) = sym (append-nil (filled W)) ∙ sym (live-same frame []) in
       subst (λ (xs : List ℕ). Alike xs (rootsOf (seenIn W))) e (record { to = filled-root W; from = root-filled W })
 
   pub start-scene : Ready L X (replicate depthLimit 0) (replicate 16 0) 0 (sceneIn W)

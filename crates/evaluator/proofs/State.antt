@@ -26,8 +26,9 @@ use Rattle.book.specs.Bridge.{fnOf, fnOfPairs}
 use Rattle.book.specs.Table.{Place}
 use Rattle.book.specs.Held.{held-arrow, held-push, held-keeps}
 use Rattle.contract.specs.Seen.{arrowIn, word-of}
+use Rattle.steps.specs.Steps.{live-same}
 use Rattle.modal.specs.declared.Limits.{Limits}
-use Rattle.modal.specs.Chain.{Alike, alike-trans, alike-cons, operands-first, Moved, base-next, live-frame}
+use Rattle.modal.specs.Chain.{Alike, alike-trans, alike-cons, operands-first, Moved, base-next}
 use Rattle.evaluator.specs.Scene.{Scene, pushed, opened, Open, Ready}
 
 -- a place's content is kept with its row
@@ -92,7 +93,7 @@ module _ {L : Limits} {W : View} {stack places : List ℕ} {held : ℕ} {σ : Sc
         base = base-next (R .base) m;
         reg = λ r l. place-next (fnOf (L .bits)) (σ .reg r) (FIRST-REGISTER + r) (omega arith) (omega arith) (R .reg r l);
         rel = λ t l. place-next (fnOfPairs (L .bits)) (σ .rel t) (FIRST-RELATION + t) (omega arith) (omega arith) (R .rel t l);
-        roots = subst (λ (xs : List ℕ). Alike xs (σ .roots)) (sym (live-frame (m .frame) (take held after) ∙ ap (live W) e)) (R .roots);
+        roots = subst (λ (xs : List ℕ). Alike xs (σ .roots)) (sym (live-same (m .frame) (take held after) ∙ ap (live W) e)) (R .roots);
         lives = held-keeps (R .lives) k;
         size = z ∙ R .size;
         within = R .within;
