@@ -7,4 +7,5 @@ pub mod Steps
 pub mod Leaves
 pub mod Relations
 pub mod Rounds
+pub mod Cycle
 pub mod Starts
