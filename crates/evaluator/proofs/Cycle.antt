@@ -230,7 +230,7 @@ module _ {L : Limits} {words₀ words stack after bs : List ℕ} {c : Context} {
       scene = _;
       form = P .form;
       end = P .end;
-      ready = bind-ready (P .ready) (I .turns x s .bound (P .scene) (P .form) (P .end) (P .ready) (P .part)) (I .stack-size) open-room refl;
+      ready = bind-ready (P .ready) (I .turns x s .bound (P .scene) (P .form) (P .end) (P .ready) (P .part)) (I .stack-size) open-room;
       part = P .part;
     })
 
@@ -242,7 +242,7 @@ module _ {L : Limits} {words₀ words stack after bs : List ℕ} {c : Context} {
         stands = I .turns x s .bound σ f e R p
 
         answered : Answers L (view (L .rows) words) Y (set after (c .held) a) last (c .held + 1) (counted + 1) (opened (L .bits) σ v a (stands .turning .A)) f e r
-        answered = subst (λ (d : Context). EvalPost L (view (L .rows) words) Y (set after (c .held) a) last bs d r) is-body E .answers _ f e (bind-ready R stands (I .stack-size) open-room refl) p
+        answered = subst (λ (d : Context). EvalPost L (view (L .rows) words) Y (set after (c .held) a) last bs d r) is-body E .answers _ f e (bind-ready R stands (I .stack-size) open-room) p
 
       pub body-halts : Halts r → (x : Fix) → start ≡ startArrow (isLeast x) → BindPost L (view (L .rows) words₀) Y stack last bs c x v r
       body-halts h x s = record { answers = λ σ f e R p. bind-stops R (stands x s R p) (I .stack-size) open-room (answered x s R p) more h }
