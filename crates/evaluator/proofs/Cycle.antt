@@ -1,5 +1,5 @@
 -- What each function of the cycle asks of those that it calls, and what its answers are made of theirs: a law for each call and return. Assumes nothing.
-use mathlib.Core.Path.{_≡_, refl, sym, ap, subst}
+use mathlib.Core.Path.{_≡_, refl, sym, ap, _∙_, subst}
 use mathlib.Core.Logic.{_≢_}
 use mathlib.Core.Bool.{true}
 use mathlib.Core.List.{List}
@@ -20,14 +20,14 @@ use Rattle.tokens.specs.declared.Lead.the-variants.{Is}
 use Rattle.formula.specs.Parse.{depthLimit}
 use Rattle.formula.proofs.Steps.{is-not, is-modal, is-binder}
 use Rattle.layout.specs.Places.{HEADER, FIRST-RELATION}
-use Rattle.layout.specs.View.{View}
+use Rattle.layout.specs.View.{View, view}
 use Rattle.table.specs.declared.Made.{Made}
 use Rattle.steps.specs.declared.Step.{Step}
 use Rattle.steps.specs.declared.Step.the-variants as step
 use Rattle.book.specs.Turns.{startArrow}
 use Rattle.modal.specs.declared.Limits.{Limits}
 use Rattle.modal.specs.Modal.{ModalPre}
-use Rattle.evaluator.specs.Scene.{Scene, Ready, Part, holdsReg, holdsRel, Answers, fromMade, joinStep, bodyOf, isLeast, OverPost, LivePre, LivePost, LeafPre, LeafPost, EvalPre, EvalPost, NegatePost, BothPre, BothPost, ModePre, ModePost, BindPre, BindPost}
+use Rattle.evaluator.specs.Scene.{Scene, opened, Ready, Part, holdsReg, holdsRel, Answers, fromMade, joinStep, bodyOf, isLeast, OverPost, LivePre, LivePost, LeafPre, LeafPost, EvalPre, EvalPost, NegatePost, BothPre, BothPost, ModePre, ModePost, BindPre, BindPost}
 use Rattle.evaluator.specs.declared.Context.{Context}
 use Rattle.evaluator.specs.declared.Evaluated.{Evaluated}
 use Rattle.evaluator.specs.declared.Evaluated.the-variants.{Value, Spent}
@@ -207,48 +207,59 @@ pub record Turns (L : Limits) (W X : View) (stack after bs : List ℕ) (c : Cont
   pub bound : (σ : Scene) (f : Form) (e : ℕ) → Ready L W stack (c .places) (c .held) σ → Part (L .bits) bs (c .at) (c .depth) (set (σ .scope) v true) (holdsReg σ) (holdsRel σ) f e
       → Bound L W X stack after (c .held) (c .rounds) σ x v f a counted
 
-pub turns-start : {L : Limits} {W : View} {stack bs : List ℕ} {c : Context} (x : Fix) {v a : ℕ} → a ≡ startArrow (isLeast x) → Turns L W W stack stack bs c x v a (c .rounds)
-turns-start x {v} e = record { bound = λ σ f _ R p. bind-starts R x v f e }
+-- what a binder's loop keeps, from the words and the stack at its start: their sizes, and where it stands if it started as x does
+pub record Looping (L : Limits) (words₀ words stack₀ stack bs : List ℕ) (c : Context) (v start a counted : ℕ) : Type 0 where
+  pub words-size : length words ≡ length words₀
+  pub stack-size : length stack ≡ length stack₀
+  pub turns : (x : Fix) → start ≡ startArrow (isLeast x) → Turns L (view (L .rows) words₀) (view (L .rows) words) stack₀ stack bs c x v a counted
 
-module _ {L : Limits} {W X : View} {stack after bs : List ℕ} {c : Context} {x : Fix} {v a counted : ℕ} (P : BindPre L W stack bs c v) (T : Turns L W X stack after bs c x v a counted) where
-  pub rounds-out : L .rounds ≤ counted → BindPost L W X stack after bs c x v Spent
-  rounds-out l = record { answers = λ σ f e R p. bind-out R (T .bound σ f e R p) e l }
+pub loop-starts : {L : Limits} {words stack bs : List ℕ} {c : Context} {v a : ℕ} → Looping L words words stack stack bs c v a a (c .rounds)
+loop-starts = record { words-size = refl; stack-size = refl; turns = λ x e. record { bound = λ σ f _ R p. bind-starts R x _ f e } }
 
-  module _ (z : length after ≡ length stack) {b : Context} (is-body : b ≡ bodyOf c v (counted + 1)) where
+module _ {L : Limits} {words₀ words stack after bs : List ℕ} {c : Context} {v start a counted : ℕ} (P : BindPre L (view (L .rows) words₀) stack bs c v) (I : Looping L words₀ words stack after bs c v start a counted) where
+  pub rounds-out : (x : Fix) → start ≡ startArrow (isLeast x) → L .rounds ≤ counted → BindPost L (view (L .rows) words₀) (view (L .rows) words) stack after bs c x v Spent
+  rounds-out x s l = record { answers = λ σ f e R p. bind-out R (I .turns x s .bound σ f e R p) e l }
+
+  module _ {b : Context} (is-body : b ≡ bodyOf c v (counted + 1)) where
     open-room : c .held < depthLimit
     open-room = let l = P .room in omega arith
 
-    pub body-asked : EvalPre L X (set after (c .held) a) bs b
-    body-asked = subst (λ (d : Context). EvalPre L X (set after (c .held) a) bs d) (sym is-body) (record {
+    pub body-asked : (x : Fix) → start ≡ startArrow (isLeast x) → EvalPre L (view (L .rows) words) (set after (c .held) a) bs b
+    body-asked x s = subst (λ (d : Context). EvalPre L (view (L .rows) words) (set after (c .held) a) bs d) (sym is-body) (record {
       room = let l = P .room in omega arith;
       scene = _;
       form = P .form;
       end = P .end;
-      ready = bind-ready (P .ready) (T .bound (P .scene) (P .form) (P .end) (P .ready) (P .part)) z open-room refl;
+      ready = bind-ready (P .ready) (I .turns x s .bound (P .scene) (P .form) (P .end) (P .ready) (P .part)) (I .stack-size) open-room;
       part = P .part;
     })
 
-    module _ {Y : View} {last : List ℕ} {r : Evaluated} (E : EvalPost L X Y (set after (c .held) a) last bs b r) (more : counted < L .rounds) where
-      body : EvalPost L X Y (set after (c .held) a) last bs (bodyOf c v (counted + 1)) r
-      body = subst (λ (d : Context). EvalPost L X Y (set after (c .held) a) last bs d r) is-body E
+    module _ {Y : View} {last : List ℕ} {r : Evaluated} (E : EvalPost L (view (L .rows) words) Y (set after (c .held) a) last bs b r) (more : counted < L .rounds) where
+      -- the body's answer in a scene
+      module _ (x : Fix) (s : start ≡ startArrow (isLeast x)) {σ : Scene} {f : Form} {e : ℕ} (R : Ready L (view (L .rows) words₀) stack (c .places) (c .held) σ)
+          (p : Part (L .bits) bs (c .at) (c .depth) (set (σ .scope) v true) (holdsReg σ) (holdsRel σ) f e) where
+        stands : Bound L (view (L .rows) words₀) (view (L .rows) words) stack after (c .held) (c .rounds) σ x v f a counted
+        stands = I .turns x s .bound σ f e R p
 
-      pub body-halts : Halts r → BindPost L W Y stack last bs c x v r
-      body-halts s = record {
-        answers = λ σ f e R p. let B = T .bound σ f e R p in bind-stops R B z open-room (body .answers _ f e (bind-ready R B z open-room refl) p) more s;
-      }
+        answered : Answers L (view (L .rows) words) Y (set after (c .held) a) last (c .held + 1) (counted + 1) (opened (L .bits) σ v a (stands .turning .A)) f e r
+        answered = subst (λ (d : Context). EvalPost L (view (L .rows) words) Y (set after (c .held) a) last bs d r) is-body E .answers _ f e (bind-ready R stands (I .stack-size) open-room) p
+
+      pub body-halts : Halts r → (x : Fix) → start ≡ startArrow (isLeast x) → BindPost L (view (L .rows) words₀) Y stack last bs c x v r
+      body-halts h x s = record { answers = λ σ f e R p. bind-stops R (stands x s R p) (I .stack-size) open-room (answered x s R p) more h }
 
       module _ {d k q : ℕ} (is : r ≡ Value d k q) where
-        pub body-same : d ≡ a → BindPost L W Y stack last bs c x v (Value d k q)
-        body-same h = record {
-          answers = λ σ f e R p. let B = T .bound σ f e R p in bind-ends R B z open-room (body .answers _ f e (bind-ready R B z open-room refl) p) more is h;
-        }
+        pub body-same : d ≡ a → (x : Fix) → start ≡ startArrow (isLeast x) → BindPost L (view (L .rows) words₀) Y stack last bs c x v (Value d k q)
+        body-same h x s = record { answers = λ σ f e R p. bind-ends R (stands x s R p) (I .stack-size) open-room (answered x s R p) more is h }
 
-        pub body-turns : d ≢ a → Turns L W Y stack last bs c x v d q
-        body-turns h = record {
-          bound = λ σ f e R p. let B = T .bound σ f e R p in bind-turns R B z open-room (body .answers _ f e (bind-ready R B z open-room refl) p) more is h;
-        }
+        pub body-less : (x : Fix) → start ≡ startArrow (isLeast x) → counted < q
+        body-less x s = bind-less (P .ready) (stands x s (P .ready) (P .part)) (I .stack-size) open-room (answered x s (P .ready) (P .part)) more is
 
-        pub body-less : counted < q
-        body-less =
-            let B = T .bound (P .scene) (P .form) (P .end) (P .ready) (P .part) in
-            bind-less (P .ready) B z open-room (body .answers _ (P .form) (P .end) (bind-ready (P .ready) B z open-room refl) (P .part)) more is
+        body-turns : d ≢ a → (x : Fix) → start ≡ startArrow (isLeast x) → Turns L (view (L .rows) words₀) Y stack last bs c x v d q
+        body-turns h x s = record { bound = λ σ f e R p. bind-turns R (stands x s R p) (I .stack-size) open-room (answered x s R p) more is h }
+
+        pub loop-turns : d ≢ a → (next : List ℕ) → Y ≡ view (L .rows) next → length next ≡ length words → length last ≡ length (set after (c .held) a) → Looping L words₀ next stack last bs c v start d q
+        loop-turns h next y w z = record {
+          words-size = w ∙ I .words-size;
+          stack-size = simp length-set at z ∙ I .stack-size;
+          turns = λ x s. subst (λ (Z : View). Turns L (view (L .rows) words₀) Z stack last bs c x v d q) y (body-turns h x s);
+        }

@@ -1,4 +1,5 @@
 -- Modules that belong to no one function.
+pub mod Falls
 pub mod State
 pub mod Tokens
 pub mod Parts

@@ -42,8 +42,8 @@ pub enum Evaluated {
 // For each open variable the place of its binder's current set on the stack.
 type Places = [usize; Grammar::VARIABLES];
 
-// Where an evaluation stands: at a place in the bytes, with a depth left, on the stack's first `held` words, which are live,
-// and with the rounds counted.
+// Where an evaluation stands: its place in the bytes, the depth left, how many words of the stack are live, the places of the open
+// variables among them, and the rounds counted.
 struct Context {
     at: usize,
     depth: usize,
