@@ -8,7 +8,6 @@ use Rattle.book.specs.Book.{Call, relation, set, clear, collect, count}
 use Rattle.book.specs.Program.{Command, start, call, states, opOf}
 use Rattle.book.specs.Table.{Reply}
 use Rattle.book.specs.Leaves.{plain, valued}
-use Rattle.contract.specs.Seen.{SoundWords}
 use Rattle.contract.specs.Posts.{FreshPost, CallPost, AskPost}
 use Rattle.contract.specs.Answered.{count-answered}
 use Rattle.calls.specs.declared.Started.{Started}

@@ -11,6 +11,7 @@ use layout::Refusal;
 use layout::Table;
 use layout::header_word;
 use layout::refusal_number;
+use player::Played;
 use soundness::sound;
 use tokens::Kind;
 ghost use mathlib.Core.Path.{_≡_};
@@ -19,6 +20,7 @@ ghost use Rattle.calls.specs.Replies.{answerReply};
 ghost use Rattle.contract.specs.Posts.{FreshPost, CallPost, AskPost};
 ghost use Rattle.exports.specs.Given.{given, FreshLeft};
 ghost use Rattle.exports.specs.Check.{kindOf, CheckPost};
+ghost use Rattle.exports.specs.Playing.{PlayGiven};
 
 // Makes an empty table of n bits and `rows` rows of any words.
 #[no_mangle]
@@ -175,5 +177,41 @@ pub extern "C" fn kudzuclamp_check<'a>(words: &'a [u32], relation: u32, bytes: &
     match check_formula(bytes, kind_of(relation), n, words) {
         Checked::Fit => 0,
         Checked::Refused(e) => refusal_number(e),
+    }
+}
+
+// The numbers of `kudzuclamp_play`'s own refusals.
+pub struct Playing;
+
+impl Playing {
+    pub const SHORT: u32 = 10;
+
+    pub const UNREADABLE: u32 = 11;
+}
+
+// Plays the calls of all records in order, and writes number, node, rounds and value of each to the list; gives how many records there were.
+#[no_mangle]
+pub extern "C" fn kudzuclamp_play(
+    words: &mut [u32],
+    bytes: &[u8],
+    list: &mut [u32],
+    count: &mut usize,
+) -> u32
+    ensures { λ k. ⌜ PlayGiven (now (bytes .entry)) (now (words .entry)) (now (words .exit)) (now (list .entry)) (now (list .exit)) k (now (count .exit)) ⌝ }
+{
+    let x = player::play(words, bytes, list);
+    match x {
+        Played::Done(n) => {
+            *count = n;
+            0
+        }
+        Played::Short => {
+            *count = 0;
+            Playing::SHORT
+        }
+        Played::Unreadable => {
+            *count = 0;
+            Playing::UNREADABLE
+        }
     }
 }

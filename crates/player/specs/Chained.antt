@@ -3,7 +3,7 @@ use mathlib.Core.Path.{_≡_, refl, sym, ap, _∙_, subst}
 use mathlib.Core.Bool.{Bool, true, false, cond}
 use mathlib.Core.List.{List, [], _∷_, _++_, append-nil, append-assoc}
 use mathlib.Core.Option.{Option, none, some}
-use Prim.Native.Nat.{ℕ, zero, suc, _+_, _*_, _≤_, _<_}
+use Prim.Native.Nat.{ℕ, suc, _+_, _*_, _≤_, _<_}
 use native.Mathlib.Omega.{arith}
 use lib.Dec.{T, eqb}
 use lib.ListN.{length, drop, length-append}
@@ -19,7 +19,7 @@ use Rattle.contract.specs.Closed.{makes, performs, asks, words-demand}
 use Rattle.commands.specs.declared.Outcome.{Outcome}
 use Rattle.commands.specs.Obey.{shownReply, replyOf, Posted, Obeys}
 use Rattle.records.specs.Text.{Wrote, wrote-then}
-use Rattle.player.specs.Play.{Entry, outcomeWords, commandsOf, wordsOf, Chain, done, next, Since, withEvent, noted, since, commands, AllPost, DonePost}
+use Rattle.player.specs.Play.{Entry, outcomeWords, commandsOf, wordsOf, Chain, done, next, Since, noted, since, commands, AllPost, DonePost}
 use Rattle.player.specs.Passes.{some-inj, Passed, passed-none, passed-next, passed-all, passed-left}
 
 -- ---- sessions

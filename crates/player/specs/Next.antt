@@ -2,7 +2,6 @@
 use mathlib.Core.Path.{_≡_, refl, sym, ap, _∙_, subst}
 use mathlib.Core.Bool.{true, false}
 use mathlib.Core.List.{List, [], _∷_, append-nil}
-use mathlib.Core.Option.{none, some}
 use Prim.Native.Nat.{ℕ, suc, _+_, _≤_}
 use native.Mathlib.Omega.{arith}
 use lib.ListN.{length, set}
@@ -17,7 +16,7 @@ use Rattle.commands.specs.declared.Outcome.{Outcome}
 use Rattle.commands.specs.declared.Taken.{Taken}
 use Rattle.commands.specs.declared.Taken.the-variants.{Done, End, More, Bad}
 use Rattle.commands.specs.Obey.{Obeys, Takes, TakePost}
-use Rattle.player.specs.Play.{Entry, outcomeWords, commands, Readable, NextPost}
+use Rattle.player.specs.Play.{outcomeWords, Readable, NextPost}
 use Rattle.player.specs.Passes.{none-some, front}
 
 -- what was taken is a record

@@ -1,6 +1,6 @@
 -- Reading records one after the other: what was read so far, and what is left. Assumes nothing.
 use mathlib.Core.Path.{_≡_, refl, sym, ap, _∙_, subst}
-use mathlib.Core.Bool.{Bool, true, false}
+use mathlib.Core.Bool.{true}
 use mathlib.Core.List.{List, [], _∷_, _++_, append-nil}
 use mathlib.Core.Option.{Option, none, some}
 use Prim.Native.Nat.{ℕ, zero, suc, _+_, _-_, _≤_, _<_}
@@ -11,8 +11,8 @@ use borrow.Rule.Slice.PartAt.{part-to-end}
 use Rattle.book.specs.Program.{Command, recordLength, commandAt}
 use Rattle.records.specs.declared.Command as records
 use Rattle.records.specs.declared.Found.the-variants.{End, More, Bad, Record}
-use Rattle.records.specs.Record.{readRecord, asked}
-use Rattle.records.specs.Promises.{Recorded, record-read, end-read, more-read, bad-read}
+use Rattle.records.specs.Record.{readRecord}
+use Rattle.records.specs.Promises.{record-read, end-read, more-read, bad-read}
 use Rattle.player.specs.Play.{added, commandsIn, commands, sizeIn, SizePost, Readable, NextPost}
 
 -- ---- the commands, a record at a time

@@ -1,5 +1,5 @@
 -- `obey_fresh` is the reply of `fresh` as an outcome. Assumes nothing.
-use Rattle.formula_calls.specs.Refused.{refusal-some}
+use Rattle.layout.specs.Refusals.{refusal-some}
 use Rattle.commands.specs.Obeyed.{fresh-ready, fresh-refused}
 use borrow.Author.Needs.{needs}
 use Rattle.commands.proofs.obey_fresh.Statement.{statement}

@@ -4,7 +4,7 @@ use Prim.Native.Nat.{ℕ, _≤_}
 use Rattle.book.specs.Leaves.{plain}
 use Rattle.contract.specs.Posts.{CallPost}
 use Rattle.formula_steps.specs.Replies.{storedReply}
-use Rattle.formula_calls.specs.Refused.{refusal-some}
+use Rattle.layout.specs.Refusals.{refusal-some}
 use Rattle.commands.specs.Obeyed.{set-done, set-refused}
 use borrow.Author.Needs.{needs}
 use Rattle.commands.proofs.obey_set.Statement.{statement}

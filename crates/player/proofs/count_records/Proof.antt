@@ -1,9 +1,9 @@
 -- `count_records` reads a record at a time; the invariant: the commands in the bytes passed are counted. Assumes nothing.
 use mathlib.Core.Path.{_≡_, refl}
-use mathlib.Core.List.{List, [], _∷_, _++_}
-use Prim.Native.Nat.{_+_, _-_, _≤_}
+use mathlib.Core.List.{List, [], _∷_}
+use Prim.Native.Nat.{_-_}
 use native.Mathlib.Omega.{arith}
-use lib.ListN.{length, drop, length-append, length-drop}
+use lib.ListN.{length, length-append, length-drop}
 use Rattle.book.specs.Program.{Command}
 use Rattle.player.specs.Passes.{Passed, passed-none, passed-next, passed-all, passed-bad, size-some, size-zero, sized-at}
 use borrow.Author.Needs.{needs}

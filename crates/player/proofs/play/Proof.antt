@@ -1,7 +1,6 @@
 -- `play` counts the records, sees to the list's room, and obeys them all. Assumes nothing.
-use mathlib.Core.Path.{refl, sym, ap, _∙_, subst}
+use mathlib.Core.Path.{refl, subst}
 use native.Mathlib.Omega.{arith}
-use Rattle.player.specs.declared.Counted.{Counted}
 use Rattle.player.specs.Play.{CountPost}
 use Rattle.player.specs.Chained.{all-done}
 use borrow.Author.Needs.{needs}

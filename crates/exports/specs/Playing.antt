@@ -1,0 +1,26 @@
+-- What `kudzuclamp_play` gives its caller: `play`'s answer as a number and a count. Assumes nothing.
+use mathlib.Core.Path.{_≡_, refl, subst}
+use mathlib.Core.List.{List}
+use Prim.Native.Nat.{ℕ}
+use Rattle.player.specs.Play.{PlayPost}
+use Rattle.player.specs.declared.Played.{Played}
+use Rattle.player.specs.declared.Played.the-variants.{Done, Short, Unreadable}
+
+-- 0, or a number of its own
+abbrev pub playNumber : Played → ℕ
+playNumber (Done n) = 0
+playNumber Short = 10
+playNumber Unreadable = 11
+
+-- the records obeyed
+abbrev pub playCount : Played → ℕ
+playCount (Done n) = n
+playCount Short = 0
+playCount Unreadable = 0
+
+abbrev pub PlayGiven : List ℕ → List ℕ → List ℕ → List ℕ → List ℕ → ℕ → ℕ → Type 0
+PlayGiven bs w w′ l l′ k n = (x : Played) × PlayPost bs w w′ l l′ x × (k ≡ playNumber x) × (n ≡ playCount x)
+
+-- what was matched
+pub play-given : (bs w w′ l l′ : List ℕ) {x : Played} (y : Played) → PlayPost bs w w′ l l′ x → x ≡ y → PlayGiven bs w w′ l l′ (playNumber y) (playCount y)
+play-given bs w w′ l l′ y p e = (y, subst (PlayPost bs w w′ l l′) e p, refl, refl)
