@@ -1,0 +1,110 @@
+//! "Returned: number, zeros": what a refused call writes into its answers. The wrapper gives no
+//! answers with a refusal, so the entry points of include/kudzuclamp.h are called directly.
+
+use kudzuclamp::{Formula, Table};
+use reference::formula::frame;
+
+extern "C" {
+    fn kudzuclamp_set(
+        words: *mut u32,
+        words_len: usize,
+        r: u32,
+        most: u32,
+        bytes: *const u8,
+        bytes_len: usize,
+        node: *mut u32,
+        rounds: *mut u32,
+    ) -> u32;
+    fn kudzuclamp_collect(words: *mut u32, words_len: usize, rows: *mut u32) -> u32;
+    fn kudzuclamp_node(words: *const u32, words_len: usize, r: u32, node: *mut u32) -> u32;
+    fn kudzuclamp_member(
+        words: *const u32,
+        words_len: usize,
+        r: u32,
+        s: u32,
+        value: *mut u32,
+    ) -> u32;
+    fn kudzuclamp_count(words: *const u32, words_len: usize, r: u32, value: *mut u32) -> u32;
+    fn kudzuclamp_tally(words: *const u32, words_len: usize, value: *mut u32) -> u32;
+}
+
+/// What stands in an answer before the call.
+const BEFORE: u32 = 0xAAAA_AAAA;
+
+/// n = 2, N = 3, register 0 holds bit 0.
+fn room() -> Vec<u32> {
+    let mut table = Table::new(2, 3).unwrap();
+    table.set(0, 0, Formula::current(0)).unwrap();
+    table.into_words()
+}
+
+/// Number, node and rounds.
+fn set(mut words: Vec<u32>, r: u32, most: u32, body: &[u8]) -> [u32; 3] {
+    let bytes = frame(body);
+    let (mut node, mut rounds) = (BEFORE, BEFORE);
+    // SAFETY: pointers and lengths are those of vectors and locals.
+    let number = unsafe {
+        kudzuclamp_set(
+            words.as_mut_ptr(),
+            words.len(),
+            r,
+            most,
+            bytes.as_ptr(),
+            bytes.len(),
+            &mut node,
+            &mut rounds,
+        )
+    };
+    [number, node, rounds]
+}
+
+/// Numbers and values of node, member, count, tally and collect.
+fn questions(words: &mut [u32], r: u32, s: u32) -> [[u32; 2]; 5] {
+    let mut values = [BEFORE; 5];
+    let [node, member, count, tally, collect] = &mut values;
+    let (at, length) = (words.as_mut_ptr(), words.len());
+    // SAFETY: pointer and length are those of a mutable slice, the others are locals'.
+    let numbers = unsafe {
+        [
+            kudzuclamp_node(at, length, r, node),
+            kudzuclamp_member(at, length, r, s, member),
+            kudzuclamp_count(at, length, r, count),
+            kudzuclamp_tally(at, length, tally),
+            kudzuclamp_collect(at, length, collect),
+        ]
+    };
+    std::array::from_fn(|k| [numbers[k], values[k]])
+}
+
+#[test]
+fn refused_sets() {
+    let mut unsound = room();
+    unsound[0] = 0;
+    assert_eq!(set(unsound, 1, 9, &[0x11]), [2, 0, 0]);
+    assert_eq!(set(room(), 32, 9, &[0x11]), [3, 0, 0]);
+    assert_eq!(set(room(), 1, 9, &[0x12]), [4, 0, 0]);
+    assert_eq!(set(room(), 1, 9, &[0x30]), [5, 0, 0]);
+    assert_eq!(set(room(), 1, 9, &[0x70, 0x02, 0x30]), [6, 0, 0]);
+    assert_eq!(set(room(), 1, 9, &[0x41]), [7, 0, 0]);
+    // In the second round, after rounds were counted and rows made.
+    let spent = [0x70, 0x04, 0x11, 0x30];
+    assert_eq!(set(room(), 1, 1, &spent), [9, 0, 0]);
+    let full = [0x70, 0x04, 0x11, 0x04, 0x30, 0x02, 0x10];
+    assert_eq!(set(room(), 1, 9, &full), [8, 0, 0]);
+    assert_eq!(set(room(), 1, 9, &[0x70, 0x30]), [0, 0, 1]);
+}
+
+#[test]
+fn refused_questions() {
+    let mut words = room();
+    let answered = questions(&mut words, 0, 1);
+    assert_eq!(answered.map(|[number, _]| number), [0; 5]);
+    assert_eq!(answered[1..], [[0, 1], [0, 2], [0, 0], [0, 1]]);
+    let empty = questions(&mut words, 1, 1);
+    assert_eq!(empty[..3], [[7, 0]; 3]);
+    let outside = questions(&mut words, 32, 1);
+    assert_eq!(outside[..3], [[3, 0]; 3]);
+    assert_eq!(questions(&mut words, 0, 4)[1], [3, 0]);
+    words[1] = 0;
+    assert_eq!(questions(&mut words, 0, 1), [[2, 0]; 5]);
+}
