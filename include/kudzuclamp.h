@@ -127,6 +127,18 @@ uint32_t kudzuclamp_tally(const uint32_t *words, size_t words_len, uint32_t *val
  */
 uint32_t kudzuclamp_check(const uint32_t *words, size_t words_len, uint32_t relation, const uint8_t *bytes, size_t bytes_len);
 
+/* Refusals of kudzuclamp_play itself, before its first call: all words and the list are kept, and *count is 0. */
+#define KUDZUCLAMP_PLAY_SHORT 10u      /* the list has fewer than 4 words for each record */
+#define KUDZUCLAMP_PLAY_UNREADABLE 11u /* a record cannot be read */
+
+/*
+ * Plays the calls of all records in `bytes`, in the format of the program `roomrules` (two-byte length, version 1, an operation, its arguments), one
+ * after the other. Record k, counted from 0, leaves four words in the list from 4k on: its refusal's number or 0, the node number of an answered set,
+ * the rounds of an answered set, and the value that roomrules prints. *count is how many records there were. It returns 0, also where calls among
+ * the records are refused, or KUDZUCLAMP_PLAY_SHORT or KUDZUCLAMP_PLAY_UNREADABLE.
+ */
+uint32_t kudzuclamp_play(uint32_t *words, size_t words_len, const uint8_t *bytes, size_t bytes_len, uint32_t *list, size_t list_len, size_t *count);
+
 #ifdef __cplusplus
 }
 #endif

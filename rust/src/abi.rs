@@ -50,6 +50,15 @@ mod library {
             bytes: *const u8,
             bytes_len: usize,
         ) -> u32;
+        pub fn kudzuclamp_play(
+            words: *mut u32,
+            words_len: usize,
+            bytes: *const u8,
+            bytes_len: usize,
+            list: *mut u32,
+            list_len: usize,
+            count: *mut usize,
+        ) -> u32;
     }
 }
 
@@ -158,4 +167,42 @@ pub fn check(words: &[u32], relation: bool, bytes: &[u8]) -> Result<(), Refusal>
         )
     };
     answered(number, ())
+}
+
+/// The number of `kudzuclamp_play` itself, and how many records it obeyed.
+pub fn play(words: &mut [u32], records: &[u8], list: &mut [u32]) -> (u32, usize) {
+    let mut count = 0;
+    // SAFETY: pointers and lengths are those of slices and a local; the mutable ones overlap nothing.
+    let number = unsafe {
+        library::kudzuclamp_play(
+            words.as_mut_ptr(),
+            words.len(),
+            records.as_ptr(),
+            records.len(),
+            list.as_mut_ptr(),
+            list.len(),
+            &mut count,
+        )
+    };
+    (number, count)
+}
+
+#[cfg(test)]
+mod tests {
+    #[test]
+    fn play_keeps_all_where_the_list_is_short() {
+        let fresh_twice = [0, 5, 1, 1, 1, 0, 100, 0, 5, 1, 1, 1, 0, 100];
+        let mut words = vec![3; 1_500];
+        let mut list = [9; 7];
+        assert_eq!(super::play(&mut words, &fresh_twice, &mut list), (10, 0));
+        assert_eq!((words, list), (vec![3; 1_500], [9; 7]));
+    }
+
+    #[test]
+    fn play_leaves_the_rest_of_the_list() {
+        let mut words = vec![3; 1_500];
+        let mut list = [9; 6];
+        assert_eq!(super::play(&mut words, &[0, 2, 1, 6], &mut list), (0, 1));
+        assert_eq!(list, [2, 0, 0, 0, 9, 9]);
+    }
 }

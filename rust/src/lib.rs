@@ -35,9 +35,11 @@
 #[allow(unsafe_code)]
 mod abi;
 mod formula;
+mod play;
 mod refusal;
 mod table;
 
 pub use formula::Formula;
+pub use play::{play, Outcome, Unreadable};
 pub use refusal::Refusal;
 pub use table::{words_for, Stored, Table, MAX_BITS, MAX_ROWS, REGISTERS, RELATIONS};

@@ -45,22 +45,26 @@ fn tallied(tally: u32, rounds: u32) -> u32
     tally + rounds
 }
 
-// Whether the used rows are many more than those that registers and relations need.
-fn grown(words: &[u32], rows: u32) -> bool
+// Whether the used rows are many more than those that registers and relations need. The rows needed are counted only where the used ones
+// have passed a multiple of 64 since `before`, so that a call that makes few rows does not pay for a count.
+fn grown(words: &[u32], rows: u32, before: u32) -> bool
     requires { ⌜ Sound (view rows (now words)) ⌝ }
 {
+    let used = header_word(words, Table::USED);
+    if used / 64 == before / 64 {
+        return false;
+    }
     let none = [0u32; 1];
     let kept = needed(words, rows, &none[..0]) as u64;
-    let used = header_word(words, Table::USED) as u64;
-    4 * used > 5 * kept + 256
+    4 * (used as u64) > 5 * kept + 256
 }
 
-// Frees the rows that no register and no relation needs, where there are many.
-fn tidy(words: &mut [u32], rows: u32)
+// Frees the rows that no register and no relation needs, where there are many; `before` rows were used at the call's start.
+fn tidy(words: &mut [u32], rows: u32, before: u32)
     requires { ⌜ Sound (view rows (now words)) ⌝ }
     ensures { λ _. ⌜ Tidied (view rows (now (words .entry))) (view rows (now (words .exit))) ⌝ }
 {
-    if !grown(words, rows) {
+    if !grown(words, rows, before) {
         return;
     }
     collect_rows(words, rows);
@@ -118,9 +122,10 @@ pub fn set_steps(words: &mut [u32], r: u32, most: u32, bytes: &[u8]) -> Stored
         limit: rows,
         rounds: most,
     };
+    let before = header_word(words, Table::USED);
     let done = evaluate_set(words, limits, bytes);
     let answer = store_set(words, rows, r, done);
-    tidy(words, rows);
+    tidy(words, rows, before);
     answer
 }
 
@@ -136,8 +141,9 @@ pub fn relation_steps(words: &mut [u32], t: u32, bytes: &[u8]) -> Loaded
         limit: total,
         rounds: 0,
     };
+    let before = header_word(words, Table::USED);
     let done = evaluate_pairs(words, limits, bytes);
     let answer = store_relation(words, total, t, done);
-    tidy(words, total);
+    tidy(words, total, before);
     answer
 }

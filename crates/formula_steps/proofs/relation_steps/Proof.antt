@@ -4,33 +4,29 @@ use borrow.Author.Needs.{needs}
 use Rattle.formula_steps.proofs.relation_steps.Statement.{statement}
 use Rattle.formula_steps.proofs.relation_steps.Tie as tie
 
--- src/lib.rt:121:9
 header-word-requires : tie.Need-header-word-requires
 header-word-requires c κs = search needs
 
--- src/lib.rt:123:15
 header-word-requires-2 : tie.Need-header-word-requires-2
 header-word-requires-2 c κs = search needs
 
--- src/lib.rt:128:9
+header-word-requires-3 : tie.Need-header-word-requires-3
+header-word-requires-3 c κs = search needs
+
 evaluate-pairs-requires : tie.Need-evaluate-pairs-requires
-evaluate-pairs-requires c κs = relation-asks (c .before .before .before .before .before .before .before .pre) (c .before .before .before .header-word .ensures) (c .before .header-word2 .ensures)
+evaluate-pairs-requires c κs = relation-asks (c .before .before .before .before .before .before .before .before .before .pre) (c .before .before .before .before .before .header-word .ensures) (c .before .before .before .header-word2 .ensures)
 
--- src/lib.rt:129:9
 store-relation-requires : tie.Need-store-relation-requires
-store-relation-requires c κs = relation-storing (c .before .before .before .before .before .before .before .before .before .before .before .pre) (c .before .before .before .before .before .before .before .header-word .ensures) (c .before .before .before .before .before .header-word2 .ensures) _ (c .before .before .before .evaluate-pairs .ensures)
+store-relation-requires c κs = relation-storing (c .before .before .before .before .before .before .before .before .before .before .before .before .before .pre) (c .before .before .before .before .before .before .before .before .before .header-word .ensures) (c .before .before .before .before .before .before .before .header-word2 .ensures) _ (c .before .before .before .evaluate-pairs .ensures)
 
--- src/lib.rt:130:5
 tidy-requires : tie.Need-tidy-requires
-tidy-requires c κs = relation-tidying (c .before .before .before .before .before .before .before .before .before .before .before .before .before .before .before .pre) (c .before .before .before .before .before .before .before .before .before .before .before .header-word .ensures) (c .before .before .before .before .before .before .before .before .before .header-word2 .ensures) _ (c .before .before .before .before .before .before .before .evaluate-pairs .ensures) _ (c .before .before .before .store-relation .ensures .1)
+tidy-requires c κs = relation-tidying (c .before .before .before .before .before .before .before .before .before .before .before .before .before .before .before .before .before .pre) (c .before .before .before .before .before .before .before .before .before .before .before .before .before .header-word .ensures) (c .before .before .before .before .before .before .before .before .before .before .before .header-word2 .ensures) _ (c .before .before .before .before .before .before .before .evaluate-pairs .ensures) _ (c .before .before .before .store-relation .ensures .1)
 
--- src/lib.rt:117:1
 same-length : tie.Need-same-length
 same-length c = search needs
 
--- src/lib.rt:117:1
 returns : tie.Need-returns
-returns c = relation-done (c .before .before .before .before .before .before .before .before .before .before .before .before .before .before .before .before .before .before .pre) (c .before .before .before .before .before .before .before .before .before .before .before .before .before .before .header-word .ensures) (c .before .before .before .before .before .before .before .before .before .before .before .before .header-word2 .ensures) _ (c .before .before .before .before .before .before .before .before .before .before .evaluate-pairs .ensures) _ (c .before .before .before .before .before .before .store-relation .ensures .1) (c .before .before .before .before .before .before .store-relation .ensures .0) _ (c .before .before .tidy .ensures)
+returns c = relation-done (c .before .before .before .before .before .before .before .before .before .before .before .before .before .before .before .before .before .before .before .before .pre) (c .before .before .before .before .before .before .before .before .before .before .before .before .before .before .before .before .header-word .ensures) (c .before .before .before .before .before .before .before .before .before .before .before .before .before .before .header-word2 .ensures) _ (c .before .before .before .before .before .before .before .before .before .before .evaluate-pairs .ensures) _ (c .before .before .before .before .before .before .store-relation .ensures .1) (c .before .before .before .before .before .before .store-relation .ensures .0) _ (c .before .before .tidy .ensures)
 
 pub relation-steps-spec : {M : Type 1} → statement M
 relation-steps-spec =
@@ -38,6 +34,7 @@ relation-steps-spec =
     (tie.spec
     header-word-requires
     header-word-requires-2
+    header-word-requires-3
     evaluate-pairs-requires
     store-relation-requires
     tidy-requires

@@ -4,33 +4,29 @@ use borrow.Author.Needs.{needs}
 use Rattle.formula_steps.proofs.set_steps.Statement.{statement}
 use Rattle.formula_steps.proofs.set_steps.Tie as tie
 
--- src/lib.rt:121:9
 header-word-requires : tie.Need-header-word-requires
 header-word-requires c κs = search needs
 
--- src/lib.rt:123:15
 header-word-requires-2 : tie.Need-header-word-requires-2
 header-word-requires-2 c κs = search needs
 
--- src/lib.rt:128:9
+header-word-requires-3 : tie.Need-header-word-requires-3
+header-word-requires-3 c κs = search needs
+
 evaluate-set-requires : tie.Need-evaluate-set-requires
-evaluate-set-requires c κs = set-asks (c .before .before .before .before .before .before .before .pre) (c .before .before .before .header-word .ensures) (c .before .header-word2 .ensures)
+evaluate-set-requires c κs = set-asks (c .before .before .before .before .before .before .before .before .before .pre) (c .before .before .before .before .before .header-word .ensures) (c .before .before .before .header-word2 .ensures)
 
--- src/lib.rt:129:9
 store-set-requires : tie.Need-store-set-requires
-store-set-requires c κs = set-storing (c .before .before .before .before .before .before .before .before .before .before .before .pre) (c .before .before .before .before .before .before .before .header-word .ensures) _ (c .before .before .before .evaluate-set .ensures)
+store-set-requires c κs = set-storing (c .before .before .before .before .before .before .before .before .before .before .before .before .before .pre) (c .before .before .before .before .before .before .before .before .before .header-word .ensures) _ (c .before .before .before .evaluate-set .ensures)
 
--- src/lib.rt:130:5
 tidy-requires : tie.Need-tidy-requires
-tidy-requires c κs = set-tidying (c .before .before .before .before .before .before .before .before .before .before .before .before .before .before .before .pre) (c .before .before .before .before .before .before .before .before .before .before .before .header-word .ensures) _ (c .before .before .before .before .before .before .before .evaluate-set .ensures) _ (c .before .before .before .store-set .ensures .1)
+tidy-requires c κs = set-tidying (c .before .before .before .before .before .before .before .before .before .before .before .before .before .before .before .before .before .pre) (c .before .before .before .before .before .before .before .before .before .before .before .before .before .header-word .ensures) _ (c .before .before .before .before .before .before .before .evaluate-set .ensures) _ (c .before .before .before .store-set .ensures .1)
 
--- src/lib.rt:117:1
 same-length : tie.Need-same-length
 same-length c = search needs
 
--- src/lib.rt:117:1
 returns : tie.Need-returns
-returns c = set-done (c .before .before .before .before .before .before .before .before .before .before .before .before .before .before .before .before .before .before .pre) (c .before .before .before .before .before .before .before .before .before .before .before .before .before .before .header-word .ensures) _ (c .before .before .before .before .before .before .before .before .before .before .evaluate-set .ensures) _ (c .before .before .before .before .before .before .store-set .ensures .1) (c .before .before .before .before .before .before .store-set .ensures .0) _ (c .before .before .tidy .ensures)
+returns c = set-done (c .before .before .before .before .before .before .before .before .before .before .before .before .before .before .before .before .before .before .before .before .pre) (c .before .before .before .before .before .before .before .before .before .before .before .before .before .before .before .before .header-word .ensures) _ (c .before .before .before .before .before .before .before .before .before .before .evaluate-set .ensures) _ (c .before .before .before .before .before .before .store-set .ensures .1) (c .before .before .before .before .before .before .store-set .ensures .0) _ (c .before .before .tidy .ensures)
 
 pub set-steps-spec : {M : Type 1} → statement M
 set-steps-spec =
@@ -38,6 +34,7 @@ set-steps-spec =
     (tie.spec
     header-word-requires
     header-word-requires-2
+    header-word-requires-3
     evaluate-set-requires
     store-set-requires
     tidy-requires
