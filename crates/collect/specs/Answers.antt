@@ -6,10 +6,11 @@ use Prim.Native.Nat.{ℕ, _*_}
 use lib.ListN.{length}
 use Rattle.diagram.specs.Rows.{Arrow, den}
 use Rattle.diagram.specs.Need.{need}
-use Rattle.layout.specs.Places.{MAX-ROWS, BITS, USED, FIRST-REGISTER, ROOTS-END}
+use Rattle.layout.specs.Places.{BITS, USED, FIRST-REGISTER, ROOTS-END}
 use Rattle.layout.specs.View.{View}
 use Rattle.soundness.specs.Used.{rowsOf}
-use Rattle.soundness.specs.Mark.{On, Base}
+use Rattle.soundness.specs.Bits.{MARK-WORDS, On}
+use Rattle.soundness.specs.Mark.{Base}
 use Rattle.soundness.specs.Roots.{Held, MarksAll}
 use Rattle.soundness.specs.Sound.{Sound}
 use Rattle.soundness.specs.Filled.{filled, filled-arrow}
@@ -29,7 +30,7 @@ pub record CollectPost (W X : View) (r : ℕ) : Type 0 where
   pub needs : r ≡ need (2 * W .header BITS) (map (den (2 * W .header BITS) (rowsOf W)) (filled W))
 
 -- what marking asks of a sound table
-pub sound-base : {W : View} → Sound W → Base W MAX-ROWS
+pub sound-base : {W : View} → Sound W → Base W MARK-WORDS
 sound-base s = record { words = s .good .sizes .room; rows = s .good .rows; room = s .good .sizes .N-max }
 
 live-arrow : {W : View} {xs : List ℕ} → FreePre W xs → (a : ℕ) → Mem a (live W xs) → Arrow (rowsOf W) a

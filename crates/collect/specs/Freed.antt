@@ -14,7 +14,7 @@ use Rattle.diagram.specs.Even.{even}
 use Rattle.layout.specs.Places.{BITS, ROWS, USED, FIRST-REGISTER, ROOTS-END, LOW, HIGH, LEVEL}
 use Rattle.layout.specs.View.{View}
 use Rattle.soundness.specs.Used.{used, rowsOf}
-use Rattle.soundness.specs.Mark.{On}
+use Rattle.soundness.specs.Bits.{On}
 use Rattle.soundness.specs.Roots.{Ref, MarksAll}
 use Rattle.soundness.specs.Sound.{Good, Sound, EvenRegs}
 use Rattle.soundness.specs.Filled.{filled, filled-mem}

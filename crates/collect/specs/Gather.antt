@@ -15,7 +15,7 @@ use Rattle.soundness.specs.Index.{Has, Index}
 use Rattle.table.specs.Columns.{setHeads}
 use Rattle.table.specs.Append.{appended, append-used, append-kept, append-only, append-ranked, append-index}
 use Rattle.soundness.specs.Checks.{Room}
-use Rattle.soundness.specs.Mark.{On}
+use Rattle.soundness.specs.Bits.{On}
 
 -- X is W but for its heads
 pub record Headed (W X : View) : Type 0 where
@@ -144,7 +144,7 @@ module _ (W : View) (ranked : Ranked W) (shared : Shared W) (mark : ℕ → Type
 pub record GatherPre (E : View) (total size : ℕ) : Type 0 where
   pub words : wordsFor (E .rows) ≤ E .size
   pub max : E .rows ≤ MAX-ROWS
-  pub marks : E .rows ≤ size
+  pub marks : E .rows ≤ 32 * size
   pub none : E .header USED ≡ 0
   pub ranked : Ranked (putHeader E USED total)
   pub shared : Shared (putHeader E USED total)
@@ -170,7 +170,7 @@ module _ (W : View) {E₁ E : View} {total : ℕ} (et : total ≡ W .header USED
   is : E ≡ setHeads (putHeader W USED 0) (h .heads)
   is = h .same ∙ ap (λ (v : View). setHeads v (h .heads)) e₁
 
-  pub gather-pre : (size : ℕ) → wordsFor (W .rows) ≤ W .size → W .rows ≤ MAX-ROWS → W .rows ≤ size → Ranked W → Shared W → GatherPre E total size
+  pub gather-pre : (size : ℕ) → wordsFor (W .rows) ≤ W .size → W .rows ≤ MAX-ROWS → W .rows ≤ 32 * size → Ranked W → Shared W → GatherPre E total size
   gather-pre size a b c r s = subst (λ (v : View). GatherPre v total size) (sym is) (record {
     words = a;
     max = b;

@@ -12,7 +12,8 @@ use Rattle.diagram.specs.Reach.{Reach, reached-root, reach-on}
 use Rattle.layout.specs.Places.{FIRST-REGISTER, ROOTS-END}
 use Rattle.layout.specs.View.{View}
 use Rattle.soundness.specs.Used.{rowsOf}
-use Rattle.soundness.specs.Mark.{On, Marks, Base, closed-reach}
+use Rattle.soundness.specs.Bits.{On}
+use Rattle.soundness.specs.Mark.{Marks, Base, closed-reach}
 use Rattle.soundness.specs.Roots.{MarksAll, Held, marks-none, marks-one, marks-more, marks-same}
 use Rattle.soundness.specs.Filled.{filled, mem-filled, filled-mem}
 

@@ -5,9 +5,11 @@ use layout::header_word;
 use layout::listed;
 use layout::put_head;
 use layout::put_header;
+use soundness::Bitmap;
 use soundness::bucket_of;
 use soundness::mark;
 use soundness::mark_refs;
+use soundness::marked;
 use table::append;
 ghost use mathlib.Core.Path.{_≡_};
 ghost use mathlib.Core.List.{map, _++_, List·Memᴰ as Mem};
@@ -16,7 +18,7 @@ ghost use lib.ListN.{length};
 ghost use Rattle.layout.specs.Places.{MAX-ROWS, BITS, USED, FIRST-REGISTER, ROOTS-END, wordsFor};
 ghost use Rattle.layout.specs.View.{view, headerOf, listOf, putHeader};
 ghost use Rattle.soundness.specs.Used.{rowsOf, Ranked};
-ghost use Rattle.soundness.specs.Mark.{On};
+ghost use Rattle.soundness.specs.Bits.{On};
 ghost use Rattle.soundness.specs.Roots.{MarksAll, RefsPre};
 ghost use Rattle.soundness.specs.Sound.{Good, Sound};
 ghost use Rattle.collect.specs.Lent.{LentPre, live};
@@ -28,7 +30,7 @@ ghost use Rattle.collect.specs.Freed.{Freed};
 ghost use Rattle.collect.specs.Answers.{FreePre, CollectPost};
 
 // Marks the rows that a list of arrows reaches.
-fn mark_list(words: &[u32], rows: u32, marks: &mut [u8], roots: &[u32])
+fn mark_list(words: &[u32], rows: u32, marks: &mut [u32], roots: &[u32])
     requires { ⌜ LentPre (view rows (now words)) (length (now marks)) (now roots) ⌝ }
     ensures { λ _. ⌜ MarksAll (rowsOf (view rows (now (words .entry)))) (now (marks .entry)) (now (marks .exit)) (λ a. Mem a (now (roots .entry))) ⌝ }
 {
@@ -40,7 +42,7 @@ fn mark_list(words: &[u32], rows: u32, marks: &mut [u8], roots: &[u32])
 }
 
 // Marks the rows that registers, relations and further roots reach.
-fn mark_roots(words: &[u32], rows: u32, marks: &mut [u8], roots: &[u32])
+fn mark_roots(words: &[u32], rows: u32, marks: &mut [u32], roots: &[u32])
     requires { ⌜ RefsPre (view rows (now words)) (length (now marks)) FIRST-REGISTER ROOTS-END × LentPre (view rows (now words)) (length (now marks)) (now roots) ⌝ }
     ensures { λ _. ⌜ MarksAll (rowsOf (view rows (now (words .entry)))) (now (marks .entry)) (now (marks .exit)) (λ a. Mem a (live (view rows (now (words .entry))) (now (roots .entry)))) ⌝ }
 {
@@ -49,20 +51,19 @@ fn mark_roots(words: &[u32], rows: u32, marks: &mut [u8], roots: &[u32])
 }
 
 // 1 where row i is marked, else 0.
-fn mark_of(marks: &[u8], i: u32) -> u32
-    requires { ⌜ i < length (now marks) ⌝ }
+fn mark_of(marks: &[u32], i: u32) -> u32
+    requires { ⌜ i < 32 * length (now marks) ⌝ }
     ensures { λ r. ⌜ r ≡ markOf (now (marks .entry)) i ⌝ }
 {
-    let at = i as usize;
-    if marks[at] == 1 {
+    if marked(marks, i) {
         return 1;
     }
     0
 }
 
 // How many rows are marked.
-fn count_marks(words: &[u32], rows: u32, marks: &[u8]) -> u32
-    requires { ⌜ Ranked (view rows (now words)) × (rows ≤ length (now marks)) × (wordsFor rows ≤ length (now words)) ⌝ }
+fn count_marks(words: &[u32], rows: u32, marks: &[u32]) -> u32
+    requires { ⌜ Ranked (view rows (now words)) × (rows ≤ 32 * length (now marks)) × (wordsFor rows ≤ length (now words)) ⌝ }
     ensures { λ r. ⌜ r ≡ length (chosen (view rows (now (words .entry))) (now (marks .entry)) (headerOf (now (words .entry)) USED)) ⌝ }
 {
     let used = header_word(words, Table::USED);
@@ -80,7 +81,7 @@ pub fn needed(words: &[u32], rows: u32, roots: &[u32]) -> u32
     requires { ⌜ FreePre (view rows (now words)) (now roots) ⌝ }
     ensures { λ r. ⌜ r ≡ need (2 * headerOf (now (words .entry)) BITS) (map (den (2 * headerOf (now (words .entry)) BITS) (rowsOf (view rows (now (words .entry))))) (live (view rows (now (words .entry))) (now (roots .entry)))) ⌝ }
 {
-    let mut marks = [0u8; Table::MAX_ROWS as usize];
+    let mut marks = [0u32; Bitmap::WORDS];
     mark_roots(words, rows, &mut marks, roots);
     count_marks(words, rows, &marks)
 }
@@ -102,15 +103,14 @@ fn clear_heads(words: &mut [u32], rows: u32, total: u32)
 }
 
 // The marked rows of the first `total` listed rows become used, in their order.
-fn regather(words: &mut [u32], rows: u32, total: u32, marks: &[u8])
+fn regather(words: &mut [u32], rows: u32, total: u32, marks: &[u32])
     requires { ⌜ GatherPre (view rows (now words)) total (length (now marks)) ⌝ }
     ensures { λ _. ⌜ Part (putHeader (view rows (now (words .entry))) 3 total) (λ j. On (now (marks .entry)) j) total (view rows (now (words .exit))) ⌝ }
 {
     let mut k = 0;
     while k < total {
         let i = listed(words, rows, k);
-        let at = i as usize;
-        if marks[at] == 1 {
+        if marked(marks, i) {
             append(words, rows, i);
         }
         k += 1;
@@ -118,8 +118,8 @@ fn regather(words: &mut [u32], rows: u32, total: u32, marks: &[u8])
 }
 
 // The rows without a mark become unused, and the index is made anew.
-fn gather(words: &mut [u32], rows: u32, marks: &[u8])
-    requires { ⌜ Good (view rows (now words)) × (rows ≤ length (now marks)) ⌝ }
+fn gather(words: &mut [u32], rows: u32, marks: &[u32])
+    requires { ⌜ Good (view rows (now words)) × (rows ≤ 32 * length (now marks)) ⌝ }
     ensures { λ _. ⌜ Gathered (view rows (now (words .entry))) (view rows (now (words .exit))) (now (marks .entry)) ⌝ }
 {
     let total = header_word(words, Table::USED);
@@ -133,7 +133,7 @@ pub fn free_rows(words: &mut [u32], rows: u32, roots: &[u32], more: &[u32])
     requires { ⌜ FreePre (view rows (now words)) (now roots ++ now more) ⌝ }
     ensures { λ _. ⌜ Freed (view rows (now (words .entry))) (view rows (now (words .exit))) (live (view rows (now (words .entry))) (now (roots .entry) ++ now (more .entry))) ⌝ }
 {
-    let mut marks = [0u8; Table::MAX_ROWS as usize];
+    let mut marks = [0u32; Bitmap::WORDS];
     mark_roots(words, rows, &mut marks, roots);
     mark_list(words, rows, &mut marks, more);
     gather(words, rows, &marks);
@@ -144,7 +144,7 @@ pub fn collect_rows(words: &mut [u32], rows: u32) -> u32
     requires { ⌜ Sound (view rows (now words)) ⌝ }
     ensures { λ r. ⌜ CollectPost (view rows (now (words .entry))) (view rows (now (words .exit))) r ⌝ }
 {
-    let mut marks = [0u8; Table::MAX_ROWS as usize];
+    let mut marks = [0u32; Bitmap::WORDS];
     mark_refs(
         words,
         rows,

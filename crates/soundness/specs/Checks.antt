@@ -12,7 +12,7 @@ use Rattle.layout.specs.View.{View}
 use Rattle.layout.specs.Arrows.{isRow, rowOf, row-is}
 use Rattle.soundness.specs.Used.{used, used-in}
 use Rattle.soundness.specs.Index.{Has, Hit, stop, skip, Down, Link, live, live-used, live-not, keyOf}
-use Rattle.soundness.specs.Mark.{On}
+use Rattle.soundness.specs.Bits.{On}
 
 -- there are words enough, and not more used rows than rows
 pub record Room (W : View) : Type 0 where

@@ -1,5 +1,6 @@
 pub mod Used
 pub mod Index
+pub mod Bits
 pub mod Mark
 pub mod Roots
 pub mod Says

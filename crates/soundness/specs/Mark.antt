@@ -3,21 +3,16 @@ use mathlib.Core.Path.{_≡_, refl, ap, sym, _∙_, subst}
 use mathlib.Core.Logic.{_⊎_, inl, inr, ⊎-elim, by-cases}
 use mathlib.Core.List.{List, [], _∷_, List·Memᴰ as Mem, List·Memᴰ·head as here}
 use mathlib.Core.Bool.{true, false, true≢false}
-use Prim.Native.Nat.{ℕ, zero, suc, _+_, _-_, _*_, _≤_, _<_}
+use Prim.Native.Nat.{ℕ, zero, suc, _-_, _*_, _≤_, _<_}
 use native.Mathlib.Omega.{arith}
 use native.Mathlib.Decide.{ℕ-discrete}
-use lib.ListN.{length, getD, set}
-use lib.Seq.{getD-set-same, getD-set-other}
 use Rattle.layout.specs.Places.{wordsFor, BITS, LOW, HIGH}
 use Rattle.diagram.specs.Rows.{Rows, Arrow, levelOf, row, RowOk, WellFormed}
 use Rattle.diagram.specs.Reach.{Reach, root, by-low, by-high, reached-low, reached-high, reach-on, reach-used, one-root}
 use Rattle.layout.specs.View.{View}
 use Rattle.layout.specs.Arrows.{isRow, rowOf, row-is}
 use Rattle.soundness.specs.Used.{rowsOf}
-
--- row i is marked
-abbrev pub On : List ℕ → ℕ → Type 0
-On m i = getD m i 0 ≡ 1
+use Rattle.soundness.specs.Bits.{On, Sets}
 
 -- an arrow is 0, 1 or leads to a marked row
 abbrev pub OnArrow : List ℕ → ℕ → Type 0
@@ -41,7 +36,7 @@ pub record Marks (rows : Rows) (m m′ : List ℕ) (a : ℕ) : Type 0 where
 pub record Base (w : View) (size : ℕ) : Type 0 where
   pub words : wordsFor (w .rows) ≤ w .size
   pub rows : WellFormed (2 * w .header BITS) (w .rows) (rowsOf w)
-  pub room : w .rows ≤ size
+  pub room : w .rows ≤ 32 * size
 
 -- what marking asks
 pub record MarkPre (w : View) (size a : ℕ) : Type 0 where
@@ -97,15 +92,13 @@ marks-again rows m a h e o =
     record { kept = λ j p. p; has = subst (OnArrow m) (sym (row-is a h)) (rw e at o); only = λ j p. inl p; closed = λ c. c }
 
 -- a row is marked after its two arrows
-module _ (rows : Rows) (m₀ m₁ m₂ : List ℕ) (i : ℕ) (room : i < length m₂)
+module _ (rows : Rows) (m₀ m₁ m₂ m₃ : List ℕ) (i : ℕ) (new : Sets m₂ m₃ i)
     (lo : Marks rows m₀ m₁ (rows .low i)) (hi : Marks rows m₁ m₂ (rows .high i)) where
-  on-set : (j : ℕ) → On m₂ j → On (set m₂ i 1) j
-  on-set j o = by-cases (ℕ-discrete j i)
-      (λ e. rw e (getD-set-same m₂ i 1 0 room))
-      (λ n. getD-set-other m₂ i j 1 0 n ∙ o)
+  on-set : (j : ℕ) → On m₂ j → On m₃ j
+  on-set j o = by-cases (ℕ-discrete j i) (λ e. subst (On m₃) (sym e) (new .has)) (λ n. new .other j n ∙ o)
 
-  set-on : (j : ℕ) → On (set m₂ i 1) j → (j ≡ i) ⊎ On m₂ j
-  set-on j o = by-cases (ℕ-discrete j i) (λ e. inl e) (λ n. inr (sym (getD-set-other m₂ i j 1 0 n) ∙ o))
+  set-on : (j : ℕ) → On m₃ j → (j ≡ i) ⊎ On m₂ j
+  set-on j o = by-cases (ℕ-discrete j i) (λ e. inl e) (λ n. inr (sym (new .other j n) ∙ o))
 
   top : Reach rows (row i ∷ []) i
   top = root (here refl)
@@ -116,7 +109,7 @@ module _ (rows : Rows) (m₀ m₁ m₂ : List ℕ) (i : ℕ) (room : i < length 
       ⊎-elim (λ p. ⊎-elim (λ q. inl q) (λ r. inr (reach-on (reached-low rows (row i ∷ []) top (rows .low i) refl) r)) (lo .only j p))
       (λ r. inr (reach-on (reached-high rows (row i ∷ []) top (rows .high i) refl) r)) (hi .only j o)
 
-  closed-row : Closed rows m₀ → Closed rows (set m₂ i 1)
+  closed-row : Closed rows m₀ → Closed rows m₃
   closed-row c =
       let c₂ : Closed rows m₂ = hi .closed (lo .closed c) in
       let l : OnArrow m₂ (rows .low i) = onArrow-le m₁ m₂ (hi .kept) (rows .low i) (lo .has) in
@@ -125,18 +118,18 @@ module _ (rows : Rows) (m₀ m₁ m₂ : List ℕ) (i : ℕ) (room : i < length 
         high = λ j o. onArrow-le m₂ _ on-set (rows .high j) (⊎-elim (λ e. rw e (hi .has)) (λ p. c₂ .high j p) (set-on j o));
       }
 
-  marks-row-of : Marks rows m₀ (set m₂ i 1) (suc (suc i))
+  marks-row-of : Marks rows m₀ m₃ (suc (suc i))
   marks-row-of = record {
     kept = λ j o. on-set j (hi .kept j (lo .kept j o));
-    has = getD-set-same m₂ i 1 0 room;
+    has = new .has;
     only = λ j o. only-row j (set-on j o);
     closed = closed-row;
   }
 
-pub marks-row : {rows : Rows} {m₀ m₁ m₂ : List ℕ} {x y i : ℕ} (a : ℕ) → isRow a ≡ true → i ≡ rowOf a → i < length m₂
-    → Marks rows m₀ m₁ x → x ≡ rows .low i → Marks rows m₁ m₂ y → y ≡ rows .high i → Marks rows m₀ (set m₂ i 1) a
-marks-row {rows} {m₀} {m₁} {m₂} {i = i} a h e r lo el hi eh =
-    subst (Marks rows m₀ (set m₂ i 1)) (sym (row-is a h ∙ ap row (sym e))) (marks-row-of rows m₀ m₁ m₂ i r (rw el at lo) (rw eh at hi))
+pub marks-row : {rows : Rows} {m₀ m₁ m₂ m₃ : List ℕ} {x y i : ℕ} (a : ℕ) → isRow a ≡ true → i ≡ rowOf a → Sets m₂ m₃ i
+    → Marks rows m₀ m₁ x → x ≡ rows .low i → Marks rows m₁ m₂ y → y ≡ rows .high i → Marks rows m₀ m₃ a
+marks-row {rows} {m₀} {m₁} {m₂} {m₃} {i = i} a h e s lo el hi eh =
+    subst (Marks rows m₀ m₃) (sym (row-is a h ∙ ap row (sym e))) (marks-row-of rows m₀ m₁ m₂ m₃ i s (rw el at lo) (rw eh at hi))
 
 -- what a closed set of marked rows reaches is marked
 pub closed-reach : {rows : Rows} {m : List ℕ} {roots : List ℕ} → Closed rows m → ((a : ℕ) → Mem a roots → OnArrow m a) → {j : ℕ} → Reach rows roots j → On m j

@@ -5,13 +5,13 @@ use mathlib.Core.List.{List, [], _∷_}
 use Prim.Native.Nat.{ℕ, zero, suc, _+_, _-_, _≤_, _<_}
 use native.Mathlib.Omega.{arith}
 use native.Mathlib.Decide.{decLt}
-use lib.ListN.{length, getD}
 use Rattle.diagram.specs.Rows.{Rows, Arrow}
 use Rattle.diagram.specs.Reach.{Reach}
 use Rattle.layout.specs.Places.{HEADER}
 use Rattle.layout.specs.View.{View}
 use Rattle.soundness.specs.Used.{rowsOf}
-use Rattle.soundness.specs.Mark.{On, OnArrow, onArrow-le, Closed, Marks, Base}
+use Rattle.soundness.specs.Bits.{On}
+use Rattle.soundness.specs.Mark.{OnArrow, onArrow-le, Closed, Marks, Base}
 
 -- exactly the rows that the arrows in `root` reach were marked
 pub record MarksAll (rows : Rows) (m m′ : List ℕ) (root : ℕ → Type 0) : Type 0 where

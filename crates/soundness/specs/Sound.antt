@@ -4,8 +4,6 @@ use mathlib.Core.Bool.{true}
 use mathlib.Core.Logic.{⊎-elim}
 use mathlib.Core.List.{List, [], _∷_}
 use Prim.Native.Nat.{ℕ, zero, suc, _*_, _%_, _≤_, _<_}
-use native.Mathlib.Omega.{arith}
-use lib.ListN.{replicate}
 use borrow.Author.Tests.{eq-eqb, eqb-true}
 use Rattle.layout.specs.Places.{BITS, ROWS, USED, FIRST-REGISTER, FIRST-RELATION, ROOTS-END, LOW, HIGH, LEVEL, RANK}
 use Rattle.diagram.specs.Rows.{Arrow, levelOf, RowOk, WellFormed}
@@ -14,7 +12,8 @@ use Rattle.diagram.specs.Even.{even}
 use Rattle.layout.specs.View.{View, view, headerOf}
 use Rattle.soundness.specs.Used.{Sizes, used, used-in, Ranked, listed-used, rowsOf}
 use Rattle.soundness.specs.Index.{Index, hit-one}
-use Rattle.soundness.specs.Mark.{On, OnArrow, Closed, closed-reach, reaches-used}
+use Rattle.soundness.specs.Bits.{On}
+use Rattle.soundness.specs.Mark.{OnArrow, Closed, closed-reach, reaches-used}
 use Rattle.soundness.specs.Roots.{Ref, Held, MarksAll}
 use Rattle.soundness.specs.Checks.{Room, Placed, Leads, RowGood, Finds, Links, EvenMarked}
 
@@ -134,12 +133,6 @@ module _ (W : View) where
       rows = λ k h. row-good (W .list k) (listed-used W (g .ranked) k h);
       index = λ k h. g .index .found (W .list k) (listed-used W (g .ranked) k h);
     }
-
--- nothing is marked in a list of zeros
-pub no-marks : (n i : ℕ) → On (replicate n 0) i → ⊥
-no-marks zero i o = absurd (omega arith)
-no-marks (suc n) zero o = absurd (omega arith)
-no-marks (suc n) (suc i) o = no-marks n i o
 
 -- the registers' rows are those that were marked from them
 module _ (W : View) (ranked : Ranked W) (wf : WellFormed (2 * W .header BITS) (W .rows) (rowsOf W)) (z z′ : List ℕ) (none : (i : ℕ) → On z i → ⊥)

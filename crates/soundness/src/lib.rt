@@ -13,11 +13,19 @@ ghost use Rattle.layout.specs.Places.{MAX-ROWS, HEADER, wordsFor, BITS, ROWS, F
 ghost use Rattle.layout.specs.View.{view, headerOf, listOf, headOf};
 ghost use Rattle.soundness.specs.Used.{Sizes, used, rowsOf, Ranked};
 ghost use Rattle.soundness.specs.Index.{bucket, live, Has, Hit, Down, Link};
+ghost use Rattle.soundness.specs.Bits.{MARK-WORDS, isOn, Sets};
 ghost use Rattle.soundness.specs.Mark.{Marks, MarkPre};
 ghost use Rattle.soundness.specs.Roots.{Ref, MarksAll, RefPre, RefsPre, Held};
 ghost use Rattle.soundness.specs.Says.{Says};
 ghost use Rattle.soundness.specs.Checks.{Room, Placed, Leads, RowGood, Finds, Links, EvenMarked};
 ghost use Rattle.soundness.specs.Sound.{EvenRegs, Sound, tableOf};
+
+// A bitmap with a mark of each row.
+pub struct Bitmap;
+
+impl Bitmap {
+    pub const WORDS: usize = 1875;
+}
 
 // The bucket of a row's three words in a table of `rows` rows.
 pub fn bucket_of(rows: u32, level: u32, low: u32, high: u32) -> u32
@@ -252,8 +260,27 @@ fn refs_ok(words: &[u32], rows: u32, from: usize, to: usize) -> bool
     true
 }
 
+// Whether row i is marked.
+pub fn marked(marks: &[u32], i: u32) -> bool
+    requires { ⌜ i < 32 * length (now marks) ⌝ }
+    ensures { λ r. ⌜ r ≡ isOn (now (marks .entry)) i ⌝ }
+{
+    let at = (i / 32) as usize;
+    (marks[at] >> (i % 32)) % 2 == 1
+}
+
+// Marks row i.
+fn set_mark(marks: &mut [u32], i: u32)
+    requires { ⌜ i < 32 * length (now marks) ⌝ }
+    ensures { λ _. ⌜ Sets (now (marks .entry)) (now (marks .exit)) i ⌝ }
+{
+    let at = (i / 32) as usize;
+    let old = marks[at];
+    marks[at] = old | (1u32 << (i % 32));
+}
+
 // Marks the rows that arrow a reaches.
-pub fn mark(words: &[u32], rows: u32, marks: &mut [u8], a: u32)
+pub fn mark(words: &[u32], rows: u32, marks: &mut [u32], a: u32)
     requires { ⌜ MarkPre (view rows (now words)) (length (now marks)) a ⌝ }
     ensures { λ _. ⌜ Marks (rowsOf (view rows (now (words .entry)))) (now (marks .entry)) (now (marks .exit)) a ⌝ }
 {
@@ -261,17 +288,16 @@ pub fn mark(words: &[u32], rows: u32, marks: &mut [u8], a: u32)
         return;
     }
     let i = row_of(a);
-    let at = i as usize;
-    if marks[at] == 1 {
+    if marked(marks, i) {
         return;
     }
     mark(words, rows, marks, get(words, rows, i, Table::LOW));
     mark(words, rows, marks, get(words, rows, i, Table::HIGH));
-    marks[at] = 1;
+    set_mark(marks, i);
 }
 
 // Marks the rows that a register or relation reaches.
-fn mark_ref(words: &[u32], rows: u32, marks: &mut [u8], r: u32)
+fn mark_ref(words: &[u32], rows: u32, marks: &mut [u32], r: u32)
     requires { ⌜ RefPre (view rows (now words)) (length (now marks)) r ⌝ }
     ensures { λ _. ⌜ MarksAll (rowsOf (view rows (now (words .entry)))) (now (marks .entry)) (now (marks .exit)) (λ a. r ≡ suc a) ⌝ }
 {
@@ -282,7 +308,7 @@ fn mark_ref(words: &[u32], rows: u32, marks: &mut [u8], r: u32)
 }
 
 // Marks the rows that the header's words from `from` up to `to` reach.
-pub fn mark_refs(words: &[u32], rows: u32, marks: &mut [u8], from: usize, to: usize)
+pub fn mark_refs(words: &[u32], rows: u32, marks: &mut [u32], from: usize, to: usize)
     requires { ⌜ RefsPre (view rows (now words)) (length (now marks)) from to ⌝ }
     ensures { λ _. ⌜ MarksAll (rowsOf (view rows (now (words .entry)))) (now (marks .entry)) (now (marks .exit)) (Held (view rows (now (words .entry))) from to) ⌝ }
 {
@@ -294,16 +320,15 @@ pub fn mark_refs(words: &[u32], rows: u32, marks: &mut [u8], from: usize, to: us
 }
 
 // Whether every marked row has an even level.
-fn evens(words: &[u32], rows: u32, marks: &[u8]) -> bool
-    requires { ⌜ Ranked (view rows (now words)) × (rows ≤ length (now marks)) × (wordsFor rows ≤ length (now words)) ⌝ }
+fn evens(words: &[u32], rows: u32, marks: &[u32]) -> bool
+    requires { ⌜ Ranked (view rows (now words)) × (rows ≤ 32 * length (now marks)) × (wordsFor rows ≤ length (now words)) ⌝ }
     ensures { λ r. ⌜ Says (EvenMarked (view rows (now (words .entry))) (now (marks .entry))) r ⌝ }
 {
     let used = header_word(words, Table::USED);
     let mut k = 0;
     while k < used {
         let i = listed(words, rows, k);
-        let at = i as usize;
-        if marks[at] == 1 {
+        if marked(marks, i) {
             if get(words, rows, i, Table::LEVEL) % 2 == 1 {
                 return false;
             }
@@ -315,10 +340,10 @@ fn evens(words: &[u32], rows: u32, marks: &[u8]) -> bool
 
 // Whether the registers' rows have even levels.
 fn even_registers(words: &[u32], rows: u32) -> bool
-    requires { ⌜ Ranked (view rows (now words)) × RefsPre (view rows (now words)) MAX-ROWS FIRST-REGISTER FIRST-RELATION ⌝ }
+    requires { ⌜ Ranked (view rows (now words)) × RefsPre (view rows (now words)) MARK-WORDS FIRST-REGISTER FIRST-RELATION ⌝ }
     ensures { λ r. ⌜ Says (EvenRegs (view rows (now (words .entry)))) r ⌝ }
 {
-    let mut marks = [0u8; 60000];
+    let mut marks = [0u32; Bitmap::WORDS];
     mark_refs(
         words,
         rows,

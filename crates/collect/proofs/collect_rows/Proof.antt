@@ -1,9 +1,8 @@
 -- `collect_rows` meets its contract: what is marked is what registers and relations reach, and that is what stays. Assumes nothing.
 use native.Mathlib.Omega.{arith}
 use borrow.Author.Needs.{needs}
-use Rattle.layout.specs.Places.{MAX-ROWS}
 use Rattle.layout.specs.View.{view}
-use Rattle.soundness.specs.Sound.{no-marks}
+use Rattle.soundness.specs.Bits.{MARK-WORDS, no-marks}
 use Rattle.collect.specs.Answers.{sound-base, collect-by}
 use Rattle.collect.proofs.collect_rows.Statement.{statement}
 use Rattle.collect.proofs.collect_rows.Tie as tie
@@ -18,4 +17,4 @@ collect-rows-spec =
     (λ c κs. let s = c .before .before .before .before .before .before .before .pre in let z = s .good .sizes in let e = c .before .before .before .mark-refs .kept .1 .1 .0 in (s .good, omega arith))
     (λ c κs. let z = c .before .before .before .before .before .before .before .before .before .before .before .pre .good .sizes in let e = c .before .before .before .gather .kept .0 in omega arith)
     (λ c. search needs)
-    (λ c. collect-by (view (c .before .before .before .before .before .before .before .before .before .before .before .before .args .rows) (c .before .before .before .before .before .before .before .before .before .before .before .before .args .words .now)) _ _ _ (no-marks MAX-ROWS) (c .before .before .before .before .gather .ensures) (c .before .before .before .before .before .before .before .before .before .before .before .before .pre) (c .before .before .before .before .before .before .before .before .mark-refs .ensures) (c .header-word .ensures)))
+    (λ c. collect-by (view (c .before .before .before .before .before .before .before .before .before .before .before .before .args .rows) (c .before .before .before .before .before .before .before .before .before .before .before .before .args .words .now)) _ _ _ (no-marks MARK-WORDS) (c .before .before .before .before .gather .ensures) (c .before .before .before .before .before .before .before .before .before .before .before .before .pre) (c .before .before .before .before .before .before .before .before .mark-refs .ensures) (c .header-word .ensures)))

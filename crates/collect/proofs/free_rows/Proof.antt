@@ -1,9 +1,8 @@
 -- `free_rows` meets its contract: what is marked is what registers, relations and both lists reach, and that is what stays. Assumes nothing.
 use native.Mathlib.Omega.{arith}
 use mathlib.Core.List.{_++_, Memᴰ·append-left as append-left, Memᴰ·append-right as append-right}
-use Rattle.layout.specs.Places.{MAX-ROWS}
 use Rattle.layout.specs.View.{view}
-use Rattle.soundness.specs.Sound.{no-marks}
+use Rattle.soundness.specs.Bits.{MARK-WORDS, no-marks}
 use Rattle.collect.specs.Lent.{more-marks}
 use Rattle.collect.specs.Answers.{sound-base, free-by}
 use borrow.Author.Needs.{needs}
@@ -21,4 +20,4 @@ free-rows-spec =
     (λ c. search needs)
     (λ c κs. search needs)
     (λ c. search needs)
-    (λ c. free-by (view (c .before .before .before .before .before .before .before .before .before .before .before .before .before .before .before .before .args .rows) (c .before .before .before .before .before .before .before .before .before .before .before .before .before .before .before .before .args .words .now)) _ _ _ (no-marks MAX-ROWS) (c .before .before .gather .ensures) (c .before .before .before .before .before .before .before .before .before .before .before .before .before .before .before .before .args .roots .now ++ c .before .before .before .before .before .before .before .before .before .before .before .before .before .before .before .before .args .more .now) (c .before .before .before .before .before .before .before .before .before .before .before .before .before .before .before .before .pre) (more-marks _ _ _ (c .before .before .before .before .before .before .before .before .before .before .mark-roots .ensures) (c .before .before .before .before .before .before .mark-list .ensures))))
+    (λ c. free-by (view (c .before .before .before .before .before .before .before .before .before .before .before .before .before .before .before .before .args .rows) (c .before .before .before .before .before .before .before .before .before .before .before .before .before .before .before .before .args .words .now)) _ _ _ (no-marks MARK-WORDS) (c .before .before .gather .ensures) (c .before .before .before .before .before .before .before .before .before .before .before .before .before .before .before .before .args .roots .now ++ c .before .before .before .before .before .before .before .before .before .before .before .before .before .before .before .before .args .more .now) (c .before .before .before .before .before .before .before .before .before .before .before .before .before .before .before .before .pre) (more-marks _ _ _ (c .before .before .before .before .before .before .before .before .before .before .mark-roots .ensures) (c .before .before .before .before .before .before .mark-list .ensures))))

@@ -1,10 +1,10 @@
 -- `even_registers` meets its contract: the rows that the registers reach are those that were marked from them. Assumes nothing.
 use native.Mathlib.Omega.{arith}
 use borrow.Author.Needs.{needs}
-use Rattle.layout.specs.Places.{MAX-ROWS}
+use Rattle.soundness.specs.Bits.{MARK-WORDS, no-marks}
 use Rattle.layout.specs.View.{view}
 use Rattle.soundness.specs.Says.{says-map}
-use Rattle.soundness.specs.Sound.{no-marks, marked-even, even-marked}
+use Rattle.soundness.specs.Sound.{marked-even, even-marked}
 use Rattle.soundness.proofs.even_registers.Statement.{statement}
 use Rattle.soundness.proofs.even_registers.Tie as tie
 
@@ -16,4 +16,4 @@ even-registers-spec =
     (λ c κs. c .before .before .pre .1)
     (λ c. search needs)
     (λ c κs. let p = c .before .before .before .before .before .pre .1 .base in let e = c .before .before .mark-refs .kept .1 .1 .0 in (c .before .before .before .before .before .pre .0, omega arith, omega arith))
-    (λ c. let p = c .before .before .before .before .before .before .pre in says-map (marked-even (view (c .before .before .before .before .before .before .args .rows) (c .before .before .before .before .before .before .args .words .now)) (p .0) (p .1 .base .rows) _ _ (no-marks MAX-ROWS) (c .before .before .before .mark-refs .ensures) (p .1 .ref)) (even-marked (view (c .before .before .before .before .before .before .args .rows) (c .before .before .before .before .before .before .args .words .now)) (p .0) (p .1 .base .rows) _ _ (no-marks MAX-ROWS) (c .before .before .before .mark-refs .ensures) (p .1 .ref)) (c .evens .ensures)))
+    (λ c. let p = c .before .before .before .before .before .before .pre in says-map (marked-even (view (c .before .before .before .before .before .before .args .rows) (c .before .before .before .before .before .before .args .words .now)) (p .0) (p .1 .base .rows) _ _ (no-marks MARK-WORDS) (c .before .before .before .mark-refs .ensures) (p .1 .ref)) (even-marked (view (c .before .before .before .before .before .before .args .rows) (c .before .before .before .before .before .before .args .words .now)) (p .0) (p .1 .base .rows) _ _ (no-marks MARK-WORDS) (c .before .before .before .mark-refs .ensures) (p .1 .ref)) (c .evens .ensures)))

@@ -1,5 +1,6 @@
 -- `evens` meets its contract: the invariant is that every marked row passed has an even level. Assumes nothing.
-use mathlib.Core.Path.{_≡_}
+use mathlib.Core.Path.{_≡_, sym, _∙_}
+use mathlib.Core.Bool.{true≢false}
 use mathlib.Core.Logic.{⊎-elim}
 use Prim.Native.Nat.{ℕ, _-_, _≤_, _<_, _%_}
 use native.Mathlib.Omega.{arith}
@@ -8,7 +9,7 @@ use Rattle.layout.specs.Places.{USED, LEVEL}
 use Rattle.layout.specs.View.{view, listOf, headerOf}
 use Rattle.soundness.specs.Used.{used}
 use Rattle.soundness.specs.Says.{holds, fails}
-use Rattle.soundness.specs.Mark.{On}
+use Rattle.soundness.specs.Bits.{On}
 use Rattle.soundness.proofs.evens.Statement.{statement}
 use Rattle.soundness.proofs.evens.Tie as tie
 
@@ -27,18 +28,17 @@ evens-spec =
     (λ c κs. let p = c .before .before .pre .2 in omega arith)
     (λ c. (c .header-word .ensures, omega arith, below-none _))
     (λ c κs. let p = c .before .before .before .before .before .pre .0 in let v = c .before .loop .inv .0 in let t = c .loop-test .taken in omega arith)
-    (λ c. omega arith)
-    (λ c. let v = c .before .before .before .loop .inv .0 in let t = c .before .before .loop-test .taken in let p = c .before .before .before .before .before .before .before .pre .0 .within (c .before .before .before .loop .k) (omega arith) in let e = c .before .listed .ensures in let q = c .before .before .before .before .before .before .before .pre .1 in omega arith)
+    (λ c κs. let v = c .before .before .loop .inv .0 in let t = c .before .loop-test .taken in let p = c .before .before .before .before .before .before .pre .0 .within (c .before .before .loop .k) (omega arith) in let e = c .listed .ensures in let q = c .before .before .before .before .before .before .pre .1 in omega arith)
     (λ c κs. let v = c .before .before .before .before .loop .inv .0 in let t = c .before .before .before .loop-test .taken in let p = c .before .before .before .before .before .before .before .before .pre .0 .within (c .before .before .before .before .loop .k) (omega arith) in let e = c .before .before .listed .ensures in let q = c .before .before .before .before .before .before .before .before .pre .2 in omega arith)
-    (λ c. fails (λ q. let v = c .before .before .before .before .before .before .loop .inv .0 in let t = c .before .before .before .before .before .loop-test .taken in let e = c .before .before .before .before .listed .ensures in let z = q (c .before .before .before .before .before .before .loop .k) (omega arith) (rw e at (c .before .before .if1 .taken)) in let g = rw e at (c .before .get .ensures) in let s = c .if2 .taken in omega arith))
+    (λ c. fails (λ q. let v = c .before .before .before .before .before .before .loop .inv .0 in let t = c .before .before .before .before .before .loop-test .taken in let e = c .before .before .before .before .listed .ensures in let z = q (c .before .before .before .before .before .before .loop .k) (omega arith) (rw e at (sym (c .before .before .before .marked .ensures) ∙ c .before .before .if1 .taken)) in let g = rw e at (c .before .get .ensures) in let s = c .if2 .taken in omega arith))
     (λ c. omega arith)
     (λ c. omega arith)
-    (λ c. let v = c .before .before .before .before .loop .inv in let e = c .before .before .listed .ensures in let t = c .before .before .before .loop-test .taken in (
+    (λ c. let v = c .before .before .before .before .loop .inv in let e = c .before .before .listed .ensures in let m = c .before .marked .ensures in let t = c .before .before .before .loop-test .taken in (
       v .0,
       omega arith,
       ⊎-elim
           (λ w. below-more _ _ (v .2) (λ _. let g = rw e at (w .1 .ensures) in let n = w .2 .left in omega arith))
-          (λ w. below-more _ _ (v .2) (λ o. absurd (w .left (rw (← e) at o))))
+          (λ w. below-more _ _ (v .2) (λ o. absurd (true≢false (sym (rw (← e) at o) ∙ sym m ∙ w .left))))
           (c .if1 .came),
     ))
     (λ c. holds (λ k h o. let v = c .before .loop .inv in let t = c .loop-test .left in v .2 k (omega arith) o)))
