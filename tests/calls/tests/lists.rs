@@ -3,13 +3,15 @@
 //! After each call: number, rounds, value, kept words, soundness. After each list: node, count and
 //! member of every register and state, node numbers over all pairs of registers, relations, tally.
 //! `KUDZUCLAMP_CALLS` calls (20,000) from seed `KUDZUCLAMP_SEED` (1). A difference prints its list;
-//! save it and run it again with `KUDZUCLAMP_REPLAY=FILE cargo test --offline --release replay`.
+//! save it and run it again with
+//! `KUDZUCLAMP_REPLAY=FILE cargo test --offline --release --test lists replay -- --ignored`.
 
 use calls::draw::{draw_and_run, Drawn, CALLS};
 use calls::list::List;
 use calls::run::run;
 use std::env;
 use std::io::{stderr, Write};
+use std::panic::catch_unwind;
 use std::sync::atomic::{AtomicU64, Ordering};
 use std::thread;
 use std::time::Instant;
@@ -64,7 +66,10 @@ fn work(seed: u64, lists: u64, taken: &AtomicU64) -> Totals {
         if index >= lists || totals.differences.len() > 2 {
             return totals;
         }
-        totals.add(Totals::of(index, draw_and_run(seed, index)));
+        match catch_unwind(|| draw_and_run(seed, index)) {
+            Ok(drawn) => totals.add(Totals::of(index, drawn)),
+            Err(_) => totals.differences.push(format!("list {index}: a panic")),
+        }
     }
 }
 
@@ -117,12 +122,10 @@ fn report(totals: &Totals, seed: u64, lists: u64, seconds: f64) {
         .expect("stderr takes text");
 }
 
-/// The list in the file that the environment names, if it names one.
 #[test]
+#[ignore = "runs the list in the file that KUDZUCLAMP_REPLAY names"]
 fn replay() {
-    let Ok(path) = env::var("KUDZUCLAMP_REPLAY") else {
-        return;
-    };
+    let path = env::var("KUDZUCLAMP_REPLAY").expect("KUDZUCLAMP_REPLAY names a file");
     let text = std::fs::read_to_string(&path).expect("the file can be read");
     let list = List::read(&text).expect("a list");
     let counts = run(&list).unwrap_or_else(|what| panic!("{what}"));
