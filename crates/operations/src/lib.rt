@@ -79,6 +79,18 @@ pub fn not(words: &mut [u32], rows: u32, levels: u32, limit: u32, a: u32) -> Mad
     not_row(words, rows, levels, limit, a)
 }
 
+// `not` of a part of a row. It is apart, so that it is inlined in `not_row`: a part whose result is known costs no call.
+fn not_part(words: &mut [u32], rows: u32, levels: u32, limit: u32, a: u32) -> Made
+    requires { ⌜ Ready levels rows limit (view rows (now words)) × Arrow (rowsOf (view rows (now words))) a ⌝ }
+    ensures { λ r. ⌜ Worked levels rows limit (view rows (now (words .entry))) (view rows (now (words .exit))) r (notF (den levels (rowsOf (view rows (now (words .entry)))) a)) ⌝ }
+{
+    let known = not_known(words, rows, levels, a);
+    if let Found::At(r) = known {
+        return Made::At(r);
+    }
+    not_row(words, rows, levels, limit, a)
+}
+
 // NOT of an arrow to a row.
 fn not_row(words: &mut [u32], rows: u32, levels: u32, limit: u32, a: u32) -> Made
     requires { ⌜ Ready levels rows limit (view rows (now words)) × Arrow (rowsOf (view rows (now words))) a × (isRow a ≡ true) ⌝ }
@@ -86,10 +98,10 @@ fn not_row(words: &mut [u32], rows: u32, levels: u32, limit: u32, a: u32) -> Mad
 {
     let i = row_of(a);
     let n = node_at(words, rows, i);
-    let Made::At(low) = not(words, rows, levels, limit, n.low) else {
+    let Made::At(low) = not_part(words, rows, levels, limit, n.low) else {
         return Made::Full;
     };
-    let Made::At(high) = not(words, rows, levels, limit, n.high) else {
+    let Made::At(high) = not_part(words, rows, levels, limit, n.high) else {
         return Made::Full;
     };
     let made = make(words, rows, limit, n.level, low, high);
@@ -120,6 +132,18 @@ pub fn shift(words: &mut [u32], rows: u32, levels: u32, limit: u32, a: u32) -> M
     shift_row(words, rows, levels, limit, a)
 }
 
+// `shift` of a part of a row. It is apart, so that it is inlined in `shift_row`: a part whose result is known costs no call.
+fn shift_part(words: &mut [u32], rows: u32, levels: u32, limit: u32, a: u32) -> Made
+    requires { ⌜ Ready levels rows limit (view rows (now words)) × Arrow (rowsOf (view rows (now words))) a × ReadsOn even (den levels (rowsOf (view rows (now words))) a) ⌝ }
+    ensures { λ r. ⌜ Worked levels rows limit (view rows (now (words .entry))) (view rows (now (words .exit))) r (shiftF (den levels (rowsOf (view rows (now (words .entry)))) a)) ⌝ }
+{
+    let known = shift_known(words, rows, levels, a);
+    if let Found::At(r) = known {
+        return Made::At(r);
+    }
+    shift_row(words, rows, levels, limit, a)
+}
+
 // SHIFT of an arrow to a row.
 fn shift_row(words: &mut [u32], rows: u32, levels: u32, limit: u32, a: u32) -> Made
     requires { ⌜ Ready levels rows limit (view rows (now words)) × Arrow (rowsOf (view rows (now words))) a × ReadsOn even (den levels (rowsOf (view rows (now words))) a) × (isRow a ≡ true) ⌝ }
@@ -127,10 +151,10 @@ fn shift_row(words: &mut [u32], rows: u32, levels: u32, limit: u32, a: u32) -> M
 {
     let i = row_of(a);
     let n = node_at(words, rows, i);
-    let Made::At(low) = shift(words, rows, levels, limit, n.low) else {
+    let Made::At(low) = shift_part(words, rows, levels, limit, n.low) else {
         return Made::Full;
     };
-    let Made::At(high) = shift(words, rows, levels, limit, n.high) else {
+    let Made::At(high) = shift_part(words, rows, levels, limit, n.high) else {
         return Made::Full;
     };
     let made = make(words, rows, limit, n.level + 1, low, high);
@@ -239,6 +263,19 @@ pub fn apply(words: &mut [u32], rows: u32, levels: u32, limit: u32, op: Op, a: u
     apply_rows(words, rows, levels, limit, op, p.lo, p.hi)
 }
 
+// `apply` of parts of two rows. It is apart, so that it is inlined in `apply_rows`: a pair whose result is known costs no call.
+fn apply_part(words: &mut [u32], rows: u32, levels: u32, limit: u32, op: Op, a: u32, b: u32) -> Made
+    requires { ⌜ Ready levels rows limit (view rows (now words)) × Arrow (rowsOf (view rows (now words))) a × Arrow (rowsOf (view rows (now words))) b ⌝ }
+    ensures { λ r. ⌜ Worked levels rows limit (view rows (now (words .entry))) (view rows (now (words .exit))) r (twoF (bitOp op) (den levels (rowsOf (view rows (now (words .entry)))) a) (den levels (rowsOf (view rows (now (words .entry)))) b)) ⌝ }
+{
+    let p = sort(a, b);
+    let found = known(words, rows, op, p.lo, p.hi);
+    if let Found::At(r) = found {
+        return Made::At(r);
+    }
+    apply_rows(words, rows, levels, limit, op, p.lo, p.hi)
+}
+
 // AND or OR of a lesser and a greater arrow to rows.
 fn apply_rows(
     words: &mut [u32],
@@ -255,10 +292,10 @@ fn apply_rows(
     let level = top(words, rows, lo, hi);
     let x = halve(words, rows, level, lo);
     let y = halve(words, rows, level, hi);
-    let Made::At(low) = apply(words, rows, levels, limit, op, x.low, y.low) else {
+    let Made::At(low) = apply_part(words, rows, levels, limit, op, x.low, y.low) else {
         return Made::Full;
     };
-    let Made::At(high) = apply(words, rows, levels, limit, op, x.high, y.high) else {
+    let Made::At(high) = apply_part(words, rows, levels, limit, op, x.high, y.high) else {
         return Made::Full;
     };
     let made = make(words, rows, limit, level, low, high);
@@ -294,6 +331,18 @@ pub fn exists(words: &mut [u32], rows: u32, levels: u32, limit: u32, x: u32, a: 
     exists_row(words, rows, levels, limit, x, a)
 }
 
+// `exists` of a part of a row. It is apart, so that it is inlined in `exists_row`: a part whose result is known costs no call.
+fn exists_part(words: &mut [u32], rows: u32, levels: u32, limit: u32, x: u32, a: u32) -> Made
+    requires { ⌜ Ready levels rows limit (view rows (now words)) × Arrow (rowsOf (view rows (now words))) a × (x < levels) ⌝ }
+    ensures { λ r. ⌜ Worked levels rows limit (view rows (now (words .entry))) (view rows (now (words .exit))) r (existsF x (den levels (rowsOf (view rows (now (words .entry)))) a)) ⌝ }
+{
+    let known = exists_known(words, rows, levels, x, a);
+    if let Found::At(r) = known {
+        return Made::At(r);
+    }
+    exists_row(words, rows, levels, limit, x, a)
+}
+
 // EXISTS at level x of an arrow to a row at level x or above it.
 fn exists_row(words: &mut [u32], rows: u32, levels: u32, limit: u32, x: u32, a: u32) -> Made
     requires { ⌜ Ready levels rows limit (view rows (now words)) × Arrow (rowsOf (view rows (now words))) a × (x < levels) × ReachesLevel (rowsOf (view rows (now words))) x a ⌝ }
@@ -307,10 +356,10 @@ fn exists_row(words: &mut [u32], rows: u32, levels: u32, limit: u32, x: u32, a: 
         remember_row(words, rows, i, key, made);
         return made;
     }
-    let Made::At(low) = exists(words, rows, levels, limit, x, n.low) else {
+    let Made::At(low) = exists_part(words, rows, levels, limit, x, n.low) else {
         return Made::Full;
     };
-    let Made::At(high) = exists(words, rows, levels, limit, x, n.high) else {
+    let Made::At(high) = exists_part(words, rows, levels, limit, x, n.high) else {
         return Made::Full;
     };
     let made = make(words, rows, limit, n.level, low, high);
