@@ -1,0 +1,103 @@
+// compare NAME=LIST ...: each list through the library and through BuDDy, in turns, at several sizes of the table. Prints the least thread time of each and
+// their ratios; a difference in any answer (refusals, rounds, states) is an error.
+#include "list.h"
+#include <algorithm>
+#include <cstdio>
+#include <cstdlib>
+#include <map>
+
+static const u32 MOST_ROWS = 60000;
+static const u64 ENOUGH = 300000000; // nanoseconds for one way at one size
+static const int LEAST_TURNS = 5, MOST_TURNS = 200;
+static const u64 NEVER = ~0ull;
+
+// The least number of rows with which every call of the list is answered.
+static u32 needed(const List &list) {
+    u32 below = 0, enough = MOST_ROWS;
+    while (enough - below > 1) {
+        u32 middle = (below + enough) / 2;
+        if (run_own(list, middle, false).failed) below = middle;
+        else enough = middle;
+    }
+    return enough;
+}
+
+// Stops with an error where two runs answered differently.
+static void same(const std::string &name, u32 rows, const Run &own, const Run &other) {
+    if (own.answers == other.answers) return;
+    size_t k = 0;
+    while (k < own.answers.size() && k < other.answers.size() && own.answers[k] == other.answers[k]) k++;
+    fprintf(stderr, "%s with %u rows: call %zu is answered differently\n", name.c_str(), rows, k / 2);
+    exit(1);
+}
+
+struct Least {
+    u64 own = NEVER, steps = NEVER, fused = NEVER;
+    u32 cache = 0, collections = 0;
+};
+
+// The sizes of BuDDy's caches that are tried: the fastest one counts.
+static std::vector<u32> caches(u32 rows) { return {std::max(rows / 16, 50u), std::max(rows / 4, 50u), std::max(rows, 50u)}; }
+
+static Least measure(const std::string &name, const List &list, u32 rows) {
+    Run own = run_own(list, rows, true);
+    if (own.failed) { fprintf(stderr, "%s with %u rows: refused\n", name.c_str(), rows); exit(1); }
+    std::map<std::pair<u32, Way>, bool> works;
+    for (u32 cache : caches(rows))
+        for (Way way : {STEPS, FUSED}) {
+            Run other = run_buddy(list, rows, cache, way, true);
+            works[{cache, way}] = !other.failed;
+            if (!other.failed) same(name, rows, own, other);
+        }
+    Least least;
+    u64 spent = 0;
+    for (int turn = 0; turn < LEAST_TURNS || (turn < MOST_TURNS && spent < ENOUGH); turn++) {
+        u64 t = run_own(list, rows, false).ns;
+        spent += t;
+        least.own = std::min(least.own, t);
+        for (auto &[key, fits] : works) {
+            if (!fits) continue;
+            Run run = run_buddy(list, rows, key.first, key.second, false);
+            u64 &best = key.second == STEPS ? least.steps : least.fused;
+            if (run.ns < best) {
+                best = run.ns;
+                if (key.second == STEPS) least.cache = key.first, least.collections = run.collections;
+            }
+        }
+    }
+    return least;
+}
+
+static void print_ratio(u64 own, u64 other) {
+    if (other == NEVER) printf(" out of nodes |");
+    else printf(" %.2f |", (double)own / other);
+}
+
+int main(int count, char **argv) {
+    printf("| workload | rows | of the need | own, ms | BuDDy same steps, ms | own ÷ same steps | own ÷ fused | BuDDy's cache, collections |\n|---|--:|--:|--:|--:|--:|--:|--:|\n");
+    int slower = 0, compared = 0;
+    double worst = 0;
+    for (int k = 1; k < count; k++) {
+        std::string word = argv[k], name = word.substr(0, word.find('=')), path = word.substr(word.find('=') + 1);
+        List list = read_list(path);
+        u32 need = needed(list);
+        std::vector<std::pair<std::string, u32>> sizes = {{"1 ×", need}, {"2 ×", 2 * need}, {"10 ×", 10 * need}, {"all", MOST_ROWS}};
+        for (auto &[times, rows] : sizes) {
+            if (rows > MOST_ROWS) continue;
+            Least l = measure(name, list, rows);
+            printf("| %s | %u | %s | %.3f |", name.c_str(), rows, times.c_str(), l.own / 1e6);
+            if (l.steps == NEVER) printf(" - |"); else printf(" %.3f |", l.steps / 1e6);
+            print_ratio(l.own, l.steps);
+            print_ratio(l.own, l.fused);
+            if (l.steps == NEVER) printf(" - |\n"); else printf(" %u, %u |\n", l.cache, l.collections);
+            fflush(stdout);
+            if (times != "1 ×" && l.steps != NEVER) {
+                compared++;
+                double ratio = (double)l.own / l.steps;
+                slower += ratio > 1;
+                worst = std::max(worst, ratio);
+            }
+        }
+    }
+    printf("\nSlower than BuDDy on the same steps at 2 ×, 10 × and all rows: %d of %d; worst ratio %.2f.\n", slower, compared, worst);
+}
