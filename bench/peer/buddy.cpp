@@ -1,8 +1,10 @@
-// The same lists over BuDDy 2.4. STEPS: AND, then one bdd_exist for each level (the steps of document 01); EXIST_ALL: AND, then one bdd_exist over all
-// next bits; FUSED: bdd_appex, BuDDy's relational product.
+// The same lists over BuDDy 2.4. STEPS: AND, then one bdd_exist for each level (the steps of document 01); FORGETTING: the same, and what is remembered is
+// forgotten at the start of a call, as document 01 wants; FUSED: bdd_appex, BuDDy's relational product.
 #include "list.h"
 #include <bdd.h>
 #include <cstdlib>
+
+extern "C" void bdd_operator_reset(void); // empties BuDDy's caches; not in its header
 
 namespace {
 struct OutOfNodes {};
@@ -43,6 +45,7 @@ class Engine {
   private:
     void call(const Call &c, Run &run) {
         u32 refused = 0, value = 0;
+        if (way == FORGETTING && (c.kind == 2 || c.kind == 3)) bdd_operator_reset();
         if (c.kind == 2) {
             const uint8_t *p = c.formula.data() + 3;
             relations[c.number] = eval(p);
@@ -64,7 +67,6 @@ class Engine {
         bdd g = bdd_replace(f, pairs);
         if (way == FUSED) return bdd_appex(g, r, bddop_and, all);
         bdd v = g & r;
-        if (way == EXIST_ALL) return bdd_exist(v, all);
         for (int p = n - 1; p >= 0; p--) v = bdd_exist(v, next[p]);
         return v;
     }

@@ -97,44 +97,72 @@ static void counts() {
     printf("\n");
 }
 
-// A table of 60,000 used rows, all in one chain, to which every head leads: rows are made level by level from the arrows below them. A register has an odd
-// row, so that the table is refused, after every other check. `mixed`: the rows' places are in random order.
-static Words hostile(bool mixed) {
-    const u32 rows = 60000;
-    Words w = table(16, rows);
-    std::vector<u32> place(rows);
-    std::iota(place.begin(), place.end(), 0);
-    std::mt19937 random(1);
-    if (mixed) std::shuffle(place.begin(), place.end(), random);
-    std::vector<u32> arrows = {0, 1};
-    u32 made = 0;
-    for (u32 level = 31; made < rows; level--) {
-        std::vector<u32> below = arrows;
-        for (u32 low : below)
-            for (u32 high : below) {
-                if (low == high || made == rows) continue;
-                u32 i = place[made], *row = &w[256 + 8 * (size_t)i];
-                row[0] = low, row[1] = high, row[2] = level, row[4] = made;
-                row[3] = made ? place[made - 1] + 1 : 0;
-                w[256 + 8 * (size_t)rows + made++] = i;
-                arrows.push_back(i + 2);
-            }
+// A table of 60,000 rows that is sound but for register 0, which has an odd row: it is refused, after every other check. The rows' places are in order or `mixed`.
+class Hostile {
+  public:
+    static const u32 ROWS = 60000;
+    static const size_t LIST = 256 + 8 * ROWS, HEADS = LIST + ROWS;
+    Words w = table(16, ROWS);
+
+    // All rows in one chain, to which every head leads.
+    static Hostile one_chain(bool mixed) {
+        Hostile h(mixed);
+        h.fill(ROWS, true);
+        std::fill(h.w.begin() + HEADS + 1, h.w.begin() + HEADS + ROWS, h.w[HEADS]);
+        return h;
     }
-    w[3] = rows;
-    for (u32 b = 0; b < rows; b++) w[256 + 9 * (size_t)rows + b] = place[rows - 1] + 1;
-    w[16] = place[0] + 3;
-    return w;
-}
+    // 15,000 rows in their own buckets, and 45,000 above them that were picked to fall into bucket 7.
+    static Hostile one_bucket(bool mixed) {
+        Hostile h(mixed);
+        u32 level = h.fill(15000, false);
+        std::vector<u32> arrows = h.arrows;
+        for (; h.w[3] < ROWS; level--)
+            for (u32 low : arrows)
+                for (u32 high : arrows)
+                    if (bucket(level, low, high) == 7 && low != high && h.w[3] < ROWS) h.put(level, low, high, false);
+        return h;
+    }
+
+  private:
+    std::vector<u32> place, arrows = {0, 1};
+    explicit Hostile(bool mixed) : place(ROWS) {
+        std::iota(place.begin(), place.end(), 0);
+        std::mt19937 random(1);
+        if (mixed) std::shuffle(place.begin(), place.end(), random);
+        w[16] = place[0] + 3;
+    }
+    static u32 bucket(u32 level, u32 low, u32 high) { return (u64)(low * 0x9E3779B1u + high * 0x85EBCA77u + level * 0xC2B2AE3Du) * ROWS >> 32; }
+    // The next row becomes the first of its bucket's chain, or of bucket 0's.
+    void put(u32 level, u32 low, u32 high, bool one) {
+        u32 rank = w[3]++, i = place[rank], *row = &w[256 + 8 * (size_t)i], &head = w[HEADS + (one ? 0 : bucket(level, low, high))];
+        row[0] = low, row[1] = high, row[2] = level, row[3] = head, row[4] = rank;
+        w[LIST + rank] = i;
+        head = i + 1;
+        arrows.push_back(i + 2);
+    }
+    // Rows from level 31 on, of all pairs of the arrows below, until there are so many; the next free level.
+    u32 fill(u32 most, bool one) {
+        u32 level = 31;
+        for (; w[3] < most; level--) {
+            std::vector<u32> below = arrows;
+            for (u32 low : below)
+                for (u32 high : below)
+                    if (low != high && w[3] < most) put(level, low, high, one);
+        }
+        return level;
+    }
+};
 
 static void refusals() {
-    printf("| 60,000 rows in one chain, one register odd | answer to clear | s |\n|---|--:|--:|\n");
-    for (bool mixed : {false, true}) {
-        Words w = hostile(mixed);
-        u64 start = thread_time();
-        u32 answer = kudzuclamp_clear(w.data(), w.size(), 5);
-        printf("| rows %s | %u | %.2f |\n", mixed ? "in random order" : "in order", answer, (thread_time() - start) / 1e9);
-        fflush(stdout);
-    }
+    printf("| hostile table of 60,000 rows, register 0 odd | answer to clear | s |\n|---|--:|--:|\n");
+    for (bool bucket : {false, true})
+        for (bool mixed : {false, true}) {
+            Hostile h = bucket ? Hostile::one_bucket(mixed) : Hostile::one_chain(mixed);
+            u64 start = thread_time();
+            u32 answer = kudzuclamp_clear(h.w.data(), h.w.size(), 5);
+            printf("| %s, places %s | %u | %.2f |\n", bucket ? "45,000 rows in one bucket" : "all rows in one chain", mixed ? "mixed" : "in order", answer, (thread_time() - start) / 1e9);
+            fflush(stdout);
+        }
 }
 
 int main() {

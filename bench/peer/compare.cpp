@@ -32,19 +32,19 @@ static void same(const std::string &name, u32 rows, const Run &own, const Run &o
 }
 
 struct Least {
-    u64 own = NEVER, steps = NEVER, fused = NEVER;
+    u64 own = NEVER, buddy[3] = {NEVER, NEVER, NEVER};
     u32 cache = 0, collections = 0;
 };
 
-// The sizes of BuDDy's caches that are tried: the fastest one counts.
-static std::vector<u32> caches(u32 rows) { return {std::max(rows / 16, 50u), std::max(rows / 4, 50u), std::max(rows, 50u)}; }
+// The sizes of BuDDy's caches that are tried: the fastest one counts, for each way by itself.
+static std::vector<u32> caches(u32 rows) { return {std::max(rows / 64, 50u), std::max(rows / 16, 50u), std::max(rows / 4, 50u), std::max(rows, 50u)}; }
 
 static Least measure(const std::string &name, const List &list, u32 rows) {
     Run own = run_own(list, rows, true);
     if (own.failed) { fprintf(stderr, "%s with %u rows: refused\n", name.c_str(), rows); exit(1); }
     std::map<std::pair<u32, Way>, bool> works;
     for (u32 cache : caches(rows))
-        for (Way way : {STEPS, FUSED}) {
+        for (Way way : {STEPS, FORGETTING, FUSED}) {
             Run other = run_buddy(list, rows, cache, way, true);
             works[{cache, way}] = !other.failed;
             if (!other.failed) same(name, rows, own, other);
@@ -58,7 +58,7 @@ static Least measure(const std::string &name, const List &list, u32 rows) {
         for (auto &[key, fits] : works) {
             if (!fits) continue;
             Run run = run_buddy(list, rows, key.first, key.second, false);
-            u64 &best = key.second == STEPS ? least.steps : least.fused;
+            u64 &best = least.buddy[key.second];
             if (run.ns < best) {
                 best = run.ns;
                 if (key.second == STEPS) least.cache = key.first, least.collections = run.collections;
@@ -74,8 +74,9 @@ static void print_ratio(u64 own, u64 other) {
 }
 
 int main(int count, char **argv) {
-    printf("| workload | rows | of the need | own, ms | BuDDy same steps, ms | own ÷ same steps | own ÷ fused | BuDDy's cache, collections |\n|---|--:|--:|--:|--:|--:|--:|--:|\n");
-    int slower = 0, compared = 0;
+    printf("| workload | rows | of the need | own, ms | BuDDy same steps, ms | own ÷ same steps | own ÷ forgetting | own ÷ fused | BuDDy's cache, collections |\n");
+    printf("|---|--:|--:|--:|--:|--:|--:|--:|--:|\n");
+    int slower = 0, slower_forgetting = 0, compared = 0;
     double worst = 0;
     for (int k = 1; k < count; k++) {
         std::string word = argv[k], name = word.substr(0, word.find('=')), path = word.substr(word.find('=') + 1);
@@ -86,18 +87,17 @@ int main(int count, char **argv) {
             if (rows > MOST_ROWS) continue;
             Least l = measure(name, list, rows);
             printf("| %s | %u | %s | %.3f |", name.c_str(), rows, times.c_str(), l.own / 1e6);
-            if (l.steps == NEVER) printf(" - |"); else printf(" %.3f |", l.steps / 1e6);
-            print_ratio(l.own, l.steps);
-            print_ratio(l.own, l.fused);
-            if (l.steps == NEVER) printf(" - |\n"); else printf(" %u, %u |\n", l.cache, l.collections);
+            u64 steps = l.buddy[STEPS];
+            if (steps == NEVER) printf(" - |"); else printf(" %.3f |", steps / 1e6);
+            for (u64 other : l.buddy) print_ratio(l.own, other);
+            if (steps == NEVER) printf(" - |\n"); else printf(" %u, %u |\n", l.cache, l.collections);
             fflush(stdout);
-            if (times != "1 ×" && l.steps != NEVER) {
-                compared++;
-                double ratio = (double)l.own / l.steps;
-                slower += ratio > 1;
-                worst = std::max(worst, ratio);
-            }
+            if (times == "1 ×" || steps == NEVER) continue;
+            compared++;
+            slower += l.own > steps;
+            slower_forgetting += l.own > l.buddy[FORGETTING];
+            worst = std::max(worst, (double)l.own / steps);
         }
     }
-    printf("\nSlower than BuDDy on the same steps at 2 ×, 10 × and all rows: %d of %d; worst ratio %.2f.\n", slower, compared, worst);
+    printf("\nSlower than BuDDy on the same steps at 2 ×, 10 × and all rows: %d of %d, worst ratio %.2f; where BuDDy forgets at each call: %d.\n", slower, compared, worst, slower_forgetting);
 }

@@ -27,7 +27,7 @@ struct Run {
     u32 collections = 0;
     std::vector<u32> answers;
 };
-enum Way { STEPS, EXIST_ALL, FUSED };
+enum Way { STEPS, FORGETTING, FUSED };
 
 inline List read_list(const std::string &path) {
     std::ifstream in(path, std::ios::binary);
