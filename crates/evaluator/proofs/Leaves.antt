@@ -7,7 +7,7 @@ use Prim.Native.Nat.{ℕ, suc, _+_, _-_, _*_, _^_, _<_}
 use native.Mathlib.Omega.{arith}
 use lib.Dec.{ltb}
 use borrow.Author.Tests.{ltb-true}
-use lib.ListN.{length, getD, take}
+use lib.ListN.{length, getD}
 use Rattle.mucalculus.specs.Form.{Form, bot, top, now, next, var, reg, bound, inside}
 use Rattle.mucalculus.specs.Means.{clip}
 use Rattle.tokens.specs.Tokens.{leafAllowed}
@@ -19,23 +19,20 @@ use Rattle.formula.specs.Checks.{filled}
 use Rattle.layout.specs.Places.{FIRST-REGISTER}
 use Rattle.layout.specs.View.{View}
 use Rattle.diagram.specs.Post.{Denotes}
-use Rattle.diagram.specs.Steps.{bitF}
 use Rattle.soundness.specs.Used.{rowsOf}
 use Rattle.table.specs.Make.{result}
 use Rattle.table.specs.declared.Made.{Made}
 use Rattle.table.specs.declared.Made.the-variants as made
-use Rattle.collect.specs.Lent.{live}
 use Rattle.steps.specs.declared.Step.the-variants as step
-use Rattle.steps.specs.Steps.{StepPre}
 use Rattle.book.specs.Bridge.{fnOf}
 use Rattle.book.specs.Book.{registers}
 use Rattle.book.specs.Run.{value}
 use Rattle.book.specs.Follow.{evals-same, evals-leaf, denotes-none, denotes-all, denotes-clip, evals-bit}
 use Rattle.modal.specs.declared.Limits.{Limits}
-use Rattle.modal.specs.Chain.{moved-refl, base-wf, step-pre, Took}
-use Rattle.evaluator.specs.Scene.{Scene, holdsReg, holdsRel, Named, Ready, LeafAnswers}
+use Rattle.modal.specs.Chain.{moved-refl, base-wf, took}
+use Rattle.evaluator.specs.Scene.{Scene, holdsReg, holdsRel, Named, Ready, LeafAnswers, LivePre, LivePost}
 use Rattle.evaluator.proofs.Parts.{and-first, and-second}
-use Rattle.evaluator.proofs.State.{in-scope, lent-arrows, filled-place}
+use Rattle.evaluator.proofs.State.{in-scope, live-pre, filled-place}
 use Rattle.evaluator.proofs.Steps.{runIn, took-roots}
 
 module _ {L : Limits} {W : View} {stack places : List ℕ} {held : ℕ} {σ : Scene} (R : Ready L W stack places held σ) where
@@ -93,14 +90,13 @@ module _ {L : Limits} {W : View} {stack places : List ℕ} {held : ℕ} {σ : Sc
 
   -- a current bit
   module _ {p : ℕ} (l : p < L .bits) where
-    pub bit-asks : StepPre (2 * L .bits) (L .rows) (L .limit) W (take held stack) (step.Bit (2 * p))
-    bit-asks = step-pre (R .base) (lent-arrows R) (omega arith)
+    pub bit-asks : LivePre L W stack held (step.Bit (2 * p))
+    bit-asks = live-pre R (omega arith)
 
-    pub leaf-bit : {X : View} {o : Made} → Took (L .bits) (L .rows) (L .limit) W X (live W (take held stack)) o (bitF (2 * p)) → LeafAnswers L W X σ (now p) o
-    leaf-bit {X} {o} t = record {
-      moved = t .moved;
-      evals = λ q. evals-bit (L .bits) (L .rows) (R .lives) p q l (result o) (took-roots [] R (λ a h. absurd (mem-nil h)) t);
-    }
+    pub leaf-bit : {X : View} {o : Made} → LivePost L W X stack held (step.Bit (2 * p)) o → LeafAnswers L W X σ (now p) o
+    leaf-bit {X} {o} s =
+        let t = took (R .base) (bit-asks .asks) s in
+        record { moved = t .moved; evals = λ q. evals-bit (L .bits) (L .rows) (R .lives) p q l (result o) (took-roots [] R (λ a h. absurd (mem-nil h)) t) }
 
 -- by the leaf that stands there
 pub as-leaf : {scope : List Bool} {regs rels : ℕ → Bool} {l : Leaf} (m : Leaf) → l ≡ m → Named scope regs rels (leafForm l) → Named scope regs rels (leafForm m)

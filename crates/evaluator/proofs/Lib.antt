@@ -1,4 +1,5 @@
 -- Modules that belong to no one function.
+pub mod Falls
 pub mod State
 pub mod Tokens
 pub mod Parts
@@ -7,4 +8,5 @@ pub mod Steps
 pub mod Leaves
 pub mod Relations
 pub mod Rounds
+pub mod Cycle
 pub mod Starts

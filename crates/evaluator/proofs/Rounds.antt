@@ -59,10 +59,8 @@ module _ {L : Limits} {W : View} {stack places : List ℕ} {held : ℕ} {σ : Sc
 
     module _ (z : length after ≡ length stack) (room : held < depthLimit) where
       -- the scene in which the body is evaluated
-      pub bind-ready : {inner : List ℕ} → inner ≡ set places P held → Ready L X (set after held a) inner (held + 1) (opened (L .bits) σ P a (T .turning .A))
-      bind-ready e =
-          subst (λ (ps : List ℕ). Ready L X (set after held a) ps (held + 1) (opened (L .bits) σ P a (T .turning .A))) (sym e)
-          (ready-open (ready-next R (T .moved) (T .turning .kept) after z (T .kept)) a (T .turning .A) (T .turning .denotes) room P)
+      pub bind-ready : Ready L X (set after held a) (set places P held) (held + 1) (opened (L .bits) σ P a (T .turning .A))
+      bind-ready = ready-open (ready-next R (T .moved) (T .turning .kept) after z (T .kept)) a (T .turning .A) (T .turning .denotes) room P
 
       module _ {Y : View} {last : List ℕ} {e : ℕ} {r : Evaluated} (B : Answers L X Y (set after held a) last (held + 1) (counted + 1) (opened (L .bits) σ P a (T .turning .A)) f e r)
           (more : counted < L .rounds) where

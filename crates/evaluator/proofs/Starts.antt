@@ -27,6 +27,7 @@ use Rattle.collect.specs.Lent.{live}
 use Rattle.memory.specs.Frame.{rows-same}
 use Rattle.memory.specs.Forget.{Forgot}
 use Rattle.operations.specs.Work.{OpFrame, op-memo, op-trans}
+use Rattle.steps.specs.Steps.{live-same}
 use Rattle.steps.specs.Again.{start-ready}
 use Rattle.book.specs.Bridge.{fnOf, fnOfPairs}
 use Rattle.book.specs.Book.{regFilled, relFilled, liveOf, modelOf}
@@ -39,9 +40,10 @@ use Rattle.book.specs.Follow.{Evals, evals-same}
 use Rattle.contract.specs.Seen.{arrowIn, seenIn, sound-table}
 use Rattle.contract.specs.Roots.{filled-root, root-filled}
 use Rattle.modal.specs.declared.Limits.{Limits}
-use Rattle.modal.specs.Chain.{Alike, Base, live-frame}
-use Rattle.evaluator.specs.Scene.{Scene, modelIn, holdsReg, holdsRel, Part, Ready, Answers, endedOf, EvalPre}
+use Rattle.modal.specs.Chain.{Alike, Base}
+use Rattle.evaluator.specs.Scene.{Scene, modelIn, holdsReg, holdsRel, Part, Ready, endedOf, EvalPre, EvalPost}
 use Rattle.evaluator.specs.Whole.{bookIn, SetPre, SetPost}
+use Rattle.evaluator.specs.declared.Context.{Context}
 use Rattle.evaluator.specs.declared.Evaluated.{Evaluated}
 use Rattle.evaluator.proofs.State.{in-scope}
 
@@ -83,7 +85,7 @@ module _ (L : Limits) {W X : View} (s : Sound W) (bits : L .bits ≡ W .header B
 
   pub start-roots : (stack : List ℕ) → Alike (live X (take 0 stack)) (rootsOf (seenIn W))
   start-roots stack =
-      let e : filled W ≡ live X (take 0 stack) = sym (append-nil (filled W)) ∙ sym (live-frame frame []) in
+      let e : filled W ≡ live X (take 0 stack) = sym (append-nil (filled W)) ∙ sym (live-same frame []) in
       subst (λ (xs : List ℕ). Alike xs (rootsOf (seenIn W))) e (record { to = filled-root W; from = root-filled W })
 
   pub start-scene : Ready L X (replicate depthLimit 0) (replicate 16 0) 0 (sceneIn W)
@@ -108,6 +110,10 @@ set-grammar v g e = go (eqb v 1) e
     go true q = cc
     go false q = let z : _≡_ {A = ℕ} 0 1 = cc in absurd (omega arith)
 
+-- where the evaluation starts
+abbrev pub starting : Context
+starting = record { at = 3; depth = depthLimit; held = 0; places = replicate 16 0; rounds = 0 }
+
 module _ {L : Limits} {W : View} {bs : List ℕ} (p : SetPre L W bs) where
   fits : Fitting Set (W .header BITS) (regFilled (bookIn W)) (relFilled (bookIn W)) bs
   fits = fitting Set (W .header BITS) (regFilled (bookIn W)) (relFilled (bookIn W)) bs (p .passed)
@@ -128,7 +134,7 @@ module _ {L : Limits} {W : View} {bs : List ℕ} (p : SetPre L W bs) where
       }
 
   module _ {X : View} (f : Forgot W X) where
-    pub set-asks : EvalPre L X (replicate depthLimit 0) bs 3 depthLimit 0 (replicate 16 0)
+    pub set-asks : EvalPre L X (replicate depthLimit 0) bs starting
     set-asks = record {
       room = omega arith;
       scene = sceneIn W;
@@ -138,13 +144,10 @@ module _ {L : Limits} {W : View} {bs : List ℕ} (p : SetPre L W bs) where
       part = whole-part;
     }
 
-    pub set-ends : {Y : View} {after : List ℕ} {r : Evaluated}
-        → ((σ : Scene) (g : Form) (e : ℕ) → Ready L X (replicate depthLimit 0) (replicate 16 0) 0 σ → Part (L .bits) bs 3 depthLimit (σ .scope) (holdsReg σ) (holdsRel σ) g e
-        → Answers L X Y (replicate depthLimit 0) after 0 0 σ g e r)
-        → SetPost L W Y bs r
+    pub set-ends : {Y : View} {after : List ℕ} {r : Evaluated} → EvalPost L X Y (replicate depthLimit 0) after bs starting r → SetPost L W Y bs r
     unfolding whole
     set-ends {Y} {after} {r} E =
-        let A = E (sceneIn W) whole (length bs) (start-scene L (p .sound) (p .bits) (p .rows) (p .limit) f) whole-part in
+        let A = E .answers (sceneIn W) whole (length bs) (start-scene L (p .sound) (p .bits) (p .rows) (p .limit) f) whole-part in
         let v0 = A .evals in
         let v1 = subst (λ (t : Rows). Evals (L .bits) (L .rows) t (rowsOf Y) (rootsOf (seenIn W)) (run (modelIn (L .bits) (sceneIn W)) (L .limit) (L .rounds) noEnv (liveOf (bookIn W)) whole 0) (endedOf r)) (rows-same (f .frame)) v0 in
         let v2 = subst (λ (N : ℕ). Evals (L .bits) N (rowsOf W) (rowsOf Y) (rootsOf (seenIn W)) (run (modelIn (L .bits) (sceneIn W)) (L .limit) (L .rounds) noEnv (liveOf (bookIn W)) whole 0) (endedOf r)) (p .rows) v1 in

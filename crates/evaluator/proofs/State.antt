@@ -26,9 +26,11 @@ use Rattle.book.specs.Bridge.{fnOf, fnOfPairs}
 use Rattle.book.specs.Table.{Place}
 use Rattle.book.specs.Held.{held-arrow, held-push, held-keeps}
 use Rattle.contract.specs.Seen.{arrowIn, word-of}
+use Rattle.steps.specs.Steps.{Fits, live-same}
+use Rattle.steps.specs.declared.Step.{Step}
 use Rattle.modal.specs.declared.Limits.{Limits}
-use Rattle.modal.specs.Chain.{Alike, alike-trans, alike-cons, operands-first, Moved, base-next, live-frame}
-use Rattle.evaluator.specs.Scene.{Scene, pushed, opened, Open, Ready}
+use Rattle.modal.specs.Chain.{Alike, alike-trans, alike-cons, operands-first, Moved, base-next, step-pre}
+use Rattle.evaluator.specs.Scene.{Scene, pushed, opened, Open, Ready, LivePre}
 
 -- a place's content is kept with its row
 place-kept : {X : Type 0} (m : ℕ) {before after : Rows} {roots : List ℕ} (f : X → Fn) (o : Option X) (u : Option ℕ) → Keeps before after roots → ((a : ℕ) → u ≡ some a → Mem a roots)
@@ -71,6 +73,10 @@ module _ {L : Limits} {W : View} {stack places : List ℕ} {held : ℕ} {σ : Sc
   pub lent-arrows : (a : ℕ) → Mem a (take held stack) → Arrow (rowsOf W) a
   lent-arrows a h = held-arrow (R .lives) a (R .roots .to a (append-right (filled W) h))
 
+  -- the live words are lent to a step
+  pub live-pre : {s : Step} → Fits (2 * L .bits) (rowsOf W) s → LivePre L W stack held s
+  live-pre f = record { within = let a = R .within in let b = R .size in omega arith; asks = step-pre (R .base) lent-arrows f }
+
   -- ---- after steps
 
   module _ {X : View} (m : Moved (L .bits) W X) (k : Keeps (rowsOf W) (rowsOf X) (σ .roots)) where
@@ -92,7 +98,7 @@ module _ {L : Limits} {W : View} {stack places : List ℕ} {held : ℕ} {σ : Sc
         base = base-next (R .base) m;
         reg = λ r l. place-next (fnOf (L .bits)) (σ .reg r) (FIRST-REGISTER + r) (omega arith) (omega arith) (R .reg r l);
         rel = λ t l. place-next (fnOfPairs (L .bits)) (σ .rel t) (FIRST-RELATION + t) (omega arith) (omega arith) (R .rel t l);
-        roots = subst (λ (xs : List ℕ). Alike xs (σ .roots)) (sym (live-frame (m .frame) (take held after) ∙ ap (live W) e)) (R .roots);
+        roots = subst (λ (xs : List ℕ). Alike xs (σ .roots)) (sym (live-same (m .frame) (take held after) ∙ ap (live W) e)) (R .roots);
         lives = held-keeps (R .lives) k;
         size = z ∙ R .size;
         within = R .within;

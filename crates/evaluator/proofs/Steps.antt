@@ -23,17 +23,17 @@ use Rattle.table.specs.declared.Made.{Made}
 use Rattle.collect.specs.Lent.{live}
 use Rattle.steps.specs.declared.Step.{Step}
 use Rattle.steps.specs.declared.Step.the-variants as step
-use Rattle.steps.specs.Steps.{stepF, operandsOf, Fits, StepPre, Stepped}
+use Rattle.steps.specs.Steps.{stepF, operandsOf, Fits}
 use Rattle.book.specs.Bridge.{fnOf}
 use Rattle.book.specs.Held.{held-arrow}
 use Rattle.book.specs.Run.{Outcome, value, andThen, notStep, twoStep, run}
 use Rattle.book.specs.Follow.{ends, Evals, endedBy, evals-same, evals-stop, evals-not, evals-two, evals-two-stop}
 use Rattle.modal.specs.declared.Limits.{Limits}
-use Rattle.modal.specs.Chain.{Alike, alike-cons, step-roots, Moved, moved-trans, step-pre, Took, took}
-use Rattle.evaluator.specs.Scene.{Scene, modelIn, pushed, Ready, Part, endedOf, EndsAt, Answers, fromMade, joinStep, LeafAnswers}
+use Rattle.modal.specs.Chain.{Alike, alike-cons, step-roots, Moved, moved-trans, Took, took}
+use Rattle.evaluator.specs.Scene.{Scene, modelIn, pushed, Ready, Part, endedOf, EndsAt, Answers, fromMade, joinStep, LeafAnswers, LivePre, LivePost}
 use Rattle.evaluator.specs.declared.Evaluated.{Evaluated}
 use Rattle.evaluator.specs.declared.Evaluated.the-variants.{Value}
-use Rattle.evaluator.proofs.State.{still-below, lent-arrows, ready-next, ready-push}
+use Rattle.evaluator.proofs.State.{still-below, live-pre, ready-next, ready-push}
 use Rattle.evaluator.proofs.Outcomes.{Halts, halts-stops, halts-end, made-ended, made-end, evals-value, joinOp, joinF, join-exact, run-join, overSteps, run-modal}
 
 -- the run of f in a scene
@@ -157,13 +157,13 @@ module _ {L : Limits} {W X : View} {stack after places : List ℕ} {held rounds 
 
   -- ---- NOT
 
-  pub negate-asks : StepPre (2 * L .bits) (L .rows) (L .limit) X (take held after) (step.Not a)
-  negate-asks = step-pre (value-ready .base) (lent-arrows value-ready) (value-is .arrow)
+  pub negate-asks : LivePre L X after held (step.Not a)
+  negate-asks = live-pre value-ready (value-is .arrow)
 
-  pub negate-ends : {Y : View} {o : Made} {r′ : Evaluated} → Stepped (2 * L .bits) (L .rows) (L .limit) X Y (take held after) (step.Not a) o → r′ ≡ fromMade k q o
+  pub negate-ends : {Y : View} {o : Made} {r′ : Evaluated} → LivePost L X Y after held (step.Not a) o → r′ ≡ fromMade k q o
       → Answers L W Y stack after held rounds σ (neg f) e r′
   negate-ends {Y} {o} s made =
-      let t = took (value-ready .base) negate-asks s in
+      let t = took (value-ready .base) (negate-asks .asks) s in
       answers-made (neg f) k q o value-end made (moved-trans (A .moved) (t .moved)) (A .kept)
       (evals-not (L .bits) (L .rows) (R .lives) (runIn L σ f rounds) value-evals (result o) (took-roots (a ∷ []) value-ready (one-arrow (rowsOf X) a (value-is .arrow)) t))
 
@@ -210,13 +210,13 @@ module _ {L : Limits} {W X : View} {stack after places : List ℕ} {held rounds 
         pub both-state : Ready L Y last places held σ
         both-state = ready-next value-ready (B₀ .moved) (keeps-within (λ x i. there i) (B₀ .evals .kept)) last z′ below
 
-        pub both-asks : (j : Join) {s : Step} → s ≡ joinStep j a b → StepPre (2 * L .bits) (L .rows) (L .limit) Y (take held last) s
-        both-asks j e = step-pre (both-state .base) (lent-arrows both-state) (subst (Fits (2 * L .bits) (rowsOf Y)) (sym e) (join-fits (2 * L .bits) (rowsOf Y) j a b first-arrow second-arrow))
+        pub both-asks : (j : Join) {s : Step} → s ≡ joinStep j a b → LivePre L Y last held s
+        both-asks j e = live-pre both-state (subst (Fits (2 * L .bits) (rowsOf Y)) (sym e) (join-fits (2 * L .bits) (rowsOf Y) j a b first-arrow second-arrow))
 
-        pub both-ends : (j : Join) {s : Step} → s ≡ joinStep j a b → {Z : View} {o : Made} {r″ : Evaluated} → Stepped (2 * L .bits) (L .rows) (L .limit) Y Z (take held last) s o
+        pub both-ends : (j : Join) {s : Step} → s ≡ joinStep j a b → {Z : View} {o : Made} {r″ : Evaluated} → LivePost L Y Z last held s o
             → r″ ≡ fromMade k′ q′ o → Answers L W Z stack last held rounds σ (joinForm j f g) e′ r″
         both-ends j {s} e {Z} {o} p made =
-            let t = took (both-state .base) (both-asks j e) p in
+            let t = took (both-state .base) (both-asks j e .asks) p in
             answers-made (joinForm j f g) k′ q′ o (subst (EndsAt e′) is′ (B₀ .end)) made (moved-trans (A .moved) (moved-trans (B₀ .moved) (t .moved))) (below ∙ A .kept)
             (evals-same (sym (run-join (modelIn (L .bits) σ) (L .limit) (L .rounds) (σ .env) (σ .fns) j f g rounds))
             (evals-two (L .bits) (L .rows) (R .lives) (joinOp j (2 ^ L .bits)) (joinF j) (join-exact (L .bits) j) (runIn L σ f rounds) (λ C p. runIn L (pushed σ a (fnOf (L .bits) C)) g p)

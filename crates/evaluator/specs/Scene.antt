@@ -30,6 +30,7 @@ use Rattle.table.specs.declared.Made.the-variants as made
 use Rattle.collect.specs.Lent.{live}
 use Rattle.steps.specs.declared.Step.{Step}
 use Rattle.steps.specs.declared.Step.the-variants as step
+use Rattle.steps.specs.Steps.{StepPre, Stepped}
 use Rattle.book.specs.Bridge.{fnOf, fnOfPairs}
 use Rattle.book.specs.Book.{registers, relations}
 use Rattle.book.specs.Table.{Place}
@@ -40,6 +41,7 @@ use Rattle.contract.specs.Seen.{arrowIn}
 use Rattle.modal.specs.declared.Limits.{Limits}
 use Rattle.modal.specs.Chain.{Alike, Base, Moved}
 use Rattle.modal.specs.Modal.{DiamondPost, BoxPost}
+use Rattle.evaluator.specs.declared.Context.{Context}
 use Rattle.evaluator.specs.declared.Evaluated.{Evaluated}
 use Rattle.evaluator.specs.declared.Evaluated.the-variants.{Value, Full, Spent}
 
@@ -137,6 +139,10 @@ abbrev pub joinStep : Join → ℕ → ℕ → Step
 joinStep And a b = step.And a b
 joinStep Or a b = step.Or a b
 
+-- the context of a binder's body: variable P's place is the next one of the stack, and `rounds` are counted
+abbrev pub bodyOf : Context → ℕ → ℕ → Context
+bodyOf c P rounds = record { at = c .at; depth = c .depth; held = c .held + 1; places = set (c .places) P (c .held); rounds = rounds }
+
 -- mu is the least fixpoint
 abbrev pub isLeast : Fix → Bool
 isLeast Mu = true
@@ -149,78 +155,80 @@ OverPost Some = DiamondPost
 
 -- ---- what the functions ask, and what they promise in every scene that the words and the stack hold
 
-pub record EvalPre (L : Limits) (W : View) (stack bs : List ℕ) (at depth held : ℕ) (places : List ℕ) : Type 0 where
-  pub room : held + depth ≤ depthLimit
+-- a step over the stack's first `held` words
+pub record LivePre (L : Limits) (W : View) (stack : List ℕ) (held : ℕ) (s : Step) : Type 0 where
+  pub within : held ≤ length stack
+  pub asks : StepPre (2 * L .bits) (L .rows) (L .limit) W (take held stack) s
+
+abbrev pub LivePost : Limits → View → View → List ℕ → ℕ → Step → Made → Type 0
+LivePost L W X stack held s o = Stepped (2 * L .bits) (L .rows) (L .limit) W X (take held stack) s o
+
+-- a leaf
+pub record LeafPre (L : Limits) (W : View) (stack : List ℕ) (c : Context) (l : Leaf) : Type 0 where
+  pub scene : Scene
+  pub ready : Ready L W stack (c .places) (c .held) scene
+  pub named : Named (scene .scope) (holdsReg scene) (holdsRel scene) (leafForm l)
+  pub taken : leafAllowed l (L .bits) States ≡ true
+
+pub record LeafPost (L : Limits) (W X : View) (stack : List ℕ) (c : Context) (l : Leaf) (o : Made) : Type 0 where
+  pub answers : (σ : Scene) → Ready L W stack (c .places) (c .held) σ → Named (σ .scope) (holdsReg σ) (holdsRel σ) (leafForm l) → LeafAnswers L W X σ (leafForm l) o
+
+pub record EvalPre (L : Limits) (W : View) (stack bs : List ℕ) (c : Context) : Type 0 where
+  pub room : c .held + c .depth ≤ depthLimit
   pub scene : Scene
   pub form : Form
   pub end : ℕ
-  pub ready : Ready L W stack places held scene
-  pub part : Part (L .bits) bs at depth (scene .scope) (holdsReg scene) (holdsRel scene) form end
+  pub ready : Ready L W stack (c .places) (c .held) scene
+  pub part : Part (L .bits) bs (c .at) (c .depth) (scene .scope) (holdsReg scene) (holdsRel scene) form end
 
-abbrev pub EvalPost : Limits → View → View → List ℕ → List ℕ → List ℕ → ℕ → ℕ → ℕ → List ℕ → ℕ → Evaluated → Type 0
-EvalPost L W X stack after bs at depth held places rounds r =
-    (σ : Scene) (f : Form) (e : ℕ) → Ready L W stack places held σ → Part (L .bits) bs at depth (σ .scope) (holdsReg σ) (holdsRel σ) f e
-    → Answers L W X stack after held rounds σ f e r
+pub record EvalPost (L : Limits) (W X : View) (stack after bs : List ℕ) (c : Context) (r : Evaluated) : Type 0 where
+  pub answers : (σ : Scene) (f : Form) (e : ℕ) → Ready L W stack (c .places) (c .held) σ → Part (L .bits) bs (c .at) (c .depth) (σ .scope) (holdsReg σ) (holdsRel σ) f e
+      → Answers L W X stack after (c .held) (c .rounds) σ f e r
 
 -- NOT: f is its part, of which it asks what evaluating it does
-abbrev pub NegatePost : Limits → View → View → List ℕ → List ℕ → List ℕ → ℕ → ℕ → ℕ → List ℕ → ℕ → Evaluated → Type 0
-NegatePost L W X stack after bs at depth held places rounds r =
-    (σ : Scene) (f : Form) (e : ℕ) → Ready L W stack places held σ → Part (L .bits) bs at depth (σ .scope) (holdsReg σ) (holdsRel σ) f e
-    → Answers L W X stack after held rounds σ (neg f) e r
+pub record NegatePost (L : Limits) (W X : View) (stack after bs : List ℕ) (c : Context) (r : Evaluated) : Type 0 where
+  pub answers : (σ : Scene) (f : Form) (e : ℕ) → Ready L W stack (c .places) (c .held) σ → Part (L .bits) bs (c .at) (c .depth) (σ .scope) (holdsReg σ) (holdsRel σ) f e
+      → Answers L W X stack after (c .held) (c .rounds) σ (neg f) e r
 
 -- AND and OR: f and, after it, g are the parts
-pub record BothPre (L : Limits) (W : View) (stack bs : List ℕ) (at depth held : ℕ) (places : List ℕ) : Type 0 where
-  pub room : held + depth < depthLimit
+pub record BothPre (L : Limits) (W : View) (stack bs : List ℕ) (c : Context) : Type 0 where
+  pub room : c .held + c .depth < depthLimit
   pub scene : Scene
   pub left : Form
   pub right : Form
   pub middle : ℕ
   pub end : ℕ
-  pub ready : Ready L W stack places held scene
-  pub first : Part (L .bits) bs at depth (scene .scope) (holdsReg scene) (holdsRel scene) left middle
-  pub second : Part (L .bits) bs middle depth (scene .scope) (holdsReg scene) (holdsRel scene) right end
+  pub ready : Ready L W stack (c .places) (c .held) scene
+  pub first : Part (L .bits) bs (c .at) (c .depth) (scene .scope) (holdsReg scene) (holdsRel scene) left middle
+  pub second : Part (L .bits) bs middle (c .depth) (scene .scope) (holdsReg scene) (holdsRel scene) right end
 
-abbrev pub BothPost : Limits → View → View → List ℕ → List ℕ → List ℕ → ℕ → ℕ → ℕ → List ℕ → ℕ → Join → Evaluated → Type 0
-BothPost L W X stack after bs at depth held places rounds j r =
-    (σ : Scene) (f g : Form) (m e : ℕ) → Ready L W stack places held σ → Part (L .bits) bs at depth (σ .scope) (holdsReg σ) (holdsRel σ) f m
-    → Part (L .bits) bs m depth (σ .scope) (holdsReg σ) (holdsRel σ) g e → Answers L W X stack after held rounds σ (joinForm j f g) e r
+pub record BothPost (L : Limits) (W X : View) (stack after bs : List ℕ) (c : Context) (j : Join) (r : Evaluated) : Type 0 where
+  pub answers : (σ : Scene) (f g : Form) (m e : ℕ) → Ready L W stack (c .places) (c .held) σ → Part (L .bits) bs (c .at) (c .depth) (σ .scope) (holdsReg σ) (holdsRel σ) f m
+      → Part (L .bits) bs m (c .depth) (σ .scope) (holdsReg σ) (holdsRel σ) g e → Answers L W X stack after (c .held) (c .rounds) σ (joinForm j f g) e r
 
 -- box and diamond over relation t: f is the part
-pub record ModePre (L : Limits) (W : View) (stack bs : List ℕ) (at depth held : ℕ) (places : List ℕ) (t : ℕ) : Type 0 where
-  pub room : held + depth < depthLimit
+pub record ModePre (L : Limits) (W : View) (stack bs : List ℕ) (c : Context) (t : ℕ) : Type 0 where
+  pub room : c .held + c .depth < depthLimit
   pub scene : Scene
   pub form : Form
   pub end : ℕ
-  pub ready : Ready L W stack places held scene
-  pub part : Part (L .bits) bs at depth (scene .scope) (holdsReg scene) (holdsRel scene) form end
+  pub ready : Ready L W stack (c .places) (c .held) scene
+  pub part : Part (L .bits) bs (c .at) (c .depth) (scene .scope) (holdsReg scene) (holdsRel scene) form end
   pub relation : holdsRel scene t ≡ true
 
-abbrev pub ModePost : Limits → View → View → List ℕ → List ℕ → List ℕ → ℕ → ℕ → ℕ → List ℕ → ℕ → Mode → ℕ → Evaluated → Type 0
-ModePost L W X stack after bs at depth held places rounds m t r =
-    (σ : Scene) (f : Form) (e : ℕ) → Ready L W stack places held σ → Part (L .bits) bs at depth (σ .scope) (holdsReg σ) (holdsRel σ) f e
-    → holdsRel σ t ≡ true → Answers L W X stack after held rounds σ (modalForm m t f) e r
+pub record ModePost (L : Limits) (W X : View) (stack after bs : List ℕ) (c : Context) (m : Mode) (t : ℕ) (r : Evaluated) : Type 0 where
+  pub answers : (σ : Scene) (f : Form) (e : ℕ) → Ready L W stack (c .places) (c .held) σ → Part (L .bits) bs (c .at) (c .depth) (σ .scope) (holdsReg σ) (holdsRel σ) f e
+      → holdsRel σ t ≡ true → Answers L W X stack after (c .held) (c .rounds) σ (modalForm m t f) e r
 
 -- mu and nu: f is the body, in which P is open
-pub record BindPre (L : Limits) (W : View) (stack bs : List ℕ) (at depth held : ℕ) (places : List ℕ) (P : ℕ) : Type 0 where
-  pub room : held + depth < depthLimit
+pub record BindPre (L : Limits) (W : View) (stack bs : List ℕ) (c : Context) (P : ℕ) : Type 0 where
+  pub room : c .held + c .depth < depthLimit
   pub scene : Scene
   pub form : Form
   pub end : ℕ
-  pub ready : Ready L W stack places held scene
-  pub part : Part (L .bits) bs at depth (set (scene .scope) P true) (holdsReg scene) (holdsRel scene) form end
+  pub ready : Ready L W stack (c .places) (c .held) scene
+  pub part : Part (L .bits) bs (c .at) (c .depth) (set (scene .scope) P true) (holdsReg scene) (holdsRel scene) form end
 
-abbrev pub BindPost : Limits → View → View → List ℕ → List ℕ → List ℕ → ℕ → ℕ → ℕ → List ℕ → ℕ → Fix → ℕ → Evaluated → Type 0
-BindPost L W X stack after bs at depth held places rounds x P r =
-    (σ : Scene) (f : Form) (e : ℕ) → Ready L W stack places held σ → Part (L .bits) bs at depth (set (σ .scope) P true) (holdsReg σ) (holdsRel σ) f e
-    → Answers L W X stack after held rounds σ (binderForm x P f) e r
-
--- a leaf
-pub record LeafPre (L : Limits) (W : View) (stack : List ℕ) (held : ℕ) (places : List ℕ) (l : Leaf) : Type 0 where
-  pub scene : Scene
-  pub ready : Ready L W stack places held scene
-  pub named : Named (scene .scope) (holdsReg scene) (holdsRel scene) (leafForm l)
-  pub taken : leafAllowed l (L .bits) States ≡ true
-
-abbrev pub LeafPost : Limits → View → View → List ℕ → ℕ → List ℕ → Leaf → Made → Type 0
-LeafPost L W X stack held places l o =
-    (σ : Scene) → Ready L W stack places held σ → Named (σ .scope) (holdsReg σ) (holdsRel σ) (leafForm l) → LeafAnswers L W X σ (leafForm l) o
+pub record BindPost (L : Limits) (W X : View) (stack after bs : List ℕ) (c : Context) (x : Fix) (P : ℕ) (r : Evaluated) : Type 0 where
+  pub answers : (σ : Scene) (f : Form) (e : ℕ) → Ready L W stack (c .places) (c .held) σ → Part (L .bits) bs (c .at) (c .depth) (set (σ .scope) P true) (holdsReg σ) (holdsRel σ) f e
+      → Answers L W X stack after (c .held) (c .rounds) σ (binderForm x P f) e r

@@ -22,10 +22,11 @@ ghost use Prim.Native.Nat.{_+_, _<_, _≤_};
 ghost use lib.ListN.{length, getD, set};
 ghost use Rattle.layout.specs.Places.{HEADER};
 ghost use Rattle.layout.specs.View.{view, headerOf};
+ghost use Rattle.formula.specs.Parse.{depthLimit};
 ghost use Rattle.book.specs.Turns.{startArrow};
 ghost use Rattle.modal.specs.Modal.{ModalPre};
 ghost use Rattle.evaluator.specs.Whole.{SetPre, SetPost};
-ghost use Rattle.evaluator.specs.Scene.{fromMade, isLeast, joinStep, OverPost, LeafPre, LeafPost, EvalPre, EvalPost, NegatePost, BothPre, BothPost, ModePre, ModePost, BindPre, BindPost};
+ghost use Rattle.evaluator.specs.Scene.{fromMade, bodyOf, isLeast, joinStep, OverPost, LivePre, LivePost, LeafPre, LeafPost, EvalPre, EvalPost, NegatePost, BothPre, BothPost, ModePre, ModePost, BindPre, BindPost};
 
 // What an evaluation answers: the arrow of the set, the place after the formula and the rounds counted; or why there is none.
 pub enum Evaluated {
@@ -40,6 +41,16 @@ pub enum Evaluated {
 
 // For each open variable the place of its binder's current set on the stack.
 type Places = [usize; Grammar::VARIABLES];
+
+// Where an evaluation stands: its place in the bytes, the depth left, how many words of the stack are live, the places of the open
+// variables among them, and the rounds counted.
+struct Context {
+    at: usize,
+    depth: usize,
+    held: usize,
+    places: Places,
+    rounds: u32,
+}
 
 // A step's result as an answer.
 fn answer(made: Made, next: usize, rounds: u32) -> Evaluated
@@ -56,7 +67,7 @@ fn answer(made: Made, next: usize, rounds: u32) -> Evaluated
 }
 
 // The places with a variable's place.
-fn opened(places: Places, p: u32, place: usize) -> Places
+fn with_place(places: Places, p: u32, place: usize) -> Places
     ensures { λ r. ⌜ r ≡ set places p place ⌝ }
 {
     let mut inner = places;
@@ -65,6 +76,20 @@ fn opened(places: Places, p: u32, place: usize) -> Places
         inner[i] = place;
     }
     inner
+}
+
+// The context of a binder's body: the current set of variable p is one live word more, and `rounds` are counted.
+fn opened(here: Context, p: u32, rounds: u32) -> Context
+    requires { ⌜ here .held < depthLimit ⌝ }
+    ensures { λ r. ⌜ r ≡ bodyOf here p rounds ⌝ }
+{
+    let places = here.places;
+    let inner = with_place(places, p, here.held);
+    let mut body = here;
+    body.held = here.held + 1;
+    body.places = inner;
+    body.rounds = rounds;
+    body
 }
 
 // The arrow where a binder starts: no state for mu, every state for nu.
@@ -105,31 +130,35 @@ fn variable(stack: &[u32], places: Places, p: u32) -> u32
     stack[place]
 }
 
+// Takes a step, the first `held` words of the stack being live.
+pub fn live_step(words: &mut [u32], stack: &[u32], limits: Limits, held: usize, s: Step) -> Made
+    requires { ⌜ LivePre limits (view (limits .rows) (now words)) (now stack) held s ⌝ }
+    ensures { λ r. ⌜ LivePost limits (view (limits .rows) (now (words .entry))) (view (limits .rows) (now (words .exit))) (now (stack .entry)) held s r ⌝ }
+{
+    take_step(
+        words,
+        limits.rows,
+        2 * limits.bits,
+        limits.limit,
+        &stack[..held],
+        s,
+    )
+}
+
 // A leaf: constants, registers and variables take no step, a current bit is one. A set's formula has no next bit.
-fn leaf(
-    words: &mut [u32],
-    stack: &[u32],
-    limits: Limits,
-    held: usize,
-    places: Places,
-    l: Leaf,
-) -> Made
-    requires { ⌜ LeafPre limits (view (limits .rows) (now words)) (now stack) held places l ⌝ }
-    ensures { λ r. ⌜ LeafPost limits (view (limits .rows) (now (words .entry))) (view (limits .rows) (now (words .exit))) (now (stack .entry)) held places l r ⌝ }
+fn leaf(words: &mut [u32], stack: &[u32], limits: Limits, here: Context, l: Leaf) -> Made
+    requires { ⌜ LeafPre limits (view (limits .rows) (now words)) (now stack) here l ⌝ }
+    ensures { λ r. ⌜ LeafPost limits (view (limits .rows) (now (words .entry))) (view (limits .rows) (now (words .exit))) (now (stack .entry)) here l r ⌝ }
 {
     match l {
         Leaf::False => Made::At(Table::NOTHING),
         Leaf::True => Made::At(Table::EVERYTHING),
-        Leaf::Now(p) => take_step(
-            words,
-            limits.rows,
-            2 * limits.bits,
-            limits.limit,
-            &stack[..held],
-            Step::Bit(2 * p),
-        ),
+        Leaf::Now(p) => live_step(words, stack, limits, here.held, Step::Bit(2 * p)),
         Leaf::Next(_) => Made::At(Table::NOTHING),
-        Leaf::Var(p) => Made::At(variable(stack, places, p)),
+        Leaf::Var(p) => {
+            let places = here.places;
+            Made::At(variable(stack, places, p))
+        }
         Leaf::Reg(r) => {
             let h = Table::FIRST_REGISTER + (r as usize);
             Made::At(root_arrow(words, h))
@@ -148,96 +177,44 @@ fn over(words: &mut [u32], limits: Limits, roots: &[u32], m: Mode, relation: u32
     }
 }
 
-// Evaluates the formula at `at`, of depth at most `depth`. The first `held` words of the stack are live.
+// Evaluates the formula at the context's place, of depth at most its depth.
 fn eval(
     words: &mut [u32],
     stack: &mut [u32],
     bytes: &[u8],
     limits: Limits,
-    at: usize,
-    depth: usize,
-    held: usize,
-    places: Places,
-    rounds: u32,
+    here: Context,
 ) -> Evaluated
-    requires { ⌜ EvalPre limits (view (limits .rows) (now words)) (now stack) (now bytes) at depth held places ⌝ }
-    ensures { λ r. ⌜ EvalPost limits (view (limits .rows) (now (words .entry))) (view (limits .rows) (now (words .exit))) (now (stack .entry)) (now (stack .exit)) (now (bytes .entry)) at depth held places rounds r ⌝ }
+    requires { ⌜ EvalPre limits (view (limits .rows) (now words)) (now stack) (now bytes) here ⌝ }
+    ensures { λ r. ⌜ EvalPost limits (view (limits .rows) (now (words .entry))) (view (limits .rows) (now (words .exit))) (now (stack .entry)) (now (stack .exit)) (now (bytes .entry)) here r ⌝ }
 {
-    let Lead::Is(t) = lead_at(bytes, limits.bits, Grammar::States, at) else {
+    let Lead::Is(t) = lead_at(bytes, limits.bits, Grammar::States, here.at) else {
         return Evaluated::Full;
     };
-    let next = at + 1;
-    let left = depth - 1;
+    let mut part = here;
+    part.at = here.at + 1;
+    part.depth = here.depth - 1;
     match t {
-        Token::Leaf(l) => answer(leaf(words, stack, limits, held, places, l), next, rounds),
-        Token::Not => negate(
-            words,
-            stack,
-            bytes,
-            limits,
-            next,
-            left,
-            held,
-            places,
-            rounds,
-        ),
-        Token::Both(j) => both(
-            words,
-            stack,
-            bytes,
-            limits,
-            next,
-            left,
-            held,
-            places,
-            rounds,
-            j,
-        ),
-        Token::Modal(m, t) => modal(
-            words,
-            stack,
-            bytes,
-            limits,
-            next,
-            left,
-            held,
-            places,
-            rounds,
-            m,
-            t,
-        ),
-        Token::Binder(x, p) => bind(
-            words,
-            stack,
-            bytes,
-            limits,
-            next,
-            left,
-            held,
-            places,
-            rounds,
-            x,
-            p,
-        ),
+        Token::Leaf(l) => answer(leaf(words, stack, limits, here, l), part.at, here.rounds),
+        Token::Not => negate(words, stack, bytes, limits, part),
+        Token::Both(j) => both(words, stack, bytes, limits, part, j),
+        Token::Modal(m, t) => modal(words, stack, bytes, limits, part, m, t),
+        Token::Binder(x, p) => bind(words, stack, bytes, limits, part, x, p),
     }
 }
 
-// Evaluates the formula at `at`, and takes the step NOT.
+// Evaluates the formula at the context's place, and takes the step NOT.
 fn negate(
     words: &mut [u32],
     stack: &mut [u32],
     bytes: &[u8],
     limits: Limits,
-    at: usize,
-    depth: usize,
-    held: usize,
-    places: Places,
-    rounds: u32,
+    here: Context,
 ) -> Evaluated
-    requires { ⌜ EvalPre limits (view (limits .rows) (now words)) (now stack) (now bytes) at depth held places ⌝ }
-    ensures { λ r. ⌜ NegatePost limits (view (limits .rows) (now (words .entry))) (view (limits .rows) (now (words .exit))) (now (stack .entry)) (now (stack .exit)) (now (bytes .entry)) at depth held places rounds r ⌝ }
+    requires { ⌜ EvalPre limits (view (limits .rows) (now words)) (now stack) (now bytes) here ⌝ }
+    ensures { λ r. ⌜ NegatePost limits (view (limits .rows) (now (words .entry))) (view (limits .rows) (now (words .exit))) (now (stack .entry)) (now (stack .exit)) (now (bytes .entry)) here r ⌝ }
 {
-    let part = eval(words, stack, bytes, limits, at, depth, held, places, rounds);
+    let part = eval(words, stack, bytes, limits, here);
     let Evaluated::Value {
         arrow: a,
         next: end,
@@ -246,34 +223,23 @@ fn negate(
     else {
         return part;
     };
-    let made = take_step(
-        words,
-        limits.rows,
-        2 * limits.bits,
-        limits.limit,
-        &stack[..held],
-        Step::Not(a),
-    );
+    let made = live_step(words, stack, limits, here.held, Step::Not(a));
     answer(made, end, counted)
 }
 
-// Evaluates the two formulas from `at` on, the first one's value being live meanwhile, and takes the step AND or OR.
+// Evaluates the two formulas from the context's place on, the first one's value being live meanwhile, and takes the step AND or OR.
 fn both(
     words: &mut [u32],
     stack: &mut [u32],
     bytes: &[u8],
     limits: Limits,
-    at: usize,
-    depth: usize,
-    held: usize,
-    places: Places,
-    rounds: u32,
+    here: Context,
     j: Join,
 ) -> Evaluated
-    requires { ⌜ BothPre limits (view (limits .rows) (now words)) (now stack) (now bytes) at depth held places ⌝ }
-    ensures { λ r. ⌜ BothPost limits (view (limits .rows) (now (words .entry))) (view (limits .rows) (now (words .exit))) (now (stack .entry)) (now (stack .exit)) (now (bytes .entry)) at depth held places rounds j r ⌝ }
+    requires { ⌜ BothPre limits (view (limits .rows) (now words)) (now stack) (now bytes) here ⌝ }
+    ensures { λ r. ⌜ BothPost limits (view (limits .rows) (now (words .entry))) (view (limits .rows) (now (words .exit))) (now (stack .entry)) (now (stack .exit)) (now (bytes .entry)) here j r ⌝ }
 {
-    let first = eval(words, stack, bytes, limits, at, depth, held, places, rounds);
+    let first = eval(words, stack, bytes, limits, here);
     let Evaluated::Value {
         arrow: a,
         next: middle,
@@ -282,18 +248,13 @@ fn both(
     else {
         return first;
     };
+    let held = here.held;
     stack[held] = a;
-    let second = eval(
-        words,
-        stack,
-        bytes,
-        limits,
-        middle,
-        depth,
-        held + 1,
-        places,
-        counted,
-    );
+    let mut rest = here;
+    rest.at = middle;
+    rest.held = held + 1;
+    rest.rounds = counted;
+    let second = eval(words, stack, bytes, limits, rest);
     let Evaluated::Value {
         arrow: b,
         next: end,
@@ -302,35 +263,24 @@ fn both(
     else {
         return second;
     };
-    let made = take_step(
-        words,
-        limits.rows,
-        2 * limits.bits,
-        limits.limit,
-        &stack[..held],
-        join_of(j, a, b),
-    );
+    let made = live_step(words, stack, limits, held, join_of(j, a, b));
     answer(made, end, total)
 }
 
-// Evaluates the formula at `at`, and takes the steps of box or diamond over relation t.
+// Evaluates the formula at the context's place, and takes the steps of box or diamond over relation t.
 fn modal(
     words: &mut [u32],
     stack: &mut [u32],
     bytes: &[u8],
     limits: Limits,
-    at: usize,
-    depth: usize,
-    held: usize,
-    places: Places,
-    rounds: u32,
+    here: Context,
     m: Mode,
     t: u32,
 ) -> Evaluated
-    requires { ⌜ ModePre limits (view (limits .rows) (now words)) (now stack) (now bytes) at depth held places t ⌝ }
-    ensures { λ r. ⌜ ModePost limits (view (limits .rows) (now (words .entry))) (view (limits .rows) (now (words .exit))) (now (stack .entry)) (now (stack .exit)) (now (bytes .entry)) at depth held places rounds m t r ⌝ }
+    requires { ⌜ ModePre limits (view (limits .rows) (now words)) (now stack) (now bytes) here t ⌝ }
+    ensures { λ r. ⌜ ModePost limits (view (limits .rows) (now (words .entry))) (view (limits .rows) (now (words .exit))) (now (stack .entry)) (now (stack .exit)) (now (bytes .entry)) here m t r ⌝ }
 {
-    let part = eval(words, stack, bytes, limits, at, depth, held, places, rounds);
+    let part = eval(words, stack, bytes, limits, here);
     let Evaluated::Value {
         arrow: a,
         next: end,
@@ -341,53 +291,41 @@ fn modal(
     };
     let h = Table::FIRST_RELATION + (t as usize);
     let relation = root_arrow(words, h);
+    let held = here.held;
     let made = over(words, limits, &stack[..held], m, relation, a);
     answer(made, end, counted)
 }
 
-// Rounds of the body at `at`, variable p being the current set, which is live; until a round gives the same set again.
+// Rounds of the body at the context's place, variable p being the current set, which is live; until a round gives the same set again.
 fn bind(
     words: &mut [u32],
     stack: &mut [u32],
     bytes: &[u8],
     limits: Limits,
-    at: usize,
-    depth: usize,
-    held: usize,
-    places: Places,
-    rounds: u32,
+    here: Context,
     x: Fix,
     p: u32,
 ) -> Evaluated
-    requires { ⌜ BindPre limits (view (limits .rows) (now words)) (now stack) (now bytes) at depth held places p ⌝ }
-    ensures { λ r. ⌜ BindPost limits (view (limits .rows) (now (words .entry))) (view (limits .rows) (now (words .exit))) (now (stack .entry)) (now (stack .exit)) (now (bytes .entry)) at depth held places rounds x p r ⌝ }
+    requires { ⌜ BindPre limits (view (limits .rows) (now words)) (now stack) (now bytes) here p ⌝ }
+    ensures { λ r. ⌜ BindPost limits (view (limits .rows) (now (words .entry))) (view (limits .rows) (now (words .exit))) (now (stack .entry)) (now (stack .exit)) (now (bytes .entry)) here x p r ⌝ }
 {
-    let inner = opened(places, p, held);
+    let held = here.held;
     let mut current = start_of(x);
-    let mut counted = rounds;
+    let mut counted = here.rounds;
     while counted < limits.rounds {
         stack[held] = current;
-        let body = eval(
-            words,
-            stack,
-            bytes,
-            limits,
-            at,
-            depth,
-            held + 1,
-            inner,
-            counted + 1,
-        );
+        let body = opened(here, p, counted + 1);
+        let value = eval(words, stack, bytes, limits, body);
         let Evaluated::Value {
             arrow: a,
             next: _,
             rounds: total,
-        } = body
+        } = value
         else {
-            return body;
+            return value;
         };
         if a == current {
-            return body;
+            return value;
         }
         current = a;
         counted = total;
@@ -403,15 +341,12 @@ pub fn evaluate_set(words: &mut [u32], limits: Limits, bytes: &[u8]) -> Evaluate
     forget(words, limits.rows);
     let mut stack = [0u32; Table::DEPTH];
     let places = [0usize; Grammar::VARIABLES];
-    eval(
-        words,
-        &mut stack,
-        bytes,
-        limits,
-        Frame::START,
-        Table::DEPTH,
-        0,
-        places,
-        0,
-    )
+    let start = Context {
+        at: Frame::START,
+        depth: Table::DEPTH,
+        held: 0,
+        places: places,
+        rounds: 0,
+    };
+    eval(words, &mut stack, bytes, limits, start)
 }

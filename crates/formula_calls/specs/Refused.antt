@@ -11,9 +11,8 @@ use Rattle.tokens.specs.declared.Kind.the-variants.{Relation, Set}
 use Rattle.layout.specs.Places.{BITS, REGISTERS, RELATIONS, FIRST-REGISTER, FIRST-RELATION}
 use Rattle.layout.specs.View.{headerOf}
 use Rattle.layout.specs.Roots.{filledWord, filledRoot, filledRegister, filledRelation}
-use Rattle.layout.specs.Refusals.{refusalNumber}
+use Rattle.layout.specs.Refusals.{refusalNumber, refusal-some}
 use Rattle.layout.specs.declared.Refusal.{Refusal}
-use Rattle.layout.specs.declared.Refusal.the-variants.{Sizes, Unsound, Range, Syntax, Unbound, Odd, Empty, Full, Spent}
 use Rattle.formula.specs.Checks.{firstRefusal, numberOf}
 use Rattle.formula.specs.declared.Checked.{Checked}
 use Rattle.book.specs.Book.{Book, Call, relation, set, checks, refuse, does}
@@ -33,18 +32,6 @@ root-seen ws start total k = go (ltb k total) (headerOf ws (start + k))
     go true zero = refl
     go true (suc a) = rw (eqb·suc-zero a)
     go false w = refl
-
--- the refusal is none of 0
-pub refusal-some : (x : Refusal) → 1 ≤ refusalNumber x
-refusal-some Sizes = omega arith
-refusal-some Unsound = omega arith
-refusal-some Range = omega arith
-refusal-some Syntax = omega arith
-refusal-some Unbound = omega arith
-refusal-some Odd = omega arith
-refusal-some Empty = omega arith
-refusal-some Full = omega arith
-refusal-some Spent = omega arith
 
 module _ (ws : List ℕ) (s : SoundWords ws) where
   abbrev b : Book

@@ -129,15 +129,15 @@ pub fn relation_steps(words: &mut [u32], t: u32, bytes: &[u8]) -> Loaded
     requires { ⌜ RelationReady t (now words) (now bytes) ⌝ }
     ensures { λ x. ⌜ CallPost (book.relation t (now (bytes .entry))) (now (words .entry)) (now (words .exit)) (loadedReply x) ⌝ }
 {
-    let rows = header_word(words, Table::ROWS);
+    let total = header_word(words, Table::ROWS);
     let limits = Limits {
         bits: header_word(words, Table::BITS),
-        rows: rows,
-        limit: rows,
+        rows: total,
+        limit: total,
         rounds: 0,
     };
     let done = evaluate_pairs(words, limits, bytes);
-    let answer = store_relation(words, rows, t, done);
-    tidy(words, rows);
+    let answer = store_relation(words, total, t, done);
+    tidy(words, total);
     answer
 }

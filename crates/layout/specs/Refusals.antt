@@ -1,5 +1,6 @@
 -- Document 01's table of causes. Assumes nothing.
-use Prim.Native.Nat.{ℕ}
+use Prim.Native.Nat.{ℕ, _≤_}
+use native.Mathlib.Omega.{arith}
 use Rattle.layout.specs.declared.Refusal.{Refusal}
 use Rattle.layout.specs.declared.Refusal.the-variants.{Sizes, Unsound, Range, Syntax, Unbound, Odd, Empty, Full, Spent}
 
@@ -22,3 +23,15 @@ refusalNumber Empty = 7
 refusalNumber Full = 8
 -- "rounds used up"
 refusalNumber Spent = 9
+
+-- no refusal has the number of an answer
+pub refusal-some : (x : Refusal) → 1 ≤ refusalNumber x
+refusal-some Sizes = omega arith
+refusal-some Unsound = omega arith
+refusal-some Range = omega arith
+refusal-some Syntax = omega arith
+refusal-some Unbound = omega arith
+refusal-some Odd = omega arith
+refusal-some Empty = omega arith
+refusal-some Full = omega arith
+refusal-some Spent = omega arith

@@ -1,12 +1,12 @@
 -- A chain of steps over the words: what it starts from, what it leaves, and how one step more is one chain more. Assumes nothing.
-use mathlib.Core.Path.{_≡_, refl, sym, ap, ap₂, subst}
+use mathlib.Core.Path.{_≡_, refl, sym, subst}
 use mathlib.Core.Logic.{⊎-elim}
 use mathlib.Core.Bool.{Bool, true, false, _&&_}
 use mathlib.Core.List.{List, _∷_, _++_, map, List·Memᴰ as Mem, List·Memᴰ·head as here, List·Memᴰ·tail as there, List·Memᴰ·cases-cons as mem-cases, Memᴰ·map as mem-map, Memᴰ·of-map as mem-of-map, List·Memᴰ·append-cases as append-cases, Memᴰ·append-left as append-left, Memᴰ·append-right as append-right}
-use Prim.Native.Nat.{ℕ, zero, suc, _+_, _*_, _≤_, _<_}
+use Prim.Native.Nat.{ℕ, _*_, _≤_, _<_}
 use native.Mathlib.Omega.{arith}
 use lib.Dec.{leb}
-use Rattle.layout.specs.Places.{MAX-BITS, FIRST-REGISTER, ROOTS}
+use Rattle.layout.specs.Places.{MAX-BITS}
 use Rattle.layout.specs.View.{View}
 use Rattle.diagram.specs.Level.{Fn}
 use Rattle.diagram.specs.Rows.{Rows, Arrow, den, WellFormed}
@@ -17,7 +17,7 @@ use Rattle.diagram.specs.Keep.{Keeps, keeps-trans, keeps-within}
 use Rattle.diagram.specs.Step.{StepPost, StepResult}
 use Rattle.soundness.specs.Used.{rowsOf}
 use Rattle.soundness.specs.Sound.{Sound}
-use Rattle.soundness.specs.Filled.{push, held, filled, filled-arrow}
+use Rattle.soundness.specs.Filled.{filled}
 use Rattle.table.specs.Make.{result}
 use Rattle.table.specs.declared.Made.{Made}
 use Rattle.table.specs.declared.Made.the-variants as made
@@ -25,7 +25,7 @@ use Rattle.collect.specs.Lent.{live}
 use Rattle.memory.specs.Memo.{Remembers}
 use Rattle.operations.specs.Work.{OpFrame, op-refl, op-trans, Ready, ready-wf, ready-frame}
 use Rattle.steps.specs.declared.Step.{Step}
-use Rattle.steps.specs.Steps.{stepF, operandsOf, Fits, StepPre, Stepped, operand-arrow}
+use Rattle.steps.specs.Steps.{stepF, operandsOf, Fits, StepPre, Stepped, operand-arrow, live-arrows}
 use Rattle.book.specs.Held.{Held, held-arrow, held-need}
 use Rattle.book.specs.Pairs.{PairMatches, PairEvals, pair-stop, pair-then, pair-step}
 
@@ -123,10 +123,6 @@ module _ {n N limit : ℕ} {W : View} (b : Base n N limit W) where
   pub step-pre : {lent : List ℕ} {s : Step} → ((a : ℕ) → Mem a lent → Arrow (rowsOf W) a) → Fits (2 * n) (rowsOf W) s → StepPre (2 * n) N limit W lent s
   step-pre u f = record { sound = b .sound; ready = b .ready; arrows = u; fits = f }
 
-  -- registers, relations and lent arrows are arrows
-  pub live-arrows : {lent : List ℕ} → ((a : ℕ) → Mem a lent → Arrow (rowsOf W) a) → (a : ℕ) → Mem a (live W lent) → Arrow (rowsOf W) a
-  live-arrows u a h = ⊎-elim (filled-arrow (b .sound) a) (u a) (append-cases (filled W) h)
-
 -- a step for F, whose roots have its operands among them
 pub record Took (n N limit : ℕ) (W X : View) (roots : List ℕ) (o : Made) (F : Fn) : Type 0 where
   pub moved : Moved n W X
@@ -149,16 +145,7 @@ took {n} {W = W} {lent = lent} {s = s} {o = o} b q p = record {
 }
   where
     arrows : (a : ℕ) → Mem a (operandsOf s ++ live W lent) → Arrow (rowsOf W) a
-    arrows a h = ⊎-elim (operand-arrow (2 * n) (rowsOf W) s (q .fits) a) (live-arrows b (q .arrows) a) (append-cases (operandsOf s) h)
-
--- no step changes a register or relation
-held-frame : {W X : View} → OpFrame W X → (k : ℕ) → held X FIRST-REGISTER k ≡ held W FIRST-REGISTER k
-unfolding held
-held-frame f zero = refl
-held-frame f (suc k) = ap₂ push (f .header (FIRST-REGISTER + k) (omega arith) (omega arith) (omega arith) (omega arith)) (held-frame f k)
-
-pub live-frame : {W X : View} → OpFrame W X → (xs : List ℕ) → live X xs ≡ live W xs
-live-frame f xs = ap (λ (ys : List ℕ). ys ++ xs) (held-frame f ROOTS)
+    arrows a h = ⊎-elim (operand-arrow (2 * n) (rowsOf W) s (q .fits) a) (live-arrows lent (b .sound) (q .arrows) a) (append-cases (operandsOf s) h)
 
 -- ---- a chain
 

@@ -21,7 +21,7 @@ use Rattle.table.specs.declared.Made.{Made}
 use Rattle.table.specs.declared.Made.the-variants as made
 use Rattle.collect.specs.Lent.{live}
 use Rattle.steps.specs.declared.Step.the-variants.{Not, And, Shift, Exists}
-use Rattle.steps.specs.Steps.{StepPre}
+use Rattle.steps.specs.Steps.{StepPre, live-arrows, live-same}
 use Rattle.book.specs.Ticks.{existsNeeds, diamondNeeds, counted, full as fullVerdict}
 use Rattle.book.specs.Run.{value, full as fullRun, existsSteps}
 use Rattle.book.specs.Diamond.{existsNext, diamondF, boxF}
@@ -29,7 +29,7 @@ use Rattle.book.specs.Verdicts.{fit, settle, steps-verdict, exists-ticks}
 use Rattle.book.specs.Held.{Held, denoted, held-arrow, held-push, held-operand, held-keeps}
 use Rattle.book.specs.Pairs.{PairMatches}
 use Rattle.book.specs.Modal.{Quantifies, quantify-start, quantify-on, quantify-out, quantify-end}
-use Rattle.modal.specs.Chain.{alike-cons, alike-once, held-alike, denotes-own, held-own, Base, Moved, moved-refl, moved-trans, base-next, base-wf, step-pre, live-arrows, Took, live-frame, Ran, ran-step, ran-stop, ran-kept, ran-value, ran-then}
+use Rattle.modal.specs.Chain.{alike-cons, alike-once, held-alike, denotes-own, held-own, Base, Moved, moved-refl, moved-trans, base-next, base-wf, step-pre, Took, Ran, ran-step, ran-stop, ran-kept, ran-value, ran-then}
 use Rattle.modal.specs.Modal.{boxedNeeds, QuantifyPre, ModalPre, QuantifyPost, DiamondPost, BoxPost}
 
 -- ---- the loop of EXISTS
@@ -53,7 +53,7 @@ fit-false false e = refl
 
 module _ {n N limit : ℕ} {W : View} {lent : List ℕ} {a : ℕ} (p : QuantifyPre n N limit W lent a) where
   own : Held (2 * n) (rowsOf W) (live W lent) (map (den (2 * n) (rowsOf W)) (live W lent))
-  own = held-own (live-arrows (p .base) (p .arrows))
+  own = held-own (live-arrows lent (p .base .sound) (p .arrows))
 
   pub quantify-begins : Quantified n N limit W W lent a n a
   quantify-begins = record {
@@ -82,7 +82,7 @@ module _ {n N limit : ℕ} {W : View} {lent : List ℕ} {a : ℕ} (p : QuantifyP
           let odd : 2 * (j - 1) + 1 ≡ suc (2 * (j - 1)) = omega arith in
           let s1 = subst (λ (t : Made). StepPost (2 * n) N limit (rowsOf X) (rowsOf Y) (c ∷ live X lent) (result t) (existsF (2 * (j - 1) + 1) (den (2 * n) (rowsOf X) c))) e (s .post) in
           let s2 = subst (λ (x : ℕ). StepPost (2 * n) N limit (rowsOf X) (rowsOf Y) (c ∷ live X lent) (result t) (existsF x (den (2 * n) (rowsOf X) c))) odd s1 in
-          subst (λ (xs : List ℕ). StepPost (2 * n) N limit (rowsOf X) (rowsOf Y) (c ∷ xs) (result t) (existsF (suc (2 * (j - 1))) (den (2 * n) (rowsOf X) c))) (live-frame (q .moved .frame) lent) s2
+          subst (λ (xs : List ℕ). StepPost (2 * n) N limit (rowsOf X) (rowsOf Y) (c ∷ xs) (result t) (existsF (suc (2 * (j - 1))) (den (2 * n) (rowsOf X) c))) (live-same (q .moved .frame) lent) s2
 
       pub quantify-turns : {d : ℕ} → o ≡ made.At d → Quantified n N limit W Y lent a (j - 1) d
       quantify-turns {d} e = record {
@@ -128,11 +128,11 @@ kept-lent W lent k b h = keeps-arrow k b (append-right (filled W) h)
 -- what is held by registers, relations and lent arrows is held by them after steps
 pub held-moved : {n : ℕ} {W X : View} (lent : List ℕ) {fs : List Fn} → Moved n W X → Keeps (rowsOf W) (rowsOf X) (live W lent) → Held (2 * n) (rowsOf W) (live W lent) fs
     → Held (2 * n) (rowsOf X) (live X lent) fs
-held-moved {n} {W} {X} lent {fs} m k h = subst (λ (xs : List ℕ). Held (2 * n) (rowsOf X) xs fs) (sym (live-frame (m .frame) lent)) (held-keeps h k)
+held-moved {n} {W} {X} lent {fs} m k h = subst (λ (xs : List ℕ). Held (2 * n) (rowsOf X) xs fs) (sym (live-same (m .frame) lent)) (held-keeps h k)
 
 -- a chain from a later table, whose roots are the same
 pub ran-from : {n N : ℕ} {W X Y : View} (lent : List ℕ) {b : Bool} {F : Fn} {o : Made} → Moved n W X → Ran n N X Y (live X lent) b F o → Ran n N X Y (live W lent) b F o
-ran-from {n} {N} {W} {X} {Y} lent {b} {F} {o} m r = subst (λ (xs : List ℕ). Ran n N X Y xs b F o) (live-frame (m .frame) lent) r
+ran-from {n} {N} {W} {X} {Y} lent {b} {F} {o} m r = subst (λ (xs : List ℕ). Ran n N X Y xs b F o) (live-same (m .frame) lent) r
 
 -- what a root denotes is among what the roots hold
 pub held-mem : {m : ℕ} {rows : Rows} {roots : List ℕ} {fs : List Fn} {a : ℕ} → Held m rows roots fs → Mem a roots → Mem (den m rows a) fs
@@ -171,7 +171,7 @@ module _ {n N limit : ℕ} {W : View} {lent : List ℕ} {t a : ℕ} (p : ModalPr
   all = map (den (2 * n) (rowsOf W)) (live W lent)
 
   all-held : Held (2 * n) (rowsOf W) (live W lent) all
-  all-held = held-own (live-arrows (p .base) (p .arrows))
+  all-held = held-own (live-arrows lent (p .base .sound) (p .arrows))
 
   pub shift-asks : StepPre (2 * n) N limit W lent (Shift a)
   shift-asks = step-pre (p .base) (p .arrows) (p .operand, p .even)
@@ -199,7 +199,7 @@ module _ {n N limit : ℕ} {W : View} {lent : List ℕ} {t a : ℕ} (p : ModalPr
       x-is = ran-value e (shifted all all-held)
 
       t-is : Denotes (2 * n) (rowsOf X) t R
-      t-is = keeps-denotes k1 (p .relation) (denotes-own (live-arrows (p .base) (p .arrows) t (p .relation)))
+      t-is = keeps-denotes k1 (p .relation) (denotes-own (live-arrows lent (p .base .sound) (p .arrows) t (p .relation)))
 
       pub and-base : Base n N limit X
       and-base = base-next (p .base) (s .moved)
@@ -211,7 +211,7 @@ module _ {n N limit : ℕ} {W : View} {lent : List ℕ} {t a : ℕ} (p : ModalPr
         v1 : Took n N limit X Y (x ∷ t ∷ live W lent) u (andF (shiftF F) R)
         v1 =
             subst (λ (G : Fn). Took n N limit X Y (x ∷ t ∷ live W lent) u G) (ap₂ andF (denoted x-is) (denoted t-is))
-            (subst (λ (xs : List ℕ). Took n N limit X Y (x ∷ t ∷ xs) u (andF (den (2 * n) (rowsOf X) x) (den (2 * n) (rowsOf X) t))) (live-frame (s .moved .frame) lent) v)
+            (subst (λ (xs : List ℕ). Took n N limit X Y (x ∷ t ∷ xs) u (andF (den (2 * n) (rowsOf X) x) (den (2 * n) (rowsOf X) t))) (live-same (s .moved .frame) lent) v)
 
         joined : (fs : List Fn) → Held (2 * n) (rowsOf W) (live W lent) fs
             → Ran n N X Y (live W lent) (leb (stepNeed (2 * n) (shiftF F ∷ R ∷ fs) (andF (shiftF F) R)) limit) (andF (shiftF F) R) u
@@ -255,13 +255,13 @@ module _ {n N limit : ℕ} {W : View} {lent : List ℕ} {t a : ℕ} (p : ModalPr
       b-is = ran-value e (first-step s all all-held)
 
       r-is : Denotes (2 * n) (rowsOf X) t R
-      r-is = keeps-denotes b-kept (p .relation) (denotes-own (live-arrows (p .base) (p .arrows) t (p .relation)))
+      r-is = keeps-denotes b-kept (p .relation) (denotes-own (live-arrows lent (p .base .sound) (p .arrows) t (p .relation)))
 
       pub diamond-asks : ModalPre n N limit X lent t b
       diamond-asks = record {
         base = base-next (p .base) (s .moved);
         arrows = kept-lent W lent b-kept;
-        relation = subst (λ (xs : List ℕ). Mem t xs) (sym (live-frame (s .moved .frame) lent)) (p .relation);
+        relation = subst (λ (xs : List ℕ). Mem t xs) (sym (live-same (s .moved .frame) lent)) (p .relation);
         operand = b-is .arrow;
         even = λ v w g. b-is .same v ∙ ap not (p .even v w g) ∙ sym (b-is .same w);
       }

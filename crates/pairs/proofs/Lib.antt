@@ -1,2 +1,3 @@
 -- Modules that belong to no one function.
 pub mod Steps
+pub mod Cycle

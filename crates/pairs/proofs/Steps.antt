@@ -38,7 +38,7 @@ use Rattle.memory.specs.Forget.{Forgot}
 use Rattle.operations.specs.Work.{op-memo, op-trans}
 use Rattle.steps.specs.declared.Step.{Step}
 use Rattle.steps.specs.declared.Step.the-variants as step
-use Rattle.steps.specs.Steps.{Fits, StepPre, Stepped}
+use Rattle.steps.specs.Steps.{Fits}
 use Rattle.book.specs.Bridge.{pairs-and, pairs-or}
 use Rattle.book.specs.Book.{regFilled, relFilled, liveOf}
 use Rattle.book.specs.Table.{rootsOf}
@@ -46,14 +46,14 @@ use Rattle.book.specs.Run.{pairF, pairsFit}
 use Rattle.book.specs.Pairs.{PairEvals, pair-stop, pair-none, pair-all, pair-now, pair-next, pair-not, pair-two, pair-two-stop}
 use Rattle.contract.specs.Seen.{seenIn}
 use Rattle.modal.specs.declared.Limits.{Limits}
-use Rattle.modal.specs.Chain.{Moved, moved-refl, moved-trans, base-wf, step-pre, took, Ran, pair-value}
-use Rattle.evaluator.specs.Scene.{Scene, pushed, Ready, Stands, joinStep}
+use Rattle.modal.specs.Chain.{Moved, moved-refl, moved-trans, base-wf, took, Ran, pair-value}
+use Rattle.evaluator.specs.Scene.{Scene, pushed, Ready, Stands, joinStep, LivePre, LivePost}
 use Rattle.evaluator.specs.Whole.{bookIn}
-use Rattle.evaluator.proofs.State.{still-below, lent-arrows, ready-next, ready-push}
+use Rattle.evaluator.proofs.State.{still-below, live-pre, ready-next, ready-push}
 use Rattle.evaluator.proofs.Outcomes.{joinF}
 use Rattle.evaluator.proofs.Steps.{took-roots, one-arrow, took-join, join-fits}
 use Rattle.evaluator.proofs.Starts.{sceneIn, start-scene}
-use Rattle.pairs.specs.Pairing.{noPlaces, resultOf, EndsAt, Relates, fromMade, RelatePre, PairsPre, PairsPost}
+use Rattle.pairs.specs.Pairing.{noPlaces, resultOf, EndsAt, Relates, fromMade, RelatePre, RelatePost, PairsPre, PairsPost}
 use Rattle.pairs.specs.declared.Related.{Related}
 use Rattle.pairs.specs.declared.Related.the-variants.{Value, Full}
 
@@ -104,22 +104,22 @@ module _ {L : Limits} {W : View} {stack : List ℕ} {held : ℕ} {σ : Scene} (R
   leaf-all = record { moved = moved-refl (R .base); evals = pair-all (L .bits) (L .rows) (R .lives) (L .limit) (base-wf (R .base)) }
 
   module _ (x : ℕ) (l : x < 2 * L .bits) where
-    pub bit-asks : StepPre (2 * L .bits) (L .rows) (L .limit) W (take held stack) (step.Bit x)
-    bit-asks = step-pre (R .base) (lent-arrows R) l
+    pub bit-asks : LivePre L W stack held (step.Bit x)
+    bit-asks = live-pre R l
 
-    bit-post : {X : View} {o : Made} → Stepped (2 * L .bits) (L .rows) (L .limit) W X (take held stack) (step.Bit x) o
+    bit-post : {X : View} {o : Made} → LivePost L W X stack held (step.Bit x) o
         → StepPost (2 * L .bits) (L .rows) (L .limit) (rowsOf W) (rowsOf X) (σ .roots) (result o) (λ v. v x)
-    bit-post s = took-roots [] R (λ a h. absurd (mem-nil h)) (took (R .base) bit-asks s)
+    bit-post s = took-roots [] R (λ a h. absurd (mem-nil h)) (took (R .base) (bit-asks .asks) s)
 
-    bit-moved : {X : View} {o : Made} → Stepped (2 * L .bits) (L .rows) (L .limit) W X (take held stack) (step.Bit x) o → Moved (L .bits) W X
-    bit-moved s = took (R .base) bit-asks s .moved
+    bit-moved : {X : View} {o : Made} → LivePost L W X stack held (step.Bit x) o → Moved (L .bits) W X
+    bit-moved s = took (R .base) (bit-asks .asks) s .moved
 
   module _ {p : ℕ} (l : p < L .bits) {X : View} {o : Made} where
-    pub leaf-now : Stepped (2 * L .bits) (L .rows) (L .limit) W X (take held stack) (step.Bit (2 * p)) o
+    pub leaf-now : LivePost L W X stack held (step.Bit (2 * p)) o
         → Ran (L .bits) (L .rows) W X (σ .roots) (pairsFit (L .bits) (L .limit) (σ .fns) (now p)) (pairF (L .bits) (now p)) o
     leaf-now s = record { moved = bit-moved (2 * p) (omega arith) s; evals = pair-now (L .bits) (L .rows) (R .lives) p l (result o) (bit-post (2 * p) (omega arith) s) }
 
-    pub leaf-next : Stepped (2 * L .bits) (L .rows) (L .limit) W X (take held stack) (step.Bit (2 * p + 1)) o
+    pub leaf-next : LivePost L W X stack held (step.Bit (2 * p + 1)) o
         → Ran (L .bits) (L .rows) W X (σ .roots) (pairsFit (L .bits) (L .limit) (σ .fns) (next p)) (pairF (L .bits) (next p)) o
     leaf-next s = record {
       moved = bit-moved (2 * p + 1) (omega arith) s;
@@ -183,13 +183,13 @@ module _ {L : Limits} {W X : View} {stack after : List ℕ} {held : ℕ} {σ : S
 
   -- ---- NOT
 
-  pub negate-asks : StepPre (2 * L .bits) (L .rows) (L .limit) X (take held after) (step.Not a)
-  negate-asks = step-pre (value-ready .base) (lent-arrows value-ready) (value-is .arrow)
+  pub negate-asks : LivePre L X after held (step.Not a)
+  negate-asks = live-pre value-ready (value-is .arrow)
 
-  pub negate-ends : {Y : View} {o : Made} {r′ : Related} → Stepped (2 * L .bits) (L .rows) (L .limit) X Y (take held after) (step.Not a) o → r′ ≡ fromMade k o
+  pub negate-ends : {Y : View} {o : Made} {r′ : Related} → LivePost L X Y after held (step.Not a) o → r′ ≡ fromMade k o
       → Relates L W Y stack after held σ (neg f) e r′
   negate-ends {Y} {o} s made =
-      let t = took (value-ready .base) negate-asks s in
+      let t = took (value-ready .base) (negate-asks .asks) s in
       relates-made (neg f) k o value-end made (moved-trans (A .moved) (t .moved)) (A .kept)
       (pair-not (L .bits) (L .rows) (R .lives) f value-evals (result o) (took-roots (a ∷ []) value-ready (one-arrow (rowsOf X) a (value-is .arrow)) t))
 
@@ -225,13 +225,13 @@ module _ {L : Limits} {W X : View} {stack after : List ℕ} {held : ℕ} {σ : S
         both-state : Ready L Y last noPlaces held σ
         both-state = ready-next value-ready (B .moved) (keeps-within (λ x i. there i) (B .evals .kept)) last z′ below
 
-        pub both-asks : (j : Join) {s : Step} → s ≡ joinStep j a b → StepPre (2 * L .bits) (L .rows) (L .limit) Y (take held last) s
-        both-asks j e = step-pre (both-state .base) (lent-arrows both-state) (subst (Fits (2 * L .bits) (rowsOf Y)) (sym e) (join-fits (2 * L .bits) (rowsOf Y) j a b first-arrow second-arrow))
+        pub both-asks : (j : Join) {s : Step} → s ≡ joinStep j a b → LivePre L Y last held s
+        both-asks j e = live-pre both-state (subst (Fits (2 * L .bits) (rowsOf Y)) (sym e) (join-fits (2 * L .bits) (rowsOf Y) j a b first-arrow second-arrow))
 
-        pub both-ends : (j : Join) {s : Step} → s ≡ joinStep j a b → {Z : View} {o : Made} {r″ : Related} → Stepped (2 * L .bits) (L .rows) (L .limit) Y Z (take held last) s o
+        pub both-ends : (j : Join) {s : Step} → s ≡ joinStep j a b → {Z : View} {o : Made} {r″ : Related} → LivePost L Y Z last held s o
             → r″ ≡ fromMade k′ o → Relates L W Z stack last held σ (joinForm j f g) e′ r″
         both-ends j {s} e {Z} {o} p made =
-            let t = took (both-state .base) (both-asks j e) p in
+            let t = took (both-state .base) (both-asks j e .asks) p in
             relates-made (joinForm j f g) k′ o (subst (EndsAt e′) is′ (B .end)) made (moved-trans (A .moved) (moved-trans (B .moved) (t .moved))) (below ∙ A .kept)
             (subst (λ (x : Bool). PairEvals (L .bits) (L .rows) (rowsOf W) (rowsOf Z) (σ .roots) x (pairF (L .bits) (joinForm j f g)) (result o)) (join-fit (L .bits) (L .limit) (σ .fns) j f g)
             (pair-two (L .bits) (L .rows) (R .lives) (joinForm j f g) f g (joinF j) (join-exact (L .bits) j f g) value-evals (λ d. second-evals) (result o)
@@ -274,12 +274,11 @@ module _ {L : Limits} {W : View} {bs : List ℕ} (p : PairsPre L W bs) where
       stands = whole-stands;
     }
 
-    module _ {Y : View} {after : List ℕ} {r : Related}
-        (E : (σ : Scene) (g : Form) (e : ℕ) → Ready L X (replicate depthLimit 0) noPlaces 0 σ → Stands (L .bits) Pairs bs 3 depthLimit g e → Relates L X Y (replicate depthLimit 0) after 0 σ g e r) where
+    module _ {Y : View} {after : List ℕ} {r : Related} (E : RelatePost L X Y (replicate depthLimit 0) after bs 3 depthLimit 0 r) where
       pub pairs-ends : {o : Made} → resultOf r ≡ result o → PairsPost L W Y bs o
       unfolding whole
       pairs-ends {o} is =
-          let A = E (sceneIn W) whole (length bs) (start-scene L (p .sound) (p .bits) (p .rows) (p .limit) f) whole-stands in
+          let A = E .answers (sceneIn W) whole (length bs) (start-scene L (p .sound) (p .bits) (p .rows) (p .limit) f) whole-stands in
           let v0 = subst (λ (y : Result). PairEvals (L .bits) (L .rows) (rowsOf X) (rowsOf Y) (rootsOf (seenIn W)) (pairsFit (L .bits) (L .limit) (liveOf (bookIn W)) whole) (pairF (L .bits) whole) y) is (A .evals) in
           let v1 = subst (λ (t : Rows). PairEvals (L .bits) (L .rows) t (rowsOf Y) (rootsOf (seenIn W)) (pairsFit (L .bits) (L .limit) (liveOf (bookIn W)) whole) (pairF (L .bits) whole) (result o)) (rows-same (f .frame)) v0 in
           let v2 = subst (λ (N : ℕ). PairEvals (L .bits) N (rowsOf W) (rowsOf Y) (rootsOf (seenIn W)) (pairsFit (L .bits) (L .limit) (liveOf (bookIn W)) whole) (pairF (L .bits) whole) (result o)) (p .rows) v1 in

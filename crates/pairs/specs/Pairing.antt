@@ -67,14 +67,12 @@ pub record RelatePre (L : Limits) (W : View) (stack bs : List ℕ) (at depth hel
   pub ready : Ready L W stack noPlaces held scene
   pub stands : Stands (L .bits) Pairs bs at depth form end
 
-abbrev pub RelatePost : Limits → View → View → List ℕ → List ℕ → List ℕ → ℕ → ℕ → ℕ → Related → Type 0
-RelatePost L W X stack after bs at depth held r =
-    (σ : Scene) (f : Form) (e : ℕ) → Ready L W stack noPlaces held σ → Stands (L .bits) Pairs bs at depth f e → Relates L W X stack after held σ f e r
+pub record RelatePost (L : Limits) (W X : View) (stack after bs : List ℕ) (at depth held : ℕ) (r : Related) : Type 0 where
+  pub answers : (σ : Scene) (f : Form) (e : ℕ) → Ready L W stack noPlaces held σ → Stands (L .bits) Pairs bs at depth f e → Relates L W X stack after held σ f e r
 
 -- NOT: f is its part, of which it asks what evaluating it does
-abbrev pub NegatePost : Limits → View → View → List ℕ → List ℕ → List ℕ → ℕ → ℕ → ℕ → Related → Type 0
-NegatePost L W X stack after bs at depth held r =
-    (σ : Scene) (f : Form) (e : ℕ) → Ready L W stack noPlaces held σ → Stands (L .bits) Pairs bs at depth f e → Relates L W X stack after held σ (neg f) e r
+pub record NegatePost (L : Limits) (W X : View) (stack after bs : List ℕ) (at depth held : ℕ) (r : Related) : Type 0 where
+  pub answers : (σ : Scene) (f : Form) (e : ℕ) → Ready L W stack noPlaces held σ → Stands (L .bits) Pairs bs at depth f e → Relates L W X stack after held σ (neg f) e r
 
 -- AND and OR: f and, after it, g are the parts
 pub record BothPre (L : Limits) (W : View) (stack bs : List ℕ) (at depth held : ℕ) : Type 0 where
@@ -88,10 +86,9 @@ pub record BothPre (L : Limits) (W : View) (stack bs : List ℕ) (at depth held 
   pub first : Stands (L .bits) Pairs bs at depth left middle
   pub second : Stands (L .bits) Pairs bs middle depth right end
 
-abbrev pub BothPost : Limits → View → View → List ℕ → List ℕ → List ℕ → ℕ → ℕ → ℕ → Join → Related → Type 0
-BothPost L W X stack after bs at depth held j r =
-    (σ : Scene) (f g : Form) (m e : ℕ) → Ready L W stack noPlaces held σ → Stands (L .bits) Pairs bs at depth f m → Stands (L .bits) Pairs bs m depth g e
-    → Relates L W X stack after held σ (joinForm j f g) e r
+pub record BothPost (L : Limits) (W X : View) (stack after bs : List ℕ) (at depth held : ℕ) (j : Join) (r : Related) : Type 0 where
+  pub answers : (σ : Scene) (f g : Form) (m e : ℕ) → Ready L W stack noPlaces held σ → Stands (L .bits) Pairs bs at depth f m → Stands (L .bits) Pairs bs m depth g e
+      → Relates L W X stack after held σ (joinForm j f g) e r
 
 -- a leaf
 pub record LeafPre (L : Limits) (W : View) (stack : List ℕ) (held : ℕ) (l : Leaf) : Type 0 where
@@ -99,9 +96,8 @@ pub record LeafPre (L : Limits) (W : View) (stack : List ℕ) (held : ℕ) (l : 
   pub ready : Ready L W stack noPlaces held scene
   pub taken : leafAllowed l (L .bits) Pairs ≡ true
 
-abbrev pub LeafPost : Limits → View → View → List ℕ → ℕ → Leaf → Made → Type 0
-LeafPost L W X stack held l o =
-    (σ : Scene) → Ready L W stack noPlaces held σ → Ran (L .bits) (L .rows) W X (σ .roots) (pairsFit (L .bits) (L .limit) (σ .fns) (leafForm l)) (pairF (L .bits) (leafForm l)) o
+pub record LeafPost (L : Limits) (W X : View) (stack : List ℕ) (held : ℕ) (l : Leaf) (o : Made) : Type 0 where
+  pub answers : (σ : Scene) → Ready L W stack noPlaces held σ → Ran (L .bits) (L .rows) W X (σ .roots) (pairsFit (L .bits) (L .limit) (σ .fns) (leafForm l)) (pairF (L .bits) (leafForm l)) o
 
 -- ---- the whole call's formula
 

@@ -1,11 +1,11 @@
 // The evaluation of a relation's formula from its bytes, over the words of a table.
 use evaluator::join_of;
+use evaluator::live_step;
 use formula::Frame;
 use layout::Table;
 use memory::forget;
 use modal::Limits;
 use steps::Step;
-use steps::take_step;
 use table::Made;
 use tokens::Grammar;
 use tokens::Join;
@@ -44,22 +44,8 @@ fn leaf(words: &mut [u32], stack: &[u32], limits: Limits, held: usize, l: Leaf) 
     match l {
         Leaf::False => Made::At(Table::NOTHING),
         Leaf::True => Made::At(Table::EVERYTHING),
-        Leaf::Now(p) => take_step(
-            words,
-            limits.rows,
-            2 * limits.bits,
-            limits.limit,
-            &stack[..held],
-            Step::Bit(2 * p),
-        ),
-        Leaf::Next(p) => take_step(
-            words,
-            limits.rows,
-            2 * limits.bits,
-            limits.limit,
-            &stack[..held],
-            Step::Bit(2 * p + 1),
-        ),
+        Leaf::Now(p) => live_step(words, stack, limits, held, Step::Bit(2 * p)),
+        Leaf::Next(p) => live_step(words, stack, limits, held, Step::Bit(2 * p + 1)),
         Leaf::Var(_) => Made::Full,
         Leaf::Reg(_) => Made::Full,
     }
@@ -112,14 +98,7 @@ fn negate(
     else {
         return Related::Full;
     };
-    let made = take_step(
-        words,
-        limits.rows,
-        2 * limits.bits,
-        limits.limit,
-        &stack[..held],
-        Step::Not(a),
-    );
+    let made = live_step(words, stack, limits, held, Step::Not(a));
     answer(made, end)
 }
 
@@ -152,14 +131,7 @@ fn both(
     else {
         return Related::Full;
     };
-    let made = take_step(
-        words,
-        limits.rows,
-        2 * limits.bits,
-        limits.limit,
-        &stack[..held],
-        join_of(j, a, b),
-    );
+    let made = live_step(words, stack, limits, held, join_of(j, a, b));
     answer(made, end)
 }
 

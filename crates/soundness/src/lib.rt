@@ -271,7 +271,7 @@ pub fn mark(words: &[u32], rows: u32, marks: &mut [u8], a: u32)
 }
 
 // Marks the rows that a register or relation reaches.
-pub fn mark_ref(words: &[u32], rows: u32, marks: &mut [u8], r: u32)
+fn mark_ref(words: &[u32], rows: u32, marks: &mut [u8], r: u32)
     requires { ⌜ RefPre (view rows (now words)) (length (now marks)) r ⌝ }
     ensures { λ _. ⌜ MarksAll (rowsOf (view rows (now (words .entry)))) (now (marks .entry)) (now (marks .exit)) (λ a. r ≡ suc a) ⌝ }
 {

@@ -1,6 +1,6 @@
 -- A step by one try, or by a second one after collecting. Assumes nothing.
 use mathlib.Core.Path.{_≡_, sym, ap, _∙_, subst}
-use mathlib.Core.List.{List, List·Memᴰ as Mem, List·Memᴰ·tail as there, List·Memᴰ·cases-cons as mem-cases}
+use mathlib.Core.List.{List, _++_, List·Memᴰ as Mem, List·Memᴰ·tail as there, List·Memᴰ·cases-cons as mem-cases, List·Memᴰ·append-cases as append-cases}
 use mathlib.Core.Logic.{⊎-elim}
 use Prim.Native.Nat.{ℕ, _*_, _≤_}
 use native.Mathlib.Omega.{arith}
@@ -43,11 +43,11 @@ pub record Retried (m N limit : ℕ) (W X : View) (roots : List ℕ) (s : Step) 
 
 -- a sound table stays sound in a try, and ready for the same step
 module _ {m N limit : ℕ} {W : View} {roots : List ℕ} {s : Step} (p : StepPre m N limit W roots s) where
-  pub live-are : (a : ℕ) → Mem a (liveAt W roots s) → Arrow (rowsOf W) a
-  live-are = live-arrows roots m s (p .sound) (p .arrows) (p .fits)
-
   operands-are : (a : ℕ) → Mem a (operandsOf s) → Arrow (rowsOf W) a
   operands-are = operand-arrow m (rowsOf W) s (p .fits)
+
+  pub live-are : (a : ℕ) → Mem a (liveAt W roots s) → Arrow (rowsOf W) a
+  live-are = live-arrows (roots ++ operandsOf s) (p .sound) (λ a h. ⊎-elim (p .arrows a) (operands-are a) (append-cases roots h))
 
   pub clean-pre : CleanPre W roots s 0
   clean-pre = record { sound = p .sound; arrows = p .arrows; operands = operands-are; kept-arrow = tt }
@@ -82,7 +82,7 @@ module _ {m N limit : ℕ} {W : View} {roots : List ℕ} {s : Step} (p : StepPre
     -- what a settled try says of the table's N rows and of W's live roots
     pub settled-at : {Y : View} {t r : Made} → SettlePost limit X Y roots s t r → Settled N limit (rowsOf X) (rowsOf Y) (liveAt W roots s) (result t) (result r)
     settled-at {Y} {t} {r} z =
-        subst (λ (xs : List ℕ). Settled N limit (rowsOf X) (rowsOf Y) xs (result t) (result r)) (live-same roots s (w .frame))
+        subst (λ (xs : List ℕ). Settled N limit (rowsOf X) (rowsOf Y) xs (result t) (result r)) (live-same (w .frame) (roots ++ operandsOf s))
         (subst (λ (n : ℕ). Settled n limit (rowsOf X) (rowsOf Y) (liveAt X roots s) (result t) (result r)) (w .frame .rows ∙ sym (p .ready .rows-is)) (z .settled))
 
   -- the first try is answered
@@ -104,7 +104,7 @@ module _ {m N limit : ℕ} {W : View} {roots : List ℕ} {s : Step} (p : StepPre
   pub stepped-again : {X Y : View} {o r : Made} → o ≡ answer.Full → Worked m N limit W X o (stepF m (rowsOf W) s) → Retried m N limit X Y roots s r → Stepped m N limit W Y roots s r
   stepped-again {X} {Y} {o} {r} e w′ z =
       let w : Worked m N limit W X answer.Full (stepF m (rowsOf W) s) = rw e at w′ in
-      let l = live-same roots s (w .frame) in
+      let l = live-same (w .frame) (roots ++ operandsOf s) in
       let c : Collects (rowsOf X) (z .clean) (liveAt W roots s) = subst (λ (xs : List ℕ). Collects (rowsOf X) (z .clean) xs) l (z .collects) in
       let d : Settled N limit (z .tried) (rowsOf Y) (liveAt W roots s) (z .part) (result r) = subst (λ (xs : List ℕ). Settled N limit (z .tried) (rowsOf Y) xs (z .part) (result r)) l (z .settled) in
       let k : Keeps (rowsOf W) (z .clean) (liveAt W roots s) = keeps-trans (extends-keeps (ready-wf (p .ready)) live-are (w .post .kept)) (collects-keeps c) in
@@ -143,7 +143,7 @@ retried {m} {N} {limit} {W} {C} {X} {Y} {roots} {s} {o} {r} p c w z = record {
   part = result o;
   collects = cleans p c;
   post = w .post;
-  settled = subst (λ (xs : List ℕ). Settled N limit (rowsOf X) (rowsOf Y) xs (result o) (result r)) (live-same roots s (c .frame)) (settled-at (cleaned-pre p c) w z);
+  settled = subst (λ (xs : List ℕ). Settled N limit (rowsOf X) (rowsOf Y) xs (result o) (result r)) (live-same (c .frame) (roots ++ operandsOf s)) (settled-at (cleaned-pre p c) w z);
 }
 
 -- where an evaluation starts, all is forgotten: "Remembered results of earlier steps count for nothing at the start of a call."

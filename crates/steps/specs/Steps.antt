@@ -133,11 +133,9 @@ stepF-reads (step.Or a b) wf e f = two-reads _||_ (den-reads-all wf a (f .0)) (d
 stepF-reads {m} (step.Shift a) wf e f = shift-reads-all m e (f .1) (den-reads-all wf a (f .0))
 stepF-reads (step.Exists x a) wf e f = exists-reads x (den-reads-all wf a (f .0))
 
--- what is live are arrows
-pub live-arrows : {W : View} (roots : List ℕ) (m : ℕ) (s : Step) → Sound W → ((a : ℕ) → Mem a roots → Arrow (rowsOf W) a) → Fits m (rowsOf W) s
-    → (a : ℕ) → Mem a (liveAt W roots s) → Arrow (rowsOf W) a
-live-arrows {W} roots m s z r f a h =
-    ⊎-elim (filled-arrow z a) (λ t. ⊎-elim (r a) (operand-arrow m (rowsOf W) s f a) (append-cases roots t)) (append-cases (filled W) h)
+-- registers, relations and lent arrows are arrows
+pub live-arrows : {W : View} (lent : List ℕ) → Sound W → ((a : ℕ) → Mem a lent → Arrow (rowsOf W) a) → (a : ℕ) → Mem a (live W lent) → Arrow (rowsOf W) a
+live-arrows {W} lent z u a h = ⊎-elim (filled-arrow z a) (u a) (append-cases (filled W) h)
 
 -- operands and lent roots are live
 pub operand-live : (W : View) (roots : List ℕ) (s : Step) (a : ℕ) → Mem a (operandsOf s) → Mem a (liveAt W roots s)
@@ -152,6 +150,6 @@ unfolding held
 held-same W X start zero e = refl
 held-same W X start (suc k) e = ap₂ push (e (start + k) (omega arith) (omega arith)) (held-same W X start k (λ h a b. e h a (omega arith)))
 
-pub live-same : {W X : View} (roots : List ℕ) (s : Step) → OpFrame W X → liveAt X roots s ≡ liveAt W roots s
-live-same {W} {X} roots s f =
-    ap (λ (xs : List ℕ). xs ++ (roots ++ operandsOf s)) (held-same W X FIRST-REGISTER ROOTS (λ h a b. f .header h (omega arith) (omega arith) (omega arith) (omega arith)))
+pub live-same : {W X : View} → OpFrame W X → (lent : List ℕ) → live X lent ≡ live W lent
+live-same {W} {X} f lent =
+    ap (λ (xs : List ℕ). xs ++ lent) (held-same W X FIRST-REGISTER ROOTS (λ h a b. f .header h (omega arith) (omega arith) (omega arith) (omega arith)))

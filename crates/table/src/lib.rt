@@ -26,7 +26,7 @@ ghost use Rattle.table.specs.Add.{rowPut};
 ghost use Rattle.table.specs.Make.{MakePre, MakePost, AddPre};
 
 // Every head becomes 0: a table is sound whatever its heads hold, and lookups are faster without old links.
-pub fn empty_heads(words: &mut [u32], rows: u32)
+fn empty_heads(words: &mut [u32], rows: u32)
     requires { ⌜ wordsFor rows ≤ length (now words) ⌝ }
     ensures { λ _. ⌜ view rows (now (words .exit)) ≡ setHeads (view rows (now (words .entry))) (λ b. 0) ⌝ }
 {
@@ -66,7 +66,7 @@ pub enum Found {
 }
 
 // The used row with this level, low and high arrow, if there is one.
-pub fn find(words: &[u32], rows: u32, level: u32, low: u32, high: u32) -> Found
+fn find(words: &[u32], rows: u32, level: u32, low: u32, high: u32) -> Found
     requires { ⌜ Good (view rows (now words)) ⌝ }
     ensures { λ r. ⌜ FindPost (view rows (now (words .entry))) level low high r ⌝ }
 {

@@ -1,0 +1,23 @@
+-- `obey_relation` is the reply of `relation` as an outcome. Assumes nothing.
+use mathlib.Core.Path.{ap, sym, _∙_}
+use Rattle.book.specs.Leaves.{plain}
+use Rattle.formula_steps.specs.Replies.{loadedReply}
+use Rattle.commands.specs.Obeyed.{call-told}
+use borrow.Author.Needs.{needs}
+use Rattle.commands.proofs.obey_relation.Statement.{statement}
+use Rattle.commands.proofs.obey_relation.Tie as tie
+
+pub obey-relation-spec : {M : Type 1} → statement M
+obey-relation-spec =
+    tie.close
+    (tie.spec
+    (λ c κs. search needs)
+    (λ c. search needs)
+    (λ c κs. search needs)
+    (λ c. search needs)
+    (λ c κs. search needs)
+    (λ c κs. search needs)
+    (λ c. search needs)
+    (λ c. call-told _ tt (c .before .before .before .before .before .relation .ensures) (ap loadedReply (c .before .enum-told .given .1)) (c .plain .ensures))
+    (λ c. search needs)
+    (λ c. call-told _ tt (c .before .before .before .before .before .before .before .relation .ensures) (ap loadedReply (c .before .before .before .x .given .1) ∙ ap plain (sym (c .before .refusal-number .ensures))) (c .plain2 .ensures)))

@@ -1,0 +1,107 @@
+-- From what a call's enum answers to its command's outcome. Assumes nothing.
+use mathlib.Core.Path.{_≡_, refl, sym, ap, _∙_, subst}
+use mathlib.Core.Bool.{Bool}
+use mathlib.Core.List.{List}
+use Prim.Native.Nat.{ℕ, zero, suc, _≤_}
+use native.Mathlib.Omega.{arith}
+use Rattle.book.specs.Book.{Call, relation, set, clear, collect, count}
+use Rattle.book.specs.Program.{Command, start, call, states, opOf}
+use Rattle.book.specs.Table.{Reply}
+use Rattle.book.specs.Leaves.{plain, valued}
+use Rattle.contract.specs.Posts.{FreshPost, CallPost, AskPost}
+use Rattle.contract.specs.Answered.{count-answered}
+use Rattle.calls.specs.declared.Started.{Started}
+use Rattle.calls.specs.declared.Started.the-variants as started
+use Rattle.calls.specs.declared.Answer.{Answer}
+use Rattle.calls.specs.declared.Answer.the-variants as answer
+use Rattle.calls.specs.Fresh.{FreshWords}
+use Rattle.calls.specs.Replies.{startedReply, answerReply}
+use Rattle.layout.specs.Refusals.{refusalNumber}
+use Rattle.layout.specs.declared.Refusal.{Refusal}
+use Rattle.records.specs.declared.Command as records
+use Rattle.records.specs.declared.Found.{Found}
+use Rattle.records.specs.Record.{readRecord, asked, startOf}
+use Rattle.commands.specs.declared.Outcome.{Outcome}
+use Rattle.commands.specs.declared.Taken.{Taken}
+use Rattle.commands.specs.Obey.{plainOutcome, StatesIn, Obeys, Takes, TakePost}
+
+-- a reply without rounds
+abbrev pub reply : ℕ → ℕ → Reply
+reply k v = record { number = k; rounds = 0; value = v }
+
+abbrev made : ℕ → ℕ → ℕ → Reply
+made k q v = record { number = k; rounds = q; value = v }
+
+-- ---- fresh
+
+module _ {n N : ℕ} {old new : List ℕ} {v : Started} {x : Outcome} (p : FreshPost n N old new (startedReply v)) (w : FreshWords n N old new v) where
+  pub fresh-ready : v ≡ started.Ready → x ≡ plainOutcome 1 0 0 → Obeys (start n N) old new x
+  fresh-ready e i = subst (Obeys (start n N) old new) (sym i) record {
+    operation = refl;
+    posted = (subst (λ (s : Started). FreshPost n N old new (startedReply s)) e p, (λ z. subst (FreshWords n N old new) e w), refl);
+  }
+
+  pub fresh-refused : (f : Refusal) {k : ℕ} → v ≡ started.Refused f → 1 ≤ refusalNumber f → k ≡ refusalNumber f → x ≡ plainOutcome 1 k 0 → Obeys (start n N) old new x
+  fresh-refused f {k} e l j i = subst (Obeys (start n N) old new) (sym i) record {
+    operation = refl;
+    posted = (subst (FreshPost n N old new) (ap startedReply e ∙ ap plain (sym j)) p, (λ z. absurd (omega arith)), refl);
+  }
+
+-- ---- relation, clear, collect
+
+-- the calls that return no node number
+abbrev Nodeless : Call → Type 0
+Nodeless (relation t bs) = Unit {0}
+Nodeless (set r R bs) = ⊥
+Nodeless (clear r) = Unit {0}
+Nodeless collect = Unit {0}
+
+pub call-told : (c : Call) {old new : List ℕ} {k v : ℕ} {y : Reply} {x : Outcome} → Nodeless c → CallPost c old new y → y ≡ reply k v → x ≡ plainOutcome (opOf c) k v → Obeys (call c) old new x
+call-told c {old} {new} {k} {v} nodeless p j i = subst (Obeys (call c) old new) (sym i) (go c nodeless (subst (CallPost c old new) j p))
+  where
+    go : (c : Call) → Nodeless c → CallPost c old new (reply k v) → Obeys (call c) old new (plainOutcome (opOf c) k v)
+    go (relation t bs) u q = record { operation = refl; posted = (q, refl) }
+    go (set r R bs) u q = absurd u
+    go (clear r) u q = record { operation = refl; posted = (q, refl) }
+    go collect u q = record { operation = refl; posted = (q, refl) }
+
+-- ---- count
+
+pub count-told : (r : ℕ) {ws : List ℕ} {k v : ℕ} {y : Reply} {x : Outcome} → AskPost (count r) ws y → y ≡ reply k v → x ≡ plainOutcome 5 k v → Obeys (states r) ws ws x
+count-told r {ws} p j i = subst (Obeys (states r) ws ws) (sym i) record { operation = refl; posted = (refl, subst (AskPost (count r) ws) j p, refl) }
+
+-- ---- set
+
+pub states-told : (r : ℕ) {ws : List ℕ} {k : ℕ} (v : Answer) → AskPost (count r) ws (answerReply v) → k ≡ answerReply v .value → StatesIn r ws k
+states-told r v p e = (answerReply v, p, none v, e)
+  where
+    none : (v : Answer) → answerReply v .rounds ≡ 0
+    none (answer.Value k) = refl
+    none (answer.Refused f) = refl
+
+module _ (r R : ℕ) (bs : List ℕ) {old new : List ℕ} {x : Outcome} where
+  pub set-refused : {k : ℕ} → 1 ≤ k → CallPost (set r R bs) old new (plain k) → x ≡ plainOutcome 3 k 0 → Obeys (call (set r R bs)) old new x
+  set-refused l p i = subst (Obeys (call (set r R bs)) old new) (sym i) record { operation = refl; posted = (p, ((λ z. absurd (omega arith)), λ z. refl)) }
+
+  -- after an answered set its register is counted
+  pub set-done : (a q k : ℕ) → CallPost (set r R bs) old new record { number = 0; rounds = q; value = a } → StatesIn r new k
+      → x ≡ record { operation = 3; number = 0; node = a; rounds = q; value = k } → Obeys (call (set r R bs)) old new x
+  set-done a q k p (y, c, h, e) i = subst (Obeys (call (set r R bs)) old new) (sym i) record { operation = refl; posted = (p, ((λ z. told (y .number) refl), λ z. absurd (omega arith))) }
+    where
+      -- words that are not sound would have been refused
+      told : (n : ℕ) → y .number ≡ n → AskPost (count r) new (valued k)
+      told zero z = subst (AskPost (count r) new) (ap (λ (j : ℕ). made j (y .rounds) (y .value)) z ∙ ap (λ (j : ℕ). made 0 j (y .value)) h ∙ ap (reply 0) (sym e)) c
+      told (suc n) z = absurd (omega (arith, p .performs .unsound (λ s. absurd (omega (arith, count-answered old new r R bs _ p s refl y c))) .0 .0))
+
+-- ---- a record
+
+-- what a command is
+pub obeys-as : (bs : List ℕ) (size : ℕ) {old new : List ℕ} {x : Outcome} {c d : records.Command} → c ≡ d → Obeys (asked bs size d) old new x → Obeys (asked bs size c) old new x
+obeys-as bs size {old} {new} {x} e = subst (λ (k : records.Command). Obeys (asked bs size k) old new x) (sym e)
+
+pub starts-as : {size : ℕ} {c d : records.Command} → c ≡ d → startOf c ≤ size → startOf d ≤ size
+starts-as {size} e = subst (λ (k : records.Command). startOf k ≤ size) e
+
+-- what was read
+pub took : (bs : List ℕ) (ended : Bool) (old new : List ℕ) (r : Taken) {v : Found} (f : Found) → v ≡ readRecord bs ended → v ≡ f → Takes bs old new f r → TakePost bs ended old new r
+took bs ended old new r f i e = subst (λ (g : Found). Takes bs old new g r) (sym e ∙ i)

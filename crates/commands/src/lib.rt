@@ -1,0 +1,183 @@
+// The commands of records, each by its call, and a whole list of them.
+use calls::Answer;
+use calls::Cleared;
+use calls::Collected;
+use calls::Started;
+use calls::clear;
+use calls::collect;
+use calls::count;
+use calls::fresh;
+use formula_calls::relation;
+use formula_calls::set;
+use formula_steps::Loaded;
+use formula_steps::Stored;
+use layout::refusal_number;
+use records::Command;
+use records::Found;
+use records::read_record;
+ghost use mathlib.Core.Path.{_≡_};
+ghost use Prim.Native.Nat.{_≤_};
+ghost use lib.ListN.{length};
+ghost use Rattle.book.specs.Book as book;
+ghost use Rattle.book.specs.Program as program;
+ghost use Rattle.records.specs.Record.{startOf, asked};
+ghost use Rattle.commands.specs.Obey.{plainOutcome, Obeys, StatesIn, TakePost};
+
+// What a record returned: its operation, a refusal's number or 0, set's node number, the rounds, and the value that the program shows.
+pub struct Outcome {
+    pub operation: u32,
+    pub number: u32,
+    pub node: u32,
+    pub rounds: u32,
+    pub value: u32,
+}
+
+// What became of the bytes at hand: a record was obeyed, nothing is left, more bytes are needed, or no record can be read.
+pub enum Taken {
+    Done { outcome: Outcome, size: usize },
+    End,
+    More,
+    Bad,
+}
+
+// The operations of records.
+pub struct Operation;
+
+impl Operation {
+    pub const FRESH: u32 = 1;
+
+    pub const RELATION: u32 = 2;
+
+    pub const SET: u32 = 3;
+
+    pub const CLEAR: u32 = 4;
+
+    pub const COUNT: u32 = 5;
+
+    pub const COLLECT: u32 = 6;
+}
+
+// The outcome of a command that makes no node and takes no rounds.
+fn plain(operation: u32, number: u32, value: u32) -> Outcome
+    ensures { λ x. ⌜ x ≡ plainOutcome operation number value ⌝ }
+{
+    Outcome {
+        operation,
+        number,
+        node: 0,
+        rounds: 0,
+        value,
+    }
+}
+
+// Fresh.
+fn obey_fresh(words: &mut [u32], n: u32, rows: u32) -> Outcome
+    ensures { λ x. ⌜ Obeys (program.start n rows) (now (words .entry)) (now (words .exit)) x ⌝ }
+{
+    match fresh(words, n, rows) {
+        Started::Ready => plain(Operation::FRESH, 0, 0),
+        Started::Refused(x) => plain(Operation::FRESH, refusal_number(x), 0),
+    }
+}
+
+// Relation.
+fn obey_relation(words: &mut [u32], t: u32, formula: &[u8]) -> Outcome
+    ensures { λ x. ⌜ Obeys (program.call (book.relation t (now (formula .entry)))) (now (words .entry)) (now (words .exit)) x ⌝ }
+{
+    match relation(words, t, formula) {
+        Loaded::Done => plain(Operation::RELATION, 0, 0),
+        Loaded::Refused(x) => plain(Operation::RELATION, refusal_number(x), 0),
+    }
+}
+
+// The states in register r after an answered set.
+fn states_in(words: &[u32], r: u32) -> u32
+    ensures { λ k. ⌜ StatesIn r (now (words .entry)) k ⌝ }
+{
+    match count(words, r) {
+        Answer::Value(k) => k,
+        Answer::Refused(_) => 0,
+    }
+}
+
+// Set, and the states of what it stored.
+fn obey_set(words: &mut [u32], r: u32, most: u32, formula: &[u8]) -> Outcome
+    ensures { λ x. ⌜ Obeys (program.call (book.set r most (now (formula .entry)))) (now (words .entry)) (now (words .exit)) x ⌝ }
+{
+    match set(words, r, most, formula) {
+        Stored::Node {
+            number: a,
+            rounds: q,
+        } => {
+            let states = states_in(words, r);
+            Outcome {
+                operation: Operation::SET,
+                number: 0,
+                node: a,
+                rounds: q,
+                value: states,
+            }
+        }
+        Stored::Refused(x) => plain(Operation::SET, refusal_number(x), 0),
+    }
+}
+
+// Clear.
+fn obey_clear(words: &mut [u32], r: u32) -> Outcome
+    ensures { λ x. ⌜ Obeys (program.call (book.clear r)) (now (words .entry)) (now (words .exit)) x ⌝ }
+{
+    match clear(words, r) {
+        Cleared::Done => plain(Operation::CLEAR, 0, 0),
+        Cleared::Refused(x) => plain(Operation::CLEAR, refusal_number(x), 0),
+    }
+}
+
+// Count.
+fn obey_count(words: &mut [u32], r: u32) -> Outcome
+    ensures { λ x. ⌜ Obeys (program.states r) (now (words .entry)) (now (words .exit)) x ⌝ }
+{
+    match count(words, r) {
+        Answer::Value(k) => plain(Operation::COUNT, 0, k),
+        Answer::Refused(x) => plain(Operation::COUNT, refusal_number(x), 0),
+    }
+}
+
+// Collect.
+fn obey_collect(words: &mut [u32]) -> Outcome
+    ensures { λ x. ⌜ Obeys (program.call book.collect) (now (words .entry)) (now (words .exit)) x ⌝ }
+{
+    match collect(words) {
+        Collected::Rows(k) => plain(Operation::COLLECT, 0, k),
+        Collected::Refused(x) => plain(Operation::COLLECT, refusal_number(x), 0),
+    }
+}
+
+// The command of the record of so many bytes; its formula is the rest of the record.
+fn obey(words: &mut [u32], bytes: &[u8], size: usize, command: Command) -> Outcome
+    requires { ⌜ (startOf command ≤ size) × (size ≤ length (now bytes)) ⌝ }
+    ensures { λ x. ⌜ Obeys (asked (now (bytes .entry)) size command) (now (words .entry)) (now (words .exit)) x ⌝ }
+{
+    match command {
+        Command::Fresh { n, rows } => obey_fresh(words, n, rows),
+        Command::Relation { t, start } => obey_relation(words, t, &bytes[start..size]),
+        Command::Set { r, rounds, start } => obey_set(words, r, rounds, &bytes[start..size]),
+        Command::Clear { r } => obey_clear(words, r),
+        Command::Count { r } => obey_count(words, r),
+        Command::Collect => obey_collect(words),
+    }
+}
+
+// Obeys the record at the front of the bytes at hand; `ended` says that no more will come.
+pub fn take_record(words: &mut [u32], bytes: &[u8], ended: bool) -> Taken
+    ensures { λ r. ⌜ TakePost (now (bytes .entry)) ended (now (words .entry)) (now (words .exit)) r ⌝ }
+{
+    match read_record(bytes, ended) {
+        Found::End => Taken::End,
+        Found::More => Taken::More,
+        Found::Bad => Taken::Bad,
+        Found::Record { command, size } => {
+            let outcome = obey(words, bytes, size, command);
+            Taken::Done { outcome, size }
+        }
+    }
+}

@@ -1,0 +1,265 @@
+-- What each function of the cycle asks of those that it calls, and what its answers are made of theirs: a law for each call and return. Assumes nothing.
+use mathlib.Core.Path.{_≡_, refl, sym, ap, _∙_, subst}
+use mathlib.Core.Logic.{_≢_}
+use mathlib.Core.Bool.{true}
+use mathlib.Core.List.{List}
+use Prim.Native.Nat.{ℕ, _+_, _-_, _≤_, _<_}
+use native.Mathlib.Omega.{arith}
+use lib.ListN.{length, set, take, length-set}
+use Rattle.mucalculus.specs.Form.{Form}
+use Rattle.tokens.specs.Tokens.{leadAt}
+use Rattle.tokens.specs.declared.Grammar.the-variants.{States}
+use Rattle.tokens.specs.declared.Leaf.{Leaf}
+use Rattle.tokens.specs.declared.Join.{Join}
+use Rattle.tokens.specs.declared.Mode.{Mode}
+use Rattle.tokens.specs.declared.Fix.{Fix}
+use Rattle.tokens.specs.declared.Token.{Token}
+use Rattle.tokens.specs.declared.Token.the-variants.{Leaf as LeafToken, Not, Both, Modal, Binder}
+use Rattle.tokens.specs.declared.Lead.{Lead}
+use Rattle.tokens.specs.declared.Lead.the-variants.{Is}
+use Rattle.formula.specs.Parse.{depthLimit}
+use Rattle.formula.proofs.Steps.{is-not, is-modal, is-binder}
+use Rattle.layout.specs.Places.{HEADER, FIRST-RELATION}
+use Rattle.layout.specs.View.{View, view}
+use Rattle.table.specs.declared.Made.{Made}
+use Rattle.steps.specs.declared.Step.{Step}
+use Rattle.steps.specs.declared.Step.the-variants as step
+use Rattle.book.specs.Turns.{startArrow}
+use Rattle.modal.specs.declared.Limits.{Limits}
+use Rattle.modal.specs.Modal.{ModalPre}
+use Rattle.evaluator.specs.Scene.{Scene, opened, Ready, Part, holdsReg, holdsRel, Answers, fromMade, joinStep, bodyOf, isLeast, OverPost, LivePre, LivePost, LeafPre, LeafPost, EvalPre, EvalPost, NegatePost, BothPre, BothPost, ModePre, ModePost, BindPre, BindPost}
+use Rattle.evaluator.specs.declared.Context.{Context}
+use Rattle.evaluator.specs.declared.Evaluated.{Evaluated}
+use Rattle.evaluator.specs.declared.Evaluated.the-variants.{Value, Spent}
+use Rattle.evaluator.proofs.Tokens.{read-depth, read-allowed, leaf-form, leaf-end, one-form, both-form}
+use Rattle.evaluator.proofs.Parts.{leaf-named, not-part, modal-part, modal-relation, binder-part, left-part, right-part}
+use Rattle.evaluator.proofs.Outcomes.{Halts}
+use Rattle.evaluator.proofs.Steps.{answers-same, eval-leaf, negate-stops, first-stops, mode-stops, value-set, value-is, negate-asks, negate-ends, both-part, both-ready, both-stops, both-asks, both-ends}
+use Rattle.evaluator.proofs.Relations.{rel-range, rel-some, over-asks, over-ends}
+use Rattle.evaluator.proofs.Rounds.{Bound, bind-starts, bind-out, bind-ready, bind-stops, bind-ends, bind-turns, bind-less}
+
+-- the part after an operator's byte
+abbrev pub inward : Context → Context
+inward c = record { at = c .at + 1; depth = c .depth - 1; held = c .held; places = c .places; rounds = c .rounds }
+
+-- what follows at k, with one value more on the stack and q rounds counted
+abbrev pub onward : Context → ℕ → ℕ → Context
+onward c k q = record { at = k; depth = c .depth; held = c .held + 1; places = c .places; rounds = q }
+
+-- ---- by the token
+
+module _ {L : Limits} {W : View} {stack bs : List ℕ} {c : Context} (P : EvalPre L W stack bs c) {ld : Lead} (found : ld ≡ leadAt (L .bits) States bs (c .at)) {t : Token} (is : ld ≡ Is t) where
+  room : c .held + (c .depth - 1) < depthLimit
+  room = let l = P .room in let d = read-depth (P .part .stands) in omega arith
+
+  module _ {l : Leaf} (leaf : t ≡ LeafToken l) where
+    pub leaf-asked : LeafPre L W stack c l
+    leaf-asked = record { scene = P .scene; ready = P .ready; named = leaf-named (P .part) found is leaf; taken = read-allowed (P .part .stands) found is leaf }
+
+    pub leaf-answered : {X : View} {o : Made} {r : Evaluated} → LeafPost L W X stack c l o → r ≡ fromMade (c .at + 1) (c .rounds) o → EvalPost L W X stack stack bs c r
+    leaf-answered A made = record {
+      answers = λ σ f e R p. eval-leaf l (leaf-form (p .stands) found is leaf) (leaf-end (p .stands) found is leaf) (A .answers σ R (leaf-named p found is leaf)) made;
+    }
+
+  module _ (one : t ≡ Not) where
+    pub not-asked : EvalPre L W stack bs (inward c)
+    not-asked = record { room = let l = room in omega arith; scene = P .scene; form = _; end = P .end; ready = P .ready; part = not-part (P .part) found is one }
+
+    pub not-answered : {X : View} {after : List ℕ} {r : Evaluated} → NegatePost L W X stack after bs (inward c) r → EvalPost L W X stack after bs c r
+    not-answered A = record { answers = λ σ f e R p. answers-same (one-form (p .stands) found is one is-not) (A .answers σ _ e R (not-part p found is one)) }
+
+  module _ {j : Join} (two : t ≡ Both j) where
+    pub both-asked : BothPre L W stack bs (inward c)
+    both-asked = record {
+      room = room;
+      scene = P .scene;
+      left = _;
+      right = _;
+      middle = _;
+      end = P .end;
+      ready = P .ready;
+      first = left-part (P .part) found is two;
+      second = right-part (P .part) found is two;
+    }
+
+    pub both-answered : {X : View} {after : List ℕ} {r : Evaluated} → BothPost L W X stack after bs (inward c) j r → EvalPost L W X stack after bs c r
+    both-answered A = record {
+      answers = λ σ f e R p. answers-same (both-form (p .stands) found is two) (A .answers σ _ _ _ e R (left-part p found is two) (right-part p found is two));
+    }
+
+  module _ {m : Mode} {u : ℕ} (one : t ≡ Modal m u) where
+    pub mode-asked : ModePre L W stack bs (inward c) u
+    mode-asked = record {
+      room = room;
+      scene = P .scene;
+      form = _;
+      end = P .end;
+      ready = P .ready;
+      part = modal-part (P .part) found is one;
+      relation = modal-relation (P .part) found is one;
+    }
+
+    pub mode-answered : {X : View} {after : List ℕ} {r : Evaluated} → ModePost L W X stack after bs (inward c) m u r → EvalPost L W X stack after bs c r
+    mode-answered A = record {
+      answers = λ σ f e R p. answers-same (one-form (p .stands) found is one (is-modal m u)) (A .answers σ _ e R (modal-part p found is one) (modal-relation p found is one));
+    }
+
+  module _ {x : Fix} {v : ℕ} (one : t ≡ Binder x v) where
+    pub bind-asked : BindPre L W stack bs (inward c) v
+    bind-asked = record { room = room; scene = P .scene; form = _; end = P .end; ready = P .ready; part = binder-part (P .part) found is one }
+
+    pub bind-answered : {X : View} {after : List ℕ} {r : Evaluated} → BindPost L W X stack after bs (inward c) x v r → EvalPost L W X stack after bs c r
+    bind-answered A = record { answers = λ σ f e R p. answers-same (one-form (p .stands) found is one (is-binder x v)) (A .answers σ _ e R (binder-part p found is one)) }
+
+-- ---- NOT
+
+module _ {L : Limits} {W X : View} {stack after bs : List ℕ} {c : Context} {r : Evaluated} (E : EvalPost L W X stack after bs c r) where
+  pub negate-halts : Halts r → NegatePost L W X stack after bs c r
+  negate-halts s = record { answers = λ σ f e R p. negate-stops (E .answers σ f e R p) s }
+
+  module _ (z : length after ≡ length stack) {a k q : ℕ} (is : r ≡ Value a k q) where
+    pub step-asked : EvalPre L W stack bs c → LivePre L X after (c .held) (step.Not a)
+    step-asked P = negate-asks (P .ready) (E .answers (P .scene) (P .form) (P .end) (P .ready) (P .part)) z is
+
+    pub negate-answered : {Y : View} {o : Made} {r′ : Evaluated} → LivePost L X Y after (c .held) (step.Not a) o → r′ ≡ fromMade k q o → NegatePost L W Y stack after bs c r′
+    negate-answered s made = record { answers = λ σ f e R p. negate-ends R (E .answers σ f e R p) z is s made }
+
+-- ---- AND and OR
+
+pub first-asked : {L : Limits} {W : View} {stack bs : List ℕ} {c : Context} → BothPre L W stack bs c → EvalPre L W stack bs c
+first-asked P = record { room = let l = P .room in omega arith; scene = P .scene; form = P .left; end = P .middle; ready = P .ready; part = P .first }
+
+module _ {L : Limits} {W X : View} {stack after bs : List ℕ} {c : Context} {r : Evaluated} (P : BothPre L W stack bs c) (E : EvalPost L W X stack after bs c r) where
+  pub first-halts : Halts r → (j : Join) → BothPost L W X stack after bs c j r
+  first-halts s j = record { answers = λ σ f g m e R p q. first-stops (E .answers σ f m R p) s j g e }
+
+  module _ (z : length after ≡ length stack) {a k q : ℕ} (is : r ≡ Value a k q) where
+    free : c .held < depthLimit
+    free = let l = P .room in omega arith
+
+    first : Answers L W X stack after (c .held) (c .rounds) (P .scene) (P .left) (P .middle) r
+    first = E .answers (P .scene) (P .left) (P .middle) (P .ready) (P .first)
+
+    pub second-asked : EvalPre L X (set after (c .held) a) bs (onward c k q)
+    second-asked = record {
+      room = let l = P .room in omega arith;
+      scene = _;
+      form = P .right;
+      end = P .end;
+      ready = both-ready (P .ready) first z is free (value-set (P .ready) first z is) (value-is (P .ready) first z is);
+      part = both-part (P .ready) first z is (P .second);
+    }
+
+    module _ {Y : View} {last : List ℕ} {r′ : Evaluated} (F : EvalPost L X Y (set after (c .held) a) last bs (onward c k q) r′) (z′ : length last ≡ length (set after (c .held) a)) where
+      same : length last ≡ length after
+      same = simp length-set at z′
+
+      pub second-halts : Halts r′ → (j : Join) → BothPost L W Y stack last bs c j r′
+      second-halts s j = record {
+        answers = λ σ f g m e R p q. let A = E .answers σ f m R p in
+            both-stops R A z is free same (λ C d. F .answers _ g e (both-ready R A z is free C d) (both-part R A z is q)) j s;
+      }
+
+      module _ {b k′ q′ : ℕ} (is′ : r′ ≡ Value b k′ q′) (j : Join) {s : Step} (joins : s ≡ joinStep j a b) where
+        pub join-asked : LivePre L Y last (c .held) s
+        join-asked = both-asks (P .ready) first z is free same (λ C d. F .answers _ (P .right) (P .end) (both-ready (P .ready) first z is free C d) (both-part (P .ready) first z is (P .second))) is′ j joins
+
+        pub join-answered : {Z : View} {o : Made} {r″ : Evaluated} → LivePost L Y Z last (c .held) s o → r″ ≡ fromMade k′ q′ o → BothPost L W Z stack last bs c j r″
+        join-answered v made = record {
+          answers = λ σ f g m e R p q. let A = E .answers σ f m R p in
+              both-ends R A z is free same (λ C d. F .answers _ g e (both-ready R A z is free C d) (both-part R A z is q)) is′ j joins v made;
+        }
+
+-- ---- box and diamond
+
+pub part-asked : {L : Limits} {W : View} {stack bs : List ℕ} {c : Context} {t : ℕ} → ModePre L W stack bs c t → EvalPre L W stack bs c
+part-asked P = record { room = let l = P .room in omega arith; scene = P .scene; form = P .form; end = P .end; ready = P .ready; part = P .part }
+
+module _ {L : Limits} {W X : View} {stack after bs : List ℕ} {c : Context} {r : Evaluated} {t : ℕ} (P : ModePre L W stack bs c t) (E : EvalPost L W X stack after bs c r) where
+  pub mode-halts : Halts r → (m : Mode) → ModePost L W X stack after bs c m t r
+  mode-halts s m = record { answers = λ σ f e R p h. mode-stops (E .answers σ f e R p) s m t }
+
+  module _ (z : length after ≡ length stack) {a k q : ℕ} (is : r ≡ Value a k q) where
+    whole : Answers L W X stack after (c .held) (c .rounds) (P .scene) (P .form) (P .end) r
+    whole = E .answers (P .scene) (P .form) (P .end) (P .ready) (P .part)
+
+    pub relation-asked : (FIRST-RELATION + t < HEADER) × (HEADER ≤ X .size) × (0 < X .header (FIRST-RELATION + t))
+    relation-asked = (let l = rel-range (P .ready) whole z is t (P .relation) in omega arith, let l = whole .moved .sound .good .sizes .room in omega arith, rel-some (P .ready) whole z is t (P .relation))
+
+    pub live-within : c .held ≤ length after
+    live-within = let w = P .ready .within in let s = P .ready .size in omega arith
+
+    module _ (x : ℕ) (arrow : x + 1 ≡ X .header (FIRST-RELATION + t)) where
+      pub over-asked : ModalPre (L .bits) (L .rows) (L .limit) X (take (c .held) after) x a
+      over-asked = over-asks (P .ready) whole z is t (P .relation) x arrow
+
+      pub over-answered : {Y : View} (o : Made) (m : Mode) {r′ : Evaluated} → OverPost m (L .bits) (L .rows) (L .limit) X Y (take (c .held) after) x a o → r′ ≡ fromMade k q o
+          → ModePost L W Y stack after bs c m t r′
+      over-answered {Y} o m v made = record { answers = λ σ f e R p h. over-ends R (E .answers σ f e R p) z is t h x arrow Y o m v made }
+
+-- ---- mu and nu
+
+pub same-depth : {b d : Context} → b ≡ d → b .depth ≡ d .depth
+same-depth e = ap (λ (x : Context). x .depth) e
+
+-- where a binder's loop stands in every scene: after some rounds, with the arrow a as the current set
+pub record Turns (L : Limits) (W X : View) (stack after bs : List ℕ) (c : Context) (x : Fix) (v a counted : ℕ) : Type 0 where
+  pub bound : (σ : Scene) (f : Form) (e : ℕ) → Ready L W stack (c .places) (c .held) σ → Part (L .bits) bs (c .at) (c .depth) (set (σ .scope) v true) (holdsReg σ) (holdsRel σ) f e
+      → Bound L W X stack after (c .held) (c .rounds) σ x v f a counted
+
+-- what a binder's loop keeps, from the words and the stack at its start: their sizes, and where it stands if it started as x does
+pub record Looping (L : Limits) (words₀ words stack₀ stack bs : List ℕ) (c : Context) (v start a counted : ℕ) : Type 0 where
+  pub words-size : length words ≡ length words₀
+  pub stack-size : length stack ≡ length stack₀
+  pub turns : (x : Fix) → start ≡ startArrow (isLeast x) → Turns L (view (L .rows) words₀) (view (L .rows) words) stack₀ stack bs c x v a counted
+
+pub loop-starts : {L : Limits} {words stack bs : List ℕ} {c : Context} {v a : ℕ} → Looping L words words stack stack bs c v a a (c .rounds)
+loop-starts = record { words-size = refl; stack-size = refl; turns = λ x e. record { bound = λ σ f _ R p. bind-starts R x _ f e } }
+
+module _ {L : Limits} {words₀ words stack after bs : List ℕ} {c : Context} {v start a counted : ℕ} (P : BindPre L (view (L .rows) words₀) stack bs c v) (I : Looping L words₀ words stack after bs c v start a counted) where
+  pub rounds-out : (x : Fix) → start ≡ startArrow (isLeast x) → L .rounds ≤ counted → BindPost L (view (L .rows) words₀) (view (L .rows) words) stack after bs c x v Spent
+  rounds-out x s l = record { answers = λ σ f e R p. bind-out R (I .turns x s .bound σ f e R p) e l }
+
+  module _ {b : Context} (is-body : b ≡ bodyOf c v (counted + 1)) where
+    open-room : c .held < depthLimit
+    open-room = let l = P .room in omega arith
+
+    pub body-asked : (x : Fix) → start ≡ startArrow (isLeast x) → EvalPre L (view (L .rows) words) (set after (c .held) a) bs b
+    body-asked x s = subst (λ (d : Context). EvalPre L (view (L .rows) words) (set after (c .held) a) bs d) (sym is-body) (record {
+      room = let l = P .room in omega arith;
+      scene = _;
+      form = P .form;
+      end = P .end;
+      ready = bind-ready (P .ready) (I .turns x s .bound (P .scene) (P .form) (P .end) (P .ready) (P .part)) (I .stack-size) open-room;
+      part = P .part;
+    })
+
+    module _ {Y : View} {last : List ℕ} {r : Evaluated} (E : EvalPost L (view (L .rows) words) Y (set after (c .held) a) last bs b r) (more : counted < L .rounds) where
+      -- the body's answer in a scene
+      module _ (x : Fix) (s : start ≡ startArrow (isLeast x)) {σ : Scene} {f : Form} {e : ℕ} (R : Ready L (view (L .rows) words₀) stack (c .places) (c .held) σ)
+          (p : Part (L .bits) bs (c .at) (c .depth) (set (σ .scope) v true) (holdsReg σ) (holdsRel σ) f e) where
+        stands : Bound L (view (L .rows) words₀) (view (L .rows) words) stack after (c .held) (c .rounds) σ x v f a counted
+        stands = I .turns x s .bound σ f e R p
+
+        answered : Answers L (view (L .rows) words) Y (set after (c .held) a) last (c .held + 1) (counted + 1) (opened (L .bits) σ v a (stands .turning .A)) f e r
+        answered = subst (λ (d : Context). EvalPost L (view (L .rows) words) Y (set after (c .held) a) last bs d r) is-body E .answers _ f e (bind-ready R stands (I .stack-size) open-room) p
+
+      pub body-halts : Halts r → (x : Fix) → start ≡ startArrow (isLeast x) → BindPost L (view (L .rows) words₀) Y stack last bs c x v r
+      body-halts h x s = record { answers = λ σ f e R p. bind-stops R (stands x s R p) (I .stack-size) open-room (answered x s R p) more h }
+
+      module _ {d k q : ℕ} (is : r ≡ Value d k q) where
+        pub body-same : d ≡ a → (x : Fix) → start ≡ startArrow (isLeast x) → BindPost L (view (L .rows) words₀) Y stack last bs c x v (Value d k q)
+        body-same h x s = record { answers = λ σ f e R p. bind-ends R (stands x s R p) (I .stack-size) open-room (answered x s R p) more is h }
+
+        pub body-less : (x : Fix) → start ≡ startArrow (isLeast x) → counted < q
+        body-less x s = bind-less (P .ready) (stands x s (P .ready) (P .part)) (I .stack-size) open-room (answered x s (P .ready) (P .part)) more is
+
+        body-turns : d ≢ a → (x : Fix) → start ≡ startArrow (isLeast x) → Turns L (view (L .rows) words₀) Y stack last bs c x v d q
+        body-turns h x s = record { bound = λ σ f e R p. bind-turns R (stands x s R p) (I .stack-size) open-room (answered x s R p) more is h }
+
+        pub loop-turns : d ≢ a → (next : List ℕ) → Y ≡ view (L .rows) next → length next ≡ length words → length last ≡ length (set after (c .held) a) → Looping L words₀ next stack last bs c v start d q
+        loop-turns h next y w z = record {
+          words-size = w ∙ I .words-size;
+          stack-size = simp length-set at z ∙ I .stack-size;
+          turns = λ x s. subst (λ (Z : View). Turns L (view (L .rows) words₀) Z stack last bs c x v d q) y (body-turns h x s);
+        }

@@ -1,0 +1,179 @@
+// The entry points for C and Rust. Each returns a refusal's number or 0, and writes its other answers, zeros where it is refused.
+use calls::Answer;
+use calls::Cleared;
+use calls::Collected;
+use calls::Started;
+use formula::Checked;
+use formula::check_formula;
+use formula_steps::Loaded;
+use formula_steps::Stored;
+use layout::Refusal;
+use layout::Table;
+use layout::header_word;
+use layout::refusal_number;
+use soundness::sound;
+use tokens::Kind;
+ghost use mathlib.Core.Path.{_≡_};
+ghost use Rattle.book.specs.Book as book;
+ghost use Rattle.calls.specs.Replies.{answerReply};
+ghost use Rattle.contract.specs.Posts.{FreshPost, CallPost, AskPost};
+ghost use Rattle.exports.specs.Given.{given, FreshLeft};
+ghost use Rattle.exports.specs.Check.{kindOf, CheckPost};
+
+// Makes an empty table of n bits and `rows` rows of any words.
+#[no_mangle]
+pub extern "C" fn kudzuclamp_fresh(words: &mut [u32], n: u32, rows: u32) -> u32
+    ensures { λ k. ⌜ FreshPost n rows (now (words .entry)) (now (words .exit)) (given k 0 0) ⌝ }
+    ensures { λ k. ⌜ FreshLeft n rows (now (words .entry)) (now (words .exit)) k ⌝ }
+{
+    let x = calls::fresh(words, n, rows);
+    match x {
+        Started::Ready => 0,
+        Started::Refused(e) => refusal_number(e),
+    }
+}
+
+// Relation t holds the pairs of a formula.
+#[no_mangle]
+pub extern "C" fn kudzuclamp_relation(words: &mut [u32], t: u32, bytes: &[u8]) -> u32
+    ensures { λ k. ⌜ CallPost (book.relation t (now (bytes .entry))) (now (words .entry)) (now (words .exit)) (given k 0 0) ⌝ }
+{
+    let x = formula_calls::relation(words, t, bytes);
+    match x {
+        Loaded::Done => 0,
+        Loaded::Refused(e) => refusal_number(e),
+    }
+}
+
+// Register r holds the states of a formula, found in at most `most` rounds; gives its node number and the rounds.
+#[no_mangle]
+pub extern "C" fn kudzuclamp_set(
+    words: &mut [u32],
+    r: u32,
+    most: u32,
+    bytes: &[u8],
+    node: &mut u32,
+    rounds: &mut u32,
+) -> u32
+    ensures { λ k. ⌜ CallPost (book.set r most (now (bytes .entry))) (now (words .entry)) (now (words .exit)) (given k (now (rounds .exit)) (now (node .exit))) ⌝ }
+{
+    let x = formula_calls::set(words, r, most, bytes);
+    match x {
+        Stored::Node {
+            number: a,
+            rounds: q,
+        } => {
+            *node = a;
+            *rounds = q;
+            0
+        }
+        Stored::Refused(e) => {
+            *node = 0;
+            *rounds = 0;
+            refusal_number(e)
+        }
+    }
+}
+
+// Empties register r.
+#[no_mangle]
+pub extern "C" fn kudzuclamp_clear(words: &mut [u32], r: u32) -> u32
+    ensures { λ k. ⌜ CallPost (book.clear r) (now (words .entry)) (now (words .exit)) (given k 0 0) ⌝ }
+{
+    let x = calls::clear(words, r);
+    match x {
+        Cleared::Done => 0,
+        Cleared::Refused(e) => refusal_number(e),
+    }
+}
+
+// Frees the rows that no register and no relation needs; gives how many are needed.
+#[no_mangle]
+pub extern "C" fn kudzuclamp_collect(words: &mut [u32], rows: &mut u32) -> u32
+    ensures { λ k. ⌜ CallPost book.collect (now (words .entry)) (now (words .exit)) (given k 0 (now (rows .exit))) ⌝ }
+{
+    let x = calls::collect(words);
+    match x {
+        Collected::Rows(v) => {
+            *rows = v;
+            0
+        }
+        Collected::Refused(e) => {
+            *rows = 0;
+            refusal_number(e)
+        }
+    }
+}
+
+// Gives a question's value.
+fn give(x: Answer, value: &mut u32) -> u32
+    ensures { λ k. ⌜ given k 0 (now (value .exit)) ≡ answerReply x ⌝ }
+{
+    match x {
+        Answer::Value(v) => {
+            *value = v;
+            0
+        }
+        Answer::Refused(e) => {
+            *value = 0;
+            refusal_number(e)
+        }
+    }
+}
+
+// Gives the node number in register r.
+#[no_mangle]
+pub extern "C" fn kudzuclamp_node(words: &[u32], r: u32, node: &mut u32) -> u32
+    ensures { λ k. ⌜ AskPost (book.node r) (now (words .entry)) (given k 0 (now (node .exit))) ⌝ }
+{
+    give(calls::node(words, r), node)
+}
+
+// Gives 1 where the set in register r has state s, else 0.
+#[no_mangle]
+pub extern "C" fn kudzuclamp_member(words: &[u32], r: u32, s: u32, value: &mut u32) -> u32
+    ensures { λ k. ⌜ AskPost (book.member r s) (now (words .entry)) (given k 0 (now (value .exit))) ⌝ }
+{
+    give(calls::member(words, r, s), value)
+}
+
+// Gives how many states the set in register r has.
+#[no_mangle]
+pub extern "C" fn kudzuclamp_count(words: &[u32], r: u32, value: &mut u32) -> u32
+    ensures { λ k. ⌜ AskPost (book.count r) (now (words .entry)) (given k 0 (now (value .exit))) ⌝ }
+{
+    give(calls::count(words, r), value)
+}
+
+// Gives the rounds of all answered set calls since fresh.
+#[no_mangle]
+pub extern "C" fn kudzuclamp_tally(words: &[u32], value: &mut u32) -> u32
+    ensures { λ k. ⌜ AskPost book.tally (now (words .entry)) (given k 0 (now (value .exit))) ⌝ }
+{
+    give(calls::tally(words), value)
+}
+
+// The call that formula bytes are for: set at 0, else relation.
+fn kind_of(relation: u32) -> Kind
+    ensures { λ k. ⌜ k ≡ kindOf relation ⌝ }
+{
+    if relation == 0 {
+        return Kind::Set;
+    }
+    Kind::Relation
+}
+
+// The checks 2 and 4 to 7 that a set call, or a relation call, makes of formula bytes; no step is taken.
+#[no_mangle]
+pub extern "C" fn kudzuclamp_check<'a>(words: &'a [u32], relation: u32, bytes: &'a [u8]) -> u32
+    ensures { λ k. ⌜ CheckPost (kindOf relation) (now (words .entry)) (now (bytes .entry)) k ⌝ }
+{
+    if !sound(words) {
+        return refusal_number(Refusal::Unsound);
+    }
+    let n = header_word(words, Table::BITS);
+    match check_formula(bytes, kind_of(relation), n, words) {
+        Checked::Fit => 0,
+        Checked::Refused(e) => refusal_number(e),
+    }
+}

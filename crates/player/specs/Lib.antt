@@ -1,0 +1,4 @@
+pub mod Play
+pub mod Passes
+pub mod Chained
+pub mod Next

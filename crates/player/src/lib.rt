@@ -1,0 +1,117 @@
+// A whole list of calls, given as records in a byte slice, over lent words.
+use commands::Outcome;
+use commands::Taken;
+use commands::take_record;
+use records::Found;
+use records::read_record;
+ghost use mathlib.Core.Path.{_≡_};
+ghost use Prim.Native.Nat.{_+_, _*_, _≤_, _<_};
+ghost use lib.ListN.{length, drop};
+ghost use lib.Seq.{sets};
+ghost use Rattle.player.specs.Play.{SizePost, CountPost, outcomeWords, Readable, NextPost, AllPre, AllPost, PlayPost};
+
+// What a list of calls came to: so many records were obeyed; or, with nothing changed, there was no room for their outcomes or a record could not be read.
+pub enum Played {
+    Done(usize),
+    Short,
+    Unreadable,
+}
+
+// How many records stand in the bytes.
+enum Counted {
+    Records(usize),
+    Unreadable,
+}
+
+// The words of an outcome in the list: number, node, rounds, value.
+pub struct Entry;
+
+impl Entry {
+    pub const WORDS: usize = 4;
+}
+
+// The size of the record at the front of the bytes, 0 where none can be read.
+fn record_size(bytes: &[u8]) -> usize
+    ensures { λ r. ⌜ SizePost (now (bytes .entry)) r ⌝ }
+{
+    match read_record(bytes, true) {
+        Found::Record {
+            command: _,
+            size: size,
+        } => size,
+        Found::End => 0,
+        Found::More => 0,
+        Found::Bad => 0,
+    }
+}
+
+// How many records there are, one after the other.
+fn count_records(bytes: &[u8]) -> Counted
+    ensures { λ r. ⌜ CountPost (now (bytes .entry)) r ⌝ }
+{
+    let mut at = 0;
+    let mut count = 0;
+    while at < bytes.len() {
+        let size = record_size(&bytes[at..]);
+        if size == 0 {
+            return Counted::Unreadable;
+        }
+        at += size;
+        count += 1;
+    }
+    Counted::Records(count)
+}
+
+// Writes an outcome to the list.
+fn put_outcome(list: &mut [u32], at: usize, x: Outcome)
+    requires { ⌜ at + 4 ≤ length (now list) ⌝ }
+    ensures { λ _. ⌜ now (list .exit) ≡ sets (now (list .entry)) at (outcomeWords x) ⌝ }
+{
+    list[at] = x.number;
+    list[at + 1] = x.node;
+    list[at + 2] = x.rounds;
+    list[at + 3] = x.value;
+}
+
+// Obeys the record at the front of the bytes, writes its outcome to the list, and answers its size.
+fn obey_next(words: &mut [u32], bytes: &[u8], list: &mut [u32], at: usize) -> usize
+    requires { ⌜ (1 ≤ length (now bytes)) × Readable (now bytes) × (at + 4 ≤ length (now list)) ⌝ }
+    ensures { λ r. ⌜ NextPost (now (bytes .entry)) (now (words .entry)) (now (words .exit)) (now (list .entry)) (now (list .exit)) at r ⌝ }
+{
+    match take_record(words, bytes, true) {
+        Taken::Done { outcome, size } => {
+            put_outcome(list, at, outcome);
+            size
+        }
+        Taken::End => 0,
+        Taken::More => 0,
+        Taken::Bad => 0,
+    }
+}
+
+// Obeys all records and writes their outcomes to the list.
+fn obey_all(words: &mut [u32], bytes: &[u8], list: &mut [u32])
+    requires { ⌜ AllPre (now bytes) (now list) ⌝ }
+    ensures { λ _. ⌜ AllPost (now (bytes .entry)) (now (words .entry)) (now (words .exit)) (now (list .entry)) (now (list .exit)) ⌝ }
+{
+    let mut at = 0;
+    let mut next = 0;
+    while at < bytes.len() {
+        at += obey_next(words, &bytes[at..], list, next);
+        next += Entry::WORDS;
+    }
+}
+
+// Plays the calls of all records in order, and writes number, node, rounds and value of each to the list.
+pub fn play(words: &mut [u32], bytes: &[u8], list: &mut [u32]) -> Played
+    ensures { λ r. ⌜ PlayPost (now (bytes .entry)) (now (words .entry)) (now (words .exit)) (now (list .entry)) (now (list .exit)) r ⌝ }
+{
+    let Counted::Records(count) = count_records(bytes) else {
+        return Played::Unreadable;
+    };
+    if list.len() / Entry::WORDS < count {
+        return Played::Short;
+    }
+    obey_all(words, bytes, list);
+    Played::Done(count)
+}

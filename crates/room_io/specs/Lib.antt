@@ -1,0 +1,4 @@
+pub mod Places
+pub mod Moves
+pub mod Turns
+pub mod Session

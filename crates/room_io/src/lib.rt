@@ -1,0 +1,156 @@
+// The program's reading and writing: records from standard input through one buffer, lines to standard output through another.
+use libc::STDIN_FILENO;
+use libc::STDOUT_FILENO;
+use rooms::Said;
+use rooms::answer;
+ghost use mathlib.Core.Path.{_≡_};
+ghost use Prim.Native.Nat.{_-_, _≤_, _<_};
+ghost use lib.ListN.{length, take, drop};
+ghost use Rattle.room_io.specs.Places.{Placed, ReadWithin, Refilled, Turned, longest};
+
+// How far the program is: the bytes at hand stand in the input buffer from `start` to `end`, and `pending` bytes at the front of the output
+// buffer are still to be written. `ended`: no more bytes will come. `done`: the last line is written, or a read or a write failed.
+pub struct Progress {
+    pub start: usize,
+    pub end: usize,
+    pub pending: usize,
+    pub ended: bool,
+    pub done: bool,
+}
+
+// What a read brought: so many bytes, the end of the input, or nothing, as it failed.
+pub enum Brought {
+    Bytes(usize),
+    End,
+    Failed,
+}
+
+// Reads once into the room.
+fn read_some(room: &mut [u8]) -> Brought
+    ensures { λ r. ⌜ ReadWithin (length (now (room .exit))) r ⌝ }
+{
+    let got = libc::read(STDIN_FILENO, room);
+    if got < 0 {
+        return Brought::Failed;
+    }
+    if got == 0 {
+        return Brought::End;
+    }
+    Brought::Bytes(io::count(got, room))
+}
+
+// Moves the bytes from `start` to `end` to the front, and answers how many they are.
+fn to_front(input: &mut [u8], start: usize, end: usize) -> usize
+    requires { ⌜ (start ≤ end) × (end ≤ length (now input)) ⌝ }
+    ensures { λ r. ⌜ (r ≡ end - start) × (take r (now (input .exit)) ≡ take r (drop start (now (input .entry)))) ⌝ }
+{
+    let held = end - start;
+    let mut i = 0;
+    while i < held {
+        input[i] = input[start + i];
+        i += 1;
+    }
+    held
+}
+
+// More bytes after those at hand, which move to the front. There is room for more, so that a read of none is the end of the input.
+fn refill(input: &mut [u8], p: Progress) -> Progress
+    requires { ⌜ (p .start ≤ p .end) × (p .end ≤ length (now input)) × (p .end - p .start < length (now input)) ⌝ }
+    ensures { λ r. ⌜ Refilled p r (now (input .entry)) (now (input .exit)) ⌝ }
+{
+    let held = to_front(input, p.start, p.end);
+    match read_some(&mut input[held..]) {
+        Brought::Bytes(n) => Progress {
+            start: 0,
+            end: held + n,
+            pending: p.pending,
+            ended: false,
+            done: false,
+        },
+        Brought::End => Progress {
+            start: 0,
+            end: held,
+            pending: p.pending,
+            ended: true,
+            done: false,
+        },
+        Brought::Failed => Progress {
+            start: 0,
+            end: held,
+            pending: p.pending,
+            ended: true,
+            done: true,
+        },
+    }
+}
+
+// Writes what is pending.
+fn flush(output: &[u8], p: Progress) -> Progress
+    requires { ⌜ p .pending ≤ length (now output) ⌝ }
+    ensures { λ r. ⌜ (r .start ≡ p .start) × (r .end ≡ p .end) × (r .pending ≡ 0) × (r .ended ≡ p .ended) ⌝ }
+{
+    let pending = p.pending;
+    let is_written = io::write_all(STDOUT_FILENO, &output[..pending]);
+    Progress {
+        start: p.start,
+        end: p.end,
+        pending: 0,
+        ended: p.ended,
+        done: !is_written,
+    }
+}
+
+// One answer, and the read or the write that it asks for.
+fn turn(words: &mut [u32], input: &mut [u8], output: &mut [u8], p: Progress) -> Progress
+    requires { ⌜ Placed p (length (now input)) (length (now output)) ⌝ }
+    ensures { λ r. ⌜ Turned p r (now (words .entry)) (now (words .exit)) (now (input .entry)) (now (input .exit)) (now (output .entry)) (now (output .exit)) ⌝ }
+{
+    let start = p.start;
+    let end = p.end;
+    let pending = p.pending;
+    match answer(words, &input[start..end], p.ended, &mut output[pending..]) {
+        Said::Line { used, written } => Progress {
+            start: start + used,
+            end,
+            pending: pending + written,
+            ended: p.ended,
+            done: false,
+        },
+        Said::End { written } => Progress {
+            start,
+            end,
+            pending: pending + written,
+            ended: p.ended,
+            done: true,
+        },
+        Said::More => refill(input, p),
+        Said::Room => flush(output, p),
+    }
+}
+
+// Answers records until the last line is written, through buffers that are lent.
+fn serve(words: &mut [u32], input: &mut [u8], output: &mut [u8])
+    requires { ⌜ longest ≤ length (now input) ⌝ }
+{
+    let mut p = Progress {
+        start: 0,
+        end: 0,
+        pending: 0,
+        ended: false,
+        done: false,
+    };
+    let mut turns = u64::MAX;
+    while turns > 0 && !p.done {
+        p = turn(words, input, output, p);
+        turns -= 1;
+    }
+    flush(output, p);
+}
+
+// Reads records from standard input to their end and writes their lines; 16,384 words of zeros are lent.
+pub fn run() {
+    let mut words = [0u32; 16384];
+    let mut input = io::buffer();
+    let mut output = io::buffer();
+    serve(&mut words, &mut input, &mut output);
+}

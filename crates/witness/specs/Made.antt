@@ -1,0 +1,154 @@
+-- Calls whose formulas take no step, on any words: each with the words that it leaves meets its contract. Assumes nothing.
+use mathlib.Core.Path.{_≡_, refl, sym, _∙_, subst}
+use mathlib.Core.Bool.{Bool, true, false}
+use mathlib.Core.List.{List, [], _∷_}
+use Prim.Native.Nat.{ℕ, _+_, _*_, _<_}
+use native.Mathlib.Omega.{arith}
+use lib.ListN.{set as write}
+use Rattle.mucalculus.specs.Form.{Form, bot, var, bind, noEnv}
+use Rattle.tokens.specs.declared.Kind.the-variants.{Relation, Set}
+use Rattle.layout.specs.Places.{REGISTERS, RELATIONS, ROWS, TALLY, USED, FIRST-REGISTER, FIRST-RELATION}
+use Rattle.layout.specs.View.{view, headerOf, view-header}
+use Rattle.diagram.specs.Post.{at}
+use Rattle.diagram.specs.Grow.{extends-refl}
+use Rattle.diagram.specs.Reach.{reach-used}
+use Rattle.soundness.specs.Used.{Sizes, used, used-in, rowsOf}
+use Rattle.soundness.specs.Sound.{tableOf}
+use Rattle.soundness.specs.Filled.{filled, filled-arrow}
+use Rattle.table.specs.Add.{frame-refl}
+use Rattle.collect.specs.Freed.{Freed, freed-count}
+use Rattle.formula.specs.Parse.{formOf, formulaOf}
+use Rattle.formula.specs.Checks.{firstRefusal}
+use Rattle.book.specs.Book.{Book, relation, set, clear, collect, tallied, modelOf, liveOf, regFilled, relFilled}
+use Rattle.book.specs.Compute.{computing}
+use Rattle.book.specs.Listed.{frame}
+use Rattle.book.specs.Table.{rootsOf}
+use Rattle.book.specs.Leaves.{plain, valued}
+use Rattle.book.specs.Held.{Held}
+use Rattle.book.specs.Roots.{shows-held}
+use Rattle.book.specs.Effects.{set-refused}
+use Rattle.book.specs.Run.{run, pairF, pairsFit}
+use Rattle.book.specs.Follow.{Ended, ends, nine, Evals}
+use Rattle.book.specs.Pairs.{PairEvals, pair-none}
+use Rattle.book.specs.Turns.{startArrow}
+use Rattle.book.specs.BookOf.{bookOf}
+use Rattle.book.specs.Formulas.{setReply}
+use Rattle.contract.specs.Seen.{seen, SoundWords, sound-shows-book}
+use Rattle.contract.specs.Posts.{FreshPost, CallPost}
+use Rattle.contract.specs.Checked.{call-refused}
+use Rattle.operations.specs.Work.{op-refl}
+use Rattle.calls.specs.Fresh.{fresh-ready}
+use Rattle.calls.specs.Changes.{clear-done, collect-done}
+use Rattle.formula_steps.specs.Evaluated.{registerStored, as-it-was}
+use Rattle.formula_steps.specs.Ends.{set-value, set-spent, relation-value, through-done}
+use Rattle.witness.specs.Words.{zeros, freshOf, storedIn, length-zeros, view-fresh, view-stored}
+use Rattle.witness.specs.Rounds.{self-ends, self-spent}
+
+-- ---- the formulas' bytes, with any n and whatever is filled
+
+-- 70 30 and 80 30: mu P. P and nu P. P
+abbrev pub self : Bool → List ℕ
+self true = frame (0x70 ∷ 0x30 ∷ [])
+self false = frame (0x80 ∷ 0x30 ∷ [])
+
+self-form : (b : Bool) (n : ℕ) → bind b 0 (var 0) ≡ formOf (formulaOf Set n (self b))
+unfolding computing
+self-form true n = refl
+self-form false n = refl
+
+self-passes : (b : Bool) (n : ℕ) (regs rels : ℕ → Bool) → firstRefusal Set n regs rels (self b) ≡ 0
+unfolding computing
+self-passes true n regs rels = refl
+self-passes false n regs rels = refl
+
+-- 70 02 30: mu P. NOT P
+abbrev pub odd : List ℕ
+odd = frame (0x70 ∷ 0x02 ∷ 0x30 ∷ [])
+
+odd-refused : (n : ℕ) (regs rels : ℕ → Bool) → firstRefusal Set n regs rels odd ≡ 6
+unfolding computing
+odd-refused n regs rels = refl
+
+-- 00: false
+abbrev pub noPairs : List ℕ
+noPairs = frame (0x00 ∷ [])
+
+noPairs-form : (n : ℕ) → bot ≡ formOf (formulaOf Relation n noPairs)
+unfolding computing
+noPairs-form n = refl
+
+noPairs-passes : (n : ℕ) (regs rels : ℕ → Bool) → firstRefusal Relation n regs rels noPairs ≡ 0
+unfolding computing
+noPairs-passes n regs rels = refl
+
+-- ---- fresh
+
+pub fresh-done : (n N k : ℕ) → Sizes n N k → FreshPost n N (zeros k) (freshOf n N k) (plain 0)
+fresh-done n N k z = fresh-ready n N (zeros k) (freshOf n N k) (subst (Sizes n N) (sym (length-zeros k)) z) (view-fresh n N k (z .room))
+
+-- ---- the calls on a sound table
+
+module _ (old : List ℕ) (s : SoundWords old) where
+  abbrev b : Book
+  b = bookOf (seen old)
+
+  held : Held (2 * b .n) (rowsOf (tableOf old)) (rootsOf (seen old)) (liveOf b)
+  held = shows-held b (seen old) (sound-shows-book old s)
+
+  -- relation t of no pairs
+  module _ (t : ℕ) (l : t < RELATIONS) where
+    abbrev Loads : Form → Type 0
+    Loads f = PairEvals (b .n) (b .N) (rowsOf (tableOf old)) (rowsOf (tableOf old)) (rootsOf (seen old)) (pairsFit (b .n) (b .N) (liveOf b) f) (pairF (b .n) f) (at 0)
+
+    pub noPairs-done : CallPost (relation t noPairs) old (write old (FIRST-RELATION + t) 1) (plain 0)
+    noPairs-done =
+        through-done s tt (λ a c. omega arith)
+        (relation-value old s (tableOf old) (s .good) (op-refl (tableOf old)) t noPairs l (noPairs-passes (b .n) (regFilled b) (relFilled b)) 0
+        (subst Loads (noPairs-form (b .n)) (pair-none (b .n) (b .N) held (b .N) (s .good .rows))))
+        (as-it-was refl)
+        (view-header (headerOf old ROWS) old (s .good .sizes .room) (FIRST-RELATION + t) 1 (omega arith))
+
+  module _ (r : ℕ) (l : r < REGISTERS) where
+    -- set r to mu P. P or nu P. P
+    module _ (d : Bool) (R : ℕ) where
+      abbrev Ends : Ended → Form → Type 0
+      Ends y f = Evals (b .n) (b .N) (rowsOf (tableOf old)) (rowsOf (tableOf old)) (rootsOf (seen old)) (run (modelOf b) (b .N) R noEnv (liveOf b) f 0) y
+
+      -- one round: node number 0 or 1
+      pub self-done : 0 < R → (v : ℕ) → v ≡ tallied (headerOf old TALLY) 1 → CallPost (set r R (self d)) old (storedIn old r (startArrow d) v) (setReply (ends (startArrow d) 1))
+      self-done i v e =
+          through-done s tt (λ a c. omega arith)
+          (set-value old s (tableOf old) (s .good) (op-refl (tableOf old)) r R (self d) l (self-passes d (b .n) (regFilled b) (relFilled b)) (startArrow d) 1
+          (subst (Ends (ends (startArrow d) 1)) (self-form d (b .n)) (self-ends (modelOf b) (b .N) R noEnv (liveOf b) 0 (s .good .rows) held d i)))
+          (as-it-was refl)
+          (subst (λ (x : ℕ). view (headerOf old ROWS) (storedIn old r (startArrow d) v) ≡ registerStored (tableOf old) r (startArrow d) x) e (view-stored (headerOf old ROWS) r (startArrow d) v old (s .good .sizes .room) l))
+
+      -- no round is allowed
+      pub self-refused : R ≡ 0 → CallPost (set r R (self d)) old old (plain 9)
+      self-refused z =
+          through-done s tt (λ a c. omega arith)
+          (set-spent old s (tableOf old) (s .good) (op-refl (tableOf old)) r R (self d) l (self-passes d (b .n) (regFilled b) (relFilled b))
+          (subst (Ends nine) (self-form d (b .n)) (self-spent (modelOf b) (b .N) R noEnv (liveOf b) 0 (s .good .rows) held d z)))
+          (as-it-was refl) refl
+
+    -- set r to mu P. NOT P
+    pub odd-done : (R : ℕ) → CallPost (set r R odd) old old (plain 6)
+    odd-done R = call-refused old s 5 (set r R odd) (set-refused b r R odd 5 l (odd-refused (b .n) (regFilled b) (relFilled b)))
+
+    pub empty-done : CallPost (clear r) old (write old (FIRST-REGISTER + r) 0) (plain 0)
+    empty-done = clear-done old (write old (FIRST-REGISTER + r) 0) r s l refl (view-header (headerOf old ROWS) old (s .good .sizes .room) (FIRST-REGISTER + r) 0 (omega arith))
+
+  -- collect where no row is used
+  module _ (z : headerOf old USED ≡ 0) where
+    unused : (i : ℕ) → used (tableOf old) i ≡ true → ⊥
+    unused i u = let p = used-in _ _ _ _ i u .place in omega arith
+
+    same : Freed (tableOf old) (tableOf old) (filled (tableOf old))
+    same = record {
+      sound = s;
+      frame = frame-refl (tableOf old);
+      collects = record { kept = extends-refl (rowsOf (tableOf old)); only = λ i u. absurd (unused i u); all = λ i r. reach-used (s .good .rows) (filled-arrow s) r };
+    }
+
+    pub collected-done : CallPost collect old old (valued 0)
+    collected-done = collect-done old old s refl (record { freed = same; needs = sym z ∙ freed-count (tableOf old) (tableOf old) (filled (tableOf old)) s same })

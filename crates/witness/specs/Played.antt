@@ -1,0 +1,140 @@
+-- THE CLOSED LIST THEOREM IS INHABITED: a list of calls over the program's words, each under the predicate of its function's `ensures`, and
+-- the third demand of it. Assumes nothing.
+use mathlib.Core.Path.{_≡_, refl, sym, ap, _∙_, subst}
+use mathlib.Core.Bool.{true, false}
+use mathlib.Core.List.{List, [], _∷_}
+use mathlib.Core.Option.{none, some}
+use Prim.Native.Nat.{ℕ, _+_, _<_}
+use native.Mathlib.Omega.{arith}
+use lib.Dec.{T}
+use lib.ListN.{set as write}
+use borrow.Author.Tests.{ne-eqb}
+use Rattle.layout.specs.Places.{REGISTERS, ROWS, TALLY, USED, FIRST-REGISTER, FIRST-RELATION}
+use Rattle.layout.specs.View.{View, headerOf, view-header}
+use Rattle.book.specs.Book.{Book, freshFits, relation, set, clear, collect, tallied}
+use Rattle.book.specs.BookOf.{bookOf}
+use Rattle.book.specs.Compute.{computing}
+use Rattle.book.specs.Table.{Reply}
+use Rattle.book.specs.Leaves.{plain, valued}
+use Rattle.book.specs.Demand.{Event, stop, go, Session, Demand}
+use Rattle.contract.specs.Seen.{seen, SoundWords}
+use Rattle.contract.specs.Posts.{FreshPost, CallPost}
+use Rattle.contract.specs.Closed.{makes, performs, asks, words-demand}
+use Rattle.witness.specs.Words.{zeros, freshOf, storedIn, length-zeros, fresh-zero, view-stored}
+use Rattle.witness.specs.Made.{noPairs, self, odd, fresh-done, noPairs-done, self-done, self-refused, odd-done, collected-done, empty-done}
+
+-- ---- the list: n = 1, N = 100, the five calls, and refusals 6 and 9
+
+-- an answered set: its node number, and one round
+abbrev node : ℕ → Reply
+node a = record { number = 0; rounds = 1; value = a }
+
+abbrev pub events : List Event
+events =
+    (relation 0 noPairs, plain 0)
+    ∷ (set 0 100 (self false), node 1)
+    ∷ (set 1 100 (self true), node 0)
+    ∷ (set 1 100 odd, plain 6)
+    ∷ (set 1 0 (self false), plain 9)
+    ∷ (collect, valued 0)
+    ∷ (clear 0, plain 0) ∷ []
+
+-- ---- the words: those of `roomrules`, and what fresh, relation 0, set 0, set 1 and clear 0 leave of them
+
+abbrev lent : List ℕ
+lent = zeros 16_384
+
+abbrev made : List ℕ
+made = freshOf 1 100 16_384
+
+abbrev loaded : List ℕ
+loaded = write made (FIRST-RELATION + 0) 1
+
+abbrev once : List ℕ
+once = storedIn loaded 0 1 1
+
+abbrev twice : List ℕ
+twice = storedIn once 1 0 2
+
+abbrev pub end : List ℕ
+end = write twice (FIRST-REGISTER + 0) 0
+
+-- ---- the calls
+
+-- sound words without a used row, after k rounds
+record Stands (ws : List ℕ) (k : ℕ) : Type 0 where
+  sound : SoundWords ws
+  tally : headerOf ws TALLY ≡ k
+  used : headerOf ws USED ≡ 0
+
+start : FreshPost 1 100 lent made (plain 0)
+start = fresh-done 1 100 16_384 (record { n-pos = omega arith; n-max = omega arith; N-pos = omega arith; N-max = omega arith; room = omega arith })
+
+made-stands : Stands made 0
+made-stands = record {
+  sound = start .answers (subst (λ (k : ℕ). T (freshFits 1 100 k)) (sym (length-zeros 16_384)) tt) .1;
+  tally = fresh-zero 1 100 16_384 TALLY (omega arith) (omega arith) (omega arith) (omega arith);
+  used = fresh-zero 1 100 16_384 USED (omega arith) (omega arith) (omega arith) (omega arith);
+}
+
+relation-loaded : CallPost (relation 0 noPairs) made loaded (plain 0)
+relation-loaded = noPairs-done made (made-stands .sound) 0 (omega arith)
+
+loaded-stands : Stands loaded 0
+loaded-stands =
+    let s = made-stands .sound in
+    let e = view-header (headerOf made ROWS) made (s .good .sizes .room) (FIRST-RELATION + 0) 1 (omega arith) in
+    record {
+      sound = relation-loaded .performs .served s .0;
+      tally = ap (λ (v : View). v .header TALLY) e ∙ made-stands .tally;
+      used = ap (λ (v : View). v .header USED) e ∙ made-stands .used;
+    }
+
+-- after an answered set
+stored-stands : {ws : List ℕ} {k : ℕ} (r R a q : ℕ) {bs : List ℕ} {y : Reply} → r < REGISTERS → Stands ws k → CallPost (set r R bs) ws (storedIn ws r a q) y → Stands (storedIn ws r a q) q
+stored-stands {ws} r R a q l s p =
+    let e = view-stored (headerOf ws ROWS) r a q ws (s .sound .good .sizes .room) l in
+    record {
+      sound = p .performs .served (s .sound) .0;
+      tally = ap (λ (v : View). v .header TALLY) e;
+      used = ap (λ (v : View). v .header USED) e ∙ rw (ne-eqb USED (FIRST-REGISTER + r) (omega arith)) (s .used);
+    }
+
+set-first : CallPost (set 0 100 (self false)) loaded once (node 1)
+set-first = self-done loaded (loaded-stands .sound) 0 (omega arith) false 100 (omega arith) 1 (sym (ap (λ (k : ℕ). tallied k 1) (loaded-stands .tally)))
+
+once-stands : Stands once 1
+once-stands = stored-stands 0 100 1 1 (omega arith) loaded-stands set-first
+
+set-second : CallPost (set 1 100 (self true)) once twice (node 0)
+set-second = self-done once (once-stands .sound) 1 (omega arith) true 100 (omega arith) 2 (sym (ap (λ (k : ℕ). tallied k 1) (once-stands .tally)))
+
+twice-stands : Stands twice 2
+twice-stands = stored-stands 1 100 0 2 (omega arith) once-stands set-second
+
+-- the list under the calls' contracts
+pub played : Session (List ℕ) makes performs 1 100 events end
+played =
+    let s = twice-stands .sound in
+    record {
+      lent = lent;
+      made = made;
+      reply = plain 0;
+      start = start;
+      answered = refl;
+      rest =
+          go relation-loaded (go set-first (go set-second
+          (go (odd-done twice s 1 (omega arith) 100)
+          (go (self-refused twice s 1 (omega arith) false 0 refl)
+          (go (collected-done twice s (twice-stands .used))
+          (go (empty-done twice s 0 (omega arith)) stop))))));
+    }
+
+-- and what the closed list theorem says of it
+pub shown : Demand SoundWords seen asks 1 100 events end
+shown = words-demand 1 100 played
+
+-- so the words hold what the book does: register 0 is empty, register 1 has no state, and two rounds are tallied
+pub left : (bookOf (seen end) .reg 0 ≡ none) × (bookOf (seen end) .reg 1 ≡ some (false ∷ false ∷ [])) × (headerOf end TALLY ≡ 2)
+unfolding computing
+left = let e = shown .holds in (ap (λ (b : Book). b .reg 0) e, ap (λ (b : Book). b .reg 1) e, ap (λ (b : Book). b .tally) e)

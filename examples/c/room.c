@@ -1,0 +1,123 @@
+/*
+ * A room with a microphone (bit 0), an echo return (bit 1) and a monitor loudspeaker (bit 2), each on or off. It howls where all three are on.
+ * A press turns one of them over. By the rules, a press that would join the third to the other two does nothing; the rules as first written
+ * forget this for the monitor. Can presses, from all off, make the room howl?
+ */
+#include "kudzuclamp.h"
+
+#include <stdio.h>
+#include <stdlib.h>
+
+enum { MICROPHONE, ECHO, MONITOR, BITS };
+enum { ROWS = 100, ROUNDS = 9 };
+enum { FIRST_RULES, MENDED_RULES };
+enum { HOWL, FIRST_DANGER, MENDED_DANGER, MENDED_SAFE, NOT_IN_DANGER };
+
+#define NOT 0x02
+#define AND 0x03
+#define OR 0x04
+#define NOW(p) (0x10 + (p))
+#define NEXT(p) (0x20 + (p))
+#define VARIABLE 0x30
+#define REGISTER(r) (0x40 + (r))
+#define BOX(t) (0x60 + (t))
+#define DIAMOND(t) (0x68 + (t))
+#define MU 0x70
+#define NU 0x80
+
+/* Bit p keeps its value, or turns over. */
+#define KEEPS(p) OR, AND, NEXT(p), NOW(p), AND, NOT, NEXT(p), NOT, NOW(p)
+#define TURNS(p) OR, AND, NEXT(p), NOT, NOW(p), AND, NOT, NEXT(p), NOW(p)
+
+/* A press of p where the other two are q and r: always, or only where p is on or the others are not both on. */
+#define PRESS(p, q, r) AND, TURNS(p), AND, KEEPS(q), KEEPS(r)
+#define SAFE_PRESS(p, q, r) AND, OR, NOW(p), NOT, AND, NOW(q), NOW(r), PRESS(p, q, r)
+
+static const uint8_t first_rules[] = {
+    OR, SAFE_PRESS(MICROPHONE, ECHO, MONITOR), OR, SAFE_PRESS(ECHO, MICROPHONE, MONITOR), PRESS(MONITOR, MICROPHONE, ECHO),
+};
+static const uint8_t mended_rules[] = {
+    OR, SAFE_PRESS(MICROPHONE, ECHO, MONITOR), OR, SAFE_PRESS(ECHO, MICROPHONE, MONITOR), SAFE_PRESS(MONITOR, MICROPHONE, ECHO),
+};
+static const uint8_t howl[] = {AND, NOW(MICROPHONE), AND, NOW(ECHO), NOW(MONITOR)};
+
+/* The states from which presses can lead to a howl, by each of the rules. */
+static const uint8_t first_danger[] = {MU, OR, REGISTER(HOWL), DIAMOND(FIRST_RULES), VARIABLE};
+static const uint8_t mended_danger[] = {MU, OR, REGISTER(HOWL), DIAMOND(MENDED_RULES), VARIABLE};
+
+/* The states without a howl, whatever is pressed; and those that are not in danger. */
+static const uint8_t mended_safe[] = {NU, AND, NOT, REGISTER(HOWL), BOX(MENDED_RULES), VARIABLE};
+static const uint8_t not_in_danger[] = {NOT, REGISTER(MENDED_DANGER)};
+
+static uint32_t words[KUDZUCLAMP_WORDS(ROWS)];
+static const size_t words_len = sizeof words / sizeof *words;
+
+/* Ends the program where a call that must be answered is refused. */
+static void must(const char *what, uint32_t number)
+{
+    if (number != KUDZUCLAMP_ANSWERED) {
+        fprintf(stderr, "%s: refused with %u\n", what, (unsigned)number);
+        exit(EXIT_FAILURE);
+    }
+}
+
+/* The formula with its length and version before it; gives how many bytes that are. */
+static size_t framed(uint8_t *bytes, const uint8_t *formula, size_t count)
+{
+    bytes[0] = (uint8_t)((count + 1) / 256);
+    bytes[1] = (uint8_t)((count + 1) % 256);
+    bytes[2] = 1;
+    for (size_t i = 0; i < count; i++) {
+        bytes[3 + i] = formula[i];
+    }
+    return 3 + count;
+}
+
+static void relation(const char *what, uint32_t t, const uint8_t *formula, size_t count)
+{
+    uint8_t bytes[1026];
+    size_t length = framed(bytes, formula, count);
+    must(what, kudzuclamp_relation(words, words_len, t, bytes, length));
+    printf("%s: loaded\n", what);
+}
+
+static void set(const char *what, uint32_t r, uint32_t most, const uint8_t *formula, size_t count)
+{
+    uint8_t bytes[1026];
+    size_t length = framed(bytes, formula, count);
+    uint32_t node, rounds, states, all_off;
+    uint32_t number = kudzuclamp_set(words, words_len, r, most, bytes, length, &node, &rounds);
+    if (number != KUDZUCLAMP_ANSWERED) {
+        printf("%s: refused with %u\n", what, (unsigned)number);
+        return;
+    }
+    must("count", kudzuclamp_count(words, words_len, r, &states));
+    must("member", kudzuclamp_member(words, words_len, r, 0, &all_off));
+    printf("%s: %u of 8 states; all off: %s; rounds: %u\n", what, (unsigned)states, all_off ? "yes" : "no", (unsigned)rounds);
+}
+
+int main(void)
+{
+    uint32_t safe, complement, kept, rows, tally;
+
+    must("fresh", kudzuclamp_fresh(words, words_len, BITS, ROWS));
+    relation("first rules", FIRST_RULES, first_rules, sizeof first_rules);
+    relation("mended rules", MENDED_RULES, mended_rules, sizeof mended_rules);
+    set("howl", HOWL, ROUNDS, howl, sizeof howl);
+    set("can howl by the first rules", FIRST_DANGER, ROUNDS, first_danger, sizeof first_danger);
+    set("can howl by the mended rules", MENDED_DANGER, ROUNDS, mended_danger, sizeof mended_danger);
+    set("never howls by the mended rules", MENDED_SAFE, ROUNDS, mended_safe, sizeof mended_safe);
+    set("not in danger by the mended rules", NOT_IN_DANGER, ROUNDS, not_in_danger, sizeof not_in_danger);
+
+    must("node", kudzuclamp_node(words, words_len, MENDED_SAFE, &safe));
+    must("node", kudzuclamp_node(words, words_len, NOT_IN_DANGER, &complement));
+    printf("the last two sets: %s\n", safe == complement ? "the same" : "different");
+
+    set("can howl by the first rules, in 2 rounds", FIRST_DANGER, 2, first_danger, sizeof first_danger);
+    must("count", kudzuclamp_count(words, words_len, FIRST_DANGER, &kept));
+    printf("the set kept by the refused call: %u states\n", (unsigned)kept);
+    must("collect", kudzuclamp_collect(words, words_len, &rows));
+    must("tally", kudzuclamp_tally(words, words_len, &tally));
+    printf("rows needed: %u; rounds in all: %u\n", (unsigned)rows, (unsigned)tally);
+    return EXIT_SUCCESS;
+}

@@ -1,0 +1,134 @@
+/*
+ * A table of decision-diagram rows and a mu-calculus evaluator over it, for switching rules of up to 16 state bits.
+ *
+ * Link target/staticlib/libexports.a, which `rt staticlib exports` makes in the repository's root (x86-64 Linux). Each function is proved to
+ * answer as said here for any words, numbers and bytes; README.md says what the proofs assume. It uses its stack and what it is lent, and keeps
+ * no state elsewhere.
+ *
+ * STATES. A room has n state bits. A state is a number 0 to 2^n - 1; bit p has weight 2^p. A relation is a set of pairs of states (now, next).
+ *
+ * TABLE. The caller lends words; a table of N rows takes the first KUDZUCLAMP_WORDS(N) of them, and later ones are never changed. It has 32
+ * registers, each empty or holding a set of states, 8 relations, each empty or holding a set of pairs, and a tally of rounds. Its words may be
+ * copied, stored and lent again. A call on words that are no sound table is refused with KUDZUCLAMP_UNSOUND.
+ *
+ * REFUSALS. Each function returns 0 where it answers, else the number of its refusal. Checks 1 to 7 run in the order of their numbers, 4 to 7
+ * each over the whole formula; of 8 and 9 the one that evaluation meets first is returned. A refused call writes 0 into every answer.
+ * KUDZUCLAMP_FULL and KUDZUCLAMP_SPENT keep registers, relations, the tally and the rows that these need; every other refusal keeps all words.
+ *
+ * POINTERS. A slice is a pointer and its number of elements. No pointer may be null, not even with 0 elements. Words that are not const, and each
+ * answer, must overlap nothing else that is lent to the call, and no other thread may use them meanwhile; nor may one write the rest.
+ */
+#ifndef KUDZUCLAMP_H
+#define KUDZUCLAMP_H
+
+#include <stddef.h>
+#include <stdint.h>
+
+#ifdef __cplusplus
+extern "C" {
+#endif
+
+/* Sizes of a table, and the words that N rows take. */
+#define KUDZUCLAMP_MAX_BITS 16
+#define KUDZUCLAMP_MAX_ROWS 60000
+#define KUDZUCLAMP_REGISTERS 32
+#define KUDZUCLAMP_RELATIONS 8
+#define KUDZUCLAMP_WORDS(rows) (256 + 12 * (size_t)(rows))
+
+/* The greatest R of a set call. */
+#define KUDZUCLAMP_MAX_ROUNDS UINT32_MAX
+
+/* What a function returns. */
+enum kudzuclamp_number {
+    KUDZUCLAMP_ANSWERED = 0,
+    KUDZUCLAMP_SIZES = 1,   /* fresh: n, N or the number of words out of range */
+    KUDZUCLAMP_UNSOUND = 2, /* the words are no sound table */
+    KUDZUCLAMP_RANGE = 3,   /* register, relation or state number out of range */
+    KUDZUCLAMP_SYNTAX = 4,  /* the bytes are no formula for this call */
+    KUDZUCLAMP_UNBOUND = 5, /* a variable is unbound, or bound inside itself */
+    KUDZUCLAMP_ODD = 6,     /* a variable is read below an odd number of NOTs */
+    KUDZUCLAMP_EMPTY = 7,   /* a register or relation named is empty */
+    KUDZUCLAMP_FULL = 8,    /* a step needs more than N rows */
+    KUDZUCLAMP_SPENT = 9    /* the rounds are used up */
+};
+
+/*
+ * FORMULA BYTES. Two length bytes L, big-endian, from 2 to 1,024; then L bytes: version 1, then one formula in prefix order, which fills them. A
+ * formula is at most 64 deep.
+ *
+ *   00, 01          false, true
+ *   02 f            NOT
+ *   03 f g, 04 f g  AND, OR
+ *   10 + p          current bit p, p < n
+ *   20 + p          next bit p, p < n; relation calls only
+ *   30 + P          variable P, 0 to 15
+ *   40 + r          the set in register r, 0 to 31
+ *   60 + t f        box: f in every next state of relation t, 0 to 7
+ *   68 + t f        diamond: f in some next state of relation t
+ *   70 + P f        mu P: the least set A with f(A) = A
+ *   80 + P f        nu P: the greatest such set
+ *
+ * The numbers before + are hexadecimal. Relation calls take 00 to 04, current bits and next bits only. Each variable is read below an even number
+ * of NOTs, counted from its binder.
+ */
+
+/*
+ * Makes an empty table of n bits (1 to 16) and `rows` rows (1 to 60,000) of any words, at least KUDZUCLAMP_WORDS(rows). It returns 0 or
+ * KUDZUCLAMP_SIZES.
+ */
+uint32_t kudzuclamp_fresh(uint32_t *words, size_t words_len, uint32_t n, uint32_t rows);
+
+/*
+ * Relation t (0 to 7) then holds exactly the pairs of states in which the formula holds. It returns 0, 2, 3, 4 or 8.
+ */
+uint32_t kudzuclamp_relation(uint32_t *words, size_t words_len, uint32_t t, const uint8_t *bytes, size_t bytes_len);
+
+/*
+ * Register r (0 to 31) then holds exactly the states in which the formula holds. Each evaluation of a binder's body is one round, and a round
+ * beyond `most` is refused; with one binder in the formula 2^n + 1 rounds are enough. *node is the set's node number: two registers hold the same
+ * set exactly where their node numbers are equal; 0 is no state, 1 is every state. *rounds is how many rounds were made. It returns 0 or 2 to 9.
+ */
+uint32_t kudzuclamp_set(uint32_t *words, size_t words_len, uint32_t r, uint32_t most, const uint8_t *bytes, size_t bytes_len, uint32_t *node,
+                        uint32_t *rounds);
+
+/*
+ * Empties register r; an empty one stays so. It returns 0, 2 or 3.
+ */
+uint32_t kudzuclamp_clear(uint32_t *words, size_t words_len, uint32_t r);
+
+/*
+ * Frees the rows that no register and no relation needs. *rows is how many are needed. It returns 0 or 2.
+ */
+uint32_t kudzuclamp_collect(uint32_t *words, size_t words_len, uint32_t *rows);
+
+/*
+ * *node is the node number in register r, as the call that last set it gave it. It returns 0, 2, 3 or 7.
+ */
+uint32_t kudzuclamp_node(const uint32_t *words, size_t words_len, uint32_t r, uint32_t *node);
+
+/*
+ * *value is 1 where the set in register r has state s (0 to 2^n - 1), else 0. It returns 0, 2, 3 or 7.
+ */
+uint32_t kudzuclamp_member(const uint32_t *words, size_t words_len, uint32_t r, uint32_t s, uint32_t *value);
+
+/*
+ * *value is how many states the set in register r has, 0 to 2^n. It returns 0, 2, 3 or 7.
+ */
+uint32_t kudzuclamp_count(const uint32_t *words, size_t words_len, uint32_t r, uint32_t *value);
+
+/*
+ * *value is the rounds of all answered set calls since fresh, which stays at 4,294,967,295 once it would pass that. It returns 0 or 2.
+ */
+uint32_t kudzuclamp_tally(const uint32_t *words, size_t words_len, uint32_t *value);
+
+/*
+ * Checks formula bytes for a set call, or for a relation call where `relation` is not 0, and takes no step. It returns 2, or the number of 4 to 7
+ * that the call's own checks of the formula give, or 0.
+ */
+uint32_t kudzuclamp_check(const uint32_t *words, size_t words_len, uint32_t relation, const uint8_t *bytes, size_t bytes_len);
+
+#ifdef __cplusplus
+}
+#endif
+
+#endif

@@ -1,0 +1,161 @@
+//! The one place that calls the static library: a safe function for each entry point, over slices.
+//!
+//! The entry points ask of their caller only what a Rust reference has: a pointer that is aligned
+//! and not null, to as many elements as the length says, and mutable memory that overlaps nothing
+//! else. Their contracts have no other precondition: any words, numbers and bytes are answered.
+use crate::Refusal;
+
+/// The declarations of `include/kudzuclamp.h`: a slice is a pointer and then a length.
+mod library {
+    extern "C" {
+        pub fn kudzuclamp_fresh(words: *mut u32, words_len: usize, n: u32, rows: u32) -> u32;
+        pub fn kudzuclamp_relation(
+            words: *mut u32,
+            words_len: usize,
+            t: u32,
+            bytes: *const u8,
+            bytes_len: usize,
+        ) -> u32;
+        pub fn kudzuclamp_set(
+            words: *mut u32,
+            words_len: usize,
+            r: u32,
+            most: u32,
+            bytes: *const u8,
+            bytes_len: usize,
+            node: *mut u32,
+            rounds: *mut u32,
+        ) -> u32;
+        pub fn kudzuclamp_clear(words: *mut u32, words_len: usize, r: u32) -> u32;
+        pub fn kudzuclamp_collect(words: *mut u32, words_len: usize, rows: *mut u32) -> u32;
+        pub fn kudzuclamp_node(words: *const u32, words_len: usize, r: u32, node: *mut u32) -> u32;
+        pub fn kudzuclamp_member(
+            words: *const u32,
+            words_len: usize,
+            r: u32,
+            s: u32,
+            value: *mut u32,
+        ) -> u32;
+        pub fn kudzuclamp_count(
+            words: *const u32,
+            words_len: usize,
+            r: u32,
+            value: *mut u32,
+        ) -> u32;
+        pub fn kudzuclamp_tally(words: *const u32, words_len: usize, value: *mut u32) -> u32;
+        pub fn kudzuclamp_check(
+            words: *const u32,
+            words_len: usize,
+            relation: u32,
+            bytes: *const u8,
+            bytes_len: usize,
+        ) -> u32;
+    }
+}
+
+/// The answer, or the refusal of a number.
+fn answered<T>(number: u32, answer: T) -> Result<T, Refusal> {
+    if number == 0 {
+        return Ok(answer);
+    }
+    match Refusal::from_number(number) {
+        Some(refusal) => Err(refusal),
+        None => unreachable!("the library returned {number}, which is no refusal's number"),
+    }
+}
+
+pub fn fresh(words: &mut [u32], n: u32, rows: u32) -> Result<(), Refusal> {
+    // SAFETY: pointer and length are those of a mutable slice.
+    let number = unsafe { library::kudzuclamp_fresh(words.as_mut_ptr(), words.len(), n, rows) };
+    answered(number, ())
+}
+
+pub fn relation(words: &mut [u32], t: u32, bytes: &[u8]) -> Result<(), Refusal> {
+    // SAFETY: pointers and lengths are those of slices; the mutable one overlaps nothing.
+    let number = unsafe {
+        library::kudzuclamp_relation(
+            words.as_mut_ptr(),
+            words.len(),
+            t,
+            bytes.as_ptr(),
+            bytes.len(),
+        )
+    };
+    answered(number, ())
+}
+
+/// The node number and the rounds.
+pub fn set(words: &mut [u32], r: u32, most: u32, bytes: &[u8]) -> Result<(u32, u32), Refusal> {
+    let (mut node, mut rounds) = (0, 0);
+    // SAFETY: as in `relation`; the last two pointers are two locals'.
+    let number = unsafe {
+        library::kudzuclamp_set(
+            words.as_mut_ptr(),
+            words.len(),
+            r,
+            most,
+            bytes.as_ptr(),
+            bytes.len(),
+            &mut node,
+            &mut rounds,
+        )
+    };
+    answered(number, (node, rounds))
+}
+
+pub fn clear(words: &mut [u32], r: u32) -> Result<(), Refusal> {
+    // SAFETY: pointer and length are those of a mutable slice.
+    let number = unsafe { library::kudzuclamp_clear(words.as_mut_ptr(), words.len(), r) };
+    answered(number, ())
+}
+
+pub fn collect(words: &mut [u32]) -> Result<u32, Refusal> {
+    let mut rows = 0;
+    // SAFETY: pointer and length are those of a mutable slice; the other pointer is a local's.
+    let number = unsafe { library::kudzuclamp_collect(words.as_mut_ptr(), words.len(), &mut rows) };
+    answered(number, rows)
+}
+
+pub fn node(words: &[u32], r: u32) -> Result<u32, Refusal> {
+    let mut node = 0;
+    // SAFETY: pointer and length are those of a slice; the other pointer is a local's.
+    let number = unsafe { library::kudzuclamp_node(words.as_ptr(), words.len(), r, &mut node) };
+    answered(number, node)
+}
+
+pub fn member(words: &[u32], r: u32, s: u32) -> Result<u32, Refusal> {
+    let mut value = 0;
+    // SAFETY: as in `node`.
+    let number =
+        unsafe { library::kudzuclamp_member(words.as_ptr(), words.len(), r, s, &mut value) };
+    answered(number, value)
+}
+
+pub fn count(words: &[u32], r: u32) -> Result<u32, Refusal> {
+    let mut value = 0;
+    // SAFETY: as in `node`.
+    let number = unsafe { library::kudzuclamp_count(words.as_ptr(), words.len(), r, &mut value) };
+    answered(number, value)
+}
+
+pub fn tally(words: &[u32]) -> Result<u32, Refusal> {
+    let mut value = 0;
+    // SAFETY: as in `node`.
+    let number = unsafe { library::kudzuclamp_tally(words.as_ptr(), words.len(), &mut value) };
+    answered(number, value)
+}
+
+/// The checks of formula bytes for a relation call, or else for a set call.
+pub fn check(words: &[u32], relation: bool, bytes: &[u8]) -> Result<(), Refusal> {
+    // SAFETY: pointers and lengths are those of slices.
+    let number = unsafe {
+        library::kudzuclamp_check(
+            words.as_ptr(),
+            words.len(),
+            relation.into(),
+            bytes.as_ptr(),
+            bytes.len(),
+        )
+    };
+    answered(number, ())
+}

@@ -1,0 +1,294 @@
+//! Formulas as document 01's framed bytes.
+use std::ops::{BitAnd, BitOr, Not};
+
+/// The bytes of document 01's table.
+mod token {
+    pub const FALSE: u8 = 0x00;
+    pub const TRUE: u8 = 0x01;
+    pub const NOT: u8 = 0x02;
+    pub const AND: u8 = 0x03;
+    pub const OR: u8 = 0x04;
+    pub const CURRENT: u8 = 0x10;
+    pub const NEXT: u8 = 0x20;
+    pub const VARIABLE: u8 = 0x30;
+    pub const REGISTER: u8 = 0x40;
+    pub const BOX: u8 = 0x60;
+    pub const DIAMOND: u8 = 0x68;
+    pub const MU: u8 = 0x70;
+    pub const NU: u8 = 0x80;
+    /// No token of the table: every call refuses it with 4.
+    pub const NONE: u8 = 0xFF;
+}
+
+/// How many bits, variables, registers and relations have a byte.
+const BITS: u8 = 16;
+const VARIABLES: u8 = 16;
+const REGISTERS: u8 = 32;
+const RELATIONS: u8 = 8;
+
+/// Bytes before the formula: two of length and the version.
+const FRAME: usize = 3;
+const VERSION: u8 = 1;
+
+/// A formula, kept as the framed bytes that a call takes: two length bytes, version 1 and the
+/// formula in prefix order.
+///
+/// `!`, `&` and `|` are NOT, AND and OR. A bit, variable, register or relation number that has no
+/// byte gives a formula that every call refuses with [`Refusal::Syntax`](crate::Refusal::Syntax),
+/// and so does a formula of more than 1,023 bytes or more than 64 deep.
+///
+/// ```
+/// use kudzuclamp::Formula;
+///
+/// // The states from which bit 0 can become set: mu P0. bit 0 OR diamond 0 P0.
+/// let reach = Formula::mu(0, Formula::current(0) | Formula::diamond(0, Formula::var(0)));
+/// assert_eq!(reach.as_bytes(), [0x00, 0x06, 0x01, 0x70, 0x04, 0x10, 0x68, 0x30]);
+/// ```
+#[derive(Clone, Debug, PartialEq, Eq, Hash)]
+pub struct Formula {
+    framed: Vec<u8>,
+}
+
+impl Formula {
+    /// False, which holds in no state.
+    pub fn never() -> Formula {
+        Formula::leaf(token::FALSE)
+    }
+
+    /// True, which holds in every state.
+    pub fn always() -> Formula {
+        Formula::leaf(token::TRUE)
+    }
+
+    /// Bit p of the current state, p from 0 to 15 and below the table's n.
+    pub fn current(p: u8) -> Formula {
+        Formula::leaf(numbered(token::CURRENT, BITS, p))
+    }
+
+    /// Bit p of the next state, p from 0 to 15 and below the table's n. Only relation calls take
+    /// it.
+    pub fn next(p: u8) -> Formula {
+        Formula::leaf(numbered(token::NEXT, BITS, p))
+    }
+
+    /// Variable P, from 0 to 15, bound by [`mu`](Formula::mu) or [`nu`](Formula::nu).
+    pub fn var(p: u8) -> Formula {
+        Formula::leaf(numbered(token::VARIABLE, VARIABLES, p))
+    }
+
+    /// The set in a register, from 0 to 31.
+    pub fn register(r: u8) -> Formula {
+        Formula::leaf(numbered(token::REGISTER, REGISTERS, r))
+    }
+
+    /// Box: the formula holds in every next state of relation t, from 0 to 7.
+    pub fn boxed(t: u8, f: Formula) -> Formula {
+        Formula::operator(numbered(token::BOX, RELATIONS, t), &[f])
+    }
+
+    /// Diamond: the formula holds in some next state of relation t, from 0 to 7.
+    pub fn diamond(t: u8, f: Formula) -> Formula {
+        Formula::operator(numbered(token::DIAMOND, RELATIONS, t), &[f])
+    }
+
+    /// The least set A that equals the formula with A as variable P.
+    pub fn mu(p: u8, f: Formula) -> Formula {
+        Formula::operator(numbered(token::MU, VARIABLES, p), &[f])
+    }
+
+    /// The greatest set A that equals the formula with A as variable P.
+    pub fn nu(p: u8, f: Formula) -> Formula {
+        Formula::operator(numbered(token::NU, VARIABLES, p), &[f])
+    }
+
+    /// The framed bytes.
+    pub fn as_bytes(&self) -> &[u8] {
+        &self.framed
+    }
+
+    /// The formula's own bytes, without length and version.
+    fn tokens(&self) -> &[u8] {
+        &self.framed[FRAME..]
+    }
+
+    fn leaf(token: u8) -> Formula {
+        Formula::operator(token, &[])
+    }
+
+    /// A token and the formulas below it.
+    fn operator(token: u8, parts: &[Formula]) -> Formula {
+        let size = 1 + parts.iter().map(|part| part.tokens().len()).sum::<usize>();
+        let mut framed = Vec::with_capacity(FRAME + size);
+        framed.extend(length_bytes(1 + size));
+        framed.push(VERSION);
+        framed.push(token);
+        for part in parts {
+            framed.extend_from_slice(part.tokens());
+        }
+        Formula { framed }
+    }
+}
+
+/// The byte of number k in a range of tokens, or no token's where the range is too short.
+fn numbered(first: u8, count: u8, k: u8) -> u8 {
+    if k < count {
+        first + k
+    } else {
+        token::NONE
+    }
+}
+
+/// A length in two bytes, big-endian. One that does not fit becomes 65,535, which no call takes.
+fn length_bytes(length: usize) -> [u8; 2] {
+    u16::try_from(length).unwrap_or(u16::MAX).to_be_bytes()
+}
+
+impl AsRef<[u8]> for Formula {
+    fn as_ref(&self) -> &[u8] {
+        self.as_bytes()
+    }
+}
+
+impl From<bool> for Formula {
+    fn from(value: bool) -> Formula {
+        if value {
+            Formula::always()
+        } else {
+            Formula::never()
+        }
+    }
+}
+
+impl Not for Formula {
+    type Output = Formula;
+
+    fn not(self) -> Formula {
+        Formula::operator(token::NOT, &[self])
+    }
+}
+
+impl BitAnd for Formula {
+    type Output = Formula;
+
+    fn bitand(self, other: Formula) -> Formula {
+        Formula::operator(token::AND, &[self, other])
+    }
+}
+
+impl BitOr for Formula {
+    type Output = Formula;
+
+    fn bitor(self, other: Formula) -> Formula {
+        Formula::operator(token::OR, &[self, other])
+    }
+}
+
+#[cfg(test)]
+mod tests {
+    use super::Formula;
+
+    /// The bytes of a formula whose own bytes are these, at most 253.
+    fn framed(tokens: &[u8]) -> Vec<u8> {
+        let mut bytes = vec![0, tokens.len() as u8 + 1, 1];
+        bytes.extend_from_slice(tokens);
+        bytes
+    }
+
+    #[test]
+    fn program_input() {
+        let relation =
+            (Formula::next(0) & !Formula::current(0)) | (!Formula::next(0) & Formula::current(0));
+        assert_eq!(
+            relation.as_bytes(),
+            [0x00, 0x0A, 0x01, 0x04, 0x03, 0x20, 0x02, 0x10, 0x03, 0x02, 0x20, 0x10]
+        );
+        let set = Formula::mu(
+            0,
+            Formula::current(0) | Formula::diamond(0, Formula::var(0)),
+        );
+        assert_eq!(
+            set.as_bytes(),
+            [0x00, 0x06, 0x01, 0x70, 0x04, 0x10, 0x68, 0x30]
+        );
+    }
+
+    #[test]
+    fn bench() {
+        let cases = [
+            (Formula::mu(0, Formula::var(0)), vec![0x70, 0x30]),
+            (Formula::nu(0, Formula::var(0)), vec![0x80, 0x30]),
+            (Formula::mu(0, !Formula::var(0)), vec![0x70, 0x02, 0x30]),
+            (
+                Formula::mu(0, !!Formula::var(0)),
+                vec![0x70, 0x02, 0x02, 0x30],
+            ),
+            (Formula::var(0), vec![0x30]),
+            (
+                Formula::mu(0, Formula::mu(0, Formula::var(0))),
+                vec![0x70, 0x70, 0x30],
+            ),
+            (Formula::boxed(0, Formula::always()), vec![0x60, 0x01]),
+            (Formula::boxed(0, Formula::never()), vec![0x60, 0x00]),
+            (Formula::diamond(0, Formula::always()), vec![0x68, 0x01]),
+            (
+                Formula::current(0) & Formula::current(1),
+                vec![0x03, 0x10, 0x11],
+            ),
+            (!Formula::current(0), vec![0x02, 0x10]),
+            (!Formula::current(1), vec![0x02, 0x11]),
+        ];
+        for (formula, tokens) in cases {
+            assert_eq!(formula.as_bytes(), framed(&tokens));
+        }
+    }
+
+    #[test]
+    fn ends_of_ranges() {
+        let cases = [
+            (Formula::current(15), vec![0x1F]),
+            (Formula::next(15), vec![0x2F]),
+            (Formula::var(15), vec![0x3F]),
+            (Formula::register(0), vec![0x40]),
+            (Formula::register(31), vec![0x5F]),
+            (Formula::boxed(7, Formula::from(true)), vec![0x67, 0x01]),
+            (Formula::diamond(7, Formula::from(false)), vec![0x6F, 0x00]),
+            (Formula::mu(15, Formula::always()), vec![0x7F, 0x01]),
+            (Formula::nu(15, Formula::always()), vec![0x8F, 0x01]),
+        ];
+        for (formula, tokens) in cases {
+            assert_eq!(formula.as_bytes(), framed(&tokens));
+        }
+    }
+
+    #[test]
+    fn numbers_without_a_byte() {
+        let x = Formula::always;
+        let past = [
+            Formula::current(16),
+            Formula::next(16),
+            Formula::var(16),
+            Formula::register(32),
+            Formula::boxed(8, x()),
+            Formula::diamond(8, x()),
+            Formula::mu(16, x()),
+            Formula::nu(255, x()),
+        ];
+        for formula in past {
+            assert_eq!(formula.as_bytes()[3], 0xFF);
+        }
+    }
+
+    #[test]
+    fn lengths() {
+        let mut formula = Formula::always();
+        for _ in 0..1_022 {
+            formula = !formula;
+        }
+        assert_eq!(formula.as_bytes()[..3], [0x04, 0x00, 0x01]);
+        assert_eq!(formula.as_bytes().len(), 2 + 1_024);
+        for _ in 0..7 {
+            formula = formula.clone() & formula;
+        }
+        assert_eq!(formula.as_bytes()[..3], [0xFF, 0xFF, 0x01]);
+    }
+}

@@ -1,0 +1,43 @@
+//! A table of decision-diagram rows and a mu-calculus evaluator over it, for rooms of up to 16
+//! state bits: a safe wrapper of a static library whose functions are proved to meet their
+//! contracts.
+//!
+//! A room of two bits: bit 0 is "microphone open", bit 1 is "echo on". Pressing the button opens
+//! the microphone, and turns the echo on only while the microphone is open.
+//!
+//! ```
+//! use kudzuclamp::{Formula, Refusal, Table};
+//!
+//! # fn main() -> Result<(), Refusal> {
+//! let (open, echo) = (Formula::current(0), Formula::current(1));
+//! let (next_open, next_echo) = (Formula::next(0), Formula::next(1));
+//! let mut room = Table::new(2, 100)?;
+//! // Next: the microphone is open, and the echo is on exactly if the microphone is open now.
+//! let same = (next_echo.clone() & open.clone()) | (!next_echo & !open.clone());
+//! room.relation(0, next_open & same)?;
+//!
+//! // Register 0: the states from which presses lead to both at once.
+//! let howl = open & echo;
+//! room.set(0, 1_000, Formula::mu(0, howl | Formula::diamond(0, Formula::var(0))))?;
+//! assert_eq!(room.count(0)?, 4);
+//!
+//! // Register 1: the states from which they never do.
+//! room.set(1, 1_000, !Formula::register(0))?;
+//! assert_eq!(room.node(1)?, 0);
+//! assert!(!room.member(1, 0)?);
+//! # Ok(())
+//! # }
+//! ```
+//!
+//! The static library is made by `rt staticlib exports` in the repository's root.
+#![deny(missing_docs, unsafe_code)]
+
+#[allow(unsafe_code)]
+mod abi;
+mod formula;
+mod refusal;
+mod table;
+
+pub use formula::Formula;
+pub use refusal::Refusal;
+pub use table::{words_for, Stored, Table, MAX_BITS, MAX_ROWS, REGISTERS, RELATIONS};

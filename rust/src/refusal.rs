@@ -1,0 +1,111 @@
+//! Why a call is refused.
+use std::error::Error;
+use std::fmt;
+
+/// Why a call is refused, with document 01's numbers.
+///
+/// Every refusal from 1 to 7 keeps all words. `Full` and `Spent` keep registers, relations, the
+/// tally and the rows that they need.
+///
+/// ```
+/// use kudzuclamp::Refusal;
+///
+/// assert_eq!(Refusal::Empty.number(), 7);
+/// assert_eq!(Refusal::Empty.to_string(), "a register or relation named is empty");
+/// ```
+#[derive(Clone, Copy, Debug, PartialEq, Eq, Hash, PartialOrd, Ord)]
+pub enum Refusal {
+    /// 1: fresh was given a number of bits or rows out of range, or too few words.
+    Sizes = 1,
+    /// 2: the words are no sound table.
+    Unsound = 2,
+    /// 3: a register, relation or state number is out of range.
+    Range = 3,
+    /// 4: the bytes are no formula for this call.
+    Syntax = 4,
+    /// 5: a variable is unbound, or bound inside itself.
+    Unbound = 5,
+    /// 6: a variable is read below an odd number of NOTs.
+    Odd = 6,
+    /// 7: a register or relation named is empty.
+    Empty = 7,
+    /// 8: a step needs more rows than the table has.
+    Full = 8,
+    /// 9: the rounds are used up.
+    Spent = 9,
+}
+
+impl Refusal {
+    /// All refusals, in the order of their numbers.
+    pub const ALL: [Refusal; 9] = [
+        Refusal::Sizes,
+        Refusal::Unsound,
+        Refusal::Range,
+        Refusal::Syntax,
+        Refusal::Unbound,
+        Refusal::Odd,
+        Refusal::Empty,
+        Refusal::Full,
+        Refusal::Spent,
+    ];
+
+    /// The number, 1 to 9.
+    pub const fn number(self) -> u32 {
+        self as u32
+    }
+
+    /// The refusal with a number, if there is one.
+    ///
+    /// ```
+    /// use kudzuclamp::Refusal;
+    ///
+    /// assert_eq!(Refusal::from_number(8), Some(Refusal::Full));
+    /// assert_eq!(Refusal::from_number(0), None);
+    /// ```
+    pub fn from_number(number: u32) -> Option<Refusal> {
+        Refusal::ALL
+            .into_iter()
+            .find(|refusal| refusal.number() == number)
+    }
+}
+
+impl fmt::Display for Refusal {
+    fn fmt(&self, f: &mut fmt::Formatter<'_>) -> fmt::Result {
+        f.write_str(match self {
+            Refusal::Sizes => {
+                "the number of bits or rows is out of range, or there are too few words"
+            }
+            Refusal::Unsound => "the words are no sound table",
+            Refusal::Range => "a register, relation or state number is out of range",
+            Refusal::Syntax => "the bytes are no formula for this call",
+            Refusal::Unbound => "a variable is unbound, or bound inside itself",
+            Refusal::Odd => "a variable is read below an odd number of NOTs",
+            Refusal::Empty => "a register or relation named is empty",
+            Refusal::Full => "a step needs more rows than the table has",
+            Refusal::Spent => "the rounds are used up",
+        })
+    }
+}
+
+impl Error for Refusal {}
+
+#[cfg(test)]
+mod tests {
+    use super::Refusal;
+
+    #[test]
+    fn numbers_are_one_to_nine() {
+        for (i, refusal) in Refusal::ALL.into_iter().enumerate() {
+            assert_eq!(refusal.number() as usize, i + 1);
+            assert_eq!(Refusal::from_number(refusal.number()), Some(refusal));
+        }
+        assert_eq!(Refusal::from_number(10), None);
+    }
+
+    #[test]
+    fn texts_differ() {
+        let texts: std::collections::HashSet<String> =
+            Refusal::ALL.iter().map(Refusal::to_string).collect();
+        assert_eq!(texts.len(), 9);
+    }
+}

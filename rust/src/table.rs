@@ -1,0 +1,215 @@
+//! The table over lent or owned words.
+use crate::{abi, Refusal};
+
+/// The greatest number of state bits of a table.
+pub const MAX_BITS: u32 = 16;
+/// The greatest number of rows of a table.
+pub const MAX_ROWS: u32 = 60_000;
+/// How many registers a table has.
+pub const REGISTERS: u32 = 32;
+/// How many relations a table has.
+pub const RELATIONS: u32 = 8;
+
+/// The words that a table of so many rows needs: 256 + 12 × rows.
+///
+/// ```
+/// assert_eq!(kudzuclamp::words_for(100), 1_456);
+/// ```
+pub const fn words_for(rows: u32) -> usize {
+    256 + 12 * rows as usize
+}
+
+/// What an answered [`Table::set`] gives.
+#[derive(Clone, Copy, Debug, PartialEq, Eq, Hash)]
+pub struct Stored {
+    /// The set's node number: two registers hold the same set exactly where their node numbers are
+    /// equal; 0 is no state, 1 is every state.
+    pub node: u32,
+    /// How many times a binder's body was evaluated.
+    pub rounds: u32,
+}
+
+/// A table of decision-diagram rows with 32 registers, each empty or holding a set of states, 8
+/// relations, each empty or holding a set of pairs of states, and a tally of rounds.
+///
+/// The words are owned (`Table<Vec<u32>>`, from [`Table::new`]) or borrowed (`Table<&mut [u32]>`,
+/// from [`Table::fresh`]). Every call checks first that they are a sound table and refuses with
+/// [`Refusal::Unsound`] where they are none, so no words, numbers or bytes make a call misbehave.
+///
+/// ```
+/// use kudzuclamp::{Formula, Refusal, Table};
+///
+/// # fn main() -> Result<(), Refusal> {
+/// // One bit, the echo switch; each press turns it over.
+/// let mut table = Table::new(1, 100)?;
+/// let (before, after) = (Formula::current(0), Formula::next(0));
+/// table.relation(0, (after.clone() & !before.clone()) | (!after & before))?;
+///
+/// // From which states can presses turn the echo on?
+/// let press = Formula::diamond(0, Formula::var(0));
+/// let stored = table.set(0, 100, Formula::mu(0, Formula::current(0) | press))?;
+/// assert_eq!(stored.rounds, 3);
+/// assert_eq!(table.count(0)?, 2);
+/// # Ok(())
+/// # }
+/// ```
+#[derive(Clone, Debug, PartialEq, Eq)]
+pub struct Table<W> {
+    words: W,
+}
+
+impl Table<Vec<u32>> {
+    /// An empty table of n bits (1 to 16) and so many rows (1 to 60,000) over words of its own;
+    /// refused with [`Refusal::Sizes`].
+    ///
+    /// ```
+    /// use kudzuclamp::{Refusal, Table};
+    ///
+    /// assert!(Table::new(16, 60_000).is_ok());
+    /// assert_eq!(Table::new(17, 60_000), Err(Refusal::Sizes));
+    /// ```
+    pub fn new(n: u32, rows: u32) -> Result<Table<Vec<u32>>, Refusal> {
+        Table::fresh(vec![0; words_for(rows.min(MAX_ROWS))], n, rows)
+    }
+}
+
+impl<W: AsRef<[u32]> + AsMut<[u32]>> Table<W> {
+    /// An empty table of n bits and so many rows in any words, at least [`words_for`] the rows;
+    /// later words are never changed. Refused with [`Refusal::Sizes`], all words kept.
+    ///
+    /// ```
+    /// use kudzuclamp::{words_for, Table};
+    ///
+    /// let mut words = [7; words_for(10)];
+    /// let table = Table::fresh(&mut words[..], 2, 10).unwrap();
+    /// assert_eq!(table.tally(), Ok(0));
+    /// ```
+    pub fn fresh(words: W, n: u32, rows: u32) -> Result<Table<W>, Refusal> {
+        let mut table = Table { words };
+        table.restart(n, rows)?;
+        Ok(table)
+    }
+
+    /// Makes an empty table of the same words anew, as [`Table::fresh`].
+    pub fn restart(&mut self, n: u32, rows: u32) -> Result<(), Refusal> {
+        abi::fresh(self.words.as_mut(), n, rows)
+    }
+
+    /// Relation t, from 0 to 7, then holds exactly the pairs of states in which the formula holds.
+    /// Formulas of relations have constants, NOT, AND, OR and current and next bits only.
+    pub fn relation(&mut self, t: u32, formula: impl AsRef<[u8]>) -> Result<(), Refusal> {
+        abi::relation(self.words.as_mut(), t, formula.as_ref())
+    }
+
+    /// Register r, from 0 to 31, then holds exactly the states in which the formula holds, found in
+    /// at most so many rounds.
+    ///
+    /// The formula is a [`Formula`](crate::Formula), or framed bytes from elsewhere.
+    ///
+    /// ```
+    /// use kudzuclamp::{Formula, Refusal, Stored, Table};
+    ///
+    /// # fn main() -> Result<(), Refusal> {
+    /// let mut table = Table::new(1, 100)?;
+    /// assert_eq!(table.set(0, 1, [0, 3, 1, 0x80, 0x30])?, Stored { node: 1, rounds: 1 });
+    /// assert_eq!(table.set(1, 0, Formula::nu(0, Formula::var(0))), Err(Refusal::Spent));
+    /// # Ok(())
+    /// # }
+    /// ```
+    pub fn set(&mut self, r: u32, most: u32, formula: impl AsRef<[u8]>) -> Result<Stored, Refusal> {
+        let (node, rounds) = abi::set(self.words.as_mut(), r, most, formula.as_ref())?;
+        Ok(Stored { node, rounds })
+    }
+
+    /// Empties register r; an empty one stays so.
+    pub fn clear(&mut self, r: u32) -> Result<(), Refusal> {
+        abi::clear(self.words.as_mut(), r)
+    }
+
+    /// Frees the rows that no register and no relation needs, and gives how many are needed.
+    pub fn collect(&mut self) -> Result<u32, Refusal> {
+        abi::collect(self.words.as_mut())
+    }
+
+    /// The words, to change at will: the next call refuses with [`Refusal::Unsound`] where they are
+    /// then no sound table.
+    pub fn words_mut(&mut self) -> &mut [u32] {
+        self.words.as_mut()
+    }
+}
+
+impl<W: AsRef<[u32]>> Table<W> {
+    /// The table that words hold, as an earlier one left them; refused with [`Refusal::Unsound`]
+    /// where they are no sound table.
+    ///
+    /// ```
+    /// use kudzuclamp::{Formula, Refusal, Table};
+    ///
+    /// # fn main() -> Result<(), Refusal> {
+    /// let mut table = Table::new(2, 10)?;
+    /// table.set(5, 0, Formula::current(1))?;
+    /// let words = table.into_words();
+    /// assert_eq!(Table::over(words)?.count(5)?, 2);
+    /// assert_eq!(Table::over(vec![0; 400]), Err(Refusal::Unsound));
+    /// # Ok(())
+    /// # }
+    /// ```
+    pub fn over(words: W) -> Result<Table<W>, Refusal> {
+        let table = Table { words };
+        table.tally()?;
+        Ok(table)
+    }
+
+    /// The node number in register r, as the call that last set it gave it.
+    pub fn node(&self, r: u32) -> Result<u32, Refusal> {
+        abi::node(self.words.as_ref(), r)
+    }
+
+    /// Whether the set in register r has a state, from 0 to 2^n − 1; its bit p has weight 2^p.
+    pub fn member(&self, r: u32, state: u32) -> Result<bool, Refusal> {
+        Ok(abi::member(self.words.as_ref(), r, state)? == 1)
+    }
+
+    /// How many states the set in register r has, from 0 to 2^n.
+    pub fn count(&self, r: u32) -> Result<u32, Refusal> {
+        abi::count(self.words.as_ref(), r)
+    }
+
+    /// The rounds of all answered set calls since fresh, which stays at 4,294,967,295 once it would
+    /// pass that.
+    pub fn tally(&self) -> Result<u32, Refusal> {
+        abi::tally(self.words.as_ref())
+    }
+
+    /// The checks that a set call makes of its formula, [`Refusal::Syntax`] to [`Refusal::Empty`];
+    /// no step is taken.
+    ///
+    /// ```
+    /// use kudzuclamp::{Formula, Refusal, Table};
+    ///
+    /// # fn main() -> Result<(), Refusal> {
+    /// let table = Table::new(1, 100)?;
+    /// assert_eq!(table.check_set(Formula::mu(0, !Formula::var(0))), Err(Refusal::Odd));
+    /// assert_eq!(table.check_set(Formula::register(9)), Err(Refusal::Empty));
+    /// # Ok(())
+    /// # }
+    /// ```
+    pub fn check_set(&self, formula: impl AsRef<[u8]>) -> Result<(), Refusal> {
+        abi::check(self.words.as_ref(), false, formula.as_ref())
+    }
+
+    /// The checks that a relation call makes of its formula, as [`Table::check_set`].
+    pub fn check_relation(&self, formula: impl AsRef<[u8]>) -> Result<(), Refusal> {
+        abi::check(self.words.as_ref(), true, formula.as_ref())
+    }
+
+    /// The words.
+    pub fn words(&self) -> &[u32] {
+        self.words.as_ref()
+    }
+
+    /// The words, to keep: [`Table::over`] takes them again.
+    pub fn into_words(self) -> W {
+        self.words
+    }
+}
