@@ -7,7 +7,7 @@
 #include <map>
 
 static const u32 MOST_ROWS = 60000;
-static const u64 ENOUGH = 300000000; // nanoseconds for one way at one size
+static const u64 ENOUGH = 150000000; // nanoseconds of the library at one size
 static const int LEAST_TURNS = 5, MOST_TURNS = 200;
 static const u64 NEVER = ~0ull;
 
