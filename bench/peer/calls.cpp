@@ -1,0 +1,172 @@
+// What one call costs on a small set, at two sizes of the table; what count costs; and how long a hostile table takes.
+#include "list.h"
+#include "own.h"
+#include <algorithm>
+#include <cstdio>
+#include <cstdlib>
+#include <functional>
+#include <numeric>
+#include <random>
+
+typedef std::vector<u32> Words;
+static Words table(u32 bits, u32 rows) {
+    Words w(256 + 12 * (size_t)rows, 0);
+    if (kudzuclamp_fresh(w.data(), w.size(), bits, rows)) exit(1);
+    return w;
+}
+
+// A formula in its frame.
+static std::vector<uint8_t> framed(std::vector<uint8_t> f) {
+    f.insert(f.begin(), {(uint8_t)((f.size() + 1) >> 8), (uint8_t)(f.size() + 1), 1});
+    return f;
+}
+
+static void set(Words &w, u32 r, const std::vector<uint8_t> &f) {
+    u32 node, rounds;
+    if (kudzuclamp_set(w.data(), w.size(), r, 100, f.data(), f.size(), &node, &rounds)) { fprintf(stderr, "set was refused\n"); exit(1); }
+}
+
+// A small table: a relation (next 0 is bit 1) and three sets.
+static Words small(u32 rows) {
+    Words w = table(8, rows);
+    auto f = framed({4, 3, 0x20, 0x11, 3, 2, 0x20, 2, 0x11});
+    if (kudzuclamp_relation(w.data(), w.size(), 0, f.data(), f.size())) exit(1);
+    for (u32 r = 0; r < 3; r++) set(w, r, framed({3, (uint8_t)(0x10 + r), 2, (uint8_t)(0x11 + r)}));
+    return w;
+}
+
+// The least time of one call out of batches of calls, in nanoseconds.
+static double least(int batch, const std::function<void(int)> &call) {
+    double best = 1e18;
+    for (int turn = 0; turn < 30; turn++) {
+        u64 start = thread_time();
+        for (int k = 0; k < batch; k++) call(k);
+        best = std::min(best, (double)(thread_time() - start) / batch);
+    }
+    return best;
+}
+
+static void small_calls() {
+    const u32 sizes[] = {1344, 60000};
+    struct Kind { const char *name; std::function<void(Words &, int)> call; };
+    auto both = framed({3, 0x12, 2, 0x13}), diamond = framed({0x68, 0x40}), fixpoint = framed({0x70, 4, 0x41, 0x68, 0x30});
+    u32 value;
+    std::vector<Kind> kinds = {
+        {"set: bit 2 AND NOT bit 3", [&](Words &w, int k) { set(w, 3 + k % 8, both); }},
+        {"set: diamond of a register", [&](Words &w, int k) { set(w, 3 + k % 8, diamond); }},
+        {"set: least fixpoint", [&](Words &w, int k) { set(w, 3 + k % 8, fixpoint); }},
+        {"clear", [&](Words &w, int) { kudzuclamp_clear(w.data(), w.size(), 20); }},
+        {"collect", [&](Words &w, int) { kudzuclamp_collect(w.data(), w.size(), &value); }},
+        {"count", [&](Words &w, int) { kudzuclamp_count(w.data(), w.size(), 0, &value); }},
+    };
+    printf("| call on a small set | N = 1,344, µs | N = 60,000, µs | ratio |\n|---|--:|--:|--:|\n");
+    for (const Kind &kind : kinds) {
+        double time[2];
+        for (int s = 0; s < 2; s++) {
+            Words w = small(sizes[s]);
+            time[s] = least(1000, [&](int k) { kind.call(w, k); });
+        }
+        printf("| %s | %.2f | %.2f | %.2f |\n", kind.name, time[0] / 1000, time[1] / 1000, time[1] / time[0]);
+    }
+    printf("\n");
+}
+
+// Some p of the lower half of the bits with bits p and p + n / 2: a set of many rows.
+static std::vector<uint8_t> halves(u32 bits) {
+    std::vector<uint8_t> f;
+    for (u32 p = 0; p < bits / 2; p++) {
+        if (p + 1 < bits / 2) f.push_back(4);
+        f.insert(f.end(), {3, (uint8_t)(0x10 + p), (uint8_t)(0x10 + p + bits / 2)});
+    }
+    return framed(f);
+}
+
+static void counts() {
+    printf("| count | bit 0, µs | a set of many rows, µs |\n|---|--:|--:|\n");
+    for (u32 bits : {8, 12, 16}) {
+        Words w = table(bits, 60000);
+        set(w, 0, framed({0x10}));
+        set(w, 1, halves(bits));
+        double time[2];
+        for (u32 r = 0; r < 2; r++) {
+            u32 value;
+            time[r] = least(10, [&](int) { kudzuclamp_count(w.data(), w.size(), r, &value); });
+        }
+        printf("| n = %u | %.1f | %.1f |\n", bits, time[0] / 1000, time[1] / 1000);
+    }
+    printf("\n");
+}
+
+// A table of 60,000 rows that is sound but for register 0, which has an odd row: it is refused, after every other check. The rows' places are in order or `mixed`.
+class Hostile {
+  public:
+    static const u32 ROWS = 60000;
+    static const size_t LIST = 256 + 8 * ROWS, HEADS = LIST + ROWS;
+    Words w = table(16, ROWS);
+
+    // All rows in one chain, to which every head leads.
+    static Hostile one_chain(bool mixed) {
+        Hostile h(mixed);
+        h.fill(ROWS, true);
+        std::fill(h.w.begin() + HEADS + 1, h.w.begin() + HEADS + ROWS, h.w[HEADS]);
+        return h;
+    }
+    // 15,000 rows in their own buckets, and 45,000 above them that were picked to fall into bucket 7.
+    static Hostile one_bucket(bool mixed) {
+        Hostile h(mixed);
+        u32 level = h.fill(15000, false);
+        std::vector<u32> arrows = h.arrows;
+        for (; h.w[3] < ROWS; level--)
+            for (u32 low : arrows)
+                for (u32 high : arrows)
+                    if (bucket(level, low, high) == 7 && low != high && h.w[3] < ROWS) h.put(level, low, high, false);
+        return h;
+    }
+
+  private:
+    std::vector<u32> place, arrows = {0, 1};
+    explicit Hostile(bool mixed) : place(ROWS) {
+        std::iota(place.begin(), place.end(), 0);
+        std::mt19937 random(1);
+        if (mixed) std::shuffle(place.begin(), place.end(), random);
+        w[16] = place[0] + 3;
+    }
+    static u32 bucket(u32 level, u32 low, u32 high) { return (u64)(low * 0x9E3779B1u + high * 0x85EBCA77u + level * 0xC2B2AE3Du) * ROWS >> 32; }
+    // The next row becomes the first of its bucket's chain, or of bucket 0's.
+    void put(u32 level, u32 low, u32 high, bool one) {
+        u32 rank = w[3]++, i = place[rank], *row = &w[256 + 8 * (size_t)i], &head = w[HEADS + (one ? 0 : bucket(level, low, high))];
+        row[0] = low, row[1] = high, row[2] = level, row[3] = head, row[4] = rank;
+        w[LIST + rank] = i;
+        head = i + 1;
+        arrows.push_back(i + 2);
+    }
+    // Rows from level 31 on, of all pairs of the arrows below, until there are so many; the next free level.
+    u32 fill(u32 most, bool one) {
+        u32 level = 31;
+        for (; w[3] < most; level--) {
+            std::vector<u32> below = arrows;
+            for (u32 low : below)
+                for (u32 high : below)
+                    if (low != high && w[3] < most) put(level, low, high, one);
+        }
+        return level;
+    }
+};
+
+static void refusals() {
+    printf("| hostile table of 60,000 rows, register 0 odd | answer to clear | s |\n|---|--:|--:|\n");
+    for (bool bucket : {false, true})
+        for (bool mixed : {false, true}) {
+            Hostile h = bucket ? Hostile::one_bucket(mixed) : Hostile::one_chain(mixed);
+            u64 start = thread_time();
+            u32 answer = kudzuclamp_clear(h.w.data(), h.w.size(), 5);
+            printf("| %s, places %s | %u | %.2f |\n", bucket ? "45,000 rows in one bucket" : "all rows in one chain", mixed ? "mixed" : "in order", answer, (thread_time() - start) / 1e9);
+            fflush(stdout);
+        }
+}
+
+int main() {
+    small_calls();
+    counts();
+    refusals();
+}
