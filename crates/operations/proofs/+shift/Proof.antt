@@ -1,0 +1,76 @@
+-- `shift` meets its contract: the two calls and the row, one level further, are what `shift-calls` says; levels grow. Assumes nothing.
+use borrow.Author.Needs.{needs}
+use native.Mathlib.Omega.{arith}
+use Rattle.layout.specs.View.{view}
+use Rattle.soundness.specs.Used.{rowsOf}
+use Rattle.soundness.specs.Says.{test-yes, test-no}
+use Rattle.operations.specs.Work.{ready-wf, ready-next, low-stops, high-stops, row-pre, row-made}
+use Rattle.operations.specs.Open.{depth, row-at, opened, low-falls, high-falls, high-later}
+use Rattle.operations.specs.Rows.{shift-constant, row-known, row-kept, shift-calls, shift-low, shift-high}
+use Prim.Native.Nat.{ℕ, _<_}
+use borrow.Fn.Kinds.{In}
+use borrow.Fn.PlainCycle.{Measures, is, falls, and}
+use Rattle.operations.proofs.+shift.{statement}
+use Rattle.operations.proofs.+shift.Tie.{close}
+use Rattle.operations.proofs.shift.Reads as shift
+use Rattle.operations.proofs.shift.Kinds as shift-kinds
+use Rattle.operations.proofs.+shift.Lts-shift as shift-lts
+use Rattle.layout.proofs.is_row.Reads as is-row-reads
+use Rattle.layout.proofs.row_of.Reads as row-of-reads
+use Rattle.memory.proofs.recall_row.Reads as recall-row-reads
+use Rattle.memory.proofs.remember_row.Reads as remember-row-reads
+use Rattle.operations.proofs.node_at.Reads as node-at-reads
+use Rattle.table.proofs.make.Reads as make-reads
+
+abbrev μ-shift : Measures 1 shift-kinds.ps ℕ
+μ-shift κs a = depth (a .1 .1 .0) (rowsOf (view (a .1 .0) (a .0 .now))) (a .1 .1 .1 .1 .0)
+
+abbrev shift-at : ℕ → In 1 shift-kinds.ps
+shift-at t = and 1 shift-kinds.ps (is 1 shift-kinds.ps μ-shift t) shift.Pre
+
+abbrev shift-below : ℕ → In 1 shift-kinds.ps
+shift-below t = and 1 shift-kinds.ps (falls 1 shift-kinds.ps _<_ μ-shift t) shift.Pre
+
+pub +shift-spec : {M : Type 1} → statement M
++shift-spec = close μ-shift λ t. shift-lts.spec (
+  is-row-reads.Asked,
+  is-row-reads.Learnt,
+  row-of-reads.Asked,
+  row-of-reads.Learnt,
+  recall-row-reads.Asked,
+  recall-row-reads.Learnt,
+  node-at-reads.Asked,
+  node-at-reads.Learnt,
+  shift-below t,
+  shift.Post,
+  make-reads.Asked,
+  make-reads.Learnt,
+  remember-row-reads.Asked,
+  remember-row-reads.Learnt,
+)
+    (shift-at t)
+    shift.Post
+    (λ c κs. search needs)
+    (λ c. shift-constant (c .before .before .before .pre .1 .0) _ (test-no (c .before .is-row .ensures) (c .if1 .taken)))
+    (λ c κs. test-yes (c .before .is-row .ensures) (c .if1 .left))
+    (λ c κs. let R = row-at _ (c .before .before .before .before .before .pre .1 .1) (c .before .before .before .is-row .ensures) (c .before .before .if1 .left) (c .before .row-of .ensures) in (ready-wf (c .before .before .before .before .before .pre .1 .0) .bounded _ (R .used), c .before .before .before .before .before .pre .1 .0 .good .sizes .room))
+    (λ c. search needs)
+    (λ c. search needs)
+    (λ c. let R = row-at _ (c .before .before .before .before .before .before .before .before .before .pre .1 .1) (c .before .before .before .before .before .before .before .is-row .ensures) (c .before .before .before .before .before .before .if1 .left) (c .before .before .before .before .before .row-of .ensures) in row-known (c .before .before .before .before .before .before .before .before .before .pre .1 .0) 2 (omega arith) R (c .before .known .given .1) (c .before .before .before .recall-row .ensures))
+    (λ c. search needs)
+    (λ c κs. let R = row-at _ (c .before .before .before .before .before .before .before .before .before .pre .1 .1) (c .before .before .before .before .before .before .before .is-row .ensures) (c .before .before .before .before .before .before .if1 .left) (c .before .before .before .before .before .row-of .ensures) in (ready-wf (c .before .before .before .before .before .before .before .before .before .pre .1 .0) .bounded _ (R .used), c .before .before .before .before .before .before .before .before .before .pre .1 .0 .good .sizes .room))
+    (λ c κs. let r = c .before .before .before .before .before .before .before .before .before .before .before .pre .1 .0 in let R = row-at _ (c .before .before .before .before .before .before .before .before .before .before .before .pre .1 .1) (c .before .before .before .before .before .before .before .before .before .is-row .ensures) (c .before .before .before .before .before .before .before .before .if1 .left) (c .before .before .before .before .before .before .before .row-of .ensures) in let o = opened (ready-wf r) R (c .before .node-at .ensures) in (rw (← c .before .before .before .before .before .before .before .before .before .before .before .pre .0) (low-falls o), (r, o .parts .low-arrow, shift-low r o (c .before .before .before .before .before .before .before .before .before .before .before .pre .1 .2))))
+    (λ c. search needs)
+    (λ c. search needs)
+    (λ c. search needs)
+    (λ c. let r = c .before .before .before .before .before .before .before .before .before .before .before .before .before .before .before .before .pre .1 .0 in let R = row-at _ (c .before .before .before .before .before .before .before .before .before .before .before .before .before .before .before .before .pre .1 .1) (c .before .before .before .before .before .before .before .before .before .before .before .before .before .before .is-row .ensures) (c .before .before .before .before .before .before .before .before .before .before .before .before .before .if1 .left) (c .before .before .before .before .before .before .before .before .before .before .before .before .row-of .ensures) in let o = opened (ready-wf r) R (c .before .before .before .before .before .before .node-at .ensures) in low-stops r (shift-calls r o (c .before .before .before .before .before .before .before .before .before .before .before .before .before .before .before .before .pre .1 .2)) (c .enum-told2 .given .1) (c .before .before .before .before .shift .ensures))
+    (λ c κs. let r = c .before .before .before .before .before .before .before .before .before .before .before .before .before .before .before .before .before .before .pre .1 .0 in let R = row-at _ (c .before .before .before .before .before .before .before .before .before .before .before .before .before .before .before .before .before .before .pre .1 .1) (c .before .before .before .before .before .before .before .before .before .before .before .before .before .before .before .before .is-row .ensures) (c .before .before .before .before .before .before .before .before .before .before .before .before .before .before .before .if1 .left) (c .before .before .before .before .before .before .before .before .before .before .before .before .before .before .row-of .ensures) in let o = opened (ready-wf r) R (c .before .before .before .before .before .before .before .before .node-at .ensures) in let w = c .before .before .before .before .before .before .shift .ensures in (rw (← c .before .before .before .before .before .before .before .before .before .before .before .before .before .before .before .before .before .before .pre .0) (high-falls o (w .post .kept)), (ready-next r w, high-later o (w .post .kept), shift-high r o (c .before .before .before .before .before .before .before .before .before .before .before .before .before .before .before .before .before .before .pre .1 .2) (w .post .kept))))
+    (λ c. search needs)
+    (λ c. search needs)
+    (λ c. search needs)
+    (λ c. let r = c .before .before .before .before .before .before .before .before .before .before .before .before .before .before .before .before .before .before .before .before .before .before .before .pre .1 .0 in let R = row-at _ (c .before .before .before .before .before .before .before .before .before .before .before .before .before .before .before .before .before .before .before .before .before .before .before .pre .1 .1) (c .before .before .before .before .before .before .before .before .before .before .before .before .before .before .before .before .before .before .before .before .before .is-row .ensures) (c .before .before .before .before .before .before .before .before .before .before .before .before .before .before .before .before .before .before .before .before .if1 .left) (c .before .before .before .before .before .before .before .before .before .before .before .before .before .before .before .before .before .before .before .row-of .ensures) in let o = opened (ready-wf r) R (c .before .before .before .before .before .before .before .before .before .before .before .before .before .node-at .ensures) in high-stops r (shift-calls r o (c .before .before .before .before .before .before .before .before .before .before .before .before .before .before .before .before .before .before .before .before .before .before .before .pre .1 .2)) (c .before .before .before .before .before .before .before .low .given .1) (c .before .before .before .before .before .before .before .before .before .before .before .shift .ensures) (c .enum-told3 .given .1) (c .before .before .before .before .shift2 .ensures))
+    (λ c. let r = c .before .before .before .before .before .before .before .before .before .before .before .before .before .before .before .before .before .before .before .before .before .before .before .before .before .before .pre .1 .0 in let R = row-at _ (c .before .before .before .before .before .before .before .before .before .before .before .before .before .before .before .before .before .before .before .before .before .before .before .before .before .before .pre .1 .1) (c .before .before .before .before .before .before .before .before .before .before .before .before .before .before .before .before .before .before .before .before .before .before .before .before .is-row .ensures) (c .before .before .before .before .before .before .before .before .before .before .before .before .before .before .before .before .before .before .before .before .before .before .before .if1 .left) (c .before .before .before .before .before .before .before .before .before .before .before .before .before .before .before .before .before .before .before .before .before .before .row-of .ensures) in let o = opened (ready-wf r) R (c .before .before .before .before .before .before .before .before .before .before .before .before .before .before .before .before .node-at .ensures) in let h = o .shallow in omega arith)
+    (λ c κs. let r = c .before .before .before .before .before .before .before .before .before .before .before .before .before .before .before .before .before .before .before .before .before .before .before .before .before .before .pre .1 .0 in let R = row-at _ (c .before .before .before .before .before .before .before .before .before .before .before .before .before .before .before .before .before .before .before .before .before .before .before .before .before .before .pre .1 .1) (c .before .before .before .before .before .before .before .before .before .before .before .before .before .before .before .before .before .before .before .before .before .before .before .before .is-row .ensures) (c .before .before .before .before .before .before .before .before .before .before .before .before .before .before .before .before .before .before .before .before .before .before .before .if1 .left) (c .before .before .before .before .before .before .before .before .before .before .before .before .before .before .before .before .before .before .before .before .before .before .row-of .ensures) in let o = opened (ready-wf r) R (c .before .before .before .before .before .before .before .before .before .before .before .before .before .before .before .before .node-at .ensures) in row-pre r (shift-calls r o (c .before .before .before .before .before .before .before .before .before .before .before .before .before .before .before .before .before .before .before .before .before .before .before .before .before .before .pre .1 .2)) (c .before .before .before .before .before .before .before .before .before .before .low .given .1) (c .before .before .before .before .before .before .before .before .before .before .before .before .before .before .shift .ensures) (c .before .before .before .high .given .1) (c .before .before .before .before .before .before .before .shift2 .ensures))
+    (λ c κs. let R = row-at _ (c .before .before .before .before .before .before .before .before .before .before .before .before .before .before .before .before .before .before .before .before .before .before .before .before .before .before .before .before .before .before .pre .1 .1) (c .before .before .before .before .before .before .before .before .before .before .before .before .before .before .before .before .before .before .before .before .before .before .before .before .before .before .before .before .is-row .ensures) (c .before .before .before .before .before .before .before .before .before .before .before .before .before .before .before .before .before .before .before .before .before .before .before .before .before .before .before .if1 .left) (c .before .before .before .before .before .before .before .before .before .before .before .before .before .before .before .before .before .before .before .before .before .before .before .before .before .before .row-of .ensures) in (ready-wf (c .before .before .before .before .before .before .before .before .before .before .before .before .before .before .before .before .before .before .before .before .before .before .before .before .before .before .before .before .before .before .pre .1 .0) .bounded _ (R .used), c .before .before .before .make .ensures .good .sizes .room))
+    (λ c. search needs)
+    (λ c. let r = c .before .before .before .before .before .before .before .before .before .before .before .before .before .before .before .before .before .before .before .before .before .before .before .before .before .before .before .before .before .before .before .before .before .pre .1 .0 in let R = row-at _ (c .before .before .before .before .before .before .before .before .before .before .before .before .before .before .before .before .before .before .before .before .before .before .before .before .before .before .before .before .before .before .before .before .before .pre .1 .1) (c .before .before .before .before .before .before .before .before .before .before .before .before .before .before .before .before .before .before .before .before .before .before .before .before .before .before .before .before .before .before .before .is-row .ensures) (c .before .before .before .before .before .before .before .before .before .before .before .before .before .before .before .before .before .before .before .before .before .before .before .before .before .before .before .before .before .before .if1 .left) (c .before .before .before .before .before .before .before .before .before .before .before .before .before .before .before .before .before .before .before .before .before .before .before .before .before .before .before .before .before .row-of .ensures) in let o = opened (ready-wf r) R (c .before .before .before .before .before .before .before .before .before .before .before .before .before .before .before .before .before .before .before .before .before .before .before .node-at .ensures) in row-kept r 2 R (row-made r (shift-calls r o (c .before .before .before .before .before .before .before .before .before .before .before .before .before .before .before .before .before .before .before .before .before .before .before .before .before .before .before .before .before .before .before .before .before .pre .1 .2)) (c .before .before .before .before .before .before .before .before .before .before .before .before .before .before .before .before .before .low .given .1) (c .before .before .before .before .before .before .before .before .before .before .before .before .before .before .before .before .before .before .before .before .before .shift .ensures) (c .before .before .before .before .before .before .before .before .before .before .high .given .1) (c .before .before .before .before .before .before .before .before .before .before .before .before .before .before .shift2 .ensures) (c .before .before .before .before .before .before .make .ensures)) (c .before .before .remember-row .ensures))
