@@ -16,7 +16,6 @@ use Rattle.soundness.specs.Sound.{Sound}
 use Rattle.soundness.specs.Filled.{filled, filled-arrow}
 use Rattle.collect.specs.Gather.{Gathered}
 use Rattle.collect.specs.Lent.{live, filled-marks}
-use Rattle.collect.specs.Needed.{chosen, chosen-need}
 use Rattle.collect.specs.Freed.{Freed, freed, freed-count}
 
 -- what freeing rows asks
@@ -29,6 +28,11 @@ pub record CollectPost (W X : View) (r : ℕ) : Type 0 where
   pub freed : Freed W X (filled W)
   pub needs : r ≡ need (2 * W .header BITS) (map (den (2 * W .header BITS) (rowsOf W)) (filled W))
 
+-- what freeing many rows leaves: the table as it was, or a collected one
+pub data FreeManyPost (W X : View) : Type 0 where
+  few : X ≡ W → FreeManyPost W X
+  many : Freed W X (filled W) → FreeManyPost W X
+
 -- what marking asks of a sound table
 pub sound-base : {W : View} → Sound W → Base W MARK-WORDS
 sound-base s = record { words = s .good .sizes .room; rows = s .good .rows; room = s .good .sizes .N-max }
@@ -36,17 +40,13 @@ sound-base s = record { words = s .good .sizes .room; rows = s .good .rows; room
 live-arrow : {W : View} {xs : List ℕ} → FreePre W xs → (a : ℕ) → Mem a (live W xs) → Arrow (rowsOf W) a
 live-arrow {W} p a h = ⊎-elim (filled-arrow (p .sound) a) (p .arrows a) (append-cases (filled W) h)
 
--- the steps of `needed`: z and m are the marks before and after
-pub live-need : (W : View) (xs z m : List ℕ) → FreePre W xs → ((i : ℕ) → On z i → ⊥) → MarksAll (rowsOf W) z m (λ a. Mem a (live W xs)) → {r : ℕ} → r ≡ length (chosen W m (W .header USED))
-    → r ≡ need (2 * W .header BITS) (map (den (2 * W .header BITS) (rowsOf W)) (live W xs))
-live-need W xs z m p none k e = e ∙ chosen-need W (p .sound .good) z m (live W xs) none (live-arrow p) k
-
--- the steps of `free_rows`, and of `collect_rows`
+-- the steps of `free_rows`, of `free_many` and of `collect_rows`
 module _ (W X : View) (z m : List ℕ) (none : (i : ℕ) → On z i → ⊥) (g : Gathered W X m) where
   pub free-by : (xs : List ℕ) → FreePre W xs → MarksAll (rowsOf W) z m (λ a. Mem a (live W xs)) → Freed W X (live W xs)
   free-by xs p k = freed W (p .sound) (live W xs) (live-arrow p) (λ a h. append-left xs h) z m none k X g
 
+  pub filled-by : Sound W → MarksAll (rowsOf W) z m (Held W FIRST-REGISTER ROOTS-END) → Freed W X (filled W)
+  filled-by s k = freed W s (filled W) (filled-arrow s) (λ a h. h) z m none (filled-marks k) X g
+
   pub collect-by : Sound W → MarksAll (rowsOf W) z m (Held W FIRST-REGISTER ROOTS-END) → {r : ℕ} → r ≡ X .header USED → CollectPost W X r
-  collect-by s k e =
-      let f = freed W s (filled W) (filled-arrow s) (λ a h. h) z m none (filled-marks k) X g in
-      record { freed = f; needs = e ∙ freed-count W X (filled W) s f }
+  collect-by s k e = let f = filled-by s k in record { freed = f; needs = e ∙ freed-count W X (filled W) s f }

@@ -1,5 +1,5 @@
 pub mod Gather
 pub mod Lent
-pub mod Needed
+pub mod Counted
 pub mod Freed
 pub mod Answers

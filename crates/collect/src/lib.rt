@@ -12,10 +12,10 @@ use soundness::mark_refs;
 use soundness::marked;
 use table::append;
 ghost use mathlib.Core.Path.{_≡_};
-ghost use mathlib.Core.List.{map, _++_, List·Memᴰ as Mem};
+ghost use mathlib.Core.List.{_++_, List·Memᴰ as Mem};
 ghost use Prim.Native.Nat.{ℕ, _*_, _<_, _≤_};
 ghost use lib.ListN.{length};
-ghost use Rattle.layout.specs.Places.{MAX-ROWS, BITS, USED, FIRST-REGISTER, ROOTS-END, wordsFor};
+ghost use Rattle.layout.specs.Places.{MAX-ROWS, USED, FIRST-REGISTER, ROOTS-END, wordsFor};
 ghost use Rattle.layout.specs.View.{view, headerOf, listOf, putHeader};
 ghost use Rattle.soundness.specs.Used.{rowsOf, Ranked};
 ghost use Rattle.soundness.specs.Bits.{On};
@@ -23,11 +23,9 @@ ghost use Rattle.soundness.specs.Roots.{MarksAll, RefsPre};
 ghost use Rattle.soundness.specs.Sound.{Good, Sound};
 ghost use Rattle.collect.specs.Lent.{LentPre, live};
 ghost use Rattle.collect.specs.Gather.{Headed, Part, GatherPre, Gathered};
-ghost use Rattle.diagram.specs.Rows.{den};
-ghost use Rattle.diagram.specs.Need.{need};
-ghost use Rattle.collect.specs.Needed.{markOf, chosen};
+ghost use Rattle.collect.specs.Counted.{markOf, markCount};
 ghost use Rattle.collect.specs.Freed.{Freed};
-ghost use Rattle.collect.specs.Answers.{FreePre, CollectPost};
+ghost use Rattle.collect.specs.Answers.{FreePre, CollectPost, FreeManyPost};
 
 // Marks the rows that a list of arrows reaches.
 fn mark_list(words: &[u32], rows: u32, marks: &mut [u32], roots: &[u32])
@@ -64,7 +62,7 @@ fn mark_of(marks: &[u32], i: u32) -> u32
 // How many rows are marked.
 fn count_marks(words: &[u32], rows: u32, marks: &[u32]) -> u32
     requires { ⌜ Ranked (view rows (now words)) × (rows ≤ 32 * length (now marks)) × (wordsFor rows ≤ length (now words)) ⌝ }
-    ensures { λ r. ⌜ r ≡ length (chosen (view rows (now (words .entry))) (now (marks .entry)) (headerOf (now (words .entry)) USED)) ⌝ }
+    ensures { λ r. ⌜ r ≡ markCount (view rows (now (words .entry))) (now (marks .entry)) (headerOf (now (words .entry)) USED) ⌝ }
 {
     let used = header_word(words, Table::USED);
     let mut found: u32 = 0;
@@ -74,16 +72,6 @@ fn count_marks(words: &[u32], rows: u32, marks: &[u32]) -> u32
         k += 1;
     }
     found
-}
-
-// How many rows registers, relations and further roots need.
-pub fn needed(words: &[u32], rows: u32, roots: &[u32]) -> u32
-    requires { ⌜ FreePre (view rows (now words)) (now roots) ⌝ }
-    ensures { λ r. ⌜ r ≡ need (2 * headerOf (now (words .entry)) BITS) (map (den (2 * headerOf (now (words .entry)) BITS) (rowsOf (view rows (now (words .entry))))) (live (view rows (now (words .entry))) (now (roots .entry)))) ⌝ }
-{
-    let mut marks = [0u32; Bitmap::WORDS];
-    mark_roots(words, rows, &mut marks, roots);
-    count_marks(words, rows, &marks)
 }
 
 // The heads of the buckets of the first `total` listed rows become empty.
@@ -126,6 +114,34 @@ fn gather(words: &mut [u32], rows: u32, marks: &[u32])
     put_header(words, rows, Table::USED, 0);
     clear_heads(words, rows, total);
     regather(words, rows, total, marks);
+}
+
+// Whether the used rows are many more than the marked ones.
+fn many_unmarked(words: &[u32], rows: u32, marks: &[u32]) -> bool
+    requires { ⌜ Ranked (view rows (now words)) × (rows ≤ 32 * length (now marks)) × (wordsFor rows ≤ length (now words)) ⌝ }
+{
+    let used = header_word(words, Table::USED) as u64;
+    let kept = count_marks(words, rows, marks) as u64;
+    4 * used > 5 * kept + 256
+}
+
+// Frees the rows that no register and no relation needs, where they are many.
+pub fn free_many(words: &mut [u32], rows: u32)
+    requires { ⌜ Sound (view rows (now words)) ⌝ }
+    ensures { λ _. ⌜ FreeManyPost (view rows (now (words .entry))) (view rows (now (words .exit))) ⌝ }
+{
+    let mut marks = [0u32; Bitmap::WORDS];
+    mark_refs(
+        words,
+        rows,
+        &mut marks,
+        Table::FIRST_REGISTER,
+        Table::ROOTS_END,
+    );
+    if !many_unmarked(words, rows, &marks) {
+        return;
+    }
+    gather(words, rows, &marks);
 }
 
 // Frees the rows that no register, no relation and none of two lists of further roots needs.

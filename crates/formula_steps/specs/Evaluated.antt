@@ -28,7 +28,8 @@ use Rattle.contract.specs.Seen.{arrowIn, seenIn, seen, SoundWords, table-sound}
 use Rattle.contract.specs.Kept.{Exact, freeWord, target, changes}
 use Rattle.contract.specs.Posts.{CallPost}
 use Rattle.contract.specs.Roots.{collects-roots}
-use Rattle.operations.specs.Work.{OpFrame}
+use Rattle.collect.specs.Answers.{FreeManyPost, few, many}
+use Rattle.operations.specs.Work.{OpFrame, op-made}
 
 -- ---- the words that are left
 
@@ -181,6 +182,10 @@ module _ (X : View) (t a : ℕ) (l : t < RELATIONS) where
 pub data Tidied (Y Z : View) : Type 0 where
   as-it-was : Z ≡ Y → Tidied Y Z
   freed : Good Z → OpFrame Y Z → Collects (rowsOf Y) (rowsOf Z) (filled Y) → Tidied Y Z
+
+pub tidied-by : {Y Z : View} → FreeManyPost Y Z → Tidied Y Z
+tidied-by (few e) = as-it-was e
+tidied-by (many p) = freed (p .sound .good) (op-made (p .frame)) (p .collects)
 
 -- a call that serves up to its collection serves with it
 pub tidied-served : (b : Book) (c : Call) (t : Table) (y : Reply) {Y Z : View} → Good Y → Tidied Y Z → Serves b c t (seenIn Y) y → Good Z × Serves b c t (seenIn Z) y

@@ -1,6 +1,5 @@
 // The steps of the calls that take a formula, after their checks: the formula is evaluated, what it gives is stored, and rows are freed where many are not needed any more.
-use collect::collect_rows;
-use collect::needed;
+use collect::free_many;
 use evaluator::Evaluated;
 use evaluator::evaluate_set;
 use layout::Refusal;
@@ -45,29 +44,17 @@ fn tallied(tally: u32, rounds: u32) -> u32
     tally + rounds
 }
 
-// Whether the used rows are many more than those that registers and relations need. The rows needed are counted only where the used ones
-// have passed a multiple of 64 since `before`, so that a call that makes few rows does not pay for a count.
-fn grown(words: &[u32], rows: u32, before: u32) -> bool
-    requires { ⌜ Sound (view rows (now words)) ⌝ }
-{
-    let used = header_word(words, Table::USED);
-    if used / 64 == before / 64 {
-        return false;
-    }
-    let none = [0u32; 1];
-    let kept = needed(words, rows, &none[..0]) as u64;
-    4 * (used as u64) > 5 * kept + 256
-}
-
-// Frees the rows that no register and no relation needs, where there are many; `before` rows were used at the call's start.
+// Frees the rows that no register and no relation needs, where they are many. Looked at only where the used rows have passed a multiple of 64
+// since `before` at the call's start, so that a call that makes few rows does not pay for it.
 fn tidy(words: &mut [u32], rows: u32, before: u32)
     requires { ⌜ Sound (view rows (now words)) ⌝ }
     ensures { λ _. ⌜ Tidied (view rows (now (words .entry))) (view rows (now (words .exit))) ⌝ }
 {
-    if !grown(words, rows, before) {
+    let used = header_word(words, Table::USED);
+    if used / 64 == before / 64 {
         return;
     }
-    collect_rows(words, rows);
+    free_many(words, rows);
 }
 
 // Stores what an evaluation gave in register r, and tallies its rounds.
