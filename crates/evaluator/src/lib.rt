@@ -39,8 +39,8 @@ pub enum Evaluated {
     Spent,
 }
 
-// For each open variable the place of its binder's current set on the stack.
-type Places = [usize; Grammar::VARIABLES];
+// For each open variable the place of its binder's current set on the stack. Bytes, since a context is copied at each part of a formula.
+type Places = [u8; Grammar::VARIABLES];
 
 // Where an evaluation stands: its place in the bytes, the depth left, how many words of the stack are live, the places of the open
 // variables among them, and the rounds counted.
@@ -68,12 +68,13 @@ fn answer(made: Made, next: usize, rounds: u32) -> Evaluated
 
 // The places with a variable's place.
 fn with_place(places: Places, p: u32, place: usize) -> Places
+    requires { ⌜ place < depthLimit ⌝ }
     ensures { λ r. ⌜ r ≡ set places p place ⌝ }
 {
     let mut inner = places;
     let i = p as usize;
     if i < Grammar::VARIABLES {
-        inner[i] = place;
+        inner[i] = place as u8;
     }
     inner
 }
@@ -126,7 +127,7 @@ fn variable(stack: &[u32], places: Places, p: u32) -> u32
     ensures { λ r. ⌜ r ≡ getD (now (stack .entry)) (getD places p 0) 0 ⌝ }
 {
     let i = p as usize;
-    let place = places[i];
+    let place = places[i] as usize;
     stack[place]
 }
 
@@ -340,7 +341,7 @@ pub fn evaluate_set(words: &mut [u32], limits: Limits, bytes: &[u8]) -> Evaluate
 {
     forget(words, limits.rows);
     let mut stack = [0u32; Table::DEPTH];
-    let places = [0usize; Grammar::VARIABLES];
+    let places = [0u8; Grammar::VARIABLES];
     let start = Context {
         at: Frame::START,
         depth: Table::DEPTH,
