@@ -7,8 +7,8 @@ use layout::put;
 use layout::put_header;
 use layout::put_slot;
 use layout::slot;
+use table::Code;
 use table::Found;
-use table::Made;
 ghost use mathlib.Core.Path.{_≡_};
 ghost use Prim.Native.Nat.{ℕ, _*_, _<_, _≤_};
 ghost use lib.ListN.{length};
@@ -16,6 +16,7 @@ ghost use Rattle.layout.specs.Places.{SLOTS, wordsFor};
 ghost use Rattle.layout.specs.View.{view, headerOf, listOf};
 ghost use Rattle.soundness.specs.Checks.{Room};
 ghost use Rattle.soundness.specs.Sound.{Good};
+ghost use Rattle.table.specs.Code.{madeOf};
 ghost use Rattle.memory.specs.Memo.{firstOf, secondOf, Slots, RecallPost, RowPost};
 ghost use Rattle.memory.specs.Store.{Emptied, Fewer, Wrote, RememberPost, keepRow};
 ghost use Rattle.memory.specs.Forget.{FirstSlots, RowsForgot, Forgot};
@@ -149,13 +150,13 @@ fn write_entry(words: &mut [u32], rows: u32, x: u32, y: u32, r: u32)
 }
 
 // Remembers what an operation on a lesser and a greater arrow gives, if it was made.
-pub fn remember(words: &mut [u32], rows: u32, op: Op, lo: u32, hi: u32, made: Made)
+pub fn remember(words: &mut [u32], rows: u32, op: Op, lo: u32, hi: u32, r: u32)
     requires { ⌜ Room (view rows (now words)) × Slots (view rows (now words)) ⌝ }
-    ensures { λ _. ⌜ RememberPost (view rows (now (words .entry))) (view rows (now (words .exit))) (firstOf op lo hi) (secondOf op lo hi) made ⌝ }
+    ensures { λ _. ⌜ RememberPost (view rows (now (words .entry))) (view rows (now (words .exit))) (firstOf op lo hi) (secondOf op lo hi) (madeOf r) ⌝ }
 {
-    let Made::At(r) = made else {
+    if r == Code::FULL {
         return;
-    };
+    }
     count_stored(words, rows);
     let p = pair_of(op, lo, hi);
     write_entry(words, rows, p.x, p.y, r);
@@ -173,13 +174,13 @@ pub fn recall_row(words: &[u32], rows: u32, i: u32, key: u32) -> Found
 }
 
 // Row i remembers a result of this kind, if it was made.
-pub fn remember_row(words: &mut [u32], rows: u32, i: u32, key: u32, made: Made)
+pub fn remember_row(words: &mut [u32], rows: u32, i: u32, key: u32, r: u32)
     requires { ⌜ (i < rows) × (wordsFor rows ≤ length (now words)) ⌝ }
-    ensures { λ _. ⌜ view rows (now (words .exit)) ≡ keepRow (view rows (now (words .entry))) i key made ⌝ }
+    ensures { λ _. ⌜ view rows (now (words .exit)) ≡ keepRow (view rows (now (words .entry))) i key (madeOf r) ⌝ }
 {
-    let Made::At(r) = made else {
+    if r == Code::FULL {
         return;
-    };
+    }
     put(words, rows, i, Table::MEMO_KEY, key);
     put(words, rows, i, Table::MEMO_VALUE, r);
 }

@@ -17,6 +17,7 @@ use Rattle.diagram.specs.Recur.{Divides, two-divides}
 use Rattle.layout.specs.View.{View}
 use Rattle.layout.specs.Arrows.{isRow, rowOf, row-is, row-yes, no-row}
 use Rattle.soundness.specs.Used.{rowsOf, of-arrow}
+use Rattle.table.specs.Code.{madeOf}
 use Rattle.table.specs.declared.Made.{Made}
 use Rattle.table.specs.declared.Made.the-variants as answer
 use Rattle.table.specs.declared.Found.{Found}
@@ -230,7 +231,7 @@ halves-here {rows} l (suc (suc i)) h q r e =
 
 module _ {m N limit : ℕ} {W : View} {a b lo hi : ℕ} (r : Ready m N limit W) (o : Op) (w : Swap a b lo hi) (u : Arrow (rowsOf W) lo × Arrow (rowsOf W) hi) where
   -- what is known
-  pub known-worked : {v : ℕ} {f : Found} → lo ≤ hi → f ≡ find.At v → KnownPost W o lo hi f → Worked m N limit W W (answer.At v) (twoF (bitOp o) (den m (rowsOf W) a) (den m (rowsOf W) b))
+  pub known-worked : {v : ℕ} {f : Found} → lo ≤ hi → f ≡ find.At v → KnownPost W o lo hi f → Worked m N limit W W (madeOf v) (twoF (bitOp o) (den m (rowsOf W) a) (den m (rowsOf W) b))
   known-worked {v} l e p = worked-cong (swap-fn m (rowsOf W) o w) (worked-there r (right (rw e at p)))
     where
       right : KnownAt W o lo hi v → Denotes m (rowsOf W) v (twoF (bitOp o) (den m (rowsOf W) lo) (den m (rowsOf W) hi))

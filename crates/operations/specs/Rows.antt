@@ -17,6 +17,7 @@ use Rattle.diagram.specs.Recur.{Divides, not-divides, exists-divides, shift-div
 use Rattle.layout.specs.View.{View}
 use Rattle.layout.specs.Arrows.{isRow, no-row}
 use Rattle.soundness.specs.Used.{used, rowsOf}
+use Rattle.table.specs.Code.{madeOf}
 use Rattle.table.specs.declared.Made.{Made}
 use Rattle.table.specs.declared.Made.the-variants as answer
 use Rattle.table.specs.declared.Found.{Found}
@@ -47,22 +48,22 @@ level-constant m rows (suc zero) h = refl
 level-constant m rows (suc (suc i)) h = absurd (omega arith)
 
 module _ {m N limit : ℕ} {W : View} (r : Ready m N limit W) where
-  pub not-constant : (a : ℕ) → isRow a ≡ false → Worked m N limit W W (answer.At (1 - a)) (notF (den m (rowsOf W) a))
+  pub not-constant : (a : ℕ) → isRow a ≡ false → Worked m N limit W W (madeOf (1 - a)) (notF (den m (rowsOf W) a))
   not-constant a h = worked-there r (not-is m (rowsOf W) a (no-row a h))
 
-  pub shift-constant : (a : ℕ) → isRow a ≡ false → Worked m N limit W W (answer.At a) (shiftF (den m (rowsOf W) a))
+  pub shift-constant : (a : ℕ) → isRow a ≡ false → Worked m N limit W W (madeOf a) (shiftF (den m (rowsOf W) a))
   shift-constant a h = worked-there r (shift-is m (rowsOf W) a (no-row a h))
 
   -- EXISTS at x below the arrow's level
-  pub exists-deeper : (x a : ℕ) → Arrow (rowsOf W) a → x < levelOf m (rowsOf W) a → Worked m N limit W W (answer.At a) (existsF x (den m (rowsOf W) a))
+  pub exists-deeper : (x a : ℕ) → Arrow (rowsOf W) a → x < levelOf m (rowsOf W) a → Worked m N limit W W (madeOf a) (existsF x (den m (rowsOf W) a))
   exists-deeper x a u h = let p = exists-leaf (ready-wf r) {limit = limit} x a u h in worked-there r (p .result)
 
-  pub exists-constant : (x a : ℕ) → x < m → Arrow (rowsOf W) a → isRow a ≡ false → Worked m N limit W W (answer.At a) (existsF x (den m (rowsOf W) a))
+  pub exists-constant : (x a : ℕ) → x < m → Arrow (rowsOf W) a → isRow a ≡ false → Worked m N limit W W (madeOf a) (existsF x (den m (rowsOf W) a))
   exists-constant x a h u n = exists-deeper x a u (rw (level-constant m (rowsOf W) a (no-row a n)) h)
 
   -- what row i remembers
   pub row-known : {a i v : ℕ} {f : Found} (key : ℕ) → key ≢ 0 → RowAt (rowsOf W) a i → f ≡ find.At v → RowPost W i key f
-      → Worked m N limit W W (answer.At v) (unaryF key (den m (rowsOf W) a))
+      → Worked m N limit W W (madeOf v) (unaryF key (den m (rowsOf W) a))
   row-known {a} {i} {v = v} key n o e p =
       worked-there r (subst (λ (b : ℕ). Denotes m (rowsOf W) v (unaryF key (den m (rowsOf W) b))) (sym (o .is)) (row-right (r .memory) (o .used) n (rw e at p)))
 
@@ -111,8 +112,8 @@ pub exists-key : (x : ℕ) (f : Fn) → unaryF (3 + x) f ≡ existsF x f
 exists-key x f = let e : 3 + x ≡ suc (suc (suc x)) = omega arith in rw e
 
 module _ {m N limit : ℕ} {W : View} {a i : ℕ} (r : Ready m N limit W) (x : ℕ) (q : RowAt (rowsOf W) a i) where
-  pub exists-known : {v : ℕ} {f : Found} → f ≡ find.At v → RowPost W i (3 + x) f → Worked m N limit W W (answer.At v) (existsF x (den m (rowsOf W) a))
-  exists-known {v} e p = subst (λ (f : Fn). Worked m N limit W W (answer.At v) f) (exists-key x (den m (rowsOf W) a)) (row-known r (3 + x) (omega arith) q e p)
+  pub exists-known : {v : ℕ} {f : Found} → f ≡ find.At v → RowPost W i (3 + x) f → Worked m N limit W W (madeOf v) (existsF x (den m (rowsOf W) a))
+  exists-known {v} e p = subst (λ (f : Fn). Worked m N limit W W (madeOf v) f) (exists-key x (den m (rowsOf W) a)) (row-known r (3 + x) (omega arith) q e p)
 
   pub exists-kept : {X Y : View} {o : Made} → Worked m N limit W X o (existsF x (den m (rowsOf W) a)) → Y ≡ keepRow X i (3 + x) o → Worked m N limit W Y o (existsF x (den m (rowsOf W) a))
   exists-kept {X} {Y} {o} w e =

@@ -16,6 +16,7 @@ use Rattle.soundness.specs.Checks.{Room}
 use Rattle.soundness.specs.Sound.{Good}
 use Rattle.soundness.specs.Alike.{alike-good}
 use Rattle.table.specs.Add.{Frame, Fit}
+use Rattle.table.specs.Code.{FULL, madeOf, code-full, code-is, code-at, arrow-code}
 use Rattle.table.specs.Make.{result, MakePre, MakePost}
 use Rattle.table.specs.Find.{good-room}
 use Rattle.table.specs.Keep.{made-extends}
@@ -86,8 +87,8 @@ module _ {m N limit : ℕ} {W : View} (r : Ready m N limit W) where
   ready-next w = ready-frame (w .frame) (w .good) (w .memory)
 
   -- an answer that is there already
-  pub worked-there : {a : ℕ} {F : Fn} → Denotes m (rowsOf W) a F → Worked m N limit W W (answer.At a) F
-  worked-there d = record { good = r .good; memory = r .memory; frame = op-refl W; post = post-arrow ready-wf d }
+  pub worked-there : {a : ℕ} {F : Fn} → Denotes m (rowsOf W) a F → Worked m N limit W W (madeOf a) F
+  worked-there {a} d = rw (arrow-code a (r .good) (d .arrow)) (record { good = r .good; memory = r .memory; frame = op-refl W; post = post-arrow ready-wf d })
 
   -- what the making of a row asks
   pub make-pre : {l lo hi : ℕ} → Fit m (rowsOf W) l lo hi → MakePre W limit l lo hi
@@ -125,20 +126,22 @@ worked-kept {m} {N} {limit} {W} {o = o} {F = F} w f g = record {
 -- an operation for F by two calls, for F0 and then for F1, and the making of a row at level l
 module _ {m N limit : ℕ} {W : View} {l : ℕ} {F F0 : Fn} {F1 : Rows → Fn} (r : Ready m N limit W) (d : Divides m (rowsOf W) l F F0 F1) where
   -- the rows run out in the first call
-  pub low-stops : {X : View} {o : Made} → o ≡ answer.Full → Worked m N limit W X o F0 → Worked m N limit W X answer.Full F
-  low-stops e w = let p = rw e at w in record { good = p .good; memory = p .memory; frame = p .frame; post = divided d (low-full (p .post)) }
+  pub low-stops : {X : View} {x : ℕ} → x ≡ FULL → Worked m N limit W X (madeOf x) F0 → Worked m N limit W X (madeOf FULL) F
+  low-stops {x = x} e w = let p = rw (code-is x e) at w in rw code-full (record { good = p .good; memory = p .memory; frame = p .frame; post = divided d (low-full (p .post)) })
 
-  module _ {X₁ : View} {o₁ : Made} {x : ℕ} (e₁ : o₁ ≡ answer.At x) (w₁ : Worked m N limit W X₁ o₁ F0) where
+  module _ {X₁ : View} {x : ℕ} (n₁ : x ≢ FULL) (w₁ : Worked m N limit W X₁ (madeOf x) F0) where
     first : Worked m N limit W X₁ (answer.At x) F0
-    first = rw e₁ at w₁
+    first = rw (code-at x n₁) at w₁
 
     -- in the second
-    pub high-stops : {X₂ : View} {o : Made} → o ≡ answer.Full → Worked m N limit X₁ X₂ o (F1 (rowsOf X₁)) → Worked m N limit W X₂ answer.Full F
-    high-stops e w = let q = rw e at w in record { good = q .good; memory = q .memory; frame = op-trans (w₁ .frame) (q .frame); post = divided d (high-full (first .post) (q .post)) }
+    pub high-stops : {X₂ : View} {y : ℕ} → y ≡ FULL → Worked m N limit X₁ X₂ (madeOf y) (F1 (rowsOf X₁)) → Worked m N limit W X₂ (madeOf FULL) F
+    high-stops {y = y} e w =
+        let q = rw (code-is y e) at w in
+        rw code-full (record { good = q .good; memory = q .memory; frame = op-trans (w₁ .frame) (q .frame); post = divided d (high-full (first .post) (q .post)) })
 
-    module _ {X₂ : View} {o₂ : Made} {y : ℕ} (e₂ : o₂ ≡ answer.At y) (w₂ : Worked m N limit X₁ X₂ o₂ (F1 (rowsOf X₁))) where
+    module _ {X₂ : View} {y : ℕ} (n₂ : y ≢ FULL) (w₂ : Worked m N limit X₁ X₂ (madeOf y) (F1 (rowsOf X₁))) where
       second : Worked m N limit X₁ X₂ (answer.At y) (F1 (rowsOf X₁))
-      second = rw e₂ at w₂
+      second = rw (code-at y n₂) at w₂
 
       deeper : (a : ℕ) (G : Fn) → Reads (suc l) m G → Denotes m (rowsOf X₂) a G → l < levelOf m (rowsOf X₂) a
       deeper a G s p = reads-level (second .post .wf) (suc l) a (d .shallow) (p .arrow) (λ v w h. p .same v ∙ s v w h ∙ sym (p .same w))

@@ -1,4 +1,5 @@
 // The operations on arrows: a bit, NOT, AND, OR, SHIFT and EXISTS at one level. None of them frees a row.
+// Each answers an arrow, or `Code::FULL` where the rows ran out.
 use layout::Table;
 use layout::get;
 use layout::is_row;
@@ -9,8 +10,8 @@ use memory::recall;
 use memory::recall_row;
 use memory::remember;
 use memory::remember_row;
+use table::Code;
 use table::Found;
-use table::Made;
 use table::make;
 ghost use mathlib.Core.Path.{_≡_};
 ghost use mathlib.Core.Bool.{true};
@@ -24,6 +25,7 @@ ghost use Rattle.layout.specs.View.{view};
 ghost use Rattle.layout.specs.Arrows.{isRow, rowOf};
 ghost use Rattle.soundness.specs.Used.{rowsOf};
 ghost use Rattle.soundness.specs.Checks.{Room};
+ghost use Rattle.table.specs.Code.{madeOf};
 ghost use Rattle.memory.specs.Memo.{Slots, bitOp};
 ghost use Rattle.operations.specs.Work.{Ready, Worked};
 ghost use Rattle.operations.specs.Open.{RowIs};
@@ -49,58 +51,62 @@ fn node_at(words: &[u32], rows: u32, i: u32) -> Node
 }
 
 // The function of one level.
-pub fn bit(words: &mut [u32], rows: u32, levels: u32, limit: u32, level: u32) -> Made
+pub fn bit(words: &mut [u32], rows: u32, levels: u32, limit: u32, level: u32) -> u32
     requires { ⌜ Ready levels rows limit (view rows (now words)) × (level < levels) ⌝ }
-    ensures { λ r. ⌜ Worked levels rows limit (view rows (now (words .entry))) (view rows (now (words .exit))) r (bitF level) ⌝ }
+    ensures { λ r. ⌜ Worked levels rows limit (view rows (now (words .entry))) (view rows (now (words .exit))) (madeOf r) (bitF level) ⌝ }
 {
     make(words, rows, limit, level, Table::NOTHING, Table::EVERYTHING)
 }
 
 // NOT of an arrow.
-pub fn not(words: &mut [u32], rows: u32, levels: u32, limit: u32, a: u32) -> Made
+pub fn not(words: &mut [u32], rows: u32, levels: u32, limit: u32, a: u32) -> u32
     requires { ⌜ Ready levels rows limit (view rows (now words)) × Arrow (rowsOf (view rows (now words))) a ⌝ }
-    ensures { λ r. ⌜ Worked levels rows limit (view rows (now (words .entry))) (view rows (now (words .exit))) r (notF (den levels (rowsOf (view rows (now (words .entry)))) a)) ⌝ }
+    ensures { λ r. ⌜ Worked levels rows limit (view rows (now (words .entry))) (view rows (now (words .exit))) (madeOf r) (notF (den levels (rowsOf (view rows (now (words .entry)))) a)) ⌝ }
 {
     if !is_row(a) {
-        return Made::At(Table::EVERYTHING - a);
+        return Table::EVERYTHING - a;
     }
     let i = row_of(a);
     let known = recall_row(words, rows, i, Memory::NOT);
     if let Found::At(r) = known {
-        return Made::At(r);
+        return r;
     }
     let n = node_at(words, rows, i);
-    let Made::At(low) = not(words, rows, levels, limit, n.low) else {
-        return Made::Full;
-    };
-    let Made::At(high) = not(words, rows, levels, limit, n.high) else {
-        return Made::Full;
-    };
+    let low = not(words, rows, levels, limit, n.low);
+    if low == Code::FULL {
+        return Code::FULL;
+    }
+    let high = not(words, rows, levels, limit, n.high);
+    if high == Code::FULL {
+        return Code::FULL;
+    }
     let made = make(words, rows, limit, n.level, low, high);
     remember_row(words, rows, i, Memory::NOT, made);
     made
 }
 
 // SHIFT of an arrow whose rows all have even levels: every level becomes the next one.
-pub fn shift(words: &mut [u32], rows: u32, levels: u32, limit: u32, a: u32) -> Made
+pub fn shift(words: &mut [u32], rows: u32, levels: u32, limit: u32, a: u32) -> u32
     requires { ⌜ Ready levels rows limit (view rows (now words)) × Arrow (rowsOf (view rows (now words))) a × ReadsOn even (den levels (rowsOf (view rows (now words))) a) ⌝ }
-    ensures { λ r. ⌜ Worked levels rows limit (view rows (now (words .entry))) (view rows (now (words .exit))) r (shiftF (den levels (rowsOf (view rows (now (words .entry)))) a)) ⌝ }
+    ensures { λ r. ⌜ Worked levels rows limit (view rows (now (words .entry))) (view rows (now (words .exit))) (madeOf r) (shiftF (den levels (rowsOf (view rows (now (words .entry)))) a)) ⌝ }
 {
     if !is_row(a) {
-        return Made::At(a);
+        return a;
     }
     let i = row_of(a);
     let known = recall_row(words, rows, i, Memory::SHIFT);
     if let Found::At(r) = known {
-        return Made::At(r);
+        return r;
     }
     let n = node_at(words, rows, i);
-    let Made::At(low) = shift(words, rows, levels, limit, n.low) else {
-        return Made::Full;
-    };
-    let Made::At(high) = shift(words, rows, levels, limit, n.high) else {
-        return Made::Full;
-    };
+    let low = shift(words, rows, levels, limit, n.low);
+    if low == Code::FULL {
+        return Code::FULL;
+    }
+    let high = shift(words, rows, levels, limit, n.high);
+    if high == Code::FULL {
+        return Code::FULL;
+    }
     let made = make(words, rows, limit, n.level + 1, low, high);
     remember_row(words, rows, i, Memory::SHIFT, made);
     made
@@ -195,58 +201,62 @@ fn halve(words: &[u32], rows: u32, level: u32, a: u32) -> Halves
 }
 
 // AND or OR of two arrows.
-pub fn apply(words: &mut [u32], rows: u32, levels: u32, limit: u32, op: Op, a: u32, b: u32) -> Made
+pub fn apply(words: &mut [u32], rows: u32, levels: u32, limit: u32, op: Op, a: u32, b: u32) -> u32
     requires { ⌜ Ready levels rows limit (view rows (now words)) × Arrow (rowsOf (view rows (now words))) a × Arrow (rowsOf (view rows (now words))) b ⌝ }
-    ensures { λ r. ⌜ Worked levels rows limit (view rows (now (words .entry))) (view rows (now (words .exit))) r (twoF (bitOp op) (den levels (rowsOf (view rows (now (words .entry)))) a) (den levels (rowsOf (view rows (now (words .entry)))) b)) ⌝ }
+    ensures { λ r. ⌜ Worked levels rows limit (view rows (now (words .entry))) (view rows (now (words .exit))) (madeOf r) (twoF (bitOp op) (den levels (rowsOf (view rows (now (words .entry)))) a) (den levels (rowsOf (view rows (now (words .entry)))) b)) ⌝ }
 {
     let p = sort(a, b);
     let found = known(words, rows, op, p.lo, p.hi);
     if let Found::At(r) = found {
-        return Made::At(r);
+        return r;
     }
     let level = top(words, rows, p.lo, p.hi);
     let x = halve(words, rows, level, p.lo);
     let y = halve(words, rows, level, p.hi);
-    let Made::At(low) = apply(words, rows, levels, limit, op, x.low, y.low) else {
-        return Made::Full;
-    };
-    let Made::At(high) = apply(words, rows, levels, limit, op, x.high, y.high) else {
-        return Made::Full;
-    };
+    let low = apply(words, rows, levels, limit, op, x.low, y.low);
+    if low == Code::FULL {
+        return Code::FULL;
+    }
+    let high = apply(words, rows, levels, limit, op, x.high, y.high);
+    if high == Code::FULL {
+        return Code::FULL;
+    }
     let made = make(words, rows, limit, level, low, high);
     remember(words, rows, op, p.lo, p.hi, made);
     made
 }
 
 // EXISTS at level x of an arrow.
-pub fn exists(words: &mut [u32], rows: u32, levels: u32, limit: u32, x: u32, a: u32) -> Made
+pub fn exists(words: &mut [u32], rows: u32, levels: u32, limit: u32, x: u32, a: u32) -> u32
     requires { ⌜ Ready levels rows limit (view rows (now words)) × Arrow (rowsOf (view rows (now words))) a × (x < levels) ⌝ }
-    ensures { λ r. ⌜ Worked levels rows limit (view rows (now (words .entry))) (view rows (now (words .exit))) r (existsF x (den levels (rowsOf (view rows (now (words .entry)))) a)) ⌝ }
+    ensures { λ r. ⌜ Worked levels rows limit (view rows (now (words .entry))) (view rows (now (words .exit))) (madeOf r) (existsF x (den levels (rowsOf (view rows (now (words .entry)))) a)) ⌝ }
 {
     if !is_row(a) {
-        return Made::At(a);
+        return a;
     }
     let i = row_of(a);
     let n = node_at(words, rows, i);
     if n.level > x {
-        return Made::At(a);
+        return a;
     }
     let key = Memory::EXISTS + x;
     let found = recall_row(words, rows, i, key);
     if let Found::At(r) = found {
-        return Made::At(r);
+        return r;
     }
     if n.level == x {
         let made = apply(words, rows, levels, limit, Op::Or, n.low, n.high);
         remember_row(words, rows, i, key, made);
         return made;
     }
-    let Made::At(low) = exists(words, rows, levels, limit, x, n.low) else {
-        return Made::Full;
-    };
-    let Made::At(high) = exists(words, rows, levels, limit, x, n.high) else {
-        return Made::Full;
-    };
+    let low = exists(words, rows, levels, limit, x, n.low);
+    if low == Code::FULL {
+        return Code::FULL;
+    }
+    let high = exists(words, rows, levels, limit, x, n.high);
+    if high == Code::FULL {
+        return Code::FULL;
+    }
     let made = make(words, rows, limit, n.level, low, high);
     remember_row(words, rows, i, key, made);
     made

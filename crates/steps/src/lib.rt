@@ -10,9 +10,11 @@ use operations::exists;
 use operations::not;
 use operations::shift;
 use table::Made;
+use table::made_of;
 ghost use mathlib.Core.Path.{_≡_};
 ghost use Rattle.layout.specs.View.{view};
 ghost use Rattle.soundness.specs.Used.{rowsOf};
+ghost use Rattle.table.specs.Code.{madeOf};
 ghost use Rattle.operations.specs.Work.{Ready, Worked};
 ghost use Rattle.steps.specs.Steps.{stepF, firstOperand, secondOperand, Fits, StepPre, Stepped};
 ghost use Rattle.steps.specs.Clean.{CleanPre, Cleaned};
@@ -67,10 +69,10 @@ fn operands_of(step: Step) -> Operands
     }
 }
 
-// Tries a step.
-fn try_step(words: &mut [u32], rows: u32, levels: u32, limit: u32, step: Step) -> Made
+// Runs a step's operation: an arrow, or `Code::FULL` where the rows ran out.
+fn run_step(words: &mut [u32], rows: u32, levels: u32, limit: u32, step: Step) -> u32
     requires { ⌜ Ready levels rows limit (view rows (now words)) × Fits levels (rowsOf (view rows (now words))) step ⌝ }
-    ensures { λ r. ⌜ Worked levels rows limit (view rows (now (words .entry))) (view rows (now (words .exit))) r (stepF levels (rowsOf (view rows (now (words .entry)))) step) ⌝ }
+    ensures { λ r. ⌜ Worked levels rows limit (view rows (now (words .entry))) (view rows (now (words .exit))) (madeOf r) (stepF levels (rowsOf (view rows (now (words .entry)))) step) ⌝ }
 {
     match step {
         Step::Bit(l) => bit(words, rows, levels, limit, l),
@@ -80,6 +82,14 @@ fn try_step(words: &mut [u32], rows: u32, levels: u32, limit: u32, step: Step) -
         Step::Shift(a) => shift(words, rows, levels, limit, a),
         Step::Exists(x, a) => exists(words, rows, levels, limit, x, a),
     }
+}
+
+// Tries a step.
+fn try_step(words: &mut [u32], rows: u32, levels: u32, limit: u32, step: Step) -> Made
+    requires { ⌜ Ready levels rows limit (view rows (now words)) × Fits levels (rowsOf (view rows (now words))) step ⌝ }
+    ensures { λ r. ⌜ Worked levels rows limit (view rows (now (words .entry))) (view rows (now (words .exit))) r (stepF levels (rowsOf (view rows (now (words .entry)))) step) ⌝ }
+{
+    made_of(run_step(words, rows, levels, limit, step))
 }
 
 // Frees the rows that no register, no relation, no lent root, no operand and not one more arrow needs, and forgets what is remembered.

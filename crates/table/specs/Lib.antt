@@ -4,6 +4,7 @@ pub mod Fresh
 pub mod Count
 pub mod Find
 pub mod Add
+pub mod Code
 pub mod Make
 pub mod Store
 pub mod Keep

@@ -23,6 +23,7 @@ ghost use Rattle.table.specs.Fresh.{emptied};
 ghost use Rattle.table.specs.Append.{appended};
 ghost use Rattle.table.specs.Find.{FindPost, FreePost, UnusedPost};
 ghost use Rattle.table.specs.Add.{rowPut};
+ghost use Rattle.table.specs.Code.{madeOf};
 ghost use Rattle.table.specs.Make.{MakePre, MakePost, AddPre};
 
 // Every head becomes 0: a table is sound whatever its heads hold, and lookups are faster without old links.
@@ -151,44 +152,61 @@ pub enum Made {
     Full,
 }
 
+// The same answer as one number, which a register returns: the arrow, or FULL, which is no arrow.
+pub struct Code;
+
+impl Code {
+    pub const FULL: u32 = 4294967295;
+}
+
+// What a number answers.
+pub fn made_of(code: u32) -> Made
+    ensures { λ r. ⌜ r ≡ madeOf code ⌝ }
+{
+    if code == Code::FULL {
+        return Made::Full;
+    }
+    Made::At(code)
+}
+
 // Adds a row that is not there yet.
-fn add(words: &mut [u32], rows: u32, limit: u32, level: u32, low: u32, high: u32) -> Made
+fn add(words: &mut [u32], rows: u32, limit: u32, level: u32, low: u32, high: u32) -> u32
     requires { ⌜ AddPre (view rows (now words)) limit level low high ⌝ }
-    ensures { λ r. ⌜ MakePost (view rows (now (words .entry))) (view rows (now (words .exit))) limit level low high r ⌝ }
+    ensures { λ r. ⌜ MakePost (view rows (now (words .entry))) (view rows (now (words .exit))) limit level low high (madeOf r) ⌝ }
 {
     let i = unused_row(words, rows);
     if i >= rows {
-        return Made::Full;
+        return Code::FULL;
     }
     put_header(words, rows, Table::CURSOR, i + 1);
     write_row(words, rows, i, level, low, high);
     append(words, rows, i);
-    Made::At(arrow_of(i))
+    arrow_of(i)
 }
 
 // Adds a row that is not there yet, while fewer than `limit` are used.
-fn add_within(words: &mut [u32], rows: u32, limit: u32, level: u32, low: u32, high: u32) -> Made
+fn add_within(words: &mut [u32], rows: u32, limit: u32, level: u32, low: u32, high: u32) -> u32
     requires { ⌜ AddPre (view rows (now words)) limit level low high ⌝ }
-    ensures { λ r. ⌜ MakePost (view rows (now (words .entry))) (view rows (now (words .exit))) limit level low high r ⌝ }
+    ensures { λ r. ⌜ MakePost (view rows (now (words .entry))) (view rows (now (words .exit))) limit level low high (madeOf r) ⌝ }
 {
     let used = header_word(words, Table::USED);
     if used >= limit {
-        return Made::Full;
+        return Code::FULL;
     }
     add(words, rows, limit, level, low, high)
 }
 
 // The arrow of level, low and high: low where the two are the same, else a row that is found or added.
-pub fn make(words: &mut [u32], rows: u32, limit: u32, level: u32, low: u32, high: u32) -> Made
+pub fn make(words: &mut [u32], rows: u32, limit: u32, level: u32, low: u32, high: u32) -> u32
     requires { ⌜ MakePre (view rows (now words)) limit level low high ⌝ }
-    ensures { λ r. ⌜ MakePost (view rows (now (words .entry))) (view rows (now (words .exit))) limit level low high r ⌝ }
+    ensures { λ r. ⌜ MakePost (view rows (now (words .entry))) (view rows (now (words .exit))) limit level low high (madeOf r) ⌝ }
 {
     if low == high {
-        return Made::At(low);
+        return low;
     }
     let found = find(words, rows, level, low, high);
     match found {
-        Found::At(i) => Made::At(arrow_of(i)),
+        Found::At(i) => arrow_of(i),
         Found::Nothing => add_within(words, rows, limit, level, low, high),
     }
 }

@@ -1,5 +1,6 @@
 -- `remember` meets its contract: the result is counted and then written. Assumes nothing.
 use mathlib.Core.Path.{refl}
+use Rattle.table.specs.Code.{code-is, code-at}
 use Rattle.memory.specs.Frame.{room-memo}
 use borrow.Author.Needs.{needs}
 use Rattle.memory.proofs.remember.Statement.{statement}
@@ -9,11 +10,9 @@ pub remember-spec : {M : Type 1} → statement M
 remember-spec =
     tie.close
     (tie.spec
-    (λ c. search needs)
-    (λ c. search needs)
-    (λ c. rw (c .enum-told .given .1) refl)
+    (λ c. rw (code-is _ (c .if1 .taken)) refl)
     (λ c κs. search needs)
     (λ c κs. search needs)
-    (λ c κs. (room-memo (c .before .before .before .before .count-stored .ensures .frame) refl (c .before .before .before .before .before .before .before .before .before .before .pre .0), c .before .before .before .before .count-stored .ensures .sizes))
+    (λ c κs. (room-memo (c .before .before .before .before .count-stored .ensures .frame) refl (c .before .before .before .before .before .before .before .before .pre .0), c .before .before .before .before .count-stored .ensures .sizes))
     (λ c. search needs)
-    (λ c. rw (c .before .before .before .before .before .before .before .before .before .before .made .given .1) (record { mid = _; counted = c .before .before .before .before .before .before .before .count-stored .ensures; wrote = rw (c .before .before .before .before .pair-of .ensures .0, c .before .before .before .before .pair-of .ensures .1) at (c .before .before .write-entry .ensures) })))
+    (λ c. rw (code-at _ (c .before .before .before .before .before .before .before .before .before .if1 .left)) (record { mid = _; counted = c .before .before .before .before .before .before .before .count-stored .ensures; wrote = rw (c .before .before .before .before .pair-of .ensures .0, c .before .before .before .before .pair-of .ensures .1) at (c .before .before .write-entry .ensures) })))

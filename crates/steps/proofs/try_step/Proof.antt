@@ -1,33 +1,7 @@
--- `try_step` meets its contract: each operation promises it. Assumes nothing.
+-- `try_step` meets its contract: the number that `run_step` answers is read once. Assumes nothing.
 use borrow.Author.Needs.{needs}
 use Rattle.steps.proofs.try_step.Statement.{statement}
 use Rattle.steps.proofs.try_step.Tie as tie
 
 pub try-step-spec : {M : Type 1} → statement M
-try-step-spec =
-    tie.close
-    (tie.spec
-    (λ c. search needs)
-    (λ c κs. (c .before .before .before .before .before .pre .0, rw (c .before .before .step .given .1) at (c .before .before .before .before .before .pre .1)))
-    (λ c. search needs)
-    (λ c κs. (c .before .before .before .before .before .pre .0, rw (c .before .before .step2 .given .1) at (c .before .before .before .before .before .pre .1)))
-    (λ c. search needs)
-    (λ c κs. let f = rw (c .before .before .step3 .given .1) at (c .before .before .before .before .before .pre .1) in (c .before .before .before .before .before .pre .0, f .0, f .1))
-    (λ c. search needs)
-    (λ c κs. let f = rw (c .before .before .step4 .given .1) at (c .before .before .before .before .before .pre .1) in (c .before .before .before .before .before .pre .0, f .0, f .1))
-    (λ c. search needs)
-    (λ c κs. let f = rw (c .before .before .step5 .given .1) at (c .before .before .before .before .before .pre .1) in (c .before .before .before .before .before .pre .0, f .0, f .1))
-    (λ c. search needs)
-    (λ c κs. let f = rw (c .before .before .step6 .given .1) at (c .before .before .before .before .before .pre .1) in (c .before .before .before .before .before .pre .0, f .0, f .1))
-    (λ c. search needs)
-    (λ c. rw (c .before .before .before .before .before .step .given .1) (c .before .before .bit .ensures))
-    (λ c. search needs)
-    (λ c. rw (c .before .before .before .before .before .step2 .given .1) (c .before .before .not .ensures))
-    (λ c. search needs)
-    (λ c. rw (c .before .before .before .before .before .step3 .given .1) (c .before .before .apply .ensures))
-    (λ c. search needs)
-    (λ c. rw (c .before .before .before .before .before .step4 .given .1) (c .before .before .apply2 .ensures))
-    (λ c. search needs)
-    (λ c. rw (c .before .before .before .before .before .step5 .given .1) (c .before .before .shift .ensures))
-    (λ c. search needs)
-    (λ c. rw (c .before .before .before .before .before .step6 .given .1) (c .before .before .exists .ensures)))
+try-step-spec = tie.close (tie.spec (λ c κs. search needs) (λ c κs. search needs) (λ c. search needs) (λ c. rw (c .made-of .ensures) (c .before .before .before .run-step .ensures)))

@@ -1,7 +1,4 @@
 -- `add` meets its contract: an unused row is written and appended; where there is none, all rows are used. Assumes nothing.
-use native.Mathlib.Omega.{arith}
-use mathlib.Core.Path.{_≡_}
-use Rattle.diagram.specs.Rows.{row}
 use Rattle.layout.specs.View.{view}
 use Rattle.table.specs.Add.{append-pre, added-by}
 use Rattle.table.specs.Make.{add-full, add-at}
