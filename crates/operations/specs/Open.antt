@@ -1,14 +1,13 @@
 -- An arrow to a row, taken apart: its row, level and arrows, and the levels that are left from an arrow on. Assumes nothing.
 use mathlib.Core.Path.{_≡_, refl, sym, ap, _∙_}
-use mathlib.Core.Bool.{Bool, true, false, not}
-use Prim.Native.Nat.{ℕ, _-_, _<_}
+use mathlib.Core.Bool.{true}
+use Prim.Native.Nat.{ℕ, _+_, _*_, _-_, _≤_, _<_}
 use native.Mathlib.Omega.{arith}
 use Rattle.diagram.specs.Rows.{Rows, row, Arrow, levelOf, WellFormed, Extends}
 use Rattle.diagram.specs.Grow.{arrow-extends, level-extends}
 use Rattle.diagram.specs.Steps.{Parts, parts-row}
 use Rattle.layout.specs.Arrows.{isRow, rowOf, row-is}
 use Rattle.soundness.specs.Used.{of-arrow}
-use Rattle.soundness.specs.Says.{test-yes}
 
 -- level, low and high of row i
 pub record RowIs (rows : Rows) (i l lo hi : ℕ) : Type 0 where
@@ -21,9 +20,20 @@ pub record RowAt (rows : Rows) (a i : ℕ) : Type 0 where
   pub is : a ≡ row i
   pub used : rows .used i ≡ true
 
--- as the code finds it: b is the answer of its test
-pub row-at : {rows : Rows} {i : ℕ} {b : Bool} (a : ℕ) → Arrow rows a → b ≡ isRow a → not b ≡ false → i ≡ rowOf a → RowAt rows a i
-row-at {rows} a u t n e = let h = test-yes t n in record { is = row-is a h ∙ ap row (sym e); used = of-arrow rows a h e u }
+pub row-at : {rows : Rows} {i : ℕ} (a : ℕ) → Arrow rows a → isRow a ≡ true → i ≡ rowOf a → RowAt rows a i
+row-at {rows} a u h e = record { is = row-is a h ∙ ap row (sym e); used = of-arrow rows a h e u }
+
+-- a leads to a row of a level up to x
+pub record ReachesLevel (rows : Rows) (x a : ℕ) : Type 0 where
+  pub is-row : isRow a ≡ true
+  pub upto : rows .level (rowOf a) ≤ x
+
+-- as the code finds it
+pub reaches : {rows : Rows} {i l x : ℕ} (a : ℕ) → isRow a ≡ true → i ≡ rowOf a → l ≡ rows .level i → l ≤ x → ReachesLevel rows x a
+reaches {rows} a h q e t = record { is-row = h; upto = let z = e ∙ ap (rows .level) q in omega arith }
+
+pub reached : {rows : Rows} {x a i l lo hi : ℕ} → ReachesLevel rows x a → i ≡ rowOf a → RowIs rows i l lo hi → l ≤ x
+reached {rows} p q n = let z = n .level ∙ ap (rows .level) q in let t = p .upto in omega arith
 
 -- a row of level l with parts lo and hi
 pub record Opened (m : ℕ) (rows : Rows) (a i l lo hi : ℕ) : Type 0 where
@@ -48,6 +58,10 @@ opened {i = i} wf r n = rw (r .is, n .level, n .low, n .high) (opened-row i wf (
 -- "Recursion over a diagram descends to greater levels only": the levels from an arrow's on
 abbrev pub depth : ℕ → Rows → ℕ → ℕ
 depth m rows a = m - levelOf m rows a
+
+-- a call on a part of a row: the measures are 2 d for the work on a row and 2 d + 1 for any arrow
+pub part-falls : (d e : ℕ) → d < e → 2 * d + 1 < 2 * e
+part-falls d e h = omega arith
 
 module _ {m : ℕ} {rows : Rows} {a i l lo hi : ℕ} (o : Opened m rows a i l lo hi) where
   pub low-falls : depth m rows lo < depth m rows a

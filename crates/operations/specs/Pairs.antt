@@ -192,21 +192,22 @@ both-within {W = W} {lo = lo} {hi = hi} r u b =
     let wf = ready-wf r in
     (wf .bounded (rowOf lo) (of-arrow (rowsOf W) lo (b .left) refl (u .0)), wf .bounded (rowOf hi) (of-arrow (rowsOf W) hi (b .right) refl (u .1)))
 
-module _ {m : ℕ} {rows : Rows} {a b lo hi l x₀ x₁ y₀ y₁ : ℕ} (w : Swap a b lo hi) (s : Split m rows lo hi l x₀ x₁ y₀ y₁) where
-  pub pair-low-falls : depth m rows x₀ y₀ < depth m rows a b
+pub swap-depth : {m N limit : ℕ} {W : View} {a b lo hi : ℕ} → Ready m N limit W → Swap a b lo hi → depth m (rowsOf W) lo hi ≡ depth m (rowsOf W) a b
+swap-depth {m} {W = W} r w = ap (λ (l : ℕ). m - l) (swap-level (levelOf m (rowsOf W)) w)
+
+module _ {m : ℕ} {rows : Rows} {lo hi l x₀ x₁ y₀ y₁ : ℕ} (s : Split m rows lo hi l x₀ x₁ y₀ y₁) where
+  pub pair-low-falls : depth m rows x₀ y₀ < depth m rows lo hi
   pair-low-falls =
       let p = s .left .low-deeper in
       let q = s .right .low-deeper in
-      let e = swap-level (levelOf m rows) w in
       let f = s .level in
       let h = s .shallow in
       omega arith
 
-  pub pair-high-falls : {new : Rows} → Extends rows new → depth m new x₁ y₁ < depth m rows a b
+  pub pair-high-falls : {new : Rows} → Extends rows new → depth m new x₁ y₁ < depth m rows lo hi
   pair-high-falls x =
       let p = s .left .high-deeper in
       let q = s .right .high-deeper in
-      let e = swap-level (levelOf m rows) w in
       let f = s .level in
       let h = s .shallow in
       rw (level-extends x m x₁ (s .left .high-arrow), level-extends x m y₁ (s .right .high-arrow)) (omega arith)
@@ -229,10 +230,15 @@ halves-here {rows} l (suc (suc i)) h q r e =
     let z = eq-eqb (rows .level i) l (ap (rows .level) (sym q) ∙ sym (r .level) ∙ e) in
     (rw z (r .low ∙ ap (rows .low) q), rw z (r .high ∙ ap (rows .high) q))
 
-module _ {m N limit : ℕ} {W : View} {a b lo hi : ℕ} (r : Ready m N limit W) (o : Op) (w : Swap a b lo hi) (u : Arrow (rowsOf W) lo × Arrow (rowsOf W) hi) where
+-- an operation on a and b is one on lo and hi
+module _ {m N limit : ℕ} {W : View} {a b lo hi : ℕ} (r : Ready m N limit W) (o : Op) (w : Swap a b lo hi) where
+  pub swap-worked : {X : View} {t : Made} → Worked m N limit W X t (twoF (bitOp o) (den m (rowsOf W) lo) (den m (rowsOf W) hi)) → Worked m N limit W X t (twoF (bitOp o) (den m (rowsOf W) a) (den m (rowsOf W) b))
+  swap-worked k = worked-cong (swap-fn m (rowsOf W) o w) k
+
+module _ {m N limit : ℕ} {W : View} {lo hi : ℕ} (r : Ready m N limit W) (o : Op) (u : Arrow (rowsOf W) lo × Arrow (rowsOf W) hi) where
   -- what is known
-  pub known-worked : {v : ℕ} {f : Found} → lo ≤ hi → f ≡ find.At v → KnownPost W o lo hi f → Worked m N limit W W (madeOf v) (twoF (bitOp o) (den m (rowsOf W) a) (den m (rowsOf W) b))
-  known-worked {v} l e p = worked-cong (swap-fn m (rowsOf W) o w) (worked-there r (right (rw e at p)))
+  pub known-worked : {v : ℕ} {f : Found} → lo ≤ hi → f ≡ find.At v → KnownPost W o lo hi f → Worked m N limit W W (madeOf v) (twoF (bitOp o) (den m (rowsOf W) lo) (den m (rowsOf W) hi))
+  known-worked {v} l e p = worked-there r (right (rw e at p))
     where
       right : KnownAt W o lo hi v → Denotes m (rowsOf W) v (twoF (bitOp o) (den m (rowsOf W) lo) (den m (rowsOf W) hi))
       right (at-once q) = short-right m (rowsOf W) o lo hi v (u .0) (u .1) q
@@ -240,27 +246,20 @@ module _ {m N limit : ℕ} {W : View} {a b lo hi : ℕ} (r : Ready m N limit W) 
 
   -- what the two calls compute
   pub pair-calls : {l x₀ x₁ y₀ y₁ : ℕ} → Split m (rowsOf W) lo hi l x₀ x₁ y₀ y₁
-      → Divides m (rowsOf W) l (twoF (bitOp o) (den m (rowsOf W) a) (den m (rowsOf W) b)) (twoF (bitOp o) (den m (rowsOf W) x₀) (den m (rowsOf W) y₀)) (λ t. twoF (bitOp o) (den m t x₁) (den m t y₁))
-  pair-calls s =
-      let d = two-divides (ready-wf r) (s .shallow) (s .left) (bitOp o) (s .right) in
-      record {
-        shallow = d .shallow;
-        splits = record { same = λ v. sym (swap-fn m (rowsOf W) o w v) ∙ d .splits .same v; reads0 = d .splits .reads0; reads1 = d .splits .reads1 };
-        stable = d .stable;
-      }
+      → Divides m (rowsOf W) l (twoF (bitOp o) (den m (rowsOf W) lo) (den m (rowsOf W) hi)) (twoF (bitOp o) (den m (rowsOf W) x₀) (den m (rowsOf W) y₀)) (λ t. twoF (bitOp o) (den m t x₁) (den m t y₁))
+  pair-calls s = two-divides (ready-wf r) (s .shallow) (s .left) (bitOp o) (s .right)
 
   -- the result is remembered
-  pub pair-kept : {X Y : View} {t : Made} → BothRows lo hi → Worked m N limit W X t (twoF (bitOp o) (den m (rowsOf W) a) (den m (rowsOf W) b)) → RememberPost X Y (firstOf o lo hi) (secondOf o lo hi) t
-      → Worked m N limit W Y t (twoF (bitOp o) (den m (rowsOf W) a) (den m (rowsOf W) b))
+  pub pair-kept : {X Y : View} {t : Made} → BothRows lo hi → Worked m N limit W X t (twoF (bitOp o) (den m (rowsOf W) lo) (den m (rowsOf W) hi)) → RememberPost X Y (firstOf o lo hi) (secondOf o lo hi) t
+      → Worked m N limit W Y t (twoF (bitOp o) (den m (rowsOf W) lo) (den m (rowsOf W) hi))
   pair-kept {X} {t = t} z k p =
       worked-kept k (remember-frame (firstOf o lo hi) (secondOf o lo hi) t p) (remembers-pair (firstOf o lo hi) (secondOf o lo hi) t (k .memory) (right t k) p)
     where
-      right : (s : Made) → Worked m N limit W X s (twoF (bitOp o) (den m (rowsOf W) a) (den m (rowsOf W) b)) → RightPair m (rowsOf X) (firstOf o lo hi) (secondOf o lo hi) s
+      right : (s : Made) → Worked m N limit W X s (twoF (bitOp o) (den m (rowsOf W) lo) (den m (rowsOf W) hi)) → RightPair m (rowsOf X) (firstOf o lo hi) (secondOf o lo hi) s
       right (answer.At v) q =
           let x = q .post .kept in
           op-entry o (z .less) (arrow-extends x lo (u .0)) (arrow-extends x hi (u .1)) (record {
             arrow = q .post .result .arrow;
-            same = λ y. q .post .result .same y ∙ sym (swap-fn m (rowsOf W) o w y)
-                ∙ ap₂ (bitOp o) (sym (den-extends x (ready-wf r) m lo (u .0) y)) (sym (den-extends x (ready-wf r) m hi (u .1) y));
+            same = λ y. q .post .result .same y ∙ ap₂ (bitOp o) (sym (den-extends x (ready-wf r) m lo (u .0) y)) (sym (den-extends x (ready-wf r) m hi (u .1) y));
           })
       right answer.Full q = tt

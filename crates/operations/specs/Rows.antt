@@ -17,14 +17,13 @@ use Rattle.diagram.specs.Recur.{Divides, not-divides, exists-divides, shift-div
 use Rattle.layout.specs.View.{View}
 use Rattle.layout.specs.Arrows.{isRow, no-row}
 use Rattle.soundness.specs.Used.{used, rowsOf}
-use Rattle.table.specs.Code.{madeOf}
 use Rattle.table.specs.declared.Made.{Made}
 use Rattle.table.specs.declared.Made.the-variants as answer
 use Rattle.table.specs.declared.Found.{Found}
 use Rattle.table.specs.declared.Found.the-variants as find
 use Rattle.memory.specs.Memo.{unaryF, RowPost, row-right}
 use Rattle.memory.specs.Store.{keepRow, keepRow-frame, RightRow, remembers-row}
-use Rattle.operations.specs.Work.{Ready, Worked, ready-wf, worked-there, worked-kept}
+use Rattle.operations.specs.Work.{Ready, Known, Worked, known-at, ready-wf, worked-kept}
 use Rattle.operations.specs.Open.{RowAt, Opened}
 
 -- m is even
@@ -47,26 +46,31 @@ level-constant m rows zero h = refl
 level-constant m rows (suc zero) h = refl
 level-constant m rows (suc (suc i)) h = absurd (omega arith)
 
-module _ {m N limit : ℕ} {W : View} (r : Ready m N limit W) where
-  pub not-constant : (a : ℕ) → isRow a ≡ false → Worked m N limit W W (madeOf (1 - a)) (notF (den m (rowsOf W) a))
-  not-constant a h = worked-there r (not-is m (rowsOf W) a (no-row a h))
+module _ {m N : ℕ} {W : View} {R : Type 0} (r : Ready m N 0 W) where
+  pub not-constant : (a : ℕ) → isRow a ≡ false → Known m W (find.At (1 - a)) (notF (den m (rowsOf W) a)) R
+  not-constant a h = known-at (not-is m (rowsOf W) a (no-row a h))
 
-  pub shift-constant : (a : ℕ) → isRow a ≡ false → Worked m N limit W W (madeOf a) (shiftF (den m (rowsOf W) a))
-  shift-constant a h = worked-there r (shift-is m (rowsOf W) a (no-row a h))
+  pub shift-constant : (a : ℕ) → isRow a ≡ false → Known m W (find.At a) (shiftF (den m (rowsOf W) a)) R
+  shift-constant a h = known-at (shift-is m (rowsOf W) a (no-row a h))
 
   -- EXISTS at x below the arrow's level
-  pub exists-deeper : (x a : ℕ) → Arrow (rowsOf W) a → x < levelOf m (rowsOf W) a → Worked m N limit W W (madeOf a) (existsF x (den m (rowsOf W) a))
-  exists-deeper x a u h = let p = exists-leaf (ready-wf r) {limit = limit} x a u h in worked-there r (p .result)
+  exists-deeper : (x a : ℕ) → Arrow (rowsOf W) a → x < levelOf m (rowsOf W) a → Known m W (find.At a) (existsF x (den m (rowsOf W) a)) R
+  exists-deeper x a u h = let p = exists-leaf (ready-wf r) {limit = 0} x a u h in known-at (p .result)
 
-  pub exists-constant : (x a : ℕ) → x < m → Arrow (rowsOf W) a → isRow a ≡ false → Worked m N limit W W (madeOf a) (existsF x (den m (rowsOf W) a))
+  pub exists-constant : (x a : ℕ) → x < m → Arrow (rowsOf W) a → isRow a ≡ false → Known m W (find.At a) (existsF x (den m (rowsOf W) a)) R
   exists-constant x a h u n = exists-deeper x a u (rw (level-constant m (rowsOf W) a (no-row a n)) h)
 
-  -- what row i remembers
-  pub row-known : {a i v : ℕ} {f : Found} (key : ℕ) → key ≢ 0 → RowAt (rowsOf W) a i → f ≡ find.At v → RowPost W i key f
-      → Worked m N limit W W (madeOf v) (unaryF key (den m (rowsOf W) a))
-  row-known {a} {i} {v = v} key n o e p =
-      worked-there r (subst (λ (b : ℕ). Denotes m (rowsOf W) v (unaryF key (den m (rowsOf W) b))) (sym (o .is)) (row-right (r .memory) (o .used) n (rw e at p)))
+  pub exists-past : {i l : ℕ} (x a : ℕ) → Arrow (rowsOf W) a → RowAt (rowsOf W) a i → l ≡ rowsOf W .level i → x < l → Known m W (find.At a) (existsF x (den m (rowsOf W) a)) R
+  exists-past x a u q e h = exists-deeper x a u (subst (λ (b : ℕ). x < levelOf m (rowsOf W) b) (sym (q .is)) (subst (λ (k : ℕ). x < k) e h))
 
+  -- what row i remembers
+  pub row-known : {a i : ℕ} {f : Found} (key : ℕ) → key ≢ 0 → RowAt (rowsOf W) a i → R → RowPost W i key f → Known m W f (unaryF key (den m (rowsOf W) a)) R
+  row-known key n o x p = record {
+    at = λ v e. subst (λ (b : ℕ). Denotes m (rowsOf W) v (unaryF key (den m (rowsOf W) b))) (sym (o .is)) (row-right (r .memory) (o .used) n (rw e at p));
+    none = λ e. x;
+  }
+
+module _ {m N limit : ℕ} {W : View} (r : Ready m N limit W) where
   -- the result is remembered by the operand's row
   pub row-kept : {X Y : View} {o : Made} {a i : ℕ} (key : ℕ) → RowAt (rowsOf W) a i → Worked m N limit W X o (unaryF key (den m (rowsOf W) a)) → Y ≡ keepRow X i key o
       → Worked m N limit W Y o (unaryF key (den m (rowsOf W) a))
@@ -111,10 +115,10 @@ module _ {m N limit : ℕ} {W : View} {a i l lo hi : ℕ} (r : Ready m N limit W
 pub exists-key : (x : ℕ) (f : Fn) → unaryF (3 + x) f ≡ existsF x f
 exists-key x f = let e : 3 + x ≡ suc (suc (suc x)) = omega arith in rw e
 
-module _ {m N limit : ℕ} {W : View} {a i : ℕ} (r : Ready m N limit W) (x : ℕ) (q : RowAt (rowsOf W) a i) where
-  pub exists-known : {v : ℕ} {f : Found} → f ≡ find.At v → RowPost W i (3 + x) f → Worked m N limit W W (madeOf v) (existsF x (den m (rowsOf W) a))
-  exists-known {v} e p = subst (λ (f : Fn). Worked m N limit W W (madeOf v) f) (exists-key x (den m (rowsOf W) a)) (row-known r (3 + x) (omega arith) q e p)
+pub exists-known : {m N : ℕ} {W : View} {a i : ℕ} {f : Found} {R : Type 0} (x : ℕ) → Ready m N 0 W → RowAt (rowsOf W) a i → R → RowPost W i (3 + x) f → Known m W f (existsF x (den m (rowsOf W) a)) R
+exists-known {m} {W = W} {a = a} {f = f} {R = R} x r q y p = subst (λ (g : Fn). Known m W f g R) (exists-key x (den m (rowsOf W) a)) (row-known r (3 + x) (omega arith) q y p)
 
+module _ {m N limit : ℕ} {W : View} {a i : ℕ} (r : Ready m N limit W) (x : ℕ) (q : RowAt (rowsOf W) a i) where
   pub exists-kept : {X Y : View} {o : Made} → Worked m N limit W X o (existsF x (den m (rowsOf W) a)) → Y ≡ keepRow X i (3 + x) o → Worked m N limit W Y o (existsF x (den m (rowsOf W) a))
   exists-kept {X} {Y} {o} w e =
       let k = exists-key x (den m (rowsOf W) a) in

@@ -22,6 +22,8 @@ use Rattle.table.specs.Find.{good-room}
 use Rattle.table.specs.Keep.{made-extends}
 use Rattle.table.specs.declared.Made.{Made}
 use Rattle.table.specs.declared.Made.the-variants as answer
+use Rattle.table.specs.declared.Found.{Found}
+use Rattle.table.specs.declared.Found.the-variants as find
 use Rattle.memory.specs.Frame.{MemoFrame, rows-same, memo-alike}
 use Rattle.memory.specs.Memo.{Remembers, remembers-extends}
 
@@ -59,6 +61,17 @@ pub record Ready (m N limit : ℕ) (W : View) : Type 0 where
   pub rows-is : N ≡ W .rows
   pub limit-le : limit ≤ N
 
+-- what is known of an operation for F before any work: an arrow for it; or nothing, and then R
+pub record Known (m : ℕ) (W : View) (f : Found) (F : Fn) (R : Type 0) : Type 0 where
+  pub at : (v : ℕ) → f ≡ find.At v → Denotes m (rowsOf W) v F
+  pub none : f ≡ find.Nothing → R
+
+pub known-at : {m : ℕ} {W : View} {x : ℕ} {F : Fn} {R : Type 0} → Denotes m (rowsOf W) x F → Known m W (find.At x) F R
+known-at {m} {W} {x} {F} d = record {
+  at = λ v e. let z : x ≡ v = cc in subst (λ (a : ℕ). Denotes m (rowsOf W) a F) z d;
+  none = λ e. absurd (let z : _≡_ {A = ℕ} 0 1 = cc in omega arith);
+}
+
 -- what an operation for F promises: a good table, right memory, nothing else touched, and `OpPost`
 pub record Worked (m N limit : ℕ) (W X : View) (o : Made) (F : Fn) : Type 0 where
   pub good : Good X
@@ -89,6 +102,10 @@ module _ {m N limit : ℕ} {W : View} (r : Ready m N limit W) where
   -- an answer that is there already
   pub worked-there : {a : ℕ} {F : Fn} → Denotes m (rowsOf W) a F → Worked m N limit W W (madeOf a) F
   worked-there {a} d = rw (arrow-code a (r .good) (d .arrow)) (record { good = r .good; memory = r .memory; frame = op-refl W; post = post-arrow ready-wf d })
+
+  -- to look up what is known takes no rows
+  pub ready-look : Ready m N 0 W
+  ready-look = record { good = r .good; memory = r .memory; levels-is = r .levels-is; rows-is = r .rows-is; limit-le = omega arith }
 
   -- what the making of a row asks
   pub make-pre : {l lo hi : ℕ} → Fit m (rowsOf W) l lo hi → MakePre W limit l lo hi

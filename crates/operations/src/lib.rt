@@ -27,8 +27,8 @@ ghost use Rattle.soundness.specs.Used.{rowsOf};
 ghost use Rattle.soundness.specs.Checks.{Room};
 ghost use Rattle.table.specs.Code.{madeOf};
 ghost use Rattle.memory.specs.Memo.{Slots, bitOp};
-ghost use Rattle.operations.specs.Work.{Ready, Worked};
-ghost use Rattle.operations.specs.Open.{RowIs};
+ghost use Rattle.operations.specs.Work.{Ready, Known, Worked};
+ghost use Rattle.operations.specs.Open.{RowIs, ReachesLevel};
 ghost use Rattle.operations.specs.Pairs.{absorb, shortOf, KnownPost, BothRows};
 
 // A row's level and arrows.
@@ -58,25 +58,53 @@ pub fn bit(words: &mut [u32], rows: u32, levels: u32, limit: u32, level: u32) ->
     make(words, rows, limit, level, Table::NOTHING, Table::EVERYTHING)
 }
 
+// What is known of NOT of an arrow: of a constant, or remembered.
+fn not_known(words: &[u32], rows: u32, levels: u32, a: u32) -> Found
+    requires { ⌜ Ready levels rows 0 (view rows (now words)) × Arrow (rowsOf (view rows (now words))) a ⌝ }
+    ensures { λ r. ⌜ Known levels (view rows (now (words .entry))) r (notF (den levels (rowsOf (view rows (now (words .entry)))) a)) (isRow a ≡ true) ⌝ }
+{
+    if !is_row(a) {
+        return Found::At(Table::EVERYTHING - a);
+    }
+    recall_row(words, rows, row_of(a), Memory::NOT)
+}
+
 // NOT of an arrow.
 pub fn not(words: &mut [u32], rows: u32, levels: u32, limit: u32, a: u32) -> u32
     requires { ⌜ Ready levels rows limit (view rows (now words)) × Arrow (rowsOf (view rows (now words))) a ⌝ }
     ensures { λ r. ⌜ Worked levels rows limit (view rows (now (words .entry))) (view rows (now (words .exit))) (madeOf r) (notF (den levels (rowsOf (view rows (now (words .entry)))) a)) ⌝ }
 {
-    if !is_row(a) {
-        return Table::EVERYTHING - a;
-    }
-    let i = row_of(a);
-    let known = recall_row(words, rows, i, Memory::NOT);
+    let known = not_known(words, rows, levels, a);
     if let Found::At(r) = known {
         return r;
     }
+    not_row(words, rows, levels, limit, a)
+}
+
+// `not` of a part of a row. It is apart, so that it is inlined in `not_row`: a part whose result is known costs no call.
+fn not_part(words: &mut [u32], rows: u32, levels: u32, limit: u32, a: u32) -> u32
+    requires { ⌜ Ready levels rows limit (view rows (now words)) × Arrow (rowsOf (view rows (now words))) a ⌝ }
+    ensures { λ r. ⌜ Worked levels rows limit (view rows (now (words .entry))) (view rows (now (words .exit))) (madeOf r) (notF (den levels (rowsOf (view rows (now (words .entry)))) a)) ⌝ }
+{
+    let known = not_known(words, rows, levels, a);
+    if let Found::At(r) = known {
+        return r;
+    }
+    not_row(words, rows, levels, limit, a)
+}
+
+// NOT of an arrow to a row.
+fn not_row(words: &mut [u32], rows: u32, levels: u32, limit: u32, a: u32) -> u32
+    requires { ⌜ Ready levels rows limit (view rows (now words)) × Arrow (rowsOf (view rows (now words))) a × (isRow a ≡ true) ⌝ }
+    ensures { λ r. ⌜ Worked levels rows limit (view rows (now (words .entry))) (view rows (now (words .exit))) (madeOf r) (notF (den levels (rowsOf (view rows (now (words .entry)))) a)) ⌝ }
+{
+    let i = row_of(a);
     let n = node_at(words, rows, i);
-    let low = not(words, rows, levels, limit, n.low);
+    let low = not_part(words, rows, levels, limit, n.low);
     if low == Code::FULL {
         return Code::FULL;
     }
-    let high = not(words, rows, levels, limit, n.high);
+    let high = not_part(words, rows, levels, limit, n.high);
     if high == Code::FULL {
         return Code::FULL;
     }
@@ -85,25 +113,53 @@ pub fn not(words: &mut [u32], rows: u32, levels: u32, limit: u32, a: u32) -> u32
     made
 }
 
+// What is known of SHIFT of an arrow: of a constant, or remembered.
+fn shift_known(words: &[u32], rows: u32, levels: u32, a: u32) -> Found
+    requires { ⌜ Ready levels rows 0 (view rows (now words)) × Arrow (rowsOf (view rows (now words))) a ⌝ }
+    ensures { λ r. ⌜ Known levels (view rows (now (words .entry))) r (shiftF (den levels (rowsOf (view rows (now (words .entry)))) a)) (isRow a ≡ true) ⌝ }
+{
+    if !is_row(a) {
+        return Found::At(a);
+    }
+    recall_row(words, rows, row_of(a), Memory::SHIFT)
+}
+
 // SHIFT of an arrow whose rows all have even levels: every level becomes the next one.
 pub fn shift(words: &mut [u32], rows: u32, levels: u32, limit: u32, a: u32) -> u32
     requires { ⌜ Ready levels rows limit (view rows (now words)) × Arrow (rowsOf (view rows (now words))) a × ReadsOn even (den levels (rowsOf (view rows (now words))) a) ⌝ }
     ensures { λ r. ⌜ Worked levels rows limit (view rows (now (words .entry))) (view rows (now (words .exit))) (madeOf r) (shiftF (den levels (rowsOf (view rows (now (words .entry)))) a)) ⌝ }
 {
-    if !is_row(a) {
-        return a;
-    }
-    let i = row_of(a);
-    let known = recall_row(words, rows, i, Memory::SHIFT);
+    let known = shift_known(words, rows, levels, a);
     if let Found::At(r) = known {
         return r;
     }
+    shift_row(words, rows, levels, limit, a)
+}
+
+// `shift` of a part of a row. It is apart, so that it is inlined in `shift_row`: a part whose result is known costs no call.
+fn shift_part(words: &mut [u32], rows: u32, levels: u32, limit: u32, a: u32) -> u32
+    requires { ⌜ Ready levels rows limit (view rows (now words)) × Arrow (rowsOf (view rows (now words))) a × ReadsOn even (den levels (rowsOf (view rows (now words))) a) ⌝ }
+    ensures { λ r. ⌜ Worked levels rows limit (view rows (now (words .entry))) (view rows (now (words .exit))) (madeOf r) (shiftF (den levels (rowsOf (view rows (now (words .entry)))) a)) ⌝ }
+{
+    let known = shift_known(words, rows, levels, a);
+    if let Found::At(r) = known {
+        return r;
+    }
+    shift_row(words, rows, levels, limit, a)
+}
+
+// SHIFT of an arrow to a row.
+fn shift_row(words: &mut [u32], rows: u32, levels: u32, limit: u32, a: u32) -> u32
+    requires { ⌜ Ready levels rows limit (view rows (now words)) × Arrow (rowsOf (view rows (now words))) a × ReadsOn even (den levels (rowsOf (view rows (now words))) a) × (isRow a ≡ true) ⌝ }
+    ensures { λ r. ⌜ Worked levels rows limit (view rows (now (words .entry))) (view rows (now (words .exit))) (madeOf r) (shiftF (den levels (rowsOf (view rows (now (words .entry)))) a)) ⌝ }
+{
+    let i = row_of(a);
     let n = node_at(words, rows, i);
-    let low = shift(words, rows, levels, limit, n.low);
+    let low = shift_part(words, rows, levels, limit, n.low);
     if low == Code::FULL {
         return Code::FULL;
     }
-    let high = shift(words, rows, levels, limit, n.high);
+    let high = shift_part(words, rows, levels, limit, n.high);
     if high == Code::FULL {
         return Code::FULL;
     }
@@ -210,20 +266,65 @@ pub fn apply(words: &mut [u32], rows: u32, levels: u32, limit: u32, op: Op, a: u
     if let Found::At(r) = found {
         return r;
     }
-    let level = top(words, rows, p.lo, p.hi);
-    let x = halve(words, rows, level, p.lo);
-    let y = halve(words, rows, level, p.hi);
-    let low = apply(words, rows, levels, limit, op, x.low, y.low);
+    apply_rows(words, rows, levels, limit, op, p.lo, p.hi)
+}
+
+// `apply` of parts of two rows. It is apart, so that it is inlined in `apply_rows`: a pair whose result is known costs no call.
+fn apply_part(words: &mut [u32], rows: u32, levels: u32, limit: u32, op: Op, a: u32, b: u32) -> u32
+    requires { ⌜ Ready levels rows limit (view rows (now words)) × Arrow (rowsOf (view rows (now words))) a × Arrow (rowsOf (view rows (now words))) b ⌝ }
+    ensures { λ r. ⌜ Worked levels rows limit (view rows (now (words .entry))) (view rows (now (words .exit))) (madeOf r) (twoF (bitOp op) (den levels (rowsOf (view rows (now (words .entry)))) a) (den levels (rowsOf (view rows (now (words .entry)))) b)) ⌝ }
+{
+    let p = sort(a, b);
+    let found = known(words, rows, op, p.lo, p.hi);
+    if let Found::At(r) = found {
+        return r;
+    }
+    apply_rows(words, rows, levels, limit, op, p.lo, p.hi)
+}
+
+// AND or OR of a lesser and a greater arrow to rows.
+fn apply_rows(
+    words: &mut [u32],
+    rows: u32,
+    levels: u32,
+    limit: u32,
+    op: Op,
+    lo: u32,
+    hi: u32,
+) -> u32
+    requires { ⌜ Ready levels rows limit (view rows (now words)) × Arrow (rowsOf (view rows (now words))) lo × Arrow (rowsOf (view rows (now words))) hi × BothRows lo hi ⌝ }
+    ensures { λ r. ⌜ Worked levels rows limit (view rows (now (words .entry))) (view rows (now (words .exit))) (madeOf r) (twoF (bitOp op) (den levels (rowsOf (view rows (now (words .entry)))) lo) (den levels (rowsOf (view rows (now (words .entry)))) hi)) ⌝ }
+{
+    let level = top(words, rows, lo, hi);
+    let x = halve(words, rows, level, lo);
+    let y = halve(words, rows, level, hi);
+    let low = apply_part(words, rows, levels, limit, op, x.low, y.low);
     if low == Code::FULL {
         return Code::FULL;
     }
-    let high = apply(words, rows, levels, limit, op, x.high, y.high);
+    let high = apply_part(words, rows, levels, limit, op, x.high, y.high);
     if high == Code::FULL {
         return Code::FULL;
     }
     let made = make(words, rows, limit, level, low, high);
-    remember(words, rows, op, p.lo, p.hi, made);
+    remember(words, rows, op, lo, hi, made);
     made
+}
+
+// What is known of EXISTS at level x of an arrow: of a function that does not read x, or remembered.
+fn exists_known(words: &[u32], rows: u32, levels: u32, x: u32, a: u32) -> Found
+    requires { ⌜ Ready levels rows 0 (view rows (now words)) × Arrow (rowsOf (view rows (now words))) a × (x < levels) ⌝ }
+    ensures { λ r. ⌜ Known levels (view rows (now (words .entry))) r (existsF x (den levels (rowsOf (view rows (now (words .entry)))) a)) (ReachesLevel (rowsOf (view rows (now (words .entry)))) x a) ⌝ }
+{
+    if !is_row(a) {
+        return Found::At(a);
+    }
+    let i = row_of(a);
+    let level = get(words, rows, i, Table::LEVEL);
+    if level > x {
+        return Found::At(a);
+    }
+    recall_row(words, rows, i, Memory::EXISTS + x)
 }
 
 // EXISTS at level x of an arrow.
@@ -231,29 +332,43 @@ pub fn exists(words: &mut [u32], rows: u32, levels: u32, limit: u32, x: u32, a: 
     requires { ⌜ Ready levels rows limit (view rows (now words)) × Arrow (rowsOf (view rows (now words))) a × (x < levels) ⌝ }
     ensures { λ r. ⌜ Worked levels rows limit (view rows (now (words .entry))) (view rows (now (words .exit))) (madeOf r) (existsF x (den levels (rowsOf (view rows (now (words .entry)))) a)) ⌝ }
 {
-    if !is_row(a) {
-        return a;
-    }
-    let i = row_of(a);
-    let n = node_at(words, rows, i);
-    if n.level > x {
-        return a;
-    }
-    let key = Memory::EXISTS + x;
-    let found = recall_row(words, rows, i, key);
-    if let Found::At(r) = found {
+    let known = exists_known(words, rows, levels, x, a);
+    if let Found::At(r) = known {
         return r;
     }
+    exists_row(words, rows, levels, limit, x, a)
+}
+
+// `exists` of a part of a row. It is apart, so that it is inlined in `exists_row`: a part whose result is known costs no call.
+fn exists_part(words: &mut [u32], rows: u32, levels: u32, limit: u32, x: u32, a: u32) -> u32
+    requires { ⌜ Ready levels rows limit (view rows (now words)) × Arrow (rowsOf (view rows (now words))) a × (x < levels) ⌝ }
+    ensures { λ r. ⌜ Worked levels rows limit (view rows (now (words .entry))) (view rows (now (words .exit))) (madeOf r) (existsF x (den levels (rowsOf (view rows (now (words .entry)))) a)) ⌝ }
+{
+    let known = exists_known(words, rows, levels, x, a);
+    if let Found::At(r) = known {
+        return r;
+    }
+    exists_row(words, rows, levels, limit, x, a)
+}
+
+// EXISTS at level x of an arrow to a row at level x or above it.
+fn exists_row(words: &mut [u32], rows: u32, levels: u32, limit: u32, x: u32, a: u32) -> u32
+    requires { ⌜ Ready levels rows limit (view rows (now words)) × Arrow (rowsOf (view rows (now words))) a × (x < levels) × ReachesLevel (rowsOf (view rows (now words))) x a ⌝ }
+    ensures { λ r. ⌜ Worked levels rows limit (view rows (now (words .entry))) (view rows (now (words .exit))) (madeOf r) (existsF x (den levels (rowsOf (view rows (now (words .entry)))) a)) ⌝ }
+{
+    let i = row_of(a);
+    let n = node_at(words, rows, i);
+    let key = Memory::EXISTS + x;
     if n.level == x {
         let made = apply(words, rows, levels, limit, Op::Or, n.low, n.high);
         remember_row(words, rows, i, key, made);
         return made;
     }
-    let low = exists(words, rows, levels, limit, x, n.low);
+    let low = exists_part(words, rows, levels, limit, x, n.low);
     if low == Code::FULL {
         return Code::FULL;
     }
-    let high = exists(words, rows, levels, limit, x, n.high);
+    let high = exists_part(words, rows, levels, limit, x, n.high);
     if high == Code::FULL {
         return Code::FULL;
     }
