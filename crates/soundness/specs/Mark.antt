@@ -3,7 +3,7 @@ use mathlib.Core.Path.{_≡_, refl, ap, sym, _∙_, subst}
 use mathlib.Core.Logic.{_⊎_, inl, inr, ⊎-elim, by-cases}
 use mathlib.Core.List.{List, [], _∷_, List·Memᴰ as Mem, List·Memᴰ·head as here}
 use mathlib.Core.Bool.{true, false, true≢false}
-use Prim.Native.Nat.{ℕ, zero, suc, _-_, _*_, _≤_, _<_}
+use Prim.Native.Nat.{ℕ, zero, suc, _+_, _-_, _*_, _≤_, _<_}
 use native.Mathlib.Omega.{arith}
 use native.Mathlib.Decide.{ℕ-discrete}
 use Rattle.layout.specs.Places.{wordsFor, BITS, LOW, HIGH}
@@ -70,9 +70,12 @@ step {w} {size} (suc (suc i)) p h e =
     } in
     rw e s
 
--- a call for one of them, with r for the arrow and s for the size
-pub called : {w : View} {size x d t r s : ℕ} → MarkPre w size x → depth w x < d → d ≡ t → r ≡ x → s ≡ size → (depth w r < t) × MarkPre w s r
-called p l e q z = rw (q, z) (rw (← e) l, p)
+-- a call for one of them, with r for the arrow and s for the size: the measures are 2 d for the work on a row and 2 d + 1 for any arrow
+pub called : {w : View} {size x d t r s : ℕ} → MarkPre w size x → depth w x < d → 2 * d ≡ t → r ≡ x → s ≡ size → (2 * depth w r + 1 < t) × MarkPre w s r
+called {w} {x = x} {d = d} p l e q z = let h : 2 * depth w x + 1 < 2 * d = double (depth w x) d l in rw (q, z) (rw (← e) h, p)
+  where
+    double : (a b : ℕ) → a < b → 2 * a + 1 < 2 * b
+    double a b k = omega arith
 
 pub onArrow-le : (m m′ : List ℕ) → ((i : ℕ) → On m i → On m′ i) → (a : ℕ) → OnArrow m a → OnArrow m′ a
 onArrow-le m m′ f zero o = tt

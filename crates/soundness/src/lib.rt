@@ -7,10 +7,12 @@ use layout::is_row;
 use layout::listed;
 use layout::row_of;
 ghost use mathlib.Core.Path.{_≡_};
+ghost use mathlib.Core.Bool.{true};
 ghost use Prim.Native.Nat.{ℕ, suc, _*_, _<_, _≤_};
 ghost use lib.ListN.{length};
 ghost use Rattle.layout.specs.Places.{MAX-ROWS, HEADER, wordsFor, BITS, ROWS, FIRST-REGISTER, FIRST-RELATION};
 ghost use Rattle.layout.specs.View.{view, headerOf, listOf, headOf};
+ghost use Rattle.layout.specs.Arrows.{isRow};
 ghost use Rattle.soundness.specs.Used.{Sizes, used, rowsOf, Ranked};
 ghost use Rattle.soundness.specs.Index.{bucket, live, Has, Hit, Down, Link};
 ghost use Rattle.soundness.specs.Bits.{MARK-WORDS, isOn, Sets};
@@ -287,12 +289,34 @@ pub fn mark(words: &[u32], rows: u32, marks: &mut [u32], a: u32)
     if !is_row(a) {
         return;
     }
-    let i = row_of(a);
-    if marked(marks, i) {
+    if marked(marks, row_of(a)) {
         return;
     }
-    mark(words, rows, marks, get(words, rows, i, Table::LOW));
-    mark(words, rows, marks, get(words, rows, i, Table::HIGH));
+    mark_row(words, rows, marks, a);
+}
+
+// `mark` of an arrow of a row. It is apart, so that it is inlined in `mark_row`: an arrow with nothing to mark costs no call.
+fn mark_part(words: &[u32], rows: u32, marks: &mut [u32], a: u32)
+    requires { ⌜ MarkPre (view rows (now words)) (length (now marks)) a ⌝ }
+    ensures { λ _. ⌜ Marks (rowsOf (view rows (now (words .entry)))) (now (marks .entry)) (now (marks .exit)) a ⌝ }
+{
+    if !is_row(a) {
+        return;
+    }
+    if marked(marks, row_of(a)) {
+        return;
+    }
+    mark_row(words, rows, marks, a);
+}
+
+// Marks the rows that an arrow to a row reaches.
+fn mark_row(words: &[u32], rows: u32, marks: &mut [u32], a: u32)
+    requires { ⌜ MarkPre (view rows (now words)) (length (now marks)) a × (isRow a ≡ true) ⌝ }
+    ensures { λ _. ⌜ Marks (rowsOf (view rows (now (words .entry)))) (now (marks .entry)) (now (marks .exit)) a ⌝ }
+{
+    let i = row_of(a);
+    mark_part(words, rows, marks, get(words, rows, i, Table::LOW));
+    mark_part(words, rows, marks, get(words, rows, i, Table::HIGH));
     set_mark(marks, i);
 }
 
