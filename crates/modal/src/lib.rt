@@ -1,5 +1,6 @@
 // Diamond and box over arrows: chains of steps, with no bytes.
 use steps::Step;
+use steps::take_exists;
 use steps::take_step;
 use table::Made;
 ghost use Rattle.layout.specs.View.{view};
@@ -24,14 +25,8 @@ fn quantify(words: &mut [u32], limits: Limits, roots: &[u32], a: u32) -> Made
     while 0 < left {
         left -= 1;
         let level = 2 * left + 1;
-        let Made::At(d) = take_step(
-            words,
-            limits.rows,
-            levels,
-            limits.limit,
-            roots,
-            Step::Exists(level, c),
-        ) else {
+        let Made::At(d) = take_exists(words, limits.rows, levels, limits.limit, roots, level, c)
+        else {
             return Made::Full;
         };
         c = d;

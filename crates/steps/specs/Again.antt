@@ -1,5 +1,5 @@
 -- A step by one try, or by a second one after collecting. Assumes nothing.
-use mathlib.Core.Path.{_≡_, sym, ap, _∙_, subst}
+use mathlib.Core.Path.{_≡_, refl, sym, ap, _∙_, subst}
 use mathlib.Core.List.{List, _++_, List·Memᴰ as Mem, List·Memᴰ·tail as there, List·Memᴰ·cases-cons as mem-cases, List·Memᴰ·append-cases as append-cases}
 use mathlib.Core.Logic.{⊎-elim}
 use Prim.Native.Nat.{ℕ, _*_, _≤_}
@@ -10,7 +10,7 @@ use Rattle.diagram.specs.Keep.{Keeps, keeps-arrow, keeps-within, keeps-trans, e
 use Rattle.diagram.specs.Post.{Result, at, OpPost}
 use Rattle.diagram.specs.Collect.{Collects, collects-same, collects-keeps}
 use Rattle.diagram.specs.Step.{Settled, step-first, step-again}
-use Rattle.layout.specs.Places.{BITS}
+use Rattle.layout.specs.Places.{BITS, USED}
 use Rattle.layout.specs.View.{View}
 use Rattle.soundness.specs.Used.{rowsOf}
 use Rattle.soundness.specs.Sound.{Sound}
@@ -26,7 +26,7 @@ use Rattle.operations.specs.Work.{OpFrame, op-trans, Ready, Worked, ready-wf, r
 use Rattle.operations.specs.Rows.{even-levels}
 use Rattle.steps.specs.Steps.{stepF, operandsOf, liveAt, StepPre, Stepped, operand-arrow, fits-keeps, stepF-keeps, stepF-reads, live-arrows, operand-live, root-live, live-same}
 use Rattle.steps.specs.Clean.{CleanPre, Cleaned}
-use Rattle.steps.specs.Settle.{AnswerArrow, SettlePre, SettlePost}
+use Rattle.steps.specs.Settle.{AnswerArrow, SettlePre, SettlePost, settle-few}
 use Rattle.steps.specs.declared.Step.{Step}
 
 -- what collecting and a second try leave
@@ -79,6 +79,10 @@ module _ {m N limit : ℕ} {W : View} {roots : List ℕ} {s : Step} (p : StepPre
         is (answer.At a) v = v .post .result .arrow
         is answer.Full v = tt
 
+    -- it is answered
+    pub first-pre : {a : ℕ} → o ≡ answer.At a → SettlePre X roots s (answer.At a)
+    first-pre e = rw e at settle-pre
+
     -- what a settled try says of the table's N rows and of W's live roots
     pub settled-at : {Y : View} {t r : Made} → SettlePost limit X Y roots s t r → Settled N limit (rowsOf X) (rowsOf Y) (liveAt W roots s) (result t) (result r)
     settled-at {Y} {t} {r} z =
@@ -95,6 +99,10 @@ module _ {m N limit : ℕ} {W : View} {roots : List ℕ} {s : Step} (p : StepPre
         frame = op-trans (w .frame) (z .frame);
         post = step-first (liveAt W roots s) (ready-wf (p .ready)) live-are (w .post) (settled-at w z);
       }
+
+  -- and few rows are used
+  pub stepped-few : {X : View} {o : Made} {a c : ℕ} → o ≡ answer.At a → Worked m N limit W X o (stepF m (rowsOf W) s) → c ≡ X .header USED → c ≤ limit → Stepped m N limit W X roots s (answer.At a)
+  stepped-few e w q l = stepped-first e w (settle-few limit (first-pre w e) refl q l)
 
   -- the table is ready for the next step
   pub stepped-ready : {X : View} {o : Made} → Stepped m N limit W X roots s o → Ready m N limit X

@@ -9,6 +9,7 @@ use operations::bit;
 use operations::exists;
 use operations::not;
 use operations::shift;
+use table::Code;
 use table::Made;
 use table::made_of;
 ghost use mathlib.Core.Path.{_≡_};
@@ -148,4 +149,35 @@ pub fn take_step(
         Made::At(a) => settle(words, rows, limit, roots, step, Made::At(a)),
         Made::Full => retry(words, rows, levels, limit, roots, step),
     }
+}
+
+// Takes the step EXISTS at level x of an arrow, as `take_step` does; where it is answered at once, no `Step` is made.
+pub fn take_exists(
+    words: &mut [u32],
+    rows: u32,
+    levels: u32,
+    limit: u32,
+    roots: &[u32],
+    x: u32,
+    a: u32,
+) -> Made
+    requires { ⌜ StepPre levels rows limit (view rows (now words)) (now roots) (Step.Exists x a) ⌝ }
+    ensures { λ r. ⌜ Stepped levels rows limit (view rows (now (words .entry))) (view rows (now (words .exit))) (now (roots .entry)) (Step.Exists x a) r ⌝ }
+{
+    let code = exists(words, rows, levels, limit, x, a);
+    if code == Code::FULL {
+        return retry(words, rows, levels, limit, roots, Step::Exists(x, a));
+    }
+    let used = header_word(words, Table::USED);
+    if used <= limit {
+        return Made::At(code);
+    }
+    settle(
+        words,
+        rows,
+        limit,
+        roots,
+        Step::Exists(x, a),
+        Made::At(code),
+    )
 }

@@ -1,7 +1,7 @@
 -- `quantify` meets its contract: the loop stands where the book's chain of EXISTS does, a level less at each turn. Assumes nothing.
 use borrow.Author.Needs.{needs}
 use mathlib.Core.Path.{_≡_, _∙_, refl}
-use Prim.Native.Nat.{_≤_, _-_}
+use Prim.Native.Nat.{_≤_}
 use native.Mathlib.Omega.{arith}
 use lib.ListN.{length}
 use Rattle.layout.specs.View.{view}
@@ -9,9 +9,6 @@ use Rattle.modal.specs.Chain.{base-bits, took}
 use Rattle.modal.specs.Laws.{Quantified, quantify-begins, quantify-base, quantify-asks, quantify-turns, quantify-full, quantify-ends}
 use Rattle.modal.proofs.quantify.Statement.{statement}
 use Rattle.modal.proofs.quantify.Tie as tie
-use Rattle.modal.proofs.quantify.Reads as reads
-use Rattle.modal.proofs.quantify.Lts as lts
-use Rattle.steps.proofs.take_step.Reads as take-step-reads
 
 abbrev Inv-loop : tie.InvT-loop
 Inv-loop words₀ limits roots a levels c₀ left₀ words c left = (length words ≡ length words₀) × (left ≤ limits .bits) × Quantified (limits .bits) (limits .rows) (limits .limit) (view (limits .rows) words₀) (view (limits .rows) words) roots a left c
@@ -34,8 +31,8 @@ quantify-spec =
     (λ c. search needs)
     (λ c. search needs)
     (λ c. search needs)
-    (λ c. quantify-full (c .before .before .before .before .before .before .before .before .before .before .before .pre) (c .before .before .before .before .before .before .before .loop .inv .2) (c .before .before .before .before .before .before .loop-test .taken) (took (quantify-base (c .before .before .before .before .before .before .before .before .before .before .before .pre) (c .before .before .before .before .before .before .before .loop .inv .2)) (quantify-asks (c .before .before .before .before .before .before .before .before .before .before .before .pre) (c .before .before .before .before .before .before .before .loop .inv .2) (omega (arith, c .before .before .before .before .before .before .before .loop .inv .1, c .before .before .before .before .before .before .loop-test .taken))) (c .before .before .before .before .take-step .ensures)) (c .enum-told .given .1))
+    (λ c. quantify-full (c .before .before .before .before .before .before .before .before .before .before .before .pre) (c .before .before .before .before .before .before .before .loop .inv .2) (c .before .before .before .before .before .before .loop-test .taken) (took (quantify-base (c .before .before .before .before .before .before .before .before .before .before .before .pre) (c .before .before .before .before .before .before .before .loop .inv .2)) (quantify-asks (c .before .before .before .before .before .before .before .before .before .before .before .pre) (c .before .before .before .before .before .before .before .loop .inv .2) (omega (arith, c .before .before .before .before .before .before .before .loop .inv .1, c .before .before .before .before .before .before .loop-test .taken))) (c .before .before .before .before .take-exists .ensures)) (c .enum-told .given .1))
     (λ c. search needs)
-    (λ c. (c .before .before .before .before .before .take-step .kept .0 ∙ c .before .before .before .before .before .before .before .before .loop .inv .0, omega (arith, c .before .before .before .before .before .before .before .before .loop .inv .1), quantify-turns (c .before .before .before .before .before .before .before .before .before .before .before .before .pre) (c .before .before .before .before .before .before .before .before .loop .inv .2) (c .before .before .before .before .before .before .before .loop-test .taken) (took (quantify-base (c .before .before .before .before .before .before .before .before .before .before .before .before .pre) (c .before .before .before .before .before .before .before .before .loop .inv .2)) (quantify-asks (c .before .before .before .before .before .before .before .before .before .before .before .before .pre) (c .before .before .before .before .before .before .before .before .loop .inv .2) (omega (arith, c .before .before .before .before .before .before .before .before .loop .inv .1, c .before .before .before .before .before .before .before .loop-test .taken))) (c .before .before .before .before .before .take-step .ensures)) (c .before .d .given .1)))
+    (λ c. (c .before .before .before .before .before .take-exists .kept .0 ∙ c .before .before .before .before .before .before .before .before .loop .inv .0, omega (arith, c .before .before .before .before .before .before .before .before .loop .inv .1), quantify-turns (c .before .before .before .before .before .before .before .before .before .before .before .before .pre) (c .before .before .before .before .before .before .before .before .loop .inv .2) (c .before .before .before .before .before .before .before .loop-test .taken) (took (quantify-base (c .before .before .before .before .before .before .before .before .before .before .before .before .pre) (c .before .before .before .before .before .before .before .before .loop .inv .2)) (quantify-asks (c .before .before .before .before .before .before .before .before .before .before .before .before .pre) (c .before .before .before .before .before .before .before .before .loop .inv .2) (omega (arith, c .before .before .before .before .before .before .before .before .loop .inv .1, c .before .before .before .before .before .before .before .loop-test .taken))) (c .before .before .before .before .before .take-exists .ensures)) (c .before .d .given .1)))
     (λ c. search needs)
     (λ c. quantify-ends (c .before .before .before .before .before .pre) (c .before .loop .inv .2) (omega (arith, c .loop-test .left))))
