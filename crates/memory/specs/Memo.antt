@@ -13,6 +13,8 @@ use Rattle.diagram.specs.Grow.{arrow-extends}
 use Rattle.diagram.specs.Post.{Denotes}
 use Rattle.diagram.specs.Steps.{notF, twoF, shiftF, existsF}
 use Rattle.diagram.specs.Recur.{remembered}
+use Rattle.diagram.specs.Odd.{oddF, Covered}
+use Rattle.diagram.specs.OddLaws.{covered-extends}
 use Rattle.layout.specs.Places.{SLOTS, STORED, MEMO-KEY, MEMO-VALUE}
 use Rattle.layout.specs.View.{View}
 use Rattle.soundness.specs.Used.{used, rowsOf}
@@ -40,12 +42,22 @@ secondOf op.Or lo hi = lo
 abbrev pub pairOp : ℕ → ℕ → Bool → Bool → Bool
 pairOp x y p q = cond (ltb x y) (p && q) (p || q)
 
--- what a row remembers, by its key: 1 NOT, 2 SHIFT, 3 + x EXISTS at level x
+-- the key of EXISTS at every odd level
+abbrev pub ODD : ℕ
+ODD = 3
+
+-- what a row remembers, by its key: 1 NOT, 2 SHIFT, 3 EXISTS at every odd level, 4 + x EXISTS at level x
 abbrev pub unaryF : ℕ → Fn → Fn
 unaryF zero f = f
 unaryF (suc zero) f = notF f
 unaryF (suc (suc zero)) f = shiftF f
-unaryF (suc (suc (suc x))) f = existsF x f
+unaryF (suc (suc (suc zero))) f = oddF f
+unaryF (suc (suc (suc (suc x)))) f = existsF x f
+
+-- row i rightly remembers v; where it is of every odd level, the rows below have theirs too
+pub record Right (m : ℕ) (rows : Rows) (key i v : ℕ) : Type 0 where
+  pub answer : Denotes m rows v (unaryF key (den m rows (row i)))
+  pub covered : key ≡ ODD → Covered m rows (row i)
 
 -- the entry (x, y, r) is right
 pub record Entry (m : ℕ) (rows : Rows) (x y r : ℕ) : Type 0 where
@@ -62,8 +74,7 @@ pub record Slots (W : View) : Type 0 where
 pub record Remembers (m : ℕ) (W : View) : Type 0 where
   pub sizes : Slots W
   pub pairs : (s : ℕ) → s < W .header SLOTS → W .slot (3 * s) ≢ 0 → Entry m (rowsOf W) (W .slot (3 * s)) (W .slot (3 * s + 1)) (W .slot (3 * s + 2))
-  pub singles : (i : ℕ) → used W i ≡ true → W .cell i MEMO-KEY ≢ 0
-      → Denotes m (rowsOf W) (W .cell i MEMO-VALUE) (unaryF (W .cell i MEMO-KEY) (den m (rowsOf W) (row i)))
+  pub singles : (i : ℕ) → used W i ≡ true → W .cell i MEMO-KEY ≢ 0 → Right m (rowsOf W) (W .cell i MEMO-KEY) i (W .cell i MEMO-VALUE)
 
 -- an active slot holds (x, y, v)
 pub record Held (W : View) (x y v : ℕ) : Type 0 where
@@ -107,19 +118,18 @@ op-entry {m} {rows} {lo} {hi} op.Or l a b d =
     record { left = b; right = a; answer = record { arrow = d .arrow; same = λ v. d .same v ∙ rw (le-ltb hi lo (omega arith)) (and-swap (den m rows lo v) (den m rows hi v)) } }
 
 pub row-right : {m : ℕ} {W : View} {i key v : ℕ} → Remembers m W → used W i ≡ true → key ≢ 0 → (W .cell i MEMO-KEY ≡ key) × (v ≡ W .cell i MEMO-VALUE)
-    → Denotes m (rowsOf W) v (unaryF key (den m (rowsOf W) (row i)))
+    → Right m (rowsOf W) key i v
 row-right {m} {W} {i} {key} {v} g u n (a, b) =
-    subst (λ (k : ℕ). Denotes m (rowsOf W) v (unaryF k (den m (rowsOf W) (row i)))) a
-    (subst (λ (x : ℕ). Denotes m (rowsOf W) x (unaryF (W .cell i MEMO-KEY) (den m (rowsOf W) (row i)))) (sym b) (g .singles i u (λ z. n (sym a ∙ z))))
+    subst (λ (k : ℕ). Right m (rowsOf W) k i v) a (subst (λ (x : ℕ). Right m (rowsOf W) (W .cell i MEMO-KEY) i x) (sym b) (g .singles i u (λ z. n (sym a ∙ z))))
 
 -- entries stay right while rows are only added
 pub entry-extends : {m N : ℕ} {old new : Rows} {x y r : ℕ} → WellFormed m N old → Extends old new → Entry m old x y r → Entry m new x y r
 entry-extends {x = x} {y = y} {r = r} wf e d =
     record { left = arrow-extends e x (d .left); right = arrow-extends e y (d .right); answer = remembered (twoF (pairOp x y)) x y r wf e (d .left) (d .right) (d .answer) }
 
-pub unary-extends : {m N : ℕ} {old new : Rows} {r : ℕ} (key a : ℕ) → WellFormed m N old → Extends old new → Arrow old a
-    → Denotes m old r (unaryF key (den m old a)) → Denotes m new r (unaryF key (den m new a))
-unary-extends {r = r} key a wf e u d = remembered (λ f g. unaryF key f) a a r wf e u u d
+right-extends : {m N : ℕ} {old new : Rows} {r : ℕ} (key i : ℕ) → WellFormed m N old → Extends old new → old .used i ≡ true → Right m old key i r → Right m new key i r
+right-extends {r = r} key i wf e u d =
+    record { answer = remembered (λ f g. unaryF key f) (row i) (row i) r wf e u u (d .answer); covered = λ z. covered-extends {a = row i} wf e u (d .covered z) }
 
 -- so what is remembered is right in the larger table
 pub remembers-extends : {m N : ℕ} {W X : View} → WellFormed m N (rowsOf W) → Extends (rowsOf W) (rowsOf X) → Frame W X → Keys W X → Remembers m W → Remembers m X
@@ -140,5 +150,5 @@ remembers-extends {m} {W = W} {X = X} wf e f k g = record {
     slots : (t : ℕ → ℕ) → t ≡ W .slot → (s : ℕ) → s < W .header SLOTS → t (3 * s) ≢ 0 → Entry m (rowsOf X) (t (3 * s)) (t (3 * s + 1)) (t (3 * s + 2))
     slots t q s l = subst (λ (t : ℕ → ℕ). t (3 * s) ≢ 0 → Entry m (rowsOf X) (t (3 * s)) (t (3 * s + 1)) (t (3 * s + 2))) (sym q) (λ n. entry-extends wf e (g .pairs s l n))
 
-    rows : {key v : ℕ} (i : ℕ) → used W i ≡ true → W .cell i MEMO-KEY ≡ key → W .cell i MEMO-VALUE ≡ v → key ≢ 0 → Denotes m (rowsOf X) v (unaryF key (den m (rowsOf X) (row i)))
-    rows {key} {v} i u a b n = unary-extends key (row i) wf e u (row-right g u n (a, sym b))
+    rows : {key v : ℕ} (i : ℕ) → used W i ≡ true → W .cell i MEMO-KEY ≡ key → W .cell i MEMO-VALUE ≡ v → key ≢ 0 → Right m (rowsOf X) key i v
+    rows {key} {v} i u a b n = right-extends key i wf e u (row-right g u n (a, sym b))

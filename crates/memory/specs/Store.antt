@@ -6,15 +6,14 @@ use Prim.Native.Nat.{ℕ, _+_, _*_, _≤_, _<_}
 use native.Mathlib.Decide.{ℕ-discrete, decLt}
 use native.Mathlib.Omega.{arith}
 use borrow.Author.Tests.{eq-eqb, ne-eqb}
-use Rattle.diagram.specs.Rows.{Rows, row, den}
-use Rattle.diagram.specs.Post.{Denotes}
+use Rattle.diagram.specs.Rows.{Rows}
 use Rattle.layout.specs.Places.{SLOTS, STORED, MEMO-KEY, MEMO-VALUE}
 use Rattle.layout.specs.View.{View, upd, putHeader, putCell, putSlot}
 use Rattle.soundness.specs.Used.{used, rowsOf}
 use Rattle.table.specs.declared.Made.{Made}
 use Rattle.table.specs.declared.Made.the-variants as made
 use Rattle.memory.specs.Frame.{MemoFrame, memo-refl, memo-trans, setSlots, memo-set, memo-slots, memo-stored, memo-key, memo-value, rows-same, used-same}
-use Rattle.memory.specs.Memo.{Entry, Slots, Remembers, unaryF, held-entry, row-right}
+use Rattle.memory.specs.Memo.{Entry, Slots, Right, Remembers, held-entry, row-right}
 
 -- X is W with the entries `from` up to `to` empty, and those before as they were
 pub record Emptied (W X : View) (from to : ℕ) : Type 0 where
@@ -120,10 +119,8 @@ module _ {m : ℕ} {W X : View} (f : MemoFrame W X) (g : Remembers m W) where
   pair-at {x} {y} {r} s l a b c n =
       subst (λ (t : Rows). Entry m t x y r) (sym (rows-same f)) (held-entry g n (record { at = s; active = l; first = a; second = b; value = sym c }))
 
-  single-at : {key v : ℕ} (i : ℕ) → used X i ≡ true → W .cell i MEMO-KEY ≡ key → W .cell i MEMO-VALUE ≡ v → key ≢ 0
-      → Denotes m (rowsOf X) v (unaryF key (den m (rowsOf X) (row i)))
-  single-at {key} {v} i u a b n =
-      subst (λ (t : Rows). Denotes m t v (unaryF key (den m t (row i)))) (sym (rows-same f)) (row-right g (used-same f i u) n (a, sym b))
+  single-at : {key v : ℕ} (i : ℕ) → used X i ≡ true → W .cell i MEMO-KEY ≡ key → W .cell i MEMO-VALUE ≡ v → key ≢ 0 → Right m (rowsOf X) key i v
+  single-at {key} {v} i u a b n = subst (λ (t : Rows). Right m t key i v) (sym (rows-same f)) (row-right g (used-same f i u) n (a, sym b))
 
 remembers-fewer : {m : ℕ} {W X : View} → Remembers m W → Fewer W X → Remembers m X
 remembers-fewer g f = record {
@@ -176,7 +173,7 @@ remembers-pair {m} x y (made.At r) g e p =
 remembers-pair {m} x y made.Full g e p = subst (Remembers m) (sym p) g
 
 abbrev pub RightRow : ℕ → Rows → ℕ → ℕ → Made → Type 0
-RightRow m rows i key (made.At r) = Denotes m rows r (unaryF key (den m rows (row i)))
+RightRow m rows i key (made.At r) = Right m rows key i r
 RightRow m rows i key made.Full = Unit {0}
 
 pub remembers-row : {m : ℕ} (W : View) (i key : ℕ) (o : Made) → Remembers m W → RightRow m (rowsOf W) i key o → Remembers m (keepRow W i key o)

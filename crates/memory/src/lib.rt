@@ -33,14 +33,16 @@ impl Memory {
     // The number of active slots starts near this and twice the used rows.
     pub const FEWEST: u32 = 256;
 
-    // What a row remembers: nothing, NOT, SHIFT, or EXISTS at level 0 and so on.
+    // What a row remembers: nothing, NOT, SHIFT, EXISTS at every odd level, or EXISTS at level 0 and so on.
     pub const NOTHING: u32 = 0;
 
     pub const NOT: u32 = 1;
 
     pub const SHIFT: u32 = 2;
 
-    pub const EXISTS: u32 = 3;
+    pub const ODD: u32 = 3;
+
+    pub const EXISTS: u32 = 4;
 }
 
 // The operations on two arrows.

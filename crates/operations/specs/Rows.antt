@@ -21,7 +21,7 @@ use Rattle.table.specs.declared.Made.{Made}
 use Rattle.table.specs.declared.Made.the-variants as answer
 use Rattle.table.specs.declared.Found.{Found}
 use Rattle.table.specs.declared.Found.the-variants as find
-use Rattle.memory.specs.Memo.{unaryF, RowPost, row-right}
+use Rattle.memory.specs.Memo.{ODD, unaryF, RowPost, row-right}
 use Rattle.memory.specs.Store.{keepRow, keepRow-frame, RightRow, remembers-row}
 use Rattle.operations.specs.Work.{Ready, Known, Worked, known-at, ready-wf, worked-kept}
 use Rattle.operations.specs.Open.{RowAt, Opened}
@@ -66,22 +66,22 @@ module _ {m N : ℕ} {W : View} {R : Type 0} (r : Ready m N 0 W) where
   -- what row i remembers
   pub row-known : {a i : ℕ} {f : Found} (key : ℕ) → key ≢ 0 → RowAt (rowsOf W) a i → R → RowPost W i key f → Known m W f (unaryF key (den m (rowsOf W) a)) R
   row-known key n o x p = record {
-    at = λ v e. subst (λ (b : ℕ). Denotes m (rowsOf W) v (unaryF key (den m (rowsOf W) b))) (sym (o .is)) (row-right (r .memory) (o .used) n (rw e at p));
+    at = λ v e. subst (λ (b : ℕ). Denotes m (rowsOf W) v (unaryF key (den m (rowsOf W) b))) (sym (o .is)) (row-right (r .memory) (o .used) n (rw e at p) .answer);
     none = λ e. x;
   }
 
 module _ {m N limit : ℕ} {W : View} (r : Ready m N limit W) where
   -- the result is remembered by the operand's row
-  pub row-kept : {X Y : View} {o : Made} {a i : ℕ} (key : ℕ) → RowAt (rowsOf W) a i → Worked m N limit W X o (unaryF key (den m (rowsOf W) a)) → Y ≡ keepRow X i key o
+  pub row-kept : {X Y : View} {o : Made} {a i : ℕ} (key : ℕ) → key ≢ ODD → RowAt (rowsOf W) a i → Worked m N limit W X o (unaryF key (den m (rowsOf W) a)) → Y ≡ keepRow X i key o
       → Worked m N limit W Y o (unaryF key (den m (rowsOf W) a))
-  row-kept {X} {o = o} {a = a} {i = i} key p w e =
+  row-kept {X} {o = o} {a = a} {i = i} key n p w e =
       subst (λ (v : View). Worked m N limit W v o (unaryF key (den m (rowsOf W) a))) (sym e)
       (worked-kept w (keepRow-frame X i key o) (remembers-row X i key o (w .memory) (right o w)))
     where
       right : (t : Made) → Worked m N limit W X t (unaryF key (den m (rowsOf W) a)) → RightRow m (rowsOf X) i key t
       right (answer.At v) q =
           let e : den m (rowsOf W) a ≡ den m (rowsOf X) (row i) = ap (den m (rowsOf W)) (p .is) ∙ fun-ext (λ x. sym (den-extends (q .post .kept) (ready-wf r) m (row i) (p .used) x)) in
-          subst (λ (f : Fn). Denotes m (rowsOf X) v (unaryF key f)) e (q .post .result)
+          record { answer = subst (λ (f : Fn). Denotes m (rowsOf X) v (unaryF key f)) e (q .post .result); covered = λ z. absurd (n z) }
       right answer.Full q = tt
 
 -- what the two calls compute
@@ -112,14 +112,14 @@ module _ {m N limit : ℕ} {W : View} {a i l lo hi : ℕ} (r : Ready m N limit W
         λ v w h. d v ∙ q v w h ∙ sym (d w)
 
 -- the key of EXISTS at x
-pub exists-key : (x : ℕ) (f : Fn) → unaryF (3 + x) f ≡ existsF x f
-exists-key x f = let e : 3 + x ≡ suc (suc (suc x)) = omega arith in rw e
+pub exists-key : (x : ℕ) (f : Fn) → unaryF (4 + x) f ≡ existsF x f
+exists-key x f = let e : 4 + x ≡ suc (suc (suc (suc x))) = omega arith in rw e
 
-pub exists-known : {m N : ℕ} {W : View} {a i : ℕ} {f : Found} {R : Type 0} (x : ℕ) → Ready m N 0 W → RowAt (rowsOf W) a i → R → RowPost W i (3 + x) f → Known m W f (existsF x (den m (rowsOf W) a)) R
-exists-known {m} {W = W} {a = a} {f = f} {R = R} x r q y p = subst (λ (g : Fn). Known m W f g R) (exists-key x (den m (rowsOf W) a)) (row-known r (3 + x) (omega arith) q y p)
+pub exists-known : {m N : ℕ} {W : View} {a i : ℕ} {f : Found} {R : Type 0} (x : ℕ) → Ready m N 0 W → RowAt (rowsOf W) a i → R → RowPost W i (4 + x) f → Known m W f (existsF x (den m (rowsOf W) a)) R
+exists-known {m} {W = W} {a = a} {f = f} {R = R} x r q y p = subst (λ (g : Fn). Known m W f g R) (exists-key x (den m (rowsOf W) a)) (row-known r (4 + x) (omega arith) q y p)
 
 module _ {m N limit : ℕ} {W : View} {a i : ℕ} (r : Ready m N limit W) (x : ℕ) (q : RowAt (rowsOf W) a i) where
-  pub exists-kept : {X Y : View} {o : Made} → Worked m N limit W X o (existsF x (den m (rowsOf W) a)) → Y ≡ keepRow X i (3 + x) o → Worked m N limit W Y o (existsF x (den m (rowsOf W) a))
+  pub exists-kept : {X Y : View} {o : Made} → Worked m N limit W X o (existsF x (den m (rowsOf W) a)) → Y ≡ keepRow X i (4 + x) o → Worked m N limit W Y o (existsF x (den m (rowsOf W) a))
   exists-kept {X} {Y} {o} w e =
       let k = exists-key x (den m (rowsOf W) a) in
-      subst (λ (f : Fn). Worked m N limit W Y o f) k (row-kept r (3 + x) q (subst (λ (f : Fn). Worked m N limit W X o f) (sym k) w) e)
+      subst (λ (f : Fn). Worked m N limit W Y o f) k (row-kept r (4 + x) (omega arith) q (subst (λ (f : Fn). Worked m N limit W X o f) (sym k) w) e)

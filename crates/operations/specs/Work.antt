@@ -112,7 +112,7 @@ module _ {m N limit : ℕ} {W : View} (r : Ready m N limit W) where
   make-pre {l} {lo} {hi} f =
       record { good = r .good; limit-le = rw (← r .rows-is) (r .limit-le); fit = subst (λ (k : ℕ). Fit k (rowsOf W) l lo hi) (r .levels-is) f }
 
-  making : {X : View} {l lo hi : ℕ} {o : Made} → MakePost W X limit l lo hi o → Making m N limit (rowsOf W) (rowsOf X) l lo hi (result o)
+  pub making : {X : View} {l lo hi : ℕ} {o : Made} → MakePost W X limit l lo hi o → Making m N limit (rowsOf W) (rowsOf X) l lo hi (result o)
   making p = rw (r .levels-is, r .rows-is) (p .made)
 
   -- what making a row leaves

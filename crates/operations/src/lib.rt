@@ -29,6 +29,7 @@ ghost use Rattle.table.specs.Code.{madeOf};
 ghost use Rattle.memory.specs.Memo.{Slots, bitOp};
 ghost use Rattle.operations.specs.Work.{Ready, Known, Worked};
 ghost use Rattle.operations.specs.Open.{RowIs, ReachesLevel};
+ghost use Rattle.operations.specs.Odd.{OddKnown, OddPost, JoinPre, JoinPost};
 ghost use Rattle.operations.specs.Pairs.{absorb, shortOf, KnownPost, BothRows};
 
 // A row's level and arrows.
@@ -374,5 +375,79 @@ fn exists_row(words: &mut [u32], rows: u32, levels: u32, limit: u32, x: u32, a: 
     }
     let made = make(words, rows, limit, n.level, low, high);
     remember_row(words, rows, i, key, made);
+    made
+}
+
+// What is known of EXISTS at every odd level of an arrow: of a constant, or remembered.
+fn odd_known(words: &[u32], rows: u32, levels: u32, a: u32) -> Found
+    requires { ⌜ Ready levels rows 0 (view rows (now words)) × Arrow (rowsOf (view rows (now words))) a ⌝ }
+    ensures { λ r. ⌜ OddKnown levels (view rows (now (words .entry))) a r ⌝ }
+{
+    if !is_row(a) {
+        return Found::At(a);
+    }
+    recall_row(words, rows, row_of(a), Memory::ODD)
+}
+
+// EXISTS at every odd level of an arrow. Rows are added for parts of the result too, so that FULL says nothing of its need.
+pub fn exists_odd(words: &mut [u32], rows: u32, levels: u32, limit: u32, a: u32) -> u32
+    requires { ⌜ Ready levels rows limit (view rows (now words)) × Arrow (rowsOf (view rows (now words))) a ⌝ }
+    ensures { λ r. ⌜ OddPost levels (view rows (now (words .entry))) (view rows (now (words .exit))) a r ⌝ }
+{
+    let known = odd_known(words, rows, levels, a);
+    if let Found::At(r) = known {
+        return r;
+    }
+    odd_row(words, rows, levels, limit, a)
+}
+
+// `exists_odd` of a part of a row. It is apart, so that it is inlined in `odd_row`: a part whose result is known costs no call.
+fn odd_part(words: &mut [u32], rows: u32, levels: u32, limit: u32, a: u32) -> u32
+    requires { ⌜ Ready levels rows limit (view rows (now words)) × Arrow (rowsOf (view rows (now words))) a ⌝ }
+    ensures { λ r. ⌜ OddPost levels (view rows (now (words .entry))) (view rows (now (words .exit))) a r ⌝ }
+{
+    let known = odd_known(words, rows, levels, a);
+    if let Found::At(r) = known {
+        return r;
+    }
+    odd_row(words, rows, levels, limit, a)
+}
+
+// OR of the parts of a row of an odd level, or a row over those of an even one.
+fn odd_join(
+    words: &mut [u32],
+    rows: u32,
+    levels: u32,
+    limit: u32,
+    level: u32,
+    low: u32,
+    high: u32,
+) -> u32
+    requires { ⌜ JoinPre levels rows limit (view rows (now words)) level low high ⌝ }
+    ensures { λ r. ⌜ JoinPost levels rows limit (view rows (now (words .entry))) (view rows (now (words .exit))) level low high (madeOf r) ⌝ }
+{
+    if level % 2 == 1 {
+        return apply(words, rows, levels, limit, Op::Or, low, high);
+    }
+    make(words, rows, limit, level, low, high)
+}
+
+// EXISTS at every odd level of an arrow to a row.
+fn odd_row(words: &mut [u32], rows: u32, levels: u32, limit: u32, a: u32) -> u32
+    requires { ⌜ Ready levels rows limit (view rows (now words)) × Arrow (rowsOf (view rows (now words))) a × (isRow a ≡ true) ⌝ }
+    ensures { λ r. ⌜ OddPost levels (view rows (now (words .entry))) (view rows (now (words .exit))) a r ⌝ }
+{
+    let i = row_of(a);
+    let n = node_at(words, rows, i);
+    let low = odd_part(words, rows, levels, limit, n.low);
+    if low == Code::FULL {
+        return Code::FULL;
+    }
+    let high = odd_part(words, rows, levels, limit, n.high);
+    if high == Code::FULL {
+        return Code::FULL;
+    }
+    let made = odd_join(words, rows, levels, limit, n.level, low, high);
+    remember_row(words, rows, i, Memory::ODD, made);
     made
 }
