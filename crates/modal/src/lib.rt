@@ -1,9 +1,17 @@
 // Diamond and box over arrows: chains of steps, with no bytes.
+use layout::Table;
+use layout::header_word;
+use operations::exists_odd;
 use steps::Step;
 use steps::take_exists;
 use steps::take_step;
+use table::Code;
 use table::Made;
-ghost use Rattle.layout.specs.View.{view};
+ghost use Prim.Native.Nat.{_*_, _≤_};
+ghost use lib.ListN.{length};
+ghost use Rattle.layout.specs.Places.{HEADER, USED};
+ghost use Rattle.layout.specs.View.{view, headerOf};
+ghost use Rattle.soundness.specs.Says.{Says};
 ghost use Rattle.modal.specs.Modal.{QuantifyPre, QuantifyPost, ModalPre, DiamondPost, BoxPost};
 
 // The sizes of a table and what an evaluation may use of it: state bits, rows, the row limit and the rounds.
@@ -14,8 +22,8 @@ pub struct Limits {
     pub rounds: u32,
 }
 
-// EXISTS at levels 2n − 1, 2n − 3, down to 1.
-fn quantify(words: &mut [u32], limits: Limits, roots: &[u32], a: u32) -> Made
+// EXISTS at levels 2n − 1, 2n − 3, down to 1, step by step.
+fn quantify_steps(words: &mut [u32], limits: Limits, roots: &[u32], a: u32) -> Made
     requires { ⌜ QuantifyPre (limits .bits) (limits .rows) (limits .limit) (view (limits .rows) (now words)) (now roots) a ⌝ }
     ensures { λ r. ⌜ QuantifyPost (limits .bits) (limits .rows) (limits .limit) (view (limits .rows) (now (words .entry))) (view (limits .rows) (now (words .exit))) (now (roots .entry)) a r ⌝ }
 {
@@ -30,6 +38,36 @@ fn quantify(words: &mut [u32], limits: Limits, roots: &[u32], a: u32) -> Made
             return Made::Full;
         };
         c = d;
+    }
+    Made::At(c)
+}
+
+// Whether the used rows, three times, are at most the limit: then no step of a diamond's EXISTS needs more.
+fn spacious(words: &[u32], limit: u32) -> bool
+    requires { ⌜ HEADER ≤ length (now words) ⌝ }
+    ensures { λ r. ⌜ Says (3 * headerOf (now (words .entry)) USED ≤ limit) r ⌝ }
+{
+    let used = header_word(words, Table::USED) as u64;
+    if 3 * used > limit as u64 {
+        return false;
+    }
+    true
+}
+
+// EXISTS at levels 2n − 1, 2n − 3, down to 1: at once where that is sure to fit, else step by step.
+fn quantify(words: &mut [u32], limits: Limits, roots: &[u32], a: u32) -> Made
+    requires { ⌜ QuantifyPre (limits .bits) (limits .rows) (limits .limit) (view (limits .rows) (now words)) (now roots) a ⌝ }
+    ensures { λ r. ⌜ QuantifyPost (limits .bits) (limits .rows) (limits .limit) (view (limits .rows) (now (words .entry))) (view (limits .rows) (now (words .exit))) (now (roots .entry)) a r ⌝ }
+{
+    if !spacious(words, limits.limit) {
+        return quantify_steps(words, limits, roots, a);
+    }
+    let c = exists_odd(words, limits.rows, 2 * limits.bits, limits.limit, a);
+    if c == Code::FULL {
+        return quantify_steps(words, limits, roots, a);
+    }
+    if !spacious(words, limits.limit) {
+        return quantify_steps(words, limits, roots, a);
     }
     Made::At(c)
 }
