@@ -193,7 +193,7 @@ pub fn first(words: &[u32], rows: u32, b: u32) -> u32
 }
 
 // How a walk along a chain ended: it met its row, missed it, or grew too long.
-pub enum Walk {
+enum Walk {
     Met,
     Missed,
     Long,
@@ -201,7 +201,7 @@ pub enum Walk {
 
 impl Walk {
     // How many rows a walk passes before it gives up.
-    pub const MOST: u32 = 32;
+    const MOST: u32 = 32;
 }
 
 // Whether the walk from a link meets row i first of all rows with these three words.
