@@ -15,6 +15,9 @@
  * each over the whole formula; of 8 and 9 the one that evaluation meets first is returned. A refused call writes 0 into every answer.
  * KUDZUCLAMP_FULL and KUDZUCLAMP_SPENT keep registers, relations, the tally and the rows that these need; every other refusal keeps all words.
  *
+ * STACK. A call takes less than 160 KB of it, and more than 80 KB only on words whose lookup chains are longer than 32 rows (counted on the
+ * compiled code, not proved).
+ *
  * POINTERS. A slice is a pointer and its number of elements. No pointer may be null, not even with 0 elements. Words that are not const, and each
  * answer, must overlap nothing else that is lent to the call, and no other thread may use them meanwhile; nor may one write the rest.
  */

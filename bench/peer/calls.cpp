@@ -111,6 +111,14 @@ class Hostile {
         std::fill(h.w.begin() + HEADS + 1, h.w.begin() + HEADS + ROWS, h.w[HEADS]);
         return h;
     }
+    // The same with a row in the middle equal to the first, and no register.
+    static Hostile equal_rows(bool mixed) {
+        Hostile h = one_chain(mixed);
+        const u32 *first = &h.w[256 + 8 * (size_t)h.place[0]];
+        std::copy(first, first + 3, &h.w[256 + 8 * (size_t)h.place[ROWS / 2]]);
+        h.w[16] = 0;
+        return h;
+    }
     // 15,000 rows in their own buckets, and 45,000 above them that were picked to fall into bucket 7.
     static Hostile one_bucket(bool mixed) {
         Hostile h(mixed);
@@ -154,13 +162,19 @@ class Hostile {
 };
 
 static void refusals() {
-    printf("| hostile table of 60,000 rows, register 0 odd | answer to clear | s |\n|---|--:|--:|\n");
-    for (bool bucket : {false, true})
+    struct Kind { const char *name; Hostile (*table)(bool); };
+    const Kind kinds[] = {
+        {"all rows in one chain, register 0 odd", Hostile::one_chain},
+        {"45,000 rows in one bucket, register 0 odd", Hostile::one_bucket},
+        {"all rows in one chain, one in the middle equal to the first", Hostile::equal_rows},
+    };
+    printf("| hostile table of 60,000 rows | answer to clear | s |\n|---|--:|--:|\n");
+    for (const Kind &kind : kinds)
         for (bool mixed : {false, true}) {
-            Hostile h = bucket ? Hostile::one_bucket(mixed) : Hostile::one_chain(mixed);
+            Hostile h = kind.table(mixed);
             u64 start = thread_time();
             u32 answer = kudzuclamp_clear(h.w.data(), h.w.size(), 5);
-            printf("| %s, places %s | %u | %.2f |\n", bucket ? "45,000 rows in one bucket" : "all rows in one chain", mixed ? "mixed" : "in order", answer, (thread_time() - start) / 1e9);
+            printf("| %s, places %s | %u | %.3f |\n", kind.name, mixed ? "mixed" : "in order", answer, (thread_time() - start) / 1e9);
             fflush(stdout);
         }
 }

@@ -11,7 +11,7 @@ use Rattle.layout.specs.Places.{MAX-ROWS, wordsFor, USED, LOW, HIGH, LEVEL, NEX
 use Rattle.layout.specs.View.{View}
 use Rattle.layout.specs.Arrows.{isRow, rowOf, row-is}
 use Rattle.soundness.specs.Used.{used, used-in}
-use Rattle.soundness.specs.Index.{Has, Hit, stop, skip, Down, Link, live, live-used, live-not, keyOf}
+use Rattle.soundness.specs.Index.{Has, Hit, stop, skip, Down, down-link, Link, live, live-used, live-not, keyOf}
 use Rattle.soundness.specs.Bits.{On}
 
 -- there are words enough, and not more used rows than rows
@@ -119,6 +119,12 @@ link-used W (suc j) n l = let e : suc j - 1 ≡ j = omega arith in rw e l
 
 pub used-row : (W : View) (i : ℕ) → used W i ≡ true → i < W .rows
 used-row W i u = used-in _ _ _ _ _ u .row
+
+pub link-row : {W : View} {p : ℕ} → Links W → p ≢ 0 → Link (used W) p → p - 1 < W .rows
+link-row {W} {p} k n l = used-row W (p - 1) (link-used W p n l)
+
+pub link-next : {W : View} {p : ℕ} → Links W → p ≢ 0 → Link (used W) p → Link (used W) (W .cell (p - 1) NEXT)
+link-next {W} {p} k n l = down-link W (W .cell (p - 1) RANK) (W .cell (p - 1) NEXT) (k .nexts (p - 1) (link-used W p n l))
 
 pub live-not-zero : (u : ℕ → Bool) (p : ℕ) → p ≢ 0 → u (p - 1) ≡ true → live u p ≡ p
 live-not-zero u zero n e = absurd (n refl)

@@ -9,3 +9,8 @@ pub mod Framed
 pub mod Sound
 pub mod Filled
 pub mod Alike
+pub mod Triples
+pub mod Heights
+pub mod Order
+pub mod Halves
+pub mod Chains

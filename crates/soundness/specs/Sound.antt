@@ -4,6 +4,7 @@ use mathlib.Core.Bool.{true}
 use mathlib.Core.Logic.{⊎-elim}
 use mathlib.Core.List.{List, [], _∷_}
 use Prim.Native.Nat.{ℕ, zero, suc, _*_, _%_, _≤_, _<_}
+use native.Mathlib.Omega.{arith}
 use borrow.Author.Tests.{eq-eqb, eqb-true}
 use Rattle.layout.specs.Places.{BITS, ROWS, USED, FIRST-REGISTER, FIRST-RELATION, ROOTS-END, LOW, HIGH, LEVEL, RANK}
 use Rattle.diagram.specs.Rows.{Arrow, levelOf, RowOk, WellFormed}
@@ -16,6 +17,7 @@ use Rattle.soundness.specs.Bits.{On}
 use Rattle.soundness.specs.Mark.{OnArrow, Closed, closed-reach, reaches-used}
 use Rattle.soundness.specs.Roots.{Ref, Held, MarksAll}
 use Rattle.soundness.specs.Checks.{Room, Placed, Leads, RowGood, Finds, Links, EvenMarked}
+use Rattle.soundness.specs.Triples.{Ready, small-of}
 
 -- "each register is empty or an arrow whose rows all have even levels"
 abbrev pub EvenRegs : View → Type 0
@@ -69,6 +71,18 @@ module _ (W : View) where
 
   pub links-of : Room W → ((k : ℕ) → k < W .header USED → RowGood W m (W .list k)) → Links W
   links-of r h = record { room = r; nexts = λ i u. along (λ i. RowGood W m i) h i u .next }
+
+  -- what the index is looked at with
+  pub ready-of : {n : ℕ} → Sizes (W .header BITS) (W .rows) (W .size) → n ≡ W .header USED → n ≤ W .rows
+      → ((k : ℕ) → k < n → Placed W k) → ((k : ℕ) → k < n → RowGood W m (W .list k)) → Ready W n
+  ready-of z e c p g =
+      let r : Room W = room-of z (omega arith) in
+      record {
+        count = e;
+        ranked = ranked-of (omega arith) (λ k h. p k (omega arith));
+        links = links-of r (λ k h. g k (omega arith));
+        small = λ k h. small-of r (let b = z .n-max in omega arith) (g k h);
+      }
 
   leads-arrow : (above a : ℕ) → Leads W above a → Arrow (rowsOf W) a
   leads-arrow above zero l = tt

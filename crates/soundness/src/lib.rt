@@ -1,4 +1,8 @@
 // Whether words are a sound table.
+mod chains;
+
+use chains::Part;
+use chains::part_ok;
 use layout::Table;
 use layout::get;
 use layout::head;
@@ -18,7 +22,8 @@ ghost use Rattle.soundness.specs.Index.{bucket, live, Has, Hit, Down, Li
 ghost use Rattle.soundness.specs.Bits.{MARK-WORDS, isOn, Sets};
 ghost use Rattle.soundness.specs.Mark.{Marks, MarkPre};
 ghost use Rattle.soundness.specs.Roots.{Ref, MarksAll, RefPre, RefsPre, Held};
-ghost use Rattle.soundness.specs.Says.{Says};
+ghost use Rattle.soundness.specs.Says.{Says, WalkSays};
+ghost use Rattle.soundness.specs.Triples.{Ready};
 ghost use Rattle.soundness.specs.Checks.{Room, Placed, Leads, RowGood, Finds, Links, EvenMarked};
 ghost use Rattle.soundness.specs.Sound.{EvenRegs, Sound, tableOf};
 
@@ -189,26 +194,46 @@ pub fn first(words: &[u32], rows: u32, b: u32) -> u32
     p
 }
 
+// How a walk along a chain ended: it met its row, missed it, or grew too long.
+enum Walk {
+    Met,
+    Missed,
+    Long,
+}
+
+impl Walk {
+    // How many rows a walk passes before it gives up.
+    const MOST: u32 = 32;
+}
+
 // Whether the walk from a link meets row i first of all rows with these three words.
-fn hits(words: &[u32], rows: u32, link: u32, level: u32, low: u32, high: u32, i: u32) -> bool
+fn hits(words: &[u32], rows: u32, link: u32, level: u32, low: u32, high: u32, i: u32) -> Walk
     requires { ⌜ Links (view rows (now words)) × Link (used (view rows (now words))) link ⌝ }
-    ensures { λ r. ⌜ Says (Hit (view rows (now (words .entry))) level low high link i) r ⌝ }
+    ensures { λ r. ⌜ WalkSays (Hit (view rows (now (words .entry))) level low high link i) r ⌝ }
 {
     let mut p = link;
+    let mut left = Walk::MOST;
     while p != 0 {
         let j = p - 1;
         if same_row(words, rows, j, level, low, high) {
-            return j == i;
+            if j == i {
+                return Walk::Met;
+            }
+            return Walk::Missed;
         }
+        if left == 0 {
+            return Walk::Long;
+        }
+        left -= 1;
         p = get(words, rows, j, Table::NEXT);
     }
-    false
+    Walk::Missed
 }
 
 // Whether the lookup of row i finds row i.
-fn found_row(words: &[u32], rows: u32, i: u32) -> bool
+fn found_row(words: &[u32], rows: u32, i: u32) -> Walk
     requires { ⌜ (i < rows) × Links (view rows (now words)) ⌝ }
-    ensures { λ r. ⌜ Says (Finds (view rows (now (words .entry))) i) r ⌝ }
+    ensures { λ r. ⌜ WalkSays (Finds (view rows (now (words .entry))) i) r ⌝ }
 {
     let level = get(words, rows, i, Table::LEVEL);
     let low = get(words, rows, i, Table::LOW);
@@ -217,15 +242,22 @@ fn found_row(words: &[u32], rows: u32, i: u32) -> bool
     hits(words, rows, first(words, rows, b), level, low, high, i)
 }
 
-// Whether the lookup of every used row finds it.
+// Whether the lookup of every used row finds it. Where a walk grows too long, that is told another way.
 fn index_ok(words: &[u32], rows: u32, used: u32) -> bool
-    requires { ⌜ (used ≤ rows) × Links (view rows (now words)) × ((k : ℕ) → k < used → Placed (view rows (now words)) k) ⌝ }
+    requires { ⌜ Ready (view rows (now words)) used ⌝ }
     ensures { λ r. ⌜ Says ((k : ℕ) → k < used → Finds (view rows (now (words .entry))) (listOf rows (now (words .entry)) k)) r ⌝ }
 {
     let mut k = 0;
     while k < used {
-        if !found_row(words, rows, listed(words, rows, k)) {
-            return false;
+        let walk = found_row(words, rows, listed(words, rows, k));
+        match walk {
+            Walk::Met => {}
+            Walk::Missed => {
+                return false;
+            }
+            Walk::Long => {
+                return part_ok(words, rows, used, Part::Both);
+            }
         }
         k += 1;
     }

@@ -100,7 +100,7 @@ fn lookup(words: Words, row: usize) -> Option<usize> {
 
 /// "the low 32 bits of low · 0x9E3779B1 + high · 0x85EBCA77 + level · 0xC2B2AE3D, times N, divided
 /// by 2^32".
-fn bucket(rows: usize, level: u32, low: u32, high: u32) -> usize {
+pub fn bucket(rows: usize, level: u32, low: u32, high: u32) -> usize {
     let terms = [
         (low, 0x9E37_79B1),
         (high, 0x85EB_CA77),

@@ -2,7 +2,7 @@
 use native.Mathlib.Omega.{arith}
 use Rattle.layout.specs.View.{view}
 use Rattle.soundness.specs.Says.{fails, says-map, says-pass, says-fail}
-use Rattle.soundness.specs.Sound.{good-of, of-good, room-of, links-of}
+use Rattle.soundness.specs.Sound.{good-of, of-good, room-of, ready-of}
 use Rattle.soundness.proofs.table_ok.Statement.{statement}
 use Rattle.soundness.proofs.table_ok.Tie as tie
 
@@ -18,7 +18,7 @@ table-ok-spec =
     (λ c. let z = c .before .before .before .before .before .before .pre .0 in let e = c .before .before .header-word2 .ensures in omega arith)
     (λ c κs. (c .before .before .before .if1 .left, room-of (view (c .before .before .before .before .before .before .args .rows) (c .before .before .before .before .before .before .args .words .now)) (c .before .before .before .before .before .before .pre .0) (let e = c .before .before .before .before .header-word .ensures in let t = c .before .before .before .if1 .left in omega arith), says-pass (c .if2 .left) (c .before .list-ok .ensures)))
     (λ c. fails (λ q. let e = c .before .before .before .before .before .before .header-word .ensures in says-fail (c .if3 .taken) (c .before .rows-ok .ensures) (λ k h. rw (c .before .before .before .before .header-word2 .ensures) (of-good (view (c .before .before .before .before .before .before .before .before .args .rows) (c .before .before .before .before .before .before .before .before .args .words .now)) (q .good) .rows k (omega arith)))))
-    (λ c κs. (c .before .before .before .before .before .if1 .left, links-of (view (c .before .before .before .before .before .before .before .before .args .rows) (c .before .before .before .before .before .before .before .before .args .words .now)) (room-of (view (c .before .before .before .before .before .before .before .before .args .rows) (c .before .before .before .before .before .before .before .before .args .words .now)) (c .before .before .before .before .before .before .before .before .pre .0) (let e = c .before .before .before .before .before .before .header-word .ensures in let t = c .before .before .before .before .before .if1 .left in omega arith)) (λ k h. let e = c .before .before .before .before .before .before .header-word .ensures in rw (c .before .before .before .before .header-word2 .ensures) at (says-pass (c .if3 .left) (c .before .rows-ok .ensures) k (omega arith))), says-pass (c .before .before .if2 .left) (c .before .before .before .list-ok .ensures)))
+    (λ c κs. ready-of (view (c .before .before .before .before .before .before .before .before .args .rows) (c .before .before .before .before .before .before .before .before .args .words .now)) (c .before .before .before .before .before .before .before .before .pre .0) (c .before .before .before .before .before .before .header-word .ensures) (c .before .before .before .before .before .if1 .left) (says-pass (c .before .before .if2 .left) (c .before .before .before .list-ok .ensures)) (λ k h. rw (c .before .before .before .before .header-word2 .ensures) at (says-pass (c .if3 .left) (c .before .rows-ok .ensures) k h)))
     (λ c. fails (λ q. let e = c .before .before .before .before .before .before .before .before .header-word .ensures in says-fail (c .if4 .taken) (c .before .index-ok .ensures) (λ k h. of-good (view (c .before .before .before .before .before .before .before .before .before .before .args .rows) (c .before .before .before .before .before .before .before .before .before .before .args .words .now)) (q .good) .index k (omega arith))))
     (λ c κs. (omega arith, room-of (view (c .before .before .before .before .before .before .before .before .before .before .args .rows) (c .before .before .before .before .before .before .before .before .before .before .args .words .now)) (c .before .before .before .before .before .before .before .before .before .before .pre .0) (let e = c .before .before .before .before .before .before .before .before .header-word .ensures in let t = c .before .before .before .before .before .before .before .if1 .left in omega arith)))
     (λ c. fails (λ q. says-fail (c .if5 .taken) (c .before .refs-ok .ensures) (q .refs)))
