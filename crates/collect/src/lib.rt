@@ -19,7 +19,7 @@ ghost use Rattle.layout.specs.Places.{MAX-ROWS, USED, FIRST-REGISTER, ROOTS-END
 ghost use Rattle.layout.specs.View.{view, headerOf, listOf, putHeader};
 ghost use Rattle.soundness.specs.Used.{rowsOf, Ranked};
 ghost use Rattle.soundness.specs.Bits.{On};
-ghost use Rattle.soundness.specs.Roots.{MarksAll, RefsPre};
+ghost use Rattle.soundness.specs.Roots.{Held, MarksAll, RefsPre};
 ghost use Rattle.soundness.specs.Sound.{Good, Sound};
 ghost use Rattle.collect.specs.Lent.{LentPre, live};
 ghost use Rattle.collect.specs.Gather.{Headed, Part, GatherPre, Gathered};
@@ -39,12 +39,20 @@ fn mark_list(words: &[u32], rows: u32, marks: &mut [u32], roots: &[u32])
     }
 }
 
+// Marks the rows that registers and relations reach.
+fn mark_filled(words: &[u32], rows: u32, marks: &mut [u32])
+    requires { ⌜ RefsPre (view rows (now words)) (length (now marks)) FIRST-REGISTER ROOTS-END ⌝ }
+    ensures { λ _. ⌜ MarksAll (rowsOf (view rows (now (words .entry)))) (now (marks .entry)) (now (marks .exit)) (Held (view rows (now (words .entry))) FIRST-REGISTER ROOTS-END) ⌝ }
+{
+    mark_refs(words, rows, marks, Table::FIRST_REGISTER, Table::ROOTS_END);
+}
+
 // Marks the rows that registers, relations and further roots reach.
 fn mark_roots(words: &[u32], rows: u32, marks: &mut [u32], roots: &[u32])
     requires { ⌜ RefsPre (view rows (now words)) (length (now marks)) FIRST-REGISTER ROOTS-END × LentPre (view rows (now words)) (length (now marks)) (now roots) ⌝ }
     ensures { λ _. ⌜ MarksAll (rowsOf (view rows (now (words .entry)))) (now (marks .entry)) (now (marks .exit)) (λ a. Mem a (live (view rows (now (words .entry))) (now (roots .entry)))) ⌝ }
 {
-    mark_refs(words, rows, marks, Table::FIRST_REGISTER, Table::ROOTS_END);
+    mark_filled(words, rows, marks);
     mark_list(words, rows, marks, roots);
 }
 
@@ -131,13 +139,7 @@ pub fn free_many(words: &mut [u32], rows: u32)
     ensures { λ _. ⌜ FreeManyPost (view rows (now (words .entry))) (view rows (now (words .exit))) ⌝ }
 {
     let mut marks = [0u32; Bitmap::WORDS];
-    mark_refs(
-        words,
-        rows,
-        &mut marks,
-        Table::FIRST_REGISTER,
-        Table::ROOTS_END,
-    );
+    mark_filled(words, rows, &mut marks);
     if !many_unmarked(words, rows, &marks) {
         return;
     }
@@ -161,13 +163,7 @@ pub fn collect_rows(words: &mut [u32], rows: u32) -> u32
     ensures { λ r. ⌜ CollectPost (view rows (now (words .entry))) (view rows (now (words .exit))) r ⌝ }
 {
     let mut marks = [0u32; Bitmap::WORDS];
-    mark_refs(
-        words,
-        rows,
-        &mut marks,
-        Table::FIRST_REGISTER,
-        Table::ROOTS_END,
-    );
+    mark_filled(words, rows, &mut marks);
     gather(words, rows, &marks);
     header_word(words, Table::USED)
 }
