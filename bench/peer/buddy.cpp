@@ -1,5 +1,5 @@
 // The same lists over BuDDy 2.4. STEPS: AND, then one bdd_exist for each level (the steps of document 01); FORGETTING: the same, and what is remembered is
-// forgotten at the start of a call, as document 01 wants; FUSED: bdd_appex, BuDDy's relational product.
+// forgotten at the start of a call, as document 01 wants; AT_ONCE: AND, then one bdd_exist for all levels; FUSED: bdd_appex, BuDDy's relational product.
 #include "list.h"
 #include <bdd.h>
 #include <cstdlib>
@@ -67,6 +67,7 @@ class Engine {
         bdd g = bdd_replace(f, pairs);
         if (way == FUSED) return bdd_appex(g, r, bddop_and, all);
         bdd v = g & r;
+        if (way == AT_ONCE) return bdd_exist(v, all);
         for (int p = n - 1; p >= 0; p--) v = bdd_exist(v, next[p]);
         return v;
     }

@@ -32,7 +32,7 @@ static void same(const std::string &name, u32 rows, const Run &own, const Run &o
 }
 
 struct Least {
-    u64 own = NEVER, again = NEVER, buddy[3] = {NEVER, NEVER, NEVER};
+    u64 own = NEVER, again = NEVER, buddy[4] = {NEVER, NEVER, NEVER, NEVER};
     u32 cache = 0, collections = 0;
 };
 
@@ -55,7 +55,7 @@ static Least measure(const std::string &name, const List &list, u32 rows) {
     Run own = run_own(list, rows, true);
     if (own.failed) { fprintf(stderr, "%s with %u rows: refused\n", name.c_str(), rows); exit(1); }
     std::map<std::pair<u32, Way>, bool> works;
-    for (Way way : {STEPS, FORGETTING, FUSED})
+    for (Way way : {STEPS, FORGETTING, AT_ONCE, FUSED})
         for (u32 cache : caches(rows, way)) {
             Run other = run_buddy(list, rows, cache, way, true);
             works[{cache, way}] = !other.failed;
@@ -86,9 +86,9 @@ static void print_ratio(u64 own, u64 other) {
 }
 
 int main(int count, char **argv) {
-    printf("| workload | rows | of the need | own, ms | BuDDy same steps, ms | own ÷ same steps | own ÷ forgetting | own ÷ fused | BuDDy's cache, collections |\n");
-    printf("|---|--:|--:|--:|--:|--:|--:|--:|--:|\n");
-    int slower = 0, slower_forgetting = 0, compared = 0;
+    printf("| workload | rows | of the need | own, ms | BuDDy same steps, ms | own ÷ same steps | own ÷ forgetting | own ÷ at once | own ÷ fused | BuDDy's cache, collections |\n");
+    printf("|---|--:|--:|--:|--:|--:|--:|--:|--:|--:|\n");
+    int slower = 0, slower_forgetting = 0, slower_at_once = 0, compared = 0;
     double worst = 0, low = 1, high = 1;
     for (int k = 1; k < count; k++) {
         std::string word = argv[k], name = word.substr(0, word.find('=')), path = word.substr(word.find('=') + 1);
@@ -110,9 +110,10 @@ int main(int count, char **argv) {
             compared++;
             slower += l.own > steps;
             slower_forgetting += l.own > l.buddy[FORGETTING];
+            slower_at_once += l.own > l.buddy[AT_ONCE];
             worst = std::max(worst, (double)l.own / steps);
         }
     }
-    printf("\nSlower than BuDDy on the same steps at 2 ×, 10 × and all rows: %d of %d, worst ratio %.2f; where BuDDy forgets at each call: %d.\n", slower, compared, worst, slower_forgetting);
+    printf("\nSlower than BuDDy on the same steps at 2 ×, 10 × and all rows: %d of %d, worst ratio %.2f; where BuDDy forgets at each call: %d; where it takes all EXISTS of a diamond at once: %d.\n", slower, compared, worst, slower_forgetting, slower_at_once);
     printf("Control, the library against itself in the same turns: %.2f to %.2f.\n", low, high);
 }

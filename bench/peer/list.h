@@ -27,7 +27,7 @@ struct Run {
     u32 collections = 0;
     std::vector<u32> answers;
 };
-enum Way { STEPS, FORGETTING, FUSED };
+enum Way { STEPS, FORGETTING, AT_ONCE, FUSED };
 
 inline List read_list(const std::string &path) {
     std::ifstream in(path, std::ios::binary);
