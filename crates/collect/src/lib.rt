@@ -130,7 +130,7 @@ fn many_unmarked(words: &[u32], rows: u32, marks: &[u32]) -> bool
 {
     let used = header_word(words, Table::USED) as u64;
     let kept = count_marks(words, rows, marks) as u64;
-    4 * used > 5 * kept + 256
+    4 * used > 5 * kept + 64
 }
 
 // Frees the rows that no register and no relation needs, where they are many.

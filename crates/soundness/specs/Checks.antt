@@ -133,3 +133,9 @@ live-not-zero u (suc j) n e = let q : suc j - 1 ≡ j = omega arith in live-used
 pub live-no : (u : ℕ → Bool) (p : ℕ) → p ≢ 0 → u (p - 1) ≡ false → live u p ≡ 0
 live-no u zero n e = absurd (n refl)
 live-no u (suc j) n e = let q : suc j - 1 ≡ j = omega arith in live-not u j (rw q at e)
+
+-- a used row that its bucket's head names is found
+pub head-finds : (W : View) (i : ℕ) {p : ℕ} → used W i ≡ true → p ≡ W .head (keyOf W i) → p ≡ i + 1 → Finds W i
+head-finds W i {p} u h e =
+    let q : W .head (keyOf W i) ≡ suc i = sym h ∙ (let z : p ≡ suc i = omega arith in z) in
+    rw (q, live-used (used W) i u) (stop (record { level = refl; low = refl; high = refl }))

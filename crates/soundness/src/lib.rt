@@ -230,15 +230,18 @@ fn hits(words: &[u32], rows: u32, link: u32, level: u32, low: u32, high: u32, i:
     Walk::Missed
 }
 
-// Whether the lookup of row i finds row i.
+// Whether the lookup of row i, a used one, finds row i: most rows are the first of their chains.
 fn found_row(words: &[u32], rows: u32, i: u32) -> Walk
-    requires { ⌜ (i < rows) × Links (view rows (now words)) ⌝ }
+    requires { ⌜ (used (view rows (now words)) i ≡ true) × Links (view rows (now words)) ⌝ }
     ensures { λ r. ⌜ WalkSays (Finds (view rows (now (words .entry))) i) r ⌝ }
 {
     let level = get(words, rows, i, Table::LEVEL);
     let low = get(words, rows, i, Table::LOW);
     let high = get(words, rows, i, Table::HIGH);
     let b = bucket_of(rows, level, low, high);
+    if head(words, rows, b) == i + 1 {
+        return Walk::Met;
+    }
     hits(words, rows, first(words, rows, b), level, low, high, i)
 }
 

@@ -5,6 +5,7 @@ use borrow.Author.Count.{below-none, below-more}
 use Rattle.layout.specs.View.{view, listOf}
 use Rattle.soundness.specs.Says.{holds, fails, walk-met, walk-missed}
 use Rattle.soundness.specs.Checks.{Finds}
+use Rattle.soundness.specs.Triples.{ready-used}
 use Rattle.soundness.specs.Chains.{both-tell}
 use Rattle.soundness.proofs.index_ok.Statement.{statement}
 use Rattle.soundness.proofs.index_ok.Tie as tie
@@ -23,7 +24,7 @@ index-ok-spec =
     μ-loop
     (λ c. (omega arith, below-none _))
     (λ c κs. let p = c .before .before .before .pre in let r = p .links .room in let e = p .count in let l = p .ranked .count-le in let t = c .loop-test .taken in omega arith)
-    (λ c κs. let p = c .before .before .before .before .pre in let e = p .count in let t = c .before .loop-test .taken in let w = p .ranked .within (c .before .before .loop .k) (omega arith) in let g = c .listed .ensures in (omega arith, p .links))
+    (λ c κs. let p = c .before .before .before .before .pre in let e = p .count in let t = c .before .loop-test .taken in let g = c .listed .ensures in (rw g (ready-used p _ t), p .links))
     (λ c. c .match .keys1)
     (λ c. c .match .keys2)
     (λ c. fails (λ q. walk-missed (c .enum-told2 .given .1) (c .before .before .found-row .ensures) (rw (c .before .before .before .listed .ensures) (q _ (c .before .before .before .before .loop-test .taken)))))
