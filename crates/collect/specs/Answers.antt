@@ -3,7 +3,6 @@ use mathlib.Core.Path.{_≡_, _∙_}
 use mathlib.Core.Logic.{⊎-elim}
 use mathlib.Core.List.{List, map, List·Memᴰ as Mem, List·Memᴰ·append-cases as append-cases, Memᴰ·append-left as append-left}
 use Prim.Native.Nat.{ℕ, _*_}
-use lib.ListN.{length}
 use Rattle.diagram.specs.Rows.{Arrow, den}
 use Rattle.diagram.specs.Need.{need}
 use Rattle.layout.specs.Places.{BITS, USED, FIRST-REGISTER, ROOTS-END}

@@ -57,7 +57,7 @@ exists-parts {l = l} {f0 = f0} {f1 = f1} x ne s = record {
     both false y z y′ z′ = refl
 
 -- the same for several odd levels: they read no more, and are taken in both parts of a split at a level that is none of them
-from-reads : {lo hi : ℕ} {f : Fn} (d j : ℕ) → Reads lo hi f → Reads lo hi (existsFrom d j f)
+pub from-reads : {lo hi : ℕ} {f : Fn} (d j : ℕ) → Reads lo hi f → Reads lo hi (existsFrom d j f)
 unfolding existsFrom
 from-reads zero j r = r
 from-reads (suc d) j r = exists-reads (suc (2 * j)) (from-reads d (suc j) r)
@@ -94,7 +94,7 @@ from-own {m} {l} {f} {f0} {f1} (suc d) j k e jk kd s v =
     ap (λ (g : Fn). existsF (suc (2 * j)) g v) i ∙ exists-of-or (suc (2 * j)) (existsFrom d (suc j) f0) (existsFrom d (suc j) f1) v)
 
 -- fewer levels are enough where the function does not read the others
-from-fewer : {f : Fn} (d n j : ℕ) → n ≤ d → Reads 0 (2 * (j + n)) f → (v : Val) → existsFrom d j f v ≡ existsFrom n j f v
+pub from-fewer : {f : Fn} (d n j : ℕ) → n ≤ d → Reads 0 (2 * (j + n)) f → (v : Val) → existsFrom d j f v ≡ existsFrom n j f v
 unfolding existsFrom
 from-fewer zero zero j h r v = refl
 from-fewer zero (suc n) j h r v = absurd (omega arith)

@@ -18,9 +18,10 @@ use Rattle.diagram.specs.Used.{usedRows, usedCount, mem-usedRows}
 use Rattle.diagram.specs.Need.{truthTable, needed, need}
 use Rattle.diagram.specs.Needed.{truthTable-cong, needed-source, nodup-needed}
 use Rattle.diagram.specs.Reach.{Reach, Reached, reached-root, den-reads-all, walk, cofactor-row, tab}
-use Rattle.diagram.specs.Steps.{existsF, exists-reads, exists-past}
+use Rattle.diagram.specs.Steps.{exists-past}
 use Rattle.diagram.specs.Post.{Denotes}
 use Rattle.diagram.specs.Odd.{existsFrom, oddF, Covered}
+use Rattle.diagram.specs.OddLaws.{from-reads, from-fewer}
 
 -- To set a level from k on, and to fix those below k, go in either order.
 upd-splice : (k : ℕ) (u v : Val) (x : ℕ) (b : Bool) → k ≤ x → upd (splice k u v) x b ≡ splice k u (upd v x b)
@@ -61,34 +62,10 @@ from-const (suc d) j f c h v =
     let o = or-self c in
     cc (p, q, o)
 
--- EXISTS reads no more levels than its operand.
-from-reads : {lo hi : ℕ} (d j : ℕ) (f : Fn) → Reads lo hi f → Reads lo hi (existsFrom d j f)
-unfolding existsFrom
-from-reads zero j f r = r
-from-reads {lo} {hi} (suc d) j f r = exists-reads {lo = lo} {hi = hi} {f = existsFrom d (suc j) f} (suc (2 * j)) (from-reads {lo = lo} {hi = hi} d (suc j) f r)
-
--- EXISTS at a level past all that are read changes nothing.
-exists-above : {lo hi : ℕ} (x : ℕ) (f : Fn) → hi ≤ x → Reads lo hi f → (v : Val) → existsF x f v ≡ f v
-exists-above x f h r v =
-    let p = r (upd v x false) v (λ l _ g. upd-other v x false l (omega arith)) in
-    let q = r (upd v x true) v (λ l _ g. upd-other v x true l (omega arith)) in
-    let o = or-self (f v) in
-    cc (p, q, o)
-
+-- EXISTS at many levels is EXISTS at those that are read: the first d of z,
 module _ {lo hi : ℕ} (f : Fn) (r : Reads lo hi f) where
-  -- So EXISTS at many levels is EXISTS at those that are read: none past them,
-  from-above : (d j : ℕ) → hi ≤ 2 * j → existsFrom d j f ≡ f
-  unfolding existsFrom
-  from-above zero j h = refl
-  from-above (suc d) j h =
-      ap (existsF (suc (2 * j))) (from-above d (suc j) (omega arith)) ∙ fun-ext (λ v. exists-above {lo = lo} {hi = hi} (suc (2 * j)) f (omega arith) r v)
-
-  -- the first d of z,
   from-first : (d z j : ℕ) → d ≤ z → hi ≤ 2 * (d + j) → existsFrom z j f ≡ existsFrom d j f
-  unfolding existsFrom
-  from-first zero z j h g = from-above z j (omega arith)
-  from-first (suc d) zero j h g = absurd (omega arith)
-  from-first (suc d) (suc z) j h g = ap (existsF (suc (2 * j))) (from-first d z (suc j) (omega arith) (omega arith))
+  from-first d z j h g = fun-ext (from-fewer {f = f} z d j h (λ v w e. r v w (λ l a b. e l (omega arith) (omega arith))))
 
   -- and all but the first i of i + d.
   from-last : (i d j t z : ℕ) → i + j ≡ t → i + d ≡ z → 2 * t ≤ lo → existsFrom z j f ≡ existsFrom d t f
@@ -99,7 +76,7 @@ module _ {lo hi : ℕ} (f : Fn) (r : Reads lo hi f) where
       ap (λ x. existsFrom x j f) q ∙ ap (λ x. existsFrom d x f) p
   from-last (suc i) d j t zero et ez h = absurd (omega arith)
   from-last (suc i) d j t (suc z) et ez h =
-      fun-ext (λ v. exists-past {k = lo} {m = hi} {f = existsFrom z (suc j) f} (suc (2 * j)) (omega arith) (from-reads {lo = lo} {hi = hi} z (suc j) f r) v)
+      fun-ext (λ v. exists-past {k = lo} {m = hi} {f = existsFrom z (suc j) f} (suc (2 * j)) (omega arith) (from-reads {lo = lo} {hi = hi} {f = f} z (suc j) r) v)
       ∙ from-last i d (suc j) t z (omega arith) (omega arith) h
 
 -- A stage of what reads only levels of the stage is `oddF`.

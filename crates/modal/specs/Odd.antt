@@ -1,12 +1,11 @@
 -- All EXISTS of a diamond at once: where the used rows, three times, are at most the limit, no step of the chain would have been refused.
 -- Assumes nothing.
 use mathlib.Core.Path.{_≡_, refl, sym, ap, _∙_, subst, fun-ext}
-use mathlib.Core.Bool.{Bool, true, _&&_}
+use mathlib.Core.Bool.{Bool, true}
 use mathlib.Core.Logic.{_≢_}
 use mathlib.Core.List.{List, _∷_, List·Memᴰ as Mem}
 use Prim.Native.Nat.{ℕ, zero, suc, _+_, _*_, _≤_}
 use native.Mathlib.Omega.{arith}
-use lib.Dec.{leb}
 use borrow.Author.Tests.{le-leb}
 use Rattle.layout.specs.Places.{USED}
 use Rattle.layout.specs.View.{View}
@@ -17,8 +16,7 @@ use Rattle.diagram.specs.Need.{need}
 use Rattle.diagram.specs.Grow.{arrow-extends, den-extends}
 use Rattle.diagram.specs.Reach.{den-reads-all}
 use Rattle.diagram.specs.Keep.{Keeps, extends-keeps, keeps-trans}
-use Rattle.diagram.specs.Steps.{existsF}
-use Rattle.diagram.specs.Odd.{existsFrom, oddF, Covered}
+use Rattle.diagram.specs.Odd.{existsFrom, Covered}
 use Rattle.diagram.specs.OddLaws.{odd-bits}
 use Rattle.diagram.specs.Stages.{stage-need}
 use Rattle.diagram.specs.Post.{at, Denotes}
@@ -30,13 +28,12 @@ use Rattle.table.specs.Make.{result}
 use Rattle.table.specs.declared.Made.{Made}
 use Rattle.table.specs.declared.Made.the-variants as made
 use Rattle.collect.specs.Lent.{live}
-use Rattle.operations.specs.Work.{ready-wf}
 use Rattle.operations.specs.Odd.{Grown, OddPost}
 use Rattle.steps.specs.Steps.{live-arrows, live-same}
 use Rattle.book.specs.Ticks.{existsNeeds}
 use Rattle.book.specs.Diamond.{existsNext}
 use Rattle.book.specs.Verdicts.{fit}
-use Rattle.book.specs.Held.{Held, held-keeps}
+use Rattle.book.specs.Held.{held-keeps}
 use Rattle.book.specs.Pairs.{PairMatches}
 use Rattle.modal.specs.Chain.{Base, Moved, moved-trans, base-next, base-wf, base-bits, Ran}
 use Rattle.modal.specs.Modal.{QuantifyPre, QuantifyPost}

@@ -3,16 +3,15 @@
 use mathlib.Core.Path.{_≡_, refl, sym, ap, _∙_, subst, fun-ext}
 use mathlib.Core.Bool.{true, false, _||_}
 use mathlib.Core.Logic.{_≢_}
-use Prim.Native.Nat.{ℕ, zero, suc, _*_, _%_, _≤_, _<_}
+use Prim.Native.Nat.{ℕ, zero, suc, _%_, _<_}
 use native.Mathlib.Omega.{arith}
 use native.Mathlib.Decide.{ℕ-discrete}
 use borrow.Author.Tests.{eq-eqb}
 use Rattle.diagram.specs.Level.{Val, Fn, Splits, Reads}
-use Rattle.diagram.specs.Rows.{Rows, row, Arrow, levelOf, den, WellFormed, Extends}
+use Rattle.diagram.specs.Rows.{Rows, row, Arrow, levelOf, den, Extends}
 use Rattle.diagram.specs.Grow.{extends-refl, extends-trans, arrow-extends, den-extends}
-use Rattle.diagram.specs.Even.{even}
 use Rattle.diagram.specs.Canon.{reads-level}
-use Rattle.diagram.specs.Post.{Denotes, OpPost, denotes-extends, post-make}
+use Rattle.diagram.specs.Post.{Denotes, denotes-extends, post-make}
 use Rattle.diagram.specs.Steps.{twoF, orF}
 use Rattle.diagram.specs.Odd.{oddF, Covered}
 use Rattle.diagram.specs.OddLaws.{odd-zero, odd-one, odd-even, odd-at, covered-extends, covered-zero, covered-one, covered-row}
@@ -30,7 +29,7 @@ use Rattle.table.specs.declared.Found.the-variants as find
 use Rattle.memory.specs.Frame.{MemoFrame, rows-same, memo-alike}
 use Rattle.memory.specs.Memo.{ODD, Right, Remembers, RowPost, row-right}
 use Rattle.memory.specs.Store.{keepRow, keepRow-frame, RightRow, remembers-row}
-use Rattle.operations.specs.Work.{OpFrame, op-refl, op-trans, op-memo, Ready, Known, Worked, known-at, ready-wf, ready-frame, make-pre, making, worked-made, worked-cong}
+use Rattle.operations.specs.Work.{OpFrame, op-refl, op-trans, op-memo, Ready, Worked, ready-wf, ready-frame, make-pre, making, worked-made, worked-cong}
 use Rattle.operations.specs.Open.{RowAt, Opened}
 
 -- rows were only added, and what is remembered is right
