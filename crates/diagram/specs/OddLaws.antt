@@ -1,14 +1,14 @@
 -- EXISTS at every odd level: what it is of the constants and of a row's parts, and which rows are covered with theirs. Assumes nothing.
 use mathlib.Core.Path.{_≡_, refl, sym, ap, _∙_, subst, fun-ext}
 use mathlib.Core.Logic.{_≢_, by-cases}
-use mathlib.Core.Bool.{Bool, true, false, cond, _||_, or-self, true≢false}
+use mathlib.Core.Bool.{Bool, true, false, cond, _||_, or-self}
 use mathlib.Core.List.{[], _∷_}
 use mathlib.Core.List.{List·Memᴰ·head as here, List·Memᴰ·eq-of-singleton as mem-only}
 use Prim.Native.Nat.{ℕ, zero, suc, _+_, _*_, _/_, _%_, _≤_, _<_}
 use native.Mathlib.Decide.{ℕ-discrete}
 use native.Mathlib.Omega.{arith}
 use lib.Dec.{eqb→eq}
-use Rattle.diagram.specs.Level.{Val, Fn, T-true, upd, upd-other, Reads, Splits}
+use Rattle.diagram.specs.Level.{Val, Fn, upd, upd-other, Reads, Splits}
 use Rattle.diagram.specs.Rows.{Rows, row, Arrow, den, WellFormed, Extends}
 use Rattle.diagram.specs.Den.{den-zero, den-one}
 use Rattle.diagram.specs.Grow.{den-extends}
@@ -115,24 +115,15 @@ odd-zero m rows = record { arrow = tt; same = λ v. sym (odd-const (λ u w. den-
 pub odd-one : (m : ℕ) (rows : Rows) → Denotes m rows 1 (oddF (den m rows 1))
 odd-one m rows = record { arrow = tt; same = λ v. sym (odd-const (λ u w. den-one m rows u ∙ sym (den-one m rows w)) v) }
 
--- it is a congruence
-pub odd-cong : {f g : Fn} → ((v : Val) → f v ≡ g v) → (v : Val) → oddF f v ≡ oddF g v
-odd-cong e v = ap (λ (h : Fn). oddF h v) (fun-ext e)
-
 -- a row of an even level: the two parts
 pub odd-even : {m l : ℕ} {F F0 F1 : Fn} → even l ≡ true → Splits m l F F0 F1 → Splits m l (oddF F) (oddF F0) (oddF F1)
 odd-even {l = l} e s =
     let q : l % 2 ≡ 0 = eqb→eq (l % 2) 0 (rw e tt) in
     from-parts 16 0 (λ k h. omega arith) s
 
--- a row of an odd level below 32: OR of the two parts, first with the level's remainder, then with the test
+-- a row of an odd level below 32: OR of the two parts
 pub odd-at : {m l : ℕ} {F F0 F1 : Fn} → l % 2 ≡ 1 → l < 32 → Splits m l F F0 F1 → (v : Val) → oddF F v ≡ orF (oddF F0) (oddF F1) v
 odd-at {l = l} e h s v = from-own 16 0 (l / 2) (omega arith) (omega arith) (omega arith) s v
-
-pub odd-own : {m l : ℕ} {F F0 F1 : Fn} → even l ≡ false → l < 32 → Splits m l F F0 F1 → (v : Val) → oddF F v ≡ orF (oddF F0) (oddF F1) v
-odd-own {l = l} e h s v =
-    let ne : l % 2 ≢ 0 = λ q. true≢false (sym (T-true (even l) (rw q tt)) ∙ e) in
-    odd-at (omega arith) h s v
 
 -- of a function of levels below 2 n, the n odd levels below 2 n are enough
 pub odd-bits : {n : ℕ} {F : Fn} → n ≤ 16 → Reads 0 (2 * n) F → (v : Val) → oddF F v ≡ existsFrom n 0 F v

@@ -35,9 +35,6 @@ emptied-more {s = s} h e q = record {
   kept = λ p l. rw (ne-eqb p (3 * s) (omega arith)) (e .kept p l);
 }
 
-pub emptied-frame : {W X : View} {from to : ℕ} → Emptied W X from to → MemoFrame W X
-emptied-frame {W} e = subst (MemoFrame W) (sym (e .same)) (memo-set W (e .slots))
-
 -- X remembers of pairs at most what W does, and of rows the same
 pub record Fewer (W X : View) : Type 0 where
   pub frame : MemoFrame W X

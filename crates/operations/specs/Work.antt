@@ -121,9 +121,6 @@ module _ {m N limit : ℕ} {W : View} (r : Ready m N limit W) where
 
 -- a bit is one row
 module _ {m N limit : ℕ} {W : View} (r : Ready m N limit W) (l : ℕ) (h : l < m) where
-  pub bit-pre : MakePre W limit l 0 1
-  bit-pre = make-pre r (record { shallow = h; low-arrow = tt; high-arrow = tt; low-deeper = h; high-deeper = h })
-
   pub bit-worked : {X : View} {o : Made} → MakePost W X limit l 0 1 o → Worked m N limit W X o (bitF l)
   bit-worked p = worked-made r p (bit-made (ready-wf r) h (making r p))
 

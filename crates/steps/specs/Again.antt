@@ -104,10 +104,6 @@ module _ {m N limit : ℕ} {W : View} {roots : List ℕ} {s : Step} (p : StepPre
   pub stepped-few : {X : View} {o : Made} {a c : ℕ} → o ≡ answer.At a → Worked m N limit W X o (stepF m (rowsOf W) s) → c ≡ X .header USED → c ≤ limit → Stepped m N limit W X roots s (answer.At a)
   stepped-few e w q l = stepped-first e w (settle-few limit (first-pre w e) refl q l)
 
-  -- the table is ready for the next step
-  pub stepped-ready : {X : View} {o : Made} → Stepped m N limit W X roots s o → Ready m N limit X
-  stepped-ready z = ready-frame (p .ready) (z .frame) (z .sound .good) (z .memory)
-
   -- it ran out, and the second try decides
   pub stepped-again : {X Y : View} {o r : Made} → o ≡ answer.Full → Worked m N limit W X o (stepF m (rowsOf W) s) → Retried m N limit X Y roots s r → Stepped m N limit W Y roots s r
   stepped-again {X} {Y} {o} {r} e w′ z =
