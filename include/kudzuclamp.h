@@ -131,8 +131,8 @@ uint32_t kudzuclamp_tally(const uint32_t *words, size_t words_len, uint32_t *val
 uint32_t kudzuclamp_check(const uint32_t *words, size_t words_len, uint32_t relation, const uint8_t *bytes, size_t bytes_len);
 
 /* Refusals of kudzuclamp_play itself, before its first call: all words and the list are kept, and *count is 0. */
-#define KUDZUCLAMP_PLAY_SHORT 10u      /* the list has fewer than 4 words for each record */
-#define KUDZUCLAMP_PLAY_UNREADABLE 11u /* a record cannot be read */
+#define KUDZUCLAMP_PLAY_SHORT 100u      /* the list has fewer than 4 words for each record */
+#define KUDZUCLAMP_PLAY_UNREADABLE 101u /* a record cannot be read */
 
 /*
  * Plays the calls of all records in `bytes`, in the format of the program `roomrules` (two-byte length, version 1, an operation, its arguments), one

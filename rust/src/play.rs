@@ -9,8 +9,8 @@ const WORDS: usize = 4;
 const LEAST_RECORD: usize = 4;
 
 /// `kudzuclamp_play`'s own refusals.
-const SHORT: u32 = 10;
-const UNREADABLE: u32 = 11;
+const SHORT: u32 = 100;
+const UNREADABLE: u32 = 101;
 
 /// What one record returned.
 #[derive(Clone, Copy, Debug, PartialEq, Eq)]

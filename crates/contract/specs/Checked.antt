@@ -26,7 +26,7 @@ module _ (ws : List ℕ) (n : SoundWords ws → ⊥) where
 
 -- a refusal that keeps all words
 pub kept-refused : (c : Call) (k : ℕ) (ws : List ℕ) → Kept c (plain (suc k)) ws ws
-kept-refused c k ws = record { all = λ _ _. refl; size = refl; header = λ h l e. refl; spare = λ i l. refl; beyond = λ p l. refl; exact = exact c }
+kept-refused c k ws = record { all = λ _. refl; size = refl; header = λ h l e. refl; spare = λ i l. refl; beyond = λ p l. refl; exact = exact c }
   where
     exact : (c : Call) → Exact c (plain (suc k)) ws ws
     exact (relation t bs) = tt

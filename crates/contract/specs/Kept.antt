@@ -4,8 +4,9 @@ use mathlib.Core.Path.{_≡_}
 use mathlib.Core.Bool.{Bool, false, _&&_, _||_}
 use mathlib.Core.List.{List}
 use Prim.Native.Nat.{ℕ, _+_, _≤_, _<_}
-use lib.Dec.{eqb}
+use lib.Dec.{T, eqb}
 use lib.ListN.{length, getD, set}
+use Rattle.layout.specs.Refusals.{keepsAll}
 use Rattle.layout.specs.Places.{HEADER, ROWS, TALLY, USED, CURSOR, SLOTS, STORED, SPARE, FIRST-REGISTER, FIRST-RELATION, wordsFor}
 use Rattle.layout.specs.View.{headerOf, cellOf}
 use Rattle.book.specs.Book.{Call, relation, set as setCall, clear, collect}
@@ -34,8 +35,8 @@ Exact (clear r) y old new = y .number ≡ 0 → new ≡ set old (FIRST-REGISTER 
 Exact collect y old new = Unit {0}
 
 pub record Kept (c : Call) (y : Reply) (old new : List ℕ) : Type 0 where
-  -- 3 to 7: "all words"
-  pub all : 1 ≤ y .number → y .number ≤ 7 → new ≡ old
+  -- "all words"
+  pub all : T (keepsAll (y .number)) → new ≡ old
   -- 8, 9 and an answer: the slice is as long, and n, N, registers, relations, tally and every unused header word are as they were, but for the target
   pub size : length new ≡ length old
   pub header : (h : ℕ) → h < HEADER → changes c y h ≡ false → headerOf new h ≡ headerOf old h

@@ -9,8 +9,8 @@ use Rattle.player.specs.declared.Played.the-variants.{Done, Short, Unreadable}
 -- 0, or a number of its own
 abbrev pub playNumber : Played → ℕ
 playNumber (Done n) = 0
-playNumber Short = 10
-playNumber Unreadable = 11
+playNumber Short = 100
+playNumber Unreadable = 101
 
 -- the records obeyed
 abbrev pub playCount : Played → ℕ

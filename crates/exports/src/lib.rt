@@ -184,9 +184,9 @@ pub extern "C" fn kudzuclamp_check<'a>(words: &'a [u32], relation: u32, bytes: &
 pub struct Playing;
 
 impl Playing {
-    pub const SHORT: u32 = 10;
+    pub const SHORT: u32 = 100;
 
-    pub const UNREADABLE: u32 = 11;
+    pub const UNREADABLE: u32 = 101;
 }
 
 // Plays the calls of all records in order, and writes number, node, rounds and value of each to the list; gives how many records there were.

@@ -5,10 +5,11 @@ use mathlib.Core.List.{List}
 use mathlib.Core.Option.{Option, some}
 use Prim.Native.Nat.{ℕ, suc, _+_, _≤_, _<_}
 use native.Mathlib.Omega.{arith}
-use lib.Dec.{eqb}
+use lib.Dec.{T, eqb}
 use borrow.Author.Tests.{eq-eqb}
 use Rattle.mucalculus.specs.Form.{noEnv, put}
 use Rattle.tokens.specs.declared.Kind.the-variants.{Relation, Set}
+use Rattle.layout.specs.Refusals.{keepsAll}
 use Rattle.layout.specs.Places.{REGISTERS, RELATIONS, ROWS, TALLY, FIRST-REGISTER, FIRST-RELATION}
 use Rattle.layout.specs.View.{View, view, headerOf}
 use Rattle.diagram.specs.Post.{Result, at, full as noRows}
@@ -62,7 +63,7 @@ pub through-sound : {old : List ℕ} {c : Call} {y : Reply} {Y : View} → Throu
 through-sound {Y = Y} p = table-sound Y (p .good) (sound-shows _ (seenIn Y) (p .serves .shows))
 
 -- and with it
-pub through-done : {old : List ℕ} {c : Call} {y : Reply} {Y : View} → SoundWords old → takesFormula c → (1 ≤ y .number → y .number ≤ 7 → ⊥) → Through old c y Y → {Z : View} → Tidied Y Z
+pub through-done : {old : List ℕ} {c : Call} {y : Reply} {Y : View} → SoundWords old → takesFormula c → (T (keepsAll (y .number)) → ⊥) → Through old c y Y → {Z : View} → Tidied Y Z
     → {new : List ℕ} → view (headerOf old ROWS) new ≡ Z → CallPost c old new y
 through-done {old} {c} {y} s k late p {Z} t {new} is =
     let d = tidied-served (bookOf (seen old)) c (seen old) y (p .good) t (p .serves) in formula-done c y old new k late s Z is (d .0) (tidied-left c y t (p .left)) (d .1)

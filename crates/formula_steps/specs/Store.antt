@@ -3,7 +3,9 @@ use mathlib.Core.Path.{_≡_, refl, sym, ap, ap₂, _∙_, subst}
 use mathlib.Core.List.{List}
 use Prim.Native.Nat.{ℕ, zero, suc, _+_, _≤_, _<_}
 use native.Mathlib.Omega.{arith}
+use lib.Dec.{T}
 use lib.ListN.{length}
+use Rattle.layout.specs.Refusals.{keepsAll}
 use Rattle.layout.specs.Places.{REGISTERS, RELATIONS, MAX-ROWS, BITS, ROWS, TALLY, wordsFor, FIRST-REGISTER, FIRST-RELATION}
 use Rattle.layout.specs.View.{View, view, headerOf, putHeader}
 use Rattle.layout.specs.declared.Refusal.the-variants as refusal
@@ -64,14 +66,14 @@ relationLoaded X t (made.At a) = relationStored X t a
 relationLoaded X t made.Full = X
 
 -- neither ends in one of the checks' numbers
-stored-late : (y : Evaluated) → 1 ≤ storedReply (storedOf y) .number → storedReply (storedOf y) .number ≤ 7 → ⊥
-stored-late (Value a k q) i j = omega arith
-stored-late Full i j = omega arith
-stored-late Spent i j = omega arith
+stored-late : (y : Evaluated) → T (keepsAll (storedReply (storedOf y) .number)) → ⊥
+stored-late (Value a k q) h = h
+stored-late Full h = h
+stored-late Spent h = h
 
-pub loaded-late : (y : Made) → 1 ≤ loadedReply (loadedOf y) .number → loadedReply (loadedOf y) .number ≤ 7 → ⊥
-loaded-late (made.At a) i j = omega arith
-loaded-late made.Full i j = omega arith
+pub loaded-late : (y : Made) → T (keepsAll (loadedReply (loadedOf y) .number)) → ⊥
+loaded-late (made.At a) h = h
+loaded-late made.Full h = h
 
 -- ---- the steps of `store_set` and `store_relation`
 

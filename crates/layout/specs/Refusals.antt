@@ -1,6 +1,8 @@
 -- Document 01's table of causes. Assumes nothing.
 use Prim.Native.Nat.{ℕ, _≤_}
 use native.Mathlib.Omega.{arith}
+use mathlib.Core.Bool.{Bool, _&&_, _||_}
+use lib.Dec.{leb}
 use Rattle.layout.specs.declared.Refusal.{Refusal}
 use Rattle.layout.specs.declared.Refusal.the-variants.{Sizes, Unsound, Range, Syntax, Unbound, Odd, Empty, Full, Spent}
 
@@ -23,6 +25,10 @@ refusalNumber Empty = 7
 refusalNumber Full = 8
 -- "rounds used up"
 refusalNumber Spent = 9
+
+-- "Kept: all words": 1 to 7, and of document 02's numbers 12, 13 and 14
+abbrev pub keepsAll : ℕ → Bool
+keepsAll k = (leb 1 k && leb k 7) || (leb 12 k && leb k 14)
 
 -- no refusal has the number of an answer
 pub refusal-some : (x : Refusal) → 1 ≤ refusalNumber x
