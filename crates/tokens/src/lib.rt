@@ -90,16 +90,15 @@ fn wide(b: u8) -> u32
     b as u32
 }
 
-// The token of a byte 60 to 6F: box or diamond, and the relation.
+// The token of a byte 60 to 6F: its quotient by 8 tells box or diamond, its remainder is the relation.
 fn modal_of(b: u8) -> Token
     requires { ⌜ (0x60 ≤ b) × (b ≤ 0x6F) ⌝ }
     ensures { λ r. ⌜ Is r ≡ tokenOf b ⌝ }
 {
     let byte = wide(b);
-    if byte < 0x68 {
-        return Token::Modal(Mode::All, byte - 0x60);
-    }
-    Token::Modal(Mode::Some, byte - 0x68)
+    let modes = [Mode::All, Mode::Some];
+    let kind = (byte / 8 - 12) as usize;
+    Token::Modal(modes[kind], byte % 8)
 }
 
 // The meaning of a byte.

@@ -130,6 +130,28 @@ fn changed_and_cut_formulas() {
     }
 }
 
+/// A relation of its own for each number.
+fn numbered(t: u8) -> Step {
+    let pairs = [0x03, 0x20 + t % 2, 0x04, 0x10 + t / 2 % 2, 0x20 + t / 4];
+    relation(t.into(), frame(&pairs))
+}
+
+/// Every byte alone and before one, two and three parts. All 8 relations are filled, each another
+/// one, so that a box or diamond of another relation tells itself.
+#[test]
+fn every_byte_before_its_parts() {
+    let mut runner = room(2, 400);
+    for t in 0..8 {
+        runner.step(&numbered(t)).unwrap();
+    }
+    for byte in 0..=255 {
+        for parts in [&[][..], &[0x11], &[0x11, 0x10], &[0x30], &[0x40, 0x41, 0x10]] {
+            compare(&mut runner, frame(&[&[byte], parts].concat()));
+            runner.step(&numbered(2)).unwrap();
+        }
+    }
+}
+
 #[test]
 fn noise_as_formulas() {
     let mut random = Random::new(22);
