@@ -12,7 +12,7 @@ use Rattle.mucalculus.specs.Sets.{all-out, false-of}
 use Rattle.mucalculus.specs.Form.{noEnv}
 use Rattle.mucalculus.specs.Means.{means}
 use Rattle.tokens.specs.declared.Kind.the-variants.{Relation, Set}
-use Rattle.book.specs.Ticks.{Tick, ticks, pairTicks, Verdict, counted, full, spent, verdict, reached}
+use Rattle.book.specs.Ticks.{Tick, ticks, pairTicks, Verdict, counted, full, spent, verdict, withinRounds}
 use Rattle.book.specs.Verdicts.{fit, verdict-full}
 use Rattle.book.specs.Effects.{does-set, does-relation}
 use Rattle.book.specs.Book.{formulaIn, Book, Call, relation, set, clear, collect, registers, relations, modelOf, liveOf, checks, Done, ended, relationDone, setDone, does}
@@ -38,19 +38,19 @@ ended-eight b (counted q) go z = ((λ e. absurd (omega (arith, z q))), (λ e. le
 ended-eight b full go z = ((λ e. refl), (λ e. refl))
 ended-eight b spent go z = ((λ e. absurd (omega arith)), (λ e. let i : _≡_ {A = ℕ} 0 1 = cc in absurd (omega arith)))
 
-eight : (b : Book) (N R : ℕ) (l : List Tick) (go : ℕ → Done) → ((q : ℕ) → go q .1 .number ≡ 0) → (ended b (verdict N R 0 l) go .1 .number ≡ 8) ↔ Above N (reached R 0 l)
+eight : (b : Book) (N R : ℕ) (l : List Tick) (go : ℕ → Done) → ((q : ℕ) → go q .1 .number ≡ 0) → (ended b (verdict N R 0 l) go .1 .number ≡ 8) ↔ Above N (withinRounds R 0 l)
 eight b N R l go z =
     let x = ended-eight b (verdict N R 0 l) go z in
     let y = verdict-full N R 0 l in
-    ((λ e. above-out N (reached R 0 l) (y .0 (x .0 e))), (λ w. x .1 (y .1 (above-in N (reached R 0 l) w))))
+    ((λ e. above-out N (withinRounds R 0 l) (y .0 (x .0 e))), (λ w. x .1 (y .1 (above-in N (withinRounds R 0 l) w))))
 
 -- "refused as full exactly when, at a step of document 01 reached within its rounds, the live sets and that step's result need more rows
 -- than the table has": the claim for a call and the number k that it returned
 abbrev pub EightAt : Book → Call → ℕ → Type 0
 EightAt b (relation t bs) k =
-    t < relations → checks b Relation bs ≡ 0 → (k ≡ 8) ↔ Above (b .N) (reached 0 0 (pairTicks (b .n) (liveOf b) (formulaIn b Relation bs)))
+    t < relations → checks b Relation bs ≡ 0 → (k ≡ 8) ↔ Above (b .N) (withinRounds 0 0 (pairTicks (b .n) (liveOf b) (formulaIn b Relation bs)))
 EightAt b (set r R bs) k =
-    r < registers → checks b Set bs ≡ 0 → (k ≡ 8) ↔ Above (b .N) (reached R 0 (ticks (modelOf b) noEnv (liveOf b) (formulaIn b Set bs)))
+    r < registers → checks b Set bs ≡ 0 → (k ≡ 8) ↔ Above (b .N) (withinRounds R 0 (ticks (modelOf b) noEnv (liveOf b) (formulaIn b Set bs)))
 EightAt b (clear r) k = Unit {0}
 EightAt b collect k = Unit {0}
 
@@ -58,11 +58,11 @@ EightAt b collect k = Unit {0}
 pub eight-exact : (b : Book) (c : Call) → EightAt b c (does b c .1 .number)
 eight-exact b (relation t bs) = λ l z.
     let f = formulaIn b Relation bs in
-    subst (λ (d : Done). (d .1 .number ≡ 8) ↔ Above (b .N) (reached 0 0 (pairTicks (b .n) (liveOf b) f))) (sym (does-relation b t bs l z))
+    subst (λ (d : Done). (d .1 .number ≡ 8) ↔ Above (b .N) (withinRounds 0 0 (pairTicks (b .n) (liveOf b) f))) (sym (does-relation b t bs l z))
     (eight b (b .N) 0 (pairTicks (b .n) (liveOf b) f) (λ q. relationDone b t f) (λ q. refl))
 eight-exact b (set r R bs) = λ l z.
     let f = formulaIn b Set bs in
-    subst (λ (d : Done). (d .1 .number ≡ 8) ↔ Above (b .N) (reached R 0 (ticks (modelOf b) noEnv (liveOf b) f))) (sym (does-set b r R bs l z))
+    subst (λ (d : Done). (d .1 .number ≡ 8) ↔ Above (b .N) (withinRounds R 0 (ticks (modelOf b) noEnv (liveOf b) f))) (sym (does-set b r R bs l z))
     (eight b (b .N) R (ticks (modelOf b) noEnv (liveOf b) f) (λ q. setDone b r (means (modelOf b) noEnv f) q) (λ q. refl))
 eight-exact b (clear r) = tt
 eight-exact b collect = tt

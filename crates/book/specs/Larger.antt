@@ -1,14 +1,21 @@
--- Bigger limits keep a verdict, and the peak of a list of ticks tells a full one. Assumes nothing.
+-- Bigger limits keep a verdict, the peak of a list of ticks tells a full one, and a larger bound on a binder's rounds keeps its ticks. Assumes
+-- nothing.
 use mathlib.Core.Path.{_≡_, refl, sym, ap, _∙_, subst}
 use mathlib.Core.Logic.{_↔_}
 use mathlib.Core.Bool.{Bool, true, false, cond, _&&_}
-use mathlib.Core.List.{List, [], _∷_}
-use Prim.Native.Nat.{ℕ, suc, _≤_, _<_, max}
+use mathlib.Core.List.{List, [], _∷_, _++_}
+use Prim.Native.Nat.{ℕ, zero, suc, _≤_, _<_, max}
 use native.Mathlib.Omega.{arith}
 use native.Mathlib.Nat.{lt-of-not-le}
 use lib.Dec.{T, leb, leb→le, le→leb, ltb, ltb→lt, lt→ltb}
-use Rattle.mucalculus.specs.Sets.{true-of, false-of}
-use Rattle.book.specs.Ticks.{Tick, step, round, counted, full, spent, verdict, reached}
+use Rattle.mucalculus.specs.Sets.{same, true-of, false-of}
+use Rattle.mucalculus.specs.Order.{start}
+use Rattle.mucalculus.specs.Fixpoint.{iter}
+use Rattle.mucalculus.specs.Form.{Form, Model, Env, reads, steady}
+use Rattle.mucalculus.specs.Means.{size}
+use Rattle.mucalculus.specs.Binder.{body, round-ends}
+use Rattle.mucalculus.specs.Rounds.{iter-on, same-set}
+use Rattle.book.specs.Ticks.{Tick, step, round, roundTicks, counted, full, spent, verdict, withinRounds}
 use Rattle.book.specs.Verdicts.{fit, verdict-full}
 
 -- what is answered with some N and R is answered alike with more
@@ -48,8 +55,23 @@ fit-peak N (k ∷ ks) = ap (λ (b : Bool). leb k N && b) (fit-peak N ks) ∙ go 
     go false t u v = sym (false-of (leb (max k p) N) (λ t. let z = leb→le (max k p) N t in let y : T false = subst T u (le→leb k N (omega arith)) in y))
 
 -- full exactly where the peak over the steps reached within the rounds would pass N
-pub full-peak : (N R r : ℕ) (l : List Tick) → (verdict N R r l ≡ full) ↔ (N < peak (reached R r l))
+pub full-peak : (N R r : ℕ) (l : List Tick) → (verdict N R r l ≡ full) ↔ (N < peak (withinRounds R r l))
 full-peak N R r l =
     let w = verdict-full N R r l in
-    let p = peak (reached R r l) in
-    ((λ e. lt-of-not-le (λ h. subst T (sym (fit-peak N (reached R r l)) ∙ w .0 e) (le→leb p N h))), (λ h. w .1 (fit-peak N (reached R r l) ∙ false-of (leb p N) (λ t. let z = leb→le p N t in absurd (omega arith)))))
+    let p = peak (withinRounds R r l) in
+    ((λ e. lt-of-not-le (λ h. subst T (sym (fit-peak N (withinRounds R r l)) ∙ w .0 e) (le→leb p N h))), (λ h. w .1 (fit-peak N (withinRounds R r l) ∙ false-of (leb p N) (λ t. let z = leb→le p N t in absurd (omega arith)))))
+
+-- where j rounds leave a set that the next one keeps, a larger bound than j + 1 gives the same ticks
+ticks-more : (h : List Bool → List Tick) (F : List Bool → List Bool) (j k : ℕ) → j ≤ k → (A : List Bool) → F (iter F j A) ≡ iter F j A → roundTicks h F (suc k) A ≡ roundTicks h F (suc j) A
+ticks-more h F zero k l A e = ends (roundTicks h F k (F A)) ∙ sym (ends [])
+  where
+    ends : (more : List Tick) → round ∷ (h A ++ cond (same (F A) A) [] more) ≡ round ∷ (h A ++ [])
+    ends more = ap (λ (t : Bool). round ∷ (h A ++ cond t [] more)) (same-set e)
+ticks-more h F (suc j) zero l A e = absurd (omega arith)
+ticks-more h F (suc j) (suc k) l A e =
+    ap (λ (more : List Tick). round ∷ (h A ++ cond (same (F A) A) [] more)) (ticks-more h F j k (omega arith) (F A) (subst (λ (B : List Bool). F B ≡ B) (sym (iter-on F j A)) e))
+
+-- after check 6 any bound from 2^n + 1 on gives the same ticks
+pub ticks-cap : (m : Model) (e : Env) (P : ℕ) (f : Form) → T (steady f) → T (reads true P f) → (b : Bool) (h : List Bool → List Tick) (k : ℕ) → size m ≤ k
+    → roundTicks h (body m e P f) (suc k) (start b (size m)) ≡ roundTicks h (body m e P f) (suc (size m)) (start b (size m))
+ticks-cap m e P f s t b h k l = ticks-more h (body m e P f) (size m) k l (start b (size m)) (round-ends m e P f s t b)

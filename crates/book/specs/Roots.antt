@@ -71,7 +71,7 @@ of-arrowsOf (suc k) h a m = go (h 0) refl (of-arrowsOf k (λ i. h (suc i)) a) m
     go (some b) e below x = ⊎-elim (λ q. (0, omega arith, e ∙ ap some (sym q))) (λ y. up (below y)) (mem-cases x)
 
 -- roots that are filled in g too
-roots-within : (t u : Table) (h g : ℕ → Option ℕ) → ((i a : ℕ) → i < registers → h i ≡ some a → u .reg i ≡ some a) → ((i a : ℕ) → i < relations → g i ≡ some a → u .rel i ≡ some a)
+pub roots-within : (t u : Table) (h g : ℕ → Option ℕ) → ((i a : ℕ) → i < registers → h i ≡ some a → u .reg i ≡ some a) → ((i a : ℕ) → i < relations → g i ≡ some a → u .rel i ≡ some a)
     → Within (arrowsOf registers h ++ arrowsOf relations g) (rootsOf u)
 roots-within t u h g p q a m =
     ⊎-elim (λ x. let w = of-arrowsOf registers h a x in mem-left {s = arrowsOf registers (u .reg)} (arrowsOf relations (u .rel)) (arrowsOf-mem registers (u .reg) (w .0) a (w .1) (p (w .0) a (w .1) (w .2))))

@@ -76,7 +76,7 @@ roundTicks h F (suc j) A = let B = F A in let more = roundTicks h F j B in round
 
 -- the ticks of f: "Left before right, parts before operator". `live` are the functions live throughout: filled registers and relations,
 -- current sets of open binders, values made and not yet used. "Mu starts from the empty set, nu from all states"; a binder has ended after
--- 2^n + 1 rounds
+-- 2^n + 1 rounds, a larger bound gives the same ticks: `ticks-cap` (Larger)
 abbrev pub ticks : Model → Env → List Fn → Form → List Tick
 ticks m e live bot = []
 ticks m e live top = []
@@ -134,8 +134,8 @@ verdict N R r [] = counted r
 verdict N R r (step k ∷ l) = let more = verdict N R r l in cond (leb k N) more full
 verdict N R r (round ∷ l) = let more = verdict N R (suc r) l in cond (ltb r R) more spent
 
--- the needs of the steps that come before a round beyond R is wanted
-abbrev pub reached : ℕ → ℕ → List Tick → List ℕ
-reached R r [] = []
-reached R r (step k ∷ l) = k ∷ reached R r l
-reached R r (round ∷ l) = let more = reached R (suc r) l in cond (ltb r R) more []
+-- the needs of the steps before a round beyond R is wanted, those after a need above N too
+abbrev pub withinRounds : ℕ → ℕ → List Tick → List ℕ
+withinRounds R r [] = []
+withinRounds R r (step k ∷ l) = k ∷ withinRounds R r l
+withinRounds R r (round ∷ l) = let more = withinRounds R (suc r) l in cond (ltb r R) more []

@@ -21,7 +21,7 @@ use Rattle.diagram.specs.Level.{Fn}
 use Rattle.diagram.specs.Need.{stepNeed}
 use Rattle.diagram.specs.Steps.{andF, shiftF, existsF}
 use Rattle.book.specs.Bridge.{fnOf, fnOfPairs}
-use Rattle.book.specs.Ticks.{Tick, step, round, steps, roundTicks, ticks, pairF, pairTicks, existsNeeds, notNeed, twoNeed, diaNeeds, boxNeeds, Verdict, counted, full, spent, verdict, reached}
+use Rattle.book.specs.Ticks.{Tick, step, round, steps, roundTicks, ticks, pairF, pairTicks, existsNeeds, notNeed, twoNeed, diaNeeds, boxNeeds, Verdict, counted, full, spent, verdict, withinRounds}
 use Rattle.book.specs.Run.{Outcome, value, full as fullRun, spent as spentRun, andThen, existsSteps, notStep, twoStep, diaSteps, boxSteps, loop, run, pairsFit}
 
 -- every need is at most N
@@ -266,16 +266,16 @@ module _ (N R : ℕ) where
   -- ---- 8, exactly
 
   -- 8 exactly where the need of some step within the rounds is above N
-  pub verdict-full : (r : ℕ) (l : List Tick) → (verdict N R r l ≡ full) ↔ (fit N (reached R r l) ≡ false)
+  pub verdict-full : (r : ℕ) (l : List Tick) → (verdict N R r l ≡ full) ↔ (fit N (withinRounds R r l) ≡ false)
   verdict-full r [] = ((λ e. let z : _≡_ {A = ℕ} 0 1 = cc in absurd (omega arith)), (λ e. let z : _≡_ {A = ℕ} 0 1 = cc in absurd (omega arith)))
   verdict-full r (step k ∷ l) = go (leb k N) (verdict-full r l)
     where
-      go : (t : Bool) → (verdict N R r l ≡ full) ↔ (fit N (reached R r l) ≡ false) → (cond t (verdict N R r l) full ≡ full) ↔ ((t && fit N (reached R r l)) ≡ false)
+      go : (t : Bool) → (verdict N R r l ≡ full) ↔ (fit N (withinRounds R r l) ≡ false) → (cond t (verdict N R r l) full ≡ full) ↔ ((t && fit N (withinRounds R r l)) ≡ false)
       go true h = h
       go false h = ((λ e. refl), (λ e. refl))
   verdict-full r (round ∷ l) = go (ltb r R) (verdict-full (suc r) l)
     where
-      go : (t : Bool) → (verdict N R (suc r) l ≡ full) ↔ (fit N (reached R (suc r) l) ≡ false) → (cond t (verdict N R (suc r) l) spent ≡ full) ↔ (fit N (cond t (reached R (suc r) l) []) ≡ false)
+      go : (t : Bool) → (verdict N R (suc r) l ≡ full) ↔ (fit N (withinRounds R (suc r) l) ≡ false) → (cond t (verdict N R (suc r) l) spent ≡ full) ↔ (fit N (cond t (withinRounds R (suc r) l) []) ≡ false)
       go true h = h
       go false h = ((λ e. let z : _≡_ {A = ℕ} 0 1 = cc in absurd (omega arith)), (λ e. let z : _≡_ {A = ℕ} 0 1 = cc in absurd (omega arith)))
 
@@ -297,18 +297,18 @@ module _ (N R : ℕ) where
       go false u below i = let z : _≡_ {A = ℕ} 0 1 = cc in absurd (omega arith)
 
   -- 9 exactly where every need within the rounds is at most N and the list has more rounds than R
-  pub verdict-spent : (r : ℕ) (l : List Tick) → r ≤ R → (verdict N R r l ≡ spent) ↔ (T (fit N (reached R r l)) × (R < r + roundsIn l))
+  pub verdict-spent : (r : ℕ) (l : List Tick) → r ≤ R → (verdict N R r l ≡ spent) ↔ (T (fit N (withinRounds R r l)) × (R < r + roundsIn l))
   verdict-spent r [] h = ((λ e. let z : _≡_ {A = ℕ} 0 1 = cc in absurd (omega arith)), (λ w. absurd (omega (arith, w .1))))
   verdict-spent r (step k ∷ l) h = go (leb k N) (verdict-spent r l h)
     where
-      go : (t : Bool) → (verdict N R r l ≡ spent) ↔ (T (fit N (reached R r l)) × (R < r + roundsIn l))
-          → (cond t (verdict N R r l) full ≡ spent) ↔ (T (t && fit N (reached R r l)) × (R < r + roundsIn l))
+      go : (t : Bool) → (verdict N R r l ≡ spent) ↔ (T (fit N (withinRounds R r l)) × (R < r + roundsIn l))
+          → (cond t (verdict N R r l) full ≡ spent) ↔ (T (t && fit N (withinRounds R r l)) × (R < r + roundsIn l))
       go true below = below
       go false below = ((λ e. let z : _≡_ {A = ℕ} 0 1 = cc in absurd (omega arith)), (λ w. absurd (w .0)))
   verdict-spent r (round ∷ l) h = go (ltb r R) refl (verdict-spent (suc r) l)
     where
-      go : (t : Bool) → ltb r R ≡ t → (suc r ≤ R → (verdict N R (suc r) l ≡ spent) ↔ (T (fit N (reached R (suc r) l)) × (R < suc r + roundsIn l)))
-          → (cond t (verdict N R (suc r) l) spent ≡ spent) ↔ (T (fit N (cond t (reached R (suc r) l) [])) × (R < r + suc (roundsIn l)))
+      go : (t : Bool) → ltb r R ≡ t → (suc r ≤ R → (verdict N R (suc r) l ≡ spent) ↔ (T (fit N (withinRounds R (suc r) l)) × (R < suc r + roundsIn l)))
+          → (cond t (verdict N R (suc r) l) spent ≡ spent) ↔ (T (fit N (cond t (withinRounds R (suc r) l) [])) × (R < r + suc (roundsIn l)))
       go true u below =
           let w = below (ltb→lt r R (subst T (sym u) tt)) in
           ((λ e. (w .0 e .0, omega (arith, w .0 e .1))), (λ x. w .1 (x .0, omega (arith, x .1))))

@@ -11,6 +11,7 @@ use Rattle.diagram.specs.Canon.{not-true}
 use Rattle.layout.specs.Places.{ROWS, TALLY, FIRST-REGISTER, FIRST-RELATION}
 use Rattle.layout.specs.View.{View, view, headerOf}
 use Rattle.layout.specs.Header.{headerWords}
+use Rattle.layout.specs.Same.{view-same}
 use Rattle.soundness.specs.Used.{Sizes}
 use Rattle.soundness.specs.Sound.{Sound, tableOf}
 use Rattle.table.specs.Columns.{setHeader, setHeads}
@@ -27,6 +28,11 @@ use Rattle.calls.specs.declared.Started.the-variants.{Ready, Refused}
 abbrev pub FreshWords : ℕ → ℕ → List ℕ → List ℕ → Started → Type 0
 FreshWords n N old new Ready = view N new ≡ setHeads (setHeader (view N old) (headerOf (headerWords n N))) (λ b. 0)
 FreshWords n N old new (Refused r) = new ≡ old
+
+-- one list of words
+pub fresh-words-one : (n N : ℕ) (old v w : List ℕ) (x : Started) → FreshWords n N old v x → FreshWords n N old w x → v ≡ w
+fresh-words-one n N old v w Ready p q = view-same N v w (p ∙ sym q)
+fresh-words-one n N old v w (Refused r) p q = p ∙ sym q
 
 -- the checks of document 01's fresh are those of a sound table's sizes
 module _ {n N size : ℕ} where

@@ -1,2 +1,3 @@
 pub mod Obey
 pub mod Obeyed
+pub mod OneOutcome

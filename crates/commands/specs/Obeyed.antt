@@ -88,10 +88,10 @@ module _ (r R : ℕ) (bs : List ℕ) {old new : List ℕ} {x : Outcome} where
       → x ≡ record { operation = 3; number = 0; node = a; rounds = q; value = k } → Obeys (call (set r R bs)) old new x
   set-done a q k p (y, c, h, e) i = subst (Obeys (call (set r R bs)) old new) (sym i) record { operation = refl; posted = (p, ((λ z. told (y .number) refl), λ z. absurd (omega arith))) }
     where
-      -- words that are not sound would have been refused
+      -- the count is answered
       told : (n : ℕ) → y .number ≡ n → AskPost (count r) new (valued k)
       told zero z = subst (AskPost (count r) new) (ap (λ (j : ℕ). made j (y .rounds) (y .value)) z ∙ ap (λ (j : ℕ). made 0 j (y .value)) h ∙ ap (reply 0) (sym e)) c
-      told (suc n) z = absurd (omega (arith, p .performs .unsound (λ s. absurd (omega (arith, count-answered old new r R bs _ p s refl y c))) .0 .0))
+      told (suc n) z = absurd (omega (arith, count-answered old new r R bs _ p refl y c))
 
 -- ---- a record
 

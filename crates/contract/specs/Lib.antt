@@ -5,3 +5,4 @@ pub mod Closed
 pub mod Roots
 pub mod Checked
 pub mod Answered
+pub mod OneAnswer

@@ -41,6 +41,11 @@ seen ws = seenIn (tableOf ws)
 abbrev pub SoundWords : List ℕ → Type 0
 SoundWords ws = Sound (tableOf ws)
 
+-- what can be decided holds of any words if it holds of sound ones and of others; soundness itself need not be decided
+pub any-words : {P : Type 0} (ws : List ℕ) → Dec P → (SoundWords ws → P) → ((SoundWords ws → ⊥) → P) → P
+any-words ws (yes e) f g = e
+any-words ws (no n) f g = g (λ s. n (f s))
+
 -- ---- a sound table stands for a book, and shows it
 
 -- a filled root's word

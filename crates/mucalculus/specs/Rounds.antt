@@ -1,24 +1,26 @@
 -- How many rounds a formula takes: "Every evaluated body, inner ones included, is one round"; and that with one binder they are at most 2^n + 1.
 -- Assumes nothing.
-use mathlib.Core.Path.{_≡_, refl}
+use mathlib.Core.Path.{_≡_, refl, sym, ap, _∙_, subst}
 use mathlib.Core.Logic.{_⊎_, inl, inr}
 use mathlib.Core.Bool.{Bool, true, false, cond}
 use mathlib.Core.List.{List}
 use Prim.Native.Nat.{ℕ, zero, suc, _+_, _≤_, zero-le}
 use native.Mathlib.Omega.{arith}
 use native.Mathlib.Nat.{suc-ne-zero}
-use Rattle.mucalculus.specs.Sets.{same}
+use lib.Dec.{T}
+use Rattle.mucalculus.specs.Sets.{same, same-refl, true-of}
 use Rattle.mucalculus.specs.Order.{start}
-use Rattle.mucalculus.specs.Form.{Form, bot, top, neg, conj, disj, now, next, var, reg, box, dia, mu, nu, Model, Env, put}
+use Rattle.mucalculus.specs.Fixpoint.{iter}
+use Rattle.mucalculus.specs.Form.{Form, bot, top, neg, conj, disj, now, next, var, reg, box, dia, mu, nu, Model, Env, put, reads, steady}
 use Rattle.mucalculus.specs.Means.{size}
-use Rattle.mucalculus.specs.Binder.{body}
+use Rattle.mucalculus.specs.Binder.{body, round-ends}
 
 -- the rounds of a binder from the set A on, its body F taking c A rounds of inner binders at the set A; j bounds the binder's own rounds
 abbrev pub runs : (List Bool → List Bool) → (List Bool → ℕ) → ℕ → List Bool → ℕ
 runs F c zero A = zero
 runs F c (suc j) A = suc (c A) + (let more = runs F c j (F A) in cond (same (F A) A) zero more)
 
--- the rounds of f, inner ones included
+-- the rounds of f, inner ones included; a binder has ended after 2^n + 1 rounds, a larger bound gives the same: `rounds-cap`
 abbrev pub rounds : Model → Env → Form → ℕ
 rounds m e bot = zero
 rounds m e top = zero
@@ -100,3 +102,28 @@ rounds-bound m e (box t f) h = rounds-bound m e f h
 rounds-bound m e (dia t f) h = rounds-bound m e f h
 rounds-bound m e (mu P f) h = runs-bound (body m e P f) (λ A. rounds m (put e P A) f) (λ A. rounds-none m (put e P A) f (omega arith)) (suc (size m)) (start true (size m))
 rounds-bound m e (nu P f) h = runs-bound (body m e P f) (λ A. rounds m (put e P A) f) (λ A. rounds-none m (put e P A) f (omega arith)) (suc (size m)) (start false (size m))
+
+-- ---- the bound on a binder's own rounds
+
+-- from F A on, the iteration is one ahead
+pub iter-on : (F : List Bool → List Bool) (j : ℕ) (A : List Bool) → iter F j (F A) ≡ iter F (suc j) A
+iter-on F zero A = refl
+iter-on F (suc j) A = ap F (iter-on F j A)
+
+pub same-set : {A B : List Bool} → B ≡ A → same B A ≡ true
+same-set {A} e = true-of _ (subst (λ (C : List Bool). T (same C A)) (sym e) (same-refl A))
+
+-- where j rounds leave a set that the next one keeps, a larger bound than j + 1 gives the same
+runs-more : (F : List Bool → List Bool) (c : List Bool → ℕ) (j k : ℕ) → j ≤ k → (A : List Bool) → F (iter F j A) ≡ iter F j A → runs F c (suc k) A ≡ runs F c (suc j) A
+runs-more F c zero k l A e = ends (runs F c k (F A)) ∙ sym (ends zero)
+  where
+    ends : (more : ℕ) → suc (c A) + cond (same (F A) A) zero more ≡ suc (c A) + zero
+    ends more = ap (λ (t : Bool). suc (c A) + cond t zero more) (same-set e)
+runs-more F c (suc j) zero l A e = absurd (omega arith)
+runs-more F c (suc j) (suc k) l A e =
+    ap (λ (more : ℕ). suc (c A) + cond (same (F A) A) zero more) (runs-more F c j k (omega arith) (F A) (subst (λ (B : List Bool). F B ≡ B) (sym (iter-on F j A)) e))
+
+-- after check 6 any bound from 2^n + 1 on gives the same rounds
+pub rounds-cap : (m : Model) (e : Env) (P : ℕ) (f : Form) → T (steady f) → T (reads true P f) → (b : Bool) (c : List Bool → ℕ) (k : ℕ) → size m ≤ k
+    → runs (body m e P f) c (suc k) (start b (size m)) ≡ runs (body m e P f) c (suc (size m)) (start b (size m))
+rounds-cap m e P f s t b c k l = runs-more (body m e P f) c (size m) k l (start b (size m)) (round-ends m e P f s t b)

@@ -122,28 +122,28 @@ clear-value b r = range-cases (λ (d : Done). d .1 .value ≡ some 0) r register
 settled : (o : Option ℕ) (k x : ℕ) → o ≡ some k → SettledTo o x → x ≡ k
 settled o k x e h = subst (λ (u : Option ℕ). SettledTo u x → x ≡ k) (sym e) (λ i. i) h
 
-call-value : (c : Call) (old new : List ℕ) (x : Outcome) → SoundWords old → CallPost c old new (replyOf c x) → Beside c new x
+call-value : (c : Call) (old new : List ℕ) (x : Outcome) → CallPost c old new (replyOf c x) → Beside c new x
     → Agrees (does (bookOf (seen old)) c .1) (replyOf c x)
     → cond (eqb (does (bookOf (seen old)) c .1 .number) 0) (shown c (does (bookOf (seen old)) c)) 0 ≡ x .value
-call-value (relation t bs) old new x s p b g =
+call-value (relation t bs) old new x p b g =
     let e = settled _ 0 (x .value) (relation-value (bookOf (seen old)) t bs) (g .value) in
     value-shown (does (bookOf (seen old)) (relation t bs) .1 .number) 0 (x .value) (λ k. sym e) (λ k. e)
-call-value (set r R bs) old new x s p b g =
+call-value (set r R bs) old new x p b g =
     value-shown (does (bookOf (seen old)) (set r R bs) .1 .number) (statesIn (does (bookOf (seen old)) (set r R bs) .0 .reg r)) (x .value)
     (λ e.
     let z : x .number ≡ 0 = g .number ∙ e in
-    ap statesIn (set-leaves (bookOf (seen old)) r R bs (nodeReply x) g z) ∙ sym (count-means old new r R bs (nodeReply x) p s z (valued (x .value)) (b .0 z)))
+    ap statesIn (set-leaves (bookOf (seen old)) r R bs (nodeReply x) g z) ∙ sym (count-means old new r R bs (nodeReply x) p z (valued (x .value)) (b .0 z)))
     (λ l. b .1 (omega (arith, g .number)))
-call-value (clear r) old new x s p b g =
+call-value (clear r) old new x p b g =
     let e = settled _ 0 (x .value) (clear-value (bookOf (seen old)) r) (g .value) in
     value-shown (does (bookOf (seen old)) (clear r) .1 .number) 0 (x .value) (λ k. sym e) (λ k. e)
-call-value collect old new x s p b g = sym (g .value)
+call-value collect old new x p b g = sym (g .value)
 
 some-obeyed : (c : Call) (old new : List ℕ) (x : Outcome) → length old ≡ wordsLent → SoundWords old → x .operation ≡ opOf c → Posted (call c) old new x
     → Obeyed (obey (some (bookOf (seen old))) (call c)) new x
 some-obeyed c old new x z s e p =
     let (w, g) = p .0 .performs .served s in
-    let k = call-value c old new x s (p .0) (p .1) (g .agrees) in
+    let k = call-value c old new x (p .0) (p .1) (g .agrees) in
     let m = g .agrees .number in
     let q = g .agrees .rounds in
     let i = reply-number c x in

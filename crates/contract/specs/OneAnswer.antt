@@ -1,0 +1,200 @@
+-- ONE ANSWER: on the same words a contract allows one answer, but for what document 01 frees. Two replies and two ends that it allows agree in all
+-- parts below, so whoever answers or leaves anything else does not meet it. Words need not be sound, nor is that decided. Assumes nothing.
+use mathlib.Core.Path.{_≡_, refl, sym, ap, ap₂, _∙_, subst, fun-ext}
+use mathlib.Core.Logic.{_↔_, by-cases}
+use mathlib.Core.HLevel.{Discrete}
+use mathlib.Core.Bool.{Bool, true, false, _&&_, _||_, Bool-discrete}
+use mathlib.Core.List.{List, List-discrete}
+use mathlib.Core.Option.{discrete as Option-discrete}
+use Prim.Native.Nat.{ℕ, _≤_, _<_}
+use native.Mathlib.Omega.{arith}
+use native.Mathlib.Decide.{ℕ-discrete}
+use lib.Dec.{T, eqb}
+use lib.ListN.{length, getD}
+use Rattle.layout.specs.Places.{HEADER, ROWS, TALLY, SPARE, wordsFor}
+use Rattle.layout.specs.View.{headerOf, cellOf}
+use Rattle.diagram.specs.Rows.{Rows}
+use Rattle.diagram.specs.Reach.{Reach}
+use Rattle.book.specs.Book.{Book, fresh, freshFits, Call, relation, set, clear, collect, Question, Done, registers, does}
+use Rattle.book.specs.Stored.{Whole, whole-fresh, whole-does, range-cases}
+use Rattle.book.specs.Table.{Table, Reply, Refusal, keptRoots, Serves}
+use Rattle.book.specs.Leaves.{plain, shows-fresh}
+use Rattle.book.specs.BookOf.{bookOf, whole-bookOf, only-book}
+use Rattle.book.specs.OneReply.{settledIn, same-place, call-value, ask-value, collect-used}
+use Rattle.contract.specs.Seen.{seen, SoundWords, any-words}
+use Rattle.contract.specs.Kept.{changes, freeWord, target}
+use Rattle.contract.specs.Posts.{FreshPost, CallPost, AskPost}
+
+-- ---- the claim
+
+-- row i is used in both or in none, with the same level and arrows
+pub record SameRow (a b : Rows) (i : ℕ) : Type 0 where
+  pub used : a .used i ≡ b .used i
+  pub level : a .level i ≡ b .level i
+  pub low : a .low i ≡ b .low i
+  pub high : a .high i ≡ b .high i
+
+-- two replies y, z and two ends v, w of the call c on the words `old`
+pub record OneAnswer (c : Call) (old v w : List ℕ) (y z : Reply) : Type 0 where
+  -- the reply: of set's node number only whether it is 0, 1 or above
+  pub number : y .number ≡ z .number
+  pub rounds : y .rounds ≡ z .rounds
+  pub value : settledIn c (y .value) ≡ settledIn c (z .value)
+  -- n, N, the tally, and every register and relation: filled in both or in none, and with the same set
+  pub book : bookOf (seen v) ≡ bookOf (seen w)
+  -- two registers have one node number at the one end exactly where they have at the other
+  pub numbers : (r q : ℕ) → r < registers → q < registers → (seen v .reg r ≡ seen v .reg q) ↔ (seen w .reg r ≡ seen w .reg q)
+  -- the words of the header but those of the index, of remembered results and of an answered relation's or set's target; the tally
+  pub size : length v ≡ length w
+  pub header : (h : ℕ) → h < HEADER → changes c y h ≡ false → headerOf v h ≡ headerOf w h
+  pub tally : headerOf v TALLY ≡ headerOf w TALLY
+  -- rows that the other roots need; after collect the same rows are used
+  pub rows : (i : ℕ) → Reach (seen old .rows) (keptRoots c y (seen old)) i → SameRow (seen v .rows) (seen w .rows) i
+  pub swept : c ≡ collect → (i : ℕ) → seen v .rows .used i ≡ seen w .rows .used i
+  pub spare : (i : ℕ) → i < headerOf old ROWS → cellOf (headerOf old ROWS) v i SPARE ≡ cellOf (headerOf old ROWS) w i SPARE
+  pub beyond : (p : ℕ) → wordsFor (headerOf old ROWS) ≤ p → getD v p 0 ≡ getD w p 0
+  -- every word, where a check refuses and after clear
+  pub all : 1 ≤ y .number → y .number ≤ 7 → v ≡ w
+  pub cleared : (r : ℕ) → c ≡ clear r → v ≡ w
+
+-- ---- fresh, and a question
+
+same-reply : {y z : Reply} → y .number ≡ z .number → y .rounds ≡ z .rounds → y .value ≡ z .value → y ≡ z
+same-reply a b c = λ i. record { number = a i; rounds = b i; value = c i }
+
+same-refusal : {k : ℕ} {y z : Reply} → Refusal k y → Refusal k z → y ≡ z
+same-refusal {k} {y} {z} f g = same-reply {y = y} {z = z} (f .0 ∙ sym (g .0)) (f .1 ∙ sym (g .1)) (f .2 ∙ sym (g .2))
+
+-- fresh: one reply, one book, and a refusal keeps all words
+pub fresh-one : (n N : ℕ) {old v w : List ℕ} {y z : Reply} → FreshPost n N old v y → FreshPost n N old w z
+    → (y ≡ z) × (bookOf (seen v) ≡ bookOf (seen w)) × (1 ≤ y .number → v ≡ w)
+fresh-one n N {old} {v} {w} {y} {z} p q = go (freshFits n N (length old)) refl
+  where
+    go : (t : Bool) → freshFits n N (length old) ≡ t → (y ≡ z) × (bookOf (seen v) ≡ bookOf (seen w)) × (1 ≤ y .number → v ≡ w)
+    go true e =
+        let (f, a, i) = p .answers (subst T (sym e) tt) in
+        let (g, b, j) = q .answers (subst T (sym e) tt) in
+        let first = only-book (fresh n N) (seen v) (whole-fresh n N) (shows-fresh n N (seen v) i) in
+        let second = only-book (fresh n N) (seen w) (whole-fresh n N) (shows-fresh n N (seen w) j) in
+        (same-refusal f g, sym first ∙ second, λ l. absurd (omega (arith, f .0)))
+    go false e =
+        let (f, i) = p .refuses e in
+        let (g, j) = q .refuses e in
+        (same-refusal f g, ap (λ (x : List ℕ). bookOf (seen x)) (i ∙ sym j), λ l. i ∙ sym j)
+
+-- a question: one reply, node numbers too, for no word changes
+pub ask-one : (q : Question) {ws : List ℕ} {y z : Reply} → AskPost q ws y → AskPost q ws z → y ≡ z
+ask-one q {ws} {y} {z} a b = same-reply {y = y} {z = z}
+    (agree (λ x. x .number) (λ s. a .told s .agrees .number ∙ sym (b .told s .agrees .number)))
+    (agree (λ x. x .rounds) (λ s. a .told s .agrees .rounds ∙ sym (b .told s .agrees .rounds)))
+    (agree (λ x. x .value) (λ s. ask-value q (bookOf (seen ws)) (seen ws .reg) (a .told s) (b .told s)))
+  where
+    agree : (f : Reply → ℕ) → (SoundWords ws → f y ≡ f z) → f y ≡ f z
+    agree f g = any-words ws (ℕ-discrete (f y) (f z)) g (λ n. ap f (same-refusal (a .unsound n) (b .unsound n)))
+
+-- ---- a call
+
+-- the roots that a call leaves, by its number alone
+roots-by : (c : Call) (y : Reply) (t : Table) → keptRoots c y t ≡ keptRoots c (plain (y .number)) t
+roots-by (relation q bs) y t = refl
+roots-by (set r R bs) y t = refl
+roots-by (clear r) y t = refl
+roots-by collect y t = refl
+
+-- clear is answered or refused with 3
+clear-few : (b : Book) (r : ℕ) → does b (clear r) .1 .number ≤ 7
+clear-few b r = range-cases (λ (d : Done). d .1 .number ≤ 7) r registers _ _ (λ l. omega arith) (λ l. omega arith)
+
+module _ (c : Call) {old v w : List ℕ} {y z : Reply} (p : CallPost c old v y) (q : CallPost c old w z) where
+  abbrev b : Book
+  b = bookOf (seen old)
+
+  -- on words that are not sound all are kept
+  one-kept : (SoundWords old → ⊥) → v ≡ w
+  one-kept n = p .performs .unsound n .1 ∙ sym (q .performs .unsound n .1)
+
+  -- and the number is 2; so what can be told apart agrees, if it does on sound words
+  agree : {X : Type 0} → Discrete X → (f : Reply → List ℕ → X) → (SoundWords old → f y v ≡ f z w) → f y v ≡ f z w
+  agree d f g = any-words old (d (f y v) (f z w)) g (λ n. ap₂ f (same-refusal (p .performs .unsound n .0) (q .performs .unsound n .0)) (one-kept n))
+
+  -- on sound words
+  module _ (s : SoundWords old) where
+    first : Serves b c (seen old) (seen v) y
+    first = p .performs .served s .1
+
+    second : Serves b c (seen old) (seen w) z
+    second = q .performs .served s .1
+
+    whole : Whole (does b c .0)
+    whole = whole-does b c (whole-bookOf (seen old))
+
+    one-number : y .number ≡ z .number
+    one-number = first .agrees .number ∙ sym (second .agrees .number)
+
+    one-book : bookOf (seen v) ≡ bookOf (seen w)
+    one-book = sym (only-book (does b c .0) (seen v) whole (first .shows)) ∙ only-book (does b c .0) (seen w) whole (second .shows)
+
+    one-place : (r k : ℕ) → r < registers → k < registers → (seen v .reg r ≡ seen v .reg k) ↔ (seen w .reg r ≡ seen w .reg k)
+    one-place r k l m =
+        let i = same-place (does b c .0) (seen v) whole (first .shows) r k l m in
+        let j = same-place (does b c .0) (seen w) whole (second .shows) r k l m in
+        ((λ e. j .1 (i .0 e)), λ e. i .1 (j .0 e))
+
+    one-header : (h : ℕ) → h < HEADER → changes c y h ≡ false → headerOf v h ≡ headerOf w h
+    one-header h l e = p .kept s .header h l e ∙ sym (q .kept s .header h l (ap (λ (k : ℕ). freeWord h || (eqb k 0 && target c h)) (sym one-number) ∙ e))
+
+    same-roots : keptRoots c y (seen old) ≡ keptRoots c z (seen old)
+    same-roots = roots-by c y (seen old) ∙ ap (λ (k : ℕ). keptRoots c (plain k) (seen old)) one-number ∙ sym (roots-by c z (seen old))
+
+    one-row : (i : ℕ) → Reach (seen old .rows) (keptRoots c y (seen old)) i → SameRow (seen v .rows) (seen w .rows) i
+    one-row i h =
+        let k = subst (λ (l : List ℕ). Reach (seen old .rows) l i) same-roots h in
+        let a = first .kept in
+        let b = second .kept in
+        record { used = a .used i h ∙ sym (b .used i k); level = a .level i h ∙ sym (b .level i k); low = a .low i h ∙ sym (b .low i k); high = a .high i h ∙ sym (b .high i k) }
+
+    one-all : 1 ≤ y .number → y .number ≤ 7 → v ≡ w
+    one-all l m = p .kept s .all l m ∙ sym (q .kept s .all (omega (arith, one-number)) (omega (arith, one-number)))
+
+  one-used : SoundWords old → c ≡ collect → (i : ℕ) → seen v .rows .used i ≡ seen w .rows .used i
+  one-used s e = collect-used b (subst (λ (x : Call). Serves b x (seen old) (seen v) y) e (first s)) (subst (λ (x : Call). Serves b x (seen old) (seen w) z) e (second s))
+
+  one-clear : SoundWords old → (r : ℕ) → c ≡ clear r → v ≡ w
+  one-clear s r e =
+      let i = subst (λ (x : Call). CallPost x old v y) e p .kept s .exact in
+      let j = subst (λ (x : Call). CallPost x old w z) e q .kept s .exact in
+      let few = subst (λ (x : Call). does b x .1 .number ≤ 7) (sym e) (clear-few b r) in
+      by-cases (ℕ-discrete (y .number) 0) (λ o. i o ∙ sym (j (sym (one-number s) ∙ o))) (λ n. one-all s (omega arith) (omega (arith, few, first s .agrees .number)))
+
+  pub call-one : OneAnswer c old v w y z
+  call-one = record {
+    number = agree ℕ-discrete (λ x u. x .number) one-number;
+    rounds = agree ℕ-discrete (λ x u. x .rounds) (λ s. first s .agrees .rounds ∙ sym (second s .agrees .rounds));
+    value = agree ℕ-discrete (λ x u. settledIn c (x .value)) (λ s. call-value c b (first s) (second s));
+    book = λ i. record {
+      n = agree ℕ-discrete (λ x u. seen u .n) (λ s. ap (λ (x : Book). x .n) (one-book s)) i;
+      N = agree ℕ-discrete (λ x u. seen u .N) (λ s. ap (λ (x : Book). x .N) (one-book s)) i;
+      rel = fun-ext (λ t. agree (Option-discrete (List-discrete (List-discrete Bool-discrete))) (λ x u. bookOf (seen u) .rel t) (λ s. ap (λ (x : Book). x .rel t) (one-book s))) i;
+      reg = fun-ext (λ r. agree (Option-discrete (List-discrete Bool-discrete)) (λ x u. bookOf (seen u) .reg r) (λ s. ap (λ (x : Book). x .reg r) (one-book s))) i;
+      tally = agree ℕ-discrete (λ x u. seen u .tally) (λ s. ap (λ (x : Book). x .tally) (one-book s)) i;
+    };
+    numbers = λ r k l m.
+        let tell : (u : List ℕ) → Dec (seen u .reg r ≡ seen u .reg k) = λ u. Option-discrete ℕ-discrete (seen u .reg r) (seen u .reg k) in (
+          (λ e. any-words old (tell w) (λ s. one-place s r k l m .0 e) (λ n. subst (λ (u : List ℕ). seen u .reg r ≡ seen u .reg k) (one-kept n) e)),
+          λ e. any-words old (tell v) (λ s. one-place s r k l m .1 e) (λ n. subst (λ (u : List ℕ). seen u .reg r ≡ seen u .reg k) (sym (one-kept n)) e),
+        );
+    size = agree ℕ-discrete (λ x u. length u) (λ s. p .kept s .size ∙ sym (q .kept s .size));
+    header = λ h l e. agree ℕ-discrete (λ x u. headerOf u h) (λ s. one-header s h l e);
+    tally = agree ℕ-discrete (λ x u. headerOf u TALLY) (λ s. ap (λ (x : Book). x .tally) (one-book s));
+    rows = λ i h. record {
+      used = agree Bool-discrete (λ x u. seen u .rows .used i) (λ s. one-row s i h .used);
+      level = agree ℕ-discrete (λ x u. seen u .rows .level i) (λ s. one-row s i h .level);
+      low = agree ℕ-discrete (λ x u. seen u .rows .low i) (λ s. one-row s i h .low);
+      high = agree ℕ-discrete (λ x u. seen u .rows .high i) (λ s. one-row s i h .high);
+    };
+    swept = λ e i. agree Bool-discrete (λ x u. seen u .rows .used i) (λ s. one-used s e i);
+    spare = λ i l. agree ℕ-discrete (λ x u. cellOf (headerOf old ROWS) u i SPARE) (λ s. p .kept s .spare i l ∙ sym (q .kept s .spare i l));
+    beyond = λ k l. agree ℕ-discrete (λ x u. getD u k 0) (λ s. p .kept s .beyond k l ∙ sym (q .kept s .beyond k l));
+    all = λ l m. agree (List-discrete ℕ-discrete) (λ x u. u) (λ s. one-all s l m);
+    cleared = λ r e. agree (List-discrete ℕ-discrete) (λ x u. u) (λ s. one-clear s r e);
+  }
