@@ -1,7 +1,7 @@
 -- ONE ANSWER: on the same words a contract allows one answer, but for what document 01 frees. Two replies and two ends that it allows agree in all
 -- parts below, so whoever answers or leaves anything else does not meet it. Words need not be sound, nor is that decided. Assumes nothing.
 use mathlib.Core.Path.{_≡_, refl, sym, ap, ap₂, _∙_, subst, fun-ext}
-use mathlib.Core.Logic.{_↔_, by-cases}
+use mathlib.Core.Logic.{_↔_, _⊎_, inl, inr, ⊎-elim}
 use mathlib.Core.HLevel.{Discrete}
 use mathlib.Core.Bool.{Bool, true, false, _&&_, _||_, Bool-discrete}
 use mathlib.Core.List.{List, List-discrete}
@@ -11,6 +11,7 @@ use native.Mathlib.Omega.{arith}
 use native.Mathlib.Decide.{ℕ-discrete}
 use lib.Dec.{T, eqb}
 use lib.ListN.{length, getD}
+use Rattle.layout.specs.Refusals.{keepsAll}
 use Rattle.layout.specs.Places.{HEADER, ROWS, TALLY, SPARE, wordsFor}
 use Rattle.layout.specs.View.{headerOf, cellOf}
 use Rattle.diagram.specs.Rows.{Rows}
@@ -54,7 +55,7 @@ pub record OneAnswer (c : Call) (old v w : List ℕ) (y z : Reply) : Type 0 wher
   pub spare : (i : ℕ) → i < headerOf old ROWS → cellOf (headerOf old ROWS) v i SPARE ≡ cellOf (headerOf old ROWS) w i SPARE
   pub beyond : (p : ℕ) → wordsFor (headerOf old ROWS) ≤ p → getD v p 0 ≡ getD w p 0
   -- every word, where a check refuses and after clear
-  pub all : 1 ≤ y .number → y .number ≤ 7 → v ≡ w
+  pub all : T (keepsAll (y .number)) → v ≡ w
   pub cleared : (r : ℕ) → c ≡ clear r → v ≡ w
 
 -- ---- fresh, and a question
@@ -102,8 +103,8 @@ roots-by (clear r) y t = refl
 roots-by collect y t = refl
 
 -- clear is answered or refused with 3
-clear-few : (b : Book) (r : ℕ) → does b (clear r) .1 .number ≤ 7
-clear-few b r = range-cases (λ (d : Done). d .1 .number ≤ 7) r registers _ _ (λ l. omega arith) (λ l. omega arith)
+clear-few : (b : Book) (r : ℕ) → (does b (clear r) .1 .number ≡ 0) ⊎ (does b (clear r) .1 .number ≡ 3)
+clear-few b r = range-cases (λ (d : Done). (d .1 .number ≡ 0) ⊎ (d .1 .number ≡ 3)) r registers _ _ (λ l. inl refl) (λ l. inr refl)
 
 module _ (c : Call) {old v w : List ℕ} {y z : Reply} (p : CallPost c old v y) (q : CallPost c old w z) where
   abbrev b : Book
@@ -153,8 +154,8 @@ module _ (c : Call) {old v w : List ℕ} {y z : Reply} (p : CallPost c old v y) 
         let b = second .kept in
         record { used = a .used i h ∙ sym (b .used i k); level = a .level i h ∙ sym (b .level i k); low = a .low i h ∙ sym (b .low i k); high = a .high i h ∙ sym (b .high i k) }
 
-    one-all : 1 ≤ y .number → y .number ≤ 7 → v ≡ w
-    one-all l m = p .kept s .all l m ∙ sym (q .kept s .all (omega (arith, one-number)) (omega (arith, one-number)))
+    one-all : T (keepsAll (y .number)) → v ≡ w
+    one-all l = p .kept s .all l ∙ sym (q .kept s .all (subst (λ (k : ℕ). T (keepsAll k)) one-number l))
 
   one-used : SoundWords old → c ≡ collect → (i : ℕ) → seen v .rows .used i ≡ seen w .rows .used i
   one-used s e = collect-used b (subst (λ (x : Call). Serves b x (seen old) (seen v) y) e (first s)) (subst (λ (x : Call). Serves b x (seen old) (seen w) z) e (second s))
@@ -163,8 +164,12 @@ module _ (c : Call) {old v w : List ℕ} {y z : Reply} (p : CallPost c old v y) 
   one-clear s r e =
       let i = subst (λ (x : Call). CallPost x old v y) e p .kept s .exact in
       let j = subst (λ (x : Call). CallPost x old w z) e q .kept s .exact in
-      let few = subst (λ (x : Call). does b x .1 .number ≤ 7) (sym e) (clear-few b r) in
-      by-cases (ℕ-discrete (y .number) 0) (λ o. i o ∙ sym (j (sym (one-number s) ∙ o))) (λ n. one-all s (omega arith) (omega (arith, few, first s .agrees .number)))
+      let few = subst (λ (x : Call). (does b x .1 .number ≡ 0) ⊎ (does b x .1 .number ≡ 3)) (sym e) (clear-few b r) in
+      let told = first s .agrees .number in
+      ⊎-elim
+      (λ o. i (told ∙ o) ∙ sym (j (sym (one-number s) ∙ told ∙ o)))
+      (λ o. one-all s (subst (λ (k : ℕ). T (keepsAll k)) (sym (told ∙ o)) tt))
+      few
 
   pub call-one : OneAnswer c old v w y z
   call-one = record {
@@ -195,6 +200,6 @@ module _ (c : Call) {old v w : List ℕ} {y z : Reply} (p : CallPost c old v y) 
     swept = λ e i. agree Bool-discrete (λ x u. seen u .rows .used i) (λ s. one-used s e i);
     spare = λ i l. agree ℕ-discrete (λ x u. cellOf (headerOf old ROWS) u i SPARE) (λ s. p .kept s .spare i l ∙ sym (q .kept s .spare i l));
     beyond = λ k l. agree ℕ-discrete (λ x u. getD u k 0) (λ s. p .kept s .beyond k l ∙ sym (q .kept s .beyond k l));
-    all = λ l m. agree (List-discrete ℕ-discrete) (λ x u. u) (λ s. one-all s l m);
+    all = λ l. agree (List-discrete ℕ-discrete) (λ x u. u) (λ s. one-all s l);
     cleared = λ r e. agree (List-discrete ℕ-discrete) (λ x u. u) (λ s. one-clear s r e);
   }
