@@ -22,6 +22,15 @@ pub den-one : (f : ℕ) (rows : Rows) (v : Val) → den f rows 1 v ≡ true
 unfolding den
 den-one f rows v = ap not (denTo-constant f rows v)
 
+-- An arrow to the constant is constant.
+pub den-constant : (f : ℕ) (rows : Rows) (a : ℕ) → target a ≡ 0 → (v : Val) → den f rows a v ≡ marked a
+unfolding den
+den-constant f rows a e v = ap (λ k. turn (marked a) (denTo f rows k v)) e ∙ ap (turn (marked a)) (denTo-constant f rows v) ∙ plain (marked a)
+  where
+    plain : (b : Bool) → turn b false ≡ b
+    plain true = refl
+    plain false = refl
+
 -- A NOT on an arrow is NOT of what it denotes.
 pub den-carry : (f : ℕ) (rows : Rows) (b : Bool) (a : ℕ) (v : Val) → den f rows (carry b a) v ≡ turn b (den f rows a v)
 unfolding den
