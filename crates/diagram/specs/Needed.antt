@@ -10,7 +10,7 @@ use native.Mathlib.Omega.{arith}
 use lib.ListN.{length, length-map}
 use lib.Dec.{T}
 use Rattle.mucalculus.specs.Sets.{bitLists, bitLists-all, same, same-eq, same-refl, true-of}
-use Rattle.diagram.specs.Level.{Val, Fn, turn, turn-turn, turn-back, splice, splice-below, splice-above, Reads, CofactorOf, PartOf, part-trans, part-cofactor, Varies, varies-turn}
+use Rattle.diagram.specs.Level.{Val, Fn, turn, turn-turn, turn-back, turn-inj, splice, splice-below, splice-above, Reads, CofactorOf, PartOf, part-trans, part-cofactor, Varies, varies-turn}
 use Rattle.diagram.specs.Count.{NoDup, Within, nodup-length, upTo, mem-upTo}
 use Rattle.diagram.specs.Need.{val, fixLevels, cofactors, truthTable, has, among, insert, distinct, needed, need}
 
@@ -251,11 +251,14 @@ mixed-varies m {f} e =
     record { off = val x; on = val y; at-off = ex; at-on = ey }
 
 -- A cofactor reads no more levels.
-pub cofactor-reads : {m : ℕ} {f g : Fn} → Reads 0 m f → CofactorOf f g → Reads 0 m g
+cofactor-reads : {m : ℕ} {f g : Fn} → Reads 0 m f → CofactorOf f g → Reads 0 m g
 cofactor-reads r c v w h =
     c .same v ∙ r _ _ (λ l a b. by-cases (decLe (c .upto) l)
     (λ k. splice-above (c .upto) (c .fixed) v l k ∙ h l a b ∙ sym (splice-above (c .upto) (c .fixed) w l k))
     (λ k. splice-below (c .upto) (c .fixed) v l (omega arith) ∙ sym (splice-below (c .upto) (c .fixed) w l (omega arith)))) ∙ sym (c .same w)
+
+pub part-reads : {m : ℕ} {f g : Fn} → Reads 0 m f → PartOf f g → Reads 0 m g
+part-reads {g = g} r p v w h = turn-inj (p .turned) (g v) (g w) (cofactor-reads r (p .cofactor) v w h)
 
 -- To fix the first bits of u is to fix its levels.
 fixLevels-bitsOf : (k : ℕ) (u : Val) (f : Fn) (v : Val) → fixLevels (bitsOf k u) f v ≡ f (splice k u v)
