@@ -6,7 +6,7 @@ use Prim.Native.Nat.{ℕ, zero, suc, _+_, _≤_, _<_}
 use native.Mathlib.Decide.{decLt, ℕ-discrete}
 use native.Mathlib.Omega.{arith}
 use Rattle.diagram.specs.Level.{Val, turn, Reads, Varies, upd, upd-other, upd-unread}
-use Rattle.diagram.specs.Rows.{Rows, marked, target, Leads, row, carry, Arrow, levelOf, child, follow, den, WellFormed, row-leads, row-arrow, row-level, arrow-told, carry-marked, carry-inj, leads-used, leads-level}
+use Rattle.diagram.specs.Rows.{Rows, marked, target, Leads, row, carry, Arrow, levelOf, child, follow, den, WellFormed, row-arrow, arrow-told, carry-marked, carry-inj, leads-used, leads-level}
 use Rattle.diagram.specs.Den.{den-zero, den-one, den-reads, den-child, follow-arrow, follow-deeper}
 
 -- A valuation at which two arrows differ.

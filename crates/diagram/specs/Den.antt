@@ -5,7 +5,7 @@ use mathlib.Core.Bool.{Bool, true, false, cond, not}
 use Prim.Native.Nat.{ℕ, zero, suc, _+_, _≤_, _<_}
 use native.Mathlib.Omega.{arith}
 use Rattle.diagram.specs.Level.{Val, turn, turn-turn, Reads, reads-from, Splits, splits-turn, upd, upd-same, upd-unread}
-use Rattle.diagram.specs.Rows.{Rows, marked, target, Leads, row, flip, carry, Arrow, ArrowTo, levelOf, levelTo, child, follow, denTo, den, WellFormed, row-leads, row-plain, row-arrow, row-level, carry-target, carry-marked, leads-is, leads-level, leads-used, carry-arrow, carry-level}
+use Rattle.diagram.specs.Rows.{Rows, marked, target, Leads, row, flip, carry, Arrow, ArrowTo, levelOf, levelTo, child, follow, denTo, den, WellFormed, row-leads, row-plain, carry-target, carry-marked, leads-is, carry-arrow, carry-level}
 
 -- The constant is nothing.
 denTo-constant : (f : ℕ) (rows : Rows) (v : Val) → denTo f rows 0 v ≡ false

@@ -8,7 +8,7 @@ use mathlib.Core.List.{List·Memᴰ as Mem, List·Memᴰ·head as here, List·Me
 use Prim.Native.Nat.{ℕ, _≤_, _<_}
 use native.Mathlib.Omega.{arith}
 use lib.ListN.{length-map}
-use Rattle.diagram.specs.Level.{Val, Fn, turn, turn-back, Reads, CofactorOf, PartOf, part-same, Varies}
+use Rattle.diagram.specs.Level.{Val, Fn, Reads, CofactorOf, PartOf, part-same, Varies}
 use Rattle.diagram.specs.Rows.{Rows, row, carry, Arrow, den, WellFormed, row-arrow, carry-arrow}
 use Rattle.diagram.specs.Den.{den-carry}
 use Rattle.diagram.specs.Grow.{den-extends}

@@ -10,7 +10,7 @@ use native.Mathlib.Decide.{decLe}
 use native.Mathlib.Omega.{arith}
 use lib.ListN.{length, length-map}
 use Rattle.diagram.specs.Level.{Val, Fn, turn, turn-back, splice, splice-below, splice-above, Reads, reads-from, CofactorOf, PartOf, part-cofactor, part-trans, part-turned, Varies, varies-not, splits-low, splits-high}
-use Rattle.diagram.specs.Rows.{Rows, marked, target, Leads, row, carry, Arrow, ArrowTo, levelOf, levelTo, child, follow, den, WellFormed, row-leads, row-arrow, carry-target, carry-arrow, leads-used, leads-level}
+use Rattle.diagram.specs.Rows.{Rows, marked, target, Leads, row, carry, Arrow, ArrowTo, levelOf, levelTo, child, follow, den, WellFormed, row-arrow, carry-target, carry-arrow, leads-used, leads-level}
 use Rattle.diagram.specs.Den.{den-carry, den-leads, den-constant, den-reads, row-splits, follow-arrow, follow-deeper, den-chosen}
 use Rattle.diagram.specs.Canon.{canonical, row-varies}
 use Rattle.diagram.specs.Count.{NoDup, Within, nodup-same-length, nodup-map}

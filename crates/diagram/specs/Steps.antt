@@ -8,7 +8,7 @@ use native.Mathlib.Decide.{ℕ-discrete}
 use native.Mathlib.Omega.{arith}
 use lib.Dec.{eqb, eqb-refl, eqb→eq}
 use Rattle.diagram.specs.Level.{Val, Fn, upd, upd-same, upd-other, upd-unread, Reads, reads-from, Splits, T-true}
-use Rattle.diagram.specs.Rows.{Rows, marked, target, Leads, carry, Arrow, levelOf, follow, den, WellFormed, leads-used, leads-level}
+use Rattle.diagram.specs.Rows.{Rows, target, Leads, Arrow, levelOf, follow, den, WellFormed, leads-used, leads-level}
 use Rattle.diagram.specs.Den.{den-reads, follow-arrow, follow-deeper, arrow-splits}
 
 -- Level l itself: current bit p at level 2p, next bit p at 2p + 1.
