@@ -171,9 +171,12 @@ module _ {m N : ℕ} {rows : Rows} (wf : WellFormed m N rows) where
       → (i : ℕ) × Reach rows roots i × (rows .used i ≡ true) × (tab i ≡ class m f)
   cofactor-row roots a f ma w c y =
       let t = walk (Reached rows roots) (reached-follow rows roots) a f (reached-root rows roots a ma) w c in
-      let (i, e) = varying-row y (t .arrow) (target (t .arrow)) refl (t .same) in
-      (i, subst (ReachedTo rows roots) e (t .holds), leads-used rows (t .arrow) i e (t .is-arrow),
-      sym (class-turn m (marked (t .arrow)) (den m rows (row i)) (λ v. sym (t .same v) ∙ den-leads m rows (t .arrow) i e v)))
+      let (i, e) = varying-row y (t .arrow) (target (t .arrow)) refl (t .same) in (
+        i,
+        subst (ReachedTo rows roots) e (t .holds),
+        leads-used rows (t .arrow) i e (t .is-arrow),
+        sym (class-turn m (marked (t .arrow)) (den m rows (row i)) (λ v. sym (t .same v) ∙ den-leads m rows (t .arrow) i e v)),
+      )
 
   -- THE COUNT: the rows reachable from the roots are as many as what the roots denote needs.
   module _ (roots : List ℕ) (arrows : (a : ℕ) → Mem a roots → Arrow rows a) (is : List ℕ)
