@@ -1,17 +1,16 @@
 -- What is remembered, and that an entry is absent or right. Assumes nothing.
-use mathlib.Core.Path.{_≡_, refl, sym, _∙_, subst}
-use mathlib.Core.Bool.{Bool, true, false, cond, _&&_, _||_, Bool-discrete}
+use mathlib.Core.Path.{_≡_, sym, ap, _∙_, subst, subst₂}
+use mathlib.Core.Bool.{true, _&&_, Bool-discrete}
 use mathlib.Core.Logic.{_≢_, by-cases}
-use Prim.Native.Nat.{ℕ, zero, suc, _+_, _*_, _≤_, _<_}
+use Prim.Native.Nat.{ℕ, zero, suc, _+_, _*_, _/_, _%_, _≤_, _<_}
 use native.Mathlib.Omega.{arith}
-use lib.Dec.{ltb}
-use borrow.Author.Tests.{lt-ltb, le-ltb}
+use lib.Dec.{eqb}
 use Rattle.diagram.specs.Level.{Fn}
-use Rattle.diagram.specs.Rows.{Rows, row, Arrow, den, WellFormed, Extends}
+use Rattle.diagram.specs.Rows.{Rows, marked, Leads, row, carry, Arrow, den, WellFormed, Extends, leads-is, row-arrow, carry-arrow}
 use Rattle.diagram.specs.Canon.{not-true}
 use Rattle.diagram.specs.Grow.{arrow-extends}
 use Rattle.diagram.specs.Post.{Denotes}
-use Rattle.diagram.specs.Steps.{notF, twoF, shiftF, existsF}
+use Rattle.diagram.specs.Steps.{andF, shiftF, existsF}
 use Rattle.diagram.specs.Recur.{remembered}
 use Rattle.diagram.specs.Odd.{oddF, Covered}
 use Rattle.diagram.specs.OddLaws.{covered-extends}
@@ -21,49 +20,42 @@ use Rattle.soundness.specs.Used.{used, rowsOf}
 use Rattle.table.specs.Add.{Frame, Keys}
 use Rattle.table.specs.declared.Found.{Found}
 use Rattle.table.specs.declared.Found.the-variants as find
-use Rattle.memory.specs.declared.Op.{Op}
-use Rattle.memory.specs.declared.Op.the-variants as op
 
--- an operation on two bits
-abbrev pub bitOp : Op → Bool → Bool → Bool
-bitOp op.And = _&&_
-bitOp op.Or = _||_
-
--- the order of an entry's arrows: the lesser first for AND, the greater first for OR
-abbrev pub firstOf : Op → ℕ → ℕ → ℕ
-firstOf op.And lo hi = lo
-firstOf op.Or lo hi = hi
-
-abbrev pub secondOf : Op → ℕ → ℕ → ℕ
-secondOf op.And lo hi = hi
-secondOf op.Or lo hi = lo
-
--- so the order tells the operation
-abbrev pub pairOp : ℕ → ℕ → Bool → Bool → Bool
-pairOp x y p q = cond (ltb x y) (p && q) (p || q)
-
--- the key of EXISTS at every odd level
+-- the kinds of unary results: 1 SHIFT, 2 EXISTS at every odd level, 3 + x EXISTS at level x
 abbrev pub ODD : ℕ
-ODD = 3
+ODD = 2
 
--- what a row remembers, by its key: 1 NOT, 2 SHIFT, 3 EXISTS at every odd level, 4 + x EXISTS at level x
+abbrev pub KINDS : ℕ
+KINDS = 35
+
 abbrev pub unaryF : ℕ → Fn → Fn
 unaryF zero f = f
-unaryF (suc zero) f = notF f
-unaryF (suc (suc zero)) f = shiftF f
-unaryF (suc (suc (suc zero))) f = oddF f
-unaryF (suc (suc (suc (suc x)))) f = existsF x f
+unaryF (suc zero) f = shiftF f
+unaryF (suc (suc zero)) f = oddF f
+unaryF (suc (suc (suc x))) f = existsF x f
 
--- row i rightly remembers v; where it is of every odd level, the rows below have theirs too
-pub record Right (m : ℕ) (rows : Rows) (key i v : ℕ) : Type 0 where
-  pub answer : Denotes m rows v (unaryF key (den m rows (row i)))
-  pub covered : key ≡ ODD → Covered m rows (row i)
+-- a row remembers one result for one of its two arrows: the key has the kind and the arrow's mark
+abbrev pub keyOf : ℕ → ℕ → ℕ
+keyOf kind a = 2 * kind + a % 2
+
+-- the arrow that a key of row i is for
+abbrev pub arrowFor : ℕ → ℕ → ℕ
+arrowFor key i = carry (marked key) (row i)
+
+-- v is rightly remembered of arrow a; where it is of every odd level, what is followed from a has its own too
+pub record RightFor (m : ℕ) (rows : Rows) (kind a v : ℕ) : Type 0 where
+  pub answer : Denotes m rows v (unaryF kind (den m rows a))
+  pub covered : kind ≡ ODD → Covered m rows a
+
+-- row i rightly remembers v
+abbrev pub Right : ℕ → Rows → ℕ → ℕ → ℕ → Type 0
+Right m rows key i v = RightFor m rows (key / 2) (arrowFor key i) v
 
 -- the entry (x, y, r) is right
 pub record Entry (m : ℕ) (rows : Rows) (x y r : ℕ) : Type 0 where
   pub left : Arrow rows x
   pub right : Arrow rows y
-  pub answer : Denotes m rows r (twoF (pairOp x y) (den m rows x) (den m rows y))
+  pub answer : Denotes m rows r (andF (den m rows x) (den m rows y))
 
 -- the active slots have room, and at most half as many results were stored as there are active slots
 pub record Slots (W : View) : Type 0 where
@@ -99,37 +91,41 @@ held-entry g n h =
     let e = g .pairs (h .at) (h .active) (λ z. n (sym (h .first) ∙ z)) in
     rw (← h .first, ← h .second, h .value) e
 
-and-swap : (p q : Bool) → (p || q) ≡ (q || p)
-and-swap true true = refl
-and-swap true false = refl
-and-swap false true = refl
-and-swap false false = refl
-
--- the entry of an operation on a lesser and a greater arrow
-pub entry-op : {m : ℕ} {rows : Rows} {lo hi r : ℕ} (o : Op) → lo < hi → Entry m rows (firstOf o lo hi) (secondOf o lo hi) r
-    → Denotes m rows r (twoF (bitOp o) (den m rows lo) (den m rows hi))
-entry-op {lo = lo} {hi = hi} op.And l e = record { arrow = e .answer .arrow; same = λ v. e .answer .same v ∙ rw (lt-ltb lo hi l) }
-entry-op {m} {rows} {lo} {hi} op.Or l e = record { arrow = e .answer .arrow; same = λ v. e .answer .same v ∙ rw (le-ltb hi lo (omega arith)) (and-swap (den m rows hi v) (den m rows lo v)) }
-
-pub op-entry : {m : ℕ} {rows : Rows} {lo hi r : ℕ} (o : Op) → lo < hi → Arrow rows lo → Arrow rows hi
-    → Denotes m rows r (twoF (bitOp o) (den m rows lo) (den m rows hi)) → Entry m rows (firstOf o lo hi) (secondOf o lo hi) r
-op-entry {lo = lo} {hi = hi} op.And l a b d = record { left = a; right = b; answer = record { arrow = d .arrow; same = λ v. d .same v ∙ rw (lt-ltb lo hi l) } }
-op-entry {m} {rows} {lo} {hi} op.Or l a b d =
-    record { left = b; right = a; answer = record { arrow = d .arrow; same = λ v. d .same v ∙ rw (le-ltb hi lo (omega arith)) (and-swap (den m rows lo v) (den m rows hi v)) } }
-
 pub row-right : {m : ℕ} {W : View} {i key v : ℕ} → Remembers m W → used W i ≡ true → key ≢ 0 → (W .cell i MEMO-KEY ≡ key) × (v ≡ W .cell i MEMO-VALUE)
     → Right m (rowsOf W) key i v
 row-right {m} {W} {i} {key} {v} g u n (a, b) =
     subst (λ (k : ℕ). Right m (rowsOf W) k i v) a (subst (λ (x : ℕ). Right m (rowsOf W) (W .cell i MEMO-KEY) i x) (sym b) (g .singles i u (λ z. n (sym a ∙ z))))
 
+-- what the key of a kind for an arrow a to row i is for
+key-kind : (kind a : ℕ) → keyOf kind a / 2 ≡ kind
+key-kind kind a = omega arith
+
+key-arrow : (kind a i : ℕ) → Leads a i → arrowFor (keyOf kind a) i ≡ a
+key-arrow kind a i e =
+    let q : keyOf kind a % 2 ≡ a % 2 = omega arith in
+    ap (λ (x : ℕ). carry (eqb x 1) (row i)) q ∙ sym (leads-is a i e)
+
+pub right-for : {m : ℕ} {rows : Rows} {v : ℕ} (kind a i : ℕ) → Leads a i → Right m rows (keyOf kind a) i v → RightFor m rows kind a v
+right-for {m} {rows} {v} kind a i e d = subst₂ (λ (k b : ℕ). RightFor m rows k b v) (key-kind kind a) (key-arrow kind a i e) d
+
+pub for-right : {m : ℕ} {rows : Rows} {v : ℕ} (kind a i : ℕ) → Leads a i → RightFor m rows kind a v → Right m rows (keyOf kind a) i v
+for-right {m} {rows} {v} kind a i e d = subst₂ (λ (k b : ℕ). RightFor m rows k b v) (sym (key-kind kind a)) (sym (key-arrow kind a i e)) d
+
+-- what is recalled for an arrow is right
+pub arrow-right : {m : ℕ} {W : View} {i v : ℕ} (kind a : ℕ) → Remembers m W → used W i ≡ true → kind ≢ 0 → Leads a i
+    → (W .cell i MEMO-KEY ≡ keyOf kind a) × (v ≡ W .cell i MEMO-VALUE) → RightFor m (rowsOf W) kind a v
+arrow-right {i = i} kind a g u n e h = right-for kind a i e (row-right g u (λ z. n (omega (arith, z))) h)
+
 -- entries stay right while rows are only added
 pub entry-extends : {m N : ℕ} {old new : Rows} {x y r : ℕ} → WellFormed m N old → Extends old new → Entry m old x y r → Entry m new x y r
 entry-extends {x = x} {y = y} {r = r} wf e d =
-    record { left = arrow-extends e x (d .left); right = arrow-extends e y (d .right); answer = remembered (twoF (pairOp x y)) x y r wf e (d .left) (d .right) (d .answer) }
+    record { left = arrow-extends e x (d .left); right = arrow-extends e y (d .right); answer = remembered andF x y r wf e (d .left) (d .right) (d .answer) }
 
 right-extends : {m N : ℕ} {old new : Rows} {r : ℕ} (key i : ℕ) → WellFormed m N old → Extends old new → old .used i ≡ true → Right m old key i r → Right m new key i r
-right-extends {r = r} key i wf e u d =
-    record { answer = remembered (λ f g. unaryF key f) (row i) (row i) r wf e u u (d .answer); covered = λ z. covered-extends {a = row i} wf e u (d .covered z) }
+right-extends {old = old} {r = r} key i wf e u d =
+    let a : ℕ = arrowFor key i in
+    let w : Arrow old a = carry-arrow old (marked key) (row i) (row-arrow old i u) in
+    record { answer = remembered (λ f g. unaryF (key / 2) f) a a r wf e w w (d .answer); covered = λ z. covered-extends {a = a} wf e w (d .covered z) }
 
 -- so what is remembered is right in the larger table
 pub remembers-extends : {m N : ℕ} {W X : View} → WellFormed m N (rowsOf W) → Extends (rowsOf W) (rowsOf X) → Frame W X → Keys W X → Remembers m W → Remembers m X

@@ -17,7 +17,7 @@ ghost use Rattle.layout.specs.View.{view, headerOf, listOf};
 ghost use Rattle.soundness.specs.Checks.{Room};
 ghost use Rattle.soundness.specs.Sound.{Good};
 ghost use Rattle.table.specs.Code.{madeOf};
-ghost use Rattle.memory.specs.Memo.{firstOf, secondOf, Slots, RecallPost, RowPost};
+ghost use Rattle.memory.specs.Memo.{KINDS, keyOf, Slots, RecallPost, RowPost};
 ghost use Rattle.memory.specs.Store.{Emptied, Fewer, Wrote, RememberPost, keepRow};
 ghost use Rattle.memory.specs.Forget.{FirstSlots, RowsForgot, Forgot};
 
@@ -33,38 +33,14 @@ impl Memory {
     // The number of active slots starts near this and twice the used rows.
     pub const FEWEST: u32 = 256;
 
-    // What a row remembers: nothing, NOT, SHIFT, EXISTS at every odd level, or EXISTS at level 0 and so on.
+    // What a row remembers: nothing, or of one of its two arrows SHIFT, EXISTS at every odd level, or EXISTS at level 0 and so on.
     pub const NOTHING: u32 = 0;
 
-    pub const NOT: u32 = 1;
+    pub const SHIFT: u32 = 1;
 
-    pub const SHIFT: u32 = 2;
+    pub const ODD: u32 = 2;
 
-    pub const ODD: u32 = 3;
-
-    pub const EXISTS: u32 = 4;
-}
-
-// The operations on two arrows.
-pub enum Op {
-    And,
-    Or,
-}
-
-// Two arrows in the order of an entry: the lesser first for AND, the greater first for OR.
-pub struct Pair {
-    pub x: u32,
-    pub y: u32,
-}
-
-// The order in which an operation on a lesser and a greater arrow is remembered.
-fn pair_of(op: Op, lo: u32, hi: u32) -> Pair
-    ensures { λ r. ⌜ (r .x ≡ firstOf op lo hi) × (r .y ≡ secondOf op lo hi) ⌝ }
-{
-    match op {
-        Op::And => Pair { x: lo, y: hi },
-        Op::Or => Pair { x: hi, y: lo },
-    }
+    pub const EXISTS: u32 = 3;
 }
 
 // The slot of a pair among the active ones, a power of two: a multiplicative hash under a mask.
@@ -77,21 +53,20 @@ fn slot_of(slots: u32, x: u32, y: u32) -> u32
     ((a + b) / 32768 & ((slots - 1) as u64)) as u32
 }
 
-// What is remembered of an operation on a lesser and a greater arrow.
-pub fn recall(words: &[u32], rows: u32, op: Op, lo: u32, hi: u32) -> Found
+// What is remembered of AND of two arrows.
+pub fn recall(words: &[u32], rows: u32, lo: u32, hi: u32) -> Found
     requires { ⌜ Room (view rows (now words)) × Slots (view rows (now words)) ⌝ }
-    ensures { λ r. ⌜ RecallPost (view rows (now (words .entry))) (firstOf op lo hi) (secondOf op lo hi) r ⌝ }
+    ensures { λ r. ⌜ RecallPost (view rows (now (words .entry))) lo hi r ⌝ }
 {
     let slots = header_word(words, Table::SLOTS);
     if slots == 0 {
         return Found::Nothing;
     }
-    let p = pair_of(op, lo, hi);
-    let at = Memory::ENTRY * slot_of(slots, p.x, p.y);
-    if slot(words, rows, at) != p.x {
+    let at = Memory::ENTRY * slot_of(slots, lo, hi);
+    if slot(words, rows, at) != lo {
         return Found::Nothing;
     }
-    if slot(words, rows, at + 1) != p.y {
+    if slot(words, rows, at + 1) != hi {
         return Found::Nothing;
     }
     Found::At(slot(words, rows, at + 2))
@@ -151,38 +126,47 @@ fn write_entry(words: &mut [u32], rows: u32, x: u32, y: u32, r: u32)
     put_slot(words, rows, at + 2, r);
 }
 
-// Remembers what an operation on a lesser and a greater arrow gives, if it was made.
-pub fn remember(words: &mut [u32], rows: u32, op: Op, lo: u32, hi: u32, r: u32)
+// Remembers what AND of two arrows gives, if it was made.
+pub fn remember(words: &mut [u32], rows: u32, lo: u32, hi: u32, r: u32)
     requires { ⌜ Room (view rows (now words)) × Slots (view rows (now words)) ⌝ }
-    ensures { λ _. ⌜ RememberPost (view rows (now (words .entry))) (view rows (now (words .exit))) (firstOf op lo hi) (secondOf op lo hi) (madeOf r) ⌝ }
+    ensures { λ _. ⌜ RememberPost (view rows (now (words .entry))) (view rows (now (words .exit))) lo hi (madeOf r) ⌝ }
 {
     if r == Code::FULL {
         return;
     }
     count_stored(words, rows);
-    let p = pair_of(op, lo, hi);
-    write_entry(words, rows, p.x, p.y, r);
+    write_entry(words, rows, lo, hi, r);
 }
 
-// What row i remembers, if it is a result of this kind.
-pub fn recall_row(words: &[u32], rows: u32, i: u32, key: u32) -> Found
-    requires { ⌜ (i < rows) × (wordsFor rows ≤ length (now words)) ⌝ }
-    ensures { λ r. ⌜ RowPost (view rows (now (words .entry))) i key r ⌝ }
+// The key of a result of a kind for an arrow: the mark tells which of the row's two arrows it is for.
+fn key_of(kind: u32, a: u32) -> u32
+    requires { ⌜ kind < KINDS ⌝ }
+    ensures { λ r. ⌜ r ≡ keyOf kind a ⌝ }
 {
+    2 * kind + a % 2
+}
+
+// What row i remembers, if it is a result of this kind for arrow a.
+pub fn recall_row(words: &[u32], rows: u32, a: u32, i: u32, kind: u32) -> Found
+    requires { ⌜ (i < rows) × (wordsFor rows ≤ length (now words)) × (kind < KINDS) ⌝ }
+    ensures { λ r. ⌜ RowPost (view rows (now (words .entry))) i (keyOf kind a) r ⌝ }
+{
+    let key = key_of(kind, a);
     if get(words, rows, i, Table::MEMO_KEY) != key {
         return Found::Nothing;
     }
     Found::At(get(words, rows, i, Table::MEMO_VALUE))
 }
 
-// Row i remembers a result of this kind, if it was made.
-pub fn remember_row(words: &mut [u32], rows: u32, i: u32, key: u32, r: u32)
-    requires { ⌜ (i < rows) × (wordsFor rows ≤ length (now words)) ⌝ }
-    ensures { λ _. ⌜ view rows (now (words .exit)) ≡ keepRow (view rows (now (words .entry))) i key (madeOf r) ⌝ }
+// Row i remembers a result of this kind for arrow a, if it was made.
+pub fn remember_row(words: &mut [u32], rows: u32, a: u32, i: u32, kind: u32, r: u32)
+    requires { ⌜ (i < rows) × (wordsFor rows ≤ length (now words)) × (kind < KINDS) ⌝ }
+    ensures { λ _. ⌜ view rows (now (words .exit)) ≡ keepRow (view rows (now (words .entry))) i (keyOf kind a) (madeOf r) ⌝ }
 {
     if r == Code::FULL {
         return;
     }
+    let key = key_of(kind, a);
     put(words, rows, i, Table::MEMO_KEY, key);
     put(words, rows, i, Table::MEMO_VALUE, r);
 }

@@ -7,4 +7,5 @@ use Rattle.memory.proofs.remember_row.Statement.{statement}
 use Rattle.memory.proofs.remember_row.Tie as tie
 
 pub remember-row-spec : {M : Type 1} → statement M
-remember-row-spec = tie.close (tie.spec (λ c. rw (code-is _ (c .if1 .taken)) refl) (λ c κs. search needs) (λ c κs. search needs) (λ c. search needs) (λ c. kept-by _ _ _ _ (code-at _ (c .before .before .before .before .before .before .before .before .if1 .left)) (c .before .before .before .before .before .before .put .ensures) (c .before .before .put2 .ensures)))
+remember-row-spec =
+    tie.close (tie.spec (λ c. rw (code-is _ (c .if1 .taken)) refl) (λ c κs. search needs) (λ c κs. search needs) (λ c κs. search needs) (λ c. search needs) (λ c. kept-by _ _ _ _ (code-at _ (c .before .before .before .before .before .before .before .before .before .if1 .left)) (rw (c .before .before .before .before .before .before .before .before .key-of .ensures) at (c .before .before .before .before .before .before .put .ensures)) (c .before .before .put2 .ensures)))
