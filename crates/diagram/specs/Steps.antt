@@ -7,7 +7,7 @@ use Prim.Native.Nat.{ℕ, zero, suc, _≤_, _<_}
 use native.Mathlib.Decide.{ℕ-discrete}
 use native.Mathlib.Omega.{arith}
 use lib.Dec.{eqb, eqb-refl, eqb→eq}
-use Rattle.diagram.specs.Level.{Val, Fn, upd, upd-same, upd-other, upd-unread, Reads, reads-from, Splits, T-true}
+use Rattle.diagram.specs.Level.{Val, Fn, upd, upd-same, upd-other, upd-unread, Reads, reads-from, Splits, T-true, T-false}
 use Rattle.diagram.specs.Rows.{Rows, target, Leads, Arrow, levelOf, follow, den, WellFormed, leads-used, leads-level}
 use Rattle.diagram.specs.Den.{den-reads, follow-arrow, follow-deeper, arrow-splits}
 
@@ -135,6 +135,24 @@ lowAt rows l a = sideTo rows l a false (target a)
 
 unfoldable pub highAt : Rows → ℕ → ℕ → ℕ
 highAt rows l a = sideTo rows l a true (target a)
+
+-- What they are of an arrow to row i: at the row's level, and at another.
+module _ (rows : Rows) (l a i : ℕ) (e : Leads a i) where
+  pub low-here : rows .level i ≡ l → lowAt rows l a ≡ follow rows a i false
+  unfolding lowAt
+  low-here q = ap (sideTo rows l a false) e ∙ rw (T-true (eqb (rows .level i) l) (rw q (eqb-refl l)))
+
+  pub high-here : rows .level i ≡ l → highAt rows l a ≡ follow rows a i true
+  unfolding highAt
+  high-here q = ap (sideTo rows l a true) e ∙ rw (T-true (eqb (rows .level i) l) (rw q (eqb-refl l)))
+
+  pub low-past : rows .level i ≢ l → lowAt rows l a ≡ a
+  unfolding lowAt
+  low-past n = ap (sideTo rows l a false) e ∙ rw (T-false (eqb (rows .level i) l) (λ t. n (eqb→eq (rows .level i) l t)))
+
+  pub high-past : rows .level i ≢ l → highAt rows l a ≡ a
+  unfolding highAt
+  high-past n = ap (sideTo rows l a true) e ∙ rw (T-false (eqb (rows .level i) l) (λ t. n (eqb→eq (rows .level i) l t)))
 
 module _ {m N : ℕ} {rows : Rows} (wf : WellFormed m N rows) where
   -- An arrow that leads further splits into itself twice.
