@@ -144,8 +144,8 @@ listing =
     ∷ 0x00 ∷ 0x0F ∷ 0x01 ∷ 0x03 ∷ 0x00 ∷ 0x00 ∷ 0x00 ∷ 0x00 ∷ 0x03 ∷ 0x00 ∷ 0x06 ∷ 0x01 ∷ 0x70 ∷ 0x04 ∷ 0x10 ∷ 0x68 ∷ 0x30
     ∷ 0x00 ∷ 0x02 ∷ 0x01 ∷ 0x06 ∷ []
 
--- and its output: 1 0 0 0 / 2 0 0 0 / 3 0 2 3 / 6 0 3 0 / end ok
-pub example : roomrules listing ≡ fields 1 0 0 0 ∷ fields 2 0 0 0 ∷ fields 3 0 2 3 ∷ fields 6 0 3 0 ∷ endOk ∷ []
+-- and its output: 1 0 0 0 / 2 0 0 0 / 3 0 2 3 / 6 0 2 0 / end ok
+pub example : roomrules listing ≡ fields 1 0 0 0 ∷ fields 2 0 0 0 ∷ fields 3 0 2 3 ∷ fields 6 0 2 0 ∷ endOk ∷ []
 unfolding computing
 example = refl
 
