@@ -24,7 +24,11 @@ fn literal_count(n: u32, functions: &[Vec<bool>]) -> usize {
         }
     }
     found.retain(|table| table.contains(&true) && table.contains(&false));
-    found.len()
+    let complement = |table: &Vec<bool>| -> Vec<bool> { table.iter().map(|value| !value).collect() };
+    let paired = (found.iter())
+        .filter(|table| found.contains(&complement(table)))
+        .count();
+    found.len() - paired / 2
 }
 
 /// States now and next of an index whose bit l is the value of level l.
