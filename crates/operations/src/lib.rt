@@ -223,14 +223,7 @@ fn and_part(words: &mut [u32], rows: u32, levels: u32, limit: u32, a: u32, b: u3
 }
 
 // AND of a lesser and a greater arrow to rows.
-fn and_rows(
-    words: &mut [u32],
-    rows: u32,
-    levels: u32,
-    limit: u32,
-    lo: u32,
-    hi: u32,
-) -> u32
+fn and_rows(words: &mut [u32], rows: u32, levels: u32, limit: u32, lo: u32, hi: u32) -> u32
     requires { ⌜ Ready levels rows limit (view rows (now words)) × Arrow (rowsOf (view rows (now words))) lo × Arrow (rowsOf (view rows (now words))) hi × BothRows lo hi ⌝ }
     ensures { λ r. ⌜ Worked levels rows limit (view rows (now (words .entry))) (view rows (now (words .exit))) (madeOf r) (andF (den levels (rowsOf (view rows (now (words .entry)))) lo) (den levels (rowsOf (view rows (now (words .entry)))) hi)) ⌝ }
 {
