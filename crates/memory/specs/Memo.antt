@@ -1,6 +1,6 @@
 -- What is remembered, and that an entry is absent or right. Assumes nothing.
 use mathlib.Core.Path.{_≡_, sym, ap, _∙_, subst, subst₂}
-use mathlib.Core.Bool.{true, _&&_, Bool-discrete}
+use mathlib.Core.Bool.{Bool, true, false, Bool-discrete}
 use mathlib.Core.Logic.{_≢_, by-cases}
 use Prim.Native.Nat.{ℕ, zero, suc, _+_, _*_, _/_, _%_, _≤_, _<_}
 use native.Mathlib.Omega.{arith}
@@ -34,22 +34,27 @@ unaryF (suc zero) f = shiftF f
 unaryF (suc (suc zero)) f = oddF f
 unaryF (suc (suc (suc x))) f = existsF x f
 
--- a row remembers one result for one of its two arrows: the key has the kind and the arrow's mark
-abbrev pub keyOf : ℕ → ℕ → ℕ
-keyOf kind a = 2 * kind + a % 2
+-- a bound of arrows
+abbrev pub MOST : ℕ
+MOST = 131072
 
--- the arrow that a key of row i is for
-abbrev pub arrowFor : ℕ → ℕ → ℕ
-arrowFor key i = carry (marked key) (row i)
+-- a row's key has the kind as its remainder by 64, and one more than the answer for the arrow with a NOT as the rest; the row's value is one more
+-- than the answer for the arrow without: 0 where there is none
+abbrev pub kindIn : ℕ → ℕ
+kindIn key = key % 64
+
+abbrev pub held : Bool → ℕ → ℕ → ℕ
+held false key value = value
+held true key value = key / 64
 
 -- v is rightly remembered of arrow a; where it is of every odd level, what is followed from a has its own too
 pub record RightFor (m : ℕ) (rows : Rows) (kind a v : ℕ) : Type 0 where
   pub answer : Denotes m rows v (unaryF kind (den m rows a))
   pub covered : kind ≡ ODD → Covered m rows a
 
--- row i rightly remembers v
-abbrev pub Right : ℕ → Rows → ℕ → ℕ → ℕ → Type 0
-Right m rows key i v = RightFor m rows (key / 2) (arrowFor key i) v
+-- what row i remembers by a key and a value is right
+pub record Right (m : ℕ) (rows : Rows) (i key value : ℕ) : Type 0 where
+  pub each : kindIn key ≢ 0 → (b : Bool) (v : ℕ) → held b key value ≡ suc v → RightFor m rows (kindIn key) (carry b (row i)) v
 
 -- the entry (x, y, r) is right
 pub record Entry (m : ℕ) (rows : Rows) (x y r : ℕ) : Type 0 where
@@ -66,7 +71,7 @@ pub record Slots (W : View) : Type 0 where
 pub record Remembers (m : ℕ) (W : View) : Type 0 where
   pub sizes : Slots W
   pub pairs : (s : ℕ) → s < W .header SLOTS → W .slot (3 * s) ≢ 0 → Entry m (rowsOf W) (W .slot (3 * s)) (W .slot (3 * s + 1)) (W .slot (3 * s + 2))
-  pub singles : (i : ℕ) → used W i ≡ true → W .cell i MEMO-KEY ≢ 0 → Right m (rowsOf W) (W .cell i MEMO-KEY) i (W .cell i MEMO-VALUE)
+  pub singles : (i : ℕ) → used W i ≡ true → Right m (rowsOf W) i (W .cell i MEMO-KEY) (W .cell i MEMO-VALUE)
 
 -- an active slot holds (x, y, v)
 pub record Held (W : View) (x y v : ℕ) : Type 0 where
@@ -76,14 +81,14 @@ pub record Held (W : View) (x y v : ℕ) : Type 0 where
   pub second : W .slot (3 * at + 1) ≡ y
   pub value : v ≡ W .slot (3 * at + 2)
 
--- what recalling says of a pair, and of row i and a key
+-- what recalling says of a pair, and of row i, an arrow to it and a kind
 abbrev pub RecallPost : View → ℕ → ℕ → Found → Type 0
 RecallPost W x y (find.At v) = Held W x y v
 RecallPost W x y find.Nothing = Unit {0}
 
-abbrev pub RowPost : View → ℕ → ℕ → Found → Type 0
-RowPost W i key (find.At v) = (W .cell i MEMO-KEY ≡ key) × (v ≡ W .cell i MEMO-VALUE)
-RowPost W i key find.Nothing = Unit {0}
+abbrev pub RowPost : View → ℕ → ℕ → ℕ → Found → Type 0
+RowPost W a i kind (find.At v) = (kindIn (W .cell i MEMO-KEY) ≡ kind) × (held (marked a) (W .cell i MEMO-KEY) (W .cell i MEMO-VALUE) ≡ suc v)
+RowPost W a i kind find.Nothing = Unit {0}
 
 -- what is recalled is right
 pub held-entry : {m : ℕ} {W : View} {x y v : ℕ} → Remembers m W → x ≢ 0 → Held W x y v → Entry m (rowsOf W) x y v
@@ -91,50 +96,33 @@ held-entry g n h =
     let e = g .pairs (h .at) (h .active) (λ z. n (sym (h .first) ∙ z)) in
     rw (← h .first, ← h .second, h .value) e
 
-pub row-right : {m : ℕ} {W : View} {i key v : ℕ} → Remembers m W → used W i ≡ true → key ≢ 0 → (W .cell i MEMO-KEY ≡ key) × (v ≡ W .cell i MEMO-VALUE)
-    → Right m (rowsOf W) key i v
-row-right {m} {W} {i} {key} {v} g u n (a, b) =
-    subst (λ (k : ℕ). Right m (rowsOf W) k i v) a (subst (λ (x : ℕ). Right m (rowsOf W) (W .cell i MEMO-KEY) i x) (sym b) (g .singles i u (λ z. n (sym a ∙ z))))
-
--- what the key of a kind for an arrow a to row i is for
-key-kind : (kind a : ℕ) → keyOf kind a / 2 ≡ kind
-key-kind kind a = omega arith
-
-key-arrow : (kind a i : ℕ) → Leads a i → arrowFor (keyOf kind a) i ≡ a
-key-arrow kind a i e =
-    let q : keyOf kind a % 2 ≡ a % 2 = omega arith in
-    ap (λ (x : ℕ). carry (eqb x 1) (row i)) q ∙ sym (leads-is a i e)
-
-pub right-for : {m : ℕ} {rows : Rows} {v : ℕ} (kind a i : ℕ) → Leads a i → Right m rows (keyOf kind a) i v → RightFor m rows kind a v
-right-for {m} {rows} {v} kind a i e d = subst₂ (λ (k b : ℕ). RightFor m rows k b v) (key-kind kind a) (key-arrow kind a i e) d
-
-pub for-right : {m : ℕ} {rows : Rows} {v : ℕ} (kind a i : ℕ) → Leads a i → RightFor m rows kind a v → Right m rows (keyOf kind a) i v
-for-right {m} {rows} {v} kind a i e d = subst₂ (λ (k b : ℕ). RightFor m rows k b v) (sym (key-kind kind a)) (sym (key-arrow kind a i e)) d
-
--- what is recalled for an arrow is right
+-- what is recalled for an arrow to row i is right
 pub arrow-right : {m : ℕ} {W : View} {i v : ℕ} (kind a : ℕ) → Remembers m W → used W i ≡ true → kind ≢ 0 → Leads a i
-    → (W .cell i MEMO-KEY ≡ keyOf kind a) × (v ≡ W .cell i MEMO-VALUE) → RightFor m (rowsOf W) kind a v
-arrow-right {i = i} kind a g u n e h = right-for kind a i e (row-right g u (λ z. n (omega (arith, z))) h)
+    → (kindIn (W .cell i MEMO-KEY) ≡ kind) × (held (marked a) (W .cell i MEMO-KEY) (W .cell i MEMO-VALUE) ≡ suc v) → RightFor m (rowsOf W) kind a v
+arrow-right {m} {W} {i} {v} kind a g u n e (p, q) =
+    subst₂ (λ (k b : ℕ). RightFor m (rowsOf W) k b v) p (sym (leads-is a i e)) (g .singles i u .each (λ z. n (sym p ∙ z)) (marked a) v q)
 
 -- entries stay right while rows are only added
 pub entry-extends : {m N : ℕ} {old new : Rows} {x y r : ℕ} → WellFormed m N old → Extends old new → Entry m old x y r → Entry m new x y r
 entry-extends {x = x} {y = y} {r = r} wf e d =
     record { left = arrow-extends e x (d .left); right = arrow-extends e y (d .right); answer = remembered andF x y r wf e (d .left) (d .right) (d .answer) }
 
-right-extends : {m N : ℕ} {old new : Rows} {r : ℕ} (key i : ℕ) → WellFormed m N old → Extends old new → old .used i ≡ true → Right m old key i r → Right m new key i r
-right-extends {old = old} {r = r} key i wf e u d =
-    let a : ℕ = arrowFor key i in
-    let w : Arrow old a = carry-arrow old (marked key) (row i) (row-arrow old i u) in
-    record { answer = remembered (λ f g. unaryF (key / 2) f) a a r wf e w w (d .answer); covered = λ z. covered-extends {a = a} wf e w (d .covered z) }
+for-extends : {m N : ℕ} {old new : Rows} {kind a r : ℕ} → WellFormed m N old → Extends old new → Arrow old a → RightFor m old kind a r → RightFor m new kind a r
+for-extends {kind = kind} {a = a} {r = r} wf e w d =
+    record { answer = remembered (λ f g. unaryF kind f) a a r wf e w w (d .answer); covered = λ z. covered-extends {a = a} wf e w (d .covered z) }
+
+right-extends : {m N : ℕ} {old new : Rows} {key value : ℕ} (i : ℕ) → WellFormed m N old → Extends old new → old .used i ≡ true → Right m old i key value → Right m new i key value
+right-extends {old = old} i wf e u d =
+    record { each = λ n b v q. for-extends wf e (carry-arrow old b (row i) (row-arrow old i u)) (d .each n b v q) }
 
 -- so what is remembered is right in the larger table
 pub remembers-extends : {m N : ℕ} {W X : View} → WellFormed m N (rowsOf W) → Extends (rowsOf W) (rowsOf X) → Frame W X → Keys W X → Remembers m W → Remembers m X
 remembers-extends {m} {W = W} {X = X} wf e f k g = record {
   sizes = record { room = rw (hs, f .rows) (g .sizes .room); few = rw (ht, hs) (g .sizes .few) };
   pairs = λ s l n. slots (X .slot) (f .slot) s (rw hs at l) n;
-  singles = λ i u n. by-cases (Bool-discrete (used W i) true)
-      (λ w. rows i w (sym (k .kept i w)) (sym (f .memo i MEMO-VALUE (omega arith))) n)
-      (λ w. absurd (n (k .fresh i (not-true _ w) u)));
+  singles = λ i u. by-cases (Bool-discrete (used W i) true)
+      (λ w. rows i w (sym (k .kept i w)) (sym (f .memo i MEMO-VALUE (omega arith))))
+      (λ w. record { each = λ n b v q. absurd (n (let z = k .fresh i (not-true _ w) u in omega (arith, z))) });
 }
   where
     hs : X .header SLOTS ≡ W .header SLOTS
@@ -146,5 +134,6 @@ remembers-extends {m} {W = W} {X = X} wf e f k g = record {
     slots : (t : ℕ → ℕ) → t ≡ W .slot → (s : ℕ) → s < W .header SLOTS → t (3 * s) ≢ 0 → Entry m (rowsOf X) (t (3 * s)) (t (3 * s + 1)) (t (3 * s + 2))
     slots t q s l = subst (λ (t : ℕ → ℕ). t (3 * s) ≢ 0 → Entry m (rowsOf X) (t (3 * s)) (t (3 * s + 1)) (t (3 * s + 2))) (sym q) (λ n. entry-extends wf e (g .pairs s l n))
 
-    rows : {key v : ℕ} (i : ℕ) → used W i ≡ true → W .cell i MEMO-KEY ≡ key → W .cell i MEMO-VALUE ≡ v → key ≢ 0 → Right m (rowsOf X) key i v
-    rows {key} {v} i u a b n = right-extends key i wf e u (row-right g u n (a, sym b))
+    rows : {key v : ℕ} (i : ℕ) → used W i ≡ true → W .cell i MEMO-KEY ≡ key → W .cell i MEMO-VALUE ≡ v → Right m (rowsOf X) i key v
+    rows {key} {v} i u a b =
+        subst₂ (λ (x y : ℕ). Right m (rowsOf X) i x y) a b (right-extends i wf e u (g .singles i u))

@@ -2,6 +2,7 @@
 use layout::Table;
 use layout::get;
 use layout::header_word;
+use layout::is_marked;
 use layout::listed;
 use layout::put;
 use layout::put_header;
@@ -12,13 +13,14 @@ use table::Found;
 ghost use mathlib.Core.Path.{_≡_};
 ghost use Prim.Native.Nat.{ℕ, _*_, _<_, _≤_};
 ghost use lib.ListN.{length};
+ghost use Rattle.layout.specs.Arrows.{isMarked};
 ghost use Rattle.layout.specs.Places.{SLOTS, wordsFor};
 ghost use Rattle.layout.specs.View.{view, headerOf, listOf};
 ghost use Rattle.soundness.specs.Checks.{Room};
 ghost use Rattle.soundness.specs.Sound.{Good};
 ghost use Rattle.table.specs.Code.{madeOf};
-ghost use Rattle.memory.specs.Memo.{KINDS, keyOf, Slots, RecallPost, RowPost};
-ghost use Rattle.memory.specs.Store.{Emptied, Fewer, Wrote, RememberPost, keepRow};
+ghost use Rattle.memory.specs.Memo.{KINDS, MOST, held, Slots, RecallPost, RowPost};
+ghost use Rattle.memory.specs.Store.{Emptied, Fewer, Wrote, RememberPost, newKey, newValue, keepRow};
 ghost use Rattle.memory.specs.Forget.{FirstSlots, RowsForgot, Forgot};
 
 // What is fixed of remembered results.
@@ -33,7 +35,7 @@ impl Memory {
     // The number of active slots starts near this and twice the used rows.
     pub const FEWEST: u32 = 256;
 
-    // What a row remembers: nothing, or of one of its two arrows SHIFT, EXISTS at every odd level, or EXISTS at level 0 and so on.
+    // What a row remembers: nothing, or of each of its two arrows SHIFT, EXISTS at every odd level, or EXISTS at level 0 and so on.
     pub const NOTHING: u32 = 0;
 
     pub const SHIFT: u32 = 1;
@@ -41,6 +43,12 @@ impl Memory {
     pub const ODD: u32 = 2;
 
     pub const EXISTS: u32 = 3;
+
+    // The kind is the remainder of a row's key by this.
+    pub const KIND_ROOM: u32 = 64;
+
+    // A bound of arrows.
+    pub const MOST: u32 = 131072;
 }
 
 // The slot of a pair among the active ones, a power of two: a multiplicative hash under a mask.
@@ -138,37 +146,72 @@ pub fn remember(words: &mut [u32], rows: u32, lo: u32, hi: u32, r: u32)
     write_entry(words, rows, lo, hi, r);
 }
 
-// The key of a result of a kind for an arrow: the mark tells which of the row's two arrows it is for.
-fn key_of(kind: u32, a: u32) -> u32
-    requires { ⌜ kind < KINDS ⌝ }
-    ensures { λ r. ⌜ r ≡ keyOf kind a ⌝ }
+// Where the answer for an arrow stands, one more than it, or 0 where there is none: in the rest of the key for one with a NOT.
+fn held_for(a: u32, key: u32, value: u32) -> u32
+    ensures { λ r. ⌜ r ≡ held (isMarked a) key value ⌝ }
 {
-    2 * kind + a % 2
+    if is_marked(a) {
+        return key / Memory::KIND_ROOM;
+    }
+    value
 }
 
 // What row i remembers, if it is a result of this kind for arrow a.
 pub fn recall_row(words: &[u32], rows: u32, a: u32, i: u32, kind: u32) -> Found
     requires { ⌜ (i < rows) × (wordsFor rows ≤ length (now words)) × (kind < KINDS) ⌝ }
-    ensures { λ r. ⌜ RowPost (view rows (now (words .entry))) i (keyOf kind a) r ⌝ }
+    ensures { λ r. ⌜ RowPost (view rows (now (words .entry))) a i kind r ⌝ }
 {
-    let key = key_of(kind, a);
-    if get(words, rows, i, Table::MEMO_KEY) != key {
+    let key = get(words, rows, i, Table::MEMO_KEY);
+    if key % Memory::KIND_ROOM != kind {
         return Found::Nothing;
     }
-    Found::At(get(words, rows, i, Table::MEMO_VALUE))
+    let word = held_for(a, key, get(words, rows, i, Table::MEMO_VALUE));
+    if word == 0 {
+        return Found::Nothing;
+    }
+    Found::At(word - 1)
 }
 
-// Row i remembers a result of this kind for arrow a, if it was made.
+// The key after a result of a kind for arrow a is stored: a result of that kind for the other arrow stays.
+fn key_after(a: u32, kind: u32, r: u32, key: u32) -> u32
+    requires { ⌜ (kind < KINDS) × (r < MOST) ⌝ }
+    ensures { λ k. ⌜ k ≡ newKey (isMarked a) kind r key ⌝ }
+{
+    if is_marked(a) {
+        return kind + Memory::KIND_ROOM * (r + 1);
+    }
+    if key % Memory::KIND_ROOM == kind {
+        return key;
+    }
+    kind
+}
+
+// The value after it.
+fn value_after(a: u32, kind: u32, r: u32, key: u32, value: u32) -> u32
+    requires { ⌜ r < MOST ⌝ }
+    ensures { λ v. ⌜ v ≡ newValue (isMarked a) kind r key value ⌝ }
+{
+    if !is_marked(a) {
+        return r + 1;
+    }
+    if key % Memory::KIND_ROOM == kind {
+        return value;
+    }
+    0
+}
+
+// Row i remembers a result of this kind for arrow a, if it was made: FULL is above every arrow.
 pub fn remember_row(words: &mut [u32], rows: u32, a: u32, i: u32, kind: u32, r: u32)
     requires { ⌜ (i < rows) × (wordsFor rows ≤ length (now words)) × (kind < KINDS) ⌝ }
-    ensures { λ _. ⌜ view rows (now (words .exit)) ≡ keepRow (view rows (now (words .entry))) i (keyOf kind a) (madeOf r) ⌝ }
+    ensures { λ _. ⌜ view rows (now (words .exit)) ≡ keepRow (view rows (now (words .entry))) a i kind r ⌝ }
 {
-    if r == Code::FULL {
+    if r >= Memory::MOST {
         return;
     }
-    let key = key_of(kind, a);
-    put(words, rows, i, Table::MEMO_KEY, key);
-    put(words, rows, i, Table::MEMO_VALUE, r);
+    let key = get(words, rows, i, Table::MEMO_KEY);
+    let value = get(words, rows, i, Table::MEMO_VALUE);
+    put(words, rows, i, Table::MEMO_KEY, key_after(a, kind, r, key));
+    put(words, rows, i, Table::MEMO_VALUE, value_after(a, kind, r, key, value));
 }
 
 // How many slots are active at first: a power of two near 256 and twice the used rows, and none where not one entry fits.

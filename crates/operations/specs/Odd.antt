@@ -27,7 +27,7 @@ use Rattle.table.specs.declared.Made.the-variants as answer
 use Rattle.table.specs.declared.Found.{Found}
 use Rattle.table.specs.declared.Found.the-variants as find
 use Rattle.memory.specs.Frame.{MemoFrame, rows-same, memo-alike}
-use Rattle.memory.specs.Memo.{ODD, keyOf, Right, RightFor, Remembers, RowPost, arrow-right, for-right}
+use Rattle.memory.specs.Memo.{ODD, RightFor, Remembers, RowPost, arrow-right}
 use Rattle.memory.specs.Store.{keepRow, keepRow-frame, RightRow, remembers-row}
 use Rattle.operations.specs.Work.{OpFrame, op-refl, op-trans, op-memo, Ready, Worked, ready-wf, ready-frame, make-pre, making, worked-made, worked-cong}
 use Rattle.operations.specs.Open.{RowAt, Opened}
@@ -77,7 +77,7 @@ odd-constant {m} {W} a h = record {
 }
 
 -- what row i remembers for a
-pub odd-remembered : {m N limit : ℕ} {W : View} {a i : ℕ} {f : Found} → Ready m N limit W → RowAt (rowsOf W) a i → isRow a ≡ true → RowPost W i (keyOf ODD a) f → OddKnown m W a f
+pub odd-remembered : {m N limit : ℕ} {W : View} {a i : ℕ} {f : Found} → Ready m N limit W → RowAt (rowsOf W) a i → isRow a ≡ true → RowPost W a i ODD f → OddKnown m W a f
 odd-remembered {m} {W = W} {a = a} {i = i} {f = f} r o h p = record {
   at = λ v e. right v e .answer;
   covered = λ v e. right v e .covered refl;
@@ -188,22 +188,22 @@ module _ {m N limit : ℕ} {W : View} {a i l lo hi : ℕ} (r : Ready m N limit W
             let kh = covered-extends {a = hi} (ready-wf ready₂) (w .post .kept) (arrow-extends (both .kept) hi (o .parts .high-arrow)) (p₂ .covered n₂) in
             covered-row {b = c} (o .at .leads) (own n) (subst (Covered m (rowsOf X₃)) (sym el) kl) (subst (Covered m (rowsOf X₃)) (sym eh) kh)
 
-        right : (t : Made) → madeOf c ≡ t → RightRow m (rowsOf X₃) i (keyOf ODD a) t
+        right : (t : Made) → madeOf c ≡ t → RightRow m (rowsOf X₃) a ODD t
         right (answer.At v) e = full-or (ℕ-discrete c FULL) v e
           where
-            full-or : Dec (c ≡ FULL) → (v : ℕ) → madeOf c ≡ answer.At v → Right m (rowsOf X₃) (keyOf ODD a) i v
+            full-or : Dec (c ≡ FULL) → (v : ℕ) → madeOf c ≡ answer.At v → RightFor m (rowsOf X₃) ODD a v
             full-or (yes q) v z = absurd (let y : answer.Full ≡ answer.At v = sym (code-is c q) ∙ z in let k : _≡_ {A = ℕ} 0 1 = cc in omega arith)
             full-or (no n) v z =
                 let y : answer.At c ≡ answer.At v = sym (code-at c n) ∙ z in
                 let k : c ≡ v = cc in
-                subst (Right m (rowsOf X₃) (keyOf ODD a) i) k (for-right ODD a i (o .at .leads) (record { answer = own n; covered = λ q. cover n }))
+                subst (RightFor m (rowsOf X₃) ODD a) k (record { answer = own n; covered = λ q. cover n })
         right answer.Full e = tt
 
-        pub odd-kept : {Y : View} → Y ≡ keepRow X₃ i (keyOf ODD a) (madeOf c) → OddPost m W Y a c
+        pub odd-kept : {Y : View} → Y ≡ keepRow X₃ a i ODD c → OddPost m W Y a c
         odd-kept {Y} e = subst (λ (Z : View). OddPost m W Z a c) (sym e) (record {
           grown = record {
             good = alike-good (memo-alike f) (w .good);
-            memory = remembers-row X₃ i (keyOf ODD a) (madeOf c) (w .memory) (right (madeOf c) refl);
+            memory = remembers-row X₃ a i ODD c (omega arith) (o .at .leads) (w .memory) (right (madeOf c) refl);
             frame = op-trans (whole .frame) (op-memo f);
             kept = subst (Extends (rowsOf W)) (sym (rows-same f)) (whole .kept);
           };
@@ -211,5 +211,5 @@ module _ {m N limit : ℕ} {W : View} {a i l lo hi : ℕ} (r : Ready m N limit W
           covered = λ n. subst (λ (t : Rows). Covered m t a) (sym (rows-same f)) (cover n);
         })
           where
-            f : MemoFrame X₃ (keepRow X₃ i (keyOf ODD a) (madeOf c))
-            f = keepRow-frame X₃ i (keyOf ODD a) (madeOf c)
+            f : MemoFrame X₃ (keepRow X₃ a i ODD c)
+            f = keepRow-frame X₃ a i ODD c

@@ -17,11 +17,12 @@ use Rattle.diagram.specs.Recur.{Divides, exists-divides, shift-divides, exists-
 use Rattle.layout.specs.View.{View}
 use Rattle.layout.specs.Arrows.{isRow, no-row-leads}
 use Rattle.soundness.specs.Used.{used, rowsOf}
+use Rattle.table.specs.Code.{madeOf}
 use Rattle.table.specs.declared.Made.{Made}
 use Rattle.table.specs.declared.Made.the-variants as answer
 use Rattle.table.specs.declared.Found.{Found}
 use Rattle.table.specs.declared.Found.the-variants as find
-use Rattle.memory.specs.Memo.{ODD, unaryF, keyOf, RowPost, arrow-right, for-right}
+use Rattle.memory.specs.Memo.{ODD, KINDS, unaryF, RowPost, arrow-right}
 use Rattle.memory.specs.Store.{keepRow, keepRow-frame, RightRow, remembers-row}
 use Rattle.operations.specs.Work.{Ready, Known, Worked, known-at, ready-wf, worked-kept}
 use Rattle.operations.specs.Open.{RowAt, Opened}
@@ -50,7 +51,7 @@ module _ {m N : ℕ} {W : View} {R : Type 0} (r : Ready m N 0 W) where
   exists-past x a u q e h = exists-deeper x a u (subst (λ (k : ℕ). x < k) (e ∙ sym (leads-level m (rowsOf W) a _ (q .leads))) h)
 
   -- what row i remembers for a
-  pub row-known : {a i : ℕ} {f : Found} (kind : ℕ) → kind ≢ 0 → RowAt (rowsOf W) a i → R → RowPost W i (keyOf kind a) f → Known m W f (unaryF kind (den m (rowsOf W) a)) R
+  pub row-known : {a i : ℕ} {f : Found} (kind : ℕ) → kind ≢ 0 → RowAt (rowsOf W) a i → R → RowPost W a i kind f → Known m W f (unaryF kind (den m (rowsOf W) a)) R
   row-known {a} kind n o x p = record {
     at = λ v e. arrow-right kind a (r .memory) (o .used) n (o .leads) (rw e at p) .answer;
     none = λ e. x;
@@ -58,18 +59,17 @@ module _ {m N : ℕ} {W : View} {R : Type 0} (r : Ready m N 0 W) where
 
 module _ {m N limit : ℕ} {W : View} (r : Ready m N limit W) where
   -- the result is remembered by the operand's row
-  pub row-kept : {X Y : View} {o : Made} {a i : ℕ} (kind : ℕ) → kind ≢ ODD → RowAt (rowsOf W) a i → Worked m N limit W X o (unaryF kind (den m (rowsOf W) a))
-      → Y ≡ keepRow X i (keyOf kind a) o → Worked m N limit W Y o (unaryF kind (den m (rowsOf W) a))
-  row-kept {X} {o = o} {a = a} {i = i} kind n p w e =
-      subst (λ (v : View). Worked m N limit W v o (unaryF kind (den m (rowsOf W) a))) (sym e)
-      (worked-kept w (keepRow-frame X i (keyOf kind a) o) (remembers-row X i (keyOf kind a) o (w .memory) (right o w)))
+  pub row-kept : {X Y : View} {a i c : ℕ} (kind : ℕ) → kind ≢ ODD → kind < KINDS → RowAt (rowsOf W) a i → Worked m N limit W X (madeOf c) (unaryF kind (den m (rowsOf W) a))
+      → Y ≡ keepRow X a i kind c → Worked m N limit W Y (madeOf c) (unaryF kind (den m (rowsOf W) a))
+  row-kept {X} {a = a} {i = i} {c = c} kind n l p w e =
+      subst (λ (v : View). Worked m N limit W v (madeOf c) (unaryF kind (den m (rowsOf W) a))) (sym e)
+      (worked-kept w (keepRow-frame X a i kind c) (remembers-row X a i kind c (omega (arith, l)) (p .leads) (w .memory) (right (madeOf c) w)))
     where
-      right : (t : Made) → Worked m N limit W X t (unaryF kind (den m (rowsOf W) a)) → RightRow m (rowsOf X) i (keyOf kind a) t
+      right : (t : Made) → Worked m N limit W X t (unaryF kind (den m (rowsOf W) a)) → RightRow m (rowsOf X) a kind t
       right (answer.At v) q =
           let u = leads-arrow (rowsOf W) a i (p .leads) (p .used) in
           let e : den m (rowsOf W) a ≡ den m (rowsOf X) a = fun-ext (λ x. sym (den-extends (q .post .kept) (ready-wf r) m a u x)) in
-          for-right kind a i (p .leads)
-          (record { answer = subst (λ (f : Fn). Denotes m (rowsOf X) v (unaryF kind f)) e (q .post .result); covered = λ z. absurd (n z) })
+          record { answer = subst (λ (f : Fn). Denotes m (rowsOf X) v (unaryF kind f)) e (q .post .result); covered = λ z. absurd (n z) }
       right answer.Full q = tt
 
 -- what the two calls compute
@@ -100,13 +100,13 @@ module _ {m N limit : ℕ} {W : View} {a i l lo hi : ℕ} (r : Ready m N limit W
 pub exists-kind : (x : ℕ) (f : Fn) → unaryF (3 + x) f ≡ existsF x f
 exists-kind x f = let e : 3 + x ≡ suc (suc (suc x)) = omega arith in rw e
 
-pub exists-known : {m N : ℕ} {W : View} {a i : ℕ} {f : Found} {R : Type 0} (x : ℕ) → Ready m N 0 W → RowAt (rowsOf W) a i → R → RowPost W i (keyOf (3 + x) a) f
+pub exists-known : {m N : ℕ} {W : View} {a i : ℕ} {f : Found} {R : Type 0} (x : ℕ) → Ready m N 0 W → RowAt (rowsOf W) a i → R → RowPost W a i (3 + x) f
     → Known m W f (existsF x (den m (rowsOf W) a)) R
 exists-known {m} {W = W} {a = a} {f = f} {R = R} x r q y p = subst (λ (g : Fn). Known m W f g R) (exists-kind x (den m (rowsOf W) a)) (row-known r (3 + x) (omega arith) q y p)
 
 module _ {m N limit : ℕ} {W : View} {a i : ℕ} (r : Ready m N limit W) (x : ℕ) (q : RowAt (rowsOf W) a i) where
-  pub exists-kept : {X Y : View} {o : Made} → Worked m N limit W X o (existsF x (den m (rowsOf W) a)) → Y ≡ keepRow X i (keyOf (3 + x) a) o
-      → Worked m N limit W Y o (existsF x (den m (rowsOf W) a))
-  exists-kept {X} {Y} {o} w e =
+  pub exists-kept : {X Y : View} {c : ℕ} → x < 32 → Worked m N limit W X (madeOf c) (existsF x (den m (rowsOf W) a)) → Y ≡ keepRow X a i (3 + x) c
+      → Worked m N limit W Y (madeOf c) (existsF x (den m (rowsOf W) a))
+  exists-kept {X} {Y} {c} l w e =
       let k = exists-kind x (den m (rowsOf W) a) in
-      subst (λ (f : Fn). Worked m N limit W Y o f) k (row-kept r (3 + x) (omega arith) q (subst (λ (f : Fn). Worked m N limit W X o f) (sym k) w) e)
+      subst (λ (f : Fn). Worked m N limit W Y (madeOf c) f) k (row-kept r (3 + x) (omega arith) (omega (arith, l)) q (subst (λ (f : Fn). Worked m N limit W X (madeOf c) f) (sym k) w) e)
