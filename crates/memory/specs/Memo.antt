@@ -1,10 +1,9 @@
 -- What is remembered, and that an entry is absent or right. Assumes nothing.
-use mathlib.Core.Path.{_≡_, sym, ap, _∙_, subst, subst₂}
+use mathlib.Core.Path.{_≡_, sym, _∙_, subst, subst₂}
 use mathlib.Core.Bool.{Bool, true, false, Bool-discrete}
 use mathlib.Core.Logic.{_≢_, by-cases}
 use Prim.Native.Nat.{ℕ, zero, suc, _+_, _*_, _/_, _%_, _≤_, _<_}
 use native.Mathlib.Omega.{arith}
-use lib.Dec.{eqb}
 use Rattle.diagram.specs.Level.{Fn}
 use Rattle.diagram.specs.Rows.{Rows, marked, Leads, row, carry, Arrow, den, WellFormed, Extends, leads-is, row-arrow, carry-arrow}
 use Rattle.diagram.specs.Canon.{not-true}

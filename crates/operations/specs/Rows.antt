@@ -1,8 +1,8 @@
 -- SHIFT and EXISTS, by rows: what is known at once, what two calls make, and what a row remembers. Assumes nothing.
-use mathlib.Core.Path.{_≡_, refl, sym, ap, _∙_, subst, fun-ext}
+use mathlib.Core.Path.{_≡_, sym, _∙_, subst, fun-ext}
 use mathlib.Core.Bool.{true, false}
 use mathlib.Core.Logic.{_≢_}
-use Prim.Native.Nat.{ℕ, zero, suc, _+_, _-_, _%_, _<_}
+use Prim.Native.Nat.{ℕ, suc, _+_, _%_, _<_}
 use native.Mathlib.Omega.{arith}
 use native.Mathlib.Numerals.{add-one}
 use borrow.Author.Tests.{eq-eqb}
@@ -59,9 +59,9 @@ module _ {m N : ℕ} {W : View} {R : Type 0} (r : Ready m N 0 W) where
 
 module _ {m N limit : ℕ} {W : View} (r : Ready m N limit W) where
   -- the result is remembered by the operand's row
-  pub row-kept : {X Y : View} {a i c : ℕ} (kind : ℕ) → kind ≢ ODD → kind < KINDS → RowAt (rowsOf W) a i → Worked m N limit W X (madeOf c) (unaryF kind (den m (rowsOf W) a))
+  pub row-kept : {X Y : View} {a i : ℕ} (kind c : ℕ) → kind ≢ ODD → kind < KINDS → RowAt (rowsOf W) a i → Worked m N limit W X (madeOf c) (unaryF kind (den m (rowsOf W) a))
       → Y ≡ keepRow X a i kind c → Worked m N limit W Y (madeOf c) (unaryF kind (den m (rowsOf W) a))
-  row-kept {X} {a = a} {i = i} {c = c} kind n l p w e =
+  row-kept {X} {a = a} {i = i} kind c n l p w e =
       subst (λ (v : View). Worked m N limit W v (madeOf c) (unaryF kind (den m (rowsOf W) a))) (sym e)
       (worked-kept w (keepRow-frame X a i kind c) (remembers-row X a i kind c (omega (arith, l)) (p .leads) (w .memory) (right (madeOf c) w)))
     where
@@ -105,8 +105,8 @@ pub exists-known : {m N : ℕ} {W : View} {a i : ℕ} {f : Found} {R : Type 0} (
 exists-known {m} {W = W} {a = a} {f = f} {R = R} x r q y p = subst (λ (g : Fn). Known m W f g R) (exists-kind x (den m (rowsOf W) a)) (row-known r (3 + x) (omega arith) q y p)
 
 module _ {m N limit : ℕ} {W : View} {a i : ℕ} (r : Ready m N limit W) (x : ℕ) (q : RowAt (rowsOf W) a i) where
-  pub exists-kept : {X Y : View} {c : ℕ} → x < 32 → Worked m N limit W X (madeOf c) (existsF x (den m (rowsOf W) a)) → Y ≡ keepRow X a i (3 + x) c
+  pub exists-kept : {X Y : View} (c : ℕ) → x < 32 → Worked m N limit W X (madeOf c) (existsF x (den m (rowsOf W) a)) → Y ≡ keepRow X a i (3 + x) c
       → Worked m N limit W Y (madeOf c) (existsF x (den m (rowsOf W) a))
-  exists-kept {X} {Y} {c} l w e =
+  exists-kept {X} {Y} c l w e =
       let k = exists-kind x (den m (rowsOf W) a) in
-      subst (λ (f : Fn). Worked m N limit W Y (madeOf c) f) k (row-kept r (3 + x) (omega arith) (omega (arith, l)) q (subst (λ (f : Fn). Worked m N limit W X (madeOf c) f) (sym k) w) e)
+      subst (λ (f : Fn). Worked m N limit W Y (madeOf c) f) k (row-kept r (3 + x) c (omega arith) (omega (arith, l)) q (subst (λ (f : Fn). Worked m N limit W X (madeOf c) f) (sym k) w) e)
