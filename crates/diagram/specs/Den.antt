@@ -69,10 +69,6 @@ module _ {m N : ℕ} {rows : Rows} (wf : WellFormed m N rows) where
       let el = denTo-fuel f g (target (rows .low i)) (o .low-arrow) (omega arith) (omega arith) v in
       cc (eh, el)
 
-  pub den-fuel : (f g a : ℕ) → Arrow rows a → m ≤ levelOf m rows a + f → m ≤ levelOf m rows a + g → (v : Val) → den f rows a v ≡ den g rows a v
-  unfolding den
-  den-fuel f g a u hf hg v = ap (turn (marked a)) (denTo-fuel f g (target a) u hf hg v)
-
   -- An arrow reads only levels from its own on.
   denTo-reads : (f k : ℕ) → ArrowTo rows k → Reads (levelTo m rows k) m (denTo f rows k)
   unfolding denTo

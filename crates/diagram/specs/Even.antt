@@ -29,7 +29,7 @@ cofactor-readsOn r c v w h =
     (λ k. splice-above (c .upto) (c .fixed) v l k ∙ h l p ∙ sym (splice-above (c .upto) (c .fixed) w l k))
     (λ k. splice-below (c .upto) (c .fixed) v l (omega arith) ∙ sym (splice-below (c .upto) (c .fixed) w l (omega arith)))) ∙ sym (c .same w)
 
-pub part-readsOn : {P : ℕ → Bool} {f g : Fn} → ReadsOn P f → PartOf f g → ReadsOn P g
+part-readsOn : {P : ℕ → Bool} {f g : Fn} → ReadsOn P f → PartOf f g → ReadsOn P g
 part-readsOn {g = g} r p v w h = turn-inj (p .turned) (g v) (g w) (cofactor-readsOn r (p .cofactor) v w h)
 
 module _ {m N : ℕ} {rows : Rows} (wf : WellFormed m N rows) (P : ℕ → Bool) where

@@ -10,7 +10,7 @@ use native.Mathlib.Omega.{arith}
 use lib.ListN.{length, length-map}
 use lib.Dec.{T}
 use Rattle.mucalculus.specs.Sets.{bitLists, bitLists-all, same, same-eq, same-refl, true-of}
-use Rattle.diagram.specs.Level.{Val, Fn, turn, turn-turn, turn-back, turn-inj, splice, splice-below, splice-above, Reads, CofactorOf, PartOf, part-trans, part-cofactor, Varies, varies-turn}
+use Rattle.diagram.specs.Level.{Val, Fn, turn, turn-turn, turn-back, turn-inj, splice, splice-below, splice-above, Reads, CofactorOf, PartOf, Varies, varies-turn}
 use Rattle.diagram.specs.Count.{NoDup, Within, nodup-length, upTo, mem-upTo}
 use Rattle.diagram.specs.Need.{val, fixLevels, cofactors, truthTable, has, among, insert, distinct, needed, need}
 
@@ -57,12 +57,12 @@ at-bits : {m : ℕ} {f : Fn} → Reads 0 m f → (v : Val) → f (val (bitsOf m 
 at-bits {m} r v = r _ _ (λ l _ h. val-bitsOf m v l h)
 
 -- Two functions of m levels with one table are the same function.
-pub truthTable-inj : {m : ℕ} {f g : Fn} → Reads 0 m f → Reads 0 m g → truthTable m f ≡ truthTable m g → (v : Val) → f v ≡ g v
+truthTable-inj : {m : ℕ} {f g : Fn} → Reads 0 m f → Reads 0 m g → truthTable m f ≡ truthTable m g → (v : Val) → f v ≡ g v
 unfolding truthTable
 truthTable-inj {m} {f} {g} rf rg e v =
     sym (at-bits rf v) ∙ map-same (λ bits. f (val bits)) (λ bits. g (val bits)) (bitLists m) e (mem-bitsOf m v) ∙ at-bits rg v
 
-pub truthTable-cong : (m : ℕ) {f g : Fn} → ((v : Val) → f v ≡ g v) → truthTable m f ≡ truthTable m g
+truthTable-cong : (m : ℕ) {f g : Fn} → ((v : Val) → f v ≡ g v) → truthTable m f ≡ truthTable m g
 truthTable-cong m e = ap (truthTable m) (fun-ext e)
 
 -- The class of a table: the one of it and its complement that begins with 0.
@@ -359,12 +359,3 @@ need-same m fs gs p q =
     let a = need-mono m fs gs p in
     let b = need-mono m gs fs q in
     omega arith
-
--- Functions that are parts of others need no more rows than those.
-pub need-parts : (m : ℕ) (fs gs : List Fn) → ((f : Fn) → Mem f fs → (g : Fn) × Mem g gs × Reads 0 m g × PartOf g f) → need m fs ≤ need m gs
-need-parts m fs gs w =
-    need-classes m fs gs
-    (λ t h.
-    let s = needed-source m fs t h in
-    let (g, mg, r, c) = w (s .of) (s .listed) in
-    mem-cast (sym (s .told)) (mem-needed gs mg r (part-trans c (part-cofactor (s .cofactor))) (s .varies)))

@@ -1,17 +1,17 @@
 -- The recursive steps meet the side conditions of `compose`: which two calls and which level make AND, SHIFT and EXISTS. NOT is no call, and
 -- OR is NOT of AND. Assumes nothing.
-use mathlib.Core.Path.{_≡_, refl, sym, ap, _∙_, subst₂, fun-ext}
-use mathlib.Core.Bool.{Bool, true, false, not, _&&_, _||_, true≢false}
+use mathlib.Core.Path.{_≡_, sym, ap, _∙_, subst₂, fun-ext}
+use mathlib.Core.Bool.{Bool, true, false, true≢false}
 use mathlib.Core.Logic.{_≢_}
 use Prim.Native.Nat.{ℕ, zero, suc, _<_, _%_}
 use native.Mathlib.Omega.{arith}
 use lib.Dec.{eqb→eq}
 use Rattle.diagram.specs.Level.{Val, Fn, T-false, upd, Splits, Reads, reads-from, splits-low, splits-high}
-use Rattle.diagram.specs.Rows.{Rows, Leads, flip, Arrow, levelOf, follow, den, WellFormed, Extends}
-use Rattle.diagram.specs.Den.{den-zero, den-one, den-flip, den-reads, arrow-splits, follow-arrow}
+use Rattle.diagram.specs.Rows.{Rows, Leads, Arrow, levelOf, follow, den, WellFormed, Extends}
+use Rattle.diagram.specs.Den.{den-zero, den-one, den-reads, arrow-splits, follow-arrow}
 use Rattle.diagram.specs.Grow.{den-extends}
-use Rattle.diagram.specs.Post.{Result, at, flipped, Denotes, OpPost, Making, Run, denotes-extends, denotes-flip, post-arrow, post-make, post-cong, post-flip, compose}
-use Rattle.diagram.specs.Steps.{bitF, bit-splits, exists-past, shift-reads, notF, twoF, andF, orF, shiftF, existsF, two-splits, shift-splits, exists-splits, exists-here, Parts}
+use Rattle.diagram.specs.Post.{Result, at, Denotes, OpPost, Making, Run, denotes-extends, post-arrow, post-make, post-cong, compose}
+use Rattle.diagram.specs.Steps.{bitF, bit-splits, exists-past, shift-reads, twoF, orF, shiftF, existsF, two-splits, shift-splits, exists-splits, exists-here, Parts}
 use Rattle.diagram.specs.Even.{ReadsOn, even, cofactor-readsOn, row-level-read, even-reads}
 
 -- Where no call is made: the answer is an arrow that is there already.
@@ -27,10 +27,6 @@ module _ {m N : ℕ} {rows : Rows} (wf : WellFormed m N rows) where
 
   pub answer-same : {limit : ℕ} (a : ℕ) (F : Fn) → Arrow rows a → ((v : Val) → F v ≡ den m rows a v) → OpPost m N limit rows rows (at a) F
   answer-same a F u e = answer-arrow a F u (λ v. sym (e v))
-
-  -- NOT of an arrow is the arrow with the other mark, and makes no row.
-  pub answer-not : {limit : ℕ} (a : ℕ) → Arrow rows a → OpPost m N limit rows rows (at (flip a)) (notF (den m rows a))
-  answer-not a u = post-arrow wf (denotes-flip (record { arrow = u; same = λ v. refl }))
 
   -- EXISTS at a level less than the arrow's.
   pub exists-leaf : {limit : ℕ} (x a : ℕ) → Arrow rows a → x < levelOf m rows a → OpPost m N limit rows rows (at a) (existsF x (den m rows a))
@@ -85,22 +81,6 @@ module _ {m N l a x y : ℕ} {before : Rows} (wf : WellFormed m N before) (lm : 
         let q = den-extends e wf m y (s .high-arrow) (upd v k true) in
         cc (p, q);
   }
-
--- OR is NOT of AND of the two with the other mark.
-pub or-and : {m N limit : ℕ} {before after : Rows} {answer : Result} (a b : ℕ)
-    → OpPost m N limit before after answer (andF (den m before (flip a)) (den m before (flip b)))
-    → OpPost m N limit before after (flipped answer) (orF (den m before a) (den m before b))
-or-and {m} {before = before} a b p =
-    post-cong (λ v.
-    let x = den-flip m before a v in
-    let y = den-flip m before b v in
-    let d = morgan (den m before a v) (den m before b v) in
-    cc (x, y, d)) (post-flip p)
-  where
-    morgan : (x y : Bool) → not (not x && not y) ≡ (x || y)
-    morgan true y = refl
-    morgan false true = refl
-    morgan false false = refl
 
 -- EXISTS at the level of the parts is OR of them.
 pub exists-or : {m N limit l a x y : ℕ} {before after : Rows} {answer : Result} → Parts m before l a x y

@@ -119,7 +119,7 @@ pub record Adds (old new : Rows) (i l a b : ℕ) : Type 0 where
 pub marked-odd : (a : ℕ) → marked a ≡ true → a % 2 ≡ 1
 marked-odd a e = eqb→eq (a % 2) 1 (rw e tt)
 
-pub odd-marked : (a : ℕ) → a % 2 ≡ 1 → marked a ≡ true
+odd-marked : (a : ℕ) → a % 2 ≡ 1 → marked a ≡ true
 odd-marked a e = rw e (T-true (eqb 1 1) (eqb-refl 1))
 
 pub marked-even : (a : ℕ) → marked a ≡ false → a % 2 ≡ 0
@@ -146,13 +146,13 @@ arrow-told a b e q = by-mark (marked a) refl
     by-mark false m = let x = marked-even a m in let y = marked-even b (sym q ∙ m) in omega arith
 
 -- NOT of an arrow leads to the same place, with the other mark, and NOT twice is nothing.
-pub flip-target : (a : ℕ) → target (flip a) ≡ target a
+flip-target : (a : ℕ) → target (flip a) ≡ target a
 flip-target a = omega arith
 
-pub flip-flip : (a : ℕ) → flip (flip a) ≡ a
+flip-flip : (a : ℕ) → flip (flip a) ≡ a
 flip-flip a = omega arith
 
-pub flip-marked : (a : ℕ) → marked (flip a) ≡ not (marked a)
+flip-marked : (a : ℕ) → marked (flip a) ≡ not (marked a)
 flip-marked a = by-mark (marked a) refl
   where
     by-mark : (c : Bool) → marked a ≡ c → marked (flip a) ≡ not (marked a)
@@ -167,7 +167,7 @@ pub carry-marked : (b : Bool) (a : ℕ) → marked (carry b a) ≡ turn b (marke
 carry-marked false a = refl
 carry-marked true a = flip-marked a
 
-pub carry-back : (b : Bool) (a : ℕ) → carry b (carry b a) ≡ a
+carry-back : (b : Bool) (a : ℕ) → carry b (carry b a) ≡ a
 carry-back false a = refl
 carry-back true a = flip-flip a
 
@@ -201,9 +201,6 @@ module _ (rows : Rows) where
 -- Where it leads is all that counts for the level.
 pub leads-level : (m : ℕ) (rows : Rows) (a i : ℕ) → Leads a i → levelOf m rows a ≡ rows .level i
 leads-level m rows a i e = ap (levelTo m rows) e
-
-pub row-level : (m : ℕ) (rows : Rows) (i : ℕ) → levelOf m rows (row i) ≡ rows .level i
-row-level m rows i = leads-level m rows (row i) i (row-leads i)
 
 pub carry-level : (m : ℕ) (rows : Rows) (b : Bool) (a : ℕ) → levelOf m rows (carry b a) ≡ levelOf m rows a
 carry-level m rows b a = ap (levelTo m rows) (carry-target b a)

@@ -211,7 +211,13 @@ pub fn remember_row(words: &mut [u32], rows: u32, a: u32, i: u32, kind: u32, r: 
     let key = get(words, rows, i, Table::MEMO_KEY);
     let value = get(words, rows, i, Table::MEMO_VALUE);
     put(words, rows, i, Table::MEMO_KEY, key_after(a, kind, r, key));
-    put(words, rows, i, Table::MEMO_VALUE, value_after(a, kind, r, key, value));
+    put(
+        words,
+        rows,
+        i,
+        Table::MEMO_VALUE,
+        value_after(a, kind, r, key, value),
+    );
 }
 
 // How many slots are active at first: a power of two near 256 and twice the used rows, and none where not one entry fits.

@@ -2,12 +2,12 @@
 use mathlib.Core.Path.{_≡_, refl, ap, sym, _∙_, subst}
 use mathlib.Core.Logic.{_⊎_, inl, inr, ⊎-elim, by-cases}
 use mathlib.Core.List.{List, [], _∷_, List·Memᴰ as Mem, List·Memᴰ·head as here}
-use mathlib.Core.Bool.{true, false, true≢false}
+use mathlib.Core.Bool.{true, false}
 use Prim.Native.Nat.{ℕ, zero, suc, _+_, _-_, _*_, _≤_, _<_}
 use native.Mathlib.Omega.{arith}
 use native.Mathlib.Decide.{ℕ-discrete}
 use Rattle.layout.specs.Places.{wordsFor, BITS, LOW, HIGH}
-use Rattle.diagram.specs.Rows.{Rows, target, Leads, Arrow, levelOf, levelTo, RowOk, WellFormed, leads-used, leads-level}
+use Rattle.diagram.specs.Rows.{Rows, target, Leads, Arrow, levelOf, RowOk, WellFormed, leads-used, leads-level}
 use Rattle.diagram.specs.Reach.{Reach, root, by-low, by-high, reached-low, reached-high, reach-on, reach-used, one-root}
 use Rattle.layout.specs.View.{View}
 use Rattle.layout.specs.Arrows.{isRow, rowOf, row-is, no-row-leads}

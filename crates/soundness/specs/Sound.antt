@@ -7,7 +7,7 @@ use Prim.Native.Nat.{ℕ, zero, suc, _*_, _%_, _≤_, _<_}
 use native.Mathlib.Omega.{arith}
 use borrow.Author.Tests.{eq-eqb, eqb-true}
 use Rattle.layout.specs.Places.{BITS, ROWS, USED, LAYOUT, MARKED, FIRST-REGISTER, FIRST-RELATION, ROOTS-END, LOW, HIGH, LEVEL, RANK}
-use Rattle.diagram.specs.Rows.{target, Arrow, ArrowTo, levelOf, levelTo, RowOk, WellFormed}
+use Rattle.diagram.specs.Rows.{target, ArrowTo, levelTo, RowOk, WellFormed}
 use Rattle.diagram.specs.Reach.{Reach, one-root}
 use Rattle.diagram.specs.Even.{even}
 use Rattle.layout.specs.View.{View, view, headerOf}

@@ -7,7 +7,7 @@ use native.Mathlib.Omega.{arith}
 use Rattle.layout.specs.Places.{BITS, USED, LOW, HIGH, LEVEL}
 use Rattle.diagram.specs.Rows.{Rows, row, marked, flip, Arrow, marked-odd, even-marked, row-arrow, carry-arrow, carry-level}
 use Rattle.diagram.specs.Grow.{same-refl, arrow-extends}
-use Rattle.diagram.specs.Post.{Result, at, full, flipped, Plain, equal-arrows, found-row, added-row, no-row, Making, as-is, turned}
+use Rattle.diagram.specs.Post.{Result, at, full, Plain, equal-arrows, found-row, added-row, no-row, Making, as-is, turned}
 use Rattle.layout.specs.View.{View}
 use Rattle.soundness.specs.Used.{used, rowsOf}
 use Rattle.diagram.specs.Used.{usedCount, usedCount-all}
