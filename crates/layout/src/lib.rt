@@ -164,14 +164,11 @@ pub fn is_marked(a: u32) -> bool
     a % 2 == 1
 }
 
-// NOT of an arrow: the other one to the same row or constant.
+// NOT of an arrow: the other one to the same row or constant. With no branch, and the compiler makes one XOR of it.
 pub fn flip(a: u32) -> u32
     ensures { λ r. ⌜ r ≡ flipArrow a ⌝ }
 {
-    if a % 2 == 1 {
-        return a - 1;
-    }
-    a + 1
+    a - a % 2 + (1 - a % 2)
 }
 
 // An arrow, or NOT of it where another one carries a NOT.
