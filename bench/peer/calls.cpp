@@ -125,19 +125,25 @@ class Hostile {
         u32 level = h.fill(15000, false);
         std::vector<u32> arrows = h.arrows;
         for (; h.w[3] < ROWS; level--)
-            for (u32 low : arrows)
+            for (u32 low : both(arrows))
                 for (u32 high : arrows)
                     if (bucket(level, low, high) == 7 && low != high && h.w[3] < ROWS) h.put(level, low, high, false);
         return h;
     }
 
   private:
-    std::vector<u32> place, arrows = {0, 1};
+    std::vector<u32> place, arrows = {0}; // arrows without a NOT: a high arrow has none
     explicit Hostile(bool mixed) : place(ROWS) {
         std::iota(place.begin(), place.end(), 0);
         std::mt19937 random(1);
         if (mixed) std::shuffle(place.begin(), place.end(), random);
-        w[16] = place[0] + 3;
+        w[16] = 2 * (place[0] + 1) + 1;
+    }
+    // Each arrow, and the same with a NOT.
+    static std::vector<u32> both(const std::vector<u32> &plain) {
+        std::vector<u32> all = plain;
+        for (u32 a : plain) all.push_back(a + 1);
+        return all;
     }
     static u32 bucket(u32 level, u32 low, u32 high) { return (u64)(low * 0x9E3779B1u + high * 0x85EBCA77u + level * 0xC2B2AE3Du) * ROWS >> 32; }
     // The next row becomes the first of its bucket's chain, or of bucket 0's.
@@ -146,14 +152,14 @@ class Hostile {
         row[0] = low, row[1] = high, row[2] = level, row[3] = head, row[4] = rank;
         w[LIST + rank] = i;
         head = i + 1;
-        arrows.push_back(i + 2);
+        arrows.push_back(2 * (i + 1));
     }
     // Rows from level 31 on, of all pairs of the arrows below, until there are so many; the next free level.
     u32 fill(u32 most, bool one) {
         u32 level = 31;
         for (; w[3] < most; level--) {
             std::vector<u32> below = arrows;
-            for (u32 low : below)
+            for (u32 low : both(below))
                 for (u32 high : below)
                     if (low != high && w[3] < most) put(level, low, high, one);
         }

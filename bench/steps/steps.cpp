@@ -1,8 +1,9 @@
 // Chains of steps over the rows of a workload, each step through its own copy of the library, so that callgrind counts each operation apart.
 // steps LIST chain|single: plays the list of calls, then for up to 3 filled relations and 6 sets (state 0, bit 0 and the registers') runs
 //   v := v OR diamond v    and    v := v AND NOT diamond NOT v
+// (NOT is the arrow with the other mark, and no step of the library)
 // until v stays the same or for ROUNDS rounds. `chain` forgets once a chain, as a call does; `single` before every step.
-// Prints, for each operation, its steps and the distinct pairs (rows, for unary operations) that a plain recursion with a set of those seen finds.
+// Prints, for each operation, its steps and the distinct pairs of arrows (arrows, for unary operations) that a plain recursion with a set of those seen finds.
 #include <cstdint>
 #include <cstdio>
 #include <cstdlib>
@@ -23,7 +24,6 @@ u32 load_load_set(u32 *, size_t, u32, u32, const uint8_t *, size_t);
 u32 load_load_collect(u32 *, size_t);
 void load_step_forget(u32 *, size_t, u32);
 u32 bit_step_bit(u32 *, size_t, u32, u32, u32);
-u32 not_step_not(u32 *, size_t, u32, u32, u32);
 u32 shift_step_shift(u32 *, size_t, u32, u32, u32);
 u32 and_step_and(u32 *, size_t, u32, u32, u32, u32);
 u32 or_step_or(u32 *, size_t, u32, u32, u32, u32);
@@ -33,65 +33,66 @@ u32 exists_step_exists(u32 *, size_t, u32, u32, u32, u32);
 static const u32 ROWS = 60000, ROUNDS = 16, FULL = 0xffffffff;
 static const u64 ENOUGH = 300000; // no chain starts once so many pairs were met
 static const size_t HEADER = 256, CELLS = 8, REGISTERS = 16, RELATIONS = 48;
-enum Operation { BIT, NOT, AND, OR, SHIFT, EXISTS, OPERATIONS };
-static const char *const NAMES[OPERATIONS] = {"bit", "not", "and", "or", "shift", "exists"};
+enum Operation { BIT, AND, OR, SHIFT, EXISTS, OPERATIONS };
+static const char *const NAMES[OPERATIONS] = {"bit", "and", "or", "shift", "exists"};
 
 static std::vector<u32> words;
 static u32 levels;
 static bool single;
 static u64 steps[OPERATIONS], distinct[OPERATIONS], chains, ended_full, peak;
-static std::unordered_set<u64> rows_seen[64]; // NOT, SHIFT, EXISTS at each level
-static std::unordered_set<u64> pairs_seen[2]; // AND, OR
+static std::unordered_set<u32> arrows_seen[64]; // SHIFT, EXISTS at each level
+static std::unordered_set<u64> pairs_seen; // AND
 
-static u32 cell(u32 a, u32 k) { return words[HEADER + CELLS * (a - 2) + k]; }
-static u32 low(u32 a) { return cell(a, 0); }
-static u32 high(u32 a) { return cell(a, 1); }
+static u32 flip(u32 a) { return a ^ 1; }
+static u32 cell(u32 a, u32 k) { return words[HEADER + CELLS * (a / 2 - 1) + k]; }
+// The arrows followed from an arrow to a row carry its NOT.
+static u32 low(u32 a) { return cell(a, 0) ^ a % 2; }
+static u32 high(u32 a) { return cell(a, 1) ^ a % 2; }
 static u32 level(u32 a) { return cell(a, 2); }
 
 // Forgets what is remembered, and what was seen.
 static void forget() {
     load_step_forget(words.data(), words.size(), ROWS);
-    for (auto &s : rows_seen) s.clear();
-    for (auto &s : pairs_seen) s.clear();
+    for (auto &s : arrows_seen) s.clear();
+    pairs_seen.clear();
 }
 
-// The pairs that AND (0) or OR (1) has to work out.
-static void see_pair(Operation by, int op, u32 a, u32 b) {
+// The pairs that AND has to work out.
+static void see_pair(Operation by, u32 a, u32 b) {
     if (a > b) std::swap(a, b);
-    if (a == b || a < 2) return;
-    if (!pairs_seen[op].insert((u64)a << 32 | b).second) return;
+    if (a == b || a == flip(b) || a < 2) return;
+    if (!pairs_seen.insert((u64)a << 32 | b).second) return;
     distinct[by]++;
     u32 l = std::min(level(a), level(b));
     bool x = level(a) == l, y = level(b) == l;
-    see_pair(by, op, x ? low(a) : a, y ? low(b) : b);
-    see_pair(by, op, x ? high(a) : a, y ? high(b) : b);
+    see_pair(by, x ? low(a) : a, y ? low(b) : b);
+    see_pair(by, x ? high(a) : a, y ? high(b) : b);
 }
 
-// The rows that NOT (0), SHIFT (1) or EXISTS at level x (2 + x) has to work out.
-static void see_row(Operation by, u32 kind, u32 a) {
+// The arrows that SHIFT (0) or EXISTS at level x (1 + x) has to work out.
+static void see_arrow(Operation by, u32 kind, u32 a) {
     if (a < 2) return;
-    if (kind >= 2 && level(a) > kind - 2) return;
-    if (!rows_seen[kind].insert(a).second) return;
+    if (kind >= 1 && level(a) > kind - 1) return;
+    if (!arrows_seen[kind].insert(a).second) return;
     distinct[by]++;
-    if (kind >= 2 && level(a) == kind - 2) return see_pair(by, 1, low(a), high(a));
-    see_row(by, kind, low(a));
-    see_row(by, kind, high(a));
+    if (kind >= 1 && level(a) == kind - 1) return see_pair(by, flip(low(a)), flip(high(a)));
+    see_arrow(by, kind, low(a));
+    see_arrow(by, kind, high(a));
 }
 
 // One step; the arrow that it gives, or FULL.
 static u32 step(Operation op, u32 x, u32 a, u32 b) {
     if (single) forget();
     steps[op]++;
-    if (op == AND || op == OR) see_pair(op, op == OR, a, b);
-    if (op == NOT) see_row(op, 0, a);
-    if (op == SHIFT) see_row(op, 1, a);
-    if (op == EXISTS) see_row(op, 2 + x, a);
+    if (op == AND) see_pair(op, a, b);
+    if (op == OR) see_pair(op, flip(a), flip(b));
+    if (op == SHIFT) see_arrow(op, 0, a);
+    if (op == EXISTS) see_arrow(op, 1 + x, a);
     u32 *w = words.data();
     size_t size = words.size();
     u32 r = FULL;
     switch (op) {
     case BIT: r = bit_step_bit(w, size, ROWS, levels, x); break;
-    case NOT: r = not_step_not(w, size, ROWS, levels, a); break;
     case SHIFT: r = shift_step_shift(w, size, ROWS, levels, a); break;
     case AND: r = and_step_and(w, size, ROWS, levels, a, b); break;
     case OR: r = or_step_or(w, size, ROWS, levels, a, b); break;
@@ -118,9 +119,8 @@ static void chain(u32 relation, u32 v, bool least) {
     forget();
     for (u32 l = 0; l < levels; l++) step(BIT, l, 0, 0);
     for (u32 round = 0; round < ROUNDS; round++) {
-        u32 x = least ? v : step(NOT, 0, v, 0);
-        if (x != FULL) x = diamond(relation, x);
-        if (!least && x != FULL) x = step(NOT, 0, x, 0);
+        u32 x = diamond(relation, least ? v : flip(v));
+        if (!least && x != FULL) x = flip(x);
         if (x != FULL) x = step(least ? OR : AND, 0, v, x);
         if (x == FULL) { ended_full++; return; }
         if (x == v) return;

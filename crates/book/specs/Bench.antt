@@ -56,7 +56,7 @@ cases =
     ∷ record { n = 1; N = 100; lines = loaded (0x00 ∷ []) ∷ did (set 0 100 (frame (0x68 ∷ 0x01 ∷ []))) (made 0 (some 0)) ∷ told (count 0) (answered (some 0)) ∷ [] }
     ∷ record { n = 2; N = 3; lines = did (set 0 100 (frame (0x03 ∷ 0x10 ∷ 0x11 ∷ []))) (made 0 none) ∷ holds 0 (some (false ∷ false ∷ false ∷ true ∷ [])) ∷ [] }
     ∷ record { n = 2; N = 2; lines = did (set 0 100 (frame (0x03 ∷ 0x10 ∷ 0x11 ∷ []))) (refused 8) ∷ holds 0 none ∷ [] }
-    ∷ record { n = 1; N = 1; lines = did (set 0 100 (frame (0x02 ∷ 0x10 ∷ []))) (refused 8) ∷ [] }
+    ∷ record { n = 1; N = 1; lines = did (set 0 100 (frame (0x02 ∷ 0x10 ∷ []))) (made 0 none) ∷ holds 0 (some (true ∷ false ∷ [])) ∷ [] }
     ∷ record {
       n = 2;
       N = 2;
@@ -75,7 +75,7 @@ cases =
           ∷ did (set 0 3 (frame reach)) (made 3 (some 1))
           ∷ told (count 0) (answered (some 2))
           ∷ told (member 0 1) (answered (some 1))
-          ∷ did collect (answered (some 3))
+          ∷ did collect (answered (some 2))
           ∷ told tally (answered (some 3)) ∷ [];
     }
     ∷ []

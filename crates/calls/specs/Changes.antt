@@ -65,13 +65,13 @@ module _ (W : View) (r : ℕ) where
     n = other 0 (omega arith) i;
     N = W .rows;
     tally = other TALLY (omega arith) i;
-    rows = rows-kept W (FIRST-REGISTER + r) 0 (omega arith) (omega arith) (omega arith) i;
+    rows = rows-kept W (FIRST-REGISTER + r) 0 (omega arith) (omega arith) (omega arith) (omega arith) i;
     reg = fun-ext emptied-reg i;
     rel = fun-ext (λ t. ap arrowIn (other (FIRST-RELATION + t) (omega arith))) i;
   }
 
   cleared-sound : r < REGISTERS → Sound W → Sound X
-  cleared-sound l s = sound-store W (FIRST-REGISTER + r) 0 (omega arith) (omega arith) (omega arith) s (λ _ _. tt) (λ _ _ a q. absurd (omega arith))
+  cleared-sound l s = sound-store W (FIRST-REGISTER + r) 0 (omega arith) (omega arith) (omega arith) (omega arith) s (λ _ _. tt) (λ _ _ a q. absurd (omega arith))
 
 module _ (old new : List ℕ) (r : ℕ) (s : SoundWords old) (l : r < REGISTERS) {rows : ℕ} (er : rows ≡ headerOf old ROWS)
     (e : view rows new ≡ putHeader (view rows old) (FIRST-REGISTER + r) 0) where

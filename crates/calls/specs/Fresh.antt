@@ -65,10 +65,10 @@ module _ (n N : ℕ) (old new : List ℕ) (z : Sizes n N (length old)) (w : view
   empty = record {
     bits = bits-is X n z (λ h. refl);
     size = refl;
-    tally = zero-at X n z (λ h. refl) TALLY (omega arith) (omega arith) (omega arith);
+    tally = zero-at X n z (λ h. refl) TALLY (omega arith) (omega arith) (omega arith) (omega arith);
     unused = λ i. not-true _ (none-used X n z (λ h. refl) i);
-    reg = λ r l. ap arrowIn (zero-at X n z (λ h. refl) (FIRST-REGISTER + r) (omega arith) (omega arith) (omega arith));
-    rel = λ t l. ap arrowIn (zero-at X n z (λ h. refl) (FIRST-RELATION + t) (omega arith) (omega arith) (omega arith));
+    reg = λ r l. ap arrowIn (zero-at X n z (λ h. refl) (FIRST-REGISTER + r) (omega arith) (omega arith) (omega arith) (omega arith));
+    rel = λ t l. ap arrowIn (zero-at X n z (λ h. refl) (FIRST-RELATION + t) (omega arith) (omega arith) (omega arith) (omega arith));
   }
 
   pub fresh-ready : FreshPost n N old new (plain 0)

@@ -11,7 +11,7 @@ use Rattle.diagram.specs.Reach.{Reach, reach-used, one-root}
 use Rattle.diagram.specs.Keep.{Keeps, keeps-arrow, keeps-map, keeps-within, keeps-reach-back}
 use Rattle.diagram.specs.Collect.{Collects, collects-keeps, collects-wellFormed, collects-count}
 use Rattle.diagram.specs.Even.{even}
-use Rattle.layout.specs.Places.{BITS, ROWS, USED, FIRST-REGISTER, ROOTS-END, LOW, HIGH, LEVEL}
+use Rattle.layout.specs.Places.{BITS, ROWS, USED, LAYOUT, FIRST-REGISTER, ROOTS-END, LOW, HIGH, LEVEL}
 use Rattle.layout.specs.View.{View}
 use Rattle.soundness.specs.Used.{used, rowsOf}
 use Rattle.soundness.specs.Bits.{On}
@@ -54,6 +54,7 @@ module _ (W : View) (s : Sound W) (roots : List ℕ) (arrows : (a : ℕ) → Mem
   good = record {
     sizes = rw (g .header BITS (omega arith), g .rows, g .size) (s .good .sizes);
     rows-is = g .header ROWS (omega arith) ∙ s .good .rows-is ∙ sym (g .rows);
+    layout-is = g .header LAYOUT (omega arith) ∙ s .good .layout-is;
     ranked = g .ranked;
     rows = subst (λ (n : ℕ). WellFormed (2 * X .header BITS) n (rowsOf X)) (sym (g .rows))
         (subst (λ (b : ℕ). WellFormed (2 * b) (W .rows) (rowsOf X)) (sym (g .header BITS (omega arith))) (collects-wellFormed (s .good .rows) collects));

@@ -12,8 +12,8 @@ bit0 = bitF 0
 abbrev bit1 : Fn
 bit1 = bitF 2
 
--- "N = 1: 02 10 gives 8", n = 1: NOT with its operand.
-pub not-needs : need 2 (notF bit0 ∷ bit0 ∷ []) ≡ 2
+-- "02 10 at N = 1 is now answered", n = 1: NOT with its operand.
+pub not-needs : need 2 (notF bit0 ∷ bit0 ∷ []) ≡ 1
 unfolding counting
 not-needs = refl
 
@@ -23,6 +23,6 @@ unfolding counting
 and-needs = refl
 
 -- "n = 2, N = 2: set 0 to bit 0, 1 to bit 1, clear 0, set 0 to 02 11: answered": NOT with its operand, which register 1 holds too.
-pub cleared-needs : need 4 (notF bit1 ∷ bit1 ∷ bit1 ∷ []) ≡ 2
+pub cleared-needs : need 4 (notF bit1 ∷ bit1 ∷ bit1 ∷ []) ≡ 1
 unfolding counting
 cleared-needs = refl

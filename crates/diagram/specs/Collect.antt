@@ -4,7 +4,7 @@ use mathlib.Core.Path.{_≡_, sym}
 use mathlib.Core.Bool.{true}
 use mathlib.Core.List.{List, map, List·Memᴰ as Mem}
 use Prim.Native.Nat.{ℕ}
-use Rattle.diagram.specs.Rows.{Rows, row, den, WellFormed, Extends}
+use Rattle.diagram.specs.Rows.{Rows, Leads, row, den, WellFormed, Extends}
 use Rattle.diagram.specs.Grow.{freed-wellFormed}
 use Rattle.diagram.specs.Used.{usedRows, usedCount, mem-usedRows, usedRows-mem, nodup-usedRows}
 use Rattle.diagram.specs.Need.{need}
@@ -28,7 +28,7 @@ collects-keeps c = record {
 }
 
 -- Which roots are arrows to rows is all that counts.
-pub collects-same : {old new : Rows} {xs ys : List ℕ} → ((i : ℕ) → Mem (row i) xs → Mem (row i) ys) → ((i : ℕ) → Mem (row i) ys → Mem (row i) xs)
+pub collects-same : {old new : Rows} {xs ys : List ℕ} → ((a i : ℕ) → Leads a i → Mem a xs → Mem a ys) → ((a i : ℕ) → Leads a i → Mem a ys → Mem a xs)
     → Collects old new xs → Collects old new ys
 collects-same f g c = record { kept = c .kept; only = λ i u. reach-within f (c .only i u); all = λ i r. c .all i (reach-within g r) }
 
@@ -44,7 +44,7 @@ module _ {m N : ℕ} {old new : Rows} {roots : List ℕ} (wf : WellFormed m N ol
   pub collects-reach : (i : ℕ) → new .used i ≡ true → Reach new roots i
   collects-reach i u = keeps-reach (collects-keeps c) (c .only i u)
 
-  -- So every row that is left denotes a cofactor of what a root denotes: what `try-full` asks of the table before a try.
+  -- So every row that is left denotes a part of what a root denotes: what `try-full` asks of the table before a try.
   pub collects-parts : (i : ℕ) → new .used i ≡ true → Part (map (den m new) roots) (den m new (row i))
   collects-parts = collected-parts collects-wellFormed roots (keeps-arrow (collects-keeps c)) collects-reach
 

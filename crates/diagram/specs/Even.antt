@@ -8,12 +8,11 @@ use Prim.Native.Nat.{ℕ, zero, suc, _≤_, _<_, _%_}
 use native.Mathlib.Decide.{decLe, ℕ-discrete}
 use native.Mathlib.Omega.{arith}
 use lib.Dec.{eqb}
-use Rattle.diagram.specs.Level.{Val, Fn, upd, upd-same, upd-other, splice-below, splice-above, Reads, CofactorOf}
-use Rattle.diagram.specs.Rows.{Rows, row, Arrow, den, WellFormed}
-use Rattle.diagram.specs.Den.{den-child}
-use Rattle.diagram.specs.Canon.{differ}
+use Rattle.diagram.specs.Level.{Val, Fn, turn, turn-inj, upd, upd-same, upd-other, splice-below, splice-above, Reads, CofactorOf, PartOf}
+use Rattle.diagram.specs.Rows.{Rows, marked, target, Leads, row, Arrow, denTo, den, WellFormed, row-leads}
+use Rattle.diagram.specs.Canon.{level-told}
 use Rattle.diagram.specs.Steps.{twoF, existsF, shiftF}
-use Rattle.diagram.specs.Reach.{Reach, Reached, reached-low, reached-high, reach-used, reach-cofactor}
+use Rattle.diagram.specs.Reach.{Reach, Reached, ReachedTo, reached-low, reached-high, reach-used, reach-part}
 
 -- f reads no level but those that pass the test P.
 abbrev pub ReadsOn : (ℕ → Bool) → Fn → Type 0
@@ -30,41 +29,39 @@ cofactor-readsOn r c v w h =
     (λ k. splice-above (c .upto) (c .fixed) v l k ∙ h l p ∙ sym (splice-above (c .upto) (c .fixed) w l k))
     (λ k. splice-below (c .upto) (c .fixed) v l (omega arith) ∙ sym (splice-below (c .upto) (c .fixed) w l (omega arith)))) ∙ sym (c .same w)
 
+part-readsOn : {P : ℕ → Bool} {f g : Fn} → ReadsOn P f → PartOf f g → ReadsOn P g
+part-readsOn {g = g} r p v w h = turn-inj (p .turned) (g v) (g w) (cofactor-readsOn r (p .cofactor) v w h)
+
 module _ {m N : ℕ} {rows : Rows} (wf : WellFormed m N rows) (P : ℕ → Bool) where
-  -- A row's level is read.
-  pub row-level-read : (i : ℕ) → rows .used i ≡ true → ReadsOn P (den m rows (row i)) → P (rows .level i) ≡ true
-  row-level-read i u r =
-      by-cases (Bool-discrete (P (rows .level i)) true) (λ e. e)
+  -- The level of the row that an arrow leads to is read.
+  pub row-level-read : (a i : ℕ) → Leads a i → rows .used i ≡ true → ReadsOn P (den m rows a) → P (rows .level i) ≡ true
+  row-level-read a i e u r =
+      by-cases (Bool-discrete (P (rows .level i)) true) (λ q. q)
       (λ ne.
-      let o = wf .ok i u in
-      let d = differ wf (rows .low i) (rows .high i) (o .low-arrow) (o .high-arrow) (o .reduced) in
-      let off : (k : ℕ) → P k ≡ true → k ≢ rows .level i = λ k p e. ne (ap P (sym e) ∙ p) in
-      absurd
-      (d .apart
-      (sym (den-child wf i false u (d .at))
-      ∙ r _ _ (λ k p. upd-other (d .at) (rows .level i) false k (off k p) ∙ sym (upd-other (d .at) (rows .level i) true k (off k p)))
-      ∙ den-child wf i true u (d .at))))
+      let off : (k : ℕ) → P k ≡ true → k ≢ rows .level i = λ k p q. ne (ap P (sym q) ∙ p) in
+      absurd (level-told wf a i e u (λ v. r _ _ (λ k p. upd-other v (rows .level i) false k (off k p) ∙ sym (upd-other v (rows .level i) true k (off k p))))))
 
   -- An arrow reads only levels that pass P exactly where all rows reached from it are at such levels.
   pub levels-read : (a : ℕ) → Arrow rows a → ReadsOn P (den m rows a) → (i : ℕ) → Reach rows (a ∷ []) i → P (rows .level i) ≡ true
   levels-read a ua r i t =
       let arrows : (b : ℕ) → Mem b (a ∷ []) → Arrow rows b = λ b h. rw (mem-only h) ua in
-      let (b, mb, c) = reach-cofactor wf arrows t in
-      row-level-read i (reach-used wf arrows t) (cofactor-readsOn r (rw (mem-only mb) at c))
+      let (b, mb, c) = reach-part wf arrows t in
+      row-level-read (row i) i (row-leads i) (reach-used wf arrows t) (part-readsOn r (rw (mem-only mb) at c))
 
-pub reads-levels : (rows : Rows) (P : ℕ → Bool) (roots : List ℕ) → ((i : ℕ) → Reach rows roots i → P (rows .level i) ≡ true)
-    → (f a : ℕ) → Reached rows roots a → ReadsOn P (den f rows a)
-unfolding den
-reads-levels rows P roots all zero zero r v w h = refl
-reads-levels rows P roots all zero (suc zero) r v w h = refl
-reads-levels rows P roots all zero (suc (suc i)) r v w h = refl
-reads-levels rows P roots all (suc f) zero r v w h = refl
-reads-levels rows P roots all (suc f) (suc zero) r v w h = refl
-reads-levels rows P roots all (suc f) (suc (suc i)) r v w h =
-    let e = h (rows .level i) (all i r) in
-    let eh = reads-levels rows P roots all f (rows .high i) (reached-high rows roots r (rows .high i) refl) v w h in
-    let el = reads-levels rows P roots all f (rows .low i) (reached-low rows roots r (rows .low i) refl) v w h in
-    cc (e, eh, el)
+module _ (rows : Rows) (P : ℕ → Bool) (roots : List ℕ) (all : (i : ℕ) → Reach rows roots i → P (rows .level i) ≡ true) where
+  readsTo-levels : (f k : ℕ) → ReachedTo rows roots k → ReadsOn P (denTo f rows k)
+  unfolding denTo
+  readsTo-levels zero k r v w h = refl
+  readsTo-levels (suc f) zero r v w h = refl
+  readsTo-levels (suc f) (suc i) r v w h =
+      let e = h (rows .level i) (all i r) in
+      let eh = readsTo-levels f (target (rows .high i)) (reached-high rows roots r (rows .high i) refl) v w h in
+      let el = readsTo-levels f (target (rows .low i)) (reached-low rows roots r (rows .low i) refl) v w h in
+      cc (e, eh, el)
+
+  pub reads-levels : (f a : ℕ) → Reached rows roots a → ReadsOn P (den f rows a)
+  unfolding den
+  reads-levels f a r v w h = ap (turn (marked a)) (readsTo-levels f (target a) r v w h)
 
 -- What the steps read. NOT, AND and OR read what their operands do.
 pub readsOn-two : {P : ℕ → Bool} {f g : Fn} (op : Bool → Bool → Bool) → ReadsOn P f → ReadsOn P g → ReadsOn P (twoF op f g)

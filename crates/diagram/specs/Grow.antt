@@ -6,8 +6,8 @@ use Prim.Native.Nat.{ℕ, zero, suc, _≤_, _<_}
 use native.Mathlib.Decide.{ℕ-discrete}
 use native.Mathlib.Omega.{arith}
 use lib.Dec.{eqb, eqb-refl, eqb→eq}
-use Rattle.diagram.specs.Level.{Val, T-true, T-false}
-use Rattle.diagram.specs.Rows.{Rows, Arrow, levelOf, den, RowOk, WellFormed, Extends, Same, Adds}
+use Rattle.diagram.specs.Level.{Val, turn, T-true, T-false}
+use Rattle.diagram.specs.Rows.{Rows, marked, target, Arrow, ArrowTo, levelOf, levelTo, denTo, den, RowOk, WellFormed, Extends, Same, Adds}
 
 pub extends-refl : (rows : Rows) → Extends rows rows
 extends-refl rows = record { used = λ i u. u; level = λ i u. refl; low = λ i u. refl; high = λ i u. refl }
@@ -24,29 +24,34 @@ pub same-refl : (rows : Rows) → Same rows rows
 same-refl rows = record { forth = extends-refl rows; back = extends-refl rows }
 
 module _ {old new : Rows} (e : Extends old new) where
+  to-extends : (k : ℕ) → ArrowTo old k → ArrowTo new k
+  to-extends zero u = tt
+  to-extends (suc i) u = e .used i u
+
   pub arrow-extends : (a : ℕ) → Arrow old a → Arrow new a
-  arrow-extends zero u = tt
-  arrow-extends (suc zero) u = tt
-  arrow-extends (suc (suc i)) u = e .used i u
+  arrow-extends a u = to-extends (target a) u
+
+  levelTo-extends : (m k : ℕ) → ArrowTo old k → levelTo m new k ≡ levelTo m old k
+  levelTo-extends m zero u = refl
+  levelTo-extends m (suc i) u = e .level i u
 
   pub level-extends : (m a : ℕ) → Arrow old a → levelOf m new a ≡ levelOf m old a
-  level-extends m zero u = refl
-  level-extends m (suc zero) u = refl
-  level-extends m (suc (suc i)) u = e .level i u
+  level-extends m a u = levelTo-extends m (target a) u
 
   -- What an old arrow denotes is kept.
+  denTo-extends : {m N : ℕ} → WellFormed m N old → (f k : ℕ) → ArrowTo old k → (v : Val) → denTo f new k v ≡ denTo f old k v
+  unfolding denTo
+  denTo-extends wf zero k u v = refl
+  denTo-extends wf (suc f) zero u v = refl
+  denTo-extends wf (suc f) (suc i) u v =
+      let o = wf .ok i u in
+      let eh = denTo-extends wf f (target (old .high i)) (o .high-arrow) v in
+      let el = denTo-extends wf f (target (old .low i)) (o .low-arrow) v in
+      cc (eh, el, e .level i u, e .low i u, e .high i u)
+
   pub den-extends : {m N : ℕ} → WellFormed m N old → (f a : ℕ) → Arrow old a → (v : Val) → den f new a v ≡ den f old a v
   unfolding den
-  den-extends wf zero zero u v = refl
-  den-extends wf zero (suc zero) u v = refl
-  den-extends wf zero (suc (suc i)) u v = refl
-  den-extends wf (suc f) zero u v = refl
-  den-extends wf (suc f) (suc zero) u v = refl
-  den-extends wf (suc f) (suc (suc i)) u v =
-      let o = wf .ok i u in
-      let eh = den-extends wf f (old .high i) (o .high-arrow) v in
-      let el = den-extends wf f (old .low i) (o .low-arrow) v in
-      cc (eh, el, e .level i u, e .low i u, e .high i u)
+  den-extends wf f a u v = ap (turn (marked a)) (denTo-extends wf f (target a) u v)
 
   -- An old row stays as the table wants it.
   pub rowOk-extends : {m : ℕ} (i : ℕ) → old .used i ≡ true → RowOk m old i → RowOk m new i
@@ -59,6 +64,7 @@ module _ {old new : Rows} (e : Extends old new) where
         low-deeper = rw (nl, e .low i u, level-extends m (old .low i) (o .low-arrow)) (o .low-deeper);
         high-deeper = rw (nl, e .high i u, level-extends m (old .high i) (o .high-arrow)) (o .high-deeper);
         reduced = rw (e .low i u, e .high i u) (o .reduced);
+        plain = rw (e .high i u) (o .plain);
       }
 
 -- The same rows are as well formed.
@@ -89,6 +95,7 @@ freed-wellFormed {m} {old = old} {new = new} e wf low high = record {
         low-deeper = rw (← la, ← ea, ← el) (o .low-deeper);
         high-deeper = rw (← lb, ← eb, ← el) (o .high-deeper);
         reduced = rw (ea, eb) at (o .reduced);
+        plain = rw eb at (o .plain);
       };
   shared = λ i j u w el ea eb. wf .shared i j (e .used i u) (e .used j w)
       (cc (e .level i u, e .level j w)) (cc (e .low i u, e .low j w)) (cc (e .high i u, e .high j w));
@@ -104,10 +111,11 @@ empty-wellFormed m N rows none =
       shared = λ i j u w el ea eb. absurd (never i u);
     }
 
--- One more row, with arrows that differ and lead to greater levels, and that no used row has already, keeps a table well formed.
+-- One more row, with arrows that differ and lead to greater levels, the high one without a NOT, and that no used row has already, keeps a
+-- table well formed.
 module _ {m N N′ : ℕ} {old new : Rows} {i l a b : ℕ} (wf : WellFormed m N old) (s : Adds old new i l a b)
     (room : i < N′) (more : N ≤ N′) (lm : l < m) (ua : Arrow old a) (ub : Arrow old b)
-    (la : l < levelOf m old a) (lb : l < levelOf m old b) (ne : a ≢ b)
+    (la : l < levelOf m old a) (lb : l < levelOf m old b) (ne : a ≢ b) (pb : marked b ≡ false)
     (fresh : (j : ℕ) → old .used j ≡ true → old .level j ≡ l → old .low j ≡ a → old .high j ≡ b → ⊥) where
   new-ok : RowOk m new i
   new-ok = record {
@@ -117,6 +125,7 @@ module _ {m N N′ : ℕ} {old new : Rows} {i l a b : ℕ} (wf : WellFormed m N 
     low-deeper = rw (s .level, s .low, level-extends (s .kept) m a ua) la;
     high-deeper = rw (s .level, s .high, level-extends (s .kept) m b ub) lb;
     reduced = rw (s .low, s .high) ne;
+    plain = rw (s .high) pb;
   }
 
   -- No old row equals the new one.

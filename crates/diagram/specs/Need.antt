@@ -1,7 +1,7 @@
 -- Rows needed, as document 01 has it: "Rows needed by some sets or relations: the distinct non-constant functions got from them by fixing
--- levels 0 to k − 1, in all ways, for every k." A function of m levels is told by its truth table over all lists of m bits. To fix all m
+-- levels 0 to k − 1, in all ways, for every k", where, by document 02, "two functions that are each other's complement need one row". A function of m levels is told by its truth table over all lists of m bits. To fix all m
 -- levels, or more, leaves constants, so k goes from 0 to m. Assumes nothing.
-use mathlib.Core.Bool.{Bool, true, false, cond, _&&_, _||_, Bool·beq}
+use mathlib.Core.Bool.{Bool, true, false, cond, not, _&&_, _||_, Bool·beq}
 use mathlib.Core.List.{List, [], _∷_, map, flatMap}
 use Prim.Native.Nat.{ℕ, suc}
 use lib.ListN.{length, getD}
@@ -30,21 +30,21 @@ unfoldable pub has : Bool → List Bool → Bool
 has b [] = false
 has b (c ∷ cs) = Bool·beq b c || has b cs
 
--- Whether a table is among others.
+-- Whether a table or its complement is among others.
 unfoldable pub among : List Bool → List (List Bool) → Bool
 among t [] = false
-among t (s ∷ ss) = same t s || among t ss
+among t (s ∷ ss) = same t s || same (map not t) s || among t ss
 
--- A table put in front of others, unless it is constant or among them already.
+-- A table put in front of others, unless it is constant, or it or its complement is among them already.
 unfoldable pub insert : List Bool → List (List Bool) → List (List Bool)
 insert t ts = cond (has false t && has true t) (cond (among t ts) ts (t ∷ ts)) ts
 
--- The distinct tables of a list that are not constant.
+-- The tables of a list that are not constant, distinct up to complement.
 unfoldable pub distinct : List (List Bool) → List (List Bool)
 distinct [] = []
 distinct (t ∷ ts) = insert t (distinct ts)
 
--- The distinct non-constant functions, as tables, got from those of fs by fixing levels 0 to k − 1, in all ways, for every k.
+-- The non-constant functions, as tables, distinct up to complement, got from those of fs by fixing levels 0 to k − 1, in all ways, for every k.
 unfoldable pub needed : ℕ → List Fn → List (List Bool)
 needed m fs = distinct (map (truthTable m) (flatMap (cofactors m) fs))
 

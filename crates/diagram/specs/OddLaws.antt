@@ -2,22 +2,18 @@
 use mathlib.Core.Path.{_≡_, refl, sym, ap, _∙_, subst, fun-ext}
 use mathlib.Core.Logic.{_≢_, by-cases}
 use mathlib.Core.Bool.{Bool, true, false, cond, _||_, or-self}
-use mathlib.Core.List.{[], _∷_}
-use mathlib.Core.List.{List·Memᴰ·head as here, List·Memᴰ·eq-of-singleton as mem-only}
 use Prim.Native.Nat.{ℕ, zero, suc, _+_, _*_, _/_, _%_, _≤_, _<_}
 use native.Mathlib.Decide.{ℕ-discrete}
 use native.Mathlib.Omega.{arith}
 use lib.Dec.{eqb→eq}
 use Rattle.diagram.specs.Level.{Val, Fn, upd, upd-other, Reads, Splits}
-use Rattle.diagram.specs.Rows.{Rows, row, Arrow, den, WellFormed, Extends}
-use Rattle.diagram.specs.Den.{den-zero, den-one}
+use Rattle.diagram.specs.Rows.{Rows, marked, target, Leads, carry, Arrow, ArrowTo, child, follow, den, WellFormed, Extends, leads-used}
+use Rattle.diagram.specs.Den.{den-constant, follow-arrow}
 use Rattle.diagram.specs.Grow.{den-extends}
 use Rattle.diagram.specs.Post.{Denotes, denotes-extends}
-use Rattle.diagram.specs.Reach.{Reach, root, by-low, by-high, one-root, reach-used}
-use Rattle.diagram.specs.Keep.{extends-keeps, keeps-reach-back}
 use Rattle.diagram.specs.Steps.{orF, existsF, exists-reads, exists-here, exists-past}
 use Rattle.diagram.specs.Even.{even}
-use Rattle.diagram.specs.Odd.{existsFrom, oddF, Covered}
+use Rattle.diagram.specs.Odd.{existsFrom, oddF, Follows, self, on, Covered}
 
 -- EXISTS at a level from hi on changes nothing
 exists-above : {lo hi : ℕ} {f : Fn} (x : ℕ) → hi ≤ x → Reads lo hi f → (v : Val) → existsF x f v ≡ f v
@@ -109,11 +105,11 @@ odd-const : {f : Fn} → ((v w : Val) → f v ≡ f w) → (v : Val) → oddF f 
 odd-const c v = from-above {lo = 0} {hi = 0} 16 0 (omega arith) (λ u w h. c u w) v
 
 -- the constants
-pub odd-zero : (m : ℕ) (rows : Rows) → Denotes m rows 0 (oddF (den m rows 0))
-odd-zero m rows = record { arrow = tt; same = λ v. sym (odd-const (λ u w. den-zero m rows u ∙ sym (den-zero m rows w)) v) }
-
-pub odd-one : (m : ℕ) (rows : Rows) → Denotes m rows 1 (oddF (den m rows 1))
-odd-one m rows = record { arrow = tt; same = λ v. sym (odd-const (λ u w. den-one m rows u ∙ sym (den-one m rows w)) v) }
+pub odd-constant : (m : ℕ) (rows : Rows) (a : ℕ) → target a ≡ 0 → Denotes m rows a (oddF (den m rows a))
+odd-constant m rows a e = record {
+  arrow = subst (ArrowTo rows) (sym e) tt;
+  same = λ v. sym (odd-const (λ u w. den-constant m rows a e u ∙ sym (den-constant m rows a e w)) v);
+}
 
 -- a row of an even level: the two parts
 pub odd-even : {m l : ℕ} {F F0 F1 : Fn} → even l ≡ true → Splits m l F F0 F1 → Splits m l (oddF F) (oddF F0) (oddF F1)
@@ -132,52 +128,56 @@ odd-bits {n} {F} h r v =
     from-fewer 16 n 0 h (subst (λ (k : ℕ). Reads 0 k F) e r) v
 
 -- what is covered stays so in a larger table
+child-extends : {old new : Rows} → Extends old new → (i : ℕ) (b : Bool) → old .used i ≡ true → child new i b ≡ child old i b
+child-extends e i false u = e .low i u
+child-extends e i true u = e .high i u
+
+follows-back : {m N : ℕ} {old new : Rows} {a c : ℕ} → WellFormed m N old → Extends old new → Arrow old a → Follows new a c → Follows old a c × Arrow old c
+follows-back wf e u self = (self, u)
+follows-back {old = old} {new = new} {a = a} wf e u (on {c = c} {i = i} b t l) =
+    let (s, w) = follows-back wf e u t in
+    let ui = leads-used old c i l w in
+    let q : follow old c i b ≡ follow new c i b = ap (carry (marked c)) (sym (child-extends e i b ui)) in
+    (subst (Follows old a) q (on b s l), subst (Arrow old) q (follow-arrow wf c i l b ui))
+
 pub covered-extends : {m N : ℕ} {old new : Rows} {a : ℕ} → WellFormed m N old → Extends old new → Arrow old a → Covered m old a → Covered m new a
-covered-extends {m} {old = old} {new = new} wf e u c i r =
-    let arrows = one-root (Arrow old) u in
-    let t = keeps-reach-back (extends-keeps wf arrows e) r in
-    let (b, d) = c i t in
-    let q : den m old (row i) ≡ den m new (row i) = fun-ext (λ v. sym (den-extends e wf m (row i) (reach-used wf arrows t) v)) in
+covered-extends {m} {old = old} {new = new} wf e u c x r =
+    let (t, w) = follows-back wf e u r in
+    let (b, d) = c x t in
+    let q : den m old x ≡ den m new x = fun-ext (λ v. sym (den-extends e wf m x w v)) in
     (b, subst (λ (f : Fn). Denotes m new b (oddF f)) q (denotes-extends wf e d))
 
--- the constants reach nothing
-reach-const : {rows : Rows} {a i : ℕ} → a < 2 → Reach rows (a ∷ []) i → ⊥
-reach-const h (root {i = j} k) = let q = mem-only k in omega arith
-reach-const h (by-low r e) = reach-const h r
-reach-const h (by-high r e) = reach-const h r
+-- from a constant nothing else is followed
+follows-constant : {rows : Rows} {a c : ℕ} → target a ≡ 0 → Follows rows a c → c ≡ a
+follows-constant e self = refl
+follows-constant {a = a} e (on {c = c} b t l) = let q = ap target (follows-constant e t) in absurd (omega (arith, q, l, e))
 
-pub covered-zero : (m : ℕ) (rows : Rows) → Covered m rows 0
-covered-zero m rows i r = absurd (reach-const (omega arith) r)
+pub covered-constant : (m : ℕ) (rows : Rows) (a : ℕ) → target a ≡ 0 → Covered m rows a
+covered-constant m rows a e c t = (a, subst (λ (x : ℕ). Denotes m rows a (oddF (den m rows x))) (sym (follows-constant e t)) (odd-constant m rows a e))
 
-pub covered-one : (m : ℕ) (rows : Rows) → Covered m rows 1
-covered-one m rows i r = absurd (reach-const (omega arith) r)
+-- what is followed from an arrow to row i is the arrow itself, or followed from one of the two that are followed first
+data From (rows : Rows) (a i : ℕ) (c : ℕ) : Type 0 where
+  itself : c ≡ a → From rows a i c
+  side : (b : Bool) → Follows rows (follow rows a i b) c → From rows a i c
 
--- what a row reaches is the row itself or reached from one of its arrows
-data From (rows : Rows) (i : ℕ) : ℕ → Type 0 where
-  itself : {j : ℕ} → j ≡ i → From rows i j
-  low-side : {j : ℕ} → Reach rows (rows .low i ∷ []) j → From rows i j
-  high-side : {j : ℕ} → Reach rows (rows .high i ∷ []) j → From rows i j
+from-on : {rows : Rows} {a i c j : ℕ} (b : Bool) → Leads a i → Leads c j → From rows a i c → From rows a i (follow rows c j b)
+from-on {rows} {a} {i} {c} {j} b l g (itself q) =
+    let z = ap target q in
+    let k : j ≡ i = omega (arith, z, l, g) in
+    let f : follow rows a i b ≡ follow rows c j b = ap (λ x. follow rows x i b) (sym q) ∙ ap (λ x. follow rows c x b) (sym k) in
+    side b (subst (Follows rows (follow rows a i b)) f self)
+from-on b l g (side x t) = side x (on b t g)
 
-from-low : {rows : Rows} {i k j : ℕ} → From rows i k → rows .low k ≡ row j → From rows i j
-from-low {rows} (itself q) e = low-side (root (here (sym e ∙ ap (rows .low) q)))
-from-low (low-side r) e = low-side (by-low r e)
-from-low (high-side r) e = high-side (by-low r e)
+follows-row : {rows : Rows} {a i c : ℕ} → Leads a i → Follows rows a c → From rows a i c
+follows-row l self = itself refl
+follows-row l (on b t g) = from-on b l g (follows-row l t)
 
-from-high : {rows : Rows} {i k j : ℕ} → From rows i k → rows .high k ≡ row j → From rows i j
-from-high {rows} (itself q) e = high-side (root (here (sym e ∙ ap (rows .high) q)))
-from-high (low-side r) e = low-side (by-high r e)
-from-high (high-side r) e = high-side (by-high r e)
-
-reach-row : {rows : Rows} {i j : ℕ} → Reach rows (row i ∷ []) j → From rows i j
-reach-row {i = i} (root {i = j} h) = let q = mem-only h in itself {j = j} (omega arith)
-reach-row (by-low r e) = from-low (reach-row r) e
-reach-row (by-high r e) = from-high (reach-row r) e
-
--- a row is covered with its parts
-pub covered-row : {m : ℕ} {rows : Rows} {i b : ℕ} → Denotes m rows b (oddF (den m rows (row i))) → Covered m rows (rows .low i) → Covered m rows (rows .high i) → Covered m rows (row i)
-covered-row {m} {rows} {i} {b} d low high j r = pick (reach-row r)
+-- an arrow to a row is covered with its parts
+pub covered-row : {m : ℕ} {rows : Rows} {a i b : ℕ} → Leads a i → Denotes m rows b (oddF (den m rows a))
+    → Covered m rows (follow rows a i false) → Covered m rows (follow rows a i true) → Covered m rows a
+covered-row {m} {rows} {a} {i} {b} l d low high c r = pick (follows-row l r)
   where
-    pick : From rows i j → (c : ℕ) × Denotes m rows c (oddF (den m rows (row j)))
-    pick (itself q) = (b, subst (λ (k : ℕ). Denotes m rows b (oddF (den m rows (row k)))) (sym q) d)
-    pick (low-side t) = low j t
-    pick (high-side t) = high j t
+    pick : From rows a i c → (x : ℕ) × Denotes m rows x (oddF (den m rows c))
+    pick (itself q) = (b, subst (λ (k : ℕ). Denotes m rows b (oddF (den m rows k))) (sym q) d)
+    pick (side false t) = low c t
+    pick (side true t) = high c t

@@ -2,13 +2,13 @@
 -- Assumes nothing.
 use mathlib.Core.Path.{_≡_, refl, sym, ap, _∙_, subst, fun-ext}
 use mathlib.Core.Logic.{_≢_, by-cases}
-use mathlib.Core.Bool.{Bool, true, false, cond, true≢false, Bool-discrete}
-use Prim.Native.Nat.{ℕ, suc, _≤_, _<_}
+use mathlib.Core.Bool.{Bool, true, false, cond, not, true≢false, Bool-discrete}
+use Prim.Native.Nat.{ℕ, suc, _/_, _≤_, _<_}
 use native.Mathlib.Decide.{ℕ-discrete}
 use native.Mathlib.Omega.{arith}
-use Rattle.diagram.specs.Level.{Val, Fn, Reads, Splits, CofactorOf, Varies, cofactor-refl, cofactor-trans, splits-low, splits-high}
-use Rattle.diagram.specs.Rows.{Rows, row, Arrow, levelOf, den, WellFormed, Extends, Same, Adds}
-use Rattle.diagram.specs.Den.{den-row}
+use Rattle.diagram.specs.Level.{Val, Fn, turn-back, Reads, Splits, splits-turn, CofactorOf, PartOf, part-cofactor, part-refl, part-trans, part-same, part-of-turned, Varies, splits-low, splits-high}
+use Rattle.diagram.specs.Rows.{Rows, marked, row, flip, Arrow, levelOf, den, WellFormed, Extends, Same, Adds, row-leads, row-arrow, leads-used, carry-arrow, marked-odd, even-marked}
+use Rattle.diagram.specs.Den.{den-row, den-flip}
 use Rattle.diagram.specs.Grow.{extends-refl, extends-trans, arrow-extends, den-extends, same-wellFormed, adds-wellFormed, put-adds}
 use Rattle.diagram.specs.Used.{usedCount, usedCount-extends}
 use Rattle.diagram.specs.Canon.{not-true, canonical, row-varies, reads-level}
@@ -24,48 +24,55 @@ pub record Denotes (m : ℕ) (rows : Rows) (a : ℕ) (F : Fn) : Type 0 where
   pub same : (v : Val) → den m rows a v ≡ F v
 
 -- The rows have run out, the cause of refusal 8, "step needs more than N rows": at least `limit` of the N rows are used, and some
--- non-constant cofactor of F, which its result needs a row for, is denoted by none of them. `limit` is N (module Whole) or less.
+-- non-constant part of F, which its result needs a row for, is denoted by no arrow. `limit` is N (module Whole) or less.
 pub record Full (m N limit : ℕ) (rows : Rows) (F : Fn) : Type 0 where
   pub run-out : limit ≤ usedCount rows N
   pub lost : Fn
-  pub cofactor : CofactorOf F lost
+  pub part : PartOf F lost
   pub varies : Varies lost
-  pub absent : (i : ℕ) → rows .used i ≡ true → ((v : Val) → den m rows (row i) v ≡ lost v) → ⊥
+  pub absent : (a : ℕ) → Arrow rows a → ((v : Val) → den m rows a v ≡ lost v) → ⊥
 
 -- What the answer means, in the table that is left.
 abbrev pub Answers : ℕ → ℕ → ℕ → Rows → Result → Fn → Type 0
 Answers m N limit rows (at a) F = Denotes m rows a F
 Answers m N limit rows full F = Full m N limit rows F
 
--- The table stays well formed, used rows stay as they were, every row that became used denotes a cofactor of F (no constant:
--- `row-varies`), and the answer is an arrow that denotes F, or truly full.
+-- The table stays well formed, used rows stay as they were, every row that became used denotes a cofactor of F or of its complement (no
+-- constant: `row-varies`), and the answer is an arrow that denotes F, or truly full.
 pub record OpPost (m N limit : ℕ) (before after : Rows) (answer : Result) (F : Fn) : Type 0 where
   pub wf : WellFormed m N after
   pub kept : Extends before after
-  pub fresh : (i : ℕ) → after .used i ≡ true → before .used i ≡ false → CofactorOf F (den m after (row i))
+  pub fresh : (i : ℕ) → after .used i ≡ true → before .used i ≡ false → PartOf F (den m after (row i))
   pub result : Answers m N limit after answer F
 
--- What the making of a row of level l with arrows a and b does: it takes a where the two are the same, finds the row, adds it, or finds at
--- least `limit` rows used.
-pub data Making (m N limit : ℕ) (before after : Rows) (l a b : ℕ) : Result → Type 0 where
-  equal-arrows : a ≡ b → Same before after → Making m N limit before after l a b (at a)
+-- What the making of a row of level l with arrows a and b does, b without a NOT: it takes a where the two are the same, finds the row, adds
+-- it, or finds at least `limit` rows used.
+pub data Plain (m N limit : ℕ) (before after : Rows) (l a b : ℕ) : Result → Type 0 where
+  equal-arrows : a ≡ b → Same before after → Plain m N limit before after l a b (at a)
   found-row : (i : ℕ) → before .used i ≡ true → before .level i ≡ l → before .low i ≡ a → before .high i ≡ b → Same before after
-      → Making m N limit before after l a b (at (row i))
+      → Plain m N limit before after l a b (at (row i))
   added-row : (i : ℕ) → i < N → a ≢ b → Adds before after i l a b
       → ((j : ℕ) → before .used j ≡ true → before .level j ≡ l → before .low j ≡ a → before .high j ≡ b → ⊥)
-      → Making m N limit before after l a b (at (row i))
+      → Plain m N limit before after l a b (at (row i))
   no-row : a ≢ b → limit ≤ usedCount before N
       → ((j : ℕ) → before .used j ≡ true → before .level j ≡ l → before .low j ≡ a → before .high j ≡ b → ⊥)
-      → Same before after → Making m N limit before after l a b full
+      → Same before after → Plain m N limit before after l a b full
+
+-- NOT of an answer.
+abbrev pub flipped : Result → Result
+flipped (at a) = at (flip a)
+flipped full = full
+
+-- With any arrows: where the high one carries a NOT, the row of the complement is made, and the answer is NOT of its.
+pub data Making (m N limit : ℕ) (before after : Rows) (l a b : ℕ) (answer : Result) : Type 0 where
+  as-is : marked b ≡ false → Plain m N limit before after l a b answer → Making m N limit before after l a b answer
+  turned : {part : Result} → marked b ≡ true → Plain m N limit before after l (flip a) (flip b) part → flipped part ≡ answer
+      → Making m N limit before after l a b answer
 
 -- An arrow denotes in a larger table what it denoted.
 pub denotes-extends : {m N : ℕ} {old new : Rows} {a : ℕ} {F : Fn} → WellFormed m N old → Extends old new → Denotes m old a F → Denotes m new a F
 denotes-extends {m} {a = a} wf e d =
     record { arrow = arrow-extends e a (d .arrow); same = λ v. den-extends e wf m a (d .arrow) v ∙ d .same v }
-
--- A cofactor is one of each function with the same values.
-pub cofactor-same : {f g h : Fn} → CofactorOf f g → ((v : Val) → h v ≡ g v) → CofactorOf f h
-cofactor-same c e = record { upto = c .upto; fixed = c .fixed; same = λ v. e v ∙ c .same v }
 
 -- An arrow that is there already answers for its function.
 pub post-arrow : {m N limit : ℕ} {rows : Rows} {a : ℕ} {F : Fn} → WellFormed m N rows → Denotes m rows a F → OpPost m N limit rows rows (at a) F
@@ -87,8 +94,8 @@ post-full c p =
     record {
       wf = p .wf;
       kept = p .kept;
-      fresh = λ i u n. cofactor-trans c (p .fresh i u n);
-      result = record { run-out = r .run-out; lost = r .lost; cofactor = cofactor-trans c (r .cofactor); varies = r .varies; absent = r .absent };
+      fresh = λ i u n. part-trans (part-cofactor c) (p .fresh i u n);
+      result = record { run-out = r .run-out; lost = r .lost; part = part-trans (part-cofactor c) (r .part); varies = r .varies; absent = r .absent };
     }
 
 -- An operation for a cofactor G of F, and after it one for F, are one for F.
@@ -98,7 +105,7 @@ post-then {m} {mid = mid} c p q = record {
   wf = q .wf;
   kept = extends-trans (p .kept) (q .kept);
   fresh = λ i u n. by-cases (Bool-discrete (mid .used i) true)
-      (λ w. cofactor-same (cofactor-trans c (p .fresh i w n)) (den-extends (q .kept) (p .wf) m (row i) w))
+      (λ w. part-same (part-trans (part-cofactor c) (p .fresh i w n)) (den-extends (q .kept) (p .wf) m (row i) (row-arrow mid i w)))
       (λ w. q .fresh i u (not-true _ w));
   result = q .result;
 }
@@ -110,7 +117,7 @@ post-same {m} {N} {limit} {mid = mid} {after = after} {answer = answer} {F = F} 
   kept = extends-trans (p .kept) (s .forth);
   fresh = λ i u n.
       let w = s .back .used i u in
-      cofactor-same (p .fresh i w n) (den-extends (s .forth) (p .wf) m (row i) w);
+      part-same (p .fresh i w n) (den-extends (s .forth) (p .wf) m (row i) (row-arrow mid i w));
   result = keeps answer (p .result);
 }
   where
@@ -119,19 +126,32 @@ post-same {m} {N} {limit} {mid = mid} {after = after} {answer = answer} {F = F} 
     keeps full r = record {
       run-out = let g = usedCount-extends N (s .forth) in omega (arith, r .run-out, g);
       lost = r .lost;
-      cofactor = r .cofactor;
+      part = r .part;
       varies = r .varies;
-      absent = λ i u e.
-          let w = s .back .used i u in
-          r .absent i w (λ v. sym (den-extends (s .forth) (p .wf) m (row i) w v) ∙ e v);
+      absent = λ a u e.
+          let w = arrow-extends (s .back) a u in
+          r .absent a w (λ v. sym (den-extends (s .forth) (p .wf) m a w v) ∙ e v);
     }
+
+-- NOT of an arrow denotes the complement, and an operation for F, its answer turned, is one for the complement.
+pub denotes-flip : {m : ℕ} {rows : Rows} {a : ℕ} {F : Fn} → Denotes m rows a F → Denotes m rows (flip a) (λ v. not (F v))
+denotes-flip {m} {rows} {a} d = record { arrow = carry-arrow rows true a (d .arrow); same = λ v. den-flip m rows a v ∙ ap not (d .same v) }
+
+pub post-flip : {m N limit : ℕ} {before after : Rows} {answer : Result} {F : Fn} → OpPost m N limit before after answer F
+    → OpPost m N limit before after (flipped answer) (λ v. not (F v))
+post-flip {m} {N} {limit} {after = after} {answer = answer} {F = F} p =
+    record { wf = p .wf; kept = p .kept; fresh = λ i u n. part-of-turned true (p .fresh i u n); result = turns answer (p .result) }
+  where
+    turns : (o : Result) → Answers m N limit after o F → Answers m N limit after (flipped o) (λ v. not (F v))
+    turns (at a) r = denotes-flip r
+    turns full r = record { run-out = r .run-out; lost = r .lost; part = part-of-turned true (r .part); varies = r .varies; absent = r .absent }
 
 -- A row whose arrows denote the two parts of F denotes F.
 row-denotes : {m N : ℕ} {rows : Rows} {i l a b : ℕ} {F F0 F1 : Fn} → WellFormed m N rows → Splits m l F F0 F1
     → rows .used i ≡ true → rows .level i ≡ l → rows .low i ≡ a → rows .high i ≡ b
     → Denotes m rows a F0 → Denotes m rows b F1 → Denotes m rows (row i) F
-row-denotes {i = i} wf f u el ea eb d0 d1 = record {
-  arrow = u;
+row-denotes {rows = rows} {i = i} wf f u el ea eb d0 d1 = record {
+  arrow = row-arrow rows i u;
   same = λ v.
       let s = den-row wf i u v in
       let e0 = d0 .same v in
@@ -150,20 +170,20 @@ cond-same : {A : Type 0} (b : Bool) (x : A) → cond b x x ≡ x
 cond-same true x = refl
 cond-same false x = refl
 
--- The making of a row over arrows that denote the two parts of F is an operation for F.
+-- The making of a row over arrows that denote the two parts of F is an operation for F: first where the high arrow carries no NOT.
 module _ {m N : ℕ} {before : Rows} {l a b : ℕ} {F F0 F1 : Fn} (wf : WellFormed m N before) (lm : l < m) (f : Splits m l F F0 F1)
-    (d0 : Denotes m before a F0) (d1 : Denotes m before b F1) where
+    (d0 : Denotes m before a F0) (d1 : Denotes m before b F1) (pb : marked b ≡ false) where
   -- Once the row is added the table is well formed, and the row denotes F.
   grown : {N′ : ℕ} {new : Rows} {i : ℕ} → Adds before new i l a b → i < N′ → N ≤ N′ → a ≢ b
       → ((j : ℕ) → before .used j ≡ true → before .level j ≡ l → before .low j ≡ a → before .high j ≡ b → ⊥) → WellFormed m N′ new
   grown s room more ne fresh =
-      adds-wellFormed wf s room more lm (d0 .arrow) (d1 .arrow) (denotes-level (suc l) wf lm d0 (f .reads0)) (denotes-level (suc l) wf lm d1 (f .reads1)) ne fresh
+      adds-wellFormed wf s room more lm (d0 .arrow) (d1 .arrow) (denotes-level (suc l) wf lm d0 (f .reads0)) (denotes-level (suc l) wf lm d1 (f .reads1)) ne pb fresh
 
   added-denotes : {N′ : ℕ} {new : Rows} {i : ℕ} → Adds before new i l a b → WellFormed m N′ new → Denotes m new (row i) F
   added-denotes s wf′ =
       row-denotes wf′ f (s .used) (s .level) (s .low) (s .high) (denotes-extends wf (s .kept) d0) (denotes-extends wf (s .kept) d1)
 
-  -- Where no used row is that row, none denotes F, and F is not constant: seen in the table with the row put at N.
+  -- Where no used row is that row, no arrow denotes F, and F is not constant: seen in the table with the row put at N.
   missing : {limit : ℕ} → a ≢ b → limit ≤ usedCount before N
       → ((j : ℕ) → before .used j ≡ true → before .level j ≡ l → before .low j ≡ a → before .high j ≡ b → ⊥) → Full m N limit before F
   missing ne out-of fresh =
@@ -175,18 +195,17 @@ module _ {m N : ℕ} {before : Rows} {l a b : ℕ} {F F0 F1 : Fn} (wf : WellForm
       record {
         run-out = out-of;
         lost = F;
-        cofactor = cofactor-refl F;
+        part = part-refl F;
         varies = record { off = y .off; on = y .on; at-off = sym (d .same (y .off)) ∙ y .at-off; at-on = sym (d .same (y .on)) ∙ y .at-on };
-        absent = λ j u e.
-            let h = wf .bounded j u in
-            let g : row j ≡ row N =
-            canonical wf′ (row j) (row N) (s .kept .used j u) (s .used) (λ v. den-extends (s .kept) wf m (row j) u v ∙ e v ∙ sym (d .same v))
+        absent = λ c u e.
+            let g : c ≡ row N =
+            canonical wf′ c (row N) (arrow-extends (s .kept) c u) (row-arrow _ N (s .used)) (λ v. den-extends (s .kept) wf m c u v ∙ e v ∙ sym (d .same v))
             in
-            omega arith;
+            true≢false (sym (leads-used before c N (ap (λ x. x / 2) g ∙ row-leads N) u) ∙ out);
       }
 
-  pub post-make : {limit : ℕ} {after : Rows} {answer : Result} → Making m N limit before after l a b answer → OpPost m N limit before after answer F
-  post-make (equal-arrows e s) =
+  post-plain : {limit : ℕ} {after : Rows} {answer : Result} → Plain m N limit before after l a b answer → OpPost m N limit before after answer F
+  post-plain (equal-arrows e s) =
       post-same s (post-arrow wf (record {
         arrow = d0 .arrow;
         same = λ v.
@@ -196,25 +215,34 @@ module _ {m N : ℕ} {before : Rows} {l a b : ℕ} {F F0 F1 : Fn} (wf : WellForm
             let p = f .same v in
             cc (e, e0, e1, c, p);
       }))
-  post-make (found-row i u el ea eb s) = post-same s (post-arrow wf (row-denotes wf f u el ea eb d0 d1))
-  post-make {after = after} (added-row i room ne s fresh) =
+  post-plain (found-row i u el ea eb s) = post-same s (post-arrow wf (row-denotes wf f u el ea eb d0 d1))
+  post-plain {after = after} (added-row i room ne s fresh) =
       let wf′ = grown s room (omega arith) ne fresh in
       let d = added-denotes s wf′ in
       record {
         wf = wf′;
         kept = s .kept;
         fresh = λ j u n. by-cases (ℕ-discrete j i)
-            (λ e. cofactor-same (cofactor-refl F) (λ v. ap (λ k. den m after (row k) v) e ∙ d .same v))
+            (λ e. part-same (part-refl F) (λ v. ap (λ k. den m after (row k) v) e ∙ d .same v))
             (λ h. absurd (true≢false (sym (s .only j u h) ∙ n)));
         result = d;
       }
-  post-make (no-row ne out-of fresh s) =
+  post-plain (no-row ne out-of fresh s) =
       post-same s (record {
         wf = wf;
         kept = extends-refl before;
         fresh = λ i u n. absurd (true≢false (sym u ∙ n));
         result = missing ne out-of fresh;
       })
+
+-- Then with any arrows.
+pub post-make : {m N limit : ℕ} {before after : Rows} {l a b : ℕ} {F F0 F1 : Fn} {answer : Result} → WellFormed m N before → l < m → Splits m l F F0 F1
+    → Denotes m before a F0 → Denotes m before b F1 → Making m N limit before after l a b answer → OpPost m N limit before after answer F
+post-make wf lm f d0 d1 (as-is pb r) = post-plain wf lm f d0 d1 pb r
+post-make {m} {N} {limit} {before} {after} {b = b} {F = F} wf lm f d0 d1 (turned mb r e) =
+    let odd = marked-odd b mb in
+    let p = post-plain wf lm (splits-turn f true) (denotes-flip d0) (denotes-flip d1) (even-marked (flip b) (omega arith)) r in
+    subst (λ o. OpPost m N limit before after o F) e (post-cong (λ v. turn-back true (F v)) (post-flip p))
 
 -- What an operation does at level l, by the three ways out of it: the low part is computed, then the high part in the table that the
 -- first left, then a row is made over the two answers. F0 is what the first call computes. F1 is what the second computes, and says it of

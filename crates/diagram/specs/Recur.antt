@@ -1,17 +1,17 @@
--- The five recursive steps meet the side conditions of `compose`: which two calls and which level make AND, OR, NOT, SHIFT and EXISTS.
--- Assumes nothing.
+-- The recursive steps meet the side conditions of `compose`: which two calls and which level make AND, SHIFT and EXISTS. NOT is no call, and
+-- OR is NOT of AND. Assumes nothing.
 use mathlib.Core.Path.{_≡_, sym, ap, _∙_, subst₂, fun-ext}
-use mathlib.Core.Bool.{Bool, true, false, not, true≢false}
+use mathlib.Core.Bool.{Bool, true, false, true≢false}
 use mathlib.Core.Logic.{_≢_}
 use Prim.Native.Nat.{ℕ, zero, suc, _<_, _%_}
 use native.Mathlib.Omega.{arith}
 use lib.Dec.{eqb→eq}
 use Rattle.diagram.specs.Level.{Val, Fn, T-false, upd, Splits, Reads, reads-from, splits-low, splits-high}
-use Rattle.diagram.specs.Rows.{Rows, row, Arrow, levelOf, den, WellFormed, Extends}
-use Rattle.diagram.specs.Den.{den-zero, den-one, den-reads, row-splits}
+use Rattle.diagram.specs.Rows.{Rows, Leads, Arrow, levelOf, follow, den, WellFormed, Extends}
+use Rattle.diagram.specs.Den.{den-zero, den-one, den-reads, arrow-splits, follow-arrow}
 use Rattle.diagram.specs.Grow.{den-extends}
 use Rattle.diagram.specs.Post.{Result, at, Denotes, OpPost, Making, Run, denotes-extends, post-arrow, post-make, post-cong, compose}
-use Rattle.diagram.specs.Steps.{bitF, bit-splits, exists-past, shift-reads, notF, twoF, orF, shiftF, existsF, not-splits, two-splits, shift-splits, exists-splits, exists-here, Parts}
+use Rattle.diagram.specs.Steps.{bitF, bit-splits, exists-past, shift-reads, twoF, orF, shiftF, existsF, two-splits, shift-splits, exists-splits, exists-here, Parts}
 use Rattle.diagram.specs.Even.{ReadsOn, even, cofactor-readsOn, row-level-read, even-reads}
 
 -- Where no call is made: the answer is an arrow that is there already.
@@ -71,9 +71,6 @@ module _ {m N l a x y : ℕ} {before : Rows} (wf : WellFormed m N before) (lm : 
         cc (p, q);
   }
 
-  pub not-divides : Divides m before l (notF (den m before a)) (notF (den m before x)) (λ t. notF (den m t y))
-  not-divides = record { shallow = lm; splits = not-splits (s .splits); stable = λ mid e v. ap not (den-extends e wf m y (s .high-arrow) v) }
-
   -- EXISTS at a greater level k.
   pub exists-divides : (k : ℕ) → l < k → Divides m before l (existsF k (den m before a)) (existsF k (den m before x)) (λ t. existsF k (den m t y))
   exists-divides k h = record {
@@ -101,22 +98,26 @@ pub shift-reads-all : {f : Fn} (m : ℕ) → even m ≡ true → ReadsOn even f 
 shift-reads-all zero em on r = λ v w h. r _ _ (λ l a b. absurd (omega arith))
 shift-reads-all (suc k) em on r = reads-from 0 (omega arith) (shift-reads (even-reads 0 k (odd-pred k em) on r))
 
--- SHIFT at row i of a function of even levels, where m is even: the row that is made is one level further.
-pub shift-divides : (m : ℕ) {N : ℕ} {before : Rows} (i : ℕ) → even m ≡ true → (wf : WellFormed m N before)
-    → before .used i ≡ true → ReadsOn even (den m before (row i))
-    → Divides m before (suc (before .level i)) (shiftF (den m before (row i))) (shiftF (den m before (before .low i))) (λ t. shiftF (den m t (before .high i)))
-shift-divides zero i em wf u on = absurd (let o = wf .ok i u in omega arith)
-shift-divides (suc k) {before = before} i em wf u on =
+-- SHIFT at an arrow to row i, of a function of even levels, where m is even: the row that is made is one level further.
+pub shift-divides : (m : ℕ) {N : ℕ} {before : Rows} (a i : ℕ) → Leads a i → even m ≡ true → (wf : WellFormed m N before)
+    → before .used i ≡ true → ReadsOn even (den m before a)
+    → Divides m before (suc (before .level i)) (shiftF (den m before a)) (shiftF (den m before (follow before a i false))) (λ t. shiftF (den m t (follow before a i true)))
+shift-divides zero a i g em wf u on = absurd (let o = wf .ok i u in omega arith)
+shift-divides (suc k) {before = before} a i g em wf u on =
     let o = wf .ok i u in
-    let s = row-splits wf i u in
+    let s = arrow-splits wf a i g u in
     let l = before .level i in
     let odd = odd-pred k em in
-    let le : even l ≡ true = row-level-read wf even i u on in
+    let le : even l ≡ true = row-level-read wf even a i g u on in
     let ne : l ≢ k = λ e. true≢false (sym le ∙ ap even e ∙ odd) in
-    let s′ : Splits k l (den (suc k) before (row i)) (den (suc k) before (before .low i)) (den (suc k) before (before .high i)) = record {
+    let s′ : Splits k l (den (suc k) before a) (den (suc k) before (follow before a i false)) (den (suc k) before (follow before a i true)) = record {
       same = s .same;
       reads0 = even-reads (suc l) k odd (cofactor-readsOn on (splits-low s)) (s .reads0);
       reads1 = even-reads (suc l) k odd (cofactor-readsOn on (splits-high s)) (s .reads1);
     }
     in
-    record { shallow = omega (arith, o .shallow); splits = shift-splits s′; stable = λ mid e v. den-extends e wf (suc k) (before .high i) (o .high-arrow) (λ j. v (suc j)) }
+    record {
+      shallow = omega (arith, o .shallow);
+      splits = shift-splits s′;
+      stable = λ mid e v. den-extends e wf (suc k) (follow before a i true) (follow-arrow wf a i g true u) (λ j. v (suc j));
+    }

@@ -1,26 +1,27 @@
--- A table that has the `oddF` of every row below an arrow has, tripled, rows enough for each two neighbouring stages of EXISTS at the odd
--- levels, the last first: a cofactor of a stage is the same stage of a row, or one of that row's `oddF`. Assumes nothing.
+-- A table that has the `oddF` of every arrow followed from an arrow has, five times, rows enough for each two neighbouring stages of EXISTS at
+-- the odd levels, the last first: a cofactor of a stage is the same stage of a row or of its complement, or a cofactor of their `oddF`.
+-- Assumes nothing.
 use mathlib.Core.Path.{_≡_, refl, sym, ap, _∙_, subst, fun-ext}
 use mathlib.Core.Logic.{_⊎_, inl, inr, ⊎-elim, by-cases}
-use mathlib.Core.Bool.{Bool, true, false, or-self, true≢false}
+use mathlib.Core.Bool.{Bool, true, false, or-self}
 use mathlib.Core.List.{List, [], _∷_, _++_, map}
 use mathlib.Core.List.{List·Memᴰ as Mem, List·Memᴰ·head as here, List·Memᴰ·cases-cons as mem-cases}
 use mathlib.Core.List.{Memᴰ·cast as mem-cast, Memᴰ·map as mem-map, Memᴰ·append-left as mem-left, Memᴰ·append-right as mem-right}
 use Prim.Native.Nat.{ℕ, zero, suc, _+_, _*_, _≤_}
 use native.Mathlib.Decide.{decLe, ℕ-discrete}
 use native.Mathlib.Omega.{arith}
-use lib.ListN.{length-map, length-append}
-use Rattle.diagram.specs.Level.{Val, Fn, upd, upd-same, upd-other, splice, splice-below, splice-above, Reads, CofactorOf, Varies}
-use Rattle.diagram.specs.Rows.{Rows, row, Arrow, den, WellFormed}
-use Rattle.diagram.specs.Den.{den-zero, den-one}
+use lib.ListN.{length, length-map, length-append}
+use Rattle.diagram.specs.Level.{Val, Fn, upd, upd-same, upd-other, splice, splice-below, splice-above, Reads, CofactorOf, Varies, varies-not}
+use Rattle.diagram.specs.Rows.{Rows, marked, target, Leads, row, carry, Arrow, den, WellFormed, leads-is, leads-used}
+use Rattle.diagram.specs.Den.{den-constant}
 use Rattle.diagram.specs.Count.{nodup-length}
 use Rattle.diagram.specs.Used.{usedRows, usedCount, mem-usedRows}
-use Rattle.diagram.specs.Need.{truthTable, needed, need}
-use Rattle.diagram.specs.Needed.{truthTable-cong, needed-source, nodup-needed}
-use Rattle.diagram.specs.Reach.{Reach, Reached, reached-root, den-reads-all, walk, cofactor-row, tab}
+use Rattle.diagram.specs.Need.{need}
+use Rattle.diagram.specs.Needed.{class, classes, need-length, needed-source, nodup-needed}
+use Rattle.diagram.specs.Reach.{den-reads-all, walk, cofactor-row, tab}
 use Rattle.diagram.specs.Steps.{exists-past}
 use Rattle.diagram.specs.Post.{Denotes}
-use Rattle.diagram.specs.Odd.{existsFrom, oddF, Covered}
+use Rattle.diagram.specs.Odd.{existsFrom, oddF, Follows, self, on, Covered}
 use Rattle.diagram.specs.OddLaws.{from-reads, from-fewer}
 
 -- To set a level from k on, and to fix those below k, go in either order.
@@ -85,10 +86,6 @@ stage-odd n d j f h e r =
     sym (from-last {lo = suc (2 * j)} {hi = 2 * n} f r j d 0 j n (omega arith) (omega arith) (omega arith))
     ∙ sym (from-first {lo = suc (2 * j)} {hi = 2 * n} f r n 16 0 h (omega arith))
 
--- What varies is no constant.
-varies-not : {g : Fn} (c : Bool) → Varies g → ((v : Val) → g v ≡ c) → ⊥
-varies-not c y h = true≢false (sym (y .at-on) ∙ h (y .on) ∙ sym (h (y .off)) ∙ y .at-off)
-
 -- What f has where levels below k are fixed reads only those from k on.
 splice-reads : {m : ℕ} {f : Fn} (k : ℕ) (u : Val) → Reads 0 m f → Reads k m (λ w. f (splice k u w))
 splice-reads k u r v w h =
@@ -96,82 +93,93 @@ splice-reads k u r v w h =
     (λ g. splice-above k u v l g ∙ h l g lm ∙ sym (splice-above k u w l g))
     (λ g. splice-below k u v l (omega arith) ∙ sym (splice-below k u w l (omega arith))))
 
--- A reached arrow with a varying stage is a row.
-stage-row : (m : ℕ) (rows : Rows) (roots : List ℕ) (c : ℕ) → Reached rows roots c → Arrow rows c → (d j : ℕ) (g : Fn) (at : Val → Val)
-    → ((v : Val) → g v ≡ existsFrom d j (den m rows c) (at v)) → Varies g → (i : ℕ) × Reach rows roots i × (rows .used i ≡ true) × (c ≡ row i)
-stage-row m rows roots zero r w d j g at e y = absurd (varies-not false y (λ v. e v ∙ from-const d j (den m rows 0) false (den-zero m rows) (at v)))
-stage-row m rows roots (suc zero) r w d j g at e y = absurd (varies-not true y (λ v. e v ∙ from-const d j (den m rows 1) true (den-one m rows) (at v)))
-stage-row m rows roots (suc (suc i)) r w d j g at e y = (i, r, w, refl)
+-- An arrow with a varying stage leads to a row.
+stage-row : (m : ℕ) (rows : Rows) (c x : ℕ) → target c ≡ x → (d j : ℕ) (g : Fn) (at : Val → Val)
+    → ((v : Val) → g v ≡ existsFrom d j (den m rows c) (at v)) → Varies g → (i : ℕ) × Leads c i
+stage-row m rows c zero e d j g at h y = absurd (varies-not (marked c) y (λ v. h v ∙ from-const d j (den m rows c) (marked c) (den-constant m rows c e) (at v)))
+stage-row m rows c (suc i) e d j g at h y = (i, e)
 
--- The table of a stage of what row i denotes.
-abbrev stageTab : ℕ → Rows → ℕ → ℕ → ℕ → List Bool
-stageTab m rows d j i = truthTable m (existsFrom d j (den m rows (row i)))
+-- The class of a stage of what row i denotes, or of its complement.
+abbrev stageTab : ℕ → Rows → ℕ → ℕ → Bool → ℕ → List Bool
+stageTab m rows d j b i = class m (existsFrom d j (den m rows (carry b (row i))))
+
+-- A member of the map of a bit's function is one of the two maps.
+mem-either : {A B : Type 0} {x : A} (f : Bool → A → B) (b : Bool) (xs : List A) → Mem x xs → Mem (f b x) (map (f false) xs ++ map (f true) xs)
+mem-either f false xs h = mem-left {s = map (f false) xs} (map (f true) xs) (mem-map (f false) h)
+mem-either f true xs h = mem-right (map (f false) xs) (mem-map (f true) h)
 
 module _ {m N n : ℕ} {rows : Rows} (wf : WellFormed m N rows) (em : m ≡ 2 * n) (small : n ≤ 16) (a : ℕ) (wa : Arrow rows a) (covered : Covered m rows a) where
+  -- The classes of the rows, and of a stage of them and of their complements.
+  abbrev rowTabs : List (List Bool)
+  rowTabs = map (tab wf) (usedRows rows N)
+
+  abbrev stageTabs : ℕ → ℕ → List (List Bool)
+  stageTabs d j = map (stageTab m rows d j false) (usedRows rows N) ++ map (stageTab m rows d j true) (usedRows rows N)
+
   -- A non-constant cofactor of what an arrow denotes is a row's.
-  cofactor-told : (b : ℕ) (f g : Fn) → Denotes m rows b f → CofactorOf f g → Varies g → Mem (truthTable m g) (map (tab wf) (usedRows rows N))
+  cofactor-told : (b : ℕ) (f g : Fn) → Denotes m rows b f → CofactorOf f g → Varies g → Mem (class m g) rowTabs
   cofactor-told b f g p c y =
       let c′ : CofactorOf (den m rows b) g = record { upto = c .upto; fixed = c .fixed; same = λ v. c .same v ∙ sym (p .same _) } in
       let (i, r, w, q) = cofactor-row wf (b ∷ []) b g (here refl) (p .arrow) c′ y in
-      mem-cast (sym (truthTable-cong m q)) (mem-map (tab wf) (mem-usedRows rows N i (wf .bounded i w) w))
+      mem-cast (sym q) (mem-map (tab wf) (mem-usedRows rows N i (wf .bounded i w) w))
 
-  -- Fixed below the stage's levels: the same stage of a row.
-  told-stage : (d j : ℕ) (g : Fn) (c : CofactorOf (existsFrom d j (den m rows a)) g) → c .upto ≤ suc (2 * j) → Varies g
-      → Mem (truthTable m g) (map (stageTab m rows d j) (usedRows rows N))
+  -- Fixed below the stage's levels: the same stage of a row or of its complement.
+  told-stage : (d j : ℕ) (g : Fn) (c : CofactorOf (existsFrom d j (den m rows a)) g) → c .upto ≤ suc (2 * j) → Varies g → Mem (class m g) (stageTabs d j)
   told-stage d j g c h y =
       let k = c .upto in
       let u = c .fixed in
       let cut : Fn = λ w. den m rows a (splice k u w) in
-      let t = walk wf (a ∷ []) a cut (reached-root rows (a ∷ []) a (here refl)) wa (record { upto = k; fixed = u; same = λ v. refl }) in
+      let t = walk wf (Follows rows a) (λ x i b p l. on b p l) a cut self wa (record { upto = k; fixed = u; same = λ v. refl }) in
       let e : (v : Val) → g v ≡ existsFrom d j (den m rows (t .arrow)) v = λ v.
       c .same v ∙ from-splice d j k u (den m rows a) h v ∙ ap (λ (f : Fn). existsFrom d j f v) (sym (fun-ext (t .same)))
       in
-      let (i, r, w, q) = stage-row m rows (a ∷ []) (t .arrow) (t .reached) (t .is-arrow) d j g (λ v. v) e y in
-      let s : (v : Val) → existsFrom d j (den m rows (row i)) v ≡ g v = λ v. sym (e v ∙ ap (λ x. existsFrom d j (den m rows x) v) q) in
-      mem-cast (sym (truthTable-cong m s)) (mem-map (stageTab m rows d j) (mem-usedRows rows N i (wf .bounded i w) w))
+      let (i, l) = stage-row m rows (t .arrow) (target (t .arrow)) refl d j g (λ v. v) e y in
+      let w = leads-used rows (t .arrow) i l (t .is-arrow) in
+      let s : existsFrom d j (den m rows (carry (marked (t .arrow)) (row i))) ≡ g =
+      fun-ext (λ v. sym (e v ∙ ap (λ x. existsFrom d j (den m rows x) v) (leads-is (t .arrow) i l)))
+      in
+      mem-cast (sym (ap (class m) s)) (mem-either (stageTab m rows d j) (marked (t .arrow)) (usedRows rows N) (mem-usedRows rows N i (wf .bounded i w) w))
 
-  -- Fixed further: a cofactor of a row's `oddF`.
-  told-odd : (d j : ℕ) → d + j ≡ n → (g : Fn) (c : CofactorOf (existsFrom d j (den m rows a)) g) → suc (2 * j) ≤ c .upto → Varies g
-      → Mem (truthTable m g) (map (tab wf) (usedRows rows N))
+  -- Fixed further: a cofactor of the `oddF` of an arrow that is followed.
+  told-odd : (d j : ℕ) → d + j ≡ n → (g : Fn) (c : CofactorOf (existsFrom d j (den m rows a)) g) → suc (2 * j) ≤ c .upto → Varies g → Mem (class m g) rowTabs
   told-odd d j ed g c h y =
       let b = suc (2 * j) in
       let k = c .upto in
       let u = c .fixed in
       let cut : Fn = λ w. den m rows a (splice b u w) in
-      let t = walk wf (a ∷ []) a cut (reached-root rows (a ∷ []) a (here refl)) wa (record { upto = b; fixed = u; same = λ v. refl }) in
-      let ec : cut ≡ den m rows (t .arrow) = sym (fun-ext (t .same)) in
-      let e : (v : Val) → g v ≡ existsFrom d j (den m rows (t .arrow)) (splice k u v) = λ v.
+      let t = walk wf (Follows rows a) (λ x i z p l. on z p l) a cut self wa (record { upto = b; fixed = u; same = λ v. refl }) in
+      let f : Fn = den m rows (t .arrow) in
+      let ec : cut ≡ f = sym (fun-ext (t .same)) in
+      let rd : Reads b m f = subst (Reads b m) ec (splice-reads b u (den-reads-all wf a wa)) in
+      let o = stage-odd n d j f small ed (subst (λ x. Reads b x f) em rd) in
+      let (x, p) = covered (t .arrow) (t .holds) in
+      let same : (v : Val) → g v ≡ oddF f (splice k u v) = λ v.
       c .same v ∙ ap (existsFrom d j (den m rows a)) (sym (splice-again b k u v h)) ∙ from-splice d j b u (den m rows a) (omega arith) (splice k u v)
-      ∙ ap (λ (f : Fn). existsFrom d j f (splice k u v)) ec
+      ∙ ap (λ (q : Fn). existsFrom d j q (splice k u v)) ec ∙ ap (λ (q : Fn). q (splice k u v)) o
       in
-      let (i, r, w, q) = stage-row m rows (a ∷ []) (t .arrow) (t .reached) (t .is-arrow) d j g (λ v. splice k u v) e y in
-      let ei : cut ≡ den m rows (row i) = ec ∙ ap (den m rows) q in
-      let rd : Reads b m (den m rows (row i)) = subst (Reads b m) ei (splice-reads b u (den-reads-all wf a wa)) in
-      let o = stage-odd n d j (den m rows (row i)) small ed (subst (λ x. Reads b x (den m rows (row i))) em rd) in
-      let (x, p) = covered i r in
-      let same : (v : Val) → g v ≡ oddF (den m rows (row i)) (splice k u v) = λ v.
-      e v ∙ ap (λ z. existsFrom d j (den m rows z) (splice k u v)) q ∙ ap (λ (f : Fn). f (splice k u v)) o
-      in
-      cofactor-told x (oddF (den m rows (row i))) g p (record { upto = k; fixed = u; same = same }) y
+      cofactor-told x (oddF f) g p (record { upto = k; fixed = u; same = same }) y
 
-  -- So each non-constant cofactor of a stage is a row, or the same stage of one.
+  -- So each non-constant cofactor of a stage is a row, or the same stage of one or of its complement.
   told : (d j : ℕ) → d + j ≡ n → (g : Fn) → CofactorOf (existsFrom d j (den m rows a)) g → Varies g
-      → Mem (truthTable m g) (map (tab wf) (usedRows rows N)) ⊎ Mem (truthTable m g) (map (stageTab m rows d j) (usedRows rows N))
+      → Mem (class m g) rowTabs ⊎ Mem (class m g) (stageTabs d j)
   told d j ed g c y = by-cases (decLe (c .upto) (suc (2 * j))) (λ h. inr (told-stage d j g c h y)) (λ h. inl (told-odd d j ed g c (omega arith) y))
 
-  -- Two neighbouring stages, beside functions that the table denotes, need at most three times its used rows.
-  pub stage-need : (fs : List Fn) → ((f : Fn) → Mem f fs → (b : ℕ) × Denotes m rows b f) → (d j : ℕ) → suc d + j ≡ n
-      → need m (existsFrom (suc d) j (den m rows a) ∷ existsFrom d (suc j) (den m rows a) ∷ fs) ≤ 3 * usedCount rows N
-  unfolding need
-  stage-need fs held d j ed =
+  stage-length : (d j : ℕ) → length (stageTabs d j) ≡ 2 * usedCount rows N
+  stage-length d j =
       let is = usedRows rows N in
+      omega (arith, length-append (map (stageTab m rows d j false) is) (map (stageTab m rows d j true) is), length-map is (stageTab m rows d j false), length-map is (stageTab m rows d j true))
+
+  -- Two neighbouring stages, beside functions that the table denotes, need at most five times its used rows.
+  pub stage-need : (fs : List Fn) → ((f : Fn) → Mem f fs → (b : ℕ) × Denotes m rows b f) → (d j : ℕ) → suc d + j ≡ n
+      → need m (existsFrom (suc d) j (den m rows a) ∷ existsFrom d (suc j) (den m rows a) ∷ fs) ≤ 5 * usedCount rows N
+  stage-need fs held d j ed =
       let hs = existsFrom (suc d) j (den m rows a) ∷ existsFrom d (suc j) (den m rows a) ∷ fs in
-      let xs = map (tab wf) is in
-      let ys = map (stageTab m rows (suc d) j) is in
-      let zs = map (stageTab m rows d (suc j)) is in
-      let all = nodup-length (needed m hs) (xs ++ (ys ++ zs)) (nodup-needed m hs) (λ t h.
+      let xs = rowTabs in
+      let ys = stageTabs (suc d) j in
+      let zs = stageTabs d (suc j) in
+      let all = nodup-length (classes m hs) (xs ++ (ys ++ zs)) (nodup-needed m hs) (λ t h.
       let s = needed-source m hs t h in
-      let first : Mem (truthTable m (s .part)) xs → Mem (truthTable m (s .part)) (xs ++ (ys ++ zs)) = λ x. mem-left {s = xs} (ys ++ zs) x in
+      let first : Mem (class m (s .part)) xs → Mem (class m (s .part)) (xs ++ (ys ++ zs)) = λ x. mem-left {s = xs} (ys ++ zs) x in
       mem-cast (sym (s .told))
       (⊎-elim (λ e. ⊎-elim first (λ x. mem-right xs (mem-left {s = ys} zs x))
       (told (suc d) j ed (s .part) (subst (λ f. CofactorOf f (s .part)) e (s .cofactor)) (s .varies)))
@@ -181,4 +189,4 @@ module _ {m N n : ℕ} {rows : Rows} (wf : WellFormed m N rows) (em : m ≡ 2 * 
       (mem-cases more))
       (mem-cases (s .listed))))
       in
-      omega (arith, all, length-append xs (ys ++ zs), length-append ys zs, length-map is (tab wf), length-map is (stageTab m rows (suc d) j), length-map is (stageTab m rows d (suc j)))
+      omega (arith, all, need-length m hs, length-append xs (ys ++ zs), length-append ys zs, length-map (usedRows rows N) (tab wf), stage-length (suc d) j, stage-length d (suc j))

@@ -7,9 +7,9 @@ use Prim.Native.Nat.{ℕ, zero, suc, _≤_, _<_}
 use native.Mathlib.Decide.{ℕ-discrete}
 use native.Mathlib.Omega.{arith}
 use lib.Dec.{eqb, eqb-refl, eqb→eq}
-use Rattle.diagram.specs.Level.{Val, Fn, upd, upd-same, upd-other, upd-unread, Reads, reads-from, Splits, T-true}
-use Rattle.diagram.specs.Rows.{Rows, row, Arrow, levelOf, den, WellFormed}
-use Rattle.diagram.specs.Den.{den-reads, row-splits}
+use Rattle.diagram.specs.Level.{Val, Fn, upd, upd-same, upd-other, upd-unread, Reads, reads-from, Splits, T-true, T-false}
+use Rattle.diagram.specs.Rows.{Rows, target, Leads, Arrow, levelOf, follow, den, WellFormed, leads-used, leads-level}
+use Rattle.diagram.specs.Den.{den-reads, follow-arrow, follow-deeper, arrow-splits}
 
 -- Level l itself: current bit p at level 2p, next bit p at 2p + 1.
 abbrev pub bitF : ℕ → Fn
@@ -37,10 +37,6 @@ abbrev pub existsF : ℕ → Fn → Fn
 existsF x f v = f (upd v x false) || f (upd v x true)
 
 -- An operation goes through a choice.
-cond-map : {A B : Type 0} (f : A → B) (b : Bool) (x y : A) → f (cond b x y) ≡ cond b (f x) (f y)
-cond-map f true x y = refl
-cond-map f false x y = refl
-
 cond-map₂ : {A B C : Type 0} (f : A → B → C) (b : Bool) (x y : A) (z w : B) → f (cond b x y) (cond b z w) ≡ cond b (f x z) (f y w)
 cond-map₂ f true x y z w = refl
 cond-map₂ f false x y z w = refl
@@ -76,14 +72,6 @@ pub shift-reads : {lo hi : ℕ} {f : Fn} → Reads lo hi f → Reads (suc lo) (s
 shift-reads r v w h = r _ _ (λ k a b. h (suc k) (omega arith) (omega arith))
 
 module _ {m l : ℕ} {f f0 f1 : Fn} (s : Splits m l f f0 f1) where
-  -- NOT.
-  pub not-splits : Splits m l (notF f) (notF f0) (notF f1)
-  not-splits = record {
-    same = λ v. ap not (s .same v) ∙ cond-map not (v l) (f1 v) (f0 v);
-    reads0 = not-reads (s .reads0);
-    reads1 = not-reads (s .reads1);
-  }
-
   -- An operation on two functions, as AND and OR.
   pub two-splits : (op : Bool → Bool → Bool) {g g0 g1 : Fn} → Splits m l g g0 g1 → Splits m l (twoF op f g) (twoF op f0 g0) (twoF op f1 g1)
   two-splits op {g} {g0} {g1} t = record {
@@ -137,16 +125,34 @@ exists-past {f = f} x h r v =
     let o = or-self (f v) in
     cc (u0, u1, o)
 
--- The arrow that is followed from `a` where level l is 0, and where it is 1: the arrow itself unless it leads to level l.
+-- The arrow that is followed from `a` where level l is b: the arrow itself unless it leads to level l.
+abbrev sideTo : Rows → ℕ → ℕ → Bool → ℕ → ℕ
+sideTo rows l a b zero = a
+sideTo rows l a b (suc i) = cond (eqb (rows .level i) l) (follow rows a i b) a
+
 unfoldable pub lowAt : Rows → ℕ → ℕ → ℕ
-lowAt rows l zero = 0
-lowAt rows l (suc zero) = 1
-lowAt rows l (suc (suc i)) = cond (eqb (rows .level i) l) (rows .low i) (row i)
+lowAt rows l a = sideTo rows l a false (target a)
 
 unfoldable pub highAt : Rows → ℕ → ℕ → ℕ
-highAt rows l zero = 0
-highAt rows l (suc zero) = 1
-highAt rows l (suc (suc i)) = cond (eqb (rows .level i) l) (rows .high i) (row i)
+highAt rows l a = sideTo rows l a true (target a)
+
+-- What they are of an arrow to row i: at the row's level, and at another.
+module _ (rows : Rows) (l a i : ℕ) (e : Leads a i) where
+  pub low-here : rows .level i ≡ l → lowAt rows l a ≡ follow rows a i false
+  unfolding lowAt
+  low-here q = ap (sideTo rows l a false) e ∙ rw (T-true (eqb (rows .level i) l) (rw q (eqb-refl l)))
+
+  pub high-here : rows .level i ≡ l → highAt rows l a ≡ follow rows a i true
+  unfolding highAt
+  high-here q = ap (sideTo rows l a true) e ∙ rw (T-true (eqb (rows .level i) l) (rw q (eqb-refl l)))
+
+  pub low-past : rows .level i ≢ l → lowAt rows l a ≡ a
+  unfolding lowAt
+  low-past n = ap (sideTo rows l a false) e ∙ rw (T-false (eqb (rows .level i) l) (λ t. n (eqb→eq (rows .level i) l t)))
+
+  pub high-past : rows .level i ≢ l → highAt rows l a ≡ a
+  unfolding highAt
+  high-past n = ap (sideTo rows l a true) e ∙ rw (T-false (eqb (rows .level i) l) (λ t. n (eqb→eq (rows .level i) l t)))
 
 module _ {m N : ℕ} {rows : Rows} (wf : WellFormed m N rows) where
   -- An arrow that leads further splits into itself twice.
@@ -169,24 +175,31 @@ pub record Parts (m : ℕ) (rows : Rows) (l a lo hi : ℕ) : Type 0 where
   pub splits : Splits m l (den m rows a) (den m rows lo) (den m rows hi)
 
 module _ {m N : ℕ} {rows : Rows} (wf : WellFormed m N rows) where
-  -- A row at its own level, and an arrow at a lesser one.
-  pub parts-row : (i : ℕ) → rows .used i ≡ true → Parts m rows (rows .level i) (row i) (rows .low i) (rows .high i)
-  parts-row i u =
-      let o = wf .ok i u in
-      record { low-arrow = o .low-arrow; high-arrow = o .high-arrow; low-deeper = o .low-deeper; high-deeper = o .high-deeper; splits = row-splits wf i u }
+  -- An arrow to a row at the row's level, and an arrow at a lesser one.
+  pub parts-row : (a i : ℕ) → Leads a i → rows .used i ≡ true → Parts m rows (rows .level i) a (follow rows a i false) (follow rows a i true)
+  parts-row a i e u = record {
+    low-arrow = follow-arrow wf a i e false u;
+    high-arrow = follow-arrow wf a i e true u;
+    low-deeper = follow-deeper wf a i e false u;
+    high-deeper = follow-deeper wf a i e true u;
+    splits = arrow-splits wf a i e u;
+  }
 
   parts-skip : (l a : ℕ) → Arrow rows a → l < levelOf m rows a → Parts m rows l a a a
   parts-skip l a u h = record { low-arrow = u; high-arrow = u; low-deeper = h; high-deeper = h; splits = skip-splits wf l a u h }
 
-  parts-at : (l i : ℕ) (b : Bool) → eqb (rows .level i) l ≡ b → rows .used i ≡ true → l ≤ rows .level i
-      → Parts m rows l (row i) (cond b (rows .low i) (row i)) (cond b (rows .high i) (row i))
-  parts-at l i true e u h = let q : rows .level i ≡ l = eqb→eq (rows .level i) l (rw e tt) in rw q at (parts-row i u)
-  parts-at l i false e u h =
+  parts-at : (l a i : ℕ) (b : Bool) → eqb (rows .level i) l ≡ b → Leads a i → Arrow rows a → l ≤ rows .level i
+      → Parts m rows l a (cond b (follow rows a i false) a) (cond b (follow rows a i true) a)
+  parts-at l a i true e g u h = let q : rows .level i ≡ l = eqb→eq (rows .level i) l (rw e tt) in rw q at (parts-row a i g (leads-used rows a i g u))
+  parts-at l a i false e g u h =
       let ne : rows .level i ≢ l = λ q. true≢false (sym (T-true (eqb (rows .level i) l) (rw q (eqb-refl l))) ∙ e) in
-      parts-skip l (row i) u (omega arith)
+      let q = leads-level m rows a i g in
+      parts-skip l a u (omega arith)
+
+  parts-to : (l a k : ℕ) → target a ≡ k → l < m → Arrow rows a → l ≤ levelOf m rows a → Parts m rows l a (sideTo rows l a false k) (sideTo rows l a true k)
+  parts-to l a zero e lm u h = parts-skip l a u (rw e lm)
+  parts-to l a (suc i) e lm u h = parts-at l a i (eqb (rows .level i) l) refl e u (let q = leads-level m rows a i e in omega arith)
 
   pub parts : (l a : ℕ) → l < m → Arrow rows a → l ≤ levelOf m rows a → Parts m rows l a (lowAt rows l a) (highAt rows l a)
   unfolding lowAt highAt
-  parts l zero lm u h = parts-skip l 0 tt lm
-  parts l (suc zero) lm u h = parts-skip l 1 tt lm
-  parts l (suc (suc i)) lm u h = parts-at l i (eqb (rows .level i) l) refl u h
+  parts l a lm u h = parts-to l a (target a) refl lm u h

@@ -10,7 +10,7 @@ use Rattle.diagram.specs.Level.{Val, Fn, Reads}
 use Rattle.diagram.specs.Rows.{Rows, Arrow, WellFormed, Same}
 use Rattle.diagram.specs.Grow.{same-refl}
 use Rattle.diagram.specs.Used.{usedCount-le, usedCount-all, all-used}
-use Rattle.diagram.specs.Post.{Result, at, full, Full, Making, no-row, OpPost}
+use Rattle.diagram.specs.Post.{Result, at, full, Full, Plain, no-row, OpPost}
 use Rattle.diagram.specs.Collect.{Collects}
 use Rattle.diagram.specs.Step.{Settled, ran-out, few-used, many-reached, StepPost, step-first, step-again}
 
@@ -25,7 +25,7 @@ full-all-used {N = N} {rows = rows} r = all-used rows N (r .run-out)
 -- Where all rows are used no row is made.
 pub all-used-no-row : {m N : ℕ} {before after : Rows} {l a b : ℕ} → a ≢ b → ((i : ℕ) → i < N → before .used i ≡ true)
     → ((j : ℕ) → before .used j ≡ true → before .level j ≡ l → before .low j ≡ a → before .high j ≡ b → ⊥)
-    → Same before after → Making m N N before after l a b full
+    → Same before after → Plain m N N before after l a b full
 all-used-no-row {N = N} {before = before} ne all fresh s = no-row ne (usedCount-all before N all) fresh s
 
 -- Every try is settled as it is: no more than N rows are used.

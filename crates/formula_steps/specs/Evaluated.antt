@@ -151,13 +151,13 @@ module _ (X : View) (r a v : ℕ) (l : r < REGISTERS) where
     n = other-put Y TALLY v BITS (omega arith) ∙ other-put X (FIRST-REGISTER + r) (suc a) BITS (omega arith);
     N = refl;
     tally = word-put Y TALLY v;
-    rows = rows-kept Y TALLY v (omega arith) (omega arith) (omega arith) ∙ rows-kept X (FIRST-REGISTER + r) (suc a) (omega arith) (omega arith) (omega arith);
+    rows = rows-kept Y TALLY v (omega arith) (omega arith) (omega arith) (omega arith) ∙ rows-kept X (FIRST-REGISTER + r) (suc a) (omega arith) (omega arith) (omega arith) (omega arith);
     reg = λ q _. ap arrowIn (other-put Y TALLY v (FIRST-REGISTER + q) (omega arith)) ∙ root-put X FIRST-REGISTER r a q;
     rel = λ t _. ap arrowIn (other-put Y TALLY v (FIRST-RELATION + t) (omega arith) ∙ other-put X (FIRST-REGISTER + r) (suc a) (FIRST-RELATION + t) (omega arith));
   }
 
   pub register-good : Good X → Good (registerStored X r a v)
-  register-good g = good-store Y TALLY v (omega arith) (omega arith) (omega arith) (good-store X (FIRST-REGISTER + r) (suc a) (omega arith) (omega arith) (omega arith) g)
+  register-good g = good-store Y TALLY v (omega arith) (omega arith) (omega arith) (omega arith) (good-store X (FIRST-REGISTER + r) (suc a) (omega arith) (omega arith) (omega arith) (omega arith) g)
 
 -- relation t holds arrow a
 abbrev pub relationStored : View → ℕ → ℕ → View
@@ -169,13 +169,13 @@ module _ (X : View) (t a : ℕ) (l : t < RELATIONS) where
     n = other-put X (FIRST-RELATION + t) (suc a) BITS (omega arith);
     N = refl;
     tally = other-put X (FIRST-RELATION + t) (suc a) TALLY (omega arith);
-    rows = rows-kept X (FIRST-RELATION + t) (suc a) (omega arith) (omega arith) (omega arith);
+    rows = rows-kept X (FIRST-RELATION + t) (suc a) (omega arith) (omega arith) (omega arith) (omega arith);
     reg = λ q k. ap arrowIn (other-put X (FIRST-RELATION + t) (suc a) (FIRST-REGISTER + q) (omega arith));
     rel = λ q k. root-put X FIRST-RELATION t a q;
   }
 
   pub relation-good : Good X → Good (relationStored X t a)
-  relation-good g = good-store X (FIRST-RELATION + t) (suc a) (omega arith) (omega arith) (omega arith) g
+  relation-good g = good-store X (FIRST-RELATION + t) (suc a) (omega arith) (omega arith) (omega arith) (omega arith) g
 
 -- ---- the call
 

@@ -10,7 +10,7 @@ use Rattle.layout.specs.Places.{REGISTERS, RELATIONS, MAX-ROWS, BITS, ROWS, TAL
 use Rattle.layout.specs.View.{View, view, headerOf, putHeader}
 use Rattle.layout.specs.declared.Refusal.the-variants as refusal
 use Rattle.tokens.specs.declared.Kind.the-variants as kind
-use Rattle.diagram.specs.Rows.{Rows, Arrow, WellFormed}
+use Rattle.diagram.specs.Rows.{Rows, target, Arrow, ArrowTo, WellFormed}
 use Rattle.soundness.specs.Sound.{Sound, tableOf}
 use Rattle.table.specs.Make.{result}
 use Rattle.table.specs.declared.Made.{Made}
@@ -103,10 +103,12 @@ module _ (X : View) (r : ℕ) where
   loaded-value {a = a} {Z = Z} e n = subst (λ (y : Made). (loaded.Done ≡ loadedOf y) × (Z ≡ relationLoaded X r y)) (sym e) (refl, n ∙ ap (λ (x : ℕ). putHeader X (FIRST-RELATION + r) x) (omega arith))
 
 -- an arrow's word fits
+fits-to : {m N : ℕ} {rows : Rows} → WellFormed m N rows → N ≤ MAX-ROWS → (a k : ℕ) → target a ≡ k → ArrowTo rows k → suc a < 4_294_967_296
+fits-to wf l a zero e u = omega arith
+fits-to wf l a (suc i) e u = let h = wf .bounded i u in omega arith
+
 pub arrow-fits : {m N : ℕ} {rows : Rows} → WellFormed m N rows → N ≤ MAX-ROWS → (a : ℕ) → Arrow rows a → suc a < 4_294_967_296
-arrow-fits wf l zero u = omega arith
-arrow-fits wf l (suc zero) u = omega arith
-arrow-fits wf l (suc (suc i)) u = let h = wf .bounded i u in omega arith
+arrow-fits wf l a u = fits-to wf l a (target a) refl u
 
 ends-holds : {n N : ℕ} {before after : Rows} {roots : List ℕ} (o : Outcome) (y : Evaluated) → N ≤ MAX-ROWS → Evals n N before after roots o (endedOf y) → Holds y
 ends-holds (value A p) (Value a k q) l d = arrow-fits (d .wf) l a (d .result .0 .arrow)

@@ -53,6 +53,13 @@ SLOTS = 5
 abbrev pub STORED : ℕ
 STORED = 6
 
+-- which layout the words have, and the number of this one, in which arrows may carry a NOT
+abbrev pub LAYOUT : ℕ
+LAYOUT = 7
+
+abbrev pub MARKED : ℕ
+MARKED = 2
+
 -- the roots: registers, then relations
 abbrev pub FIRST-REGISTER : ℕ
 FIRST-REGISTER = 16

@@ -7,7 +7,7 @@ ghost use Rattle.layout.specs.Places.{MAX-ROWS, HEADER, CELLS, wordsFor}
 ghost use Rattle.layout.specs.View.{view, headerOf, cellOf, listOf, headOf, slotOf, putHeader, putCell, putList, putHead, putSlot};
 ghost use Rattle.layout.specs.Header.{headerWords};
 ghost use Rattle.layout.specs.Roots.{filledRegister, filledRelation};
-ghost use Rattle.layout.specs.Arrows.{isRow, rowOf, arrowOf};
+ghost use Rattle.layout.specs.Arrows.{isRow, rowOf, arrowOf, isMarked, flipArrow, carryArrow};
 ghost use Rattle.layout.specs.Refusals.{refusalNumber};
 
 // A table's two sizes, and what is fixed of every table.
@@ -34,7 +34,7 @@ impl Table {
 
     pub const ROW_WORDS: usize = 12;
 
-    // The two constant arrows, and the arrow to row 0.
+    // The two arrows to the one constant, without and with a NOT, and the arrow to row 0.
     pub const NOTHING: u32 = 0;
 
     pub const EVERYTHING: u32 = 1;
@@ -56,11 +56,16 @@ impl Table {
 
     pub const STORED: usize = 6;
 
+    pub const LAYOUT: usize = 7;
+
     pub const FIRST_REGISTER: usize = 16;
 
     pub const FIRST_RELATION: usize = 48;
 
     pub const ROOTS_END: usize = 56;
+
+    // What the layout's word has: arrows carry a NOT. Words of the first layout have 0 there.
+    pub const MARKED: u32 = 2;
 
     // Words of a row.
     pub const LOW: usize = 0;
@@ -91,6 +96,7 @@ impl Table {
         let mut words = [0u32; Table::HEADER];
         words[Table::BITS] = bits;
         words[Table::ROWS] = rows;
+        words[Table::LAYOUT] = Table::MARKED;
         words
     }
 }
@@ -140,15 +146,39 @@ pub fn row_of(a: u32) -> u32
     requires { ⌜ isRow a ≡ true ⌝ }
     ensures { λ r. ⌜ r ≡ rowOf a ⌝ }
 {
-    a - Table::FIRST_ROW
+    a / 2 - 1
 }
 
-// The arrow to row i.
+// The arrow to row i, without a NOT.
 pub fn arrow_of(i: u32) -> u32
     requires { ⌜ i < MAX-ROWS ⌝ }
     ensures { λ r. ⌜ r ≡ arrowOf i ⌝ }
 {
-    i + Table::FIRST_ROW
+    2 * (i + 1)
+}
+
+// Whether an arrow carries a NOT.
+pub fn is_marked(a: u32) -> bool
+    ensures { λ r. ⌜ r ≡ isMarked a ⌝ }
+{
+    a % 2 == 1
+}
+
+// NOT of an arrow: the other one to the same row or constant. With no branch, and the compiler makes one XOR of it.
+pub fn flip(a: u32) -> u32
+    ensures { λ r. ⌜ r ≡ flipArrow a ⌝ }
+{
+    a - a % 2 + (1 - a % 2)
+}
+
+// An arrow, or NOT of it where another one carries a NOT.
+pub fn carry(by: u32, a: u32) -> u32
+    ensures { λ r. ⌜ r ≡ carryArrow (isMarked by) a ⌝ }
+{
+    if is_marked(by) {
+        return flip(a);
+    }
+    a
 }
 
 // Word h of the header.

@@ -56,7 +56,7 @@ pub record Forgot (W X : View) : Type 0 where
 
 -- so what is remembered is right
 pub forgot-remembers : {W X : View} (m : ℕ) → Forgot W X → Remembers m X
-forgot-remembers m f = record { sizes = f .sizes; pairs = λ s l n. absurd (n (f .slots s l)); singles = λ i u n. absurd (n (f .keys i u)) }
+forgot-remembers m f = record { sizes = f .sizes; pairs = λ s l n. absurd (n (f .slots s l)); singles = λ i u. record { each = λ n b v q. absurd (n (let z = f .keys i u in omega (arith, z))) } }
 
 -- the steps of `forget`
 module _ {W W₁ W₂ : View} (slots : ℕ) (g : Good W) (e₁ : W₁ ≡ putHeader W SLOTS slots) (e₂ : W₂ ≡ putHeader W₁ STORED 0) where

@@ -6,7 +6,7 @@ use Prim.Native.Nat.{ℕ, _<_}
 use native.Mathlib.Omega.{arith}
 use borrow.Author.Tests.{ne-eqb}
 use Rattle.diagram.specs.Rows.{Rows}
-use Rattle.layout.specs.Places.{BITS, ROWS, USED, SLOTS, STORED, LOW, HIGH, LEVEL, RANK, MEMO-KEY, MEMO-VALUE}
+use Rattle.layout.specs.Places.{BITS, ROWS, USED, LAYOUT, SLOTS, STORED, LOW, HIGH, LEVEL, RANK, MEMO-KEY, MEMO-VALUE}
 use Rattle.layout.specs.View.{View, putHeader, putCell}
 use Rattle.soundness.specs.Used.{used, usedAt, rowsOf}
 use Rattle.soundness.specs.Index.{keyOf}
@@ -84,6 +84,7 @@ module _ {W X : View} (f : MemoFrame W X) where
     bits = low-header BITS (omega arith);
     count = low-header ROWS (omega arith);
     used = low-header USED (omega arith);
+    layout = f .header LAYOUT (omega arith) (omega arith);
     roots = λ h a l. f .header h (omega arith) (omega arith);
     list = λ k l. ap (λ (t : ℕ → ℕ). t k) (f .list);
     cell = λ k h l m. low-cell (W .list k) l (omega arith);

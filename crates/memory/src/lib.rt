@@ -2,6 +2,7 @@
 use layout::Table;
 use layout::get;
 use layout::header_word;
+use layout::is_marked;
 use layout::listed;
 use layout::put;
 use layout::put_header;
@@ -12,13 +13,14 @@ use table::Found;
 ghost use mathlib.Core.Path.{_≡_};
 ghost use Prim.Native.Nat.{ℕ, _*_, _<_, _≤_};
 ghost use lib.ListN.{length};
+ghost use Rattle.layout.specs.Arrows.{isMarked};
 ghost use Rattle.layout.specs.Places.{SLOTS, wordsFor};
 ghost use Rattle.layout.specs.View.{view, headerOf, listOf};
 ghost use Rattle.soundness.specs.Checks.{Room};
 ghost use Rattle.soundness.specs.Sound.{Good};
 ghost use Rattle.table.specs.Code.{madeOf};
-ghost use Rattle.memory.specs.Memo.{firstOf, secondOf, Slots, RecallPost, RowPost};
-ghost use Rattle.memory.specs.Store.{Emptied, Fewer, Wrote, RememberPost, keepRow};
+ghost use Rattle.memory.specs.Memo.{KINDS, MOST, held, Slots, RecallPost, RowPost};
+ghost use Rattle.memory.specs.Store.{Emptied, Fewer, Wrote, RememberPost, newKey, newValue, keepRow};
 ghost use Rattle.memory.specs.Forget.{FirstSlots, RowsForgot, Forgot};
 
 // What is fixed of remembered results.
@@ -33,38 +35,20 @@ impl Memory {
     // The number of active slots starts near this and twice the used rows.
     pub const FEWEST: u32 = 256;
 
-    // What a row remembers: nothing, NOT, SHIFT, EXISTS at every odd level, or EXISTS at level 0 and so on.
+    // What a row remembers: nothing, or of each of its two arrows SHIFT, EXISTS at every odd level, or EXISTS at level 0 and so on.
     pub const NOTHING: u32 = 0;
 
-    pub const NOT: u32 = 1;
+    pub const SHIFT: u32 = 1;
 
-    pub const SHIFT: u32 = 2;
+    pub const ODD: u32 = 2;
 
-    pub const ODD: u32 = 3;
+    pub const EXISTS: u32 = 3;
 
-    pub const EXISTS: u32 = 4;
-}
+    // The kind is the remainder of a row's key by this.
+    pub const KIND_ROOM: u32 = 64;
 
-// The operations on two arrows.
-pub enum Op {
-    And,
-    Or,
-}
-
-// Two arrows in the order of an entry: the lesser first for AND, the greater first for OR.
-pub struct Pair {
-    pub x: u32,
-    pub y: u32,
-}
-
-// The order in which an operation on a lesser and a greater arrow is remembered.
-fn pair_of(op: Op, lo: u32, hi: u32) -> Pair
-    ensures { λ r. ⌜ (r .x ≡ firstOf op lo hi) × (r .y ≡ secondOf op lo hi) ⌝ }
-{
-    match op {
-        Op::And => Pair { x: lo, y: hi },
-        Op::Or => Pair { x: hi, y: lo },
-    }
+    // A bound of arrows.
+    pub const MOST: u32 = 131072;
 }
 
 // The slot of a pair among the active ones, a power of two: a multiplicative hash under a mask.
@@ -77,21 +61,20 @@ fn slot_of(slots: u32, x: u32, y: u32) -> u32
     ((a + b) / 32768 & ((slots - 1) as u64)) as u32
 }
 
-// What is remembered of an operation on a lesser and a greater arrow.
-pub fn recall(words: &[u32], rows: u32, op: Op, lo: u32, hi: u32) -> Found
+// What is remembered of AND of two arrows.
+pub fn recall(words: &[u32], rows: u32, lo: u32, hi: u32) -> Found
     requires { ⌜ Room (view rows (now words)) × Slots (view rows (now words)) ⌝ }
-    ensures { λ r. ⌜ RecallPost (view rows (now (words .entry))) (firstOf op lo hi) (secondOf op lo hi) r ⌝ }
+    ensures { λ r. ⌜ RecallPost (view rows (now (words .entry))) lo hi r ⌝ }
 {
     let slots = header_word(words, Table::SLOTS);
     if slots == 0 {
         return Found::Nothing;
     }
-    let p = pair_of(op, lo, hi);
-    let at = Memory::ENTRY * slot_of(slots, p.x, p.y);
-    if slot(words, rows, at) != p.x {
+    let at = Memory::ENTRY * slot_of(slots, lo, hi);
+    if slot(words, rows, at) != lo {
         return Found::Nothing;
     }
-    if slot(words, rows, at + 1) != p.y {
+    if slot(words, rows, at + 1) != hi {
         return Found::Nothing;
     }
     Found::At(slot(words, rows, at + 2))
@@ -151,40 +134,90 @@ fn write_entry(words: &mut [u32], rows: u32, x: u32, y: u32, r: u32)
     put_slot(words, rows, at + 2, r);
 }
 
-// Remembers what an operation on a lesser and a greater arrow gives, if it was made.
-pub fn remember(words: &mut [u32], rows: u32, op: Op, lo: u32, hi: u32, r: u32)
+// Remembers what AND of two arrows gives, if it was made.
+pub fn remember(words: &mut [u32], rows: u32, lo: u32, hi: u32, r: u32)
     requires { ⌜ Room (view rows (now words)) × Slots (view rows (now words)) ⌝ }
-    ensures { λ _. ⌜ RememberPost (view rows (now (words .entry))) (view rows (now (words .exit))) (firstOf op lo hi) (secondOf op lo hi) (madeOf r) ⌝ }
+    ensures { λ _. ⌜ RememberPost (view rows (now (words .entry))) (view rows (now (words .exit))) lo hi (madeOf r) ⌝ }
 {
     if r == Code::FULL {
         return;
     }
     count_stored(words, rows);
-    let p = pair_of(op, lo, hi);
-    write_entry(words, rows, p.x, p.y, r);
+    write_entry(words, rows, lo, hi, r);
 }
 
-// What row i remembers, if it is a result of this kind.
-pub fn recall_row(words: &[u32], rows: u32, i: u32, key: u32) -> Found
-    requires { ⌜ (i < rows) × (wordsFor rows ≤ length (now words)) ⌝ }
-    ensures { λ r. ⌜ RowPost (view rows (now (words .entry))) i key r ⌝ }
+// Where the answer for an arrow stands, one more than it, or 0 where there is none: in the rest of the key for one with a NOT.
+fn held_for(a: u32, key: u32, value: u32) -> u32
+    ensures { λ r. ⌜ r ≡ held (isMarked a) key value ⌝ }
 {
-    if get(words, rows, i, Table::MEMO_KEY) != key {
+    if is_marked(a) {
+        return key / Memory::KIND_ROOM;
+    }
+    value
+}
+
+// What row i remembers, if it is a result of this kind for arrow a.
+pub fn recall_row(words: &[u32], rows: u32, a: u32, i: u32, kind: u32) -> Found
+    requires { ⌜ (i < rows) × (wordsFor rows ≤ length (now words)) × (kind < KINDS) ⌝ }
+    ensures { λ r. ⌜ RowPost (view rows (now (words .entry))) a i kind r ⌝ }
+{
+    let key = get(words, rows, i, Table::MEMO_KEY);
+    if key % Memory::KIND_ROOM != kind {
         return Found::Nothing;
     }
-    Found::At(get(words, rows, i, Table::MEMO_VALUE))
+    let word = held_for(a, key, get(words, rows, i, Table::MEMO_VALUE));
+    if word == 0 {
+        return Found::Nothing;
+    }
+    Found::At(word - 1)
 }
 
-// Row i remembers a result of this kind, if it was made.
-pub fn remember_row(words: &mut [u32], rows: u32, i: u32, key: u32, r: u32)
-    requires { ⌜ (i < rows) × (wordsFor rows ≤ length (now words)) ⌝ }
-    ensures { λ _. ⌜ view rows (now (words .exit)) ≡ keepRow (view rows (now (words .entry))) i key (madeOf r) ⌝ }
+// The key after a result of a kind for arrow a is stored: a result of that kind for the other arrow stays.
+fn key_after(a: u32, kind: u32, r: u32, key: u32) -> u32
+    requires { ⌜ (kind < KINDS) × (r < MOST) ⌝ }
+    ensures { λ k. ⌜ k ≡ newKey (isMarked a) kind r key ⌝ }
 {
-    if r == Code::FULL {
+    if is_marked(a) {
+        return kind + Memory::KIND_ROOM * (r + 1);
+    }
+    if key % Memory::KIND_ROOM == kind {
+        return key;
+    }
+    kind
+}
+
+// The value after it.
+fn value_after(a: u32, kind: u32, r: u32, key: u32, value: u32) -> u32
+    requires { ⌜ r < MOST ⌝ }
+    ensures { λ v. ⌜ v ≡ newValue (isMarked a) kind r key value ⌝ }
+{
+    if !is_marked(a) {
+        return r + 1;
+    }
+    if key % Memory::KIND_ROOM == kind {
+        return value;
+    }
+    0
+}
+
+// Row i remembers a result of this kind for arrow a, if it was made: FULL is above every arrow.
+pub fn remember_row(words: &mut [u32], rows: u32, a: u32, i: u32, kind: u32, r: u32)
+    requires { ⌜ (i < rows) × (wordsFor rows ≤ length (now words)) × (kind < KINDS) ⌝ }
+    ensures { λ _. ⌜ view rows (now (words .exit)) ≡ keepRow (view rows (now (words .entry))) a i kind r ⌝ }
+{
+    if r >= Memory::MOST {
         return;
     }
-    put(words, rows, i, Table::MEMO_KEY, key);
-    put(words, rows, i, Table::MEMO_VALUE, r);
+    let key = get(words, rows, i, Table::MEMO_KEY);
+    let value = get(words, rows, i, Table::MEMO_VALUE);
+    put(words, rows, i, Table::MEMO_KEY, key_after(a, kind, r, key));
+    put(
+        words,
+        rows,
+        i,
+        Table::MEMO_VALUE,
+        value_after(a, kind, r, key, value),
+    );
 }
 
 // How many slots are active at first: a power of two near 256 and twice the used rows, and none where not one entry fits.

@@ -1,4 +1,4 @@
--- All EXISTS of a diamond at once: where the used rows, three times, are at most the limit, no step of the chain would have been refused.
+-- All EXISTS of a diamond at once: where the used rows, five times, are at most the limit, no step of the chain would have been refused.
 -- Assumes nothing.
 use mathlib.Core.Path.{_≡_, refl, sym, ap, _∙_, subst, fun-ext}
 use mathlib.Core.Bool.{Bool, true}
@@ -51,7 +51,7 @@ next-is n C = next-from n 0 C ∙ (let e : n + 0 ≡ n = omega arith in ap (λ (
 
 -- every need of the chain fits
 module _ {m N n : ℕ} {rows : Rows} (wf : WellFormed m N rows) (em : m ≡ 2 * n) (small : n ≤ 16) (a : ℕ) (u : Arrow rows a) (k : Covered m rows a)
-    (fs : List Fn) (held : (f : Fn) → Mem f fs → (b : ℕ) × Denotes m rows b f) (limit : ℕ) (room : 3 * usedCount rows N ≤ limit) where
+    (fs : List Fn) (held : (f : Fn) → Mem f fs → (b : ℕ) × Denotes m rows b f) (limit : ℕ) (room : 5 * usedCount rows N ≤ limit) where
   fits-from : (j d : ℕ) → d + j ≡ n → fit limit (existsNeeds n fs j (existsFrom d j (den m rows a))) ≡ true
   unfolding existsFrom
   fits-from zero d e = refl
@@ -95,7 +95,7 @@ module _ {n N limit : ℕ} {W : View} {lent : List ℕ} {a : ℕ} (p : QuantifyP
       record { moved = moved-trans moved (t .moved); evals = record { wf = t .evals .wf; kept = keeps-trans keeps (t .evals .kept); result = t .evals .result } }
 
 -- all at once: the answer is that of the chain
-pub odd-answers : {n N limit : ℕ} {W X : View} {lent : List ℕ} {a c : ℕ} → QuantifyPre n N limit W lent a → OddPost (2 * n) W X a c → c ≢ FULL → 3 * X .header USED ≤ limit
+pub odd-answers : {n N limit : ℕ} {W X : View} {lent : List ℕ} {a c : ℕ} → QuantifyPre n N limit W lent a → OddPost (2 * n) W X a c → c ≢ FULL → 5 * X .header USED ≤ limit
     → QuantifyPost n N limit W X lent a (made.At c)
 odd-answers {n} {N} {limit} {W} {X} {lent} {a} {c} p o v room fs h = record {
   moved = moved p g;
@@ -118,11 +118,11 @@ odd-answers {n} {N} {limit} {W} {X} {lent} {a} {c} p o v room fs h = record {
     held : (f : Fn) → Mem f fs → (b : ℕ) × Denotes (2 * n) (rowsOf X) b f
     held f i = let (b, j, d) = held-keeps h (keeps p g) .each f i in (b, d)
 
-    count : 3 * usedCount (rowsOf X) N ≤ limit
+    count : 5 * usedCount (rowsOf X) N ≤ limit
     count =
         let e = count-used X (g .good .ranked) in
         let q = next p g .ready .rows-is in
-        subst (λ (k : ℕ). 3 * usedCount (rowsOf X) k ≤ limit) (sym q) (subst (λ (k : ℕ). 3 * k ≤ limit) e room)
+        subst (λ (k : ℕ). 5 * usedCount (rowsOf X) k ≤ limit) (sym q) (subst (λ (k : ℕ). 5 * k ≤ limit) e room)
 
     fits : fit limit (existsNeeds n fs n C) ≡ true
     fits = subst (λ (f : Fn). fit limit (existsNeeds n fs n f) ≡ true) (same p g)

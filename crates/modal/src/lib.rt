@@ -42,13 +42,13 @@ fn quantify_steps(words: &mut [u32], limits: Limits, roots: &[u32], a: u32) -> M
     Made::At(c)
 }
 
-// Whether the used rows, three times, are at most the limit: then no step of a diamond's EXISTS needs more.
+// Whether the used rows, five times, are at most the limit: then no step of a diamond's EXISTS needs more.
 fn spacious(words: &[u32], limit: u32) -> bool
     requires { ⌜ HEADER ≤ length (now words) ⌝ }
-    ensures { λ r. ⌜ Says (3 * headerOf (now (words .entry)) USED ≤ limit) r ⌝ }
+    ensures { λ r. ⌜ Says (5 * headerOf (now (words .entry)) USED ≤ limit) r ⌝ }
 {
     let used = header_word(words, Table::USED) as u64;
-    if 3 * used > limit as u64 {
+    if 5 * used > limit as u64 {
         return false;
     }
     true

@@ -3,20 +3,20 @@
 use mathlib.Core.Path.{_≡_, refl, sym, ap, _∙_, subst, fun-ext}
 use mathlib.Core.Bool.{true, false, _||_}
 use mathlib.Core.Logic.{_≢_}
-use Prim.Native.Nat.{ℕ, zero, suc, _%_, _<_}
+use Prim.Native.Nat.{ℕ, suc, _%_, _<_}
 use native.Mathlib.Omega.{arith}
 use native.Mathlib.Decide.{ℕ-discrete}
 use borrow.Author.Tests.{eq-eqb}
 use Rattle.diagram.specs.Level.{Val, Fn, Splits, Reads}
-use Rattle.diagram.specs.Rows.{Rows, row, Arrow, levelOf, den, Extends}
+use Rattle.diagram.specs.Rows.{Rows, Arrow, levelOf, follow, den, Extends, carry, marked, leads-arrow}
 use Rattle.diagram.specs.Grow.{extends-refl, extends-trans, arrow-extends, den-extends}
 use Rattle.diagram.specs.Canon.{reads-level}
 use Rattle.diagram.specs.Post.{Denotes, denotes-extends, post-make}
 use Rattle.diagram.specs.Steps.{twoF, orF}
 use Rattle.diagram.specs.Odd.{oddF, Covered}
-use Rattle.diagram.specs.OddLaws.{odd-zero, odd-one, odd-even, odd-at, covered-extends, covered-zero, covered-one, covered-row}
+use Rattle.diagram.specs.OddLaws.{odd-constant as odd-of-constant, odd-even, odd-at, covered-extends, covered-constant, covered-row}
 use Rattle.layout.specs.View.{View}
-use Rattle.layout.specs.Arrows.{isRow, no-row}
+use Rattle.layout.specs.Arrows.{isRow, no-row-leads}
 use Rattle.soundness.specs.Used.{used, rowsOf}
 use Rattle.soundness.specs.Sound.{Good}
 use Rattle.soundness.specs.Alike.{alike-good}
@@ -27,7 +27,7 @@ use Rattle.table.specs.declared.Made.the-variants as answer
 use Rattle.table.specs.declared.Found.{Found}
 use Rattle.table.specs.declared.Found.the-variants as find
 use Rattle.memory.specs.Frame.{MemoFrame, rows-same, memo-alike}
-use Rattle.memory.specs.Memo.{ODD, Right, Remembers, RowPost, row-right}
+use Rattle.memory.specs.Memo.{ODD, RightFor, Remembers, RowPost, arrow-right}
 use Rattle.memory.specs.Store.{keepRow, keepRow-frame, RightRow, remembers-row}
 use Rattle.operations.specs.Work.{OpFrame, op-refl, op-trans, op-memo, Ready, Worked, ready-wf, ready-frame, make-pre, making, worked-made, worked-cong}
 use Rattle.operations.specs.Open.{RowAt, Opened}
@@ -70,31 +70,22 @@ grown-worked w = record { good = w .good; memory = w .memory; frame = w .frame; 
 
 -- the constants
 pub odd-constant : {m : ℕ} {W : View} (a : ℕ) → isRow a ≡ false → OddKnown m W a (find.At a)
-odd-constant {m} {W} a h = go a (no-row a h)
-  where
-    go : (a : ℕ) → a < 2 → OddKnown m W a (find.At a)
-    go zero l = record {
-      at = λ v e. let z : 0 ≡ v = cc in subst (λ (x : ℕ). Denotes m (rowsOf W) x (oddF (den m (rowsOf W) 0))) z (odd-zero m (rowsOf W));
-      covered = λ v e. covered-zero m (rowsOf W);
-      none = λ e. absurd (let z : _≡_ {A = ℕ} 0 1 = cc in omega arith);
-    }
-    go (suc zero) l = record {
-      at = λ v e. let z : 1 ≡ v = cc in subst (λ (x : ℕ). Denotes m (rowsOf W) x (oddF (den m (rowsOf W) 1))) z (odd-one m (rowsOf W));
-      covered = λ v e. covered-one m (rowsOf W);
-      none = λ e. absurd (let z : _≡_ {A = ℕ} 0 1 = cc in omega arith);
-    }
-    go (suc (suc i)) l = absurd (omega arith)
+odd-constant {m} {W} a h = record {
+  at = λ v e. let z : a ≡ v = cc in subst (λ (x : ℕ). Denotes m (rowsOf W) x (oddF (den m (rowsOf W) a))) z (odd-of-constant m (rowsOf W) a (no-row-leads a h));
+  covered = λ v e. covered-constant m (rowsOf W) a (no-row-leads a h);
+  none = λ e. absurd (let z : _≡_ {A = ℕ} 0 1 = cc in omega arith);
+}
 
--- what row i remembers
-pub odd-remembered : {m N limit : ℕ} {W : View} {a i : ℕ} {f : Found} → Ready m N limit W → RowAt (rowsOf W) a i → isRow a ≡ true → RowPost W i ODD f → OddKnown m W a f
+-- what row i remembers for a
+pub odd-remembered : {m N limit : ℕ} {W : View} {a i : ℕ} {f : Found} → Ready m N limit W → RowAt (rowsOf W) a i → isRow a ≡ true → RowPost W a i ODD f → OddKnown m W a f
 odd-remembered {m} {W = W} {a = a} {i = i} {f = f} r o h p = record {
-  at = λ v e. subst (λ (b : ℕ). Denotes m (rowsOf W) v (oddF (den m (rowsOf W) b))) (sym (o .is)) (right v e .answer);
-  covered = λ v e. subst (Covered m (rowsOf W)) (sym (o .is)) (right v e .covered refl);
+  at = λ v e. right v e .answer;
+  covered = λ v e. right v e .covered refl;
   none = λ e. h;
 }
   where
-    right : (v : ℕ) → f ≡ find.At v → Right m (rowsOf W) ODD i v
-    right v e = row-right (r .memory) (o .used) (omega arith) (rw e at p)
+    right : (v : ℕ) → f ≡ find.At v → RightFor m (rowsOf W) ODD a v
+    right v e = arrow-right ODD a (r .memory) (o .used) (omega arith) (o .leads) (rw e at p)
 
 -- what joining the parts of a row asks: OR two arrows, or the making of a row
 pub record JoinPre (m N limit : ℕ) (W : View) (l x y : ℕ) : Type 0 where
@@ -183,41 +174,42 @@ module _ {m N limit : ℕ} {W : View} {a i l lo hi : ℕ} (r : Ready m N limit W
         value : c ≢ FULL → Denotes m (rowsOf X₃) c (oddF (den m (rowsOf W) a))
         value n = (rw (code-at c n) at w) .post .result
 
-        own : c ≢ FULL → Denotes m (rowsOf X₃) c (oddF (den m (rowsOf X₃) (row i)))
+        own : c ≢ FULL → Denotes m (rowsOf X₃) c (oddF (den m (rowsOf X₃) a))
         own n =
-            let e : den m (rowsOf W) a ≡ den m (rowsOf X₃) (row i) = ap (den m (rowsOf W)) (o .at .is) ∙ fun-ext (λ v. sym (den-extends (whole .kept) (ready-wf r) m (row i) (o .at .used) v)) in
+            let u = leads-arrow (rowsOf W) a i (o .at .leads) (o .at .used) in
+            let e : den m (rowsOf W) a ≡ den m (rowsOf X₃) a = fun-ext (λ v. sym (den-extends (whole .kept) (ready-wf r) m a u v)) in
             subst (λ (f : Fn). Denotes m (rowsOf X₃) c (oddF f)) e (value n)
 
-        cover : c ≢ FULL → Covered m (rowsOf X₃) (row i)
+        cover : c ≢ FULL → Covered m (rowsOf X₃) a
         cover n =
-            let el : rowsOf X₃ .low i ≡ lo = whole .kept .low i (o .at .used) ∙ sym (o .words .low) in
-            let eh : rowsOf X₃ .high i ≡ hi = whole .kept .high i (o .at .used) ∙ sym (o .words .high) in
+            let el : follow (rowsOf X₃) a i false ≡ lo = ap (carry (marked a)) (whole .kept .low i (o .at .used)) ∙ sym (o .words .low) in
+            let eh : follow (rowsOf X₃) a i true ≡ hi = ap (carry (marked a)) (whole .kept .high i (o .at .used)) ∙ sym (o .words .high) in
             let kl = covered-extends {a = lo} (ready-wf ready₁) (extends-trans (p₂ .grown .kept) (w .post .kept)) (arrow-extends (p₁ .grown .kept) lo (o .parts .low-arrow)) (p₁ .covered n₁) in
             let kh = covered-extends {a = hi} (ready-wf ready₂) (w .post .kept) (arrow-extends (both .kept) hi (o .parts .high-arrow)) (p₂ .covered n₂) in
-            covered-row {b = c} (own n) (subst (Covered m (rowsOf X₃)) (sym el) kl) (subst (Covered m (rowsOf X₃)) (sym eh) kh)
+            covered-row {b = c} (o .at .leads) (own n) (subst (Covered m (rowsOf X₃)) (sym el) kl) (subst (Covered m (rowsOf X₃)) (sym eh) kh)
 
-        right : (t : Made) → madeOf c ≡ t → RightRow m (rowsOf X₃) i ODD t
+        right : (t : Made) → madeOf c ≡ t → RightRow m (rowsOf X₃) a ODD t
         right (answer.At v) e = full-or (ℕ-discrete c FULL) v e
           where
-            full-or : Dec (c ≡ FULL) → (v : ℕ) → madeOf c ≡ answer.At v → Right m (rowsOf X₃) ODD i v
+            full-or : Dec (c ≡ FULL) → (v : ℕ) → madeOf c ≡ answer.At v → RightFor m (rowsOf X₃) ODD a v
             full-or (yes q) v z = absurd (let y : answer.Full ≡ answer.At v = sym (code-is c q) ∙ z in let k : _≡_ {A = ℕ} 0 1 = cc in omega arith)
             full-or (no n) v z =
                 let y : answer.At c ≡ answer.At v = sym (code-at c n) ∙ z in
                 let k : c ≡ v = cc in
-                subst (Right m (rowsOf X₃) ODD i) k (record { answer = own n; covered = λ q. cover n })
+                subst (RightFor m (rowsOf X₃) ODD a) k (record { answer = own n; covered = λ q. cover n })
         right answer.Full e = tt
 
-        pub odd-kept : {Y : View} → Y ≡ keepRow X₃ i ODD (madeOf c) → OddPost m W Y a c
+        pub odd-kept : {Y : View} → Y ≡ keepRow X₃ a i ODD c → OddPost m W Y a c
         odd-kept {Y} e = subst (λ (Z : View). OddPost m W Z a c) (sym e) (record {
           grown = record {
             good = alike-good (memo-alike f) (w .good);
-            memory = remembers-row X₃ i ODD (madeOf c) (w .memory) (right (madeOf c) refl);
+            memory = remembers-row X₃ a i ODD c (omega arith) (o .at .leads) (w .memory) (right (madeOf c) refl);
             frame = op-trans (whole .frame) (op-memo f);
             kept = subst (Extends (rowsOf W)) (sym (rows-same f)) (whole .kept);
           };
           result = λ n. subst (λ (t : Rows). Denotes m t c (oddF (den m (rowsOf W) a))) (sym (rows-same f)) (value n);
-          covered = λ n. subst (λ (t : Rows). Covered m t a) (sym (rows-same f)) (subst (Covered m (rowsOf X₃)) (sym (o .at .is)) (cover n));
+          covered = λ n. subst (λ (t : Rows). Covered m t a) (sym (rows-same f)) (cover n);
         })
           where
-            f : MemoFrame X₃ (keepRow X₃ i ODD (madeOf c))
-            f = keepRow-frame X₃ i ODD (madeOf c)
+            f : MemoFrame X₃ (keepRow X₃ a i ODD c)
+            f = keepRow-frame X₃ a i ODD c

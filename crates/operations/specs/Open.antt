@@ -1,27 +1,27 @@
 -- An arrow to a row, taken apart: its row, level and arrows, and the levels that are left from an arrow on. Assumes nothing.
-use mathlib.Core.Path.{_≡_, refl, sym, ap, _∙_}
-use mathlib.Core.Bool.{true}
-use Prim.Native.Nat.{ℕ, _+_, _*_, _-_, _≤_, _<_}
+use mathlib.Core.Path.{_≡_, sym, ap, _∙_}
+use mathlib.Core.Bool.{true, false}
+use Prim.Native.Nat.{ℕ, suc, _+_, _*_, _-_, _≤_, _<_}
 use native.Mathlib.Omega.{arith}
-use Rattle.diagram.specs.Rows.{Rows, row, Arrow, levelOf, WellFormed, Extends}
+use Rattle.diagram.specs.Rows.{Rows, Leads, Arrow, levelOf, follow, WellFormed, Extends, leads-level}
 use Rattle.diagram.specs.Grow.{arrow-extends, level-extends}
 use Rattle.diagram.specs.Steps.{Parts, parts-row}
 use Rattle.layout.specs.Arrows.{isRow, rowOf, row-is}
 use Rattle.soundness.specs.Used.{of-arrow}
 
--- level, low and high of row i
-pub record RowIs (rows : Rows) (i l lo hi : ℕ) : Type 0 where
+-- the level of row i, and the arrows that are followed from arrow a, which leads there
+pub record RowIs (rows : Rows) (a i l lo hi : ℕ) : Type 0 where
   pub level : l ≡ rows .level i
-  pub low : lo ≡ rows .low i
-  pub high : hi ≡ rows .high i
+  pub low : lo ≡ follow rows a i false
+  pub high : hi ≡ follow rows a i true
 
--- a is the arrow to row i, which is used
+-- a leads to row i, which is used
 pub record RowAt (rows : Rows) (a i : ℕ) : Type 0 where
-  pub is : a ≡ row i
+  pub leads : Leads a i
   pub used : rows .used i ≡ true
 
 pub row-at : {rows : Rows} {i : ℕ} (a : ℕ) → Arrow rows a → isRow a ≡ true → i ≡ rowOf a → RowAt rows a i
-row-at {rows} a u h e = record { is = row-is a h ∙ ap row (sym e); used = of-arrow rows a h e u }
+row-at {rows} a u h e = record { leads = row-is a h ∙ ap suc (sym e); used = of-arrow rows a h e u }
 
 -- a leads to a row of a level up to x
 pub record ReachesLevel (rows : Rows) (x a : ℕ) : Type 0 where
@@ -32,28 +32,27 @@ pub record ReachesLevel (rows : Rows) (x a : ℕ) : Type 0 where
 pub reaches : {rows : Rows} {i l x : ℕ} (a : ℕ) → isRow a ≡ true → i ≡ rowOf a → l ≡ rows .level i → l ≤ x → ReachesLevel rows x a
 reaches {rows} a h q e t = record { is-row = h; upto = let z = e ∙ ap (rows .level) q in omega arith }
 
-pub reached : {rows : Rows} {x a i l lo hi : ℕ} → ReachesLevel rows x a → i ≡ rowOf a → RowIs rows i l lo hi → l ≤ x
+pub reached : {rows : Rows} {x a i l lo hi : ℕ} → ReachesLevel rows x a → i ≡ rowOf a → RowIs rows a i l lo hi → l ≤ x
 reached {rows} p q n = let z = n .level ∙ ap (rows .level) q in let t = p .upto in omega arith
 
 -- a row of level l with parts lo and hi
 pub record Opened (m : ℕ) (rows : Rows) (a i l lo hi : ℕ) : Type 0 where
   pub at : RowAt rows a i
-  pub words : RowIs rows i l lo hi
+  pub words : RowIs rows a i l lo hi
   pub level : levelOf m rows a ≡ l
   pub shallow : l < m
   pub parts : Parts m rows l a lo hi
 
-opened-row : {m N : ℕ} {rows : Rows} (i : ℕ) → WellFormed m N rows → rows .used i ≡ true → Opened m rows (row i) i (rows .level i) (rows .low i) (rows .high i)
-opened-row i wf u = record {
-  at = record { is = refl; used = u };
-  words = record { level = refl; low = refl; high = refl };
-  level = refl;
-  shallow = wf .ok i u .shallow;
-  parts = parts-row wf i u;
-}
-
-pub opened : {m N : ℕ} {rows : Rows} {a i l lo hi : ℕ} → WellFormed m N rows → RowAt rows a i → RowIs rows i l lo hi → Opened m rows a i l lo hi
-opened {i = i} wf r n = rw (r .is, n .level, n .low, n .high) (opened-row i wf (r .used))
+pub opened : {m N : ℕ} {rows : Rows} {a i l lo hi : ℕ} → WellFormed m N rows → RowAt rows a i → RowIs rows a i l lo hi → Opened m rows a i l lo hi
+opened {m} {rows = rows} {a = a} {i = i} wf r n =
+    let p = parts-row wf a i (r .leads) (r .used) in
+    record {
+      at = r;
+      words = n;
+      level = leads-level m rows a i (r .leads) ∙ sym (n .level);
+      shallow = rw (n .level) (wf .ok i (r .used) .shallow);
+      parts = rw (n .level, n .low, n .high) p;
+    }
 
 -- "Recursion over a diagram descends to greater levels only": the levels from an arrow's on
 abbrev pub depth : ℕ → Rows → ℕ → ℕ

@@ -1,27 +1,28 @@
--- NOT, SHIFT and EXISTS, by rows: what is known at once, what two calls make, and what a row remembers. Assumes nothing.
-use mathlib.Core.Path.{_≡_, refl, sym, ap, _∙_, subst, fun-ext}
-use mathlib.Core.Bool.{true, false, not}
+-- SHIFT and EXISTS, by rows: what is known at once, what two calls make, and what a row remembers. Assumes nothing.
+use mathlib.Core.Path.{_≡_, sym, _∙_, subst, fun-ext}
+use mathlib.Core.Bool.{true, false}
 use mathlib.Core.Logic.{_≢_}
-use Prim.Native.Nat.{ℕ, zero, suc, _+_, _-_, _%_, _<_}
+use Prim.Native.Nat.{ℕ, suc, _+_, _%_, _<_}
 use native.Mathlib.Omega.{arith}
 use native.Mathlib.Numerals.{add-one}
 use borrow.Author.Tests.{eq-eqb}
 use Rattle.diagram.specs.Level.{Fn, splits-low, splits-high}
-use Rattle.diagram.specs.Rows.{Rows, row, Arrow, levelOf, den, Extends}
-use Rattle.diagram.specs.Den.{den-zero, den-one}
+use Rattle.diagram.specs.Rows.{Rows, target, Arrow, ArrowTo, levelOf, levelTo, den, Extends, leads-arrow, leads-level}
+use Rattle.diagram.specs.Den.{den-constant}
 use Rattle.diagram.specs.Grow.{den-extends}
 use Rattle.diagram.specs.Even.{ReadsOn, even, cofactor-readsOn}
 use Rattle.diagram.specs.Post.{Denotes}
-use Rattle.diagram.specs.Steps.{notF, shiftF, existsF, orF}
-use Rattle.diagram.specs.Recur.{Divides, not-divides, exists-divides, shift-divides, exists-or, exists-leaf}
+use Rattle.diagram.specs.Steps.{shiftF, existsF, orF}
+use Rattle.diagram.specs.Recur.{Divides, exists-divides, shift-divides, exists-or, exists-leaf}
 use Rattle.layout.specs.View.{View}
-use Rattle.layout.specs.Arrows.{isRow, no-row}
+use Rattle.layout.specs.Arrows.{isRow, no-row-leads}
 use Rattle.soundness.specs.Used.{used, rowsOf}
+use Rattle.table.specs.Code.{madeOf}
 use Rattle.table.specs.declared.Made.{Made}
 use Rattle.table.specs.declared.Made.the-variants as answer
 use Rattle.table.specs.declared.Found.{Found}
 use Rattle.table.specs.declared.Found.the-variants as find
-use Rattle.memory.specs.Memo.{ODD, unaryF, RowPost, row-right}
+use Rattle.memory.specs.Memo.{ODD, KINDS, unaryF, RowPost, arrow-right}
 use Rattle.memory.specs.Store.{keepRow, keepRow-frame, RightRow, remembers-row}
 use Rattle.operations.specs.Work.{Ready, Known, Worked, known-at, ready-wf, worked-kept}
 use Rattle.operations.specs.Open.{RowAt, Opened}
@@ -30,65 +31,49 @@ use Rattle.operations.specs.Open.{RowAt, Opened}
 pub even-levels : {m N limit : ℕ} {W : View} → Ready m N limit W → even m ≡ true
 even-levels {m} r = let e = r .levels-is in let z : m % 2 ≡ 0 = omega arith in eq-eqb (m % 2) 0 z
 
--- NOT and SHIFT of the constants; EXISTS of them is a case of `exists-leaf`
-not-is : (m : ℕ) (rows : Rows) (a : ℕ) → a < 2 → Denotes m rows (1 - a) (notF (den m rows a))
-not-is m rows zero h = record { arrow = tt; same = λ v. den-one m rows v ∙ sym (ap not (den-zero m rows v)) }
-not-is m rows (suc zero) h = record { arrow = tt; same = λ v. den-zero m rows v ∙ sym (ap not (den-one m rows v)) }
-not-is m rows (suc (suc i)) h = absurd (omega arith)
-
-shift-is : (m : ℕ) (rows : Rows) (a : ℕ) → a < 2 → Denotes m rows a (shiftF (den m rows a))
-shift-is m rows zero h = record { arrow = tt; same = λ v. den-zero m rows v ∙ sym (den-zero m rows (λ l. v (suc l))) }
-shift-is m rows (suc zero) h = record { arrow = tt; same = λ v. den-one m rows v ∙ sym (den-one m rows (λ l. v (suc l))) }
-shift-is m rows (suc (suc i)) h = absurd (omega arith)
-
-level-constant : (m : ℕ) (rows : Rows) (a : ℕ) → a < 2 → levelOf m rows a ≡ m
-level-constant m rows zero h = refl
-level-constant m rows (suc zero) h = refl
-level-constant m rows (suc (suc i)) h = absurd (omega arith)
+-- SHIFT of the constants; EXISTS of them is a case of `exists-leaf`
+shift-is : (m : ℕ) (rows : Rows) (a : ℕ) → target a ≡ 0 → Denotes m rows a (shiftF (den m rows a))
+shift-is m rows a e =
+    record { arrow = subst (ArrowTo rows) (sym e) tt; same = λ v. den-constant m rows a e v ∙ sym (den-constant m rows a e (λ l. v (suc l))) }
 
 module _ {m N : ℕ} {W : View} {R : Type 0} (r : Ready m N 0 W) where
-  pub not-constant : (a : ℕ) → isRow a ≡ false → Known m W (find.At (1 - a)) (notF (den m (rowsOf W) a)) R
-  not-constant a h = known-at (not-is m (rowsOf W) a (no-row a h))
-
   pub shift-constant : (a : ℕ) → isRow a ≡ false → Known m W (find.At a) (shiftF (den m (rowsOf W) a)) R
-  shift-constant a h = known-at (shift-is m (rowsOf W) a (no-row a h))
+  shift-constant a h = known-at (shift-is m (rowsOf W) a (no-row-leads a h))
 
   -- EXISTS at x below the arrow's level
   exists-deeper : (x a : ℕ) → Arrow (rowsOf W) a → x < levelOf m (rowsOf W) a → Known m W (find.At a) (existsF x (den m (rowsOf W) a)) R
   exists-deeper x a u h = let p = exists-leaf (ready-wf r) {limit = 0} x a u h in known-at (p .result)
 
   pub exists-constant : (x a : ℕ) → x < m → Arrow (rowsOf W) a → isRow a ≡ false → Known m W (find.At a) (existsF x (den m (rowsOf W) a)) R
-  exists-constant x a h u n = exists-deeper x a u (rw (level-constant m (rowsOf W) a (no-row a n)) h)
+  exists-constant x a h u n = exists-deeper x a u (subst (λ (k : ℕ). x < levelTo m (rowsOf W) k) (sym (no-row-leads a n)) h)
 
   pub exists-past : {i l : ℕ} (x a : ℕ) → Arrow (rowsOf W) a → RowAt (rowsOf W) a i → l ≡ rowsOf W .level i → x < l → Known m W (find.At a) (existsF x (den m (rowsOf W) a)) R
-  exists-past x a u q e h = exists-deeper x a u (subst (λ (b : ℕ). x < levelOf m (rowsOf W) b) (sym (q .is)) (subst (λ (k : ℕ). x < k) e h))
+  exists-past x a u q e h = exists-deeper x a u (subst (λ (k : ℕ). x < k) (e ∙ sym (leads-level m (rowsOf W) a _ (q .leads))) h)
 
-  -- what row i remembers
-  pub row-known : {a i : ℕ} {f : Found} (key : ℕ) → key ≢ 0 → RowAt (rowsOf W) a i → R → RowPost W i key f → Known m W f (unaryF key (den m (rowsOf W) a)) R
-  row-known key n o x p = record {
-    at = λ v e. subst (λ (b : ℕ). Denotes m (rowsOf W) v (unaryF key (den m (rowsOf W) b))) (sym (o .is)) (row-right (r .memory) (o .used) n (rw e at p) .answer);
+  -- what row i remembers for a
+  pub row-known : {a i : ℕ} {f : Found} (kind : ℕ) → kind ≢ 0 → RowAt (rowsOf W) a i → R → RowPost W a i kind f → Known m W f (unaryF kind (den m (rowsOf W) a)) R
+  row-known {a} kind n o x p = record {
+    at = λ v e. arrow-right kind a (r .memory) (o .used) n (o .leads) (rw e at p) .answer;
     none = λ e. x;
   }
 
 module _ {m N limit : ℕ} {W : View} (r : Ready m N limit W) where
   -- the result is remembered by the operand's row
-  pub row-kept : {X Y : View} {o : Made} {a i : ℕ} (key : ℕ) → key ≢ ODD → RowAt (rowsOf W) a i → Worked m N limit W X o (unaryF key (den m (rowsOf W) a)) → Y ≡ keepRow X i key o
-      → Worked m N limit W Y o (unaryF key (den m (rowsOf W) a))
-  row-kept {X} {o = o} {a = a} {i = i} key n p w e =
-      subst (λ (v : View). Worked m N limit W v o (unaryF key (den m (rowsOf W) a))) (sym e)
-      (worked-kept w (keepRow-frame X i key o) (remembers-row X i key o (w .memory) (right o w)))
+  pub row-kept : {X Y : View} {a i : ℕ} (kind c : ℕ) → kind ≢ ODD → kind < KINDS → RowAt (rowsOf W) a i → Worked m N limit W X (madeOf c) (unaryF kind (den m (rowsOf W) a))
+      → Y ≡ keepRow X a i kind c → Worked m N limit W Y (madeOf c) (unaryF kind (den m (rowsOf W) a))
+  row-kept {X} {a = a} {i = i} kind c n l p w e =
+      subst (λ (v : View). Worked m N limit W v (madeOf c) (unaryF kind (den m (rowsOf W) a))) (sym e)
+      (worked-kept w (keepRow-frame X a i kind c) (remembers-row X a i kind c (omega (arith, l)) (p .leads) (w .memory) (right (madeOf c) w)))
     where
-      right : (t : Made) → Worked m N limit W X t (unaryF key (den m (rowsOf W) a)) → RightRow m (rowsOf X) i key t
+      right : (t : Made) → Worked m N limit W X t (unaryF kind (den m (rowsOf W) a)) → RightRow m (rowsOf X) a kind t
       right (answer.At v) q =
-          let e : den m (rowsOf W) a ≡ den m (rowsOf X) (row i) = ap (den m (rowsOf W)) (p .is) ∙ fun-ext (λ x. sym (den-extends (q .post .kept) (ready-wf r) m (row i) (p .used) x)) in
-          record { answer = subst (λ (f : Fn). Denotes m (rowsOf X) v (unaryF key f)) e (q .post .result); covered = λ z. absurd (n z) }
+          let u = leads-arrow (rowsOf W) a i (p .leads) (p .used) in
+          let e : den m (rowsOf W) a ≡ den m (rowsOf X) a = fun-ext (λ x. sym (den-extends (q .post .kept) (ready-wf r) m a u x)) in
+          record { answer = subst (λ (f : Fn). Denotes m (rowsOf X) v (unaryF kind f)) e (q .post .result); covered = λ z. absurd (n z) }
       right answer.Full q = tt
 
 -- what the two calls compute
 module _ {m N limit : ℕ} {W : View} {a i l lo hi : ℕ} (r : Ready m N limit W) (o : Opened m (rowsOf W) a i l lo hi) where
-  pub not-calls : Divides m (rowsOf W) l (notF (den m (rowsOf W) a)) (notF (den m (rowsOf W) lo)) (λ t. notF (den m t hi))
-  not-calls = not-divides (ready-wf r) (o .shallow) (o .parts)
-
   pub exists-calls : (x : ℕ) → l < x → Divides m (rowsOf W) l (existsF x (den m (rowsOf W) a)) (existsF x (den m (rowsOf W) lo)) (λ t. existsF x (den m t hi))
   exists-calls x h = exists-divides (ready-wf r) (o .shallow) (o .parts) x h
 
@@ -100,7 +85,7 @@ module _ {m N limit : ℕ} {W : View} {a i l lo hi : ℕ} (r : Ready m N limit W
   module _ (on : ReadsOn even (den m (rowsOf W) a)) where
     pub shift-calls : Divides m (rowsOf W) (l + 1) (shiftF (den m (rowsOf W) a)) (shiftF (den m (rowsOf W) lo)) (λ t. shiftF (den m t hi))
     shift-calls =
-        rw (o .at .is, add-one, o .words .level, o .words .low, o .words .high) (shift-divides m i (even-levels r) (ready-wf r) (o .at .used) (rw (o .at .is) at on))
+        rw (add-one, o .words .level, o .words .low, o .words .high) (shift-divides m a i (o .at .leads) (even-levels r) (ready-wf r) (o .at .used) on)
 
     pub shift-low : ReadsOn even (den m (rowsOf W) lo)
     shift-low = cofactor-readsOn on (splits-low (o .parts .splits))
@@ -111,15 +96,17 @@ module _ {m N limit : ℕ} {W : View} {a i l lo hi : ℕ} (r : Ready m N limit W
         let d = den-extends e (ready-wf r) m hi (o .parts .high-arrow) in
         λ v w h. d v ∙ q v w h ∙ sym (d w)
 
--- the key of EXISTS at x
-pub exists-key : (x : ℕ) (f : Fn) → unaryF (4 + x) f ≡ existsF x f
-exists-key x f = let e : 4 + x ≡ suc (suc (suc (suc x))) = omega arith in rw e
+-- the kind of EXISTS at x
+pub exists-kind : (x : ℕ) (f : Fn) → unaryF (3 + x) f ≡ existsF x f
+exists-kind x f = let e : 3 + x ≡ suc (suc (suc x)) = omega arith in rw e
 
-pub exists-known : {m N : ℕ} {W : View} {a i : ℕ} {f : Found} {R : Type 0} (x : ℕ) → Ready m N 0 W → RowAt (rowsOf W) a i → R → RowPost W i (4 + x) f → Known m W f (existsF x (den m (rowsOf W) a)) R
-exists-known {m} {W = W} {a = a} {f = f} {R = R} x r q y p = subst (λ (g : Fn). Known m W f g R) (exists-key x (den m (rowsOf W) a)) (row-known r (4 + x) (omega arith) q y p)
+pub exists-known : {m N : ℕ} {W : View} {a i : ℕ} {f : Found} {R : Type 0} (x : ℕ) → Ready m N 0 W → RowAt (rowsOf W) a i → R → RowPost W a i (3 + x) f
+    → Known m W f (existsF x (den m (rowsOf W) a)) R
+exists-known {m} {W = W} {a = a} {f = f} {R = R} x r q y p = subst (λ (g : Fn). Known m W f g R) (exists-kind x (den m (rowsOf W) a)) (row-known r (3 + x) (omega arith) q y p)
 
 module _ {m N limit : ℕ} {W : View} {a i : ℕ} (r : Ready m N limit W) (x : ℕ) (q : RowAt (rowsOf W) a i) where
-  pub exists-kept : {X Y : View} {o : Made} → Worked m N limit W X o (existsF x (den m (rowsOf W) a)) → Y ≡ keepRow X i (4 + x) o → Worked m N limit W Y o (existsF x (den m (rowsOf W) a))
-  exists-kept {X} {Y} {o} w e =
-      let k = exists-key x (den m (rowsOf W) a) in
-      subst (λ (f : Fn). Worked m N limit W Y o f) k (row-kept r (4 + x) (omega arith) q (subst (λ (f : Fn). Worked m N limit W X o f) (sym k) w) e)
+  pub exists-kept : {X Y : View} (c : ℕ) → x < 32 → Worked m N limit W X (madeOf c) (existsF x (den m (rowsOf W) a)) → Y ≡ keepRow X a i (3 + x) c
+      → Worked m N limit W Y (madeOf c) (existsF x (den m (rowsOf W) a))
+  exists-kept {X} {Y} c l w e =
+      let k = exists-kind x (den m (rowsOf W) a) in
+      subst (λ (f : Fn). Worked m N limit W Y (madeOf c) f) k (row-kept r (3 + x) c (omega arith) (omega (arith, l)) q (subst (λ (f : Fn). Worked m N limit W X (madeOf c) f) (sym k) w) e)

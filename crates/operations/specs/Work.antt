@@ -1,13 +1,14 @@
 -- What every operation asks and promises, over the words, and how two calls and the making of a row give it. Assumes nothing.
 use mathlib.Core.Path.{_≡_, refl, sym, ap, _∙_, subst}
+use mathlib.Core.Bool.{true}
 use Prim.Native.Nat.{ℕ, suc, _*_, _≤_, _<_}
 use mathlib.Core.Logic.{_≢_}
 use native.Mathlib.Omega.{arith}
 use Rattle.diagram.specs.Level.{Val, Fn, Reads}
-use Rattle.diagram.specs.Rows.{Rows, levelOf, WellFormed}
+use Rattle.diagram.specs.Rows.{Rows, flip, levelOf, WellFormed, carry-arrow}
 use Rattle.diagram.specs.Canon.{reads-level}
-use Rattle.diagram.specs.Post.{at, Denotes, OpPost, Making, low-full, high-full, made, denotes-extends, post-arrow, post-cong}
-use Rattle.diagram.specs.Steps.{bitF}
+use Rattle.diagram.specs.Post.{at, Denotes, OpPost, Making, low-full, high-full, made, denotes-extends, post-arrow, post-cong, post-flip}
+use Rattle.diagram.specs.Steps.{bitF, notF}
 use Rattle.diagram.specs.Recur.{Divides, divided, bit-made}
 use Rattle.layout.specs.Places.{BITS, USED, CURSOR, SLOTS, STORED, MEMO-VALUE}
 use Rattle.layout.specs.View.{View}
@@ -118,6 +119,19 @@ module _ {m N limit : ℕ} {W : View} (r : Ready m N limit W) where
   -- what making a row leaves
   pub worked-made : {X : View} {l lo hi : ℕ} {o : Made} {F : Fn} → MakePost W X limit l lo hi o → OpPost m N limit (rowsOf W) (rowsOf X) (result o) F → Worked m N limit W X o F
   worked-made p q = record { good = p .good; memory = remembers-extends ready-wf (q .kept) (p .frame) (p .keys) (r .memory); frame = op-made (p .frame); post = q }
+
+-- NOT of what was made, and OR as NOT of AND of the two with the other mark
+module _ {m N limit : ℕ} {W X : View} {r : ℕ} {F : Fn} (w : Worked m N limit W X (madeOf r) F) where
+  pub worked-not-full : r ≡ FULL → Worked m N limit W X (madeOf FULL) (notF F)
+  worked-not-full e =
+      let p = rw (code-is r e) at w in
+      rw code-full (record { good = p .good; memory = p .memory; frame = p .frame; post = post-flip (p .post) })
+
+  pub worked-not : {s : ℕ} → r ≢ FULL → s ≡ flip r → Worked m N limit W X (madeOf s) (notF F)
+  worked-not n e =
+      let p = rw (code-at r n) at w in
+      let c = arrow-code (flip r) (p .good) (carry-arrow (rowsOf X) true r (p .post .result .arrow)) in
+      rw (e, c) (record { good = p .good; memory = p .memory; frame = p .frame; post = post-flip (p .post) })
 
 -- a bit is one row
 module _ {m N limit : ℕ} {W : View} (r : Ready m N limit W) (l : ℕ) (h : l < m) where

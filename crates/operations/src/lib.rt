@@ -1,11 +1,12 @@
-// The operations on arrows: a bit, NOT, AND, OR, SHIFT and EXISTS at one level. None of them frees a row.
+// The operations on arrows: a bit, AND, OR, SHIFT and EXISTS at one level. None of them frees a row. NOT makes no row: it is `layout::flip`.
 // Each answers an arrow, or `Code::FULL` where the rows ran out.
 use layout::Table;
+use layout::carry;
+use layout::flip;
 use layout::get;
 use layout::is_row;
 use layout::row_of;
 use memory::Memory;
-use memory::Op;
 use memory::recall;
 use memory::recall_row;
 use memory::remember;
@@ -19,35 +20,35 @@ ghost use Prim.Native.Nat.{_<_, _≤_, min, max};
 ghost use lib.ListN.{length};
 ghost use Rattle.diagram.specs.Rows.{Arrow, den};
 ghost use Rattle.diagram.specs.Even.{ReadsOn, even};
-ghost use Rattle.diagram.specs.Steps.{bitF, notF, shiftF, existsF, twoF, lowAt, highAt};
+ghost use Rattle.diagram.specs.Steps.{bitF, andF, orF, shiftF, existsF, lowAt, highAt};
 ghost use Rattle.layout.specs.Places.{wordsFor};
 ghost use Rattle.layout.specs.View.{view};
 ghost use Rattle.layout.specs.Arrows.{isRow, rowOf};
 ghost use Rattle.soundness.specs.Used.{rowsOf};
 ghost use Rattle.soundness.specs.Checks.{Room};
 ghost use Rattle.table.specs.Code.{madeOf};
-ghost use Rattle.memory.specs.Memo.{Slots, bitOp};
+ghost use Rattle.memory.specs.Memo.{Slots};
 ghost use Rattle.operations.specs.Work.{Ready, Known, Worked};
 ghost use Rattle.operations.specs.Open.{RowIs, ReachesLevel};
 ghost use Rattle.operations.specs.Odd.{OddKnown, OddPost, JoinPre, JoinPost};
-ghost use Rattle.operations.specs.Pairs.{absorb, shortOf, KnownPost, BothRows};
+ghost use Rattle.operations.specs.Pairs.{shortOf, KnownPost, BothRows};
 
-// A row's level and arrows.
+// A row's level, and the arrows that are followed from an arrow to it.
 pub struct Node {
     pub level: u32,
     pub low: u32,
     pub high: u32,
 }
 
-// The level and arrows of row i.
-fn node_at(words: &[u32], rows: u32, i: u32) -> Node
+// The level of row i, and the arrows that are followed from a, an arrow to it: they carry its NOT.
+fn node_at(words: &[u32], rows: u32, a: u32, i: u32) -> Node
     requires { ⌜ (i < rows) × (wordsFor rows ≤ length (now words)) ⌝ }
-    ensures { λ r. ⌜ RowIs (rowsOf (view rows (now (words .entry)))) i (r .level) (r .low) (r .high) ⌝ }
+    ensures { λ r. ⌜ RowIs (rowsOf (view rows (now (words .entry)))) a i (r .level) (r .low) (r .high) ⌝ }
 {
     Node {
         level: get(words, rows, i, Table::LEVEL),
-        low: get(words, rows, i, Table::LOW),
-        high: get(words, rows, i, Table::HIGH),
+        low: carry(a, get(words, rows, i, Table::LOW)),
+        high: carry(a, get(words, rows, i, Table::HIGH)),
     }
 }
 
@@ -59,61 +60,6 @@ pub fn bit(words: &mut [u32], rows: u32, levels: u32, limit: u32, level: u32) ->
     make(words, rows, limit, level, Table::NOTHING, Table::EVERYTHING)
 }
 
-// What is known of NOT of an arrow: of a constant, or remembered.
-fn not_known(words: &[u32], rows: u32, levels: u32, a: u32) -> Found
-    requires { ⌜ Ready levels rows 0 (view rows (now words)) × Arrow (rowsOf (view rows (now words))) a ⌝ }
-    ensures { λ r. ⌜ Known levels (view rows (now (words .entry))) r (notF (den levels (rowsOf (view rows (now (words .entry)))) a)) (isRow a ≡ true) ⌝ }
-{
-    if !is_row(a) {
-        return Found::At(Table::EVERYTHING - a);
-    }
-    recall_row(words, rows, row_of(a), Memory::NOT)
-}
-
-// NOT of an arrow.
-pub fn not(words: &mut [u32], rows: u32, levels: u32, limit: u32, a: u32) -> u32
-    requires { ⌜ Ready levels rows limit (view rows (now words)) × Arrow (rowsOf (view rows (now words))) a ⌝ }
-    ensures { λ r. ⌜ Worked levels rows limit (view rows (now (words .entry))) (view rows (now (words .exit))) (madeOf r) (notF (den levels (rowsOf (view rows (now (words .entry)))) a)) ⌝ }
-{
-    let known = not_known(words, rows, levels, a);
-    if let Found::At(r) = known {
-        return r;
-    }
-    not_row(words, rows, levels, limit, a)
-}
-
-// `not` of a part of a row. It is apart, so that it is inlined in `not_row`: a part whose result is known costs no call.
-fn not_part(words: &mut [u32], rows: u32, levels: u32, limit: u32, a: u32) -> u32
-    requires { ⌜ Ready levels rows limit (view rows (now words)) × Arrow (rowsOf (view rows (now words))) a ⌝ }
-    ensures { λ r. ⌜ Worked levels rows limit (view rows (now (words .entry))) (view rows (now (words .exit))) (madeOf r) (notF (den levels (rowsOf (view rows (now (words .entry)))) a)) ⌝ }
-{
-    let known = not_known(words, rows, levels, a);
-    if let Found::At(r) = known {
-        return r;
-    }
-    not_row(words, rows, levels, limit, a)
-}
-
-// NOT of an arrow to a row.
-fn not_row(words: &mut [u32], rows: u32, levels: u32, limit: u32, a: u32) -> u32
-    requires { ⌜ Ready levels rows limit (view rows (now words)) × Arrow (rowsOf (view rows (now words))) a × (isRow a ≡ true) ⌝ }
-    ensures { λ r. ⌜ Worked levels rows limit (view rows (now (words .entry))) (view rows (now (words .exit))) (madeOf r) (notF (den levels (rowsOf (view rows (now (words .entry)))) a)) ⌝ }
-{
-    let i = row_of(a);
-    let n = node_at(words, rows, i);
-    let low = not_part(words, rows, levels, limit, n.low);
-    if low == Code::FULL {
-        return Code::FULL;
-    }
-    let high = not_part(words, rows, levels, limit, n.high);
-    if high == Code::FULL {
-        return Code::FULL;
-    }
-    let made = make(words, rows, limit, n.level, low, high);
-    remember_row(words, rows, i, Memory::NOT, made);
-    made
-}
-
 // What is known of SHIFT of an arrow: of a constant, or remembered.
 fn shift_known(words: &[u32], rows: u32, levels: u32, a: u32) -> Found
     requires { ⌜ Ready levels rows 0 (view rows (now words)) × Arrow (rowsOf (view rows (now words))) a ⌝ }
@@ -122,7 +68,7 @@ fn shift_known(words: &[u32], rows: u32, levels: u32, a: u32) -> Found
     if !is_row(a) {
         return Found::At(a);
     }
-    recall_row(words, rows, row_of(a), Memory::SHIFT)
+    recall_row(words, rows, a, row_of(a), Memory::SHIFT)
 }
 
 // SHIFT of an arrow whose rows all have even levels: every level becomes the next one.
@@ -155,7 +101,7 @@ fn shift_row(words: &mut [u32], rows: u32, levels: u32, limit: u32, a: u32) -> u
     ensures { λ r. ⌜ Worked levels rows limit (view rows (now (words .entry))) (view rows (now (words .exit))) (madeOf r) (shiftF (den levels (rowsOf (view rows (now (words .entry)))) a)) ⌝ }
 {
     let i = row_of(a);
-    let n = node_at(words, rows, i);
+    let n = node_at(words, rows, a, i);
     let low = shift_part(words, rows, levels, limit, n.low);
     if low == Code::FULL {
         return Code::FULL;
@@ -165,7 +111,7 @@ fn shift_row(words: &mut [u32], rows: u32, levels: u32, limit: u32, a: u32) -> u
         return Code::FULL;
     }
     let made = make(words, rows, limit, n.level + 1, low, high);
-    remember_row(words, rows, i, Memory::SHIFT, made);
+    remember_row(words, rows, a, i, Memory::SHIFT, made);
     made
 }
 
@@ -185,42 +131,35 @@ fn sort(a: u32, b: u32) -> Sorted
     Sorted { lo: b, hi: a }
 }
 
-// The constant that decides an operation.
-fn absorbing(op: Op) -> u32
-    ensures { λ r. ⌜ r ≡ absorb op ⌝ }
-{
-    match op {
-        Op::And => Table::NOTHING,
-        Op::Or => Table::EVERYTHING,
-    }
-}
-
-// An operation on a lesser and a greater arrow, where they are the same or the lesser is a constant.
-fn short(op: Op, lo: u32, hi: u32) -> Found
-    ensures { λ r. ⌜ r ≡ shortOf op lo hi ⌝ }
+// AND of a lesser and a greater arrow, where they are the same or each other's NOT, or the lesser is a constant.
+fn short(lo: u32, hi: u32) -> Found
+    ensures { λ r. ⌜ r ≡ shortOf lo hi ⌝ }
 {
     if lo == hi {
         return Found::At(lo);
     }
+    if hi == flip(lo) {
+        return Found::At(Table::NOTHING);
+    }
     if is_row(lo) {
         return Found::Nothing;
     }
-    if lo == absorbing(op) {
+    if lo == Table::NOTHING {
         return Found::At(lo);
     }
     Found::At(hi)
 }
 
-// What is known of an operation on a lesser and a greater arrow: at once, or remembered.
-fn known(words: &[u32], rows: u32, op: Op, lo: u32, hi: u32) -> Found
+// What is known of AND of a lesser and a greater arrow: at once, or remembered.
+fn known(words: &[u32], rows: u32, lo: u32, hi: u32) -> Found
     requires { ⌜ Room (view rows (now words)) × Slots (view rows (now words)) ⌝ }
-    ensures { λ r. ⌜ KnownPost (view rows (now (words .entry))) op lo hi r ⌝ }
+    ensures { λ r. ⌜ KnownPost (view rows (now (words .entry))) lo hi r ⌝ }
 {
-    let found = short(op, lo, hi);
+    let found = short(lo, hi);
     if let Found::At(r) = found {
         return Found::At(r);
     }
-    recall(words, rows, op, lo, hi)
+    recall(words, rows, lo, hi)
 }
 
 // The lesser level of two arrows to rows.
@@ -247,7 +186,7 @@ fn halve(words: &[u32], rows: u32, level: u32, a: u32) -> Halves
     requires { ⌜ (isRow a ≡ true) × (rowOf a < rows) × (wordsFor rows ≤ length (now words)) ⌝ }
     ensures { λ r. ⌜ (r .low ≡ lowAt (rowsOf (view rows (now (words .entry)))) level a) × (r .high ≡ highAt (rowsOf (view rows (now (words .entry)))) level a) ⌝ }
 {
-    let n = node_at(words, rows, row_of(a));
+    let n = node_at(words, rows, a, row_of(a));
     if n.level != level {
         return Halves { low: a, high: a };
     }
@@ -257,59 +196,63 @@ fn halve(words: &[u32], rows: u32, level: u32, a: u32) -> Halves
     }
 }
 
-// AND or OR of two arrows.
-pub fn apply(words: &mut [u32], rows: u32, levels: u32, limit: u32, op: Op, a: u32, b: u32) -> u32
+// AND of two arrows.
+pub fn and_of(words: &mut [u32], rows: u32, levels: u32, limit: u32, a: u32, b: u32) -> u32
     requires { ⌜ Ready levels rows limit (view rows (now words)) × Arrow (rowsOf (view rows (now words))) a × Arrow (rowsOf (view rows (now words))) b ⌝ }
-    ensures { λ r. ⌜ Worked levels rows limit (view rows (now (words .entry))) (view rows (now (words .exit))) (madeOf r) (twoF (bitOp op) (den levels (rowsOf (view rows (now (words .entry)))) a) (den levels (rowsOf (view rows (now (words .entry)))) b)) ⌝ }
+    ensures { λ r. ⌜ Worked levels rows limit (view rows (now (words .entry))) (view rows (now (words .exit))) (madeOf r) (andF (den levels (rowsOf (view rows (now (words .entry)))) a) (den levels (rowsOf (view rows (now (words .entry)))) b)) ⌝ }
 {
     let p = sort(a, b);
-    let found = known(words, rows, op, p.lo, p.hi);
+    let found = known(words, rows, p.lo, p.hi);
     if let Found::At(r) = found {
         return r;
     }
-    apply_rows(words, rows, levels, limit, op, p.lo, p.hi)
+    and_rows(words, rows, levels, limit, p.lo, p.hi)
 }
 
-// `apply` of parts of two rows. It is apart, so that it is inlined in `apply_rows`: a pair whose result is known costs no call.
-fn apply_part(words: &mut [u32], rows: u32, levels: u32, limit: u32, op: Op, a: u32, b: u32) -> u32
+// `and_of` of parts of two rows. It is apart, so that it is inlined in `and_rows`: a pair whose result is known costs no call.
+fn and_part(words: &mut [u32], rows: u32, levels: u32, limit: u32, a: u32, b: u32) -> u32
     requires { ⌜ Ready levels rows limit (view rows (now words)) × Arrow (rowsOf (view rows (now words))) a × Arrow (rowsOf (view rows (now words))) b ⌝ }
-    ensures { λ r. ⌜ Worked levels rows limit (view rows (now (words .entry))) (view rows (now (words .exit))) (madeOf r) (twoF (bitOp op) (den levels (rowsOf (view rows (now (words .entry)))) a) (den levels (rowsOf (view rows (now (words .entry)))) b)) ⌝ }
+    ensures { λ r. ⌜ Worked levels rows limit (view rows (now (words .entry))) (view rows (now (words .exit))) (madeOf r) (andF (den levels (rowsOf (view rows (now (words .entry)))) a) (den levels (rowsOf (view rows (now (words .entry)))) b)) ⌝ }
 {
     let p = sort(a, b);
-    let found = known(words, rows, op, p.lo, p.hi);
+    let found = known(words, rows, p.lo, p.hi);
     if let Found::At(r) = found {
         return r;
     }
-    apply_rows(words, rows, levels, limit, op, p.lo, p.hi)
+    and_rows(words, rows, levels, limit, p.lo, p.hi)
 }
 
-// AND or OR of a lesser and a greater arrow to rows.
-fn apply_rows(
-    words: &mut [u32],
-    rows: u32,
-    levels: u32,
-    limit: u32,
-    op: Op,
-    lo: u32,
-    hi: u32,
-) -> u32
+// AND of a lesser and a greater arrow to rows.
+fn and_rows(words: &mut [u32], rows: u32, levels: u32, limit: u32, lo: u32, hi: u32) -> u32
     requires { ⌜ Ready levels rows limit (view rows (now words)) × Arrow (rowsOf (view rows (now words))) lo × Arrow (rowsOf (view rows (now words))) hi × BothRows lo hi ⌝ }
-    ensures { λ r. ⌜ Worked levels rows limit (view rows (now (words .entry))) (view rows (now (words .exit))) (madeOf r) (twoF (bitOp op) (den levels (rowsOf (view rows (now (words .entry)))) lo) (den levels (rowsOf (view rows (now (words .entry)))) hi)) ⌝ }
+    ensures { λ r. ⌜ Worked levels rows limit (view rows (now (words .entry))) (view rows (now (words .exit))) (madeOf r) (andF (den levels (rowsOf (view rows (now (words .entry)))) lo) (den levels (rowsOf (view rows (now (words .entry)))) hi)) ⌝ }
 {
     let level = top(words, rows, lo, hi);
     let x = halve(words, rows, level, lo);
     let y = halve(words, rows, level, hi);
-    let low = apply_part(words, rows, levels, limit, op, x.low, y.low);
+    let low = and_part(words, rows, levels, limit, x.low, y.low);
     if low == Code::FULL {
         return Code::FULL;
     }
-    let high = apply_part(words, rows, levels, limit, op, x.high, y.high);
+    let high = and_part(words, rows, levels, limit, x.high, y.high);
     if high == Code::FULL {
         return Code::FULL;
     }
     let made = make(words, rows, limit, level, low, high);
-    remember(words, rows, op, lo, hi, made);
+    remember(words, rows, lo, hi, made);
     made
+}
+
+// OR of two arrows: NOT of AND of the two with the other mark.
+pub fn or_of(words: &mut [u32], rows: u32, levels: u32, limit: u32, a: u32, b: u32) -> u32
+    requires { ⌜ Ready levels rows limit (view rows (now words)) × Arrow (rowsOf (view rows (now words))) a × Arrow (rowsOf (view rows (now words))) b ⌝ }
+    ensures { λ r. ⌜ Worked levels rows limit (view rows (now (words .entry))) (view rows (now (words .exit))) (madeOf r) (orF (den levels (rowsOf (view rows (now (words .entry)))) a) (den levels (rowsOf (view rows (now (words .entry)))) b)) ⌝ }
+{
+    let made = and_of(words, rows, levels, limit, flip(a), flip(b));
+    if made == Code::FULL {
+        return Code::FULL;
+    }
+    flip(made)
 }
 
 // What is known of EXISTS at level x of an arrow: of a function that does not read x, or remembered.
@@ -325,7 +268,7 @@ fn exists_known(words: &[u32], rows: u32, levels: u32, x: u32, a: u32) -> Found
     if level > x {
         return Found::At(a);
     }
-    recall_row(words, rows, i, Memory::EXISTS + x)
+    recall_row(words, rows, a, i, Memory::EXISTS + x)
 }
 
 // EXISTS at level x of an arrow.
@@ -358,11 +301,11 @@ fn exists_row(words: &mut [u32], rows: u32, levels: u32, limit: u32, x: u32, a: 
     ensures { λ r. ⌜ Worked levels rows limit (view rows (now (words .entry))) (view rows (now (words .exit))) (madeOf r) (existsF x (den levels (rowsOf (view rows (now (words .entry)))) a)) ⌝ }
 {
     let i = row_of(a);
-    let n = node_at(words, rows, i);
-    let key = Memory::EXISTS + x;
+    let n = node_at(words, rows, a, i);
+    let kind = Memory::EXISTS + x;
     if n.level == x {
-        let made = apply(words, rows, levels, limit, Op::Or, n.low, n.high);
-        remember_row(words, rows, i, key, made);
+        let made = or_of(words, rows, levels, limit, n.low, n.high);
+        remember_row(words, rows, a, i, kind, made);
         return made;
     }
     let low = exists_part(words, rows, levels, limit, x, n.low);
@@ -374,7 +317,7 @@ fn exists_row(words: &mut [u32], rows: u32, levels: u32, limit: u32, x: u32, a: 
         return Code::FULL;
     }
     let made = make(words, rows, limit, n.level, low, high);
-    remember_row(words, rows, i, key, made);
+    remember_row(words, rows, a, i, kind, made);
     made
 }
 
@@ -386,7 +329,7 @@ fn odd_known(words: &[u32], rows: u32, levels: u32, a: u32) -> Found
     if !is_row(a) {
         return Found::At(a);
     }
-    recall_row(words, rows, row_of(a), Memory::ODD)
+    recall_row(words, rows, a, row_of(a), Memory::ODD)
 }
 
 // EXISTS at every odd level of an arrow. Rows are added for parts of the result too, so that FULL says nothing of its need.
@@ -427,7 +370,7 @@ fn odd_join(
     ensures { λ r. ⌜ JoinPost levels rows limit (view rows (now (words .entry))) (view rows (now (words .exit))) level low high (madeOf r) ⌝ }
 {
     if level % 2 == 1 {
-        return apply(words, rows, levels, limit, Op::Or, low, high);
+        return or_of(words, rows, levels, limit, low, high);
     }
     make(words, rows, limit, level, low, high)
 }
@@ -438,7 +381,7 @@ fn odd_row(words: &mut [u32], rows: u32, levels: u32, limit: u32, a: u32) -> u32
     ensures { λ r. ⌜ OddPost levels (view rows (now (words .entry))) (view rows (now (words .exit))) a r ⌝ }
 {
     let i = row_of(a);
-    let n = node_at(words, rows, i);
+    let n = node_at(words, rows, a, i);
     let low = odd_part(words, rows, levels, limit, n.low);
     if low == Code::FULL {
         return Code::FULL;
@@ -448,6 +391,6 @@ fn odd_row(words: &mut [u32], rows: u32, levels: u32, limit: u32, a: u32) -> u32
         return Code::FULL;
     }
     let made = odd_join(words, rows, levels, limit, n.level, low, high);
-    remember_row(words, rows, i, Memory::ODD, made);
+    remember_row(words, rows, a, i, Memory::ODD, made);
     made
 }

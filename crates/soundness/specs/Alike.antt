@@ -11,7 +11,7 @@ use Rattle.diagram.specs.Grow.{arrow-extends, same-wellFormed}
 use Rattle.diagram.specs.Reach.{Reach, one-root}
 use Rattle.diagram.specs.Keep.{Keeps, extends-keeps, keeps-reach-back}
 use Rattle.diagram.specs.Even.{even}
-use Rattle.layout.specs.Places.{BITS, ROWS, USED, FIRST-REGISTER, FIRST-RELATION, ROOTS-END, LOW, HIGH, LEVEL, NEXT, RANK}
+use Rattle.layout.specs.Places.{BITS, ROWS, USED, LAYOUT, FIRST-REGISTER, FIRST-RELATION, ROOTS-END, LOW, HIGH, LEVEL, NEXT, RANK}
 use Rattle.layout.specs.View.{View, header-is}
 use Rattle.soundness.specs.Used.{Sizes, used, used-yes, used-in, InList, Ranked, rowsOf}
 use Rattle.soundness.specs.Index.{bucket, keyOf, live, live-link, Hit, Down, Index}
@@ -19,13 +19,14 @@ use Rattle.soundness.specs.Framed.{hit-frame, live-more}
 use Rattle.soundness.specs.Roots.{Ref}
 use Rattle.soundness.specs.Sound.{Good, Sound, EvenRegs, tableOf, along}
 
--- the two agree in sizes and roots, in the list of used rows, and in the listed rows' level, arrows, link, rank and bucket
+-- the two agree in sizes, layout and roots, in the list of used rows, and in the listed rows' level, arrows, link, rank and bucket
 pub record Alike (W X : View) : Type 0 where
   pub rows : X .rows ≡ W .rows
   pub size : X .size ≡ W .size
   pub bits : X .header BITS ≡ W .header BITS
   pub count : X .header ROWS ≡ W .header ROWS
   pub used : X .header USED ≡ W .header USED
+  pub layout : X .header LAYOUT ≡ W .header LAYOUT
   pub roots : (h : ℕ) → FIRST-REGISTER ≤ h → h < ROOTS-END → X .header h ≡ W .header h
   pub list : (k : ℕ) → k < W .header USED → X .list k ≡ W .list k
   pub cell : (k : ℕ) → k < W .header USED → (l : ℕ) → l ≤ RANK → X .cell (W .list k) l ≡ W .cell (W .list k) l
@@ -99,6 +100,7 @@ module _ {W X : View} (e : Alike W X) where
   alike-good g = record {
     sizes = rw (e .bits, e .rows, e .size) (g .sizes);
     rows-is = e .count ∙ g .rows-is ∙ sym (e .rows);
+    layout-is = e .layout ∙ g .layout-is;
     ranked = record {
       count-le = rw (e .used, e .rows) (g .ranked .count-le);
       within = λ k h. let l = rw (e .used) at h in rw (e .list k l, e .rows) (g .ranked .within k l);
@@ -134,6 +136,7 @@ alike-sym {W} {X} e = record {
   bits = sym (e .bits);
   count = sym (e .count);
   used = sym (e .used);
+  layout = sym (e .layout);
   roots = λ h a l. sym (e .roots h a l);
   list = λ k h. sym (e .list k (rw (e .used) at h));
   cell = λ k h l m. let z = rw (e .used) at h in rw (e .list k z) (sym (e .cell k z l m));
@@ -146,3 +149,7 @@ alike-sym {W} {X} e = record {
 -- "All zero words are unsound."
 pub zeros-unsound : (ws : List ℕ) → ((k : ℕ) → getD ws k 0 ≡ 0) → Sound (tableOf ws) → ⊥
 zeros-unsound ws z s = let e = header-is ws BITS (omega arith) ∙ z BITS in let p = s .good .sizes .n-pos in omega arith
+
+-- "Old lent words are refused by 2": they have 0 for the layout, as nothing wrote that word.
+pub old-unsound : (ws : List ℕ) → getD ws LAYOUT 0 ≡ 0 → Sound (tableOf ws) → ⊥
+old-unsound ws z s = let e = header-is ws LAYOUT (omega arith) ∙ z in let p = s .good .layout-is in omega (arith, e, p)

@@ -1,15 +1,15 @@
 -- What each part of the check of a table finds. Assumes nothing.
 use mathlib.Core.Path.{_≡_, refl, sym, _∙_, subst}
-use mathlib.Core.Bool.{Bool, true, false, not, true≢false}
+use mathlib.Core.Bool.{Bool, true, false, not}
 use mathlib.Core.Logic.{_≢_}
 use mathlib.Core.List.{List}
-use Prim.Native.Nat.{ℕ, zero, suc, _+_, _-_, _*_, _%_, _≤_, _<_}
+use Prim.Native.Nat.{ℕ, zero, suc, _+_, _-_, _*_, _/_, _%_, _≤_, _<_}
 use native.Mathlib.Omega.{arith}
 use lib.Dec.{eqb}
 use borrow.Author.Tests.{eqb-true, eqb-false}
 use Rattle.layout.specs.Places.{MAX-ROWS, wordsFor, USED, LOW, HIGH, LEVEL, NEXT, RANK}
 use Rattle.layout.specs.View.{View}
-use Rattle.layout.specs.Arrows.{isRow, rowOf, row-is}
+use Rattle.layout.specs.Arrows.{isRow, rowOf, isMarked, row-is, no-row-leads}
 use Rattle.soundness.specs.Used.{used, used-in}
 use Rattle.soundness.specs.Index.{Has, Hit, stop, skip, Down, down-link, Link, live, live-used, live-not, keyOf}
 use Rattle.soundness.specs.Bits.{On}
@@ -25,10 +25,12 @@ abbrev pub Placed : View → ℕ → Type 0
 Placed W k = (W .list k < W .rows) × (W .cell (W .list k) RANK ≡ k)
 
 -- an arrow is 0, 1 or leads to a used row of a level above a bound
+abbrev pub LeadsTo : View → ℕ → ℕ → Type 0
+LeadsTo W above zero = Unit {0}
+LeadsTo W above (suc i) = (used W i ≡ true) × (above < W .cell i LEVEL)
+
 abbrev pub Leads : View → ℕ → ℕ → Type 0
-Leads W above zero = Unit {0}
-Leads W above (suc zero) = Unit {0}
-Leads W above (suc (suc i)) = (used W i ≡ true) × (above < W .cell i LEVEL)
+Leads W above a = LeadsTo W above (a / 2)
 
 -- a used row: its level, its arrows and its link
 pub record RowGood (W : View) (m i : ℕ) : Type 0 where
@@ -36,6 +38,7 @@ pub record RowGood (W : View) (m i : ℕ) : Type 0 where
   pub differ : W .cell i LOW ≢ W .cell i HIGH
   pub low : Leads W (W .cell i LEVEL) (W .cell i LOW)
   pub high : Leads W (W .cell i LEVEL) (W .cell i HIGH)
+  pub plain : isMarked (W .cell i HIGH) ≡ false
   pub next : Down W (W .cell i RANK) (W .cell i NEXT)
 
 -- the lookup of row i finds row i
@@ -53,16 +56,13 @@ EvenMarked W m = (k : ℕ) → k < W .header USED → On m (W .list k) → W .ce
 
 -- an arrow that leads to no row, and one that leads to row i
 pub leads-constant : (W : View) (above a : ℕ) → isRow a ≡ false → Leads W above a
-unfolding isRow
-leads-constant W above zero h = tt
-leads-constant W above (suc zero) h = tt
-leads-constant W above (suc (suc i)) h = absurd (true≢false h)
+leads-constant W above a h = subst (LeadsTo W above) (sym (no-row-leads a h)) tt
 
 pub leads-of : {i : ℕ} (W : View) (above a : ℕ) → isRow a ≡ true → i ≡ rowOf a → (used W i ≡ true) × (above < W .cell i LEVEL) → Leads W above a
-leads-of W above a h e p = rw (row-is a h) (rw e at p)
+leads-of W above a h e p = subst (LeadsTo W above) (sym (row-is a h)) (rw e at p)
 
 pub of-leads : {i : ℕ} (W : View) (above a : ℕ) → isRow a ≡ true → i ≡ rowOf a → Leads W above a → (used W i ≡ true) × (above < W .cell i LEVEL)
-of-leads W above a h e p = rw e (subst (Leads W above) (row-is a h) p)
+of-leads W above a h e p = rw e (subst (LeadsTo W above) (row-is a h) p)
 
 -- a link that is not 0
 pub down-of : (W : View) (k p : ℕ) → p ≢ 0 → (used W (p - 1) ≡ true) × (W .cell (p - 1) RANK < k) → Down W k p

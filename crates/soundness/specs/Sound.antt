@@ -6,8 +6,8 @@ use mathlib.Core.List.{List, [], _∷_}
 use Prim.Native.Nat.{ℕ, zero, suc, _*_, _%_, _≤_, _<_}
 use native.Mathlib.Omega.{arith}
 use borrow.Author.Tests.{eq-eqb, eqb-true}
-use Rattle.layout.specs.Places.{BITS, ROWS, USED, FIRST-REGISTER, FIRST-RELATION, ROOTS-END, LOW, HIGH, LEVEL, RANK}
-use Rattle.diagram.specs.Rows.{Arrow, levelOf, RowOk, WellFormed}
+use Rattle.layout.specs.Places.{BITS, ROWS, USED, LAYOUT, MARKED, FIRST-REGISTER, FIRST-RELATION, ROOTS-END, LOW, HIGH, LEVEL, RANK}
+use Rattle.diagram.specs.Rows.{target, ArrowTo, levelTo, RowOk, WellFormed}
 use Rattle.diagram.specs.Reach.{Reach, one-root}
 use Rattle.diagram.specs.Even.{even}
 use Rattle.layout.specs.View.{View, view, headerOf}
@@ -16,7 +16,7 @@ use Rattle.soundness.specs.Index.{Index, hit-one}
 use Rattle.soundness.specs.Bits.{On}
 use Rattle.soundness.specs.Mark.{OnArrow, Closed, closed-reach, reaches-used}
 use Rattle.soundness.specs.Roots.{Ref, Held, MarksAll}
-use Rattle.soundness.specs.Checks.{Room, Placed, Leads, RowGood, Finds, Links, EvenMarked}
+use Rattle.soundness.specs.Checks.{Room, Placed, LeadsTo, RowGood, Finds, Links, EvenMarked}
 use Rattle.soundness.specs.Triples.{Ready, small-of}
 
 -- "each register is empty or an arrow whose rows all have even levels"
@@ -28,9 +28,12 @@ pub record Good (W : View) : Type 0 where
   -- "n and N are in range and the slice is long enough"
   pub sizes : Sizes (W .header BITS) (W .rows) (W .size)
   pub rows-is : W .header ROWS ≡ W .rows
+  -- "old lent words are refused by 2": the words have the layout in which arrows may carry a NOT
+  pub layout-is : W .header LAYOUT ≡ MARKED
   -- "a list of unused rows, if one is kept, holds those and only those, each once": ours is that of the used rows
   pub ranked : Ranked W
-  -- "row levels are under 2n, and each arrow to a row leads to a greater level", "low and high differ, and no two used rows agree in all three"
+  -- "row levels are under 2n, and each arrow to a row leads to a greater level", "low and high differ, and no two used rows agree in all three",
+  -- "an arrow may now carry a NOT, the high arrow of a row never does"
   pub rows : WellFormed (2 * W .header BITS) (W .rows) (rowsOf W)
   -- "the lookup index finds every used row"
   pub index : Index W
@@ -50,6 +53,7 @@ tableOf ws = view (headerOf ws ROWS) ws
 pub record Parts (W : View) : Type 0 where
   pub sizes : Sizes (W .header BITS) (W .rows) (W .size)
   pub rows-is : W .header ROWS ≡ W .rows
+  pub layout-is : W .header LAYOUT ≡ MARKED
   pub count-le : W .header USED ≤ W .rows
   pub list : (k : ℕ) → k < W .header USED → Placed W k
   pub rows : (k : ℕ) → k < W .header USED → RowGood W (2 * W .header BITS) (W .list k)
@@ -84,20 +88,17 @@ module _ (W : View) where
         small = λ k h. small-of r (let b = z .n-max in omega arith) (g k h);
       }
 
-  leads-arrow : (above a : ℕ) → Leads W above a → Arrow (rowsOf W) a
+  leads-arrow : (above k : ℕ) → LeadsTo W above k → ArrowTo (rowsOf W) k
   leads-arrow above zero l = tt
-  leads-arrow above (suc zero) l = tt
-  leads-arrow above (suc (suc i)) l = l .0
+  leads-arrow above (suc i) l = l .0
 
-  leads-deeper : (above a : ℕ) → above < m → Leads W above a → above < levelOf m (rowsOf W) a
+  leads-deeper : (above k : ℕ) → above < m → LeadsTo W above k → above < levelTo m (rowsOf W) k
   leads-deeper above zero h l = h
-  leads-deeper above (suc zero) h l = h
-  leads-deeper above (suc (suc j)) h l = l .1
+  leads-deeper above (suc j) h l = l .1
 
-  arrow-leads : (above a : ℕ) → Arrow (rowsOf W) a → above < levelOf m (rowsOf W) a → Leads W above a
+  arrow-leads : (above k : ℕ) → ArrowTo (rowsOf W) k → above < levelTo m (rowsOf W) k → LeadsTo W above k
   arrow-leads above zero u g = tt
-  arrow-leads above (suc zero) u g = tt
-  arrow-leads above (suc (suc j)) u g = (u, g)
+  arrow-leads above (suc j) u g = (u, g)
 
   module _ (p : Parts W) where
     good-row : (i : ℕ) → used W i ≡ true → RowGood W m i
@@ -109,11 +110,12 @@ module _ (W : View) where
     ok-of : (i : ℕ) → used W i ≡ true → RowOk m (rowsOf W) i
     ok-of i u = let g = good-row i u in record {
       shallow = g .level;
-      low-arrow = leads-arrow (W .cell i LEVEL) (W .cell i LOW) (g .low);
-      high-arrow = leads-arrow (W .cell i LEVEL) (W .cell i HIGH) (g .high);
-      low-deeper = leads-deeper (W .cell i LEVEL) (W .cell i LOW) (g .level) (g .low);
-      high-deeper = leads-deeper (W .cell i LEVEL) (W .cell i HIGH) (g .level) (g .high);
+      low-arrow = leads-arrow (W .cell i LEVEL) (target (W .cell i LOW)) (g .low);
+      high-arrow = leads-arrow (W .cell i LEVEL) (target (W .cell i HIGH)) (g .high);
+      low-deeper = leads-deeper (W .cell i LEVEL) (target (W .cell i LOW)) (g .level) (g .low);
+      high-deeper = leads-deeper (W .cell i LEVEL) (target (W .cell i HIGH)) (g .level) (g .high);
       reduced = g .differ;
+      plain = g .plain;
     }
 
     shared-of : (i j : ℕ) → used W i ≡ true → used W j ≡ true → W .cell i LEVEL ≡ W .cell j LEVEL → W .cell i LOW ≡ W .cell j LOW → W .cell i HIGH ≡ W .cell j HIGH → i ≡ j
@@ -123,6 +125,7 @@ module _ (W : View) where
     good-of = record {
       sizes = p .sizes;
       rows-is = p .rows-is;
+      layout-is = p .layout-is;
       ranked = ranked-of (p .count-le) (p .list);
       rows = record { bounded = λ i u. used-in (W .rows) (W .header USED) (λ x. W .cell x RANK) (W .list) i u .row; ok = ok-of; shared = shared-of };
       index = record { nexts = λ i u. good-row i u .next; found = finds };
@@ -133,8 +136,9 @@ module _ (W : View) where
     row-good i u = let o : RowOk m (rowsOf W) i = g .rows .ok i u in record {
       level = o .shallow;
       differ = o .reduced;
-      low = arrow-leads (W .cell i LEVEL) (W .cell i LOW) (o .low-arrow) (o .low-deeper);
-      high = arrow-leads (W .cell i LEVEL) (W .cell i HIGH) (o .high-arrow) (o .high-deeper);
+      plain = o .plain;
+      low = arrow-leads (W .cell i LEVEL) (target (W .cell i LOW)) (o .low-arrow) (o .low-deeper);
+      high = arrow-leads (W .cell i LEVEL) (target (W .cell i HIGH)) (o .high-arrow) (o .high-deeper);
       next = g .index .nexts i u;
     }
 
@@ -142,6 +146,7 @@ module _ (W : View) where
     of-good = record {
       sizes = g .sizes;
       rows-is = g .rows-is;
+      layout-is = g .layout-is;
       count-le = g .ranked .count-le;
       list = λ k h. (g .ranked .within k h, g .ranked .back k h);
       rows = λ k h. row-good (W .list k) (listed-used W (g .ranked) k h);

@@ -1,14 +1,14 @@
 -- A table's rows read off its words: which rows are used is a sparse set (Briggs and Torczon), a list and each row's place in it. Assumes nothing.
 use mathlib.Core.Path.{_≡_, refl, ap, sym, subst}
 use mathlib.Core.Bool.{Bool, true, false, cond, true≢false}
-use Prim.Native.Nat.{ℕ, zero, suc, _+_, _-_, _*_, _≤_, _<_}
+use Prim.Native.Nat.{ℕ, _≤_, _<_}
 use native.Mathlib.Omega.{arith}
 use lib.Dec.{ltb, eqb}
 use borrow.Author.Tests.{ltb-true, lt-ltb, eqb-true, eq-eqb}
 use Rattle.layout.specs.Places.{MAX-BITS, MAX-ROWS, wordsFor, USED, LOW, HIGH, LEVEL, RANK}
-use Rattle.diagram.specs.Rows.{Rows, Arrow}
+use Rattle.diagram.specs.Rows.{Rows, Arrow, ArrowTo}
 use Rattle.layout.specs.View.{View}
-use Rattle.layout.specs.Arrows.{isRow, rowOf, row-is}
+use Rattle.layout.specs.Arrows.{isRow, rowOf, row-is, no-row-leads}
 
 -- row i is one of N, its rank is below the count, and the list has it there
 unfoldable pub usedAt : ℕ → ℕ → (ℕ → ℕ) → (ℕ → ℕ) → ℕ → Bool
@@ -70,13 +70,10 @@ listed-used W r k h = used-yes _ _ _ _ _ (record { row = r .within k h; place = 
 
 -- an arrow that leads to no row, and one that leads to row i
 pub arrow-constant : (rows : Rows) (a : ℕ) → isRow a ≡ false → Arrow rows a
-unfolding isRow
-arrow-constant rows zero h = tt
-arrow-constant rows (suc zero) h = tt
-arrow-constant rows (suc (suc i)) h = absurd (true≢false h)
+arrow-constant rows a h = subst (ArrowTo rows) (sym (no-row-leads a h)) tt
 
 pub arrow-of : {i : ℕ} (rows : Rows) (a : ℕ) → isRow a ≡ true → i ≡ rowOf a → rows .used i ≡ true → Arrow rows a
-arrow-of rows a h e u = rw (row-is a h) (rw e at u)
+arrow-of rows a h e u = subst (ArrowTo rows) (sym (row-is a h)) (rw e at u)
 
 pub of-arrow : {i : ℕ} (rows : Rows) (a : ℕ) → isRow a ≡ true → i ≡ rowOf a → Arrow rows a → rows .used i ≡ true
-of-arrow rows a h e u = rw e (subst (Arrow rows) (row-is a h) u)
+of-arrow rows a h e u = rw e (subst (ArrowTo rows) (row-is a h) u)

@@ -7,16 +7,17 @@ use layout::Table;
 use layout::get;
 use layout::head;
 use layout::header_word;
+use layout::is_marked;
 use layout::is_row;
 use layout::listed;
 use layout::row_of;
 ghost use mathlib.Core.Path.{_≡_};
-ghost use mathlib.Core.Bool.{true};
+ghost use mathlib.Core.Bool.{true, false};
 ghost use Prim.Native.Nat.{ℕ, suc, _*_, _<_, _≤_};
 ghost use lib.ListN.{length};
-ghost use Rattle.layout.specs.Places.{MAX-ROWS, HEADER, wordsFor, BITS, ROWS, FIRST-REGISTER, FIRST-RELATION};
+ghost use Rattle.layout.specs.Places.{MAX-ROWS, HEADER, wordsFor, BITS, ROWS, LAYOUT, MARKED, FIRST-REGISTER, FIRST-RELATION};
 ghost use Rattle.layout.specs.View.{view, headerOf, listOf, headOf};
-ghost use Rattle.layout.specs.Arrows.{isRow};
+ghost use Rattle.layout.specs.Arrows.{isRow, isMarked};
 ghost use Rattle.soundness.specs.Used.{Sizes, used, rowsOf, Ranked};
 ghost use Rattle.soundness.specs.Index.{bucket, live, Has, Hit, Down, Link};
 ghost use Rattle.soundness.specs.Bits.{MARK-WORDS, isOn, Sets};
@@ -82,6 +83,17 @@ fn lead_ok(words: &[u32], rows: u32, above: u32, a: u32) -> bool
     true
 }
 
+// Whether an arrow carries no NOT, and is 0 or leads to a used row of a level above a bound.
+fn high_ok(words: &[u32], rows: u32, above: u32, a: u32) -> bool
+    requires { ⌜ Room (view rows (now words)) ⌝ }
+    ensures { λ r. ⌜ Says ((isMarked a ≡ false) × Leads (view rows (now (words .entry))) above a) r ⌝ }
+{
+    if is_marked(a) {
+        return false;
+    }
+    lead_ok(words, rows, above, a)
+}
+
 // Whether a link is 0 or leads to a used row of a rank below a bound.
 fn link_ok(words: &[u32], rows: u32, below: u32, p: u32) -> bool
     requires { ⌜ Room (view rows (now words)) ⌝ }
@@ -117,7 +129,7 @@ fn row_ok(words: &[u32], rows: u32, levels: u32, i: u32) -> bool
     if !lead_ok(words, rows, level, low) {
         return false;
     }
-    if !lead_ok(words, rows, level, high) {
+    if !high_ok(words, rows, level, high) {
         return false;
     }
     link_ok(
@@ -449,9 +461,9 @@ fn sizes_ok(words: &[u32]) -> bool
     )
 }
 
-// Whether a table of the right size is sound.
+// Whether a table of the right size and layout is sound.
 fn table_ok(words: &[u32], rows: u32) -> bool
-    requires { ⌜ Sizes (headerOf (now words) BITS) rows (length (now words)) × (headerOf (now words) ROWS ≡ rows) ⌝ }
+    requires { ⌜ Sizes (headerOf (now words) BITS) rows (length (now words)) × (headerOf (now words) ROWS ≡ rows) × (headerOf (now words) LAYOUT ≡ MARKED) ⌝ }
     ensures { λ r. ⌜ Says (Sound (view rows (now (words .entry)))) r ⌝ }
 {
     let used = header_word(words, Table::USED);
@@ -479,6 +491,9 @@ pub fn sound(words: &[u32]) -> bool
     ensures { λ r. ⌜ Says (Sound (tableOf (now (words .entry)))) r ⌝ }
 {
     if !sizes_ok(words) {
+        return false;
+    }
+    if header_word(words, Table::LAYOUT) != Table::MARKED {
         return false;
     }
     table_ok(words, header_word(words, Table::ROWS))

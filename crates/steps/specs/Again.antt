@@ -123,7 +123,7 @@ module _ {m N limit : ℕ} {W : View} {roots : List ℕ} {s : Step} (p : StepPre
   -- after collecting: the second try
   module _ {C : View} (c : Cleaned W C roots s 0) where
     cleans : Collects (rowsOf W) (rowsOf C) (liveAt W roots s)
-    cleans = collects-same (λ i h. ⊎-elim (λ e. absurd (omega arith)) (λ t. t) (mem-cases h)) (λ i h. there h) (c .collects)
+    cleans = collects-same (λ a i l h. ⊎-elim (λ e. absurd (omega (arith, l, e))) (λ t. t) (mem-cases h)) (λ a i l h. there h) (c .collects)
 
     keeps : Keeps (rowsOf W) (rowsOf C) (liveAt W roots s)
     keeps = collects-keeps cleans

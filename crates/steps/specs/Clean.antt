@@ -1,10 +1,10 @@
 -- Collecting at a step: just the rows that what is live and one more arrow need are left, and nothing is remembered. Assumes nothing.
 use mathlib.Core.Path.{_≡_, refl, sym, subst}
-use mathlib.Core.Logic.{_⊎_, inl, inr, ⊎-elim}
+use mathlib.Core.Logic.{_≢_, _⊎_, inl, inr, ⊎-elim}
 use mathlib.Core.List.{List, [], _∷_, _++_, List·Memᴰ as Mem, List·Memᴰ·head as here, List·Memᴰ·tail as there, List·Memᴰ·cases-cons as mem-cases, List·Memᴰ·not-nil as mem-nil, List·Memᴰ·append-cases as append-cases, Memᴰ·append-left as append-left, Memᴰ·append-right as append-right}
 use Prim.Native.Nat.{ℕ, zero, suc}
 use native.Mathlib.Omega.{arith}
-use Rattle.diagram.specs.Rows.{Rows, row, Arrow}
+use Rattle.diagram.specs.Rows.{Rows, Leads, Arrow}
 use Rattle.diagram.specs.Collect.{Collects, collects-same}
 use Rattle.layout.specs.View.{View}
 use Rattle.soundness.specs.Used.{rowsOf}
@@ -45,16 +45,16 @@ padded : {b c kept a : ℕ} (xs : List ℕ) → (a ≡ b → Mem a xs) → (a �
 padded xs f g h =
     ⊎-elim (λ e. inl (f e)) (λ t. ⊎-elim (λ e. inl (g e)) (λ u. ⊎-elim (λ e. inr e) (λ n. absurd (mem-nil n)) (mem-cases u)) (mem-cases t)) (mem-cases h)
 
-no-row : {A : Type 0} (i : ℕ) → row i ≡ 0 → A
-no-row i e = absurd (omega arith)
+no-row : {A : Type 0} {c : ℕ} → c ≢ 0 → c ≡ 0 → A
+no-row n e = absurd (n e)
 
-lent-mem : (s : Step) (kept i : ℕ) → Mem (row i) (lent s kept) → Mem (row i) (operandsOf s) ⊎ (row i ≡ kept)
-lent-mem (step.Bit l) kept i = padded [] (no-row i) (no-row i)
-lent-mem (step.Not a) kept i = padded (a ∷ []) here (no-row i)
-lent-mem (step.And a b) kept i = padded (a ∷ b ∷ []) here (λ e. there (here e))
-lent-mem (step.Or a b) kept i = padded (a ∷ b ∷ []) here (λ e. there (here e))
-lent-mem (step.Shift a) kept i = padded (a ∷ []) here (no-row i)
-lent-mem (step.Exists x a) kept i = padded (a ∷ []) here (no-row i)
+lent-mem : (s : Step) (kept c : ℕ) → c ≢ 0 → Mem c (lent s kept) → Mem c (operandsOf s) ⊎ (c ≡ kept)
+lent-mem (step.Bit l) kept c n = padded [] (no-row n) (no-row n)
+lent-mem (step.Not a) kept c n = padded (a ∷ []) here (no-row n)
+lent-mem (step.And a b) kept c n = padded (a ∷ b ∷ []) here (λ e. there (here e))
+lent-mem (step.Or a b) kept c n = padded (a ∷ b ∷ []) here (λ e. there (here e))
+lent-mem (step.Shift a) kept c n = padded (a ∷ []) here (no-row n)
+lent-mem (step.Exists x a) kept c n = padded (a ∷ []) here (no-row n)
 
 -- the operands are among them
 one-lent : {a b c kept : ℕ} → Mem a (b ∷ []) → Mem a (b ∷ c ∷ kept ∷ [])
@@ -78,25 +78,24 @@ kept-lent s kept = there (there (here refl))
 module _ {W : View} {roots : List ℕ} {s : Step} {kept a b : ℕ} (ea : a ≡ firstOperand s) (eb : b ≡ secondOperand s) (p : CleanPre W roots s kept) where
   lent-arrow : (c : ℕ) → Mem c (lent s kept) → Arrow (rowsOf W) c
   lent-arrow zero h = tt
-  lent-arrow (suc zero) h = tt
-  lent-arrow (suc (suc i)) h = ⊎-elim (p .operands (row i)) (λ e. subst (Arrow (rowsOf W)) (sym e) (p .kept-arrow)) (lent-mem s kept i h)
+  lent-arrow (suc c) h = ⊎-elim (p .operands (suc c)) (λ e. subst (Arrow (rowsOf W)) (sym e) (p .kept-arrow)) (lent-mem s kept (suc c) (λ e. absurd (omega arith)) h)
 
   pub free-pre : FreePre W (roots ++ (a ∷ b ∷ kept ∷ []))
   free-pre = rw (ea, eb) (record { sound = p .sound; arrows = λ c h. ⊎-elim (p .arrows c) (lent-arrow c) (append-cases roots h) })
 
   -- the rows that are left
-  to-live : (i : ℕ) → Mem (row i) (live W (roots ++ lent s kept)) → Mem (row i) (kept ∷ liveAt W roots s)
-  to-live i h =
+  to-live : (c i : ℕ) → Leads c i → Mem c (live W (roots ++ lent s kept)) → Mem c (kept ∷ liveAt W roots s)
+  to-live c i l h =
       ⊎-elim (λ f. there (append-left (roots ++ operandsOf s) f))
       (λ t. ⊎-elim (λ r. there (append-right (filled W) (append-left (operandsOf s) r)))
-      (λ u. ⊎-elim (λ o. there (append-right (filled W) (append-right roots o))) (λ e. here e) (lent-mem s kept i u)) (append-cases roots t))
+      (λ u. ⊎-elim (λ o. there (append-right (filled W) (append-right roots o))) (λ e. here e) (lent-mem s kept c (λ e. absurd (omega (arith, l, e))) u)) (append-cases roots t))
       (append-cases (filled W) h)
 
-  to-lent : (i : ℕ) → Mem (row i) (kept ∷ liveAt W roots s) → Mem (row i) (live W (roots ++ lent s kept))
-  to-lent i h =
+  to-lent : (c i : ℕ) → Leads c i → Mem c (kept ∷ liveAt W roots s) → Mem c (live W (roots ++ lent s kept))
+  to-lent c i l h =
       ⊎-elim (λ e. append-right (filled W) (append-right roots (subst (λ (c : ℕ). Mem c (lent s kept)) (sym e) (kept-lent s kept))))
       (λ t. ⊎-elim (λ f. append-left (roots ++ lent s kept) f)
-      (λ u. append-right (filled W) (⊎-elim (λ r. append-left (lent s kept) r) (λ o. append-right roots (mem-lent s kept (row i) o)) (append-cases roots u)))
+      (λ u. append-right (filled W) (⊎-elim (λ r. append-left (lent s kept) r) (λ o. append-right roots (mem-lent s kept c o)) (append-cases roots u)))
       (append-cases (filled W) t))
       (mem-cases h)
 

@@ -6,23 +6,25 @@ use mathlib.Core.List.{List, [], _∷_, _++_, List·Memᴰ as Mem, List·Memᴰ�
 use Prim.Native.Nat.{ℕ, zero, suc, _+_, _≤_, _<_}
 use native.Mathlib.Omega.{arith}
 use Rattle.diagram.specs.Level.{Val, Fn, Reads, upd}
-use Rattle.diagram.specs.Rows.{Rows, Arrow, den, WellFormed}
+use Rattle.diagram.specs.Rows.{Rows, flip, Arrow, den, WellFormed}
 use Rattle.diagram.specs.Reach.{den-reads-all}
 use Rattle.diagram.specs.Even.{ReadsOn, even}
 use Rattle.diagram.specs.Keep.{Keeps, keeps-arrow, keeps-den}
 use Rattle.diagram.specs.Steps.{bitF, notF, andF, orF, shiftF, existsF, not-reads, two-reads, exists-reads}
 use Rattle.diagram.specs.Recur.{shift-reads-all}
+use Rattle.diagram.specs.Post.{denotes-flip}
 use Rattle.diagram.specs.Step.{StepPost}
 use Rattle.layout.specs.Places.{FIRST-REGISTER, ROOTS}
 use Rattle.layout.specs.View.{View}
 use Rattle.soundness.specs.Used.{rowsOf}
 use Rattle.soundness.specs.Sound.{Sound}
 use Rattle.soundness.specs.Filled.{filled, filled-arrow, held, push}
+use Rattle.table.specs.Code.{madeOf}
 use Rattle.table.specs.Make.{result}
 use Rattle.table.specs.declared.Made.{Made}
 use Rattle.collect.specs.Lent.{live}
 use Rattle.memory.specs.Memo.{Remembers}
-use Rattle.operations.specs.Work.{OpFrame, Ready}
+use Rattle.operations.specs.Work.{OpFrame, Ready, Worked, worked-there}
 use Rattle.steps.specs.declared.Step.{Step}
 use Rattle.steps.specs.declared.Step.the-variants as step
 
@@ -87,6 +89,10 @@ pub record Stepped (m N limit : ℕ) (W X : View) (roots : List ℕ) (s : Step) 
   pub memory : Remembers m X
   pub frame : OpFrame W X
   pub post : StepPost m N limit (rowsOf W) (rowsOf X) (liveAt W roots s) (result o) (stepF m (rowsOf W) s)
+
+-- "NOT needs no new row": it is the arrow with the other mark
+pub not-worked : {m N limit : ℕ} {W : View} {r : ℕ} (a : ℕ) → Ready m N limit W → Arrow (rowsOf W) a → r ≡ flip a → Worked m N limit W W (madeOf r) (notF (den m (rowsOf W) a))
+not-worked a p u e = rw e (worked-there p (denotes-flip (record { arrow = u; same = λ v. refl })))
 
 -- operands are arrows
 pub operand-arrow : (m : ℕ) (rows : Rows) (s : Step) → Fits m rows s → (a : ℕ) → Mem a (operandsOf s) → Arrow rows a

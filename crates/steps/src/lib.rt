@@ -1,13 +1,13 @@
 // The steps of an evaluation: a step is tried; where the rows run out, the table is collected and the step tried once more.
 use collect::free_rows;
 use layout::Table;
+use layout::flip;
 use layout::header_word;
-use memory::Op;
 use memory::forget;
-use operations::apply;
+use operations::and_of;
 use operations::bit;
 use operations::exists;
-use operations::not;
+use operations::or_of;
 use operations::shift;
 use table::Code;
 use table::Made;
@@ -77,9 +77,9 @@ fn run_step(words: &mut [u32], rows: u32, levels: u32, limit: u32, step: Step) -
 {
     match step {
         Step::Bit(l) => bit(words, rows, levels, limit, l),
-        Step::Not(a) => not(words, rows, levels, limit, a),
-        Step::And(a, b) => apply(words, rows, levels, limit, Op::And, a, b),
-        Step::Or(a, b) => apply(words, rows, levels, limit, Op::Or, a, b),
+        Step::Not(a) => flip(a),
+        Step::And(a, b) => and_of(words, rows, levels, limit, a, b),
+        Step::Or(a, b) => or_of(words, rows, levels, limit, a, b),
         Step::Shift(a) => shift(words, rows, levels, limit, a),
         Step::Exists(x, a) => exists(words, rows, levels, limit, x, a),
     }

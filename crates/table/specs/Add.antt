@@ -7,7 +7,7 @@ use native.Mathlib.Omega.{arith}
 use native.Mathlib.Decide.{ℕ-discrete}
 use borrow.Author.Tests.{eq-eqb, ne-eqb}
 use Rattle.layout.specs.Places.{BITS, USED, CURSOR, LOW, HIGH, LEVEL, NEXT, RANK, MEMO-KEY}
-use Rattle.diagram.specs.Rows.{Rows, Arrow, levelOf, Adds}
+use Rattle.diagram.specs.Rows.{Rows, marked, Arrow, levelOf, Adds}
 use Rattle.diagram.specs.Grow.{adds-wellFormed}
 use Rattle.layout.specs.View.{View, putCell, putHeader}
 use Rattle.soundness.specs.Used.{used, rowsOf, Ranked}
@@ -155,12 +155,13 @@ module _ (W : View) (i l lo hi : ℕ) (g : Good W) (row : i < W .rows) (unused :
     fresh = λ j n u. by-cases (ℕ-discrete j i) (λ e. rw (eq-eqb j i e)) (λ d. absurd (true≢false (sym (added-adds .only j u d) ∙ n)));
   }
 
-  pub added-good : Fit (2 * W .header BITS) (rowsOf W) l lo hi → lo ≢ hi → Good X
-  added-good f ne = record {
+  pub added-good : Fit (2 * W .header BITS) (rowsOf W) l lo hi → lo ≢ hi → marked hi ≡ false → Good X
+  added-good f ne plain = record {
     sizes = g .sizes;
     rows-is = g .rows-is;
+    layout-is = g .layout-is;
     ranked = append-ranked Y i (ranked-written W i l lo hi g unused) (index-written W i l lo hi g unused) row unused space alone;
-    rows = adds-wellFormed (g .rows) added-adds row (omega arith) (f .shallow) (f .low-arrow) (f .high-arrow) (f .low-deeper) (f .high-deeper) ne
+    rows = adds-wellFormed (g .rows) added-adds row (omega arith) (f .shallow) (f .low-arrow) (f .high-arrow) (f .low-deeper) (f .high-deeper) ne plain
         (λ j u a b c. absent j u (record { level = a; low = b; high = c }));
     index = append-index Y i (ranked-written W i l lo hi g unused) (index-written W i l lo hi g unused) row unused space alone;
   }

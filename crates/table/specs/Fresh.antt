@@ -6,9 +6,9 @@ use mathlib.Core.List.{List}
 use Prim.Native.Nat.{ℕ, _+_, _<_}
 use native.Mathlib.Omega.{arith}
 use lib.ListN.{getD}
-use Rattle.layout.specs.Places.{HEADER, BITS, ROWS, USED, RANK}
+use Rattle.layout.specs.Places.{HEADER, BITS, ROWS, USED, LAYOUT, MARKED, RANK}
 use Rattle.layout.specs.View.{View, view, headerOf, header-is, putHeader, putHead, header-past, head-past}
-use Rattle.layout.specs.Header.{headerWords, header-bits, header-rows, header-zero}
+use Rattle.layout.specs.Header.{headerWords, header-bits, header-rows, header-layout, header-zero}
 use Rattle.soundness.specs.Used.{Sizes, used, used-in}
 use Rattle.soundness.specs.Sound.{Sound}
 use Rattle.table.specs.Columns.{over, over-none, over-more, over-all, setHeader, setHeads}
@@ -48,8 +48,8 @@ header-all N old new xs h =
 
 -- a table with a fresh header is sound
 module _ (W : View) (n : ℕ) (z : Sizes n (W .rows) (W .size)) (e : (h : ℕ) → W .header h ≡ headerOf (headerWords n (W .rows)) h) where
-  pub zero-at : (h : ℕ) → h < HEADER → h ≢ BITS → h ≢ ROWS → W .header h ≡ 0
-  zero-at h l a b = e h ∙ header-is (headerWords n (W .rows)) h l ∙ header-zero n (W .rows) h l a b
+  pub zero-at : (h : ℕ) → h < HEADER → h ≢ BITS → h ≢ ROWS → h ≢ LAYOUT → W .header h ≡ 0
+  zero-at h l a b c = e h ∙ header-is (headerWords n (W .rows)) h l ∙ header-zero n (W .rows) h l a b c
 
   pub bits-is : W .header BITS ≡ n
   bits-is = e BITS ∙ header-is (headerWords n (W .rows)) BITS (omega arith) ∙ header-bits n (W .rows)
@@ -57,8 +57,11 @@ module _ (W : View) (n : ℕ) (z : Sizes n (W .rows) (W .size)) (e : (h : ℕ) �
   pub rows-is : W .header ROWS ≡ W .rows
   rows-is = e ROWS ∙ header-is (headerWords n (W .rows)) ROWS (omega arith) ∙ header-rows n (W .rows)
 
+  pub layout-is : W .header LAYOUT ≡ MARKED
+  layout-is = e LAYOUT ∙ header-is (headerWords n (W .rows)) LAYOUT (omega arith) ∙ header-layout n (W .rows)
+
   none : W .header USED ≡ 0
-  none = zero-at USED (omega arith) (omega arith) (omega arith)
+  none = zero-at USED (omega arith) (omega arith) (omega arith) (omega arith)
 
   pub none-used : (i : ℕ) → used W i ≡ true → ⊥
   none-used i u = let q = used-in (W .rows) (W .header USED) (λ x. W .cell x RANK) (W .list) i u .place in let r = none in omega arith
@@ -68,12 +71,13 @@ module _ (W : View) (n : ℕ) (z : Sizes n (W .rows) (W .size)) (e : (h : ℕ) �
     good = record {
       sizes = rw bits-is z;
       rows-is = rows-is;
+      layout-is = layout-is;
       ranked = let r = none in record { count-le = omega arith; within = λ k h. absurd (omega arith); back = λ k h. absurd (omega arith) };
       rows = record { bounded = λ i u. absurd (none-used i u); ok = λ i u. absurd (none-used i u); shared = λ i j u. absurd (none-used i u) };
       index = record { nexts = λ j u. absurd (none-used j u); found = λ i u. absurd (none-used i u) };
     };
-    refs = λ h a l. rw (zero-at h (omega arith) (omega arith) (omega arith)) tt;
-    even = λ h a l b q i r. let o = zero-at h (omega arith) (omega arith) (omega arith) in absurd (omega arith);
+    refs = λ h a l. rw (zero-at h (omega arith) (omega arith) (omega arith) (omega arith)) tt;
+    even = λ h a l b q i r. let o = zero-at h (omega arith) (omega arith) (omega arith) (omega arith) in absurd (omega arith);
   }
 
 -- the steps of `make_empty`: mid has its heads emptied

@@ -8,7 +8,7 @@ use Rattle.diagram.specs.Grow.{arrow-extends}
 use Rattle.diagram.specs.Even.{even}
 use Rattle.diagram.specs.Reach.{Reach, one-root}
 use Rattle.diagram.specs.Keep.{extends-keeps, keeps-reach-back}
-use Rattle.diagram.specs.Post.{Result, Making, equal-arrows, found-row, added-row, no-row}
+use Rattle.diagram.specs.Post.{Result, Plain, equal-arrows, found-row, added-row, no-row, Making, as-is, turned}
 use Rattle.layout.specs.Places.{FIRST-REGISTER, ROOTS-END}
 use Rattle.layout.specs.View.{View}
 use Rattle.soundness.specs.Used.{rowsOf}
@@ -39,11 +39,15 @@ sound-extends {W} {X} s g f e = record {
     ref (suc a) u = arrow-extends e a u
 
 -- the rows of before stand unchanged after a row is made
+plain-extends : {m N limit : ℕ} {before after : Rows} {l a b : ℕ} {o : Result} → Plain m N limit before after l a b o → Extends before after
+plain-extends (equal-arrows e s) = s .forth
+plain-extends (found-row i u x y z s) = s .forth
+plain-extends (added-row i h n s f) = s .kept
+plain-extends (no-row n all f s) = s .forth
+
 pub made-extends : {m N limit : ℕ} {before after : Rows} {l a b : ℕ} {o : Result} → Making m N limit before after l a b o → Extends before after
-made-extends (equal-arrows e s) = s .forth
-made-extends (found-row i u x y z s) = s .forth
-made-extends (added-row i h n s f) = s .kept
-made-extends (no-row n all f s) = s .forth
+made-extends (as-is b p) = plain-extends p
+made-extends (turned b p e) = plain-extends p
 
 pub sound-made : {W X : View} {limit l lo hi : ℕ} {r : Made} → Sound W → MakePost W X limit l lo hi r → Sound X
 sound-made s p = sound-extends s (p .good) (λ h a l. p .frame .header h (omega arith) (omega arith)) (made-extends (p .made))

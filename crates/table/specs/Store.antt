@@ -6,7 +6,7 @@ use mathlib.Core.Logic.{_≢_, by-cases}
 use Prim.Native.Nat.{ℕ, zero, suc, _*_, _%_, _≤_, _<_}
 use native.Mathlib.Decide.{ℕ-discrete}
 use borrow.Author.Tests.{eq-eqb, ne-eqb}
-use Rattle.layout.specs.Places.{BITS, ROWS, USED, FIRST-REGISTER, FIRST-RELATION, ROOTS-END, LOW, HIGH, LEVEL, NEXT, RANK}
+use Rattle.layout.specs.Places.{BITS, ROWS, USED, LAYOUT, FIRST-REGISTER, FIRST-RELATION, ROOTS-END, LOW, HIGH, LEVEL, NEXT, RANK}
 use Rattle.diagram.specs.Rows.{Rows, WellFormed}
 use Rattle.layout.specs.View.{View, putHeader}
 use Rattle.soundness.specs.Used.{used, usedAt, rowsOf, Sizes}
@@ -21,8 +21,8 @@ use Rattle.soundness.specs.Sound.{Good, Sound}
 abbrev rowsAt : View → ℕ → Rows
 rowsAt W c = record { used = usedAt (W .rows) c (λ i. W .cell i RANK) (W .list); level = λ i. W .cell i LEVEL; low = λ i. W .cell i LOW; high = λ i. W .cell i HIGH }
 
--- word h, which is none of n, N and the count, becomes v
-module _ (W : View) (h v : ℕ) (n0 : h ≢ BITS) (n1 : h ≢ ROWS) (n3 : h ≢ USED) where
+-- word h, which is none of n, N, the count and the layout, becomes v
+module _ (W : View) (h v : ℕ) (n0 : h ≢ BITS) (n1 : h ≢ ROWS) (n3 : h ≢ USED) (n7 : h ≢ LAYOUT) where
   abbrev X : View
   X = putHeader W h v
 
@@ -55,6 +55,7 @@ module _ (W : View) (h v : ℕ) (n0 : h ≢ BITS) (n1 : h ≢ ROWS) (n3 : h ≢ 
   good-store g = record {
     sizes = subst (λ (b : ℕ). Sizes b (W .rows) (W .size)) (sym bits-kept) (g .sizes);
     rows-is = kept 1 (λ e. n1 (sym e)) ∙ g .rows-is;
+    layout-is = kept LAYOUT (λ e. n7 (sym e)) ∙ g .layout-is;
     ranked = let e = count-kept in record {
       count-le = subst (λ (c : ℕ). c ≤ W .rows) (sym e) (g .ranked .count-le);
       within = λ k l. g .ranked .within k (subst (λ (c : ℕ). k < c) e l);

@@ -1,8 +1,10 @@
 // The rows of a table: it is made, and rows are looked up and added.
 use layout::Table;
 use layout::arrow_of;
+use layout::flip;
 use layout::get;
 use layout::header_word;
+use layout::is_marked;
 use layout::put;
 use layout::put_head;
 use layout::put_header;
@@ -24,7 +26,7 @@ ghost use Rattle.table.specs.Append.{appended};
 ghost use Rattle.table.specs.Find.{FindPost, FreePost, UnusedPost};
 ghost use Rattle.table.specs.Add.{rowPut};
 ghost use Rattle.table.specs.Code.{madeOf};
-ghost use Rattle.table.specs.Make.{MakePre, MakePost, AddPre};
+ghost use Rattle.table.specs.Make.{MakePre, MakePost, PlainPre, PlainPost, AddPre};
 
 // Every head becomes 0: a table is sound whatever its heads hold, and lookups are faster without old links.
 fn empty_heads(words: &mut [u32], rows: u32)
@@ -172,7 +174,7 @@ pub fn made_of(code: u32) -> Made
 // Adds a row that is not there yet.
 fn add(words: &mut [u32], rows: u32, limit: u32, level: u32, low: u32, high: u32) -> u32
     requires { ⌜ AddPre (view rows (now words)) limit level low high ⌝ }
-    ensures { λ r. ⌜ MakePost (view rows (now (words .entry))) (view rows (now (words .exit))) limit level low high (madeOf r) ⌝ }
+    ensures { λ r. ⌜ PlainPost (view rows (now (words .entry))) (view rows (now (words .exit))) limit level low high (madeOf r) ⌝ }
 {
     let i = unused_row(words, rows);
     if i >= rows {
@@ -187,7 +189,7 @@ fn add(words: &mut [u32], rows: u32, limit: u32, level: u32, low: u32, high: u32
 // Adds a row that is not there yet, while fewer than `limit` are used.
 fn add_within(words: &mut [u32], rows: u32, limit: u32, level: u32, low: u32, high: u32) -> u32
     requires { ⌜ AddPre (view rows (now words)) limit level low high ⌝ }
-    ensures { λ r. ⌜ MakePost (view rows (now (words .entry))) (view rows (now (words .exit))) limit level low high (madeOf r) ⌝ }
+    ensures { λ r. ⌜ PlainPost (view rows (now (words .entry))) (view rows (now (words .exit))) limit level low high (madeOf r) ⌝ }
 {
     let used = header_word(words, Table::USED);
     if used >= limit {
@@ -196,10 +198,10 @@ fn add_within(words: &mut [u32], rows: u32, limit: u32, level: u32, low: u32, hi
     add(words, rows, limit, level, low, high)
 }
 
-// The arrow of level, low and high: low where the two are the same, else a row that is found or added.
-pub fn make(words: &mut [u32], rows: u32, limit: u32, level: u32, low: u32, high: u32) -> u32
-    requires { ⌜ MakePre (view rows (now words)) limit level low high ⌝ }
-    ensures { λ r. ⌜ MakePost (view rows (now (words .entry))) (view rows (now (words .exit))) limit level low high (madeOf r) ⌝ }
+// The arrow of level, low and high, which carries no NOT: low where the two are the same, else a row that is found or added.
+fn make_plain(words: &mut [u32], rows: u32, limit: u32, level: u32, low: u32, high: u32) -> u32
+    requires { ⌜ PlainPre (view rows (now words)) limit level low high ⌝ }
+    ensures { λ r. ⌜ PlainPost (view rows (now (words .entry))) (view rows (now (words .exit))) limit level low high (madeOf r) ⌝ }
 {
     if low == high {
         return low;
@@ -209,4 +211,19 @@ pub fn make(words: &mut [u32], rows: u32, limit: u32, level: u32, low: u32, high
         Found::At(i) => arrow_of(i),
         Found::Nothing => add_within(words, rows, limit, level, low, high),
     }
+}
+
+// The arrow of level, low and high. Where the high arrow carries a NOT, it is NOT of the arrow of their complements.
+pub fn make(words: &mut [u32], rows: u32, limit: u32, level: u32, low: u32, high: u32) -> u32
+    requires { ⌜ MakePre (view rows (now words)) limit level low high ⌝ }
+    ensures { λ r. ⌜ MakePost (view rows (now (words .entry))) (view rows (now (words .exit))) limit level low high (madeOf r) ⌝ }
+{
+    if !is_marked(high) {
+        return make_plain(words, rows, limit, level, low, high);
+    }
+    let made = make_plain(words, rows, limit, level, flip(low), flip(high));
+    if made == Code::FULL {
+        return Code::FULL;
+    }
+    flip(made)
 }

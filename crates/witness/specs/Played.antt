@@ -73,8 +73,8 @@ start = fresh-done 1 100 16_384 (record { n-pos = omega arith; n-max = omega ari
 made-stands : Stands made 0
 made-stands = record {
   sound = start .answers (subst (λ (k : ℕ). T (freshFits 1 100 k)) (sym (length-zeros 16_384)) tt) .1;
-  tally = fresh-zero 1 100 16_384 TALLY (omega arith) (omega arith) (omega arith) (omega arith);
-  used = fresh-zero 1 100 16_384 USED (omega arith) (omega arith) (omega arith) (omega arith);
+  tally = fresh-zero 1 100 16_384 TALLY (omega arith) (omega arith) (omega arith) (omega arith) (omega arith);
+  used = fresh-zero 1 100 16_384 USED (omega arith) (omega arith) (omega arith) (omega arith) (omega arith);
 }
 
 relation-loaded : CallPost (relation 0 noPairs) made loaded (plain 0)

@@ -6,7 +6,7 @@ use Prim.Native.Nat.{ℕ, suc, _+_, _≤_, _<_}
 use native.Mathlib.Omega.{arith}
 use native.Mathlib.Decide.{decLt}
 use lib.ListN.{length, replicate, set, length-set, length-replicate, getD-replicate}
-use Rattle.layout.specs.Places.{REGISTERS, HEADER, BITS, ROWS, TALLY, FIRST-REGISTER, wordsFor}
+use Rattle.layout.specs.Places.{REGISTERS, HEADER, BITS, ROWS, TALLY, LAYOUT, MARKED, FIRST-REGISTER, wordsFor}
 use Rattle.layout.specs.View.{View, view, headerOf, headOf, upd, putHeader, view-header, header-is, header-past, head-is, head-past}
 use Rattle.layout.specs.Header.{headerWords, header-zero}
 use Rattle.table.specs.Fresh.{emptied}
@@ -20,9 +20,9 @@ pub length-zeros : (k : ℕ) → length (zeros k) ≡ k
 unfolding zeros
 length-zeros k = length-replicate {A = ℕ} k 0
 
--- what fresh leaves of k zeros: n and N
+-- what fresh leaves of k zeros: n, N and the layout
 unfoldable pub freshOf : ℕ → ℕ → ℕ → List ℕ
-freshOf n N k = set (set (zeros k) BITS n) ROWS N
+freshOf n N k = set (set (set (zeros k) BITS n) ROWS N) LAYOUT MARKED
 
 -- what set leaves of words in which it makes no row: register r holds arrow a, and the tally is v
 unfoldable pub storedIn : List ℕ → ℕ → ℕ → ℕ → List ℕ
@@ -48,20 +48,28 @@ two-written N h i v w ws room l m =
     let same = length-set ws h v in
     view-header N (set ws h v) (omega arith) i w m ∙ ap (λ (x : View). putHeader x i w) (view-header N ws room h v l)
 
--- the header that fresh writes is zeros but for n and N
-header-fresh : (n N k : ℕ) → HEADER ≤ k → upd (upd (headerOf (zeros k)) BITS n) ROWS N ≡ headerOf (headerWords n N)
+-- and a third one
+three-written : (N h i j v w x : ℕ) (ws : List ℕ) → wordsFor N ≤ length ws → h < HEADER → i < HEADER → j < HEADER
+    → view N (set (set (set ws h v) i w) j x) ≡ putHeader (putHeader (putHeader (view N ws) h v) i w) j x
+three-written N h i j v w x ws room l m o =
+    let one = length-set ws h v in
+    let two = length-set (set ws h v) i w in
+    view-header N (set (set ws h v) i w) (omega arith) j x o ∙ ap (λ (y : View). putHeader y j x) (two-written N h i v w ws room l m)
+
+-- the header that fresh writes is zeros but for n, N and the layout
+header-fresh : (n N k : ℕ) → HEADER ≤ k → upd (upd (upd (headerOf (zeros k)) BITS n) ROWS N) LAYOUT MARKED ≡ headerOf (headerWords n N)
 unfolding headerWords zeros
 header-fresh n N k l =
     let same = length-replicate {A = ℕ} HEADER 0 in
-    ap (λ (f : ℕ → ℕ). upd (upd f BITS n) ROWS N) (fun-ext (λ h. header-zeros k l h ∙ sym (header-zeros HEADER (omega arith) h)))
-    ∙ sym (ap (λ (x : View). x .header) (two-written 0 BITS ROWS n N (replicate HEADER 0) (omega arith) (omega arith) (omega arith)))
+    ap (λ (f : ℕ → ℕ). upd (upd (upd f BITS n) ROWS N) LAYOUT MARKED) (fun-ext (λ h. header-zeros k l h ∙ sym (header-zeros HEADER (omega arith) h)))
+    ∙ sym (ap (λ (x : View). x .header) (three-written 0 BITS ROWS LAYOUT n N MARKED (replicate HEADER 0) (omega arith) (omega arith) (omega arith) (omega arith)))
 
 -- "Fresh empties them all, the tally at 0"
 pub view-fresh : (n N k : ℕ) → wordsFor N ≤ k → view N (freshOf n N k) ≡ emptied (view N (zeros k)) n N
 unfolding freshOf
 view-fresh n N k room =
     let same = length-zeros k in
-    two-written N BITS ROWS n N (zeros k) (omega arith) (omega arith) (omega arith)
+    three-written N BITS ROWS LAYOUT n N MARKED (zeros k) (omega arith) (omega arith) (omega arith) (omega arith)
     ∙ (λ q. record {
       rows = N;
       size = length (zeros k);
@@ -73,8 +81,8 @@ view-fresh n N k room =
       beyond = view N (zeros k) .beyond;
     })
 
-pub fresh-zero : (n N k h : ℕ) → wordsFor N ≤ k → h < HEADER → h ≢ BITS → h ≢ ROWS → headerOf (freshOf n N k) h ≡ 0
-fresh-zero n N k h room l a b = ap (λ (v : View). v .header h) (view-fresh n N k room) ∙ header-is (headerWords n N) h l ∙ header-zero n N h l a b
+pub fresh-zero : (n N k h : ℕ) → wordsFor N ≤ k → h < HEADER → h ≢ BITS → h ≢ ROWS → h ≢ LAYOUT → headerOf (freshOf n N k) h ≡ 0
+fresh-zero n N k h room l a b c = ap (λ (v : View). v .header h) (view-fresh n N k room) ∙ header-is (headerWords n N) h l ∙ header-zero n N h l a b c
 
 -- ---- stored
 

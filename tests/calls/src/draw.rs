@@ -174,7 +174,7 @@ impl Session {
         }
         let rows = self.rows as usize;
         let place = match self.random.below(10) {
-            0..=1 => self.random.below(7) as usize,
+            0..=1 => self.random.below(8) as usize,
             2..=3 => FIRST_REGISTER + self.random.below(40) as usize,
             4..=7 => HEADER + self.random.below((ROW * rows) as u64) as usize,
             _ => HEADER + self.random.below((12 * rows) as u64) as usize,
@@ -191,7 +191,7 @@ impl Session {
             0 => old.wrapping_add(1),
             1 => old.wrapping_sub(1),
             2 => 0,
-            3 => self.random.below(u64::from(self.rows) + 3) as u32,
+            3 => self.random.below(2 * u64::from(self.rows) + 4) as u32,
             4 => u32::MAX - self.random.below(10) as u32,
             _ => old ^ 1 << self.random.below(32),
         }

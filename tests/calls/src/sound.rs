@@ -36,7 +36,8 @@ fn sizes(words: &[u32]) -> Result<(), String> {
     let rows_fit = (1..=MAX_ROWS).contains(&u64::from(words[ROWS]));
     demand(n_fits && rows_fit, || "n or N out of range".to_string())?;
     let size = table_size(words[ROWS] as usize);
-    demand(words.len() >= size, || "too few words".to_string())
+    demand(words.len() >= size, || "too few words".to_string())?;
+    demand(words[LAYOUT] == MARKED, || "another layout".to_string())
 }
 
 /// "the k-th used row, k < USED: below N, and its RANK is k"; so each is listed once.
@@ -62,6 +63,8 @@ fn arrows(words: Words, row: usize) -> Result<(), String> {
         };
         demand(falls, || format!("arrow {place} of row {row}"))?;
     }
+    let plain = !marked(words.field(row, HIGH));
+    demand(plain, || format!("the high arrow of row {row} carries a NOT"))?;
     let differ = words.field(row, LOW) != words.field(row, HIGH);
     demand(differ, || format!("row {row} has one arrow twice"))
 }

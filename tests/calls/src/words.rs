@@ -9,6 +9,9 @@ pub const ROWS: usize = 1;
 pub const TALLY: usize = 2;
 pub const USED: usize = 3;
 pub const STORED: usize = 6;
+pub const LAYOUT: usize = 7;
+/// The layout in which arrows may carry a NOT.
+pub const MARKED: u32 = 2;
 pub const FIRST_REGISTER: usize = 16;
 pub const FIRST_RELATION: usize = 48;
 /// Where the roots end and where the rows begin.
@@ -29,7 +32,7 @@ pub fn table_size(rows: usize) -> usize {
     HEADER + 12 * rows
 }
 
-/// What an arrow leads to: "0 nothing, 1 everything, row i is i + 2".
+/// What an arrow leads to: "0 is nothing, 1 everything, row i is 2 (i + 1), and its complement one more".
 #[derive(Clone, Copy, Debug, PartialEq, Eq)]
 pub enum Arrow {
     Constant(bool),
@@ -40,8 +43,13 @@ pub fn arrow(word: u32) -> Arrow {
     match word {
         0 => Arrow::Constant(false),
         1 => Arrow::Constant(true),
-        _ => Arrow::Row(word as usize - 2),
+        _ => Arrow::Row(word as usize / 2 - 1),
     }
+}
+
+/// "an odd arrow carries a NOT".
+pub fn marked(word: u32) -> bool {
+    word % 2 == 1
 }
 
 /// Words whose n, N and length are in range.
@@ -90,16 +98,18 @@ impl Words<'_> {
 
     /// Whether what an arrow of a sound table denotes has the pair.
     pub fn has(self, root: u32, now: usize, next: usize) -> bool {
-        let mut at = arrow(root);
+        let mut at = root;
+        let mut turned = false;
         loop {
-            let row = match at {
-                Arrow::Constant(value) => return value,
+            let row = match arrow(at) {
+                Arrow::Constant(value) => return value != turned,
                 Arrow::Row(row) => row,
             };
+            turned ^= marked(at);
             let level = self.field(row, LEVEL);
             let state = if level.is_multiple_of(2) { now } else { next };
             let high = state >> (level / 2) & 1 == 1;
-            at = arrow(self.field(row, if high { HIGH } else { LOW }));
+            at = self.field(row, if high { HIGH } else { LOW });
         }
     }
 

@@ -243,7 +243,7 @@ fn many_words_at_once() {
 fn fill_free_words(random: &mut Random, words: &mut [u32]) {
     let rows = words[ROWS] as usize;
     let mut places: Vec<usize> = (USED + 1..=STORED).collect();
-    places.extend(7..FIRST_REGISTER);
+    places.extend(LAYOUT + 1..FIRST_REGISTER);
     places.extend(ROOTS_END..HEADER);
     for row in 0..rows {
         let at = HEADER + ROW * row;
@@ -336,6 +336,7 @@ fn no_used_row() {
         words[BITS] = 1 + random.below(3) as u32;
         words[ROWS] = rows as u32;
         words[USED] = 0;
+        words[LAYOUT] = MARKED;
         let roots = &mut words[FIRST_REGISTER..ROOTS_END];
         roots.fill_with(|| random.below(3) as u32);
         accepts(&words, &mut random);

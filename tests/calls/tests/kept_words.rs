@@ -106,7 +106,8 @@ fn three_to_seven() {
 fn large() -> (Formula, Formula) {
     let bit = Formula::current;
     let differ = |a: Formula, b: Formula| (a.clone() & !b.clone()) | (!a & b);
-    let set = differ(bit(0), bit(1));
+    let other = differ(bit(0), bit(1));
+    let set = other.clone() & Formula::diamond(0, other);
     let relation = differ(
         differ(bit(0), Formula::next(1)),
         differ(bit(1), Formula::next(0)),

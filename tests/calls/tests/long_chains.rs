@@ -40,20 +40,22 @@ impl Chain {
         chain
     }
 
-    /// Rows from level 31 on, of all pairs of the arrows below.
+    /// Rows from level 31 on, of all pairs of the arrows below, no high one with a NOT.
     fn fill(&mut self) {
         let mut arrows = vec![0, 1];
+        let mut rank = 0;
         for level in (0..32).rev() {
             let below = arrows.clone();
             for &low in &below {
-                for &high in below.iter().filter(|&&high| high != low) {
-                    let rank = arrows.len() - 2;
+                for &high in below.iter().filter(|&&high| !marked(high) && high != low) {
                     if rank == self.rows {
                         self.words[USED] = rank as u32;
                         return;
                     }
                     self.put(rank, [low, high, level]);
-                    arrows.push(self.places[rank] as u32 + 2);
+                    let to = 2 * (self.places[rank] as u32 + 1);
+                    arrows.extend([to, to + 1]);
+                    rank += 1;
                 }
             }
         }

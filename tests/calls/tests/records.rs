@@ -139,7 +139,7 @@ fn the_listing_damaged() {
         record(6, &[]),
     ]
     .concat();
-    let lines = "1 0 0 0\n2 0 0 0\n3 0 2 3\n6 0 3 0\nend ok\n";
+    let lines = "1 0 0 0\n2 0 0 0\n3 0 2 3\n6 0 2 0\nend ok\n";
     assert_eq!(compare(&listing), lines);
     for length in 0..listing.len() {
         compare(&listing[..length]);

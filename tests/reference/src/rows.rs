@@ -1,7 +1,8 @@
 //! Rows needed, by enumerating functions.
 //!
 //! "Rows needed by some sets or relations: the distinct non-constant functions
-//! got from them by fixing levels 0 to k − 1, in all ways, for every k."
+//! got from them by fixing levels 0 to k − 1, in all ways, for every k", and "two
+//! functions that are each other's complement need one row."
 
 use crate::states::{PairSet, StateSet};
 use std::collections::HashSet;
@@ -42,9 +43,17 @@ impl Function {
     fn is_constant(&self) -> bool {
         self.levels.is_empty()
     }
+
+    /// The function or its complement, whichever is false at the first entry.
+    fn or_complement(mut self) -> Self {
+        if self.table[0] {
+            self.table.iter_mut().for_each(|value| *value = !*value);
+        }
+        self
+    }
 }
 
-/// The functions that need a row.
+/// The functions that need a row, one for each and its complement.
 #[derive(Clone, Debug, Default)]
 pub struct Rows {
     functions: HashSet<Function>,
@@ -81,7 +90,7 @@ impl Rows {
 
     fn add_function(&mut self, function: Function) {
         if !function.is_constant() {
-            self.functions.insert(function);
+            self.functions.insert(function.or_complement());
         }
     }
 

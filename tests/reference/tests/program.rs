@@ -28,7 +28,7 @@ fn lines(records: &[&[u8]]) -> Vec<String> {
 #[test]
 fn listing() {
     let output = output_of(&[&FRESH[..], &RELATION, &SET, &COLLECT].concat());
-    assert_eq!(output, "1 0 0 0\n2 0 0 0\n3 0 2 3\n6 0 3 0\nend ok\n");
+    assert_eq!(output, "1 0 0 0\n2 0 0 0\n3 0 2 3\n6 0 2 0\nend ok\n");
 }
 
 #[test]
@@ -68,7 +68,7 @@ fn refused_fresh_keeps_the_table_and_answered_fresh_empties_it() {
     let refused = record(1, &[17, 0, 1]);
     let got = lines(&[&FRESH, &RELATION, &refused, &COLLECT, &FRESH, &COLLECT]);
     let want = [
-        "1 0 0 0", "2 0 0 0", "1 1 0 0", "6 0 3 0", "1 0 0 0", "6 0 0 0", "end ok",
+        "1 0 0 0", "2 0 0 0", "1 1 0 0", "6 0 2 0", "1 0 0 0", "6 0 0 0", "end ok",
     ];
     assert_eq!(got, want);
 }
@@ -93,8 +93,8 @@ fn refusals_have_zeros() {
         &record(4, &[32]),
         &record(4, &[0]),
         &record(4, &[0]),
-        &record(1, &[1, 0, 1]),
-        &set(0, 0, &[0x02, 0x10]),
+        &record(1, &[2, 0, 2]),
+        &set(0, 0, &[0x03, 0x10, 0x11]),
     ]);
     let want = [
         "1 0 0 0", "3 3 0 0", "3 4 0 0", "3 5 0 0", "3 6 0 0", "3 7 0 0", "3 9 0 0", "3 0 2 1",

@@ -75,9 +75,9 @@ fn set_may_name_its_own_target_once_it_is_filled() {
 
 #[test]
 fn every_refused_call_keeps_the_book() {
-    // Relation 0 and register 0 need two of three rows.
+    // Relation 0, x OR next x, and register 0, x, need all three rows.
     let mut book = book(1, 3);
-    relation(&mut book, 0, &[0x20]).unwrap();
+    relation(&mut book, 0, &[0x04, 0x10, 0x20]).unwrap();
     set(&mut book, 0, &[0x70, 0x10]).unwrap();
     let before = book.clone();
     let set_call = |r, rounds, body: &[u8]| Call::Set {
@@ -130,14 +130,14 @@ fn node_is_settled_for_no_state_and_every_state_only() {
 #[test]
 fn collect_tally_and_count() {
     let mut book = toggle_book();
-    assert_eq!(book.call(&Call::Collect).value, Some(3));
+    assert_eq!(book.call(&Call::Collect).value, Some(2));
     set(&mut book, 0, &REACH).unwrap();
     set(&mut book, 1, &[0x10]).unwrap();
-    assert_eq!(book.call(&Call::Collect).value, Some(4));
+    assert_eq!(book.call(&Call::Collect).value, Some(3));
     assert_eq!(book.call(&Call::Tally).value, Some(3));
     assert_eq!(book.call(&Call::Count { r: 1 }).value, Some(1));
     assert_eq!(book.call(&Call::Clear { r: 1 }).number, 0);
-    assert_eq!(book.call(&Call::Collect).value, Some(3));
+    assert_eq!(book.call(&Call::Collect).value, Some(2));
     assert_eq!(book.call(&Call::Tally).value, Some(3));
 }
 

@@ -24,7 +24,11 @@ fn literal_count(n: u32, functions: &[Vec<bool>]) -> usize {
         }
     }
     found.retain(|table| table.contains(&true) && table.contains(&false));
-    found.len()
+    let complement = |table: &Vec<bool>| -> Vec<bool> { table.iter().map(|value| !value).collect() };
+    let paired = (found.iter())
+        .filter(|table| found.contains(&complement(table)))
+        .count();
+    found.len() - paired / 2
 }
 
 /// States now and next of an index whose bit l is the value of level l.
@@ -103,12 +107,12 @@ fn constants_need_no_row_and_a_bit_needs_one() {
 #[test]
 fn order_of_levels_alternates() {
     // Equality of now and next takes three rows a bit where the bits alternate:
-    // one at level 2p, two at level 2p + 1.
+    // one at level 2p, two at level 2p + 1; the last two are complements.
     for n in 1..=5u32 {
         let same = PairSet::from_fn(n, |now, next| now == next);
         let mut rows = Rows::new();
         rows.add_relation(&same);
-        assert_eq!(rows.count(), 3 * n as usize);
+        assert_eq!(rows.count(), 3 * n as usize - 1);
     }
 }
 

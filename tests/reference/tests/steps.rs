@@ -63,48 +63,49 @@ fn relation_is_answered_at_the_exact_need_and_refused_one_below() {
 
 #[test]
 fn needs_counted_by_hand() {
-    // x: bit 0. At NOT: x and NOT x.
-    assert_eq!(need(&book(1, 1), &[0x02, 0x10]), 2);
+    // x: bit 0. At NOT: x and NOT x, which need one row.
+    assert_eq!(need(&book(1, 1), &[0x02, 0x10]), 1);
     // Last OR: x, NOT x; the result is constant.
-    assert_eq!(need(&book(1, 1), &[0x04, 0x10, 0x02, 0x10]), 2);
+    assert_eq!(need(&book(1, 1), &[0x04, 0x10, 0x02, 0x10]), 1);
     // Bits 0, 1; OR has itself and bit 1 beside bit 0.
     assert_eq!(need(&book(2, 1), &[0x04, 0x10, 0x11]), 3);
-    // Over the toggle: 3 rows, of which both next literals; a, NOT a, and the
-    // diamond's SHIFT is a row of the relation already.
-    assert_eq!(need(&toggle_book(), &[0x68, 0x10]), 5);
-    assert_eq!(need(&toggle_book(), &[0x10]), 4);
+    // Over the toggle: 2 rows, of which one for the next bit and its NOT. The
+    // diamond's SHIFT has that row; at EXISTS: the operand NOT x AND next x
+    // and the result NOT x.
+    assert_eq!(need(&toggle_book(), &[0x68, 0x10]), 4);
+    assert_eq!(need(&toggle_book(), &[0x10]), 3);
 }
 
 #[test]
 fn each_step_of_a_box_has_its_need() {
     // Relation 0 is NOT next bit 0, which is also the SHIFT of NOT x; so the
-    // first NOT needs most: the relation, x, NOT x.
+    // first NOT needs most: the relation, and one row for x and NOT x.
     let mut first = book(1, 100);
     relation(&mut first, 0, &[0x02, 0x20]).unwrap();
-    assert_eq!(need(&first, &[0x60, 0x10]), 3);
-    // Relation 0 is x; the last NOT makes NOT x.
+    assert_eq!(need(&first, &[0x60, 0x10]), 2);
+    // Relation 0 is x; the last NOT makes NOT x, which has its row.
     let mut last = book(1, 100);
     relation(&mut last, 0, &[0x10]).unwrap();
-    assert_eq!(need(&last, &[0x60, 0x00]), 2);
+    assert_eq!(need(&last, &[0x60, 0x00]), 1);
 }
 
 #[test]
 fn and_with_the_relation_has_its_need() {
-    // Register 0 is x XOR y (3 rows), relation 0 is x AND next x (2 rows).
-    // SHIFT: 3 rows more. AND: x AND next x AND NOT next y, 2 more besides
-    // NOT next y. The first EXISTS: 5, the operand's 3, no other.
+    // Register 0 is x XOR y (2 rows), relation 0 is x AND next x (2 rows).
+    // SHIFT: 2 rows more. AND: x AND next x AND NOT next y, 2 more besides
+    // next y. The first EXISTS: 4, the operand's 3, no other.
     let mut book = book(2, 100);
     let xor = [0x04, 0x03, 0x10, 0x02, 0x11, 0x03, 0x02, 0x10, 0x11];
     set(&mut book, 0, &xor).unwrap();
     relation(&mut book, 0, &[0x03, 0x10, 0x20]).unwrap();
-    assert_eq!(book.collect(), 5);
-    assert_eq!(need(&book, &[0x68, 0x40]), 10);
+    assert_eq!(book.collect(), 4);
+    assert_eq!(need(&book, &[0x68, 0x40]), 8);
 }
 
 #[test]
 fn used_values_are_not_live_any_more() {
-    // NOT NOT NOT x never needs more than x and NOT x.
-    assert_eq!(need(&book(1, 1), &[0x02, 0x02, 0x02, 0x10]), 2);
+    // NOT NOT NOT x never needs more than the row of x and NOT x.
+    assert_eq!(need(&book(1, 1), &[0x02, 0x02, 0x02, 0x10]), 1);
     // (x AND y) OR z at n = 3: at the OR only x AND y (2 rows), z and the
     // result (3 rows, one of them z) are live; x is not.
     assert_eq!(need(&book(3, 1), &[0x04, 0x03, 0x10, 0x11, 0x12]), 5);
@@ -112,31 +113,31 @@ fn used_values_are_not_live_any_more() {
 
 #[test]
 fn waiting_left_operand_is_live_during_the_right_one() {
-    // x AND y waits (itself and y) while z AND NOT z is made: z, NOT z. The
-    // last OR has a constant beside it.
-    let body = [0x04, 0x03, 0x10, 0x11, 0x03, 0x12, 0x02, 0x12];
-    assert_eq!(need(&book(3, 1), &body), 4);
-    assert_eq!(set(&mut book(3, 3), 0, &body), Err(Refusal::Full));
-    // In the other order only x, y and x AND y are live at once.
-    let turned = [0x04, 0x03, 0x12, 0x02, 0x12, 0x03, 0x10, 0x11];
-    assert_eq!(need(&book(3, 1), &turned), 3);
+    // x AND y waits (itself and y) while z AND (w AND NOT z) is made: z, w and
+    // w AND NOT z. The last OR has a constant beside it.
+    let body = [0x04, 0x03, 0x10, 0x11, 0x03, 0x12, 0x03, 0x13, 0x02, 0x12];
+    assert_eq!(need(&book(4, 1), &body), 5);
+    assert_eq!(set(&mut book(4, 4), 0, &body), Err(Refusal::Full));
+    // In the other order only three are live at once.
+    let turned = [0x04, 0x03, 0x12, 0x03, 0x13, 0x02, 0x12, 0x03, 0x10, 0x11];
+    assert_eq!(need(&book(4, 1), &turned), 3);
 }
 
 #[test]
 fn old_content_of_the_target_is_live() {
-    let mut book = book(2, 2);
+    let mut book = book(2, 1);
     set(&mut book, 0, &[0x10]).unwrap();
-    // Bit 0 is held by the target itself: 1 + bit 1 fits, its NOT does not.
-    assert_eq!(set(&mut book, 0, &[0x02, 0x11]), Err(Refusal::Full));
-    assert!(set(&mut book, 0, &[0x11]).is_ok());
+    // Bit 0 is held by the target itself: bit 1 does not fit, NOT of bit 0 does.
+    assert_eq!(set(&mut book, 0, &[0x11]), Err(Refusal::Full));
+    assert!(set(&mut book, 0, &[0x02, 0x10]).is_ok());
 }
 
 #[test]
 fn old_relation_is_live() {
-    let mut book = book(1, 2);
+    let mut book = book(1, 1);
     relation(&mut book, 0, &[0x10]).unwrap();
-    assert_eq!(relation(&mut book, 0, &[0x02, 0x20]), Err(Refusal::Full));
-    assert_eq!(relation(&mut book, 0, &[0x20]), Ok(()));
+    assert_eq!(relation(&mut book, 0, &[0x20]), Err(Refusal::Full));
+    assert_eq!(relation(&mut book, 0, &[0x02, 0x10]), Ok(()));
 }
 
 #[test]
@@ -153,9 +154,9 @@ fn outer_current_set_is_live_while_an_inner_binder_runs() {
     assert_eq!(need(&common::book(2, 1), &nested), 3);
     // mu P. (NOT x AND nu Q. NOT y) OR P: P is NOT x AND NOT y afterwards.
     let held = [0x70, 0x04, 0x03, 0x02, 0x10, 0x81, 0x02, 0x11, 0x30];
-    // Round 2, at NOT y: P (itself, NOT y), NOT x waiting, y: 4; at AND the
-    // same without y; at NOT x: P's 2, x, NOT x: 4.
-    assert_eq!(need(&common::book(2, 1), &held), 4);
+    // Round 2, at NOT y: P (itself, y) and NOT x waiting: 3; at AND the same; at
+    // NOT x: P's 2 and x: 3.
+    assert_eq!(need(&common::book(2, 1), &held), 3);
 }
 
 #[test]
@@ -172,11 +173,11 @@ fn constants_registers_and_variables_take_no_step() {
 fn all_steps_of_a_diamond_are_taken_over_constants_too() {
     // The need of a step that makes no row is what is live: the relation.
     let book = toggle_book();
-    assert_eq!(need(&book, &[0x68, 0x00]), 3);
+    assert_eq!(need(&book, &[0x68, 0x00]), 2);
     // Box of true is NOT diamond of false; box of false meets the relation,
     // but its EXISTS gives a constant.
-    assert_eq!(need(&book, &[0x60, 0x01]), 3);
-    assert_eq!(need(&book, &[0x60, 0x00]), 3);
+    assert_eq!(need(&book, &[0x60, 0x01]), 2);
+    assert_eq!(need(&book, &[0x60, 0x00]), 2);
 }
 
 #[test]
@@ -235,31 +236,31 @@ fn inner_binder_starts_anew() {
 
 #[test]
 fn eight_before_nine_and_nine_before_eight() {
-    // NOT x is refused with one row; mu P. P wants a round where R = 0.
-    let first_full = frame(&[0x04, 0x02, 0x10, 0x70, 0x30]);
-    let first_rounds = frame(&[0x04, 0x70, 0x30, 0x02, 0x10]);
-    assert_eq!(book(1, 1).set(0, 0, &first_full), Err(Refusal::Full));
+    // x AND y is refused with two rows; mu P. P wants a round where R = 0.
+    let first_full = frame(&[0x04, 0x03, 0x10, 0x11, 0x70, 0x30]);
+    let first_rounds = frame(&[0x04, 0x70, 0x30, 0x03, 0x10, 0x11]);
+    assert_eq!(book(2, 2).set(0, 0, &first_full), Err(Refusal::Full));
     assert_eq!(
-        book(1, 1).set(0, 0, &first_rounds),
+        book(2, 2).set(0, 0, &first_rounds),
         Err(Refusal::RoundsUsedUp)
     );
-    assert_eq!(book(1, 1).set(0, 1, &first_full), Err(Refusal::Full));
-    assert_eq!(book(1, 1).set(0, 1, &first_rounds), Err(Refusal::Full));
+    assert_eq!(book(2, 2).set(0, 1, &first_full), Err(Refusal::Full));
+    assert_eq!(book(2, 2).set(0, 1, &first_rounds), Err(Refusal::Full));
     assert_eq!(
-        book(1, 2).set(0, 0, &first_full),
+        book(2, 3).set(0, 0, &first_full),
         Err(Refusal::RoundsUsedUp)
     );
-    assert!(book(1, 2).set(0, 1, &first_full).is_ok());
+    assert!(book(2, 3).set(0, 1, &first_full).is_ok());
 }
 
 #[test]
 fn eight_inside_the_round_comes_before_nine_of_the_next() {
-    let body = frame(&[0x70, 0x02, 0x10]);
-    assert_eq!(book(1, 1).set(0, 1, &body), Err(Refusal::Full));
-    assert_eq!(book(1, 2).set(0, 1, &body), Err(Refusal::RoundsUsedUp));
-    assert_eq!(book(1, 2).set(0, 0, &body), Err(Refusal::RoundsUsedUp));
-    // Round 2 begins with the current set NOT x live, then x: still 2 rows.
-    assert_eq!(book(1, 2).set(0, 2, &body).unwrap().rounds, 2);
+    let body = frame(&[0x70, 0x03, 0x10, 0x11]);
+    assert_eq!(book(2, 2).set(0, 1, &body), Err(Refusal::Full));
+    assert_eq!(book(2, 3).set(0, 1, &body), Err(Refusal::RoundsUsedUp));
+    assert_eq!(book(2, 3).set(0, 0, &body), Err(Refusal::RoundsUsedUp));
+    // Round 2 begins with the current set x AND y live, two rows, then x: 3.
+    assert_eq!(book(2, 3).set(0, 2, &body).unwrap().rounds, 2);
 }
 
 #[test]

@@ -19,7 +19,7 @@ use Rattle.operations.proofs.exists_row.Kinds as exists-row-kinds
 use Rattle.operations.proofs.+exists_part+exists_row.Lts-exists_row as exists-row-lts
 use Rattle.layout.proofs.row_of.Reads as row-of-reads
 use Rattle.memory.proofs.remember_row.Reads as remember-row-reads
-use Rattle.operations.proofs.apply.Reads as apply-reads
+use Rattle.operations.proofs.or_of.Reads as or-of-reads
 use Rattle.operations.proofs.exists_known.Reads as exists-known-reads
 use Rattle.operations.proofs.node_at.Reads as node-at-reads
 use Rattle.table.proofs.make.Reads as make-reads
@@ -68,8 +68,8 @@ pub +exists-part+exists-row-spec : {M : Type 1} → statement M
       row-of-reads.Learnt,
       node-at-reads.Asked,
       node-at-reads.Learnt,
-      apply-reads.Asked,
-      apply-reads.Learnt,
+      or-of-reads.Asked,
+      or-of-reads.Learnt,
       remember-row-reads.Asked,
       remember-row-reads.Learnt,
       exists-part-below t,
@@ -83,9 +83,9 @@ pub +exists-part+exists-row-spec : {M : Type 1} → statement M
     (λ c κs. let r = c .before .before .before .pre .1 .0 in let R = row-at _ (c .before .before .before .pre .1 .1) (c .before .before .before .pre .1 .3 .is-row) (c .before .row-of .ensures) in (ready-wf r .bounded _ (R .used), r .good .sizes .room))
     (λ c. let r = c .before .before .before .before .pre .1 .0 in let e = r .levels-is in let n = r .good .sizes .n-max in let h = c .before .before .before .before .pre .1 .2 in omega arith)
     (λ c κs. let r = c .before .before .before .before .before .before .before .pre .1 .0 in let R = row-at _ (c .before .before .before .before .before .before .before .pre .1 .1) (c .before .before .before .before .before .before .before .pre .1 .3 .is-row) (c .before .before .before .before .before .row-of .ensures) in let o = opened (ready-wf r) R (c .before .before .before .node-at .ensures) in (r, o .parts .low-arrow, o .parts .high-arrow))
-    (λ c κs. let r = c .before .before .before .before .before .before .before .before .before .before .before .pre .1 .0 in let R = row-at _ (c .before .before .before .before .before .before .before .before .before .before .before .pre .1 .1) (c .before .before .before .before .before .before .before .before .before .before .before .pre .1 .3 .is-row) (c .before .before .before .before .before .before .before .before .before .row-of .ensures) in (ready-wf r .bounded _ (R .used), c .before .before .before .apply .ensures .good .sizes .room))
+    (λ c κs. let r = c .before .before .before .before .before .before .before .before .before .before .before .pre .1 .0 in let R = row-at _ (c .before .before .before .before .before .before .before .before .before .before .before .pre .1 .1) (c .before .before .before .before .before .before .before .before .before .before .before .pre .1 .3 .is-row) (c .before .before .before .before .before .before .before .before .before .row-of .ensures) in (ready-wf r .bounded _ (R .used), c .before .before .before .or-of .ensures .good .sizes .room, let e = r .levels-is in let n = r .good .sizes .n-max in let h = c .before .before .before .before .before .before .before .before .before .before .before .pre .1 .2 in omega arith))
     (λ c. search needs)
-    (λ c. let r = c .before .before .before .before .before .before .before .before .before .before .before .before .before .before .pre .1 .0 in let R = row-at _ (c .before .before .before .before .before .before .before .before .before .before .before .before .before .before .pre .1 .1) (c .before .before .before .before .before .before .before .before .before .before .before .before .before .before .pre .1 .3 .is-row) (c .before .before .before .before .before .before .before .before .before .before .before .before .row-of .ensures) in let o = opened (ready-wf r) R (c .before .before .before .before .before .before .before .before .before .before .node-at .ensures) in exists-kept r _ R (rw (c .before .before .before .before .before .before .before .before .if1 .taken) at (exists-own r o (c .before .before .before .before .before .before .apply .ensures))) (c .before .before .remember-row .ensures))
+    (λ c. let r = c .before .before .before .before .before .before .before .before .before .before .before .before .before .before .pre .1 .0 in let R = row-at _ (c .before .before .before .before .before .before .before .before .before .before .before .before .before .before .pre .1 .1) (c .before .before .before .before .before .before .before .before .before .before .before .before .before .before .pre .1 .3 .is-row) (c .before .before .before .before .before .before .before .before .before .before .before .before .row-of .ensures) in let o = opened (ready-wf r) R (c .before .before .before .before .before .before .before .before .before .before .node-at .ensures) in exists-kept r _ R _ (let e = r .levels-is in let n = r .good .sizes .n-max in let h = c .before .before .before .before .before .before .before .before .before .before .before .before .before .before .pre .1 .2 in omega arith) (rw (c .before .before .before .before .before .before .before .before .if1 .taken) at (exists-own r o (c .before .before .before .before .before .before .or-of .ensures))) (c .before .before .remember-row .ensures))
     (λ c κs. let r = c .before .before .before .before .before .before .before .pre .1 .0 in let R = row-at _ (c .before .before .before .before .before .before .before .pre .1 .1) (c .before .before .before .before .before .before .before .pre .1 .3 .is-row) (c .before .before .before .before .before .row-of .ensures) in let o = opened (ready-wf r) R (c .before .before .before .node-at .ensures) in (rw (← c .before .before .before .before .before .before .before .pre .0) (part-falls _ _ (low-falls o)), (r, o .parts .low-arrow, c .before .before .before .before .before .before .before .pre .1 .2)))
     (λ c. search needs)
     (λ c. let r = c .before .before .before .before .before .before .before .before .before .before .before .pre .1 .0 in let R = row-at _ (c .before .before .before .before .before .before .before .before .before .before .before .pre .1 .1) (c .before .before .before .before .before .before .before .before .before .before .before .pre .1 .3 .is-row) (c .before .before .before .before .before .before .before .before .before .row-of .ensures) in let o = opened (ready-wf r) R (c .before .before .before .before .before .before .before .node-at .ensures) in let D = exists-calls r o _ (let t = reached (c .before .before .before .before .before .before .before .before .before .before .before .pre .1 .3) (c .before .before .before .before .before .before .before .before .before .row-of .ensures) (c .before .before .before .before .before .before .before .node-at .ensures) in let u = c .before .before .before .before .before .if1 .left in omega arith) in low-stops r D (c .if2 .taken) (c .before .before .before .exists-part .ensures))
@@ -93,6 +93,6 @@ pub +exists-part+exists-row-spec : {M : Type 1} → statement M
     (λ c. search needs)
     (λ c. let r = c .before .before .before .before .before .before .before .before .before .before .before .before .before .before .before .before .pre .1 .0 in let R = row-at _ (c .before .before .before .before .before .before .before .before .before .before .before .before .before .before .before .before .pre .1 .1) (c .before .before .before .before .before .before .before .before .before .before .before .before .before .before .before .before .pre .1 .3 .is-row) (c .before .before .before .before .before .before .before .before .before .before .before .before .before .before .row-of .ensures) in let o = opened (ready-wf r) R (c .before .before .before .before .before .before .before .before .before .before .before .before .node-at .ensures) in let D = exists-calls r o _ (let t = reached (c .before .before .before .before .before .before .before .before .before .before .before .before .before .before .before .before .pre .1 .3) (c .before .before .before .before .before .before .before .before .before .before .before .before .before .before .row-of .ensures) (c .before .before .before .before .before .before .before .before .before .before .before .before .node-at .ensures) in let u = c .before .before .before .before .before .before .before .before .before .before .if1 .left in omega arith) in high-stops r D (c .before .before .before .before .before .if2 .left) (c .before .before .before .before .before .before .before .before .exists-part .ensures) (c .if3 .taken) (c .before .before .before .exists-part2 .ensures))
     (λ c κs. let r = c .before .before .before .before .before .before .before .before .before .before .before .before .before .before .before .before .before .pre .1 .0 in let R = row-at _ (c .before .before .before .before .before .before .before .before .before .before .before .before .before .before .before .before .before .pre .1 .1) (c .before .before .before .before .before .before .before .before .before .before .before .before .before .before .before .before .before .pre .1 .3 .is-row) (c .before .before .before .before .before .before .before .before .before .before .before .before .before .before .before .row-of .ensures) in let o = opened (ready-wf r) R (c .before .before .before .before .before .before .before .before .before .before .before .before .before .node-at .ensures) in let D = exists-calls r o _ (let t = reached (c .before .before .before .before .before .before .before .before .before .before .before .before .before .before .before .before .before .pre .1 .3) (c .before .before .before .before .before .before .before .before .before .before .before .before .before .before .before .row-of .ensures) (c .before .before .before .before .before .before .before .before .before .before .before .before .before .node-at .ensures) in let u = c .before .before .before .before .before .before .before .before .before .before .before .if1 .left in omega arith) in row-pre r D (c .before .before .before .before .before .before .if2 .left) (c .before .before .before .before .before .before .before .before .before .exists-part .ensures) (c .before .if3 .left) (c .before .before .before .before .exists-part2 .ensures))
-    (λ c κs. let r = c .before .before .before .before .before .before .before .before .before .before .before .before .before .before .before .before .before .before .before .before .before .pre .1 .0 in let R = row-at _ (c .before .before .before .before .before .before .before .before .before .before .before .before .before .before .before .before .before .before .before .before .before .pre .1 .1) (c .before .before .before .before .before .before .before .before .before .before .before .before .before .before .before .before .before .before .before .before .before .pre .1 .3 .is-row) (c .before .before .before .before .before .before .before .before .before .before .before .before .before .before .before .before .before .before .before .row-of .ensures) in (ready-wf r .bounded _ (R .used), c .before .before .before .make .ensures .good .sizes .room))
+    (λ c κs. let r = c .before .before .before .before .before .before .before .before .before .before .before .before .before .before .before .before .before .before .before .before .before .pre .1 .0 in let R = row-at _ (c .before .before .before .before .before .before .before .before .before .before .before .before .before .before .before .before .before .before .before .before .before .pre .1 .1) (c .before .before .before .before .before .before .before .before .before .before .before .before .before .before .before .before .before .before .before .before .before .pre .1 .3 .is-row) (c .before .before .before .before .before .before .before .before .before .before .before .before .before .before .before .before .before .before .before .row-of .ensures) in (ready-wf r .bounded _ (R .used), c .before .before .before .make .ensures .good .sizes .room, let e = r .levels-is in let n = r .good .sizes .n-max in let h = c .before .before .before .before .before .before .before .before .before .before .before .before .before .before .before .before .before .before .before .before .before .pre .1 .2 in omega arith))
     (λ c. search needs)
-    (λ c. let r = c .before .before .before .before .before .before .before .before .before .before .before .before .before .before .before .before .before .before .before .before .before .before .before .before .pre .1 .0 in let R = row-at _ (c .before .before .before .before .before .before .before .before .before .before .before .before .before .before .before .before .before .before .before .before .before .before .before .before .pre .1 .1) (c .before .before .before .before .before .before .before .before .before .before .before .before .before .before .before .before .before .before .before .before .before .before .before .before .pre .1 .3 .is-row) (c .before .before .before .before .before .before .before .before .before .before .before .before .before .before .before .before .before .before .before .before .before .before .row-of .ensures) in let o = opened (ready-wf r) R (c .before .before .before .before .before .before .before .before .before .before .before .before .before .before .before .before .before .before .before .before .node-at .ensures) in let D = exists-calls r o _ (let t = reached (c .before .before .before .before .before .before .before .before .before .before .before .before .before .before .before .before .before .before .before .before .before .before .before .before .pre .1 .3) (c .before .before .before .before .before .before .before .before .before .before .before .before .before .before .before .before .before .before .before .before .before .before .row-of .ensures) (c .before .before .before .before .before .before .before .before .before .before .before .before .before .before .before .before .before .before .before .before .node-at .ensures) in let u = c .before .before .before .before .before .before .before .before .before .before .before .before .before .before .before .before .before .before .if1 .left in omega arith) in exists-kept r _ R (row-made r D (c .before .before .before .before .before .before .before .before .before .before .before .before .before .if2 .left) (c .before .before .before .before .before .before .before .before .before .before .before .before .before .before .before .before .exists-part .ensures) (c .before .before .before .before .before .before .before .before .if3 .left) (c .before .before .before .before .before .before .before .before .before .before .before .exists-part2 .ensures) (c .before .before .before .before .before .before .make .ensures)) (c .before .before .remember-row2 .ensures))
+    (λ c. let r = c .before .before .before .before .before .before .before .before .before .before .before .before .before .before .before .before .before .before .before .before .before .before .before .before .pre .1 .0 in let R = row-at _ (c .before .before .before .before .before .before .before .before .before .before .before .before .before .before .before .before .before .before .before .before .before .before .before .before .pre .1 .1) (c .before .before .before .before .before .before .before .before .before .before .before .before .before .before .before .before .before .before .before .before .before .before .before .before .pre .1 .3 .is-row) (c .before .before .before .before .before .before .before .before .before .before .before .before .before .before .before .before .before .before .before .before .before .before .row-of .ensures) in let o = opened (ready-wf r) R (c .before .before .before .before .before .before .before .before .before .before .before .before .before .before .before .before .before .before .before .before .node-at .ensures) in let D = exists-calls r o _ (let t = reached (c .before .before .before .before .before .before .before .before .before .before .before .before .before .before .before .before .before .before .before .before .before .before .before .before .pre .1 .3) (c .before .before .before .before .before .before .before .before .before .before .before .before .before .before .before .before .before .before .before .before .before .before .row-of .ensures) (c .before .before .before .before .before .before .before .before .before .before .before .before .before .before .before .before .before .before .before .before .node-at .ensures) in let u = c .before .before .before .before .before .before .before .before .before .before .before .before .before .before .before .before .before .before .if1 .left in omega arith) in exists-kept r _ R _ (let e = r .levels-is in let n = r .good .sizes .n-max in let h = c .before .before .before .before .before .before .before .before .before .before .before .before .before .before .before .before .before .before .before .before .before .before .before .before .pre .1 .2 in omega arith) (row-made r D (c .before .before .before .before .before .before .before .before .before .before .before .before .before .if2 .left) (c .before .before .before .before .before .before .before .before .before .before .before .before .before .before .before .before .exists-part .ensures) (c .before .before .before .before .before .before .before .before .if3 .left) (c .before .before .before .before .before .before .before .before .before .before .before .exists-part2 .ensures) (c .before .before .before .before .before .before .make .ensures)) (c .before .before .remember-row2 .ensures))

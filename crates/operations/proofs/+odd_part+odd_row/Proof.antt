@@ -82,6 +82,6 @@ pub +odd-part+odd-row-spec : {M : Type 1} → statement M
     (λ c. search needs)
     (λ c. let r = c .before .before .before .before .before .before .before .before .before .before .before .before .before .before .pre .1 .0 in let R = row-at _ (c .before .before .before .before .before .before .before .before .before .before .before .before .before .before .pre .1 .1) (c .before .before .before .before .before .before .before .before .before .before .before .before .before .before .pre .1 .2) (c .before .before .before .before .before .before .before .before .before .before .before .before .row-of .ensures) in let o = opened (ready-wf r) R (c .before .before .before .before .before .before .before .before .before .before .node-at .ensures) in odd-high-stops r o (c .before .before .before .before .before .if1 .left) (c .before .before .before .before .before .before .before .before .odd-part .ensures) (c .before .before .before .odd-part2 .ensures))
     (λ c κs. let r = c .before .before .before .before .before .before .before .before .before .before .before .before .before .before .before .pre .1 .0 in let R = row-at _ (c .before .before .before .before .before .before .before .before .before .before .before .before .before .before .before .pre .1 .1) (c .before .before .before .before .before .before .before .before .before .before .before .before .before .before .before .pre .1 .2) (c .before .before .before .before .before .before .before .before .before .before .before .before .before .row-of .ensures) in let o = opened (ready-wf r) R (c .before .before .before .before .before .before .before .before .before .before .before .node-at .ensures) in odd-join-pre r o (c .before .before .before .before .before .before .if1 .left) (c .before .before .before .before .before .before .before .before .before .odd-part .ensures) (c .before .if2 .left) (c .before .before .before .before .odd-part2 .ensures))
-    (λ c κs. let r = c .before .before .before .before .before .before .before .before .before .before .before .before .before .before .before .before .before .before .before .pre .1 .0 in let R = row-at _ (c .before .before .before .before .before .before .before .before .before .before .before .before .before .before .before .before .before .before .before .pre .1 .1) (c .before .before .before .before .before .before .before .before .before .before .before .before .before .before .before .before .before .before .before .pre .1 .2) (c .before .before .before .before .before .before .before .before .before .before .before .before .before .before .before .before .before .row-of .ensures) in let o = opened (ready-wf r) R (c .before .before .before .before .before .before .before .before .before .before .before .before .before .before .before .node-at .ensures) in let w = odd-joined r o (c .before .before .before .before .before .before .before .before .before .before .if1 .left) (c .before .before .before .before .before .before .before .before .before .before .before .before .before .odd-part .ensures) (c .before .before .before .before .before .if2 .left) (c .before .before .before .before .before .before .before .before .odd-part2 .ensures) (c .before .before .before .odd-join .ensures) in (ready-wf r .bounded _ (R .used), w .good .sizes .room))
+    (λ c κs. let r = c .before .before .before .before .before .before .before .before .before .before .before .before .before .before .before .before .before .before .before .pre .1 .0 in let R = row-at _ (c .before .before .before .before .before .before .before .before .before .before .before .before .before .before .before .before .before .before .before .pre .1 .1) (c .before .before .before .before .before .before .before .before .before .before .before .before .before .before .before .before .before .before .before .pre .1 .2) (c .before .before .before .before .before .before .before .before .before .before .before .before .before .before .before .before .before .row-of .ensures) in let o = opened (ready-wf r) R (c .before .before .before .before .before .before .before .before .before .before .before .before .before .before .before .node-at .ensures) in let w = odd-joined r o (c .before .before .before .before .before .before .before .before .before .before .if1 .left) (c .before .before .before .before .before .before .before .before .before .before .before .before .before .odd-part .ensures) (c .before .before .before .before .before .if2 .left) (c .before .before .before .before .before .before .before .before .odd-part2 .ensures) (c .before .before .before .odd-join .ensures) in (ready-wf r .bounded _ (R .used), w .good .sizes .room, omega arith))
     (λ c. search needs)
     (λ c. let r = c .before .before .before .before .before .before .before .before .before .before .before .before .before .before .before .before .before .before .before .before .before .before .pre .1 .0 in let R = row-at _ (c .before .before .before .before .before .before .before .before .before .before .before .before .before .before .before .before .before .before .before .before .before .before .pre .1 .1) (c .before .before .before .before .before .before .before .before .before .before .before .before .before .before .before .before .before .before .before .before .before .before .pre .1 .2) (c .before .before .before .before .before .before .before .before .before .before .before .before .before .before .before .before .before .before .before .before .row-of .ensures) in let o = opened (ready-wf r) R (c .before .before .before .before .before .before .before .before .before .before .before .before .before .before .before .before .before .before .node-at .ensures) in odd-kept r o (c .before .before .before .before .before .before .before .before .before .before .before .before .before .if1 .left) (c .before .before .before .before .before .before .before .before .before .before .before .before .before .before .before .before .odd-part .ensures) (c .before .before .before .before .before .before .before .before .if2 .left) (c .before .before .before .before .before .before .before .before .before .before .before .odd-part2 .ensures) _ (odd-joined r o (c .before .before .before .before .before .before .before .before .before .before .before .before .before .if1 .left) (c .before .before .before .before .before .before .before .before .before .before .before .before .before .before .before .before .odd-part .ensures) (c .before .before .before .before .before .before .before .before .if2 .left) (c .before .before .before .before .before .before .before .before .before .before .before .odd-part2 .ensures) (c .before .before .before .before .before .before .odd-join .ensures)) (c .before .before .remember-row .ensures))

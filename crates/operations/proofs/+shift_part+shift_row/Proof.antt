@@ -85,6 +85,6 @@ pub +shift-part+shift-row-spec : {M : Type 1} → statement M
     (λ c. let r = c .before .before .before .before .before .before .before .before .before .before .before .before .before .before .pre .1 .0 in let R = row-at _ (c .before .before .before .before .before .before .before .before .before .before .before .before .before .before .pre .1 .1) (c .before .before .before .before .before .before .before .before .before .before .before .before .before .before .pre .1 .3) (c .before .before .before .before .before .before .before .before .before .before .before .before .row-of .ensures) in let o = opened (ready-wf r) R (c .before .before .before .before .before .before .before .before .before .before .node-at .ensures) in let D = shift-calls r o (c .before .before .before .before .before .before .before .before .before .before .before .before .before .before .pre .1 .2) in high-stops r D (c .before .before .before .before .before .if1 .left) (c .before .before .before .before .before .before .before .before .shift-part .ensures) (c .if2 .taken) (c .before .before .before .shift-part2 .ensures))
     (λ c. let r = c .before .before .before .before .before .before .before .before .before .before .before .before .before .before .before .before .pre .1 .0 in let R = row-at _ (c .before .before .before .before .before .before .before .before .before .before .before .before .before .before .before .before .pre .1 .1) (c .before .before .before .before .before .before .before .before .before .before .before .before .before .before .before .before .pre .1 .3) (c .before .before .before .before .before .before .before .before .before .before .before .before .before .before .row-of .ensures) in let o = opened (ready-wf r) R (c .before .before .before .before .before .before .before .before .before .before .before .before .node-at .ensures) in let h = o .shallow in omega arith)
     (λ c κs. let r = c .before .before .before .before .before .before .before .before .before .before .before .before .before .before .before .before .pre .1 .0 in let R = row-at _ (c .before .before .before .before .before .before .before .before .before .before .before .before .before .before .before .before .pre .1 .1) (c .before .before .before .before .before .before .before .before .before .before .before .before .before .before .before .before .pre .1 .3) (c .before .before .before .before .before .before .before .before .before .before .before .before .before .before .row-of .ensures) in let o = opened (ready-wf r) R (c .before .before .before .before .before .before .before .before .before .before .before .before .node-at .ensures) in let D = shift-calls r o (c .before .before .before .before .before .before .before .before .before .before .before .before .before .before .before .before .pre .1 .2) in row-pre r D (c .before .before .before .before .before .before .before .if1 .left) (c .before .before .before .before .before .before .before .before .before .before .shift-part .ensures) (c .before .before .if2 .left) (c .before .before .before .before .before .shift-part2 .ensures))
-    (λ c κs. let r = c .before .before .before .before .before .before .before .before .before .before .before .before .before .before .before .before .before .before .before .before .pre .1 .0 in let R = row-at _ (c .before .before .before .before .before .before .before .before .before .before .before .before .before .before .before .before .before .before .before .before .pre .1 .1) (c .before .before .before .before .before .before .before .before .before .before .before .before .before .before .before .before .before .before .before .before .pre .1 .3) (c .before .before .before .before .before .before .before .before .before .before .before .before .before .before .before .before .before .before .row-of .ensures) in (ready-wf r .bounded _ (R .used), c .before .before .before .make .ensures .good .sizes .room))
+    (λ c κs. let r = c .before .before .before .before .before .before .before .before .before .before .before .before .before .before .before .before .before .before .before .before .pre .1 .0 in let R = row-at _ (c .before .before .before .before .before .before .before .before .before .before .before .before .before .before .before .before .before .before .before .before .pre .1 .1) (c .before .before .before .before .before .before .before .before .before .before .before .before .before .before .before .before .before .before .before .before .pre .1 .3) (c .before .before .before .before .before .before .before .before .before .before .before .before .before .before .before .before .before .before .row-of .ensures) in (ready-wf r .bounded _ (R .used), c .before .before .before .make .ensures .good .sizes .room, omega arith))
     (λ c. search needs)
-    (λ c. let r = c .before .before .before .before .before .before .before .before .before .before .before .before .before .before .before .before .before .before .before .before .before .before .before .pre .1 .0 in let R = row-at _ (c .before .before .before .before .before .before .before .before .before .before .before .before .before .before .before .before .before .before .before .before .before .before .before .pre .1 .1) (c .before .before .before .before .before .before .before .before .before .before .before .before .before .before .before .before .before .before .before .before .before .before .before .pre .1 .3) (c .before .before .before .before .before .before .before .before .before .before .before .before .before .before .before .before .before .before .before .before .before .row-of .ensures) in let o = opened (ready-wf r) R (c .before .before .before .before .before .before .before .before .before .before .before .before .before .before .before .before .before .before .before .node-at .ensures) in let D = shift-calls r o (c .before .before .before .before .before .before .before .before .before .before .before .before .before .before .before .before .before .before .before .before .before .before .before .pre .1 .2) in row-kept r 2 (omega arith) R (row-made r D (c .before .before .before .before .before .before .before .before .before .before .before .before .before .before .if1 .left) (c .before .before .before .before .before .before .before .before .before .before .before .before .before .before .before .before .before .shift-part .ensures) (c .before .before .before .before .before .before .before .before .before .if2 .left) (c .before .before .before .before .before .before .before .before .before .before .before .before .shift-part2 .ensures) (c .before .before .before .before .before .before .make .ensures)) (c .before .before .remember-row .ensures))
+    (λ c. let r = c .before .before .before .before .before .before .before .before .before .before .before .before .before .before .before .before .before .before .before .before .before .before .before .pre .1 .0 in let R = row-at _ (c .before .before .before .before .before .before .before .before .before .before .before .before .before .before .before .before .before .before .before .before .before .before .before .pre .1 .1) (c .before .before .before .before .before .before .before .before .before .before .before .before .before .before .before .before .before .before .before .before .before .before .before .pre .1 .3) (c .before .before .before .before .before .before .before .before .before .before .before .before .before .before .before .before .before .before .before .before .before .row-of .ensures) in let o = opened (ready-wf r) R (c .before .before .before .before .before .before .before .before .before .before .before .before .before .before .before .before .before .before .before .node-at .ensures) in let D = shift-calls r o (c .before .before .before .before .before .before .before .before .before .before .before .before .before .before .before .before .before .before .before .before .before .before .before .pre .1 .2) in row-kept r 1 _ (omega arith) (omega arith) R (row-made r D (c .before .before .before .before .before .before .before .before .before .before .before .before .before .before .if1 .left) (c .before .before .before .before .before .before .before .before .before .before .before .before .before .before .before .before .before .shift-part .ensures) (c .before .before .before .before .before .before .before .before .before .if2 .left) (c .before .before .before .before .before .before .before .before .before .before .before .before .shift-part2 .ensures) (c .before .before .before .before .before .before .make .ensures)) (c .before .before .remember-row .ensures))

@@ -1,5 +1,5 @@
--- `sound` meets its contract: words of the wrong sizes are no sound table, and the rest is `table_ok`. Assumes nothing.
-use mathlib.Core.Path.{sym}
+-- `sound` meets its contract: words of the wrong sizes or of another layout are no sound table, and the rest is `table_ok`. Assumes nothing.
+use mathlib.Core.Path.{sym, _∙_}
 use native.Mathlib.Omega.{arith}
 use borrow.Author.Needs.{needs}
 use Rattle.soundness.specs.Says.{fails, says-pass, says-fail}
@@ -13,5 +13,7 @@ sound-spec =
     (λ c κs. search needs)
     (λ c. fails (λ q. says-fail (c .if1 .taken) (c .before .sizes-ok .ensures) (q .good .sizes)))
     (λ c κs. let s = says-pass (c .if1 .left) (c .before .sizes-ok .ensures) in omega arith)
-    (λ c κs. let s = says-pass (c .before .if1 .left) (c .before .before .sizes-ok .ensures) in (rw (c .header-word .ensures) s, sym (c .header-word .ensures)))
-    (λ c. rw (c .before .header-word .ensures) at (c .table-ok .ensures)))
+    (λ c. fails (λ q. c .if2 .taken (c .before .header-word .ensures ∙ q .good .layout-is)))
+    (λ c κs. let s = says-pass (c .before .before .if1 .left) (c .before .before .before .sizes-ok .ensures) in omega arith)
+    (λ c κs. let s = says-pass (c .before .before .before .if1 .left) (c .before .before .before .before .sizes-ok .ensures) in (rw (c .header-word2 .ensures) s, sym (c .header-word2 .ensures), sym (c .before .before .header-word .ensures) ∙ c .before .if2 .left))
+    (λ c. rw (c .before .header-word2 .ensures) at (c .table-ok .ensures)))

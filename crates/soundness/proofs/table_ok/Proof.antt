@@ -25,6 +25,7 @@ table-ok-spec =
     (λ c κs. let g = good-of (view (c .before .before .before .before .before .before .before .before .before .before .before .before .args .rows) (c .before .before .before .before .before .before .before .before .before .before .before .before .args .words .now)) (record {
       sizes = c .before .before .before .before .before .before .before .before .before .before .before .before .pre .0;
       rows-is = c .before .before .before .before .before .before .before .before .before .before .before .before .pre .1;
+      layout-is = c .before .before .before .before .before .before .before .before .before .before .before .before .pre .2;
       count-le = let e = c .before .before .before .before .before .before .before .before .before .before .header-word .ensures in let t = c .before .before .before .before .before .before .before .before .before .if1 .left in omega arith;
       list = (λ k h. let e = c .before .before .before .before .before .before .before .before .before .before .header-word .ensures in says-pass (c .before .before .before .before .before .before .if2 .left) (c .before .before .before .before .before .before .before .list-ok .ensures) k (omega arith));
       rows = (λ k h. let e = c .before .before .before .before .before .before .before .before .before .before .header-word .ensures in rw (c .before .before .before .before .before .before .before .before .header-word2 .ensures) at (says-pass (c .before .before .before .before .if3 .left) (c .before .before .before .before .before .rows-ok .ensures) k (omega arith)));
@@ -34,6 +35,7 @@ table-ok-spec =
       good = good-of (view (c .before .before .before .before .before .before .before .before .before .before .before .before .before .args .rows) (c .before .before .before .before .before .before .before .before .before .before .before .before .before .args .words .now)) (record {
         sizes = c .before .before .before .before .before .before .before .before .before .before .before .before .before .pre .0;
         rows-is = c .before .before .before .before .before .before .before .before .before .before .before .before .before .pre .1;
+        layout-is = c .before .before .before .before .before .before .before .before .before .before .before .before .before .pre .2;
         count-le = let e = c .before .before .before .before .before .before .before .before .before .before .before .header-word .ensures in let t = c .before .before .before .before .before .before .before .before .before .before .if1 .left in omega arith;
         list = (λ k h. let e = c .before .before .before .before .before .before .before .before .before .before .before .header-word .ensures in says-pass (c .before .before .before .before .before .before .before .if2 .left) (c .before .before .before .before .before .before .before .before .list-ok .ensures) k (omega arith));
         rows = (λ k h. let e = c .before .before .before .before .before .before .before .before .before .before .before .header-word .ensures in rw (c .before .before .before .before .before .before .before .before .before .header-word2 .ensures) at (says-pass (c .before .before .before .before .before .if3 .left) (c .before .before .before .before .before .before .rows-ok .ensures) k (omega arith)));
