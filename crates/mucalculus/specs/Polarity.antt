@@ -19,7 +19,7 @@ use Rattle.mucalculus.specs.Means.{size, means, length-means}
 
 module _ {X : Type 0} (e : ℕ → X) (P : ℕ) (x : X) (Q : ℕ) (y : X) where
   -- two variables are put in either order
-  put-swap : (P ≡ Q → ⊥) → put (put e P x) Q y ≡ put (put e Q y) P x
+  pub put-swap : (P ≡ Q → ⊥) → put (put e P x) Q y ≡ put (put e Q y) P x
   put-swap ne = fun-ext (λ U. go U (eqb U Q) refl (eqb U P) refl)
     where
       go : (U : ℕ) (s : Bool) → eqb U Q ≡ s → (t : Bool) → eqb U P ≡ t → cond s y (cond t x (e U)) ≡ cond t x (cond s y (e U))
