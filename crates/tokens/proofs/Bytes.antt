@@ -13,7 +13,7 @@ use Rattle.tokens.specs.declared.Join.the-variants.{And, Or}
 use Rattle.tokens.specs.declared.Mode.the-variants.{All, Some}
 use Rattle.tokens.specs.declared.Fix.the-variants.{Mu, Nu}
 use Rattle.tokens.specs.declared.Token.{Token}
-use Rattle.tokens.specs.declared.Token.the-variants.{Leaf as LeafToken, Not, Both, Modal, Binder}
+use Rattle.tokens.specs.declared.Token.the-variants.{Leaf as LeafToken, Not, Both, Modal, Binder, Until}
 use Rattle.tokens.specs.declared.Lead.the-variants.{Is}
 use Rattle.tokens.proofs.Table.{both-true, endBelow, in-line}
 
@@ -31,6 +31,8 @@ byteOf (Modal All t) = 0x60 + t
 byteOf (Modal Some t) = 0x68 + t
 byteOf (Binder Mu P) = 0x70 + P
 byteOf (Binder Nu P) = 0x80 + P
+byteOf (Until Some t) = 0x90 + t
+byteOf (Until All t) = 0x98 + t
 
 -- the token's number is one of its bytes'
 abbrev pub fits : Token → Bool
@@ -44,6 +46,7 @@ fits (LeafToken (Var P)) = ltb P 16
 fits (LeafToken (Reg r)) = ltb r 32
 fits (Modal m t) = ltb t 8
 fits (Binder x P) = ltb P 16
+fits (Until m t) = ltb t 8
 
 -- the byte with number p of the table's line after k others
 at-line : (k : ℕ) {l : Line} {ls : List Line} → drop k table ≡ l ∷ ls → endBelow (l .first) (take k table) ≡ true → (p : ℕ) → l .first + p ≤ l .last → tokenOf (l .first + p) ≡ Is (l .token p)
@@ -66,6 +69,8 @@ token-byte (Modal All t) h = at-line 9 refl refl t (omega (arith, ltb-true t 8 h
 token-byte (Modal Some t) h = at-line 10 refl refl t (omega (arith, ltb-true t 8 h))
 token-byte (Binder Mu P) h = at-line 11 refl refl P (omega (arith, ltb-true P 16 h))
 token-byte (Binder Nu P) h = at-line 12 refl refl P (omega (arith, ltb-true P 16 h))
+token-byte (Until Some t) h = at-line 13 refl refl t (omega (arith, ltb-true t 8 h))
+token-byte (Until All t) h = at-line 14 refl refl t (omega (arith, ltb-true t 8 h))
 
 -- what a byte's token says of the byte
 pub record Right (b : ℕ) (t : Token) : Type 0 where
@@ -110,7 +115,13 @@ table-right = (
                         λ p h. record { byte = refl; within = lt-ltb p 16 (omega arith) },
                         (
                           λ p h. record { byte = refl; within = lt-ltb p 16 (omega arith) },
-                          tt,
+                          (
+                            λ t h. record { byte = refl; within = lt-ltb t 8 (omega arith) },
+                            (
+                              λ t h. record { byte = refl; within = lt-ltb t 8 (omega arith) },
+                              tt,
+                            ),
+                          ),
                         ),
                       ),
                     ),

@@ -7,7 +7,7 @@ use lib.ListN.{length, getD}
 use Rattle.tokens.specs.declared.Kind.{Kind}
 use Rattle.tokens.specs.declared.Kind.the-variants.{Relation, Set}
 use Rattle.tokens.specs.declared.Grammar.{Grammar}
-use Rattle.tokens.specs.declared.Grammar.the-variants.{Pairs, States}
+use Rattle.tokens.specs.declared.Grammar.the-variants.{Pairs, States, Runs}
 use Rattle.tokens.specs.declared.Reading.{Reading}
 use Rattle.tokens.specs.declared.Reading.the-variants.{Is as Reads, Unknown}
 use Rattle.tokens.specs.declared.Leaf.{Leaf}
@@ -16,7 +16,7 @@ use Rattle.tokens.specs.declared.Join.the-variants.{And, Or}
 use Rattle.tokens.specs.declared.Mode.the-variants.{All, Some}
 use Rattle.tokens.specs.declared.Fix.the-variants.{Mu, Nu}
 use Rattle.tokens.specs.declared.Token.{Token}
-use Rattle.tokens.specs.declared.Token.the-variants.{Leaf as LeafToken, Not, Both, Modal, Binder}
+use Rattle.tokens.specs.declared.Token.the-variants.{Leaf as LeafToken, Not, Both, Modal, Binder, Until}
 use Rattle.tokens.specs.declared.Lead.{Lead}
 use Rattle.tokens.specs.declared.Lead.the-variants.{Is, Bad}
 
@@ -29,7 +29,7 @@ pub record Line : Type 0 where
 abbrev pub line : ℕ → ℕ → (ℕ → Token) → Line
 line a b t = record { first = a; last = b; token = t }
 
--- document 01's table "Byte, Meaning"
+-- document 01's table "Byte, Meaning", and the words that version 2 adds
 abbrev pub table : List Line
 table =
     line 0x00 0x00 (λ k. LeafToken False)
@@ -45,6 +45,8 @@ table =
     ∷ line 0x68 0x6F (λ t. Modal Some t)
     ∷ line 0x70 0x7F (λ P. Binder Mu P)
     ∷ line 0x80 0x8F (λ P. Binder Nu P)
+    ∷ line 0x90 0x97 (λ t. Until Some t)
+    ∷ line 0x98 0x9F (λ t. Until All t)
     ∷ []
 
 -- the token of a byte by the first line that has it
@@ -58,15 +60,31 @@ lookup (l ∷ ls) b =
 unfoldable pub tokenOf : ℕ → Lead
 tokenOf b = lookup table b
 
--- "version 1": the grammar of a call's formula, by the version byte
+-- "version 1"
+abbrev pub firstOf : Kind → Reading
+firstOf Relation = Reads Pairs
+firstOf Set = Reads States
+
+-- "Version 2 formulas, for set calls"
+abbrev pub secondOf : Kind → Reading
+secondOf Relation = Unknown
+secondOf Set = Reads Runs
+
+-- the grammar of a call's formula, by the version byte
 abbrev pub grammarOf : Kind → ℕ → Reading
-grammarOf Relation v = cond (eqb v 1) (Reads Pairs) Unknown
-grammarOf Set v = cond (eqb v 1) (Reads States) Unknown
+grammarOf k v = cond (eqb v 1) (firstOf k) (cond (eqb v 2) (secondOf k) Unknown)
 
 -- formulas speak of states
 abbrev pub isStates : Grammar → Bool
 isStates Pairs = false
 isStates States = true
+isStates Runs = true
+
+-- formulas speak of runs: "Version 2 formulas … add 90–97 f g and 98–9F f g"; "Version 1 keeps its words"
+abbrev pub hasRuns : Grammar → Bool
+hasRuns Pairs = false
+hasRuns States = false
+hasRuns Runs = true
 
 -- "p < n", "relation calls only"; "Relation calls take only 00 to 04 and 10 to 2F"
 abbrev pub leafAllowed : Leaf → ℕ → Grammar → Bool
@@ -83,6 +101,7 @@ allowed Not n g = true
 allowed (Both j) n g = true
 allowed (Modal m t) n g = isStates g
 allowed (Binder x P) n g = isStates g
+allowed (Until m t) n g = hasRuns g
 
 -- the token, where the grammar takes it
 abbrev pub taken : ℕ → Grammar → Lead → Lead
