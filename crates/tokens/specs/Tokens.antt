@@ -15,8 +15,10 @@ use Rattle.tokens.specs.declared.Leaf.the-variants.{False, True, Now, Ne
 use Rattle.tokens.specs.declared.Join.the-variants.{And, Or}
 use Rattle.tokens.specs.declared.Mode.the-variants.{All, Some}
 use Rattle.tokens.specs.declared.Fix.the-variants.{Mu, Nu}
+use Rattle.tokens.specs.declared.Two.{Two}
+use Rattle.tokens.specs.declared.Two.the-variants.{Join, Until}
 use Rattle.tokens.specs.declared.Token.{Token}
-use Rattle.tokens.specs.declared.Token.the-variants.{Leaf as LeafToken, Not, Both, Modal, Binder, Until}
+use Rattle.tokens.specs.declared.Token.the-variants.{Leaf as LeafToken, Not, Both, Modal, Binder}
 use Rattle.tokens.specs.declared.Lead.{Lead}
 use Rattle.tokens.specs.declared.Lead.the-variants.{Is, Bad}
 
@@ -35,8 +37,8 @@ table =
     line 0x00 0x00 (λ k. LeafToken False)
     ∷ line 0x01 0x01 (λ k. LeafToken True)
     ∷ line 0x02 0x02 (λ k. Not)
-    ∷ line 0x03 0x03 (λ k. Both And)
-    ∷ line 0x04 0x04 (λ k. Both Or)
+    ∷ line 0x03 0x03 (λ k. Both (Join And))
+    ∷ line 0x04 0x04 (λ k. Both (Join Or))
     ∷ line 0x10 0x1F (λ p. LeafToken (Now p))
     ∷ line 0x20 0x2F (λ p. LeafToken (Next p))
     ∷ line 0x30 0x3F (λ P. LeafToken (Var P))
@@ -45,8 +47,8 @@ table =
     ∷ line 0x68 0x6F (λ t. Modal Some t)
     ∷ line 0x70 0x7F (λ P. Binder Mu P)
     ∷ line 0x80 0x8F (λ P. Binder Nu P)
-    ∷ line 0x90 0x97 (λ t. Until Some t)
-    ∷ line 0x98 0x9F (λ t. Until All t)
+    ∷ line 0x90 0x97 (λ t. Both (Until Some t))
+    ∷ line 0x98 0x9F (λ t. Both (Until All t))
     ∷ []
 
 -- the token of a byte by the first line that has it
@@ -95,13 +97,16 @@ leafAllowed (Next p) n g = cond (isStates g) false (ltb p n)
 leafAllowed (Var P) n g = isStates g
 leafAllowed (Reg r) n g = isStates g
 
+abbrev pub twoAllowed : Two → Grammar → Bool
+twoAllowed (Join j) g = true
+twoAllowed (Until m t) g = hasRuns g
+
 abbrev pub allowed : Token → ℕ → Grammar → Bool
 allowed (LeafToken l) n g = leafAllowed l n g
 allowed Not n g = true
-allowed (Both j) n g = true
+allowed (Both w) n g = twoAllowed w g
 allowed (Modal m t) n g = isStates g
 allowed (Binder x P) n g = isStates g
-allowed (Until m t) n g = hasRuns g
 
 -- the token, where the grammar takes it
 abbrev pub taken : ℕ → Grammar → Lead → Lead

@@ -1,7 +1,7 @@
 // The tokens of document 01: what each formula byte means, and which tokens a call takes.
 ghost use mathlib.Core.Path.{_≡_};
 ghost use Prim.Native.Nat.{_≤_};
-ghost use Rattle.tokens.specs.Tokens.{tokenOf, firstOf, secondOf, grammarOf, isStates, hasRuns, leafAllowed, allowed, leadAt};
+ghost use Rattle.tokens.specs.Tokens.{tokenOf, firstOf, secondOf, grammarOf, isStates, hasRuns, leafAllowed, twoAllowed, allowed, leadAt};
 ghost use Rattle.tokens.specs.declared.Lead.the-variants.{Is};
 
 // The call that a formula is for.
@@ -59,14 +59,19 @@ pub enum Fix {
     Nu,
 }
 
+// An operator of two parts: AND or OR, or until on some or on every run of a relation.
+pub enum Two {
+    Join(Join),
+    Until(Mode, u32),
+}
+
 // A token: a leaf, or an operator with the number that its byte holds.
 pub enum Token {
     Leaf(Leaf),
     Not,
-    Both(Join),
+    Both(Two),
     Modal(Mode, u32),
     Binder(Fix, u32),
-    Until(Mode, u32),
 }
 
 // What stands at a place: a token, or none that can be read.
@@ -134,9 +139,9 @@ fn until_of(b: u8) -> Token
 {
     let byte = wide(b);
     if byte < 0x98 {
-        return Token::Until(Mode::Some, byte - 0x90);
+        return Token::Both(Two::Until(Mode::Some, byte - 0x90));
     }
-    Token::Until(Mode::All, byte - 0x98)
+    Token::Both(Two::Until(Mode::All, byte - 0x98))
 }
 
 // The meaning of a byte.
@@ -148,8 +153,8 @@ pub fn token_of(b: u8) -> Lead
         0x00 => Lead::Is(Token::Leaf(Leaf::False)),
         0x01 => Lead::Is(Token::Leaf(Leaf::True)),
         0x02 => Lead::Is(Token::Not),
-        0x03 => Lead::Is(Token::Both(Join::And)),
-        0x04 => Lead::Is(Token::Both(Join::Or)),
+        0x03 => Lead::Is(Token::Both(Two::Join(Join::And))),
+        0x04 => Lead::Is(Token::Both(Two::Join(Join::Or))),
         0x10..=0x1F => Lead::Is(Token::Leaf(Leaf::Now(byte - 0x10))),
         0x20..=0x2F => Lead::Is(Token::Leaf(Leaf::Next(byte - 0x20))),
         0x30..=0x3F => Lead::Is(Token::Leaf(Leaf::Var(byte - 0x30))),
@@ -203,6 +208,16 @@ pub fn leaf_allowed(l: Leaf, n: u32, grammar: Grammar) -> bool
     }
 }
 
+// Whether the grammar takes the operator of two parts.
+pub fn two_allowed(w: Two, grammar: Grammar) -> bool
+    ensures { λ r. ⌜ r ≡ twoAllowed w grammar ⌝ }
+{
+    match w {
+        Two::Join(_) => true,
+        Two::Until(_, _) => has_runs(grammar),
+    }
+}
+
 // Whether the grammar takes the token.
 pub fn token_allowed(t: Token, n: u32, grammar: Grammar) -> bool
     ensures { λ r. ⌜ r ≡ allowed t n grammar ⌝ }
@@ -210,10 +225,9 @@ pub fn token_allowed(t: Token, n: u32, grammar: Grammar) -> bool
     match t {
         Token::Leaf(l) => leaf_allowed(l, n, grammar),
         Token::Not => true,
-        Token::Both(_) => true,
+        Token::Both(w) => two_allowed(w, grammar),
         Token::Modal(_, _) => is_states(grammar),
         Token::Binder(_, _) => is_states(grammar),
-        Token::Until(_, _) => has_runs(grammar),
     }
 }
 
