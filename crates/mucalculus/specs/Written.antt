@@ -110,7 +110,7 @@ sometimes-clip k R A = table-ext k _ _ (λ s l.
     over-same true (λ t. pair R s t && mem (clip k A) t) (λ t. pair R s t && mem A t) (table k (λ t. t))
     (table-out k (λ t. t) (λ t. (pair R s t && mem (clip k A) t) ≡ (pair R s t && mem A t)) (λ t i. ap (λ (c : Bool). pair R s t && c) (getD-table k (mem A) t false i))))
 
-always-clip : (k : ℕ) (R : Pairs) (A : List Bool) → always k R (clip k A) ≡ always k R A
+pub always-clip : (k : ℕ) (R : Pairs) (A : List Bool) → always k R (clip k A) ≡ always k R A
 always-clip k R A = table-ext k _ _ (λ s l.
     over-same false (λ t. not (pair R s t) || mem (clip k A) t) (λ t. not (pair R s t) || mem A t) (table k (λ t. t))
     (table-out k (λ t. t) (λ t. (not (pair R s t) || mem (clip k A) t) ≡ (not (pair R s t) || mem A t)) (λ t i. ap (λ (c : Bool). not (pair R s t) || c) (getD-table k (mem A) t false i))))
