@@ -80,9 +80,8 @@ cases =
     }
     ∷ []
 
--- Slip 1: n = 1, relation 0 leads from each state to the other; true until bit 0 holds, on some and on every run, is the written formula with
--- its 3 rounds; with version 1 both are refused. n = 2, relation 0 leads from state 0 to 1 and 2 and from 1 to 3 (so 2 and 3 have no next
--- state): true until bit 0 and bit 1 hold, from states 0, 1 and 3 on some run, from 1 and 3 on every run
+-- "Until": true until bit 0, on some and on every run, over the relation that leads from each state to the other: every state, the written
+-- formula's 3 rounds, of which R = 2 is too few; version 1 has no such word; over the empty relation false is never reached
 abbrev pub untils : List Case
 untils =
     record { n = 1; N = 100; lines = loaded flip ∷ did (set 0 100 (frame2 (0x90 ∷ 0x01 ∷ 0x10 ∷ []))) (made 3 (some 1)) ∷ holds 0 (some everybody) ∷ [] }

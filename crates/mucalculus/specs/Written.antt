@@ -49,7 +49,7 @@ written b t X f g = mu X (disj g (conj f (goes b t X)))
 pub apart : (P X : ℕ) → T (not (eqb P X)) → X ≡ P → ⊥
 apart P X h e = T-not (eqb P X) h (subst (λ (Y : ℕ). T (eqb P Y)) (sym e) (eqb-refl P))
 
-var-apart : {Y : Type 0} (c : Bool) (x y : Y) → T (not c) → cond c x y ≡ y
+pub var-apart : {Y : Type 0} (c : Bool) (x y : Y) → T (not c) → cond c x y ≡ y
 var-apart true x y h = absurd h
 var-apart false x y h = refl
 
@@ -105,7 +105,7 @@ module _ (m : Model) (X : ℕ) (A : List Bool) where
 
 -- ---- the translation
 
-sometimes-clip : (k : ℕ) (R : Pairs) (A : List Bool) → sometimes k R (clip k A) ≡ sometimes k R A
+pub sometimes-clip : (k : ℕ) (R : Pairs) (A : List Bool) → sometimes k R (clip k A) ≡ sometimes k R A
 sometimes-clip k R A = table-ext k _ _ (λ s l.
     over-same true (λ t. pair R s t && mem (clip k A) t) (λ t. pair R s t && mem A t) (table k (λ t. t))
     (table-out k (λ t. t) (λ t. (pair R s t && mem (clip k A) t) ≡ (pair R s t && mem A t)) (λ t i. ap (λ (c : Bool). pair R s t && c) (getD-table k (mem A) t false i))))
