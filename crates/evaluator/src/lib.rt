@@ -44,6 +44,15 @@ pub enum Evaluated {
 // For each open variable the place of its binder's current set on the stack. Bytes, since a context is copied at each part of a formula.
 type Places = [u8; Grammar::VARIABLES];
 
+// The words in which an evaluation keeps live arrows.
+pub struct Stack;
+
+impl Stack {
+    // Two for each level of a formula, since until holds its current set and the value of g while f is evaluated; what it holds after f is
+    // no more than the level below would.
+    pub const WORDS: usize = 128;
+}
+
 // Where an evaluation stands: its place in the bytes, the depth left, how many words of the stack are live, the places of the open
 // variables among them, and the rounds counted.
 struct Context {
@@ -52,12 +61,6 @@ struct Context {
     held: usize,
     places: Places,
     rounds: u32,
-}
-
-impl Context {
-    // How many words the stack has: two for each level of a formula, since until holds its current set and the value of g while f is
-    // evaluated; the two values after f are no more than a level below f would hold.
-    const STACK: usize = 128;
 }
 
 // A step's result as an answer.
@@ -540,7 +543,7 @@ pub fn evaluate_set(words: &mut [u32], limits: Limits, bytes: &[u8]) -> Evaluate
     ensures { λ r. ⌜ SetPost limits (view (limits .rows) (now (words .entry))) (view (limits .rows) (now (words .exit))) (now (bytes .entry)) r ⌝ }
 {
     forget(words, limits.rows);
-    let mut stack = [0u32; Context::STACK];
+    let mut stack = [0u32; Stack::WORDS];
     let places = [0u8; Grammar::VARIABLES];
     let start = Context {
         at: Frame::START,
