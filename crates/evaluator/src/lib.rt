@@ -202,7 +202,16 @@ fn over(words: &mut [u32], limits: Limits, roots: &[u32], m: Mode, relation: u32
 }
 
 // Box or diamond of a value over relation t; the answer names the place `end`.
-fn reach(words: &mut [u32], stack: &[u32], limits: Limits, here: Context, m: Mode, t: u32, x: u32, end: usize) -> Evaluated
+fn reach(
+    words: &mut [u32],
+    stack: &[u32],
+    limits: Limits,
+    here: Context,
+    m: Mode,
+    t: u32,
+    x: u32,
+    end: usize,
+) -> Evaluated
     requires { ⌜ ReachPre limits (view (limits .rows) (now words)) (now stack) here t x end ⌝ }
     ensures { λ r. ⌜ ReachPost limits (view (limits .rows) (now (words .entry))) (view (limits .rows) (now (words .exit))) (now (stack .entry)) here m t x end r ⌝ }
 {
@@ -214,7 +223,15 @@ fn reach(words: &mut [u32], stack: &[u32], limits: Limits, here: Context, m: Mod
 }
 
 // Box of the current set x, and diamond of true, and AND.
-fn every(words: &mut [u32], stack: &mut [u32], limits: Limits, here: Context, t: u32, x: u32, end: usize) -> Evaluated
+fn every(
+    words: &mut [u32],
+    stack: &mut [u32],
+    limits: Limits,
+    here: Context,
+    t: u32,
+    x: u32,
+    end: usize,
+) -> Evaluated
     requires { ⌜ FurtherPre limits (view (limits .rows) (now words)) (now stack) here t x ⌝ }
     ensures { λ r. ⌜ EveryPost limits (view (limits .rows) (now (words .entry))) (view (limits .rows) (now (words .exit))) (now (stack .entry)) (now (stack .exit)) here t x end r ⌝ }
 {
@@ -230,7 +247,16 @@ fn every(words: &mut [u32], stack: &mut [u32], limits: Limits, here: Context, t:
     let held = here.held;
     stack[held] = a;
     let rest = onward(here, here.at, counted);
-    let second = reach(words, stack, limits, rest, Mode::Some, t, Table::EVERYTHING, end);
+    let second = reach(
+        words,
+        stack,
+        limits,
+        rest,
+        Mode::Some,
+        t,
+        Table::EVERYTHING,
+        end,
+    );
     let Evaluated::Value {
         arrow: b,
         next: last,
@@ -244,7 +270,16 @@ fn every(words: &mut [u32], stack: &mut [u32], limits: Limits, here: Context, t:
 }
 
 // What a round of until wants of the next states: diamond of the current set x, or box of it and diamond of true.
-fn further(words: &mut [u32], stack: &mut [u32], limits: Limits, here: Context, m: Mode, t: u32, x: u32, end: usize) -> Evaluated
+fn further(
+    words: &mut [u32],
+    stack: &mut [u32],
+    limits: Limits,
+    here: Context,
+    m: Mode,
+    t: u32,
+    x: u32,
+    end: usize,
+) -> Evaluated
     requires { ⌜ FurtherPre limits (view (limits .rows) (now words)) (now stack) here t x ⌝ }
     ensures { λ r. ⌜ FurtherPost limits (view (limits .rows) (now (words .entry))) (view (limits .rows) (now (words .exit))) (now (stack .entry)) (now (stack .exit)) here m t x end r ⌝ }
 {
@@ -510,16 +545,17 @@ fn until(
     requires { ⌜ UntilPre limits (view (limits .rows) (now words)) (now stack) (now bytes) here t ⌝ }
     ensures { λ r. ⌜ UntilPost limits (view (limits .rows) (now (words .entry))) (view (limits .rows) (now (words .exit))) (now (stack .entry)) (now (stack .exit)) (now (bytes .entry)) here m t r ⌝ }
 {
-    let Pass::Past(middle, _) = syntax(bytes, limits.bits, Grammar::Runs, here.at, here.depth) else {
+    let Pass::Past(middle, _) = syntax(bytes, limits.bits, Grammar::Runs, here.at, here.depth)
+    else {
         return Evaluated::Full;
     };
     let held = here.held;
-    let mut current = Table::NOTHING;
+    let mut reached = Table::NOTHING;
     let mut counted = here.rounds;
     while counted < limits.rounds {
-        stack[held] = current;
+        stack[held] = reached;
         let body = onward(here, here.at, counted + 1);
-        let value = round(words, stack, bytes, limits, body, middle, m, t, current);
+        let value = round(words, stack, bytes, limits, body, middle, m, t, reached);
         let Evaluated::Value {
             arrow: a,
             next: _,
@@ -528,10 +564,10 @@ fn until(
         else {
             return value;
         };
-        if a == current {
+        if a == reached {
             return value;
         }
-        current = a;
+        reached = a;
         counted = total;
     }
     Evaluated::Spent

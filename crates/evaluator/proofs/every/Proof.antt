@@ -1,3 +1,4 @@
+-- `every` meets its contract: box of the current set, diamond of true, and AND. Assumes nothing.
 use native.Mathlib.Omega.{arith}
 use mathlib.Core.Path.{refl, sym, _∙_}
 use lib.ListN.{length-set}
@@ -11,7 +12,6 @@ use Rattle.evaluator.proofs.answer.Reads as answer-reads
 use Rattle.evaluator.proofs.live_step.Reads as live-step-reads
 use Rattle.evaluator.proofs.onward.Reads as onward-reads
 use Rattle.evaluator.proofs.reach.Reads as reach-reads
-
 
 pub every-spec : {M : Type 1} → statement M
 every-spec =

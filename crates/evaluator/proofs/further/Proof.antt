@@ -1,3 +1,4 @@
+-- `further` meets its contract by the mode. Assumes nothing.
 use Rattle.evaluator.proofs.Untils.{own-asked, some-answered, further-as}
 use borrow.Author.Needs.{needs}
 use Rattle.evaluator.proofs.further.Statement.{statement}
@@ -6,7 +7,6 @@ use Rattle.evaluator.proofs.further.Reads as reads
 use Rattle.evaluator.proofs.further.Lts as lts
 use Rattle.evaluator.proofs.every.Reads as every-reads
 use Rattle.evaluator.proofs.reach.Reads as reach-reads
-
 
 pub further-spec : {M : Type 1} → statement M
 further-spec =

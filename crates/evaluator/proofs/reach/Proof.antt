@@ -1,3 +1,4 @@
+-- `reach` meets its contract: box or diamond of a value, as after the part of a modal formula. Assumes nothing.
 use mathlib.Core.Path.{sym}
 use lib.Seq.{length-take-le}
 use Rattle.evaluator.proofs.Untils.{reach-relation, reach-within, reach-asks, reach-answers}
@@ -9,7 +10,6 @@ use Rattle.evaluator.proofs.reach.Lts as lts
 use Rattle.evaluator.proofs.answer.Reads as answer-reads
 use Rattle.evaluator.proofs.over.Reads as over-reads
 use Rattle.evaluator.proofs.root_arrow.Reads as root-arrow-reads
-
 
 pub reach-spec : {M : Type 1} → statement M
 reach-spec =

@@ -1,3 +1,4 @@
+-- The cycle of the evaluator: each answer is a law of `Cycle`; the depth falls. Assumes nothing.
 use borrow.Author.Needs.{needs}
 use native.Mathlib.Omega.{arith}
 use Prim.Native.Nat.{_*_, _+_, ℕ, _<_}
