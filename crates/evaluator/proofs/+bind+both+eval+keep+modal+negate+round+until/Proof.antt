@@ -1,7 +1,8 @@
 -- The cycle of the evaluator: each answer is a law of `Cycle` or `Untils`; the depth falls. Assumes nothing.
+use Rattle.evaluator.proofs.Falls.{at, below}
 use borrow.Author.Needs.{needs}
 use native.Mathlib.Omega.{arith}
-use Prim.Native.Nat.{_*_, _+_, _-_, ℕ, _<_}
+use Prim.Native.Nat.{_*_, _+_, _-_, ℕ}
 use lib.ListN.{length-set}
 use lib.Seq.{length-take-le}
 use mathlib.Core.Path.{refl, sym, ap, _∙_}
@@ -9,8 +10,7 @@ use Rattle.tokens.specs.declared.Token.the-variants.{Both}
 use Rattle.evaluator.proofs.Tokens.{read-depth, read-token, read-inside}
 use Rattle.evaluator.proofs.Untils.{kept-asked, keep-halts, keep-room, further-asked, further-halts, keep-asked, keep-answered, goal-asked, goal-halts, round-free, kept-part, kept-halts, or-asked, or-answered, middle-read, UntilLoops, until-starts, until-out, until-free, round-asked, round-halts, round-same, round-less, until-turns}
 use Rattle.evaluator.proofs.Cycle.{leaf-asked, leaf-answered, not-asked, not-answered, both-asked, both-answered, until-asked, until-answered, mode-asked, mode-answered, bind-asked, bind-answered, negate-halts, step-asked, negate-answered, first-asked, first-halts, second-asked, second-halts, join-asked, join-answered, part-asked, mode-halts, relation-asked, live-within, over-asked, over-answered, same-depth, Looping, loop-starts, rounds-out, body-asked, body-halts, body-same, body-less, loop-turns}
-use borrow.Fn.Kinds.{In}
-use borrow.Fn.PlainCycle.{Measures, is, falls, and}
+use borrow.Fn.PlainCycle.{Measures}
 use Rattle.evaluator.proofs.+bind+both+eval+keep+modal+negate+round+until.{statement}
 use Rattle.evaluator.proofs.+bind+both+eval+keep+modal+negate+round+until.Tie.{close}
 use Rattle.evaluator.proofs.bind.Reads as bind
@@ -74,54 +74,6 @@ abbrev μ-round : Measures 3 round-kinds.ps ℕ
 abbrev μ-until : Measures 3 until-kinds.ps ℕ
 μ-until κs a = 4 * a .1 .1 .1 .1 .0 .depth + 3
 
-abbrev bind-at : ℕ → In 3 bind-kinds.ps
-bind-at t = and 3 bind-kinds.ps (is 3 bind-kinds.ps μ-bind t) bind.Pre
-
-abbrev bind-below : ℕ → In 3 bind-kinds.ps
-bind-below t = and 3 bind-kinds.ps (falls 3 bind-kinds.ps _<_ μ-bind t) bind.Pre
-
-abbrev both-at : ℕ → In 3 both-kinds.ps
-both-at t = and 3 both-kinds.ps (is 3 both-kinds.ps μ-both t) both.Pre
-
-abbrev both-below : ℕ → In 3 both-kinds.ps
-both-below t = and 3 both-kinds.ps (falls 3 both-kinds.ps _<_ μ-both t) both.Pre
-
-abbrev eval-at : ℕ → In 3 eval-kinds.ps
-eval-at t = and 3 eval-kinds.ps (is 3 eval-kinds.ps μ-eval t) eval.Pre
-
-abbrev eval-below : ℕ → In 3 eval-kinds.ps
-eval-below t = and 3 eval-kinds.ps (falls 3 eval-kinds.ps _<_ μ-eval t) eval.Pre
-
-abbrev keep-at : ℕ → In 3 keep-kinds.ps
-keep-at t = and 3 keep-kinds.ps (is 3 keep-kinds.ps μ-keep t) keep.Pre
-
-abbrev keep-below : ℕ → In 3 keep-kinds.ps
-keep-below t = and 3 keep-kinds.ps (falls 3 keep-kinds.ps _<_ μ-keep t) keep.Pre
-
-abbrev modal-at : ℕ → In 3 modal-kinds.ps
-modal-at t = and 3 modal-kinds.ps (is 3 modal-kinds.ps μ-modal t) modal.Pre
-
-abbrev modal-below : ℕ → In 3 modal-kinds.ps
-modal-below t = and 3 modal-kinds.ps (falls 3 modal-kinds.ps _<_ μ-modal t) modal.Pre
-
-abbrev negate-at : ℕ → In 3 negate-kinds.ps
-negate-at t = and 3 negate-kinds.ps (is 3 negate-kinds.ps μ-negate t) negate.Pre
-
-abbrev negate-below : ℕ → In 3 negate-kinds.ps
-negate-below t = and 3 negate-kinds.ps (falls 3 negate-kinds.ps _<_ μ-negate t) negate.Pre
-
-abbrev round-at : ℕ → In 3 round-kinds.ps
-round-at t = and 3 round-kinds.ps (is 3 round-kinds.ps μ-round t) round.Pre
-
-abbrev round-below : ℕ → In 3 round-kinds.ps
-round-below t = and 3 round-kinds.ps (falls 3 round-kinds.ps _<_ μ-round t) round.Pre
-
-abbrev until-at : ℕ → In 3 until-kinds.ps
-until-at t = and 3 until-kinds.ps (is 3 until-kinds.ps μ-until t) until.Pre
-
-abbrev until-below : ℕ → In 3 until-kinds.ps
-until-below t = and 3 until-kinds.ps (falls 3 until-kinds.ps _<_ μ-until t) until.Pre
-
 abbrev bind-Inv-loop : bind-lts.InvT-loop
 bind-Inv-loop words₀ stack₀ bytes limits here p held current₀ counted₀ words stack current counted = Looping limits words₀ words stack₀ stack bytes here p current₀ current counted
 
@@ -141,10 +93,10 @@ pub +bind+both+eval+keep+modal+negate+round+until-spec : {M : Type 1} → statem
       start-of-reads.Learnt,
       opened-reads.Asked,
       opened-reads.Learnt,
-      eval-below t,
+      below eval-kinds.ps μ-eval eval.Pre t,
       eval.Post,
     )
-    (bind-at t)
+    (at bind-kinds.ps μ-bind bind.Pre t)
     bind.Post
     bind-Inv-loop
     bind-μ-loop
@@ -168,7 +120,7 @@ pub +bind+both+eval+keep+modal+negate+round+until-spec : {M : Type 1} → statem
     (λ c. search needs)
     (λ c. rounds-out (c .before .before .before .before .before .before .before .pre .1) (c .before .before .loop .inv) (c .before .before .before .before .before .before .before .args .x) (c .before .before .before .start-of .ensures) (c .if1 .left)))
     (λ t. both-lts.spec (
-      eval-below t,
+      below eval-kinds.ps μ-eval eval.Pre t,
       eval.Post,
       join-of-reads.Asked,
       join-of-reads.Learnt,
@@ -177,7 +129,7 @@ pub +bind+both+eval+keep+modal+negate+round+until-spec : {M : Type 1} → statem
       answer-reads.Asked,
       answer-reads.Learnt,
     )
-    (both-at t)
+    (at both-kinds.ps μ-both both.Pre t)
     both.Post
     (λ c κs. (omega (arith, c .before .before .before .before .before .pre .0), first-asked (c .before .before .before .before .before .pre .1)))
     (λ c. search needs)
@@ -205,18 +157,18 @@ pub +bind+both+eval+keep+modal+negate+round+until-spec : {M : Type 1} → statem
       leaf-reads.Learnt,
       answer-reads.Asked,
       answer-reads.Learnt,
-      negate-below t,
+      below negate-kinds.ps μ-negate negate.Pre t,
       negate.Post,
-      both-below t,
+      below both-kinds.ps μ-both both.Pre t,
       both.Post,
-      until-below t,
+      below until-kinds.ps μ-until until.Pre t,
       until.Post,
-      modal-below t,
+      below modal-kinds.ps μ-modal modal.Pre t,
       modal.Post,
-      bind-below t,
+      below bind-kinds.ps μ-bind bind.Pre t,
       bind.Post,
     )
-    (eval-at t)
+    (at eval-kinds.ps μ-eval eval.Pre t)
     eval.Post
     (λ c κs. search needs)
     (λ c. search needs)
@@ -257,7 +209,7 @@ pub +bind+both+eval+keep+modal+negate+round+until-spec : {M : Type 1} → statem
     (λ c. search needs)
     (λ c. bind-answered (c .before .before .before .before .before .before .before .before .before .before .before .before .before .before .before .before .before .before .before .pre .1) (c .before .before .before .before .before .before .before .before .before .before .before .before .before .before .before .lead-at .ensures) (c .before .before .before .before .before .before .before .before .before .before .before .before .before .t .given .1) (c .before .before .before .before .before .before .before .before .t5 .given .1) (c .before .before .before .before .bind .ensures)))
     (λ t. keep-lts.spec (
-      eval-below t,
+      below eval-kinds.ps μ-eval eval.Pre t,
       eval.Post,
       onward-reads.Asked,
       onward-reads.Learnt,
@@ -268,7 +220,7 @@ pub +bind+both+eval+keep+modal+negate+round+until-spec : {M : Type 1} → statem
       answer-reads.Asked,
       answer-reads.Learnt,
     )
-    (keep-at t)
+    (at keep-kinds.ps μ-keep keep.Pre t)
     keep.Post
     (λ c κs. (omega (arith, c .before .before .before .before .before .pre .0), kept-asked (c .before .before .before .before .before .pre .1)))
     (λ c. search needs)
@@ -289,7 +241,7 @@ pub +bind+both+eval+keep+modal+negate+round+until-spec : {M : Type 1} → statem
     (λ c. (simp length-set at (c .before .before .before .before .before .before .before .before .before .before .before .before .before .further .kept .1 .0)) ∙ c .before .before .before .before .before .before .before .before .before .before .before .before .before .before .before .before .before .before .before .before .before .before .before .before .eval .kept .1 .0)
     (λ c. keep-answered (c .before .before .before .before .before .before .before .before .before .before .before .before .before .before .before .before .before .before .before .before .before .before .before .before .before .before .before .before .before .before .pre .1) (c .before .before .before .before .before .before .before .before .before .before .before .before .before .before .before .before .before .before .before .before .before .before .before .before .eval .ensures) (c .before .before .before .before .before .before .before .before .before .before .before .before .before .before .before .before .before .before .before .before .before .before .before .before .eval .kept .1 .0) (c .before .before .before .before .before .before .before .before .before .before .before .before .before .before .before .before .before .before .first .given .1) (c .before .before .before .before .before .before .before .before .before .before .before .before .before .before .before .before .onward .ensures) (c .before .before .before .before .before .before .before .before .before .before .before .before .before .further .ensures) (c .before .before .before .before .before .before .before .before .before .before .before .before .before .further .kept .1 .0) (c .before .before .before .before .before .before .before .second .given .1) (c .before .before .before .live-step .ensures) (c .answer .ensures)))
     (λ t. modal-lts.spec (
-      eval-below t,
+      below eval-kinds.ps μ-eval eval.Pre t,
       eval.Post,
       root-arrow-reads.Asked,
       root-arrow-reads.Learnt,
@@ -298,7 +250,7 @@ pub +bind+both+eval+keep+modal+negate+round+until-spec : {M : Type 1} → statem
       answer-reads.Asked,
       answer-reads.Learnt,
     )
-    (modal-at t)
+    (at modal-kinds.ps μ-modal modal.Pre t)
     modal.Post
     (λ c κs. (omega (arith, c .before .before .before .before .before .pre .0), part-asked (c .before .before .before .before .before .pre .1)))
     (λ c. search needs)
@@ -315,14 +267,14 @@ pub +bind+both+eval+keep+modal+negate+round+until-spec : {M : Type 1} → statem
     (λ c. search needs)
     (λ c. over-answered (c .before .before .before .before .before .before .before .before .before .before .before .before .before .before .before .before .before .before .before .before .before .pre .1) (c .before .before .before .before .before .before .before .before .before .before .before .before .before .before .before .eval .ensures) (c .before .before .before .before .before .before .before .before .before .before .before .before .before .before .before .eval .kept .1 .0) (c .before .before .before .before .before .before .before .before .before .part .given .1) (c .before .before .before .before .before .before .root-arrow .result) (c .before .before .before .before .before .before .root-arrow .ensures) (c .before .before .before .over .result) (c .before .before .before .before .before .before .before .before .before .before .before .before .before .before .before .before .before .before .before .before .before .args .m) (c .before .before .before .over .ensures) (c .answer .ensures)))
     (λ t. negate-lts.spec (
-      eval-below t,
+      below eval-kinds.ps μ-eval eval.Pre t,
       eval.Post,
       live-step-reads.Asked,
       live-step-reads.Learnt,
       answer-reads.Asked,
       answer-reads.Learnt,
     )
-    (negate-at t)
+    (at negate-kinds.ps μ-negate negate.Pre t)
     negate.Post
     (λ c κs. (omega (arith, c .before .before .before .before .before .pre .0), c .before .before .before .before .before .pre .1))
     (λ c. search needs)
@@ -335,18 +287,18 @@ pub +bind+both+eval+keep+modal+negate+round+until-spec : {M : Type 1} → statem
     (λ c. search needs)
     (λ c. negate-answered (c .before .before .before .before .before .before .before .before .before .before .before .before .before .eval .ensures) (c .before .before .before .before .before .before .before .before .before .before .before .before .before .eval .kept .1 .0) (c .before .before .before .before .before .before .before .part .given .1) (c .before .before .before .live-step .ensures) (c .answer .ensures)))
     (λ t. round-lts.spec (
-      eval-below t,
+      below eval-kinds.ps μ-eval eval.Pre t,
       eval.Post,
       onward-reads.Asked,
       onward-reads.Learnt,
-      keep-below t,
+      below keep-kinds.ps μ-keep keep.Pre t,
       keep.Post,
       live-step-reads.Asked,
       live-step-reads.Learnt,
       answer-reads.Asked,
       answer-reads.Learnt,
     )
-    (round-at t)
+    (at round-kinds.ps μ-round round.Pre t)
     round.Post
     (λ c κs. (omega (arith, c .before .before .before .before .before .pre .0), goal-asked (c .before .before .before .before .before .pre .1)))
     (λ c. search needs)
@@ -371,10 +323,10 @@ pub +bind+both+eval+keep+modal+negate+round+until-spec : {M : Type 1} → statem
       syntax-reads.Learnt,
       onward-reads.Asked,
       onward-reads.Learnt,
-      round-below t,
+      below round-kinds.ps μ-round round.Pre t,
       round.Post,
     )
-    (until-at t)
+    (at until-kinds.ps μ-until until.Pre t)
     until.Post
     until-Inv-loop
     until-μ-loop

@@ -1,15 +1,15 @@
 -- The cycle of the evaluator: each answer is a law of `Cycle`; the depth falls. Assumes nothing.
+use Rattle.evaluator.proofs.Falls.{at, below}
 use borrow.Author.Needs.{needs}
 use native.Mathlib.Omega.{arith}
-use Prim.Native.Nat.{_*_, _+_, ℕ, _<_}
+use Prim.Native.Nat.{_*_, _+_, ℕ}
 use lib.ListN.{length-set}
 use mathlib.Core.Path.{sym, ap, _∙_}
 use mathlib.Core.Bool.{true≢false}
 use Rattle.tokens.specs.declared.Token.the-variants.{Both}
 use Rattle.evaluator.proofs.Tokens.{read-depth, read-token, read-inside, read-allowed}
 use Rattle.pairs.proofs.Cycle.{leaf-asked, leaf-answered, not-asked, not-answered, both-asked, both-answered, negate-halts, step-asked, negate-answered, first-asked, first-halts, second-asked, second-halts, join-asked, join-answered}
-use borrow.Fn.Kinds.{In}
-use borrow.Fn.PlainCycle.{Measures, is, falls, and}
+use borrow.Fn.PlainCycle.{Measures}
 use Rattle.pairs.proofs.+both+negate+relate.{statement}
 use Rattle.pairs.proofs.+both+negate+relate.Tie.{close}
 use Rattle.pairs.proofs.both.Reads as both
@@ -36,27 +36,9 @@ abbrev μ-negate : Measures 3 negate-kinds.ps ℕ
 abbrev μ-relate : Measures 3 relate-kinds.ps ℕ
 μ-relate κs a = 2 * a .1 .1 .1 .1 .1 .0
 
-abbrev both-at : ℕ → In 3 both-kinds.ps
-both-at t = and 3 both-kinds.ps (is 3 both-kinds.ps μ-both t) both.Pre
-
-abbrev both-below : ℕ → In 3 both-kinds.ps
-both-below t = and 3 both-kinds.ps (falls 3 both-kinds.ps _<_ μ-both t) both.Pre
-
-abbrev negate-at : ℕ → In 3 negate-kinds.ps
-negate-at t = and 3 negate-kinds.ps (is 3 negate-kinds.ps μ-negate t) negate.Pre
-
-abbrev negate-below : ℕ → In 3 negate-kinds.ps
-negate-below t = and 3 negate-kinds.ps (falls 3 negate-kinds.ps _<_ μ-negate t) negate.Pre
-
-abbrev relate-at : ℕ → In 3 relate-kinds.ps
-relate-at t = and 3 relate-kinds.ps (is 3 relate-kinds.ps μ-relate t) relate.Pre
-
-abbrev relate-below : ℕ → In 3 relate-kinds.ps
-relate-below t = and 3 relate-kinds.ps (falls 3 relate-kinds.ps _<_ μ-relate t) relate.Pre
-
 pub +both+negate+relate-spec : {M : Type 1} → statement M
 +both+negate+relate-spec = close μ-both μ-negate μ-relate (λ t. both-lts.spec (
-  relate-below t,
+  below relate-kinds.ps μ-relate relate.Pre t,
   relate.Post,
   join-of-reads.Asked,
   join-of-reads.Learnt,
@@ -65,7 +47,7 @@ pub +both+negate+relate-spec : {M : Type 1} → statement M
   answer-reads.Asked,
   answer-reads.Learnt,
 )
-    (both-at t)
+    (at both-kinds.ps μ-both both.Pre t)
     both.Post
     (λ c κs. (omega (arith, c .before .before .before .before .before .pre .0), first-asked (c .before .before .before .before .before .pre .1)))
     (λ c. search needs)
@@ -89,14 +71,14 @@ pub +both+negate+relate-spec : {M : Type 1} → statement M
     (λ c. (simp length-set at (c .before .before .before .before .before .before .before .before .before .before .before .before .before .before .relate2 .kept .1 .0)) ∙ c .before .before .before .before .before .before .before .before .before .before .before .before .before .before .before .before .before .before .before .before .before .before .before .before .relate .kept .1 .0)
     (λ c. join-answered (c .before .before .before .before .before .before .before .before .before .before .before .before .before .before .before .before .before .before .before .before .before .before .before .before .before .before .before .before .before .before .pre .1) (c .before .before .before .before .before .before .before .before .before .before .before .before .before .before .before .before .before .before .before .before .before .before .before .before .relate .ensures) (c .before .before .before .before .before .before .before .before .before .before .before .before .before .before .before .before .before .before .before .before .before .before .before .before .relate .kept .1 .0) (c .before .before .before .before .before .before .before .before .before .before .before .before .before .before .before .before .before .before .a .given .1) (c .before .before .before .before .before .before .before .before .before .before .before .before .before .before .relate2 .ensures) (c .before .before .before .before .before .before .before .before .before .before .before .before .before .before .relate2 .kept .1 .0) (c .before .before .before .before .before .before .before .before .b .given .1) (c .before .before .before .before .before .before .before .before .before .before .before .before .before .before .before .before .before .before .before .before .before .before .before .before .before .before .before .before .before .before .args .j) (c .before .before .before .before .join-of .ensures) (c .before .before .before .live-step .ensures) (c .answer .ensures)))
     (λ t. negate-lts.spec (
-      relate-below t,
+      below relate-kinds.ps μ-relate relate.Pre t,
       relate.Post,
       live-step-reads.Asked,
       live-step-reads.Learnt,
       answer-reads.Asked,
       answer-reads.Learnt,
     )
-    (negate-at t)
+    (at negate-kinds.ps μ-negate negate.Pre t)
     negate.Post
     (λ c κs. (omega (arith, c .before .before .before .before .before .pre .0), c .before .before .before .before .before .pre .1))
     (λ c. search needs)
@@ -116,12 +98,12 @@ pub +both+negate+relate-spec : {M : Type 1} → statement M
       leaf-reads.Learnt,
       answer-reads.Asked,
       answer-reads.Learnt,
-      negate-below t,
+      below negate-kinds.ps μ-negate negate.Pre t,
       negate.Post,
-      both-below t,
+      below both-kinds.ps μ-both both.Pre t,
       both.Post,
     )
-    (relate-at t)
+    (at relate-kinds.ps μ-relate relate.Pre t)
     relate.Post
     (λ c κs. search needs)
     (λ c. search needs)
