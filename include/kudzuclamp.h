@@ -56,8 +56,8 @@ enum kudzuclamp_number {
 };
 
 /*
- * FORMULA BYTES. Two length bytes L, big-endian, from 2 to 1,024; then L bytes: version 1, then one formula in prefix order, which fills them. A
- * formula is at most 64 deep.
+ * FORMULA BYTES. Two length bytes L, big-endian, from 2 to 1,024; then L bytes: the version, then one formula in prefix order, which fills
+ * them. A formula is at most 64 deep. Set calls take version 1 and version 2, which has two words more; relation calls take version 1.
  *
  *   00, 01          false, true
  *   02 f            NOT
@@ -70,6 +70,8 @@ enum kudzuclamp_number {
  *   68 + t f        diamond: f in some next state of relation t
  *   70 + P f        mu P: the least set A with f(A) = A
  *   80 + P f        nu P: the greatest such set
+ *   90 + t f g      version 2: on some run of relation t, f until g
+ *   98 + t f g      version 2: on every run of relation t, f until g
  *
  * The numbers before + are hexadecimal. Relation calls take 00 to 04, current bits and next bits only. Each variable is read below an even number
  * of NOTs, counted from its binder.

@@ -7,7 +7,7 @@ use lib.Dec.{T}
 use Rattle.mucalculus.specs.Sets.{all, all-out}
 use Rattle.book.specs.Book.{fresh, relation, set, clear, collect, member, count, tally, refused, answered}
 use Rattle.book.specs.Compute.{computing}
-use Rattle.book.specs.Listed.{frame, Line, did, told, holds, made, Gives, gives, testing, given}
+use Rattle.book.specs.Listed.{frame, frame2, Line, did, told, holds, made, Gives, gives, testing, given}
 
 -- a case: n and N of fresh, and the lines that are due
 pub record Case : Type 0 where
@@ -80,6 +80,17 @@ cases =
     }
     ∷ []
 
+-- "Until": true until bit 0, on some and on every run, over the relation that leads from each state to the other: every state, the written
+-- formula's 3 rounds, of which R = 2 is too few; version 1 has no such word; over the empty relation false is never reached
+abbrev pub untils : List Case
+untils =
+    record { n = 1; N = 100; lines = loaded flip ∷ did (set 0 100 (frame2 (0x90 ∷ 0x01 ∷ 0x10 ∷ []))) (made 3 (some 1)) ∷ holds 0 (some everybody) ∷ [] }
+    ∷ record { n = 1; N = 100; lines = loaded flip ∷ did (set 0 100 (frame2 (0x98 ∷ 0x01 ∷ 0x10 ∷ []))) (made 3 (some 1)) ∷ holds 0 (some everybody) ∷ [] }
+    ∷ record { n = 1; N = 100; lines = loaded flip ∷ did (set 0 2 (frame2 (0x98 ∷ 0x01 ∷ 0x10 ∷ []))) (refused 9) ∷ holds 0 none ∷ [] }
+    ∷ record { n = 1; N = 100; lines = loaded flip ∷ did (set 0 100 (frame (0x90 ∷ 0x01 ∷ 0x10 ∷ []))) (refused 4) ∷ holds 0 none ∷ [] }
+    ∷ record { n = 1; N = 100; lines = loaded (0x00 ∷ []) ∷ did (set 0 100 (frame2 (0x98 ∷ 0x01 ∷ 0x00 ∷ []))) (made 1 (some 0)) ∷ holds 0 (some nobody) ∷ [] }
+    ∷ []
+
 -- a case comes out as it should
 right : Case → Bool
 right c = gives (fresh (c .n) (c .N)) (c .lines)
@@ -87,6 +98,15 @@ right c = gives (fresh (c .n) (c .N)) (c .lines)
 all-right : T (all right cases)
 unfolding right testing computing
 all-right = tt
+
+untils-right : T (all right untils)
+unfolding right testing computing
+untils-right = tt
+
+-- until, the same
+pub until-bench : (c : Case) → List·Memᴰ c untils → Gives (fresh (c .n) (c .N)) (c .lines)
+unfolding right
+until-bench c i = given (fresh (c .n) (c .N)) (c .lines) (all-out right i untils-right)
 
 -- THE STARRED CASES: every line of every case is the book's
 pub bench : (c : Case) → List·Memᴰ c cases → Gives (fresh (c .n) (c .N)) (c .lines)

@@ -3,7 +3,7 @@
 use crate::writer::{self, Plan};
 use reference::book::{Book, Call, MAX_ROWS, REGISTERS, RELATIONS};
 use reference::evaluate::{self, Limits};
-use reference::formula::{self, frame, Formula, Kind};
+use reference::formula::{self, frame_as, Formula, Kind};
 use reference::random::Random;
 
 /// A call for a book, which is asked what is filled and how many rounds a set takes; and the
@@ -179,9 +179,12 @@ fn special(random: &mut Random, book: &Book, kind: Kind) -> Vec<u8> {
 
 /// The framed bytes, now and then spoilt.
 fn framed(random: &mut Random, mut body: Vec<u8>) -> Vec<u8> {
+    // Until is a word of version 2.
+    let until = body.iter().any(|token| (0x90..=0x9F).contains(token));
+    let version = if until && random.chance(97) { 2 } else { 1 };
     let fault = match random.chance(4) {
         true => random.below(8),
-        false => return frame(&body),
+        false => return frame_as(version, &body),
     };
     let at = random.below(body.len() as u64) as usize;
     match fault {
@@ -191,7 +194,7 @@ fn framed(random: &mut Random, mut body: Vec<u8>) -> Vec<u8> {
         3 => body.truncate(at),
         _ => {}
     }
-    let mut bytes = frame(&body);
+    let mut bytes = frame_as(version, &body);
     match fault {
         4 => bytes.push(0x00),
         5 => bytes[2] = random.pick(&[0, 2, 255]),

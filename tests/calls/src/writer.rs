@@ -73,8 +73,18 @@ impl Writer<'_> {
     }
 
     fn binary(&mut self, size: u64) {
-        let operator = self.random.pick(&[0x03, 0x04]);
+        let operator = match self.binders > 0 && self.may_be_modal() && self.random.chance(25) {
+            true => self.until_word(),
+            false => self.random.pick(&[0x03, 0x04]),
+        };
         self.operator(operator, size);
+    }
+
+    /// Slip 1: until on some or on every run; it has rounds as a binder has.
+    fn until_word(&mut self) -> u8 {
+        self.binders -= 1;
+        let base = self.random.pick(&[0x90, 0x98]);
+        base + self.relation()
     }
 
     fn operator(&mut self, operator: u8, size: u64) {
@@ -85,13 +95,18 @@ impl Writer<'_> {
     }
 
     fn modal_word(&mut self) {
-        let wrong = self.plan.slip && self.random.chance(10);
-        let t = match wrong || self.plan.relations.is_empty() {
-            true => self.random.below(8) as u8,
-            false => self.random.pick(&self.plan.relations),
-        };
+        let t = self.relation();
         let base = self.random.pick(&[0x60, 0x68]);
         self.bytes.push(base + t);
+    }
+
+    /// A filled relation, unless in a slip.
+    fn relation(&mut self) -> u8 {
+        let wrong = self.plan.slip && self.random.chance(10);
+        match wrong || self.plan.relations.is_empty() {
+            true => self.random.below(8) as u8,
+            false => self.random.pick(&self.plan.relations),
+        }
     }
 
     /// Mu mostly over an OR and nu over an AND, since others soon end at a constant.

@@ -131,6 +131,9 @@ impl Value {
     }
 }
 
+/// "X a variable of its own": no byte names it.
+const OWN: u8 = 16;
+
 struct Evaluator<'a> {
     held: Held<'a>,
     limits: Limits,
@@ -186,6 +189,7 @@ impl<'a> Evaluator<'a> {
             Formula::Or(f, g) => self.binary(f, g, Value::or),
             Formula::Modal(modality, t, f) => self.modal(*modality, *t, f),
             Formula::Binder(fixpoint, p, body) => self.binder(*fixpoint, *p, body),
+            Formula::Until(modality, t, f, g) => self.until(*modality, *t, f, g),
         }
     }
 
@@ -283,6 +287,62 @@ impl<'a> Evaluator<'a> {
         let value = self.value(body)?;
         self.open.pop();
         Ok(value.into_states())
+    }
+
+    /// Slip 1: "mu X (g or (f and diamond X))", "mu X (g or (f and (box X and
+    /// diamond true)))".
+    fn until(
+        &mut self,
+        modality: Modality,
+        t: usize,
+        f: &Formula,
+        g: &Formula,
+    ) -> Result<Value, Refusal> {
+        let mut current = StateSet::constant(self.held.n, false);
+        loop {
+            if self.rounds == self.limits.rounds {
+                return Err(Refusal::RoundsUsedUp);
+            }
+            self.rounds += 1;
+            self.open.push((OWN, current.clone()));
+            let value = self.until_body(modality, t, f, g, &current)?.into_states();
+            self.open.pop();
+            if value == current {
+                return Ok(Value::States(value));
+            }
+            current = value;
+        }
+    }
+
+    fn until_body(
+        &mut self,
+        modality: Modality,
+        t: usize,
+        f: &Formula,
+        g: &Formula,
+        current: &StateSet,
+    ) -> Result<Value, Refusal> {
+        let goal = self.value(g)?;
+        self.waiting.push(goal);
+        let keep = self.value(f)?;
+        self.waiting.push(keep);
+        let x = Value::States(current.clone());
+        let on = match modality {
+            Modality::Diamond => self.diamond(t, x)?,
+            Modality::Box => {
+                let negated = self.not(x)?;
+                let escape = self.diamond(t, negated)?;
+                let all = self.not(escape)?;
+                self.waiting.push(all);
+                let some = self.diamond(t, self.constant(true))?;
+                let all = self.waiting.pop().expect("pushed above");
+                self.step(&[&all, &some], all.and(&some))?
+            }
+        };
+        let keep = self.waiting.pop().expect("pushed above");
+        let kept = self.step(&[&keep, &on], keep.and(&on))?;
+        let goal = self.waiting.pop().expect("pushed above");
+        self.step(&[&goal, &kept], goal.or(&kept))
     }
 
     /// "A step's need is the rows needed by its result and all that is live at
