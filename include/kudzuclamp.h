@@ -94,9 +94,10 @@ uint32_t kudzuclamp_fresh(uint32_t *words, size_t words_len, uint32_t n, uint32_
 uint32_t kudzuclamp_relation(uint32_t *words, size_t words_len, uint32_t t, const uint8_t *bytes, size_t bytes_len);
 
 /*
- * Register r (0 to 31) then holds exactly the states in which the formula holds. Each evaluation of a binder's body is one round, and a round
- * beyond `most` is refused; with one binder or until in the formula 2^n + 1 rounds are enough. *node is the set's node number: two registers hold the same
- * set exactly where their node numbers are equal; 0 is no state, 1 is every state. *rounds is how many rounds were made. It returns 0 or 2 to 9.
+ * Register r (0 to 31) then holds exactly the states in which the formula holds. Each evaluation of a binder's body is one round, and so is one of
+ * until's f and g; a round beyond `most` is refused. With one binder or until in the formula 2^n + 1 rounds are enough. *node is the set's node
+ * number: two registers hold the same set exactly where their node numbers are equal; 0 is no state, 1 is every state. *rounds is how many rounds
+ * were made. It returns 0 or 2 to 9.
  */
 uint32_t kudzuclamp_set(uint32_t *words, size_t words_len, uint32_t r, uint32_t most, const uint8_t *bytes, size_t bytes_len, uint32_t *node,
                         uint32_t *rounds);
