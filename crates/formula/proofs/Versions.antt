@@ -1,15 +1,19 @@
--- Version 2 reads every formula of version 1 as version 1 does; and the 16 variables of the bytes are below 16. Assumes nothing.
+-- Version 2 reads every formula of version 1 as version 1 does; relation calls refuse it; and the 16 variables of the bytes are below 16. Assumes nothing.
 use mathlib.Core.Path.{_≡_, refl, sym, ap, _∙_, subst}
-use mathlib.Core.Bool.{Bool, true, false, not, _&&_}
+use mathlib.Core.Bool.{Bool, true, false, not, _&&_, cond}
 use mathlib.Core.List.{List}
 use Prim.Native.Nat.{ℕ, suc, _+_, _<_}
 use native.Mathlib.Omega.{arith}
 use lib.Dec.{T, ltb, eqb, eqb→eq, not-T}
+use lib.ListN.{getD}
 use borrow.Author.Tests.{ltb-true}
 use Rattle.mucalculus.specs.Sets.{and-in}
 use Rattle.mucalculus.specs.Form.{Form, bot, top, neg, conj, disj, now, next, var, reg, box, dia, mu, nu, until}
 use Rattle.mucalculus.specs.Written.{absent}
-use Rattle.tokens.specs.Tokens.{allowed, leadAt}
+use Rattle.tokens.specs.Tokens.{grammarOf, allowed, leadAt}
+use Rattle.tokens.specs.declared.Kind.the-variants.{Relation}
+use Rattle.tokens.specs.declared.Reading.{Reading}
+use Rattle.tokens.specs.declared.Reading.the-variants.{Unknown}
 use Rattle.tokens.specs.declared.Grammar.{Grammar}
 use Rattle.tokens.specs.declared.Grammar.the-variants.{States, Runs}
 use Rattle.tokens.specs.declared.Leaf.the-variants.{False, True, Now, Next, Var, Reg}
@@ -21,7 +25,8 @@ use Rattle.tokens.specs.declared.Lead.{Lead}
 use Rattle.tokens.specs.declared.Lead.the-variants.{Is}
 use Rattle.tokens.proofs.Table.{both-true}
 use Rattle.tokens.proofs.Leads.{lead-is, lead-read}
-use Rattle.formula.specs.Parse.{twoForm, got, one, two, grown, parse}
+use Rattle.formula.specs.Parse.{twoForm, got, one, two, grown, parse, framed, formulaBy, formulaOf}
+use Rattle.formula.specs.Checks.{refusalOf, firstRefusal}
 use Rattle.formula.specs.Bytes.{takes}
 use Rattle.formula.proofs.Steps.{grown-unary}
 use Rattle.formula.proofs.Readings.{Reads, leaf, part, parts, parse-reads}
@@ -56,6 +61,15 @@ module _ (n : ℕ) (bs : List ℕ) where
   -- what version 1 reads, version 2 reads
   pub parse-runs : (d at : ℕ) {f : Form} {e : ℕ} → parse n States d bs at ≡ got f e → parse n Runs d bs at ≡ got f e
   parse-runs d at {f} {e} h = reads-runs (parse-reads n States bs d at f e h)
+
+-- "Version 2 formulas, for set calls": a relation call refuses version 2 with 4
+pub relation-refused : (n : ℕ) (regs rels : ℕ → Bool) (bs : List ℕ) → getD bs 2 0 ≡ 2 → firstRefusal Relation n regs rels bs ≡ 4
+unfolding firstRefusal formulaOf
+relation-refused n regs rels bs two = ap (λ (r : Reading). refusalOf regs rels (formulaBy n bs r)) (go (framed bs))
+  where
+    go : (c : Bool) → cond c (grammarOf Relation (getD bs 2 0)) Unknown ≡ Unknown
+    go true = ap (grammarOf Relation) two
+    go false = refl
 
 -- ---- variables
 

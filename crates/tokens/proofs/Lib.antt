@@ -2,3 +2,4 @@
 pub mod Table
 pub mod Leads
 pub mod Bytes
+pub mod Versions

@@ -1,7 +1,7 @@
 -- The bytes of a formula and what each means, and which tokens a call takes. Definitions alone.
 use Prim.Native.Nat.{ℕ, _-_}
 use mathlib.Core.Bool.{Bool, true, false, _&&_, cond}
-use mathlib.Core.List.{List, [], _∷_}
+use mathlib.Core.List.{List, [], _∷_, _++_}
 use lib.Dec.{ltb, leb, eqb}
 use lib.ListN.{length, getD}
 use Rattle.tokens.specs.declared.Kind.{Kind}
@@ -31,9 +31,9 @@ pub record Line : Type 0 where
 abbrev pub line : ℕ → ℕ → (ℕ → Token) → Line
 line a b t = record { first = a; last = b; token = t }
 
--- document 01's table "Byte, Meaning", and the words that version 2 adds
-abbrev pub table : List Line
-table =
+-- document 01's table "Byte, Meaning": the words of version 1
+abbrev pub firstWords : List Line
+firstWords =
     line 0x00 0x00 (λ k. LeafToken False)
     ∷ line 0x01 0x01 (λ k. LeafToken True)
     ∷ line 0x02 0x02 (λ k. Not)
@@ -47,9 +47,17 @@ table =
     ∷ line 0x68 0x6F (λ t. Modal Some t)
     ∷ line 0x70 0x7F (λ P. Binder Mu P)
     ∷ line 0x80 0x8F (λ P. Binder Nu P)
-    ∷ line 0x90 0x97 (λ t. Both (Until Some t))
+    ∷ []
+
+-- "Version 2 formulas … add 90–97 f g (some run of relation t) and 98–9F f g (every run)"
+abbrev pub addedWords : List Line
+addedWords =
+    line 0x90 0x97 (λ t. Both (Until Some t))
     ∷ line 0x98 0x9F (λ t. Both (Until All t))
     ∷ []
+
+abbrev pub table : List Line
+table = firstWords ++ addedWords
 
 -- the token of a byte by the first line that has it
 unfoldable pub lookup : List Line → ℕ → Lead
@@ -82,7 +90,7 @@ isStates Pairs = false
 isStates States = true
 isStates Runs = true
 
--- formulas speak of runs: "Version 2 formulas … add 90–97 f g and 98–9F f g"; "Version 1 keeps its words"
+-- formulas speak of runs
 abbrev pub hasRuns : Grammar → Bool
 hasRuns Pairs = false
 hasRuns States = false
