@@ -16,6 +16,9 @@ mod token {
     pub const DIAMOND: u8 = 0x68;
     pub const MU: u8 = 0x70;
     pub const NU: u8 = 0x80;
+    /// Version 2.
+    pub const SOME_RUN: u8 = 0x90;
+    pub const EVERY_RUN: u8 = 0x98;
     /// No token of the table: every call refuses it with 4.
     pub const NONE: u8 = 0xFF;
 }
@@ -29,9 +32,11 @@ const RELATIONS: u8 = 8;
 /// Bytes before the formula: two of length and the version.
 const FRAME: usize = 3;
 const VERSION: u8 = 1;
+/// The version of formulas that speak of runs. Only set calls take it.
+const RUNS_VERSION: u8 = 2;
 
-/// A formula, kept as the framed bytes that a call takes: two length bytes, version 1 and the
-/// formula in prefix order.
+/// A formula, kept as the framed bytes that a call takes: two length bytes, the version and the
+/// formula in prefix order. The version is 1, or 2 where the formula speaks of runs.
 ///
 /// `!`, `&` and `|` are NOT, AND and OR. A bit, variable, register or relation number that has no
 /// byte gives a formula that every call refuses with [`Refusal::Syntax`](crate::Refusal::Syntax),
@@ -101,6 +106,58 @@ impl Formula {
         Formula::operator(numbered(token::NU, VARIABLES, p), &[f])
     }
 
+    /// Some run of relation t, from 0 to 7, comes to a state of g, and f holds in every state
+    /// before. A run goes on from next state to next state, for 2^n steps or to a state that has
+    /// none. The formula's version is 2, and only set calls take it.
+    ///
+    /// ```
+    /// use kudzuclamp::{Formula, Refusal, Table};
+    ///
+    /// # fn main() -> Result<(), Refusal> {
+    /// // Presses can keep bit 1 set until bit 0 is set.
+    /// let until = Formula::until_some(0, Formula::current(1), Formula::current(0));
+    /// assert_eq!(until.as_bytes(), [0x00, 0x04, 0x02, 0x90, 0x11, 0x10]);
+    ///
+    /// // A press may lead from any state to any: from 1 and 3 at once, from 2 by one press.
+    /// let mut room = Table::new(2, 100)?;
+    /// room.relation(0, Formula::always())?;
+    /// room.set(0, 5, until.clone())?;
+    /// assert_eq!((room.count(0)?, room.member(0, 2)?), (3, true));
+    /// // Relation calls refuse version 2.
+    /// assert_eq!(room.relation(1, until), Err(Refusal::Syntax));
+    /// # Ok(())
+    /// # }
+    /// ```
+    pub fn until_some(t: u8, f: Formula, g: Formula) -> Formula {
+        Formula::operator(numbered(token::SOME_RUN, RELATIONS, t), &[f, g])
+    }
+
+    /// Every run of relation t, from 0 to 7, comes to a state of g, and f holds in every state
+    /// before: as [`until_some`](Formula::until_some), but of every run. A run that ends before it
+    /// comes to g, or never comes there, does not do.
+    ///
+    /// ```
+    /// use kudzuclamp::{Formula, Refusal, Table};
+    ///
+    /// # fn main() -> Result<(), Refusal> {
+    /// // Bit 0 is "microphone open", bit 1 is "song runs". The one press starts the song, which
+    /// // opens the microphone; a running song runs on for good.
+    /// let (open, song) = (Formula::current(0), Formula::current(1));
+    /// let mut room = Table::new(2, 100)?;
+    /// room.relation(0, Formula::next(0) & Formula::next(1))?;
+    ///
+    /// // The microphone stays closed until the song starts.
+    /// let until = Formula::until_every(0, !open, song);
+    /// assert_eq!(until.as_bytes(), [0x00, 0x05, 0x02, 0x98, 0x02, 0x10, 0x11]);
+    /// room.set(0, 5, until)?;
+    /// assert!(room.member(0, 0)? && !room.member(0, 1)?);
+    /// # Ok(())
+    /// # }
+    /// ```
+    pub fn until_every(t: u8, f: Formula, g: Formula) -> Formula {
+        Formula::operator(numbered(token::EVERY_RUN, RELATIONS, t), &[f, g])
+    }
+
     /// The framed bytes.
     pub fn as_bytes(&self) -> &[u8] {
         &self.framed
@@ -109,6 +166,10 @@ impl Formula {
     /// The formula's own bytes, without length and version.
     fn tokens(&self) -> &[u8] {
         &self.framed[FRAME..]
+    }
+
+    fn version(&self) -> u8 {
+        self.framed[FRAME - 1]
     }
 
     fn leaf(token: u8) -> Formula {
@@ -120,7 +181,7 @@ impl Formula {
         let size = 1 + parts.iter().map(|part| part.tokens().len()).sum::<usize>();
         let mut framed = Vec::with_capacity(FRAME + size);
         framed.extend(length_bytes(1 + size));
-        framed.push(VERSION);
+        framed.push((parts.iter().map(Formula::version)).fold(version_of(token), u8::max));
         framed.push(token);
         for part in parts {
             framed.extend_from_slice(part.tokens());
@@ -135,6 +196,15 @@ fn numbered(first: u8, count: u8, k: u8) -> u8 {
         first + k
     } else {
         token::NONE
+    }
+}
+
+/// The least version that has the token.
+fn version_of(token: u8) -> u8 {
+    if (token::SOME_RUN..token::EVERY_RUN + RELATIONS).contains(&token) {
+        RUNS_VERSION
+    } else {
+        VERSION
     }
 }
 
@@ -240,6 +310,19 @@ mod tests {
         for (formula, tokens) in cases {
             assert_eq!(formula.as_bytes(), framed(&tokens));
         }
+    }
+
+    #[test]
+    fn version_2_where_a_part_speaks_of_runs() {
+        let until = Formula::until_every(7, Formula::always(), Formula::current(0));
+        assert_eq!(until.as_bytes(), [0, 4, 2, 0x9F, 0x01, 0x10]);
+        let inside = Formula::var(0) & !until;
+        assert_eq!(
+            inside.as_bytes(),
+            [0, 7, 2, 0x03, 0x30, 0x02, 0x9F, 0x01, 0x10]
+        );
+        let none = Formula::until_some(8, Formula::always(), Formula::always());
+        assert_eq!(none.as_bytes(), [0, 4, 1, 0xFF, 0x01, 0x01]);
     }
 
     #[test]

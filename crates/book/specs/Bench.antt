@@ -7,7 +7,7 @@ use lib.Dec.{T}
 use Rattle.mucalculus.specs.Sets.{all, all-out}
 use Rattle.book.specs.Book.{fresh, relation, set, clear, collect, member, count, tally, refused, answered}
 use Rattle.book.specs.Compute.{computing}
-use Rattle.book.specs.Listed.{frame, Line, did, told, holds, made, Gives, gives, testing, given}
+use Rattle.book.specs.Listed.{frame, frame2, Line, did, told, holds, made, Gives, gives, testing, given}
 
 -- a case: n and N of fresh, and the lines that are due
 pub record Case : Type 0 where
@@ -80,6 +80,55 @@ cases =
     }
     ∷ []
 
+-- a set of register 0 by a formula of version 2, on a table of n = 1 with relation 0 loaded: its rounds, node and set, or its refusal
+abbrev until : List ℕ → ℕ → List ℕ → ℕ → ℕ → List Bool → Case
+until rel R f q a A = record { n = 1; N = 100; lines = loaded rel ∷ did (set 0 R (frame2 f)) (made q (some a)) ∷ holds 0 (some A) ∷ [] }
+
+abbrev noUntil : List ℕ → ℕ → List ℕ → ℕ → Case
+noUntil rel R f k = record { n = 1; N = 100; lines = loaded rel ∷ did (set 0 R (frame2 f)) (refused k) ∷ holds 0 none ∷ [] }
+
+-- "Until". Where each state leads to the other: true until bit 0, on some and on every run, is every state, by the written formula's 3 rounds, of
+-- which R = 2 is too few. Over the empty relation false is never reached. Version 1 has no such word, a relation call has no version 2, and
+-- check 7 names the relation
+abbrev pub untils : List Case
+untils =
+    until flip 100 (0x90 ∷ 0x01 ∷ 0x10 ∷ []) 3 1 everybody
+    ∷ until flip 100 (0x98 ∷ 0x01 ∷ 0x10 ∷ []) 3 1 everybody
+    ∷ noUntil flip 2 (0x98 ∷ 0x01 ∷ 0x10 ∷ []) 9
+    ∷ until (0x00 ∷ []) 100 (0x98 ∷ 0x01 ∷ 0x00 ∷ []) 1 0 nobody
+    ∷ record {
+      n = 1;
+      N = 100;
+      lines =
+          did (set 0 100 (frame (0x90 ∷ 0x01 ∷ 0x10 ∷ []))) (refused 4)
+          ∷ did (relation 0 (frame2 (0x01 ∷ []))) (refused 4)
+          ∷ did (set 0 100 (frame2 (0x91 ∷ 0x01 ∷ 0x10 ∷ []))) (refused 7)
+          ∷ did (set 0 100 (frame2 (0x01 ∷ []))) (made 0 (some 1)) ∷ [];
+    }
+    ∷ []
+
+-- a nu as f has its round in each of until's two rounds: 4 rounds
+abbrev pub nested : Case
+nested = record {
+  n = 1;
+  N = 100;
+  lines =
+      did (relation 3 (frame (0x00 ∷ []))) (answered (some 0))
+      ∷ did (set 0 4 (frame2 (0x93 ∷ 0x80 ∷ 0x30 ∷ 0x10 ∷ []))) (made 4 none)
+      ∷ holds 0 (some (false ∷ true ∷ [])) ∷ [];
+}
+
+-- n = 2, each state leads to state 3: bit 1 until state 3
+abbrev pub wider : Case
+wider = record {
+  n = 2;
+  N = 100;
+  lines =
+      loaded (0x03 ∷ 0x20 ∷ 0x21 ∷ [])
+      ∷ did (set 0 100 (frame2 (0x90 ∷ 0x11 ∷ 0x03 ∷ 0x10 ∷ 0x11 ∷ []))) (made 3 none)
+      ∷ holds 0 (some (false ∷ false ∷ true ∷ true ∷ [])) ∷ [];
+}
+
 -- a case comes out as it should
 right : Case → Bool
 right c = gives (fresh (c .n) (c .N)) (c .lines)
@@ -87,6 +136,31 @@ right c = gives (fresh (c .n) (c .N)) (c .lines)
 all-right : T (all right cases)
 unfolding right testing computing
 all-right = tt
+
+untils-right : T (all right untils)
+unfolding right testing computing
+untils-right = tt
+
+nested-right : T (right nested)
+unfolding right testing computing
+nested-right = tt
+
+wider-right : T (right wider)
+unfolding right testing computing
+wider-right = tt
+
+-- until, the same
+pub nested-bench : Gives (fresh (nested .n) (nested .N)) (nested .lines)
+unfolding right
+nested-bench = given (fresh (nested .n) (nested .N)) (nested .lines) nested-right
+
+pub wider-bench : Gives (fresh (wider .n) (wider .N)) (wider .lines)
+unfolding right
+wider-bench = given (fresh (wider .n) (wider .N)) (wider .lines) wider-right
+
+pub until-bench : (c : Case) → List·Memᴰ c untils → Gives (fresh (c .n) (c .N)) (c .lines)
+unfolding right
+until-bench c i = given (fresh (c .n) (c .N)) (c .lines) (all-out right i untils-right)
 
 -- THE STARRED CASES: every line of every case is the book's
 pub bench : (c : Case) → List·Memᴰ c cases → Gives (fresh (c .n) (c .N)) (c .lines)

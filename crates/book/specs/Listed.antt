@@ -12,9 +12,17 @@ use Rattle.mucalculus.specs.Form.{Pairs}
 use Rattle.book.specs.Book.{Book, Call, Question, Answer, Done, does, answer}
 use Rattle.book.specs.ByRun.{doesByRun, does-by-run}
 
--- a formula's bytes in their frame: two length bytes, version 1
+-- a formula's bytes in their frame: two length bytes, the version
+abbrev pub framed : ℕ → List ℕ → List ℕ
+framed version bs = let L = suc (length bs) in L / 256 ∷ L % 256 ∷ version ∷ bs
+
+-- version 1
 abbrev pub frame : List ℕ → List ℕ
-frame bs = let L = suc (length bs) in L / 256 ∷ L % 256 ∷ 1 ∷ bs
+frame bs = framed 1 bs
+
+-- version 2
+abbrev pub frame2 : List ℕ → List ℕ
+frame2 bs = framed 2 bs
 
 -- a line: a call and its answer, a question and its answer, or what a register or a relation holds
 pub data Line : Type 0 where

@@ -5,7 +5,7 @@ use Prim.Native.Nat.{ℕ, zero, suc, _*_, _^_}
 use lib.Dec.{leb, ltb}
 use Rattle.mucalculus.specs.Sets.{noStates, allStates, same}
 use Rattle.mucalculus.specs.Order.{start}
-use Rattle.mucalculus.specs.Form.{Form, bot, top, neg, conj, disj, now, next, var, reg, box, dia, mu, nu, Pairs, Model, Env, put, inside}
+use Rattle.mucalculus.specs.Form.{Form, bot, top, neg, conj, disj, now, next, var, reg, box, dia, mu, nu, until, Pairs, Model, Env, put, inside}
 use Rattle.mucalculus.specs.Means.{clip, compl, inter, union, bitStates, sometimes, size}
 use Rattle.diagram.specs.Level.{Fn}
 use Rattle.diagram.specs.Need.{stepNeed}
@@ -59,6 +59,26 @@ diaSteps n N live R A q =
 abbrev pub boxSteps : ℕ → ℕ → List Fn → Pairs → List Bool → ℕ → Outcome
 boxSteps n N live R A q = andThen (notStep n N live A q) (λ B p. andThen (diaSteps n N live R B p) (λ C o. notStep n N live C o))
 
+-- after f in a round of until at the set A: diamond X, with `false` box X and diamond true
+abbrev pub furtherSteps : Bool → ℕ → ℕ → List Fn → Pairs → List Bool → ℕ → Outcome
+furtherSteps true n N live R A q = diaSteps n N live R A q
+furtherSteps false n N live R A q =
+    andThen (boxSteps n N live R A q) (λ B p. andThen (diaSteps n N (fnOf n B ∷ live) R (allStates (2 ^ n)) p) (λ D o. twoStep n N live (inter (2 ^ n)) B D o))
+
+-- two parts: the left one's outcome x, the right one's y at the left one's value, which is live meanwhile, and the step op
+abbrev pub bothSteps : ℕ → ℕ → List Fn → (List Bool → List Bool → List Bool) → Outcome → (List Bool → ℕ → Outcome) → Outcome
+bothSteps n N live op x y = andThen x (λ A q. andThen (y A q) (λ B p. twoStep n N live op A B p))
+
+-- f and what follows, in a round of until at the set A: f's outcome is fs
+abbrev pub keepRound : ℕ → ℕ → List Fn → Bool → Pairs → (List Fn → ℕ → Outcome) → List Bool → ℕ → Outcome
+keepRound n N live b R fs A p = bothSteps n N live (inter (2 ^ n)) (fs live p) (λ F o. furtherSteps b n N (fnOf n F ∷ live) R A o)
+
+-- a round of until at the set A: g's outcome is gs
+abbrev pub untilRound : ℕ → ℕ → List Fn → Bool → Pairs → (List Fn → ℕ → Outcome) → (List Fn → ℕ → Outcome) → List Bool → ℕ → Outcome
+untilRound n N live b R fs gs A q =
+    let held = fnOf n A ∷ live in
+    bothSteps n N held (union (2 ^ n)) (gs held q) (λ G p. keepRound n N (fnOf n G ∷ held) b R fs A p)
+
 -- rounds from the set A with r counted: "Every evaluated body is one round, counted as its evaluation starts; a round wanted when R are
 -- counted gives 9. If the value is the same set the binder ends with it." No more than R rounds can start, so R is enough fuel
 abbrev pub loop : ℕ → (List Bool → ℕ → Outcome) → ℕ → List Bool → ℕ → Outcome
@@ -85,6 +105,8 @@ run m N R e live (box t f) r = andThen (run m N R e live f r) (λ A q. boxSteps 
 run m N R e live (dia t f) r = andThen (run m N R e live f r) (λ A q. diaSteps (m .n) N live (inside (m .rel t)) A q)
 run m N R e live (mu P f) r = loop R (λ A q. run m N R (put e P A) (fnOf (m .n) A ∷ live) f q) R (start true (size m)) r
 run m N R e live (nu P f) r = loop R (λ A q. run m N R (put e P A) (fnOf (m .n) A ∷ live) f q) R (start false (size m)) r
+run m N R e live (until b t f g) r =
+    loop R (untilRound (m .n) N live b (inside (m .rel t)) (λ l q. run m N R e l f q) (λ l q. run m N R e l g q)) R (start true (size m)) r
 
 -- ---- relation calls: no rounds, so the values are the meanings of the parts
 
@@ -105,3 +127,4 @@ pairsFit n N live (box t f) = true
 pairsFit n N live (dia t f) = true
 pairsFit n N live (mu P f) = true
 pairsFit n N live (nu P f) = true
+pairsFit n N live (until b t f g) = true

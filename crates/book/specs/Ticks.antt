@@ -5,10 +5,11 @@ use mathlib.Core.List.{List, [], _∷_, _++_}
 use mathlib.Core.Option.{Option, none, some}
 use Prim.Native.Nat.{ℕ, zero, suc, _*_, _^_}
 use lib.Dec.{leb, ltb}
-use Rattle.mucalculus.specs.Sets.{same}
+use Rattle.mucalculus.specs.Sets.{allStates, same}
 use Rattle.mucalculus.specs.Order.{start}
-use Rattle.mucalculus.specs.Form.{Form, bot, top, neg, conj, disj, now, next, var, reg, box, dia, mu, nu, Pairs, Model, Env, put, inside}
-use Rattle.mucalculus.specs.Means.{compl, inter, union, sometimes, size, means, meansPair}
+use Rattle.mucalculus.specs.Form.{Form, bot, top, neg, conj, disj, now, next, var, reg, box, dia, mu, nu, until, Pairs, Model, Env, put, inside}
+use Rattle.mucalculus.specs.Means.{compl, inter, union, always, sometimes, size, means, meansPair}
+use Rattle.mucalculus.specs.Until.{further, onward}
 use Rattle.diagram.specs.Level.{Fn}
 use Rattle.diagram.specs.Need.{stepNeed}
 use Rattle.diagram.specs.Steps.{andF, shiftF, existsF}
@@ -74,6 +75,24 @@ abbrev pub roundTicks : (List Bool → List Tick) → (List Bool → List Bool) 
 roundTicks h F zero A = []
 roundTicks h F (suc j) A = let B = F A in let more = roundTicks h F j B in round ∷ (h A ++ cond (same B A) [] more)
 
+-- the steps after f in a round of until at the set A: those of diamond X, with `false` those of box X and diamond true
+abbrev pub furtherTicks : Bool → ℕ → List Fn → Pairs → List Bool → List Tick
+furtherTicks true n live R A = steps (diaNeeds n live R A)
+furtherTicks false n live R A =
+    let B = always (2 ^ n) R A in
+    let D = sometimes (2 ^ n) R (allStates (2 ^ n)) in
+    steps (boxNeeds n live R A) ++ (steps (diaNeeds n (fnOf n B ∷ live) R (allStates (2 ^ n))) ++ steps (twoNeed n live (inter (2 ^ n)) B D ∷ []))
+
+-- f and what follows, in a round of until at the set A: f's ticks are fs and its value is F
+abbrev pub keepTicks : ℕ → List Fn → Bool → Pairs → List Bool → (List Fn → List Tick) → List Bool → List Tick
+keepTicks n live b R F fs A = fs live ++ (furtherTicks b n (fnOf n F ∷ live) R A ++ steps (twoNeed n live (inter (2 ^ n)) F (further b (2 ^ n) R A) ∷ []))
+
+-- a round of until at the set A: g's ticks are gs and its value is G
+abbrev pub untilTicks : ℕ → List Fn → Bool → Pairs → List Bool → List Bool → (List Fn → List Tick) → (List Fn → List Tick) → List Bool → List Tick
+untilTicks n live b R F G fs gs A =
+    let held = fnOf n A ∷ live in
+    gs held ++ (keepTicks n (fnOf n G ∷ held) b R F fs A ++ steps (twoNeed n held (union (2 ^ n)) G (inter (2 ^ n) F (further b (2 ^ n) R A)) ∷ []))
+
 -- the ticks of f: "Left before right, parts before operator". `live` are the functions live throughout: filled registers and relations,
 -- current sets of open binders, values made and not yet used. "Mu starts from the empty set, nu from all states"; a binder has ended after
 -- 2^n + 1 rounds, a larger bound gives the same ticks: `ticks-cap` (Larger)
@@ -95,6 +114,12 @@ ticks m e live (box t f) = ticks m e live f ++ steps (boxNeeds (m .n) live (insi
 ticks m e live (dia t f) = ticks m e live f ++ steps (diaNeeds (m .n) live (inside (m .rel t)) (means m e f))
 ticks m e live (mu P f) = roundTicks (λ A. ticks m (put e P A) (fnOf (m .n) A ∷ live) f) (λ A. means m (put e P A) f) (suc (size m)) (start true (size m))
 ticks m e live (nu P f) = roundTicks (λ A. ticks m (put e P A) (fnOf (m .n) A ∷ live) f) (λ A. means m (put e P A) f) (suc (size m)) (start false (size m))
+-- "Steps and rounds are those of the formula written so": mu X (g or (f and diamond X)), or mu X (g or (f and (box X and diamond true)))
+ticks m e live (until b t f g) =
+    let F = means m e f in
+    let G = means m e g in
+    let R = inside (m .rel t) in
+    roundTicks (untilTicks (m .n) live b R F G (λ l. ticks m e l f) (λ l. ticks m e l g)) (onward b (size m) R F G) (suc (size m)) (start true (size m))
 
 -- ---- ticks of a relation's formula
 
@@ -119,6 +144,7 @@ pairTicks n live (box t f) = []
 pairTicks n live (dia t f) = []
 pairTicks n live (mu P f) = []
 pairTicks n live (nu P f) = []
+pairTicks n live (until b t f g) = []
 
 -- ---- the verdict
 

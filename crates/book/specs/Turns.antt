@@ -6,9 +6,9 @@ use mathlib.Core.List.{List, _∷_, List·Memᴰ·head as here, List·Memᴰ·ta
 use Prim.Native.Nat.{ℕ, zero, suc, _+_, _*_, _^_, _≤_, _<_}
 use native.Mathlib.Omega.{arith}
 use lib.Dec.{T, leb, ltb, lt→ltb, ltb→lt}
-use Rattle.mucalculus.specs.Sets.{table, length-table, same, same-refl, same-eq, true-of, false-of}
+use Rattle.mucalculus.specs.Sets.{table, length-table, allStates, same, same-refl, same-eq, true-of, false-of}
 use Rattle.mucalculus.specs.Order.{start, length-start}
-use Rattle.mucalculus.specs.Form.{Form, bot, top, neg, conj, disj, now, next, var, reg, box, dia, mu, nu, Pairs, Model, Env, put, inside}
+use Rattle.mucalculus.specs.Form.{Form, bot, top, neg, conj, disj, now, next, var, reg, box, dia, mu, nu, until, Pairs, Model, Env, put, inside}
 use Rattle.mucalculus.specs.Means.{compl, inter, union, sometimes, bit, size}
 use Rattle.diagram.specs.Level.{Fn}
 use Rattle.diagram.specs.Need.{stepNeed}
@@ -18,7 +18,7 @@ use Rattle.diagram.specs.Post.{Denotes}
 use Rattle.diagram.specs.Keep.{Keeps, keeps-refl, keeps-on, keeps-denotes}
 use Rattle.diagram.specs.Steps.{existsF}
 use Rattle.book.specs.Bridge.{fnOf, Sized, fnOf-inj}
-use Rattle.book.specs.Run.{Outcome, value, full, spent, andThen, step, existsSteps, notStep, diaSteps, loop, run}
+use Rattle.book.specs.Run.{Outcome, value, full, spent, andThen, step, existsSteps, notStep, twoStep, diaSteps, boxSteps, furtherSteps, bothSteps, keepRound, untilRound, loop, run}
 use Rattle.book.specs.Held.{Held, held-arrow}
 use Rattle.book.specs.Follow.{Ended, ends, nine, Matches, Evals, Stops, evals-same, evals-stop, evals-from, denotes-none, denotes-all}
 
@@ -62,6 +62,31 @@ dia-good : (n N : ℕ) (live : List Fn) (R : Pairs) (A : List Bool) (q : ℕ) �
 dia-good n N live R A q =
     step-good n q N (fnOf n A ∷ live) _ _ (step-good n q N _ _ _ (exists-good n q N live n _ (value (sometimes (2 ^ n) R A) q) (made-good n q _)))
 
+box-good : (n N : ℕ) (live : List Fn) (R : Pairs) (A : List Bool) (q : ℕ) → Good n q (boxSteps n N live R A q)
+box-good n N live R A q =
+    then-good n q (notStep n N live A q) _ (not-good n N live A q) (λ B p. then-good n p (diaSteps n N live R B p) _ (dia-good n N live R B p) (λ C o. not-good n N live C o))
+
+pub both-good : (n N : ℕ) (live : List Fn) (op : List Bool → List Bool → List Bool) → ((A B : List Bool) → Sized n (op A B)) → (r : ℕ) (x : Outcome) (y : List Bool → ℕ → Outcome) → Good n r x
+    → ((A : List Bool) (q : ℕ) → Good n q (y A q)) → Good n r (bothSteps n N live op x y)
+both-good n N live op sized r x y g h =
+    then-good n r x _ g (λ A q. then-good n q (y A q) _ (h A q) (λ B p. step-good n p N _ _ (value (op A B) p) (sized A B, omega arith)))
+
+pub further-good : (b : Bool) (n N : ℕ) (live : List Fn) (R : Pairs) (A : List Bool) (q : ℕ) → Good n q (furtherSteps b n N live R A q)
+further-good true n N live R A q = dia-good n N live R A q
+further-good false n N live R A q =
+    both-good n N live (inter (2 ^ n)) (λ B D. length-table (2 ^ n) _) q (boxSteps n N live R A q) (λ B p. diaSteps n N (fnOf n B ∷ live) R (allStates (2 ^ n)) p) (box-good n N live R A q) (λ B p. dia-good n N (fnOf n B ∷ live) R (allStates (2 ^ n)) p)
+
+-- a round of until, given its parts
+pub keep-good : (n N : ℕ) (live : List Fn) (b : Bool) (R : Pairs) (fs : List Fn → ℕ → Outcome) → ((l : List Fn) (q : ℕ) → Good n q (fs l q)) → (A : List Bool) (q : ℕ) → Good n q (keepRound n N live b R fs A q)
+keep-good n N live b R fs h A q =
+    both-good n N live (inter (2 ^ n)) (λ F D. length-table (2 ^ n) _) q (fs live q) (λ F o. furtherSteps b n N (fnOf n F ∷ live) R A o) (h live q) (λ F o. further-good b n N (fnOf n F ∷ live) R A o)
+
+pub until-good : (n N : ℕ) (live : List Fn) (b : Bool) (R : Pairs) (fs gs : List Fn → ℕ → Outcome) → ((l : List Fn) (q : ℕ) → Good n q (fs l q)) → ((l : List Fn) (q : ℕ) → Good n q (gs l q))
+    → (A : List Bool) (q : ℕ) → Good n q (untilRound n N live b R fs gs A q)
+until-good n N live b R fs gs h i A q =
+    let held = fnOf n A ∷ live in
+    both-good n N held (union (2 ^ n)) (λ G C. length-table (2 ^ n) _) q (gs held q) (λ G p. keepRound n N (fnOf n G ∷ held) b R fs A p) (i held q) (λ G p. keep-good n N (fnOf n G ∷ held) b R fs h A p)
+
 loop-good : (n R : ℕ) (G : List Bool → ℕ → Outcome) → ((A : List Bool) (q : ℕ) → Good n q (G A q)) → (j : ℕ) (A : List Bool) (r : ℕ) → Good n r (loop R G j A r)
 loop-good n R G h zero A r = tt
 loop-good n R G h (suc j) A r = go (loop-good n R G h j) (G A (suc r)) (h A (suc r)) (ltb r R)
@@ -91,13 +116,14 @@ run-good m N R e live (next p) r = made-good (m .n) r _
 run-good m N R e live (var P) r = made-good (m .n) r _
 run-good m N R e live (reg x) r = made-good (m .n) r _
 run-good m N R e live (box t f) r =
-    then-good (m .n) r (run m N R e live f r) _ (run-good m N R e live f r) (λ A q.
-    then-good (m .n) q (notStep (m .n) N live A q) _ (not-good (m .n) N live A q) (λ B p.
-    then-good (m .n) p (diaSteps (m .n) N live (inside (m .rel t)) B p) _ (dia-good (m .n) N live (inside (m .rel t)) B p) (λ C o. not-good (m .n) N live C o)))
+    then-good (m .n) r (run m N R e live f r) _ (run-good m N R e live f r) (λ A q. box-good (m .n) N live (inside (m .rel t)) A q)
 run-good m N R e live (dia t f) r =
     then-good (m .n) r (run m N R e live f r) _ (run-good m N R e live f r) (λ A q. dia-good (m .n) N live (inside (m .rel t)) A q)
 run-good m N R e live (mu P f) r = loop-good (m .n) R _ (λ A q. run-good m N R (put e P A) (fnOf (m .n) A ∷ live) f q) R (start true (size m)) r
 run-good m N R e live (nu P f) r = loop-good (m .n) R _ (λ A q. run-good m N R (put e P A) (fnOf (m .n) A ∷ live) f q) R (start false (size m)) r
+run-good m N R e live (until b t f g) r =
+    loop-good (m .n) R _ (until-good (m .n) N live b (inside (m .rel t)) (λ l q. run m N R e l f q) (λ l q. run m N R e l g q) (λ l q. run-good m N R e l f q) (λ l q. run-good m N R e l g q))
+    R (start true (size m)) r
 
 -- ---- one arrow exactly where one set
 

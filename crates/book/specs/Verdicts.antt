@@ -9,20 +9,21 @@ use native.Mathlib.Omega.{arith}
 use native.Mathlib.Nat.{add-zero, lt-of-not-le}
 use lib.Dec.{T, leb, ltb, ltb→lt, lt→ltb}
 use lib.ListN.{length}
-use Rattle.mucalculus.specs.Sets.{same, same-eq, same-refl, and-out, false-of, all}
+use Rattle.mucalculus.specs.Sets.{allStates, same, same-eq, same-refl, and-out, false-of, all}
 use Rattle.mucalculus.specs.Order.{start}
 use Rattle.mucalculus.specs.Fixpoint.{fix, iter, Mono, iter-found, stable}
-use Rattle.mucalculus.specs.Form.{Form, bot, top, neg, conj, disj, now, next, var, reg, box, dia, mu, nu, Pairs, Model, Env, put, inside, reads, steady}
+use Rattle.mucalculus.specs.Form.{Form, bot, top, neg, conj, disj, now, next, var, reg, box, dia, mu, nu, until, Pairs, Model, Env, put, inside, reads, steady}
 use Rattle.mucalculus.specs.Means.{compl, inter, union, always, sometimes, size, means}
 use Rattle.mucalculus.specs.Laws.{box-dual}
 use Rattle.mucalculus.specs.Binder.{body, body-length, body-mono}
+use Rattle.mucalculus.specs.Until.{further, onward, onward-length, onward-mono, until-least}
 use Rattle.mucalculus.specs.Rounds.{runs, rounds}
 use Rattle.diagram.specs.Level.{Fn}
 use Rattle.diagram.specs.Need.{stepNeed}
 use Rattle.diagram.specs.Steps.{andF, shiftF, existsF}
 use Rattle.book.specs.Bridge.{fnOf, fnOfPairs}
-use Rattle.book.specs.Ticks.{Tick, step, round, steps, roundTicks, ticks, pairF, pairTicks, existsNeeds, notNeed, twoNeed, diaNeeds, boxNeeds, Verdict, counted, full, spent, verdict, withinRounds}
-use Rattle.book.specs.Run.{Outcome, value, full as fullRun, spent as spentRun, andThen, existsSteps, notStep, twoStep, diaSteps, boxSteps, loop, run, pairsFit}
+use Rattle.book.specs.Ticks.{Tick, step, round, steps, roundTicks, ticks, pairF, pairTicks, existsNeeds, notNeed, twoNeed, diaNeeds, boxNeeds, furtherTicks, keepTicks, untilTicks, Verdict, counted, full, spent, verdict, withinRounds}
+use Rattle.book.specs.Run.{Outcome, value, full as fullRun, spent as spentRun, andThen, existsSteps, notStep, twoStep, diaSteps, boxSteps, furtherSteps, bothSteps, keepRound, untilRound, loop, run, pairsFit}
 
 -- every need is at most N
 abbrev pub fit : ℕ → List ℕ → Bool
@@ -142,6 +143,36 @@ module _ (N R : ℕ) where
       (λ p h. settle-then (diaSteps n N live Q B p) C D p (steps (diaNeeds n live Q B)) (steps last) (λ X o. notStep n N live X o) (dia-ticks n live Q B p) (λ o i. last-step D o (notNeed n live C)))
       ∙ ap₂ (λ (X : List Bool) (l : List Tick). settle X (verdict N R q (step (notNeed n live A) ∷ l))) (sym (box-dual (2 ^ n) Q A)) (sym (steps-append (diaNeeds n live Q B) last))
 
+  -- two parts, left before right, the left one's value live during the right one's steps
+  both-ticks : (n : ℕ) (live : List Fn) (op : List Bool → List Bool → List Bool) (x : Outcome) (y : List Bool → ℕ → Outcome) (A B : List Bool) (r : ℕ) (xs ys : List Tick)
+      → x ≡ settle A (verdict N R r xs) → ((q : ℕ) → y A q ≡ settle B (verdict N R q ys))
+      → bothSteps n N live op x y ≡ settle (op A B) (verdict N R r (xs ++ (ys ++ steps (twoNeed n live op A B ∷ []))))
+  both-ticks n live op x y A B r xs ys i j =
+      let last = twoNeed n live op A B ∷ [] in
+      settle-then x A (op A B) r xs (ys ++ steps last) _ i
+      (λ q h. settle-then (y A q) B (op A B) q ys (steps last) (λ X p. twoStep n N live op A X p) (j q) (λ p o. last-step (op A B) p (twoNeed n live op A B)))
+
+  pub further-ticks : (b : Bool) (n : ℕ) (live : List Fn) (Q : Pairs) (A : List Bool) (q : ℕ) → furtherSteps b n N live Q A q ≡ settle (further b (2 ^ n) Q A) (verdict N R q (furtherTicks b n live Q A))
+  further-ticks true n live Q A q = dia-ticks n live Q A q
+  further-ticks false n live Q A q =
+      let B = always (2 ^ n) Q A in
+      let all = allStates (2 ^ n) in
+      both-ticks n live (inter (2 ^ n)) (boxSteps n N live Q A q) (λ C p. diaSteps n N (fnOf n C ∷ live) Q all p) B (sometimes (2 ^ n) Q all) q (steps (boxNeeds n live Q A)) (steps (diaNeeds n (fnOf n B ∷ live) Q all))
+      (box-ticks n live Q A q) (λ p. dia-ticks n (fnOf n B ∷ live) Q all p)
+
+  -- a round of until, given its parts
+  until-ticks : (n : ℕ) (live : List Fn) (b : Bool) (Q : Pairs) (F G : List Bool) (fs gs : List Fn → List Tick) (xs ys : List Fn → ℕ → Outcome)
+      → ((l : List Fn) (q : ℕ) → xs l q ≡ settle F (verdict N R q (fs l))) → ((l : List Fn) (q : ℕ) → ys l q ≡ settle G (verdict N R q (gs l))) → (A : List Bool) (q : ℕ)
+      → untilRound n N live b Q xs ys A q ≡ settle (onward b (2 ^ n) Q F G A) (verdict N R q (untilTicks n live b Q F G fs gs A))
+  until-ticks n live b Q F G fs gs xs ys i j A q =
+      let held = fnOf n A ∷ live in
+      let l = fnOf n G ∷ held in
+      let D = further b (2 ^ n) Q A in
+      both-ticks n held (union (2 ^ n)) (ys held q) (λ B p. keepRound n N (fnOf n B ∷ held) b Q xs A p) G (inter (2 ^ n) F D) q (gs held) (keepTicks n l b Q F fs A) (j held q)
+      (λ p.
+      both-ticks n l (inter (2 ^ n)) (xs l p) (λ B o. furtherSteps b n N (fnOf n B ∷ l) Q A o) F D p (fs l) (furtherTicks b n (fnOf n F ∷ l) Q A) (i l p)
+      (λ o. further-ticks b n (fnOf n F ∷ l) Q A o))
+
   -- a binder's rounds, given those of its body
   module _ (k : ℕ) (b : Bool) (F : List Bool → List Bool) (h : List Bool → List Tick) (g : List Bool → ℕ → Outcome)
       (len : (A : List Bool) → length (F A) ≡ k) (mono : Mono F) (exact : (A : List Bool) (q : ℕ) → g A q ≡ settle (F A) (verdict N R q (h A))) where
@@ -190,14 +221,8 @@ module _ (N R : ℕ) where
         → andThen (run m N R e live f r) (λ A q. andThen (run m N R e (fnOf (m .n) A ∷ live) g q) (λ B p. twoStep (m .n) N live op A B p))
         ≡ settle (op (means m e f) (means m e g)) (verdict N R r (ticks m e live f ++ (ticks m e (fnOf (m .n) (means m e f) ∷ live) g ++ steps (twoNeed (m .n) live op (means m e f) (means m e g) ∷ []))))
     two-ticks e live f g r op i j =
-        let A = means m e f in
-        let B = means m e g in
-        let last = twoNeed (m .n) live op A B ∷ [] in
-        let l = fnOf (m .n) A ∷ live in
-        settle-then (run m N R e live f r) A (op A B) r (ticks m e live f) (ticks m e l g ++ steps last) _ i
-        (λ q h.
-        settle-then (run m N R e l g q) B (op A B) q (ticks m e l g) (steps last) (λ X p. twoStep (m .n) N live op A X p) (j l q)
-        (λ p o. last-step (op A B) p (twoNeed (m .n) live op A B)))
+        let l = fnOf (m .n) (means m e f) ∷ live in
+        both-ticks (m .n) live op (run m N R e live f r) (λ A q. run m N R e (fnOf (m .n) A ∷ live) g q) (means m e f) (means m e g) r (ticks m e live f) (ticks m e l g) i (j l)
 
     -- THE VERDICT IS THE RUN'S ANSWER: the value is the meaning, and its rounds, 8 and 9 are the verdict's
     pub run-ticks : (e : Env) (live : List Fn) (f : Form) (r : ℕ) → T (steady f) → run m N R e live f r ≡ settle (means m e f) (verdict N R r (ticks m e live f))
@@ -229,6 +254,16 @@ module _ (N R : ℕ) where
         let w = and-out (reads true P f) (steady f) t in
         loop-ticks (size m) false (body m e P f) (λ A. ticks m (put e P A) (fnOf (m .n) A ∷ live) f) (λ A q. run m N R (put e P A) (fnOf (m .n) A ∷ live) f q)
         (body-length m e P f) (body-mono m e P f (w .1) (w .0) false) (λ A q. run-ticks (put e P A) (fnOf (m .n) A ∷ live) f q (w .1)) R (size m) zero r (omega arith) (omega arith)
+    run-ticks e live (until b t f g) r s =
+        let w = and-out (steady f) (steady g) s in
+        let F = means m e f in
+        let G = means m e g in
+        let Q = inside (m .rel t) in
+        loop-ticks (size m) true (onward b (size m) Q F G) (untilTicks (m .n) live b Q F G (λ l. ticks m e l f) (λ l. ticks m e l g))
+        (untilRound (m .n) N live b Q (λ l q. run m N R e l f q) (λ l q. run m N R e l g q)) (onward-length (size m) Q b F G) (onward-mono (size m) Q b F G)
+        (until-ticks (m .n) live b Q F G (λ l. ticks m e l f) (λ l. ticks m e l g) (λ l q. run m N R e l f q) (λ l q. run m N R e l g q) (λ l q. run-ticks e l f q (w .0)) (λ l q. run-ticks e l g q (w .1)))
+        R (size m) zero r (omega arith) (omega arith)
+        ∙ ap (λ (X : List Bool). settle X (verdict N R r (ticks m e live (until b t f g)))) (sym (until-least (size m) Q b F G))
 
   -- ---- relations
 
@@ -262,6 +297,7 @@ module _ (N R : ℕ) where
   pairs-ticks n live (dia x f) r = refl
   pairs-ticks n live (mu P f) r = refl
   pairs-ticks n live (nu P f) r = refl
+  pairs-ticks n live (until b t f g) r = refl
 
   -- ---- 8, exactly
 
@@ -343,6 +379,12 @@ rounds-loop h F c e (suc j) A = omega (arith, rounds-append (h A) (cond (same (F
     go true i = refl
     go false i = i
 
+rounds-further : (b : Bool) (n : ℕ) (live : List Fn) (Q : Pairs) (A : List Bool) → roundsIn (furtherTicks b n live Q A) ≡ zero
+rounds-further true n live Q A = rounds-steps (diaNeeds n live Q A)
+rounds-further false n live Q A =
+    rounds-two (steps (boxNeeds n live Q A)) (steps (diaNeeds n (fnOf n (always (2 ^ n) Q A) ∷ live) Q (allStates (2 ^ n))))
+    (twoNeed n live (inter (2 ^ n)) (always (2 ^ n) Q A) (sometimes (2 ^ n) Q (allStates (2 ^ n))) ∷ []) zero zero (rounds-steps (boxNeeds n live Q A)) (rounds-steps (diaNeeds n (fnOf n (always (2 ^ n) Q A) ∷ live) Q (allStates (2 ^ n))))
+
 -- "Every evaluated body, inner ones included, is one round"
 pub ticks-rounds : (m : Model) (e : Env) (live : List Fn) (f : Form) → roundsIn (ticks m e live f) ≡ rounds m e f
 ticks-rounds m e live bot = refl
@@ -366,3 +408,16 @@ ticks-rounds m e live (mu P f) =
 ticks-rounds m e live (nu P f) =
     rounds-loop (λ A. ticks m (put e P A) (fnOf (m .n) A ∷ live) f) (body m e P f) (λ A. rounds m (put e P A) f) (λ A. ticks-rounds m (put e P A) (fnOf (m .n) A ∷ live) f)
     (suc (size m)) (start false (size m))
+ticks-rounds m e live (until b t f g) =
+    let F = means m e f in
+    let G = means m e g in
+    let Q = inside (m .rel t) in
+    rounds-loop (untilTicks (m .n) live b Q F G (λ l. ticks m e l f) (λ l. ticks m e l g)) (onward b (size m) Q F G) (λ A. rounds m e g + rounds m e f)
+    (λ A.
+    let held = fnOf (m .n) A ∷ live in
+    let l = fnOf (m .n) G ∷ held in
+    let D = further b (size m) Q A in
+    rounds-two (ticks m e held g) (keepTicks (m .n) l b Q F (λ l. ticks m e l f) A) (twoNeed (m .n) held (union (size m)) G (inter (size m) F D) ∷ []) (rounds m e g) (rounds m e f) (ticks-rounds m e held g)
+    (rounds-two (ticks m e l f) (furtherTicks b (m .n) (fnOf (m .n) F ∷ l) Q A) (twoNeed (m .n) l (inter (size m)) F D ∷ []) (rounds m e f) zero (ticks-rounds m e l f)
+    (rounds-further b (m .n) (fnOf (m .n) F ∷ l) Q A) ∙ add-zero (rounds m e f)))
+    (suc (size m)) (start true (size m))

@@ -3,21 +3,22 @@ use mathlib.Core.Path.{_≡_, refl, sym, ap, _∙_, subst}
 use mathlib.Core.Logic.{_≢_}
 use mathlib.Core.Bool.{true}
 use mathlib.Core.List.{List}
-use Prim.Native.Nat.{ℕ, _+_, _-_, _≤_, _<_}
+use Prim.Native.Nat.{ℕ, _+_, _*_, _-_, _≤_, _<_}
 use native.Mathlib.Omega.{arith}
 use lib.ListN.{length, set, take, length-set}
 use Rattle.mucalculus.specs.Form.{Form}
 use Rattle.tokens.specs.Tokens.{leadAt}
-use Rattle.tokens.specs.declared.Grammar.the-variants.{States}
+use Rattle.tokens.specs.declared.Grammar.the-variants.{Runs}
 use Rattle.tokens.specs.declared.Leaf.{Leaf}
 use Rattle.tokens.specs.declared.Join.{Join}
 use Rattle.tokens.specs.declared.Mode.{Mode}
 use Rattle.tokens.specs.declared.Fix.{Fix}
+use Rattle.tokens.specs.declared.Two.{Two}
+use Rattle.tokens.specs.declared.Two.the-variants.{Join as Joins, Until}
 use Rattle.tokens.specs.declared.Token.{Token}
 use Rattle.tokens.specs.declared.Token.the-variants.{Leaf as LeafToken, Not, Both, Modal, Binder}
 use Rattle.tokens.specs.declared.Lead.{Lead}
 use Rattle.tokens.specs.declared.Lead.the-variants.{Is}
-use Rattle.formula.specs.Parse.{depthLimit}
 use Rattle.formula.proofs.Steps.{is-not, is-modal, is-binder}
 use Rattle.layout.specs.Places.{HEADER, FIRST-RELATION}
 use Rattle.layout.specs.View.{View, view}
@@ -27,12 +28,12 @@ use Rattle.steps.specs.declared.Step.the-variants as step
 use Rattle.book.specs.Turns.{startArrow}
 use Rattle.modal.specs.declared.Limits.{Limits}
 use Rattle.modal.specs.Modal.{ModalPre}
-use Rattle.evaluator.specs.Scene.{Scene, opened, Ready, Part, holdsReg, holdsRel, Answers, fromMade, joinStep, bodyOf, isLeast, OverPost, LivePre, LivePost, LeafPre, LeafPost, EvalPre, EvalPost, NegatePost, BothPre, BothPost, ModePre, ModePost, BindPre, BindPost}
+use Rattle.evaluator.specs.Scene.{stackSize, Scene, opened, Ready, Part, holdsReg, holdsRel, Answers, fromMade, joinStep, bodyOf, isLeast, OverPost, LivePre, LivePost, LeafPre, LeafPost, EvalPre, EvalPost, NegatePost, BothPre, BothPost, ModePre, ModePost, BindPre, BindPost, UntilPre, UntilPost}
 use Rattle.evaluator.specs.declared.Context.{Context}
 use Rattle.evaluator.specs.declared.Evaluated.{Evaluated}
 use Rattle.evaluator.specs.declared.Evaluated.the-variants.{Value, Spent}
 use Rattle.evaluator.proofs.Tokens.{read-depth, read-allowed, leaf-form, leaf-end, one-form, both-form}
-use Rattle.evaluator.proofs.Parts.{leaf-named, not-part, modal-part, modal-relation, binder-part, left-part, right-part}
+use Rattle.evaluator.proofs.Parts.{leaf-named, not-part, modal-part, modal-relation, binder-part, left-part, right-part, until-relation}
 use Rattle.evaluator.proofs.Outcomes.{Halts}
 use Rattle.evaluator.proofs.Steps.{answers-same, eval-leaf, negate-stops, first-stops, mode-stops, value-set, value-is, negate-asks, negate-ends, both-part, both-ready, both-stops, both-asks, both-ends}
 use Rattle.evaluator.proofs.Relations.{rel-range, rel-some, over-asks, over-ends}
@@ -48,8 +49,8 @@ onward c k q = record { at = k; depth = c .depth; held = c .held + 1; places = c
 
 -- ---- by the token
 
-module _ {L : Limits} {W : View} {stack bs : List ℕ} {c : Context} (P : EvalPre L W stack bs c) {ld : Lead} (found : ld ≡ leadAt (L .bits) States bs (c .at)) {t : Token} (is : ld ≡ Is t) where
-  room : c .held + (c .depth - 1) < depthLimit
+module _ {L : Limits} {W : View} {stack bs : List ℕ} {c : Context} (P : EvalPre L W stack bs c) {ld : Lead} (found : ld ≡ leadAt (L .bits) Runs bs (c .at)) {t : Token} (is : ld ≡ Is t) where
+  room : c .held + 2 * (c .depth - 1) + 1 < stackSize
   room = let l = P .room in let d = read-depth (P .part .stands) in omega arith
 
   module _ {l : Leaf} (leaf : t ≡ LeafToken l) where
@@ -68,7 +69,7 @@ module _ {L : Limits} {W : View} {stack bs : List ℕ} {c : Context} (P : EvalPr
     pub not-answered : {X : View} {after : List ℕ} {r : Evaluated} → NegatePost L W X stack after bs (inward c) r → EvalPost L W X stack after bs c r
     not-answered A = record { answers = λ σ f e R p. answers-same (one-form (p .stands) found is one is-not) (A .answers σ _ e R (not-part p found is one)) }
 
-  module _ {j : Join} (two : t ≡ Both j) where
+  module _ {j : Join} (two : t ≡ Both (Joins j)) where
     pub both-asked : BothPre L W stack bs (inward c)
     both-asked = record {
       room = room;
@@ -85,6 +86,26 @@ module _ {L : Limits} {W : View} {stack bs : List ℕ} {c : Context} (P : EvalPr
     pub both-answered : {X : View} {after : List ℕ} {r : Evaluated} → BothPost L W X stack after bs (inward c) j r → EvalPost L W X stack after bs c r
     both-answered A = record {
       answers = λ σ f e R p. answers-same (both-form (p .stands) found is two) (A .answers σ _ _ _ e R (left-part p found is two) (right-part p found is two));
+    }
+
+  module _ {m : Mode} {u : ℕ} (two : t ≡ Both (Until m u)) where
+    pub until-asked : UntilPre L W stack bs (inward c) u
+    until-asked = record {
+      room = room;
+      scene = P .scene;
+      left = _;
+      right = _;
+      middle = _;
+      end = P .end;
+      ready = P .ready;
+      first = left-part (P .part) found is two;
+      second = right-part (P .part) found is two;
+      relation = until-relation (P .part) found is two;
+    }
+
+    pub until-answered : {X : View} {after : List ℕ} {r : Evaluated} → UntilPost L W X stack after bs (inward c) m u r → EvalPost L W X stack after bs c r
+    until-answered A = record {
+      answers = λ σ f e R p. answers-same (both-form (p .stands) found is two) (A .answers σ _ _ _ e R (left-part p found is two) (right-part p found is two) (until-relation p found is two));
     }
 
   module _ {m : Mode} {u : ℕ} (one : t ≡ Modal m u) where
@@ -134,7 +155,7 @@ module _ {L : Limits} {W X : View} {stack after bs : List ℕ} {c : Context} {r 
   first-halts s j = record { answers = λ σ f g m e R p q. first-stops (E .answers σ f m R p) s j g e }
 
   module _ (z : length after ≡ length stack) {a k q : ℕ} (is : r ≡ Value a k q) where
-    free : c .held < depthLimit
+    free : c .held < stackSize
     free = let l = P .room in omega arith
 
     first : Answers L W X stack after (c .held) (c .rounds) (P .scene) (P .left) (P .middle) r
@@ -221,7 +242,7 @@ module _ {L : Limits} {words₀ words stack after bs : List ℕ} {c : Context} {
   rounds-out x s l = record { answers = λ σ f e R p. bind-out R (I .turns x s .bound σ f e R p) e l }
 
   module _ {b : Context} (is-body : b ≡ bodyOf c v (counted + 1)) where
-    open-room : c .held < depthLimit
+    open-room : c .held < stackSize
     open-room = let l = P .room in omega arith
 
     pub body-asked : (x : Fix) → start ≡ startArrow (isLeast x) → EvalPre L (view (L .rows) words) (set after (c .held) a) bs b

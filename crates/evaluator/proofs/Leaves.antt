@@ -11,7 +11,7 @@ use lib.ListN.{length, getD}
 use Rattle.mucalculus.specs.Form.{Form, bot, top, now, next, var, reg, bound, inside}
 use Rattle.mucalculus.specs.Means.{clip}
 use Rattle.tokens.specs.Tokens.{leafAllowed}
-use Rattle.tokens.specs.declared.Grammar.the-variants.{States}
+use Rattle.tokens.specs.declared.Grammar.the-variants.{Runs}
 use Rattle.tokens.specs.declared.Leaf.{Leaf}
 use Rattle.tokens.specs.declared.Leaf.the-variants.{Now}
 use Rattle.formula.specs.Parse.{leafForm}
@@ -105,5 +105,5 @@ as-leaf {scope} {regs} {rels} m e h = subst (λ (x : Leaf). Named scope regs rel
 pub leaf-as : {L : Limits} {W X : View} {σ : Scene} {o : Made} {l : Leaf} (m : Leaf) → l ≡ m → LeafAnswers L W X σ (leafForm m) o → LeafAnswers L W X σ (leafForm l) o
 leaf-as {L} {W} {X} {σ} {o} m e h = subst (λ (x : Leaf). LeafAnswers L W X σ (leafForm x) o) (sym e) h
 
-pub now-taken : {n : ℕ} {l : Leaf} {p : ℕ} → l ≡ Now p → leafAllowed l n States ≡ true → p < n
-now-taken {n} {l} {p} e h = ltb-true p n (subst (λ (x : Leaf). leafAllowed x n States ≡ true) e h)
+pub now-taken : {n : ℕ} {l : Leaf} {p : ℕ} → l ≡ Now p → leafAllowed l n Runs ≡ true → p < n
+now-taken {n} {l} {p} e h = ltb-true p n (subst (λ (x : Leaf). leafAllowed x n Runs ≡ true) e h)

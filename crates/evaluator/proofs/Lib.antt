@@ -8,5 +8,6 @@ pub mod Steps
 pub mod Leaves
 pub mod Relations
 pub mod Rounds
+pub mod Untils
 pub mod Cycle
 pub mod Starts

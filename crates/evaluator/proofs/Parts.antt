@@ -6,17 +6,18 @@ use Prim.Native.Nat.{ℕ, _+_, _-_}
 use lib.ListN.{getD, set}
 use Rattle.mucalculus.specs.Form.{Form, neg, bound}
 use Rattle.tokens.specs.Tokens.{leadAt}
-use Rattle.tokens.specs.declared.Grammar.the-variants.{States}
+use Rattle.tokens.specs.declared.Grammar.the-variants.{Runs}
 use Rattle.tokens.specs.declared.Leaf.{Leaf}
-use Rattle.tokens.specs.declared.Join.{Join}
+use Rattle.tokens.specs.declared.Two.{Two}
+use Rattle.tokens.specs.declared.Two.the-variants.{Until}
 use Rattle.tokens.specs.declared.Mode.{Mode}
 use Rattle.tokens.specs.declared.Fix.{Fix}
 use Rattle.tokens.specs.declared.Token.{Token}
 use Rattle.tokens.specs.declared.Token.the-variants.{Leaf as LeafToken, Not, Both, Modal, Binder}
 use Rattle.tokens.specs.declared.Lead.{Lead}
 use Rattle.tokens.specs.declared.Lead.the-variants.{Is}
-use Rattle.formula.specs.Parse.{leafForm, joinForm, modalForm, binderForm}
-use Rattle.formula.specs.Checks.{filled}
+use Rattle.formula.specs.Parse.{leafForm, twoForm, modalForm, binderForm}
+use Rattle.formula.specs.Checks.{filled, twoFilled}
 use Rattle.formula.proofs.Steps.{is-not, is-modal, is-binder}
 use Rattle.formula.proofs.Shapes.{bound-neg, bound-join, bound-modal, bound-binder, filled-neg, filled-join, filled-modal, filled-binder}
 use Rattle.evaluator.specs.Scene.{Named, Part}
@@ -36,12 +37,18 @@ module _ {scope : List Bool} {regs rels : ℕ → Bool} where
   named-neg : {f g : Form} → f ≡ neg g → Named scope regs rels f → Named scope regs rels g
   named-neg {f} {g} e h = record { is-bound = sym (bound-neg scope g) ∙ ap (bound scope) (sym e) ∙ h .is-bound; is-filled = sym (filled-neg regs rels g) ∙ ap (filled regs rels) (sym e) ∙ h .is-filled }
 
-  module _ {f : Form} (j : Join) (g h : Form) (e : f ≡ joinForm j g h) (p : Named scope regs rels f) where
+  module _ {f : Form} (j : Two) (g h : Form) (e : f ≡ twoForm j g h) (p : Named scope regs rels f) where
     both-bound : (bound scope g && bound scope h) ≡ true
     both-bound = sym (bound-join scope j g h) ∙ ap (bound scope) (sym e) ∙ p .is-bound
 
+    all-filled : (twoFilled rels j && (filled regs rels g && filled regs rels h)) ≡ true
+    all-filled = sym (filled-join regs rels j g h) ∙ ap (filled regs rels) (sym e) ∙ p .is-filled
+
     both-filled : (filled regs rels g && filled regs rels h) ≡ true
-    both-filled = sym (filled-join regs rels j g h) ∙ ap (filled regs rels) (sym e) ∙ p .is-filled
+    both-filled = and-second (twoFilled rels j) _ all-filled
+
+    named-two : twoFilled rels j ≡ true
+    named-two = and-first _ (filled regs rels g && filled regs rels h) all-filled
 
     named-left : Named scope regs rels g
     named-left = record { is-bound = and-first _ _ both-bound; is-filled = and-first _ _ both-filled }
@@ -68,7 +75,7 @@ module _ {scope : List Bool} {regs rels : ℕ → Bool} where
 -- ---- by the token
 
 module _ {n : ℕ} {bs : List ℕ} {at depth : ℕ} {scope : List Bool} {regs rels : ℕ → Bool} {f : Form} {e : ℕ} (p : Part n bs at depth scope regs rels f e)
-    {ld : Lead} (found : ld ≡ leadAt n States bs at) {t : Token} (is : ld ≡ Is t) where
+    {ld : Lead} (found : ld ≡ leadAt n Runs bs at) {t : Token} (is : ld ≡ Is t) where
   pub leaf-named : {l : Leaf} → t ≡ LeafToken l → Named scope regs rels (leafForm l)
   leaf-named leaf = subst (Named scope regs rels) (leaf-form (p .stands) found is leaf) (p .named)
 
@@ -84,9 +91,12 @@ module _ {n : ℕ} {bs : List ℕ} {at depth : ℕ} {scope : List Bool} {regs re
   pub binder-part : {x : Fix} {P : ℕ} (one : t ≡ Binder x P) → Part n bs (at + 1) (depth - 1) (set scope P true) regs rels (inner (p .stands) found is one (is-binder x P)) e
   binder-part {x} {P} one = record { stands = one-stands (p .stands) found is one (is-binder x P); named = named-binder x P _ (one-form (p .stands) found is one (is-binder x P)) (p .named) }
 
-  module _ {j : Join} (two : t ≡ Both j) where
+  module _ {j : Two} (two : t ≡ Both j) where
     pub left-part : Part n bs (at + 1) (depth - 1) scope regs rels (left (p .stands) found is two) (middle (p .stands) found is two)
     left-part = record { stands = left-stands (p .stands) found is two; named = named-left j _ _ (both-form (p .stands) found is two) (p .named) }
 
     pub right-part : Part n bs (middle (p .stands) found is two) (depth - 1) scope regs rels (right (p .stands) found is two) e
     right-part = record { stands = right-stands (p .stands) found is two; named = named-right j _ _ (both-form (p .stands) found is two) (p .named) }
+
+  pub until-relation : {m : Mode} {r : ℕ} (two : t ≡ Both (Until m r)) → rels r ≡ true
+  until-relation {m} {r} two = named-two (Until m r) _ _ (both-form (p .stands) found is two) (p .named)

@@ -10,7 +10,7 @@ use lib.ListN.{length, set, take}
 use Rattle.mucalculus.specs.Form.{Form, put}
 use Rattle.mucalculus.specs.Order.{start}
 use Rattle.tokens.specs.declared.Fix.{Fix}
-use Rattle.formula.specs.Parse.{binderForm, depthLimit}
+use Rattle.formula.specs.Parse.{binderForm}
 use Rattle.layout.specs.View.{View}
 use Rattle.soundness.specs.Used.{rowsOf}
 use Rattle.book.specs.Bridge.{fnOf}
@@ -19,7 +19,7 @@ use Rattle.book.specs.Follow.{ends, Evals, evals-same}
 use Rattle.book.specs.Turns.{Good, run-good, Turning, startArrow, turn-start, turn-out, turn-stop, turn-end, turn-on}
 use Rattle.modal.specs.declared.Limits.{Limits}
 use Rattle.modal.specs.Chain.{Moved, moved-refl, moved-trans, base-wf}
-use Rattle.evaluator.specs.Scene.{Scene, modelIn, opened, Ready, endedOf, EndsAt, Answers, isLeast}
+use Rattle.evaluator.specs.Scene.{stackSize, Scene, modelIn, opened, Ready, endedOf, EndsAt, Answers, isLeast}
 use Rattle.evaluator.specs.declared.Evaluated.{Evaluated}
 use Rattle.evaluator.specs.declared.Evaluated.the-variants.{Value, Spent}
 use Rattle.evaluator.proofs.State.{still-below, ready-next, ready-open}
@@ -57,7 +57,7 @@ module _ {L : Limits} {W : View} {stack places : List ℕ} {held : ℕ} {σ : Sc
       end = tt;
     }
 
-    module _ (z : length after ≡ length stack) (room : held < depthLimit) where
+    module _ (z : length after ≡ length stack) (room : held < stackSize) where
       -- the scene in which the body is evaluated
       pub bind-ready : Ready L X (set after held a) (set places P held) (held + 1) (opened (L .bits) σ P a (T .turning .A))
       bind-ready = ready-open (ready-next R (T .moved) (T .turning .kept) after z (T .kept)) a (T .turning .A) (T .turning .denotes) room P

@@ -11,11 +11,12 @@ use Rattle.mucalculus.specs.Form.{Form, noneOpen, noEnv}
 use Rattle.tokens.specs.Tokens.{grammarOf}
 use Rattle.tokens.specs.declared.Kind.the-variants.{Set}
 use Rattle.tokens.specs.declared.Grammar.{Grammar}
-use Rattle.tokens.specs.declared.Grammar.the-variants.{States}
+use Rattle.tokens.specs.declared.Grammar.the-variants.{States, Runs}
 use Rattle.tokens.specs.declared.Reading.the-variants.{Is as Reads, Unknown}
 use Rattle.formula.specs.Parse.{got, formOf, depthLimit, parse}
 use Rattle.formula.proofs.Accepted.{found}
 use Rattle.formula.proofs.Fits.{Fitting, fitting}
+use Rattle.formula.proofs.Versions.{parse-runs}
 use Rattle.layout.specs.Places.{BITS, FIRST-REGISTER, FIRST-RELATION}
 use Rattle.layout.specs.View.{View}
 use Rattle.diagram.specs.Level.{Fn}
@@ -41,7 +42,7 @@ use Rattle.contract.specs.Seen.{arrowIn, seenIn, sound-table}
 use Rattle.contract.specs.Roots.{filled-root, root-filled}
 use Rattle.modal.specs.declared.Limits.{Limits}
 use Rattle.modal.specs.Chain.{Alike, Base}
-use Rattle.evaluator.specs.Scene.{Scene, modelIn, holdsReg, holdsRel, Part, Ready, endedOf, EvalPre, EvalPost}
+use Rattle.evaluator.specs.Scene.{stackSize, Scene, modelIn, holdsReg, holdsRel, Part, Ready, endedOf, EvalPre, EvalPost}
 use Rattle.evaluator.specs.Whole.{bookIn, SetPre, SetPost}
 use Rattle.evaluator.specs.declared.Context.{Context}
 use Rattle.evaluator.specs.declared.Evaluated.{Evaluated}
@@ -88,27 +89,31 @@ module _ (L : Limits) {W X : View} (s : Sound W) (bits : L .bits ≡ W .header B
       let e : filled W ≡ live X (take 0 stack) = sym (append-nil (filled W)) ∙ sym (live-same frame []) in
       subst (λ (xs : List ℕ). Alike xs (rootsOf (seenIn W))) e (record { to = filled-root W; from = root-filled W })
 
-  pub start-scene : Ready L X (replicate depthLimit 0) (replicate 16 0) 0 (sceneIn W)
+  pub start-scene : Ready L X (replicate stackSize 0) (replicate 16 0) 0 (sceneIn W)
   start-scene = record {
     base = start-base;
     reg = λ r l. place fnOf (bookIn W .reg r) (FIRST-REGISTER + r) (omega arith) (shows .reg r l);
     rel = λ t l. place fnOfPairs (bookIn W .rel t) (FIRST-RELATION + t) (omega arith) (shows .rel t l);
-    roots = start-roots (replicate depthLimit 0);
+    roots = start-roots (replicate stackSize 0);
     lives = start-held;
-    size = length-replicate {A = ℕ} depthLimit 0;
+    size = length-replicate {A = ℕ} stackSize 0;
     within = omega arith;
     vars = length-replicate 16 false;
     slots = length-replicate {A = ℕ} 16 0;
     open-at = λ P o. absurd (none-open P o);
   }
 
--- a set's formula is one of states
-set-grammar : (v : ℕ) (g : Grammar) → grammarOf Set v ≡ Reads g → g ≡ States
-set-grammar v g e = go (eqb v 1) e
+-- a set's formula is one of states, or of states and runs, which reads it too
+set-read : (n : ℕ) (bs : List ℕ) (v : ℕ) (g : Grammar) {f : Form} {e : ℕ} → grammarOf Set v ≡ Reads g → parse n g depthLimit bs 3 ≡ got f e → parse n Runs depthLimit bs 3 ≡ got f e
+set-read n bs v g {f} {e} k h = go (eqb v 1) (eqb v 2) k
   where
-    go : (b : Bool) → cond b (Reads States) Unknown ≡ Reads g → g ≡ States
-    go true q = cc
-    go false q = let z : _≡_ {A = ℕ} 0 1 = cc in absurd (omega arith)
+    by-grammar : {x : Grammar} → Reads x ≡ Reads g → parse n x depthLimit bs 3 ≡ got f e
+    by-grammar {x} q = let same : x ≡ g = cc in subst (λ (y : Grammar). parse n y depthLimit bs 3 ≡ got f e) (sym same) h
+
+    go : (a b : Bool) → cond a (Reads States) (cond b (Reads Runs) Unknown) ≡ Reads g → parse n Runs depthLimit bs 3 ≡ got f e
+    go true b q = parse-runs n bs depthLimit 3 (by-grammar q)
+    go false true q = by-grammar q
+    go false false q = let z : _≡_ {A = ℕ} 0 1 = cc in absurd (omega arith)
 
 -- where the evaluation starts
 abbrev pub starting : Context
@@ -127,14 +132,13 @@ module _ {L : Limits} {W : View} {bs : List ℕ} (p : SetPre L W bs) where
       let h = found Set (W .header BITS) bs (fits .form) (fits .read) in
       record {
         stands = record {
-          reads = subst (λ (n : ℕ). parse n States depthLimit bs 3 ≡ got (fits .form) (length bs)) (sym (p .bits))
-              (subst (λ (g : Grammar). parse (W .header BITS) g depthLimit bs 3 ≡ got (fits .form) (length bs)) (set-grammar (getD bs 2 0) (h .grammar) (h .known)) (h .parsed));
+          reads = subst (λ (n : ℕ). parse n Runs depthLimit bs 3 ≡ got (fits .form) (length bs)) (sym (p .bits)) (set-read (W .header BITS) bs (getD bs 2 0) (h .grammar) (h .known) (h .parsed));
         };
         named = record { is-bound = fits .is-bound; is-filled = fits .is-filled };
       }
 
   module _ {X : View} (f : Forgot W X) where
-    pub set-asks : EvalPre L X (replicate depthLimit 0) bs starting
+    pub set-asks : EvalPre L X (replicate stackSize 0) bs starting
     set-asks = record {
       room = omega arith;
       scene = sceneIn W;
@@ -144,7 +148,7 @@ module _ {L : Limits} {W : View} {bs : List ℕ} (p : SetPre L W bs) where
       part = whole-part;
     }
 
-    pub set-ends : {Y : View} {after : List ℕ} {r : Evaluated} → EvalPost L X Y (replicate depthLimit 0) after bs starting r → SetPost L W Y bs r
+    pub set-ends : {Y : View} {after : List ℕ} {r : Evaluated} → EvalPost L X Y (replicate stackSize 0) after bs starting r → SetPost L W Y bs r
     unfolding whole
     set-ends {Y} {after} {r} E =
         let A = E .answers (sceneIn W) whole (length bs) (start-scene L (p .sound) (p .bits) (p .rows) (p .limit) f) whole-part in

@@ -12,7 +12,6 @@ use borrow.Author.Tests.{eq-eqb, ne-eqb}
 use lib.ListN.{length, getD, set, take, length-set, List·getD-eq-default}
 use lib.Seq.{getD-set-same, getD-set-other, getD-take, length-take-le, take-suc-set, take-set-le, take-take}
 use Rattle.mucalculus.specs.Form.{put, filled as hasContent}
-use Rattle.formula.specs.Parse.{depthLimit}
 use Rattle.layout.specs.Places.{FIRST-REGISTER, FIRST-RELATION, ROOTS-END}
 use Rattle.layout.specs.View.{View}
 use Rattle.diagram.specs.Level.{Fn}
@@ -30,7 +29,7 @@ use Rattle.steps.specs.Steps.{Fits, live-same}
 use Rattle.steps.specs.declared.Step.{Step}
 use Rattle.modal.specs.declared.Limits.{Limits}
 use Rattle.modal.specs.Chain.{Alike, alike-trans, alike-cons, operands-first, Moved, base-next, step-pre}
-use Rattle.evaluator.specs.Scene.{Scene, pushed, opened, Open, Ready, LivePre}
+use Rattle.evaluator.specs.Scene.{stackSize, Scene, pushed, opened, Open, Ready, LivePre}
 
 -- a place's content is kept with its row
 place-kept : {X : Type 0} (m : ℕ) {before after : Rows} {roots : List ℕ} (f : X → Fn) (o : Option X) (u : Option ℕ) → Keeps before after roots → ((a : ℕ) → u ≡ some a → Mem a roots)
@@ -113,7 +112,7 @@ module _ {L : Limits} {W : View} {stack places : List ℕ} {held : ℕ} {σ : Sc
 
   -- ---- a value more
 
-  module _ (a : ℕ) (F : Fn) (d : Denotes (2 * L .bits) (rowsOf W) a F) (room : held < depthLimit) where
+  module _ (a : ℕ) (F : Fn) (d : Denotes (2 * L .bits) (rowsOf W) a F) (room : held < stackSize) where
     more-roots : Alike (live W (take (held + 1) (set stack held a))) (a ∷ σ .roots)
     more-roots =
         let t : take (held + 1) (set stack held a) ≡ take held stack ++ (a ∷ []) = rw (add-one held) (take-suc-set stack held a (let s = R .size in omega arith)) in
@@ -145,7 +144,7 @@ module _ {L : Limits} {W : View} {stack places : List ℕ} {held : ℕ} {σ : Sc
 
   -- ---- a variable opened
 
-  module _ (a : ℕ) (A : List Bool) (d : Denotes (2 * L .bits) (rowsOf W) a (fnOf (L .bits) A)) (room : held < depthLimit) where
+  module _ (a : ℕ) (A : List Bool) (d : Denotes (2 * L .bits) (rowsOf W) a (fnOf (L .bits) A)) (room : held < stackSize) where
     pub ready-open : (P : ℕ) → Ready L W (set stack held a) (set places P held) (held + 1) (opened (L .bits) σ P a A)
     ready-open P = record {
       base = R .base;

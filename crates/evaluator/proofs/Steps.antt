@@ -10,7 +10,7 @@ use Rattle.tokens.specs.declared.Leaf.{Leaf}
 use Rattle.tokens.specs.declared.Mode.{Mode}
 use Rattle.tokens.specs.declared.Join.{Join}
 use Rattle.tokens.specs.declared.Join.the-variants.{And, Or}
-use Rattle.formula.specs.Parse.{leafForm, joinForm, modalForm, depthLimit}
+use Rattle.formula.specs.Parse.{leafForm, joinForm, modalForm}
 use Rattle.layout.specs.View.{View}
 use Rattle.diagram.specs.Level.{Fn}
 use Rattle.diagram.specs.Rows.{Rows, Arrow, den}
@@ -30,7 +30,7 @@ use Rattle.book.specs.Run.{Outcome, value, andThen, notStep, twoStep, run}
 use Rattle.book.specs.Follow.{ends, Evals, endedBy, evals-same, evals-stop, evals-not, evals-two, evals-two-stop}
 use Rattle.modal.specs.declared.Limits.{Limits}
 use Rattle.modal.specs.Chain.{Alike, alike-cons, step-roots, Moved, moved-trans, Took, took}
-use Rattle.evaluator.specs.Scene.{Scene, modelIn, pushed, Ready, Part, endedOf, EndsAt, Answers, fromMade, joinStep, LeafAnswers, LivePre, LivePost}
+use Rattle.evaluator.specs.Scene.{stackSize, Scene, modelIn, pushed, Ready, Part, endedOf, EndsAt, Answers, fromMade, joinStep, LeafAnswers, LivePre, LivePost}
 use Rattle.evaluator.specs.declared.Evaluated.{Evaluated}
 use Rattle.evaluator.specs.declared.Evaluated.the-variants.{Value}
 use Rattle.evaluator.proofs.State.{still-below, live-pre, ready-next, ready-push}
@@ -173,7 +173,7 @@ module _ {L : Limits} {W X : View} {stack after places : List ℕ} {held rounds 
   pub both-part : {n : ℕ} {bs : List ℕ} {depth : ℕ} {scope : List Bool} {regs rels : ℕ → Bool} {g : Form} {e′ : ℕ} → Part n bs e depth scope regs rels g e′ → Part n bs k depth scope regs rels g e′
   both-part {n} {bs} {depth} {scope} {regs} {rels} {g} {e′} p = subst (λ (x : ℕ). Part n bs x depth scope regs rels g e′) (sym value-end) p
 
-  module _ (room : held < depthLimit) where
+  module _ (room : held < stackSize) where
     pub both-ready : (C : List Bool) → Denotes (2 * L .bits) (rowsOf X) a (fnOf (L .bits) C) → Ready L X (set after held a) places (held + 1) (pushed σ a (fnOf (L .bits) C))
     both-ready C d = ready-push value-ready a (fnOf (L .bits) C) d room
 

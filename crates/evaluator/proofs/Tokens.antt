@@ -10,12 +10,12 @@ use Rattle.tokens.specs.Tokens.{leadAt, allowed}
 use Rattle.tokens.proofs.Leads.{lead-read}
 use Rattle.tokens.specs.declared.Grammar.{Grammar}
 use Rattle.tokens.specs.declared.Leaf.{Leaf}
-use Rattle.tokens.specs.declared.Join.{Join}
+use Rattle.tokens.specs.declared.Two.{Two}
 use Rattle.tokens.specs.declared.Token.{Token}
 use Rattle.tokens.specs.declared.Token.the-variants.{Leaf as LeafToken, Both}
 use Rattle.tokens.specs.declared.Lead.{Lead}
 use Rattle.tokens.specs.declared.Lead.the-variants.{Is, Bad}
-use Rattle.formula.specs.Parse.{leafForm, joinForm, Got, fails, got, isFormula, formOf, endOf, parse}
+use Rattle.formula.specs.Parse.{leafForm, twoForm, Got, fails, got, isFormula, formOf, endOf, parse}
 use Rattle.formula.proofs.Steps.{Unary, lead-inside}
 use Rattle.evaluator.specs.Scene.{Stands}
 use Rattle.formula.proofs.Trees.{TwoParts, some-depth, some-token, tree-leaf, tree-one, tree-both}
@@ -68,15 +68,15 @@ module _ {n : ℕ} {g : Grammar} {bs : List ℕ} {at depth : ℕ} {f : Form} {e 
             let q = tree-one n g depth bs at whole found is one op in
             record { reads = is-got (parse n g (depth - 1) bs (at + 1)) (q .read) ∙ ap (got inner) (sym (q .end) ∙ ap endOf (r .reads)) }
 
-      -- AND and OR
-      module _ {j : Join} (two : t ≡ Both j) where
+      -- an operator of two parts
+      module _ {j : Two} (two : t ≡ Both j) where
         first : Got
         first = parse n g (depth - 1) bs (at + 1)
 
         second : Got
         second = parse n g (depth - 1) bs (endOf first)
 
-        parts : TwoParts (joinForm j) (parse n g depth bs at) first second
+        parts : TwoParts (twoForm j) (parse n g depth bs at) first second
         unfolding first second
         parts = tree-both n g depth bs at whole found is two
 
@@ -89,7 +89,7 @@ module _ {n : ℕ} {g : Grammar} {bs : List ℕ} {at depth : ℕ} {f : Form} {e 
         pub middle : ℕ
         middle = endOf first
 
-        pub both-form : f ≡ joinForm j left right
+        pub both-form : f ≡ twoForm j left right
         unfolding left right
         both-form = ap formOf (sym (r .reads)) ∙ parts .form
 

@@ -1,14 +1,15 @@
 -- What an evaluation of a set's formula stands in, what it asks, and what it answers. Assumes nothing.
 use mathlib.Core.Path.{_≡_}
 use mathlib.Core.Bool.{Bool, true, false, _&&_}
-use mathlib.Core.List.{List, _∷_}
+use mathlib.Core.List.{List, _∷_, List·Memᴰ as Mem}
 use mathlib.Core.Option.{Option}
 use Prim.Native.Nat.{ℕ, _+_, _*_, _≤_, _<_}
 use lib.Dec.{ltb}
 use lib.ListN.{length, getD, set, take}
-use Rattle.mucalculus.specs.Form.{Form, neg, Pairs, Model, Env, put, bound, filled as hasContent}
+use Rattle.mucalculus.specs.Form.{Form, neg, conj, disj, Pairs, Model, Env, put, bound, filled as hasContent}
+use Rattle.mucalculus.specs.Written.{goes}
 use Rattle.tokens.specs.declared.Grammar.{Grammar}
-use Rattle.tokens.specs.declared.Grammar.the-variants.{States}
+use Rattle.tokens.specs.declared.Grammar.the-variants.{Runs}
 use Rattle.tokens.specs.Tokens.{leafAllowed}
 use Rattle.tokens.specs.declared.Leaf.{Leaf}
 use Rattle.tokens.specs.declared.Fix.{Fix}
@@ -17,7 +18,7 @@ use Rattle.tokens.specs.declared.Join.{Join}
 use Rattle.tokens.specs.declared.Join.the-variants.{And, Or}
 use Rattle.tokens.specs.declared.Mode.{Mode}
 use Rattle.tokens.specs.declared.Mode.the-variants.{All, Some}
-use Rattle.formula.specs.Parse.{leafForm, joinForm, modalForm, binderForm, got, parse, depthLimit}
+use Rattle.formula.specs.Parse.{leafForm, joinForm, untilForm, modalForm, binderForm, got, parse}
 use Rattle.formula.specs.Checks.{filled}
 use Rattle.layout.specs.Places.{FIRST-REGISTER, FIRST-RELATION}
 use Rattle.layout.specs.View.{View}
@@ -55,6 +56,10 @@ pub record Scene : Type 0 where
   pub roots : List ℕ
   pub fns : List Fn
 
+-- how many words the stack has: two for each level that a formula may have
+abbrev pub stackSize : ℕ
+stackSize = 128
+
 abbrev pub modelIn : ℕ → Scene → Model
 modelIn n σ = record { n = n; rel = σ .rel; reg = σ .reg }
 
@@ -79,8 +84,8 @@ pub record Ready (L : Limits) (W : View) (stack places : List ℕ) (held : ℕ) 
   -- "Live at a step: all filled registers and relations, the current set of each open binder, each value made and not yet used"
   pub roots : Alike (live W (take held stack)) (σ .roots)
   pub lives : Held (2 * L .bits) (rowsOf W) (σ .roots) (σ .fns)
-  pub size : length stack ≡ depthLimit
-  pub within : held ≤ depthLimit
+  pub size : length stack ≡ stackSize
+  pub within : held ≤ stackSize
   pub vars : length (σ .scope) ≡ 16
   pub slots : length places ≡ 16
   pub open-at : (P : ℕ) → getD (σ .scope) P false ≡ true → Open (L .bits) W stack places held (σ .env P) P
@@ -103,7 +108,7 @@ pub record Stands (n : ℕ) (g : Grammar) (bs : List ℕ) (at depth : ℕ) (f : 
 
 -- a formula of states, or a part of one, that has passed the checks
 pub record Part (n : ℕ) (bs : List ℕ) (at depth : ℕ) (scope : List Bool) (regs rels : ℕ → Bool) (f : Form) (e : ℕ) : Type 0 where
-  pub stands : Stands n States bs at depth f e
+  pub stands : Stands n Runs bs at depth f e
   pub named : Named scope regs rels f
 
 -- the answer as the book has it, and the place after the formula
@@ -143,6 +148,10 @@ joinStep Or a b = step.Or a b
 abbrev pub bodyOf : Context → ℕ → ℕ → Context
 bodyOf c P rounds = record { at = c .at; depth = c .depth; held = c .held + 1; places = set (c .places) P (c .held); rounds = rounds }
 
+-- the context of what follows at k, with one live word more and `rounds` counted
+abbrev pub roundOf : Context → ℕ → ℕ → Context
+roundOf c k rounds = record { at = k; depth = c .depth; held = c .held + 1; places = c .places; rounds = rounds }
+
 -- mu is the least fixpoint
 abbrev pub isLeast : Fix → Bool
 isLeast Mu = true
@@ -168,13 +177,13 @@ pub record LeafPre (L : Limits) (W : View) (stack : List ℕ) (c : Context) (l :
   pub scene : Scene
   pub ready : Ready L W stack (c .places) (c .held) scene
   pub named : Named (scene .scope) (holdsReg scene) (holdsRel scene) (leafForm l)
-  pub taken : leafAllowed l (L .bits) States ≡ true
+  pub taken : leafAllowed l (L .bits) Runs ≡ true
 
 pub record LeafPost (L : Limits) (W X : View) (stack : List ℕ) (c : Context) (l : Leaf) (o : Made) : Type 0 where
   pub answers : (σ : Scene) → Ready L W stack (c .places) (c .held) σ → Named (σ .scope) (holdsReg σ) (holdsRel σ) (leafForm l) → LeafAnswers L W X σ (leafForm l) o
 
 pub record EvalPre (L : Limits) (W : View) (stack bs : List ℕ) (c : Context) : Type 0 where
-  pub room : c .held + c .depth ≤ depthLimit
+  pub room : c .held + 2 * c .depth ≤ stackSize
   pub scene : Scene
   pub form : Form
   pub end : ℕ
@@ -192,7 +201,7 @@ pub record NegatePost (L : Limits) (W X : View) (stack after bs : List ℕ) (c :
 
 -- AND and OR: f and, after it, g are the parts
 pub record BothPre (L : Limits) (W : View) (stack bs : List ℕ) (c : Context) : Type 0 where
-  pub room : c .held + c .depth < depthLimit
+  pub room : c .held + 2 * c .depth + 1 < stackSize
   pub scene : Scene
   pub left : Form
   pub right : Form
@@ -208,7 +217,7 @@ pub record BothPost (L : Limits) (W X : View) (stack after bs : List ℕ) (c : C
 
 -- box and diamond over relation t: f is the part
 pub record ModePre (L : Limits) (W : View) (stack bs : List ℕ) (c : Context) (t : ℕ) : Type 0 where
-  pub room : c .held + c .depth < depthLimit
+  pub room : c .held + 2 * c .depth + 1 < stackSize
   pub scene : Scene
   pub form : Form
   pub end : ℕ
@@ -222,7 +231,7 @@ pub record ModePost (L : Limits) (W X : View) (stack after bs : List ℕ) (c : C
 
 -- mu and nu: f is the body, in which P is open
 pub record BindPre (L : Limits) (W : View) (stack bs : List ℕ) (c : Context) (P : ℕ) : Type 0 where
-  pub room : c .held + c .depth < depthLimit
+  pub room : c .held + 2 * c .depth + 1 < stackSize
   pub scene : Scene
   pub form : Form
   pub end : ℕ
@@ -232,3 +241,104 @@ pub record BindPre (L : Limits) (W : View) (stack bs : List ℕ) (c : Context) (
 pub record BindPost (L : Limits) (W X : View) (stack after bs : List ℕ) (c : Context) (x : Fix) (P : ℕ) (r : Evaluated) : Type 0 where
   pub answers : (σ : Scene) (f : Form) (e : ℕ) → Ready L W stack (c .places) (c .held) σ → Part (L .bits) bs (c .at) (c .depth) (set (σ .scope) P true) (holdsReg σ) (holdsRel σ) f e
       → Answers L W X stack after (c .held) (c .rounds) σ (binderForm x P f) e r
+
+-- ---- until: "mu X (g or (f and diamond X))", "mu X (g or (f and (box X and diamond true)))", "X a variable of its own"
+
+-- X, which no formula's bytes name
+abbrev pub own : ℕ
+own = 16
+
+-- on some run, or on every one
+abbrev pub isSome : Mode → Bool
+isSome All = false
+isSome Some = true
+
+-- a round's formula
+abbrev pub roundForm : Mode → ℕ → Form → Form → Form
+roundForm m t f g = disj g (conj f (goes (isSome m) t own))
+
+-- the arrow x is live, and is the current set
+pub record Current (L : Limits) (W : View) (σ : Scene) (x : ℕ) : Type 0 where
+  pub root : Mem x (σ .roots)
+  pub denotes : Denotes (2 * L .bits) (rowsOf W) x (fnOf (L .bits) (σ .env own))
+
+-- x is the value of f, which took no step
+abbrev pub IsValue : Limits → View → List ℕ → Context → Scene → Form → ℕ → ℕ → Type 0
+IsValue L W stack c σ f x e = Answers L W W stack stack (c .held) (c .rounds) σ f e (Value x e (c .rounds))
+
+-- box and diamond of a value
+pub record ReachPre (L : Limits) (W : View) (stack : List ℕ) (c : Context) (t x e : ℕ) : Type 0 where
+  pub scene : Scene
+  pub form : Form
+  pub ready : Ready L W stack (c .places) (c .held) scene
+  pub relation : holdsRel scene t ≡ true
+  pub is-value : IsValue L W stack c scene form x e
+
+pub record ReachPost (L : Limits) (W X : View) (stack : List ℕ) (c : Context) (m : Mode) (t x e : ℕ) (r : Evaluated) : Type 0 where
+  pub answers : (σ : Scene) (f : Form) → Ready L W stack (c .places) (c .held) σ → holdsRel σ t ≡ true → IsValue L W stack c σ f x e
+      → Answers L W X stack stack (c .held) (c .rounds) σ (modalForm m t f) e r
+
+-- what is wanted of the next states
+pub record FurtherPre (L : Limits) (W : View) (stack : List ℕ) (c : Context) (t x : ℕ) : Type 0 where
+  pub room : c .held < stackSize
+  pub scene : Scene
+  pub ready : Ready L W stack (c .places) (c .held) scene
+  pub relation : holdsRel scene t ≡ true
+  pub current : Current L W scene x
+
+pub record FurtherPost (L : Limits) (W X : View) (stack after : List ℕ) (c : Context) (m : Mode) (t x e : ℕ) (r : Evaluated) : Type 0 where
+  pub answers : (σ : Scene) → Ready L W stack (c .places) (c .held) σ → holdsRel σ t ≡ true → Current L W σ x
+      → Answers L W X stack after (c .held) (c .rounds) σ (goes (isSome m) t own) e r
+
+abbrev pub EveryPost : Limits → View → View → List ℕ → List ℕ → Context → ℕ → ℕ → ℕ → Evaluated → Type 0
+EveryPost L W X stack after c t x e r = FurtherPost L W X stack after c All t x e r
+
+-- f and that
+pub record KeepPre (L : Limits) (W : View) (stack bs : List ℕ) (c : Context) (t x : ℕ) : Type 0 where
+  pub room : c .held + 2 * c .depth ≤ stackSize
+  pub scene : Scene
+  pub form : Form
+  pub end : ℕ
+  pub ready : Ready L W stack (c .places) (c .held) scene
+  pub part : Part (L .bits) bs (c .at) (c .depth) (scene .scope) (holdsReg scene) (holdsRel scene) form end
+  pub relation : holdsRel scene t ≡ true
+  pub current : Current L W scene x
+
+pub record KeepPost (L : Limits) (W X : View) (stack after bs : List ℕ) (c : Context) (m : Mode) (t x e : ℕ) (r : Evaluated) : Type 0 where
+  pub answers : (σ : Scene) (f : Form) (k : ℕ) → Ready L W stack (c .places) (c .held) σ → Part (L .bits) bs (c .at) (c .depth) (σ .scope) (holdsReg σ) (holdsRel σ) f k
+      → holdsRel σ t ≡ true → Current L W σ x → Answers L W X stack after (c .held) (c .rounds) σ (conj f (goes (isSome m) t own)) e r
+
+-- a round: g, or f and that
+pub record RoundPre (L : Limits) (W : View) (stack bs : List ℕ) (c : Context) (middle t x : ℕ) : Type 0 where
+  pub room : c .held + 2 * c .depth < stackSize
+  pub scene : Scene
+  pub left : Form
+  pub right : Form
+  pub end : ℕ
+  pub ready : Ready L W stack (c .places) (c .held) scene
+  pub first : Part (L .bits) bs (c .at) (c .depth) (scene .scope) (holdsReg scene) (holdsRel scene) left middle
+  pub second : Part (L .bits) bs middle (c .depth) (scene .scope) (holdsReg scene) (holdsRel scene) right end
+  pub relation : holdsRel scene t ≡ true
+  pub current : Current L W scene x
+
+pub record RoundPost (L : Limits) (W X : View) (stack after bs : List ℕ) (c : Context) (middle : ℕ) (m : Mode) (t x : ℕ) (r : Evaluated) : Type 0 where
+  pub answers : (σ : Scene) (f g : Form) (e : ℕ) → Ready L W stack (c .places) (c .held) σ → Part (L .bits) bs (c .at) (c .depth) (σ .scope) (holdsReg σ) (holdsRel σ) f middle
+      → Part (L .bits) bs middle (c .depth) (σ .scope) (holdsReg σ) (holdsRel σ) g e → holdsRel σ t ≡ true → Current L W σ x
+      → Answers L W X stack after (c .held) (c .rounds) σ (roundForm m t f g) e r
+
+-- all rounds: f and, after it, g are the parts
+pub record UntilPre (L : Limits) (W : View) (stack bs : List ℕ) (c : Context) (t : ℕ) : Type 0 where
+  pub room : c .held + 2 * c .depth + 1 < stackSize
+  pub scene : Scene
+  pub left : Form
+  pub right : Form
+  pub middle : ℕ
+  pub end : ℕ
+  pub ready : Ready L W stack (c .places) (c .held) scene
+  pub first : Part (L .bits) bs (c .at) (c .depth) (scene .scope) (holdsReg scene) (holdsRel scene) left middle
+  pub second : Part (L .bits) bs middle (c .depth) (scene .scope) (holdsReg scene) (holdsRel scene) right end
+  pub relation : holdsRel scene t ≡ true
+
+pub record UntilPost (L : Limits) (W X : View) (stack after bs : List ℕ) (c : Context) (m : Mode) (t : ℕ) (r : Evaluated) : Type 0 where
+  pub answers : (σ : Scene) (f g : Form) (k e : ℕ) → Ready L W stack (c .places) (c .held) σ → Part (L .bits) bs (c .at) (c .depth) (σ .scope) (holdsReg σ) (holdsRel σ) f k
+      → Part (L .bits) bs k (c .depth) (σ .scope) (holdsReg σ) (holdsRel σ) g e → holdsRel σ t ≡ true → Answers L W X stack after (c .held) (c .rounds) σ (untilForm m t f g) e r

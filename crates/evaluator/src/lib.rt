@@ -1,5 +1,7 @@
 // The evaluation of a set's formula from its bytes, over the words of a table.
 use formula::Frame;
+use formula::Pass;
+use formula::syntax;
 use layout::Table;
 use layout::header_word;
 use memory::forget;
@@ -16,17 +18,17 @@ use tokens::Lead;
 use tokens::Leaf;
 use tokens::Mode;
 use tokens::Token;
+use tokens::Two;
 use tokens::lead_at;
 ghost use mathlib.Core.Path.{_≡_};
 ghost use Prim.Native.Nat.{_+_, _<_, _≤_};
 ghost use lib.ListN.{length, getD, set};
 ghost use Rattle.layout.specs.Places.{HEADER};
 ghost use Rattle.layout.specs.View.{view, headerOf};
-ghost use Rattle.formula.specs.Parse.{depthLimit};
 ghost use Rattle.book.specs.Turns.{startArrow};
 ghost use Rattle.modal.specs.Modal.{ModalPre};
 ghost use Rattle.evaluator.specs.Whole.{SetPre, SetPost};
-ghost use Rattle.evaluator.specs.Scene.{fromMade, bodyOf, isLeast, joinStep, OverPost, LivePre, LivePost, LeafPre, LeafPost, EvalPre, EvalPost, NegatePost, BothPre, BothPost, ModePre, ModePost, BindPre, BindPost};
+ghost use Rattle.evaluator.specs.Scene.{stackSize, fromMade, bodyOf, roundOf, isLeast, joinStep, OverPost, LivePre, LivePost, LeafPre, LeafPost, EvalPre, EvalPost, NegatePost, BothPre, BothPost, ModePre, ModePost, BindPre, BindPost, ReachPre, ReachPost, FurtherPre, FurtherPost, EveryPost, KeepPre, KeepPost, RoundPre, RoundPost, UntilPre, UntilPost};
 
 // What an evaluation answers: the arrow of the set, the place after the formula and the rounds counted; or why there is none.
 pub enum Evaluated {
@@ -41,6 +43,15 @@ pub enum Evaluated {
 
 // For each open variable the place of its binder's current set on the stack. Bytes, since a context is copied at each part of a formula.
 type Places = [u8; Grammar::VARIABLES];
+
+// The words in which an evaluation keeps live arrows.
+pub struct Stack;
+
+impl Stack {
+    // Two for each level of a formula, since until holds its current set and the value of g while f is evaluated; what it holds after f is
+    // no more than the level below would.
+    pub const WORDS: usize = 128;
+}
 
 // Where an evaluation stands: its place in the bytes, the depth left, how many words of the stack are live, the places of the open
 // variables among them, and the rounds counted.
@@ -68,7 +79,7 @@ fn answer(made: Made, next: usize, rounds: u32) -> Evaluated
 
 // The places with a variable's place.
 fn with_place(places: Places, p: u32, place: usize) -> Places
-    requires { ⌜ place < depthLimit ⌝ }
+    requires { ⌜ place < stackSize ⌝ }
     ensures { λ r. ⌜ r ≡ set places p place ⌝ }
 {
     let mut inner = places;
@@ -81,7 +92,7 @@ fn with_place(places: Places, p: u32, place: usize) -> Places
 
 // The context of a binder's body: the current set of variable p is one live word more, and `rounds` are counted.
 fn opened(here: Context, p: u32, rounds: u32) -> Context
-    requires { ⌜ here .held < depthLimit ⌝ }
+    requires { ⌜ here .held < stackSize ⌝ }
     ensures { λ r. ⌜ r ≡ bodyOf here p rounds ⌝ }
 {
     let places = here.places;
@@ -91,6 +102,18 @@ fn opened(here: Context, p: u32, rounds: u32) -> Context
     body.places = inner;
     body.rounds = rounds;
     body
+}
+
+// The context of what follows at `next`, with one live word more and `rounds` counted.
+fn onward(here: Context, next: usize, rounds: u32) -> Context
+    requires { ⌜ here .held < stackSize ⌝ }
+    ensures { λ r. ⌜ r ≡ roundOf here next rounds ⌝ }
+{
+    let mut rest = here;
+    rest.at = next;
+    rest.held = here.held + 1;
+    rest.rounds = rounds;
+    rest
 }
 
 // The arrow where a binder starts: no state for mu, every state for nu.
@@ -178,6 +201,94 @@ fn over(words: &mut [u32], limits: Limits, roots: &[u32], m: Mode, relation: u32
     }
 }
 
+// Box or diamond of a value over relation t; the answer names the place `end`.
+fn reach(
+    words: &mut [u32],
+    stack: &[u32],
+    limits: Limits,
+    here: Context,
+    m: Mode,
+    t: u32,
+    x: u32,
+    end: usize,
+) -> Evaluated
+    requires { ⌜ ReachPre limits (view (limits .rows) (now words)) (now stack) here t x end ⌝ }
+    ensures { λ r. ⌜ ReachPost limits (view (limits .rows) (now (words .entry))) (view (limits .rows) (now (words .exit))) (now (stack .entry)) here m t x end r ⌝ }
+{
+    let h = Table::FIRST_RELATION + (t as usize);
+    let relation = root_arrow(words, h);
+    let held = here.held;
+    let made = over(words, limits, &stack[..held], m, relation, x);
+    answer(made, end, here.rounds)
+}
+
+// Box of the current set x, and diamond of true, and AND.
+fn every(
+    words: &mut [u32],
+    stack: &mut [u32],
+    limits: Limits,
+    here: Context,
+    t: u32,
+    x: u32,
+    end: usize,
+) -> Evaluated
+    requires { ⌜ FurtherPre limits (view (limits .rows) (now words)) (now stack) here t x ⌝ }
+    ensures { λ r. ⌜ EveryPost limits (view (limits .rows) (now (words .entry))) (view (limits .rows) (now (words .exit))) (now (stack .entry)) (now (stack .exit)) here t x end r ⌝ }
+{
+    let first = reach(words, stack, limits, here, Mode::All, t, x, end);
+    let Evaluated::Value {
+        arrow: a,
+        next: _,
+        rounds: counted,
+    } = first
+    else {
+        return first;
+    };
+    let held = here.held;
+    stack[held] = a;
+    let rest = onward(here, here.at, counted);
+    let second = reach(
+        words,
+        stack,
+        limits,
+        rest,
+        Mode::Some,
+        t,
+        Table::EVERYTHING,
+        end,
+    );
+    let Evaluated::Value {
+        arrow: b,
+        next: last,
+        rounds: total,
+    } = second
+    else {
+        return second;
+    };
+    let made = live_step(words, stack, limits, held, Step::And(a, b));
+    answer(made, last, total)
+}
+
+// What a round of until wants of the next states: diamond of the current set x, or box of it and diamond of true.
+fn further(
+    words: &mut [u32],
+    stack: &mut [u32],
+    limits: Limits,
+    here: Context,
+    m: Mode,
+    t: u32,
+    x: u32,
+    end: usize,
+) -> Evaluated
+    requires { ⌜ FurtherPre limits (view (limits .rows) (now words)) (now stack) here t x ⌝ }
+    ensures { λ r. ⌜ FurtherPost limits (view (limits .rows) (now (words .entry))) (view (limits .rows) (now (words .exit))) (now (stack .entry)) (now (stack .exit)) here m t x end r ⌝ }
+{
+    match m {
+        Mode::All => every(words, stack, limits, here, t, x, end),
+        Mode::Some => reach(words, stack, limits, here, Mode::Some, t, x, end),
+    }
+}
+
 // Evaluates the formula at the context's place, of depth at most its depth.
 fn eval(
     words: &mut [u32],
@@ -189,7 +300,7 @@ fn eval(
     requires { ⌜ EvalPre limits (view (limits .rows) (now words)) (now stack) (now bytes) here ⌝ }
     ensures { λ r. ⌜ EvalPost limits (view (limits .rows) (now (words .entry))) (view (limits .rows) (now (words .exit))) (now (stack .entry)) (now (stack .exit)) (now (bytes .entry)) here r ⌝ }
 {
-    let Lead::Is(t) = lead_at(bytes, limits.bits, Grammar::States, here.at) else {
+    let Lead::Is(t) = lead_at(bytes, limits.bits, Grammar::Runs, here.at) else {
         return Evaluated::Full;
     };
     let mut part = here;
@@ -198,7 +309,10 @@ fn eval(
     match t {
         Token::Leaf(l) => answer(leaf(words, stack, limits, here, l), part.at, here.rounds),
         Token::Not => negate(words, stack, bytes, limits, part),
-        Token::Both(j) => both(words, stack, bytes, limits, part, j),
+        Token::Both(w) => match w {
+            Two::Join(j) => both(words, stack, bytes, limits, part, j),
+            Two::Until(m, t) => until(words, stack, bytes, limits, part, m, t),
+        },
         Token::Modal(m, t) => modal(words, stack, bytes, limits, part, m, t),
         Token::Binder(x, p) => bind(words, stack, bytes, limits, part, x, p),
     }
@@ -334,13 +448,138 @@ fn bind(
     Evaluated::Spent
 }
 
+// In a round of until: evaluates f at the context's place and, its value being live meanwhile, what is wanted of the next states, and takes
+// the step AND.
+fn keep(
+    words: &mut [u32],
+    stack: &mut [u32],
+    bytes: &[u8],
+    limits: Limits,
+    here: Context,
+    m: Mode,
+    t: u32,
+    x: u32,
+    end: usize,
+) -> Evaluated
+    requires { ⌜ KeepPre limits (view (limits .rows) (now words)) (now stack) (now bytes) here t x ⌝ }
+    ensures { λ r. ⌜ KeepPost limits (view (limits .rows) (now (words .entry))) (view (limits .rows) (now (words .exit))) (now (stack .entry)) (now (stack .exit)) (now (bytes .entry)) here m t x end r ⌝ }
+{
+    let first = eval(words, stack, bytes, limits, here);
+    let Evaluated::Value {
+        arrow: a,
+        next: _,
+        rounds: counted,
+    } = first
+    else {
+        return first;
+    };
+    let held = here.held;
+    stack[held] = a;
+    let rest = onward(here, here.at, counted);
+    let second = further(words, stack, limits, rest, m, t, x, end);
+    let Evaluated::Value {
+        arrow: b,
+        next: last,
+        rounds: total,
+    } = second
+    else {
+        return second;
+    };
+    let made = live_step(words, stack, limits, held, Step::And(a, b));
+    answer(made, last, total)
+}
+
+// A round of until with the current set x: evaluates g at `middle` and, its value being live meanwhile, f and what is wanted of the next
+// states, and takes the step OR.
+fn round(
+    words: &mut [u32],
+    stack: &mut [u32],
+    bytes: &[u8],
+    limits: Limits,
+    here: Context,
+    middle: usize,
+    m: Mode,
+    t: u32,
+    x: u32,
+) -> Evaluated
+    requires { ⌜ RoundPre limits (view (limits .rows) (now words)) (now stack) (now bytes) here middle t x ⌝ }
+    ensures { λ r. ⌜ RoundPost limits (view (limits .rows) (now (words .entry))) (view (limits .rows) (now (words .exit))) (now (stack .entry)) (now (stack .exit)) (now (bytes .entry)) here middle m t x r ⌝ }
+{
+    let mut goal = here;
+    goal.at = middle;
+    let first = eval(words, stack, bytes, limits, goal);
+    let Evaluated::Value {
+        arrow: a,
+        next: end,
+        rounds: counted,
+    } = first
+    else {
+        return first;
+    };
+    let held = here.held;
+    stack[held] = a;
+    let rest = onward(here, here.at, counted);
+    let second = keep(words, stack, bytes, limits, rest, m, t, x, end);
+    let Evaluated::Value {
+        arrow: b,
+        next: last,
+        rounds: total,
+    } = second
+    else {
+        return second;
+    };
+    let made = live_step(words, stack, limits, held, Step::Or(a, b));
+    answer(made, last, total)
+}
+
+// Rounds of until, whose parts f and g stand from the context's place on, the current set being live; until a round gives the same set again.
+fn until(
+    words: &mut [u32],
+    stack: &mut [u32],
+    bytes: &[u8],
+    limits: Limits,
+    here: Context,
+    m: Mode,
+    t: u32,
+) -> Evaluated
+    requires { ⌜ UntilPre limits (view (limits .rows) (now words)) (now stack) (now bytes) here t ⌝ }
+    ensures { λ r. ⌜ UntilPost limits (view (limits .rows) (now (words .entry))) (view (limits .rows) (now (words .exit))) (now (stack .entry)) (now (stack .exit)) (now (bytes .entry)) here m t r ⌝ }
+{
+    let Pass::Past(middle, _) = syntax(bytes, limits.bits, Grammar::Runs, here.at, here.depth)
+    else {
+        return Evaluated::Full;
+    };
+    let held = here.held;
+    let mut reached = Table::NOTHING;
+    let mut counted = here.rounds;
+    while counted < limits.rounds {
+        stack[held] = reached;
+        let body = onward(here, here.at, counted + 1);
+        let value = round(words, stack, bytes, limits, body, middle, m, t, reached);
+        let Evaluated::Value {
+            arrow: a,
+            next: _,
+            rounds: total,
+        } = value
+        else {
+            return value;
+        };
+        if a == reached {
+            return value;
+        }
+        reached = a;
+        counted = total;
+    }
+    Evaluated::Spent
+}
+
 // Evaluates the set's formula in `bytes`, which has passed the checks, with nothing remembered before.
 pub fn evaluate_set(words: &mut [u32], limits: Limits, bytes: &[u8]) -> Evaluated
     requires { ⌜ SetPre limits (view (limits .rows) (now words)) (now bytes) ⌝ }
     ensures { λ r. ⌜ SetPost limits (view (limits .rows) (now (words .entry))) (view (limits .rows) (now (words .exit))) (now (bytes .entry)) r ⌝ }
 {
     forget(words, limits.rows);
-    let mut stack = [0u32; Table::DEPTH];
+    let mut stack = [0u32; Stack::WORDS];
     let places = [0u8; Grammar::VARIABLES];
     let start = Context {
         at: Frame::START,

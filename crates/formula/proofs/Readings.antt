@@ -8,12 +8,12 @@ use Rattle.mucalculus.specs.Form.{Form}
 use Rattle.tokens.specs.Tokens.{leadAt}
 use Rattle.tokens.specs.declared.Grammar.{Grammar}
 use Rattle.tokens.specs.declared.Leaf.{Leaf}
-use Rattle.tokens.specs.declared.Join.{Join}
+use Rattle.tokens.specs.declared.Two.{Two}
 use Rattle.tokens.specs.declared.Token.{Token}
 use Rattle.tokens.specs.declared.Token.the-variants.{Leaf as LeafToken, Not, Both, Modal, Binder}
 use Rattle.tokens.specs.declared.Lead.{Lead}
 use Rattle.tokens.specs.declared.Lead.the-variants.{Is, Bad}
-use Rattle.formula.specs.Parse.{leafForm, joinForm, Got, fails, got, one, two, grown, parse}
+use Rattle.formula.specs.Parse.{leafForm, twoForm, Got, fails, got, one, two, grown, parse}
 use Rattle.formula.specs.Checks.{passOf}
 use Rattle.formula.specs.declared.Pass.{Pass}
 use Rattle.formula.specs.declared.Pass.the-variants.{Past}
@@ -24,7 +24,7 @@ use Rattle.formula.proofs.Passes.{not-past}
 pub data Reads (n : ℕ) (g : Grammar) (bs : List ℕ) : ℕ → ℕ → Form → ℕ → Type 0 where
   leaf : {d at : ℕ} {l : Leaf} → leadAt n g bs at ≡ Is (LeafToken l) → Reads n g bs (suc d) at (leafForm l) (at + 1)
   part : {d at e : ℕ} {t : Token} {c : Form → Form} {f : Form} → Unary t c → leadAt n g bs at ≡ Is t → Reads n g bs d (at + 1) f e → Reads n g bs (suc d) at (c f) e
-  parts : {d at m e : ℕ} {j : Join} {f h : Form} → leadAt n g bs at ≡ Is (Both j) → Reads n g bs d (at + 1) f m → Reads n g bs d m h e → Reads n g bs (suc d) at (joinForm j f h) e
+  parts : {d at m e : ℕ} {j : Two} {f h : Form} → leadAt n g bs at ≡ Is (Both j) → Reads n g bs d (at + 1) f m → Reads n g bs d m h e → Reads n g bs (suc d) at (twoForm j f h) e
 
 module _ (n : ℕ) (g : Grammar) (bs : List ℕ) where
   -- what is read from each place was read step by step
@@ -41,11 +41,11 @@ module _ (n : ℕ) (g : Grammar) (bs : List ℕ) where
   one-reads op is fails up f e z = absurd (not-got z)
   one-reads op is (got f′ e′) up f e z = made z (part op is (up f′ e′ refl))
 
-  two-reads : {d at : ℕ} {j : Join} → leadAt n g bs at ≡ Is (Both j) → (f₁ : Form) (m : ℕ) → Reads n g bs d (at + 1) f₁ m → (p : Got) → ((f : Form) (e : ℕ) → p ≡ got f e → Reads n g bs d m f e) → (f : Form) (e : ℕ) → one (joinForm j f₁) p ≡ got f e → Reads n g bs (suc d) at f e
+  two-reads : {d at : ℕ} {j : Two} → leadAt n g bs at ≡ Is (Both j) → (f₁ : Form) (m : ℕ) → Reads n g bs d (at + 1) f₁ m → (p : Got) → ((f : Form) (e : ℕ) → p ≡ got f e → Reads n g bs d m f e) → (f : Form) (e : ℕ) → one (twoForm j f₁) p ≡ got f e → Reads n g bs (suc d) at f e
   two-reads is f₁ m r₁ fails up f e z = absurd (not-got z)
   two-reads is f₁ m r₁ (got f₂ e₂) up f e z = made z (parts is r₁ (up f₂ e₂ refl))
 
-  both-reads : {d at : ℕ} {j : Join} → leadAt n g bs at ≡ Is (Both j) → (read : ℕ → Got) → All d read → (p : Got) → ((f : Form) (e : ℕ) → p ≡ got f e → Reads n g bs d (at + 1) f e) → (f : Form) (e : ℕ) → two (joinForm j) read p ≡ got f e → Reads n g bs (suc d) at f e
+  both-reads : {d at : ℕ} {j : Two} → leadAt n g bs at ≡ Is (Both j) → (read : ℕ → Got) → All d read → (p : Got) → ((f : Form) (e : ℕ) → p ≡ got f e → Reads n g bs d (at + 1) f e) → (f : Form) (e : ℕ) → two (twoForm j) read p ≡ got f e → Reads n g bs (suc d) at f e
   both-reads is read all fails up f e z = absurd (not-got z)
   both-reads is read all (got f₁ m) up f e z = two-reads is f₁ m (up f₁ m refl) (read m) (all m) f e z
 

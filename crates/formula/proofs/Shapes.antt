@@ -7,14 +7,15 @@ use lib.ListN.{getD, set}
 use Rattle.mucalculus.specs.Form.{Form, neg, bound, reads, steady}
 use Rattle.tokens.specs.declared.Leaf.{Leaf}
 use Rattle.tokens.specs.declared.Leaf.the-variants.{False, True, Now, Next, Var, Reg}
-use Rattle.tokens.specs.declared.Join.{Join}
 use Rattle.tokens.specs.declared.Join.the-variants.{And, Or}
 use Rattle.tokens.specs.declared.Mode.{Mode}
 use Rattle.tokens.specs.declared.Mode.the-variants.{All, Some}
 use Rattle.tokens.specs.declared.Fix.{Fix}
 use Rattle.tokens.specs.declared.Fix.the-variants.{Mu, Nu}
-use Rattle.formula.specs.Parse.{leafForm, joinForm, modalForm, binderForm}
-use Rattle.formula.specs.Checks.{filled}
+use Rattle.tokens.specs.declared.Two.{Two}
+use Rattle.tokens.specs.declared.Two.the-variants.{Join as Joins, Until}
+use Rattle.formula.specs.Parse.{leafForm, twoForm, modalForm, binderForm}
+use Rattle.formula.specs.Checks.{filled, twoFilled}
 
 -- ---- bound
 
@@ -22,10 +23,12 @@ pub bound-neg : (s : List Bool) (f : Form) → bound s (neg f) ≡ bound s f
 unfolding bound
 bound-neg s f = refl
 
-pub bound-join : (s : List Bool) (j : Join) (f g : Form) → bound s (joinForm j f g) ≡ (bound s f && bound s g)
+pub bound-join : (s : List Bool) (w : Two) (f g : Form) → bound s (twoForm w f g) ≡ (bound s f && bound s g)
 unfolding bound
-bound-join s And f g = refl
-bound-join s Or f g = refl
+bound-join s (Joins And) f g = refl
+bound-join s (Joins Or) f g = refl
+bound-join s (Until All t) f g = refl
+bound-join s (Until Some t) f g = refl
 
 pub bound-modal : (s : List Bool) (m : Mode) (t : ℕ) (f : Form) → bound s (modalForm m t f) ≡ bound s f
 unfolding bound
@@ -43,10 +46,12 @@ pub reads-neg : (even : Bool) (p : ℕ) (f : Form) → reads even p (neg f) ≡ 
 unfolding reads
 reads-neg even p f = refl
 
-pub reads-join : (even : Bool) (p : ℕ) (j : Join) (f g : Form) → reads even p (joinForm j f g) ≡ (reads even p f && reads even p g)
+pub reads-join : (even : Bool) (p : ℕ) (w : Two) (f g : Form) → reads even p (twoForm w f g) ≡ (reads even p f && reads even p g)
 unfolding reads
-reads-join even p And f g = refl
-reads-join even p Or f g = refl
+reads-join even p (Joins And) f g = refl
+reads-join even p (Joins Or) f g = refl
+reads-join even p (Until All t) f g = refl
+reads-join even p (Until Some t) f g = refl
 
 pub reads-modal : (even : Bool) (p : ℕ) (m : Mode) (t : ℕ) (f : Form) → reads even p (modalForm m t f) ≡ reads even p f
 unfolding reads
@@ -64,10 +69,12 @@ pub steady-neg : (f : Form) → steady (neg f) ≡ steady f
 unfolding steady
 steady-neg f = refl
 
-pub steady-join : (j : Join) (f g : Form) → steady (joinForm j f g) ≡ (steady f && steady g)
+pub steady-join : (w : Two) (f g : Form) → steady (twoForm w f g) ≡ (steady f && steady g)
 unfolding steady
-steady-join And f g = refl
-steady-join Or f g = refl
+steady-join (Joins And) f g = refl
+steady-join (Joins Or) f g = refl
+steady-join (Until All t) f g = refl
+steady-join (Until Some t) f g = refl
 
 pub steady-modal : (m : Mode) (t : ℕ) (f : Form) → steady (modalForm m t f) ≡ steady f
 unfolding steady
@@ -85,10 +92,12 @@ pub filled-neg : (regs rels : ℕ → Bool) (f : Form) → filled regs rels (neg
 unfolding filled
 filled-neg regs rels f = refl
 
-pub filled-join : (regs rels : ℕ → Bool) (j : Join) (f g : Form) → filled regs rels (joinForm j f g) ≡ (filled regs rels f && filled regs rels g)
+pub filled-join : (regs rels : ℕ → Bool) (w : Two) (f g : Form) → filled regs rels (twoForm w f g) ≡ (twoFilled rels w && (filled regs rels f && filled regs rels g))
 unfolding filled
-filled-join regs rels And f g = refl
-filled-join regs rels Or f g = refl
+filled-join regs rels (Joins And) f g = refl
+filled-join regs rels (Joins Or) f g = refl
+filled-join regs rels (Until All t) f g = refl
+filled-join regs rels (Until Some t) f g = refl
 
 pub filled-modal : (regs rels : ℕ → Bool) (m : Mode) (t : ℕ) (f : Form) → filled regs rels (modalForm m t f) ≡ (rels t && filled regs rels f)
 unfolding filled

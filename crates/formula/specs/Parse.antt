@@ -4,7 +4,7 @@ use mathlib.Core.Bool.{Bool, true, false, _&&_, cond}
 use mathlib.Core.List.{List}
 use lib.Dec.{leb, eqb}
 use lib.ListN.{length, getD}
-use Rattle.mucalculus.specs.Form.{Form, bot, top, neg, conj, disj, now, next, var, reg, box, dia, mu, nu}
+use Rattle.mucalculus.specs.Form.{Form, bot, top, neg, conj, disj, now, next, var, reg, box, dia, mu, nu, until}
 use Rattle.tokens.specs.Tokens.{grammarOf, leadAt}
 use Rattle.tokens.specs.declared.Kind.{Kind}
 use Rattle.tokens.specs.declared.Grammar.{Grammar}
@@ -18,6 +18,8 @@ use Rattle.tokens.specs.declared.Mode.{Mode}
 use Rattle.tokens.specs.declared.Mode.the-variants.{All, Some}
 use Rattle.tokens.specs.declared.Fix.{Fix}
 use Rattle.tokens.specs.declared.Fix.the-variants.{Mu, Nu}
+use Rattle.tokens.specs.declared.Two.{Two}
+use Rattle.tokens.specs.declared.Two.the-variants.{Join as Joins, Until}
 use Rattle.tokens.specs.declared.Token.the-variants.{Leaf as LeafToken, Not, Both, Modal, Binder}
 use Rattle.tokens.specs.declared.Lead.{Lead}
 use Rattle.tokens.specs.declared.Lead.the-variants.{Is, Bad}
@@ -35,6 +37,14 @@ leafForm (Reg r) = reg r
 abbrev pub joinForm : Join → Form → Form → Form
 joinForm And f g = conj f g
 joinForm Or f g = disj f g
+
+abbrev pub untilForm : Mode → ℕ → Form → Form → Form
+untilForm Some t f g = until true t f g
+untilForm All t f g = until false t f g
+
+abbrev pub twoForm : Two → Form → Form → Form
+twoForm (Joins j) f g = joinForm j f g
+twoForm (Until m t) f g = untilForm m t f g
 
 abbrev pub modalForm : Mode → ℕ → Form → Form
 modalForm All t f = box t f
@@ -81,7 +91,7 @@ abbrev pub grown : Lead → ℕ → (ℕ → Got) → Got
 grown Bad after read = fails
 grown (Is (LeafToken l)) after read = got (leafForm l) after
 grown (Is Not) after read = one neg (read after)
-grown (Is (Both j)) after read = two (joinForm j) read (read after)
+grown (Is (Both w)) after read = two (twoForm w) read (read after)
 grown (Is (Modal m t)) after read = one (modalForm m t) (read after)
 grown (Is (Binder x P)) after read = one (binderForm x P) (read after)
 

@@ -15,6 +15,7 @@ pub data Form : Type 0 where
   var reg : ℕ → Form  -- 30 + P, 40 + r: variable P, register r
   box dia : ℕ → Form → Form  -- 60 + t f, 68 + t f: over relation t
   mu nu : ℕ → Form → Form  -- 70 + P f, 80 + P f: variable P bound in f
+  until : Bool → ℕ → Form → Form → Form  -- 90 + t f g with `true`, 98 + t f g with `false`: on some, on every run of relation t, f until g
 
 -- mu with `true`, nu with `false`
 abbrev pub bind : Bool → ℕ → Form → Form
@@ -70,6 +71,7 @@ depth (box t f) = suc (depth f)
 depth (dia t f) = suc (depth f)
 depth (mu P f) = suc (depth f)
 depth (nu P f) = suc (depth f)
+depth (until b t f g) = suc (max (depth f) (depth g))
 
 -- check 5, "variable unbound, or bound inside itself": each variable stands below a binder of it, and no binder below a binder of its
 -- variable; `scope` says which variables are open
@@ -87,6 +89,7 @@ bound scope (box t f) = bound scope f
 bound scope (dia t f) = bound scope f
 bound scope (mu P f) = not (getD scope P false) && bound (set scope P true) f
 bound scope (nu P f) = not (getD scope P false) && bound (set scope P true) f
+bound scope (until b t f g) = bound scope f && bound scope g
 
 -- no variable is open: the 16 variables at a formula's start
 abbrev pub noneOpen : List Bool
@@ -107,6 +110,7 @@ reads even P (box t f) = reads even P f
 reads even P (dia t f) = reads even P f
 reads even P (mu Q f) = reads even P f
 reads even P (nu Q f) = reads even P f
+reads even P (until b t f g) = reads even P f && reads even P g
 
 -- check 6, "Polarity: below its binder P is read even"
 unfoldable pub steady : Form → Bool
@@ -123,3 +127,4 @@ steady (box t f) = steady f
 steady (dia t f) = steady f
 steady (mu P f) = reads true P f && steady f
 steady (nu P f) = reads true P f && steady f
+steady (until b t f g) = steady f && steady g

@@ -1,13 +1,14 @@
 -- The set of the states in which a formula holds, and the set of the pairs in which a relation's formula holds. Assumes nothing.
 use mathlib.Core.Path.{_≡_}
 use mathlib.Core.Bool.{Bool, true, false, not, _&&_, _||_}
-use mathlib.Core.List.{List, []}
+use mathlib.Core.List.{List}
 use Prim.Native.Nat.{ℕ, _^_, _/_, _%_}
 use lib.Dec.{eqb}
-use lib.ListN.{length, getD}
+use lib.ListN.{length}
 use Rattle.mucalculus.specs.Sets.{mem, table, length-table, noStates, allStates, all, any}
 use Rattle.mucalculus.specs.Fixpoint.{least, greatest, length-fix}
-use Rattle.mucalculus.specs.Form.{Form, bot, top, neg, conj, disj, now, next, var, reg, box, dia, mu, nu, Pairs, Model, Env, put, inside}
+pub use Rattle.mucalculus.specs.Runs.{pair, untilSet}
+use Rattle.mucalculus.specs.Form.{Form, bot, top, neg, conj, disj, now, next, var, reg, box, dia, mu, nu, until, Pairs, Model, Env, put, inside}
 
 -- ---- operations on sets of k states
 
@@ -34,10 +35,6 @@ bit p s = eqb (s / 2 ^ p % 2) 1
 -- the states whose bit p is 1
 abbrev pub bitStates : ℕ → ℕ → List Bool
 bitStates k p = table k (λ s. bit p s)
-
--- t is a next state of s
-abbrev pub pair : Pairs → ℕ → ℕ → Bool
-pair R s t = mem (getD R s []) t
 
 -- the states of which every next state is in A
 abbrev pub always : ℕ → Pairs → List Bool → List Bool
@@ -68,6 +65,7 @@ means m e (box t f) = always (size m) (inside (m .rel t)) (means m e f)
 means m e (dia t f) = sometimes (size m) (inside (m .rel t)) (means m e f)
 means m e (mu P f) = least (size m) (λ A. means m (put e P A) f)
 means m e (nu P f) = greatest (size m) (λ A. means m (put e P A) f)
+means m e (until b t f g) = untilSet b (size m) (inside (m .rel t)) (means m e f) (means m e g)
 
 -- a relation's formula holds in the pair (s, t); the other tokens are of set calls only, and hold nowhere
 abbrev pub holds : Form → ℕ → ℕ → Bool
@@ -84,6 +82,7 @@ holds (box r f) s t = false
 holds (dia r f) s t = false
 holds (mu P f) s t = false
 holds (nu P f) s t = false
+holds (until b r f g) s t = false
 
 -- the pairs in which a relation's formula holds, over n state bits
 abbrev pub meansPair : ℕ → Form → Pairs
@@ -104,3 +103,4 @@ length-means m e (box t f) = length-table (size m) _
 length-means m e (dia t f) = length-table (size m) _
 length-means m e (mu P f) = length-fix true (size m) (λ A. means m (put e P A) f)
 length-means m e (nu P f) = length-fix false (size m) (λ A. means m (put e P A) f)
+length-means m e (until b t f g) = length-table (size m) _

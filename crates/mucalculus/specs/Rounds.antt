@@ -11,8 +11,9 @@ use lib.Dec.{T}
 use Rattle.mucalculus.specs.Sets.{same, same-refl, true-of}
 use Rattle.mucalculus.specs.Order.{start}
 use Rattle.mucalculus.specs.Fixpoint.{iter}
-use Rattle.mucalculus.specs.Form.{Form, bot, top, neg, conj, disj, now, next, var, reg, box, dia, mu, nu, Model, Env, put, reads, steady}
-use Rattle.mucalculus.specs.Means.{size}
+use Rattle.mucalculus.specs.Form.{Form, bot, top, neg, conj, disj, now, next, var, reg, box, dia, mu, nu, until, Model, Env, put, inside, reads, steady}
+use Rattle.mucalculus.specs.Means.{size, means}
+use Rattle.mucalculus.specs.Until.{onward}
 use Rattle.mucalculus.specs.Binder.{body, round-ends}
 
 -- the rounds of a binder from the set A on, its body F taking c A rounds of inner binders at the set A; j bounds the binder's own rounds
@@ -35,8 +36,9 @@ rounds m e (box t f) = rounds m e f
 rounds m e (dia t f) = rounds m e f
 rounds m e (mu P f) = runs (body m e P f) (λ A. rounds m (put e P A) f) (suc (size m)) (start true (size m))
 rounds m e (nu P f) = runs (body m e P f) (λ A. rounds m (put e P A) f) (suc (size m)) (start false (size m))
+rounds m e (until b t f g) = runs (onward b (size m) (inside (m .rel t)) (means m e f) (means m e g)) (λ A. rounds m e g + rounds m e f) (suc (size m)) (start true (size m))
 
--- how many binders the formula has
+-- how many binders the formula has; until is one
 abbrev pub binders : Form → ℕ
 binders bot = zero
 binders top = zero
@@ -51,6 +53,7 @@ binders (box t f) = binders f
 binders (dia t f) = binders f
 binders (mu P f) = suc (binders f)
 binders (nu P f) = suc (binders f)
+binders (until b t f g) = suc (binders g + binders f)
 
 rounds-none : (m : Model) (e : Env) (f : Form) → binders f ≡ zero → rounds m e f ≡ zero
 rounds-none m e bot h = refl
@@ -66,6 +69,7 @@ rounds-none m e (box t f) h = rounds-none m e f h
 rounds-none m e (dia t f) h = rounds-none m e f h
 rounds-none m e (mu P f) h = absurd (suc-ne-zero (binders f) h)
 rounds-none m e (nu P f) h = absurd (suc-ne-zero (binders f) h)
+rounds-none m e (until b t f g) h = absurd (suc-ne-zero (binders g + binders f) h)
 
 runs-bound : (F : List Bool → List Bool) (c : List Bool → ℕ) → ((A : List Bool) → c A ≡ zero) → (j : ℕ) (A : List Bool) → runs F c j A ≤ j
 runs-bound F c h zero A = zero-le
@@ -102,6 +106,9 @@ rounds-bound m e (box t f) h = rounds-bound m e f h
 rounds-bound m e (dia t f) h = rounds-bound m e f h
 rounds-bound m e (mu P f) h = runs-bound (body m e P f) (λ A. rounds m (put e P A) f) (λ A. rounds-none m (put e P A) f (omega arith)) (suc (size m)) (start true (size m))
 rounds-bound m e (nu P f) h = runs-bound (body m e P f) (λ A. rounds m (put e P A) f) (λ A. rounds-none m (put e P A) f (omega arith)) (suc (size m)) (start false (size m))
+rounds-bound m e (until b t f g) h =
+    runs-bound (onward b (size m) (inside (m .rel t)) (means m e f) (means m e g)) (λ A. rounds m e g + rounds m e f)
+    (λ A. omega (arith, rounds-none m e g (omega arith), rounds-none m e f (omega arith))) (suc (size m)) (start true (size m))
 
 -- ---- the bound on a binder's own rounds
 

@@ -8,6 +8,7 @@ use Rattle.tokens.specs.Tokens.{leadAt}
 use Rattle.tokens.specs.declared.Grammar.the-variants.{Pairs}
 use Rattle.tokens.specs.declared.Leaf.{Leaf}
 use Rattle.tokens.specs.declared.Join.{Join}
+use Rattle.tokens.specs.declared.Two.the-variants.{Join as Joins}
 use Rattle.tokens.specs.declared.Token.{Token}
 use Rattle.tokens.specs.declared.Token.the-variants.{Leaf as LeafToken, Not, Both}
 use Rattle.tokens.specs.declared.Lead.{Lead}
@@ -19,7 +20,7 @@ use Rattle.table.specs.declared.Made.{Made}
 use Rattle.steps.specs.declared.Step.{Step}
 use Rattle.steps.specs.declared.Step.the-variants as step
 use Rattle.modal.specs.declared.Limits.{Limits}
-use Rattle.evaluator.specs.Scene.{joinStep, LivePre, LivePost}
+use Rattle.evaluator.specs.Scene.{stackSize, joinStep, LivePre, LivePost}
 use Rattle.evaluator.proofs.Tokens.{read-depth, read-allowed, leaf-form, leaf-end, one-form, one-stands, both-form, left-stands, right-stands}
 use Rattle.pairs.specs.Pairing.{Relates, fromMade, LeafPre, LeafPost, RelatePre, RelatePost, NegatePost, BothPre, BothPost}
 use Rattle.pairs.specs.declared.Related.{Related}
@@ -46,7 +47,7 @@ module _ {L : Limits} {W : View} {stack bs : List ℕ} {at depth held : ℕ} (P 
     pub not-answered : {X : View} {after : List ℕ} {r : Related} → NegatePost L W X stack after bs (at + 1) (depth - 1) held r → RelatePost L W X stack after bs at depth held r
     not-answered A = record { answers = λ σ f e R p. relates-same (one-form p found is one is-not) (A .answers σ _ e R (one-stands p found is one is-not)) }
 
-  module _ {j : Join} (two : t ≡ Both j) where
+  module _ {j : Join} (two : t ≡ Both (Joins j)) where
     pub both-asked : BothPre L W stack bs (at + 1) (depth - 1) held
     both-asked = record {
       room = room;
@@ -86,7 +87,7 @@ module _ {L : Limits} {W X : View} {stack after bs : List ℕ} {at depth held : 
   first-halts s j = record { answers = λ σ f g m e R p q. first-stops (E .answers σ f m R p) s j g e }
 
   module _ (z : length after ≡ length stack) {a k : ℕ} (is : r ≡ Value a k) where
-    free : held < depthLimit
+    free : held < stackSize
     free = let l = P .room in omega arith
 
     first : Relates L W X stack after held (P .scene) (P .left) (P .middle) r

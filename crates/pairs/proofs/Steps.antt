@@ -47,7 +47,7 @@ use Rattle.book.specs.Pairs.{PairEvals, pair-stop, pair-none, pair-all, pair-no
 use Rattle.contract.specs.Seen.{seenIn}
 use Rattle.modal.specs.declared.Limits.{Limits}
 use Rattle.modal.specs.Chain.{Moved, moved-refl, moved-trans, base-wf, took, Ran, pair-value}
-use Rattle.evaluator.specs.Scene.{Scene, pushed, Ready, Stands, joinStep, LivePre, LivePost}
+use Rattle.evaluator.specs.Scene.{stackSize, Scene, pushed, Ready, Stands, joinStep, LivePre, LivePost}
 use Rattle.evaluator.specs.Whole.{bookIn}
 use Rattle.evaluator.proofs.State.{still-below, live-pre, ready-next, ready-push}
 use Rattle.evaluator.proofs.Outcomes.{joinF}
@@ -198,7 +198,7 @@ module _ {L : Limits} {W X : View} {stack after : List ℕ} {held : ℕ} {σ : S
   pub both-stands : {n : ℕ} {bs : List ℕ} {depth : ℕ} {g : Form} {e′ : ℕ} → Stands n Pairs bs e depth g e′ → Stands n Pairs bs k depth g e′
   both-stands {n} {bs} {depth} {g} {e′} p = subst (λ (x : ℕ). Stands n Pairs bs x depth g e′) (sym value-end) p
 
-  module _ (room : held < depthLimit) where
+  module _ (room : held < stackSize) where
     pub both-ready : Ready L X (set after held a) noPlaces (held + 1) (pushed σ a (pairF (L .bits) f))
     both-ready = ready-push value-ready a (pairF (L .bits) f) value-is room
 
@@ -241,11 +241,12 @@ module _ {L : Limits} {W X : View} {stack after : List ℕ} {held : ℕ} {σ : S
 
 -- a relation's formula is one of pairs
 relation-grammar : (v : ℕ) (g : Grammar) → grammarOf Relation v ≡ Reads g → g ≡ Pairs
-relation-grammar v g e = go (eqb v 1) e
+relation-grammar v g e = go (eqb v 1) (eqb v 2) e
   where
-    go : (b : Bool) → cond b (Reads Pairs) Unknown ≡ Reads g → g ≡ Pairs
-    go true q = cc
-    go false q = let z : _≡_ {A = ℕ} 0 1 = cc in absurd (omega arith)
+    go : (a b : Bool) → cond a (Reads Pairs) (cond b Unknown Unknown) ≡ Reads g → g ≡ Pairs
+    go true b q = cc
+    go false true q = let z : _≡_ {A = ℕ} 0 1 = cc in absurd (omega arith)
+    go false false q = let z : _≡_ {A = ℕ} 0 1 = cc in absurd (omega arith)
 
 module _ {L : Limits} {W : View} {bs : List ℕ} (p : PairsPre L W bs) where
   fits : Fitting Relation (W .header BITS) (regFilled (bookIn W)) (relFilled (bookIn W)) bs
@@ -264,7 +265,7 @@ module _ {L : Limits} {W : View} {bs : List ℕ} (p : PairsPre L W bs) where
       }
 
   module _ {X : View} (f : Forgot W X) where
-    pub pairs-asks : RelatePre L X (replicate depthLimit 0) bs 3 depthLimit 0
+    pub pairs-asks : RelatePre L X (replicate stackSize 0) bs 3 depthLimit 0
     pairs-asks = record {
       room = omega arith;
       scene = sceneIn W;
@@ -274,7 +275,7 @@ module _ {L : Limits} {W : View} {bs : List ℕ} (p : PairsPre L W bs) where
       stands = whole-stands;
     }
 
-    module _ {Y : View} {after : List ℕ} {r : Related} (E : RelatePost L X Y (replicate depthLimit 0) after bs 3 depthLimit 0 r) where
+    module _ {Y : View} {after : List ℕ} {r : Related} (E : RelatePost L X Y (replicate stackSize 0) after bs 3 depthLimit 0 r) where
       pub pairs-ends : {o : Made} → resultOf r ≡ result o → PairsPost L W Y bs o
       unfolding whole
       pairs-ends {o} is =

@@ -1,4 +1,5 @@
 // The evaluation of a relation's formula from its bytes, over the words of a table.
+use evaluator::Stack;
 use evaluator::join_of;
 use evaluator::live_step;
 use formula::Frame;
@@ -12,6 +13,7 @@ use tokens::Join;
 use tokens::Lead;
 use tokens::Leaf;
 use tokens::Token;
+use tokens::Two;
 use tokens::lead_at;
 ghost use mathlib.Core.Path.{_≡_};
 ghost use Rattle.layout.specs.View.{view};
@@ -72,7 +74,10 @@ fn relate(
     match t {
         Token::Leaf(l) => answer(leaf(words, stack, limits, held, l), next),
         Token::Not => negate(words, stack, bytes, limits, next, left, held),
-        Token::Both(j) => both(words, stack, bytes, limits, next, left, held, j),
+        Token::Both(w) => match w {
+            Two::Join(j) => both(words, stack, bytes, limits, next, left, held, j),
+            Two::Until(_, _) => Related::Full,
+        },
         Token::Modal(_, _) => Related::Full,
         Token::Binder(_, _) => Related::Full,
     }
@@ -141,7 +146,7 @@ pub fn evaluate_pairs(words: &mut [u32], limits: Limits, bytes: &[u8]) -> Made
     ensures { λ r. ⌜ PairsPost limits (view (limits .rows) (now (words .entry))) (view (limits .rows) (now (words .exit))) (now (bytes .entry)) r ⌝ }
 {
     forget(words, limits.rows);
-    let mut stack = [0u32; Table::DEPTH];
+    let mut stack = [0u32; Stack::WORDS];
     let Related::Value { arrow: a, next: _ } = relate(
         words,
         &mut stack,

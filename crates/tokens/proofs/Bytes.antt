@@ -12,6 +12,7 @@ use Rattle.tokens.specs.declared.Leaf.the-variants.{False, True, Now, Ne
 use Rattle.tokens.specs.declared.Join.the-variants.{And, Or}
 use Rattle.tokens.specs.declared.Mode.the-variants.{All, Some}
 use Rattle.tokens.specs.declared.Fix.the-variants.{Mu, Nu}
+use Rattle.tokens.specs.declared.Two.the-variants.{Join, Until}
 use Rattle.tokens.specs.declared.Token.{Token}
 use Rattle.tokens.specs.declared.Token.the-variants.{Leaf as LeafToken, Not, Both, Modal, Binder}
 use Rattle.tokens.specs.declared.Lead.the-variants.{Is}
@@ -21,8 +22,8 @@ abbrev pub byteOf : Token → ℕ
 byteOf (LeafToken False) = 0x00
 byteOf (LeafToken True) = 0x01
 byteOf Not = 0x02
-byteOf (Both And) = 0x03
-byteOf (Both Or) = 0x04
+byteOf (Both (Join And)) = 0x03
+byteOf (Both (Join Or)) = 0x04
 byteOf (LeafToken (Now p)) = 0x10 + p
 byteOf (LeafToken (Next p)) = 0x20 + p
 byteOf (LeafToken (Var P)) = 0x30 + P
@@ -31,19 +32,22 @@ byteOf (Modal All t) = 0x60 + t
 byteOf (Modal Some t) = 0x68 + t
 byteOf (Binder Mu P) = 0x70 + P
 byteOf (Binder Nu P) = 0x80 + P
+byteOf (Both (Until Some t)) = 0x90 + t
+byteOf (Both (Until All t)) = 0x98 + t
 
 -- the token's number is one of its bytes'
 abbrev pub fits : Token → Bool
 fits (LeafToken False) = true
 fits (LeafToken True) = true
 fits Not = true
-fits (Both j) = true
+fits (Both (Join j)) = true
 fits (LeafToken (Now p)) = ltb p 16
 fits (LeafToken (Next p)) = ltb p 16
 fits (LeafToken (Var P)) = ltb P 16
 fits (LeafToken (Reg r)) = ltb r 32
 fits (Modal m t) = ltb t 8
 fits (Binder x P) = ltb P 16
+fits (Both (Until m t)) = ltb t 8
 
 -- the byte with number p of the table's line after k others
 at-line : (k : ℕ) {l : Line} {ls : List Line} → drop k table ≡ l ∷ ls → endBelow (l .first) (take k table) ≡ true → (p : ℕ) → l .first + p ≤ l .last → tokenOf (l .first + p) ≡ Is (l .token p)
@@ -56,8 +60,8 @@ pub token-byte : (t : Token) → fits t ≡ true → tokenOf (byteOf t) ≡ Is t
 token-byte (LeafToken False) h = at-line 0 refl refl 0 (omega arith)
 token-byte (LeafToken True) h = at-line 1 refl refl 0 (omega arith)
 token-byte Not h = at-line 2 refl refl 0 (omega arith)
-token-byte (Both And) h = at-line 3 refl refl 0 (omega arith)
-token-byte (Both Or) h = at-line 4 refl refl 0 (omega arith)
+token-byte (Both (Join And)) h = at-line 3 refl refl 0 (omega arith)
+token-byte (Both (Join Or)) h = at-line 4 refl refl 0 (omega arith)
 token-byte (LeafToken (Now p)) h = at-line 5 refl refl p (omega (arith, ltb-true p 16 h))
 token-byte (LeafToken (Next p)) h = at-line 6 refl refl p (omega (arith, ltb-true p 16 h))
 token-byte (LeafToken (Var P)) h = at-line 7 refl refl P (omega (arith, ltb-true P 16 h))
@@ -66,6 +70,8 @@ token-byte (Modal All t) h = at-line 9 refl refl t (omega (arith, ltb-true t 8 h
 token-byte (Modal Some t) h = at-line 10 refl refl t (omega (arith, ltb-true t 8 h))
 token-byte (Binder Mu P) h = at-line 11 refl refl P (omega (arith, ltb-true P 16 h))
 token-byte (Binder Nu P) h = at-line 12 refl refl P (omega (arith, ltb-true P 16 h))
+token-byte (Both (Until Some t)) h = at-line 13 refl refl t (omega (arith, ltb-true t 8 h))
+token-byte (Both (Until All t)) h = at-line 14 refl refl t (omega (arith, ltb-true t 8 h))
 
 -- what a byte's token says of the byte
 pub record Right (b : ℕ) (t : Token) : Type 0 where
@@ -91,9 +97,9 @@ table-right = (
     (
       alone 0x02 Not refl refl,
       (
-        alone 0x03 (Both And) refl refl,
+        alone 0x03 (Both (Join And)) refl refl,
         (
-          alone 0x04 (Both Or) refl refl,
+          alone 0x04 (Both (Join Or)) refl refl,
           (
             λ p h. record { byte = refl; within = lt-ltb p 16 (omega arith) },
             (
@@ -110,7 +116,13 @@ table-right = (
                         λ p h. record { byte = refl; within = lt-ltb p 16 (omega arith) },
                         (
                           λ p h. record { byte = refl; within = lt-ltb p 16 (omega arith) },
-                          tt,
+                          (
+                            λ t h. record { byte = refl; within = lt-ltb t 8 (omega arith) },
+                            (
+                              λ t h. record { byte = refl; within = lt-ltb t 8 (omega arith) },
+                              tt,
+                            ),
+                          ),
                         ),
                       ),
                     ),

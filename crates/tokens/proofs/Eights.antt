@@ -13,7 +13,8 @@ use Rattle.tokens.specs.declared.Grammar.{Grammar}
 use Rattle.tokens.specs.declared.Mode.{Mode}
 use Rattle.tokens.specs.declared.Mode.the-variants.{All, Some}
 use Rattle.tokens.specs.declared.Token.{Token}
-use Rattle.tokens.specs.declared.Token.the-variants.{Modal}
+use Rattle.tokens.specs.declared.Two.the-variants.{Until}
+use Rattle.tokens.specs.declared.Token.the-variants.{Both, Modal}
 use Rattle.tokens.specs.declared.Lead.{Lead}
 use Rattle.tokens.specs.declared.Lead.the-variants.{Is}
 use Rattle.tokens.proofs.Table.{endBelow, in-line}
@@ -46,6 +47,10 @@ in-eights b k q m m′ token {ls} d d′ e e′ low high = pick (ltb b (8 * q + 
 pub modal-token : (b : ℕ) → 0x60 ≤ b → b ≤ 0x6F → tokenOf b ≡ Is (Modal (modeAt All Some 12 b) (b % 8))
 modal-token b low high = in-eights b 9 12 All Some Modal refl refl refl refl low high
 
+-- until on some and on every run
+pub until-token : (b : ℕ) → 0x90 ≤ b → b ≤ 0x9F → tokenOf b ≡ Is (Both (Until (modeAt Some All 18 b) (b % 8)))
+until-token b low high = in-eights b 13 18 Some All (λ m t. Both (Until m t)) refl refl refl refl low high
+
 -- ---- the whole table
 
 -- all bytes
@@ -53,9 +58,12 @@ abbrev below : ℕ → List ℕ → List ℕ
 below zero l = l
 below (suc k) l = below k (k ∷ l)
 
--- the table with 60 to 6F in one line, by quotient and remainder of the byte itself
+-- the table with 60 to 6F in one line and 90 to 9F in one, by quotient and remainder of the byte itself
 abbrev byEights : List Line
-byEights = take 9 table ++ (line 0x60 0x6F (λ p. Modal (modeAt All Some 12 (0x60 + p)) ((0x60 + p) % 8)) ∷ drop 11 table)
+byEights =
+    take 9 table
+    ++ (line 0x60 0x6F (λ p. Modal (modeAt All Some 12 (0x60 + p)) ((0x60 + p) % 8)) ∷ take 2 (drop 11 table))
+    ++ (line 0x90 0x9F (λ p. Both (Until (modeAt Some All 18 (0x90 + p)) ((0x90 + p) % 8))) ∷ [])
 
 -- "The reader gives the same tokens as before for all 256 bytes"
 pub same-tokens : map tokenOf (below 256 []) ≡ map (lookup byEights) (below 256 [])

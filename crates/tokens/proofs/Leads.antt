@@ -1,5 +1,5 @@
 -- What the token reader's definition says in each case. Assumes nothing.
-use mathlib.Core.Path.{_≡_, refl, subst}
+use mathlib.Core.Path.{_≡_, refl, ap, subst}
 use mathlib.Core.Bool.{Bool, true, false, cond}
 use mathlib.Core.List.{List}
 use Prim.Native.Nat.{ℕ, _<_, _≤_}
@@ -7,9 +7,8 @@ use native.Mathlib.Omega.{arith}
 use lib.Dec.{ltb}
 use lib.ListN.{length, getD}
 use borrow.Author.Tests.{lt-ltb, le-ltb, ltb-true, ne-eqb}
-use Rattle.tokens.specs.Tokens.{tokenOf, grammarOf, allowed, taken, leadAt}
+use Rattle.tokens.specs.Tokens.{tokenOf, firstOf, secondOf, grammarOf, allowed, taken, leadAt}
 use Rattle.tokens.specs.declared.Kind.{Kind}
-use Rattle.tokens.specs.declared.Kind.the-variants.{Relation, Set}
 use Rattle.tokens.specs.declared.Reading.the-variants.{Unknown}
 use Rattle.tokens.specs.declared.Grammar.{Grammar}
 use Rattle.tokens.specs.declared.Token.{Token}
@@ -59,6 +58,11 @@ module _ (n : ℕ) (g : Grammar) (bs : List ℕ) (at : ℕ) where
       go false h q = absurd (not-is q)
 
 -- of another version nothing is known
-pub grammar-unknown : (k : Kind) (v : ℕ) → (v ≡ 1 → ⊥) → grammarOf k v ≡ Unknown
-grammar-unknown Relation v h = rw (ne-eqb v 1 h)
-grammar-unknown Set v h = rw (ne-eqb v 1 h)
+pub grammar-unknown : (k : Kind) (v : ℕ) → (v ≡ 1 → ⊥) → (v ≡ 2 → ⊥) → grammarOf k v ≡ Unknown
+grammar-unknown k v h i = rw (ne-eqb v 1 h, ne-eqb v 2 i)
+
+pub grammar-first : (k : Kind) (v : ℕ) → v ≡ 1 → grammarOf k v ≡ firstOf k
+grammar-first k v e = ap (grammarOf k) e
+
+pub grammar-second : (k : Kind) (v : ℕ) → v ≡ 2 → grammarOf k v ≡ secondOf k
+grammar-second k v e = ap (grammarOf k) e

@@ -3,3 +3,4 @@ pub mod Table
 pub mod Leads
 pub mod Bytes
 pub mod Eights
+pub mod Versions

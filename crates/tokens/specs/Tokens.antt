@@ -1,13 +1,13 @@
 -- The bytes of a formula and what each means, and which tokens a call takes. Definitions alone.
 use Prim.Native.Nat.{ℕ, _-_}
 use mathlib.Core.Bool.{Bool, true, false, _&&_, cond}
-use mathlib.Core.List.{List, [], _∷_}
+use mathlib.Core.List.{List, [], _∷_, _++_}
 use lib.Dec.{ltb, leb, eqb}
 use lib.ListN.{length, getD}
 use Rattle.tokens.specs.declared.Kind.{Kind}
 use Rattle.tokens.specs.declared.Kind.the-variants.{Relation, Set}
 use Rattle.tokens.specs.declared.Grammar.{Grammar}
-use Rattle.tokens.specs.declared.Grammar.the-variants.{Pairs, States}
+use Rattle.tokens.specs.declared.Grammar.the-variants.{Pairs, States, Runs}
 use Rattle.tokens.specs.declared.Reading.{Reading}
 use Rattle.tokens.specs.declared.Reading.the-variants.{Is as Reads, Unknown}
 use Rattle.tokens.specs.declared.Leaf.{Leaf}
@@ -15,6 +15,8 @@ use Rattle.tokens.specs.declared.Leaf.the-variants.{False, True, Now, Ne
 use Rattle.tokens.specs.declared.Join.the-variants.{And, Or}
 use Rattle.tokens.specs.declared.Mode.the-variants.{All, Some}
 use Rattle.tokens.specs.declared.Fix.the-variants.{Mu, Nu}
+use Rattle.tokens.specs.declared.Two.{Two}
+use Rattle.tokens.specs.declared.Two.the-variants.{Join, Until}
 use Rattle.tokens.specs.declared.Token.{Token}
 use Rattle.tokens.specs.declared.Token.the-variants.{Leaf as LeafToken, Not, Both, Modal, Binder}
 use Rattle.tokens.specs.declared.Lead.{Lead}
@@ -29,14 +31,14 @@ pub record Line : Type 0 where
 abbrev pub line : ℕ → ℕ → (ℕ → Token) → Line
 line a b t = record { first = a; last = b; token = t }
 
--- document 01's table "Byte, Meaning"
-abbrev pub table : List Line
-table =
+-- document 01's table "Byte, Meaning": the words of version 1
+abbrev pub firstWords : List Line
+firstWords =
     line 0x00 0x00 (λ k. LeafToken False)
     ∷ line 0x01 0x01 (λ k. LeafToken True)
     ∷ line 0x02 0x02 (λ k. Not)
-    ∷ line 0x03 0x03 (λ k. Both And)
-    ∷ line 0x04 0x04 (λ k. Both Or)
+    ∷ line 0x03 0x03 (λ k. Both (Join And))
+    ∷ line 0x04 0x04 (λ k. Both (Join Or))
     ∷ line 0x10 0x1F (λ p. LeafToken (Now p))
     ∷ line 0x20 0x2F (λ p. LeafToken (Next p))
     ∷ line 0x30 0x3F (λ P. LeafToken (Var P))
@@ -46,6 +48,16 @@ table =
     ∷ line 0x70 0x7F (λ P. Binder Mu P)
     ∷ line 0x80 0x8F (λ P. Binder Nu P)
     ∷ []
+
+-- "Version 2 formulas … add 90–97 f g (some run of relation t) and 98–9F f g (every run)"
+abbrev pub addedWords : List Line
+addedWords =
+    line 0x90 0x97 (λ t. Both (Until Some t))
+    ∷ line 0x98 0x9F (λ t. Both (Until All t))
+    ∷ []
+
+abbrev pub table : List Line
+table = firstWords ++ addedWords
 
 -- the token of a byte by the first line that has it
 unfoldable pub lookup : List Line → ℕ → Lead
@@ -58,15 +70,31 @@ lookup (l ∷ ls) b =
 unfoldable pub tokenOf : ℕ → Lead
 tokenOf b = lookup table b
 
--- "version 1": the grammar of a call's formula, by the version byte
+-- "version 1"
+abbrev pub firstOf : Kind → Reading
+firstOf Relation = Reads Pairs
+firstOf Set = Reads States
+
+-- "Version 2 formulas, for set calls"
+abbrev pub secondOf : Kind → Reading
+secondOf Relation = Unknown
+secondOf Set = Reads Runs
+
+-- the grammar of a call's formula, by the version byte
 abbrev pub grammarOf : Kind → ℕ → Reading
-grammarOf Relation v = cond (eqb v 1) (Reads Pairs) Unknown
-grammarOf Set v = cond (eqb v 1) (Reads States) Unknown
+grammarOf k v = cond (eqb v 1) (firstOf k) (cond (eqb v 2) (secondOf k) Unknown)
 
 -- formulas speak of states
 abbrev pub isStates : Grammar → Bool
 isStates Pairs = false
 isStates States = true
+isStates Runs = true
+
+-- formulas speak of runs
+abbrev pub hasRuns : Grammar → Bool
+hasRuns Pairs = false
+hasRuns States = false
+hasRuns Runs = true
 
 -- "p < n", "relation calls only"; "Relation calls take only 00 to 04 and 10 to 2F"
 abbrev pub leafAllowed : Leaf → ℕ → Grammar → Bool
@@ -77,10 +105,14 @@ leafAllowed (Next p) n g = cond (isStates g) false (ltb p n)
 leafAllowed (Var P) n g = isStates g
 leafAllowed (Reg r) n g = isStates g
 
+abbrev pub twoAllowed : Two → Grammar → Bool
+twoAllowed (Join j) g = true
+twoAllowed (Until m t) g = hasRuns g
+
 abbrev pub allowed : Token → ℕ → Grammar → Bool
 allowed (LeafToken l) n g = leafAllowed l n g
 allowed Not n g = true
-allowed (Both j) n g = true
+allowed (Both w) n g = twoAllowed w g
 allowed (Modal m t) n g = isStates g
 allowed (Binder x P) n g = isStates g
 

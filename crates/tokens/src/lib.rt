@@ -1,7 +1,7 @@
 // The tokens of document 01: what each formula byte means, and which tokens a call takes.
 ghost use mathlib.Core.Path.{_≡_};
 ghost use Prim.Native.Nat.{_≤_};
-ghost use Rattle.tokens.specs.Tokens.{tokenOf, grammarOf, isStates, leafAllowed, allowed, leadAt};
+ghost use Rattle.tokens.specs.Tokens.{tokenOf, firstOf, secondOf, grammarOf, isStates, hasRuns, leafAllowed, twoAllowed, allowed, leadAt};
 ghost use Rattle.tokens.specs.declared.Lead.the-variants.{Is};
 
 // The call that a formula is for.
@@ -10,14 +10,18 @@ pub enum Kind {
     Set,
 }
 
-// What a formula speaks of: pairs of states, or states.
+// What a formula speaks of: pairs of states, states, or states and runs.
 pub enum Grammar {
     Pairs,
     States,
+    Runs,
 }
 
 impl Grammar {
     pub const VERSION: u8 = 1;
+
+    // The version whose formulas, for set calls, speak of runs.
+    pub const RUNS_VERSION: u8 = 2;
 
     // How many variables there are.
     pub const VARIABLES: usize = 16;
@@ -44,7 +48,7 @@ pub enum Join {
     Or,
 }
 
-// Box and diamond.
+// Box and diamond; every run and some run.
 pub enum Mode {
     All,
     Some,
@@ -55,11 +59,17 @@ pub enum Fix {
     Nu,
 }
 
+// An operator of two parts: AND or OR, or until on some or on every run of a relation.
+pub enum Two {
+    Join(Join),
+    Until(Mode, u32),
+}
+
 // A token: a leaf, or an operator with the number that its byte holds.
 pub enum Token {
     Leaf(Leaf),
     Not,
-    Both(Join),
+    Both(Two),
     Modal(Mode, u32),
     Binder(Fix, u32),
 }
@@ -70,17 +80,37 @@ pub enum Lead {
     Bad,
 }
 
-// The grammar of a call's formula, by the version byte.
-pub fn grammar_of(kind: Kind, version: u8) -> Reading
-    ensures { λ r. ⌜ r ≡ grammarOf kind version ⌝ }
+// The grammar of version 1.
+fn first_of(kind: Kind) -> Reading
+    ensures { λ r. ⌜ r ≡ firstOf kind ⌝ }
 {
-    if version != Grammar::VERSION {
-        return Reading::Unknown;
-    }
     match kind {
         Kind::Relation => Reading::Is(Grammar::Pairs),
         Kind::Set => Reading::Is(Grammar::States),
     }
+}
+
+// The grammar of version 2, which is for set calls.
+fn second_of(kind: Kind) -> Reading
+    ensures { λ r. ⌜ r ≡ secondOf kind ⌝ }
+{
+    match kind {
+        Kind::Relation => Reading::Unknown,
+        Kind::Set => Reading::Is(Grammar::Runs),
+    }
+}
+
+// The grammar of a call's formula, by the version byte.
+pub fn grammar_of(kind: Kind, version: u8) -> Reading
+    ensures { λ r. ⌜ r ≡ grammarOf kind version ⌝ }
+{
+    if version == Grammar::VERSION {
+        return first_of(kind);
+    }
+    if version == Grammar::RUNS_VERSION {
+        return second_of(kind);
+    }
+    Reading::Unknown
 }
 
 // A byte as a word.
@@ -101,6 +131,17 @@ fn modal_of(b: u8) -> Token
     Token::Modal(modes[kind], byte % 8)
 }
 
+// The token of a byte 90 to 9F: its quotient by 8 tells until on some or on every run, its remainder is the relation.
+fn until_of(b: u8) -> Token
+    requires { ⌜ (0x90 ≤ b) × (b ≤ 0x9F) ⌝ }
+    ensures { λ r. ⌜ Is r ≡ tokenOf b ⌝ }
+{
+    let byte = wide(b);
+    let modes = [Mode::Some, Mode::All];
+    let kind = (byte / 8 - 18) as usize;
+    Token::Both(Two::Until(modes[kind], byte % 8))
+}
+
 // The meaning of a byte.
 pub fn token_of(b: u8) -> Lead
     ensures { λ r. ⌜ r ≡ tokenOf b ⌝ }
@@ -110,8 +151,8 @@ pub fn token_of(b: u8) -> Lead
         0x00 => Lead::Is(Token::Leaf(Leaf::False)),
         0x01 => Lead::Is(Token::Leaf(Leaf::True)),
         0x02 => Lead::Is(Token::Not),
-        0x03 => Lead::Is(Token::Both(Join::And)),
-        0x04 => Lead::Is(Token::Both(Join::Or)),
+        0x03 => Lead::Is(Token::Both(Two::Join(Join::And))),
+        0x04 => Lead::Is(Token::Both(Two::Join(Join::Or))),
         0x10..=0x1F => Lead::Is(Token::Leaf(Leaf::Now(byte - 0x10))),
         0x20..=0x2F => Lead::Is(Token::Leaf(Leaf::Next(byte - 0x20))),
         0x30..=0x3F => Lead::Is(Token::Leaf(Leaf::Var(byte - 0x30))),
@@ -119,6 +160,7 @@ pub fn token_of(b: u8) -> Lead
         0x60..=0x6F => Lead::Is(modal_of(b)),
         0x70..=0x7F => Lead::Is(Token::Binder(Fix::Mu, byte - 0x70)),
         0x80..=0x8F => Lead::Is(Token::Binder(Fix::Nu, byte - 0x80)),
+        0x90..=0x9F => Lead::Is(until_of(b)),
         _ => Lead::Bad,
     }
 }
@@ -130,6 +172,18 @@ pub fn is_states(grammar: Grammar) -> bool
     match grammar {
         Grammar::Pairs => false,
         Grammar::States => true,
+        Grammar::Runs => true,
+    }
+}
+
+// Whether formulas speak of runs.
+pub fn has_runs(grammar: Grammar) -> bool
+    ensures { λ r. ⌜ r ≡ hasRuns grammar ⌝ }
+{
+    match grammar {
+        Grammar::Pairs => false,
+        Grammar::States => false,
+        Grammar::Runs => true,
     }
 }
 
@@ -152,6 +206,16 @@ pub fn leaf_allowed(l: Leaf, n: u32, grammar: Grammar) -> bool
     }
 }
 
+// Whether the grammar takes the operator of two parts.
+pub fn two_allowed(w: Two, grammar: Grammar) -> bool
+    ensures { λ r. ⌜ r ≡ twoAllowed w grammar ⌝ }
+{
+    match w {
+        Two::Join(_) => true,
+        Two::Until(_, _) => has_runs(grammar),
+    }
+}
+
 // Whether the grammar takes the token.
 pub fn token_allowed(t: Token, n: u32, grammar: Grammar) -> bool
     ensures { λ r. ⌜ r ≡ allowed t n grammar ⌝ }
@@ -159,7 +223,7 @@ pub fn token_allowed(t: Token, n: u32, grammar: Grammar) -> bool
     match t {
         Token::Leaf(l) => leaf_allowed(l, n, grammar),
         Token::Not => true,
-        Token::Both(_) => true,
+        Token::Both(w) => two_allowed(w, grammar),
         Token::Modal(_, _) => is_states(grammar),
         Token::Binder(_, _) => is_states(grammar),
     }

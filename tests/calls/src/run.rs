@@ -5,19 +5,44 @@ use crate::kept;
 use crate::list::{List, Step};
 use crate::sound::sound;
 use crate::words::{table_size, Words};
+use crate::writer::has_until;
 use kudzuclamp::{Refusal, Table};
 use reference::book::{Book, Call, REGISTERS};
-use reference::formula::Kind;
+use reference::formula::{Kind, RUNS_VERSION};
 
 /// Greatest n at which relations of a damaged table are enumerated.
 pub const MAX_BITS: u32 = 5;
 
-/// How often each number came, 0 for answered; and how many questions the checks after the lists
-/// asked.
+/// How often each number came, 0 for answered: of all calls, of sets, and of sets whose formula has
+/// until; and how many questions the checks after the lists asked.
 #[derive(Clone, Copy, Debug, Default, PartialEq, Eq)]
 pub struct Counts {
     pub numbers: [u64; 10],
+    pub sets: u64,
+    pub untils: [u64; 10],
     pub questions: u64,
+}
+
+impl Counts {
+    fn note(&mut self, call: &Call, number: u8) {
+        self.numbers[number as usize] += 1;
+        let Call::Set { formula, .. } = call else {
+            return;
+        };
+        self.sets += 1;
+        let until = formula.get(2) == Some(&RUNS_VERSION) && has_until(&formula[3..]);
+        self.untils[number as usize] += u64::from(until);
+    }
+
+    pub fn add(&mut self, other: Counts) {
+        let sum = |into: &mut [u64; 10], from: [u64; 10]| {
+            (into.iter_mut().zip(from)).for_each(|(sum, count)| *sum += count);
+        };
+        sum(&mut self.numbers, other.numbers);
+        sum(&mut self.untils, other.untils);
+        self.sets += other.sets;
+        self.questions += other.questions;
+    }
 }
 
 /// Lent words, and what they should hold; None where they are no sound table.
@@ -136,7 +161,7 @@ impl Runner {
         self.compare_check(call)?;
         let before = self.words().to_vec();
         let got = make(&mut self.table, call);
-        self.counts.numbers[got.number as usize] += 1;
+        self.counts.note(call, got.number);
         let Some(expected) = &mut self.expected else {
             same("number", got.number, Refusal::Unsound.number() as u8)?;
             return kept::all(&before, self.words());

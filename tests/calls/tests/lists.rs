@@ -8,7 +8,7 @@
 
 use calls::draw::{draw_and_run, Drawn, CALLS};
 use calls::list::List;
-use calls::run::run;
+use calls::run::{run, Counts};
 use std::env;
 use std::io::{stderr, Write};
 use std::panic::catch_unwind;
@@ -28,8 +28,7 @@ fn setting(name: &str, default: u64) -> u64 {
 /// Sums over lists.
 #[derive(Default)]
 struct Totals {
-    numbers: [u64; 10],
-    questions: u64,
+    counts: Counts,
     edge_answered: u64,
     edge_refused: u64,
     differences: Vec<String>,
@@ -39,8 +38,7 @@ impl Totals {
     fn of(index: u64, drawn: Drawn) -> Totals {
         let text = |what| format!("list {index}: {what}\n{}", drawn.list);
         Totals {
-            numbers: drawn.runner.counts.numbers,
-            questions: drawn.runner.counts.questions,
+            counts: drawn.runner.counts,
             edge_answered: drawn.edges.answered,
             edge_refused: drawn.edges.refused,
             differences: drawn.difference.map(text).into_iter().collect(),
@@ -48,10 +46,7 @@ impl Totals {
     }
 
     fn add(&mut self, other: Totals) {
-        for (sum, count) in self.numbers.iter_mut().zip(other.numbers) {
-            *sum += count;
-        }
-        self.questions += other.questions;
+        self.counts.add(other.counts);
         self.edge_answered += other.edge_answered;
         self.edge_refused += other.edge_refused;
         self.differences.extend(other.differences);
@@ -91,31 +86,52 @@ fn random_lists() {
     });
     report(&totals, seed, lists, start.elapsed().as_secs_f64());
     assert!(totals.differences.is_empty(), "{}", totals.differences[0]);
+    let Counts {
+        numbers,
+        sets,
+        untils,
+        ..
+    } = totals.counts;
     for number in 0..=9 {
-        assert!(totals.numbers[number] > 0, "no call gave {number}");
+        assert!(numbers[number] > 0, "no call gave {number}");
+        // 1 is of fresh alone.
+        assert!(number == 1 || untils[number] > 0, "no until gave {number}");
     }
+    let share = 100 * untils.iter().sum::<u64>() / sets;
+    assert!((30..40).contains(&share), "{share} of 100 sets have until");
     assert!(totals.edge_answered > 0 && totals.edge_refused > 0);
+}
+
+fn by_number(numbers: &[u64; 10]) -> String {
+    let mut text = format!("answered {}; refused", numbers[0]);
+    for (number, count) in numbers.iter().enumerate().skip(1) {
+        text += &format!(" {number}: {count}");
+    }
+    text
 }
 
 /// Written past the test runner's capture.
 fn report(totals: &Totals, seed: u64, lists: u64, seconds: f64) {
-    let made: u64 = totals.numbers.iter().sum();
-    let mut text = format!("seed {seed}: {lists} lists, {made} calls");
-    text += &format!(", {} questions after lists", totals.questions);
-    text += &format!(
-        ", {} differences, {seconds:.1} s\n",
-        totals.differences.len()
-    );
-    text += "answered";
-    for (number, count) in totals.numbers.iter().enumerate() {
-        match number {
-            0 => text += &format!(" {count}; refused"),
-            _ => text += &format!(" {number}: {count}"),
-        }
-    }
+    let Counts {
+        numbers,
+        sets,
+        untils,
+        questions,
+    } = totals.counts;
+    let made: u64 = numbers.iter().sum();
+    let differences = totals.differences.len();
+    let mut text =
+        format!("seed {seed}: {lists} lists, {made} calls, {questions} questions after lists");
+    text += &format!(", {differences} differences, {seconds:.1} s\n");
+    text += &by_number(&numbers);
     text += &format!(
         "; needs N rows: {}; needs N + 1: {}\n",
         totals.edge_answered, totals.edge_refused
+    );
+    let with_until: u64 = untils.iter().sum();
+    text += &format!(
+        "sets {sets}, with until {with_until}: {}\n",
+        by_number(&untils)
     );
     stderr()
         .write_all(text.as_bytes())

@@ -8,6 +8,8 @@ pub const MAX_DEPTH: u32 = 64;
 pub const MIN_LENGTH: usize = 2;
 pub const MAX_LENGTH: usize = 1024;
 pub const VERSION: u8 = 1;
+/// Slip 1: "Version 2 formulas, for set calls".
+pub const RUNS_VERSION: u8 = 2;
 
 #[derive(Clone, Copy, Debug, PartialEq, Eq)]
 pub enum Modality {
@@ -33,6 +35,8 @@ pub enum Formula {
     Register(usize),
     Modal(Modality, usize, Box<Formula>),
     Binder(Fixpoint, u8, Box<Formula>),
+    /// Slip 1: f until g, on some run of a relation (diamond) or on every one (box).
+    Until(Modality, usize, Box<Formula>, Box<Formula>),
 }
 
 /// The call that the formula is for.
@@ -42,11 +46,16 @@ pub enum Kind {
     Set,
 }
 
-/// Puts the length bytes and the version in front of formula bytes.
+/// Puts the length bytes and version 1 in front of formula bytes.
 pub fn frame(body: &[u8]) -> Vec<u8> {
+    frame_as(VERSION, body)
+}
+
+/// Puts the length bytes and a version in front of formula bytes.
+pub fn frame_as(version: u8, body: &[u8]) -> Vec<u8> {
     let length = (body.len() + 1) as u16;
     let mut bytes = length.to_be_bytes().to_vec();
-    bytes.push(VERSION);
+    bytes.push(version);
     bytes.extend_from_slice(body);
     bytes
 }
@@ -82,12 +91,15 @@ pub fn read(n: u32, kind: Kind, bytes: &[u8]) -> Option<Formula> {
     }
     // "then L bytes: version 1, then one formula in prefix order, filling them".
     let (&version, body) = rest.split_first()?;
-    if version != VERSION {
-        return None;
-    }
+    let runs = match (version, kind) {
+        (VERSION, _) => false,
+        (RUNS_VERSION, Kind::Set) => true,
+        _ => return None,
+    };
     let mut reader = Reader {
         n,
         kind,
+        runs,
         rest: body,
     };
     let formula = reader.formula(1)?;
@@ -97,6 +109,8 @@ pub fn read(n: u32, kind: Kind, bytes: &[u8]) -> Option<Formula> {
 struct Reader<'a> {
     n: u32,
     kind: Kind,
+    /// "Version 1 keeps its words."
+    runs: bool,
     rest: &'a [u8],
 }
 
@@ -122,6 +136,8 @@ impl Reader<'_> {
             0x68..=0x6F => self.modal(Modality::Diamond, byte - 0x68, depth)?,
             0x70..=0x7F => Formula::Binder(Fixpoint::Mu, low, self.part(depth)?),
             0x80..=0x8F => Formula::Binder(Fixpoint::Nu, low, self.part(depth)?),
+            0x90..=0x97 if self.runs => self.until(Modality::Diamond, byte - 0x90, depth)?,
+            0x98..=0x9F if self.runs => self.until(Modality::Box, byte - 0x98, depth)?,
             _ => return None,
         })
     }
@@ -153,6 +169,11 @@ impl Reader<'_> {
     fn modal(&mut self, modality: Modality, t: u8, depth: u32) -> Option<Formula> {
         Some(Formula::Modal(modality, usize::from(t), self.part(depth)?))
     }
+
+    fn until(&mut self, modality: Modality, t: u8, depth: u32) -> Option<Formula> {
+        let (f, g) = (self.part(depth)?, self.part(depth)?);
+        Some(Formula::Until(modality, usize::from(t), f, g))
+    }
 }
 
 impl Formula {
@@ -160,7 +181,7 @@ impl Formula {
     pub fn parts(&self) -> Vec<&Formula> {
         match self {
             Formula::Not(f) | Formula::Modal(_, _, f) | Formula::Binder(_, _, f) => vec![f],
-            Formula::And(f, g) | Formula::Or(f, g) => vec![f, g],
+            Formula::And(f, g) | Formula::Or(f, g) | Formula::Until(_, _, f, g) => vec![f, g],
             _ => Vec::new(),
         }
     }
@@ -210,7 +231,7 @@ fn names_empty(
 ) -> bool {
     let here = match formula {
         Formula::Register(r) => !register_filled(*r),
-        Formula::Modal(_, t, _) => !relation_filled(*t),
+        Formula::Modal(_, t, _) | Formula::Until(_, t, ..) => !relation_filled(*t),
         _ => false,
     };
     here || (formula.parts().into_iter()).any(|f| names_empty(f, register_filled, relation_filled))

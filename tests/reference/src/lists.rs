@@ -247,7 +247,7 @@ impl Drawer<'_> {
         let mut bytes = frame(&body);
         match fault {
             3 => bytes.push(0x00),
-            4 => bytes[2] = 2,
+            4 => bytes[2] = 3,
             5 => bytes[1] += 1,
             6 => bytes.truncate(bytes.len() - 1),
             _ => {}

@@ -5,6 +5,7 @@
 
 use crate::evaluate::Held;
 use crate::formula::{Fixpoint, Formula, Modality};
+use crate::runs;
 use crate::states::{state_count, StateSet};
 
 /// Variables and their sets.
@@ -24,6 +25,11 @@ fn meaning(held: Held, formula: &Formula, environment: &Environment) -> StateSet
                 meaning(held, body, &inner)
             };
             extreme_fixpoint(held.n, *fixpoint, transform)
+        }
+        Formula::Until(modality, t, f, g) => {
+            let relation = held.relations[*t].as_ref().expect("filled by check 7");
+            let (f, g) = (meaning(held, f, environment), meaning(held, g, environment));
+            runs::until(*modality, relation, &f, &g)
         }
         _ => {
             let parts: Vec<StateSet> = (formula.parts().into_iter())
@@ -67,7 +73,7 @@ fn holds(
                 Modality::Diamond => following.any(|s| parts[0].contains(s)),
             }
         }
-        Formula::NextBit(_) | Formula::Binder(..) => unreachable!(),
+        Formula::NextBit(_) | Formula::Binder(..) | Formula::Until(..) => unreachable!(),
     }
 }
 

@@ -87,9 +87,11 @@ fn slice_is_exactly_2_plus_l() {
 }
 
 #[test]
-fn version_is_1() {
+fn version_is_1_and_for_set_calls_2() {
     for version in (0..=255).filter(|&version| version != 1) {
-        assert_eq!(read(1, Kind::Set, &[0x00, 0x02, version, 0x01]), None);
+        assert_eq!(read(1, Kind::Relation, &[0x00, 0x02, version, 0x01]), None);
+        let set = read(1, Kind::Set, &[0x00, 0x02, version, 0x01]);
+        assert_eq!(set.is_some(), version == 2);
     }
 }
 

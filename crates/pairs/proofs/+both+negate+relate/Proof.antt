@@ -1,11 +1,12 @@
 -- The cycle of the evaluator: each answer is a law of `Cycle`; the depth falls. Assumes nothing.
+use Rattle.evaluator.proofs.Falls.{at, below}
 use borrow.Author.Needs.{needs}
 use native.Mathlib.Omega.{arith}
 use Prim.Native.Nat.{_*_, _+_, ℕ}
 use lib.ListN.{length-set}
-use mathlib.Core.Path.{sym, _∙_}
+use mathlib.Core.Path.{sym, ap, _∙_}
 use mathlib.Core.Bool.{true≢false}
-use Rattle.evaluator.proofs.Falls.{at, below}
+use Rattle.tokens.specs.declared.Token.the-variants.{Both}
 use Rattle.evaluator.proofs.Tokens.{read-depth, read-token, read-inside, read-allowed}
 use Rattle.pairs.proofs.Cycle.{leaf-asked, leaf-answered, not-asked, not-answered, both-asked, both-answered, negate-halts, step-asked, negate-answered, first-asked, first-halts, second-asked, second-halts, join-asked, join-answered}
 use borrow.Fn.PlainCycle.{Measures}
@@ -36,16 +37,30 @@ abbrev μ-relate : Measures 3 relate-kinds.ps ℕ
 μ-relate κs a = 2 * a .1 .1 .1 .1 .1 .0
 
 pub +both+negate+relate-spec : {M : Type 1} → statement M
-+both+negate+relate-spec =
-    close μ-both μ-negate μ-relate (λ t. both-lts.spec (below relate-kinds.ps μ-relate relate.Pre t, relate.Post, join-of-reads.Asked, join-of-reads.Learnt, live-step-reads.Asked, live-step-reads.Learnt, answer-reads.Asked, answer-reads.Learnt) (at both-kinds.ps μ-both both.Pre t) both.Post
++both+negate+relate-spec = close μ-both μ-negate μ-relate (λ t. both-lts.spec (
+  below relate-kinds.ps μ-relate relate.Pre t,
+  relate.Post,
+  join-of-reads.Asked,
+  join-of-reads.Learnt,
+  live-step-reads.Asked,
+  live-step-reads.Learnt,
+  answer-reads.Asked,
+  answer-reads.Learnt,
+)
+    (at both-kinds.ps μ-both both.Pre t)
+    both.Post
     (λ c κs. (omega (arith, c .before .before .before .before .before .pre .0), first-asked (c .before .before .before .before .before .pre .1)))
-    (λ c. search needs) (λ c. search needs) (λ c. search needs) (λ c. search needs)
+    (λ c. search needs)
+    (λ c. search needs)
+    (λ c. search needs)
+    (λ c. search needs)
     (λ c. first-halts (c .before .before .before .before .before .before .before .before .before .before .before .before .pre .1) (c .before .before .before .before .before .before .relate .ensures) (c .enum-told .given .1) (c .before .before .before .before .before .before .before .before .before .before .before .before .args .j))
     (λ c. search needs)
     (λ c. omega (arith, c .before .before .before .before .before .before .before .before .before .before .before .before .before .pre .1 .room, c .before .before .before .before .before .before .before .before .before .before .before .before .before .pre .1 .ready .size, c .before .before .before .before .before .before .before .relate .kept .1 .0))
     (λ c. omega (arith, c .before .before .before .before .before .before .before .before .before .before .before .before .before .before .before .pre .1 .room))
     (λ c κs. (omega (arith, c .before .before .before .before .before .before .before .before .before .before .before .before .before .before .before .pre .0), second-asked (c .before .before .before .before .before .before .before .before .before .before .before .before .before .before .before .pre .1) (c .before .before .before .before .before .before .before .before .before .relate .ensures) (c .before .before .before .before .before .before .before .before .before .relate .kept .1 .0) (c .before .before .before .a .given .1)))
-    (λ c. search needs) (λ c. search needs)
+    (λ c. search needs)
+    (λ c. search needs)
     (λ c. c .before .before .before .before .before .before .relate2 .kept .0 ∙ c .before .before .before .before .before .before .before .before .before .before .before .before .before .before .before .before .relate .kept .0)
     (λ c. (simp length-set at (c .before .before .before .before .before .before .relate2 .kept .1 .0)) ∙ c .before .before .before .before .before .before .before .before .before .before .before .before .before .before .before .before .relate .kept .1 .0)
     (λ c. second-halts (c .before .before .before .before .before .before .before .before .before .before .before .before .before .before .before .before .before .before .before .before .before .before .pre .1) (c .before .before .before .before .before .before .before .before .before .before .before .before .before .before .before .before .relate .ensures) (c .before .before .before .before .before .before .before .before .before .before .before .before .before .before .before .before .relate .kept .1 .0) (c .before .before .before .before .before .before .before .before .before .before .a .given .1) (c .before .before .before .before .before .before .relate2 .ensures) (c .before .before .before .before .before .before .relate2 .kept .1 .0) (c .enum-told2 .given .1) (c .before .before .before .before .before .before .before .before .before .before .before .before .before .before .before .before .before .before .before .before .before .before .args .j))
@@ -55,31 +70,67 @@ pub +both+negate+relate-spec : {M : Type 1} → statement M
     (λ c. c .before .before .before .live-step .kept .0 ∙ c .before .before .before .before .before .before .before .before .before .before .before .before .before .before .relate2 .kept .0 ∙ c .before .before .before .before .before .before .before .before .before .before .before .before .before .before .before .before .before .before .before .before .before .before .before .before .relate .kept .0)
     (λ c. (simp length-set at (c .before .before .before .before .before .before .before .before .before .before .before .before .before .before .relate2 .kept .1 .0)) ∙ c .before .before .before .before .before .before .before .before .before .before .before .before .before .before .before .before .before .before .before .before .before .before .before .before .relate .kept .1 .0)
     (λ c. join-answered (c .before .before .before .before .before .before .before .before .before .before .before .before .before .before .before .before .before .before .before .before .before .before .before .before .before .before .before .before .before .before .pre .1) (c .before .before .before .before .before .before .before .before .before .before .before .before .before .before .before .before .before .before .before .before .before .before .before .before .relate .ensures) (c .before .before .before .before .before .before .before .before .before .before .before .before .before .before .before .before .before .before .before .before .before .before .before .before .relate .kept .1 .0) (c .before .before .before .before .before .before .before .before .before .before .before .before .before .before .before .before .before .before .a .given .1) (c .before .before .before .before .before .before .before .before .before .before .before .before .before .before .relate2 .ensures) (c .before .before .before .before .before .before .before .before .before .before .before .before .before .before .relate2 .kept .1 .0) (c .before .before .before .before .before .before .before .before .b .given .1) (c .before .before .before .before .before .before .before .before .before .before .before .before .before .before .before .before .before .before .before .before .before .before .before .before .before .before .before .before .before .before .args .j) (c .before .before .before .before .join-of .ensures) (c .before .before .before .live-step .ensures) (c .answer .ensures)))
-    (λ t. negate-lts.spec (below relate-kinds.ps μ-relate relate.Pre t, relate.Post, live-step-reads.Asked, live-step-reads.Learnt, answer-reads.Asked, answer-reads.Learnt) (at negate-kinds.ps μ-negate negate.Pre t) negate.Post
+    (λ t. negate-lts.spec (
+      below relate-kinds.ps μ-relate relate.Pre t,
+      relate.Post,
+      live-step-reads.Asked,
+      live-step-reads.Learnt,
+      answer-reads.Asked,
+      answer-reads.Learnt,
+    )
+    (at negate-kinds.ps μ-negate negate.Pre t)
+    negate.Post
     (λ c κs. (omega (arith, c .before .before .before .before .before .pre .0), c .before .before .before .before .before .pre .1))
-    (λ c. search needs) (λ c. search needs) (λ c. search needs) (λ c. search needs)
+    (λ c. search needs)
+    (λ c. search needs)
+    (λ c. search needs)
+    (λ c. search needs)
     (λ c. negate-halts (c .before .before .before .before .before .before .relate .ensures) (c .enum-told .given .1))
     (λ c κs. step-asked (c .before .before .before .before .before .before .before .before .before .relate .ensures) (c .before .before .before .before .before .before .before .before .before .relate .kept .1 .0) (c .before .before .before .a .given .1) (c .before .before .before .before .before .before .before .before .before .before .before .before .before .before .before .pre .1))
     (λ c κs. search needs)
     (λ c. c .before .before .before .live-step .kept .0 ∙ c .before .before .before .before .before .before .before .before .before .before .before .before .before .relate .kept .0)
     (λ c. search needs)
     (λ c. negate-answered (c .before .before .before .before .before .before .before .before .before .before .before .before .before .relate .ensures) (c .before .before .before .before .before .before .before .before .before .before .before .before .before .relate .kept .1 .0) (c .before .before .before .before .before .before .before .a .given .1) (c .before .before .before .live-step .ensures) (c .answer .ensures)))
-    (λ t. relate-lts.spec (lead-at-reads.Asked, lead-at-reads.Learnt, leaf-reads.Asked, leaf-reads.Learnt, answer-reads.Asked, answer-reads.Learnt, below negate-kinds.ps μ-negate negate.Pre t, negate.Post, below both-kinds.ps μ-both both.Pre t, both.Post) (at relate-kinds.ps μ-relate relate.Pre t) relate.Post
-    (λ c κs. search needs) (λ c. search needs) (λ c. search needs)
+    λ t. relate-lts.spec (
+      lead-at-reads.Asked,
+      lead-at-reads.Learnt,
+      leaf-reads.Asked,
+      leaf-reads.Learnt,
+      answer-reads.Asked,
+      answer-reads.Learnt,
+      below negate-kinds.ps μ-negate negate.Pre t,
+      negate.Post,
+      below both-kinds.ps μ-both both.Pre t,
+      both.Post,
+    )
+    (at relate-kinds.ps μ-relate relate.Pre t)
+    relate.Post
+    (λ c κs. search needs)
+    (λ c. search needs)
+    (λ c. search needs)
     (λ c. absurd (read-token (c .before .before .before .before .before .before .pre .1 .stands) (c .before .before .lead-at .ensures) (c .enum-told .given .1)))
     (λ c. omega (arith, read-inside (c .before .before .before .before .before .before .before .pre .1 .stands) (c .before .before .before .lead-at .ensures) (c .before .t .given .1), c .before .before .before .before .before .before .before .good))
     (λ c. omega (arith, read-depth (c .before .before .before .before .before .before .before .pre .1 .stands)))
     (λ c. search needs)
     (λ c κs. leaf-asked (c .before .before .before .before .before .before .before .before .before .before .before .before .pre .1) (c .before .before .before .before .before .before .before .before .lead-at .ensures) (c .before .before .before .before .before .before .t .given .1) (c .before .before .before .t2 .given .1))
-    (λ c κs. search needs) (λ c. search needs)
+    (λ c κs. search needs)
+    (λ c. search needs)
     (λ c κs. (let d = read-depth (c .before .before .before .before .before .before .before .before .before .before .before .pre .1 .stands) in omega (arith, c .before .before .before .before .before .before .before .before .before .before .before .pre .0), not-asked (c .before .before .before .before .before .before .before .before .before .before .before .pre .1) (c .before .before .before .before .before .before .before .lead-at .ensures) (c .before .before .before .before .before .t .given .1) (c .before .before .enum-told2 .given .1)))
     (λ c. search needs)
-    (λ c κs. (let d = read-depth (c .before .before .before .before .before .before .before .before .before .before .before .before .pre .1 .stands) in omega (arith, c .before .before .before .before .before .before .before .before .before .before .before .before .pre .0), both-asked (c .before .before .before .before .before .before .before .before .before .before .before .before .pre .1) (c .before .before .before .before .before .before .before .before .lead-at .ensures) (c .before .before .before .before .before .before .t .given .1) (c .before .before .before .t3 .given .1)))
-    (λ c. search needs) (λ c. search needs) (λ c. search needs) (λ c. search needs)
+    (λ c. search needs)
+    (λ c κs. (let d = read-depth (c .before .before .before .before .before .before .before .before .before .before .before .before .before .before .before .pre .1 .stands) in omega (arith, c .before .before .before .before .before .before .before .before .before .before .before .before .before .before .before .pre .0), both-asked (c .before .before .before .before .before .before .before .before .before .before .before .before .before .before .before .pre .1) (c .before .before .before .before .before .before .before .before .before .before .before .lead-at .ensures) (c .before .before .before .before .before .before .before .before .before .t .given .1) (c .before .before .before .before .before .before .t3 .given .1 ∙ ap Both (c .before .before .before .w .given .1))))
+    (λ c. search needs)
+    (λ c. search needs)
+    (λ c. search needs)
+    (λ c. search needs)
+    (λ c. search needs)
     (λ c. leaf-answered (c .before .before .before .before .before .before .before .before .before .before .before .before .before .before .before .before .pre .1) (c .before .before .before .before .before .before .before .before .before .before .before .before .lead-at .ensures) (c .before .before .before .before .before .before .before .before .before .before .t .given .1) (c .before .before .before .before .before .before .before .t2 .given .1) (c .before .before .before .leaf .ensures) (c .answer .ensures))
-    (λ c. search needs) (λ c. search needs)
+    (λ c. search needs)
+    (λ c. search needs)
     (λ c. not-answered (c .before .before .before .before .before .before .before .before .before .before .before .before .before .before .before .before .pre .1) (c .before .before .before .before .before .before .before .before .before .before .before .before .lead-at .ensures) (c .before .before .before .before .before .before .before .before .before .before .t .given .1) (c .before .before .before .before .before .before .before .enum-told2 .given .1) (c .before .before .before .before .negate .ensures))
-    (λ c. search needs) (λ c. search needs)
-    (λ c. both-answered (c .before .before .before .before .before .before .before .before .before .before .before .before .before .before .before .before .before .pre .1) (c .before .before .before .before .before .before .before .before .before .before .before .before .before .lead-at .ensures) (c .before .before .before .before .before .before .before .before .before .before .before .t .given .1) (c .before .before .before .before .before .before .before .before .t3 .given .1) (c .before .before .before .before .both .ensures))
-    (λ c. absurd (true≢false (sym (read-allowed (c .before .before .before .before .before .before .before .before .before .pre .1 .stands) (c .before .before .before .before .before .lead-at .ensures) (c .before .before .before .t .given .1) (c .enum-told3 .given .1)))))
-    (λ c. absurd (true≢false (sym (read-allowed (c .before .before .before .before .before .before .before .before .before .pre .1 .stands) (c .before .before .before .before .before .lead-at .ensures) (c .before .before .before .t .given .1) (c .enum-told4 .given .1))))))
+    (λ c. search needs)
+    (λ c. search needs)
+    (λ c. both-answered (c .before .before .before .before .before .before .before .before .before .before .before .before .before .before .before .before .before .before .before .before .pre .1) (c .before .before .before .before .before .before .before .before .before .before .before .before .before .before .before .before .lead-at .ensures) (c .before .before .before .before .before .before .before .before .before .before .before .before .before .before .t .given .1) (c .before .before .before .before .before .before .before .before .before .before .before .t3 .given .1 ∙ ap Both (c .before .before .before .before .before .before .before .before .w .given .1)) (c .before .before .before .before .both .ensures))
+    (λ c. absurd (true≢false (sym (read-allowed (c .before .before .before .before .before .before .before .before .before .before .before .before .pre .1 .stands) (c .before .before .before .before .before .before .before .before .lead-at .ensures) (c .before .before .before .before .before .before .t .given .1) (c .before .before .before .t3 .given .1 ∙ ap Both (c .enum-told3 .given .1))))))
+    (λ c. absurd (true≢false (sym (read-allowed (c .before .before .before .before .before .before .before .before .before .pre .1 .stands) (c .before .before .before .before .before .lead-at .ensures) (c .before .before .before .t .given .1) (c .enum-told4 .given .1)))))
+    (λ c. absurd (true≢false (sym (read-allowed (c .before .before .before .before .before .before .before .before .before .pre .1 .stands) (c .before .before .before .before .before .lead-at .ensures) (c .before .before .before .t .given .1) (c .enum-told5 .given .1)))))

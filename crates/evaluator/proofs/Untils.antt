@@ -1,0 +1,375 @@
+-- Until, round by round: what each of its functions asks, and what its answers are made of; a round is one of the formula written with a
+-- binder, whose laws are those of AND, OR, box, diamond and mu. Assumes nothing.
+use mathlib.Core.Path.{_≡_, refl, sym, ap, _∙_, subst}
+use mathlib.Core.Logic.{_≢_}
+use mathlib.Core.Bool.{Bool, true, false}
+use mathlib.Core.List.{List, _∷_, List·Memᴰ as Mem, List·Memᴰ·head as here, List·Memᴰ·tail as there}
+use Prim.Native.Nat.{ℕ, suc, _+_, _*_, _^_, _≤_, _<_}
+use native.Mathlib.Omega.{arith}
+use lib.Dec.{T}
+use lib.ListN.{length, set, take, length-set}
+use lib.Seq.{set-out}
+use Rattle.mucalculus.specs.Sets.{allStates}
+use Rattle.mucalculus.specs.Form.{Form, var, top, conj, disj, box, dia, put}
+use Rattle.mucalculus.specs.Means.{clip}
+use Rattle.mucalculus.specs.Written.{absent, goes, written, put-here}
+use Rattle.tokens.specs.declared.Grammar.the-variants.{Runs}
+use Rattle.tokens.specs.declared.Mode.{Mode}
+use Rattle.tokens.specs.declared.Mode.the-variants.{All, Some}
+use Rattle.tokens.specs.declared.Join.the-variants.{And, Or}
+use Rattle.tokens.specs.declared.Fix.the-variants.{Mu}
+use Rattle.formula.specs.Parse.{untilForm, modalForm, parse}
+use Rattle.formula.specs.Checks.{passOf}
+use Rattle.formula.specs.declared.Pass.{Pass}
+use Rattle.formula.specs.declared.Pass.the-variants.{Past, Refused4}
+use Rattle.formula.proofs.Passes.{not-past}
+use Rattle.formula.proofs.Readings.{parse-reads}
+use Rattle.formula.proofs.Written.{read-taken}
+use Rattle.formula.proofs.Versions.{takes-absent}
+use Rattle.layout.specs.Places.{HEADER, FIRST-RELATION}
+use Rattle.layout.specs.View.{View, view}
+use Rattle.diagram.specs.Rows.{Rows}
+use Rattle.diagram.specs.Post.{Denotes}
+use Rattle.diagram.specs.Keep.{Keeps, keeps-denotes}
+use Rattle.soundness.specs.Used.{rowsOf}
+use Rattle.table.specs.declared.Made.{Made}
+use Rattle.steps.specs.declared.Step.the-variants as step
+use Rattle.book.specs.Bridge.{fnOf}
+use Rattle.book.specs.Written.{run-written}
+use Rattle.book.specs.Follow.{evals-same, evals-leaf, denotes-clip, denotes-all}
+use Rattle.modal.specs.declared.Limits.{Limits}
+use Rattle.modal.specs.Modal.{ModalPre}
+use Rattle.modal.specs.Chain.{moved-refl, base-wf}
+use Rattle.evaluator.specs.Scene.{stackSize, Scene, modelIn, pushed, opened, Ready, Part, holdsReg, holdsRel, Answers, fromMade, OverPost, LivePre, LivePost, EvalPre, EvalPost, roundOf, own, isSome, roundForm, Current, IsValue, ReachPre, ReachPost, FurtherPre, FurtherPost, KeepPre, KeepPost, RoundPre, RoundPost, UntilPre, UntilPost}
+use Rattle.evaluator.specs.declared.Context.{Context}
+use Rattle.evaluator.specs.declared.Evaluated.{Evaluated}
+use Rattle.evaluator.specs.declared.Evaluated.the-variants.{Value, Full, Spent}
+use Rattle.evaluator.proofs.Outcomes.{Halts}
+use Rattle.evaluator.proofs.Tokens.{read-depth}
+use Rattle.evaluator.proofs.Steps.{first-stops, value-set, value-is, value-end, both-ready, both-stops, both-asks, both-ends}
+use Rattle.evaluator.proofs.Relations.{rel-range, rel-some, over-asks, over-ends}
+use Rattle.evaluator.proofs.Rounds.{Bound, bind-starts, bind-out, bind-ready, bind-stops, bind-ends, bind-turns, bind-less}
+
+-- ---- the current set
+
+module _ {L : Limits} {W : View} {σ : Scene} {x : ℕ} (c : Current L W σ x) where
+  -- it is kept
+  pub current-next : {X : View} → Keeps (rowsOf W) (rowsOf X) (σ .roots) → Current L X σ x
+  current-next k = record { root = c .root; denotes = keeps-denotes k (c .root) (c .denotes) }
+
+  -- with a value more
+  pub current-push : (a : ℕ) (C : List Bool) → Current L W (pushed σ a (fnOf (L .bits) C)) x
+  current-push a C = record { root = there (c .root); denotes = c .denotes }
+
+module _ (c : Context) {L : Limits} {W : View} {stack : List ℕ} {σ : Scene} (R : Ready L W stack (c .places) (c .held) σ) where
+  -- it is X's value
+  pub own-value : {x : ℕ} (e : ℕ) → Current L W σ x → IsValue L W stack c σ (var own) x e
+  own-value e u = record { moved = moved-refl (R .base); kept = refl; evals = evals-leaf (L .bits) (L .rows) (c .rounds) (base-wf (R .base)) (R .lives) (denotes-clip (L .bits) (L .rows) (σ .env own) (u .denotes)); end = refl }
+
+  -- all states are the value of true
+  pub all-value : (e : ℕ) → IsValue L W stack c σ top 1 e
+  all-value e = record { moved = moved-refl (R .base); kept = refl; evals = evals-leaf (L .bits) (L .rows) (c .rounds) (base-wf (R .base)) (R .lives) (denotes-all (L .bits) (L .rows) (rowsOf W)); end = refl }
+
+-- ---- box and diamond of a value
+
+module _ {L : Limits} {W : View} {stack : List ℕ} {c : Context} {t x e : ℕ} (P : ReachPre L W stack c t x e) where
+  pub reach-relation : (FIRST-RELATION + t < HEADER) × (HEADER ≤ W .size) × (0 < W .header (FIRST-RELATION + t))
+  reach-relation = (
+    let l = rel-range (P .ready) (P .is-value) refl refl t (P .relation) in omega arith,
+    let l = P .ready .base .sound .good .sizes .room in omega arith,
+    rel-some (P .ready) (P .is-value) refl refl t (P .relation),
+  )
+
+  pub reach-within : c .held ≤ length stack
+  reach-within = let w = P .ready .within in let s = P .ready .size in omega arith
+
+  pub reach-asks : (y : ℕ) → y + 1 ≡ W .header (FIRST-RELATION + t) → ModalPre (L .bits) (L .rows) (L .limit) W (take (c .held) stack) y x
+  reach-asks y arrow = over-asks (P .ready) (P .is-value) refl refl t (P .relation) y arrow
+
+pub reach-answers : {L : Limits} {W : View} {stack : List ℕ} {c : Context} {t x e : ℕ} (y : ℕ) → y + 1 ≡ W .header (FIRST-RELATION + t) → {X : View} (o : Made) (m : Mode) {r : Evaluated}
+    → OverPost m (L .bits) (L .rows) (L .limit) W X (take (c .held) stack) y x o → r ≡ fromMade e (c .rounds) o → ReachPost L W X stack c m t x e r
+reach-answers {t = t} y arrow {X} o m v made = record { answers = λ σ f R h A. over-ends R A refl refl t h y arrow X o m v made }
+
+-- ---- box of the current set and diamond of true
+
+module _ {L : Limits} {W : View} {stack : List ℕ} {c : Context} {t x : ℕ} (P : FurtherPre L W stack c t x) where
+  pub own-asked : (e : ℕ) → ReachPre L W stack c t x e
+  own-asked e = record { scene = P .scene; form = var own; ready = P .ready; relation = P .relation; is-value = own-value c (P .ready) e (P .current) }
+
+  module _ {X : View} {e : ℕ} {r : Evaluated} (E : ReachPost L W X stack c All t x e r) where
+    pub box-halts : Halts r → FurtherPost L W X stack stack c All t x e r
+    box-halts s = record { answers = λ σ R h u. first-stops (E .answers σ (var own) R h (own-value c R e u)) s And (dia t top) e }
+
+    module _ {a k q : ℕ} (is : r ≡ Value a k q) where
+      boxed : (σ : Scene) → Ready L W stack (c .places) (c .held) σ → holdsRel σ t ≡ true → Current L W σ x → Answers L W X stack stack (c .held) (c .rounds) σ (box t (var own)) e r
+      boxed σ R h u = E .answers σ (var own) R h (own-value c R e u)
+
+      pub all-asked : {b : Context} → b ≡ roundOf c (c .at) q → ReachPre L X (set stack (c .held) a) b t 1 e
+      all-asked i =
+          let A = boxed (P .scene) (P .ready) (P .relation) (P .current) in
+          let R = both-ready (P .ready) A refl is (P .room) (value-set (P .ready) A refl is) (value-is (P .ready) A refl is) in
+          subst (λ (d : Context). ReachPre L X (set stack (c .held) a) d t 1 e) (sym i) (record { scene = _; form = top; ready = R; relation = P .relation; is-value = all-value (roundOf c (c .at) q) R e })
+
+      module _ {b : Context} (i : b ≡ roundOf c (c .at) q) {Y : View} {r′ : Evaluated} (E′ : ReachPost L X Y (set stack (c .held) a) b Some t 1 e r′) where
+        D : ReachPost L X Y (set stack (c .held) a) (roundOf c (c .at) q) Some t 1 e r′
+        D = subst (λ (d : Context). ReachPost L X Y (set stack (c .held) a) d Some t 1 e r′) i E′
+
+        same : length (set stack (c .held) a) ≡ length stack
+        same = length-set stack (c .held) a
+
+        all-dia : (σ : Scene) (R : Ready L W stack (c .places) (c .held) σ) (h : holdsRel σ t ≡ true) (u : Current L W σ x) (C : List Bool) → Denotes (2 * L .bits) (rowsOf X) a (fnOf (L .bits) C)
+            → Answers L X Y (set stack (c .held) a) (set stack (c .held) a) (c .held + 1) q (pushed σ a (fnOf (L .bits) C)) (dia t top) e r′
+        all-dia σ R h u C d = let S = both-ready R (boxed σ R h u) refl is (P .room) C d in D .answers _ top S h (all-value (roundOf c (c .at) q) S e)
+
+        pub dia-halts : Halts r′ → FurtherPost L W Y stack (set stack (c .held) a) c All t x e r′
+        dia-halts s = record { answers = λ σ R h u. both-stops R (boxed σ R h u) refl is (P .room) same (all-dia σ R h u) And s }
+
+        module _ {b′ k′ q′ : ℕ} (is′ : r′ ≡ Value b′ k′ q′) where
+          pub and-asked : LivePre L Y (set stack (c .held) a) (c .held) (step.And a b′)
+          and-asked = both-asks (P .ready) (boxed (P .scene) (P .ready) (P .relation) (P .current)) refl is (P .room) same (all-dia (P .scene) (P .ready) (P .relation) (P .current)) is′ And refl
+
+          pub and-answered : {Z : View} {o : Made} {r″ : Evaluated} → LivePost L Y Z (set stack (c .held) a) (c .held) (step.And a b′) o → r″ ≡ fromMade k′ q′ o → FurtherPost L W Z stack (set stack (c .held) a) c All t x e r″
+          and-answered v made = record { answers = λ σ R h u. both-ends R (boxed σ R h u) refl is (P .room) same (all-dia σ R h u) is′ And refl v made }
+
+  -- diamond of the current set alone
+  pub some-answered : {X : View} {e : ℕ} {r : Evaluated} → ReachPost L W X stack c Some t x e r → FurtherPost L W X stack stack c Some t x e r
+  some-answered {e = e} E = record { answers = λ σ R h u. E .answers σ (var own) R h (own-value c R e u) }
+
+pub further-as : {L : Limits} {W X : View} {stack after : List ℕ} {c : Context} {t x e : ℕ} {r : Evaluated} {m n : Mode} → n ≡ m → FurtherPost L W X stack after c m t x e r → FurtherPost L W X stack after c n t x e r
+further-as {L} {W} {X} {stack} {after} {c} {t} {x} {e} {r} q E = subst (λ (m : Mode). FurtherPost L W X stack after c m t x e r) (sym q) E
+
+-- ---- f and that
+
+pub kept-asked : {L : Limits} {W : View} {stack bs : List ℕ} {c : Context} {t x : ℕ} → KeepPre L W stack bs c t x → EvalPre L W stack bs c
+kept-asked P = record { room = P .room; scene = P .scene; form = P .form; end = P .end; ready = P .ready; part = P .part }
+
+module _ {L : Limits} {W X : View} {stack after bs : List ℕ} {c : Context} {t x : ℕ} {r : Evaluated} (P : KeepPre L W stack bs c t x) (E : EvalPost L W X stack after bs c r) where
+  pub keep-halts : Halts r → (m : Mode) (e : ℕ) → KeepPost L W X stack after bs c m t x e r
+  keep-halts s m e = record { answers = λ σ f k R p h u. first-stops (E .answers σ f k R p) s And (goes (isSome m) t own) e }
+
+  pub keep-room : c .held + 1 < stackSize
+  keep-room = let l = P .room in let d = read-depth (P .part .stands) in omega arith
+
+  module _ (z : length after ≡ length stack) {a k q : ℕ} (is : r ≡ Value a k q) where
+    free : c .held < stackSize
+    free = let l = keep-room in omega arith
+
+    pub further-asked : {b : Context} → b ≡ roundOf c (c .at) q → FurtherPre L X (set after (c .held) a) b t x
+    further-asked i =
+        let A = E .answers (P .scene) (P .form) (P .end) (P .ready) (P .part) in
+        subst (λ (d : Context). FurtherPre L X (set after (c .held) a) d t x) (sym i) (record {
+          room = keep-room;
+          scene = _;
+          ready = both-ready (P .ready) A z is free (value-set (P .ready) A z is) (value-is (P .ready) A z is);
+          relation = P .relation;
+          current = current-push (current-next (P .current) (A .evals .kept)) a (value-set (P .ready) A z is);
+        })
+
+    module _ {b : Context} (i : b ≡ roundOf c (c .at) q) {Y : View} {last : List ℕ} {m : Mode} {e : ℕ} {r′ : Evaluated} (F′ : FurtherPost L X Y (set after (c .held) a) last b m t x e r′)
+        (z′ : length last ≡ length (set after (c .held) a)) where
+      F : FurtherPost L X Y (set after (c .held) a) last (roundOf c (c .at) q) m t x e r′
+      F = subst (λ (d : Context). FurtherPost L X Y (set after (c .held) a) last d m t x e r′) i F′
+
+      same₂ : length last ≡ length after
+      same₂ = simp length-set at z′
+
+      module _ {σ : Scene} {f : Form} {k₁ : ℕ} (R : Ready L W stack (c .places) (c .held) σ) (p : Part (L .bits) bs (c .at) (c .depth) (σ .scope) (holdsReg σ) (holdsRel σ) f k₁) (h : holdsRel σ t ≡ true) (u : Current L W σ x) where
+        part-answers : Answers L W X stack after (c .held) (c .rounds) σ f k₁ r
+        part-answers = E .answers σ f k₁ R p
+
+        rest-answers : (C : List Bool) → Denotes (2 * L .bits) (rowsOf X) a (fnOf (L .bits) C) → Answers L X Y (set after (c .held) a) last (c .held + 1) q (pushed σ a (fnOf (L .bits) C)) (goes (isSome m) t own) e r′
+        rest-answers C d = F .answers _ (both-ready R part-answers z is free C d) h (current-push (current-next u (part-answers .evals .kept)) a C)
+
+      pub further-halts : Halts r′ → KeepPost L W Y stack last bs c m t x e r′
+      further-halts s = record { answers = λ σ f k R p h u. both-stops R (part-answers R p h u) z is free same₂ (rest-answers R p h u) And s }
+
+      module _ {b′ k′ q′ : ℕ} (is′ : r′ ≡ Value b′ k′ q′) where
+        pub keep-asked : LivePre L Y last (c .held) (step.And a b′)
+        keep-asked = both-asks (P .ready) (part-answers (P .ready) (P .part) (P .relation) (P .current)) z is free same₂ (rest-answers (P .ready) (P .part) (P .relation) (P .current)) is′ And refl
+
+        pub keep-answered : {Z : View} {o : Made} {r″ : Evaluated} → LivePost L Y Z last (c .held) (step.And a b′) o → r″ ≡ fromMade k′ q′ o → KeepPost L W Z stack last bs c m t x e r″
+        keep-answered v made = record { answers = λ σ f k R p h u. both-ends R (part-answers R p h u) z is free same₂ (rest-answers R p h u) is′ And refl v made }
+
+-- ---- a round
+
+-- g's context
+abbrev pub goalOf : Context → ℕ → Context
+goalOf c k = record { at = k; depth = c .depth; held = c .held; places = c .places; rounds = c .rounds }
+
+pub goal-asked : {L : Limits} {W : View} {stack bs : List ℕ} {c : Context} {middle t x : ℕ} → RoundPre L W stack bs c middle t x → EvalPre L W stack bs (goalOf c middle)
+goal-asked P = record { room = let l = P .room in omega arith; scene = P .scene; form = P .right; end = P .end; ready = P .ready; part = P .second }
+
+module _ {L : Limits} {W X : View} {stack after bs : List ℕ} {c : Context} {middle t x : ℕ} {r : Evaluated} (P : RoundPre L W stack bs c middle t x) (E : EvalPost L W X stack after bs (goalOf c middle) r) where
+  pub goal-halts : Halts r → (m : Mode) → RoundPost L W X stack after bs c middle m t x r
+  goal-halts s m = record { answers = λ σ f g e R p g′ h u. first-stops (E .answers σ g e R g′) s Or (conj f (goes (isSome m) t own)) e }
+
+  pub round-free : c .held < stackSize
+  round-free = let l = P .room in omega arith
+
+  module _ (z : length after ≡ length stack) {a k q : ℕ} (is : r ≡ Value a k q) where
+    pub kept-part : {b : Context} → b ≡ roundOf c (c .at) q → KeepPre L X (set after (c .held) a) bs b t x
+    kept-part i =
+        let A = E .answers (P .scene) (P .right) (P .end) (P .ready) (P .second) in
+        subst (λ (d : Context). KeepPre L X (set after (c .held) a) bs d t x) (sym i) (record {
+          room = let l = P .room in omega arith;
+          scene = _;
+          form = P .left;
+          end = middle;
+          ready = both-ready (P .ready) A z is round-free (value-set (P .ready) A z is) (value-is (P .ready) A z is);
+          part = P .first;
+          relation = P .relation;
+          current = current-push (current-next (P .current) (A .evals .kept)) a (value-set (P .ready) A z is);
+        })
+
+    module _ {b : Context} (i : b ≡ roundOf c (c .at) q) {Y : View} {last : List ℕ} {m : Mode} {r′ : Evaluated} (K′ : KeepPost L X Y (set after (c .held) a) last bs b m t x k r′)
+        (z′ : length last ≡ length (set after (c .held) a)) where
+      K : KeepPost L X Y (set after (c .held) a) last bs (roundOf c (c .at) q) m t x k r′
+      K = subst (λ (d : Context). KeepPost L X Y (set after (c .held) a) last bs d m t x k r′) i K′
+
+      same₃ : length last ≡ length after
+      same₃ = simp length-set at z′
+
+      module _ {σ : Scene} {f g : Form} {e : ℕ} (R : Ready L W stack (c .places) (c .held) σ) (p : Part (L .bits) bs (c .at) (c .depth) (σ .scope) (holdsReg σ) (holdsRel σ) f middle)
+          (p′ : Part (L .bits) bs middle (c .depth) (σ .scope) (holdsReg σ) (holdsRel σ) g e) (h : holdsRel σ t ≡ true) (u : Current L W σ x) where
+        goal-answers : Answers L W X stack after (c .held) (c .rounds) σ g e r
+        goal-answers = E .answers σ g e R p′
+
+        keep-answers : (C : List Bool) → Denotes (2 * L .bits) (rowsOf X) a (fnOf (L .bits) C) → Answers L X Y (set after (c .held) a) last (c .held + 1) q (pushed σ a (fnOf (L .bits) C)) (conj f (goes (isSome m) t own)) e r′
+        keep-answers C d =
+            subst (λ (y : ℕ). Answers L X Y (set after (c .held) a) last (c .held + 1) q (pushed σ a (fnOf (L .bits) C)) (conj f (goes (isSome m) t own)) y r′) (value-end R goal-answers z is)
+            (K .answers _ f middle (both-ready R goal-answers z is round-free C d) p h (current-push (current-next u (goal-answers .evals .kept)) a C))
+
+      pub kept-halts : Halts r′ → RoundPost L W Y stack last bs c middle m t x r′
+      kept-halts s = record { answers = λ σ f g e R p p′ h u. both-stops R (goal-answers R p p′ h u) z is round-free same₃ (keep-answers R p p′ h u) Or s }
+
+      module _ {b′ k′ q′ : ℕ} (is′ : r′ ≡ Value b′ k′ q′) where
+        pub or-asked : LivePre L Y last (c .held) (step.Or a b′)
+        or-asked = both-asks (P .ready) (goal-answers (P .ready) (P .first) (P .second) (P .relation) (P .current)) z is round-free same₃ (keep-answers (P .ready) (P .first) (P .second) (P .relation) (P .current)) is′ Or refl
+
+        pub or-answered : {Z : View} {o : Made} {r″ : Evaluated} → LivePost L Y Z last (c .held) (step.Or a b′) o → r″ ≡ fromMade k′ q′ o → RoundPost L W Z stack last bs c middle m t x r″
+        or-answered v made = record { answers = λ σ f g e R p p′ h u. both-ends R (goal-answers R p p′ h u) z is round-free same₃ (keep-answers R p p′ h u) is′ Or refl v made }
+
+-- ---- the rounds
+
+-- where f ends is what the syntax pass says
+pub middle-is : {n : ℕ} {bs : List ℕ} {at depth : ℕ} {scope : List Bool} {regs rels : ℕ → Bool} {f : Form} {k : ℕ} → Part n bs at depth scope regs rels f k
+    → {y : Pass} → y ≡ passOf (λ (g : Form). true) (parse n Runs depth bs at) → {middle : ℕ} {ok : Bool} → y ≡ Past middle ok → k ≡ middle
+middle-is {n} {bs} {at} {depth} {k = k} p h {middle} {ok} z = let w : Past k true ≡ Past middle ok = sym (ap (passOf (λ (g : Form). true)) (p .stands .reads)) ∙ sym h ∙ z in cc
+
+pub middle-read : {n : ℕ} {bs : List ℕ} {at depth : ℕ} {scope : List Bool} {regs rels : ℕ → Bool} {f : Form} {k : ℕ} → Part n bs at depth scope regs rels f k
+    → {y : Pass} → y ≡ passOf (λ (g : Form). true) (parse n Runs depth bs at) → y ≡ Refused4 → ⊥
+middle-read p h z = not-past (sym z ∙ h ∙ ap (passOf (λ (g : Form). true)) (p .stands .reads))
+
+-- X stands nowhere in a formula of the bytes
+absent-of : {n : ℕ} {bs : List ℕ} {at depth : ℕ} {scope : List Bool} {regs rels : ℕ → Bool} {f : Form} {k : ℕ} → Part n bs at depth scope regs rels f k → T (absent own f)
+absent-of {n} {bs} {at} {depth} {f = f} {k = k} p = takes-absent n Runs f (read-taken n Runs bs (parse-reads n Runs bs depth at f k (p .stands .reads)))
+
+-- the formula written with the binder of X is until
+until-as : {L : Limits} {W X : View} {stack after : List ℕ} {held rounds : ℕ} {σ : Scene} {f g : Form} {e : ℕ} {r : Evaluated} (m : Mode) (t : ℕ) → T (absent own f) → T (absent own g)
+    → Answers L W X stack after held rounds σ (written (isSome m) t own f g) e r → Answers L W X stack after held rounds σ (untilForm m t f g) e r
+until-as {L} {rounds = rounds} {σ = σ} {f = f} {g = g} All t hf hg A = record { moved = A .moved; kept = A .kept; evals = evals-same (sym (run-written (modelIn (L .bits) σ) (L .limit) (L .rounds) (σ .env) t own false f g hf hg (σ .fns) rounds)) (A .evals); end = A .end }
+until-as {L} {rounds = rounds} {σ = σ} {f = f} {g = g} Some t hf hg A = record { moved = A .moved; kept = A .kept; evals = evals-same (sym (run-written (modelIn (L .bits) σ) (L .limit) (L .rounds) (σ .env) t own true f g hf hg (σ .fns) rounds)) (A .evals); end = A .end }
+
+-- where until's loop stands in every scene: after some rounds, with the arrow a as the current set
+pub record UntilTurns (L : Limits) (W X : View) (stack after bs : List ℕ) (c : Context) (m : Mode) (t a counted : ℕ) : Type 0 where
+  pub bound : (σ : Scene) (f g : Form) (k e : ℕ) → Ready L W stack (c .places) (c .held) σ → Part (L .bits) bs (c .at) (c .depth) (σ .scope) (holdsReg σ) (holdsRel σ) f k
+      → Part (L .bits) bs k (c .depth) (σ .scope) (holdsReg σ) (holdsRel σ) g e → holdsRel σ t ≡ true → Bound L W X stack after (c .held) (c .rounds) σ Mu own (roundForm m t f g) a counted
+
+-- what the loop keeps, from the words and the stack at its start
+pub record UntilLoops (L : Limits) (words₀ words stack₀ stack bs : List ℕ) (c : Context) (m : Mode) (t a counted : ℕ) : Type 0 where
+  pub words-size : length words ≡ length words₀
+  pub stack-size : length stack ≡ length stack₀
+  pub turns : UntilTurns L (view (L .rows) words₀) (view (L .rows) words) stack₀ stack bs c m t a counted
+
+pub until-starts : {L : Limits} {words stack bs : List ℕ} {c : Context} {m : Mode} {t : ℕ} → UntilLoops L words words stack stack bs c m t 0 (c .rounds)
+until-starts {m = m} {t = t} = record { words-size = refl; stack-size = refl; turns = record { bound = λ σ f g k e R p p′ h. bind-starts R Mu own (roundForm m t f g) refl } }
+
+module _ {L : Limits} {words₀ words stack after bs : List ℕ} {c : Context} {m : Mode} {t a counted : ℕ} (P : UntilPre L (view (L .rows) words₀) stack bs c t) (I : UntilLoops L words₀ words stack after bs c m t a counted) where
+  pub until-out : L .rounds ≤ counted → UntilPost L (view (L .rows) words₀) (view (L .rows) words) stack after bs c m t Spent
+  until-out l = record { answers = λ σ f g k e R p p′ h. until-as m t (absent-of p) (absent-of p′) (bind-out R (I .turns .bound σ f g k e R p p′ h) e l) }
+
+  pub until-free : c .held < stackSize
+  until-free = let l = P .room in omega arith
+
+  -- the scene of a round
+  module _ {σ : Scene} {f g : Form} {k e : ℕ} (R : Ready L (view (L .rows) words₀) stack (c .places) (c .held) σ) (p : Part (L .bits) bs (c .at) (c .depth) (σ .scope) (holdsReg σ) (holdsRel σ) f k)
+      (p′ : Part (L .bits) bs k (c .depth) (σ .scope) (holdsReg σ) (holdsRel σ) g e) (h : holdsRel σ t ≡ true) where
+    stands : Bound L (view (L .rows) words₀) (view (L .rows) words) stack after (c .held) (c .rounds) σ Mu own (roundForm m t f g) a counted
+    stands = I .turns .bound σ f g k e R p p′ h
+
+    inner : Scene
+    inner = opened (L .bits) σ own a (stands .turning .A)
+
+    inner-ready : Ready L (view (L .rows) words) (set after (c .held) a) (c .places) (c .held + 1) inner
+    unfolding inner
+    inner-ready =
+        subst (λ (places : List ℕ). Ready L (view (L .rows) words) (set after (c .held) a) places (c .held + 1) (opened (L .bits) σ own a (stands .turning .A))) (set-out (c .places) own (c .held) (let s = R .slots in omega arith))
+        (bind-ready R stands (I .stack-size) until-free)
+
+    -- X is none of the formula's variables
+    inner-part : {at d : ℕ} {q : Form} {j : ℕ} → Part (L .bits) bs at d (σ .scope) (holdsReg σ) (holdsRel σ) q j → Part (L .bits) bs at d (inner .scope) (holdsReg inner) (holdsRel inner) q j
+    unfolding inner
+    inner-part {at} {d} {q} {j} u = subst (λ (scope : List Bool). Part (L .bits) bs at d scope (holdsReg σ) (holdsRel σ) q j) (sym (set-out (σ .scope) own true (let s = R .vars in omega arith))) u
+
+    inner-current : Current L (view (L .rows) words) inner a
+    unfolding inner
+    inner-current = record {
+      root = here refl;
+      denotes = subst (λ (C : List Bool). Denotes (2 * L .bits) (rowsOf (view (L .rows) words)) a (fnOf (L .bits) C)) (sym (put-here (σ .env) own (stands .turning .A))) (stands .turning .denotes);
+    }
+
+    inner-relation : holdsRel inner t ≡ true
+    unfolding inner
+    inner-relation = h
+
+  module _ {b : Context} (i : b ≡ roundOf c (c .at) (counted + 1)) {y : Pass} (syntax : y ≡ passOf (λ (g : Form). true) (parse (L .bits) Runs (c .depth) bs (c .at))) {middle : ℕ} {ok : Bool} (past : y ≡ Past middle ok) where
+    to-middle : {scope : List Bool} {regs rels : ℕ → Bool} {f g : Form} {k e : ℕ} → Part (L .bits) bs (c .at) (c .depth) scope regs rels f k → Part (L .bits) bs k (c .depth) scope regs rels g e
+        → Part (L .bits) bs (c .at) (c .depth) scope regs rels f middle × Part (L .bits) bs middle (c .depth) scope regs rels g e
+    to-middle {scope = scope} {regs = regs} {rels = rels} {f = f} {g = g} {e = e} p p′ =
+        let same = middle-is p syntax past in
+        (subst (λ (x : ℕ). Part (L .bits) bs (c .at) (c .depth) scope regs rels f x) same p, subst (λ (x : ℕ). Part (L .bits) bs x (c .depth) scope regs rels g e) same p′)
+
+    pub round-asked : RoundPre L (view (L .rows) words) (set after (c .held) a) bs b middle t a
+    round-asked =
+        let w = to-middle (inner-part (P .ready) (P .first) (P .second) (P .relation) (P .first)) (inner-part (P .ready) (P .first) (P .second) (P .relation) (P .second)) in
+        subst (λ (d : Context). RoundPre L (view (L .rows) words) (set after (c .held) a) bs d middle t a) (sym i) (record {
+          room = let l = P .room in omega arith;
+          scene = inner (P .ready) (P .first) (P .second) (P .relation);
+          left = P .left;
+          right = P .right;
+          end = P .end;
+          ready = inner-ready (P .ready) (P .first) (P .second) (P .relation);
+          first = w .0;
+          second = w .1;
+          relation = inner-relation (P .ready) (P .first) (P .second) (P .relation);
+          current = inner-current (P .ready) (P .first) (P .second) (P .relation);
+        })
+
+    module _ {Y : View} {last : List ℕ} {r : Evaluated} (E : RoundPost L (view (L .rows) words) Y (set after (c .held) a) last bs b middle m t a r) (more : counted < L .rounds) where
+      module _ {σ : Scene} {f g : Form} {k e : ℕ} (R : Ready L (view (L .rows) words₀) stack (c .places) (c .held) σ) (p : Part (L .bits) bs (c .at) (c .depth) (σ .scope) (holdsReg σ) (holdsRel σ) f k)
+          (p′ : Part (L .bits) bs k (c .depth) (σ .scope) (holdsReg σ) (holdsRel σ) g e) (h : holdsRel σ t ≡ true) where
+        answered : Answers L (view (L .rows) words) Y (set after (c .held) a) last (c .held + 1) (counted + 1) (opened (L .bits) σ own a (stands R p p′ h .turning .A)) (roundForm m t f g) e r
+        unfolding inner
+        answered =
+            let w = to-middle (inner-part R p p′ h p) (inner-part R p p′ h p′) in
+            subst (λ (d : Context). RoundPost L (view (L .rows) words) Y (set after (c .held) a) last bs d middle m t a r) i E .answers (inner R p p′ h) f g e (inner-ready R p p′ h) (w .0) (w .1) (inner-relation R p p′ h) (inner-current R p p′ h)
+
+      pub round-halts : Halts r → UntilPost L (view (L .rows) words₀) Y stack last bs c m t r
+      round-halts s = record { answers = λ σ f g k e R p p′ h. until-as m t (absent-of p) (absent-of p′) (bind-stops R (stands R p p′ h) (I .stack-size) until-free (answered R p p′ h) more s) }
+
+      module _ {d k₁ q : ℕ} (is : r ≡ Value d k₁ q) where
+        pub round-same : d ≡ a → UntilPost L (view (L .rows) words₀) Y stack last bs c m t (Value d k₁ q)
+        round-same z = record { answers = λ σ f g k e R p p′ h. until-as m t (absent-of p) (absent-of p′) (bind-ends R (stands R p p′ h) (I .stack-size) until-free (answered R p p′ h) more is z) }
+
+        pub round-less : counted < q
+        round-less = bind-less (P .ready) (stands (P .ready) (P .first) (P .second) (P .relation)) (I .stack-size) until-free (answered (P .ready) (P .first) (P .second) (P .relation)) more is
+
+        round-turns : d ≢ a → UntilTurns L (view (L .rows) words₀) Y stack last bs c m t d q
+        round-turns z = record { bound = λ σ f g k e R p p′ h. bind-turns R (stands R p p′ h) (I .stack-size) until-free (answered R p p′ h) more is z }
+
+        pub until-turns : d ≢ a → (next : List ℕ) → Y ≡ view (L .rows) next → length next ≡ length words → length last ≡ length (set after (c .held) a) → UntilLoops L words₀ next stack last bs c m t d q
+        until-turns z next y′ w l = record {
+          words-size = w ∙ I .words-size;
+          stack-size = simp length-set at l ∙ I .stack-size;
+          turns = subst (λ (Z : View). UntilTurns L (view (L .rows) words₀) Z stack last bs c m t d q) y′ (round-turns z);
+        }

@@ -1,0 +1,148 @@
+-- Until is the formula written with a binder: "The first form is read as mu X (g or (f and diamond X)), the second as mu X (g or (f and (box X
+-- and diamond true))), X a variable of its own"; the meaning and the rounds are the same. Assumes nothing.
+use mathlib.Core.Path.{_≡_, refl, sym, ap, ap₂, _∙_, subst, fun-ext}
+use mathlib.Core.Bool.{Bool, true, false, not, _&&_, _||_, cond}
+use mathlib.Core.List.{List}
+use Prim.Native.Nat.{ℕ, zero, suc, _+_, _<_}
+use native.Mathlib.Omega.{arith}
+use native.Mathlib.Nat.{add-zero}
+use lib.Dec.{T, T-not, eqb, eqb-refl}
+use Rattle.mucalculus.specs.Sets.{mem, table, and-out, true-of}
+use Rattle.mucalculus.specs.Order.{start}
+use Rattle.mucalculus.specs.Fixpoint.{least, greatest}
+use Rattle.mucalculus.specs.Form.{Form, bot, top, neg, conj, disj, now, next, var, reg, box, dia, mu, nu, until, Pairs, Model, Env, put, inside}
+use Rattle.mucalculus.specs.Runs.{pair, untilSet}
+use Rattle.mucalculus.specs.Means.{clip, compl, inter, union, always, sometimes, size, means}
+use Rattle.mucalculus.specs.Laws.{getD-table, table-ext, table-out}
+use Rattle.mucalculus.specs.Until.{further, onward, over-same, until-least}
+use Rattle.mucalculus.specs.Polarity.{put-swap}
+use Rattle.mucalculus.specs.Rounds.{runs, rounds}
+
+-- X stands nowhere in f
+abbrev pub absent : ℕ → Form → Bool
+absent X bot = true
+absent X top = true
+absent X (neg f) = absent X f
+absent X (conj f g) = absent X f && absent X g
+absent X (disj f g) = absent X f && absent X g
+absent X (now p) = true
+absent X (next p) = true
+absent X (var P) = not (eqb P X)
+absent X (reg r) = true
+absent X (box t f) = absent X f
+absent X (dia t f) = absent X f
+absent X (mu P f) = not (eqb P X) && absent X f
+absent X (nu P f) = not (eqb P X) && absent X f
+absent X (until b t f g) = absent X f && absent X g
+
+-- diamond X, or with `false` box X and diamond true
+abbrev pub goes : Bool → ℕ → ℕ → Form
+goes true t X = dia t (var X)
+goes false t X = conj (box t (var X)) (dia t top)
+
+-- until, written with the binder of X
+abbrev pub written : Bool → ℕ → ℕ → Form → Form → Form
+written b t X f g = mu X (disj g (conj f (goes b t X)))
+
+-- ---- a variable that stands nowhere
+
+pub apart : (P X : ℕ) → T (not (eqb P X)) → X ≡ P → ⊥
+apart P X h e = T-not (eqb P X) h (subst (λ (Y : ℕ). T (eqb P Y)) (sym e) (eqb-refl P))
+
+pub var-apart : {Y : Type 0} (c : Bool) (x y : Y) → T (not c) → cond c x y ≡ y
+var-apart true x y h = absurd h
+var-apart false x y h = refl
+
+pub runs-same : (F G : List Bool → List Bool) (c d : List Bool → ℕ) (j : ℕ) (A : List Bool) → ((B : List Bool) → F B ≡ G B) → ((B : List Bool) → c B ≡ d B) → runs F c j A ≡ runs G d j A
+runs-same F G c d j A h i = ap₂ (λ (K : List Bool → List Bool) (k : List Bool → ℕ). runs K k j A) (fun-ext h) (fun-ext i)
+
+module _ (m : Model) (X : ℕ) (A : List Bool) where
+  pub means-absent : (f : Form) → T (absent X f) → (e : Env) → means m (put e X A) f ≡ means m e f
+  means-absent bot h e = refl
+  means-absent top h e = refl
+  means-absent (neg f) h e = ap (compl (size m)) (means-absent f h e)
+  means-absent (conj f g) h e = let w = and-out (absent X f) (absent X g) h in ap₂ (inter (size m)) (means-absent f (w .0) e) (means-absent g (w .1) e)
+  means-absent (disj f g) h e = let w = and-out (absent X f) (absent X g) h in ap₂ (union (size m)) (means-absent f (w .0) e) (means-absent g (w .1) e)
+  means-absent (now p) h e = refl
+  means-absent (next p) h e = refl
+  means-absent (var P) h e = ap (clip (size m)) (var-apart (eqb P X) A (e P) h)
+  means-absent (reg r) h e = refl
+  means-absent (box t f) h e = ap (always (size m) (inside (m .rel t))) (means-absent f h e)
+  means-absent (dia t f) h e = ap (sometimes (size m) (inside (m .rel t))) (means-absent f h e)
+  means-absent (mu P f) h e = let w = and-out (not (eqb P X)) (absent X f) h in ap (least (size m)) (fun-ext (λ B.
+      ap (λ (d : Env). means m d f) (put-swap e X A P B (apart P X (w .0))) ∙ means-absent f (w .1) (put e P B)))
+  means-absent (nu P f) h e = let w = and-out (not (eqb P X)) (absent X f) h in ap (greatest (size m)) (fun-ext (λ B.
+      ap (λ (d : Env). means m d f) (put-swap e X A P B (apart P X (w .0))) ∙ means-absent f (w .1) (put e P B)))
+  means-absent (until b t f g) h e = let w = and-out (absent X f) (absent X g) h in ap₂ (λ (F G : List Bool). untilSet b (size m) (inside (m .rel t)) F G) (means-absent f (w .0) e) (means-absent g (w .1) e)
+
+  pub rounds-absent : (f : Form) → T (absent X f) → (e : Env) → rounds m (put e X A) f ≡ rounds m e f
+  rounds-absent bot h e = refl
+  rounds-absent top h e = refl
+  rounds-absent (neg f) h e = rounds-absent f h e
+  rounds-absent (conj f g) h e = let w = and-out (absent X f) (absent X g) h in ap₂ _+_ (rounds-absent f (w .0) e) (rounds-absent g (w .1) e)
+  rounds-absent (disj f g) h e = let w = and-out (absent X f) (absent X g) h in ap₂ _+_ (rounds-absent f (w .0) e) (rounds-absent g (w .1) e)
+  rounds-absent (now p) h e = refl
+  rounds-absent (next p) h e = refl
+  rounds-absent (var P) h e = refl
+  rounds-absent (reg r) h e = refl
+  rounds-absent (box t f) h e = rounds-absent f h e
+  rounds-absent (dia t f) h e = rounds-absent f h e
+  rounds-absent (mu P f) h e =
+      let w = and-out (not (eqb P X)) (absent X f) h in
+      runs-same _ _ _ _ (suc (size m)) (start true (size m))
+      (λ B. ap (λ (d : Env). means m d f) (put-swap e X A P B (apart P X (w .0))) ∙ means-absent f (w .1) (put e P B))
+      (λ B. ap (λ (d : Env). rounds m d f) (put-swap e X A P B (apart P X (w .0))) ∙ rounds-absent f (w .1) (put e P B))
+  rounds-absent (nu P f) h e =
+      let w = and-out (not (eqb P X)) (absent X f) h in
+      runs-same _ _ _ _ (suc (size m)) (start false (size m))
+      (λ B. ap (λ (d : Env). means m d f) (put-swap e X A P B (apart P X (w .0))) ∙ means-absent f (w .1) (put e P B))
+      (λ B. ap (λ (d : Env). rounds m d f) (put-swap e X A P B (apart P X (w .0))) ∙ rounds-absent f (w .1) (put e P B))
+  rounds-absent (until b t f g) h e =
+      let w = and-out (absent X f) (absent X g) h in
+      runs-same _ _ _ _ (suc (size m)) (start true (size m))
+      (λ B. ap₂ (λ (F G : List Bool). onward b (size m) (inside (m .rel t)) F G B) (means-absent f (w .0) e) (means-absent g (w .1) e))
+      (λ B. ap₂ _+_ (rounds-absent g (w .1) e) (rounds-absent f (w .0) e))
+
+-- ---- the translation
+
+pub sometimes-clip : (k : ℕ) (R : Pairs) (A : List Bool) → sometimes k R (clip k A) ≡ sometimes k R A
+sometimes-clip k R A = table-ext k _ _ (λ s l.
+    over-same true (λ t. pair R s t && mem (clip k A) t) (λ t. pair R s t && mem A t) (table k (λ t. t))
+    (table-out k (λ t. t) (λ t. (pair R s t && mem (clip k A) t) ≡ (pair R s t && mem A t)) (λ t i. ap (λ (c : Bool). pair R s t && c) (getD-table k (mem A) t false i))))
+
+pub always-clip : (k : ℕ) (R : Pairs) (A : List Bool) → always k R (clip k A) ≡ always k R A
+always-clip k R A = table-ext k _ _ (λ s l.
+    over-same false (λ t. not (pair R s t) || mem (clip k A) t) (λ t. not (pair R s t) || mem A t) (table k (λ t. t))
+    (table-out k (λ t. t) (λ t. (not (pair R s t) || mem (clip k A) t) ≡ (not (pair R s t) || mem A t)) (λ t i. ap (λ (c : Bool). not (pair R s t) || c) (getD-table k (mem A) t false i))))
+
+pub put-here : {Y : Type 0} (e : ℕ → Y) (X : ℕ) (x : Y) → put e X x X ≡ x
+put-here e X x = ap (λ (c : Bool). cond c x (e X)) (true-of (eqb X X) (eqb-refl X))
+
+module _ (m : Model) (e : Env) (b : Bool) (t X : ℕ) where
+  pub goes-means : (A : List Bool) → means m (put e X A) (goes b t X) ≡ further b (size m) (inside (m .rel t)) A
+  goes-means A = go b
+    where
+      go : (b : Bool) → means m (put e X A) (goes b t X) ≡ further b (size m) (inside (m .rel t)) A
+      go true = ap (λ (B : List Bool). sometimes (size m) (inside (m .rel t)) (clip (size m) B)) (put-here e X A) ∙ sometimes-clip (size m) (inside (m .rel t)) A
+      go false =
+          ap (λ (B : List Bool). inter (size m) B (means m (put e X A) (dia t top)))
+          (ap (λ (B : List Bool). always (size m) (inside (m .rel t)) (clip (size m) B)) (put-here e X A) ∙ always-clip (size m) (inside (m .rel t)) A)
+
+  module _ (f g : Form) (hf : T (absent X f)) (hg : T (absent X g)) where
+    -- a round of the written formula is one of until
+    pub written-round : (A : List Bool) → means m (put e X A) (disj g (conj f (goes b t X))) ≡ onward b (size m) (inside (m .rel t)) (means m e f) (means m e g) A
+    written-round A =
+        ap₂ (union (size m)) (means-absent m X A g hg e) (ap₂ (inter (size m)) (means-absent m X A f hf e) (goes-means A))
+
+    -- UNTIL IS THE WRITTEN FORMULA, in meaning
+    pub until-written : means m e (until b t f g) ≡ means m e (written b t X f g)
+    until-written = until-least (size m) (inside (m .rel t)) b (means m e f) (means m e g) ∙ ap (least (size m)) (fun-ext (λ A. sym (written-round A)))
+
+    -- and in rounds
+    pub rounds-written : rounds m e (until b t f g) ≡ rounds m e (written b t X f g)
+    rounds-written = sym (runs-same _ _ _ _ (suc (size m)) (start true (size m)) written-round
+        (λ A. ap₂ _+_ (rounds-absent m X A g hg e) (ap₂ _+_ (rounds-absent m X A f hf e) (none b A) ∙ add-zero (rounds m e f))))
+      where
+        none : (b : Bool) (A : List Bool) → rounds m (put e X A) (goes b t X) ≡ zero
+        none true A = refl
+        none false A = refl
