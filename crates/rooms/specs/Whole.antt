@@ -3,7 +3,7 @@
 use mathlib.Core.Path.{_≡_, refl, sym, ap, _∙_, subst}
 use mathlib.Core.Logic.{_⊎_, inl, inr, ⊎-elim, by-cases}
 use mathlib.Core.Bool.{Bool, true, false}
-use mathlib.Core.List.{List, [], _∷_, _++_, append-assoc, flatten}
+use mathlib.Core.List.{List, [], _∷_, _++_, append-assoc, append-nil, flatten}
 use mathlib.Core.Option.{Option, none}
 use Prim.Native.Nat.{ℕ, zero, suc, _≤_, _<_}
 use native.Mathlib.Decide.{decLt}
@@ -130,6 +130,62 @@ zeros-stand = (length-replicate {A = ℕ} wordsLent 0, zeros-unsound zeros at)
 -- however the input comes, what is written is the book's text for it
 pub whole : (parts : List (List ℕ)) (text : List ℕ) → Run zeros [] false parts text → text ≡ written (flatten parts)
 whole parts text r = run-text none zeros-stand (λ e. never (cc)) r
+
+-- ---- from the first answer on
+
+-- the words, the bytes at hand and whether the input has ended, once these bytes were brought and this text was said: whatever is still to come, the
+-- book's text for all of it is what was said and what the book says from here on
+pub record SoFar (ws bs : List ℕ) (ended : Bool) (brought text : List ℕ) : Type 0 where
+  pub book : Option Book
+  pub stands : Stands book ws
+  pub goes-on : (rest : List ℕ) → (ended ≡ true → rest ≡ []) → written (brought ++ rest) ≡ text ++ textFrom book (bs ++ rest)
+
+pub so-far-none : SoFar zeros [] false [] []
+so-far-none = record { book = none; stands = zeros-stand; goes-on = λ rest z. refl }
+
+module _ {old new bs out out′ : List ℕ} {ended : Bool} {brought text : List ℕ} (s : SoFar old bs ended brought text) where
+  -- a record's line is written, and its bytes are done with
+  pub so-far-line : (used k : ℕ) → Replies bs ended old new out out′ (said.Line used k) → SoFar new (drop used bs) ended brought (text ++ take k out′)
+  so-far-line used k h =
+      let d = lined (s .book) bs ended old new out out′ (s .stands) used k h in
+      record {
+        book = d .next;
+        stands = d .stands;
+        goes-on = λ rest z.
+            s .goes-on rest z
+            ∙ ap (λ (t : List ℕ). text ++ t) (text-follows (s .book) bs ended rest z ∙ ap (textAfter (s .book) bs rest) (d .is))
+            ∙ sym (append-assoc text (textOf (d .l) []) (textFrom (d .next) (drop used bs ++ rest)))
+            ∙ ap (λ (t : List ℕ). (text ++ t) ++ textFrom (d .next) (drop used bs ++ rest)) (sym (d .text));
+      }
+
+  -- more bytes are wanted; these come, and none where the input has ended
+  pub so-far-more : (x : List ℕ) (ended′ : Bool) → (ended′ ≡ true → x ≡ []) → Replies bs ended old new out out′ said.More → SoFar new (bs ++ x) ended′ (brought ++ x) text
+  so-far-more x ended′ n h = record {
+    book = s .book;
+    stands = subst (Stands (s .book)) (sym (same-words (s .book) bs ended old new out out′ (s .stands) said.More (inl refl) h)) (s .stands);
+    goes-on = λ rest z.
+        ap written (append-assoc brought x rest)
+        ∙ s .goes-on (x ++ rest) (λ e. never (cc (more-fits h .0)))
+        ∙ ap (λ (l : List ℕ). text ++ textFrom (s .book) l) (sym (append-assoc bs x rest));
+  }
+
+  -- room for a line is wanted
+  pub so-far-room : Replies bs ended old new out out′ said.Room → SoFar new bs ended brought text
+  so-far-room h = record {
+    book = s .book;
+    stands = subst (Stands (s .book)) (sym (same-words (s .book) bs ended old new out out′ (s .stands) said.Room (inr refl) h)) (s .stands);
+    goes-on = s .goes-on;
+  }
+
+  -- the last line is written; "nothing after it is read", whatever is still to come
+  pub so-far-end : (k : ℕ) → Replies bs ended old new out out′ (said.End k) → (rest : List ℕ) → (ended ≡ true → rest ≡ []) → text ++ take k out′ ≡ written (brought ++ rest)
+  so-far-end k h rest z =
+      ap (λ (t : List ℕ). text ++ t) (last-text (s .book) bs ended old new out out′ (s .stands) k rest h ∙ sym (text-follows (s .book) bs ended rest z))
+      ∙ sym (s .goes-on rest z)
+
+-- what was said is the beginning of the book's text for what was brought
+pub so-far-begins : {ws bs : List ℕ} {ended : Bool} {brought text : List ℕ} → SoFar ws bs ended brought text → (more : List ℕ) × (text ++ more ≡ written brought)
+so-far-begins {bs = bs} {brought = brought} s = (textFrom (s .book) (bs ++ []), sym (s .goes-on [] (λ e. refl)) ∙ ap written (append-nil brought))
 
 -- ---- every input has a run
 
