@@ -12,14 +12,16 @@ use borrow.Author.Tests.{eqb-true, eqb-false}
 use Rattle.book.specs.Book.{Call, freshFits}
 use Rattle.book.specs.Program.{Command, start, call, states, recordLength, commandAt}
 use Rattle.book.specs.Table.{Reply}
-use Rattle.book.specs.Demand.{Event, Trace, stop, go, Session, Demand}
+use Rattle.book.specs.Demand.{Event, Trace, stop, go, Demand}
 use Rattle.contract.specs.Seen.{seen, SoundWords}
 use Rattle.contract.specs.Posts.{FreshPost}
-use Rattle.contract.specs.Closed.{makes, performs, asks, words-demand}
+use Rattle.contract.specs.Closed.{performs, asks, words-demand}
 use Rattle.commands.specs.declared.Outcome.{Outcome}
 use Rattle.commands.specs.Obey.{shownReply, replyOf, Posted, Obeys}
 use Rattle.records.specs.Text.{Wrote, wrote-then}
-use Rattle.player.specs.Play.{Entry, outcomeWords, commandsOf, wordsOf, Chain, done, next, Since, noted, since, commands, AllPost, DonePost}
+use Rattle.player.specs.declared.Played.{Played}
+use Rattle.player.specs.declared.Played.the-variants as played
+use Rattle.player.specs.Play.{Entry, outcomeWords, commandsOf, wordsOf, Chain, done, next, Since, noted, since, Standing, commands, AllPost, DonePost, PlayPost, entriesOf}
 use Rattle.player.specs.Passes.{some-inj, Passed, passed-none, passed-next, passed-all, passed-left}
 
 -- ---- sessions
@@ -29,11 +31,6 @@ trace-last : {w v w′ : List ℕ} {l : List Event} (c : Call) (y : Reply) → T
 trace-last c y stop p = go p stop
 trace-last c y (go q t) p = go q (trace-last c y t p)
 
--- the words stand at the end of a session of the list since an answered fresh
-abbrev Standing : Option Since → List ℕ → Type 0
-Standing none w = Unit {0}
-Standing (some s) w = Session (List ℕ) makes performs (s .n) (s .N) (s .events) w
-
 -- a refused fresh keeps all words
 fresh-kept : (n N : ℕ) {old new : List ℕ} {y : Reply} → FreshPost n N old new y → (y .number ≡ 0 → ⊥) → new ≡ old
 fresh-kept n N {old} {new} {y} p never = pick (freshFits n N (length old)) refl
@@ -42,8 +39,8 @@ fresh-kept n N {old} {new} {y} p never = pick (freshFits n N (length old)) refl
     pick true e = absurd (never (p .answers (subst T (sym e) tt) .0 .0))
     pick false e = p .refuses e .1
 
--- one command more
-standing-next : (s : Option Since) (c : Command) (w v : List ℕ) (x : Outcome) → Standing s w → Posted c w v x → Standing (noted s c x) v
+-- one command more, played or called by itself
+pub standing-next : (s : Option Since) (c : Command) (w v : List ℕ) (x : Outcome) → Standing s w → Posted c w v x → Standing (noted s c x) v
 standing-next s (start n N) w v x h p = pick (eqb (x .number) 0) refl
   where
     pick : (t : Bool) → eqb (x .number) 0 ≡ t → Standing (cond t (some record { n = n; N = N; events = [] }) s) v
@@ -58,8 +55,8 @@ standing s w v h done = h
 standing s w v h (next {v = u} {e = e} o t) = standing (noted s (e .command) (e .outcome)) u v (standing-next s (e .command) w u (e .outcome) h (o .posted)) t
 
 -- the whole claim for the list since the last answered fresh
-pub chain-demand : {w v : List ℕ} {l : List Entry} → Chain w l v → (s : Since) → since none l ≡ some s → Demand SoundWords seen asks (s .n) (s .N) (s .events) v
-chain-demand {w} {v} {l} t s e = words-demand (s .n) (s .N) (subst (λ (o : Option Since). Standing o v) e (standing none w v tt t))
+pub standing-demand : {w : List ℕ} {before : Option Since} (s : Since) → Standing before w → before ≡ some s → Demand SoundWords seen asks (s .n) (s .N) (s .events) w
+standing-demand {w} s h e = words-demand (s .n) (s .N) (subst (λ (o : Option Since). Standing o w) e h)
 
 -- ---- as far as the records have been obeyed
 
@@ -121,5 +118,28 @@ pub all-done : {bs w w′ l l′ : List ℕ} {k : ℕ} {cs : List Command} → A
 all-done {cs = cs} p e i = record {
   all = p;
   count = sym i ∙ ap (λ (x : List Command). length x) (some-inj (sym e ∙ p .read)) ∙ commands-length (p .entries);
-  demand = λ s q. chain-demand (p .chain) s q;
+  stands = λ before h. standing before _ _ h (p .chain);
+  demand = λ before h s q. standing-demand s (standing before _ _ h (p .chain)) q;
 }
+
+-- ---- one `play` after the other
+
+-- whatever it came to: a list that was not played changes nothing
+pub play-stands : (bs w w′ l l′ : List ℕ) (x : Played) (p : PlayPost bs w w′ l l′ x) (before : Option Since) → Standing before w
+    → Standing (since before (entriesOf bs w w′ l l′ x p)) w′
+play-stands bs w w′ l l′ (played.Done k) p before h = p .1 .stands before h
+play-stands bs w w′ l l′ played.Short p before h = subst (Standing before) (sym (p .1 .0)) h
+play-stands bs w w′ l l′ played.Unreadable p before h = subst (Standing before) (sym (p .1 .0)) h
+
+since-both : (before : Option Since) (a b : List Entry) → since (since before a) b ≡ since before (a ++ b)
+since-both before [] b = refl
+since-both before (e ∷ a) b = since-both (noted before (e .command) (e .outcome)) a b
+
+-- two lists played one after the other have the whole claim of one list, since the last answered fresh in either or before both
+pub play-again : (bs w w′ l l′ : List ℕ) (x : Played) (p : PlayPost bs w w′ l l′ x) (cs w″ m m′ : List ℕ) (y : Played) (q : PlayPost cs w′ w″ m m′ y)
+    (before : Option Since) → Standing before w → (s : Since) → since before (entriesOf bs w w′ l l′ x p ++ entriesOf cs w′ w″ m m′ y q) ≡ some s
+    → Demand SoundWords seen asks (s .n) (s .N) (s .events) w″
+play-again bs w w′ l l′ x p cs w″ m m′ y q before h s e =
+    let first = entriesOf bs w w′ l l′ x p in
+    let h′ = play-stands cs w′ w″ m m′ y q (since before first) (play-stands bs w w′ l l′ x p before h) in
+    standing-demand s h′ (since-both before first (entriesOf cs w′ w″ m m′ y q) ∙ e)

@@ -8,9 +8,9 @@ use lib.Dec.{eqb}
 use lib.ListN.{length, drop}
 use lib.Seq.{sets}
 use Rattle.book.specs.Program.{Command, start, call, states, recordLength, commandAt}
-use Rattle.book.specs.Demand.{Event, Demand}
+use Rattle.book.specs.Demand.{Event, Session, Demand}
 use Rattle.contract.specs.Seen.{seen, SoundWords}
-use Rattle.contract.specs.Closed.{asks}
+use Rattle.contract.specs.Closed.{makes, performs, asks}
 use Rattle.commands.specs.declared.Outcome.{Outcome}
 use Rattle.commands.specs.Obey.{Obeys, replyOf}
 use Rattle.player.specs.declared.Counted.{Counted}
@@ -82,6 +82,11 @@ abbrev pub since : Option Since → List Entry → Option Since
 since s [] = s
 since s (e ∷ l) = since (noted s (e .command) (e .outcome)) l
 
+-- the words stand at the end of a session of the list since an answered fresh; of words before one nothing is asked
+abbrev pub Standing : Option Since → List ℕ → Type 0
+Standing none w = Unit {0}
+Standing (some s) w = Session (List ℕ) makes performs (s .n) (s .N) (s .events) w
+
 -- ---- what the functions promise
 
 -- the size of the record at the front, 0 where none can be read
@@ -121,11 +126,13 @@ pub record AllPost (bs w w′ l l′ : List ℕ) : Type 0 where
   pub chain : Chain w entries w′
   pub listed : l′ ≡ sets l 0 (wordsOf entries)
 
--- THE THIRD DEMAND for the list that was played: after the last answered fresh the whole claim holds
+-- THE THIRD DEMAND for the list that was played, and for what was called before it: the words stand at the end of the longer list, from which the next
+-- call goes on, and after the last answered fresh the whole claim holds
 pub record DonePost (bs w w′ l l′ : List ℕ) (k : ℕ) : Type 0 where
   pub all : AllPost bs w w′ l l′
   pub count : k ≡ length (all .entries)
-  pub demand : (s : Since) → since none (all .entries) ≡ some s → Demand SoundWords seen asks (s .n) (s .N) (s .events) w′
+  pub stands : (before : Option Since) → Standing before w → Standing (since before (all .entries)) w′
+  pub demand : (before : Option Since) → Standing before w → (s : Since) → since before (all .entries) ≡ some s → Demand SoundWords seen asks (s .n) (s .N) (s .events) w′
 
 -- a refusal, of `play` itself, keeps the words and the list
 abbrev pub Unchanged : List ℕ → List ℕ → List ℕ → List ℕ → Type 0
@@ -136,3 +143,9 @@ abbrev pub PlayPost : List ℕ → List ℕ → List ℕ → List ℕ → List �
 PlayPost bs w w′ l l′ (played.Done k) = (k * 4 ≤ length l) × DonePost bs w w′ l l′ k
 PlayPost bs w w′ l l′ played.Short = ((cs : List Command) × (commands bs ≡ some cs) × (length l < length cs * 4)) × Unchanged w w′ l l′
 PlayPost bs w w′ l l′ played.Unreadable = (commands bs ≡ none) × Unchanged w w′ l l′
+
+-- the commands that were obeyed, with what they returned
+abbrev pub entriesOf : (bs w w′ l l′ : List ℕ) (x : Played) → PlayPost bs w w′ l l′ x → List Entry
+entriesOf bs w w′ l l′ (played.Done k) p = p .1 .all .entries
+entriesOf bs w w′ l l′ played.Short p = []
+entriesOf bs w w′ l l′ played.Unreadable p = []

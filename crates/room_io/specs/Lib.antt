@@ -1,4 +1,6 @@
 pub mod Places
 pub mod Moves
 pub mod Turns
-pub mod Session
+pub mod Served
+pub mod Text
+pub mod Pace

@@ -6,7 +6,7 @@ use Prim.Native.Nat.{ℕ, _-_, _≤_}
 use lib.ListN.{length, take, drop}
 use Rattle.rooms.specs.declared.Said.{Said}
 use Rattle.rooms.specs.declared.Said.the-variants.{Line, End, More, Room}
-use Rattle.rooms.specs.Replies.{Replies}
+use Rattle.rooms.specs.Replies.{lineRoom, Replies}
 use Rattle.room_io.specs.declared.Progress.{Progress}
 use Rattle.room_io.specs.declared.Brought.{Brought}
 use Rattle.room_io.specs.declared.Brought.the-variants as brought
@@ -15,12 +15,13 @@ use Rattle.room_io.specs.declared.Brought.the-variants as brought
 abbrev pub longest : ℕ
 longest = 1_102
 
--- in buffers of so many bytes, of which the input's holds any record
+-- in buffers of so many bytes, of which the input's holds any record and the output's a line
 pub record Placed (p : Progress) (input output : ℕ) : Type 0 where
   pub order : p .start ≤ p .end
   pub within : p .end ≤ input
   pub waiting : p .pending ≤ output
   pub enough : longest ≤ input
+  pub line : lineRoom ≤ output
 
 -- the bytes at hand, and those that are still to be written
 abbrev pub atHand : Progress → List ℕ → List ℕ
@@ -29,17 +30,18 @@ atHand p input = take (p .end - p .start) (drop (p .start) input)
 abbrev pub unwritten : Progress → List ℕ → List ℕ
 unwritten p output = take (p .pending) output
 
--- a read brings no more than there is room for
+-- a read that is not the end of the input brings a byte or more, and no more than there is room for
 abbrev pub ReadWithin : ℕ → Brought → Type 0
-ReadWithin room (brought.Bytes n) = n ≤ room
+ReadWithin room (brought.Bytes n) = (1 ≤ n) × (n ≤ room)
 ReadWithin room brought.End = Unit {0}
 ReadWithin room brought.Failed = Unit {0}
 
--- what a read brought follows the bytes at hand, and it brought nothing where the input has ended
+-- what a read brought follows the bytes at hand; it brought nothing exactly where no more will come
 pub record Brings (p q : Progress) (input input′ : List ℕ) : Type 0 where
   pub bytes : List ℕ
   pub follow : atHand q input′ ≡ atHand p input ++ bytes
   pub none : q .ended ≡ true → bytes ≡ []
+  pub some : q .ended ≡ false → 1 ≤ length bytes
 
 pub record Refilled (p q : Progress) (input input′ : List ℕ) : Type 0 where
   pub order : q .start ≤ q .end
@@ -52,7 +54,7 @@ pub record Refilled (p q : Progress) (input input′ : List ℕ) : Type 0 where
 abbrev pub After : Progress → Progress → List ℕ → List ℕ → List ℕ → List ℕ → List ℕ → Said → Type 0
 After p q input input′ output output′ room (Line used k) =
     (atHand q input′ ≡ drop used (atHand p input)) × (unwritten q output′ ≡ unwritten p output ++ take k room) × (q .ended ≡ p .ended) × (q .done ≡ false)
-After p q input input′ output output′ room (End k) = (unwritten q output′ ≡ unwritten p output ++ take k room) × (q .done ≡ true)
+After p q input input′ output output′ room (End k) = (unwritten q output′ ≡ unwritten p output ++ take k room) × (q .ended ≡ p .ended) × (q .done ≡ true)
 After p q input input′ output output′ room More = Brings p q input input′ × (unwritten q output′ ≡ unwritten p output)
 After p q input input′ output output′ room Room = (atHand q input′ ≡ atHand p input) × (unwritten q output′ ≡ []) × (q .ended ≡ p .ended)
 

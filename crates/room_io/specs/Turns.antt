@@ -2,11 +2,19 @@
 use mathlib.Core.Path.{_≡_, refl, sym, ap, ap₂, _∙_, subst}
 use mathlib.Core.Bool.{Bool, true, false}
 use mathlib.Core.List.{List, [], _∷_, _++_, append-nil}
-use Prim.Native.Nat.{ℕ, zero, suc, _+_, _-_, _≤_}
+use Prim.Native.Nat.{ℕ, zero, suc, _+_, _-_, _≤_, _<_}
 use native.Mathlib.Omega.{arith}
+use lib.IntN.{ℤ, pos, negsuc}
 use lib.ListN.{length, take, drop, length-drop}
 use lib.Seq.{length-take-le, take-all, take-append-le, take-append-add, drop-drop, take-nil}
+use lib.Signed.{ltZ}
+use borrow.Author.Tests.{ltb-true}
+use mir.Syntax.{w64}
+use mir.Val.{toZ, ofZ, SFits}
+use mir.Facts.{toZ-ofZ}
 use borrow.Rule.Slice.PartMut.{putMid, same-len-mid, take-put}
+use Rattle.io.specs.Counts.{clamped}
+use Rattle.libc.specs.Io.{Moved}
 use Rattle.records.specs.Reading.{never}
 use Rattle.rooms.specs.declared.Said.{Said}
 use Rattle.rooms.specs.declared.Said.the-variants.{Line, End, More, Room}
@@ -30,8 +38,19 @@ part-from a l = take-all (length l - a) (drop a l) (omega (arith, length-drop a 
 
 -- ---- a read
 
-pub bytes-fit : {room n : ℕ} {b : Brought} → ReadWithin room b → b ≡ brought.Bytes n → n ≤ room
+pub bytes-fit : {room n : ℕ} {b : Brought} → ReadWithin room b → b ≡ brought.Bytes n → (1 ≤ n) × (n ≤ room)
 bytes-fit {room} h e = subst (ReadWithin room) e h
+
+moved-some : (got : ℤ) {size room n : ℕ} → ltZ (pos 0) got ≡ true → Moved size got → room ≡ size → n ≡ clamped got room → (1 ≤ n) × (n ≤ room)
+moved-some (pos k) t m z e = let h : 0 < k = ltb-true 0 k t in (omega arith, omega arith)
+moved-some (negsuc k) t m z e = never (cc)
+
+-- a read that answers more than 0 brings so many bytes; the test and the count read the answer back from its bits
+pub some-bytes : (got : ℤ) {size room n : ℕ} → SFits w64 got → ltZ (pos 0) (toZ w64 (ofZ w64 got)) ≡ true → Moved size got → room ≡ size
+    → n ≡ clamped (toZ w64 (ofZ w64 got)) room → (1 ≤ n) × (n ≤ room)
+some-bytes got {room = room} fits t m z e =
+    let back : toZ w64 (ofZ w64 got) ≡ got = toZ-ofZ fits in
+    moved-some got (sym (ap (ltZ (pos 0)) back) ∙ t) m z (e ∙ ap (λ (x : ℤ). clamped x room) back)
 
 -- what a list holds once a part from a place on has been written
 module _ (a : ℕ) (l part : List ℕ) (h : a ≤ length l) (z : length part ≡ length (take (length l - a) (drop a l))) where
@@ -60,7 +79,7 @@ module _ (p : Progress) (input moved part : List ℕ) {held : ℕ} (within : hel
   pub refilled-bytes : {n : ℕ} {b : Brought} → ReadWithin (length part) b → b ≡ brought.Bytes n
       → Refilled p (record { start = 0; end = held + n; pending = p .pending; ended = false; done = false }) input (putMid held (length moved - held) moved part)
   refilled-bytes {n} read e =
-      let i = bytes-fit read e in
+      let (f, i) = bytes-fit read e in
       let z : held + n - 0 ≡ held + n = omega arith in
       record {
         order = omega arith;
@@ -70,6 +89,7 @@ module _ (p : Progress) (input moved part : List ℕ) {held : ℕ} (within : hel
           bytes = take n part;
           follow = ap (λ (k : ℕ). take k (putMid held (length moved - held) moved part)) z ∙ put-front held moved part within size n i ∙ ap (λ (m : List ℕ). m ++ take n part) kept-front;
           none = λ t. never (cc);
+          some = λ t. omega (arith, length-take-le n part i);
         };
       }
 
@@ -85,6 +105,7 @@ module _ (p : Progress) (input moved part : List ℕ) {held : ℕ} (within : hel
           bytes = [];
           follow = ap (λ (k : ℕ). take k (putMid held (length moved - held) moved part)) z ∙ take-put held (length moved - held) moved part within ∙ kept-front ∙ sym (append-nil (atHand p input));
           none = λ t. refl;
+          some = λ t. never (cc);
         };
       }
 
@@ -122,6 +143,7 @@ module _ {p : Progress} (old new input output room : List ℕ) {r : Said} (place
           within = placed .within;
           waiting = omega (arith, f .written-within, size, room-size, same-size, placed .waiting);
           enough = placed .enough;
+          line = omega (arith, placed .line, same-size);
         };
         reply = Line used k;
         room = room;
@@ -139,16 +161,16 @@ module _ {p : Progress} (old new input output room : List ℕ) {r : Said} (place
   turned-end {k} e =
       let f = end-said answered e in
       record {
-        placed = record { order = placed .order; within = placed .within; waiting = omega (arith, f, size, room-size, same-size, placed .waiting); enough = placed .enough };
+        placed = record { order = placed .order; within = placed .within; waiting = omega (arith, f, size, room-size, same-size, placed .waiting); enough = placed .enough; line = omega (arith, placed .line, same-size) };
         reply = End k;
         room = room;
         answered = in-room (End k) e;
-        after = (unwritten-then k (omega (arith, f, size)), refl);
+        after = (unwritten-then k (omega (arith, f, size)), refl, refl);
       }
 
   pub turned-more : {q : Progress} {input′ : List ℕ} → r ≡ More → length input′ ≡ length input → Refilled p q input input′ → Turned p q old new input input′ output written
   turned-more {q} {input′} e z f = record {
-    placed = record { order = f .order; within = f .within; waiting = omega (arith, f .waiting, placed .waiting, same-size); enough = omega (arith, placed .enough) };
+    placed = record { order = f .order; within = f .within; waiting = omega (arith, f .waiting, placed .waiting, same-size); enough = omega (arith, placed .enough); line = omega (arith, placed .line, same-size) };
     reply = More;
     room = room;
     answered = in-room More e;
@@ -157,7 +179,7 @@ module _ {p : Progress} (old new input output room : List ℕ) {r : Said} (place
 
   pub turned-room : {q : Progress} → r ≡ Room → (q .start ≡ p .start) × (q .end ≡ p .end) × (q .pending ≡ 0) × (q .ended ≡ p .ended) → Turned p q old new input input output written
   turned-room {q} e (a, b, c, d) = record {
-    placed = record { order = omega (arith, placed .order); within = omega (arith, placed .within); waiting = omega arith; enough = placed .enough };
+    placed = record { order = omega (arith, placed .order); within = omega (arith, placed .within); waiting = omega arith; enough = placed .enough; line = omega (arith, placed .line, same-size) };
     reply = Room;
     room = room;
     answered = in-room Room e;

@@ -6,7 +6,10 @@ use rooms::answer;
 ghost use mathlib.Core.Path.{_≡_};
 ghost use Prim.Native.Nat.{_-_, _≤_, _<_};
 ghost use lib.ListN.{length, take, drop};
+ghost use Rattle.rooms.specs.Replies.{lineRoom};
+ghost use Rattle.rooms.specs.Whole.{zeros};
 ghost use Rattle.room_io.specs.Places.{Placed, ReadWithin, Refilled, Turned, longest};
+ghost use Rattle.room_io.specs.Served.{Served};
 
 // How far the program is: the bytes at hand stand in the input buffer from `start` to `end`, and `pending` bytes at the front of the output
 // buffer are still to be written. `ended`: no more bytes will come. `done`: the last line is written, or a read or a write failed.
@@ -30,13 +33,13 @@ fn read_some(room: &mut [u8]) -> Brought
     ensures { λ r. ⌜ ReadWithin (length (now (room .exit))) r ⌝ }
 {
     let got = libc::read(STDIN_FILENO, room);
+    if got > 0 {
+        return Brought::Bytes(io::count(got, room));
+    }
     if got < 0 {
         return Brought::Failed;
     }
-    if got == 0 {
-        return Brought::End;
-    }
-    Brought::Bytes(io::count(got, room))
+    Brought::End
 }
 
 // Moves the bytes from `start` to `end` to the front, and answers how many they are.
@@ -128,9 +131,10 @@ fn turn(words: &mut [u32], input: &mut [u8], output: &mut [u8], p: Progress) -> 
     }
 }
 
-// Answers records until the last line is written, through buffers that are lent.
+// Answers records until the last line is written, on the program's words and through buffers that are lent.
 fn serve(words: &mut [u32], input: &mut [u8], output: &mut [u8])
-    requires { ⌜ longest ≤ length (now input) ⌝ }
+    requires { ⌜ (now words ≡ zeros) × (longest ≤ length (now input)) × (lineRoom ≤ length (now output)) ⌝ }
+    ensures { λ _. ⌜ Served (now (words .entry)) (now (words .exit)) (now (input .entry)) (now (input .exit)) (now (output .entry)) (now (output .exit)) ⌝ }
 {
     let mut p = Progress {
         start: 0,

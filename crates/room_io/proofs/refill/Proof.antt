@@ -17,7 +17,7 @@ refill-spec =
     (λ c. search needs)
     (λ c κs. search needs)
     (λ c. search needs)
-    (λ c. let n = bytes-fit (c .before .before .before .before .before .read-some .ensures) (c .before .n .given .1) in omega (arith, n, c .before .before .before .before .before .read-some .kept .0, c .before .before .before .before .before .before .before .before .before .to-front .ensures .0, c .before .before .before .before .before .before .before .before .before .to-front .kept .0))
+    (λ c. let n = bytes-fit (c .before .before .before .before .before .read-some .ensures) (c .before .n .given .1) in omega (arith, n .1, c .before .before .before .before .before .read-some .kept .0, c .before .before .before .before .before .before .before .before .before .to-front .ensures .0, c .before .before .before .before .before .before .before .before .before .to-front .kept .0))
     (λ c. search needs)
     (λ c. search needs)
     (λ c. search needs)
