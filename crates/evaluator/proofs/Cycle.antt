@@ -23,29 +23,24 @@ use Rattle.formula.proofs.Steps.{is-not, is-modal, is-binder}
 use Rattle.layout.specs.Places.{HEADER, FIRST-RELATION}
 use Rattle.layout.specs.View.{View, view}
 use Rattle.table.specs.declared.Made.{Made}
-use Rattle.steps.specs.declared.Step.{Step}
 use Rattle.steps.specs.declared.Step.the-variants as step
 use Rattle.book.specs.Turns.{startArrow}
 use Rattle.modal.specs.declared.Limits.{Limits}
 use Rattle.modal.specs.Modal.{ModalPre}
-use Rattle.evaluator.specs.Scene.{stackSize, Scene, opened, Ready, Part, holdsReg, holdsRel, Answers, fromMade, joinStep, bodyOf, isLeast, OverPost, LivePre, LivePost, LeafPre, LeafPost, EvalPre, EvalPost, NegatePost, BothPre, BothPost, ModePre, ModePost, BindPre, BindPost, UntilPre, UntilPost}
+use Rattle.evaluator.specs.Scene.{stackSize, Scene, opened, Ready, Part, holdsReg, holdsRel, Answers, fromMade, bodyOf, roundOf, isLeast, OverPost, LivePre, LivePost, JoinedPre, JoinedPost, LeafPre, LeafPost, EvalPre, EvalPost, NegatePost, BothPre, BothPost, ModePre, ModePost, BindPre, BindPost, UntilPre, UntilPost}
 use Rattle.evaluator.specs.declared.Context.{Context}
 use Rattle.evaluator.specs.declared.Evaluated.{Evaluated}
 use Rattle.evaluator.specs.declared.Evaluated.the-variants.{Value, Spent}
 use Rattle.evaluator.proofs.Tokens.{read-depth, read-allowed, leaf-form, leaf-end, one-form, both-form}
 use Rattle.evaluator.proofs.Parts.{leaf-named, not-part, modal-part, modal-relation, binder-part, left-part, right-part, until-relation}
 use Rattle.evaluator.proofs.Outcomes.{Halts}
-use Rattle.evaluator.proofs.Steps.{answers-same, eval-leaf, negate-stops, first-stops, mode-stops, value-set, value-is, negate-asks, negate-ends, both-part, both-ready, both-stops, both-asks, both-ends}
+use Rattle.evaluator.proofs.Steps.{answers-same, eval-leaf, negate-stops, first-stops, mode-stops, value-set, value-is, negate-asks, negate-ends, both-part, both-ready, both-asks, both-joined}
 use Rattle.evaluator.proofs.Relations.{rel-range, rel-some, over-asks, over-ends}
 use Rattle.evaluator.proofs.Rounds.{Bound, bind-starts, bind-out, bind-ready, bind-stops, bind-ends, bind-turns, bind-less}
 
 -- the part after an operator's byte
 abbrev pub inward : Context → Context
 inward c = record { at = c .at + 1; depth = c .depth - 1; held = c .held; places = c .places; rounds = c .rounds }
-
--- what follows at k, with one value more on the stack and q rounds counted
-abbrev pub onward : Context → ℕ → ℕ → Context
-onward c k q = record { at = k; depth = c .depth; held = c .held + 1; places = c .places; rounds = q }
 
 -- ---- by the token
 
@@ -161,35 +156,33 @@ module _ {L : Limits} {W X : View} {stack after bs : List ℕ} {c : Context} {r 
     first : Answers L W X stack after (c .held) (c .rounds) (P .scene) (P .left) (P .middle) r
     first = E .answers (P .scene) (P .left) (P .middle) (P .ready) (P .first)
 
-    pub second-asked : EvalPre L X (set after (c .held) a) bs (onward c k q)
-    second-asked = record {
+    pub second-asked : {b : Context} → b ≡ roundOf c k q → EvalPre L X (set after (c .held) a) bs b
+    second-asked i = subst (λ (d : Context). EvalPre L X (set after (c .held) a) bs d) (sym i) (record {
       room = let l = P .room in omega arith;
       scene = _;
       form = P .right;
       end = P .end;
       ready = both-ready (P .ready) first z is free (value-set (P .ready) first z is) (value-is (P .ready) first z is);
       part = both-part (P .ready) first z is (P .second);
-    }
+    })
 
-    module _ {Y : View} {last : List ℕ} {r′ : Evaluated} (F : EvalPost L X Y (set after (c .held) a) last bs (onward c k q) r′) (z′ : length last ≡ length (set after (c .held) a)) where
+    module _ {b : Context} (i : b ≡ roundOf c k q) {Y : View} {last : List ℕ} {r′ : Evaluated} (F′ : EvalPost L X Y (set after (c .held) a) last bs b r′) (z′ : length last ≡ length (set after (c .held) a)) where
+      F : EvalPost L X Y (set after (c .held) a) last bs (roundOf c k q) r′
+      F = subst (λ (d : Context). EvalPost L X Y (set after (c .held) a) last bs d r′) i F′
+
       same : length last ≡ length after
       same = simp length-set at z′
 
-      pub second-halts : Halts r′ → (j : Join) → BothPost L W Y stack last bs c j r′
-      second-halts s j = record {
-        answers = λ σ f g m e R p q. let A = E .answers σ f m R p in
-            both-stops R A z is free same (λ C d. F .answers _ g e (both-ready R A z is free C d) (both-part R A z is q)) j s;
+      pub joined-asked : (j : Join) → JoinedPre L Y last (c .held) j a r′
+      joined-asked j = record {
+        asks = λ b k′ q′ is′. both-asks (P .ready) first z is free same (λ C d. F .answers _ (P .right) (P .end) (both-ready (P .ready) first z is free C d) (both-part (P .ready) first z is (P .second))) is′ j refl;
       }
 
-      module _ {b k′ q′ : ℕ} (is′ : r′ ≡ Value b k′ q′) (j : Join) {s : Step} (joins : s ≡ joinStep j a b) where
-        pub join-asked : LivePre L Y last (c .held) s
-        join-asked = both-asks (P .ready) first z is free same (λ C d. F .answers _ (P .right) (P .end) (both-ready (P .ready) first z is free C d) (both-part (P .ready) first z is (P .second))) is′ j joins
-
-        pub join-answered : {Z : View} {o : Made} {r″ : Evaluated} → LivePost L Y Z last (c .held) s o → r″ ≡ fromMade k′ q′ o → BothPost L W Z stack last bs c j r″
-        join-answered v made = record {
-          answers = λ σ f g m e R p q. let A = E .answers σ f m R p in
-              both-ends R A z is free same (λ C d. F .answers _ g e (both-ready R A z is free C d) (both-part R A z is q)) is′ j joins v made;
-        }
+      pub joined-answered : {j : Join} {Z : View} {r″ : Evaluated} → JoinedPost L Y Z last (c .held) j a r′ r″ → BothPost L W Z stack last bs c j r″
+      joined-answered {j} J = record {
+        answers = λ σ f g m e R p q. let A = E .answers σ f m R p in
+            both-joined R A z is free same (λ C d. F .answers _ g e (both-ready R A z is free C d) (both-part R A z is q)) j J;
+      }
 
 -- ---- box and diamond
 

@@ -32,7 +32,10 @@ use Rattle.book.specs.Run.{Outcome, value, full, spent, andThen, twoStep, diaSt
 use Rattle.book.specs.Follow.{ends, Matches, Evals, endedBy, Stops, evals-same}
 use Rattle.book.specs.Pairs.{PairEvals, PairMatches}
 use Rattle.modal.specs.Modal.{boxedNeeds}
-use Rattle.evaluator.specs.Scene.{endedOf, EndsAt, fromMade, isLeast}
+use Rattle.modal.specs.declared.Limits.{Limits}
+use Rattle.layout.specs.View.{View}
+use Rattle.steps.specs.declared.Step.{Step}
+use Rattle.evaluator.specs.Scene.{endedOf, EndsAt, fromMade, joinStep, isLeast, LivePre, LivePost, JoinedPre, JoinedPost}
 use Rattle.evaluator.specs.declared.Evaluated.{Evaluated}
 use Rattle.evaluator.specs.declared.Evaluated.the-variants.{Value, Full, Spent}
 use Rattle.evaluator.proofs.Evaluated.{enum}
@@ -42,6 +45,21 @@ use Rattle.evaluator.proofs.Evaluated.{enum}
 -- the answer is no value
 abbrev pub Halts : Evaluated → Type 0
 Halts r = (tagOf (declared enum) r ≡ 1) ⊎ (tagOf (declared enum) r ≡ 2)
+
+-- a part without value ends its joining, and one with a value goes through the step
+pub joined-stops : {L : Limits} {W : View} {stack : List ℕ} {held : ℕ} {j : Join} {a : ℕ} (r : Evaluated) → Halts r → JoinedPost L W W stack held j a r r
+joined-stops (Value b k q) h = absurd (⊎-elim (λ x. omega arith) (λ x. omega arith) h)
+joined-stops Full h = record { joins = (refl, refl) }
+joined-stops Spent h = record { joins = (refl, refl) }
+
+pub joined-step : {L : Limits} {W : View} {stack : List ℕ} {held : ℕ} {j : Join} {a : ℕ} {second : Evaluated} → JoinedPre L W stack held j a second → {b k q : ℕ} → second ≡ Value b k q
+    → {s : Step} → s ≡ joinStep j a b → LivePre L W stack held s
+joined-step {L} {W} {stack} {held} P {b} {k} {q} is joins = subst (LivePre L W stack held) (sym joins) (P .asks b k q is)
+
+pub joined-steps : {L : Limits} {W X : View} {stack : List ℕ} {held : ℕ} {j : Join} {a : ℕ} {second : Evaluated} {b k q : ℕ} → second ≡ Value b k q → {s : Step} → s ≡ joinStep j a b
+    → {o : Made} {r : Evaluated} → LivePost L W X stack held s o → r ≡ fromMade k q o → JoinedPost L W X stack held j a second r
+joined-steps {L} {W} {X} {stack} {held} {j} {a} {second} {b} {k} {q} is {s} joins {o} {r} v made =
+    subst (λ (x : Evaluated). JoinedPost L W X stack held j a x r) (sym is) (record { joins = (o, subst (λ (y : Step). LivePost L W X stack held y o) joins v, made) })
 
 pub halts-stops : (r : Evaluated) → Halts r → Stops (endedOf r)
 halts-stops (Value a k q) h = ⊎-elim (λ x. omega arith) (λ x. omega arith) h

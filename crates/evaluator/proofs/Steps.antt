@@ -1,6 +1,6 @@
 -- One law for each call and each return of the evaluator's functions. Assumes nothing.
 use mathlib.Core.Path.{_≡_, refl, sym, ap, _∙_, subst}
-use mathlib.Core.Logic.{⊎-elim}
+use mathlib.Core.Logic.{⊎-elim, inl, inr}
 use mathlib.Core.Bool.{Bool}
 use mathlib.Core.List.{List, [], _∷_, _++_, List·Memᴰ as Mem, List·Memᴰ·head as here, List·Memᴰ·tail as there, List·Memᴰ·cases-cons as mem-cases, List·Memᴰ·append-cases as append-cases, List·Memᴰ·not-nil as mem-nil}
 use Prim.Native.Nat.{ℕ, _+_, _-_, _*_, _^_, _<_}
@@ -30,9 +30,9 @@ use Rattle.book.specs.Run.{Outcome, value, andThen, notStep, twoStep, run}
 use Rattle.book.specs.Follow.{ends, Evals, endedBy, evals-same, evals-stop, evals-not, evals-two, evals-two-stop}
 use Rattle.modal.specs.declared.Limits.{Limits}
 use Rattle.modal.specs.Chain.{Alike, alike-cons, step-roots, Moved, moved-trans, Took, took}
-use Rattle.evaluator.specs.Scene.{stackSize, Scene, modelIn, pushed, Ready, Part, endedOf, EndsAt, Answers, fromMade, joinStep, LeafAnswers, LivePre, LivePost}
+use Rattle.evaluator.specs.Scene.{stackSize, Scene, modelIn, pushed, Ready, Part, endedOf, EndsAt, Answers, fromMade, joinStep, LeafAnswers, LivePre, LivePost, JoinedTo, JoinedPost}
 use Rattle.evaluator.specs.declared.Evaluated.{Evaluated}
-use Rattle.evaluator.specs.declared.Evaluated.the-variants.{Value}
+use Rattle.evaluator.specs.declared.Evaluated.the-variants.{Value, Full, Spent}
 use Rattle.evaluator.proofs.State.{still-below, live-pre, ready-next, ready-push}
 use Rattle.evaluator.proofs.Outcomes.{Halts, halts-stops, halts-end, made-ended, made-end, evals-value, joinOp, joinF, join-exact, run-join, overSteps, run-modal}
 
@@ -221,3 +221,16 @@ module _ {L : Limits} {W X : View} {stack after places : List ℕ} {held rounds 
             (evals-same (sym (run-join (modelIn (L .bits) σ) (L .limit) (L .rounds) (σ .env) (σ .fns) j f g rounds))
             (evals-two (L .bits) (L .rows) (R .lives) (joinOp j (2 ^ L .bits)) (joinF j) (join-exact (L .bits) j) (runIn L σ f rounds) (λ C p. runIn L (pushed σ a (fnOf (L .bits) C)) g p)
             value-evals second-evals (result o) (took-join both-state j e first-arrow second-arrow t)))
+
+      -- the parts joined
+      pub both-joined : (j : Join) {Z : View} {r″ : Evaluated} → JoinedPost L Y Z last held j a r′ r″ → Answers L W Z stack last held rounds σ (joinForm j f g) e′ r″
+      both-joined j {Z} {r″} J = go r′ refl (J .joins)
+        where
+          stopped : Halts r′ → Z ≡ Y → r″ ≡ r′ → Answers L W Z stack last held rounds σ (joinForm j f g) e′ r″
+          stopped s u v = subst (λ (U : View). Answers L W U stack last held rounds σ (joinForm j f g) e′ r″) (sym u)
+              (subst (λ (x : Evaluated). Answers L W Y stack last held rounds σ (joinForm j f g) e′ x) (sym v) (both-stops j s))
+
+          go : (x : Evaluated) → r′ ≡ x → JoinedTo L Y Z last held j a x r″ → Answers L W Z stack last held rounds σ (joinForm j f g) e′ r″
+          go (Value b k′ q′) is′ w = both-ends is′ j refl (w .1) (w .2)
+          go Full is′ w = stopped (subst Halts (sym is′) (inl refl)) (w .0) (w .1 ∙ sym is′)
+          go Spent is′ w = stopped (subst Halts (sym is′) (inr refl)) (w .0) (w .1 ∙ sym is′)

@@ -33,20 +33,19 @@ use Rattle.diagram.specs.Post.{Denotes}
 use Rattle.diagram.specs.Keep.{Keeps, keeps-denotes}
 use Rattle.soundness.specs.Used.{rowsOf}
 use Rattle.table.specs.declared.Made.{Made}
-use Rattle.steps.specs.declared.Step.the-variants as step
 use Rattle.book.specs.Bridge.{fnOf}
 use Rattle.book.specs.Written.{run-written}
 use Rattle.book.specs.Follow.{evals-same, evals-leaf, denotes-clip, denotes-all}
 use Rattle.modal.specs.declared.Limits.{Limits}
 use Rattle.modal.specs.Modal.{ModalPre}
 use Rattle.modal.specs.Chain.{moved-refl, base-wf}
-use Rattle.evaluator.specs.Scene.{stackSize, Scene, modelIn, pushed, opened, Ready, Part, holdsReg, holdsRel, Answers, fromMade, OverPost, LivePre, LivePost, EvalPre, EvalPost, roundOf, own, isSome, roundForm, Current, IsValue, ReachPre, ReachPost, FurtherPre, FurtherPost, KeepPre, KeepPost, RoundPre, RoundPost, UntilPre, UntilPost}
+use Rattle.evaluator.specs.Scene.{stackSize, Scene, modelIn, pushed, opened, Ready, Part, holdsReg, holdsRel, Answers, fromMade, OverPost, JoinedPre, JoinedPost, EvalPre, EvalPost, roundOf, own, isSome, roundForm, Current, IsValue, ReachPre, ReachPost, FurtherPre, FurtherPost, KeepPre, KeepPost, RoundPre, RoundPost, UntilPre, UntilPost}
 use Rattle.evaluator.specs.declared.Context.{Context}
 use Rattle.evaluator.specs.declared.Evaluated.{Evaluated}
 use Rattle.evaluator.specs.declared.Evaluated.the-variants.{Value, Full, Spent}
 use Rattle.evaluator.proofs.Outcomes.{Halts}
 use Rattle.evaluator.proofs.Tokens.{read-depth}
-use Rattle.evaluator.proofs.Steps.{first-stops, value-set, value-is, value-end, both-ready, both-stops, both-asks, both-ends}
+use Rattle.evaluator.proofs.Steps.{first-stops, value-set, value-is, value-end, both-ready, both-asks, both-joined}
 use Rattle.evaluator.proofs.Relations.{rel-range, rel-some, over-asks, over-ends}
 use Rattle.evaluator.proofs.Rounds.{Bound, bind-starts, bind-out, bind-ready, bind-stops, bind-ends, bind-turns, bind-less}
 
@@ -121,15 +120,13 @@ module _ {L : Limits} {W : View} {stack : List ℕ} {c : Context} {t x : ℕ} (P
             → Answers L X Y (set stack (c .held) a) (set stack (c .held) a) (c .held + 1) q (pushed σ a (fnOf (L .bits) C)) (dia t top) e r′
         all-dia σ R h u C d = let S = both-ready R (boxed σ R h u) refl is (P .room) C d in D .answers _ top S h (all-value (roundOf c (c .at) q) S e)
 
-        pub dia-halts : Halts r′ → FurtherPost L W Y stack (set stack (c .held) a) c All t x e r′
-        dia-halts s = record { answers = λ σ R h u. both-stops R (boxed σ R h u) refl is (P .room) same (all-dia σ R h u) And s }
+        pub and-asked : JoinedPre L Y (set stack (c .held) a) (c .held) And a r′
+        and-asked = record {
+          asks = λ b′ k′ q′ is′. both-asks (P .ready) (boxed (P .scene) (P .ready) (P .relation) (P .current)) refl is (P .room) same (all-dia (P .scene) (P .ready) (P .relation) (P .current)) is′ And refl;
+        }
 
-        module _ {b′ k′ q′ : ℕ} (is′ : r′ ≡ Value b′ k′ q′) where
-          pub and-asked : LivePre L Y (set stack (c .held) a) (c .held) (step.And a b′)
-          and-asked = both-asks (P .ready) (boxed (P .scene) (P .ready) (P .relation) (P .current)) refl is (P .room) same (all-dia (P .scene) (P .ready) (P .relation) (P .current)) is′ And refl
-
-          pub and-answered : {Z : View} {o : Made} {r″ : Evaluated} → LivePost L Y Z (set stack (c .held) a) (c .held) (step.And a b′) o → r″ ≡ fromMade k′ q′ o → FurtherPost L W Z stack (set stack (c .held) a) c All t x e r″
-          and-answered v made = record { answers = λ σ R h u. both-ends R (boxed σ R h u) refl is (P .room) same (all-dia σ R h u) is′ And refl v made }
+        pub and-answered : {Z : View} {r″ : Evaluated} → JoinedPost L Y Z (set stack (c .held) a) (c .held) And a r′ r″ → FurtherPost L W Z stack (set stack (c .held) a) c All t x e r″
+        and-answered J = record { answers = λ σ R h u. both-joined R (boxed σ R h u) refl is (P .room) same (all-dia σ R h u) And J }
 
   -- diamond of the current set alone
   pub some-answered : {X : View} {e : ℕ} {r : Evaluated} → ReachPost L W X stack c Some t x e r → FurtherPost L W X stack stack c Some t x e r
@@ -180,15 +177,13 @@ module _ {L : Limits} {W X : View} {stack after bs : List ℕ} {c : Context} {t 
         rest-answers : (C : List Bool) → Denotes (2 * L .bits) (rowsOf X) a (fnOf (L .bits) C) → Answers L X Y (set after (c .held) a) last (c .held + 1) q (pushed σ a (fnOf (L .bits) C)) (goes (isSome m) t own) e r′
         rest-answers C d = F .answers _ (both-ready R part-answers z is free C d) h (current-push (current-next u (part-answers .evals .kept)) a C)
 
-      pub further-halts : Halts r′ → KeepPost L W Y stack last bs c m t x e r′
-      further-halts s = record { answers = λ σ f k R p h u. both-stops R (part-answers R p h u) z is free same₂ (rest-answers R p h u) And s }
+      pub keep-asked : JoinedPre L Y last (c .held) And a r′
+      keep-asked = record {
+        asks = λ b′ k′ q′ is′. both-asks (P .ready) (part-answers (P .ready) (P .part) (P .relation) (P .current)) z is free same₂ (rest-answers (P .ready) (P .part) (P .relation) (P .current)) is′ And refl;
+      }
 
-      module _ {b′ k′ q′ : ℕ} (is′ : r′ ≡ Value b′ k′ q′) where
-        pub keep-asked : LivePre L Y last (c .held) (step.And a b′)
-        keep-asked = both-asks (P .ready) (part-answers (P .ready) (P .part) (P .relation) (P .current)) z is free same₂ (rest-answers (P .ready) (P .part) (P .relation) (P .current)) is′ And refl
-
-        pub keep-answered : {Z : View} {o : Made} {r″ : Evaluated} → LivePost L Y Z last (c .held) (step.And a b′) o → r″ ≡ fromMade k′ q′ o → KeepPost L W Z stack last bs c m t x e r″
-        keep-answered v made = record { answers = λ σ f k R p h u. both-ends R (part-answers R p h u) z is free same₂ (rest-answers R p h u) is′ And refl v made }
+      pub keep-answered : {Z : View} {r″ : Evaluated} → JoinedPost L Y Z last (c .held) And a r′ r″ → KeepPost L W Z stack last bs c m t x e r″
+      keep-answered J = record { answers = λ σ f k R p h u. both-joined R (part-answers R p h u) z is free same₂ (rest-answers R p h u) And J }
 
 -- ---- a round
 
@@ -239,15 +234,13 @@ module _ {L : Limits} {W X : View} {stack after bs : List ℕ} {c : Context} {mi
             subst (λ (y : ℕ). Answers L X Y (set after (c .held) a) last (c .held + 1) q (pushed σ a (fnOf (L .bits) C)) (conj f (goes (isSome m) t own)) y r′) (value-end R goal-answers z is)
             (K .answers _ f middle (both-ready R goal-answers z is round-free C d) p h (current-push (current-next u (goal-answers .evals .kept)) a C))
 
-      pub kept-halts : Halts r′ → RoundPost L W Y stack last bs c middle m t x r′
-      kept-halts s = record { answers = λ σ f g e R p p′ h u. both-stops R (goal-answers R p p′ h u) z is round-free same₃ (keep-answers R p p′ h u) Or s }
+      pub or-asked : JoinedPre L Y last (c .held) Or a r′
+      or-asked = record {
+        asks = λ b′ k′ q′ is′. both-asks (P .ready) (goal-answers (P .ready) (P .first) (P .second) (P .relation) (P .current)) z is round-free same₃ (keep-answers (P .ready) (P .first) (P .second) (P .relation) (P .current)) is′ Or refl;
+      }
 
-      module _ {b′ k′ q′ : ℕ} (is′ : r′ ≡ Value b′ k′ q′) where
-        pub or-asked : LivePre L Y last (c .held) (step.Or a b′)
-        or-asked = both-asks (P .ready) (goal-answers (P .ready) (P .first) (P .second) (P .relation) (P .current)) z is round-free same₃ (keep-answers (P .ready) (P .first) (P .second) (P .relation) (P .current)) is′ Or refl
-
-        pub or-answered : {Z : View} {o : Made} {r″ : Evaluated} → LivePost L Y Z last (c .held) (step.Or a b′) o → r″ ≡ fromMade k′ q′ o → RoundPost L W Z stack last bs c middle m t x r″
-        or-answered v made = record { answers = λ σ f g e R p p′ h u. both-ends R (goal-answers R p p′ h u) z is round-free same₃ (keep-answers R p p′ h u) is′ Or refl v made }
+      pub or-answered : {Z : View} {r″ : Evaluated} → JoinedPost L Y Z last (c .held) Or a r′ r″ → RoundPost L W Z stack last bs c middle m t x r″
+      or-answered J = record { answers = λ σ f g e R p p′ h u. both-joined R (goal-answers R p p′ h u) z is round-free same₃ (keep-answers R p p′ h u) Or J }
 
 -- ---- the rounds
 

@@ -172,6 +172,18 @@ pub record LivePre (L : Limits) (W : View) (stack : List ℕ) (held : ℕ) (s : 
 abbrev pub LivePost : Limits → View → View → List ℕ → ℕ → Step → Made → Type 0
 LivePost L W X stack held s o = Stepped (2 * L .bits) (L .rows) (L .limit) W X (take held stack) s o
 
+-- two parts, of which the first has the value a: the second one's answer where that is no value, else the step of both values
+pub record JoinedPre (L : Limits) (W : View) (stack : List ℕ) (held : ℕ) (j : Join) (a : ℕ) (second : Evaluated) : Type 0 where
+  pub asks : (b k q : ℕ) → second ≡ Value b k q → LivePre L W stack held (joinStep j a b)
+
+abbrev pub JoinedTo : Limits → View → View → List ℕ → ℕ → Join → ℕ → Evaluated → Evaluated → Type 0
+JoinedTo L W X stack held j a (Value b k q) r = (o : Made) × LivePost L W X stack held (joinStep j a b) o × (r ≡ fromMade k q o)
+JoinedTo L W X stack held j a Full r = (X ≡ W) × (r ≡ Full)
+JoinedTo L W X stack held j a Spent r = (X ≡ W) × (r ≡ Spent)
+
+pub record JoinedPost (L : Limits) (W X : View) (stack : List ℕ) (held : ℕ) (j : Join) (a : ℕ) (second r : Evaluated) : Type 0 where
+  pub joins : JoinedTo L W X stack held j a second r
+
 -- a leaf
 pub record LeafPre (L : Limits) (W : View) (stack : List ℕ) (c : Context) (l : Leaf) : Type 0 where
   pub scene : Scene

@@ -28,7 +28,7 @@ ghost use Rattle.layout.specs.View.{view, headerOf};
 ghost use Rattle.book.specs.Turns.{startArrow};
 ghost use Rattle.modal.specs.Modal.{ModalPre};
 ghost use Rattle.evaluator.specs.Whole.{SetPre, SetPost};
-ghost use Rattle.evaluator.specs.Scene.{stackSize, fromMade, bodyOf, roundOf, isLeast, joinStep, OverPost, LivePre, LivePost, LeafPre, LeafPost, EvalPre, EvalPost, NegatePost, BothPre, BothPost, ModePre, ModePost, BindPre, BindPost, ReachPre, ReachPost, FurtherPre, FurtherPost, EveryPost, KeepPre, KeepPost, RoundPre, RoundPost, UntilPre, UntilPost};
+ghost use Rattle.evaluator.specs.Scene.{stackSize, fromMade, bodyOf, roundOf, isLeast, joinStep, OverPost, LivePre, LivePost, JoinedPre, JoinedPost, LeafPre, LeafPost, EvalPre, EvalPost, NegatePost, BothPre, BothPost, ModePre, ModePost, BindPre, BindPost, ReachPre, ReachPost, FurtherPre, FurtherPost, EveryPost, KeepPre, KeepPost, RoundPre, RoundPost, UntilPre, UntilPost};
 
 // What an evaluation answers: the arrow of the set, the place after the formula and the rounds counted; or why there is none.
 pub enum Evaluated {
@@ -169,6 +169,31 @@ pub fn live_step(words: &mut [u32], stack: &[u32], limits: Limits, held: usize, 
     )
 }
 
+// The answer of two parts, of which the first has the value `a`: the second one's, where that has no value, else the step AND or OR of both values.
+fn joined(
+    words: &mut [u32],
+    stack: &[u32],
+    limits: Limits,
+    held: usize,
+    j: Join,
+    a: u32,
+    second: Evaluated,
+) -> Evaluated
+    requires { ⌜ JoinedPre limits (view (limits .rows) (now words)) (now stack) held j a second ⌝ }
+    ensures { λ r. ⌜ JoinedPost limits (view (limits .rows) (now (words .entry))) (view (limits .rows) (now (words .exit))) (now (stack .entry)) held j a second r ⌝ }
+{
+    let Evaluated::Value {
+        arrow: b,
+        next: end,
+        rounds: total,
+    } = second
+    else {
+        return second;
+    };
+    let made = live_step(words, stack, limits, held, join_of(j, a, b));
+    answer(made, end, total)
+}
+
 // A leaf: constants, registers and variables take no step, a current bit is one. A set's formula has no next bit.
 fn leaf(words: &mut [u32], stack: &[u32], limits: Limits, here: Context, l: Leaf) -> Made
     requires { ⌜ LeafPre limits (view (limits .rows) (now words)) (now stack) here l ⌝ }
@@ -257,16 +282,7 @@ fn every(
         Table::EVERYTHING,
         end,
     );
-    let Evaluated::Value {
-        arrow: b,
-        next: last,
-        rounds: total,
-    } = second
-    else {
-        return second;
-    };
-    let made = live_step(words, stack, limits, held, Step::And(a, b));
-    answer(made, last, total)
+    joined(words, stack, limits, held, Join::And, a, second)
 }
 
 // What a round of until wants of the next states: diamond of the current set x, or box of it and diamond of true.
@@ -365,21 +381,9 @@ fn both(
     };
     let held = here.held;
     stack[held] = a;
-    let mut rest = here;
-    rest.at = middle;
-    rest.held = held + 1;
-    rest.rounds = counted;
+    let rest = onward(here, middle, counted);
     let second = eval(words, stack, bytes, limits, rest);
-    let Evaluated::Value {
-        arrow: b,
-        next: end,
-        rounds: total,
-    } = second
-    else {
-        return second;
-    };
-    let made = live_step(words, stack, limits, held, join_of(j, a, b));
-    answer(made, end, total)
+    joined(words, stack, limits, held, j, a, second)
 }
 
 // Evaluates the formula at the context's place, and takes the steps of box or diamond over relation t.
@@ -477,16 +481,7 @@ fn keep(
     stack[held] = a;
     let rest = onward(here, here.at, counted);
     let second = further(words, stack, limits, rest, m, t, x, end);
-    let Evaluated::Value {
-        arrow: b,
-        next: last,
-        rounds: total,
-    } = second
-    else {
-        return second;
-    };
-    let made = live_step(words, stack, limits, held, Step::And(a, b));
-    answer(made, last, total)
+    joined(words, stack, limits, held, Join::And, a, second)
 }
 
 // A round of until with the current set x: evaluates g at `middle` and, its value being live meanwhile, f and what is wanted of the next
@@ -520,16 +515,7 @@ fn round(
     stack[held] = a;
     let rest = onward(here, here.at, counted);
     let second = keep(words, stack, bytes, limits, rest, m, t, x, end);
-    let Evaluated::Value {
-        arrow: b,
-        next: last,
-        rounds: total,
-    } = second
-    else {
-        return second;
-    };
-    let made = live_step(words, stack, limits, held, Step::Or(a, b));
-    answer(made, last, total)
+    joined(words, stack, limits, held, Join::Or, a, second)
 }
 
 // Rounds of until, whose parts f and g stand from the context's place on, the current set being live; until a round gives the same set again.

@@ -8,8 +8,8 @@ use lib.Seq.{length-take-le}
 use mathlib.Core.Path.{refl, sym, ap, _∙_}
 use Rattle.tokens.specs.declared.Token.the-variants.{Both}
 use Rattle.evaluator.proofs.Tokens.{read-depth, read-token, read-inside}
-use Rattle.evaluator.proofs.Untils.{kept-asked, keep-halts, keep-room, further-asked, further-halts, keep-asked, keep-answered, goal-asked, goal-halts, round-free, kept-part, kept-halts, or-asked, or-answered, middle-read, UntilLoops, until-starts, until-out, until-free, round-asked, round-halts, round-same, round-less, until-turns}
-use Rattle.evaluator.proofs.Cycle.{leaf-asked, leaf-answered, not-asked, not-answered, both-asked, both-answered, until-asked, until-answered, mode-asked, mode-answered, bind-asked, bind-answered, negate-halts, step-asked, negate-answered, first-asked, first-halts, second-asked, second-halts, join-asked, join-answered, part-asked, mode-halts, relation-asked, live-within, over-asked, over-answered, same-depth, Looping, loop-starts, rounds-out, body-asked, body-halts, body-same, body-less, loop-turns}
+use Rattle.evaluator.proofs.Untils.{kept-asked, keep-halts, keep-room, further-asked, keep-asked, keep-answered, goal-asked, goal-halts, round-free, kept-part, or-asked, or-answered, middle-read, UntilLoops, until-starts, until-out, until-free, round-asked, round-halts, round-same, round-less, until-turns}
+use Rattle.evaluator.proofs.Cycle.{leaf-asked, leaf-answered, not-asked, not-answered, both-asked, both-answered, until-asked, until-answered, mode-asked, mode-answered, bind-asked, bind-answered, negate-halts, step-asked, negate-answered, first-asked, first-halts, second-asked, joined-asked, joined-answered, part-asked, mode-halts, relation-asked, live-within, over-asked, over-answered, same-depth, Looping, loop-starts, rounds-out, body-asked, body-halts, body-same, body-less, loop-turns}
 use borrow.Fn.PlainCycle.{Measures}
 use Rattle.evaluator.proofs.+bind+both+eval+keep+modal+negate+round+until.{statement}
 use Rattle.evaluator.proofs.+bind+both+eval+keep+modal+negate+round+until.Tie.{close}
@@ -39,7 +39,7 @@ use Rattle.evaluator.proofs.until.Kinds as until-kinds
 use Rattle.evaluator.proofs.+bind+both+eval+keep+modal+negate+round+until.Lts-until as until-lts
 use Rattle.evaluator.proofs.answer.Reads as answer-reads
 use Rattle.evaluator.proofs.further.Reads as further-reads
-use Rattle.evaluator.proofs.join_of.Reads as join-of-reads
+use Rattle.evaluator.proofs.joined.Reads as joined-reads
 use Rattle.evaluator.proofs.leaf.Reads as leaf-reads
 use Rattle.evaluator.proofs.live_step.Reads as live-step-reads
 use Rattle.evaluator.proofs.onward.Reads as onward-reads
@@ -122,12 +122,10 @@ pub +bind+both+eval+keep+modal+negate+round+until-spec : {M : Type 1} → statem
     (λ t. both-lts.spec (
       below eval-kinds.ps μ-eval eval.Pre t,
       eval.Post,
-      join-of-reads.Asked,
-      join-of-reads.Learnt,
-      live-step-reads.Asked,
-      live-step-reads.Learnt,
-      answer-reads.Asked,
-      answer-reads.Learnt,
+      onward-reads.Asked,
+      onward-reads.Learnt,
+      joined-reads.Asked,
+      joined-reads.Learnt,
     )
     (at both-kinds.ps μ-both both.Pre t)
     both.Post
@@ -138,18 +136,12 @@ pub +bind+both+eval+keep+modal+negate+round+until-spec : {M : Type 1} → statem
     (λ c. first-halts (c .before .before .before .before .before .before .before .before .before .before .before .pre .1) (c .before .before .before .before .before .eval .ensures) (c .match .keys2) (c .before .before .before .before .before .before .before .before .before .before .before .args .j))
     (λ c. search needs)
     (λ c. omega (arith, c .before .before .before .before .before .before .before .before .before .before .before .before .before .pre .1 .room, c .before .before .before .before .before .before .before .before .before .before .before .before .before .pre .1 .ready .size, c .before .before .before .before .before .before .before .eval .kept .1 .0))
-    (λ c. omega (arith, c .before .before .before .before .before .before .before .before .before .before .before .before .before .pre .1 .room))
-    (λ c κs. (omega (arith, c .before .before .before .before .before .before .before .before .before .before .before .before .before .before .before .pre .0), second-asked (c .before .before .before .before .before .before .before .before .before .before .before .before .before .before .before .pre .1) (c .before .before .before .before .before .before .before .before .before .eval .ensures) (c .before .before .before .before .before .before .before .before .before .eval .kept .1 .0) (c .before .before .before .first .given .1)))
-    (λ c. search needs)
-    (λ c. c .before .before .before .before .before .eval2 .kept .0 ∙ c .before .before .before .before .before .before .before .before .before .before .before .before .before .before .before .eval .kept .0)
-    (λ c. (simp length-set at (c .before .before .before .before .before .eval2 .kept .1 .0)) ∙ c .before .before .before .before .before .before .before .before .before .before .before .before .before .before .before .eval .kept .1 .0)
-    (λ c. second-halts (c .before .before .before .before .before .before .before .before .before .before .before .before .before .before .before .before .before .before .before .before .before .pre .1) (c .before .before .before .before .before .before .before .before .before .before .before .before .before .before .before .eval .ensures) (c .before .before .before .before .before .before .before .before .before .before .before .before .before .before .before .eval .kept .1 .0) (c .before .before .before .before .before .before .before .before .before .first .given .1) (c .before .before .before .before .before .eval2 .ensures) (c .before .before .before .before .before .eval2 .kept .1 .0) (c .match2 .keys2) (c .before .before .before .before .before .before .before .before .before .before .before .before .before .before .before .before .before .before .before .before .before .args .j))
-    (λ c κs. search needs)
-    (λ c κs. join-asked (c .before .before .before .before .before .before .before .before .before .before .before .before .before .before .before .before .before .before .before .before .before .before .before .before .before .before .pre .1) (c .before .before .before .before .before .before .before .before .before .before .before .before .before .before .before .before .before .before .before .before .eval .ensures) (c .before .before .before .before .before .before .before .before .before .before .before .before .before .before .before .before .before .before .before .before .eval .kept .1 .0) (c .before .before .before .before .before .before .before .before .before .before .before .before .before .before .first .given .1) (c .before .before .before .before .before .before .before .before .before .before .eval2 .ensures) (c .before .before .before .before .before .before .before .before .before .before .eval2 .kept .1 .0) (c .before .before .before .before .second .given .1) (c .before .before .before .before .before .before .before .before .before .before .before .before .before .before .before .before .before .before .before .before .before .before .before .before .before .before .args .j) (c .join-of .ensures))
-    (λ c κs. search needs)
-    (λ c. c .before .before .before .live-step .kept .0 ∙ c .before .before .before .before .before .before .before .before .before .before .before .before .before .before .eval2 .kept .0 ∙ c .before .before .before .before .before .before .before .before .before .before .before .before .before .before .before .before .before .before .before .before .before .before .before .before .eval .kept .0)
-    (λ c. (simp length-set at (c .before .before .before .before .before .before .before .before .before .before .before .before .before .before .eval2 .kept .1 .0)) ∙ c .before .before .before .before .before .before .before .before .before .before .before .before .before .before .before .before .before .before .before .before .before .before .before .before .eval .kept .1 .0)
-    (λ c. join-answered (c .before .before .before .before .before .before .before .before .before .before .before .before .before .before .before .before .before .before .before .before .before .before .before .before .before .before .before .before .before .before .pre .1) (c .before .before .before .before .before .before .before .before .before .before .before .before .before .before .before .before .before .before .before .before .before .before .before .before .eval .ensures) (c .before .before .before .before .before .before .before .before .before .before .before .before .before .before .before .before .before .before .before .before .before .before .before .before .eval .kept .1 .0) (c .before .before .before .before .before .before .before .before .before .before .before .before .before .before .before .before .before .before .first .given .1) (c .before .before .before .before .before .before .before .before .before .before .before .before .before .before .eval2 .ensures) (c .before .before .before .before .before .before .before .before .before .before .before .before .before .before .eval2 .kept .1 .0) (c .before .before .before .before .before .before .before .before .second .given .1) (c .before .before .before .before .before .before .before .before .before .before .before .before .before .before .before .before .before .before .before .before .before .before .before .before .before .before .before .before .before .before .args .j) (c .before .before .before .before .join-of .ensures) (c .before .before .before .live-step .ensures) (c .answer .ensures)))
+    (λ c κs. omega (arith, c .before .before .before .before .before .before .before .before .before .before .before .before .before .pre .1 .room))
+    (λ c κs. (omega (arith, same-depth (c .before .before .onward .ensures), c .before .before .before .before .before .before .before .before .before .before .before .before .before .before .before .before .pre .0), second-asked (c .before .before .before .before .before .before .before .before .before .before .before .before .before .before .before .before .pre .1) (c .before .before .before .before .before .before .before .before .before .before .eval .ensures) (c .before .before .before .before .before .before .before .before .before .before .eval .kept .1 .0) (c .before .before .before .before .first .given .1) (c .before .before .onward .ensures)))
+    (λ c κs. joined-asked (c .before .before .before .before .before .before .before .before .before .before .before .before .before .before .before .before .before .before .before .before .before .before .before .pre .1) (c .before .before .before .before .before .before .before .before .before .before .before .before .before .before .before .before .before .eval .ensures) (c .before .before .before .before .before .before .before .before .before .before .before .before .before .before .before .before .before .eval .kept .1 .0) (c .before .before .before .before .before .before .before .before .before .before .before .first .given .1) (c .before .before .before .before .before .before .before .before .before .onward .ensures) (c .before .before .before .before .before .before .eval2 .ensures) (c .before .before .before .before .before .before .eval2 .kept .1 .0) (c .before .before .before .before .before .before .before .before .before .before .before .before .before .before .before .before .before .before .before .before .before .before .before .args .j))
+    (λ c. c .before .before .joined .kept .0 ∙ c .before .before .before .before .before .before .before .before .before .eval2 .kept .0 ∙ c .before .before .before .before .before .before .before .before .before .before .before .before .before .before .before .before .before .before .before .before .eval .kept .0)
+    (λ c. (simp length-set at (c .before .before .before .before .before .before .before .before .before .eval2 .kept .1 .0)) ∙ c .before .before .before .before .before .before .before .before .before .before .before .before .before .before .before .before .before .before .before .before .eval .kept .1 .0)
+    (λ c. joined-answered (c .before .before .before .before .before .before .before .before .before .before .before .before .before .before .before .before .before .before .before .before .before .before .before .before .before .before .pre .1) (c .before .before .before .before .before .before .before .before .before .before .before .before .before .before .before .before .before .before .before .before .eval .ensures) (c .before .before .before .before .before .before .before .before .before .before .before .before .before .before .before .before .before .before .before .before .eval .kept .1 .0) (c .before .before .before .before .before .before .before .before .before .before .before .before .before .before .first .given .1) (c .before .before .before .before .before .before .before .before .before .before .before .before .onward .ensures) (c .before .before .before .before .before .before .before .before .before .eval2 .ensures) (c .before .before .before .before .before .before .before .before .before .eval2 .kept .1 .0) (c .before .before .joined .ensures)))
     (λ t. eval-lts.spec (
       lead-at-reads.Asked,
       lead-at-reads.Learnt,
@@ -215,10 +207,8 @@ pub +bind+both+eval+keep+modal+negate+round+until-spec : {M : Type 1} → statem
       onward-reads.Learnt,
       further-reads.Asked,
       further-reads.Learnt,
-      live-step-reads.Asked,
-      live-step-reads.Learnt,
-      answer-reads.Asked,
-      answer-reads.Learnt,
+      joined-reads.Asked,
+      joined-reads.Learnt,
     )
     (at keep-kinds.ps μ-keep keep.Pre t)
     keep.Post
@@ -231,15 +221,10 @@ pub +bind+both+eval+keep+modal+negate+round+until-spec : {M : Type 1} → statem
     (λ c. omega (arith, keep-room (c .before .before .before .before .before .before .before .before .before .before .before .before .before .pre .1) (c .before .before .before .before .before .before .before .eval .ensures), c .before .before .before .before .before .before .before .before .before .before .before .before .before .pre .1 .ready .size, c .before .before .before .before .before .before .before .eval .kept .1 .0))
     (λ c κs. omega (arith, keep-room (c .before .before .before .before .before .before .before .before .before .before .before .before .before .pre .1) (c .before .before .before .before .before .before .before .eval .ensures)))
     (λ c κs. further-asked (c .before .before .before .before .before .before .before .before .before .before .before .before .before .before .before .before .pre .1) (c .before .before .before .before .before .before .before .before .before .before .eval .ensures) (c .before .before .before .before .before .before .before .before .before .before .eval .kept .1 .0) (c .before .before .before .before .first .given .1) (c .before .before .onward .ensures))
-    (λ c. search needs)
-    (λ c. c .before .before .before .before .before .further .kept .0 ∙ c .before .before .before .before .before .before .before .before .before .before .before .before .before .before .before .before .eval .kept .0)
-    (λ c. (simp length-set at (c .before .before .before .before .before .further .kept .1 .0)) ∙ c .before .before .before .before .before .before .before .before .before .before .before .before .before .before .before .before .eval .kept .1 .0)
-    (λ c. further-halts (c .before .before .before .before .before .before .before .before .before .before .before .before .before .before .before .before .before .before .before .before .before .before .pre .1) (c .before .before .before .before .before .before .before .before .before .before .before .before .before .before .before .before .eval .ensures) (c .before .before .before .before .before .before .before .before .before .before .before .before .before .before .before .before .eval .kept .1 .0) (c .before .before .before .before .before .before .before .before .before .before .first .given .1) (c .before .before .before .before .before .before .before .before .onward .ensures) (c .before .before .before .before .before .further .ensures) (c .before .before .before .before .before .further .kept .1 .0) (c .match2 .keys2))
-    (λ c κs. keep-asked (c .before .before .before .before .before .before .before .before .before .before .before .before .before .before .before .before .before .before .before .before .before .before .before .before .before .before .pre .1) (c .before .before .before .before .before .before .before .before .before .before .before .before .before .before .before .before .before .before .before .before .eval .ensures) (c .before .before .before .before .before .before .before .before .before .before .before .before .before .before .before .before .before .before .before .before .eval .kept .1 .0) (c .before .before .before .before .before .before .before .before .before .before .before .before .before .before .first .given .1) (c .before .before .before .before .before .before .before .before .before .before .before .before .onward .ensures) (c .before .before .before .before .before .before .before .before .before .further .ensures) (c .before .before .before .before .before .before .before .before .before .further .kept .1 .0) (c .before .before .before .second .given .1))
-    (λ c κs. search needs)
-    (λ c. c .before .before .before .live-step .kept .0 ∙ c .before .before .before .before .before .before .before .before .before .before .before .before .before .further .kept .0 ∙ c .before .before .before .before .before .before .before .before .before .before .before .before .before .before .before .before .before .before .before .before .before .before .before .before .eval .kept .0)
-    (λ c. (simp length-set at (c .before .before .before .before .before .before .before .before .before .before .before .before .before .further .kept .1 .0)) ∙ c .before .before .before .before .before .before .before .before .before .before .before .before .before .before .before .before .before .before .before .before .before .before .before .before .eval .kept .1 .0)
-    (λ c. keep-answered (c .before .before .before .before .before .before .before .before .before .before .before .before .before .before .before .before .before .before .before .before .before .before .before .before .before .before .before .before .before .before .pre .1) (c .before .before .before .before .before .before .before .before .before .before .before .before .before .before .before .before .before .before .before .before .before .before .before .before .eval .ensures) (c .before .before .before .before .before .before .before .before .before .before .before .before .before .before .before .before .before .before .before .before .before .before .before .before .eval .kept .1 .0) (c .before .before .before .before .before .before .before .before .before .before .before .before .before .before .before .before .before .before .first .given .1) (c .before .before .before .before .before .before .before .before .before .before .before .before .before .before .before .before .onward .ensures) (c .before .before .before .before .before .before .before .before .before .before .before .before .before .further .ensures) (c .before .before .before .before .before .before .before .before .before .before .before .before .before .further .kept .1 .0) (c .before .before .before .before .before .before .before .second .given .1) (c .before .before .before .live-step .ensures) (c .answer .ensures)))
+    (λ c κs. keep-asked (c .before .before .before .before .before .before .before .before .before .before .before .before .before .before .before .before .before .before .before .before .before .before .before .pre .1) (c .before .before .before .before .before .before .before .before .before .before .before .before .before .before .before .before .before .eval .ensures) (c .before .before .before .before .before .before .before .before .before .before .before .before .before .before .before .before .before .eval .kept .1 .0) (c .before .before .before .before .before .before .before .before .before .before .before .first .given .1) (c .before .before .before .before .before .before .before .before .before .onward .ensures) (c .before .before .before .before .before .before .further .ensures) (c .before .before .before .before .before .before .further .kept .1 .0))
+    (λ c. c .before .before .joined .kept .0 ∙ c .before .before .before .before .before .before .before .before .before .further .kept .0 ∙ c .before .before .before .before .before .before .before .before .before .before .before .before .before .before .before .before .before .before .before .before .eval .kept .0)
+    (λ c. (simp length-set at (c .before .before .before .before .before .before .before .before .before .further .kept .1 .0)) ∙ c .before .before .before .before .before .before .before .before .before .before .before .before .before .before .before .before .before .before .before .before .eval .kept .1 .0)
+    (λ c. keep-answered (c .before .before .before .before .before .before .before .before .before .before .before .before .before .before .before .before .before .before .before .before .before .before .before .before .before .before .pre .1) (c .before .before .before .before .before .before .before .before .before .before .before .before .before .before .before .before .before .before .before .before .eval .ensures) (c .before .before .before .before .before .before .before .before .before .before .before .before .before .before .before .before .before .before .before .before .eval .kept .1 .0) (c .before .before .before .before .before .before .before .before .before .before .before .before .before .before .first .given .1) (c .before .before .before .before .before .before .before .before .before .before .before .before .onward .ensures) (c .before .before .before .before .before .before .before .before .before .further .ensures) (c .before .before .before .before .before .before .before .before .before .further .kept .1 .0) (c .before .before .joined .ensures)))
     (λ t. modal-lts.spec (
       below eval-kinds.ps μ-eval eval.Pre t,
       eval.Post,
@@ -293,10 +278,8 @@ pub +bind+both+eval+keep+modal+negate+round+until-spec : {M : Type 1} → statem
       onward-reads.Learnt,
       below keep-kinds.ps μ-keep keep.Pre t,
       keep.Post,
-      live-step-reads.Asked,
-      live-step-reads.Learnt,
-      answer-reads.Asked,
-      answer-reads.Learnt,
+      joined-reads.Asked,
+      joined-reads.Learnt,
     )
     (at round-kinds.ps μ-round round.Pre t)
     round.Post
@@ -309,15 +292,10 @@ pub +bind+both+eval+keep+modal+negate+round+until-spec : {M : Type 1} → statem
     (λ c. omega (arith, round-free (c .before .before .before .before .before .before .before .before .before .before .before .before .before .pre .1) (c .before .before .before .before .before .before .before .eval .ensures), c .before .before .before .before .before .before .before .before .before .before .before .before .before .pre .1 .ready .size, c .before .before .before .before .before .before .before .eval .kept .1 .0))
     (λ c κs. round-free (c .before .before .before .before .before .before .before .before .before .before .before .before .before .pre .1) (c .before .before .before .before .before .before .before .eval .ensures))
     (λ c κs. (omega (arith, same-depth (c .before .before .onward .ensures), c .before .before .before .before .before .before .before .before .before .before .before .before .before .before .before .before .pre .0), kept-part (c .before .before .before .before .before .before .before .before .before .before .before .before .before .before .before .before .pre .1) (c .before .before .before .before .before .before .before .before .before .before .eval .ensures) (c .before .before .before .before .before .before .before .before .before .before .eval .kept .1 .0) (c .before .before .before .before .first .given .1) (c .before .before .onward .ensures)))
-    (λ c. search needs)
-    (λ c. c .before .before .before .before .before .keep .kept .0 ∙ c .before .before .before .before .before .before .before .before .before .before .before .before .before .before .before .before .eval .kept .0)
-    (λ c. (simp length-set at (c .before .before .before .before .before .keep .kept .1 .0)) ∙ c .before .before .before .before .before .before .before .before .before .before .before .before .before .before .before .before .eval .kept .1 .0)
-    (λ c. kept-halts (c .before .before .before .before .before .before .before .before .before .before .before .before .before .before .before .before .before .before .before .before .before .before .pre .1) (c .before .before .before .before .before .before .before .before .before .before .before .before .before .before .before .before .eval .ensures) (c .before .before .before .before .before .before .before .before .before .before .before .before .before .before .before .before .eval .kept .1 .0) (c .before .before .before .before .before .before .before .before .before .before .first .given .1) (c .before .before .before .before .before .before .before .before .onward .ensures) (c .before .before .before .before .before .keep .ensures) (c .before .before .before .before .before .keep .kept .1 .0) (c .match2 .keys2))
-    (λ c κs. or-asked (c .before .before .before .before .before .before .before .before .before .before .before .before .before .before .before .before .before .before .before .before .before .before .before .before .before .before .pre .1) (c .before .before .before .before .before .before .before .before .before .before .before .before .before .before .before .before .before .before .before .before .eval .ensures) (c .before .before .before .before .before .before .before .before .before .before .before .before .before .before .before .before .before .before .before .before .eval .kept .1 .0) (c .before .before .before .before .before .before .before .before .before .before .before .before .before .before .first .given .1) (c .before .before .before .before .before .before .before .before .before .before .before .before .onward .ensures) (c .before .before .before .before .before .before .before .before .before .keep .ensures) (c .before .before .before .before .before .before .before .before .before .keep .kept .1 .0) (c .before .before .before .second .given .1))
-    (λ c κs. search needs)
-    (λ c. c .before .before .before .live-step .kept .0 ∙ c .before .before .before .before .before .before .before .before .before .before .before .before .before .keep .kept .0 ∙ c .before .before .before .before .before .before .before .before .before .before .before .before .before .before .before .before .before .before .before .before .before .before .before .before .eval .kept .0)
-    (λ c. (simp length-set at (c .before .before .before .before .before .before .before .before .before .before .before .before .before .keep .kept .1 .0)) ∙ c .before .before .before .before .before .before .before .before .before .before .before .before .before .before .before .before .before .before .before .before .before .before .before .before .eval .kept .1 .0)
-    (λ c. or-answered (c .before .before .before .before .before .before .before .before .before .before .before .before .before .before .before .before .before .before .before .before .before .before .before .before .before .before .before .before .before .before .pre .1) (c .before .before .before .before .before .before .before .before .before .before .before .before .before .before .before .before .before .before .before .before .before .before .before .before .eval .ensures) (c .before .before .before .before .before .before .before .before .before .before .before .before .before .before .before .before .before .before .before .before .before .before .before .before .eval .kept .1 .0) (c .before .before .before .before .before .before .before .before .before .before .before .before .before .before .before .before .before .before .first .given .1) (c .before .before .before .before .before .before .before .before .before .before .before .before .before .before .before .before .onward .ensures) (c .before .before .before .before .before .before .before .before .before .before .before .before .before .keep .ensures) (c .before .before .before .before .before .before .before .before .before .before .before .before .before .keep .kept .1 .0) (c .before .before .before .before .before .before .before .second .given .1) (c .before .before .before .live-step .ensures) (c .answer .ensures)))
+    (λ c κs. or-asked (c .before .before .before .before .before .before .before .before .before .before .before .before .before .before .before .before .before .before .before .before .before .before .before .pre .1) (c .before .before .before .before .before .before .before .before .before .before .before .before .before .before .before .before .before .eval .ensures) (c .before .before .before .before .before .before .before .before .before .before .before .before .before .before .before .before .before .eval .kept .1 .0) (c .before .before .before .before .before .before .before .before .before .before .before .first .given .1) (c .before .before .before .before .before .before .before .before .before .onward .ensures) (c .before .before .before .before .before .before .keep .ensures) (c .before .before .before .before .before .before .keep .kept .1 .0))
+    (λ c. c .before .before .joined .kept .0 ∙ c .before .before .before .before .before .before .before .before .before .keep .kept .0 ∙ c .before .before .before .before .before .before .before .before .before .before .before .before .before .before .before .before .before .before .before .before .eval .kept .0)
+    (λ c. (simp length-set at (c .before .before .before .before .before .before .before .before .before .keep .kept .1 .0)) ∙ c .before .before .before .before .before .before .before .before .before .before .before .before .before .before .before .before .before .before .before .before .eval .kept .1 .0)
+    (λ c. or-answered (c .before .before .before .before .before .before .before .before .before .before .before .before .before .before .before .before .before .before .before .before .before .before .before .before .before .before .pre .1) (c .before .before .before .before .before .before .before .before .before .before .before .before .before .before .before .before .before .before .before .before .eval .ensures) (c .before .before .before .before .before .before .before .before .before .before .before .before .before .before .before .before .before .before .before .before .eval .kept .1 .0) (c .before .before .before .before .before .before .before .before .before .before .before .before .before .before .first .given .1) (c .before .before .before .before .before .before .before .before .before .before .before .before .onward .ensures) (c .before .before .before .before .before .before .before .before .before .keep .ensures) (c .before .before .before .before .before .before .before .before .before .keep .kept .1 .0) (c .before .before .joined .ensures)))
     λ t. until-lts.spec (
       syntax-reads.Asked,
       syntax-reads.Learnt,

@@ -1,15 +1,12 @@
 -- `every` meets its contract: box of the current set, diamond of true, and AND. Assumes nothing.
 use native.Mathlib.Omega.{arith}
-use mathlib.Core.Path.{refl, sym, _∙_}
-use lib.ListN.{length-set}
-use Rattle.evaluator.proofs.Untils.{own-asked, box-halts, all-asked, dia-halts, and-asked, and-answered}
+use Rattle.evaluator.proofs.Untils.{own-asked, box-halts, all-asked, and-asked, and-answered}
 use borrow.Author.Needs.{needs}
 use Rattle.evaluator.proofs.every.Statement.{statement}
 use Rattle.evaluator.proofs.every.Tie as tie
 use Rattle.evaluator.proofs.every.Reads as reads
 use Rattle.evaluator.proofs.every.Lts as lts
-use Rattle.evaluator.proofs.answer.Reads as answer-reads
-use Rattle.evaluator.proofs.live_step.Reads as live-step-reads
+use Rattle.evaluator.proofs.joined.Reads as joined-reads
 use Rattle.evaluator.proofs.onward.Reads as onward-reads
 use Rattle.evaluator.proofs.reach.Reads as reach-reads
 
@@ -26,12 +23,7 @@ every-spec =
     (λ c. omega (arith, c .before .before .before .before .before .before .before .before .before .before .pre .room, c .before .before .before .before .before .before .before .before .before .before .pre .ready .size))
     (λ c κs. c .before .before .before .before .before .before .before .before .before .before .pre .room)
     (λ c κs. all-asked (c .before .before .before .before .before .before .before .before .before .before .before .before .before .pre) (c .before .before .before .before .before .before .before .before .reach .ensures) (c .before .before .before .before .first .given .1) (c .before .before .onward .ensures))
+    (λ c κs. and-asked (c .before .before .before .before .before .before .before .before .before .before .before .before .before .before .before .before .before .before .pre) (c .before .before .before .before .before .before .before .before .before .before .before .before .before .reach .ensures) (c .before .before .before .before .before .before .before .before .before .first .given .1) (c .before .before .before .before .before .before .before .onward .ensures) (c .before .before .before .before .reach2 .ensures))
     (λ c. search needs)
     (λ c. search needs)
-    (λ c. search needs)
-    (λ c. dia-halts (c .before .before .before .before .before .before .before .before .before .before .before .before .before .before .before .before .before .pre) (c .before .before .before .before .before .before .before .before .before .before .before .before .reach .ensures) (c .before .before .before .before .before .before .before .before .first .given .1) (c .before .before .before .before .before .before .onward .ensures) (c .before .before .before .reach2 .ensures) (c .match2 .keys2))
-    (λ c κs. and-asked (c .before .before .before .before .before .before .before .before .before .before .before .before .before .before .before .before .before .before .before .before .before .pre) (c .before .before .before .before .before .before .before .before .before .before .before .before .before .before .before .before .reach .ensures) (c .before .before .before .before .before .before .before .before .before .before .before .before .first .given .1) (c .before .before .before .before .before .before .before .before .before .before .onward .ensures) (c .before .before .before .before .before .before .before .reach2 .ensures) (c .before .before .before .second .given .1))
-    (λ c κs. search needs)
-    (λ c. search needs)
-    (λ c. search needs)
-    (λ c. and-answered (c .before .before .before .before .before .before .before .before .before .before .before .before .before .before .before .before .before .before .before .before .before .before .before .before .before .pre) (c .before .before .before .before .before .before .before .before .before .before .before .before .before .before .before .before .before .before .before .before .reach .ensures) (c .before .before .before .before .before .before .before .before .before .before .before .before .before .before .before .before .first .given .1) (c .before .before .before .before .before .before .before .before .before .before .before .before .before .before .onward .ensures) (c .before .before .before .before .before .before .before .before .before .before .before .reach2 .ensures) (c .before .before .before .before .before .before .before .second .given .1) (c .before .before .before .live-step .ensures) (c .answer .ensures)))
+    (λ c. and-answered (c .before .before .before .before .before .before .before .before .before .before .before .before .before .before .before .before .before .before .before .before .before .pre) (c .before .before .before .before .before .before .before .before .before .before .before .before .before .before .before .before .reach .ensures) (c .before .before .before .before .before .before .before .before .before .before .before .before .first .given .1) (c .before .before .before .before .before .before .before .before .before .before .onward .ensures) (c .before .before .before .before .before .before .before .reach2 .ensures) (c .before .before .joined .ensures)))
