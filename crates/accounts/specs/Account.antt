@@ -30,12 +30,6 @@ lifted = record { rows = 4_294_967_295; rounds = 4_294_967_295; tally = 0 }
 abbrev pub listFits : ℕ → ℕ → Bool
 listFits count place = leb count 8 && ltb place count
 
--- "the smaller of N and the account's row limit, the smaller of R and its round limit"
-abbrev pub rowLimit : Account → ℕ → ℕ
-rowLimit a N = min N (a .rows)
-
-abbrev pub roundLimit : Account → ℕ → ℕ
-roundLimit a R = min R (a .rounds)
 
 -- ---- what each test of `list_fits` decides
 holds : (t : Bool) → T t → t ≡ true

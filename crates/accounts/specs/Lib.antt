@@ -1,2 +1,3 @@
 pub mod Account
 pub mod Listed
+pub mod Terms
