@@ -5,17 +5,11 @@ use Prim.Native.Nat.{ℕ, min}
 use lib.Dec.{leb}
 use lib.ListN.{length, getD}
 use Rattle.accounts.specs.declared.Account.{Account}
+use Rattle.accounts.specs.declared.Terms.{Terms}
 use Rattle.accounts.specs.Account.{listFits, lifted}
 use Rattle.accounts.specs.Listed.{none}
 
--- what a set call is fed of the accounts: how many are lent, which is named, and its limits
-pub record Terms : Type 0 where
-  pub count : ℕ
-  pub place : ℕ
-  pub rows : ℕ
-  pub rounds : ℕ
-
--- of a lent list
+-- what a set call is fed of the accounts, of a lent list: how many are lent, which is named, and its limits
 abbrev pub termsOf : List Account → ℕ → Terms
 termsOf l place = record { count = length l; place = place; rows = getD l place none .rows; rounds = getD l place none .rounds }
 

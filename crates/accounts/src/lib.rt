@@ -4,6 +4,7 @@ ghost use Prim.Native.Nat.{_<_, _≤_, min};
 ghost use lib.ListN.{length, getD, set};
 ghost use Rattle.accounts.specs.Account.{tallied, counted, emptied, lifted, listFits};
 ghost use Rattle.accounts.specs.Listed.{none, emptiedTo};
+ghost use Rattle.accounts.specs.Terms.{named, rowsUnder, roundsUnder, alone};
 
 // An account: the rows that a step may need and the rounds that a set call may take, beside the table's and the caller's own, and the rounds of its answered sets since fresh.
 #[repr(C)]
@@ -11,6 +12,14 @@ pub struct Account {
     pub rows: u32,
     pub rounds: u32,
     pub tally: u32,
+}
+
+// What a set call is told of the accounts: how many are lent, which is named, and its limits.
+pub struct Terms {
+    pub count: usize,
+    pub place: u32,
+    pub rows: u32,
+    pub rounds: u32,
 }
 
 // The counts of a list of accounts.
@@ -88,6 +97,39 @@ pub fn list_fits(count: usize, place: u32) -> bool
         return true;
     }
     false
+}
+
+// Whether the list is 1 to 8 long and has the account named.
+pub fn is_named(t: Terms) -> bool
+    ensures { λ r. ⌜ r ≡ named t ⌝ }
+{
+    list_fits(t.count, t.place)
+}
+
+// The rows that a call may use: both limits hold.
+pub fn rows_under(rows: u32, t: Terms) -> u32
+    ensures { λ r. ⌜ r ≡ rowsUnder rows t ⌝ }
+{
+    lesser(rows, t.rows)
+}
+
+// The rounds that a call may use.
+pub fn rounds_under(most: u32, t: Terms) -> u32
+    ensures { λ r. ⌜ r ≡ roundsUnder most t ⌝ }
+{
+    lesser(most, t.rounds)
+}
+
+// What a call is told of one account with the largest limits.
+pub fn lone_terms() -> Terms
+    ensures { λ r. ⌜ r ≡ alone ⌝ }
+{
+    Terms {
+        count: 1,
+        place: 0,
+        rows: List::TOP,
+        rounds: List::TOP,
+    }
 }
 
 // How many accounts are lent.

@@ -5,7 +5,8 @@ use mathlib.Core.Option.{none, some}
 use Prim.Native.Nat.{ℕ}
 use lib.Dec.{T}
 use Rattle.mucalculus.specs.Sets.{all, all-out}
-use Rattle.accounts.specs.Terms.{Terms, alone}
+use Rattle.accounts.specs.declared.Terms.{Terms}
+use Rattle.accounts.specs.Terms.{alone}
 use Rattle.book.specs.Book.{fresh, relation, set, clear, collect, member, count, refused, answered}
 use Rattle.book.specs.Compute.{computing}
 use Rattle.book.specs.Listed.{frame, Line, did, told, holds, made, Gives, gives, testing, given}

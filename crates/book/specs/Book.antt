@@ -15,7 +15,8 @@ use Rattle.formula.specs.Checks.{firstRefusal}
 use Rattle.tokens.specs.declared.Kind.the-variants.{Relation, Set}
 use Rattle.diagram.specs.Level.{Fn}
 use Rattle.diagram.specs.Need.{need}
-use Rattle.accounts.specs.Terms.{Terms, lent, named, rowsUnder, roundsUnder}
+use Rattle.accounts.specs.declared.Terms.{Terms}
+use Rattle.accounts.specs.Terms.{lent, named, rowsUnder, roundsUnder}
 use Rattle.book.specs.Bridge.{fnOf, fnOfPairs}
 use Rattle.book.specs.Ticks.{contents, ticks, pairTicks, Verdict, counted, full, spent, verdict}
 

@@ -9,7 +9,8 @@ use Rattle.mucalculus.specs.Form.{Form, noEnv, steady}
 use Rattle.mucalculus.specs.Means.{means}
 use Rattle.tokens.specs.declared.Kind.{Kind}
 use Rattle.tokens.specs.declared.Kind.the-variants.{Relation, Set}
-use Rattle.accounts.specs.Terms.{Terms, named, rowsUnder, roundsUnder}
+use Rattle.accounts.specs.declared.Terms.{Terms}
+use Rattle.accounts.specs.Terms.{named, rowsUnder, roundsUnder}
 use Rattle.book.specs.Ticks.{ticks, Verdict, counted, full, spent, verdict}
 use Rattle.book.specs.Run.{Outcome, value, full as fullRun, spent as spentRun, run, pairsFit}
 use Rattle.book.specs.Verdicts.{settle, run-ticks, pairs-ticks}

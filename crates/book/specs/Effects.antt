@@ -7,7 +7,8 @@ use native.Mathlib.Omega.{arith}
 use lib.Dec.{T, ltb, lt→ltb, ltb→lt}
 use Rattle.mucalculus.specs.Sets.{true-of, false-of}
 use Rattle.tokens.specs.declared.Kind.the-variants.{Relation, Set}
-use Rattle.accounts.specs.Terms.{Terms, named}
+use Rattle.accounts.specs.declared.Terms.{Terms}
+use Rattle.accounts.specs.Terms.{named}
 use Rattle.book.specs.Book.{formulaIn, Book, relation, set, registers, relations, checks, Done, refuse, relationSteps, setSteps, passing, formulaCall, does}
 
 -- ---- a number in range, and out of it

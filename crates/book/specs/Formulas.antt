@@ -11,7 +11,8 @@ use Rattle.tokens.specs.declared.Kind.the-variants.{Relation, Set}
 use Rattle.diagram.specs.Rows.{Rows}
 use Rattle.diagram.specs.Keep.{Keeps, keeps-within}
 use Rattle.diagram.specs.Post.{Result, at, full as noRows}
-use Rattle.accounts.specs.Terms.{Terms, named, rowsUnder, roundsUnder}
+use Rattle.accounts.specs.declared.Terms.{Terms}
+use Rattle.accounts.specs.Terms.{named, rowsUnder, roundsUnder}
 use Rattle.book.specs.Ticks.{ticks, Verdict, counted, full, spent, verdict}
 use Rattle.book.specs.Run.{Outcome, run, pairF, pairsFit}
 use Rattle.book.specs.Verdicts.{settle, run-ticks}

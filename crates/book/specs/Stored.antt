@@ -16,7 +16,8 @@ use Rattle.tokens.specs.declared.Kind.{Kind}
 use Rattle.formula.specs.Parse.{isFormula, formulaOf}
 use Rattle.formula.specs.Checks.{filled, firstOf, firstRefusal}
 use Rattle.tokens.specs.declared.Kind.the-variants.{Relation, Set}
-use Rattle.accounts.specs.Terms.{Terms, named, rowsUnder, roundsUnder}
+use Rattle.accounts.specs.declared.Terms.{Terms}
+use Rattle.accounts.specs.Terms.{named, rowsUnder, roundsUnder}
 use Rattle.book.specs.Bridge.{Sized, SizedPairs, sized-table}
 use Rattle.book.specs.Ticks.{ticks, pairTicks, Verdict, counted, full, spent, verdict}
 use Rattle.book.specs.Verdicts.{verdict-counted, ticks-rounds}

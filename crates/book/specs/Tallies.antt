@@ -11,7 +11,8 @@ use lib.ListN.{length, getD, length-set, set as place}
 use Rattle.accounts.specs.declared.Account.{Account}
 use Rattle.accounts.specs.Account.{tallyTop, tallied, counted, emptied}
 use Rattle.accounts.specs.Listed.{none, emptiedTo, length-emptied}
-use Rattle.accounts.specs.Terms.{Terms, termsOf}
+use Rattle.accounts.specs.declared.Terms.{Terms}
+use Rattle.accounts.specs.Terms.{termsOf}
 use Rattle.book.specs.Book.{Book, Call, relation, set, clear, collect, Answer, does, play}
 use Rattle.book.specs.Table.{Reply, Agrees}
 use Rattle.book.specs.Demand.{Event, calls, AllAgree}

@@ -14,7 +14,8 @@ use Rattle.mucalculus.specs.Form.{noEnv}
 use Rattle.mucalculus.specs.Means.{means}
 use Rattle.mucalculus.specs.Rounds.{rounds, binders, rounds-bound}
 use Rattle.tokens.specs.declared.Kind.the-variants.{Set}
-use Rattle.accounts.specs.Terms.{Terms, roundsUnder}
+use Rattle.accounts.specs.declared.Terms.{Terms}
+use Rattle.accounts.specs.Terms.{roundsUnder}
 use Rattle.book.specs.Book.{formulaIn, Book, Call, relation, set, clear, collect, member, count, refused, registers, modelOf, Done, asked, oneOf, does, play, answer}
 use Rattle.book.specs.Stored.{range-cases, set-cases, relation-cases, some-inj, set-means}
 use Rattle.book.specs.Table.{Reply, SettledTo, Agrees}
