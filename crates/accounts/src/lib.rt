@@ -4,7 +4,7 @@ ghost use Prim.Native.Nat.{_<_, _≤_, min};
 ghost use lib.ListN.{length, getD, set};
 ghost use Rattle.accounts.specs.Account.{tallied, counted, emptied, lifted, listFits};
 ghost use Rattle.accounts.specs.Listed.{none, emptiedTo};
-ghost use Rattle.accounts.specs.Terms.{named, rowsUnder, roundsUnder, alone};
+ghost use Rattle.accounts.specs.Terms.{termsWith, named, lent, rowsUnder, roundsUnder, alone};
 
 // An account: the rows that a step may need and the rounds that a set call may take, beside the table's and the caller's own, and the rounds of its answered sets since fresh.
 #[repr(C)]
@@ -118,6 +118,43 @@ pub fn rounds_under(most: u32, t: Terms) -> u32
     ensures { λ r. ⌜ r ≡ roundsUnder most t ⌝ }
 {
     lesser(most, t.rounds)
+}
+
+// What a call is told of an account that was read at a place.
+pub fn terms_of(count: usize, place: u32, a: Account) -> Terms
+    ensures { λ r. ⌜ r ≡ termsWith count place a ⌝ }
+{
+    Terms {
+        count: count,
+        place: place,
+        rows: a.rows,
+        rounds: a.rounds,
+    }
+}
+
+// What a call is told where the list has no account at that place.
+pub fn unnamed(count: usize, place: u32) -> Terms
+    ensures { λ r. ⌜ r ≡ termsWith count place none ⌝ }
+{
+    Terms {
+        count: count,
+        place: place,
+        rows: 0,
+        rounds: 0,
+    }
+}
+
+// Whether a list of so many accounts is 1 to 8 long.
+pub fn is_lent(count: usize) -> bool
+    ensures { λ r. ⌜ r ≡ lent count ⌝ }
+{
+    if count < 1 {
+        return false;
+    }
+    if count > List::MOST {
+        return false;
+    }
+    true
 }
 
 // What a call is told of one account with the largest limits.
