@@ -245,11 +245,11 @@ module _ {M : Type 1} (𝓤 : URA M) (H : Heap 𝓤) (A : Atoms 𝓤) (W : Given
   bound : Is R elem (V′ elem) → elem .tally ≤ tallyTop
   bound is = let h : elem .tally < 2 ^ 32 = LL.owed T.the-type T′.the-laws elem _ is .1 .1 .0 .1 in omega arith
 
-  found : {zs : List ℕ} {l : List Account} {r : Stored} → Is R elem (V′ elem) → p < length ys → Named zs r → l ≡ set ys p (counted elem (roundsOf r)) → SetAllPost p reg mo bs ws zs ys l (storedReply r)
-  found {zs} {l} {r} is i e el = listed.found p reg mo bs ws zs ys r i (bound is) e el
+  found : {zs : List ℕ} {l : List Account} (r : Stored) → Is R elem (V′ elem) → p < length ys → Named zs r → l ≡ set ys p (counted elem (roundsOf r)) → SetAllPost p reg mo bs ws zs ys l (storedReply r)
+  found {zs} {l} r is i e el = listed.found p reg mo bs ws zs ys r i (bound is) e el
 
-  lost : {zs : List ℕ} {r : Stored} → length ys ≤ p → Unnamed zs r → SetAllPost p reg mo bs ws zs ys ys (storedReply r)
-  lost {zs} {r} h e = listed.lost p reg mo bs ws zs ys r h e
+  lost : {zs : List ℕ} (r : Stored) → length ys ≤ p → Unnamed zs r → SetAllPost p reg mo bs ws zs ys ys (storedReply r)
+  lost {zs} r h e = listed.lost p reg mo bs ws zs ys r h e
 
   module _ (C : Calls 𝓤 H) (Λ : Loops 𝓤 H) (fm : FmC 𝓤 H (W .laws) C) (known-named : Triple 𝓤 (C #charge·set-named) (SetNamed 𝓤 H A at-mem run)) (known-unnamed : Triple 𝓤 (C #charge·set-unnamed) (SetUnnamed 𝓤 H A at-mem run))
       (known-rounds : Triple 𝓤 (C #charge·rounds-of) (RoundsOf 𝓤 H A at-mem run)) (known-add : Triple 𝓤 (C #accounts·add-rounds) (AddRounds 𝓤 H A at-mem run)) where
@@ -348,7 +348,7 @@ module _ {M : Type 1} (𝓤 : URA M) (H : Heap 𝓤) (A : Atoms 𝓤) (W : Given
         forget ! 49 refl $
         forget ! 51 refl $
         keep ! (5 ∷ 0 ∷ 6 ∷ 1 ∷ 8 ∷ 4 ∷ 9 ∷ 10 ∷ 11 ∷ 12 ∷ 13 ∷ 14 ∷ 15 ∷ 16 ∷ 17 ∷ 18 ∷ 19 ∷ 20 ∷ 21 ∷ 22 ∷ 23 ∷ 24 ∷ 25 ∷ 26 ∷ 27 ∷ 28 ∷ 29 ∷ 30 ∷ 31 ∷ 32 ∷ 33 ∷ 34 ∷ 35 ∷ 36 ∷ 37 ∷ 38 ∷ 39 ∷ 40 ∷ 41 ∷ 42 ∷ 43 ∷ 44 ∷ 45 ∷ 46 ∷ 47 ∷ 48 ∷ 49 ∷ 50 ∷ 51 ∷ 52 ∷ []) $
-        ends r u (zs .0) ys lw refl (lost miss e)))))))
+        ends r u (zs .0) ys lw refl (lost r miss e)))))))
 
       -- the account is there: its rounds are added
       charges : p < length ys → Is R elem (V′ elem) → (r : Stored) (u : Val) (zs : List ℕ) → length zs ≡ length ws → Named zs r → Is S.the-row r (u ∷ []) → Sq W ((‵ (flft κ₀ q₀) ⊛ ‵ (flft κ₂ q₂) ⊛ ‵ ftrue) ∷ ‵ (flft κ₁ q₁) ∷ ‵ (finally u32 γw zs) ∷ ‵ (MutSlice (named 1) κ₁ R .own (at-list ys) (sa ∷ [])) ∷ ‵ Ob ∷ ‵ (S.the-row .own r (u ∷ []))
@@ -386,7 +386,7 @@ module _ {M : Type 1} (𝓤 : URA M) (H : Heap 𝓤) (A : Atoms 𝓤) (W : Given
         forget ! 48 refl $
         forget ! 50 refl $
         keep ! (4 ∷ 1 ∷ 5 ∷ 2 ∷ 6 ∷ 7 ∷ 8 ∷ 9 ∷ 10 ∷ 11 ∷ 12 ∷ 13 ∷ 14 ∷ 15 ∷ 16 ∷ 17 ∷ 18 ∷ 19 ∷ 20 ∷ 21 ∷ 22 ∷ 23 ∷ 24 ∷ 25 ∷ 26 ∷ 27 ∷ 28 ∷ 29 ∷ 30 ∷ 31 ∷ 32 ∷ 33 ∷ 34 ∷ 35 ∷ 36 ∷ 37 ∷ 38 ∷ 39 ∷ 40 ∷ 41 ∷ 42 ∷ 43 ∷ 44 ∷ 45 ∷ 46 ∷ 47 ∷ 48 ∷ 49 ∷ 50 ∷ 51 ∷ []) $
-        ends r u zs (ls .0) lw la (found is₀ l e (el ∙ ap (λ (j : ℕ). set ys p (counted elem j)) ek))))))))))))
+        ends r u zs (ls .0) lw la (found r is₀ l e (el ∙ ap (λ (j : ℕ). set ys p (counted elem j)) ek))))))))))))
 
       -- the call under its limits
       calls : p < length ys → Is R elem (V′ elem) → Sq W (‵ (flft κ₀ q₀) ∷ ‵ (flft κ₁ q₁) ∷ ‵ (flft κ₂ q₂) ∷ ‵ (MutSlice (named 0) κ₀ u32 .own (at-words ws) (sw ∷ [])) ∷ ‵ (MutSlice (named 1) κ₁ R .own (at-list ys) (sa ∷ [])) ∷ ‵ Ob ∷ ‵ Ob
