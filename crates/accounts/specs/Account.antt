@@ -30,7 +30,6 @@ lifted = record { rows = 4_294_967_295; rounds = 4_294_967_295; tally = 0 }
 abbrev pub listFits : ℕ → ℕ → Bool
 listFits count place = leb count 8 && ltb place count
 
-
 -- ---- what each test of `list_fits` decides
 holds : (t : Bool) → T t → t ≡ true
 holds true _ = refl

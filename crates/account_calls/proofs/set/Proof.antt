@@ -262,218 +262,218 @@ module _ {M : Type 1} (𝓤 : URA M) (H : Heap 𝓤) (A : Atoms 𝓤) (W : Given
           → Sq W ((‵ (flft κ₀ q₀) ⊛ ‵ (flft κ₂ q₂) ⊛ ‵ ftrue) ∷ (‵ (flft κ₁ q₁) ⊛ ‵ ftrue) ∷ ‵ (finally u32 γw zs) ∷ ‵ (finally R γ l) ∷ ‵ Ob ∷ ‵ (S.the-row .own r (u ∷ []))
           ∷ ‵ (froom (sliceTy words-again) l₂₁ 0) ∷ ‵ (fdies (sliceTy words-again) l₂₁) ∷ ‵ (froom words-again l₂₀ 0) ∷ ‵ (fdies words-again l₂₀) ∷ ‵ (froom (tyInt w32) l₁₉ 0) ∷ ‵ (fdies (tyInt w32) l₁₉) ∷ ‵ (froom (sliceTy list-again) l₁₈ 0) ∷ ‵ (fdies (sliceTy list-again) l₁₈) ∷ ‵ (froom list-again l₁₇ 0) ∷ ‵ (fdies list-again l₁₇) ∷ ‵ (froom tyUnit l₁₆ 0) ∷ ‵ (fdies tyUnit l₁₆) ∷ ‵ (froom T′.mir l₁₅ 0) ∷ ‵ (fdies T′.mir l₁₅) ∷ ‵ (froom tyPtr l₁₄ 0) ∷ ‵ (fdies tyPtr l₁₄) ∷ ‵ (froom (tyInt w64) l₁₃ 0) ∷ ‵ (fdies (tyInt w64) l₁₃) ∷ ‵ (froom (sliceTy words-again) l₁₂ 0) ∷ ‵ (fdies (sliceTy words-again) l₁₂) ∷ ‵ (froom words-again l₁₁ 0) ∷ ‵ (fdies words-again l₁₁) ∷ ‵ (froom tyBool l₁₀ 0) ∷ ‵ (fdies tyBool l₁₀) ∷ ‵ (froom S′.mir l₉ 0) ∷ ‵ (fdies S′.mir l₉) ∷ ‵ (froom (tyInt w64) l₈ 0) ∷ ‵ (fdies (tyInt w64) l₈) ∷ ‵ (froom (tyInt w64) l₇ 0) ∷ ‵ (fdies (tyInt w64) l₇) ∷ ‵ (froom (sliceTy (tyRef (named 2) imm (tyInt w8))) l₆ 0) ∷ ‵ (fdies (sliceTy (tyRef (named 2) imm (tyInt w8))) l₆) ∷ ‵ (froom (tyInt w32) l₅ 0) ∷ ‵ (fdies (tyInt w32) l₅) ∷ ‵ (froom (tyInt w32) l₄ 0) ∷ ‵ (fdies (tyInt w32) l₄) ∷ ‵ (froom (tyInt w32) l₃ 0) ∷ ‵ (fdies (tyInt w32) l₃) ∷ ‵ (froom (sliceTy (tyRef (named 1) mut (pointee (R .written)))) l₂ 0) ∷ ‵ (fdies (sliceTy (tyRef (named 1) mut (pointee (R .written)))) l₂) ∷ ‵ (froom (sliceTy (tyRef (named 0) mut (tyInt w32))) l₁ 0) ∷ ‵ (fdies (sliceTy (tyRef (named 0) mut (tyInt w32))) l₁) ∷ ‵ (froom S′.mir l₀ 0) ∷ ‵ (fdies S′.mir l₀) ∷ []) (frees En (prop (Post u)))
       ends r u zs l ew el post =
-        move ! (48 ∷ 49 ∷ []) $
-        free1 ! $
-        move ! (46 ∷ 47 ∷ []) $
-        free1 ! $
-        move ! (44 ∷ 45 ∷ []) $
-        free1 ! $
-        move ! (42 ∷ 43 ∷ []) $
-        free1 ! $
-        move ! (40 ∷ 41 ∷ []) $
-        free1 ! $
-        move ! (38 ∷ 39 ∷ []) $
-        free1 ! $
-        move ! (36 ∷ 37 ∷ []) $
-        free1 ! $
-        move ! (34 ∷ 35 ∷ []) $
-        free1 ! $
-        move ! (32 ∷ 33 ∷ []) $
-        free1 ! $
-        move ! (30 ∷ 31 ∷ []) $
-        free1 ! $
-        move ! (28 ∷ 29 ∷ []) $
-        free1 ! $
-        move ! (26 ∷ 27 ∷ []) $
-        free1 ! $
-        move ! (24 ∷ 25 ∷ []) $
-        free1 ! $
-        move ! (22 ∷ 23 ∷ []) $
-        free1 ! $
-        move ! (20 ∷ 21 ∷ []) $
-        free1 ! $
-        move ! (18 ∷ 19 ∷ []) $
-        free1 ! $
-        move ! (16 ∷ 17 ∷ []) $
-        free1 ! $
-        move ! (14 ∷ 15 ∷ []) $
-        free1 ! $
-        move ! (12 ∷ 13 ∷ []) $
-        free1 ! $
-        move ! (10 ∷ 11 ∷ []) $
-        free1 ! $
-        move ! (8 ∷ 9 ∷ []) $
-        free1 ! $
-        move ! (6 ∷ 7 ∷ []) $
-        free1 ! $
-        free0 ! $ by ! (exits r u zs l ew el post)
+          move ! (48 ∷ 49 ∷ []) $
+          free1 ! $
+          move ! (46 ∷ 47 ∷ []) $
+          free1 ! $
+          move ! (44 ∷ 45 ∷ []) $
+          free1 ! $
+          move ! (42 ∷ 43 ∷ []) $
+          free1 ! $
+          move ! (40 ∷ 41 ∷ []) $
+          free1 ! $
+          move ! (38 ∷ 39 ∷ []) $
+          free1 ! $
+          move ! (36 ∷ 37 ∷ []) $
+          free1 ! $
+          move ! (34 ∷ 35 ∷ []) $
+          free1 ! $
+          move ! (32 ∷ 33 ∷ []) $
+          free1 ! $
+          move ! (30 ∷ 31 ∷ []) $
+          free1 ! $
+          move ! (28 ∷ 29 ∷ []) $
+          free1 ! $
+          move ! (26 ∷ 27 ∷ []) $
+          free1 ! $
+          move ! (24 ∷ 25 ∷ []) $
+          free1 ! $
+          move ! (22 ∷ 23 ∷ []) $
+          free1 ! $
+          move ! (20 ∷ 21 ∷ []) $
+          free1 ! $
+          move ! (18 ∷ 19 ∷ []) $
+          free1 ! $
+          move ! (16 ∷ 17 ∷ []) $
+          free1 ! $
+          move ! (14 ∷ 15 ∷ []) $
+          free1 ! $
+          move ! (12 ∷ 13 ∷ []) $
+          free1 ! $
+          move ! (10 ∷ 11 ∷ []) $
+          free1 ! $
+          move ! (8 ∷ 9 ∷ []) $
+          free1 ! $
+          move ! (6 ∷ 7 ∷ []) $
+          free1 ! $
+          free0 ! $ by ! (exits r u zs l ew el post)
 
       -- no account at the place
       misses : length ys ≤ p → Sq W (‵ (flft κ₀ q₀) ∷ ‵ (flft κ₁ q₁) ∷ ‵ (flft κ₂ q₂) ∷ ‵ (MutSlice (named 0) κ₀ u32 .own (at-words ws) (sw ∷ [])) ∷ ‵ (MutSlice (named 1) κ₁ R .own (at-list ys) (sa ∷ [])) ∷ ‵ Ob ∷ ‵ Ob
           ∷ ‵ (froom (sliceTy words-again) l₂₁ 0) ∷ ‵ (fdies (sliceTy words-again) l₂₁) ∷ ‵ (froom words-again l₂₀ 0) ∷ ‵ (fdies words-again l₂₀) ∷ ‵ (froom (tyInt w32) l₁₉ 0) ∷ ‵ (fdies (tyInt w32) l₁₉) ∷ ‵ (froom (sliceTy list-again) l₁₈ 0) ∷ ‵ (fdies (sliceTy list-again) l₁₈) ∷ ‵ (froom list-again l₁₇ 0) ∷ ‵ (fdies list-again l₁₇) ∷ ‵ (froom tyUnit l₁₆ 0) ∷ ‵ (fdies tyUnit l₁₆) ∷ ‵ (froom T′.mir l₁₅ 0) ∷ ‵ (fdies T′.mir l₁₅) ∷ ‵ (froom tyPtr l₁₄ 0) ∷ ‵ (fdies tyPtr l₁₄) ∷ ‵ (froom (tyInt w64) l₁₃ 0) ∷ ‵ (fdies (tyInt w64) l₁₃) ∷ ‵ (froom (sliceTy words-again) l₁₂ 0) ∷ ‵ (fdies (sliceTy words-again) l₁₂) ∷ ‵ (froom words-again l₁₁ 0) ∷ ‵ (fdies words-again l₁₁) ∷ ‵ (fat fullShare tyBool l₁₀ 0 (vbool (ltb p (length ys)))) ∷ ‵ (fdies tyBool l₁₀) ∷ ‵ (froom S′.mir l₉ 0) ∷ ‵ (fdies S′.mir l₉) ∷ ‵ (fat fullShare (tyInt w64) l₈ 0 (vint w64 (length ys))) ∷ ‵ (fdies (tyInt w64) l₈) ∷ ‵ (fat fullShare (tyInt w64) l₇ 0 (vint w64 p)) ∷ ‵ (fdies (tyInt w64) l₇) ∷ ‵ (fat fullShare (sliceTy (tyRef (named 2) imm (tyInt w8))) l₆ 0 sb) ∷ ‵ (fdies (sliceTy (tyRef (named 2) imm (tyInt w8))) l₆) ∷ ‵ (fat fullShare (tyInt w32) l₅ 0 (vint w32 mo)) ∷ ‵ (fdies (tyInt w32) l₅) ∷ ‵ (fat fullShare (tyInt w32) l₄ 0 (vint w32 reg)) ∷ ‵ (fdies (tyInt w32) l₄) ∷ ‵ (fat fullShare (tyInt w32) l₃ 0 (vint w32 p)) ∷ ‵ (fdies (tyInt w32) l₃) ∷ ‵ (fat fullShare (sliceTy (tyRef (named 1) mut (pointee (R .written)))) l₂ 0 sa) ∷ ‵ (fdies (sliceTy (tyRef (named 1) mut (pointee (R .written)))) l₂) ∷ ‵ (fat fullShare (sliceTy (tyRef (named 0) mut (tyInt w32))) l₁ 0 sw) ∷ ‵ (fdies (sliceTy (tyRef (named 0) mut (tyInt w32))) l₁) ∷ ‵ (froom S′.mir l₀ 0) ∷ ‵ (fdies S′.mir l₀) ∷ []) (runs C Λ En rest (atRet En Post))
       misses miss =
-        assigns ! (addr ! (from ! (fld ! refl (hop ! (look-in ! 47 (sub ! 0 refl (whole !))) (stop !))))) (from ! (stop !)) (init ! 9 refl (tt, tt)) $
-        assigns ! (agg ! (and-then ! (load ! (from ! (stop !)) (look ! 9 refl)) (and-then ! (load ! (from ! (fld ! refl (stop !))) (look-in ! 47 (sub ! 1 refl (whole !)))) (no-more !)))) (from ! (stop !)) (init ! 7 refl (tt, (tt, (record { fits = gw .0 }, tt)))) $
-        move ! (0 ∷ 2 ∷ []) $
-        join ! $
-        move ! (0 ∷ 2 ∷ 5 ∷ []) $
-        use3 W (raw (SetUnnamed 𝓤 H A at-mem run .pre to-unnamed)) goes-unnamed $
-        calls-at ! fm (SetUnnamed 𝓤 H A at-mem run) known-unnamed to-unnamed (and-then ! (load ! (from ! (stop !)) (look ! 4 refl)) (and-then ! (load ! (from ! (stop !)) (look ! 30 refl)) (and-then ! (load ! (from ! (stop !)) (look ! 40 refl)) (and-then ! (load ! (from ! (stop !)) (look ! 38 refl)) (and-then ! (load ! (from ! (stop !)) (look ! 36 refl)) (and-then ! (load ! (from ! (stop !)) (look ! 34 refl)) (no-more !))))))) (λ u.
-        use1 W (later (some (λ (r : Stored). ((‵ (flft κ₀ q₀) ⊛ ‵ (flft κ₂ q₂) ⊛ ‵ ftrue) ⊛ ‵ (S.the-row .own r (u ∷ []))) ⊛ raw (ensured 𝓤 H A set-unnamed.ended (set-unnamed.clauses 𝓤 H A at-mem run) (κ₀, (κ₂, tt)) unnamed-args tt r)))) (id⊢ 𝓤 _) $ await ! tt $ pick ! (λ r.
-        split ! $ move ! (1 ∷ []) $ use1 W (some (λ (zs : List ℕ × (Unit {0} × (Unit {0} × (Unit {0} × (Unit {0} × (Unit {0} × Unit {0})))))). ‵ (lasts set-unnamed.ended (κ₀, (κ₂, tt)) unnamed-args zs) ⊛ raw (fact 𝓤 (Unnamed (zs .0) r)))) (id⊢ 𝓤 _) $ pick ! (λ zs.
-        split ! $ move ! (1 ∷ []) $ heard ! (Unnamed (zs .0) r) (λ e. fsplit ! $ fsplit ! $ move ! (1 ∷ []) $ feqL ! (λ lw.
-        move ! (2 ∷ []) $
-        split ! $
-        move ! (1 ∷ []) $
-        peeks ! S.the-row (Is S.the-row) (shows 𝓤 H A S.the-row) r (u ∷ []) (λ is.
-        land ! (from ! (stop !)) (init ! 49 refl (EL.lawful S.the-type S′.the-laws 𝓤 H A W tt .typed r _ is .0)) $
-        move ! (5 ∷ []) $
-        fsplit ! $
-        move ! (1 ∷ []) $
-        fsplit ! $
-        use1 W (‵ (fres γ (codedHoleys R .code (heres R ys)))) (W .names .obs-res γ (codedHoleys R .code (heres R ys))) $ use1 W (‵ (finally R γ ys)) (res-finally 𝓤 H A W (named 1) κ₁ R γ ys) $
-        move ! (7 ∷ []) $
-        nothing ! $ move ! (1 ∷ 0 ∷ []) $ join ! $
-        returns ! (look ! 51 refl) $
-        forget ! 9 refl $
-        forget ! 11 refl $
-        forget ! 31 refl $
-        forget ! 35 refl $
-        forget ! 37 refl $
-        forget ! 39 refl $
-        forget ! 41 refl $
-        forget ! 43 refl $
-        forget ! 45 refl $
-        forget ! 47 refl $
-        forget ! 49 refl $
-        forget ! 51 refl $
-        keep ! (5 ∷ 0 ∷ 6 ∷ 1 ∷ 8 ∷ 4 ∷ 9 ∷ 10 ∷ 11 ∷ 12 ∷ 13 ∷ 14 ∷ 15 ∷ 16 ∷ 17 ∷ 18 ∷ 19 ∷ 20 ∷ 21 ∷ 22 ∷ 23 ∷ 24 ∷ 25 ∷ 26 ∷ 27 ∷ 28 ∷ 29 ∷ 30 ∷ 31 ∷ 32 ∷ 33 ∷ 34 ∷ 35 ∷ 36 ∷ 37 ∷ 38 ∷ 39 ∷ 40 ∷ 41 ∷ 42 ∷ 43 ∷ 44 ∷ 45 ∷ 46 ∷ 47 ∷ 48 ∷ 49 ∷ 50 ∷ 51 ∷ 52 ∷ []) $
-        ends r u (zs .0) ys lw refl (lost r miss e)))))))
+          assigns ! (addr ! (from ! (fld ! refl (hop ! (look-in ! 47 (sub ! 0 refl (whole !))) (stop !))))) (from ! (stop !)) (init ! 9 refl (tt, tt)) $
+          assigns ! (agg ! (and-then ! (load ! (from ! (stop !)) (look ! 9 refl)) (and-then ! (load ! (from ! (fld ! refl (stop !))) (look-in ! 47 (sub ! 1 refl (whole !)))) (no-more !)))) (from ! (stop !)) (init ! 7 refl (tt, (tt, (record { fits = gw .0 }, tt)))) $
+          move ! (0 ∷ 2 ∷ []) $
+          join ! $
+          move ! (0 ∷ 2 ∷ 5 ∷ []) $
+          use3 W (raw (SetUnnamed 𝓤 H A at-mem run .pre to-unnamed)) goes-unnamed $
+          calls-at ! fm (SetUnnamed 𝓤 H A at-mem run) known-unnamed to-unnamed (and-then ! (load ! (from ! (stop !)) (look ! 4 refl)) (and-then ! (load ! (from ! (stop !)) (look ! 30 refl)) (and-then ! (load ! (from ! (stop !)) (look ! 40 refl)) (and-then ! (load ! (from ! (stop !)) (look ! 38 refl)) (and-then ! (load ! (from ! (stop !)) (look ! 36 refl)) (and-then ! (load ! (from ! (stop !)) (look ! 34 refl)) (no-more !))))))) (λ u.
+          use1 W (later (some (λ (r : Stored). ((‵ (flft κ₀ q₀) ⊛ ‵ (flft κ₂ q₂) ⊛ ‵ ftrue) ⊛ ‵ (S.the-row .own r (u ∷ []))) ⊛ raw (ensured 𝓤 H A set-unnamed.ended (set-unnamed.clauses 𝓤 H A at-mem run) (κ₀, (κ₂, tt)) unnamed-args tt r)))) (id⊢ 𝓤 _) $ await ! tt $ pick ! (λ r.
+          split ! $ move ! (1 ∷ []) $ use1 W (some (λ (zs : List ℕ × (Unit {0} × (Unit {0} × (Unit {0} × (Unit {0} × (Unit {0} × Unit {0})))))). ‵ (lasts set-unnamed.ended (κ₀, (κ₂, tt)) unnamed-args zs) ⊛ raw (fact 𝓤 (Unnamed (zs .0) r)))) (id⊢ 𝓤 _) $ pick ! (λ zs.
+          split ! $ move ! (1 ∷ []) $ heard ! (Unnamed (zs .0) r) (λ e. fsplit ! $ fsplit ! $ move ! (1 ∷ []) $ feqL ! (λ lw.
+          move ! (2 ∷ []) $
+          split ! $
+          move ! (1 ∷ []) $
+          peeks ! S.the-row (Is S.the-row) (shows 𝓤 H A S.the-row) r (u ∷ []) (λ is.
+          land ! (from ! (stop !)) (init ! 49 refl (EL.lawful S.the-type S′.the-laws 𝓤 H A W tt .typed r _ is .0)) $
+          move ! (5 ∷ []) $
+          fsplit ! $
+          move ! (1 ∷ []) $
+          fsplit ! $
+          use1 W (‵ (fres γ (codedHoleys R .code (heres R ys)))) (W .names .obs-res γ (codedHoleys R .code (heres R ys))) $ use1 W (‵ (finally R γ ys)) (res-finally 𝓤 H A W (named 1) κ₁ R γ ys) $
+          move ! (7 ∷ []) $
+          nothing ! $ move ! (1 ∷ 0 ∷ []) $ join ! $
+          returns ! (look ! 51 refl) $
+          forget ! 9 refl $
+          forget ! 11 refl $
+          forget ! 31 refl $
+          forget ! 35 refl $
+          forget ! 37 refl $
+          forget ! 39 refl $
+          forget ! 41 refl $
+          forget ! 43 refl $
+          forget ! 45 refl $
+          forget ! 47 refl $
+          forget ! 49 refl $
+          forget ! 51 refl $
+          keep ! (5 ∷ 0 ∷ 6 ∷ 1 ∷ 8 ∷ 4 ∷ 9 ∷ 10 ∷ 11 ∷ 12 ∷ 13 ∷ 14 ∷ 15 ∷ 16 ∷ 17 ∷ 18 ∷ 19 ∷ 20 ∷ 21 ∷ 22 ∷ 23 ∷ 24 ∷ 25 ∷ 26 ∷ 27 ∷ 28 ∷ 29 ∷ 30 ∷ 31 ∷ 32 ∷ 33 ∷ 34 ∷ 35 ∷ 36 ∷ 37 ∷ 38 ∷ 39 ∷ 40 ∷ 41 ∷ 42 ∷ 43 ∷ 44 ∷ 45 ∷ 46 ∷ 47 ∷ 48 ∷ 49 ∷ 50 ∷ 51 ∷ 52 ∷ []) $
+          ends r u (zs .0) ys lw refl (lost r miss e)))))))
 
       -- the account is there: its rounds are added
       charges : p < length ys → Is R elem (V′ elem) → (r : Stored) (u : Val) (zs : List ℕ) → length zs ≡ length ws → Named zs r → Is S.the-row r (u ∷ []) → Sq W ((‵ (flft κ₀ q₀) ⊛ ‵ (flft κ₂ q₂) ⊛ ‵ ftrue) ∷ ‵ (flft κ₁ q₁) ∷ ‵ (finally u32 γw zs) ∷ ‵ (MutSlice (named 1) κ₁ R .own (at-list ys) (sa ∷ [])) ∷ ‵ Ob ∷ ‵ (S.the-row .own r (u ∷ []))
           ∷ ‵ (froom (sliceTy words-again) l₂₁ 0) ∷ ‵ (fdies (sliceTy words-again) l₂₁) ∷ ‵ (froom words-again l₂₀ 0) ∷ ‵ (fdies words-again l₂₀) ∷ ‵ (froom (tyInt w32) l₁₉ 0) ∷ ‵ (fdies (tyInt w32) l₁₉) ∷ ‵ (fat fullShare (sliceTy list-again) l₁₈ 0 sa) ∷ ‵ (fdies (sliceTy list-again) l₁₈) ∷ ‵ (froom list-again l₁₇ 0) ∷ ‵ (fdies list-again l₁₇) ∷ ‵ (froom tyUnit l₁₆ 0) ∷ ‵ (fdies tyUnit l₁₆) ∷ ‵ (froom T′.mir l₁₅ 0) ∷ ‵ (fdies T′.mir l₁₅) ∷ ‵ (froom tyPtr l₁₄ 0) ∷ ‵ (fdies tyPtr l₁₄) ∷ ‵ (froom (tyInt w64) l₁₃ 0) ∷ ‵ (fdies (tyInt w64) l₁₃) ∷ ‵ (froom (sliceTy words-again) l₁₂ 0) ∷ ‵ (fdies (sliceTy words-again) l₁₂) ∷ ‵ (froom words-again l₁₁ 0) ∷ ‵ (fdies words-again l₁₁) ∷ ‵ (froom tyBool l₁₀ 0) ∷ ‵ (fdies tyBool l₁₀) ∷ ‵ (fat fullShare S′.mir l₉ 0 u) ∷ ‵ (fdies S′.mir l₉) ∷ ‵ (froom (tyInt w64) l₈ 0) ∷ ‵ (fdies (tyInt w64) l₈) ∷ ‵ (fat fullShare (tyInt w64) l₇ 0 (vint w64 p)) ∷ ‵ (fdies (tyInt w64) l₇) ∷ ‵ (fat fullShare (sliceTy (tyRef (named 2) imm (tyInt w8))) l₆ 0 sb) ∷ ‵ (fdies (sliceTy (tyRef (named 2) imm (tyInt w8))) l₆) ∷ ‵ (fat fullShare (tyInt w32) l₅ 0 (vint w32 mo)) ∷ ‵ (fdies (tyInt w32) l₅) ∷ ‵ (fat fullShare (tyInt w32) l₄ 0 (vint w32 reg)) ∷ ‵ (fdies (tyInt w32) l₄) ∷ ‵ (fat fullShare (tyInt w32) l₃ 0 (vint w32 p)) ∷ ‵ (fdies (tyInt w32) l₃) ∷ ‵ (fat fullShare (sliceTy (tyRef (named 1) mut (pointee (R .written)))) l₂ 0 sa) ∷ ‵ (fdies (sliceTy (tyRef (named 1) mut (pointee (R .written)))) l₂) ∷ ‵ (fat fullShare (sliceTy (tyRef (named 0) mut (tyInt w32))) l₁ 0 sw) ∷ ‵ (fdies (sliceTy (tyRef (named 0) mut (tyInt w32))) l₁) ∷ ‵ (froom S′.mir l₀ 0) ∷ ‵ (fdies S′.mir l₀) ∷ []) (runs C Λ En arm₃ (anyQ (afterSeq 𝓤 H (Wp 𝓤 H C Λ En rest (atReturn 𝓤 H En Post)) (atReturn 𝓤 H En Post))))
       charges l is₀ r u zs lw e is =
-        use0 W (raw (RoundsOf 𝓤 H A at-mem run .pre (to-rounds r u))) (goes-rounds r u is) $
-        calls-at ! fm (RoundsOf 𝓤 H A at-mem run) known-rounds (to-rounds r u) (and-then ! (load ! (from ! (stop !)) (look ! 31 refl)) (no-more !)) (λ v.
-        use1 W (later (some (λ (k : ℕ). (‵ ftrue ⊛ ‵ (u32 .own k (v ∷ []))) ⊛ raw (ensured 𝓤 H A rounds-of.ended (rounds-of.clauses 𝓤 H A at-mem run) tt (r, tt) tt k)))) (id⊢ 𝓤 _) $ await ! tt $ pick ! (λ k.
-        split ! $ move ! (1 ∷ []) $ use1 W (raw (fact 𝓤 (k ≡ roundsOf r))) (said-rounds 𝓤 H A at-mem run r k) $ heard ! (k ≡ roundsOf r) (λ ek. split ! $ drop ! $
-        peeks ! u32 (Is u32) (shows 𝓤 H A u32) k (v ∷ []) (λ isk.
-        land ! (from ! (stop !)) (init ! 11 refl (uint-lawful 𝓤 H A W w32 .typed k _ isk .0)) $
-        move ! (2 ∷ 4 ∷ 0 ∷ []) $
-        use3 W (raw (AddRounds 𝓤 H A at-mem run .pre (to-add k v))) (goes-add k v l) $
-        calls-at ! fm (AddRounds 𝓤 H A at-mem run) known-add (to-add k v) (and-then ! (load ! (from ! (stop !)) (look ! 11 refl)) (and-then ! (load ! (from ! (stop !)) (look ! 33 refl)) (and-then ! (load ! (from ! (stop !)) (look ! 9 refl)) (no-more !)))) (λ v′.
-        use1 W (later (some (λ (t : Unit {0}). ((‵ (flft κ₁ q₁) ⊛ ‵ ftrue) ⊛ ‵ (Nothing .own t (v′ ∷ []))) ⊛ raw (ensured 𝓤 H A add.ended (add.clauses 𝓤 H A at-mem run) (κ₁, tt) (add-args k) tt t)))) (id⊢ 𝓤 _) $ await ! tt $ pick ! (λ t.
-        split ! $ move ! (1 ∷ []) $ use1 W (some (λ (ls : List Account × (Unit {0} × (Unit {0} × Unit {0}))). ‵ (lasts add.ended (κ₁, tt) (add-args k) ls) ⊛ raw (fact 𝓤 (ls .0 ≡ set ys p (counted elem k))))) (id⊢ 𝓤 _) $ pick ! (λ ls.
-        split ! $ move ! (1 ∷ []) $ heard ! (ls .0 ≡ set ys p (counted elem k)) (λ el. fsplit ! $ fsplit ! $ move ! (1 ∷ []) $ feqL ! (λ la.
-        move ! (2 ∷ []) $
-        split ! $
-        move ! (1 ∷ []) $
-        peeks ! Nothing (Is Nothing) (shows 𝓤 H A Nothing) t (v′ ∷ []) (λ ist.
-        land ! (from ! (stop !)) (init ! 18 refl (nothing-lawful 𝓤 H A W .typed t _ ist .0)) $
-        assigns ! (of-opd ! (load ! (from ! (stop !)) (look ! 32 refl))) (from ! (stop !)) (init ! 50 refl (EL.lawful S.the-type S′.the-laws 𝓤 H A W tt .typed r _ is .0)) $
-        returns-within ! Post refl (look ! 50 refl) $
-        forget ! 12 refl $
-        forget ! 14 refl $
-        forget ! 18 refl $
-        forget ! 32 refl $
-        forget ! 36 refl $
-        forget ! 38 refl $
-        forget ! 40 refl $
-        forget ! 42 refl $
-        forget ! 44 refl $
-        forget ! 46 refl $
-        forget ! 48 refl $
-        forget ! 50 refl $
-        keep ! (4 ∷ 1 ∷ 5 ∷ 2 ∷ 6 ∷ 7 ∷ 8 ∷ 9 ∷ 10 ∷ 11 ∷ 12 ∷ 13 ∷ 14 ∷ 15 ∷ 16 ∷ 17 ∷ 18 ∷ 19 ∷ 20 ∷ 21 ∷ 22 ∷ 23 ∷ 24 ∷ 25 ∷ 26 ∷ 27 ∷ 28 ∷ 29 ∷ 30 ∷ 31 ∷ 32 ∷ 33 ∷ 34 ∷ 35 ∷ 36 ∷ 37 ∷ 38 ∷ 39 ∷ 40 ∷ 41 ∷ 42 ∷ 43 ∷ 44 ∷ 45 ∷ 46 ∷ 47 ∷ 48 ∷ 49 ∷ 50 ∷ 51 ∷ []) $
-        ends r u zs (ls .0) lw la (found r is₀ l e (el ∙ ap (λ (j : ℕ). set ys p (counted elem j)) ek))))))))))))
+          use0 W (raw (RoundsOf 𝓤 H A at-mem run .pre (to-rounds r u))) (goes-rounds r u is) $
+          calls-at ! fm (RoundsOf 𝓤 H A at-mem run) known-rounds (to-rounds r u) (and-then ! (load ! (from ! (stop !)) (look ! 31 refl)) (no-more !)) (λ v.
+          use1 W (later (some (λ (k : ℕ). (‵ ftrue ⊛ ‵ (u32 .own k (v ∷ []))) ⊛ raw (ensured 𝓤 H A rounds-of.ended (rounds-of.clauses 𝓤 H A at-mem run) tt (r, tt) tt k)))) (id⊢ 𝓤 _) $ await ! tt $ pick ! (λ k.
+          split ! $ move ! (1 ∷ []) $ use1 W (raw (fact 𝓤 (k ≡ roundsOf r))) (said-rounds 𝓤 H A at-mem run r k) $ heard ! (k ≡ roundsOf r) (λ ek. split ! $ drop ! $
+          peeks ! u32 (Is u32) (shows 𝓤 H A u32) k (v ∷ []) (λ isk.
+          land ! (from ! (stop !)) (init ! 11 refl (uint-lawful 𝓤 H A W w32 .typed k _ isk .0)) $
+          move ! (2 ∷ 4 ∷ 0 ∷ []) $
+          use3 W (raw (AddRounds 𝓤 H A at-mem run .pre (to-add k v))) (goes-add k v l) $
+          calls-at ! fm (AddRounds 𝓤 H A at-mem run) known-add (to-add k v) (and-then ! (load ! (from ! (stop !)) (look ! 11 refl)) (and-then ! (load ! (from ! (stop !)) (look ! 33 refl)) (and-then ! (load ! (from ! (stop !)) (look ! 9 refl)) (no-more !)))) (λ v′.
+          use1 W (later (some (λ (t : Unit {0}). ((‵ (flft κ₁ q₁) ⊛ ‵ ftrue) ⊛ ‵ (Nothing .own t (v′ ∷ []))) ⊛ raw (ensured 𝓤 H A add.ended (add.clauses 𝓤 H A at-mem run) (κ₁, tt) (add-args k) tt t)))) (id⊢ 𝓤 _) $ await ! tt $ pick ! (λ t.
+          split ! $ move ! (1 ∷ []) $ use1 W (some (λ (ls : List Account × (Unit {0} × (Unit {0} × Unit {0}))). ‵ (lasts add.ended (κ₁, tt) (add-args k) ls) ⊛ raw (fact 𝓤 (ls .0 ≡ set ys p (counted elem k))))) (id⊢ 𝓤 _) $ pick ! (λ ls.
+          split ! $ move ! (1 ∷ []) $ heard ! (ls .0 ≡ set ys p (counted elem k)) (λ el. fsplit ! $ fsplit ! $ move ! (1 ∷ []) $ feqL ! (λ la.
+          move ! (2 ∷ []) $
+          split ! $
+          move ! (1 ∷ []) $
+          peeks ! Nothing (Is Nothing) (shows 𝓤 H A Nothing) t (v′ ∷ []) (λ ist.
+          land ! (from ! (stop !)) (init ! 18 refl (nothing-lawful 𝓤 H A W .typed t _ ist .0)) $
+          assigns ! (of-opd ! (load ! (from ! (stop !)) (look ! 32 refl))) (from ! (stop !)) (init ! 50 refl (EL.lawful S.the-type S′.the-laws 𝓤 H A W tt .typed r _ is .0)) $
+          returns-within ! Post refl (look ! 50 refl) $
+          forget ! 12 refl $
+          forget ! 14 refl $
+          forget ! 18 refl $
+          forget ! 32 refl $
+          forget ! 36 refl $
+          forget ! 38 refl $
+          forget ! 40 refl $
+          forget ! 42 refl $
+          forget ! 44 refl $
+          forget ! 46 refl $
+          forget ! 48 refl $
+          forget ! 50 refl $
+          keep ! (4 ∷ 1 ∷ 5 ∷ 2 ∷ 6 ∷ 7 ∷ 8 ∷ 9 ∷ 10 ∷ 11 ∷ 12 ∷ 13 ∷ 14 ∷ 15 ∷ 16 ∷ 17 ∷ 18 ∷ 19 ∷ 20 ∷ 21 ∷ 22 ∷ 23 ∷ 24 ∷ 25 ∷ 26 ∷ 27 ∷ 28 ∷ 29 ∷ 30 ∷ 31 ∷ 32 ∷ 33 ∷ 34 ∷ 35 ∷ 36 ∷ 37 ∷ 38 ∷ 39 ∷ 40 ∷ 41 ∷ 42 ∷ 43 ∷ 44 ∷ 45 ∷ 46 ∷ 47 ∷ 48 ∷ 49 ∷ 50 ∷ 51 ∷ []) $
+          ends r u zs (ls .0) lw la (found r is₀ l e (el ∙ ap (λ (j : ℕ). set ys p (counted elem j)) ek))))))))))))
 
       -- the call under its limits
       calls : p < length ys → Is R elem (V′ elem) → Sq W (‵ (flft κ₀ q₀) ∷ ‵ (flft κ₁ q₁) ∷ ‵ (flft κ₂ q₂) ∷ ‵ (MutSlice (named 0) κ₀ u32 .own (at-words ws) (sw ∷ [])) ∷ ‵ (MutSlice (named 1) κ₁ R .own (at-list ys) (sa ∷ [])) ∷ ‵ Ob ∷ ‵ Ob
           ∷ ‵ (froom (sliceTy words-again) l₂₁ 0) ∷ ‵ (fdies (sliceTy words-again) l₂₁) ∷ ‵ (froom words-again l₂₀ 0) ∷ ‵ (fdies words-again l₂₀) ∷ ‵ (froom (tyInt w32) l₁₉ 0) ∷ ‵ (fdies (tyInt w32) l₁₉) ∷ ‵ (froom (sliceTy list-again) l₁₈ 0) ∷ ‵ (fdies (sliceTy list-again) l₁₈) ∷ ‵ (froom list-again l₁₇ 0) ∷ ‵ (fdies list-again l₁₇) ∷ ‵ (froom tyUnit l₁₆ 0) ∷ ‵ (fdies tyUnit l₁₆) ∷ ‵ (fat fullShare T′.mir l₁₅ 0 (T′.lowered elem)) ∷ ‵ (fdies T′.mir l₁₅) ∷ ‵ (froom tyPtr l₁₄ 0) ∷ ‵ (fdies tyPtr l₁₄) ∷ ‵ (froom (tyInt w64) l₁₃ 0) ∷ ‵ (fdies (tyInt w64) l₁₃) ∷ ‵ (fat fullShare (sliceTy words-again) l₁₂ 0 sw) ∷ ‵ (fdies (sliceTy words-again) l₁₂) ∷ ‵ (froom words-again l₁₁ 0) ∷ ‵ (fdies words-again l₁₁) ∷ ‵ (froom tyBool l₁₀ 0) ∷ ‵ (fdies tyBool l₁₀) ∷ ‵ (froom S′.mir l₉ 0) ∷ ‵ (fdies S′.mir l₉) ∷ ‵ (fat fullShare (tyInt w64) l₈ 0 (vint w64 (length ys))) ∷ ‵ (fdies (tyInt w64) l₈) ∷ ‵ (fat fullShare (tyInt w64) l₇ 0 (vint w64 p)) ∷ ‵ (fdies (tyInt w64) l₇) ∷ ‵ (fat fullShare (sliceTy (tyRef (named 2) imm (tyInt w8))) l₆ 0 sb) ∷ ‵ (fdies (sliceTy (tyRef (named 2) imm (tyInt w8))) l₆) ∷ ‵ (fat fullShare (tyInt w32) l₅ 0 (vint w32 mo)) ∷ ‵ (fdies (tyInt w32) l₅) ∷ ‵ (fat fullShare (tyInt w32) l₄ 0 (vint w32 reg)) ∷ ‵ (fdies (tyInt w32) l₄) ∷ ‵ (fat fullShare (tyInt w32) l₃ 0 (vint w32 p)) ∷ ‵ (fdies (tyInt w32) l₃) ∷ ‵ (fat fullShare (sliceTy (tyRef (named 1) mut (pointee (R .written)))) l₂ 0 sa) ∷ ‵ (fdies (sliceTy (tyRef (named 1) mut (pointee (R .written)))) l₂) ∷ ‵ (fat fullShare (sliceTy (tyRef (named 0) mut (tyInt w32))) l₁ 0 sw) ∷ ‵ (fdies (sliceTy (tyRef (named 0) mut (tyInt w32))) l₁) ∷ ‵ (froom S′.mir l₀ 0) ∷ ‵ (fdies S′.mir l₀) ∷ []) (runs C Λ En arm₂ (anyQ (afterSeq 𝓤 H (Wp 𝓤 H C Λ En rest (atReturn 𝓤 H En Post)) (atReturn 𝓤 H En Post))))
       calls l is₀ =
-        move ! (0 ∷ 2 ∷ []) $
-        join ! $
-        move ! (0 ∷ 2 ∷ 5 ∷ []) $
-        use3 W (raw (SetNamed 𝓤 H A at-mem run .pre to-named)) (goes-named is₀) $
-        calls-at ! fm (SetNamed 𝓤 H A at-mem run) known-named to-named (and-then ! (load ! (from ! (stop !)) (look ! 22 refl)) (and-then ! (load ! (from ! (stop !)) (look ! 30 refl)) (and-then ! (load ! (from ! (stop !)) (look ! 40 refl)) (and-then ! (load ! (from ! (stop !)) (look ! 16 refl)) (and-then ! (load ! (from ! (stop !)) (look ! 38 refl)) (and-then ! (load ! (from ! (stop !)) (look ! 36 refl)) (and-then ! (load ! (from ! (stop !)) (look ! 34 refl)) (no-more !)))))))) (λ u.
-        use1 W (later (some (λ (r : Stored). ((‵ (flft κ₀ q₀) ⊛ ‵ (flft κ₂ q₂) ⊛ ‵ ftrue) ⊛ ‵ (S.the-row .own r (u ∷ []))) ⊛ raw (ensured 𝓤 H A set-named.ended (set-named.clauses 𝓤 H A at-mem run) (κ₀, (κ₂, tt)) named-args tt r)))) (id⊢ 𝓤 _) $ await ! tt $ pick ! (λ r.
-        split ! $ move ! (1 ∷ []) $ use1 W (some (λ (zs : List ℕ × (Unit {0} × (Unit {0} × (Unit {0} × (Unit {0} × (Unit {0} × (Unit {0} × Unit {0}))))))). ‵ (lasts set-named.ended (κ₀, (κ₂, tt)) named-args zs) ⊛ raw (fact 𝓤 (Named (zs .0) r)))) (id⊢ 𝓤 _) $ pick ! (λ zs.
-        split ! $ move ! (1 ∷ []) $ heard ! (Named (zs .0) r) (λ e. fsplit ! $ fsplit ! $ move ! (1 ∷ []) $ feqL ! (λ lw.
-        move ! (2 ∷ []) $
-        split ! $
-        move ! (1 ∷ []) $
-        peeks ! S.the-row (Is S.the-row) (shows 𝓤 H A S.the-row) r (u ∷ []) (λ is.
-        land ! (from ! (stop !)) (init ! 31 refl (EL.lawful S.the-type S′.the-laws 𝓤 H A W tt .typed r _ is .0)) $
-        assigns ! (addr ! (from ! (fld ! refl (hop ! (look-in ! 45 (sub ! 0 refl (whole !))) (stop !))))) (from ! (stop !)) (init ! 15 refl (tt, tt)) $
-        assigns ! (agg ! (and-then ! (load ! (from ! (stop !)) (look ! 15 refl)) (and-then ! (load ! (from ! (fld ! refl (stop !))) (look-in ! 45 (sub ! 1 refl (whole !)))) (no-more !)))) (from ! (stop !)) (init ! 13 refl (tt, (tt, (record { fits = ga .0 }, tt)))) $
-        forget ! 33 refl $
-        forget ! 25 refl $
-        forget ! 19 refl $
-        forget ! 15 refl $
-        keep ! (1 ∷ 4 ∷ 2 ∷ 5 ∷ 6 ∷ 0 ∷ 7 ∷ 8 ∷ 9 ∷ 10 ∷ 11 ∷ 12 ∷ 13 ∷ 14 ∷ 15 ∷ 16 ∷ 17 ∷ 18 ∷ 19 ∷ 20 ∷ 21 ∷ 22 ∷ 23 ∷ 24 ∷ 25 ∷ 26 ∷ 27 ∷ 28 ∷ 29 ∷ 30 ∷ 31 ∷ 32 ∷ 33 ∷ 34 ∷ 35 ∷ 36 ∷ 37 ∷ 38 ∷ 39 ∷ 40 ∷ 41 ∷ 42 ∷ 43 ∷ 44 ∷ 45 ∷ 46 ∷ 47 ∷ 48 ∷ 49 ∷ 50 ∷ []) $
-        charges l is₀ r u (zs .0) lw e is))))))
+          move ! (0 ∷ 2 ∷ []) $
+          join ! $
+          move ! (0 ∷ 2 ∷ 5 ∷ []) $
+          use3 W (raw (SetNamed 𝓤 H A at-mem run .pre to-named)) (goes-named is₀) $
+          calls-at ! fm (SetNamed 𝓤 H A at-mem run) known-named to-named (and-then ! (load ! (from ! (stop !)) (look ! 22 refl)) (and-then ! (load ! (from ! (stop !)) (look ! 30 refl)) (and-then ! (load ! (from ! (stop !)) (look ! 40 refl)) (and-then ! (load ! (from ! (stop !)) (look ! 16 refl)) (and-then ! (load ! (from ! (stop !)) (look ! 38 refl)) (and-then ! (load ! (from ! (stop !)) (look ! 36 refl)) (and-then ! (load ! (from ! (stop !)) (look ! 34 refl)) (no-more !)))))))) (λ u.
+          use1 W (later (some (λ (r : Stored). ((‵ (flft κ₀ q₀) ⊛ ‵ (flft κ₂ q₂) ⊛ ‵ ftrue) ⊛ ‵ (S.the-row .own r (u ∷ []))) ⊛ raw (ensured 𝓤 H A set-named.ended (set-named.clauses 𝓤 H A at-mem run) (κ₀, (κ₂, tt)) named-args tt r)))) (id⊢ 𝓤 _) $ await ! tt $ pick ! (λ r.
+          split ! $ move ! (1 ∷ []) $ use1 W (some (λ (zs : List ℕ × (Unit {0} × (Unit {0} × (Unit {0} × (Unit {0} × (Unit {0} × (Unit {0} × Unit {0}))))))). ‵ (lasts set-named.ended (κ₀, (κ₂, tt)) named-args zs) ⊛ raw (fact 𝓤 (Named (zs .0) r)))) (id⊢ 𝓤 _) $ pick ! (λ zs.
+          split ! $ move ! (1 ∷ []) $ heard ! (Named (zs .0) r) (λ e. fsplit ! $ fsplit ! $ move ! (1 ∷ []) $ feqL ! (λ lw.
+          move ! (2 ∷ []) $
+          split ! $
+          move ! (1 ∷ []) $
+          peeks ! S.the-row (Is S.the-row) (shows 𝓤 H A S.the-row) r (u ∷ []) (λ is.
+          land ! (from ! (stop !)) (init ! 31 refl (EL.lawful S.the-type S′.the-laws 𝓤 H A W tt .typed r _ is .0)) $
+          assigns ! (addr ! (from ! (fld ! refl (hop ! (look-in ! 45 (sub ! 0 refl (whole !))) (stop !))))) (from ! (stop !)) (init ! 15 refl (tt, tt)) $
+          assigns ! (agg ! (and-then ! (load ! (from ! (stop !)) (look ! 15 refl)) (and-then ! (load ! (from ! (fld ! refl (stop !))) (look-in ! 45 (sub ! 1 refl (whole !)))) (no-more !)))) (from ! (stop !)) (init ! 13 refl (tt, (tt, (record { fits = ga .0 }, tt)))) $
+          forget ! 33 refl $
+          forget ! 25 refl $
+          forget ! 19 refl $
+          forget ! 15 refl $
+          keep ! (1 ∷ 4 ∷ 2 ∷ 5 ∷ 6 ∷ 0 ∷ 7 ∷ 8 ∷ 9 ∷ 10 ∷ 11 ∷ 12 ∷ 13 ∷ 14 ∷ 15 ∷ 16 ∷ 17 ∷ 18 ∷ 19 ∷ 20 ∷ 21 ∷ 22 ∷ 23 ∷ 24 ∷ 25 ∷ 26 ∷ 27 ∷ 28 ∷ 29 ∷ 30 ∷ 31 ∷ 32 ∷ 33 ∷ 34 ∷ 35 ∷ 36 ∷ 37 ∷ 38 ∷ 39 ∷ 40 ∷ 41 ∷ 42 ∷ 43 ∷ 44 ∷ 45 ∷ 46 ∷ 47 ∷ 48 ∷ 49 ∷ 50 ∷ []) $
+          charges l is₀ r u (zs .0) lw e is))))))
 
       -- its copy
       hits : p < length ys → Sq W (‵ (flft κ₀ q₀) ∷ ‵ (flft κ₁ q₁) ∷ ‵ (flft κ₂ q₂) ∷ ‵ (MutSlice (named 0) κ₀ u32 .own (at-words ws) (sw ∷ [])) ∷ ‵ (MutSlice (named 1) κ₁ R .own (at-list ys) (sa ∷ [])) ∷ ‵ Ob ∷ ‵ Ob
           ∷ ‵ (froom (sliceTy words-again) l₂₁ 0) ∷ ‵ (fdies (sliceTy words-again) l₂₁) ∷ ‵ (froom words-again l₂₀ 0) ∷ ‵ (fdies words-again l₂₀) ∷ ‵ (froom (tyInt w32) l₁₉ 0) ∷ ‵ (fdies (tyInt w32) l₁₉) ∷ ‵ (froom (sliceTy list-again) l₁₈ 0) ∷ ‵ (fdies (sliceTy list-again) l₁₈) ∷ ‵ (froom list-again l₁₇ 0) ∷ ‵ (fdies list-again l₁₇) ∷ ‵ (froom tyUnit l₁₆ 0) ∷ ‵ (fdies tyUnit l₁₆) ∷ ‵ (froom T′.mir l₁₅ 0) ∷ ‵ (fdies T′.mir l₁₅) ∷ ‵ (froom tyPtr l₁₄ 0) ∷ ‵ (fdies tyPtr l₁₄) ∷ ‵ (froom (tyInt w64) l₁₃ 0) ∷ ‵ (fdies (tyInt w64) l₁₃) ∷ ‵ (froom (sliceTy words-again) l₁₂ 0) ∷ ‵ (fdies (sliceTy words-again) l₁₂) ∷ ‵ (froom words-again l₁₁ 0) ∷ ‵ (fdies words-again l₁₁) ∷ ‵ (fat fullShare tyBool l₁₀ 0 (vbool (ltb p (length ys)))) ∷ ‵ (fdies tyBool l₁₀) ∷ ‵ (froom S′.mir l₉ 0) ∷ ‵ (fdies S′.mir l₉) ∷ ‵ (fat fullShare (tyInt w64) l₈ 0 (vint w64 (length ys))) ∷ ‵ (fdies (tyInt w64) l₈) ∷ ‵ (fat fullShare (tyInt w64) l₇ 0 (vint w64 p)) ∷ ‵ (fdies (tyInt w64) l₇) ∷ ‵ (fat fullShare (sliceTy (tyRef (named 2) imm (tyInt w8))) l₆ 0 sb) ∷ ‵ (fdies (sliceTy (tyRef (named 2) imm (tyInt w8))) l₆) ∷ ‵ (fat fullShare (tyInt w32) l₅ 0 (vint w32 mo)) ∷ ‵ (fdies (tyInt w32) l₅) ∷ ‵ (fat fullShare (tyInt w32) l₄ 0 (vint w32 reg)) ∷ ‵ (fdies (tyInt w32) l₄) ∷ ‵ (fat fullShare (tyInt w32) l₃ 0 (vint w32 p)) ∷ ‵ (fdies (tyInt w32) l₃) ∷ ‵ (fat fullShare (sliceTy (tyRef (named 1) mut (pointee (R .written)))) l₂ 0 sa) ∷ ‵ (fdies (sliceTy (tyRef (named 1) mut (pointee (R .written)))) l₂) ∷ ‵ (fat fullShare (sliceTy (tyRef (named 0) mut (tyInt w32))) l₁ 0 sw) ∷ ‵ (fdies (sliceTy (tyRef (named 0) mut (tyInt w32))) l₁) ∷ ‵ (froom S′.mir l₀ 0) ∷ ‵ (fdies S′.mir l₀) ∷ []) (runs C Λ En arm₁ (anyQ (afterSeq 𝓤 H (Wp 𝓤 H C Λ En rest (atReturn 𝓤 H En Post)) (atReturn 𝓤 H En Post))))
       hits l =
-        assigns ! (addr ! (from ! (fld ! refl (hop ! (look-in ! 47 (sub ! 0 refl (whole !))) (stop !))))) (from ! (stop !)) (init ! 27 refl (tt, tt)) $
-        assigns ! (agg ! (and-then ! (load ! (from ! (stop !)) (look ! 27 refl)) (and-then ! (load ! (from ! (fld ! refl (stop !))) (look-in ! 47 (sub ! 1 refl (whole !)))) (no-more !)))) (from ! (stop !)) (init ! 25 refl (tt, (tt, (record { fits = gw .0 }, tt)))) $
-        assigns ! (bin ! (load ! (from ! (stop !)) (look ! 35 refl)) (lit ! tt) (record { fits = product ga l })) (from ! (stop !)) (init ! 23 refl (tt, record { fits = product ga l })) $
-        assigns ! (bin ! (load ! (from ! (fld ! refl (stop !))) (look-in ! 45 (sub ! 0 refl (whole !)))) (load ! (from ! (stop !)) (look ! 23 refl)) tt) (from ! (stop !)) (init ! 21 refl (tt, tt)) $
-        rewrite ! 21 (λ (x′ : ℕ). ‵ (fat fullShare tyPtr l₁₄ 0 (vptr b x′))) (sym (place-is 12 o p)) refl $
-        move ! (4 ∷ []) $
-        fsplit ! $
-        move ! (1 ∷ []) $
-        fsplit ! $
-        move ! (0 ∷ 1 ∷ 4 ∷ []) $
-        opens-slice ! tt R ys b o $
-        elem-out ! R (Is R) (shows 𝓤 H A R) V′ tells fullShare ys p none b o l (λ is₀.
-        assigns ! (of-opd ! (load ! (from ! (hop ! (look ! 26 refl) (stop !))) (look-raw ! 0 refl))) (from ! (stop !)) (init ! 24 refl (LL.lawful T.the-type T′.the-laws 𝓤 H A W .typed elem _ is₀ .0)) $
-        elem-back ! R fullShare ys p none (V′ elem) b o l $
-        closes-slice ! tt R ys ys refl b o $
-        fjoin ! $
-        move ! (2 ∷ 0 ∷ []) $
-        fjoin ! $
-        forget ! 29 refl $
-        forget ! 27 refl $
-        forget ! 23 refl $
-        forget ! 21 refl $
-        keep ! (2 ∷ 1 ∷ 3 ∷ 4 ∷ 0 ∷ 5 ∷ 6 ∷ 7 ∷ 8 ∷ 9 ∷ 10 ∷ 11 ∷ 12 ∷ 13 ∷ 14 ∷ 15 ∷ 16 ∷ 17 ∷ 18 ∷ 19 ∷ 20 ∷ 21 ∷ 22 ∷ 23 ∷ 24 ∷ 25 ∷ 26 ∷ 27 ∷ 28 ∷ 29 ∷ 30 ∷ 31 ∷ 32 ∷ 33 ∷ 34 ∷ 35 ∷ 36 ∷ 37 ∷ 38 ∷ 39 ∷ 40 ∷ 41 ∷ 42 ∷ 43 ∷ 44 ∷ 45 ∷ 46 ∷ 47 ∷ 48 ∷ 49 ∷ 50 ∷ []) $
-        calls l is₀)
+          assigns ! (addr ! (from ! (fld ! refl (hop ! (look-in ! 47 (sub ! 0 refl (whole !))) (stop !))))) (from ! (stop !)) (init ! 27 refl (tt, tt)) $
+          assigns ! (agg ! (and-then ! (load ! (from ! (stop !)) (look ! 27 refl)) (and-then ! (load ! (from ! (fld ! refl (stop !))) (look-in ! 47 (sub ! 1 refl (whole !)))) (no-more !)))) (from ! (stop !)) (init ! 25 refl (tt, (tt, (record { fits = gw .0 }, tt)))) $
+          assigns ! (bin ! (load ! (from ! (stop !)) (look ! 35 refl)) (lit ! tt) (record { fits = product ga l })) (from ! (stop !)) (init ! 23 refl (tt, record { fits = product ga l })) $
+          assigns ! (bin ! (load ! (from ! (fld ! refl (stop !))) (look-in ! 45 (sub ! 0 refl (whole !)))) (load ! (from ! (stop !)) (look ! 23 refl)) tt) (from ! (stop !)) (init ! 21 refl (tt, tt)) $
+          rewrite ! 21 (λ (x′ : ℕ). ‵ (fat fullShare tyPtr l₁₄ 0 (vptr b x′))) (sym (place-is 12 o p)) refl $
+          move ! (4 ∷ []) $
+          fsplit ! $
+          move ! (1 ∷ []) $
+          fsplit ! $
+          move ! (0 ∷ 1 ∷ 4 ∷ []) $
+          opens-slice ! tt R ys b o $
+          elem-out ! R (Is R) (shows 𝓤 H A R) V′ tells fullShare ys p none b o l (λ is₀.
+          assigns ! (of-opd ! (load ! (from ! (hop ! (look ! 26 refl) (stop !))) (look-raw ! 0 refl))) (from ! (stop !)) (init ! 24 refl (LL.lawful T.the-type T′.the-laws 𝓤 H A W .typed elem _ is₀ .0)) $
+          elem-back ! R fullShare ys p none (V′ elem) b o l $
+          closes-slice ! tt R ys ys refl b o $
+          fjoin ! $
+          move ! (2 ∷ 0 ∷ []) $
+          fjoin ! $
+          forget ! 29 refl $
+          forget ! 27 refl $
+          forget ! 23 refl $
+          forget ! 21 refl $
+          keep ! (2 ∷ 1 ∷ 3 ∷ 4 ∷ 0 ∷ 5 ∷ 6 ∷ 7 ∷ 8 ∷ 9 ∷ 10 ∷ 11 ∷ 12 ∷ 13 ∷ 14 ∷ 15 ∷ 16 ∷ 17 ∷ 18 ∷ 19 ∷ 20 ∷ 21 ∷ 22 ∷ 23 ∷ 24 ∷ 25 ∷ 26 ∷ 27 ∷ 28 ∷ 29 ∷ 30 ∷ 31 ∷ 32 ∷ 33 ∷ 34 ∷ 35 ∷ 36 ∷ 37 ∷ 38 ∷ 39 ∷ 40 ∷ 41 ∷ 42 ∷ 43 ∷ 44 ∷ 45 ∷ 46 ∷ 47 ∷ 48 ∷ 49 ∷ 50 ∷ []) $
+          calls l is₀)
 
       -- the test
       starts : Sq W (‵ (froom (sliceTy words-again) l₂₁ 0) ∷ ‵ (fdies (sliceTy words-again) l₂₁) ∷ ‵ (froom words-again l₂₀ 0) ∷ ‵ (fdies words-again l₂₀) ∷ ‵ (froom (tyInt w32) l₁₉ 0) ∷ ‵ (fdies (tyInt w32) l₁₉) ∷ ‵ (froom (sliceTy list-again) l₁₈ 0) ∷ ‵ (fdies (sliceTy list-again) l₁₈) ∷ ‵ (froom list-again l₁₇ 0) ∷ ‵ (fdies list-again l₁₇) ∷ ‵ (froom tyUnit l₁₆ 0) ∷ ‵ (fdies tyUnit l₁₆) ∷ ‵ (froom T′.mir l₁₅ 0) ∷ ‵ (fdies T′.mir l₁₅) ∷ ‵ (froom tyPtr l₁₄ 0) ∷ ‵ (fdies tyPtr l₁₄) ∷ ‵ (froom (tyInt w64) l₁₃ 0) ∷ ‵ (fdies (tyInt w64) l₁₃) ∷ ‵ (froom (sliceTy words-again) l₁₂ 0) ∷ ‵ (fdies (sliceTy words-again) l₁₂) ∷ ‵ (froom words-again l₁₁ 0) ∷ ‵ (fdies words-again l₁₁) ∷ ‵ (froom tyBool l₁₀ 0) ∷ ‵ (fdies tyBool l₁₀) ∷ ‵ (froom S′.mir l₉ 0) ∷ ‵ (fdies S′.mir l₉) ∷ ‵ (froom (tyInt w64) l₈ 0) ∷ ‵ (fdies (tyInt w64) l₈) ∷ ‵ (froom (tyInt w64) l₇ 0) ∷ ‵ (fdies (tyInt w64) l₇) ∷ ‵ (fat fullShare (sliceTy (tyRef (named 2) imm (tyInt w8))) l₆ 0 sb) ∷ ‵ (fdies (sliceTy (tyRef (named 2) imm (tyInt w8))) l₆) ∷ ‵ (fat fullShare (tyInt w32) l₅ 0 (vint w32 mo)) ∷ ‵ (fdies (tyInt w32) l₅) ∷ ‵ (fat fullShare (tyInt w32) l₄ 0 (vint w32 reg)) ∷ ‵ (fdies (tyInt w32) l₄) ∷ ‵ (fat fullShare (tyInt w32) l₃ 0 (vint w32 p)) ∷ ‵ (fdies (tyInt w32) l₃) ∷ ‵ (fat fullShare (sliceTy (tyRef (named 1) mut (pointee (R .written)))) l₂ 0 sa) ∷ ‵ (fdies (sliceTy (tyRef (named 1) mut (pointee (R .written)))) l₂) ∷ ‵ (fat fullShare (sliceTy (tyRef (named 0) mut (tyInt w32))) l₁ 0 sw) ∷ ‵ (fdies (sliceTy (tyRef (named 0) mut (tyInt w32))) l₁) ∷ ‵ (froom S′.mir l₀ 0) ∷ ‵ (fdies S′.mir l₀) ∷ (‵ (flft κ₀ q₀) ⊛ ‵ (flft κ₁ q₁) ⊛ ‵ (flft κ₂ q₂) ⊛ ‵ ftrue) ∷ ‵ (owns (MutSlice (named 0) κ₀ u32 ∷ MutSlice (named 1) κ₁ R ∷ u32 ∷ u32 ∷ u32 ∷ ShrSlice (named 2) κ₂ u8 ∷ []) x at) ∷ [])
           (runs C Λ En (code.function .body) (atRet En Post))
       starts =
-        assigns ! (un ! (load ! (from ! (stop !)) (look ! 36 refl)) (record { fits = gat })) (from ! (stop !)) (init ! 28 refl (tt, record { fits = gat })) $
-        assigns ! (of-opd ! (load ! (from ! (fld ! refl (stop !))) (look-in ! 38 (sub ! 1 refl (whole !))))) (from ! (stop !)) (init ! 26 refl (tt, record { fits = ga .0 })) $
-        assigns ! (bin ! (load ! (from ! (stop !)) (look ! 28 refl)) (load ! (from ! (stop !)) (look ! 26 refl)) tt) (from ! (stop !)) (init ! 22 refl (tt, tt)) $
-        move ! (45 ∷ []) $
-        fsplit ! $
-        move ! (1 ∷ []) $
-        fsplit ! $
-        move ! (1 ∷ []) $
-        fsplit ! $ drop ! $
-        fsplit ! $ drop ! $
-        fsplit ! $ drop ! $
-        fsplit ! $
-        move ! (48 ∷ []) $
-        split ! $
-        move ! (1 ∷ []) $
-        split ! $
-        move ! (1 ∷ []) $
-        split ! $
-        move ! (4 ∷ []) $
-        use1 W (‵ Ob ⊛ ‵ Ob) (shr-slice-copy 𝓤 H A W (named 2) κ₂ u8 .twice (at-bytes bs) (sb ∷ [])) $ split ! $
-        first ! $ branches ! (load ! (from ! (stop !)) (look ! 31 refl))
-        (λ hit.
-        keep ! (5 ∷ 4 ∷ 2 ∷ 8 ∷ 7 ∷ 0 ∷ 1 ∷ 9 ∷ 10 ∷ 11 ∷ 12 ∷ 13 ∷ 14 ∷ 15 ∷ 16 ∷ 17 ∷ 18 ∷ 19 ∷ 20 ∷ 21 ∷ 22 ∷ 23 ∷ 24 ∷ 25 ∷ 26 ∷ 27 ∷ 28 ∷ 29 ∷ 30 ∷ 31 ∷ 32 ∷ 33 ∷ 34 ∷ 35 ∷ 36 ∷ 37 ∷ 38 ∷ 39 ∷ 40 ∷ 41 ∷ 42 ∷ 43 ∷ 44 ∷ 45 ∷ 46 ∷ 47 ∷ 48 ∷ 49 ∷ 50 ∷ 51 ∷ 52 ∷ []) $
-        hits (ltb→lt p (length ys) hit))
-        (λ miss. skips ! $ exec ! C Λ En rest (atRet En Post) $
-        keep ! (5 ∷ 4 ∷ 2 ∷ 8 ∷ 7 ∷ 0 ∷ 1 ∷ 9 ∷ 10 ∷ 11 ∷ 12 ∷ 13 ∷ 14 ∷ 15 ∷ 16 ∷ 17 ∷ 18 ∷ 19 ∷ 20 ∷ 21 ∷ 22 ∷ 23 ∷ 24 ∷ 25 ∷ 26 ∷ 27 ∷ 28 ∷ 29 ∷ 30 ∷ 31 ∷ 32 ∷ 33 ∷ 34 ∷ 35 ∷ 36 ∷ 37 ∷ 38 ∷ 39 ∷ 40 ∷ 41 ∷ 42 ∷ 43 ∷ 44 ∷ 45 ∷ 46 ∷ 47 ∷ 48 ∷ 49 ∷ 50 ∷ 51 ∷ 52 ∷ []) $
-        misses (nltb→le p (length ys) miss))
+          assigns ! (un ! (load ! (from ! (stop !)) (look ! 36 refl)) (record { fits = gat })) (from ! (stop !)) (init ! 28 refl (tt, record { fits = gat })) $
+          assigns ! (of-opd ! (load ! (from ! (fld ! refl (stop !))) (look-in ! 38 (sub ! 1 refl (whole !))))) (from ! (stop !)) (init ! 26 refl (tt, record { fits = ga .0 })) $
+          assigns ! (bin ! (load ! (from ! (stop !)) (look ! 28 refl)) (load ! (from ! (stop !)) (look ! 26 refl)) tt) (from ! (stop !)) (init ! 22 refl (tt, tt)) $
+          move ! (45 ∷ []) $
+          fsplit ! $
+          move ! (1 ∷ []) $
+          fsplit ! $
+          move ! (1 ∷ []) $
+          fsplit ! $ drop ! $
+          fsplit ! $ drop ! $
+          fsplit ! $ drop ! $
+          fsplit ! $
+          move ! (48 ∷ []) $
+          split ! $
+          move ! (1 ∷ []) $
+          split ! $
+          move ! (1 ∷ []) $
+          split ! $
+          move ! (4 ∷ []) $
+          use1 W (‵ Ob ⊛ ‵ Ob) (shr-slice-copy 𝓤 H A W (named 2) κ₂ u8 .twice (at-bytes bs) (sb ∷ [])) $ split ! $
+          first ! $ branches ! (load ! (from ! (stop !)) (look ! 31 refl))
+          (λ hit.
+          keep ! (5 ∷ 4 ∷ 2 ∷ 8 ∷ 7 ∷ 0 ∷ 1 ∷ 9 ∷ 10 ∷ 11 ∷ 12 ∷ 13 ∷ 14 ∷ 15 ∷ 16 ∷ 17 ∷ 18 ∷ 19 ∷ 20 ∷ 21 ∷ 22 ∷ 23 ∷ 24 ∷ 25 ∷ 26 ∷ 27 ∷ 28 ∷ 29 ∷ 30 ∷ 31 ∷ 32 ∷ 33 ∷ 34 ∷ 35 ∷ 36 ∷ 37 ∷ 38 ∷ 39 ∷ 40 ∷ 41 ∷ 42 ∷ 43 ∷ 44 ∷ 45 ∷ 46 ∷ 47 ∷ 48 ∷ 49 ∷ 50 ∷ 51 ∷ 52 ∷ []) $
+          hits (ltb→lt p (length ys) hit))
+          (λ miss. skips ! $ exec ! C Λ En rest (atRet En Post) $
+          keep ! (5 ∷ 4 ∷ 2 ∷ 8 ∷ 7 ∷ 0 ∷ 1 ∷ 9 ∷ 10 ∷ 11 ∷ 12 ∷ 13 ∷ 14 ∷ 15 ∷ 16 ∷ 17 ∷ 18 ∷ 19 ∷ 20 ∷ 21 ∷ 22 ∷ 23 ∷ 24 ∷ 25 ∷ 26 ∷ 27 ∷ 28 ∷ 29 ∷ 30 ∷ 31 ∷ 32 ∷ 33 ∷ 34 ∷ 35 ∷ 36 ∷ 37 ∷ 38 ∷ 39 ∷ 40 ∷ 41 ∷ 42 ∷ 43 ∷ 44 ∷ 45 ∷ 46 ∷ 47 ∷ 48 ∷ 49 ∷ 50 ∷ 51 ∷ 52 ∷ []) $
+          misses (nltb→le p (length ys) miss))
 
     walk : ent 𝓤 (onEntry 𝓤 H A f.signature (κ₀, (κ₁, (κ₂, tt))) (q₀, (q₁, (q₂, tt))) x at) (WpFn 𝓤 H C Λ code.function (sw ∷ sa ∷ vint w32 p ∷ vint w32 reg ∷ vint w32 mo ∷ sb ∷ []) Post)
     walk =
@@ -504,8 +504,19 @@ module _ {M : Type 1} (𝓤 : URA M) (H : Heap 𝓤) (A : Atoms 𝓤) (W : Given
 
   set-meets : Meets 𝓤 H A f.signature (WpFn 𝓤 H (𝓣 .C) (𝓣 .Λ) code.function) (f.spec 𝓤 H A at-mem run)
   set-meets =
-      walk-meets 𝓤 H A f.ended stayed W (goes-gave-slice 𝓤 H A W 3 0 tt (plain (λ _. u32)), (goes-gave-slice 𝓤 H A W 3 1 tt (plain (λ _. R)), (goes-none 𝓤 H A W 3 (λ _. u32) yes (λ κs x f. refl), (goes-none 𝓤 H A W 3 (λ _. u32) yes (λ κs x f. refl),
-      (goes-none 𝓤 H A W 3 (λ _. u32) yes (λ κs x f. refl), (goes-none-slice 𝓤 H A W 3 (2 ∷ []) tt (plain (λ _. u8)) yes, tt)))))) (f.clauses 𝓤 H A at-mem run)
+      walk-meets 𝓤 H A f.ended stayed W (
+        goes-gave-slice 𝓤 H A W 3 0 tt (plain (λ _. u32)),
+        (
+          goes-gave-slice 𝓤 H A W 3 1 tt (plain (λ _. R)),
+          (
+            goes-none 𝓤 H A W 3 (λ _. u32) yes (λ κs x f. refl),
+            (
+              goes-none 𝓤 H A W 3 (λ _. u32) yes (λ κs x f. refl),
+              (goes-none 𝓤 H A W 3 (λ _. u32) yes (λ κs x f. refl), (goes-none-slice 𝓤 H A W 3 (2 ∷ []) tt (plain (λ _. u8)) yes, tt)),
+            ),
+          ),
+        ),
+      ) (f.clauses 𝓤 H A at-mem run)
       (WpFn 𝓤 H (𝓣 .C) (𝓣 .Λ) code.function) (WpFn-mono 𝓤 H (W .laws) 𝓣 code.function) set-walks
 
 pub set-spec : {M : Type 1} → stated.statement M

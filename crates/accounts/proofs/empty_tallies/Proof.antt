@@ -198,10 +198,13 @@ module _ {M : Type 1} (𝓤 : URA M) (H : Heap 𝓤) (A : Atoms 𝓤) (W : Given
       where
         within : i < n
         within = lt-of-lt-of-le small le
+
         inside : i < length (emptiedTo i ys)
         inside = subst (λ (m : ℕ). i < m) (sym (length-emptied i ys)) within
+
         elem : Account
         elem = getD (emptiedTo i ys) i none
+
         next-fits : i + 1 < 2 ^ 64
         next-fits = subst (λ (j : ℕ). j < 2 ^ 64) (sym (one-more i)) (lt-of-le-of-lt small gc)
 
