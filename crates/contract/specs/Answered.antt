@@ -7,6 +7,7 @@ use mathlib.Core.List.{List}
 use mathlib.Core.Option.{Option, some}
 use Prim.Native.Nat.{ℕ, _^_, _<_}
 use lib.Dec.{T, ltb, lt→ltb}
+use Rattle.accounts.specs.declared.Terms.{Terms}
 use Rattle.mucalculus.specs.Sets.{mem, true-of}
 use Rattle.mucalculus.specs.Order.{weight}
 use Rattle.mucalculus.specs.Form.{noEnv}
@@ -20,22 +21,22 @@ use Rattle.book.specs.Truthful.{set-leaves, set-member, set-count}
 use Rattle.contract.specs.Seen.{seen, SoundWords}
 use Rattle.contract.specs.Posts.{CallPost, AskPost}
 
-module _ (old mid : List ℕ) (r R : ℕ) (bs : List ℕ) (y : Reply) (p : CallPost (set r R bs) old mid y) (s : SoundWords old) (z : y .number ≡ 0) where
+module _ (old mid : List ℕ) (acc : Terms) (r R : ℕ) (bs : List ℕ) (y : Reply) (p : CallPost (set acc r R bs) old mid y) (s : SoundWords old) (z : y .number ≡ 0) where
   abbrev b : Book
   b = bookOf (seen old)
 
   abbrev after : Book
-  after = does b (set r R bs) .0
+  after = does b (set acc r R bs) .0
 
   -- the states in which the formula holds, over the book before the call
   abbrev M : List Bool
   M = means (modelOf b) noEnv (formulaIn b Set bs)
 
-  served : SoundWords mid × Serves b (set r R bs) (seen old) (seen mid) y
+  served : SoundWords mid × Serves b (set acc r R bs) (seen old) (seen mid) y
   served = p .performs .served s
 
   whole : Whole after
-  whole = whole-does b (set r R bs) (whole-bookOf (seen old))
+  whole = whole-does b (set acc r R bs) (whole-bookOf (seen old))
 
   -- the book that the words stand for is the book after the call
   after-words : after ≡ bookOf (seen mid)
@@ -48,16 +49,16 @@ module _ (old mid : List ℕ) (r R : ℕ) (bs : List ℕ) (y : Reply) (p : CallP
   count-agrees x q = subst (λ (v : Book). Agrees (answer v (count r)) x) (sym after-words) (q .told (served .0) .agrees)
 
   held : after .reg r ≡ some M
-  held = set-leaves b r R bs y (served .1 .agrees) z
+  held = set-leaves b acc r R bs y (served .1 .agrees) z
 
-  answered : does b (set r R bs) .1 .number ≡ 0
+  answered : does b (set acc r R bs) .1 .number ≡ 0
   answered = sym (served .1 .agrees .number) ∙ z
 
   range : r < registers
-  range = set-means b r R bs answered .range
+  range = set-means b acc r R bs answered .range
 
   bits : after .n ≡ b .n
-  bits = ap (λ (x : Book). x .n) (set-means b r R bs answered .stored .book)
+  bits = ap (λ (x : Book). x .n) (set-means b acc r R bs answered .stored .book)
 
   -- no state of the table is refused
   asks : (t : Bool) (o : Option (List Bool)) (g : List Bool → Option ℕ) → t ≡ true → o ≡ some M → cond t (asked o g) (refused 3) .number ≡ 0
@@ -76,7 +77,7 @@ module _ (old mid : List ℕ) (r R : ℕ) (bs : List ℕ) (y : Reply) (p : CallP
 
   -- "A state is in the set of an answered formula exactly when the mu-calculus says so"
   pub member-means : (a : ℕ) (x : Reply) → AskPost (member r a) mid x → x .number ≡ 0 → (x .value ≡ 1) ↔ T (mem M a)
-  member-means a x q i = set-member b r R bs y (served .1 .agrees) z a x (member-agrees a x q) i
+  member-means a x q i = set-member b acc r R bs y (served .1 .agrees) z a x (member-agrees a x q) i
 
   pub count-means : (x : Reply) → AskPost (count r) mid x → x .value ≡ weight true M
-  count-means x q = set-count b r R bs y (served .1 .agrees) z x (count-agrees x q) (count-answered x q)
+  count-means x q = set-count b acc r R bs y (served .1 .agrees) z x (count-agrees x q) (count-answered x q)

@@ -2,7 +2,7 @@
 use Prim.Native.Nat.{ℕ, _≤_}
 use native.Mathlib.Omega.{arith}
 use Rattle.layout.specs.declared.Refusal.{Refusal}
-use Rattle.layout.specs.declared.Refusal.the-variants.{Sizes, Unsound, Range, Syntax, Unbound, Odd, Empty, Full, Spent}
+use Rattle.layout.specs.declared.Refusal.the-variants.{Sizes, Unsound, Range, Syntax, Unbound, Odd, Empty, Full, Spent, Unlisted}
 
 abbrev pub refusalNumber : Refusal → ℕ
 -- "fresh: n, N or slice length"
@@ -23,6 +23,8 @@ refusalNumber Empty = 7
 refusalNumber Full = 8
 -- "rounds used up"
 refusalNumber Spent = 9
+-- "the list is not 1 to 8 long or has no account at that place"
+refusalNumber Unlisted = 14
 
 -- no refusal has the number of an answer
 pub refusal-some : (x : Refusal) → 1 ≤ refusalNumber x
@@ -35,3 +37,4 @@ refusal-some Odd = omega arith
 refusal-some Empty = omega arith
 refusal-some Full = omega arith
 refusal-some Spent = omega arith
+refusal-some Unlisted = omega arith
