@@ -28,7 +28,7 @@ fn the_set_of_the_example() {
     assert_eq!(t.set(0, 100, reach()), Ok(Stored { node: 1, rounds: 3 }));
     assert_eq!(t.count(0), Ok(2));
     assert_eq!(t.tally(), Ok(3));
-    assert_eq!(t.collect(), Ok(3));
+    assert_eq!(t.collect(), Ok(2));
 }
 
 #[test]
@@ -85,10 +85,7 @@ fn rows() {
     let both = || Formula::current(0) & Formula::current(1);
     assert!(table(2, 3).set(0, 100, both()).is_ok());
     assert_eq!(table(2, 2).set(0, 100, both()), Err(Refusal::Full));
-    assert_eq!(
-        table(1, 1).set(0, 100, !Formula::current(0)),
-        Err(Refusal::Full)
-    );
+    assert!(table(1, 1).set(0, 100, !Formula::current(0)).is_ok());
 
     let mut t = table(2, 2);
     t.set(0, 100, Formula::current(0)).unwrap();

@@ -25,7 +25,7 @@ fn listing() {
             (None, 0, 0, 0),
             (None, 0, 0, 0),
             (None, 1, 2, 3),
-            (None, 0, 3, 0)
+            (None, 0, 2, 0)
         ]
     );
     assert_eq!(Table::over(words).and_then(|table| table.count(0)), Ok(2));
