@@ -1,14 +1,14 @@
-//! Random lists of calls, n = 1 to 5, on the library and on the separate evaluator.
+//! Random lists of calls, n = 1 to 5, 1 to 8 accounts, on the library and on the separate evaluator.
 //!
-//! After each call: number, rounds, value, kept words, soundness. After each list: node, count and
-//! member of every register and state, node numbers over all pairs of registers, relations, tally.
+//! After each call: number, rounds, value, all accounts, kept words, soundness. After each list: node,
+//! count and member of every register and state, node numbers over all pairs of registers, relations.
 //! `KUDZUCLAMP_CALLS` calls (20,000) from seed `KUDZUCLAMP_SEED` (1). A difference prints its list;
 //! save it and run it again with
 //! `KUDZUCLAMP_REPLAY=FILE cargo test --offline --release --test lists replay -- --ignored`.
 
-use calls::draw::{draw_and_run, Drawn, CALLS};
+use calls::draw::{draw_and_run, Drawn, Edges, CALLS};
 use calls::list::List;
-use calls::run::run;
+use calls::run::{run, NUMBERS};
 use std::env;
 use std::io::{stderr, Write};
 use std::panic::catch_unwind;
@@ -28,10 +28,9 @@ fn setting(name: &str, default: u64) -> u64 {
 /// Sums over lists.
 #[derive(Default)]
 struct Totals {
-    numbers: [u64; 10],
+    numbers: [u64; NUMBERS],
     questions: u64,
-    edge_answered: u64,
-    edge_refused: u64,
+    edges: Edges,
     differences: Vec<String>,
 }
 
@@ -41,8 +40,7 @@ impl Totals {
         Totals {
             numbers: drawn.runner.counts.numbers,
             questions: drawn.runner.counts.questions,
-            edge_answered: drawn.edges.answered,
-            edge_refused: drawn.edges.refused,
+            edges: drawn.edges,
             differences: drawn.difference.map(text).into_iter().collect(),
         }
     }
@@ -52,8 +50,9 @@ impl Totals {
             *sum += count;
         }
         self.questions += other.questions;
-        self.edge_answered += other.edge_answered;
-        self.edge_refused += other.edge_refused;
+        self.edges.table.add(other.edges.table);
+        self.edges.rows.add(other.edges.rows);
+        self.edges.rounds.add(other.edges.rounds);
         self.differences.extend(other.differences);
     }
 }
@@ -91,10 +90,15 @@ fn random_lists() {
     });
     report(&totals, seed, lists, start.elapsed().as_secs_f64());
     assert!(totals.differences.is_empty(), "{}", totals.differences[0]);
-    for number in 0..=9 {
+    for number in (0..=9).chain([14]) {
         assert!(totals.numbers[number] > 0, "no call gave {number}");
     }
-    assert!(totals.edge_answered > 0 && totals.edge_refused > 0);
+    let Edges {
+        table,
+        rows,
+        rounds,
+    } = totals.edges;
+    assert!(table.both() && rows.both() && rounds.both());
 }
 
 /// Written past the test runner's capture.
@@ -110,13 +114,22 @@ fn report(totals: &Totals, seed: u64, lists: u64, seconds: f64) {
     for (number, count) in totals.numbers.iter().enumerate() {
         match number {
             0 => text += &format!(" {count}; refused"),
+            _ if *count == 0 => {}
             _ => text += &format!(" {number}: {count}"),
         }
     }
-    text += &format!(
-        "; needs N rows: {}; needs N + 1: {}\n",
-        totals.edge_answered, totals.edge_refused
-    );
+    let edges = [
+        ("N", totals.edges.table),
+        ("an account's row limit", totals.edges.rows),
+        ("an account's round limit", totals.edges.rounds),
+    ];
+    for (name, edge) in edges {
+        text += &format!(
+            "\nat {name}: {} answered, {} one past it",
+            edge.answered, edge.refused
+        );
+    }
+    text += "\n";
     stderr()
         .write_all(text.as_bytes())
         .expect("stderr takes text");
