@@ -2,8 +2,8 @@
 //!
 //! After each call: number, rounds, value, all accounts, kept words, soundness. After each list: node,
 //! count and member of every register and state, node numbers over all pairs of registers, relations.
-//! `KUDZUCLAMP_CALLS` calls (20,000) from seed `KUDZUCLAMP_SEED` (1). A difference prints its list;
-//! save it and run it again with
+//! `KUDZUCLAMP_CALLS` calls (20,000) from seed `KUDZUCLAMP_SEED` (1) in `KUDZUCLAMP_THREADS` threads
+//! (one for each processor). A difference prints its list; save it and run it again with
 //! `KUDZUCLAMP_REPLAY=FILE cargo test --offline --release --test lists replay -- --ignored`.
 
 use calls::draw::{draw_and_run, Drawn, Edges, CALLS};
@@ -78,7 +78,8 @@ fn random_lists() {
     let seed = setting("KUDZUCLAMP_SEED", 1);
     let lists = calls.div_ceil(CALLS);
     let (start, taken) = (Instant::now(), AtomicU64::new(0));
-    let threads = thread::available_parallelism().map_or(1, |count| count.get());
+    let processors = thread::available_parallelism().map_or(1, |count| count.get());
+    let threads = setting("KUDZUCLAMP_THREADS", processors as u64);
     let mut totals = Totals::default();
     thread::scope(|scope| {
         let workers: Vec<_> = (0..threads)
