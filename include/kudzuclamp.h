@@ -78,7 +78,7 @@ enum kudzuclamp_number {
 
 /*
  * FORMULA BYTES. Two length bytes L, big-endian, from 2 to 1,024; then L bytes: the version, then one formula in prefix order, which fills
- * them. A formula is at most 64 deep. Set calls take version 1 and version 2, which has two words more; relation calls take version 1.
+ * them. A formula is at most 64 deep. Version 1 has the words below without until; version 2, which only set calls take, has all of them.
  *
  *   00, 01          false, true
  *   02 f            NOT
@@ -91,11 +91,16 @@ enum kudzuclamp_number {
  *   68 + t f        diamond: f in some next state of relation t
  *   70 + P f        mu P: the least set A with f(A) = A
  *   80 + P f        nu P: the greatest such set
- *   90 + t f g      version 2: on some run of relation t, f until g
- *   98 + t f g      version 2: on every run of relation t, f until g
+ *   90 + t f g      until, version 2 only: some run of relation t passes
+ *   98 + t f g      until, version 2 only: every run of relation t passes
  *
  * The numbers before + are hexadecimal. Relation calls take 00 to 04, current bits and next bits only. Each variable is read below an even number
  * of NOTs, counted from its binder.
+ *
+ * UNTIL. A run from a state is a list of states that begins with it, each a next state of the one before; it has 2^n steps, or fewer and ends where
+ * no next state exists. It passes where g holds somewhere on it, and f everywhere before the first such place; f need not hold at that place. So
+ * "the microphone stays closed until the song starts", with bit 0 the open microphone and bit 1 the song, is 00 05 02 98 02 10 11. The rounds are
+ * those of mu X (g or (f and diamond X)), and for every run of mu X (g or (f and (box X and diamond true))); X is none of the 16 variables.
  */
 
 /*
@@ -112,10 +117,10 @@ uint32_t kudzuclamp_relation(uint32_t *words, size_t words_len, uint32_t t, cons
 
 /*
  * Register r (0 to 31) then holds exactly the states in which the formula holds, found under the limits of the account at `place` (0 to
- * accounts_len - 1), whose tally grows by the rounds made. Each evaluation of a binder's body is one round, and a round beyond `most` (R) or
- * beyond the account's round limit is refused; with one binder in the formula 2^n + 1 rounds are enough. *node is the set's node number: two
- * registers hold the same set exactly where their node numbers are equal; 0 is no state, 1 is every state. *rounds is how many rounds were made.
- * It returns 0, 2 to 9 or KUDZUCLAMP_UNLISTED.
+ * accounts_len - 1), whose tally grows by the rounds made. Each evaluation of a binder's body is one round, and so is one of until's f and g; a
+ * round beyond `most` (R) or beyond the account's round limit is refused. With one binder or until in the formula 2^n + 1 rounds are enough.
+ * *node is the set's node number: two registers hold the same set exactly where their node numbers are equal; 0 is no state, 1 is every state.
+ * *rounds is how many rounds were made. It returns 0, 2 to 9 or KUDZUCLAMP_UNLISTED.
  */
 uint32_t kudzuclamp_set(uint32_t *words, size_t words_len, struct kudzuclamp_account *accounts, size_t accounts_len, uint32_t place, uint32_t r,
                         uint32_t most, const uint8_t *bytes, size_t bytes_len, uint32_t *node, uint32_t *rounds);

@@ -106,21 +106,55 @@ impl Formula {
         Formula::operator(numbered(token::NU, VARIABLES, p), &[f])
     }
 
-    /// On some run of relation t, from 0 to 7, f holds until g does. Only set calls take it.
+    /// Some run of relation t, from 0 to 7, comes to a state of g, and f holds in every state
+    /// before. A run goes on from next state to next state, for 2^n steps or to a state that has
+    /// none. The formula's version is 2, and only set calls take it.
     ///
     /// ```
-    /// use kudzuclamp::Formula;
+    /// use kudzuclamp::{Formula, Refusal, Table};
     ///
+    /// # fn main() -> Result<(), Refusal> {
     /// // Presses can keep bit 1 set until bit 0 is set.
-    /// let until = Formula::some_run(0, Formula::current(1), Formula::current(0));
+    /// let until = Formula::until_some(0, Formula::current(1), Formula::current(0));
     /// assert_eq!(until.as_bytes(), [0x00, 0x04, 0x02, 0x90, 0x11, 0x10]);
+    ///
+    /// // A press may lead from any state to any: from 1 and 3 at once, from 2 by one press.
+    /// let mut room = Table::new(2, 100)?;
+    /// room.relation(0, Formula::always())?;
+    /// room.set(0, 5, until.clone())?;
+    /// assert_eq!((room.count(0)?, room.member(0, 2)?), (3, true));
+    /// // Relation calls refuse version 2.
+    /// assert_eq!(room.relation(1, until), Err(Refusal::Syntax));
+    /// # Ok(())
+    /// # }
     /// ```
-    pub fn some_run(t: u8, f: Formula, g: Formula) -> Formula {
+    pub fn until_some(t: u8, f: Formula, g: Formula) -> Formula {
         Formula::operator(numbered(token::SOME_RUN, RELATIONS, t), &[f, g])
     }
 
-    /// On every run of relation t, from 0 to 7, f holds until g does. Only set calls take it.
-    pub fn every_run(t: u8, f: Formula, g: Formula) -> Formula {
+    /// Every run of relation t, from 0 to 7, comes to a state of g, and f holds in every state
+    /// before: as [`until_some`](Formula::until_some), but of every run. A run that ends before it
+    /// comes to g, or never comes there, does not do.
+    ///
+    /// ```
+    /// use kudzuclamp::{Formula, Refusal, Table};
+    ///
+    /// # fn main() -> Result<(), Refusal> {
+    /// // Bit 0 is "microphone open", bit 1 is "song runs". The one press starts the song, which
+    /// // opens the microphone; a running song runs on for good.
+    /// let (open, song) = (Formula::current(0), Formula::current(1));
+    /// let mut room = Table::new(2, 100)?;
+    /// room.relation(0, Formula::next(0) & Formula::next(1))?;
+    ///
+    /// // The microphone stays closed until the song starts.
+    /// let until = Formula::until_every(0, !open, song);
+    /// assert_eq!(until.as_bytes(), [0x00, 0x05, 0x02, 0x98, 0x02, 0x10, 0x11]);
+    /// room.set(0, 5, until)?;
+    /// assert!(room.member(0, 0)? && !room.member(0, 1)?);
+    /// # Ok(())
+    /// # }
+    /// ```
+    pub fn until_every(t: u8, f: Formula, g: Formula) -> Formula {
         Formula::operator(numbered(token::EVERY_RUN, RELATIONS, t), &[f, g])
     }
 
@@ -280,14 +314,14 @@ mod tests {
 
     #[test]
     fn version_2_where_a_part_speaks_of_runs() {
-        let until = Formula::every_run(7, Formula::always(), Formula::current(0));
+        let until = Formula::until_every(7, Formula::always(), Formula::current(0));
         assert_eq!(until.as_bytes(), [0, 4, 2, 0x9F, 0x01, 0x10]);
         let inside = Formula::var(0) & !until;
         assert_eq!(
             inside.as_bytes(),
             [0, 7, 2, 0x03, 0x30, 0x02, 0x9F, 0x01, 0x10]
         );
-        let none = Formula::some_run(8, Formula::always(), Formula::always());
+        let none = Formula::until_some(8, Formula::always(), Formula::always());
         assert_eq!(none.as_bytes(), [0, 4, 1, 0xFF, 0x01, 0x01]);
     }
 

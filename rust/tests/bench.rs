@@ -194,3 +194,24 @@ fn borrowed_words() {
     assert_eq!(t.into_words()[words_for(5)..], [9, 9]);
     assert_eq!(Table::over(&mut words[..]).unwrap().count(3), Ok(2));
 }
+
+/// f until g: the sets and rounds of the formula written with a binder, and the words' refusals.
+#[test]
+fn until() {
+    let mut t = example();
+    let (open, all) = (Formula::current(0), Formula::always);
+    let some = Formula::until_some(0, all(), open.clone());
+    assert_eq!(set(&mut t, 0, 3, some), set(&mut t, 1, 3, reach()));
+    let every = || Formula::until_every(0, all(), Formula::current(0));
+    assert_eq!(set(&mut t, 2, 3, every()), Ok(Stored { node: 1, rounds: 3 }));
+    assert_eq!(set(&mut t, 2, 2, every()), Err(Refusal::Spent));
+    // The inner nu has its own rounds in each round: two rounds of each.
+    t.relation(3, Formula::never()).unwrap();
+    let inner = Formula::until_some(3, Formula::nu(0, Formula::var(0)), open);
+    assert_eq!(set(&mut t, 3, 4, inner.clone()).unwrap().rounds, 4);
+    assert_eq!(set(&mut t, 3, 3, inner), Err(Refusal::Spent));
+    // Until names its relation, and relation calls have no until.
+    let unfilled = Formula::until_every(7, all(), all());
+    assert_eq!(set(&mut t, 3, 9, unfilled), Err(Refusal::Empty));
+    assert_eq!(t.relation(4, every()), Err(Refusal::Syntax));
+}

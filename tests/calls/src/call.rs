@@ -4,7 +4,7 @@ use crate::writer::{self, Plan};
 use reference::accounts::Account;
 use reference::book::{Book, Call, MAX_ROWS, REGISTERS, RELATIONS};
 use reference::evaluate::{self, Limits};
-use reference::formula::{self, frame_as, Formula, Kind};
+use reference::formula::{self, frame_as, Formula, Kind, RUNS_VERSION, VERSION};
 use reference::random::Random;
 
 /// What a call takes that would be answered with rows and an account in plenty: the greatest need of
@@ -186,12 +186,16 @@ fn plain(random: &mut Random, book: &Book, kind: Kind) -> Vec<u8> {
     writer::write(random, plan)
 }
 
-/// Formulas at the edges of depth and length, and one with all sixteen binders.
+/// Formulas at the edges of depth and length, until inside until, and one with all sixteen binders.
 fn special(random: &mut Random, book: &Book, kind: Kind) -> Vec<u8> {
     let leaf = 0x10 + random.below(book.n().into()) as u8;
     let depth = 62 + random.below(5) as usize;
-    match random.below(4) {
+    match random.below(5) {
         0 => writer::nots(depth, leaf),
+        4 if kind == Kind::Set => {
+            let (first, t) = (random.chance(50), random.below(3) as u8);
+            writer::untils(depth, first, t, leaf)
+        }
         1 if book.n() < 3 => writer::tree(random, 9, &[0x00, 0x01, leaf]),
         2 if book.n() < 3 => [vec![0x02], writer::tree(random, 9, &[0x00, leaf])].concat(),
         _ if kind == Kind::Set => {
@@ -204,9 +208,12 @@ fn special(random: &mut Random, book: &Book, kind: Kind) -> Vec<u8> {
 
 /// The framed bytes, now and then spoilt.
 fn framed(random: &mut Random, mut body: Vec<u8>) -> Vec<u8> {
-    // Until is a word of version 2.
-    let until = body.iter().any(|token| (0x90..=0x9F).contains(token));
-    let version = if until && random.chance(97) { 2 } else { 1 };
+    // Version 2 has every word of version 1; version 1 has no until.
+    let version = match random.below(100) {
+        0..=1 => VERSION,
+        2..=5 => RUNS_VERSION,
+        _ => writer::version(&body),
+    };
     let fault = match random.chance(4) {
         true => random.below(8),
         false => return frame_as(version, &body),
@@ -222,7 +229,7 @@ fn framed(random: &mut Random, mut body: Vec<u8>) -> Vec<u8> {
     let mut bytes = frame_as(version, &body);
     match fault {
         4 => bytes.push(0x00),
-        5 => bytes[2] = random.pick(&[0, 2, 255]),
+        5 => bytes[2] = random.pick(&[0, 3, 255]),
         6 => bytes[1] = bytes[1].wrapping_add(1),
         7 => bytes.truncate(random.below(bytes.len() as u64) as usize),
         _ => {}

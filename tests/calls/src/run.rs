@@ -5,10 +5,11 @@ use crate::kept;
 use crate::list::{List, Step};
 use crate::sound::sound;
 use crate::words::{table_size, Words};
+use crate::writer::has_until;
 use kudzuclamp::{Refusal, Table};
 use reference::accounts::Account;
 use reference::book::{Book, Call, REGISTERS};
-use reference::formula::Kind;
+use reference::formula::{Kind, RUNS_VERSION};
 
 /// Greatest n at which relations of a damaged table are enumerated.
 pub const MAX_BITS: u32 = 5;
@@ -16,11 +17,13 @@ pub const MAX_BITS: u32 = 5;
 /// One more than the greatest number of a refusal.
 pub const NUMBERS: usize = 15;
 
-/// How often each number came, 0 for answered; the last one; and how many questions the checks after
-/// the lists asked.
+/// How often each number came, 0 for answered: of all calls, of sets, and of sets whose formula has
+/// until; the last number; and how many questions the checks after the lists asked.
 #[derive(Clone, Copy, Debug, Default, PartialEq, Eq)]
 pub struct Counts {
     pub numbers: [u64; NUMBERS],
+    pub sets: u64,
+    pub untils: [u64; NUMBERS],
     pub last: u8,
     pub questions: u64,
 }
@@ -29,6 +32,26 @@ impl Counts {
     fn note(&mut self, number: u8) {
         self.numbers[usize::from(number)] += 1;
         self.last = number;
+    }
+
+    fn note_call(&mut self, call: &Call, number: u8) {
+        self.note(number);
+        let Call::Set { formula, .. } = call else {
+            return;
+        };
+        self.sets += 1;
+        let until = formula.get(2) == Some(&RUNS_VERSION) && has_until(&formula[3..]);
+        self.untils[usize::from(number)] += u64::from(until);
+    }
+
+    pub fn add(&mut self, other: Counts) {
+        let sum = |into: &mut [u64; NUMBERS], from: [u64; NUMBERS]| {
+            (into.iter_mut().zip(from)).for_each(|(sum, count)| *sum += count);
+        };
+        sum(&mut self.numbers, other.numbers);
+        sum(&mut self.untils, other.untils);
+        self.sets += other.sets;
+        self.questions += other.questions;
     }
 }
 
@@ -164,7 +187,7 @@ impl Runner {
         let before = self.words().to_vec();
         let mut accounts = lent_accounts(&self.accounts);
         let got = make(&mut self.table, &mut accounts, call);
-        self.counts.note(got.number);
+        self.counts.note_call(call, got.number);
         let Some(expected) = &mut self.expected else {
             same("number", got.number, Refusal::Unsound.number() as u8)?;
             same("accounts", accounts, lent_accounts(&self.accounts))?;

@@ -1,6 +1,6 @@
 //! Writes random formula bytes in prefix order.
 
-use reference::formula::Kind;
+use reference::formula::{frame_as, Kind, RUNS_VERSION, VERSION};
 use reference::random::Random;
 
 /// What a formula may name, and how large it becomes.
@@ -16,6 +16,24 @@ pub struct Plan {
     pub binders: u32,
     /// Now and then a token that breaks one of checks 4 to 7.
     pub slip: bool,
+}
+
+/// Whether a formula's own bytes have until.
+pub fn has_until(body: &[u8]) -> bool {
+    body.iter().any(|token| (0x90..=0x9F).contains(token))
+}
+
+/// The least version that has all words of a formula's own bytes.
+pub fn version(body: &[u8]) -> u8 {
+    match has_until(body) {
+        true => RUNS_VERSION,
+        false => VERSION,
+    }
+}
+
+/// Framed bytes in the version that they need.
+pub fn frame(body: &[u8]) -> Vec<u8> {
+    frame_as(version(body), body)
 }
 
 /// A formula's own bytes, without frame.
@@ -49,7 +67,10 @@ impl Writer<'_> {
         if size <= 1 {
             return self.leaf();
         }
-        if self.binders > 0 && self.random.chance(30) {
+        if self.binders > 0 && size > 2 && self.may_be_modal() && self.random.chance(20) {
+            let word = self.until_word();
+            self.operator(word, size);
+        } else if self.binders > 0 && self.random.chance(30) {
             self.binder(size);
         } else if self.may_be_modal() && self.random.chance(35) {
             self.modal_word();
@@ -73,10 +94,7 @@ impl Writer<'_> {
     }
 
     fn binary(&mut self, size: u64) {
-        let operator = match self.binders > 0 && self.may_be_modal() && self.random.chance(25) {
-            true => self.until_word(),
-            false => self.random.pick(&[0x03, 0x04]),
-        };
+        let operator = self.random.pick(&[0x03, 0x04]);
         self.operator(operator, size);
     }
 
@@ -242,6 +260,18 @@ pub fn nots(depth: usize, leaf: u8) -> Vec<u8> {
     let mut body = vec![0x02; depth - 1];
     body.push(leaf);
     body
+}
+
+/// Until inside until, as the f or as the g of each: a formula `depth` deep, over relation t.
+pub fn untils(depth: usize, first: bool, t: u8, leaf: u8) -> Vec<u8> {
+    let word = |k: usize| [0x90, 0x98][k % 2] + t;
+    let words = (1..depth).map(word);
+    match first {
+        true => words.chain(vec![leaf; depth]).collect(),
+        false => (words.flat_map(|word| [word, leaf]))
+            .chain([leaf])
+            .collect(),
+    }
 }
 
 /// A balanced tree of operators over leaves: 2^(height + 1) − 1 bytes.

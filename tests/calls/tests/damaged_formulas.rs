@@ -3,10 +3,10 @@
 
 use calls::list::Step;
 use calls::run::Runner;
-use calls::writer::{nots, tree, write, Plan};
+use calls::writer::{frame, nots, tree, untils, write, Plan};
 use kudzuclamp::{Account, Refusal, Table};
 use reference::book::{words_for, Call};
-use reference::formula::{frame, Kind};
+use reference::formula::{frame_as, Kind};
 use reference::random::Random;
 
 /// A table with registers 0 and 1 and relations 0 and 1 filled.
@@ -140,15 +140,21 @@ fn noise_as_formulas() {
     let mut runner = room(2, 60);
     for _ in 0..5_000 {
         let length = random.below(12);
-        let bytes: Vec<u8> = (0..length).map(|_| random.below(0x90) as u8).collect();
+        let bytes: Vec<u8> = (0..length).map(|_| random.below(0xA0) as u8).collect();
         compare(&mut runner, bytes.clone());
-        compare(&mut runner, frame(&bytes));
+        compare(&mut runner, frame_as(1, &bytes));
+        compare(&mut runner, frame_as(2, &bytes));
     }
 }
 
-/// The number of a set call.
+/// The number of a set call, in the least version that has its words.
 fn number(runner: &mut Runner, body: &[u8]) -> u8 {
-    runner.step(&set(3, frame(body))).unwrap();
+    number_in(runner, calls::writer::version(body), body)
+}
+
+/// The number of a set call in a version.
+fn number_in(runner: &mut Runner, version: u8, body: &[u8]) -> u8 {
+    runner.step(&set(3, frame_as(version, body))).unwrap();
     runner.counts.last
 }
 
@@ -159,6 +165,11 @@ fn depth_64_and_65() {
     for token in [0x02, 0x60, 0x69] {
         assert_eq!(number(&mut runner, &chain(token, 64)), 0);
         assert_eq!(number(&mut runner, &chain(token, 65)), 4);
+    }
+    // Until is one level; each takes a round before the next, so that 50 rounds are too few here.
+    for first in [true, false] {
+        assert_eq!(number(&mut runner, &untils(64, first, 0, 0x10)), 9);
+        assert_eq!(number(&mut runner, &untils(65, first, 0, 0x10)), 4);
     }
     for binary in [0x03, 0x04] {
         let right = |depth: usize| [[binary, 0x11].repeat(depth - 1), vec![0x10]].concat();
@@ -191,12 +202,57 @@ fn length_1024_and_1025() {
     }
 }
 
+/// Version 1 has no word of runs, and relation calls have no version 2.
+#[test]
+fn versions() {
+    let mut runner = room(2, 60);
+    for t in 0..=1 {
+        for word in [0x90 + t, 0x98 + t] {
+            let body = [word, 0x40, 0x10];
+            assert_eq!(number_in(&mut runner, 1, &body), 4);
+            assert_eq!(number_in(&mut runner, 2, &body), 0);
+            assert_eq!(number_in(&mut runner, 3, &body), 4);
+            compare(&mut runner, frame_as(2, &body));
+        }
+    }
+    for body in [&[0x01][..], &[0x10], &[0x03, 0x10, 0x11]] {
+        assert_eq!(number_in(&mut runner, 2, body), 0);
+        runner.step(&relation(3, frame_as(1, body))).unwrap();
+        let four = runner.counts.numbers[4];
+        runner.step(&relation(3, frame_as(2, body))).unwrap();
+        assert_eq!(runner.counts.numbers[4], four + 1);
+    }
+    // Check 7 names until's relation.
+    assert_eq!(number(&mut runner, &[0x97, 0x00, 0x01]), 7);
+    assert_eq!(number(&mut runner, &[0x9F, 0x00, 0x01]), 7);
+}
+
+/// The stack at its deepest: until as the f, or the g, of until, 63 times, with rounds enough to
+/// come to the innermost.
+#[test]
+fn until_in_until() {
+    for (first, leaf) in [(true, 0x00), (true, 0x10), (true, 0x11), (false, 0x10)] {
+        for rounds in [62, 63, 64, 65, 200, 2_000] {
+            let mut runner = room(2, 60);
+            let formula = frame(&untils(64, first, 1, leaf));
+            let call = Call::Set {
+                place: 0,
+                r: 3,
+                rounds,
+                formula,
+            };
+            runner.step(&Step::Call(call)).unwrap();
+            runner.compare_all().unwrap();
+        }
+    }
+}
+
 /// "Checks run in this order, 4 to 7 each over the whole formula".
 #[test]
 fn order_of_the_checks() {
     let mut runner = room(1, 40);
     // Faults in the order of their numbers: 4 an unknown byte, 5 P unbound, 6 P read odd, 7 register
-    // 9 empty. Each pair and triple, in all orders, below ANDs.
+    // 9 empty. Each pair and triple, in all orders, below ANDs and untils.
     let faults: [(u8, &[u8]); 4] = [
         (4, &[0x05]),
         (5, &[0x3A]),
@@ -206,8 +262,11 @@ fn order_of_the_checks() {
     for (a, first) in faults {
         for (b, second) in faults {
             for (c, third) in faults {
-                let body = [&[0x03], first, &[0x03], second, third].concat();
-                assert_eq!(number(&mut runner, &body), a.min(b).min(c), "{body:x?}");
+                // Of AND, and of until: 90 names relation 0, which is filled.
+                for word in [0x03, 0x90, 0x98] {
+                    let body = [&[word], first, &[word], second, third].concat();
+                    assert_eq!(number(&mut runner, &body), a.min(b).min(c), "{body:x?}");
+                }
             }
         }
     }

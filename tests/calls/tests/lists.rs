@@ -8,7 +8,7 @@
 
 use calls::draw::{draw_and_run, Drawn, Edges, CALLS};
 use calls::list::List;
-use calls::run::{run, NUMBERS};
+use calls::run::{run, Counts, NUMBERS};
 use std::env;
 use std::io::{stderr, Write};
 use std::panic::catch_unwind;
@@ -28,8 +28,7 @@ fn setting(name: &str, default: u64) -> u64 {
 /// Sums over lists.
 #[derive(Default)]
 struct Totals {
-    numbers: [u64; NUMBERS],
-    questions: u64,
+    counts: Counts,
     edges: Edges,
     differences: Vec<String>,
 }
@@ -38,18 +37,14 @@ impl Totals {
     fn of(index: u64, drawn: Drawn) -> Totals {
         let text = |what| format!("list {index}: {what}\n{}", drawn.list);
         Totals {
-            numbers: drawn.runner.counts.numbers,
-            questions: drawn.runner.counts.questions,
+            counts: drawn.runner.counts,
             edges: drawn.edges,
             differences: drawn.difference.map(text).into_iter().collect(),
         }
     }
 
     fn add(&mut self, other: Totals) {
-        for (sum, count) in self.numbers.iter_mut().zip(other.numbers) {
-            *sum += count;
-        }
-        self.questions += other.questions;
+        self.counts.add(other.counts);
         self.edges.table.add(other.edges.table);
         self.edges.rows.add(other.edges.rows);
         self.edges.rounds.add(other.edges.rounds);
@@ -91,9 +86,19 @@ fn random_lists() {
     });
     report(&totals, seed, lists, start.elapsed().as_secs_f64());
     assert!(totals.differences.is_empty(), "{}", totals.differences[0]);
+    let Counts {
+        numbers,
+        sets,
+        untils,
+        ..
+    } = totals.counts;
     for number in (0..=9).chain([14]) {
-        assert!(totals.numbers[number] > 0, "no call gave {number}");
+        assert!(numbers[number] > 0, "no call gave {number}");
+        // 1 is of fresh alone.
+        assert!(number == 1 || untils[number] > 0, "no until gave {number}");
     }
+    let share = 100 * untils.iter().sum::<u64>() / sets;
+    assert!((30..40).contains(&share), "{share} of 100 sets have until");
     let Edges {
         table,
         rows,
@@ -102,35 +107,44 @@ fn random_lists() {
     assert!(table.both() && rows.both() && rounds.both());
 }
 
+fn by_number(numbers: &[u64; NUMBERS]) -> String {
+    let mut text = format!("answered {}; refused", numbers[0]);
+    let given = numbers.iter().enumerate().skip(1);
+    for (number, count) in given.filter(|(_, &count)| count > 0) {
+        text += &format!(" {number}: {count}");
+    }
+    text
+}
+
 /// Written past the test runner's capture.
 fn report(totals: &Totals, seed: u64, lists: u64, seconds: f64) {
-    let made: u64 = totals.numbers.iter().sum();
-    let mut text = format!("seed {seed}: {lists} lists, {made} calls");
-    text += &format!(", {} questions after lists", totals.questions);
-    text += &format!(
-        ", {} differences, {seconds:.1} s\n",
-        totals.differences.len()
-    );
-    text += "answered";
-    for (number, count) in totals.numbers.iter().enumerate() {
-        match number {
-            0 => text += &format!(" {count}; refused"),
-            _ if *count == 0 => {}
-            _ => text += &format!(" {number}: {count}"),
-        }
-    }
+    let Counts {
+        numbers,
+        sets,
+        untils,
+        questions,
+        ..
+    } = totals.counts;
+    let made: u64 = numbers.iter().sum();
+    let differences = totals.differences.len();
+    let mut text =
+        format!("seed {seed}: {lists} lists, {made} calls, {questions} questions after lists");
+    text += &format!(", {differences} differences, {seconds:.1} s\n");
+    text += &by_number(&numbers);
     let edges = [
         ("N", totals.edges.table),
         ("an account's row limit", totals.edges.rows),
         ("an account's round limit", totals.edges.rounds),
     ];
     for (name, edge) in edges {
-        text += &format!(
-            "\nat {name}: {} answered, {} one past it",
-            edge.answered, edge.refused
-        );
+        let (answered, past) = (edge.answered, edge.refused);
+        text += &format!("\nat {name}: {answered} answered, {past} one past it");
     }
-    text += "\n";
+    let with_until: u64 = untils.iter().sum();
+    text += &format!(
+        "\nsets {sets}, with until {with_until}: {}\n",
+        by_number(&untils)
+    );
     stderr()
         .write_all(text.as_bytes())
         .expect("stderr takes text");

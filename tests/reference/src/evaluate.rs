@@ -3,6 +3,7 @@
 use crate::formula::{Fixpoint, Formula, Kind, Modality};
 use crate::refusal::Refusal;
 use crate::rows::Rows;
+use crate::runs;
 use crate::states::{PairSet, StateSet};
 
 /// What the registers and relations hold at the start of the call. The call
@@ -134,6 +135,13 @@ impl Value {
 
 /// "X a variable of its own": no byte names it.
 const OWN: u8 = 16;
+
+/// What a round of until makes: its set, and the states of f and of g.
+struct UntilRound {
+    value: StateSet,
+    keep: StateSet,
+    goal: StateSet,
+}
 
 struct Evaluator<'a> {
     held: Held<'a>,
@@ -290,8 +298,9 @@ impl<'a> Evaluator<'a> {
         Ok(value.into_states())
     }
 
-    /// Slip 1: "mu X (g or (f and diamond X))", "mu X (g or (f and (box X and
-    /// diamond true)))".
+    /// Slip 1: the value by runs. "Steps and rounds are those of the formula
+    /// written so": "mu X (g or (f and diamond X))", "mu X (g or (f and (box X
+    /// and diamond true)))". They must end at the same set.
     fn until(
         &mut self,
         modality: Modality,
@@ -301,49 +310,60 @@ impl<'a> Evaluator<'a> {
     ) -> Result<Value, Refusal> {
         let mut current = StateSet::constant(self.held.n, false);
         loop {
-            if self.rounds == self.limits.rounds {
-                return Err(Refusal::RoundsUsedUp);
-            }
-            self.rounds += 1;
-            self.open.push((OWN, current.clone()));
-            let value = self.until_body(modality, t, f, g, &current)?.into_states();
-            self.open.pop();
-            if value == current {
+            let round = self.until_round(modality, t, f, g, &current)?;
+            if round.value == current {
+                let relation = self.held.relations[t].as_ref().expect("filled by check 7");
+                let value = runs::until(modality, relation, &round.keep, &round.goal);
+                assert_eq!(value, current, "the rounds end at another set");
                 return Ok(Value::States(value));
             }
-            current = value;
+            current = round.value;
         }
     }
 
-    fn until_body(
+    /// A round with the current set of X, which is live.
+    fn until_round(
         &mut self,
         modality: Modality,
         t: usize,
         f: &Formula,
         g: &Formula,
         current: &StateSet,
-    ) -> Result<Value, Refusal> {
+    ) -> Result<UntilRound, Refusal> {
+        if self.rounds == self.limits.rounds {
+            return Err(Refusal::RoundsUsedUp);
+        }
+        self.rounds += 1;
+        self.open.push((OWN, current.clone()));
         let goal = self.value(g)?;
         self.waiting.push(goal);
         let keep = self.value(f)?;
         self.waiting.push(keep);
-        let x = Value::States(current.clone());
-        let on = match modality {
-            Modality::Diamond => self.diamond(t, x)?,
-            Modality::Box => {
-                let negated = self.not(x)?;
-                let escape = self.diamond(t, negated)?;
-                let all = self.not(escape)?;
-                self.waiting.push(all);
-                let some = self.diamond(t, self.constant(true))?;
-                let all = self.waiting.pop().expect("pushed above");
-                self.step(&[&all, &some], all.and(&some))?
-            }
-        };
+        let on = self.until_on(modality, t, Value::States(current.clone()))?;
         let keep = self.waiting.pop().expect("pushed above");
         let kept = self.step(&[&keep, &on], keep.and(&on))?;
         let goal = self.waiting.pop().expect("pushed above");
-        self.step(&[&goal, &kept], goal.or(&kept))
+        let value = self.step(&[&goal, &kept], goal.or(&kept))?;
+        self.open.pop();
+        Ok(UntilRound {
+            value: value.into_states(),
+            keep: keep.into_states(),
+            goal: goal.into_states(),
+        })
+    }
+
+    /// "diamond X", or "box X and diamond true".
+    fn until_on(&mut self, modality: Modality, t: usize, x: Value) -> Result<Value, Refusal> {
+        if modality == Modality::Diamond {
+            return self.diamond(t, x);
+        }
+        let negated = self.not(x)?;
+        let escape = self.diamond(t, negated)?;
+        let all = self.not(escape)?;
+        self.waiting.push(all);
+        let some = self.diamond(t, self.constant(true))?;
+        let all = self.waiting.pop().expect("pushed above");
+        self.step(&[&all, &some], all.and(&some))
     }
 
     /// "A step's need is the rows needed by its result and all that is live at

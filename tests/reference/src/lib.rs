@@ -16,4 +16,5 @@ pub mod random;
 pub mod records;
 pub mod refusal;
 pub mod rows;
+pub mod runs;
 pub mod states;

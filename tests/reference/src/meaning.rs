@@ -5,7 +5,8 @@
 
 use crate::evaluate::Held;
 use crate::formula::{Fixpoint, Formula, Modality};
-use crate::states::{state_count, PairSet, StateSet};
+use crate::runs;
+use crate::states::{state_count, StateSet};
 
 /// Variables and their sets.
 type Environment = Vec<(u8, StateSet)>;
@@ -24,6 +25,11 @@ fn meaning(held: Held, formula: &Formula, environment: &Environment) -> StateSet
                 meaning(held, body, &inner)
             };
             extreme_fixpoint(held.n, *fixpoint, transform)
+        }
+        Formula::Until(modality, t, f, g) => {
+            let relation = held.relations[*t].as_ref().expect("filled by check 7");
+            let (f, g) = (meaning(held, f, environment), meaning(held, g, environment));
+            runs::until(*modality, relation, &f, &g)
         }
         _ => {
             let parts: Vec<StateSet> = (formula.parts().into_iter())
@@ -67,45 +73,7 @@ fn holds(
                 Modality::Diamond => following.any(|s| parts[0].contains(s)),
             }
         }
-        // Slip 1, by runs alone.
-        Formula::Until(modality, t, ..) => {
-            let relation = held.relations[*t].as_ref().expect("filled by check 7");
-            let mut counted = counted_runs(held.n, relation, vec![state]).into_iter();
-            let passes = |run: Vec<usize>| passes(&parts[0], &parts[1], &run);
-            match modality {
-                Modality::Box => counted.all(passes),
-                Modality::Diamond => counted.any(passes),
-            }
-        }
-        Formula::NextBit(_) | Formula::Binder(..) => unreachable!(),
-    }
-}
-
-/// "A run counts if it has exactly 2^n steps, or is shorter and ends where no
-/// next state exists": all that begin with `run`.
-fn counted_runs(n: u32, relation: &PairSet, run: Vec<usize>) -> Vec<Vec<usize>> {
-    let last = run[run.len() - 1];
-    let next: Vec<usize> = (0..state_count(n))
-        .filter(|&state| relation.contains(last, state))
-        .collect();
-    if run.len() == state_count(n) + 1 || next.is_empty() {
-        return vec![run];
-    }
-    (next.into_iter())
-        .flat_map(|state| {
-            let mut longer = run.clone();
-            longer.push(state);
-            counted_runs(n, relation, longer)
-        })
-        .collect()
-}
-
-/// "It passes if g holds somewhere on it and f everywhere before the first
-/// such place."
-fn passes(f: &StateSet, g: &StateSet, run: &[usize]) -> bool {
-    match run.iter().position(|&state| g.contains(state)) {
-        Some(first) => run[..first].iter().all(|&state| f.contains(state)),
-        None => false,
+        Formula::NextBit(_) | Formula::Binder(..) | Formula::Until(..) => unreachable!(),
     }
 }
 

@@ -40,10 +40,6 @@ impl Function {
         self.levels.remove(position);
     }
 
-    fn is_constant(&self) -> bool {
-        self.levels.is_empty()
-    }
-
     /// The function or its complement, whichever is false at the first entry.
     fn or_complement(mut self) -> Self {
         if self.table[0] {
@@ -79,19 +75,21 @@ impl Rows {
     }
 
     /// Fixing the first `fixed` levels in all ways cuts the table into blocks,
-    /// one for each way. Fixing a level that is not listed changes nothing.
+    /// one for each way; those with one value only are constant. Fixing a level
+    /// that is not listed changes nothing.
     fn add_cofactors(&mut self, levels: &[u32], table: &[bool]) {
         for fixed in 0..=levels.len() {
             for block in table.chunks(table.len() >> fixed) {
-                self.add_function(Function::new(&levels[fixed..], block));
+                if block.contains(&!block[0]) {
+                    self.add_function(Function::new(&levels[fixed..], block));
+                }
             }
         }
     }
 
+    /// Adds a function that is not constant.
     fn add_function(&mut self, function: Function) {
-        if !function.is_constant() {
-            self.functions.insert(function.or_complement());
-        }
+        self.functions.insert(function.or_complement());
     }
 
     pub fn count(&self) -> usize {
