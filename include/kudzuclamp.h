@@ -8,18 +8,25 @@
  * STATES. A room has n state bits. A state is a number 0 to 2^n - 1; bit p has weight 2^p. A relation is a set of pairs of states (now, next).
  *
  * TABLE. The caller lends words; a table of N rows takes the first KUDZUCLAMP_WORDS(N) of them, and later ones are never changed. It has 32
- * registers, each empty or holding a set of states, 8 relations, each empty or holding a set of pairs, and a tally of rounds. Its words may be
- * copied, stored and lent again. A call on words that are no sound table is refused with KUDZUCLAMP_UNSOUND.
+ * registers, each empty or holding a set of states, and 8 relations, each empty or holding a set of pairs. Its words may be copied, stored and
+ * lent again. A call on words that are no sound table is refused with KUDZUCLAMP_UNSOUND.
+ *
+ * ACCOUNTS. Several callers may share a table under limits of their own. fresh and set are lent a list of 1 to 8 accounts; every set names its
+ * account by its place in the list, counted from 0. An answered fresh sets all tallies to 0; an answered set adds its rounds to its own account's
+ * tally and changes nothing else in the list. So, where each call gets the list as the one before left it, a tally counts the rounds of its
+ * account's answered sets since fresh. Where nothing is to be limited, one account whose limits are UINT32_MAX is enough.
  *
  * REFUSALS. Each function returns 0 where it answers, else the number of its refusal. Checks 1 to 7 run in the order of their numbers, 4 to 7
- * each over the whole formula; of 8 and 9 the one that evaluation meets first is returned. A refused call writes 0 into every answer.
- * KUDZUCLAMP_FULL and KUDZUCLAMP_SPENT keep registers, relations, the tally and the rows that these need; every other refusal keeps all words.
+ * each over the whole formula; KUDZUCLAMP_UNLISTED (14) is checked directly after 3, in fresh after 1. Of 8 and 9 the one that evaluation meets
+ * first is returned. A refused call writes 0 into every answer, and no refusal changes an account. KUDZUCLAMP_FULL and KUDZUCLAMP_SPENT keep
+ * registers, relations and the rows that these need; every other refusal keeps all words.
  *
  * STACK. A call takes less than 160 KB of it, and more than 80 KB only on words whose lookup chains are longer than 32 rows (counted on the
  * compiled code, not proved).
  *
- * POINTERS. A slice is a pointer and its number of elements. No pointer may be null, not even with 0 elements. Words that are not const, and each
- * answer, must overlap nothing else that is lent to the call, and no other thread may use them meanwhile; nor may one write the rest.
+ * POINTERS. A slice is a pointer and its number of elements. No pointer may be null, not even with 0 elements. Words that are not const, the
+ * accounts, and each answer must overlap nothing else that is lent to the call, and no other thread may use them meanwhile; nor may one write
+ * the rest.
  */
 #ifndef KUDZUCLAMP_H
 #define KUDZUCLAMP_H
@@ -38,21 +45,35 @@ extern "C" {
 #define KUDZUCLAMP_RELATIONS 8
 #define KUDZUCLAMP_WORDS(rows) (256 + 12 * (size_t)(rows))
 
-/* The greatest R of a set call. */
+/* The greatest R of a set call, which is also the value that a tally stays at once it would pass it. */
 #define KUDZUCLAMP_MAX_ROUNDS UINT32_MAX
+
+/* The longest list of accounts. */
+#define KUDZUCLAMP_MAX_ACCOUNTS 8
+
+/*
+ * An account. A set under it may need at most the lesser of N and `rows` rows, counted with all that registers and relations keep, and take at
+ * most the lesser of R and `rounds` rounds. `tally` counts rounds. Any values may be lent.
+ */
+struct kudzuclamp_account {
+    uint32_t rows;
+    uint32_t rounds;
+    uint32_t tally;
+};
 
 /* What a function returns. */
 enum kudzuclamp_number {
     KUDZUCLAMP_ANSWERED = 0,
-    KUDZUCLAMP_SIZES = 1,   /* fresh: n, N or the number of words out of range */
-    KUDZUCLAMP_UNSOUND = 2, /* the words are no sound table */
-    KUDZUCLAMP_RANGE = 3,   /* register, relation or state number out of range */
-    KUDZUCLAMP_SYNTAX = 4,  /* the bytes are no formula for this call */
-    KUDZUCLAMP_UNBOUND = 5, /* a variable is unbound, or bound inside itself */
-    KUDZUCLAMP_ODD = 6,     /* a variable is read below an odd number of NOTs */
-    KUDZUCLAMP_EMPTY = 7,   /* a register or relation named is empty */
-    KUDZUCLAMP_FULL = 8,    /* a step needs more than N rows */
-    KUDZUCLAMP_SPENT = 9    /* the rounds are used up */
+    KUDZUCLAMP_SIZES = 1,     /* fresh: n, N or the number of words out of range */
+    KUDZUCLAMP_UNSOUND = 2,   /* the words are no sound table */
+    KUDZUCLAMP_RANGE = 3,     /* register, relation or state number out of range */
+    KUDZUCLAMP_SYNTAX = 4,    /* the bytes are no formula for this call */
+    KUDZUCLAMP_UNBOUND = 5,   /* a variable is unbound, or bound inside itself */
+    KUDZUCLAMP_ODD = 6,       /* a variable is read below an odd number of NOTs */
+    KUDZUCLAMP_EMPTY = 7,     /* a register or relation named is empty */
+    KUDZUCLAMP_FULL = 8,      /* a step needs more rows than N, or than the account's row limit */
+    KUDZUCLAMP_SPENT = 9,     /* the rounds are used up: R's, or the account's */
+    KUDZUCLAMP_UNLISTED = 14  /* the list is not 1 to 8 accounts long, or has no account at that place */
 };
 
 /*
@@ -83,10 +104,11 @@ enum kudzuclamp_number {
  */
 
 /*
- * Makes an empty table of n bits (1 to 16) and `rows` rows (1 to 60,000) of any words, at least KUDZUCLAMP_WORDS(rows). It returns 0 or
- * KUDZUCLAMP_SIZES.
+ * Makes an empty table of n bits (1 to 16) and `rows` rows (1 to 60,000) of any words, at least KUDZUCLAMP_WORDS(rows), and sets the tallies of
+ * all accounts lent to 0. It returns 0, KUDZUCLAMP_SIZES or KUDZUCLAMP_UNLISTED.
  */
-uint32_t kudzuclamp_fresh(uint32_t *words, size_t words_len, uint32_t n, uint32_t rows);
+uint32_t kudzuclamp_fresh(uint32_t *words, size_t words_len, struct kudzuclamp_account *accounts, size_t accounts_len, uint32_t n,
+                          uint32_t rows);
 
 /*
  * Relation t (0 to 7) then holds exactly the pairs of states in which the formula holds. It returns 0, 2, 3, 4 or 8.
@@ -94,13 +116,14 @@ uint32_t kudzuclamp_fresh(uint32_t *words, size_t words_len, uint32_t n, uint32_
 uint32_t kudzuclamp_relation(uint32_t *words, size_t words_len, uint32_t t, const uint8_t *bytes, size_t bytes_len);
 
 /*
- * Register r (0 to 31) then holds exactly the states in which the formula holds. Each evaluation of a binder's body is one round, and so is one of
- * until's f and g; a round beyond `most` is refused. With one binder or until in the formula 2^n + 1 rounds are enough. *node is the set's node
- * number: two registers hold the same set exactly where their node numbers are equal; 0 is no state, 1 is every state. *rounds is how many rounds
- * were made. It returns 0 or 2 to 9.
+ * Register r (0 to 31) then holds exactly the states in which the formula holds, found under the limits of the account at `place` (0 to
+ * accounts_len - 1), whose tally grows by the rounds made. Each evaluation of a binder's body is one round, and so is one of until's f and g; a
+ * round beyond `most` (R) or beyond the account's round limit is refused. With one binder or until in the formula 2^n + 1 rounds are enough.
+ * *node is the set's node number: two registers hold the same set exactly where their node numbers are equal; 0 is no state, 1 is every state.
+ * *rounds is how many rounds were made. It returns 0, 2 to 9 or KUDZUCLAMP_UNLISTED.
  */
-uint32_t kudzuclamp_set(uint32_t *words, size_t words_len, uint32_t r, uint32_t most, const uint8_t *bytes, size_t bytes_len, uint32_t *node,
-                        uint32_t *rounds);
+uint32_t kudzuclamp_set(uint32_t *words, size_t words_len, struct kudzuclamp_account *accounts, size_t accounts_len, uint32_t place, uint32_t r,
+                        uint32_t most, const uint8_t *bytes, size_t bytes_len, uint32_t *node, uint32_t *rounds);
 
 /*
  * Empties register r; an empty one stays so. It returns 0, 2 or 3.
@@ -128,11 +151,6 @@ uint32_t kudzuclamp_member(const uint32_t *words, size_t words_len, uint32_t r, 
 uint32_t kudzuclamp_count(const uint32_t *words, size_t words_len, uint32_t r, uint32_t *value);
 
 /*
- * *value is the rounds of all answered set calls since fresh, which stays at 4,294,967,295 once it would pass that. It returns 0 or 2.
- */
-uint32_t kudzuclamp_tally(const uint32_t *words, size_t words_len, uint32_t *value);
-
-/*
  * Checks formula bytes for a set call, or for a relation call where `relation` is not 0, and takes no step. It returns 2, or the number of 4 to 7
  * that the call's own checks of the formula give, or 0.
  */
@@ -144,9 +162,9 @@ uint32_t kudzuclamp_check(const uint32_t *words, size_t words_len, uint32_t rela
 
 /*
  * Plays the calls of all records in `bytes`, in the format of the program `roomrules` (two-byte length, version 1, an operation, its arguments), one
- * after the other. Record k, counted from 0, leaves four words in the list from 4k on: its refusal's number or 0, the node number of an answered set,
- * the rounds of an answered set, and the value that roomrules prints. *count is how many records there were. It returns 0, also where calls among
- * the records are refused, or KUDZUCLAMP_PLAY_SHORT or KUDZUCLAMP_PLAY_UNREADABLE.
+ * after the other; sets are made under one account with the largest limits. Record k, counted from 0, leaves four words in the list from 4k on: its
+ * refusal's number or 0, the node number of an answered set, the rounds of an answered set, and the value that roomrules prints. *count is how many
+ * records there were. It returns 0, also where calls among the records are refused, or KUDZUCLAMP_PLAY_SHORT or KUDZUCLAMP_PLAY_UNREADABLE.
  */
 uint32_t kudzuclamp_play(uint32_t *words, size_t words_len, const uint8_t *bytes, size_t bytes_len, uint32_t *list, size_t list_len, size_t *count);
 

@@ -9,9 +9,10 @@
 #include <random>
 
 typedef std::vector<u32> Words;
+static Account account;
 static Words table(u32 bits, u32 rows) {
     Words w(256 + 12 * (size_t)rows, 0);
-    if (kudzuclamp_fresh(w.data(), w.size(), bits, rows)) exit(1);
+    if (kudzuclamp_fresh(w.data(), w.size(), &account, 1, bits, rows)) exit(1);
     return w;
 }
 
@@ -23,7 +24,7 @@ static std::vector<uint8_t> framed(std::vector<uint8_t> f) {
 
 static void set(Words &w, u32 r, const std::vector<uint8_t> &f) {
     u32 node, rounds;
-    if (kudzuclamp_set(w.data(), w.size(), r, 100, f.data(), f.size(), &node, &rounds)) { fprintf(stderr, "set was refused\n"); exit(1); }
+    if (kudzuclamp_set(w.data(), w.size(), &account, 1, 0, r, 100, f.data(), f.size(), &node, &rounds)) { fprintf(stderr, "set was refused\n"); exit(1); }
 }
 
 // A small table: a relation (next 0 is bit 1) and three sets.

@@ -2,10 +2,14 @@
 #pragma once
 #include <cstddef>
 #include <cstdint>
+struct Account {
+    uint32_t rows = UINT32_MAX, rounds = UINT32_MAX, tally = 0;
+};
 extern "C" {
-uint32_t kudzuclamp_fresh(uint32_t *words, size_t size, uint32_t n, uint32_t rows);
+uint32_t kudzuclamp_fresh(uint32_t *words, size_t size, Account *accounts, size_t count, uint32_t n, uint32_t rows);
 uint32_t kudzuclamp_relation(uint32_t *words, size_t size, uint32_t t, const uint8_t *bytes, size_t length);
-uint32_t kudzuclamp_set(uint32_t *words, size_t size, uint32_t r, uint32_t most, const uint8_t *bytes, size_t length, uint32_t *node, uint32_t *rounds);
+uint32_t kudzuclamp_set(uint32_t *words, size_t size, Account *accounts, size_t count, uint32_t place, uint32_t r, uint32_t most, const uint8_t *bytes,
+                        size_t length, uint32_t *node, uint32_t *rounds);
 uint32_t kudzuclamp_clear(uint32_t *words, size_t size, uint32_t r);
 uint32_t kudzuclamp_collect(uint32_t *words, size_t size, uint32_t *kept);
 uint32_t kudzuclamp_count(const uint32_t *words, size_t size, uint32_t r, uint32_t *states);

@@ -1,7 +1,8 @@
 /*
  * A room with a microphone (bit 0), an echo return (bit 1) and a monitor loudspeaker (bit 2), each on or off. It howls where all three are on.
  * A press turns one of them over. By the rules, a press that would join the third to the other two does nothing; the rules as first written
- * forget this for the monitor. Can presses, from all off, make the room howl?
+ * forget this for the monitor. Can presses, from all off, make the room howl? A tablet and a phone share the table; the phone may take fewer rows
+ * and rounds.
  */
 #include "kudzuclamp.h"
 
@@ -10,6 +11,7 @@
 
 enum { MICROPHONE, ECHO, MONITOR, BITS };
 enum { ROWS = 100, ROUNDS = 9 };
+enum { TABLET, PHONE, ACCOUNTS };
 enum { FIRST_RULES, MENDED_RULES };
 enum { HOWL, FIRST_DANGER, MENDED_DANGER, MENDED_SAFE, NOT_IN_DANGER };
 
@@ -51,6 +53,10 @@ static const uint8_t not_in_danger[] = {NOT, REGISTER(MENDED_DANGER)};
 
 static uint32_t words[KUDZUCLAMP_WORDS(ROWS)];
 static const size_t words_len = sizeof words / sizeof *words;
+static struct kudzuclamp_account accounts[ACCOUNTS] = {
+    [TABLET] = {.rows = UINT32_MAX, .rounds = UINT32_MAX},
+    [PHONE] = {.rows = 50, .rounds = 4},
+};
 
 /* Ends the program where a call that must be answered is refused. */
 static void must(const char *what, uint32_t number)
@@ -81,12 +87,12 @@ static void relation(const char *what, uint32_t t, const uint8_t *formula, size_
     printf("%s: loaded\n", what);
 }
 
-static void set(const char *what, uint32_t r, uint32_t most, const uint8_t *formula, size_t count)
+static void set(const char *what, uint32_t place, uint32_t r, uint32_t most, const uint8_t *formula, size_t count)
 {
     uint8_t bytes[1026];
     size_t length = framed(bytes, formula, count);
     uint32_t node, rounds, states, all_off;
-    uint32_t number = kudzuclamp_set(words, words_len, r, most, bytes, length, &node, &rounds);
+    uint32_t number = kudzuclamp_set(words, words_len, accounts, ACCOUNTS, place, r, most, bytes, length, &node, &rounds);
     if (number != KUDZUCLAMP_ANSWERED) {
         printf("%s: refused with %u\n", what, (unsigned)number);
         return;
@@ -98,26 +104,27 @@ static void set(const char *what, uint32_t r, uint32_t most, const uint8_t *form
 
 int main(void)
 {
-    uint32_t safe, complement, kept, rows, tally;
+    uint32_t safe, complement, kept, rows;
 
-    must("fresh", kudzuclamp_fresh(words, words_len, BITS, ROWS));
+    must("fresh", kudzuclamp_fresh(words, words_len, accounts, ACCOUNTS, BITS, ROWS));
     relation("first rules", FIRST_RULES, first_rules, sizeof first_rules);
     relation("mended rules", MENDED_RULES, mended_rules, sizeof mended_rules);
-    set("howl", HOWL, ROUNDS, howl, sizeof howl);
-    set("can howl by the first rules", FIRST_DANGER, ROUNDS, first_danger, sizeof first_danger);
-    set("can howl by the mended rules", MENDED_DANGER, ROUNDS, mended_danger, sizeof mended_danger);
-    set("never howls by the mended rules", MENDED_SAFE, ROUNDS, mended_safe, sizeof mended_safe);
-    set("not in danger by the mended rules", NOT_IN_DANGER, ROUNDS, not_in_danger, sizeof not_in_danger);
+    set("howl", TABLET, HOWL, ROUNDS, howl, sizeof howl);
+    set("can howl by the first rules", TABLET, FIRST_DANGER, ROUNDS, first_danger, sizeof first_danger);
+    set("can howl by the mended rules", TABLET, MENDED_DANGER, ROUNDS, mended_danger, sizeof mended_danger);
+    set("never howls by the mended rules", PHONE, MENDED_SAFE, ROUNDS, mended_safe, sizeof mended_safe);
+    set("not in danger by the mended rules", PHONE, NOT_IN_DANGER, ROUNDS, not_in_danger, sizeof not_in_danger);
 
     must("node", kudzuclamp_node(words, words_len, MENDED_SAFE, &safe));
     must("node", kudzuclamp_node(words, words_len, NOT_IN_DANGER, &complement));
     printf("the last two sets: %s\n", safe == complement ? "the same" : "different");
 
-    set("can howl by the first rules, in 2 rounds", FIRST_DANGER, 2, first_danger, sizeof first_danger);
+    set("can howl by the first rules, in 2 rounds", TABLET, FIRST_DANGER, 2, first_danger, sizeof first_danger);
+    set("can howl by the first rules, on the phone", PHONE, FIRST_DANGER, ROUNDS, first_danger, sizeof first_danger);
+    set("howl, under an account that is not lent", ACCOUNTS, HOWL, ROUNDS, howl, sizeof howl);
     must("count", kudzuclamp_count(words, words_len, FIRST_DANGER, &kept));
-    printf("the set kept by the refused call: %u states\n", (unsigned)kept);
+    printf("the set kept by the refused calls: %u states\n", (unsigned)kept);
     must("collect", kudzuclamp_collect(words, words_len, &rows));
-    must("tally", kudzuclamp_tally(words, words_len, &tally));
-    printf("rows needed: %u; rounds in all: %u\n", (unsigned)rows, (unsigned)tally);
+    printf("rows needed: %u; rounds: tablet %u, phone %u\n", (unsigned)rows, (unsigned)accounts[TABLET].tally, (unsigned)accounts[PHONE].tally);
     return EXIT_SUCCESS;
 }

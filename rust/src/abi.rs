@@ -3,12 +3,21 @@
 //! The entry points ask of their caller only what a Rust reference has: a pointer that is aligned
 //! and not null, to as many elements as the length says, and mutable memory that overlaps nothing
 //! else. Their contracts have no other precondition: any words, numbers and bytes are answered.
-use crate::Refusal;
+use crate::{Account, Refusal};
 
 /// The declarations of `include/kudzuclamp.h`: a slice is a pointer and then a length.
 mod library {
+    use crate::Account;
+
     extern "C" {
-        pub fn kudzuclamp_fresh(words: *mut u32, words_len: usize, n: u32, rows: u32) -> u32;
+        pub fn kudzuclamp_fresh(
+            words: *mut u32,
+            words_len: usize,
+            accounts: *mut Account,
+            accounts_len: usize,
+            n: u32,
+            rows: u32,
+        ) -> u32;
         pub fn kudzuclamp_relation(
             words: *mut u32,
             words_len: usize,
@@ -19,6 +28,9 @@ mod library {
         pub fn kudzuclamp_set(
             words: *mut u32,
             words_len: usize,
+            accounts: *mut Account,
+            accounts_len: usize,
+            place: u32,
             r: u32,
             most: u32,
             bytes: *const u8,
@@ -42,7 +54,6 @@ mod library {
             r: u32,
             value: *mut u32,
         ) -> u32;
-        pub fn kudzuclamp_tally(words: *const u32, words_len: usize, value: *mut u32) -> u32;
         pub fn kudzuclamp_check(
             words: *const u32,
             words_len: usize,
@@ -73,9 +84,23 @@ fn answered<T>(number: u32, answer: T) -> Result<T, Refusal> {
     }
 }
 
-pub fn fresh(words: &mut [u32], n: u32, rows: u32) -> Result<(), Refusal> {
-    // SAFETY: pointer and length are those of a mutable slice.
-    let number = unsafe { library::kudzuclamp_fresh(words.as_mut_ptr(), words.len(), n, rows) };
+pub fn fresh(
+    words: &mut [u32],
+    accounts: &mut [Account],
+    n: u32,
+    rows: u32,
+) -> Result<(), Refusal> {
+    // SAFETY: pointers and lengths are those of mutable slices, which overlap nothing.
+    let number = unsafe {
+        library::kudzuclamp_fresh(
+            words.as_mut_ptr(),
+            words.len(),
+            accounts.as_mut_ptr(),
+            accounts.len(),
+            n,
+            rows,
+        )
+    };
     answered(number, ())
 }
 
@@ -94,13 +119,24 @@ pub fn relation(words: &mut [u32], t: u32, bytes: &[u8]) -> Result<(), Refusal> 
 }
 
 /// The node number and the rounds.
-pub fn set(words: &mut [u32], r: u32, most: u32, bytes: &[u8]) -> Result<(u32, u32), Refusal> {
+pub fn set(
+    words: &mut [u32],
+    accounts: &mut [Account],
+    place: u32,
+    r: u32,
+    most: u32,
+    bytes: &[u8],
+) -> Result<(u32, u32), Refusal> {
     let (mut node, mut rounds) = (0, 0);
-    // SAFETY: as in `relation`; the last two pointers are two locals'.
+    // SAFETY: pointers and lengths are those of slices; the mutable ones overlap nothing. The last
+    // two pointers are two locals'.
     let number = unsafe {
         library::kudzuclamp_set(
             words.as_mut_ptr(),
             words.len(),
+            accounts.as_mut_ptr(),
+            accounts.len(),
+            place,
             r,
             most,
             bytes.as_ptr(),
@@ -144,13 +180,6 @@ pub fn count(words: &[u32], r: u32) -> Result<u32, Refusal> {
     let mut value = 0;
     // SAFETY: as in `node`.
     let number = unsafe { library::kudzuclamp_count(words.as_ptr(), words.len(), r, &mut value) };
-    answered(number, value)
-}
-
-pub fn tally(words: &[u32]) -> Result<u32, Refusal> {
-    let mut value = 0;
-    // SAFETY: as in `node`.
-    let number = unsafe { library::kudzuclamp_tally(words.as_ptr(), words.len(), &mut value) };
     answered(number, value)
 }
 

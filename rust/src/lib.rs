@@ -6,39 +6,45 @@
 //! the microphone, and turns the echo on only while the microphone is open.
 //!
 //! ```
-//! use kudzuclamp::{Formula, Refusal, Table};
+//! use kudzuclamp::{Account, Formula, Refusal, Table};
 //!
 //! # fn main() -> Result<(), Refusal> {
 //! let (open, echo) = (Formula::current(0), Formula::current(1));
 //! let (next_open, next_echo) = (Formula::next(0), Formula::next(1));
-//! let mut room = Table::new(2, 100)?;
+//! let mut accounts = [Account::unlimited()];
+//! let mut room = Table::new(&mut accounts, 2, 100)?;
 //! // Next: the microphone is open, and the echo is on exactly if the microphone is open now.
 //! let same = (next_echo.clone() & open.clone()) | (!next_echo & !open.clone());
 //! room.relation(0, next_open & same)?;
 //!
 //! // Register 0: the states from which presses lead to both at once.
 //! let howl = open & echo;
-//! room.set(0, 1_000, Formula::mu(0, howl | Formula::diamond(0, Formula::var(0))))?;
+//! let reach = Formula::mu(0, howl | Formula::diamond(0, Formula::var(0)));
+//! room.set(&mut accounts, 0, 0, 1_000, reach)?;
 //! assert_eq!(room.count(0)?, 4);
 //!
 //! // Register 1: the states from which they never do.
-//! room.set(1, 1_000, !Formula::register(0))?;
+//! room.set(&mut accounts, 0, 1, 1_000, !Formula::register(0))?;
 //! assert_eq!(room.node(1)?, 0);
 //! assert!(!room.member(1, 0)?);
 //! # Ok(())
 //! # }
 //! ```
 //!
+//! Callers may share a table under limits of their own: see [`Account`].
+//!
 //! The static library is made by `rt staticlib exports` in the repository's root.
 #![deny(missing_docs, unsafe_code)]
 
 #[allow(unsafe_code)]
 mod abi;
+mod account;
 mod formula;
 mod play;
 mod refusal;
 mod table;
 
+pub use account::{Account, MAX_ACCOUNTS};
 pub use formula::Formula;
 pub use play::{play, Outcome, Unreadable};
 pub use refusal::Refusal;

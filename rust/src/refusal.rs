@@ -4,8 +4,8 @@ use std::fmt;
 
 /// Why a call is refused, with document 01's numbers.
 ///
-/// Every refusal from 1 to 7 keeps all words. `Full` and `Spent` keep registers, relations, the
-/// tally and the rows that they need.
+/// `Full` and `Spent` keep registers, relations and the rows that they need; every other refusal
+/// keeps all words. No refusal changes an account.
 ///
 /// ```
 /// use kudzuclamp::Refusal;
@@ -29,15 +29,18 @@ pub enum Refusal {
     Odd = 6,
     /// 7: a register or relation named is empty.
     Empty = 7,
-    /// 8: a step needs more rows than the table has.
+    /// 8: a step needs more rows than the table has, or than the account may use.
     Full = 8,
-    /// 9: the rounds are used up.
+    /// 9: the rounds are used up: those of the call, or those of the account.
     Spent = 9,
+    /// 14: the list is not 1 to 8 accounts long, or has no account at the place named. Checked
+    /// directly after 3, in fresh after 1.
+    Unlisted = 14,
 }
 
 impl Refusal {
     /// All refusals, in the order of their numbers.
-    pub const ALL: [Refusal; 9] = [
+    pub const ALL: [Refusal; 10] = [
         Refusal::Sizes,
         Refusal::Unsound,
         Refusal::Range,
@@ -47,9 +50,10 @@ impl Refusal {
         Refusal::Empty,
         Refusal::Full,
         Refusal::Spent,
+        Refusal::Unlisted,
     ];
 
-    /// The number, 1 to 9.
+    /// The number, 1 to 9 or 14.
     pub const fn number(self) -> u32 {
         self as u32
     }
@@ -81,8 +85,11 @@ impl fmt::Display for Refusal {
             Refusal::Unbound => "a variable is unbound, or bound inside itself",
             Refusal::Odd => "a variable is read below an odd number of NOTs",
             Refusal::Empty => "a register or relation named is empty",
-            Refusal::Full => "a step needs more rows than the table has",
+            Refusal::Full => "a step needs more rows than the table has or the account may use",
             Refusal::Spent => "the rounds are used up",
+            Refusal::Unlisted => {
+                "the list is not 1 to 8 accounts long, or has no account at that place"
+            }
         })
     }
 }
@@ -94,18 +101,20 @@ mod tests {
     use super::Refusal;
 
     #[test]
-    fn numbers_are_one_to_nine() {
-        for (i, refusal) in Refusal::ALL.into_iter().enumerate() {
-            assert_eq!(refusal.number() as usize, i + 1);
-            assert_eq!(Refusal::from_number(refusal.number()), Some(refusal));
+    fn numbers_are_one_to_nine_and_fourteen() {
+        let numbers = Refusal::ALL.map(Refusal::number);
+        assert_eq!(numbers, [1, 2, 3, 4, 5, 6, 7, 8, 9, 14]);
+        for number in 0..20 {
+            let refusal = Refusal::from_number(number);
+            assert_eq!(refusal.is_some(), numbers.contains(&number));
+            assert!(refusal.is_none_or(|refusal| refusal.number() == number));
         }
-        assert_eq!(Refusal::from_number(10), None);
     }
 
     #[test]
     fn texts_differ() {
         let texts: std::collections::HashSet<String> =
             Refusal::ALL.iter().map(Refusal::to_string).collect();
-        assert_eq!(texts.len(), 9);
+        assert_eq!(texts.len(), Refusal::ALL.len());
     }
 }

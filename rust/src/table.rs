@@ -1,5 +1,5 @@
 //! The table over lent or owned words.
-use crate::{abi, Refusal};
+use crate::{abi, Account, Refusal};
 
 /// The greatest number of state bits of a table.
 pub const MAX_BITS: u32 = 16;
@@ -29,26 +29,31 @@ pub struct Stored {
     pub rounds: u32,
 }
 
-/// A table of decision-diagram rows with 32 registers, each empty or holding a set of states, 8
-/// relations, each empty or holding a set of pairs of states, and a tally of rounds.
+/// A table of decision-diagram rows with 32 registers, each empty or holding a set of states, and 8
+/// relations, each empty or holding a set of pairs of states.
 ///
 /// The words are owned (`Table<Vec<u32>>`, from [`Table::new`]) or borrowed (`Table<&mut [u32]>`,
 /// from [`Table::fresh`]). Every call checks first that they are a sound table and refuses with
 /// [`Refusal::Unsound`] where they are none, so no words, numbers or bytes make a call misbehave.
 ///
+/// The accounts, under which sets are made, are not the table's: they are lent at each call that
+/// takes them (see [`Account`]).
+///
 /// ```
-/// use kudzuclamp::{Formula, Refusal, Table};
+/// use kudzuclamp::{Account, Formula, Refusal, Table};
 ///
 /// # fn main() -> Result<(), Refusal> {
 /// // One bit, the echo switch; each press turns it over.
-/// let mut table = Table::new(1, 100)?;
+/// let mut accounts = [Account::unlimited()];
+/// let mut table = Table::new(&mut accounts, 1, 100)?;
 /// let (before, after) = (Formula::current(0), Formula::next(0));
 /// table.relation(0, (after.clone() & !before.clone()) | (!after & before))?;
 ///
 /// // From which states can presses turn the echo on?
 /// let press = Formula::diamond(0, Formula::var(0));
-/// let stored = table.set(0, 100, Formula::mu(0, Formula::current(0) | press))?;
-/// assert_eq!(stored.rounds, 3);
+/// let reach = Formula::mu(0, Formula::current(0) | press);
+/// let stored = table.set(&mut accounts, 0, 0, 100, reach)?;
+/// assert_eq!((stored.rounds, accounts[0].tally), (3, 3));
 /// assert_eq!(table.count(0)?, 2);
 /// # Ok(())
 /// # }
@@ -59,40 +64,51 @@ pub struct Table<W> {
 }
 
 impl Table<Vec<u32>> {
-    /// An empty table of n bits (1 to 16) and so many rows (1 to 60,000) over words of its own;
-    /// refused with [`Refusal::Sizes`].
+    /// An empty table of n bits (1 to 16) and so many rows (1 to 60,000) over words of its own; the
+    /// tallies of the accounts are then 0. Refused with [`Refusal::Sizes`], or with
+    /// [`Refusal::Unlisted`] where the list is not 1 to 8 accounts long.
     ///
     /// ```
-    /// use kudzuclamp::{Refusal, Table};
+    /// use kudzuclamp::{Account, Refusal, Table};
     ///
-    /// assert!(Table::new(16, 60_000).is_ok());
-    /// assert_eq!(Table::new(17, 60_000), Err(Refusal::Sizes));
+    /// let mut accounts = [Account::unlimited(); 3];
+    /// assert!(Table::new(&mut accounts, 16, 60_000).is_ok());
+    /// assert_eq!(Table::new(&mut accounts, 17, 60_000), Err(Refusal::Sizes));
+    /// assert_eq!(Table::new(&mut [], 16, 60_000), Err(Refusal::Unlisted));
     /// ```
-    pub fn new(n: u32, rows: u32) -> Result<Table<Vec<u32>>, Refusal> {
-        Table::fresh(vec![0; words_for(rows.min(MAX_ROWS))], n, rows)
+    pub fn new(accounts: &mut [Account], n: u32, rows: u32) -> Result<Table<Vec<u32>>, Refusal> {
+        let words = vec![0; words_for(rows.min(MAX_ROWS))];
+        Table::fresh(words, accounts, n, rows)
     }
 }
 
 impl<W: AsRef<[u32]> + AsMut<[u32]>> Table<W> {
     /// An empty table of n bits and so many rows in any words, at least [`words_for`] the rows;
-    /// later words are never changed. Refused with [`Refusal::Sizes`], all words kept.
+    /// later words are never changed. The tallies of the accounts are then 0. Refused with
+    /// [`Refusal::Sizes`] or [`Refusal::Unlisted`], all words and accounts kept.
     ///
     /// ```
-    /// use kudzuclamp::{words_for, Table};
+    /// use kudzuclamp::{words_for, Account, Refusal, Table};
     ///
     /// let mut words = [7; words_for(10)];
-    /// let table = Table::fresh(&mut words[..], 2, 10).unwrap();
-    /// assert_eq!(table.tally(), Ok(0));
+    /// let mut accounts = [Account::unlimited()];
+    /// let table = Table::fresh(&mut words[..], &mut accounts, 2, 10).unwrap();
+    /// assert_eq!(table.count(0), Err(Refusal::Empty));
     /// ```
-    pub fn fresh(words: W, n: u32, rows: u32) -> Result<Table<W>, Refusal> {
+    pub fn fresh(
+        words: W,
+        accounts: &mut [Account],
+        n: u32,
+        rows: u32,
+    ) -> Result<Table<W>, Refusal> {
         let mut table = Table { words };
-        table.restart(n, rows)?;
+        table.restart(accounts, n, rows)?;
         Ok(table)
     }
 
     /// Makes an empty table of the same words anew, as [`Table::fresh`].
-    pub fn restart(&mut self, n: u32, rows: u32) -> Result<(), Refusal> {
-        abi::fresh(self.words.as_mut(), n, rows)
+    pub fn restart(&mut self, accounts: &mut [Account], n: u32, rows: u32) -> Result<(), Refusal> {
+        abi::fresh(self.words.as_mut(), accounts, n, rows)
     }
 
     /// Relation t, from 0 to 7, then holds exactly the pairs of states in which the formula holds.
@@ -102,22 +118,39 @@ impl<W: AsRef<[u32]> + AsMut<[u32]>> Table<W> {
     }
 
     /// Register r, from 0 to 31, then holds exactly the states in which the formula holds, found in
-    /// at most so many rounds.
+    /// at most so many rounds and under the limits of the account at a place of the list. The rounds
+    /// are added to that account's tally; nothing else in the list is changed, and nothing at all
+    /// where the call is refused.
     ///
     /// The formula is a [`Formula`](crate::Formula), or framed bytes from elsewhere.
     ///
     /// ```
-    /// use kudzuclamp::{Formula, Refusal, Stored, Table};
+    /// use kudzuclamp::{Account, Formula, Refusal, Stored, Table};
     ///
     /// # fn main() -> Result<(), Refusal> {
-    /// let mut table = Table::new(1, 100)?;
-    /// assert_eq!(table.set(0, 1, [0, 3, 1, 0x80, 0x30])?, Stored { node: 1, rounds: 1 });
-    /// assert_eq!(table.set(1, 0, Formula::nu(0, Formula::var(0))), Err(Refusal::Spent));
+    /// let mut accounts = [Account::unlimited()];
+    /// let mut table = Table::new(&mut accounts, 1, 100)?;
+    /// let all = table.set(&mut accounts, 0, 0, 1, [0, 3, 1, 0x80, 0x30])?;
+    /// assert_eq!(all, Stored { node: 1, rounds: 1 });
+    /// let again = Formula::nu(0, Formula::var(0));
+    /// assert_eq!(table.set(&mut accounts, 0, 1, 0, &again), Err(Refusal::Spent));
+    /// assert_eq!(table.set(&mut accounts, 1, 1, 9, &again), Err(Refusal::Unlisted));
+    /// assert_eq!(accounts[0].tally, 1);
     /// # Ok(())
     /// # }
     /// ```
-    pub fn set(&mut self, r: u32, most: u32, formula: impl AsRef<[u8]>) -> Result<Stored, Refusal> {
-        let (node, rounds) = abi::set(self.words.as_mut(), r, most, formula.as_ref())?;
+    pub fn set(
+        &mut self,
+        accounts: &mut [Account],
+        place: usize,
+        r: u32,
+        most: u32,
+        formula: impl AsRef<[u8]>,
+    ) -> Result<Stored, Refusal> {
+        // No list that is taken has a place that does not fit.
+        let place = u32::try_from(place).unwrap_or(u32::MAX);
+        let bytes = formula.as_ref();
+        let (node, rounds) = abi::set(self.words.as_mut(), accounts, place, r, most, bytes)?;
         Ok(Stored { node, rounds })
     }
 
@@ -143,11 +176,12 @@ impl<W: AsRef<[u32]>> Table<W> {
     /// where they are no sound table.
     ///
     /// ```
-    /// use kudzuclamp::{Formula, Refusal, Table};
+    /// use kudzuclamp::{Account, Formula, Refusal, Table};
     ///
     /// # fn main() -> Result<(), Refusal> {
-    /// let mut table = Table::new(2, 10)?;
-    /// table.set(5, 0, Formula::current(1))?;
+    /// let mut accounts = [Account::unlimited()];
+    /// let mut table = Table::new(&mut accounts, 2, 10)?;
+    /// table.set(&mut accounts, 0, 5, 0, Formula::current(1))?;
     /// let words = table.into_words();
     /// assert_eq!(Table::over(words)?.count(5)?, 2);
     /// assert_eq!(Table::over(vec![0; 400]), Err(Refusal::Unsound));
@@ -156,8 +190,10 @@ impl<W: AsRef<[u32]>> Table<W> {
     /// ```
     pub fn over(words: W) -> Result<Table<W>, Refusal> {
         let table = Table { words };
-        table.tally()?;
-        Ok(table)
+        match table.node(0) {
+            Err(Refusal::Unsound) => Err(Refusal::Unsound),
+            _ => Ok(table),
+        }
     }
 
     /// The node number in register r, as the call that last set it gave it.
@@ -175,20 +211,14 @@ impl<W: AsRef<[u32]>> Table<W> {
         abi::count(self.words.as_ref(), r)
     }
 
-    /// The rounds of all answered set calls since fresh, which stays at 4,294,967,295 once it would
-    /// pass that.
-    pub fn tally(&self) -> Result<u32, Refusal> {
-        abi::tally(self.words.as_ref())
-    }
-
     /// The checks that a set call makes of its formula, [`Refusal::Syntax`] to [`Refusal::Empty`];
     /// no step is taken.
     ///
     /// ```
-    /// use kudzuclamp::{Formula, Refusal, Table};
+    /// use kudzuclamp::{Account, Formula, Refusal, Table};
     ///
     /// # fn main() -> Result<(), Refusal> {
-    /// let table = Table::new(1, 100)?;
+    /// let table = Table::new(&mut [Account::unlimited()], 1, 100)?;
     /// assert_eq!(table.check_set(Formula::mu(0, !Formula::var(0))), Err(Refusal::Odd));
     /// assert_eq!(table.check_set(Formula::register(9)), Err(Refusal::Empty));
     /// # Ok(())

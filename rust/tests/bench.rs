@@ -1,9 +1,23 @@
 //! Document 01's bench and example, through the library.
-use kudzuclamp::{words_for, Formula, Refusal, Stored, Table, MAX_ROWS};
+use kudzuclamp::{words_for, Account, Formula, Refusal, Stored, Table, MAX_ROWS};
 
 /// A table of n bits and so many rows, all empty.
+fn new(n: u32, rows: u32) -> Result<Table<Vec<u32>>, Refusal> {
+    Table::new(&mut [Account::unlimited()], n, rows)
+}
+
 fn table(n: u32, rows: u32) -> Table<Vec<u32>> {
-    Table::new(n, rows).unwrap()
+    new(n, rows).unwrap()
+}
+
+/// A set under an account with the largest limits.
+fn set(
+    t: &mut Table<Vec<u32>>,
+    r: u32,
+    most: u32,
+    formula: impl AsRef<[u8]>,
+) -> Result<Stored, Refusal> {
+    t.set(&mut [Account::unlimited()], 0, r, most, formula)
 }
 
 /// n = 1, N = 100, with relation 0 as the example has it: each step turns the bit over.
@@ -25,18 +39,19 @@ fn reach() -> Formula {
 #[test]
 fn the_set_of_the_example() {
     let mut t = example();
-    assert_eq!(t.set(0, 100, reach()), Ok(Stored { node: 1, rounds: 3 }));
+    assert_eq!(
+        set(&mut t, 0, 100, reach()),
+        Ok(Stored { node: 1, rounds: 3 })
+    );
     assert_eq!(t.count(0), Ok(2));
-    assert_eq!(t.tally(), Ok(3));
     assert_eq!(t.collect(), Ok(2));
 }
 
 #[test]
 fn two_rounds_are_too_few() {
     let mut t = example();
-    assert_eq!(t.set(0, 2, reach()), Err(Refusal::Spent));
+    assert_eq!(set(&mut t, 0, 2, reach()), Err(Refusal::Spent));
     assert_eq!(t.count(0), Err(Refusal::Empty));
-    assert_eq!(t.tally(), Ok(0));
 }
 
 #[test]
@@ -44,23 +59,26 @@ fn binders() {
     let mut t = table(1, 100);
     let var = || Formula::var(0);
     assert_eq!(
-        t.set(0, 100, Formula::mu(0, var())),
+        set(&mut t, 0, 100, Formula::mu(0, var())),
         Ok(Stored { node: 0, rounds: 1 })
     );
     assert_eq!(t.count(0), Ok(0));
     assert_eq!(
-        t.set(0, 100, Formula::nu(0, var())),
+        set(&mut t, 0, 100, Formula::nu(0, var())),
         Ok(Stored { node: 1, rounds: 1 })
     );
     assert_eq!(t.count(0), Ok(2));
-    assert_eq!(t.set(0, 100, Formula::mu(0, !var())), Err(Refusal::Odd));
     assert_eq!(
-        t.set(0, 100, Formula::mu(0, !!var())),
+        set(&mut t, 0, 100, Formula::mu(0, !var())),
+        Err(Refusal::Odd)
+    );
+    assert_eq!(
+        set(&mut t, 0, 100, Formula::mu(0, !!var())),
         Ok(Stored { node: 0, rounds: 1 })
     );
-    assert_eq!(t.set(0, 100, var()), Err(Refusal::Unbound));
+    assert_eq!(set(&mut t, 0, 100, var()), Err(Refusal::Unbound));
     assert_eq!(
-        t.set(0, 100, Formula::mu(0, Formula::mu(0, var()))),
+        set(&mut t, 0, 100, Formula::mu(0, Formula::mu(0, var()))),
         Err(Refusal::Unbound)
     );
 }
@@ -69,29 +87,28 @@ fn binders() {
 fn box_and_diamond() {
     let mut t = table(1, 100);
     assert_eq!(
-        t.set(0, 100, Formula::boxed(0, Formula::always())),
+        set(&mut t, 0, 100, Formula::boxed(0, Formula::always())),
         Err(Refusal::Empty)
     );
     t.relation(0, Formula::never()).unwrap();
-    t.set(0, 100, Formula::boxed(0, Formula::never())).unwrap();
+    set(&mut t, 0, 100, Formula::boxed(0, Formula::never())).unwrap();
     assert_eq!(t.count(0), Ok(2));
-    t.set(0, 100, Formula::diamond(0, Formula::always()))
-        .unwrap();
+    set(&mut t, 0, 100, Formula::diamond(0, Formula::always())).unwrap();
     assert_eq!(t.count(0), Ok(0));
 }
 
 #[test]
 fn rows() {
     let both = || Formula::current(0) & Formula::current(1);
-    assert!(table(2, 3).set(0, 100, both()).is_ok());
-    assert_eq!(table(2, 2).set(0, 100, both()), Err(Refusal::Full));
-    assert!(table(1, 1).set(0, 100, !Formula::current(0)).is_ok());
+    assert!(set(&mut table(2, 3), 0, 100, both()).is_ok());
+    assert_eq!(set(&mut table(2, 2), 0, 100, both()), Err(Refusal::Full));
+    assert!(set(&mut table(1, 1), 0, 100, !Formula::current(0)).is_ok());
 
     let mut t = table(2, 2);
-    t.set(0, 100, Formula::current(0)).unwrap();
-    t.set(1, 100, Formula::current(1)).unwrap();
+    set(&mut t, 0, 100, Formula::current(0)).unwrap();
+    set(&mut t, 1, 100, Formula::current(1)).unwrap();
     t.clear(0).unwrap();
-    t.set(0, 100, !Formula::current(1)).unwrap();
+    set(&mut t, 0, 100, !Formula::current(1)).unwrap();
     assert_eq!(
         (
             t.member(0, 0),
@@ -105,29 +122,35 @@ fn rows() {
 
 #[test]
 fn every_refusal() {
-    assert_eq!(Table::new(0, 1).err(), Some(Refusal::Sizes));
-    assert_eq!(Table::new(1, 0).err(), Some(Refusal::Sizes));
-    assert_eq!(Table::new(1, MAX_ROWS + 1).err(), Some(Refusal::Sizes));
-    assert_eq!(Table::new(1, u32::MAX).err(), Some(Refusal::Sizes));
+    assert_eq!(new(0, 1).err(), Some(Refusal::Sizes));
+    assert_eq!(new(1, 0).err(), Some(Refusal::Sizes));
+    assert_eq!(new(1, MAX_ROWS + 1).err(), Some(Refusal::Sizes));
+    assert_eq!(new(1, u32::MAX).err(), Some(Refusal::Sizes));
     assert_eq!(
-        Table::fresh(vec![0; words_for(10) - 1], 1, 10).err(),
+        Table::fresh(
+            vec![0; words_for(10) - 1],
+            &mut [Account::unlimited()],
+            1,
+            10
+        )
+        .err(),
         Some(Refusal::Sizes)
     );
 
     let mut t = table(1, 10);
     assert_eq!(t.clear(32), Err(Refusal::Range));
     assert_eq!(t.relation(8, Formula::always()), Err(Refusal::Range));
-    assert_eq!(t.set(32, 0, Formula::always()), Err(Refusal::Range));
+    assert_eq!(set(&mut t, 32, 0, Formula::always()), Err(Refusal::Range));
     assert_eq!(t.member(0, 2), Err(Refusal::Range));
-    assert_eq!(t.set(0, 0, Formula::next(0)), Err(Refusal::Syntax));
-    assert_eq!(t.set(0, 0, Formula::current(1)), Err(Refusal::Syntax));
+    assert_eq!(set(&mut t, 0, 0, Formula::next(0)), Err(Refusal::Syntax));
+    assert_eq!(set(&mut t, 0, 0, Formula::current(1)), Err(Refusal::Syntax));
     assert_eq!(t.relation(0, Formula::register(0)), Err(Refusal::Syntax));
-    assert_eq!(t.set(0, 0, []), Err(Refusal::Syntax));
+    assert_eq!(set(&mut t, 0, 0, []), Err(Refusal::Syntax));
     assert_eq!(t.node(31), Err(Refusal::Empty));
     assert_eq!(t.clear(31), Ok(()));
 
     t.words_mut()[3] = 1;
-    assert_eq!(t.set(0, 0, Formula::always()), Err(Refusal::Unsound));
+    assert_eq!(set(&mut t, 0, 0, Formula::always()), Err(Refusal::Unsound));
     assert_eq!(t.collect(), Err(Refusal::Unsound));
     assert_eq!(t.check_relation(Formula::always()), Err(Refusal::Unsound));
     assert_eq!(Table::over(Vec::new()).err(), Some(Refusal::Unsound));
@@ -136,13 +159,16 @@ fn every_refusal() {
 #[test]
 fn formulas_without_a_byte_or_too_long() {
     let mut t = table(16, 10);
-    assert_eq!(t.set(0, 0, Formula::current(16)), Err(Refusal::Syntax));
     assert_eq!(
-        t.set(0, 0, Formula::diamond(8, Formula::always())),
+        set(&mut t, 0, 0, Formula::current(16)),
         Err(Refusal::Syntax)
     );
     assert_eq!(
-        t.set(0, 0, !Formula::mu(16, Formula::always())),
+        set(&mut t, 0, 0, Formula::diamond(8, Formula::always())),
+        Err(Refusal::Syntax)
+    );
+    assert_eq!(
+        set(&mut t, 0, 0, !Formula::mu(16, Formula::always())),
         Err(Refusal::Syntax)
     );
 
@@ -161,8 +187,9 @@ fn formulas_without_a_byte_or_too_long() {
 #[test]
 fn borrowed_words() {
     let mut words = [9; words_for(5) + 2];
-    let mut t = Table::fresh(&mut words[..], 1, 5).unwrap();
-    t.set(3, 0, Formula::always()).unwrap();
+    let mut accounts = [Account::unlimited()];
+    let mut t = Table::fresh(&mut words[..], &mut accounts, 1, 5).unwrap();
+    t.set(&mut accounts, 0, 3, 0, Formula::always()).unwrap();
     assert_eq!(t.words().len(), words_for(5) + 2);
     assert_eq!(t.into_words()[words_for(5)..], [9, 9]);
     assert_eq!(Table::over(&mut words[..]).unwrap().count(3), Ok(2));
@@ -174,17 +201,17 @@ fn until() {
     let mut t = example();
     let (open, all) = (Formula::current(0), Formula::always);
     let some = Formula::until_some(0, all(), open.clone());
-    assert_eq!(t.set(0, 3, some), t.set(1, 3, reach()));
+    assert_eq!(set(&mut t, 0, 3, some), set(&mut t, 1, 3, reach()));
     let every = || Formula::until_every(0, all(), Formula::current(0));
-    assert_eq!(t.set(2, 3, every()), Ok(Stored { node: 1, rounds: 3 }));
-    assert_eq!(t.set(2, 2, every()), Err(Refusal::Spent));
+    assert_eq!(set(&mut t, 2, 3, every()), Ok(Stored { node: 1, rounds: 3 }));
+    assert_eq!(set(&mut t, 2, 2, every()), Err(Refusal::Spent));
     // The inner nu has its own rounds in each round: two rounds of each.
     t.relation(3, Formula::never()).unwrap();
     let inner = Formula::until_some(3, Formula::nu(0, Formula::var(0)), open);
-    assert_eq!(t.set(3, 4, inner.clone()).unwrap().rounds, 4);
-    assert_eq!(t.set(3, 3, inner), Err(Refusal::Spent));
+    assert_eq!(set(&mut t, 3, 4, inner.clone()).unwrap().rounds, 4);
+    assert_eq!(set(&mut t, 3, 3, inner), Err(Refusal::Spent));
     // Until names its relation, and relation calls have no until.
     let unfilled = Formula::until_every(7, all(), all());
-    assert_eq!(t.set(3, 9, unfilled), Err(Refusal::Empty));
+    assert_eq!(set(&mut t, 3, 9, unfilled), Err(Refusal::Empty));
     assert_eq!(t.relation(4, every()), Err(Refusal::Syntax));
 }

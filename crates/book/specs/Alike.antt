@@ -15,7 +15,6 @@ use Rattle.book.specs.Table.{Table, Reply, Place, Shows, addRoot, arrows
 pub record Alike (t u : Table) : Type 0 where
   pub n : u .n ≡ t .n
   pub N : u .N ≡ t .N
-  pub tally : u .tally ≡ t .tally
   pub rows : u .rows ≡ t .rows
   pub reg : (r : ℕ) → r < registers → u .reg r ≡ t .reg r
   pub rel : (q : ℕ) → q < relations → u .rel q ≡ t .rel q
@@ -32,7 +31,6 @@ module _ {t u : Table} (a : Alike t u) where
   alike-shows b s = record {
     n = a .n ∙ s .n;
     N = a .N ∙ s .N;
-    tally = a .tally ∙ s .tally;
     wf = subst (WellFormed (2 * b .n) (b .N)) (sym (a .rows)) (s .wf);
     reg = λ r l. subst (λ (x : Rows). Place (2 * b .n) x (fnOf (b .n)) (b .reg r) (u .reg r)) (sym (a .rows)) (subst (λ (o : Option ℕ). Place (2 * b .n) (t .rows) (fnOf (b .n)) (b .reg r) o) (sym (a .reg r l)) (s .reg r l));
     rel = λ q l. subst (λ (x : Rows). Place (2 * b .n) x (fnOfPairs (b .n)) (b .rel q) (u .rel q)) (sym (a .rows)) (subst (λ (o : Option ℕ). Place (2 * b .n) (t .rows) (fnOfPairs (b .n)) (b .rel q) o) (sym (a .rel q l)) (s .rel q l));
@@ -50,6 +48,6 @@ module _ {t u : Table} (a : Alike t u) where
     where
       sweeps : (c : Call) → Swept c t → Swept c u
       sweeps (relation x bs) w = tt
-      sweeps (set x R bs) w = tt
+      sweeps (set acc x R bs) w = tt
       sweeps (clear x) w = tt
       sweeps collect w = λ i h. subst (λ (r : Rows). Reach r (rootsOf u) i) (sym (a .rows)) (subst (λ (l : List ℕ). Reach (t .rows) l i) (sym roots-same) (w i (subst (λ (r : Rows). r .used i ≡ true) (a .rows) h)))

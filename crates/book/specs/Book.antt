@@ -3,7 +3,7 @@
 use mathlib.Core.Bool.{Bool, true, false, not, cond, _&&_}
 use mathlib.Core.List.{List, [], _∷_, _++_}
 use mathlib.Core.Option.{Option, none, some}
-use Prim.Native.Nat.{ℕ, zero, suc, _+_, _*_, _^_, min}
+use Prim.Native.Nat.{ℕ, zero, suc, _+_, _*_, _^_}
 use lib.Dec.{leb, ltb}
 use Rattle.mucalculus.specs.Sets.{mem, all}
 use Rattle.mucalculus.specs.Order.{weight}
@@ -15,40 +15,41 @@ use Rattle.formula.specs.Checks.{firstRefusal}
 use Rattle.tokens.specs.declared.Kind.the-variants.{Relation, Set}
 use Rattle.diagram.specs.Level.{Fn}
 use Rattle.diagram.specs.Need.{need}
+use Rattle.accounts.specs.declared.Terms.{Terms}
+use Rattle.accounts.specs.Terms.{lent, named, rowsUnder, roundsUnder}
 use Rattle.book.specs.Bridge.{fnOf, fnOfPairs}
 use Rattle.book.specs.Ticks.{contents, ticks, pairTicks, Verdict, counted, full, spent, verdict}
 
--- "The table has N rows, 32 registers, 8 relations and a tally"
+-- "The table has N rows, 32 registers, 8 relations"; tallies are the accounts'
 abbrev pub registers : ℕ
 registers = 32
 
 abbrev pub relations : ℕ
 relations = 8
 
--- where the tally stays
-abbrev pub tallyTop : ℕ
-tallyTop = 4_294_967_295
-
--- the book: n and N of the answered fresh, what is filled and with what, and the tally
+-- the book: n and N of the answered fresh, and what is filled and with what
 pub record Book : Type 0 where
   pub n : ℕ
   pub N : ℕ
   pub rel : ℕ → Option Pairs
   pub reg : ℕ → Option (List Bool)
-  pub tally : ℕ
 
 -- "All start empty"
 abbrev pub fresh : ℕ → ℕ → Book
-fresh n N = record { n = n; N = N; rel = λ t. none; reg = λ r. none; tally = 0 }
+fresh n N = record { n = n; N = N; rel = λ t. none; reg = λ r. none }
 
 -- "Fresh takes n, a row count N (1 to 60,000) and at least 256 + 12 × N words": n from 1 to 16, and so many words lent
 abbrev pub freshFits : ℕ → ℕ → ℕ → Bool
 freshFits n N words = (leb 1 n && leb n 16) && ((leb 1 N && leb N 60_000) && leb (256 + 12 * N) words)
 
--- a call of the third demand's list: its kind and arguments, "formula bytes and R included"
+-- fresh's number: 1, or 14 "(in fresh, after 1)" where the list is not 1 to 8 long
+abbrev pub freshNumber : ℕ → ℕ → ℕ → ℕ → ℕ
+freshNumber n N words count = cond (freshFits n N words) (cond (lent count) 0 14) 1
+
+-- a call of the third demand's list: its kind and arguments, "formula bytes and R included", "the list's length and the named account's limits too"
 pub data Call : Type 0 where
   relation : ℕ → List ℕ → Call  -- relation t, bytes
-  set : ℕ → ℕ → List ℕ → Call  -- set r, R, bytes
+  set : Terms → ℕ → ℕ → List ℕ → Call  -- set under an account, r, R, bytes
   clear : ℕ → Call  -- clear r
   collect : Call
 
@@ -57,7 +58,6 @@ pub data Question : Type 0 where
   node : ℕ → Question  -- node r
   member : ℕ → ℕ → Question  -- member r, state
   count : ℕ → Question  -- count r
-  tally : Question
 
 -- an answer: the refusal's number or 0, the rounds, and the value where the rules settle it ("Free for the builder: node numbers above 1")
 pub record Answer : Type 0 where
@@ -110,15 +110,11 @@ refuse b k = (b, refused k)
 
 -- relation t holds Q
 abbrev pub withRel : Book → ℕ → Option Pairs → Book
-withRel b t Q = record { n = b .n; N = b .N; rel = put (b .rel) t Q; reg = b .reg; tally = b .tally }
+withRel b t Q = record { n = b .n; N = b .N; rel = put (b .rel) t Q; reg = b .reg }
 
--- register r holds A, and the tally is k
-abbrev pub withReg : Book → ℕ → Option (List Bool) → ℕ → Book
-withReg b r A k = record { n = b .n; N = b .N; rel = b .rel; reg = put (b .reg) r A; tally = k }
-
--- "the rounds of all answered set calls since fresh, staying at 4,294,967,295 once it would pass that"
-abbrev pub tallied : ℕ → ℕ → ℕ
-tallied k q = min (k + q) tallyTop
+-- register r holds A
+abbrev pub withReg : Book → ℕ → Option (List Bool) → Book
+withReg b r A = record { n = b .n; N = b .N; rel = b .rel; reg = put (b .reg) r A }
 
 -- the node number where it is settled: "An arrow is 0 (nothing), 1 (everything) or a used row"
 abbrev pub nodeOf : List Bool → Option ℕ
@@ -136,15 +132,15 @@ relationDone b t f = (withRel b t (some (meansPair (b .n) f)), answered (some 0)
 
 -- "register r exactly the states": the set A, made in q rounds; set "returns node number and rounds"
 abbrev pub setDone : Book → ℕ → List Bool → ℕ → Done
-setDone b r A q = (withReg b r (some A) (tallied (b .tally) q), record { number = 0; rounds = q; value = nodeOf A })
+setDone b r A q = (withReg b r (some A), record { number = 0; rounds = q; value = nodeOf A })
 
 -- relation t, after its checks: "relation has no rounds"
 abbrev pub relationSteps : Book → ℕ → Form → Done
 relationSteps b t f = ended b (verdict (b .N) 0 0 (pairTicks (b .n) (liveOf b) f)) (λ q. relationDone b t f)
 
--- set r, after its checks: the states "by the meaning above over the book as it stood before the call"
-abbrev pub setSteps : Book → ℕ → ℕ → Form → Done
-setSteps b r R f = ended b (verdict (b .N) R 0 (ticks (modelOf b) noEnv (liveOf b) f)) (λ q. setDone b r (means (modelOf b) noEnv f) q)
+-- set r, after its checks: the states "by the meaning above over the book as it stood before the call"; "Both limits hold"
+abbrev pub setSteps : Book → Terms → ℕ → ℕ → Form → Done
+setSteps b acc r R f = ended b (verdict (rowsUnder (b .N) acc) (roundsUnder R acc) 0 (ticks (modelOf b) noEnv (liveOf b) f)) (λ q. setDone b r (means (modelOf b) noEnv f) q)
 
 -- go on where the number is 0, else refuse with it
 abbrev pub passing : Book → ℕ → Done → Done
@@ -158,8 +154,8 @@ formulaCall b k bs go = let d = go (formulaIn b k bs) in passing b (checks b k b
 -- each call, its checks in the order of the table of refusals
 abbrev pub does : Book → Call → Done
 does b (relation t bs) = let d = formulaCall b Relation bs (relationSteps b t) in cond (ltb t relations) d (refuse b 3)
-does b (set r R bs) = let d = formulaCall b Set bs (setSteps b r R) in cond (ltb r registers) d (refuse b 3)
-does b (clear r) = cond (ltb r registers) (withReg b r none (b .tally), answered (some 0)) (refuse b 3)
+does b (set acc r R bs) = let d = formulaCall b Set bs (setSteps b acc r R) in let e = cond (named acc) d (refuse b 14) in cond (ltb r registers) e (refuse b 3)
+does b (clear r) = cond (ltb r registers) (withReg b r none, answered (some 0)) (refuse b 3)
 does b collect = (b, answered (some (need (2 * b .n) (liveOf b))))
 
 -- a whole list of calls: the book after it, and the answers in order
@@ -184,4 +180,3 @@ abbrev pub answer : Book → Question → Answer
 answer b (node r) = cond (ltb r registers) (asked (b .reg r) nodeOf) (refused 3)
 answer b (member r s) = cond (ltb r registers && ltb s (2 ^ b .n)) (asked (b .reg r) (λ A. some (oneOf (mem A s)))) (refused 3)
 answer b (count r) = cond (ltb r registers) (asked (b .reg r) (λ A. some (weight true A))) (refused 3)
-answer b tally = answered (some (b .tally))

@@ -41,7 +41,6 @@ bookOf t = record {
   N = t .N;
   rel = λ q. cond (ltb q relations) (standsFor (pairsOf (t .n)) (den (2 * t .n) (t .rows)) (t .rel q)) none;
   reg = λ r. cond (ltb r registers) (standsFor (setOf (t .n)) (den (2 * t .n) (t .rows)) (t .reg r)) none;
-  tally = t .tally;
 }
 
 -- what holds of a filled place below a limit
@@ -102,7 +101,6 @@ pub shows-bookOf : (t : Table) → SoundTable t → Shows (bookOf t) t
 shows-bookOf t s = record {
   n = refl;
   N = refl;
-  tally = refl;
   wf = s .wf;
   reg = λ r l. subst (λ (o : Option (List Bool)). Place (2 * t .n) (t .rows) (fnOf (t .n)) o (t .reg r)) (sym (in-range _ none r registers l)) (sets (t .reg r) (s .reg r l));
   rel = λ q l. subst (λ (o : Option Pairs). Place (2 * t .n) (t .rows) (fnOfPairs (t .n)) o (t .rel q)) (sym (in-range _ none q relations l)) (pairs (t .rel q) (s .rel q l));
@@ -166,7 +164,6 @@ module _ (b : Book) (t : Table) (w : Whole b) (s : Shows b t) where
     N = sym (s .N) i;
     rel = fun-ext (λ q. limited-is (b .rel) q relations _ (λ Q e. w .rel q Q e .1) (pairs-stand q)) i;
     reg = fun-ext (λ r. limited-is (b .reg) r registers _ (λ A e. w .reg r A e .1) (set-stands r)) i;
-    tally = sym (s .tally) i;
   }
 
 -- a table that shows a book is sound: its registers denote sets of states, which read current bits only

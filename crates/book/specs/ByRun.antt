@@ -9,6 +9,8 @@ use Rattle.mucalculus.specs.Form.{Form, noEnv, steady}
 use Rattle.mucalculus.specs.Means.{means}
 use Rattle.tokens.specs.declared.Kind.{Kind}
 use Rattle.tokens.specs.declared.Kind.the-variants.{Relation, Set}
+use Rattle.accounts.specs.declared.Terms.{Terms}
+use Rattle.accounts.specs.Terms.{named, rowsUnder, roundsUnder}
 use Rattle.book.specs.Ticks.{ticks, Verdict, counted, full, spent, verdict}
 use Rattle.book.specs.Run.{Outcome, value, full as fullRun, spent as spentRun, run, pairsFit}
 use Rattle.book.specs.Verdicts.{settle, run-ticks, pairs-ticks}
@@ -25,12 +27,12 @@ setEnds b r (value A q) = setDone b r A q
 setEnds b r fullRun = refuse b 8
 setEnds b r spentRun = refuse b 9
 
-abbrev pub setByRun : Book → ℕ → ℕ → Form → Done
-setByRun b r R f = setEnds b r (run (modelOf b) (b .N) R noEnv (liveOf b) f 0)
+abbrev pub setByRun : Book → Terms → ℕ → ℕ → Form → Done
+setByRun b acc r R f = setEnds b r (run (modelOf b) (rowsUnder (b .N) acc) (roundsUnder R acc) noEnv (liveOf b) f 0)
 
 abbrev pub doesByRun : Book → Call → Done
 doesByRun b (relation t bs) = let d = formulaCall b Relation bs (relationByRun b t) in cond (ltb t relations) d (refuse b 3)
-doesByRun b (set r R bs) = let d = formulaCall b Set bs (setByRun b r R) in cond (ltb r registers) d (refuse b 3)
+doesByRun b (set acc r R bs) = let d = formulaCall b Set bs (setByRun b acc r R) in let e = cond (named acc) d (refuse b 14) in cond (ltb r registers) e (refuse b 3)
 doesByRun b (clear r) = does b (clear r)
 doesByRun b collect = does b collect
 
@@ -53,10 +55,10 @@ ends-by-run b r A full = refl
 ends-by-run b r A spent = refl
 
 -- for a formula that passes check 6
-pub set-by-run : (b : Book) (r R : ℕ) (f : Form) → T (steady f) → setByRun b r R f ≡ setSteps b r R f
-set-by-run b r R f t =
-    ap (setEnds b r) (run-ticks (b .N) R (modelOf b) noEnv (liveOf b) f 0 t)
-    ∙ ends-by-run b r (means (modelOf b) noEnv f) (verdict (b .N) R 0 (ticks (modelOf b) noEnv (liveOf b) f))
+pub set-by-run : (b : Book) (acc : Terms) (r R : ℕ) (f : Form) → T (steady f) → setByRun b acc r R f ≡ setSteps b acc r R f
+set-by-run b acc r R f t =
+    ap (setEnds b r) (run-ticks (rowsUnder (b .N) acc) (roundsUnder R acc) (modelOf b) noEnv (liveOf b) f 0 t)
+    ∙ ends-by-run b r (means (modelOf b) noEnv f) (verdict (rowsUnder (b .N) acc) (roundsUnder R acc) 0 (ticks (modelOf b) noEnv (liveOf b) f))
 
 -- two ways to go on that agree on the formulas that pass
 formula-same : (b : Book) (c : Kind) (bs : List ℕ) (x y : Form → Done) → (Passed b c bs → x (formulaIn b c bs) ≡ y (formulaIn b c bs)) → formulaCall b c bs x ≡ formulaCall b c bs y
@@ -70,9 +72,9 @@ pub does-by-run : (b : Book) (c : Call) → doesByRun b c ≡ does b c
 does-by-run b (relation t bs) =
     ap (λ (d : Done). cond (ltb t relations) d (refuse b 3))
     (formula-same b Relation bs (relationByRun b t) (relationSteps b t) (λ p. sym (relation-by-run b t (formulaIn b Relation bs))))
-does-by-run b (set r R bs) =
-    ap (λ (d : Done). cond (ltb r registers) d (refuse b 3))
-    (formula-same b Set bs (setByRun b r R) (setSteps b r R) (λ p. set-by-run b r R (formulaIn b Set bs) (p .isSteady)))
+does-by-run b (set acc r R bs) =
+    ap (λ (d : Done). cond (ltb r registers) (cond (named acc) d (refuse b 14)) (refuse b 3))
+    (formula-same b Set bs (setByRun b acc r R) (setSteps b acc r R) (λ p. set-by-run b acc r R (formulaIn b Set bs) (p .isSteady)))
 does-by-run b (clear r) = refl
 does-by-run b collect = refl
 

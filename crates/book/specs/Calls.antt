@@ -20,10 +20,9 @@ use Rattle.book.specs.Effects.{in-range, out-of-range}
 -- ---- clear, collect, and refusals
 
 -- CLEAR of a register in range
-pub clear-serves : (b : Book) (t : Table) (r : ℕ) → Shows b t → r < registers → Serves b (clear r) t (storeReg t r none (t .tally)) (plain 0)
+pub clear-serves : (b : Book) (t : Table) (r : ℕ) → Shows b t → r < registers → Serves b (clear r) t (storeReg t r none) (plain 0)
 clear-serves b t r s l = record {
-  shows = subst (λ (x : Done). Shows (x .0) (storeReg t r none (t .tally))) (sym same)
-      (subst (λ (k : ℕ). Shows (withReg b r none (b .tally)) (storeReg t r none k)) (sym (s .tally)) (shows-reg b t s r (b .tally) none none tt));
+  shows = subst (λ (x : Done). Shows (x .0) (storeReg t r none)) (sym same) (shows-reg b t s r none none tt);
   agrees = subst (λ (x : Done). Agrees (x .1) (plain 0)) (sym same) (record { number = refl; rounds = refl; value = refl });
   numbers = λ q h. refl;
   rels = λ q h z. refl;
@@ -31,7 +30,7 @@ clear-serves b t r s l = record {
   swept = tt;
 }
   where
-    same : does b (clear r) ≡ (withReg b r none (b .tally), answered (some 0))
+    same : does b (clear r) ≡ (withReg b r none, answered (some 0))
     same = in-range _ (refuse b 3) r registers l
 
 -- COLLECT, which leaves just the rows that the roots reach and returns their number
@@ -60,13 +59,13 @@ refusal-serves b t c k s e = record {
     -- collect is never refused by a check
     sweeps : (c : Call) → does b c ≡ refuse b (suc k) → Swept c t
     sweeps (relation x bs) h = tt
-    sweeps (set x R bs) h = tt
+    sweeps (set acc x R bs) h = tt
     sweeps (clear x) h = tt
     sweeps collect h = let z : _≡_ {A = ℕ} 0 (suc k) = ap (λ (d : Done). d .1 .number) h in absurd (omega arith)
 
     noting : (c : Call) (q : ℕ) → t .reg q ≡ noted (t .reg q) c (plain (suc k)) q
     noting (relation x bs) q = refl
-    noting (set x R bs) q = sym (ap (λ (x′ : Bool). cond (x′ && eqb q x) (some 0) (t .reg q)) (eqb·suc-zero k))
+    noting (set acc x R bs) q = sym (ap (λ (x′ : Bool). cond (x′ && eqb q x) (some 0) (t .reg q)) (eqb·suc-zero k))
     noting (clear x) q = sym (ap (λ (x′ : Bool). cond (x′ && eqb q x) none (t .reg q)) (eqb·suc-zero k))
     noting collect q = refl
 
@@ -87,6 +86,6 @@ tidied-serves b c t u y rows s k = record {
   where
     sweeps : (c : Call) → Swept c (withRows u rows)
     sweeps (relation x bs) = tt
-    sweeps (set x R bs) = tt
+    sweeps (set acc x R bs) = tt
     sweeps (clear x) = tt
     sweeps collect = λ i h. keeps-reach (collects-keeps k) (k .only i h)

@@ -1,19 +1,18 @@
 -- THE THIRD DEMAND, "a single claim about the whole list and not one for each call". Assumes nothing.
 use mathlib.Core.Path.{_≡_, refl, sym, ap, _∙_, subst}
 use mathlib.Core.Logic.{_↔_, _⊎_, inl, inr}
-use mathlib.Core.Bool.{Bool, true, false}
+use mathlib.Core.Bool.{Bool}
 use mathlib.Core.List.{List, [], _∷_}
 use mathlib.Core.Option.{Option, none, some}
-use Prim.Native.Nat.{ℕ, _*_, _<_}
+use Prim.Native.Nat.{ℕ, zero, suc, _*_, _<_}
 use native.Mathlib.Omega.{arith}
-use lib.Dec.{T}
 use Rattle.mucalculus.specs.Form.{filled}
 use Rattle.diagram.specs.Level.{Fn}
 use Rattle.diagram.specs.Rows.{Rows, den}
 use Rattle.diagram.specs.Post.{Denotes}
 use Rattle.diagram.specs.Canon.{canonical}
 use Rattle.book.specs.Bridge.{fnOf, fnOf-inj}
-use Rattle.book.specs.Book.{Book, fresh, freshFits, Call, Question, node, member, count, tally, Answer, registers, relations, refused, nodeOf, asked, does, play, answer}
+use Rattle.book.specs.Book.{Book, fresh, freshNumber, Call, Question, node, member, count, Answer, registers, relations, refused, nodeOf, asked, does, play, answer}
 use Rattle.book.specs.Stored.{Whole, whole-fresh, whole-does, none-some, range-cases}
 use Rattle.book.specs.Last.{Untouched, LastSet, last-set}
 use Rattle.book.specs.Eight.{EightAt, eight-exact}
@@ -44,11 +43,12 @@ pub data Trace (W : Type 0) (contract : W → Call → W → Reply → Type 0) :
   go : {w v w′ : W} {c : Call} {y : Reply} {l : List Event} → contract w c v y → Trace W contract v l w′ → Trace W contract w ((c, y) ∷ l) w′
 
 -- a list from bare words: an answered fresh, then the calls, each under its contract
-pub record Session (W : Type 0) (makes : W → ℕ → ℕ → W → Reply → Type 0) (contract : W → Call → W → Reply → Type 0) (n N : ℕ) (l : List Event) (end : W) : Type 0 where
+pub record Session (W : Type 0) (makes : W → ℕ → ℕ → ℕ → W → Reply → Type 0) (contract : W → Call → W → Reply → Type 0) (n N : ℕ) (l : List Event) (end : W) : Type 0 where
   pub lent : W
+  pub count : ℕ
   pub made : W
   pub reply : Reply
-  pub start : makes lent n N made reply
+  pub start : makes lent n N count made reply
   pub answered : reply .number ≡ 0
   pub rest : Trace W contract made l end
 
@@ -130,7 +130,6 @@ renamed b g h e q y t = record { agrees = t .agrees; nodeSays = says q (t .agree
     says (node r) a s = λ z. sym (e r (node-in b r (sym (a .number) ∙ z))) ∙ s z
     says (member r u) a s = tt
     says (count r) a s = tt
-    says tally a s = tt
 
 -- what holds after a list of calls from a book: the table shows the book's end, the replies agree with its answers, and each register has
 -- its last number, g r before the list
@@ -141,7 +140,7 @@ record After (b : Book) (g : ℕ → Option ℕ) (after : Table) (l : List Event
   numbers : (r : ℕ) → r < registers → after .reg r ≡ lastNumber (g r) l r
   eights : AllEight b l
 
-module _ {W : Type 0} {words : W → ℕ} {sound : W → Type 0} {view : W → Table} {makes : W → ℕ → ℕ → W → Reply → Type 0} {contract : W → Call → W → Reply → Type 0} {asks : W → Question → W → Reply → Type 0}
+module _ {W : Type 0} {words : W → ℕ} {sound : W → Type 0} {view : W → Table} {makes : W → ℕ → ℕ → ℕ → W → Reply → Type 0} {contract : W → Call → W → Reply → Type 0} {asks : W → Question → W → Reply → Type 0}
     (I : Implements W words sound view makes contract asks) where
   -- a call on words that stand for a whole book serves that book
   serves : (b : Book) {w v : W} {c : Call} {y : Reply} → Whole b → sound w → Shows b (view w) → contract w c v y → sound v × Serves b c (view w) (view v) y
@@ -167,12 +166,12 @@ module _ {W : Type 0} {words : W → ℕ} {sound : W → Type 0} {view : W → T
       )
 
   -- what an answered fresh leaves
-  started : (n N k : ℕ) {w w′ : W} (y : Reply) → Starts sound view n N k w w′ y → y .number ≡ 0 → sound w′ × Shows (fresh n N) (view w′)
-  started n N k {w} {w′} y s z = pick (freshFits n N k) refl
+  started : (n N k j : ℕ) {w w′ : W} (y : Reply) → Starts sound view n N k j w w′ y → y .number ≡ 0 → sound w′ × Shows (fresh n N) (view w′)
+  started n N k j {w} {w′} y s z = pick (freshNumber n N k j) refl
     where
-      pick : (t : Bool) → freshFits n N k ≡ t → sound w′ × Shows (fresh n N) (view w′)
-      pick true e = let d = s .answers (subst T (sym e) tt) in (d .1, shows-fresh n N (view w′) (d .2))
-      pick false e = absurd (omega (arith, s .refuses e .0 .0))
+      pick : (i : ℕ) → freshNumber n N k j ≡ i → sound w′ × Shows (fresh n N) (view w′)
+      pick zero e = let d = s .answers e in (d .1, shows-fresh n N (view w′) (d .2))
+      pick (suc i) e = absurd (omega (arith, s .refuses i e .0 .0))
 
   -- THE THIRD DEMAND: after any list of calls from an answered fresh the whole claim holds
   pub third-demand : (n N : ℕ) {w′ : W} {l : List Event} → Session W makes contract n N l w′ → Demand sound view asks n N l w′
@@ -194,7 +193,7 @@ module _ {W : Type 0} {words : W → ℕ} {sound : W → Type 0} {view : W → T
       b = bookAfter n N l
 
       s : sound (x .made) × Shows (fresh n N) (view (x .made))
-      s = started n N (words (x .lent)) (x .reply) (I .starts (x .lent) (x .made) n N (x .reply) (x .start)) (x .answered)
+      s = started n N (words (x .lent)) (x .count) (x .reply) (I .starts (x .lent) (x .made) n N (x .count) (x .reply) (x .start)) (x .answered)
 
       -- every register is empty at the start
       empty : (o : Option ℕ) (m : ℕ) (rows : Rows) (f : List Bool → Fn) → Place m rows f none o → o ≡ none

@@ -12,6 +12,7 @@ use Rattle.mucalculus.specs.Sets.{all-out, false-of}
 use Rattle.mucalculus.specs.Form.{noEnv}
 use Rattle.mucalculus.specs.Means.{means}
 use Rattle.tokens.specs.declared.Kind.the-variants.{Relation, Set}
+use Rattle.accounts.specs.Terms.{named, rowsUnder, roundsUnder}
 use Rattle.book.specs.Ticks.{Tick, ticks, pairTicks, Verdict, counted, full, spent, verdict, withinRounds}
 use Rattle.book.specs.Verdicts.{fit, verdict-full}
 use Rattle.book.specs.Effects.{does-set, does-relation}
@@ -49,8 +50,8 @@ eight b N R l go z =
 abbrev pub EightAt : Book → Call → ℕ → Type 0
 EightAt b (relation t bs) k =
     t < relations → checks b Relation bs ≡ 0 → (k ≡ 8) ↔ Above (b .N) (withinRounds 0 0 (pairTicks (b .n) (liveOf b) (formulaIn b Relation bs)))
-EightAt b (set r R bs) k =
-    r < registers → checks b Set bs ≡ 0 → (k ≡ 8) ↔ Above (b .N) (withinRounds R 0 (ticks (modelOf b) noEnv (liveOf b) (formulaIn b Set bs)))
+EightAt b (set acc r R bs) k =
+    r < registers → T (named acc) → checks b Set bs ≡ 0 → (k ≡ 8) ↔ Above (rowsUnder (b .N) acc) (withinRounds (roundsUnder R acc) 0 (ticks (modelOf b) noEnv (liveOf b) (formulaIn b Set bs)))
 EightAt b (clear r) k = Unit {0}
 EightAt b collect k = Unit {0}
 
@@ -60,9 +61,9 @@ eight-exact b (relation t bs) = λ l z.
     let f = formulaIn b Relation bs in
     subst (λ (d : Done). (d .1 .number ≡ 8) ↔ Above (b .N) (withinRounds 0 0 (pairTicks (b .n) (liveOf b) f))) (sym (does-relation b t bs l z))
     (eight b (b .N) 0 (pairTicks (b .n) (liveOf b) f) (λ q. relationDone b t f) (λ q. refl))
-eight-exact b (set r R bs) = λ l z.
+eight-exact b (set acc r R bs) = λ l t z.
     let f = formulaIn b Set bs in
-    subst (λ (d : Done). (d .1 .number ≡ 8) ↔ Above (b .N) (withinRounds R 0 (ticks (modelOf b) noEnv (liveOf b) f))) (sym (does-set b r R bs l z))
-    (eight b (b .N) R (ticks (modelOf b) noEnv (liveOf b) f) (λ q. setDone b r (means (modelOf b) noEnv f) q) (λ q. refl))
+    subst (λ (d : Done). (d .1 .number ≡ 8) ↔ Above (rowsUnder (b .N) acc) (withinRounds (roundsUnder R acc) 0 (ticks (modelOf b) noEnv (liveOf b) f))) (sym (does-set b acc r R bs l t z))
+    (eight b (rowsUnder (b .N) acc) (roundsUnder R acc) (ticks (modelOf b) noEnv (liveOf b) f) (λ q. setDone b r (means (modelOf b) noEnv f) q) (λ q. refl))
 eight-exact b (clear r) = tt
 eight-exact b collect = tt

@@ -1,5 +1,5 @@
 -- SET and RELATION: from the reader's number and the evaluators' promises to the call's contract. Assumes nothing.
-use mathlib.Core.Path.{_≡_, refl, sym, ap, ap₂, subst}
+use mathlib.Core.Path.{_≡_, refl, sym, ap, subst}
 use mathlib.Core.Bool.{Bool, true, false, cond}
 use mathlib.Core.List.{List}
 use mathlib.Core.Option.{some}
@@ -11,11 +11,13 @@ use Rattle.tokens.specs.declared.Kind.the-variants.{Relation, Set}
 use Rattle.diagram.specs.Rows.{Rows}
 use Rattle.diagram.specs.Keep.{Keeps, keeps-within}
 use Rattle.diagram.specs.Post.{Result, at, full as noRows}
+use Rattle.accounts.specs.declared.Terms.{Terms}
+use Rattle.accounts.specs.Terms.{named, rowsUnder, roundsUnder}
 use Rattle.book.specs.Ticks.{ticks, Verdict, counted, full, spent, verdict}
 use Rattle.book.specs.Run.{Outcome, run, pairF, pairsFit}
 use Rattle.book.specs.Verdicts.{settle, run-ticks}
 use Rattle.book.specs.Effects.{does-set, does-relation}
-use Rattle.book.specs.Book.{formulaIn, Book, relation, set, tally, registers, relations, modelOf, liveOf, checks, Done, refuse, withReg, tallied, ended, relationDone, setDone, relationSteps, setSteps, does}
+use Rattle.book.specs.Book.{formulaIn, Book, relation, set, registers, relations, modelOf, liveOf, checks, Done, refuse, withReg, ended, relationDone, setDone, relationSteps, setSteps, does}
 use Rattle.book.specs.Stored.{checks-passed}
 use Rattle.book.specs.ByRun.{relation-by-run}
 use Rattle.book.specs.Nodes.{node-settled}
@@ -27,9 +29,9 @@ use Rattle.book.specs.Leaves.{withRows, storeReg, storeRel, shows-rows, 
 
 -- ---- set
 
--- what set leaves of a table whose rows are now `rows`: an arrow stored and its rounds tallied, or the registers, relations and tally kept
+-- what set leaves of a table whose rows are now `rows`: an arrow stored, or the registers and relations kept
 abbrev pub setLeaves : Table → ℕ → Rows → Ended → Table
-setLeaves t r rows (ends a q) = storeReg (withRows t rows) r (some a) (tallied (t .tally) q)
+setLeaves t r rows (ends a q) = storeReg (withRows t rows) r (some a)
 setLeaves t r rows eight = withRows t rows
 setLeaves t r rows nine = withRows t rows
 
@@ -40,11 +42,11 @@ setReply eight = record { number = 8; rounds = 0; value = 0 }
 setReply nine = record { number = 9; rounds = 0; value = 0 }
 
 -- from the evaluator's promise to the call's: the table shows the book after its steps, and the reply agrees with its answer
-pub set-served : (b : Book) (t : Table) (r R : ℕ) (f : Form) (rows : Rows) (y : Ended) → Shows b t → T (steady f)
-    → Evals (b .n) (b .N) (t .rows) rows (rootsOf t) (run (modelOf b) (b .N) R noEnv (liveOf b) f 0) y
-    → Shows (setSteps b r R f .0) (setLeaves t r rows y) × Agrees (setSteps b r R f .1) (setReply y)
-set-served b t r R f rows y s i d =
-    go (verdict (b .N) R 0 (ticks (modelOf b) noEnv (liveOf b) f)) y (subst (λ (o : Outcome). Matches (b .n) rows o y) (run-ticks (b .N) R (modelOf b) noEnv (liveOf b) f 0 i) (d .result))
+pub set-served : (b : Book) (t : Table) (acc : Terms) (r R : ℕ) (f : Form) (rows : Rows) (y : Ended) → Shows b t → T (steady f)
+    → Evals (b .n) (b .N) (t .rows) rows (rootsOf t) (run (modelOf b) (rowsUnder (b .N) acc) (roundsUnder R acc) noEnv (liveOf b) f 0) y
+    → Shows (setSteps b acc r R f .0) (setLeaves t r rows y) × Agrees (setSteps b acc r R f .1) (setReply y)
+set-served b t acc r R f rows y s i d =
+    go (verdict (rowsUnder (b .N) acc) (roundsUnder R acc) 0 (ticks (modelOf b) noEnv (liveOf b) f)) y (subst (λ (o : Outcome). Matches (b .n) rows o y) (run-ticks (rowsUnder (b .N) acc) (roundsUnder R acc) (modelOf b) noEnv (liveOf b) f 0 i) (d .result))
   where
     after : Shows b (withRows t rows)
     after = shows-rows b t s rows (d .wf) (d .kept)
@@ -54,12 +56,10 @@ set-served b t r R f rows y s i d =
 
     go : (w : Verdict) (y : Ended) → Matches (b .n) rows (settle A w) y
         → Shows (ended b w (λ q. setDone b r A q) .0) (setLeaves t r rows y) × Agrees (ended b w (λ q. setDone b r A q) .1) (setReply y)
-    go (counted q) (ends a p) m =
-        let e : tallied (t .tally) p ≡ tallied (b .tally) q = ap₂ tallied (s .tally) (m .1) in (
-          subst (λ (k : ℕ). Shows (withReg b r (some A) (tallied (b .tally) q)) (storeReg (withRows t rows) r (some a) k)) (sym e)
-              (shows-reg b (withRows t rows) after r (tallied (b .tally) q) (some A) (some a) (m .0)),
-          record { number = refl; rounds = m .1; value = node-settled (b .n) (b .N) rows A a (length-means (modelOf b) noEnv f) (d .wf) (m .0) },
-        )
+    go (counted q) (ends a p) m = (
+      shows-reg b (withRows t rows) after r (some A) (some a) (m .0),
+      record { number = refl; rounds = m .1; value = node-settled (b .n) (b .N) rows A a (length-means (modelOf b) noEnv f) (d .wf) (m .0) },
+    )
     go (counted q) eight m = absurd m
     go (counted q) nine m = absurd m
     go full (ends a p) m = absurd m
@@ -70,23 +70,23 @@ set-served b t r R f rows y s i d =
     go spent nine m = (after, record { number = refl; rounds = refl; value = refl })
 
 -- SET, after its checks
-pub set-serves : (b : Book) (t : Table) (r R : ℕ) (bs : List ℕ) (rows : Rows) (y : Ended) → Shows b t → r < registers
-    → checks b Set bs ≡ 0 → Evals (b .n) (b .N) (t .rows) rows (rootsOf t) (run (modelOf b) (b .N) R noEnv (liveOf b) (formulaIn b Set bs) 0) y
-    → Serves b (set r R bs) t (setLeaves t r rows y) (setReply y)
-set-serves b t r R bs rows y s l z d = record {
+pub set-serves : (b : Book) (t : Table) (acc : Terms) (r R : ℕ) (bs : List ℕ) (rows : Rows) (y : Ended) → Shows b t → r < registers → T (named acc)
+    → checks b Set bs ≡ 0 → Evals (b .n) (b .N) (t .rows) rows (rootsOf t) (run (modelOf b) (rowsUnder (b .N) acc) (roundsUnder R acc) noEnv (liveOf b) (formulaIn b Set bs) 0) y
+    → Serves b (set acc r R bs) t (setLeaves t r rows y) (setReply y)
+set-serves b t acc r R bs rows y s l h z d = record {
   shows = subst (λ (x : Done). Shows (x .0) (setLeaves t r rows y)) (sym same) (p .0);
   agrees = subst (λ (x : Done). Agrees (x .1) (setReply y)) (sym same) (p .1);
-  numbers = λ q h. noting y q;
-  rels = λ q h z. relations-kept y q;
-  kept = keeps-within (kept-before (set r R bs) (setReply y) t) (keeping y);
+  numbers = λ q i. noting y q;
+  rels = λ q i z. relations-kept y q;
+  kept = keeps-within (kept-before (set acc r R bs) (setReply y) t) (keeping y);
   swept = tt;
 }
   where
-    same : does b (set r R bs) ≡ setSteps b r R (formulaIn b Set bs)
-    same = does-set b r R bs l z
+    same : does b (set acc r R bs) ≡ setSteps b acc r R (formulaIn b Set bs)
+    same = does-set b acc r R bs l h z
 
-    p : Shows (setSteps b r R (formulaIn b Set bs) .0) (setLeaves t r rows y) × Agrees (setSteps b r R (formulaIn b Set bs) .1) (setReply y)
-    p = set-served b t r R (formulaIn b Set bs) rows y s (checks-passed b Set bs z .isSteady) d
+    p : Shows (setSteps b acc r R (formulaIn b Set bs) .0) (setLeaves t r rows y) × Agrees (setSteps b acc r R (formulaIn b Set bs) .1) (setReply y)
+    p = set-served b t acc r R (formulaIn b Set bs) rows y s (checks-passed b Set bs z .isSteady) d
 
     relations-kept : (y : Ended) (q : ℕ) → setLeaves t r rows y .rel q ≡ t .rel q
     relations-kept (ends a k) q = refl
@@ -98,7 +98,7 @@ set-serves b t r R bs rows y s l z d = record {
     keeping eight = d .kept
     keeping nine = d .kept
 
-    noting : (y : Ended) (q : ℕ) → setLeaves t r rows y .reg q ≡ noted (t .reg q) (set r R bs) (setReply y) q
+    noting : (y : Ended) (q : ℕ) → setLeaves t r rows y .reg q ≡ noted (t .reg q) (set acc r R bs) (setReply y) q
     noting (ends a k) q = refl
     noting eight q = refl
     noting nine q = refl

@@ -7,6 +7,7 @@ use mathlib.Core.Option.{none}
 use Prim.Native.Nat.{ℕ}
 use native.Mathlib.Omega.{arith}
 use Rattle.mucalculus.specs.Form.{filled}
+use Rattle.accounts.specs.Terms.{alone}
 use Rattle.book.specs.Book.{set, Question, node, member, count}
 use Rattle.book.specs.Table.{Table, Reply}
 use Rattle.book.specs.Leaves.{plain, valued}
@@ -16,7 +17,7 @@ use Rattle.book.specs.Compute.{computing}
 
 -- set r, R = 100, with its reply: a number, rounds and a node number
 abbrev replied : ℕ → List ℕ → ℕ → ℕ → ℕ → Event
-replied r f number rounds a = (set r 100 (frame f), record { number = number; rounds = rounds; value = a })
+replied r f number rounds a = (set alone r 100 (frame f), record { number = number; rounds = rounds; value = a })
 
 -- the first place of a set
 abbrev first : List Bool → Bool

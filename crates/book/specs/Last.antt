@@ -11,13 +11,14 @@ use Rattle.mucalculus.specs.Sets.{true-of}
 use Rattle.mucalculus.specs.Form.{noEnv}
 use Rattle.mucalculus.specs.Means.{means}
 use Rattle.tokens.specs.declared.Kind.the-variants.{Set}
+use Rattle.accounts.specs.declared.Terms.{Terms}
 use Rattle.book.specs.Book.{formulaIn, Book, Call, relation, set, clear, collect, Answer, answered, registers, modelOf, Done, withReg, setDone, does, play}
 use Rattle.book.specs.Stored.{range-cases, set-cases, relation-cases, some-inj, none-some, Passed, set-means}
 
 -- the call was an answered set or clear of register r
 abbrev pub touches : ℕ → Call → Answer → Bool
 touches r (relation t bs) a = false
-touches r (set q R bs) a = eqb (a .number) 0 && eqb r q
+touches r (set acc q R bs) a = eqb (a .number) 0 && eqb r q
 touches r (clear q) a = eqb (a .number) 0 && eqb r q
 touches r collect a = false
 
@@ -29,52 +30,53 @@ Untouched r b (c ∷ cs) = (touches r c (does b c .1) ≡ false) × Untouched r 
 -- the last answered set of register r in a list of calls, and what it says of the set A
 pub record LastSet (b : Book) (cs : List Call) (r : ℕ) (A : List Bool) : Type 0 where
   pub before : List Call
+  pub terms : Terms
   pub R : ℕ
   pub bytes : List ℕ
   pub after : List Call
-  pub split : cs ≡ before ++ (set r R bytes ∷ after)
-  pub answered : does (play b before .0) (set r R bytes) .1 .number ≡ 0
-  pub last : Untouched r (does (play b before .0) (set r R bytes) .0) after
+  pub split : cs ≡ before ++ (set terms r R bytes ∷ after)
+  pub answered : does (play b before .0) (set terms r R bytes) .1 .number ≡ 0
+  pub last : Untouched r (does (play b before .0) (set terms r R bytes) .0) after
   -- its bytes were a formula that passed the checks, and A holds exactly the states in which it held over the book as it stood then
   pub passed : Passed (play b before .0) Set bytes
   pub holds : A ≡ means (modelOf (play b before .0)) noEnv (formulaIn (play b before .0) Set bytes)
 
 -- one call that leaves A in register r: it did not touch r, or it was an answered set of it
 abbrev Comes : Book → ℕ → List Bool → Call → Done → Type 0
-Comes b r A c d = ((touches r c (d .1) ≡ false) × (b .reg r ≡ some A)) ⊎ ((R : ℕ) × (bs : List ℕ) × (c ≡ set r R bs) × (d .1 .number ≡ 0))
+Comes b r A c d = ((touches r c (d .1) ≡ false) × (b .reg r ≡ some A)) ⊎ ((acc : Terms) × (R : ℕ) × (bs : List ℕ) × (c ≡ set acc r R bs) × (d .1 .number ≡ 0))
 
 -- what an answered set leaves
-stored-comes : (b : Book) (r : ℕ) (A X : List Bool) (q R : ℕ) (bs : List ℕ) (k : ℕ) → setDone b q X k .0 .reg r ≡ some A → Comes b r A (set q R bs) (setDone b q X k)
-stored-comes b r A X q R bs k = go (eqb r q) refl
+stored-comes : (b : Book) (r : ℕ) (A X : List Bool) (acc : Terms) (q R : ℕ) (bs : List ℕ) (k : ℕ) → setDone b q X k .0 .reg r ≡ some A → Comes b r A (set acc q R bs) (setDone b q X k)
+stored-comes b r A X acc q R bs k = go (eqb r q) refl
   where
     go : (t : Bool) → eqb r q ≡ t → cond t (some X) (b .reg r) ≡ some A
-        → ((t ≡ false) × (b .reg r ≡ some A)) ⊎ ((R′ : ℕ) × (bs′ : List ℕ) × (set q R bs ≡ set r R′ bs′) × (_≡_ {A = ℕ} 0 0))
-    go true e h = inr (R, bs, ap (λ (x : ℕ). set x R bs) (sym (eqb→eq r q (subst T (sym e) tt))), refl)
+        → ((t ≡ false) × (b .reg r ≡ some A)) ⊎ ((acc′ : Terms) × (R′ : ℕ) × (bs′ : List ℕ) × (set acc q R bs ≡ set acc′ r R′ bs′) × (_≡_ {A = ℕ} 0 0))
+    go true e h = inr (acc, R, bs, ap (λ (x : ℕ). set acc x R bs) (sym (eqb→eq r q (subst T (sym e) tt))), refl)
     go false e h = inl (refl, h)
 
-cleared-comes : (b : Book) (r : ℕ) (A : List Bool) (q : ℕ) → withReg b q none (b .tally) .reg r ≡ some A → Comes b r A (clear q) (withReg b q none (b .tally), answered (some 0))
+cleared-comes : (b : Book) (r : ℕ) (A : List Bool) (q : ℕ) → withReg b q none .reg r ≡ some A → Comes b r A (clear q) (withReg b q none, answered (some 0))
 cleared-comes b r A q = go (eqb r q)
   where
-    go : (t : Bool) → cond t none (b .reg r) ≡ some A → ((t ≡ false) × (b .reg r ≡ some A)) ⊎ ((R′ : ℕ) × (bs′ : List ℕ) × (clear q ≡ set r R′ bs′) × (_≡_ {A = ℕ} 0 0))
+    go : (t : Bool) → cond t none (b .reg r) ≡ some A → ((t ≡ false) × (b .reg r ≡ some A)) ⊎ ((acc′ : Terms) × (R′ : ℕ) × (bs′ : List ℕ) × (clear q ≡ set acc′ r R′ bs′) × (_≡_ {A = ℕ} 0 0))
     go true h = absurd (none-some h)
     go false h = inl (refl, h)
 
 comes : (b : Book) (r : ℕ) (A : List Bool) (c : Call) → does b c .0 .reg r ≡ some A → Comes b r A c (does b c)
 comes b r A (relation t bs) = relation-cases (λ (d : Done). d .0 .reg r ≡ some A → Comes b r A (relation t bs) d) b t bs (λ k i j h. inl (refl, h)) (λ l p h. inl (refl, h))
-comes b r A (set q R bs) =
-    set-cases (λ (d : Done). d .0 .reg r ≡ some A → Comes b r A (set q R bs) d) b q R bs (λ k i j h. inl (ap (λ (x : Bool). x && eqb r q) (eqb·suc-zero k), h))
-    (λ l p k h. stored-comes b r A (means (modelOf b) noEnv (formulaIn b Set bs)) q R bs k h)
+comes b r A (set acc q R bs) =
+    set-cases (λ (d : Done). d .0 .reg r ≡ some A → Comes b r A (set acc q R bs) d) b acc q R bs (λ k i j h. inl (ap (λ (x : Bool). x && eqb r q) (eqb·suc-zero k), h))
+    (λ l p k h. stored-comes b r A (means (modelOf b) noEnv (formulaIn b Set bs)) acc q R bs k h)
 comes b r A (clear q) =
     range-cases (λ (d : Done). d .0 .reg r ≡ some A → Comes b r A (clear q) d) q registers _ _ (λ l h. cleared-comes b r A q h) (λ l h. inl (refl, h))
 comes b r A collect = λ h. inl (refl, h)
 
 -- an answered set of register r leaves its formula's meaning there
-set-holds : (b : Book) (r R : ℕ) (bs : List ℕ) (A : List Bool) → does b (set r R bs) .1 .number ≡ 0 → does b (set r R bs) .0 .reg r ≡ some A
+set-holds : (b : Book) (acc : Terms) (r R : ℕ) (bs : List ℕ) (A : List Bool) → does b (set acc r R bs) .1 .number ≡ 0 → does b (set acc r R bs) .0 .reg r ≡ some A
     → Passed b Set bs × (A ≡ means (modelOf b) noEnv (formulaIn b Set bs))
-set-holds b r R bs A z h =
-    let w = set-means b r R bs z in
+set-holds b acc r R bs A z h =
+    let w = set-means b acc r R bs z in
     let M = means (modelOf b) noEnv (formulaIn b Set bs) in
-    let new : does b (set r R bs) .0 .reg r ≡ some M =
+    let new : does b (set acc r R bs) .0 .reg r ≡ some M =
     ap (λ (x : Book). x .reg r) (w .stored .book) ∙ ap (λ (t : Bool). cond t (some M) (b .reg r)) (true-of (eqb r r) (eqb-refl r))
     in
     (w .passed, some-inj (sym h ∙ new))
@@ -88,14 +90,15 @@ last-set (c ∷ cs) b r A h = go (last-set cs (does b c .0) r A h)
     here u i (inl w) = inl ((w .0, u), w .1)
     here u i (inr w) =
         let P : Call → Type 0 = λ x. (does b x .1 .number ≡ 0) × Untouched r (does b x .0) cs × (does b x .0 .reg r ≡ some A) in
-        let x : P (set r (w .0) (w .1)) = subst P (w .2) (w .3, u, i) in
-        let y = set-holds b r (w .0) (w .1) A (x .0) (x .2) in
+        let x : P (set (w .0) r (w .1) (w .2)) = subst P (w .3) (w .4, u, i) in
+        let y = set-holds b (w .0) r (w .1) (w .2) A (x .0) (x .2) in
         inr (record {
           before = [];
-          R = w .0;
-          bytes = w .1;
+          terms = w .0;
+          R = w .1;
+          bytes = w .2;
           after = cs;
-          split = ap (λ (k : Call). k ∷ cs) (w .2);
+          split = ap (λ (k : Call). k ∷ cs) (w .3);
           answered = x .0;
           last = x .1;
           passed = y .0;
@@ -106,6 +109,7 @@ last-set (c ∷ cs) b r A h = go (last-set cs (does b c .0) r A h)
     go (inl w) = here (w .0) (w .1) (comes b r A c (w .1))
     go (inr w) = inr (record {
       before = c ∷ w .before;
+      terms = w .terms;
       R = w .R;
       bytes = w .bytes;
       after = w .after;

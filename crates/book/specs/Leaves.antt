@@ -15,21 +15,21 @@ use Rattle.diagram.specs.Keep.{Keeps, keeps-refl, keeps-denotes}
 use Rattle.diagram.specs.Grow.{empty-wellFormed}
 use Rattle.book.specs.Bridge.{fnOf, fnOfPairs}
 use Rattle.book.specs.Run.{value}
-use Rattle.book.specs.Book.{Book, tally, registers, relations, withRel, withReg, fresh, checks}
+use Rattle.book.specs.Book.{Book, registers, relations, withRel, withReg, fresh, checks}
 use Rattle.book.specs.Table.{Table, Reply, Place, Shows, arrowsOf, rootsOf}
 use Rattle.book.specs.Held.{held-arrow}
 use Rattle.book.specs.Roots.{arrowsOf-mem, shows-held}
 
 -- the table with other rows
 abbrev pub withRows : Table → Rows → Table
-withRows t rows = record { n = t .n; N = t .N; tally = t .tally; rows = rows; reg = t .reg; rel = t .rel }
+withRows t rows = record { n = t .n; N = t .N; rows = rows; reg = t .reg; rel = t .rel }
 
--- with the arrow in register r and the tally k
-abbrev pub storeReg : Table → ℕ → Option ℕ → ℕ → Table
-storeReg t r a k = record { n = t .n; N = t .N; tally = k; rows = t .rows; reg = put (t .reg) r a; rel = t .rel }
+-- with the arrow in register r
+abbrev pub storeReg : Table → ℕ → Option ℕ → Table
+storeReg t r a = record { n = t .n; N = t .N; rows = t .rows; reg = put (t .reg) r a; rel = t .rel }
 
 abbrev pub storeRel : Table → ℕ → Option ℕ → Table
-storeRel t q a = record { n = t .n; N = t .N; tally = t .tally; rows = t .rows; reg = t .reg; rel = put (t .rel) q a }
+storeRel t q a = record { n = t .n; N = t .N; rows = t .rows; reg = t .reg; rel = put (t .rel) q a }
 
 place-keeps : {X : Type 0} (m : ℕ) (before after : Rows) (roots : List ℕ) (f : X → Fn) (o : Option X) (u : Option ℕ) → Keeps before after roots → ((a : ℕ) → u ≡ some a → Mem a roots)
     → Place m before f o u → Place m after f o u
@@ -52,18 +52,16 @@ module _ (b : Book) (t : Table) (s : Shows b t) where
   shows-rows rows wf k = record {
     n = s .n;
     N = s .N;
-    tally = s .tally;
     wf = wf;
     reg = λ r l. place-keeps (2 * b .n) (t .rows) rows (rootsOf t) (fnOf (b .n)) (b .reg r) (t .reg r) k (λ a e. mem-left {s = arrowsOf registers (t .reg)} (arrowsOf relations (t .rel)) (arrowsOf-mem registers (t .reg) r a l e)) (s .reg r l);
     rel = λ r l. place-keeps (2 * b .n) (t .rows) rows (rootsOf t) (fnOfPairs (b .n)) (b .rel r) (t .rel r) k (λ a e. mem-right (arrowsOf registers (t .reg)) (arrowsOf-mem relations (t .rel) r a l e)) (s .rel r l);
   }
 
   -- an arrow stored in a register, or a register emptied
-  pub shows-reg : (r k : ℕ) (o : Option (List Bool)) (u : Option ℕ) → Place (2 * b .n) (t .rows) (fnOf (b .n)) o u → Shows (withReg b r o k) (storeReg t r u k)
-  shows-reg r k o u p = record {
+  pub shows-reg : (r : ℕ) (o : Option (List Bool)) (u : Option ℕ) → Place (2 * b .n) (t .rows) (fnOf (b .n)) o u → Shows (withReg b r o) (storeReg t r u)
+  shows-reg r o u p = record {
     n = s .n;
     N = s .N;
-    tally = refl;
     wf = s .wf;
     reg = λ q l. place-put (2 * b .n) (t .rows) (fnOf (b .n)) (b .reg) (t .reg) r o u p q (s .reg q l);
     rel = s .rel;
@@ -74,7 +72,6 @@ module _ (b : Book) (t : Table) (s : Shows b t) where
   shows-rel r o u p = record {
     n = s .n;
     N = s .N;
-    tally = s .tally;
     wf = s .wf;
     reg = s .reg;
     rel = λ q l. place-put (2 * b .n) (t .rows) (fnOfPairs (b .n)) (b .rel) (t .rel) r o u p q (s .rel q l);
@@ -147,11 +144,10 @@ module _ (b : Book) (t : Table) (s : Shows b t) where
 
 -- ---- fresh
 
--- a table just made: no row used, nothing filled, the tally at 0
+-- a table just made: no row used, nothing filled
 pub record Empty (n N : ℕ) (t : Table) : Type 0 where
   pub bits : t .n ≡ n
   pub size : t .N ≡ N
-  pub tally : t .tally ≡ 0
   pub unused : (i : ℕ) → t .rows .used i ≡ false
   pub reg : (r : ℕ) → r < registers → t .reg r ≡ none
   pub rel : (q : ℕ) → q < relations → t .rel q ≡ none
@@ -160,7 +156,6 @@ pub shows-fresh : (n N : ℕ) (t : Table) → Empty n N t → Shows (fresh n N) 
 shows-fresh n N t e = record {
   n = e .bits;
   N = e .size;
-  tally = e .tally;
   wf = empty-wellFormed (2 * n) N (t .rows) (e .unused);
   reg = λ r l. subst (λ (o : Option ℕ). Place (2 * n) (t .rows) (fnOf n) none o) (sym (e .reg r l)) tt;
   rel = λ q l. subst (λ (o : Option ℕ). Place (2 * n) (t .rows) (fnOfPairs n) none o) (sym (e .rel q l)) tt;

@@ -9,6 +9,7 @@ use Prim.Native.Nat.{ℕ, zero, suc, _*_, _^_, _<_, min}
 use native.Mathlib.Omega.{arith}
 use native.Mathlib.Decide.{ℕ-discrete, decLt}
 use lib.Dec.{T, ltb, eqb, eqb-refl}
+use Rattle.accounts.specs.declared.Terms.{Terms}
 use Rattle.mucalculus.specs.Sets.{mem, true-of, and-in}
 use Rattle.mucalculus.specs.Order.{weight}
 use Rattle.mucalculus.specs.Form.{filled}
@@ -18,7 +19,7 @@ use Rattle.diagram.specs.Den.{den-zero, den-one}
 use Rattle.diagram.specs.Canon.{canonical}
 use Rattle.diagram.specs.Keep.{keeps-reach-back, reach-within}
 use Rattle.book.specs.Bridge.{fnOf}
-use Rattle.book.specs.Book.{Book, Call, relation, set, clear, collect, Question, node, member, count, tally, Done, registers, refused, nodeOf, asked, oneOf, does, answer}
+use Rattle.book.specs.Book.{Book, Call, relation, set, clear, collect, Question, node, member, count, Done, registers, refused, nodeOf, asked, oneOf, does, answer}
 use Rattle.book.specs.Stored.{Whole, set-cases, relation-cases, range-cases, set-means, some-inj, none-some}
 use Rattle.book.specs.Table.{Table, Reply, Shows, SettledTo, Agrees, Serves, Tells}
 use Rattle.book.specs.Roots.{roots-within}
@@ -65,7 +66,7 @@ settled-number b t u s z r l x y h i j =
 -- what is settled of a call's value: "Free for the builder: node numbers above 1"
 abbrev pub settledIn : Call → ℕ → ℕ
 settledIn (relation t bs) v = v
-settledIn (set r R bs) v = min v 2
+settledIn (set acc r R bs) v = min v 2
 settledIn (clear r) v = v
 settledIn collect v = v
 
@@ -79,9 +80,9 @@ told true (some A) g = tt
 told false o g = tt
 
 -- the number that an answered set returned stands in its register
-set-stores : (b : Book) (r R : ℕ) (bs : List ℕ) {t u : Table} {y : Reply} → Serves b (set r R bs) t u y → r < registers → y .number ≡ 0
+set-stores : (b : Book) (acc : Terms) (r R : ℕ) (bs : List ℕ) {t u : Table} {y : Reply} → Serves b (set acc r R bs) t u y → r < registers → y .number ≡ 0
     → u .reg r ≡ some (y .value)
-set-stores b r R bs {t} {u} {y} p l i =
+set-stores b acc r R bs {t} {u} {y} p l i =
     let both = and-in (eqb (y .number) 0) (eqb r r) (subst (λ (k : ℕ). T (eqb k 0)) (sym i) tt) (eqb-refl r) in
     p .numbers r l ∙ ap (λ (e : Bool). cond e (some (y .value)) (t .reg r)) (true-of (eqb (y .number) 0 && eqb r r) both)
 
@@ -90,20 +91,20 @@ pub call-value : (c : Call) (b : Book) {s t u v : Table} {y z : Reply} → Serve
     → settledIn c (y .value) ≡ settledIn c (z .value)
 call-value (relation t bs) b p q =
     one-value (does b (relation t bs) .1 .value) (relation-cases (λ (d : Done). T (filled (d .1 .value))) b t bs (λ k i j. tt) (λ l h. tt)) (p .agrees .value) (q .agrees .value)
-call-value (set r R bs) b {u = u} {v} {y} {z} p q = by-cases (ℕ-discrete (y .number) 0) answered refusing
+call-value (set acc r R bs) b {u = u} {v} {y} {z} p q = by-cases (ℕ-discrete (y .number) 0) answered refusing
   where
     answered : y .number ≡ 0 → min (y .value) 2 ≡ min (z .value) 2
     answered i =
-        let l = set-means b r R bs (sym (p .agrees .number) ∙ i) .range in
-        let j = set-stores b r R bs p l i in
-        let k = set-stores b r R bs q l (q .agrees .number ∙ sym (p .agrees .number) ∙ i) in
+        let l = set-means b acc r R bs (sym (p .agrees .number) ∙ i) .range in
+        let j = set-stores b acc r R bs p l i in
+        let k = set-stores b acc r R bs q l (q .agrees .number ∙ sym (p .agrees .number) ∙ i) in
         by-cases (decLt (y .value) 2) (λ h. ap (λ (n : ℕ). min n 2) (sym (settled-number _ u v (p .shows) (q .shows) r l (y .value) (z .value) h j k))) (λ n.
         by-cases (decLt (z .value) 2) (λ h. ap (λ (n : ℕ). min n 2) (settled-number _ v u (q .shows) (p .shows) r l (z .value) (y .value) h k j)) (λ m. omega arith))
 
     refusing : (y .number ≡ 0 → ⊥) → min (y .value) 2 ≡ min (z .value) 2
     refusing n =
-        let settled = set-cases (λ (d : Done). (d .1 .number ≡ 0 → ⊥) → T (filled (d .1 .value))) b r R bs (λ k i j m. tt) (λ l h k m. absurd (m refl)) (λ e. n (p .agrees .number ∙ e)) in
-        ap (λ (k : ℕ). min k 2) (one-value (does b (set r R bs) .1 .value) settled (p .agrees .value) (q .agrees .value))
+        let settled = set-cases (λ (d : Done). (d .1 .number ≡ 0 → ⊥) → T (filled (d .1 .value))) b acc r R bs (λ k i j m. tt) (λ l h k m. absurd (m refl)) (λ e. n (p .agrees .number ∙ e)) in
+        ap (λ (k : ℕ). min k 2) (one-value (does b (set acc r R bs) .1 .value) settled (p .agrees .value) (q .agrees .value))
 call-value (clear r) b p q =
     one-value (does b (clear r) .1 .value) (range-cases (λ (d : Done). T (filled (d .1 .value))) r registers _ _ (λ l. tt) (λ l. tt)) (p .agrees .value) (q .agrees .value)
 call-value collect b p q = p .agrees .value ∙ sym (q .agrees .value)
@@ -119,7 +120,6 @@ ask-value (node r) b h {y} {z} p q = go (ltb r registers) (b .reg r) (p .agrees)
 ask-value (member r s) b h p q =
     one-value (answer b (member r s) .value) (told (ltb r registers && ltb s (2 ^ b .n)) (b .reg r) (λ A. oneOf (mem A s))) (p .agrees .value) (q .agrees .value)
 ask-value (count r) b h p q = one-value (answer b (count r) .value) (told (ltb r registers) (b .reg r) (weight true)) (p .agrees .value) (q .agrees .value)
-ask-value tally b h p q = p .agrees .value ∙ sym (q .agrees .value)
 
 -- ---- rows
 

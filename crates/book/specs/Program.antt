@@ -9,6 +9,7 @@ use native.Mathlib.Omega.{arith}
 use lib.Dec.{T, leb, ltb, ltb→lt, lt→ltb, eqb}
 use lib.ListN.{length, getD, take, drop}
 use Rattle.mucalculus.specs.Order.{weight}
+use Rattle.accounts.specs.Terms.{alone}
 use Rattle.book.specs.Book.{Book, fresh, freshFits, Call, relation, set, clear, collect, count, Done, does, answer}
 use Rattle.book.specs.Compute.{computing}
 
@@ -35,7 +36,7 @@ abbrev pub commandOf : ℕ → List ℕ → Option Command
 commandOf op xs =
     cond (eqb op 1) (cond (eqb (length xs) 3) (some (start (at 0) (at 1 * 256 + at 2))) none)
     (cond (eqb op 2) (cond (leb 1 (length xs)) (some (call (relation (at 0) (drop 1 xs)))) none)
-    (cond (eqb op 3) (cond (leb 5 (length xs)) (some (call (set (at 0) (((at 1 * 256 + at 2) * 256 + at 3) * 256 + at 4) (drop 5 xs)))) none)
+    (cond (eqb op 3) (cond (leb 5 (length xs)) (some (call (set alone (at 0) (((at 1 * 256 + at 2) * 256 + at 3) * 256 + at 4) (drop 5 xs)))) none)
     (cond (eqb op 4) (cond (eqb (length xs) 1) (some (call (clear (at 0)))) none)
     (cond (eqb op 5) (cond (eqb (length xs) 1) (some (states (at 0))) none)
     (cond (eqb op 6) (cond (eqb (length xs) 0) (some (call collect)) none)
@@ -58,14 +59,14 @@ valueOf (some x) = x
 -- the operation of a call
 abbrev pub opOf : Call → ℕ
 opOf (relation t bs) = 2
-opOf (set r R bs) = 3
+opOf (set acc r R bs) = 3
 opOf (clear r) = 4
 opOf collect = 6
 
 -- "value (3 and 5: states in r; 6: rows; else 0)", of an answered call
 abbrev pub shown : Call → Done → ℕ
 shown (relation t bs) d = 0
-shown (set r R bs) d = statesIn (d .0 .reg r)
+shown (set acc r R bs) d = statesIn (d .0 .reg r)
 shown (clear r) d = 0
 shown collect d = valueOf (d .1 .value)
 

@@ -1,4 +1,4 @@
--- NODE, MEMBER, COUNT and TALLY: from what the code finds in the table to the question's contract. Assumes nothing.
+-- NODE, MEMBER and COUNT: from what the code finds in the table to the question's contract. Assumes nothing.
 use mathlib.Core.Path.{_≡_, refl, sym, ap, _∙_, subst}
 use mathlib.Core.Bool.{Bool, true, cond, _&&_}
 use mathlib.Core.List.{List}
@@ -11,7 +11,7 @@ use Rattle.mucalculus.specs.Order.{weight}
 use Rattle.diagram.specs.Rows.{den}
 use Rattle.book.specs.States.{pairVal, nowOf-pairVal}
 use Rattle.book.specs.Bridge.{setOf, setOf-fnOf}
-use Rattle.book.specs.Book.{Book, Question, node, member, count, tally, Answer, refused, answered, registers, nodeOf, asked, oneOf, answer}
+use Rattle.book.specs.Book.{Book, Question, node, member, count, Answer, refused, answered, registers, nodeOf, asked, oneOf, answer}
 use Rattle.book.specs.Stored.{Whole}
 use Rattle.book.specs.Effects.{in-range, out-of-range}
 use Rattle.book.specs.Table.{Table, Shows, Agrees, NodeSays, Tells}
@@ -35,7 +35,6 @@ refusal-tells b q h k e = record { agrees = refusal-agrees (answer b q) (suc k) 
     says (node r) = λ z. absurd (omega arith)
     says (member r s) = tt
     says (count r) = tt
-    says tally = tt
 
 -- member's two numbers are in range
 module _ (r u limit : ℕ) (x y : Answer) where
@@ -104,7 +103,3 @@ module _ (b : Book) (t : Table) (r a : ℕ) (s : Shows b t) (l : r < registers) 
             (in-range _ (refused 3) r registers l ∙ ap (λ (o : Option (List Bool)). asked o (λ A. some (weight true A))) i ∙ ap (λ (B : List Bool). answered (some (weight true B))) same);
         nodeSays = tt;
       }
-
--- TALLY
-pub tally-tells : (b : Book) (t : Table) → Shows b t → Tells b tally (t .reg) (valued (t .tally))
-tally-tells b t s = record { agrees = value-agrees (answer b tally) (t .tally) (ap (λ (k : ℕ). answered (some k)) (sym (s .tally))); nodeSays = tt }

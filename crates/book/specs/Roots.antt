@@ -89,7 +89,7 @@ kept-before c y t = roots-within t t (keptReg c y (t .reg)) (λ q. cond (storesR
   where
     reg : (c : Call) (i a : ℕ) → keptReg c y (t .reg) i ≡ some a → t .reg i ≡ some a
     reg (relation q bs) i a e = e
-    reg (set q R bs) i a e = cond-filled (eqb (y .number) 0 && eqb i q) (t .reg i) a e .1
+    reg (set acc q R bs) i a e = cond-filled (eqb (y .number) 0 && eqb i q) (t .reg i) a e .1
     reg (clear q) i a e = cond-filled (eqb (y .number) 0 && eqb i q) (t .reg i) a e .1
     reg collect i a e = e
 
@@ -106,6 +106,6 @@ kept-after c y t u p q =
 
     reg : (c : Call) (i a : ℕ) → keptReg c y (t .reg) i ≡ some a → noted (t .reg i) c y i ≡ some a
     reg (relation x bs) i a e = e
-    reg (set x R bs) i a e = other (eqb (y .number) 0 && eqb i x) (some (y .value)) (t .reg i) a e
+    reg (set acc x R bs) i a e = other (eqb (y .number) 0 && eqb i x) (some (y .value)) (t .reg i) a e
     reg (clear x) i a e = other (eqb (y .number) 0 && eqb i x) none (t .reg i) a e
     reg collect i a e = e

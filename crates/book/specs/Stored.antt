@@ -16,10 +16,12 @@ use Rattle.tokens.specs.declared.Kind.{Kind}
 use Rattle.formula.specs.Parse.{isFormula, formulaOf}
 use Rattle.formula.specs.Checks.{filled, firstOf, firstRefusal}
 use Rattle.tokens.specs.declared.Kind.the-variants.{Relation, Set}
+use Rattle.accounts.specs.declared.Terms.{Terms}
+use Rattle.accounts.specs.Terms.{named, rowsUnder, roundsUnder}
 use Rattle.book.specs.Bridge.{Sized, SizedPairs, sized-table}
 use Rattle.book.specs.Ticks.{ticks, pairTicks, Verdict, counted, full, spent, verdict}
 use Rattle.book.specs.Verdicts.{verdict-counted, ticks-rounds}
-use Rattle.book.specs.Book.{formulaIn, Book, fresh, Call, relation, set, clear, collect, registers, relations, modelOf, liveOf, regFilled, relFilled, checks, Done, refuse, withRel, withReg, tallied, tallyTop, ended, relationDone, setDone, relationSteps, setSteps, passing, formulaCall, does}
+use Rattle.book.specs.Book.{formulaIn, Book, fresh, Call, relation, set, clear, collect, registers, relations, modelOf, liveOf, regFilled, relFilled, checks, Done, refuse, withRel, withReg, ended, relationDone, setDone, relationSteps, setSteps, passing, formulaCall, does}
 
 -- ---- the checks
 
@@ -85,13 +87,20 @@ ended-cases P b (counted q) go k x y = k q
 ended-cases P b full go k x y = x
 ended-cases P b spent go k x y = y
 
--- a property of what a set or relation call leaves and answers holds if it holds of each refusal, 3 to 9, and of what is stored
-pub set-cases : (P : Done → Type 0) (b : Book) (r R : ℕ) (bs : List ℕ) → ((k : ℕ) → 2 ≤ k → k ≤ 8 → P (refuse b (suc k)))
-    → (r < registers → Passed b Set bs → (q : ℕ) → P (setDone b r (means (modelOf b) noEnv (formulaIn b Set bs)) q)) → P (does b (set r R bs))
-set-cases P b r R bs refuses goes =
+-- a test that holds, or fails
+test-cases : {X : Type 0} (P : X → Type 0) (t : Bool) (x y : X) → (T t → P x) → (t ≡ false → P y) → P (cond t x y)
+test-cases P true x y p q = p tt
+test-cases P false x y p q = q refl
+
+-- a property of what a set or relation call leaves and answers holds if it holds of each refusal, 3 to 9 and 14, and of what is stored
+pub set-cases : (P : Done → Type 0) (b : Book) (acc : Terms) (r R : ℕ) (bs : List ℕ) → ((k : ℕ) → 2 ≤ k → k ≤ 13 → P (refuse b (suc k)))
+    → (r < registers → Passed b Set bs → (q : ℕ) → P (setDone b r (means (modelOf b) noEnv (formulaIn b Set bs)) q)) → P (does b (set acc r R bs))
+set-cases P b acc r R bs refuses goes =
     range-cases P r registers _ _
-    (λ l. formula-cases b Set bs P (setSteps b r R) (λ k i j. refuses k (omega arith) (omega arith))
-    (λ p. ended-cases P b (verdict (b .N) R 0 (ticks (modelOf b) noEnv (liveOf b) (formulaIn b Set bs))) _ (goes l p) (refuses 7 (omega arith) (omega arith)) (refuses 8 (omega arith) (omega arith))))
+    (λ l. test-cases P (named acc) _ _
+    (λ t. formula-cases b Set bs P (setSteps b acc r R) (λ k i j. refuses k (omega arith) (omega arith))
+    (λ p. ended-cases P b (verdict (rowsUnder (b .N) acc) (roundsUnder R acc) 0 (ticks (modelOf b) noEnv (liveOf b) (formulaIn b Set bs))) _ (goes l p) (refuses 7 (omega arith) (omega arith)) (refuses 8 (omega arith) (omega arith))))
+    (λ e. refuses 13 (omega arith) (omega arith)))
     (λ l. refuses 2 (omega arith) (omega arith))
 
 pub relation-cases : (P : Done → Type 0) (b : Book) (t : ℕ) (bs : List ℕ) → ((k : ℕ) → 2 ≤ k → k ≤ 8 → P (refuse b (suc k)))
@@ -105,36 +114,39 @@ relation-cases P b t bs refuses goes =
 -- ---- what is stored
 
 -- "register r exactly the states in which the formula holds", with the formula's rounds
-pub record SetStored (b : Book) (r R : ℕ) (f : Form) (d : Done) : Type 0 where
-  pub book : d .0 ≡ withReg b r (some (means (modelOf b) noEnv f)) (tallied (b .tally) (rounds (modelOf b) noEnv f))
+pub record SetStored (b : Book) (acc : Terms) (r R : ℕ) (f : Form) (d : Done) : Type 0 where
+  pub book : d .0 ≡ withReg b r (some (means (modelOf b) noEnv f))
   pub count : d .1 .rounds ≡ rounds (modelOf b) noEnv f
-  pub within : rounds (modelOf b) noEnv f ≤ R
+  pub within : rounds (modelOf b) noEnv f ≤ roundsUnder R acc
 
-pub set-stored : (b : Book) (r R : ℕ) (f : Form) → setSteps b r R f .1 .number ≡ 0 → SetStored b r R f (setSteps b r R f)
-set-stored b r R f h = go (verdict (b .N) R 0 (ticks (modelOf b) noEnv (liveOf b) f)) refl h
+pub set-stored : (b : Book) (acc : Terms) (r R : ℕ) (f : Form) → setSteps b acc r R f .1 .number ≡ 0 → SetStored b acc r R f (setSteps b acc r R f)
+set-stored b acc r R f h = go (verdict (rowsUnder (b .N) acc) (roundsUnder R acc) 0 (ticks (modelOf b) noEnv (liveOf b) f)) refl h
   where
     A : List Bool
     A = means (modelOf b) noEnv f
 
-    go : (w : Verdict) → verdict (b .N) R 0 (ticks (modelOf b) noEnv (liveOf b) f) ≡ w → ended b w (λ q. setDone b r A q) .1 .number ≡ 0 → SetStored b r R f (ended b w (λ q. setDone b r A q))
+    go : (w : Verdict) → verdict (rowsUnder (b .N) acc) (roundsUnder R acc) 0 (ticks (modelOf b) noEnv (liveOf b) f) ≡ w → ended b w (λ q. setDone b r A q) .1 .number ≡ 0 → SetStored b acc r R f (ended b w (λ q. setDone b r A q))
     go (counted q) e z =
-        let d = verdict-counted (b .N) R 0 (ticks (modelOf b) noEnv (liveOf b) f) q zero-le e in
+        let d = verdict-counted (rowsUnder (b .N) acc) (roundsUnder R acc) 0 (ticks (modelOf b) noEnv (liveOf b) f) q zero-le e in
         let i : q ≡ rounds (modelOf b) noEnv f = omega (arith, d .0, ticks-rounds (modelOf b) noEnv (liveOf b) f) in
-        record { book = ap (λ (k : ℕ). withReg b r (some A) (tallied (b .tally) k)) i; count = i; within = omega (arith, d .1) }
+        record { book = refl; count = i; within = omega (arith, d .1) }
     go full e z = absurd (omega arith)
     go spent e z = absurd (omega arith)
 
 -- an answered set call: its bytes were a formula, which passed the checks, and its meaning is what register r holds
-pub record Sets (b : Book) (r R : ℕ) (bs : List ℕ) (d : Done) : Type 0 where
+pub record Sets (b : Book) (acc : Terms) (r R : ℕ) (bs : List ℕ) (d : Done) : Type 0 where
   pub range : r < registers
+  pub listed : T (named acc)
   pub passed : Passed b Set bs
-  pub stored : SetStored b r R (formulaIn b Set bs) d
+  pub stored : SetStored b acc r R (formulaIn b Set bs) d
 
-pub set-means : (b : Book) (r R : ℕ) (bs : List ℕ) → does b (set r R bs) .1 .number ≡ 0 → Sets b r R bs (does b (set r R bs))
-set-means b r R bs =
-    range-cases (λ (d : Done). d .1 .number ≡ 0 → Sets b r R bs d) r registers _ _
-    (λ l. formula-cases b Set bs (λ (d : Done). d .1 .number ≡ 0 → Sets b r R bs d) (setSteps b r R) (λ k i j z. absurd (omega arith))
-    (λ p z. record { range = l; passed = p; stored = set-stored b r R (formulaIn b Set bs) z }))
+pub set-means : (b : Book) (acc : Terms) (r R : ℕ) (bs : List ℕ) → does b (set acc r R bs) .1 .number ≡ 0 → Sets b acc r R bs (does b (set acc r R bs))
+set-means b acc r R bs =
+    range-cases (λ (d : Done). d .1 .number ≡ 0 → Sets b acc r R bs d) r registers _ _
+    (λ l. test-cases (λ (d : Done). d .1 .number ≡ 0 → Sets b acc r R bs d) (named acc) _ _
+    (λ t. formula-cases b Set bs (λ (d : Done). d .1 .number ≡ 0 → Sets b acc r R bs d) (setSteps b acc r R) (λ k i j z. absurd (omega arith))
+    (λ p z. record { range = l; listed = t; passed = p; stored = set-stored b acc r R (formulaIn b Set bs) z }))
+    (λ e z. absurd (omega arith)))
     (λ l z. absurd (omega arith))
 
 -- an answered relation call: its bytes were a formula, and the pairs in which it holds are what relation t holds
@@ -146,18 +158,6 @@ pub record Relates (b : Book) (t : ℕ) (bs : List ℕ) (d : Done) : Type 0 wher
 pub relation-means : (b : Book) (t : ℕ) (bs : List ℕ) → does b (relation t bs) .1 .number ≡ 0 → Relates b t bs (does b (relation t bs))
 relation-means b t bs =
     relation-cases (λ (d : Done). d .1 .number ≡ 0 → Relates b t bs d) b t bs (λ k i j z. absurd (omega arith)) (λ l p z. record { range = l; passed = p; stored = refl })
-
--- ---- the tally
-
-pub tally-bound : (k q : ℕ) → tallied k q ≤ tallyTop
-tally-bound k q = omega arith
-
--- it stays at the top once it would pass that
-pub tally-stays : (k q : ℕ) → tallyTop ≤ k + q → tallied k q ≡ tallyTop
-tally-stays k q h = omega arith
-
-pub tally-counts : (k q : ℕ) → k + q ≤ tallyTop → tallied k q ≡ k + q
-tally-counts k q h = omega arith
 
 -- ---- every filled place has its full size, and none is filled past the registers and relations
 
@@ -183,8 +183,8 @@ none-some e = let z : _≡_ {A = ℕ} 0 1 = cc in absurd (omega arith)
 pub whole-fresh : (n N : ℕ) → Whole (fresh n N)
 whole-fresh n N = record { reg = λ r A e. absurd (none-some e); rel = λ t Q e. absurd (none-some e) }
 
-whole-reg : (b : Book) (r k : ℕ) (o : Option (List Bool)) → Whole b → ((A : List Bool) → o ≡ some A → Sized (b .n) A × (r < registers)) → Whole (withReg b r o k)
-whole-reg b r k o w h = record { reg = put-cases (b .reg) r o (λ i A. Sized (b .n) A × (i < registers)) h (w .reg); rel = w .rel }
+whole-reg : (b : Book) (r : ℕ) (o : Option (List Bool)) → Whole b → ((A : List Bool) → o ≡ some A → Sized (b .n) A × (r < registers)) → Whole (withReg b r o)
+whole-reg b r o w h = record { reg = put-cases (b .reg) r o (λ i A. Sized (b .n) A × (i < registers)) h (w .reg); rel = w .rel }
 
 whole-rel : (b : Book) (t : ℕ) (f : Form) → t < relations → Whole b → Whole (withRel b t (some (meansPair (b .n) f)))
 whole-rel b t f l w = record {
@@ -195,10 +195,10 @@ whole-rel b t f l w = record {
 -- a call keeps the book whole
 pub whole-does : (b : Book) (c : Call) → Whole b → Whole (does b c .0)
 whole-does b (relation t bs) w = relation-cases (λ (d : Done). Whole (d .0)) b t bs (λ k i j. w) (λ l p. whole-rel b t (formulaIn b Relation bs) l w)
-whole-does b (set r R bs) w =
-    set-cases (λ (d : Done). Whole (d .0)) b r R bs (λ k i j. w) (λ l p q.
+whole-does b (set acc r R bs) w =
+    set-cases (λ (d : Done). Whole (d .0)) b acc r R bs (λ k i j. w) (λ l p q.
     let f = formulaIn b Set bs in
-    whole-reg b r (tallied (b .tally) q) (some (means (modelOf b) noEnv f)) w (λ B i. (ap length (sym (some-inj i)) ∙ length-means (modelOf b) noEnv f, l)))
+    whole-reg b r (some (means (modelOf b) noEnv f)) w (λ B i. (ap length (sym (some-inj i)) ∙ length-means (modelOf b) noEnv f, l)))
 whole-does b (clear r) w =
-    range-cases (λ (d : Done). Whole (d .0)) r registers _ _ (λ l. whole-reg b r (b .tally) none w (λ A i. absurd (none-some i))) (λ l. w)
+    range-cases (λ (d : Done). Whole (d .0)) r registers _ _ (λ l. whole-reg b r none w (λ A i. absurd (none-some i))) (λ l. w)
 whole-does b collect w = w

@@ -11,13 +11,12 @@ use Rattle.diagram.specs.Post.{Denotes}
 use Rattle.diagram.specs.Reach.{Reach}
 use Rattle.diagram.specs.Keep.{Keeps}
 use Rattle.book.specs.Bridge.{fnOf, fnOfPairs}
-use Rattle.book.specs.Book.{Book, Call, relation, set, clear, collect, Question, node, member, count, tally, Answer, registers, relations, does, answer}
+use Rattle.book.specs.Book.{Book, Call, relation, set, clear, collect, Question, node, member, count, Answer, registers, relations, does, answer}
 
 -- a table: its header, its rows, and the arrow in each register and relation
 pub record Table : Type 0 where
   pub n : ℕ
   pub N : ℕ
-  pub tally : ℕ
   pub rows : Rows
   pub reg : ℕ → Option ℕ
   pub rel : ℕ → Option ℕ
@@ -39,7 +38,6 @@ Place m rows f (some x) (some a) = Denotes m rows a (f x)
 pub record Shows (b : Book) (t : Table) : Type 0 where
   pub n : t .n ≡ b .n
   pub N : t .N ≡ b .N
-  pub tally : t .tally ≡ b .tally
   pub wf : WellFormed (2 * b .n) (b .N) (t .rows)
   pub reg : (r : ℕ) → r < registers → Place (2 * b .n) (t .rows) (fnOf (b .n)) (b .reg r) (t .reg r)
   pub rel : (r : ℕ) → r < relations → Place (2 * b .n) (t .rows) (fnOfPairs (b .n)) (b .rel r) (t .rel r)
@@ -79,21 +77,21 @@ Refusal k y = (y .number ≡ k) × (y .rounds ≡ 0) × (y .value ≡ 0)
 -- "A register keeps its number until it is set or cleared": register r's number after a call, from the one before it
 abbrev pub noted : Option ℕ → Call → Reply → ℕ → Option ℕ
 noted x (relation t bs) y r = x
-noted x (set q R bs) y r = cond (eqb (y .number) 0 && eqb r q) (some (y .value)) x
+noted x (set acc q R bs) y r = cond (eqb (y .number) 0 && eqb r q) (some (y .value)) x
 noted x (clear q) y r = cond (eqb (y .number) 0 && eqb r q) none x
 noted x collect y r = x
 
 -- the call was an answered relation q
 abbrev pub storesRel : Call → Reply → ℕ → Bool
 storesRel (relation t bs) y q = eqb (y .number) 0 && eqb q t
-storesRel (set r R bs) y q = false
+storesRel (set acc r R bs) y q = false
 storesRel (clear r) y q = false
 storesRel collect y q = false
 
 -- the roots that a call leaves as they are: all but an answered call's target
 abbrev pub keptReg : Call → Reply → (ℕ → Option ℕ) → ℕ → Option ℕ
 keptReg (relation t bs) y h r = h r
-keptReg (set q R bs) y h r = cond (eqb (y .number) 0 && eqb r q) none (h r)
+keptReg (set acc q R bs) y h r = cond (eqb (y .number) 0 && eqb r q) none (h r)
 keptReg (clear q) y h r = cond (eqb (y .number) 0 && eqb r q) none (h r)
 keptReg collect y h r = h r
 
@@ -103,7 +101,7 @@ keptRoots c y t = arrowsOf registers (keptReg c y (t .reg)) ++ arrowsOf relation
 -- "unneeded rows (none is left used by an answered collect)": each used row is reached from a register or relation
 abbrev pub Swept : Call → Table → Type 0
 Swept (relation t bs) after = Unit {0}
-Swept (set r R bs) after = Unit {0}
+Swept (set acc r R bs) after = Unit {0}
 Swept (clear r) after = Unit {0}
 Swept collect after = (i : ℕ) → after .rows .used i ≡ true → Reach (after .rows) (rootsOf after) i
 
@@ -113,7 +111,7 @@ pub record Serves (b : Book) (c : Call) (before after : Table) (y : Reply) : Typ
   pub agrees : Agrees (does b c .1) y
   pub numbers : (r : ℕ) → r < registers → after .reg r ≡ noted (before .reg r) c y r
   pub rels : (q : ℕ) → q < relations → storesRel c y q ≡ false → after .rel q ≡ before .rel q
-  -- "Kept: registers, relations, tally, rows they need", row by row
+  -- "Kept: registers, relations, rows they need", row by row
   pub kept : Keeps (before .rows) (after .rows) (keptRoots c y before)
   pub swept : Swept c after
 
@@ -124,7 +122,6 @@ abbrev pub NodeSays : (ℕ → Option ℕ) → Question → Reply → Type 0
 NodeSays h (node q) y = y .number ≡ 0 → h q ≡ some (y .value)
 NodeSays h (member q s) y = Unit {0}
 NodeSays h (count q) y = Unit {0}
-NodeSays h tally y = Unit {0}
 
 -- what one question's contract gives on a table that shows the book
 pub record Tells (b : Book) (q : Question) (h : ℕ → Option ℕ) (y : Reply) : Type 0 where

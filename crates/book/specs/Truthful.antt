@@ -14,6 +14,8 @@ use Rattle.mucalculus.specs.Form.{noEnv}
 use Rattle.mucalculus.specs.Means.{means}
 use Rattle.mucalculus.specs.Rounds.{rounds, binders, rounds-bound}
 use Rattle.tokens.specs.declared.Kind.the-variants.{Set}
+use Rattle.accounts.specs.declared.Terms.{Terms}
+use Rattle.accounts.specs.Terms.{roundsUnder}
 use Rattle.book.specs.Book.{formulaIn, Book, Call, relation, set, clear, collect, member, count, refused, registers, modelOf, Done, asked, oneOf, does, play, answer}
 use Rattle.book.specs.Stored.{range-cases, set-cases, relation-cases, some-inj, set-means}
 use Rattle.book.specs.Table.{Reply, SettledTo, Agrees}
@@ -21,23 +23,23 @@ use Rattle.book.specs.Demand.{Event, calls, AllAgree}
 
 -- ---- an answered set
 
-module _ (b : Book) (r R : ℕ) (bs : List ℕ) (y : Reply) (a : Agrees (does b (set r R bs) .1) y) (z : y .number ≡ 0) where
+module _ (b : Book) (acc : Terms) (r R : ℕ) (bs : List ℕ) (y : Reply) (a : Agrees (does b (set acc r R bs) .1) y) (z : y .number ≡ 0) where
   -- its rounds are its formula's
-  pub rounds-told : (y .rounds ≡ rounds (modelOf b) noEnv (formulaIn b Set bs)) × (y .rounds ≤ R)
+  pub rounds-told : (y .rounds ≡ rounds (modelOf b) noEnv (formulaIn b Set bs)) × (y .rounds ≤ roundsUnder R acc)
   rounds-told =
-      let w = set-means b r R bs (sym (a .number) ∙ z) .stored in
+      let w = set-means b acc r R bs (sym (a .number) ∙ z) .stored in
       let q = a .rounds ∙ w .count in
-      (q, subst (λ (k : ℕ). k ≤ R) (sym q) (w .within))
+      (q, subst (λ (k : ℕ). k ≤ roundsUnder R acc) (sym q) (w .within))
 
   -- "With one binder in the formula the rounds are at most 2^n + 1"
   pub one-binder : binders (formulaIn b Set bs) ≤ 1 → y .rounds ≤ suc (2 ^ b .n)
   one-binder h = subst (λ (k : ℕ). k ≤ suc (2 ^ b .n)) (sym (rounds-told .0)) (rounds-bound (modelOf b) noEnv (formulaIn b Set bs) h)
 
   -- the register holds the states in which the formula holds
-  pub set-leaves : does b (set r R bs) .0 .reg r ≡ some (means (modelOf b) noEnv (formulaIn b Set bs))
+  pub set-leaves : does b (set acc r R bs) .0 .reg r ≡ some (means (modelOf b) noEnv (formulaIn b Set bs))
   set-leaves =
       let M = means (modelOf b) noEnv (formulaIn b Set bs) in
-      ap (λ (x : Book). x .reg r) (set-means b r R bs (sym (a .number) ∙ z) .stored .book) ∙ ap (λ (t : Bool). cond t (some M) (b .reg r)) (true-of (eqb r r) (eqb-refl r))
+      ap (λ (x : Book). x .reg r) (set-means b acc r R bs (sym (a .number) ∙ z) .stored .book) ∙ ap (λ (t : Bool). cond t (some M) (b .reg r)) (true-of (eqb r r) (eqb-refl r))
 
 -- ---- an answered question
 
@@ -70,22 +72,22 @@ module _ (b : Book) where
 
 -- ---- DEMAND 2: "A state is in the set of an answered formula exactly when the mu-calculus says so"
 
-module _ (b : Book) (r R : ℕ) (bs : List ℕ) (y : Reply) (a : Agrees (does b (set r R bs) .1) y) (z : y .number ≡ 0) where
-  pub set-member : (s : ℕ) (x : Reply) → Agrees (answer (does b (set r R bs) .0) (member r s)) x → x .number ≡ 0 → (x .value ≡ 1) ↔ T (mem (means (modelOf b) noEnv (formulaIn b Set bs)) s)
+module _ (b : Book) (acc : Terms) (r R : ℕ) (bs : List ℕ) (y : Reply) (a : Agrees (does b (set acc r R bs) .1) y) (z : y .number ≡ 0) where
+  pub set-member : (s : ℕ) (x : Reply) → Agrees (answer (does b (set acc r R bs) .0) (member r s)) x → x .number ≡ 0 → (x .value ≡ 1) ↔ T (mem (means (modelOf b) noEnv (formulaIn b Set bs)) s)
   set-member s x h i =
-      let w = member-told (does b (set r R bs) .0) r s x h i in
-      subst (λ (A : List Bool). (x .value ≡ 1) ↔ T (mem A s)) (some-inj (sym (w .1) ∙ set-leaves b r R bs y a z)) (w .2)
+      let w = member-told (does b (set acc r R bs) .0) r s x h i in
+      subst (λ (A : List Bool). (x .value ≡ 1) ↔ T (mem A s)) (some-inj (sym (w .1) ∙ set-leaves b acc r R bs y a z)) (w .2)
 
-  pub set-count : (x : Reply) → Agrees (answer (does b (set r R bs) .0) (count r)) x → x .number ≡ 0 → x .value ≡ weight true (means (modelOf b) noEnv (formulaIn b Set bs))
+  pub set-count : (x : Reply) → Agrees (answer (does b (set acc r R bs) .0) (count r)) x → x .number ≡ 0 → x .value ≡ weight true (means (modelOf b) noEnv (formulaIn b Set bs))
   set-count x h i =
-      let w = count-told (does b (set r R bs) .0) r x h i in
-      subst (λ (A : List Bool). x .value ≡ weight true A) (some-inj (sym (w .1) ∙ set-leaves b r R bs y a z)) (w .2)
+      let w = count-told (does b (set acc r R bs) .0) r x h i in
+      subst (λ (A : List Bool). x .value ≡ weight true A) (some-inj (sym (w .1) ∙ set-leaves b acc r R bs y a z)) (w .2)
 
 -- ---- "Check 2 refuses none in such a list"
 
 pub never-two : (b : Book) (c : Call) → does b c .1 .number ≡ 2 → ⊥
 never-two b (relation t bs) = relation-cases (λ (d : Done). d .1 .number ≡ 2 → ⊥) b t bs (λ k i j z. absurd (omega arith)) (λ l p z. absurd (omega arith))
-never-two b (set r R bs) = set-cases (λ (d : Done). d .1 .number ≡ 2 → ⊥) b r R bs (λ k i j z. absurd (omega arith)) (λ l p q z. absurd (omega arith))
+never-two b (set acc r R bs) = set-cases (λ (d : Done). d .1 .number ≡ 2 → ⊥) b acc r R bs (λ k i j z. absurd (omega arith)) (λ l p q z. absurd (omega arith))
 never-two b (clear r) = range-cases (λ (d : Done). d .1 .number ≡ 2 → ⊥) r registers _ _ (λ l z. absurd (omega arith)) (λ l z. absurd (omega arith))
 never-two b collect = λ z. absurd (omega arith)
 

@@ -7,6 +7,7 @@ use mathlib.Core.Option.{none, some}
 use Prim.Native.Nat.{ℕ}
 use native.Mathlib.Omega.{arith}
 use Rattle.diagram.specs.Rows.{Rows}
+use Rattle.accounts.specs.Terms.{alone}
 use Rattle.book.specs.Book.{Call, Question, set, clear, fresh}
 use Rattle.book.specs.Compute.{computing}
 use Rattle.book.specs.Listed.{frame}
@@ -25,8 +26,8 @@ abbrev lent : ℕ
 lent = 16_384
 
 -- fresh, a call and a question as relations of tables
-abbrev pub makes : Table → ℕ → ℕ → Table → Reply → Type 0
-makes t n N t′ y = Starts SoundTable (λ x. x) n N lent t t′ y
+abbrev pub makes : Table → ℕ → ℕ → ℕ → Table → Reply → Type 0
+makes t n N count t′ y = Starts SoundTable (λ x. x) n N lent count t t′ y
 
 abbrev pub performs : Table → Call → Table → Reply → Type 0
 performs t c t′ y = Performs SoundTable (λ x. x) c t t′ y
@@ -35,7 +36,7 @@ abbrev pub answers : Table → Question → Table → Reply → Type 0
 answers t q t′ y = Answers SoundTable (λ x. x) q t t′ y
 
 pub tables-implement : Implements Table (λ t. lent) SoundTable (λ t. t) makes performs answers
-tables-implement = record { good = λ w s. s; starts = λ w w′ n N y p. p; performs = λ w w′ c y p. p; answers = λ w w′ q y p. p }
+tables-implement = record { good = λ w s. s; starts = λ w w′ n N k y p. p; performs = λ w w′ c y p. p; answers = λ w w′ q y p. p }
 
 -- ---- a list: set 0 to all states, clear 0
 
@@ -44,29 +45,29 @@ noRows = record { used = λ i. false; level = λ i. 0; low = λ i. 0; high = λ 
 
 -- nothing filled, n = 1 and N = 100
 abbrev blank : Table
-blank = record { n = 1; N = 100; tally = 0; rows = noRows; reg = λ r. none; rel = λ q. none }
+blank = record { n = 1; N = 100; rows = noRows; reg = λ r. none; rel = λ q. none }
 
 -- register 0 as all states
 abbrev stored : Table
-stored = storeReg blank 0 (some 1) 0
+stored = storeReg blank 0 (some 1)
 
 abbrev emptied : Table
-emptied = storeReg stored 0 none 0
+emptied = storeReg stored 0 none
 
 abbrev pub events : List Event
-events = (set 0 100 (frame (0x01 ∷ [])), valued 1) ∷ (clear 0, plain 0) ∷ []
+events = (set alone 0 100 (frame (0x01 ∷ [])), valued 1) ∷ (clear 0, plain 0) ∷ []
 
 empty : Empty 1 100 blank
-empty = record { bits = refl; size = refl; tally = refl; unused = λ i. refl; reg = λ r l. refl; rel = λ q l. refl }
+empty = record { bits = refl; size = refl; unused = λ i. refl; reg = λ r l. refl; rel = λ q l. refl }
 
 blank-sound : SoundTable blank
 blank-sound = sound-shows (fresh 1 100) blank (shows-fresh 1 100 blank empty)
 
-first : Performs SoundTable (λ x. x) (set 0 100 (frame (0x01 ∷ []))) blank stored (valued 1)
+first : Performs SoundTable (λ x. x) (set alone 0 100 (frame (0x01 ∷ []))) blank stored (valued 1)
 unfolding computing
 first =
     let s : Shows (bookOf blank) blank = shows-bookOf blank blank-sound in
-    let d = set-serves (bookOf blank) blank 0 100 (frame (0x01 ∷ [])) noRows (ends 1 0) s (omega arith) refl (evals-leaf 1 100 0 (s .wf) (shows-held (bookOf blank) blank s) (denotes-all 1 100 noRows)) in
+    let d = set-serves (bookOf blank) blank alone 0 100 (frame (0x01 ∷ [])) noRows (ends 1 0) s (omega arith) tt refl (evals-leaf 1 100 0 (s .wf) (shows-held (bookOf blank) blank s) (denotes-all 1 100 noRows)) in
     record { unsound = λ n. absurd (n blank-sound); served = λ k. (sound-shows _ stored (d .shows), d) }
 
 stored-sound : SoundTable stored
@@ -80,9 +81,10 @@ second =
 pub played : Session Table makes performs 1 100 events emptied
 played = record {
   lent = blank;
+  count = 1;
   made = blank;
   reply = plain 0;
-  start = record { answers = λ i. ((refl, refl, refl), blank-sound, empty); refuses = λ i. let z : _≡_ {A = ℕ} 0 1 = cc in absurd (omega arith) };
+  start = record { answers = λ i. ((refl, refl, refl), blank-sound, empty); refuses = λ k i. absurd (omega arith) };
   answered = refl;
   rest = go {v = stored} first (go {v = emptied} second stop);
 }

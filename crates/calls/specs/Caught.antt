@@ -1,17 +1,16 @@
 -- Wrong answers that no single edited line makes, ruled out by the contracts alone. Assumes nothing.
 use mathlib.Core.Path.{_≡_, refl, ap}
-use mathlib.Core.Bool.{Bool, true, false}
+use mathlib.Core.Bool.{true}
 use mathlib.Core.List.{List}
-use Prim.Native.Nat.{ℕ, _*_, _≤_}
+use Prim.Native.Nat.{ℕ, zero, suc, _*_, _≤_}
 use native.Mathlib.Omega.{arith}
-use lib.Dec.{T}
 use lib.ListN.{length, getD}
 use Rattle.diagram.specs.Need.{need}
 use Rattle.diagram.specs.Reach.{Reach}
 use Rattle.layout.specs.Places.{BITS, wordsFor}
 use Rattle.layout.specs.View.{View, headerOf}
 use Rattle.layout.specs.Same.{same-beyond}
-use Rattle.book.specs.Book.{Call, collect, Question, liveOf, freshFits}
+use Rattle.book.specs.Book.{Call, collect, Question, liveOf, freshNumber}
 use Rattle.book.specs.Table.{Reply, rootsOf}
 use Rattle.book.specs.BookOf.{bookOf}
 use Rattle.book.specs.Leaves.{plain}
@@ -35,12 +34,12 @@ pub collect-swept : (old new : List ℕ) (y : Reply) → SoundWords old → Call
 collect-swept old new y s p = p .performs .served s .1 .swept
 
 -- FRESH ANSWERS SIZES THAT DO NOT FIT
-pub fresh-answered : (n N : ℕ) (old new : List ℕ) → FreshPost n N old new (plain 0) → T (freshFits n N (length old))
-fresh-answered n N old new p = go (freshFits n N (length old)) refl
+pub fresh-answered : (n N count : ℕ) (old new : List ℕ) → FreshPost n N count old new (plain 0) → freshNumber n N (length old) count ≡ 0
+fresh-answered n N count old new p = go (freshNumber n N (length old) count) refl
   where
-    go : (b : Bool) → freshFits n N (length old) ≡ b → T b
-    go true e = tt
-    go false e = let z : _≡_ {A = ℕ} 0 1 = p .refuses e .0 .0 in absurd (omega arith)
+    go : (k : ℕ) → freshNumber n N (length old) count ≡ k → k ≡ 0
+    go zero e = refl
+    go (suc k) e = let z : _≡_ {A = ℕ} 0 (suc k) = p .refuses k e .0 .0 in absurd (omega arith)
 
 -- FRESH WRITES WORD 256 + 12 × N, or any later one
 pub fresh-beyond : (n N : ℕ) (old new : List ℕ) → FreshWords n N old new Ready → (k : ℕ) → wordsFor N ≤ k → getD new k 0 ≡ getD old k 0

@@ -11,7 +11,7 @@ use lib.ListN.{set}
 use borrow.Author.Tests.{ne-eqb, eq-eqb, eqb-true, eqb-false}
 use Rattle.mucalculus.specs.Form.{put}
 use Rattle.diagram.specs.Used.{usedCount}
-use Rattle.layout.specs.Places.{REGISTERS, ROWS, TALLY, SPARE, FIRST-REGISTER, FIRST-RELATION}
+use Rattle.layout.specs.Places.{REGISTERS, ROWS, SPARE, FIRST-REGISTER, FIRST-RELATION}
 use Rattle.layout.specs.View.{View, view, headerOf, putHeader, view-header}
 use Rattle.layout.specs.Same.{view-same, same-beyond}
 use Rattle.soundness.specs.Used.{rowsOf}
@@ -60,11 +60,10 @@ module _ (W : View) (r : ℕ) where
       go true e = let z : FIRST-REGISTER + q ≡ FIRST-REGISTER + r = let i = eqb-true q r e in omega arith in rw (eq-eqb (FIRST-REGISTER + q) (FIRST-REGISTER + r) z)
       go false e = ap arrowIn (other (FIRST-REGISTER + q) (let n = eqb-false q r e in omega arith))
 
-  pub cleared-seen : r < REGISTERS → seenIn X ≡ storeReg (seenIn W) r none (W .header TALLY)
+  pub cleared-seen : r < REGISTERS → seenIn X ≡ storeReg (seenIn W) r none
   cleared-seen l = λ i. record {
     n = other 0 (omega arith) i;
     N = W .rows;
-    tally = other TALLY (omega arith) i;
     rows = rows-kept W (FIRST-REGISTER + r) 0 (omega arith) (omega arith) (omega arith) (omega arith) i;
     reg = fun-ext emptied-reg i;
     rel = fun-ext (λ t. ap arrowIn (other (FIRST-RELATION + t) (omega arith))) i;
@@ -129,7 +128,6 @@ module _ (old new : List ℕ) (s : SoundWords old) {rows k : ℕ} (er : rows ≡
   collected-seen = let f = post .freed .frame in λ i. record {
     n = f .header 0 (omega arith) (omega arith) i;
     N = headerOf old ROWS;
-    tally = f .header TALLY (omega arith) (omega arith) i;
     rows = rowsOf Y;
     reg = λ r. arrowIn (f .header (FIRST-REGISTER + r) (omega arith) (omega arith) i);
     rel = λ t. arrowIn (f .header (FIRST-RELATION + t) (omega arith) (omega arith) i);

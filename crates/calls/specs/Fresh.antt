@@ -1,14 +1,15 @@
 -- FRESH: from what its checks and `make_empty` find and leave to its contract. Assumes nothing.
 use mathlib.Core.Path.{_≡_, refl, ap, sym, _∙_, subst}
-use mathlib.Core.Bool.{_&&_}
+use mathlib.Core.Bool.{Bool, true, false, not, cond, _&&_, true≢false}
 use mathlib.Core.List.{List}
 use Prim.Native.Nat.{ℕ, _+_, _*_}
 use native.Mathlib.Omega.{arith}
 use lib.Dec.{T, leb, le→leb, leb→le}
 use lib.ListN.{length}
-use Rattle.mucalculus.specs.Sets.{and-in, and-out}
+use Rattle.accounts.specs.Terms.{lent}
+use Rattle.mucalculus.specs.Sets.{and-in, and-out, true-of, false-of}
 use Rattle.diagram.specs.Canon.{not-true}
-use Rattle.layout.specs.Places.{ROWS, TALLY, FIRST-REGISTER, FIRST-RELATION}
+use Rattle.layout.specs.Places.{ROWS, FIRST-REGISTER, FIRST-RELATION}
 use Rattle.layout.specs.View.{View, view, headerOf}
 use Rattle.layout.specs.Header.{headerWords}
 use Rattle.layout.specs.Same.{view-same}
@@ -16,7 +17,7 @@ use Rattle.soundness.specs.Used.{Sizes}
 use Rattle.soundness.specs.Sound.{Sound, tableOf}
 use Rattle.table.specs.Columns.{setHeader, setHeads}
 use Rattle.table.specs.Fresh.{emptied, emptied-sound, zero-at, bits-is, rows-is, none-used}
-use Rattle.book.specs.Book.{freshFits}
+use Rattle.book.specs.Book.{freshFits, freshNumber}
 use Rattle.book.specs.Leaves.{Empty, plain}
 use Rattle.contract.specs.Seen.{arrowIn, seenIn}
 use Rattle.contract.specs.Posts.{FreshPost}
@@ -34,6 +35,15 @@ pub fresh-words-one : (n N : ℕ) (old v w : List ℕ) (x : Started) → FreshWo
 fresh-words-one n N old v w Ready p q = view-same N v w (p ∙ sym q)
 fresh-words-one n N old v w (Refused r) p q = p ∙ sym q
 
+-- what a test `!f(..)` says of the Boolean that f tells
+pub test-fails : {r t : Bool} → not r ≡ true → r ≡ t → t ≡ false
+test-fails {r = true} e i = absurd (true≢false (sym e))
+test-fails {r = false} e i = sym i
+
+pub test-holds : {r t : Bool} → not r ≡ false → r ≡ t → t ≡ true
+test-holds {r = true} e i = sym i
+test-holds {r = false} e i = absurd (true≢false e)
+
 -- the checks of document 01's fresh are those of a sound table's sizes
 module _ {n N size : ℕ} where
   sizes-fits : Sizes n N size → T (freshFits n N size)
@@ -50,11 +60,19 @@ module _ {n N size : ℕ} where
       record { n-pos = leb→le 1 n e; n-max = leb→le n 16 f; N-pos = leb→le 1 N g; N-max = leb→le N 60_000 h; room = leb→le (256 + 12 * N) size d }
 
 -- REFUSED: "fresh: n, N or slice length"
-pub fresh-refused : (n N : ℕ) (ws : List ℕ) → (Sizes n N (length ws) → ⊥) → FreshPost n N ws ws (plain 1)
-fresh-refused n N ws no-fit = record { answers = λ t. absurd (no-fit (fits-sizes t)); refuses = λ e. ((refl, refl, refl), refl) }
+pub fresh-refused : (n N count : ℕ) (ws : List ℕ) → (Sizes n N (length ws) → ⊥) → FreshPost n N count ws ws (plain 1)
+fresh-refused n N count ws no-fit =
+    let one : freshNumber n N (length ws) count ≡ 1 = ap (λ (t : Bool). cond t (cond (lent count) 0 14) 1) (false-of (freshFits n N (length ws)) (λ t. no-fit (fits-sizes t))) in
+    record { answers = λ e. absurd (omega (arith, one, e)); refuses = λ k e. let i : k ≡ 0 = omega (arith, one, e) in rw i ((refl, refl, refl), refl) }
 
--- ANSWERED: "Fresh empties them all, the tally at 0"
-module _ (n N : ℕ) (old new : List ℕ) (z : Sizes n N (length old)) (w : view N new ≡ emptied (view N old) n N) where
+-- REFUSED: "the list is not 1 to 8 long"
+pub fresh-unlisted : (n N count : ℕ) (ws : List ℕ) → Sizes n N (length ws) → lent count ≡ false → FreshPost n N count ws ws (plain 14)
+fresh-unlisted n N count ws z l =
+    let more : freshNumber n N (length ws) count ≡ 14 = ap (λ (t : Bool). cond t (cond (lent count) 0 14) 1) (true-of (freshFits n N (length ws)) (sizes-fits z)) ∙ ap (λ (t : Bool). cond t 0 14) l in
+    record { answers = λ e. absurd (omega (arith, more, e)); refuses = λ k e. let i : k ≡ 13 = omega (arith, more, e) in rw i ((refl, refl, refl), refl) }
+
+-- ANSWERED: "Fresh empties them all"
+module _ (n N count : ℕ) (old new : List ℕ) (z : Sizes n N (length old)) (l : lent count ≡ true) (w : view N new ≡ emptied (view N old) n N) where
   abbrev X : View
   X = emptied (view N old) n N
 
@@ -65,14 +83,16 @@ module _ (n N : ℕ) (old new : List ℕ) (z : Sizes n N (length old)) (w : view
   empty = record {
     bits = bits-is X n z (λ h. refl);
     size = refl;
-    tally = zero-at X n z (λ h. refl) TALLY (omega arith) (omega arith) (omega arith) (omega arith);
     unused = λ i. not-true _ (none-used X n z (λ h. refl) i);
     reg = λ r l. ap arrowIn (zero-at X n z (λ h. refl) (FIRST-REGISTER + r) (omega arith) (omega arith) (omega arith) (omega arith));
     rel = λ t l. ap arrowIn (zero-at X n z (λ h. refl) (FIRST-RELATION + t) (omega arith) (omega arith) (omega arith) (omega arith));
   }
 
-  pub fresh-ready : FreshPost n N old new (plain 0)
+  zero : freshNumber n N (length old) count ≡ 0
+  zero = ap (λ (t : Bool). cond t (cond (lent count) 0 14) 1) (true-of (freshFits n N (length old)) (sizes-fits z)) ∙ ap (λ (t : Bool). cond t 0 14) l
+
+  pub fresh-ready : FreshPost n N count old new (plain 0)
   fresh-ready = record {
     answers = λ _. ((refl, refl, refl), subst Sound (sym table-is) (emptied-sound (view N old) n z), subst (λ (v : View). Empty n N (seenIn v)) (sym table-is) empty);
-    refuses = λ e. absurd (subst T e (sizes-fits z));
+    refuses = λ k e. absurd (omega (arith, zero, e));
   }

@@ -1,4 +1,4 @@
--- NODE, MEMBER, COUNT and TALLY: from what is read and found to the questions' contracts. Assumes nothing.
+-- NODE, MEMBER and COUNT: from what is read and found to the questions' contracts. Assumes nothing.
 use mathlib.Core.Path.{_≡_, refl, ap, sym, _∙_, subst}
 use mathlib.Core.Bool.{Bool, true}
 use mathlib.Core.Logic.{_≢_, by-cases}
@@ -11,7 +11,7 @@ use native.Mathlib.Decide.{decLt}
 use lib.Pow.{pow-pos}
 use Rattle.mucalculus.specs.Order.{weight}
 use Rattle.diagram.specs.Rows.{den}
-use Rattle.layout.specs.Places.{REGISTERS, BITS, ROWS, TALLY, FIRST-REGISTER}
+use Rattle.layout.specs.Places.{REGISTERS, BITS, ROWS, FIRST-REGISTER}
 use Rattle.layout.specs.View.{view, headerOf}
 use Rattle.soundness.specs.Used.{rowsOf}
 use Rattle.soundness.specs.Roots.{ref-arrow}
@@ -20,7 +20,7 @@ use Rattle.collect.specs.Answers.{sound-base}
 use Rattle.states.specs.Walk.{WalkPre}
 use Rattle.book.specs.States.{pairVal}
 use Rattle.book.specs.Bridge.{setOf}
-use Rattle.book.specs.Book.{Question, node, member, count, tally, oneOf, refused}
+use Rattle.book.specs.Book.{Question, node, member, count, oneOf, refused}
 use Rattle.book.specs.Table.{Reply, Shows, Tells}
 use Rattle.book.specs.BookOf.{bookOf, whole-bookOf}
 use Rattle.book.specs.Leaves.{plain, valued}
@@ -47,10 +47,6 @@ module _ (ws : List ℕ) (s : SoundWords ws) where
 
   shows : Shows (bookOf (seen ws)) (seen ws)
   shows = sound-shows-book ws s
-
-  -- TALLY
-  pub tally-told : {x : ℕ} → x ≡ headerOf ws TALLY → AskPost tally ws (valued x)
-  tally-told {x} e = rw e (told tally (valued (headerOf ws TALLY)) (book.tally-tells (bookOf (seen ws)) (seen ws) shows))
 
   module _ (r : ℕ) where
     -- 3: "register, relation or state number out of range"

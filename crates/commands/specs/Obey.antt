@@ -38,14 +38,14 @@ nodeReply x = record { number = x .number; rounds = x .rounds; value = x .node }
 -- a call's reply in an outcome
 abbrev pub replyOf : Call → Outcome → Reply
 replyOf (relation t bs) x = shownReply x
-replyOf (set r R bs) x = nodeReply x
+replyOf (set acc r R bs) x = nodeReply x
 replyOf (clear r) x = shownReply x
 replyOf collect x = shownReply x
 
 -- what else an outcome tells of a call: of an answered set the states in r, as count answers them; node numbers of set alone
 abbrev pub Beside : Call → List ℕ → Outcome → Type 0
 Beside (relation t bs) new x = x .node ≡ 0
-Beside (set r R bs) new x = (x .number ≡ 0 → AskPost (count r) new (valued (x .value))) × (1 ≤ x .number → x .value ≡ 0)
+Beside (set acc r R bs) new x = (x .number ≡ 0 → AskPost (count r) new (valued (x .value))) × (1 ≤ x .number → x .value ≡ 0)
 Beside (clear r) new x = x .node ≡ 0
 Beside collect new x = x .node ≡ 0
 
@@ -55,7 +55,7 @@ StatesIn r ws k = (y : Reply) × AskPost (count r) ws y × (y .rounds ≡ 0) × 
 
 -- a command under the contract of its call
 abbrev pub Posted : Command → List ℕ → List ℕ → Outcome → Type 0
-Posted (start n N) old new x = FreshPost n N old new (shownReply x) × (x .number ≡ 0 → FreshWords n N old new Ready) × (x .node ≡ 0)
+Posted (start n N) old new x = FreshPost n N 1 old new (shownReply x) × (x .number ≡ 0 → FreshWords n N old new Ready) × (x .node ≡ 0)
 Posted (call c) old new x = CallPost c old new (replyOf c x) × Beside c new x
 Posted (states r) old new x = (new ≡ old) × AskPost (count r) old (shownReply x) × (x .node ≡ 0)
 

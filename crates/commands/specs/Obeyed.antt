@@ -4,6 +4,7 @@ use mathlib.Core.Bool.{Bool}
 use mathlib.Core.List.{List}
 use Prim.Native.Nat.{ℕ, zero, suc, _≤_}
 use native.Mathlib.Omega.{arith}
+use Rattle.accounts.specs.declared.Terms.{Terms}
 use Rattle.book.specs.Book.{Call, relation, set, clear, collect, count}
 use Rattle.book.specs.Program.{Command, start, call, states, opOf}
 use Rattle.book.specs.Table.{Reply}
@@ -34,17 +35,17 @@ made k q v = record { number = k; rounds = q; value = v }
 
 -- ---- fresh
 
-module _ {n N : ℕ} {old new : List ℕ} {v : Started} {x : Outcome} (p : FreshPost n N old new (startedReply v)) (w : FreshWords n N old new v) where
+module _ {n N : ℕ} {old new : List ℕ} {v : Started} {x : Outcome} (p : FreshPost n N 1 old new (startedReply v)) (w : FreshWords n N old new v) where
   pub fresh-ready : v ≡ started.Ready → x ≡ plainOutcome 1 0 0 → Obeys (start n N) old new x
   fresh-ready e i = subst (Obeys (start n N) old new) (sym i) record {
     operation = refl;
-    posted = (subst (λ (s : Started). FreshPost n N old new (startedReply s)) e p, (λ z. subst (FreshWords n N old new) e w), refl);
+    posted = (subst (λ (s : Started). FreshPost n N 1 old new (startedReply s)) e p, (λ z. subst (FreshWords n N old new) e w), refl);
   }
 
   pub fresh-refused : (f : Refusal) {k : ℕ} → v ≡ started.Refused f → 1 ≤ refusalNumber f → k ≡ refusalNumber f → x ≡ plainOutcome 1 k 0 → Obeys (start n N) old new x
   fresh-refused f {k} e l j i = subst (Obeys (start n N) old new) (sym i) record {
     operation = refl;
-    posted = (subst (FreshPost n N old new) (ap startedReply e ∙ ap plain (sym j)) p, (λ z. absurd (omega arith)), refl);
+    posted = (subst (FreshPost n N 1 old new) (ap startedReply e ∙ ap plain (sym j)) p, (λ z. absurd (omega arith)), refl);
   }
 
 -- ---- relation, clear, collect
@@ -52,7 +53,7 @@ module _ {n N : ℕ} {old new : List ℕ} {v : Started} {x : Outcome} (p : Fresh
 -- the calls that return no node number
 abbrev Nodeless : Call → Type 0
 Nodeless (relation t bs) = Unit {0}
-Nodeless (set r R bs) = ⊥
+Nodeless (set acc r R bs) = ⊥
 Nodeless (clear r) = Unit {0}
 Nodeless collect = Unit {0}
 
@@ -61,7 +62,7 @@ call-told c {old} {new} {k} {v} nodeless p j i = subst (Obeys (call c) old new) 
   where
     go : (c : Call) → Nodeless c → CallPost c old new (reply k v) → Obeys (call c) old new (plainOutcome (opOf c) k v)
     go (relation t bs) u q = record { operation = refl; posted = (q, refl) }
-    go (set r R bs) u q = absurd u
+    go (set acc r R bs) u q = absurd u
     go (clear r) u q = record { operation = refl; posted = (q, refl) }
     go collect u q = record { operation = refl; posted = (q, refl) }
 
@@ -79,19 +80,23 @@ states-told r v p e = (answerReply v, p, none v, e)
     none (answer.Value k) = refl
     none (answer.Refused f) = refl
 
-module _ (r R : ℕ) (bs : List ℕ) {old new : List ℕ} {x : Outcome} where
-  pub set-refused : {k : ℕ} → 1 ≤ k → CallPost (set r R bs) old new (plain k) → x ≡ plainOutcome 3 k 0 → Obeys (call (set r R bs)) old new x
-  set-refused l p i = subst (Obeys (call (set r R bs)) old new) (sym i) record { operation = refl; posted = (p, ((λ z. absurd (omega arith)), λ z. refl)) }
+module _ (acc : Terms) (r R : ℕ) (bs : List ℕ) {old new : List ℕ} {x : Outcome} where
+  pub set-refused : {k : ℕ} → 1 ≤ k → CallPost (set acc r R bs) old new (plain k) → x ≡ plainOutcome 3 k 0 → Obeys (call (set acc r R bs)) old new x
+  set-refused l p i = subst (Obeys (call (set acc r R bs)) old new) (sym i) record { operation = refl; posted = (p, ((λ z. absurd (omega arith)), λ z. refl)) }
 
   -- after an answered set its register is counted
-  pub set-done : (a q k : ℕ) → CallPost (set r R bs) old new record { number = 0; rounds = q; value = a } → StatesIn r new k
-      → x ≡ record { operation = 3; number = 0; node = a; rounds = q; value = k } → Obeys (call (set r R bs)) old new x
-  set-done a q k p (y, c, h, e) i = subst (Obeys (call (set r R bs)) old new) (sym i) record { operation = refl; posted = (p, ((λ z. told (y .number) refl), λ z. absurd (omega arith))) }
+  pub set-done : (a q k : ℕ) → CallPost (set acc r R bs) old new record { number = 0; rounds = q; value = a } → StatesIn r new k
+      → x ≡ record { operation = 3; number = 0; node = a; rounds = q; value = k } → Obeys (call (set acc r R bs)) old new x
+  set-done a q k p (y, c, h, e) i = subst (Obeys (call (set acc r R bs)) old new) (sym i) record { operation = refl; posted = (p, ((λ z. told (y .number) refl), λ z. absurd (omega arith))) }
     where
       -- the count is answered
       told : (n : ℕ) → y .number ≡ n → AskPost (count r) new (valued k)
       told zero z = subst (AskPost (count r) new) (ap (λ (j : ℕ). made j (y .rounds) (y .value)) z ∙ ap (λ (j : ℕ). made 0 j (y .value)) h ∙ ap (reply 0) (sym e)) c
-      told (suc n) z = absurd (omega (arith, count-answered old new r R bs _ p refl y c))
+      told (suc n) z = absurd (omega (arith, count-answered old new acc r R bs _ p refl y c))
+
+-- a call's terms, as a function made them
+pub termed : {t u : Terms} (r R : ℕ) (bs old new : List ℕ) (y : Reply) → t ≡ u → CallPost (set t r R bs) old new y → CallPost (set u r R bs) old new y
+termed r R bs old new y e d = subst (λ (t : Terms). CallPost (set t r R bs) old new y) e d
 
 -- ---- a record
 

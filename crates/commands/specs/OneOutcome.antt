@@ -32,7 +32,7 @@ shown-one : {x z : Outcome} → x .operation ≡ z .operation → shownReply x �
 shown-one o e i j = plain-one o (ap (λ (y : Reply). y .number) e) (ap (λ (y : Reply). y .rounds) e) (ap (λ (y : Reply). y .value) e) i j
 
 pub obey-one : (c : Command) {old v w : List ℕ} {x z : Outcome} → Obeys c old v x → Obeys c old w z → OneOutcome x z
-obey-one (start n N) a b = shown-one (a .operation ∙ sym (b .operation)) (fresh-one n N (a .posted .0) (b .posted .0) .0) (a .posted .2) (b .posted .2)
+obey-one (start n N) a b = shown-one (a .operation ∙ sym (b .operation)) (fresh-one n N 1 (a .posted .0) (b .posted .0) .0) (a .posted .2) (b .posted .2)
 obey-one (states r) a b = shown-one (a .operation ∙ sym (b .operation)) (ask-one (count r) (a .posted .1) (b .posted .1)) (a .posted .2) (b .posted .2)
 obey-one (call (relation t bs)) a b =
     let o = call-one (relation t bs) (a .posted .0) (b .posted .0) in
@@ -43,14 +43,14 @@ obey-one (call (clear r)) a b =
 obey-one (call collect) a b =
     let o = call-one collect (a .posted .0) (b .posted .0) in
     plain-one (a .operation ∙ sym (b .operation)) (o .number) (o .rounds) (o .value) (a .posted .1) (b .posted .1)
-obey-one (call (set r R bs)) {old} {v} {w} {x} {z} a b =
-    let o = call-one (set r R bs) (a .posted .0) (b .posted .0) in
+obey-one (call (set acc r R bs)) {old} {v} {w} {x} {z} a b =
+    let o = call-one (set acc r R bs) (a .posted .0) (b .posted .0) in
     record { operation = a .operation ∙ sym (b .operation); number = o .number; rounds = o .rounds; value = counted (o .number); node = o .value }
   where
     -- the states of the formula's set, 0 where set is refused
     counted : x .number ≡ z .number → x .value ≡ z .value
     counted e = by-cases (ℕ-discrete (x .number) 0)
         (λ i.
-        count-means old v r R bs (nodeReply x) (a .posted .0) i (valued (x .value)) (a .posted .1 .0 i)
-        ∙ sym (count-means old w r R bs (nodeReply z) (b .posted .0) (sym e ∙ i) (valued (z .value)) (b .posted .1 .0 (sym e ∙ i))))
+        count-means old v acc r R bs (nodeReply x) (a .posted .0) i (valued (x .value)) (a .posted .1 .0 i)
+        ∙ sym (count-means old w acc r R bs (nodeReply z) (b .posted .0) (sym e ∙ i) (valued (z .value)) (b .posted .1 .0 (sym e ∙ i))))
         (λ n. a .posted .1 .1 (omega arith) ∙ sym (b .posted .1 .1 (omega (arith, e))))

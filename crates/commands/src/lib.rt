@@ -1,4 +1,5 @@
 // The commands of records, each by its call, and a whole list of them.
+use accounts::lone_terms;
 use calls::Answer;
 use calls::Cleared;
 use calls::Collected;
@@ -15,6 +16,7 @@ use layout::refusal_number;
 use records::Command;
 use records::Found;
 use records::read_record;
+ghost use Rattle.accounts.specs.Terms.{alone};
 ghost use mathlib.Core.Path.{_≡_};
 ghost use Prim.Native.Nat.{_≤_};
 ghost use lib.ListN.{length};
@@ -74,7 +76,7 @@ fn plain(operation: u32, number: u32, value: u32) -> Outcome
 fn obey_fresh(words: &mut [u32], n: u32, rows: u32) -> Outcome
     ensures { λ x. ⌜ Obeys (program.start n rows) (now (words .entry)) (now (words .exit)) x ⌝ }
 {
-    match fresh(words, n, rows) {
+    match fresh(words, 1, n, rows) {
         Started::Ready => plain(Operation::FRESH, 0, 0),
         Started::Refused(x) => plain(Operation::FRESH, refusal_number(x), 0),
     }
@@ -102,9 +104,9 @@ fn states_in(words: &[u32], r: u32) -> u32
 
 // Set, and the states of what it stored.
 fn obey_set(words: &mut [u32], r: u32, most: u32, formula: &[u8]) -> Outcome
-    ensures { λ x. ⌜ Obeys (program.call (book.set r most (now (formula .entry)))) (now (words .entry)) (now (words .exit)) x ⌝ }
+    ensures { λ x. ⌜ Obeys (program.call (book.set alone r most (now (formula .entry)))) (now (words .entry)) (now (words .exit)) x ⌝ }
 {
-    match set(words, r, most, formula) {
+    match set(words, lone_terms(), r, most, formula) {
         Stored::Node {
             number: a,
             rounds: q,

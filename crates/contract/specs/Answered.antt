@@ -9,6 +9,7 @@ use Prim.Native.Nat.{ℕ, _^_, _<_}
 use native.Mathlib.Decide.{ℕ-discrete}
 use native.Mathlib.Omega.{arith}
 use lib.Dec.{T, ltb, lt→ltb}
+use Rattle.accounts.specs.declared.Terms.{Terms}
 use Rattle.mucalculus.specs.Sets.{mem, true-of, and-in}
 use Rattle.mucalculus.specs.Order.{weight}
 use Rattle.mucalculus.specs.Form.{noEnv}
@@ -26,12 +27,12 @@ tested : (t : Bool) → Dec (T t)
 tested true = yes tt
 tested false = no (λ x. x)
 
-module _ (old mid : List ℕ) (r R : ℕ) (bs : List ℕ) (y : Reply) (p : CallPost (set r R bs) old mid y) (z : y .number ≡ 0) where
+module _ (old mid : List ℕ) (acc : Terms) (r R : ℕ) (bs : List ℕ) (y : Reply) (p : CallPost (set acc r R bs) old mid y) (z : y .number ≡ 0) where
   abbrev b : Book
   b = bookOf (seen old)
 
   abbrev after : Book
-  after = does b (set r R bs) .0
+  after = does b (set acc r R bs) .0
 
   -- the states in which the formula holds, over the book before the call
   abbrev M : List Bool
@@ -42,21 +43,21 @@ module _ (old mid : List ℕ) (r R : ℕ) (bs : List ℕ) (y : Reply) (p : CallP
   answered-words d f = any-words old d f (λ n. absurd (omega (arith, z, p .performs .unsound n .0 .0)))
 
   module _ (s : SoundWords old) where
-    served : SoundWords mid × Serves b (set r R bs) (seen old) (seen mid) y
+    served : SoundWords mid × Serves b (set acc r R bs) (seen old) (seen mid) y
     served = p .performs .served s
 
     -- the book that the words stand for is the book after the call
     after-words : after ≡ bookOf (seen mid)
-    after-words = only-book after (seen mid) (whole-does b (set r R bs) (whole-bookOf (seen old))) (served .1 .shows)
+    after-words = only-book after (seen mid) (whole-does b (set acc r R bs) (whole-bookOf (seen old))) (served .1 .shows)
 
     agrees : (q : Question) (x : Reply) → AskPost q mid x → Agrees (answer after q) x
     agrees q x h = subst (λ (v : Book). Agrees (answer v q) x) (sym after-words) (h .told (served .0) .agrees)
 
     held : after .reg r ≡ some M
-    held = set-leaves b r R bs y (served .1 .agrees) z
+    held = set-leaves b acc r R bs y (served .1 .agrees) z
 
-    means-set : Sets b r R bs (does b (set r R bs))
-    means-set = set-means b r R bs (sym (served .1 .agrees .number) ∙ z)
+    means-set : Sets b acc r R bs (does b (set acc r R bs))
+    means-set = set-means b acc r R bs (sym (served .1 .agrees .number) ∙ z)
 
     range : T (ltb r registers)
     range = lt→ltb r registers (means-set .range)
@@ -82,8 +83,8 @@ module _ (old mid : List ℕ) (r R : ℕ) (bs : List ℕ) (y : Reply) (p : CallP
   member-means a x q i = ((λ h. answered-words (tested (mem M a)) (λ s. says s .0 h)), λ h. answered-words (ℕ-discrete (x .value) 1) (λ s. says s .1 h))
     where
       says : SoundWords old → (x .value ≡ 1) ↔ T (mem M a)
-      says s = set-member b r R bs y (served s .1 .agrees) z a x (agrees s (member r a) x q) i
+      says s = set-member b acc r R bs y (served s .1 .agrees) z a x (agrees s (member r a) x q) i
 
   pub count-means : (x : Reply) → AskPost (count r) mid x → x .value ≡ weight true M
   count-means x q = answered-words (ℕ-discrete (x .value) (weight true M)) (λ s.
-      set-count b r R bs y (served s .1 .agrees) z x (agrees s (count r) x q) (count-answered x q))
+      set-count b acc r R bs y (served s .1 .agrees) z x (agrees s (count r) x q) (count-answered x q))

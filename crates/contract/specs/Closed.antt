@@ -13,8 +13,8 @@ use Rattle.contract.specs.Seen.{seen, SoundWords, sound-table}
 use Rattle.contract.specs.Posts.{FreshPost, CallPost, AskPost}
 
 -- fresh, a call and a question as relations of the words before and after
-abbrev pub makes : List ℕ → ℕ → ℕ → List ℕ → Reply → Type 0
-makes old n N new y = FreshPost n N old new y
+abbrev pub makes : List ℕ → ℕ → ℕ → ℕ → List ℕ → Reply → Type 0
+makes old n N count new y = FreshPost n N count old new y
 
 abbrev pub performs : List ℕ → Call → List ℕ → Reply → Type 0
 performs old c new y = CallPost c old new y
@@ -25,7 +25,7 @@ asks old q new y = (new ≡ old) × AskPost q old y
 pub words-implement : Implements (List ℕ) length SoundWords seen makes performs asks
 words-implement = record {
   good = λ w s. sound-table (tableOf w) s;
-  starts = λ w w′ n N y p. p;
+  starts = λ w w′ n N k y p. p;
   performs = λ w w′ c y p. p .performs;
   answers = λ w w′ q y p. subst (λ (x : List ℕ). Answers SoundWords seen q w x y) (sym (p .0)) (p .1);
 }

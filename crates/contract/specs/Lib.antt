@@ -6,3 +6,4 @@ pub mod Roots
 pub mod Checked
 pub mod Answered
 pub mod OneAnswer
+pub mod Shared

@@ -6,25 +6,28 @@ use mathlib.Core.HLevel.{Discrete}
 use mathlib.Core.Bool.{Bool, true, false, _&&_, _||_, Bool-discrete}
 use mathlib.Core.List.{List, List-discrete}
 use mathlib.Core.Option.{discrete as Option-discrete}
-use Prim.Native.Nat.{ℕ, _≤_, _<_}
+use Prim.Native.Nat.{ℕ, zero, suc, _≤_, _<_}
 use native.Mathlib.Omega.{arith}
 use native.Mathlib.Decide.{ℕ-discrete}
 use lib.Dec.{T, eqb}
 use lib.ListN.{length, getD}
+use Rattle.accounts.specs.declared.Account.{Account}
+use Rattle.accounts.specs.Terms.{termsOf}
 use Rattle.layout.specs.Refusals.{keepsAll}
-use Rattle.layout.specs.Places.{HEADER, ROWS, TALLY, SPARE, wordsFor}
+use Rattle.layout.specs.Places.{HEADER, ROWS, SPARE, wordsFor}
 use Rattle.layout.specs.View.{headerOf, cellOf}
 use Rattle.diagram.specs.Rows.{Rows}
 use Rattle.diagram.specs.Reach.{Reach}
-use Rattle.book.specs.Book.{Book, fresh, freshFits, Call, relation, set, clear, collect, Question, Done, registers, does}
+use Rattle.book.specs.Book.{Book, fresh, freshNumber, Call, relation, set, clear, collect, Question, Done, registers, does}
 use Rattle.book.specs.Stored.{Whole, whole-fresh, whole-does, range-cases}
 use Rattle.book.specs.Table.{Table, Reply, Refusal, keptRoots, Serves}
 use Rattle.book.specs.Leaves.{plain, shows-fresh}
 use Rattle.book.specs.BookOf.{bookOf, whole-bookOf, only-book}
+use Rattle.book.specs.Tallies.{charged, freshened}
 use Rattle.book.specs.OneReply.{settledIn, same-place, call-value, ask-value, collect-used}
 use Rattle.contract.specs.Seen.{seen, SoundWords, any-words}
 use Rattle.contract.specs.Kept.{changes, freeWord, target}
-use Rattle.contract.specs.Posts.{FreshPost, CallPost, AskPost}
+use Rattle.contract.specs.Posts.{FreshPost, CallPost, FreshAllPost, SetAllPost, AskPost}
 
 -- ---- the claim
 
@@ -41,14 +44,13 @@ pub record OneAnswer (c : Call) (old v w : List ℕ) (y z : Reply) : Type 0 wher
   pub number : y .number ≡ z .number
   pub rounds : y .rounds ≡ z .rounds
   pub value : settledIn c (y .value) ≡ settledIn c (z .value)
-  -- n, N, the tally, and every register and relation: filled in both or in none, and with the same set
+  -- n, N, and every register and relation: filled in both or in none, and with the same set
   pub book : bookOf (seen v) ≡ bookOf (seen w)
   -- two registers have one node number at the one end exactly where they have at the other
   pub numbers : (r q : ℕ) → r < registers → q < registers → (seen v .reg r ≡ seen v .reg q) ↔ (seen w .reg r ≡ seen w .reg q)
-  -- the words of the header but those of the index, of remembered results and of an answered relation's or set's target; the tally
+  -- the words of the header but those of the index, of remembered results and of an answered relation's or set's target
   pub size : length v ≡ length w
   pub header : (h : ℕ) → h < HEADER → changes c y h ≡ false → headerOf v h ≡ headerOf w h
-  pub tally : headerOf v TALLY ≡ headerOf w TALLY
   -- rows that the other roots need; after collect the same rows are used
   pub rows : (i : ℕ) → Reach (seen old .rows) (keptRoots c y (seen old)) i → SameRow (seen v .rows) (seen w .rows) i
   pub swept : c ≡ collect → (i : ℕ) → seen v .rows .used i ≡ seen w .rows .used i
@@ -66,21 +68,21 @@ same-reply a b c = λ i. record { number = a i; rounds = b i; value = c i }
 same-refusal : {k : ℕ} {y z : Reply} → Refusal k y → Refusal k z → y ≡ z
 same-refusal {k} {y} {z} f g = same-reply {y = y} {z = z} (f .0 ∙ sym (g .0)) (f .1 ∙ sym (g .1)) (f .2 ∙ sym (g .2))
 
--- fresh: one reply, one book, and a refusal keeps all words
-pub fresh-one : (n N : ℕ) {old v w : List ℕ} {y z : Reply} → FreshPost n N old v y → FreshPost n N old w z
+-- fresh, where so many accounts are lent: one reply, one book, and a refusal keeps all words
+pub fresh-one : (n N count : ℕ) {old v w : List ℕ} {y z : Reply} → FreshPost n N count old v y → FreshPost n N count old w z
     → (y ≡ z) × (bookOf (seen v) ≡ bookOf (seen w)) × (1 ≤ y .number → v ≡ w)
-fresh-one n N {old} {v} {w} {y} {z} p q = go (freshFits n N (length old)) refl
+fresh-one n N count {old} {v} {w} {y} {z} p q = go (freshNumber n N (length old) count) refl
   where
-    go : (t : Bool) → freshFits n N (length old) ≡ t → (y ≡ z) × (bookOf (seen v) ≡ bookOf (seen w)) × (1 ≤ y .number → v ≡ w)
-    go true e =
-        let (f, a, i) = p .answers (subst T (sym e) tt) in
-        let (g, b, j) = q .answers (subst T (sym e) tt) in
+    go : (k : ℕ) → freshNumber n N (length old) count ≡ k → (y ≡ z) × (bookOf (seen v) ≡ bookOf (seen w)) × (1 ≤ y .number → v ≡ w)
+    go zero e =
+        let (f, a, i) = p .answers e in
+        let (g, b, j) = q .answers e in
         let first = only-book (fresh n N) (seen v) (whole-fresh n N) (shows-fresh n N (seen v) i) in
         let second = only-book (fresh n N) (seen w) (whole-fresh n N) (shows-fresh n N (seen w) j) in
         (same-refusal f g, sym first ∙ second, λ l. absurd (omega (arith, f .0)))
-    go false e =
-        let (f, i) = p .refuses e in
-        let (g, j) = q .refuses e in
+    go (suc k) e =
+        let (f, i) = p .refuses k e in
+        let (g, j) = q .refuses k e in
         (same-refusal f g, ap (λ (x : List ℕ). bookOf (seen x)) (i ∙ sym j), λ l. i ∙ sym j)
 
 -- a question: one reply, node numbers too, for no word changes
@@ -98,7 +100,7 @@ ask-one q {ws} {y} {z} a b = same-reply {y = y} {z = z}
 -- the roots that a call leaves, by its number alone
 roots-by : (c : Call) (y : Reply) (t : Table) → keptRoots c y t ≡ keptRoots c (plain (y .number)) t
 roots-by (relation q bs) y t = refl
-roots-by (set r R bs) y t = refl
+roots-by (set acc r R bs) y t = refl
 roots-by (clear r) y t = refl
 roots-by collect y t = refl
 
@@ -181,7 +183,6 @@ module _ (c : Call) {old v w : List ℕ} {y z : Reply} (p : CallPost c old v y) 
       N = agree ℕ-discrete (λ x u. seen u .N) (λ s. ap (λ (x : Book). x .N) (one-book s)) i;
       rel = fun-ext (λ t. agree (Option-discrete (List-discrete (List-discrete Bool-discrete))) (λ x u. bookOf (seen u) .rel t) (λ s. ap (λ (x : Book). x .rel t) (one-book s))) i;
       reg = fun-ext (λ r. agree (Option-discrete (List-discrete Bool-discrete)) (λ x u. bookOf (seen u) .reg r) (λ s. ap (λ (x : Book). x .reg r) (one-book s))) i;
-      tally = agree ℕ-discrete (λ x u. seen u .tally) (λ s. ap (λ (x : Book). x .tally) (one-book s)) i;
     };
     numbers = λ r k l m.
         let tell : (u : List ℕ) → Dec (seen u .reg r ≡ seen u .reg k) = λ u. Option-discrete ℕ-discrete (seen u .reg r) (seen u .reg k) in (
@@ -190,7 +191,6 @@ module _ (c : Call) {old v w : List ℕ} {y z : Reply} (p : CallPost c old v y) 
         );
     size = agree ℕ-discrete (λ x u. length u) (λ s. p .kept s .size ∙ sym (q .kept s .size));
     header = λ h l e. agree ℕ-discrete (λ x u. headerOf u h) (λ s. one-header s h l e);
-    tally = agree ℕ-discrete (λ x u. headerOf u TALLY) (λ s. ap (λ (x : Book). x .tally) (one-book s));
     rows = λ i h. record {
       used = agree Bool-discrete (λ x u. seen u .rows .used i) (λ s. one-row s i h .used);
       level = agree ℕ-discrete (λ x u. seen u .rows .level i) (λ s. one-row s i h .level);
@@ -203,3 +203,20 @@ module _ (c : Call) {old v w : List ℕ} {y z : Reply} (p : CallPost c old v y) 
     all = λ l. agree (List-discrete ℕ-discrete) (λ x u. u) (λ s. one-all s l);
     cleared = λ r e. agree (List-discrete ℕ-discrete) (λ x u. u) (λ s. one-clear s r e);
   }
+
+-- ---- with the accounts that are lent
+
+-- fresh leaves one list of accounts
+pub fresh-accounts : (n N : ℕ) {old v w : List ℕ} {l a b : List Account} {y z : Reply} → FreshAllPost n N old v l a y → FreshAllPost n N old w l b z → a ≡ b
+fresh-accounts n N {l = l} p q = p .list ∙ ap (freshened l) (fresh-one n N (length l) (p .table) (q .table) .0) ∙ sym (q .list)
+
+-- and so does set
+pub set-accounts : (place r R : ℕ) (bs : List ℕ) {old v w : List ℕ} {l a b : List Account} {y z : Reply}
+    → SetAllPost place r R bs old v l a y → SetAllPost place r R bs old w l b z → a ≡ b
+set-accounts place r R bs {l = l} {y = y} {z = z} p q =
+    let c = set (termsOf l place) r R bs in
+    let o = call-one c (p .table) (q .table) in
+    p .list ∙ ap₂ (λ (k j : ℕ). charged l c (made k j)) (o .number) (o .rounds) ∙ sym (q .list)
+  where
+    made : ℕ → ℕ → Reply
+    made k j = record { number = k; rounds = j; value = 0 }

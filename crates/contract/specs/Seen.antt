@@ -6,7 +6,7 @@ use Prim.Native.Nat.{ℕ, zero, suc, _+_, _-_, _≤_}
 use mathlib.Core.Logic.{by-cases}
 use native.Mathlib.Decide.{decLt}
 use native.Mathlib.Omega.{arith}
-use Rattle.layout.specs.Places.{BITS, TALLY, FIRST-REGISTER, FIRST-RELATION}
+use Rattle.layout.specs.Places.{BITS, FIRST-REGISTER, FIRST-RELATION}
 use Rattle.layout.specs.View.{View}
 use Rattle.diagram.specs.Rows.{Arrow}
 use Rattle.diagram.specs.Even.{even}
@@ -22,12 +22,11 @@ abbrev pub arrowIn : ℕ → Option ℕ
 arrowIn zero = none
 arrowIn (suc a) = some a
 
--- n, N, tally, rows, registers and relations of a view
+-- n, N, rows, registers and relations of a view
 abbrev pub seenIn : View → Table
 seenIn W = record {
   n = W .header BITS;
   N = W .rows;
-  tally = W .header TALLY;
   rows = rowsOf W;
   reg = λ r. arrowIn (W .header (FIRST-REGISTER + r));
   rel = λ t. arrowIn (W .header (FIRST-RELATION + t));

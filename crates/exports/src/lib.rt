@@ -1,4 +1,5 @@
 // The entry points for C and Rust. Each returns a refusal's number or 0, and writes its other answers, zeros where it is refused.
+use accounts::Account;
 use calls::Answer;
 use calls::Cleared;
 use calls::Collected;
@@ -16,23 +17,35 @@ use soundness::sound;
 use tokens::Kind;
 ghost use mathlib.Core.Path.{_≡_};
 ghost use Rattle.book.specs.Book as book;
-ghost use Rattle.calls.specs.Replies.{answerReply};
-ghost use Rattle.contract.specs.Posts.{FreshPost, CallPost, AskPost};
-ghost use Rattle.exports.specs.Given.{given, FreshLeft};
+ghost use Rattle.calls.specs.Replies.{answerReply, startedReply};
+ghost use Rattle.contract.specs.Posts.{CallPost, AskPost, SetAllPost};
+ghost use Rattle.formula_steps.specs.Replies.{storedReply};
+ghost use Rattle.exports.specs.Given.{given, FreshGiven};
 ghost use Rattle.exports.specs.Check.{kindOf, CheckPost};
 ghost use Rattle.exports.specs.Playing.{PlayGiven};
 
-// Makes an empty table of n bits and `rows` rows of any words.
-#[no_mangle]
-pub extern "C" fn kudzuclamp_fresh(words: &mut [u32], n: u32, rows: u32) -> u32
-    ensures { λ k. ⌜ FreshPost n rows (now (words .entry)) (now (words .exit)) (given k 0 0) ⌝ }
-    ensures { λ k. ⌜ FreshLeft n rows (now (words .entry)) (now (words .exit)) k ⌝ }
+// The number of what fresh answers.
+fn started_number(x: Started) -> u32
+    ensures { λ k. ⌜ given k 0 0 ≡ startedReply x ⌝ }
 {
-    let x = calls::fresh(words, n, rows);
     match x {
         Started::Ready => 0,
         Started::Refused(e) => refusal_number(e),
     }
+}
+
+// Makes an empty table of n bits and `rows` rows of any words, and sets the tallies of the accounts lent to 0.
+#[no_mangle]
+pub extern "C" fn kudzuclamp_fresh(
+    words: &mut [u32],
+    accounts: &mut [Account],
+    n: u32,
+    rows: u32,
+) -> u32
+    ensures { λ k. ⌜ FreshGiven n rows (now (words .entry)) (now (words .exit)) (now (accounts .entry)) (now (accounts .exit)) k ⌝ }
+{
+    let x = account_calls::fresh(words, accounts, n, rows);
+    started_number(x)
 }
 
 // Relation t holds the pairs of a formula.
@@ -47,19 +60,10 @@ pub extern "C" fn kudzuclamp_relation(words: &mut [u32], t: u32, bytes: &[u8]) -
     }
 }
 
-// Register r holds the states of a formula, found in at most `most` rounds; gives its node number and the rounds.
-#[no_mangle]
-pub extern "C" fn kudzuclamp_set(
-    words: &mut [u32],
-    r: u32,
-    most: u32,
-    bytes: &[u8],
-    node: &mut u32,
-    rounds: &mut u32,
-) -> u32
-    ensures { λ k. ⌜ CallPost (book.set r most (now (bytes .entry))) (now (words .entry)) (now (words .exit)) (given k (now (rounds .exit)) (now (node .exit))) ⌝ }
+// Gives the node number and the rounds of an answered set, zeros of a refused one.
+fn give_stored(x: Stored, node: &mut u32, rounds: &mut u32) -> u32
+    ensures { λ k. ⌜ given k (now (rounds .exit)) (now (node .exit)) ≡ storedReply x ⌝ }
 {
-    let x = formula_calls::set(words, r, most, bytes);
     match x {
         Stored::Node {
             number: a,
@@ -75,6 +79,25 @@ pub extern "C" fn kudzuclamp_set(
             refusal_number(e)
         }
     }
+}
+
+// Register r holds the states of a formula, found under the limits of the account at a place and in at most `most` rounds, which go to its tally; gives its
+// node number and the rounds.
+#[no_mangle]
+pub extern "C" fn kudzuclamp_set(
+    words: &mut [u32],
+    accounts: &mut [Account],
+    place: u32,
+    r: u32,
+    most: u32,
+    bytes: &[u8],
+    node: &mut u32,
+    rounds: &mut u32,
+) -> u32
+    ensures { λ k. ⌜ SetAllPost place r most (now (bytes .entry)) (now (words .entry)) (now (words .exit)) (now (accounts .entry)) (now (accounts .exit)) (given k (now (rounds .exit)) (now (node .exit))) ⌝ }
+{
+    let x = account_calls::set(words, accounts, place, r, most, bytes);
+    give_stored(x, node, rounds)
 }
 
 // Empties register r.
@@ -145,14 +168,6 @@ pub extern "C" fn kudzuclamp_count(words: &[u32], r: u32, value: &mut u32) -> u3
     ensures { λ k. ⌜ AskPost (book.count r) (now (words .entry)) (given k 0 (now (value .exit))) ⌝ }
 {
     give(calls::count(words, r), value)
-}
-
-// Gives the rounds of all answered set calls since fresh.
-#[no_mangle]
-pub extern "C" fn kudzuclamp_tally(words: &[u32], value: &mut u32) -> u32
-    ensures { λ k. ⌜ AskPost book.tally (now (words .entry)) (given k 0 (now (value .exit))) ⌝ }
-{
-    give(calls::tally(words), value)
 }
 
 // The call that formula bytes are for: set at 0, else relation.

@@ -1,10 +1,12 @@
--- SET and RELATION refused by a check before their steps: 3 out of range, 4 to 7 by the reader's number. Assumes nothing.
-use mathlib.Core.Path.{_≡_, refl, sym, ap, ap₂, _∙_, fun-ext}
-use mathlib.Core.Bool.{Bool, true, false, cond, _&&_}
+-- SET and RELATION refused by a check before their steps: 3 out of range, 14, 4 to 7 by the reader's number. Assumes nothing.
+use mathlib.Core.Path.{_≡_, refl, sym, ap, ap₂, _∙_, subst, fun-ext}
+use mathlib.Core.Bool.{Bool, true, false, not, cond, _&&_, true≢false}
 use mathlib.Core.List.{List}
 use Prim.Native.Nat.{ℕ, zero, suc, _+_, _≤_, _<_}
 use native.Mathlib.Omega.{arith}
-use lib.Dec.{ltb, eqb·suc-zero}
+use lib.Dec.{T, ltb, eqb·suc-zero}
+use Rattle.accounts.specs.declared.Terms.{Terms}
+use Rattle.accounts.specs.Terms.{named}
 use Rattle.mucalculus.specs.Form.{filled}
 use Rattle.tokens.specs.declared.Kind.{Kind}
 use Rattle.tokens.specs.declared.Kind.the-variants.{Relation, Set}
@@ -18,10 +20,22 @@ use Rattle.formula.specs.declared.Checked.{Checked}
 use Rattle.book.specs.Book.{Book, Call, relation, set, checks, refuse, does}
 use Rattle.book.specs.BookOf.{bookOf}
 use Rattle.book.specs.Leaves.{plain, checks-same}
-use Rattle.book.specs.Effects.{set-refused, set-out-of-range, relation-refused, relation-out-of-range}
+use Rattle.book.specs.Effects.{set-refused, set-unlisted, set-out-of-range, relation-refused, relation-out-of-range}
 use Rattle.contract.specs.Seen.{arrowIn, seen, SoundWords, sound-shows-book}
 use Rattle.contract.specs.Posts.{CallPost}
 use Rattle.contract.specs.Checked.{call-refused}
+
+-- what a test `!f(..)` says of the Boolean that f tells
+pub test-fails : {r t : Bool} → not r ≡ true → r ≡ t → t ≡ false
+test-fails {r = true} e i = absurd (true≢false (sym e))
+test-fails {r = false} e i = sym i
+
+pub test-holds : {r t : Bool} → not r ≡ false → r ≡ t → t ≡ true
+test-holds {r = true} e i = sym i
+test-holds {r = false} e i = absurd (true≢false e)
+
+pub test-named : {r t : Bool} → not r ≡ false → r ≡ t → T t
+test-named e i = subst T (sym (test-holds e i)) tt
 
 -- a root's word is filled where it is seen to be
 root-seen : (ws : List ℕ) (start total k : ℕ) → (ltb k total && filled (arrowIn (headerOf ws (start + k)))) ≡ filledRoot ws start total k
@@ -57,11 +71,15 @@ module _ (ws : List ℕ) (s : SoundWords ws) where
       go zero e = let l = refusal-some x in absurd (omega arith)
       go (suc k) e = call-refused ws s k c (h k e)
 
-  pub set-range : (r R : ℕ) (bs : List ℕ) → REGISTERS ≤ r → CallPost (set r R bs) ws ws (plain 3)
-  set-range r R bs l = call-refused ws s 2 (set r R bs) (set-out-of-range b r R bs l)
+  module _ (acc : Terms) (r R : ℕ) (bs : List ℕ) where
+    pub set-range : REGISTERS ≤ r → CallPost (set acc r R bs) ws ws (plain 3)
+    set-range l = call-refused ws s 2 (set acc r R bs) (set-out-of-range b acc r R bs l)
 
-  pub set-checked : (r R : ℕ) (bs : List ℕ) (x : Refusal) → r < REGISTERS → checks b Set bs ≡ refusalNumber x → CallPost (set r R bs) ws ws (plain (refusalNumber x))
-  set-checked r R bs x l z = refused-by (set r R bs) x (λ k e. set-refused b r R bs k l (z ∙ e))
+    pub set-unnamed : r < REGISTERS → named acc ≡ false → CallPost (set acc r R bs) ws ws (plain 14)
+    set-unnamed l e = call-refused ws s 13 (set acc r R bs) (set-unlisted b acc r R bs l e)
+
+    pub set-checked : (x : Refusal) → r < REGISTERS → T (named acc) → checks b Set bs ≡ refusalNumber x → CallPost (set acc r R bs) ws ws (plain (refusalNumber x))
+    set-checked x l t z = refused-by (set acc r R bs) x (λ k e. set-refused b acc r R bs k l t (z ∙ e))
 
   pub relation-range : (t : ℕ) (bs : List ℕ) → RELATIONS ≤ t → CallPost (relation t bs) ws ws (plain 3)
   relation-range t bs l = call-refused ws s 2 (relation t bs) (relation-out-of-range b t bs l)

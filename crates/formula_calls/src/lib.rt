@@ -1,4 +1,6 @@
 // The entry points that take a formula. Each makes its checks in document 01's order, and then leaves the work to one lower function.
+use accounts::Terms;
+use accounts::is_named;
 use formula::Checked;
 use formula::check_formula;
 use formula_steps::Loaded;
@@ -31,10 +33,10 @@ pub fn relation(words: &mut [u32], t: u32, bytes: &[u8]) -> Loaded
     }
 }
 
-// Register r holds the states of a formula, found in at most so many rounds; 2 on unsound words, 3 where there is no such register, 4 to 7 by
-// the formula, 8 where a step needs more rows than there are, 9 where the rounds are used up.
-pub fn set(words: &mut [u32], r: u32, most: u32, bytes: &[u8]) -> Stored
-    ensures { λ x. ⌜ CallPost (book.set r most (now (bytes .entry))) (now (words .entry)) (now (words .exit)) (storedReply x) ⌝ }
+// Register r holds the states of a formula, found in at most so many rounds under the limits of an account; 2 on unsound words, 3 where there is no
+// such register, 14 where the list has not the account named, 4 to 7 by the formula, 8 where a step needs more rows than there are, 9 where the rounds are used up.
+pub fn set(words: &mut [u32], terms: Terms, r: u32, most: u32, bytes: &[u8]) -> Stored
+    ensures { λ x. ⌜ CallPost (book.set terms r most (now (bytes .entry))) (now (words .entry)) (now (words .exit)) (storedReply x) ⌝ }
 {
     if !sound(words) {
         return Stored::Refused(Refusal::Unsound);
@@ -42,9 +44,12 @@ pub fn set(words: &mut [u32], r: u32, most: u32, bytes: &[u8]) -> Stored
     if r >= Table::REGISTERS {
         return Stored::Refused(Refusal::Range);
     }
+    if !is_named(terms) {
+        return Stored::Refused(Refusal::Unlisted);
+    }
     let n = header_word(words, Table::BITS);
     match check_formula(bytes, Kind::Set, n, words) {
         Checked::Refused(x) => Stored::Refused(x),
-        Checked::Fit => set_steps(words, r, most, bytes),
+        Checked::Fit => set_steps(words, terms, r, most, bytes),
     }
 }

@@ -1,4 +1,4 @@
--- SET and RELATION after their steps: what the evaluator left, an arrow and the tally stored, a collection afterwards. Assumes nothing.
+-- SET and RELATION after their steps: what the evaluator left, an arrow stored, a collection afterwards. Assumes nothing.
 use mathlib.Core.Path.{_≡_, refl, ap, _∙_}
 use mathlib.Core.Bool.{true, cond}
 use mathlib.Core.List.{List}
@@ -6,16 +6,18 @@ use mathlib.Core.Option.{Option, some}
 use Prim.Native.Nat.{ℕ, suc, _+_, _≤_, _<_}
 use native.Mathlib.Omega.{arith}
 use lib.Dec.{T, eqb}
+use Rattle.accounts.specs.declared.Terms.{Terms}
+use Rattle.accounts.specs.Terms.{named, rowsUnder, roundsUnder}
 use borrow.Author.Tests.{eq-eqb}
 use Rattle.mucalculus.specs.Form.{noEnv, put}
 use Rattle.tokens.specs.declared.Kind.the-variants.{Relation, Set}
 use Rattle.layout.specs.Refusals.{keepsAll}
-use Rattle.layout.specs.Places.{REGISTERS, RELATIONS, ROWS, TALLY, FIRST-REGISTER, FIRST-RELATION}
+use Rattle.layout.specs.Places.{REGISTERS, RELATIONS, ROWS, FIRST-REGISTER, FIRST-RELATION}
 use Rattle.layout.specs.View.{View, view, headerOf}
 use Rattle.diagram.specs.Post.{Result, at, full as noRows}
 use Rattle.soundness.specs.Used.{rowsOf}
 use Rattle.soundness.specs.Sound.{Good, Sound, tableOf}
-use Rattle.book.specs.Book.{Book, Call, relation, set, modelOf, liveOf, checks, formulaIn, tallied}
+use Rattle.book.specs.Book.{Book, Call, relation, set, modelOf, liveOf, checks, formulaIn}
 use Rattle.book.specs.Table.{Table, Reply, rootsOf, Serves}
 use Rattle.book.specs.Run.{run, pairF, pairsFit}
 use Rattle.book.specs.Follow.{Ended, ends, eight, nine, Evals}
@@ -28,7 +30,7 @@ use Rattle.contract.specs.Seen.{seenIn, seen, SoundWords, sound-shows-book, tab
 use Rattle.contract.specs.Kept.{target}
 use Rattle.contract.specs.Posts.{CallPost}
 use Rattle.operations.specs.Work.{OpFrame}
-use Rattle.formula_steps.specs.Evaluated.{Left, left-op, left-none, left-put, rows-seen, registerStored, register-seen, register-good, relationStored, relation-seen, relation-good, Tidied, tidied-served, tidied-left, takesFormula, or-true, formula-done}
+use Rattle.formula_steps.specs.Evaluated.{Left, left-op, left-none, left-put, rows-seen, registerStored, register-seen, register-good, relationStored, relation-seen, relation-good, Tidied, tidied-served, tidied-left, takesFormula, formula-done}
 
 -- ---- alike tables
 
@@ -36,7 +38,6 @@ alike-trans : {t u v : Table} → Alike t u → Alike u v → Alike t v
 alike-trans a b = record {
   n = b .n ∙ a .n;
   N = b .N ∙ a .N;
-  tally = b .tally ∙ a .tally;
   rows = b .rows ∙ a .rows;
   reg = λ r l. b .reg r l ∙ a .reg r l;
   rel = λ q l. b .rel q l ∙ a .rel q l;
@@ -45,11 +46,11 @@ alike-trans a b = record {
 put-same : (h g : ℕ → Option ℕ) (i : ℕ) (o : Option ℕ) (q : ℕ) → h q ≡ g q → put h i o q ≡ put g i o q
 put-same h g i o q e = ap (λ (x : Option ℕ). cond (eqb q i) o x) e
 
-alike-reg : {t u : Table} (r : ℕ) (o : Option ℕ) {k j : ℕ} → j ≡ k → Alike t u → Alike (storeReg t r o k) (storeReg u r o j)
-alike-reg {t} {u} r o e a = record { n = a .n; N = a .N; tally = e; rows = a .rows; reg = λ q l. put-same (u .reg) (t .reg) r o q (a .reg q l); rel = a .rel }
+alike-reg : {t u : Table} (r : ℕ) (o : Option ℕ) → Alike t u → Alike (storeReg t r o) (storeReg u r o)
+alike-reg {t} {u} r o a = record { n = a .n; N = a .N; rows = a .rows; reg = λ q l. put-same (u .reg) (t .reg) r o q (a .reg q l); rel = a .rel }
 
 alike-rel : {t u : Table} (r : ℕ) (o : Option ℕ) → Alike t u → Alike (storeRel t r o) (storeRel u r o)
-alike-rel {t} {u} r o a = record { n = a .n; N = a .N; tally = a .tally; rows = a .rows; reg = a .reg; rel = λ q l. put-same (u .rel) (t .rel) r o q (a .rel q l) }
+alike-rel {t} {u} r o a = record { n = a .n; N = a .N; rows = a .rows; reg = a .reg; rel = λ q l. put-same (u .rel) (t .rel) r o q (a .rel q l) }
 
 -- ---- before the collection afterwards
 
@@ -81,31 +82,25 @@ module _ (old : List ℕ) (s : SoundWords old) (X : View) (g : Good X) (f : OpFr
 
   -- ---- set
 
-  module _ (r R : ℕ) (bs : List ℕ) (l : r < REGISTERS) (z : checks b Set bs ≡ 0) where
+  module _ (acc : Terms) (r R : ℕ) (bs : List ℕ) (l : r < REGISTERS) (m : T (named acc)) (z : checks b Set bs ≡ 0) where
     abbrev c : Call
-    c = set r R bs
+    c = set acc r R bs
 
     -- the evaluation of the call's formula ended so
     abbrev pub SetEnds : Ended → Type 0
-    SetEnds y = Evals (b .n) (b .N) (rowsOf W) (rowsOf X) (rootsOf (seen old)) (run (modelOf b) (b .N) R noEnv (liveOf b) (formulaIn b Set bs) 0) y
+    SetEnds y = Evals (b .n) (b .N) (rowsOf W) (rowsOf X) (rootsOf (seen old)) (run (modelOf b) (rowsUnder (b .N) acc) (roundsUnder R acc) noEnv (liveOf b) (formulaIn b Set bs) 0) y
 
     serves : (y : Ended) → SetEnds y → Serves b c (seen old) (setLeaves (seen old) r (rowsOf X) y) (setReply y)
-    serves y d = set-serves b (seen old) r R bs (rowsOf X) y (sound-shows-book old s) l z d
+    serves y d = set-serves b (seen old) acc r R bs (rowsOf X) y (sound-shows-book old s) l m z d
 
     -- "returns node number and rounds"
-    pub set-value : (a q : ℕ) → SetEnds (ends a q) → Through old c (setReply (ends a q)) (registerStored X r a (tallied (X .header TALLY) q))
+    pub set-value : (a q : ℕ) → SetEnds (ends a q) → Through old c (setReply (ends a q)) (registerStored X r a)
     set-value a q d = record {
-      good = register-good X r a v l g;
-      left = left-put c (setReply (ends a q)) TALLY v (left-put c (setReply (ends a q)) (FIRST-REGISTER + r) (suc a) (left c (setReply (ends a q))) refl own) refl (or-true (eqb TALLY (FIRST-REGISTER + r)));
-      serves = alike-serves (alike-trans (alike-reg r (some a) same (rows-seen W X f)) (register-seen X r a v l)) b c (seen old) (setReply (ends a q)) (serves (ends a q) d);
+      good = register-good X r a l g;
+      left = left-put c (setReply (ends a q)) (FIRST-REGISTER + r) (suc a) (left c (setReply (ends a q))) refl own;
+      serves = alike-serves (alike-trans (alike-reg r (some a) (rows-seen W X f)) (register-seen X r a l)) b c (seen old) (setReply (ends a q)) (serves (ends a q) d);
     }
       where
-        v : ℕ
-        v = tallied (X .header TALLY) q
-
-        same : v ≡ tallied (W .header TALLY) q
-        same = ap (λ (k : ℕ). tallied k q) (f .header TALLY (omega arith) (omega arith) (omega arith) (omega arith))
-
         own : target c (FIRST-REGISTER + r) ≡ true
         own = rw (eq-eqb (FIRST-REGISTER + r) (FIRST-REGISTER + r) refl)
 

@@ -1,4 +1,4 @@
--- SET and RELATION: from what the evaluators leave, a root and the tally stored, and a collection afterwards, to the calls' contracts. Assumes
+-- SET and RELATION: from what the evaluators leave, a root stored, and a collection afterwards, to the calls' contracts. Assumes
 -- nothing.
 use mathlib.Core.Path.{_≡_, refl, ap, sym, _∙_, subst}
 use mathlib.Core.Bool.{Bool, true, false, cond, _&&_, _||_, true≢false}
@@ -12,7 +12,7 @@ use borrow.Author.Tests.{ne-eqb, eq-eqb, eqb-true, eqb-false}
 use Rattle.mucalculus.specs.Form.{put}
 use Rattle.diagram.specs.Collect.{Collects}
 use Rattle.layout.specs.Refusals.{keepsAll}
-use Rattle.layout.specs.Places.{REGISTERS, RELATIONS, BITS, ROWS, TALLY, USED, CURSOR, SLOTS, STORED, SPARE, FIRST-REGISTER, FIRST-RELATION}
+use Rattle.layout.specs.Places.{REGISTERS, RELATIONS, BITS, ROWS, USED, CURSOR, SLOTS, STORED, SPARE, FIRST-REGISTER, FIRST-RELATION}
 use Rattle.layout.specs.View.{View, view, headerOf, putHeader}
 use Rattle.layout.specs.Same.{same-beyond}
 use Rattle.soundness.specs.Used.{rowsOf}
@@ -106,7 +106,7 @@ and-no false = refl
 -- N stays
 rows-stays : (c : Call) (y : Reply) → changes c y ROWS ≡ false
 rows-stays (relation t bs) y = let z : eqb ROWS (FIRST-RELATION + t) ≡ false = ne-eqb ROWS (FIRST-RELATION + t) (omega arith) in rw z (and-no (eqb (y .number) 0))
-rows-stays (set r R bs) y = let z : eqb ROWS (FIRST-REGISTER + r) ≡ false = ne-eqb ROWS (FIRST-REGISTER + r) (omega arith) in rw z (and-no (eqb (y .number) 0))
+rows-stays (set acc r R bs) y = let z : eqb ROWS (FIRST-REGISTER + r) ≡ false = ne-eqb ROWS (FIRST-REGISTER + r) (omega arith) in rw z (and-no (eqb (y .number) 0))
 rows-stays (clear r) y = let z : eqb ROWS (FIRST-REGISTER + r) ≡ false = ne-eqb ROWS (FIRST-REGISTER + r) (omega arith) in rw z (and-no (eqb (y .number) 0))
 rows-stays collect y = and-no (eqb (y .number) 0)
 
@@ -117,18 +117,14 @@ pub rows-seen : (W X : View) → OpFrame W X → Alike (withRows (seenIn W) (row
 rows-seen W X f = record {
   n = f .header BITS (omega arith) (omega arith) (omega arith) (omega arith);
   N = f .rows;
-  tally = f .header TALLY (omega arith) (omega arith) (omega arith) (omega arith);
   rows = refl;
   reg = λ r l. ap arrowIn (f .header (FIRST-REGISTER + r) (omega arith) (omega arith) (omega arith) (omega arith));
   rel = λ t l. ap arrowIn (f .header (FIRST-RELATION + t) (omega arith) (omega arith) (omega arith) (omega arith));
 }
 
--- another word written, and the word itself
+-- another word written
 other-put : (X : View) (h v k : ℕ) → k ≢ h → putHeader X h v .header k ≡ X .header k
 other-put X h v k n = rw (ne-eqb k h n)
-
-word-put : (X : View) (h v : ℕ) → putHeader X h v .header h ≡ v
-word-put X h v = rw (eq-eqb h h refl)
 
 -- word `start` + k of the roots written: seen from `start` on
 root-put : (X : View) (start k a q : ℕ) → arrowIn (putHeader X (start + k) (suc a) .header (start + q)) ≡ put (λ j. arrowIn (X .header (start + j))) k (some a) q
@@ -138,26 +134,22 @@ root-put X start k a q = go (eqb q k) refl
     go true e = let z : start + q ≡ start + k = let i = eqb-true q k e in omega arith in rw (eq-eqb (start + q) (start + k) z)
     go false e = let n : start + q ≢ start + k = let m = eqb-false q k e in omega arith in rw (ne-eqb (start + q) (start + k) n)
 
--- register r holds arrow a, and the tally is v
-abbrev pub registerStored : View → ℕ → ℕ → ℕ → View
-registerStored X r a v = putHeader (putHeader X (FIRST-REGISTER + r) (suc a)) TALLY v
+-- register r holds arrow a
+abbrev pub registerStored : View → ℕ → ℕ → View
+registerStored X r a = putHeader X (FIRST-REGISTER + r) (suc a)
 
-module _ (X : View) (r a v : ℕ) (l : r < REGISTERS) where
-  abbrev Y : View
-  Y = putHeader X (FIRST-REGISTER + r) (suc a)
-
-  pub register-seen : Alike (storeReg (seenIn X) r (some a) v) (seenIn (registerStored X r a v))
+module _ (X : View) (r a : ℕ) (l : r < REGISTERS) where
+  pub register-seen : Alike (storeReg (seenIn X) r (some a)) (seenIn (registerStored X r a))
   register-seen = record {
-    n = other-put Y TALLY v BITS (omega arith) ∙ other-put X (FIRST-REGISTER + r) (suc a) BITS (omega arith);
+    n = other-put X (FIRST-REGISTER + r) (suc a) BITS (omega arith);
     N = refl;
-    tally = word-put Y TALLY v;
-    rows = rows-kept Y TALLY v (omega arith) (omega arith) (omega arith) (omega arith) ∙ rows-kept X (FIRST-REGISTER + r) (suc a) (omega arith) (omega arith) (omega arith) (omega arith);
-    reg = λ q _. ap arrowIn (other-put Y TALLY v (FIRST-REGISTER + q) (omega arith)) ∙ root-put X FIRST-REGISTER r a q;
-    rel = λ t _. ap arrowIn (other-put Y TALLY v (FIRST-RELATION + t) (omega arith) ∙ other-put X (FIRST-REGISTER + r) (suc a) (FIRST-RELATION + t) (omega arith));
+    rows = rows-kept X (FIRST-REGISTER + r) (suc a) (omega arith) (omega arith) (omega arith) (omega arith);
+    reg = λ q _. root-put X FIRST-REGISTER r a q;
+    rel = λ t _. ap arrowIn (other-put X (FIRST-REGISTER + r) (suc a) (FIRST-RELATION + t) (omega arith));
   }
 
-  pub register-good : Good X → Good (registerStored X r a v)
-  register-good g = good-store Y TALLY v (omega arith) (omega arith) (omega arith) (omega arith) (good-store X (FIRST-REGISTER + r) (suc a) (omega arith) (omega arith) (omega arith) (omega arith) g)
+  pub register-good : Good X → Good (registerStored X r a)
+  register-good g = good-store X (FIRST-REGISTER + r) (suc a) (omega arith) (omega arith) (omega arith) (omega arith) g
 
 -- relation t holds arrow a
 abbrev pub relationStored : View → ℕ → ℕ → View
@@ -168,7 +160,6 @@ module _ (X : View) (t a : ℕ) (l : t < RELATIONS) where
   relation-seen = record {
     n = other-put X (FIRST-RELATION + t) (suc a) BITS (omega arith);
     N = refl;
-    tally = other-put X (FIRST-RELATION + t) (suc a) TALLY (omega arith);
     rows = rows-kept X (FIRST-RELATION + t) (suc a) (omega arith) (omega arith) (omega arith) (omega arith);
     reg = λ q k. ap arrowIn (other-put X (FIRST-RELATION + t) (suc a) (FIRST-REGISTER + q) (omega arith));
     rel = λ q k. root-put X FIRST-RELATION t a q;
@@ -201,13 +192,13 @@ tidied-left c y (freed g f k) l = left-op c y l f
 -- neither set nor relation settles all words
 abbrev pub takesFormula : Call → Type 0
 takesFormula (relation t bs) = Unit {0}
-takesFormula (set r R bs) = Unit {0}
+takesFormula (set acc r R bs) = Unit {0}
 takesFormula (clear r) = ⊥
 takesFormula collect = ⊥
 
 exact-of : (c : Call) (y : Reply) (old new : List ℕ) → takesFormula c → Exact c y old new
 exact-of (relation t bs) y old new k = tt
-exact-of (set r R bs) y old new k = tt
+exact-of (set acc r R bs) y old new k = tt
 exact-of (clear r) y old new k = absurd k
 exact-of collect y old new k = absurd k
 

@@ -42,11 +42,11 @@ module _ {old bs : List ℕ} {t rows n : ℕ} (p : RelationReady t old bs) (er :
   abbrev b : Book
   b = bookOf (seen old)
 
-  pub relation-asks : PairsPre (limitsOf n rows 0) (view rows old) bs
+  pub relation-asks : PairsPre (limitsOf n rows rows 0) (view rows old) bs
   relation-asks = rw (er, en) (record { sound = p .sound; bits = refl; rows = refl; limit = omega arith; passed = p .passed })
 
-  module _ (mid : List ℕ) {y : Made} (d : PairsPost (limitsOf n rows 0) (view rows old) (view rows mid) bs y) where
-    post : PairsPost (limitsOf (headerOf old BITS) (headerOf old ROWS) 0) (tableOf old) (view (headerOf old ROWS) mid) bs y
+  module _ (mid : List ℕ) {y : Made} (d : PairsPost (limitsOf n rows rows 0) (view rows old) (view rows mid) bs y) where
+    post : PairsPost (limitsOf (headerOf old BITS) (headerOf old ROWS) (headerOf old ROWS) 0) (tableOf old) (view (headerOf old ROWS) mid) bs y
     post = rw (er, en) at d
 
     abbrev X : View

@@ -1,12 +1,14 @@
 -- What set and relation store of an evaluation, and what they answer. Assumes nothing.
-use mathlib.Core.Path.{_≡_, refl, sym, ap, ap₂, _∙_, subst}
+use mathlib.Core.Path.{_≡_, refl, sym, ap, _∙_, subst}
 use mathlib.Core.List.{List}
 use Prim.Native.Nat.{ℕ, zero, suc, _+_, _≤_, _<_}
 use native.Mathlib.Omega.{arith}
 use lib.Dec.{T}
 use lib.ListN.{length}
+use Rattle.accounts.specs.declared.Terms.{Terms}
+use Rattle.accounts.specs.Terms.{named, rowsUnder, roundsUnder}
 use Rattle.layout.specs.Refusals.{keepsAll}
-use Rattle.layout.specs.Places.{REGISTERS, RELATIONS, MAX-ROWS, BITS, ROWS, TALLY, wordsFor, FIRST-REGISTER, FIRST-RELATION}
+use Rattle.layout.specs.Places.{REGISTERS, RELATIONS, MAX-ROWS, BITS, ROWS, wordsFor, FIRST-REGISTER, FIRST-RELATION}
 use Rattle.layout.specs.View.{View, view, headerOf, putHeader}
 use Rattle.layout.specs.declared.Refusal.the-variants as refusal
 use Rattle.tokens.specs.declared.Kind.the-variants as kind
@@ -15,7 +17,7 @@ use Rattle.soundness.specs.Sound.{Sound, tableOf}
 use Rattle.table.specs.Make.{result}
 use Rattle.table.specs.declared.Made.{Made}
 use Rattle.table.specs.declared.Made.the-variants as made
-use Rattle.book.specs.Book.{set, relation, checks, tallied}
+use Rattle.book.specs.Book.{set, relation, checks}
 use Rattle.book.specs.BookOf.{bookOf}
 use Rattle.book.specs.Run.{Outcome, value, full as noRows, spent}
 use Rattle.book.specs.Follow.{Evals}
@@ -41,14 +43,14 @@ Holds (Value a k q) = suc a < 4_294_967_296
 Holds Full = Unit {0}
 Holds Spent = Unit {0}
 
--- set's answer, and the words with the arrow and the rounds
+-- set's answer, and the words with the arrow
 abbrev pub storedOf : Evaluated → Stored
 storedOf (Value a k q) = stored.Node a q
 storedOf Full = stored.Refused refusal.Full
 storedOf Spent = stored.Refused refusal.Spent
 
 abbrev pub setStored : View → ℕ → Evaluated → View
-setStored X r (Value a k q) = registerStored X r a (tallied (X .header TALLY) q)
+setStored X r (Value a k q) = registerStored X r a
 setStored X r Full = X
 setStored X r Spent = X
 
@@ -90,11 +92,9 @@ module _ (X : View) (r : ℕ) where
   pub stored-spent : {y : Evaluated} → y ≡ Spent → (stored.Refused refusal.Spent ≡ storedOf y) × (X ≡ setStored X r y)
   stored-spent e = rw e (refl, refl)
 
-  pub stored-value : {y : Evaluated} {a k q w v : ℕ} {Y Z : View} → y ≡ Value a k q → w ≡ X .header TALLY → v ≡ tallied w q → Y ≡ putHeader X (FIRST-REGISTER + r) (a + 1) → Z ≡ putHeader Y TALLY v
-      → (stored.Node a q ≡ storedOf y) × (Z ≡ setStored X r y)
-  stored-value {a = a} {q = q} {w = w} {Z = Z} e i j m n =
-      subst (λ (y : Evaluated). (stored.Node a q ≡ storedOf y) × (Z ≡ setStored X r y)) (sym e)
-      (refl, n ∙ ap₂ (λ (Y : View) (v : ℕ). putHeader Y TALLY v) (m ∙ ap (λ (x : ℕ). putHeader X (FIRST-REGISTER + r) x) (omega arith)) (j ∙ ap (λ (x : ℕ). tallied x q) i))
+  pub stored-value : {y : Evaluated} {a k q : ℕ} {Z : View} → y ≡ Value a k q → Z ≡ putHeader X (FIRST-REGISTER + r) (a + 1) → (stored.Node a q ≡ storedOf y) × (Z ≡ setStored X r y)
+  stored-value {a = a} {q = q} {Z = Z} e m =
+      subst (λ (y : Evaluated). (stored.Node a q ≡ storedOf y) × (Z ≡ setStored X r y)) (sym e) (refl, m ∙ ap (λ (x : ℕ). putHeader X (FIRST-REGISTER + r) x) (omega arith))
 
   pub loaded-full : {y : Made} → y ≡ made.Full → (loaded.Refused refusal.Full ≡ loadedOf y) × (X ≡ relationLoaded X r y)
   loaded-full e = rw e (refl, refl)
@@ -120,32 +120,36 @@ ends-holds o Spent l d = tt
 -- ---- the steps of `set_steps`: `rows`, `n` and `R` are what the code reads and hands on
 
 -- what a set call asks after its checks
-pub record SetReady (r : ℕ) (old bs : List ℕ) : Type 0 where
+pub record SetReady (acc : Terms) (r : ℕ) (old bs : List ℕ) : Type 0 where
   pub sound : SoundWords old
   pub range : r < REGISTERS
+  pub listed : T (named acc)
   pub passed : checks (bookOf (seen old)) kind.Set bs ≡ 0
 
-abbrev pub limitsOf : ℕ → ℕ → ℕ → Limits
-limitsOf n rows R = record { bits = n; rows = rows; limit = rows; rounds = R }
+abbrev pub limitsOf : ℕ → ℕ → ℕ → ℕ → Limits
+limitsOf n rows limit R = record { bits = n; rows = rows; limit = limit; rounds = R }
 
-module _ {old bs : List ℕ} {r R rows n : ℕ} (p : SetReady r old bs) (er : rows ≡ headerOf old ROWS) where
-  pub set-asks : n ≡ headerOf old BITS → SetPre (limitsOf n rows R) (view rows old) bs
-  set-asks en = rw er (record { sound = p .sound; bits = en; rows = refl; limit = omega arith; passed = p .passed })
+abbrev limitsUnder : ℕ → ℕ → ℕ → Terms → Limits
+limitsUnder n rows R acc = limitsOf n rows (rowsUnder rows acc) (roundsUnder R acc)
 
-  module _ (mid : List ℕ) {y : Evaluated} (d : SetPost (limitsOf n rows R) (view rows old) (view rows mid) bs y) where
-    post : SetPost (limitsOf n (headerOf old ROWS) R) (tableOf old) (view (headerOf old ROWS) mid) bs y
-    post = rw er at d
+module _ {old bs : List ℕ} {acc : Terms} {r rows n limit most : ℕ} (p : SetReady acc r old bs) (er : rows ≡ headerOf old ROWS) (R : ℕ) (el : limit ≡ rowsUnder rows acc) (em : most ≡ roundsUnder R acc) where
+  pub set-asks : n ≡ headerOf old BITS → SetPre (limitsOf n rows limit most) (view rows old) bs
+  set-asks en = rw (el, er) (record { sound = p .sound; bits = en; rows = refl; limit = omega arith; passed = p .passed })
 
-    through : Through old (set r R bs) (storedReply (storedOf y)) (setStored (view (headerOf old ROWS) mid) r y)
+  module _ (mid : List ℕ) {y : Evaluated} (d : SetPost (limitsOf n rows limit most) (view rows old) (view rows mid) bs y) where
+    post : SetPost (limitsUnder n (headerOf old ROWS) R acc) (tableOf old) (view (headerOf old ROWS) mid) bs y
+    post = rw er at (rw (el, em) at d)
+
+    through : Through old (set acc r R bs) (storedReply (storedOf y)) (setStored (view (headerOf old ROWS) mid) r y)
     through = go y (post .evals)
       where
         X : View
         X = view (headerOf old ROWS) mid
 
-        go : (y : Evaluated) → SetEnds old (p .sound) X (post .sound .good) (post .frame) r R bs (p .range) (p .passed) (endedOf y) → Through old (set r R bs) (storedReply (storedOf y)) (setStored X r y)
-        go (Value a k q) e = set-value old (p .sound) X (post .sound .good) (post .frame) r R bs (p .range) (p .passed) a q e
-        go Full e = set-full old (p .sound) X (post .sound .good) (post .frame) r R bs (p .range) (p .passed) e
-        go Spent e = set-spent old (p .sound) X (post .sound .good) (post .frame) r R bs (p .range) (p .passed) e
+        go : (y : Evaluated) → SetEnds old (p .sound) X (post .sound .good) (post .frame) acc r R bs (p .range) (p .listed) (p .passed) (endedOf y) → Through old (set acc r R bs) (storedReply (storedOf y)) (setStored X r y)
+        go (Value a k q) e = set-value old (p .sound) X (post .sound .good) (post .frame) acc r R bs (p .range) (p .listed) (p .passed) a q e
+        go Full e = set-full old (p .sound) X (post .sound .good) (post .frame) acc r R bs (p .range) (p .listed) (p .passed) e
+        go Spent e = set-spent old (p .sound) X (post .sound .good) (post .frame) acc r R bs (p .range) (p .listed) (p .passed) e
 
     -- what `store_set` asks
     pub set-storing : (r < REGISTERS) × (wordsFor rows ≤ length mid) × Holds y
@@ -157,5 +161,5 @@ module _ {old bs : List ℕ} {r R rows n : ℕ} (p : SetReady r old bs) (er : ro
       set-tidying = subst Sound (sym e) (rw er (through-sound through))
 
       -- the call
-      pub set-done : {x : Stored} → x ≡ storedOf y → (new : List ℕ) → Tidied (view rows after) (view rows new) → CallPost (set r R bs) old new (storedReply x)
+      pub set-done : {x : Stored} → x ≡ storedOf y → (new : List ℕ) → Tidied (view rows after) (view rows new) → CallPost (set acc r R bs) old new (storedReply x)
       set-done i new t = rw i (through-done (p .sound) tt (stored-late y) through (rw (sym er) (subst (λ (v : View). Tidied v (view rows new)) e t)) refl)

@@ -1,4 +1,7 @@
 // The steps of the calls that take a formula, after their checks: the formula is evaluated, what it gives is stored, and rows are freed where many are not needed any more.
+use accounts::Terms;
+use accounts::rounds_under;
+use accounts::rows_under;
 use collect::free_many;
 use evaluator::Evaluated;
 use evaluator::evaluate_set;
@@ -34,16 +37,6 @@ pub enum Loaded {
     Refused(Refusal),
 }
 
-// The tally after some rounds more: it stays at the top once it would pass that.
-fn tallied(tally: u32, rounds: u32) -> u32
-    ensures { λ r. ⌜ r ≡ book.tallied tally rounds ⌝ }
-{
-    if rounds > 4294967295 - tally {
-        return 4294967295;
-    }
-    tally + rounds
-}
-
 // Frees the rows that no register and no relation needs, where they are many. Looked at only where the used rows have passed a multiple of 64
 // since `before` at the call's start, so that a call that makes few rows does not pay for it.
 fn tidy(words: &mut [u32], rows: u32, before: u32)
@@ -57,7 +50,7 @@ fn tidy(words: &mut [u32], rows: u32, before: u32)
     free_many(words, rows);
 }
 
-// Stores what an evaluation gave in register r, and tallies its rounds.
+// Stores what an evaluation gave in register r.
 fn store_set(words: &mut [u32], rows: u32, r: u32, done: Evaluated) -> Stored
     requires { ⌜ (r < REGISTERS) × (wordsFor rows ≤ length (now words)) × Holds done ⌝ }
     ensures { λ x. ⌜ (x ≡ storedOf done) × (view rows (now (words .exit)) ≡ setStored (view rows (now (words .entry))) r done) ⌝ }
@@ -70,10 +63,8 @@ fn store_set(words: &mut [u32], rows: u32, r: u32, done: Evaluated) -> Stored
             next: _,
             rounds: q,
         } => {
-            let tally = tallied(header_word(words, Table::TALLY), q);
             let at = Table::FIRST_REGISTER + (r as usize);
             put_header(words, rows, at, a + 1);
-            put_header(words, rows, Table::TALLY, tally);
             Stored::Node {
                 number: a,
                 rounds: q,
@@ -97,17 +88,17 @@ fn store_relation(words: &mut [u32], rows: u32, t: u32, done: Made) -> Loaded
     }
 }
 
-// Evaluates a checked formula, stores its states in register r, and frees rows where many are not needed any more.
-pub fn set_steps(words: &mut [u32], r: u32, most: u32, bytes: &[u8]) -> Stored
-    requires { ⌜ SetReady r (now words) (now bytes) ⌝ }
-    ensures { λ x. ⌜ CallPost (book.set r most (now (bytes .entry))) (now (words .entry)) (now (words .exit)) (storedReply x) ⌝ }
+// Evaluates a checked formula under the limits of an account, stores its states in register r, and frees rows where many are not needed any more.
+pub fn set_steps(words: &mut [u32], terms: Terms, r: u32, most: u32, bytes: &[u8]) -> Stored
+    requires { ⌜ SetReady terms r (now words) (now bytes) ⌝ }
+    ensures { λ x. ⌜ CallPost (book.set terms r most (now (bytes .entry))) (now (words .entry)) (now (words .exit)) (storedReply x) ⌝ }
 {
     let rows = header_word(words, Table::ROWS);
     let limits = Limits {
         bits: header_word(words, Table::BITS),
         rows: rows,
-        limit: rows,
-        rounds: most,
+        limit: rows_under(rows, terms),
+        rounds: rounds_under(most, terms),
     };
     let before = header_word(words, Table::USED);
     let done = evaluate_set(words, limits, bytes);

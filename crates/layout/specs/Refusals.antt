@@ -4,7 +4,7 @@ use native.Mathlib.Omega.{arith}
 use mathlib.Core.Bool.{Bool, _&&_, _||_}
 use lib.Dec.{leb}
 use Rattle.layout.specs.declared.Refusal.{Refusal}
-use Rattle.layout.specs.declared.Refusal.the-variants.{Sizes, Unsound, Range, Syntax, Unbound, Odd, Empty, Full, Spent}
+use Rattle.layout.specs.declared.Refusal.the-variants.{Sizes, Unsound, Range, Syntax, Unbound, Odd, Empty, Full, Spent, Unlisted}
 
 abbrev pub refusalNumber : Refusal → ℕ
 -- "fresh: n, N or slice length"
@@ -25,6 +25,8 @@ refusalNumber Empty = 7
 refusalNumber Full = 8
 -- "rounds used up"
 refusalNumber Spent = 9
+-- "the list is not 1 to 8 long or has no account at that place"
+refusalNumber Unlisted = 14
 
 -- "Kept: all words": 1 to 7, and of document 02's numbers 12, 13 and 14
 abbrev pub keepsAll : ℕ → Bool
@@ -41,3 +43,4 @@ refusal-some Odd = omega arith
 refusal-some Empty = omega arith
 refusal-some Full = omega arith
 refusal-some Spent = omega arith
+refusal-some Unlisted = omega arith

@@ -112,6 +112,7 @@ pub enum Refusal {
     Empty,
     Full,
     Spent,
+    Unlisted,
 }
 
 // The number of a refusal.
@@ -128,6 +129,7 @@ pub fn refusal_number(r: Refusal) -> u32
         Refusal::Empty => 7,
         Refusal::Full => 8,
         Refusal::Spent => 9,
+        Refusal::Unlisted => 14,
     }
 }
 

@@ -3,6 +3,7 @@
 use mathlib.Core.Bool.{true, false}
 use mathlib.Core.List.{List, [], _∷_}
 use mathlib.Core.Option.{none, some}
+use Rattle.accounts.specs.Terms.{alone}
 use Rattle.book.specs.Book.{fresh, relation, set, answered}
 use Rattle.book.specs.Compute.{computing}
 use Rattle.book.specs.Listed.{frame, Line, did, holds, made, Gives, testing, given}
@@ -13,7 +14,7 @@ use Rattle.book.specs.Listed.{frame, Line, did, holds, made, Gives, testing, gi
 abbrev anew : List Line
 anew =
     did (relation 0 (frame (0x10 ∷ []))) (answered (some 0))
-    ∷ did (set 0 100 (frame (0x80 ∷ 0x71 ∷ 0x68 ∷ 0x04 ∷ 0x03 ∷ 0x02 ∷ 0x10 ∷ 0x30 ∷ 0x31 ∷ []))) (made 7 (some 0))
+    ∷ did (set alone 0 100 (frame (0x80 ∷ 0x71 ∷ 0x68 ∷ 0x04 ∷ 0x03 ∷ 0x02 ∷ 0x10 ∷ 0x30 ∷ 0x31 ∷ []))) (made 7 (some 0))
     ∷ holds 0 (some (false ∷ false ∷ [])) ∷ []
 
 pub inner-starts-anew : Gives (fresh 1 100) anew
@@ -24,7 +25,7 @@ inner-starts-anew = given (fresh 1 100) anew tt
 abbrev nextBits : List Line
 nextBits =
     did (relation 0 (frame (0x03 ∷ 0x02 ∷ 0x10 ∷ 0x20 ∷ []))) (answered (some 0))
-    ∷ did (set 0 100 (frame (0x68 ∷ 0x10 ∷ []))) (made 0 none)
+    ∷ did (set alone 0 100 (frame (0x68 ∷ 0x10 ∷ []))) (made 0 none)
     ∷ holds 0 (some (true ∷ false ∷ [])) ∷ []
 
 pub next-bits-quantified : Gives (fresh 1 100) nextBits

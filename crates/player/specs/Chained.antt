@@ -3,13 +3,13 @@ use mathlib.Core.Path.{_≡_, refl, sym, ap, _∙_, subst}
 use mathlib.Core.Bool.{Bool, true, false, cond}
 use mathlib.Core.List.{List, [], _∷_, _++_, append-nil, append-assoc}
 use mathlib.Core.Option.{Option, none, some}
-use Prim.Native.Nat.{ℕ, suc, _+_, _*_, _≤_, _<_}
+use Prim.Native.Nat.{ℕ, suc, _+_, _*_, _≤_, _<_, zero}
 use native.Mathlib.Omega.{arith}
 use lib.Dec.{T, eqb}
 use lib.ListN.{length, drop, length-append}
 use lib.Seq.{sets}
 use borrow.Author.Tests.{eqb-true, eqb-false}
-use Rattle.book.specs.Book.{Call, freshFits}
+use Rattle.book.specs.Book.{Call, freshNumber}
 use Rattle.book.specs.Program.{Command, start, call, states, recordLength, commandAt}
 use Rattle.book.specs.Table.{Reply}
 use Rattle.book.specs.Demand.{Event, Trace, stop, go, Demand}
@@ -32,22 +32,22 @@ trace-last c y stop p = go p stop
 trace-last c y (go q t) p = go q (trace-last c y t p)
 
 -- a refused fresh keeps all words
-fresh-kept : (n N : ℕ) {old new : List ℕ} {y : Reply} → FreshPost n N old new y → (y .number ≡ 0 → ⊥) → new ≡ old
-fresh-kept n N {old} {new} {y} p never = pick (freshFits n N (length old)) refl
+fresh-kept : (n N count : ℕ) {old new : List ℕ} {y : Reply} → FreshPost n N count old new y → (y .number ≡ 0 → ⊥) → new ≡ old
+fresh-kept n N count {old} {new} {y} p never = pick (freshNumber n N (length old) count) refl
   where
-    pick : (t : Bool) → freshFits n N (length old) ≡ t → new ≡ old
-    pick true e = absurd (never (p .answers (subst T (sym e) tt) .0 .0))
-    pick false e = p .refuses e .1
+    pick : (k : ℕ) → freshNumber n N (length old) count ≡ k → new ≡ old
+    pick zero e = absurd (never (p .answers e .0 .0))
+    pick (suc k) e = p .refuses k e .1
 
 -- one command more, played or called by itself
 pub standing-next : (s : Option Since) (c : Command) (w v : List ℕ) (x : Outcome) → Standing s w → Posted c w v x → Standing (noted s c x) v
 standing-next s (start n N) w v x h p = pick (eqb (x .number) 0) refl
   where
     pick : (t : Bool) → eqb (x .number) 0 ≡ t → Standing (cond t (some record { n = n; N = N; events = [] }) s) v
-    pick true e = record { lent = w; made = v; reply = shownReply x; start = p .0; answered = eqb-true (x .number) 0 e; rest = stop }
-    pick false e = subst (Standing s) (sym (fresh-kept n N (p .0) (eqb-false (x .number) 0 e))) h
+    pick true e = record { lent = w; count = 1; made = v; reply = shownReply x; start = p .0; answered = eqb-true (x .number) 0 e; rest = stop }
+    pick false e = subst (Standing s) (sym (fresh-kept n N 1 (p .0) (eqb-false (x .number) 0 e))) h
 standing-next none (call c) w v x h p = tt
-standing-next (some s) (call c) w v x h p = record { lent = h .lent; made = h .made; reply = h .reply; start = h .start; answered = h .answered; rest = trace-last c (replyOf c x) (h .rest) (p .0) }
+standing-next (some s) (call c) w v x h p = record { lent = h .lent; count = h .count; made = h .made; reply = h .reply; start = h .start; answered = h .answered; rest = trace-last c (replyOf c x) (h .rest) (p .0) }
 standing-next s (states r) w v x h p = subst (Standing s) (sym (p .0)) h
 
 standing : (s : Option Since) (w v : List ℕ) {l : List Entry} → Standing s w → Chain w l v → Standing (since s l) v

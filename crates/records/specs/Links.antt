@@ -8,6 +8,7 @@ use native.Mathlib.Omega.{arith}
 use lib.Dec.{leb, eqb}
 use lib.ListN.{length, getD, take, drop, length-append, length-drop, List·getD-append}
 use lib.Seq.{take-append-le, drop-append-le, drop-drop, take-nil}
+use Rattle.accounts.specs.Terms.{alone}
 use borrow.Author.Tests.{leb-true, leb-false, eqb-true, eqb-false, le-leb, eq-eqb, ne-eqb}
 use Rattle.tokens.proofs.Table.{both-true}
 use Rattle.book.specs.Program.{recordLength, whole, commandOf, commandAt}
@@ -97,7 +98,7 @@ command-taken bs op =
     operations (λ (o : ℕ). commandOf o xs ≡ cond (takes o (length xs)) (some (asked bs (2 + recordLength bs) (commandIn o xs))) none) op
     refl
     (ap (λ (f : List ℕ). cond (leb 1 (length xs)) (some (program.call (book.relation (getD xs 0 0) f))) none) (formula-part bs 1))
-    (ap (λ (f : List ℕ). cond (leb 5 (length xs)) (some (program.call (book.set (getD xs 0 0) (((getD xs 1 0 * 256 + getD xs 2 0) * 256 + getD xs 3 0) * 256 + getD xs 4 0) f))) none) (formula-part bs 5))
+    (ap (λ (f : List ℕ). cond (leb 5 (length xs)) (some (program.call (book.set alone (getD xs 0 0) (((getD xs 1 0 * 256 + getD xs 2 0) * 256 + getD xs 3 0) * 256 + getD xs 4 0) f))) none) (formula-part bs 5))
     refl
     refl
     refl

@@ -4,6 +4,7 @@ use mathlib.Core.List.{List}
 use Prim.Native.Nat.{ℕ, _+_, _*_, _-_}
 use lib.Dec.{leb, eqb}
 use lib.ListN.{length, getD, take, drop}
+use Rattle.accounts.specs.Terms.{alone}
 use Rattle.book.specs.Program.{recordLength}
 use Rattle.book.specs.Program as program
 use Rattle.book.specs.Book as book
@@ -77,7 +78,7 @@ readRecord bs ended =
 abbrev pub asked : List ℕ → ℕ → Command → program.Command
 asked bs size (Fresh n N) = program.start n N
 asked bs size (Relation t s) = program.call (book.relation t (take (size - s) (drop s bs)))
-asked bs size (Set r R s) = program.call (book.set r R (take (size - s) (drop s bs)))
+asked bs size (Set r R s) = program.call (book.set alone r R (take (size - s) (drop s bs)))
 asked bs size (Clear r) = program.call (book.clear r)
 asked bs size (Count r) = program.states r
 asked bs size Collect = program.call book.collect

@@ -63,11 +63,11 @@ module _ (o : Option Book) (n N : ℕ) (old new : List ℕ) (x : Outcome) (z : l
     where
       go : (t : Bool) → freshFits n N wordsLent ≡ t → Obeyed (cond t (some (fresh n N), fields 1 0 0 0) (o, fields 1 1 0 0)) new x
       go true i =
-          let (y, w, m) = p .0 .answers (subst T (sym (lent ∙ i)) tt) in
+          let (y, w, m) = p .0 .answers (ap (λ (t : Bool). cond t 0 1) (lent ∙ i)) in
           let (a, b, c) = y in
           record { line = cc; stands = (ap (λ (v : View). v .size) (p .1 a) ∙ z, w, only-book (fresh n N) (seen new) (whole-fresh n N) (shows-fresh n N (seen new) m)) }
       go false i =
-          let (y, w) = p .0 .refuses (lent ∙ i) in
+          let (y, w) = p .0 .refuses 0 (ap (λ (t : Bool). cond t 0 1) (lent ∙ i)) in
           let (a, b, c) = y in
           record { line = cc; stands = subst (Stands o) (sym w) s }
 
@@ -76,20 +76,20 @@ module _ (o : Option Book) (n N : ℕ) (old new : List ℕ) (x : Outcome) (z : l
 -- the outcome of a refusal: "A refused record has 0 in the last two fields"
 refused-value : (c : Call) (new : List ℕ) (x : Outcome) → Beside c new x → 1 ≤ x .number → replyOf c x .value ≡ 0 → x .value ≡ 0
 refused-value (relation t bs) new x b l v = v
-refused-value (set r R bs) new x b l v = b .1 l
+refused-value (set acc r R bs) new x b l v = b .1 l
 refused-value (clear r) new x b l v = v
 refused-value collect new x b l v = v
 
 -- number and rounds of a call's reply
 reply-number : (c : Call) (x : Outcome) → replyOf c x .number ≡ x .number
 reply-number (relation t bs) x = refl
-reply-number (set r R bs) x = refl
+reply-number (set acc r R bs) x = refl
 reply-number (clear r) x = refl
 reply-number collect x = refl
 
 reply-rounds : (c : Call) (x : Outcome) → replyOf c x .rounds ≡ x .rounds
 reply-rounds (relation t bs) x = refl
-reply-rounds (set r R bs) x = refl
+reply-rounds (set acc r R bs) x = refl
 reply-rounds (clear r) x = refl
 reply-rounds collect x = refl
 
@@ -128,11 +128,11 @@ call-value : (c : Call) (old new : List ℕ) (x : Outcome) → CallPost c old ne
 call-value (relation t bs) old new x p b g =
     let e = settled _ 0 (x .value) (relation-value (bookOf (seen old)) t bs) (g .value) in
     value-shown (does (bookOf (seen old)) (relation t bs) .1 .number) 0 (x .value) (λ k. sym e) (λ k. e)
-call-value (set r R bs) old new x p b g =
-    value-shown (does (bookOf (seen old)) (set r R bs) .1 .number) (statesIn (does (bookOf (seen old)) (set r R bs) .0 .reg r)) (x .value)
+call-value (set acc r R bs) old new x p b g =
+    value-shown (does (bookOf (seen old)) (set acc r R bs) .1 .number) (statesIn (does (bookOf (seen old)) (set acc r R bs) .0 .reg r)) (x .value)
     (λ e.
     let z : x .number ≡ 0 = g .number ∙ e in
-    ap statesIn (set-leaves (bookOf (seen old)) r R bs (nodeReply x) g z) ∙ sym (count-means old new r R bs (nodeReply x) p z (valued (x .value)) (b .0 z)))
+    ap statesIn (set-leaves (bookOf (seen old)) acc r R bs (nodeReply x) g z) ∙ sym (count-means old new acc r R bs (nodeReply x) p z (valued (x .value)) (b .0 z)))
     (λ l. b .1 (omega (arith, g .number)))
 call-value (clear r) old new x p b g =
     let e = settled _ 0 (x .value) (clear-value (bookOf (seen old)) r) (g .value) in

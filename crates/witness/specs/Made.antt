@@ -2,9 +2,10 @@
 use mathlib.Core.Path.{_≡_, refl, sym, _∙_, subst}
 use mathlib.Core.Bool.{Bool, true, false}
 use mathlib.Core.List.{List, [], _∷_}
-use Prim.Native.Nat.{ℕ, _+_, _*_, _<_}
+use Prim.Native.Nat.{ℕ, _+_, _*_, _<_, _≤_}
 use native.Mathlib.Omega.{arith}
 use lib.ListN.{set as write}
+use Rattle.accounts.specs.Terms.{alone, rowsUnder, roundsUnder}
 use Rattle.mucalculus.specs.Form.{Form, bot, var, bind, noEnv}
 use Rattle.tokens.specs.declared.Kind.the-variants.{Relation, Set}
 use Rattle.layout.specs.Places.{REGISTERS, RELATIONS, ROWS, TALLY, USED, FIRST-REGISTER, FIRST-RELATION}
@@ -19,7 +20,7 @@ use Rattle.table.specs.Add.{frame-refl}
 use Rattle.collect.specs.Freed.{Freed, freed-count}
 use Rattle.formula.specs.Parse.{formOf, formulaOf}
 use Rattle.formula.specs.Checks.{firstRefusal}
-use Rattle.book.specs.Book.{Book, relation, set, clear, collect, tallied, modelOf, liveOf, regFilled, relFilled}
+use Rattle.book.specs.Book.{Book, relation, set, clear, collect, modelOf, liveOf, regFilled, relFilled}
 use Rattle.book.specs.Compute.{computing}
 use Rattle.book.specs.Listed.{frame}
 use Rattle.book.specs.Table.{rootsOf}
@@ -83,8 +84,8 @@ noPairs-passes n regs rels = refl
 
 -- ---- fresh
 
-pub fresh-done : (n N k : ℕ) → Sizes n N k → FreshPost n N (zeros k) (freshOf n N k) (plain 0)
-fresh-done n N k z = fresh-ready n N (zeros k) (freshOf n N k) (subst (Sizes n N) (sym (length-zeros k)) z) (view-fresh n N k (z .room))
+pub fresh-done : (n N k : ℕ) → Sizes n N k → FreshPost n N 1 (zeros k) (freshOf n N k) (plain 0)
+fresh-done n N k z = fresh-ready n N 1 (zeros k) (freshOf n N k) (subst (Sizes n N) (sym (length-zeros k)) z) refl (view-fresh n N k (z .room))
 
 -- ---- the calls on a sound table
 
@@ -110,30 +111,39 @@ module _ (old : List ℕ) (s : SoundWords old) where
 
   module _ (r : ℕ) (l : r < REGISTERS) where
     -- set r to mu P. P or nu P. P
-    module _ (d : Bool) (R : ℕ) where
+    module _ (d : Bool) (R : ℕ) (small : R ≤ 4_294_967_295) where
       abbrev Ends : Ended → Form → Type 0
-      Ends y f = Evals (b .n) (b .N) (rowsOf (tableOf old)) (rowsOf (tableOf old)) (rootsOf (seen old)) (run (modelOf b) (b .N) R noEnv (liveOf b) f 0) y
+      Ends y f = Evals (b .n) (b .N) (rowsOf (tableOf old)) (rowsOf (tableOf old)) (rootsOf (seen old)) (run (modelOf b) (rowsUnder (b .N) alone) (roundsUnder R alone) noEnv (liveOf b) f 0) y
+
+      -- one account with the largest limits is no limit
+      unlimited : (y : Ended) (f : Form) → Evals (b .n) (b .N) (rowsOf (tableOf old)) (rowsOf (tableOf old)) (rootsOf (seen old)) (run (modelOf b) (b .N) R noEnv (liveOf b) f 0) y → Ends y f
+      unlimited y f d =
+          let N-max = s .good .sizes .N-max in
+          let e : b .N ≡ rowsUnder (b .N) alone = omega arith in
+          let i : R ≡ roundsUnder R alone = omega arith in
+          subst (λ (k : ℕ). Evals (b .n) (b .N) (rowsOf (tableOf old)) (rowsOf (tableOf old)) (rootsOf (seen old)) (run (modelOf b) (rowsUnder (b .N) alone) k noEnv (liveOf b) f 0) y) i
+          (subst (λ (k : ℕ). Evals (b .n) (b .N) (rowsOf (tableOf old)) (rowsOf (tableOf old)) (rootsOf (seen old)) (run (modelOf b) k R noEnv (liveOf b) f 0) y) e d)
 
       -- one round: node number 0 or 1
-      pub self-done : 0 < R → (v : ℕ) → v ≡ tallied (headerOf old TALLY) 1 → CallPost (set r R (self d)) old (storedIn old r (startArrow d) v) (setReply (ends (startArrow d) 1))
-      self-done i v e =
+      pub self-done : 0 < R → CallPost (set alone r R (self d)) old (storedIn old r (startArrow d)) (setReply (ends (startArrow d) 1))
+      self-done i =
           through-done s tt (λ a. a)
-          (set-value old s (tableOf old) (s .good) (op-refl (tableOf old)) r R (self d) l (self-passes d (b .n) (regFilled b) (relFilled b)) (startArrow d) 1
-          (subst (Ends (ends (startArrow d) 1)) (self-form d (b .n)) (self-ends (modelOf b) (b .N) R noEnv (liveOf b) 0 (s .good .rows) held d i)))
+          (set-value old s (tableOf old) (s .good) (op-refl (tableOf old)) alone r R (self d) l tt (self-passes d (b .n) (regFilled b) (relFilled b)) (startArrow d) 1
+          (subst (Ends (ends (startArrow d) 1)) (self-form d (b .n)) (unlimited (ends (startArrow d) 1) (bind d 0 (var 0)) (self-ends (modelOf b) (b .N) R noEnv (liveOf b) 0 (s .good .rows) held d i))))
           (as-it-was refl)
-          (subst (λ (x : ℕ). view (headerOf old ROWS) (storedIn old r (startArrow d) v) ≡ registerStored (tableOf old) r (startArrow d) x) e (view-stored (headerOf old ROWS) r (startArrow d) v old (s .good .sizes .room) l))
+          (view-stored (headerOf old ROWS) r (startArrow d) old (s .good .sizes .room) l)
 
       -- no round is allowed
-      pub self-refused : R ≡ 0 → CallPost (set r R (self d)) old old (plain 9)
+      pub self-refused : R ≡ 0 → CallPost (set alone r R (self d)) old old (plain 9)
       self-refused z =
           through-done s tt (λ a. a)
-          (set-spent old s (tableOf old) (s .good) (op-refl (tableOf old)) r R (self d) l (self-passes d (b .n) (regFilled b) (relFilled b))
-          (subst (Ends nine) (self-form d (b .n)) (self-spent (modelOf b) (b .N) R noEnv (liveOf b) 0 (s .good .rows) held d z)))
+          (set-spent old s (tableOf old) (s .good) (op-refl (tableOf old)) alone r R (self d) l tt (self-passes d (b .n) (regFilled b) (relFilled b))
+          (subst (Ends nine) (self-form d (b .n)) (unlimited nine (bind d 0 (var 0)) (self-spent (modelOf b) (b .N) R noEnv (liveOf b) 0 (s .good .rows) held d z))))
           (as-it-was refl) refl
 
     -- set r to mu P. NOT P
-    pub odd-done : (R : ℕ) → CallPost (set r R odd) old old (plain 6)
-    odd-done R = call-refused old s 5 (set r R odd) (set-refused b r R odd 5 l (odd-refused (b .n) (regFilled b) (relFilled b)))
+    pub odd-done : (R : ℕ) → CallPost (set alone r R odd) old old (plain 6)
+    odd-done R = call-refused old s 5 (set alone r R odd) (set-refused b alone r R odd 5 l tt (odd-refused (b .n) (regFilled b) (relFilled b)))
 
     pub empty-done : CallPost (clear r) old (write old (FIRST-REGISTER + r) 0) (plain 0)
     empty-done = clear-done old (write old (FIRST-REGISTER + r) 0) r s l refl (view-header (headerOf old ROWS) old (s .good .sizes .room) (FIRST-REGISTER + r) 0 (omega arith))

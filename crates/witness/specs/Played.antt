@@ -7,11 +7,15 @@ use mathlib.Core.Option.{none, some}
 use Prim.Native.Nat.{ℕ, _+_, _<_}
 use native.Mathlib.Omega.{arith}
 use lib.Dec.{T}
-use lib.ListN.{set as write}
+use lib.ListN.{getD, set as write}
+use Rattle.accounts.specs.declared.Account.{Account}
+use Rattle.accounts.specs.Listed.{none as noAccount}
+use Rattle.accounts.specs.Terms.{alone}
+use Rattle.book.specs.Tallies.{freshened, accountsAfter, tally-since-fresh}
 use borrow.Author.Tests.{ne-eqb}
 use Rattle.layout.specs.Places.{REGISTERS, ROWS, TALLY, USED, FIRST-REGISTER, FIRST-RELATION}
 use Rattle.layout.specs.View.{View, headerOf, view-header}
-use Rattle.book.specs.Book.{Book, freshFits, relation, set, clear, collect, tallied}
+use Rattle.book.specs.Book.{Book, freshNumber, relation, set, clear, collect}
 use Rattle.book.specs.BookOf.{bookOf}
 use Rattle.book.specs.Compute.{computing}
 use Rattle.book.specs.Table.{Reply}
@@ -32,10 +36,10 @@ node a = record { number = 0; rounds = 1; value = a }
 abbrev pub events : List Event
 events =
     (relation 0 noPairs, plain 0)
-    ∷ (set 0 100 (self false), node 1)
-    ∷ (set 1 100 (self true), node 0)
-    ∷ (set 1 100 odd, plain 6)
-    ∷ (set 1 0 (self false), plain 9)
+    ∷ (set alone 0 100 (self false), node 1)
+    ∷ (set alone 1 100 (self true), node 0)
+    ∷ (set alone 1 100 odd, plain 6)
+    ∷ (set alone 1 0 (self false), plain 9)
     ∷ (collect, valued 0)
     ∷ (clear 0, plain 0) ∷ []
 
@@ -51,66 +55,62 @@ abbrev loaded : List ℕ
 loaded = write made (FIRST-RELATION + 0) 1
 
 abbrev once : List ℕ
-once = storedIn loaded 0 1 1
+once = storedIn loaded 0 1
 
 abbrev twice : List ℕ
-twice = storedIn once 1 0 2
+twice = storedIn once 1 0
 
 abbrev pub end : List ℕ
 end = write twice (FIRST-REGISTER + 0) 0
 
 -- ---- the calls
 
--- sound words without a used row, after k rounds
-record Stands (ws : List ℕ) (k : ℕ) : Type 0 where
+-- sound words without a used row
+record Stands (ws : List ℕ) : Type 0 where
   sound : SoundWords ws
-  tally : headerOf ws TALLY ≡ k
   used : headerOf ws USED ≡ 0
 
-start : FreshPost 1 100 lent made (plain 0)
+start : FreshPost 1 100 1 lent made (plain 0)
 start = fresh-done 1 100 16_384 (record { n-pos = omega arith; n-max = omega arith; N-pos = omega arith; N-max = omega arith; room = omega arith })
 
-made-stands : Stands made 0
+made-stands : Stands made
 made-stands = record {
-  sound = start .answers (subst (λ (k : ℕ). T (freshFits 1 100 k)) (sym (length-zeros 16_384)) tt) .1;
-  tally = fresh-zero 1 100 16_384 TALLY (omega arith) (omega arith) (omega arith) (omega arith) (omega arith);
+  sound = start .answers (ap (λ (k : ℕ). freshNumber 1 100 k 1) (length-zeros 16_384)) .1;
   used = fresh-zero 1 100 16_384 USED (omega arith) (omega arith) (omega arith) (omega arith) (omega arith);
 }
 
 relation-loaded : CallPost (relation 0 noPairs) made loaded (plain 0)
 relation-loaded = noPairs-done made (made-stands .sound) 0 (omega arith)
 
-loaded-stands : Stands loaded 0
+loaded-stands : Stands loaded
 loaded-stands =
     let s = made-stands .sound in
     let e = view-header (headerOf made ROWS) made (s .good .sizes .room) (FIRST-RELATION + 0) 1 (omega arith) in
     record {
       sound = relation-loaded .performs .served s .0;
-      tally = ap (λ (v : View). v .header TALLY) e ∙ made-stands .tally;
       used = ap (λ (v : View). v .header USED) e ∙ made-stands .used;
     }
 
 -- after an answered set
-stored-stands : {ws : List ℕ} {k : ℕ} (r R a q : ℕ) {bs : List ℕ} {y : Reply} → r < REGISTERS → Stands ws k → CallPost (set r R bs) ws (storedIn ws r a q) y → Stands (storedIn ws r a q) q
-stored-stands {ws} r R a q l s p =
-    let e = view-stored (headerOf ws ROWS) r a q ws (s .sound .good .sizes .room) l in
+stored-stands : {ws : List ℕ} (r R a : ℕ) {bs : List ℕ} {y : Reply} → r < REGISTERS → Stands ws → CallPost (set alone r R bs) ws (storedIn ws r a) y → Stands (storedIn ws r a)
+stored-stands {ws} r R a l s p =
+    let e = view-stored (headerOf ws ROWS) r a ws (s .sound .good .sizes .room) l in
     record {
       sound = p .performs .served (s .sound) .0;
-      tally = ap (λ (v : View). v .header TALLY) e;
       used = ap (λ (v : View). v .header USED) e ∙ rw (ne-eqb USED (FIRST-REGISTER + r) (omega arith)) (s .used);
     }
 
-set-first : CallPost (set 0 100 (self false)) loaded once (node 1)
-set-first = self-done loaded (loaded-stands .sound) 0 (omega arith) false 100 (omega arith) 1 (sym (ap (λ (k : ℕ). tallied k 1) (loaded-stands .tally)))
+set-first : CallPost (set alone 0 100 (self false)) loaded once (node 1)
+set-first = self-done loaded (loaded-stands .sound) 0 (omega arith) false 100 (omega arith) (omega arith)
 
-once-stands : Stands once 1
-once-stands = stored-stands 0 100 1 1 (omega arith) loaded-stands set-first
+once-stands : Stands once
+once-stands = stored-stands 0 100 1 (omega arith) loaded-stands set-first
 
-set-second : CallPost (set 1 100 (self true)) once twice (node 0)
-set-second = self-done once (once-stands .sound) 1 (omega arith) true 100 (omega arith) 2 (sym (ap (λ (k : ℕ). tallied k 1) (once-stands .tally)))
+set-second : CallPost (set alone 1 100 (self true)) once twice (node 0)
+set-second = self-done once (once-stands .sound) 1 (omega arith) true 100 (omega arith) (omega arith)
 
-twice-stands : Stands twice 2
-twice-stands = stored-stands 1 100 0 2 (omega arith) once-stands set-second
+twice-stands : Stands twice
+twice-stands = stored-stands 1 100 0 (omega arith) once-stands set-second
 
 -- the list under the calls' contracts
 pub played : Session (List ℕ) makes performs 1 100 events end
@@ -118,6 +118,7 @@ played =
     let s = twice-stands .sound in
     record {
       lent = lent;
+      count = 1;
       made = made;
       reply = plain 0;
       start = start;
@@ -125,7 +126,7 @@ played =
       rest =
           go relation-loaded (go set-first (go set-second
           (go (odd-done twice s 1 (omega arith) 100)
-          (go (self-refused twice s 1 (omega arith) false 0 refl)
+          (go (self-refused twice s 1 (omega arith) false 0 (omega arith) refl)
           (go (collected-done twice s (twice-stands .used))
           (go (empty-done twice s 0 (omega arith)) stop))))));
     }
@@ -134,7 +135,11 @@ played =
 pub shown : Demand SoundWords seen asks 1 100 events end
 shown = words-demand 1 100 played
 
--- so the words hold what the book does: register 0 is empty, register 1 has no state, and two rounds are tallied
-pub left : (bookOf (seen end) .reg 0 ≡ none) × (bookOf (seen end) .reg 1 ≡ some (false ∷ false ∷ [])) × (headerOf end TALLY ≡ 2)
+-- so the words hold what the book does: register 0 is empty, and register 1 has no state
+pub left : (bookOf (seen end) .reg 0 ≡ none) × (bookOf (seen end) .reg 1 ≡ some (false ∷ false ∷ []))
 unfolding computing
-left = let e = shown .holds in (ap (λ (b : Book). b .reg 0) e, ap (λ (b : Book). b .reg 1) e, ap (λ (b : Book). b .tally) e)
+left = let e = shown .holds in (ap (λ (b : Book). b .reg 0) e, ap (λ (b : Book). b .reg 1) e)
+
+-- and an account lent throughout, the first of one, has two rounds in its tally
+pub account-left : (a : Account) → getD (accountsAfter (freshened (a ∷ []) (plain 0)) events) 0 noAccount ≡ record { rows = a .rows; rounds = a .rounds; tally = 2 }
+account-left a = tally-since-fresh (a ∷ []) (plain 0) events 0 refl (omega arith)

@@ -24,9 +24,9 @@ length-zeros k = length-replicate {A = ℕ} k 0
 unfoldable pub freshOf : ℕ → ℕ → ℕ → List ℕ
 freshOf n N k = set (set (set (zeros k) BITS n) ROWS N) LAYOUT MARKED
 
--- what set leaves of words in which it makes no row: register r holds arrow a, and the tally is v
-unfoldable pub storedIn : List ℕ → ℕ → ℕ → ℕ → List ℕ
-storedIn ws r a v = set (set ws (FIRST-REGISTER + r) (suc a)) TALLY v
+-- what set leaves of words in which it makes no row: register r holds arrow a
+unfoldable pub storedIn : List ℕ → ℕ → ℕ → List ℕ
+storedIn ws r a = set ws (FIRST-REGISTER + r) (suc a)
 
 -- ---- zeros
 
@@ -64,7 +64,7 @@ header-fresh n N k l =
     ap (λ (f : ℕ → ℕ). upd (upd (upd f BITS n) ROWS N) LAYOUT MARKED) (fun-ext (λ h. header-zeros k l h ∙ sym (header-zeros HEADER (omega arith) h)))
     ∙ sym (ap (λ (x : View). x .header) (three-written 0 BITS ROWS LAYOUT n N MARKED (replicate HEADER 0) (omega arith) (omega arith) (omega arith) (omega arith)))
 
--- "Fresh empties them all, the tally at 0"
+-- "Fresh empties them all"
 pub view-fresh : (n N k : ℕ) → wordsFor N ≤ k → view N (freshOf n N k) ≡ emptied (view N (zeros k)) n N
 unfolding freshOf
 view-fresh n N k room =
@@ -86,6 +86,6 @@ fresh-zero n N k h room l a b c = ap (λ (v : View). v .header h) (view-fresh n 
 
 -- ---- stored
 
-pub view-stored : (N r a v : ℕ) (ws : List ℕ) → wordsFor N ≤ length ws → r < REGISTERS → view N (storedIn ws r a v) ≡ registerStored (view N ws) r a v
+pub view-stored : (N r a : ℕ) (ws : List ℕ) → wordsFor N ≤ length ws → r < REGISTERS → view N (storedIn ws r a) ≡ registerStored (view N ws) r a
 unfolding storedIn
-view-stored N r a v ws room l = two-written N (FIRST-REGISTER + r) TALLY (suc a) v ws room (omega arith) (omega arith)
+view-stored N r a ws room l = view-header N ws room (FIRST-REGISTER + r) (suc a) (omega arith)

@@ -1,36 +1,44 @@
 //! Draws one call for a book as it stands.
 
 use crate::writer::{self, Plan};
+use reference::accounts::Account;
 use reference::book::{Book, Call, MAX_ROWS, REGISTERS, RELATIONS};
 use reference::evaluate::{self, Limits};
 use reference::formula::{self, frame_as, Formula, Kind, RUNS_VERSION, VERSION};
 use reference::random::Random;
 
-/// A call for a book, which is asked what is filled and how many rounds a set takes; and the
-/// greatest need of its steps, where it would be answered with rows in plenty.
-pub fn draw_call(random: &mut Random, book: &Book) -> (Call, Option<usize>) {
+/// What a call takes that would be answered with rows and an account in plenty: the greatest need of
+/// its steps, and its rounds.
+#[derive(Clone, Copy, Debug, PartialEq, Eq)]
+pub struct Cost {
+    pub need: usize,
+    pub rounds: u32,
+}
+
+/// A call for a book, which is asked what is filled and how many rounds a set takes, and for a list
+/// of accounts; and its cost.
+pub fn draw_call(random: &mut Random, book: &Book, accounts: &[Account]) -> (Call, Option<Cost>) {
     let few = book.relations().iter().flatten().count() < 2;
     let call = match random.below(100) {
         0..=39 if few => return relation_call(random, book),
         0..=14 => return relation_call(random, book),
-        15..=66 => return set_call(random, book),
-        67..=73 => Call::Clear {
+        15..=67 => return set_call(random, book, accounts),
+        68..=74 => Call::Clear {
             r: register(random),
         },
-        74..=79 => Call::Collect,
-        80..=84 => Call::Node {
+        75..=80 => Call::Collect,
+        81..=86 => Call::Node {
             r: asked(random, book),
         },
-        85..=90 => member_call(random, book),
-        91..=95 => Call::Count {
+        87..=93 => member_call(random, book),
+        _ => Call::Count {
             r: asked(random, book),
         },
-        _ => Call::Tally,
     };
     (call, None)
 }
 
-fn relation_call(random: &mut Random, book: &Book) -> (Call, Option<usize>) {
+fn relation_call(random: &mut Random, book: &Book) -> (Call, Option<Cost>) {
     let t = match random.below(100) {
         0..=3 => random.pick(&[8, 9, 255, u64::from(u32::MAX)]),
         4..=6 => 7,
@@ -47,27 +55,43 @@ fn relation_call(random: &mut Random, book: &Book) -> (Call, Option<usize>) {
     let formula = framed(random, body);
     let done = checked(book, Kind::Relation, &formula)
         .and_then(|f| evaluate::relation(book.held(), MAX_ROWS as usize, &f).ok());
-    let need = done
-        .filter(|_| t < RELATIONS as u64)
-        .map(|done| done.highest_need);
-    (Call::Relation { t, formula }, need)
+    let cost = done.filter(|_| t < RELATIONS as u64).map(|done| Cost {
+        need: done.highest_need,
+        rounds: 0,
+    });
+    (Call::Relation { t, formula }, cost)
 }
 
-fn set_call(random: &mut Random, book: &Book) -> (Call, Option<usize>) {
+fn set_call(random: &mut Random, book: &Book, accounts: &[Account]) -> (Call, Option<Cost>) {
+    let place = place(random, accounts.len() as u64);
     let r = register(random);
     let body = match random.below(100) {
         0..=3 => special(random, book, Kind::Set),
         _ => plain(random, book, Kind::Set),
     };
     let formula = framed(random, body);
-    let (rounds, need) = round_limit(random, book, &formula);
-    let need = need.filter(|_| r < REGISTERS as u64);
-    (Call::Set { r, rounds, formula }, need)
+    let (rounds, cost) = round_limit(random, book, &formula);
+    let cost = cost.filter(|_| r < REGISTERS as u64);
+    let call = Call::Set {
+        place,
+        r,
+        rounds,
+        formula,
+    };
+    (call, cost)
 }
 
-/// R, mostly the rounds taken or one fewer, never so many that the book takes long; and the need
+/// A place in a list of so many accounts, now and then past its end.
+fn place(random: &mut Random, count: u64) -> u64 {
+    match count == 0 || random.chance(3) {
+        true => random.pick(&[count, count + 1, 8, 255, u64::from(u32::MAX), 1 << 32]),
+        false => random.below(count),
+    }
+}
+
+/// R, mostly the rounds taken or one fewer, never so many that the book takes long; and the cost
 /// where R is enough.
-fn round_limit(random: &mut Random, book: &Book, bytes: &[u8]) -> (u32, Option<usize>) {
+fn round_limit(random: &mut Random, book: &Book, bytes: &[u8]) -> (u32, Option<Cost>) {
     let most = match book.n() {
         1..=2 => 2_000,
         3 => 300,
@@ -91,10 +115,11 @@ fn round_limit(random: &mut Random, book: &Book, bytes: &[u8]) -> (u32, Option<u
         70..=89 => done.rounds + random.below(100) as u32,
         _ => u32::MAX,
     };
-    (
-        rounds,
-        Some(done.highest_need).filter(|_| rounds >= done.rounds),
-    )
+    let cost = Cost {
+        need: done.highest_need,
+        rounds: done.rounds,
+    };
+    (rounds, Some(cost).filter(|_| rounds >= done.rounds))
 }
 
 /// The formula, where checks 4 to 7 find no cause.

@@ -1,9 +1,10 @@
-//! Makes a call on the library, and compares answers, words and contents with the book.
+//! Makes a call on the library, and compares answers, words, accounts and contents with the book.
 
-use crate::kept::{self, Target};
+use crate::kept;
 use crate::sound::sound;
 use crate::words::{Words, FIRST_REGISTER, FIRST_RELATION};
 use kudzuclamp::{Refusal, Stored, Table};
+use reference::accounts::Account;
 use reference::book::{Answer, Book, Call, REGISTERS};
 use reference::formula::{self, Kind};
 use reference::states::state_count;
@@ -19,9 +20,19 @@ pub struct Expected {
     pub nodes: Vec<Option<u32>>,
 }
 
-/// Node, count and member of all registers and states, and the tally.
+/// A list of accounts as it is lent to the library.
+pub fn lent_accounts(accounts: &[Account]) -> Vec<kudzuclamp::Account> {
+    let lend = |account: &Account| kudzuclamp::Account {
+        rows: account.rows,
+        rounds: account.rounds,
+        tally: account.tally,
+    };
+    accounts.iter().map(lend).collect()
+}
+
+/// Node, count and member of all registers and states.
 pub fn questions(book: &Book) -> Vec<Call> {
-    let mut calls = vec![Call::Tally];
+    let mut calls = Vec::new();
     for r in 0..=REGISTERS as u64 {
         calls.extend([Call::Node { r }, Call::Count { r }]);
         let states = 0..=state_count(book.n()) as u64;
@@ -30,14 +41,26 @@ pub fn questions(book: &Book) -> Vec<Call> {
     calls
 }
 
-/// Makes a call on the library; its answer in the book's form.
-pub fn make(table: &mut Table<Vec<u32>>, call: &Call) -> Answer {
+/// Makes a call on the library; its answer in the book's form. Only set takes the accounts.
+pub fn make(
+    table: &mut Table<Vec<u32>>,
+    accounts: &mut [kudzuclamp::Account],
+    call: &Call,
+) -> Answer {
     let plain = |value: u32| (0, value);
     let none = |()| (0, 0);
     let stored = |stored: Stored| (stored.rounds, stored.node);
     let result = match call {
         Call::Relation { t, formula } => table.relation(*t as u32, formula).map(none),
-        Call::Set { r, rounds, formula } => table.set(*r as u32, *rounds, formula).map(stored),
+        Call::Set {
+            place,
+            r,
+            rounds,
+            formula,
+        } => {
+            let answer = table.set(accounts, *place as usize, *r as u32, *rounds, formula);
+            answer.map(stored)
+        }
         Call::Clear { r } => table.clear(*r as u32).map(none),
         Call::Collect => table.collect().map(plain),
         Call::Node { r } => table.node(*r as u32).map(plain),
@@ -46,7 +69,6 @@ pub fn make(table: &mut Table<Vec<u32>>, call: &Call) -> Answer {
             member.map(|member| plain(member.into()))
         }
         Call::Count { r } => table.count(*r as u32).map(plain),
-        Call::Tally => table.tally().map(plain),
     };
     match result {
         Ok((rounds, value)) => Answer {
@@ -121,8 +143,8 @@ pub fn note_node(expected: &mut Expected, call: &Call, got: Answer) {
     }
 }
 
-/// Refusals 2 to 7 and questions keep all words; the rest keeps what is needed. A sound table stays
-/// sound, and an answered collect leaves no unneeded row used.
+/// Questions and refusals but 8 and 9 keep all words; the rest keeps what is needed. A sound table
+/// stays sound, and an answered collect leaves no unneeded row used.
 pub fn compare_words(
     before: &[u32],
     after: &[u32],
@@ -133,14 +155,13 @@ pub fn compare_words(
     let register = |r: u64| FIRST_REGISTER + r as usize;
     let target = match call {
         _ if !matches!(number, 0 | 8 | 9) => return kept::all(before, after),
-        Call::Set { r, .. } => (answered.then(|| register(*r)), answered),
-        Call::Relation { t, .. } => (answered.then(|| FIRST_RELATION + *t as usize), false),
-        Call::Clear { r } => (Some(register(*r)), false),
-        Call::Collect => (None, false),
+        Call::Set { r, .. } => answered.then(|| register(*r)),
+        Call::Relation { t, .. } => answered.then(|| FIRST_RELATION + *t as usize),
+        Call::Clear { r } => Some(register(*r)),
+        Call::Collect => None,
         _ => return kept::all(before, after),
     };
-    let (root, tally) = target;
-    kept::needed(before, after, Target { root, tally })?;
+    kept::needed(before, after, target)?;
     sound(after)?;
     match call {
         Call::Collect => kept::swept(after),

@@ -3,14 +3,6 @@
 use crate::words::*;
 use std::collections::BTreeSet;
 
-/// Words that a call on a sound table may change besides the free ones: an answered set its register
-/// and the tally, an answered relation or clear its target.
-#[derive(Clone, Copy, Debug, Default)]
-pub struct Target {
-    pub root: Option<usize>,
-    pub tally: bool,
-}
-
 /// The first place where words differ.
 pub fn first_change(before: &[u32], after: &[u32]) -> Option<usize> {
     assert_eq!(before.len(), after.len());
@@ -25,16 +17,13 @@ pub fn all(before: &[u32], after: &[u32]) -> Result<(), String> {
     }
 }
 
-/// No word has changed but the target's and the free ones, on a sound table.
-pub fn needed(before: &[u32], after: &[u32], target: Target) -> Result<(), String> {
+/// No word has changed but the target's, of an answered set, relation or clear, and the free ones,
+/// on a sound table.
+pub fn needed(before: &[u32], after: &[u32], target: Option<usize>) -> Result<(), String> {
     let words = Words(before);
-    let roots = (FIRST_REGISTER..ROOTS_END).filter(|&place| Some(place) != target.root);
+    let roots = (FIRST_REGISTER..ROOTS_END).filter(|&place| Some(place) != target);
     let rows = words.reached(roots);
-    let may_change = |place| {
-        Some(place) == target.root
-            || target.tally && place == TALLY
-            || free(words.rows(), &rows, place)
-    };
+    let may_change = |place| Some(place) == target || free(words.rows(), &rows, place);
     let places = before.iter().zip(after).enumerate();
     let mut changes = places.filter(|(_, (b, a))| b != a).map(|(place, _)| place);
     match changes.find(|&place| !may_change(place)) {

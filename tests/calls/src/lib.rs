@@ -5,7 +5,7 @@
 //! - `kept` says which words a call may change;
 //! - `list` is a list of steps as lines of text;
 //! - `compare` and `run` make each step on the library and on the book, and compare;
-//! - `writer`, `call` and `draw` draw formulas, calls and lists.
+//! - `writer`, `call`, `limits` and `draw` draw formulas, calls, accounts and lists.
 //!
 //! `cargo test --offline --release` needs `target/staticlib/libexports.a` (`rt staticlib exports`).
 
@@ -13,6 +13,7 @@ pub mod call;
 pub mod compare;
 pub mod draw;
 pub mod kept;
+pub mod limits;
 pub mod list;
 pub mod run;
 pub mod sound;

@@ -1,20 +1,22 @@
 //! A list of steps on lent words, as lines of text that can be read again:
 //! ```text
 //! words 700 5              700 words of noise from seed 5; seed 0 gives zeros
+//! accounts 9:4294967295:0  from here on this list of accounts is lent: row limit, round limit and
+//!                          tally of each; before the first such line, one with the largest limits
 //! fresh 2 14 700           n, N and how many of the words are lent
 //! relation 0 000a01...     t, framed formula; `-` for no bytes
-//! set 0 3 000601...        r, R, framed formula
+//! set 0 0 3 000601...      the account's place, r, R, framed formula
 //! clear 0
 //! collect
 //! node 0
 //! member 0 1
 //! count 0
-//! tally
 //! damage 17 5              writes 5 into word 17
 //! repair                   undoes all damage since the table was last repaired or made
 //! ```
 //! What follows ` -> ` in a line is not read.
 
+use reference::accounts::Account;
 use reference::book::Call;
 use reference::random::Random;
 use std::fmt;
@@ -22,6 +24,7 @@ use std::fmt;
 /// A step of a list.
 #[derive(Clone, Debug, PartialEq, Eq)]
 pub enum Step {
+    Accounts(Vec<Account>),
     Fresh { n: u32, rows: u32, lent: usize },
     Call(Call),
     Damage { place: usize, value: u32 },
@@ -75,6 +78,10 @@ impl Step {
         let line = line.split(" -> ").next()?;
         let fields: Vec<&str> = line.split_whitespace().collect();
         Some(match fields[..] {
+            ["accounts", ref accounts @ ..] => {
+                let accounts = accounts.iter().map(|text| read_account(text));
+                Step::Accounts(accounts.collect::<Option<_>>()?)
+            }
             ["fresh", n, rows, lent] => Step::Fresh {
                 n: n.parse().ok()?,
                 rows: rows.parse().ok()?,
@@ -90,13 +97,26 @@ impl Step {
     }
 }
 
+fn read_account(text: &str) -> Option<Account> {
+    let numbers: Vec<u32> = text.split(':').filter_map(|n| n.parse().ok()).collect();
+    let [rows, rounds, tally] = numbers[..] else {
+        return None;
+    };
+    Some(Account {
+        rows,
+        rounds,
+        tally,
+    })
+}
+
 fn read_call(fields: &[&str]) -> Option<Call> {
     Some(match *fields {
         ["relation", t, bytes] => Call::Relation {
             t: t.parse().ok()?,
             formula: unhex(bytes)?,
         },
-        ["set", r, rounds, bytes] => Call::Set {
+        ["set", place, r, rounds, bytes] => Call::Set {
+            place: place.parse().ok()?,
             r: r.parse().ok()?,
             rounds: rounds.parse().ok()?,
             formula: unhex(bytes)?,
@@ -109,7 +129,6 @@ fn read_call(fields: &[&str]) -> Option<Call> {
             state: state.parse().ok()?,
         },
         ["count", r] => Call::Count { r: r.parse().ok()? },
-        ["tally"] => Call::Tally,
         _ => return None,
     })
 }
@@ -124,6 +143,7 @@ impl fmt::Display for List {
 impl fmt::Display for Step {
     fn fmt(&self, f: &mut fmt::Formatter<'_>) -> fmt::Result {
         match self {
+            Step::Accounts(accounts) => write_accounts(f, accounts),
             Step::Fresh { n, rows, lent } => write!(f, "fresh {n} {rows} {lent}"),
             Step::Damage { place, value } => write!(f, "damage {place} {value}"),
             Step::Repair => write!(f, "repair"),
@@ -132,16 +152,29 @@ impl fmt::Display for Step {
     }
 }
 
+fn write_accounts(f: &mut fmt::Formatter<'_>, accounts: &[Account]) -> fmt::Result {
+    write!(f, "accounts")?;
+    for account in accounts {
+        let (rows, rounds, tally) = (account.rows, account.rounds, account.tally);
+        write!(f, " {rows}:{rounds}:{tally}")?;
+    }
+    Ok(())
+}
+
 fn write_call(f: &mut fmt::Formatter<'_>, call: &Call) -> fmt::Result {
     match call {
         Call::Relation { t, formula } => write!(f, "relation {t} {}", hex(formula)),
-        Call::Set { r, rounds, formula } => write!(f, "set {r} {rounds} {}", hex(formula)),
+        Call::Set {
+            place,
+            r,
+            rounds,
+            formula,
+        } => write!(f, "set {place} {r} {rounds} {}", hex(formula)),
         Call::Clear { r } => write!(f, "clear {r}"),
         Call::Collect => write!(f, "collect"),
         Call::Node { r } => write!(f, "node {r}"),
         Call::Member { r, state } => write!(f, "member {r} {state}"),
         Call::Count { r } => write!(f, "count {r}"),
-        Call::Tally => write!(f, "tally"),
     }
 }
 

@@ -1,4 +1,4 @@
-//! Runs steps on the library and on the book, and compares answers and words.
+//! Runs steps on the library and on the book, and compares answers, words and accounts.
 
 use crate::compare::*;
 use crate::kept;
@@ -7,35 +7,45 @@ use crate::sound::sound;
 use crate::words::{table_size, Words};
 use crate::writer::has_until;
 use kudzuclamp::{Refusal, Table};
+use reference::accounts::Account;
 use reference::book::{Book, Call, REGISTERS};
 use reference::formula::{Kind, RUNS_VERSION};
 
 /// Greatest n at which relations of a damaged table are enumerated.
 pub const MAX_BITS: u32 = 5;
 
+/// One more than the greatest number of a refusal.
+pub const NUMBERS: usize = 15;
+
 /// How often each number came, 0 for answered: of all calls, of sets, and of sets whose formula has
-/// until; and how many questions the checks after the lists asked.
+/// until; the last number; and how many questions the checks after the lists asked.
 #[derive(Clone, Copy, Debug, Default, PartialEq, Eq)]
 pub struct Counts {
-    pub numbers: [u64; 10],
+    pub numbers: [u64; NUMBERS],
     pub sets: u64,
-    pub untils: [u64; 10],
+    pub untils: [u64; NUMBERS],
+    pub last: u8,
     pub questions: u64,
 }
 
 impl Counts {
-    fn note(&mut self, call: &Call, number: u8) {
-        self.numbers[number as usize] += 1;
+    fn note(&mut self, number: u8) {
+        self.numbers[usize::from(number)] += 1;
+        self.last = number;
+    }
+
+    fn note_call(&mut self, call: &Call, number: u8) {
+        self.note(number);
         let Call::Set { formula, .. } = call else {
             return;
         };
         self.sets += 1;
         let until = formula.get(2) == Some(&RUNS_VERSION) && has_until(&formula[3..]);
-        self.untils[number as usize] += u64::from(until);
+        self.untils[usize::from(number)] += u64::from(until);
     }
 
     pub fn add(&mut self, other: Counts) {
-        let sum = |into: &mut [u64; 10], from: [u64; 10]| {
+        let sum = |into: &mut [u64; NUMBERS], from: [u64; NUMBERS]| {
             (into.iter_mut().zip(from)).for_each(|(sum, count)| *sum += count);
         };
         sum(&mut self.numbers, other.numbers);
@@ -45,10 +55,12 @@ impl Counts {
     }
 }
 
-/// Lent words, and what they should hold; None where they are no sound table.
+/// Lent words, and what they should hold, None where they are no sound table; and the accounts that
+/// the next call is lent.
 pub struct Runner {
     table: Table<Vec<u32>>,
     expected: Option<Expected>,
+    accounts: Vec<Account>,
     /// Words and expectation from before the first damage.
     whole: Option<(Vec<u32>, Option<Expected>)>,
     pub counts: Counts,
@@ -70,12 +82,13 @@ impl Runner {
     /// Takes any words, at least as many as a table of one row has. The wrapper takes words as a
     /// table only where they are sound or by fresh, so they are put in after one.
     pub fn over(words: Vec<u32>) -> Runner {
-        let mut table = Table::fresh(vec![0; words.len()], 1, 1).expect("sizes fit");
+        let mut table = empty_table(words.len()).expect("sizes fit");
         table.words_mut().copy_from_slice(&words);
         let expected = read_expected(&table);
         Runner {
             table,
             expected,
+            accounts: vec![Account::LARGEST],
             whole: None,
             counts: Counts::default(),
         }
@@ -102,9 +115,18 @@ impl Runner {
         self.table.words()
     }
 
+    /// The accounts as the last call left them.
+    pub fn accounts(&self) -> &[Account] {
+        &self.accounts
+    }
+
     /// Makes one step and compares.
     pub fn step(&mut self, step: &Step) -> Result<(), Difference> {
         match step {
+            Step::Accounts(accounts) => {
+                self.accounts = accounts.clone();
+                Ok(())
+            }
             Step::Fresh { n, rows, lent } => self.fresh(*n, *rows, *lent),
             Step::Call(call) => self.call(call),
             Step::Damage { place, value } => {
@@ -135,16 +157,19 @@ impl Runner {
     }
 
     fn fresh(&mut self, n: u32, rows: u32, lent: usize) -> Result<(), Difference> {
-        let wanted = Book::fresh(n.into(), rows.into(), lent as u64);
+        let mut accounts = lent_accounts(&self.accounts);
+        let wanted = Book::fresh(n.into(), rows.into(), lent as u64, &mut self.accounts);
         if wanted.is_ok() {
             self.compare_all()?;
         }
         let before = self.words().to_vec();
-        let got = Table::fresh(&mut self.table.words_mut()[..lent], n, rows).map(|_| ());
+        let words = &mut self.table.words_mut()[..lent];
+        let got = Table::fresh(words, &mut accounts, n, rows).map(|_| ());
         let number = number_of(&got);
-        self.counts.numbers[number as usize] += 1;
+        self.counts.note(number);
         let wanted_number = wanted.as_ref().map_or_else(|r| r.number(), |_| 0);
         same("number", number, wanted_number)?;
+        same("accounts", accounts, lent_accounts(&self.accounts))?;
         let Ok(book) = wanted else {
             return kept::all(&before, self.words());
         };
@@ -160,14 +185,17 @@ impl Runner {
     fn call(&mut self, call: &Call) -> Result<(), Difference> {
         self.compare_check(call)?;
         let before = self.words().to_vec();
-        let got = make(&mut self.table, call);
-        self.counts.note(call, got.number);
+        let mut accounts = lent_accounts(&self.accounts);
+        let got = make(&mut self.table, &mut accounts, call);
+        self.counts.note_call(call, got.number);
         let Some(expected) = &mut self.expected else {
             same("number", got.number, Refusal::Unsound.number() as u8)?;
+            same("accounts", accounts, lent_accounts(&self.accounts))?;
             return kept::all(&before, self.words());
         };
-        let wanted = expected.book.call(call);
+        let wanted = expected.book.call(&mut self.accounts, call);
         compare_answer(expected, call, got, wanted)?;
+        same("accounts", accounts, lent_accounts(&self.accounts))?;
         note_node(expected, call, got);
         compare_words(&before, self.words(), call, got.number)?;
         match got.number {
@@ -193,7 +221,7 @@ impl Runner {
     }
 
     /// Every question about a sound table: all registers, all states, all pairs of registers, all
-    /// relations, the tally.
+    /// relations.
     pub fn compare_all(&mut self) -> Result<(), Difference> {
         let Some(expected) = &mut self.expected else {
             return Ok(());
@@ -202,8 +230,8 @@ impl Runner {
         sound(&before)?;
         for call in questions(&expected.book) {
             self.counts.questions += 1;
-            let wanted = expected.book.call(&call);
-            let got = make(&mut self.table, &call);
+            let wanted = expected.book.call(&mut [], &call);
+            let got = make(&mut self.table, &mut [], &call);
             compare_answer(expected, &call, got, wanted)
                 .map_err(|what| format!("afterwards `{}`: {what}", Step::Call(call)))?;
         }
@@ -211,6 +239,16 @@ impl Runner {
         compare_pairs(expected)?;
         compare_relations(Words(&before), &expected.book)
     }
+}
+
+/// An empty table of one bit and one row in so many words.
+pub fn empty_table(length: usize) -> Result<Table<Vec<u32>>, Refusal> {
+    Table::fresh(
+        vec![0; length],
+        &mut [kudzuclamp::Account::unlimited()],
+        1,
+        1,
+    )
 }
 
 /// What the words of a table should hold, where they are sound.

@@ -64,7 +64,9 @@ fn arrows(words: Words, row: usize) -> Result<(), String> {
         demand(falls, || format!("arrow {place} of row {row}"))?;
     }
     let plain = !marked(words.field(row, HIGH));
-    demand(plain, || format!("the high arrow of row {row} carries a NOT"))?;
+    demand(plain, || {
+        format!("the high arrow of row {row} carries a NOT")
+    })?;
     let differ = words.field(row, LOW) != words.field(row, HIGH);
     demand(differ, || format!("row {row} has one arrow twice"))
 }

@@ -6,7 +6,8 @@ use std::collections::BTreeSet;
 
 pub const BITS: usize = 0;
 pub const ROWS: usize = 1;
-pub const TALLY: usize = 2;
+/// "unused".
+pub const UNUSED: usize = 2;
 pub const USED: usize = 3;
 pub const STORED: usize = 6;
 pub const LAYOUT: usize = 7;
@@ -146,7 +147,6 @@ impl Words<'_> {
             self.rows(),
             (0..REGISTERS).map(|r| self.register(r)).collect(),
             (0..RELATIONS).map(|t| self.relation(t)).collect(),
-            self.0[TALLY],
         )
     }
 }

@@ -4,7 +4,7 @@
 use calls::list::Step;
 use calls::run::Runner;
 use calls::writer::{frame, nots, tree, untils, write, Plan};
-use kudzuclamp::{Refusal, Table};
+use kudzuclamp::{Account, Refusal, Table};
 use reference::book::{words_for, Call};
 use reference::formula::{frame_as, Kind};
 use reference::random::Random;
@@ -34,8 +34,12 @@ fn relation(t: u64, formula: Vec<u8>) -> Step {
 }
 
 fn set(r: u64, formula: Vec<u8>) -> Step {
-    let rounds = 50;
-    Step::Call(Call::Set { r, rounds, formula })
+    Step::Call(Call::Set {
+        place: 0,
+        r,
+        rounds: 50,
+        formula,
+    })
 }
 
 /// Makes set and relation calls with the bytes and compares.
@@ -166,16 +170,14 @@ fn noise_as_formulas() {
 }
 
 /// The number of a set call, in the least version that has its words.
-fn number(runner: &mut Runner, body: &[u8]) -> usize {
+fn number(runner: &mut Runner, body: &[u8]) -> u8 {
     number_in(runner, calls::writer::version(body), body)
 }
 
 /// The number of a set call in a version.
-fn number_in(runner: &mut Runner, version: u8, body: &[u8]) -> usize {
-    let before = runner.counts.numbers;
+fn number_in(runner: &mut Runner, version: u8, body: &[u8]) -> u8 {
     runner.step(&set(3, frame_as(version, body))).unwrap();
-    let changed = (0..10).find(|&k| runner.counts.numbers[k] != before[k]);
-    changed.expect("a call has a number")
+    runner.counts.last
 }
 
 #[test]
@@ -256,6 +258,7 @@ fn until_in_until() {
             let mut runner = room(2, 60);
             let formula = frame(&untils(64, first, 1, leaf));
             let call = Call::Set {
+                place: 0,
                 r: 3,
                 rounds,
                 formula,
@@ -272,7 +275,7 @@ fn order_of_the_checks() {
     let mut runner = room(1, 40);
     // Faults in the order of their numbers: 4 an unknown byte, 5 P unbound, 6 P read odd, 7 register
     // 9 empty. Each pair and triple, in all orders, below ANDs and untils.
-    let faults: [(usize, &[u8]); 4] = [
+    let faults: [(u8, &[u8]); 4] = [
         (4, &[0x05]),
         (5, &[0x3A]),
         (6, &[0x71, 0x02, 0x31]),
@@ -294,10 +297,12 @@ fn order_of_the_checks() {
 /// "register, relation or state number out of range" comes before the checks of the formula.
 #[test]
 fn range_before_formula() {
-    let mut table = Table::new(1, 10).unwrap();
-    assert_eq!(table.set(32, 0, []), Err(Refusal::Range));
+    let mut accounts = [Account::unlimited()];
+    let mut table = Table::new(&mut accounts, 1, 10).unwrap();
+    let mut set = |table: &mut Table<Vec<u32>>, r| table.set(&mut accounts, 0, r, 0, []);
+    assert_eq!(set(&mut table, 32), Err(Refusal::Range));
     assert_eq!(table.relation(8, []), Err(Refusal::Range));
-    assert_eq!(table.set(31, 0, []), Err(Refusal::Syntax));
+    assert_eq!(set(&mut table, 31), Err(Refusal::Syntax));
     assert_eq!(table.relation(7, []), Err(Refusal::Syntax));
     assert_eq!(table.member(0, 2), Err(Refusal::Range));
     assert_eq!(table.member(0, 1), Err(Refusal::Empty));

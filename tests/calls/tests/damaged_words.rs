@@ -6,10 +6,10 @@ use calls::compare::make;
 use calls::draw::draw_and_run;
 use calls::kept;
 use calls::list::Step;
-use calls::run::{Runner, MAX_BITS};
+use calls::run::{empty_table, Runner, MAX_BITS};
 use calls::sound::sound;
 use calls::words::*;
-use kudzuclamp::{Refusal, Table};
+use kudzuclamp::{Account, Refusal, Table};
 use reference::book::{words_for, Call};
 use reference::formula::frame;
 use reference::random::Random;
@@ -38,24 +38,34 @@ fn values(old: u32, rows: u32) -> Vec<u32> {
 
 /// One call of each kind, each answered on a sound table that has the register and state.
 fn one_of_each() -> Vec<Call> {
-    let (t, r, rounds, state) = (0, 0, 100, 0);
+    let (t, r, place, rounds, state) = (0, 0, 0, 100, 0);
     let formula = frame(&[0x01]);
     vec![
         Call::Relation {
             t,
             formula: formula.clone(),
         },
-        Call::Set { r, rounds, formula },
+        Call::Set {
+            place,
+            r,
+            rounds,
+            formula,
+        },
         Call::Clear { r },
         Call::Collect,
         Call::Node { r },
         Call::Member { r, state },
         Call::Count { r },
-        Call::Tally,
-        // Check 2 comes before checks 3 and 4.
+        // Check 2 comes before checks 3, 14 and 4.
         Call::Clear { r: 99 },
         Call::Relation {
             t: 99,
+            formula: Vec::new(),
+        },
+        Call::Set {
+            place: 99,
+            r,
+            rounds,
             formula: Vec::new(),
         },
     ]
@@ -64,12 +74,15 @@ fn one_of_each() -> Vec<Call> {
 /// Every call is refused with 2 and keeps all words.
 fn refuses(words: &[u32]) {
     assert_eq!(Table::over(words).err(), Some(Refusal::Unsound));
-    let Ok(mut table) = Table::fresh(vec![0; words.len()], 1, 1) else {
+    let Ok(mut table) = empty_table(words.len()) else {
         return;
     };
     table.words_mut().copy_from_slice(words);
     for call in one_of_each() {
-        assert_eq!(make(&mut table, &call).number, 2, "{call:?}");
+        let mut accounts = [Account::limited(7, 8)];
+        let answer = make(&mut table, &mut accounts, &call);
+        assert_eq!(answer.number, 2, "{call:?}");
+        assert_eq!(accounts, [Account::limited(7, 8)]);
         kept::all(words, table.words()).unwrap();
     }
     for relation in [false, true] {
@@ -91,7 +104,7 @@ fn accepts(words: &[u32], random: &mut Random) {
     let mut outcome = runner.compare_all();
     while outcome.is_ok() && steps.len() < 6 {
         let book = &runner.expected().expect("sound").book;
-        let step = Step::Call(draw_call(random, book).0);
+        let step = Step::Call(draw_call(random, book, runner.accounts()).0);
         outcome = runner.step(&step);
         steps.push(step.to_string());
     }
@@ -117,13 +130,14 @@ fn accepts_wide(words: &[u32]) {
     for body in [&[0x04, 0x10, 0x11][..], &[0x70, 0x04, 0x10, 0x68, 0x30]] {
         let formula = frame(body);
         calls.push(Call::Set {
+            place: 0,
             r: 1,
             rounds,
             formula,
         });
     }
     for call in calls {
-        make(&mut table, &call);
+        make(&mut table, &mut [Account::unlimited()], &call);
         sound(table.words()).unwrap_or_else(|what| panic!("{what} after {call:?} on {words:?}"));
     }
 }
@@ -238,11 +252,12 @@ fn many_words_at_once() {
     assert_both(counts, 100);
 }
 
-/// Fills every word that may hold anything in a sound table: the search's start, the remembered
-/// results, the spare words and the unused rows but for their ranks.
+/// Fills every word that may hold anything in a sound table: the unused ones of the header, the
+/// search's start, the remembered results, the spare words and the unused rows but for their ranks.
 fn fill_free_words(random: &mut Random, words: &mut [u32]) {
     let rows = words[ROWS] as usize;
     let mut places: Vec<usize> = (USED + 1..=STORED).collect();
+    places.push(UNUSED);
     places.extend(LAYOUT + 1..FIRST_REGISTER);
     places.extend(ROOTS_END..HEADER);
     for row in 0..rows {

@@ -1,7 +1,7 @@
-//! Which words each refusal keeps: 1 to 7 all; 8 and 9 the registers, the relations, the tally and
-//! every register's set and number. Words past the table are never changed.
+//! Which words each refusal keeps: 8 and 9 the registers, the relations and every register's set and
+//! number; all others every word. Words past the table are never changed.
 
-use kudzuclamp::{words_for, Formula, Refusal, Table};
+use kudzuclamp::{words_for, Account, Formula, Refusal, Stored, Table};
 
 const GUARD: u32 = 0xFEED_BEEF;
 const PAST: usize = 50;
@@ -10,16 +10,30 @@ const PAST: usize = 50;
 /// refused where the rows are too few.
 fn try_room(rows: u32) -> Result<Table<Vec<u32>>, Refusal> {
     let words = vec![GUARD; words_for(rows) + PAST];
-    let mut table = Table::fresh(words, 2, rows)?;
+    let mut table = Table::fresh(words, &mut [Account::unlimited()], 2, rows)?;
     let (open, echo) = (Formula::current(0), Formula::current(1));
     let same = |a: Formula, b: Formula| (a.clone() & b.clone()) | (!a & !b);
     let press = Formula::next(0) & same(Formula::next(1), open.clone());
     table.relation(0, press)?;
-    table.set(0, 0, open.clone() & echo.clone())?;
-    table.set(1, 0, open | echo)?;
+    set(&mut table, 0, 0, open.clone() & echo.clone())?;
+    set(&mut table, 1, 0, open | echo)?;
     let howl = Formula::register(0) | Formula::diamond(0, Formula::var(0));
-    table.set(2, 100, Formula::mu(0, howl))?;
+    set(&mut table, 2, 100, Formula::mu(0, howl))?;
     Ok(table)
+}
+
+/// A set under an account with the largest limits.
+fn set(
+    table: &mut Table<Vec<u32>>,
+    r: u32,
+    most: u32,
+    formula: impl AsRef<[u8]>,
+) -> Result<Stored, Refusal> {
+    table.set(&mut [Account::unlimited()], 0, r, most, formula)
+}
+
+fn restart(table: &mut Table<Vec<u32>>, n: u32, rows: u32) -> Result<(), Refusal> {
+    table.restart(&mut [Account::unlimited()], n, rows)
 }
 
 fn room(rows: u32) -> Table<Vec<u32>> {
@@ -28,7 +42,7 @@ fn room(rows: u32) -> Table<Vec<u32>> {
 
 /// Everything that refusals 8 and 9 keep, as the calls answer it.
 fn contents(table: &Table<Vec<u32>>) -> Vec<Result<u32, Refusal>> {
-    let mut answers = vec![table.tally()];
+    let mut answers = Vec::new();
     for r in 0..32 {
         answers.extend([table.node(r), table.count(r)]);
         answers.extend((0..4).map(|state| table.member(r, state).map(u32::from)));
@@ -64,8 +78,20 @@ fn one() {
         (2, 60_001),
         (2, 105),
     ] {
-        keeps_all(Refusal::Sizes, |table| table.restart(n, rows));
+        keeps_all(Refusal::Sizes, |table| restart(table, n, rows));
     }
+}
+
+#[test]
+fn fourteen() {
+    for count in [0, 9, 100] {
+        let accounts = || vec![Account::unlimited(); count];
+        keeps_all(Refusal::Unlisted, |t| t.restart(&mut accounts(), 2, 5));
+        keeps_all(Refusal::Unlisted, |t| t.set(&mut accounts(), 0, 0, 9, []));
+    }
+    keeps_all(Refusal::Unlisted, |t| {
+        t.set(&mut [Account::unlimited(); 8], 8, 0, 9, Formula::always())
+    });
 }
 
 #[test]
@@ -75,7 +101,10 @@ fn two() {
         let sound = table.words().to_vec();
         table.words_mut()[place] = value;
         let before = table.words().to_vec();
-        assert_eq!(table.set(0, 9, Formula::always()), Err(Refusal::Unsound));
+        assert_eq!(
+            set(&mut table, 0, 9, Formula::always()),
+            Err(Refusal::Unsound)
+        );
         assert_eq!(table.relation(0, Formula::never()), Err(Refusal::Unsound));
         assert_eq!(table.clear(0), Err(Refusal::Unsound));
         assert_eq!(table.collect(), Err(Refusal::Unsound));
@@ -87,17 +116,17 @@ fn two() {
 #[test]
 fn three_to_seven() {
     let var = || Formula::var(0);
-    keeps_all(Refusal::Range, |t| t.set(32, 9, Formula::always()));
+    keeps_all(Refusal::Range, |t| set(t, 32, 9, Formula::always()));
     keeps_all(Refusal::Range, |t| t.relation(8, Formula::always()));
     keeps_all(Refusal::Range, |t| t.clear(32));
     keeps_all(Refusal::Range, |t| t.member(0, 4));
-    keeps_all(Refusal::Syntax, |t| t.set(0, 9, Formula::next(0)));
+    keeps_all(Refusal::Syntax, |t| set(t, 0, 9, Formula::next(0)));
     keeps_all(Refusal::Syntax, |t| t.relation(0, Formula::register(0)));
-    keeps_all(Refusal::Unbound, |t| t.set(0, 9, var()));
-    keeps_all(Refusal::Odd, |t| t.set(0, 9, Formula::nu(0, !var())));
-    keeps_all(Refusal::Empty, |t| t.set(0, 9, Formula::register(9)));
+    keeps_all(Refusal::Unbound, |t| set(t, 0, 9, var()));
+    keeps_all(Refusal::Odd, |t| set(t, 0, 9, Formula::nu(0, !var())));
+    keeps_all(Refusal::Empty, |t| set(t, 0, 9, Formula::register(9)));
     keeps_all(Refusal::Empty, |t| {
-        t.set(0, 9, Formula::boxed(7, Formula::always()))
+        set(t, 0, 9, Formula::boxed(7, Formula::always()))
     });
     keeps_all(Refusal::Empty, |t| t.count(9));
 }
@@ -134,13 +163,13 @@ fn full_keeps<T>(
 /// With every number of rows in which the room fits: 8 below some number, answered from there on.
 #[test]
 fn eight() {
-    let (set, relation) = large();
+    let (states, relation) = large();
     let (mut sets, mut relations) = (Vec::new(), Vec::new());
     for rows in 1..40 {
         let Ok(mut table) = try_room(rows) else {
             continue;
         };
-        sets.push(full_keeps(&mut table, |t| t.set(5, 9, &set)));
+        sets.push(full_keeps(&mut table, |t| set(t, 5, 9, &states)));
         table.clear(5).unwrap();
         relations.push(full_keeps(&mut table, |t| t.relation(5, &relation)));
         assert_guards(&table, rows);
@@ -155,14 +184,14 @@ fn nine() {
     let mut table = room(100);
     let step = Formula::diamond(0, Formula::var(0));
     let reach = Formula::mu(0, Formula::register(0) | step);
-    let needed = table.set(3, u32::MAX, &reach).unwrap().rounds;
+    let needed = set(&mut table, 3, u32::MAX, &reach).unwrap().rounds;
     assert!(needed > 2);
     let before = contents(&table);
     for most in 0..needed {
-        assert_eq!(table.set(0, most, &reach), Err(Refusal::Spent));
+        assert_eq!(set(&mut table, 0, most, &reach), Err(Refusal::Spent));
         assert_eq!(contents(&table), before);
     }
-    assert_eq!(table.set(0, needed, &reach).unwrap().rounds, needed);
+    assert_eq!(set(&mut table, 0, needed, &reach).unwrap().rounds, needed);
     assert_guards(&table, 100);
 }
 
@@ -171,9 +200,9 @@ fn answered_calls_keep_the_words_past_the_table() {
     let mut table = room(100);
     table.clear(0).unwrap();
     table.collect().unwrap();
-    table.restart(16, 100).unwrap();
+    restart(&mut table, 16, 100).unwrap();
     assert_guards(&table, 100);
-    table.restart(3, 90).unwrap();
+    restart(&mut table, 3, 90).unwrap();
     assert_eq!(table.words()[words_for(100)..], [GUARD; PAST]);
 }
 
@@ -182,7 +211,7 @@ fn answered_calls_keep_the_words_past_the_table() {
 fn fresh_writes_header_and_heads_only() {
     let mut table = room(100);
     let before = table.words().to_vec();
-    table.restart(2, 100).unwrap();
+    restart(&mut table, 2, 100).unwrap();
     let after = table.words();
     let heads = 256 + 9 * 100..256 + 10 * 100;
     for place in (256..after.len()).filter(|place| !heads.contains(place)) {

@@ -1,14 +1,14 @@
-//! Random lists of calls, n = 1 to 5, on the library and on the separate evaluator.
+//! Random lists of calls, n = 1 to 5, 1 to 8 accounts, on the library and on the separate evaluator.
 //!
-//! After each call: number, rounds, value, kept words, soundness. After each list: node, count and
-//! member of every register and state, node numbers over all pairs of registers, relations, tally.
-//! `KUDZUCLAMP_CALLS` calls (20,000) from seed `KUDZUCLAMP_SEED` (1). A difference prints its list;
-//! save it and run it again with
+//! After each call: number, rounds, value, all accounts, kept words, soundness. After each list: node,
+//! count and member of every register and state, node numbers over all pairs of registers, relations.
+//! `KUDZUCLAMP_CALLS` calls (20,000) from seed `KUDZUCLAMP_SEED` (1) in `KUDZUCLAMP_THREADS` threads
+//! (one for each processor). A difference prints its list; save it and run it again with
 //! `KUDZUCLAMP_REPLAY=FILE cargo test --offline --release --test lists replay -- --ignored`.
 
-use calls::draw::{draw_and_run, Drawn, CALLS};
+use calls::draw::{draw_and_run, Drawn, Edges, CALLS};
 use calls::list::List;
-use calls::run::{run, Counts};
+use calls::run::{run, Counts, NUMBERS};
 use std::env;
 use std::io::{stderr, Write};
 use std::panic::catch_unwind;
@@ -29,8 +29,7 @@ fn setting(name: &str, default: u64) -> u64 {
 #[derive(Default)]
 struct Totals {
     counts: Counts,
-    edge_answered: u64,
-    edge_refused: u64,
+    edges: Edges,
     differences: Vec<String>,
 }
 
@@ -39,16 +38,16 @@ impl Totals {
         let text = |what| format!("list {index}: {what}\n{}", drawn.list);
         Totals {
             counts: drawn.runner.counts,
-            edge_answered: drawn.edges.answered,
-            edge_refused: drawn.edges.refused,
+            edges: drawn.edges,
             differences: drawn.difference.map(text).into_iter().collect(),
         }
     }
 
     fn add(&mut self, other: Totals) {
         self.counts.add(other.counts);
-        self.edge_answered += other.edge_answered;
-        self.edge_refused += other.edge_refused;
+        self.edges.table.add(other.edges.table);
+        self.edges.rows.add(other.edges.rows);
+        self.edges.rounds.add(other.edges.rounds);
         self.differences.extend(other.differences);
     }
 }
@@ -74,7 +73,8 @@ fn random_lists() {
     let seed = setting("KUDZUCLAMP_SEED", 1);
     let lists = calls.div_ceil(CALLS);
     let (start, taken) = (Instant::now(), AtomicU64::new(0));
-    let threads = thread::available_parallelism().map_or(1, |count| count.get());
+    let processors = thread::available_parallelism().map_or(1, |count| count.get());
+    let threads = setting("KUDZUCLAMP_THREADS", processors as u64);
     let mut totals = Totals::default();
     thread::scope(|scope| {
         let workers: Vec<_> = (0..threads)
@@ -92,19 +92,25 @@ fn random_lists() {
         untils,
         ..
     } = totals.counts;
-    for number in 0..=9 {
+    for number in (0..=9).chain([14]) {
         assert!(numbers[number] > 0, "no call gave {number}");
         // 1 is of fresh alone.
         assert!(number == 1 || untils[number] > 0, "no until gave {number}");
     }
     let share = 100 * untils.iter().sum::<u64>() / sets;
     assert!((30..40).contains(&share), "{share} of 100 sets have until");
-    assert!(totals.edge_answered > 0 && totals.edge_refused > 0);
+    let Edges {
+        table,
+        rows,
+        rounds,
+    } = totals.edges;
+    assert!(table.both() && rows.both() && rounds.both());
 }
 
-fn by_number(numbers: &[u64; 10]) -> String {
+fn by_number(numbers: &[u64; NUMBERS]) -> String {
     let mut text = format!("answered {}; refused", numbers[0]);
-    for (number, count) in numbers.iter().enumerate().skip(1) {
+    let given = numbers.iter().enumerate().skip(1);
+    for (number, count) in given.filter(|(_, &count)| count > 0) {
         text += &format!(" {number}: {count}");
     }
     text
@@ -117,6 +123,7 @@ fn report(totals: &Totals, seed: u64, lists: u64, seconds: f64) {
         sets,
         untils,
         questions,
+        ..
     } = totals.counts;
     let made: u64 = numbers.iter().sum();
     let differences = totals.differences.len();
@@ -124,13 +131,18 @@ fn report(totals: &Totals, seed: u64, lists: u64, seconds: f64) {
         format!("seed {seed}: {lists} lists, {made} calls, {questions} questions after lists");
     text += &format!(", {differences} differences, {seconds:.1} s\n");
     text += &by_number(&numbers);
-    text += &format!(
-        "; needs N rows: {}; needs N + 1: {}\n",
-        totals.edge_answered, totals.edge_refused
-    );
+    let edges = [
+        ("N", totals.edges.table),
+        ("an account's row limit", totals.edges.rows),
+        ("an account's round limit", totals.edges.rounds),
+    ];
+    for (name, edge) in edges {
+        let (answered, past) = (edge.answered, edge.refused);
+        text += &format!("\nat {name}: {answered} answered, {past} one past it");
+    }
     let with_until: u64 = untils.iter().sum();
     text += &format!(
-        "sets {sets}, with until {with_until}: {}\n",
+        "\nsets {sets}, with until {with_until}: {}\n",
         by_number(&untils)
     );
     stderr()

@@ -2,7 +2,7 @@
 
 use calls::sound::{bucket, sound};
 use calls::words::*;
-use kudzuclamp::{Refusal, Table};
+use kudzuclamp::{Account, Refusal, Table};
 use reference::random::Random;
 use std::time::{Duration, Instant};
 
@@ -27,7 +27,8 @@ impl Chain {
                 places.swap(k, random.below(k as u64 + 1) as usize);
             }
         }
-        let words = Table::new(16, rows as u32).unwrap().into_words();
+        let table = Table::new(&mut [Account::unlimited()], 16, rows as u32);
+        let words = table.unwrap().into_words();
         let mut chain = Chain {
             words,
             rows,

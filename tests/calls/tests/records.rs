@@ -2,6 +2,7 @@
 //! evaluator's program read the same bytes and must print the same lines.
 
 use calls::call::draw_call;
+use reference::accounts::Account;
 use reference::book::{words_for, Book, Call};
 use reference::random::Random;
 use reference::records::output_of;
@@ -36,9 +37,13 @@ fn record(operation: u8, arguments: &[&[u8]]) -> Vec<u8> {
 fn record_of(call: &Call) -> Option<Vec<u8>> {
     Some(match call {
         Call::Relation { t, formula } => record(2, &[&[*t as u8], formula]),
-        Call::Set { r, rounds, formula } => {
-            record(3, &[&[*r as u8], &rounds.to_be_bytes(), formula])
-        }
+        // The program lends one account and names it.
+        Call::Set {
+            place: 0,
+            r,
+            rounds,
+            formula,
+        } => record(3, &[&[*r as u8], &rounds.to_be_bytes(), formula]),
         Call::Clear { r } => record(4, &[&[*r as u8]]),
         Call::Count { r } => record(5, &[&[*r as u8]]),
         Call::Collect => record(6, &[]),
@@ -50,11 +55,12 @@ fn record_of(call: &Call) -> Option<Vec<u8>> {
 fn draw(random: &mut Random) -> Vec<Vec<u8>> {
     let n = 1 + random.below(3);
     let rows = 1 + random.below(60);
-    let mut book = Book::fresh(n, rows, words_for(rows)).expect("sizes fit");
+    let mut accounts = [Account::LARGEST];
+    let mut book = Book::fresh(n, rows, words_for(rows), &mut accounts).expect("sizes fit");
     let mut records = vec![record(1, &[&[n as u8], &(rows as u16).to_be_bytes()])];
     for _ in 0..12 {
-        let (call, _) = draw_call(random, &book);
-        book.call(&call);
+        let (call, _) = draw_call(random, &book, &accounts);
+        book.call(&mut accounts, &call);
         records.extend(record_of(&call));
     }
     records

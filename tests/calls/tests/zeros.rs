@@ -1,13 +1,16 @@
 //! "Returned: number, zeros": what a refused call writes into its answers. The wrapper gives no
 //! answers with a refusal, so the entry points of include/kudzuclamp.h are called directly.
 
-use kudzuclamp::{Formula, Table};
+use kudzuclamp::{Account, Formula, Table};
 use reference::formula::frame;
 
 extern "C" {
     fn kudzuclamp_set(
         words: *mut u32,
         words_len: usize,
+        accounts: *mut Account,
+        accounts_len: usize,
+        place: u32,
         r: u32,
         most: u32,
         bytes: *const u8,
@@ -25,7 +28,6 @@ extern "C" {
         value: *mut u32,
     ) -> u32;
     fn kudzuclamp_count(words: *const u32, words_len: usize, r: u32, value: *mut u32) -> u32;
-    fn kudzuclamp_tally(words: *const u32, words_len: usize, value: *mut u32) -> u32;
 }
 
 /// What stands in an answer before the call.
@@ -33,13 +35,21 @@ const BEFORE: u32 = 0xAAAA_AAAA;
 
 /// n = 2, N = 3, register 0 holds bit 0.
 fn room() -> Vec<u32> {
-    let mut table = Table::new(2, 3).unwrap();
-    table.set(0, 0, Formula::current(0)).unwrap();
+    let mut accounts = [Account::unlimited()];
+    let mut table = Table::new(&mut accounts, 2, 3).unwrap();
+    let bit = Formula::current(0);
+    table.set(&mut accounts, 0, 0, 0, bit).unwrap();
     table.into_words()
 }
 
-/// Number, node and rounds.
-fn set(mut words: Vec<u32>, r: u32, most: u32, body: &[u8]) -> [u32; 3] {
+/// Number, node and rounds of a set under an account with the largest limits.
+fn set(words: Vec<u32>, r: u32, most: u32, body: &[u8]) -> [u32; 3] {
+    set_under(words, 0, r, most, body)
+}
+
+/// The same under the account at a place of a list of one.
+fn set_under(mut words: Vec<u32>, place: u32, r: u32, most: u32, body: &[u8]) -> [u32; 3] {
+    let mut accounts = [Account::unlimited()];
     let bytes = frame(body);
     let (mut node, mut rounds) = (BEFORE, BEFORE);
     // SAFETY: pointers and lengths are those of vectors and locals.
@@ -47,6 +57,9 @@ fn set(mut words: Vec<u32>, r: u32, most: u32, body: &[u8]) -> [u32; 3] {
         kudzuclamp_set(
             words.as_mut_ptr(),
             words.len(),
+            accounts.as_mut_ptr(),
+            accounts.len(),
+            place,
             r,
             most,
             bytes.as_ptr(),
@@ -58,10 +71,10 @@ fn set(mut words: Vec<u32>, r: u32, most: u32, body: &[u8]) -> [u32; 3] {
     [number, node, rounds]
 }
 
-/// Numbers and values of node, member, count, tally and collect.
-fn questions(words: &mut [u32], r: u32, s: u32) -> [[u32; 2]; 5] {
-    let mut values = [BEFORE; 5];
-    let [node, member, count, tally, collect] = &mut values;
+/// Numbers and values of node, member, count and collect.
+fn questions(words: &mut [u32], r: u32, s: u32) -> [[u32; 2]; 4] {
+    let mut values = [BEFORE; 4];
+    let [node, member, count, collect] = &mut values;
     let (at, length) = (words.as_mut_ptr(), words.len());
     // SAFETY: pointer and length are those of a mutable slice, the others are locals'.
     let numbers = unsafe {
@@ -69,7 +82,6 @@ fn questions(words: &mut [u32], r: u32, s: u32) -> [[u32; 2]; 5] {
             kudzuclamp_node(at, length, r, node),
             kudzuclamp_member(at, length, r, s, member),
             kudzuclamp_count(at, length, r, count),
-            kudzuclamp_tally(at, length, tally),
             kudzuclamp_collect(at, length, collect),
         ]
     };
@@ -82,6 +94,7 @@ fn refused_sets() {
     unsound[0] = 0;
     assert_eq!(set(unsound, 1, 9, &[0x11]), [2, 0, 0]);
     assert_eq!(set(room(), 32, 9, &[0x11]), [3, 0, 0]);
+    assert_eq!(set_under(room(), 1, 1, 9, &[0x11]), [14, 0, 0]);
     assert_eq!(set(room(), 1, 9, &[0x12]), [4, 0, 0]);
     assert_eq!(set(room(), 1, 9, &[0x30]), [5, 0, 0]);
     assert_eq!(set(room(), 1, 9, &[0x70, 0x02, 0x30]), [6, 0, 0]);
@@ -98,13 +111,13 @@ fn refused_sets() {
 fn refused_questions() {
     let mut words = room();
     let answered = questions(&mut words, 0, 1);
-    assert_eq!(answered.map(|[number, _]| number), [0; 5]);
-    assert_eq!(answered[1..], [[0, 1], [0, 2], [0, 0], [0, 1]]);
+    assert_eq!(answered.map(|[number, _]| number), [0; 4]);
+    assert_eq!(answered[1..], [[0, 1], [0, 2], [0, 1]]);
     let empty = questions(&mut words, 1, 1);
     assert_eq!(empty[..3], [[7, 0]; 3]);
     let outside = questions(&mut words, 32, 1);
     assert_eq!(outside[..3], [[3, 0]; 3]);
     assert_eq!(questions(&mut words, 0, 4)[1], [3, 0]);
     words[1] = 0;
-    assert_eq!(questions(&mut words, 0, 1), [[2, 0]; 5]);
+    assert_eq!(questions(&mut words, 0, 1), [[2, 0]; 4]);
 }

@@ -1,11 +1,13 @@
 //! The book: calls over sets, and the refusals in document 01's order.
 
-use crate::evaluate::{self, Evaluated, Held, Limits};
+use crate::accounts::{check_list, check_place, Account};
+use crate::evaluate::{self, Evaluated, Held};
 use crate::formula::{self, Formula, Kind};
 use crate::refusal::Refusal;
 use crate::states::{state_count, PairSet, StateSet};
 
-/// "The table has N rows, 32 registers, 8 relations and a tally."
+/// "The table has N rows, 32 registers, 8 relations"; Slip 7: "The single tally
+/// and its call go".
 pub const REGISTERS: usize = 32;
 pub const RELATIONS: usize = 8;
 /// "A room has n state bits, n from 1 to 16."
@@ -20,7 +22,9 @@ pub enum Call {
         t: u64,
         formula: Vec<u8>,
     },
+    /// Slip 7: "every set names its account".
     Set {
+        place: u64,
         r: u64,
         rounds: u32,
         formula: Vec<u8>,
@@ -39,7 +43,6 @@ pub enum Call {
     Count {
         r: u64,
     },
-    Tally,
 }
 
 /// Refusal number or 0, rounds, and the value, which is None where a node
@@ -66,24 +69,25 @@ pub struct Book {
     rows: usize,
     registers: Vec<Option<StateSet>>,
     relations: Vec<Option<PairSet>>,
-    tally: u32,
 }
 
 impl Book {
     /// "Fresh takes n, a row count N (1 to 60,000) and at least 256 + 12 × N
-    /// words"; "Fresh empties them all, the tally at 0."
-    pub fn fresh(n: u64, rows: u64, words: u64) -> Result<Book, Refusal> {
+    /// words"; "Fresh empties them all". Slip 7: 14 "(in fresh, after 1)";
+    /// "Fresh sets the tallies to 0."
+    pub fn fresh(n: u64, rows: u64, words: u64, accounts: &mut [Account]) -> Result<Book, Refusal> {
         let n_fits = (1..=MAX_STATE_BITS).contains(&n);
         let rows_fit = (1..=MAX_ROWS).contains(&rows);
         if !n_fits || !rows_fit || words < words_for(rows) {
             return Err(Refusal::BadFresh);
         }
+        check_list(accounts)?;
+        accounts.iter_mut().for_each(|account| account.tally = 0);
         Ok(Book {
             n: n as u32,
             rows: rows as usize,
             registers: vec![None; REGISTERS],
             relations: vec![None; RELATIONS],
-            tally: 0,
         })
     }
 
@@ -93,7 +97,6 @@ impl Book {
         rows: usize,
         registers: Vec<Option<StateSet>>,
         relations: Vec<Option<PairSet>>,
-        tally: u32,
     ) -> Book {
         assert!(registers.len() == REGISTERS && relations.len() == RELATIONS);
         Book {
@@ -101,7 +104,6 @@ impl Book {
             rows,
             registers,
             relations,
-            tally,
         }
     }
 
@@ -138,13 +140,21 @@ impl Book {
     }
 
     /// "set r with R: stores the set of exactly the states in which its formula
-    /// holds; returns node number and rounds."
-    pub fn set(&mut self, r: u64, rounds: u32, bytes: &[u8]) -> Result<SetAnswer, Refusal> {
-        let done = self.evaluate_set(r, rounds, bytes)?;
+    /// holds; returns node number and rounds." Slip 7: it "changes nothing else
+    /// in the list" than its own account's tally; "no refusal changes an
+    /// account".
+    pub fn set(
+        &mut self,
+        accounts: &mut [Account],
+        place: u64,
+        r: u64,
+        rounds: u32,
+        bytes: &[u8],
+    ) -> Result<SetAnswer, Refusal> {
+        let done = self.evaluate_set(accounts, place, r, rounds, bytes)?;
         let node = settled_node(&done.value);
         self.registers[r as usize] = Some(done.value);
-        // "staying at 4,294,967,295 once it would pass that".
-        self.tally = self.tally.saturating_add(done.rounds);
+        accounts[place as usize].charge(done.rounds);
         Ok(SetAnswer {
             node,
             rounds: done.rounds,
@@ -158,19 +168,20 @@ impl Book {
         evaluate::relation(self.held(), self.rows, &formula)
     }
 
-    /// The checks and steps of set, without its change.
+    /// The checks and steps of set, without its changes. Slip 7: 14, "checked
+    /// directly after 3".
     pub fn evaluate_set(
         &self,
+        accounts: &[Account],
+        place: u64,
         r: u64,
         rounds: u32,
         bytes: &[u8],
     ) -> Result<Evaluated<StateSet>, Refusal> {
         in_range(r, REGISTERS)?;
+        let place = check_place(accounts, place)?;
         let formula = self.check(Kind::Set, bytes)?;
-        let limits = Limits {
-            rows: self.rows,
-            rounds,
-        };
+        let limits = accounts[place].limits(self.rows, rounds);
         evaluate::set(self.held(), limits, &formula)
     }
 
@@ -211,24 +222,25 @@ impl Book {
         Ok(self.filled(r)?.count())
     }
 
-    /// "the rounds of all answered set calls since fresh".
-    pub fn tally(&self) -> u32 {
-        self.tally
-    }
-
     /// The set in register r: checks 3 and 7.
     fn filled(&self, r: u64) -> Result<&StateSet, Refusal> {
         let r = in_range(r, REGISTERS)?;
         self.registers[r].as_ref().ok_or(Refusal::Empty)
     }
 
-    /// Makes any call and gives its answer in one form.
-    pub fn call(&mut self, call: &Call) -> Answer {
+    /// Makes any call and gives its answer in one form; only set takes the
+    /// accounts.
+    pub fn call(&mut self, accounts: &mut [Account], call: &Call) -> Answer {
         let value_only = |value| (0, value);
         let result = match call {
             Call::Relation { t, formula } => self.relation(*t, formula).map(|()| (0, Some(0))),
-            Call::Set { r, rounds, formula } => {
-                let answer = self.set(*r, *rounds, formula);
+            Call::Set {
+                place,
+                r,
+                rounds,
+                formula,
+            } => {
+                let answer = self.set(accounts, *place, *r, *rounds, formula);
                 answer.map(|answer| (answer.rounds, answer.node))
             }
             Call::Clear { r } => self.clear(*r).map(|()| (0, Some(0))),
@@ -239,7 +251,6 @@ impl Book {
                 member.map(|member| (0, Some(u64::from(member))))
             }
             Call::Count { r } => self.count(*r).map(|count| (0, Some(count))),
-            Call::Tally => Ok((0, Some(u64::from(self.tally)))),
         };
         Answer::new(result)
     }
@@ -284,54 +295,5 @@ fn settled_node(set: &StateSet) -> Option<u64> {
         Some(1)
     } else {
         None
-    }
-}
-
-#[cfg(test)]
-mod tests {
-    use super::*;
-    use crate::formula::frame;
-
-    fn book_with_tally(tally: u32) -> Book {
-        let mut book = Book::fresh(1, 100, 16_384).unwrap();
-        book.relation(
-            0,
-            &frame(&[0x04, 0x03, 0x20, 0x02, 0x10, 0x03, 0x02, 0x20, 0x10]),
-        )
-        .unwrap();
-        book.tally = tally;
-        book
-    }
-
-    fn three_rounds(book: &mut Book) {
-        let answer = book.set(0, 100, &frame(&[0x70, 0x04, 0x10, 0x68, 0x30]));
-        assert_eq!(answer.unwrap().rounds, 3);
-    }
-
-    #[test]
-    fn tally_reaches_its_greatest_value_exactly() {
-        let mut book = book_with_tally(u32::MAX - 3);
-        three_rounds(&mut book);
-        assert_eq!(book.tally(), u32::MAX);
-    }
-
-    #[test]
-    fn tally_stays_once_it_would_pass() {
-        let mut book = book_with_tally(u32::MAX - 2);
-        three_rounds(&mut book);
-        assert_eq!(book.tally(), u32::MAX);
-        three_rounds(&mut book);
-        assert_eq!(book.tally(), u32::MAX);
-    }
-
-    #[test]
-    fn tally_counts_answered_set_calls_only() {
-        let mut book = book_with_tally(0);
-        three_rounds(&mut book);
-        let refused = book.set(0, 2, &frame(&[0x70, 0x04, 0x10, 0x68, 0x30]));
-        assert_eq!(refused, Err(Refusal::RoundsUsedUp));
-        assert_eq!(book.tally(), 3);
-        three_rounds(&mut book);
-        assert_eq!(book.tally(), 6);
     }
 }

@@ -32,7 +32,8 @@ impl Held<'_> {
     }
 }
 
-/// N and R of the call.
+/// The rows that a step of the call may need and the rounds that it may take.
+/// Slip 7: "A full refusal is judged by the smaller row figure."
 #[derive(Clone, Copy)]
 pub struct Limits {
     pub rows: usize,

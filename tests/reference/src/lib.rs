@@ -1,9 +1,12 @@
-//! Separate evaluator that enumerates states, written from document 01 alone.
+//! Separate evaluator that enumerates states, written from documents 01 and 02
+//! alone.
 //!
 //! Sets of states are bit vectors, relations are bit matrices, and rows are
 //! counted by enumerating the functions got by fixing levels. Quotations in
-//! comments are sentences of document 01.
+//! comments are sentences of document 01, or of document 02 where a slip is
+//! named.
 
+pub mod accounts;
 pub mod book;
 pub mod evaluate;
 pub mod formula;

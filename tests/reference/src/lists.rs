@@ -5,39 +5,69 @@
 //! list 1
 //! n 1
 //! N 4
+//! account 4294967295 3 0              row limit, round limit and the tally at
+//!                                     the end; a line for each that is lent
 //! relation 0 000a01... -> 0 0 0       relation t, framed formula
-//! set 0 3 000601...    -> 0 3 1       set r, R, framed formula; value: node
+//! set 0 0 3 000601...  -> 0 3 1       set account's place, r, R, framed
+//!                                     formula; value: node
 //! member 0 1           -> 0 0 1       number, rounds, value; `-`: node free
 //! register 0 11                       filled at the end, state 0 first
 //! matrix 0 0110                       relation filled at the end, by now, next
 //! end
 //! ```
 
+use crate::accounts::{Account, MAX_ACCOUNTS};
 use crate::book::{words_for, Answer, Book, Call, MAX_ROWS};
 use crate::formula::{frame, Kind};
 use crate::random::Random;
 use std::fmt::Write;
 
-/// A list of calls on a fresh table.
+/// A list of calls on a fresh table, each of which gets the accounts as the one
+/// before left them.
 #[derive(Clone, Debug, PartialEq, Eq)]
 pub struct List {
     pub n: u32,
     pub rows: u64,
+    pub accounts: Vec<Account>,
     pub calls: Vec<Call>,
 }
 
+/// What a list of calls gives: the answers of the book, and the book and the
+/// accounts after it.
+pub struct Ran {
+    pub answers: Vec<Answer>,
+    pub book: Book,
+    pub accounts: Vec<Account>,
+}
+
 impl List {
-    /// The answers of the book and the book after the list.
-    pub fn run(&self) -> (Vec<Answer>, Book) {
-        let mut book = fresh(self.n, self.rows);
-        let answers = self.calls.iter().map(|call| book.call(call)).collect();
-        (answers, book)
+    pub fn run(&self) -> Ran {
+        let mut accounts = self.accounts.clone();
+        let mut book = fresh(self.n, self.rows, &mut accounts);
+        let calls = self.calls.iter();
+        Ran {
+            answers: calls.map(|call| book.call(&mut accounts, call)).collect(),
+            book,
+            accounts,
+        }
     }
 
     /// The block of text described at the top of this module.
     pub fn block(&self, title: usize) -> String {
-        let (answers, book) = self.run();
+        let Ran {
+            answers,
+            book,
+            accounts,
+        } = self.run();
         let mut text = format!("list {title}\nn {}\nN {}\n", self.n, self.rows);
+        for Account {
+            rows,
+            rounds,
+            tally,
+        } in accounts
+        {
+            writeln!(text, "account {rows} {rounds} {tally}").unwrap();
+        }
         for (call, answer) in self.calls.iter().zip(&answers) {
             writeln!(text, "{} -> {}", call_text(call), answer_text(answer)).unwrap();
         }
@@ -45,20 +75,25 @@ impl List {
     }
 }
 
-fn fresh(n: u32, rows: u64) -> Book {
-    Book::fresh(u64::from(n), rows, words_for(rows)).expect("n and N in range")
+fn fresh(n: u32, rows: u64, accounts: &mut [Account]) -> Book {
+    let book = Book::fresh(u64::from(n), rows, words_for(rows), accounts);
+    book.expect("n and N in range, 1 to 8 accounts")
 }
 
 fn call_text(call: &Call) -> String {
     match call {
         Call::Relation { t, formula } => format!("relation {t} {}", hex(formula)),
-        Call::Set { r, rounds, formula } => format!("set {r} {rounds} {}", hex(formula)),
+        Call::Set {
+            place,
+            r,
+            rounds,
+            formula,
+        } => format!("set {place} {r} {rounds} {}", hex(formula)),
         Call::Clear { r } => format!("clear {r}"),
         Call::Collect => "collect".to_string(),
         Call::Node { r } => format!("node {r}"),
         Call::Member { r, state } => format!("member {r} {state}"),
         Call::Count { r } => format!("count {r}"),
-        Call::Tally => "tally".to_string(),
     }
 }
 
@@ -88,25 +123,41 @@ fn contents(book: &Book) -> String {
 
 /// Draws a list of eight to twelve calls.
 pub fn generate(random: &mut Random, n: u32) -> List {
+    let count = match random.chance(50) {
+        true => 1,
+        false => 1 + random.below(MAX_ACCOUNTS as u64),
+    };
+    let mut plenty = vec![Account::LARGEST; count as usize];
     let mut drawer = Drawer {
         random,
         n,
-        scratch: fresh(n, MAX_ROWS),
+        scratch: fresh(n, MAX_ROWS, &mut plenty),
+        plenty,
         needs: Vec::new(),
+        rounds: Vec::new(),
     };
     let length = 8 + drawer.random.below(5);
     let calls = (0..length).map(|index| drawer.call(index)).collect();
     let rows = drawer.rows();
-    List { n, rows, calls }
+    let accounts = (0..count).map(|_| drawer.account()).collect();
+    List {
+        n,
+        rows,
+        accounts,
+        calls,
+    }
 }
 
-/// Draws calls, and makes them on a scratch book with rows in plenty to learn
-/// what is filled, how many rounds a set takes and how many rows it needs.
+/// Draws calls, and makes them on a scratch book with rows and accounts in
+/// plenty to learn what is filled, how many rounds a set takes and how many rows
+/// it needs.
 struct Drawer<'a> {
     random: &'a mut Random,
     n: u32,
     scratch: Book,
+    plenty: Vec<Account>,
     needs: Vec<usize>,
+    rounds: Vec<u32>,
 }
 
 impl Drawer<'_> {
@@ -118,11 +169,10 @@ impl Drawer<'_> {
             65..=71 => Call::Clear { r: self.register() },
             72..=77 => Call::Collect,
             78..=82 => Call::Node { r: self.asked() },
-            83..=89 => self.member_call(),
-            90..=95 => Call::Count { r: self.asked() },
-            _ => Call::Tally,
+            83..=92 => self.member_call(),
+            _ => Call::Count { r: self.asked() },
         };
-        self.scratch.call(&call);
+        self.scratch.call(&mut self.plenty, &call);
         call
     }
 
@@ -136,14 +186,46 @@ impl Drawer<'_> {
     }
 
     fn set_call(&mut self) -> Call {
+        let place = self.place();
         let r = self.register();
         let formula = self.formula(Kind::Set);
         let mut rounds = 100;
-        if let Ok(done) = self.scratch.evaluate_set(r, u32::MAX, &formula) {
+        let done = (self.scratch).evaluate_set(&self.plenty, place, r, u32::MAX, &formula);
+        if let Ok(done) = done {
             self.needs.push(done.highest_need);
+            self.rounds.push(done.rounds);
             rounds = self.round_limit(done.rounds);
         }
-        Call::Set { r, rounds, formula }
+        Call::Set {
+            place,
+            r,
+            rounds,
+            formula,
+        }
+    }
+
+    /// A place in the list of accounts, now and then past its end.
+    fn place(&mut self) -> u64 {
+        let count = self.plenty.len() as u64;
+        match self.random.chance(4) {
+            true => self.random.pick(&[count, count + 1, 255]),
+            false => self.random.below(count),
+        }
+    }
+
+    /// An account, mostly with the largest limits, else at a need and at the
+    /// rounds of some set, or one below.
+    fn account(&mut self) -> Account {
+        let mut account = Account::LARGEST;
+        if !self.needs.is_empty() && self.random.chance(30) {
+            let need = self.random.pick(&self.needs) as u32;
+            account.rows = need.saturating_sub(self.random.below(2) as u32);
+        }
+        if !self.rounds.is_empty() && self.random.chance(30) {
+            let rounds = self.random.pick(&self.rounds);
+            account.rounds = rounds.saturating_sub(self.random.below(2) as u32);
+        }
+        account
     }
 
     /// R, mostly the rounds taken or one fewer.

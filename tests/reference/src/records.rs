@@ -1,5 +1,6 @@
 //! The program's record format and its output lines.
 
+use crate::accounts::Account;
 use crate::book::Book;
 use crate::refusal::Refusal;
 use std::io::{Read, Result as IoResult, Write};
@@ -127,10 +128,20 @@ fn parse(bytes: &[u8]) -> Option<Record> {
 }
 
 /// The lent words: no book before the first answered fresh, since "All zero
-/// words are unsound."
-#[derive(Default)]
+/// words are unsound." Slip 7: "`roomrules` lends one account with the largest
+/// limits."
 pub struct Machine {
     book: Option<Book>,
+    accounts: [Account; 1],
+}
+
+impl Default for Machine {
+    fn default() -> Self {
+        Machine {
+            book: None,
+            accounts: [Account::LARGEST],
+        }
+    }
 }
 
 impl Machine {
@@ -149,9 +160,11 @@ impl Machine {
     fn answer(&mut self, record: &Record) -> Result<(u64, u32), Refusal> {
         if let Record::Fresh { n, rows } = record {
             // A refused fresh keeps "all words", so the old book stays.
-            self.book = Some(Book::fresh(u64::from(*n), u64::from(*rows), WORDS)?);
+            let (n, rows) = (u64::from(*n), u64::from(*rows));
+            self.book = Some(Book::fresh(n, rows, WORDS, &mut self.accounts)?);
             return Ok((0, 0));
         }
+        let accounts = &mut self.accounts;
         let book = self.book.as_mut().ok_or(Refusal::Unsound)?;
         match record {
             Record::Fresh { .. } => unreachable!("answered above"),
@@ -160,7 +173,7 @@ impl Machine {
                 Ok((0, 0))
             }
             Record::Set { r, rounds, formula } => {
-                let answer = book.set(u64::from(*r), *rounds, formula)?;
+                let answer = book.set(accounts, 0, u64::from(*r), *rounds, formula)?;
                 Ok((book.count(u64::from(*r))?, answer.rounds))
             }
             Record::Clear { r } => {

@@ -20,10 +20,14 @@ fn same_seed_same_lists() {
 fn lists_meet_every_number_a_book_can_give() {
     for n in [1, 2] {
         let numbers: BTreeSet<u8> = (draw(1, 150, n).iter())
-            .flat_map(|list| list.run().0)
+            .flat_map(|list| list.run().answers)
             .map(|answer| answer.number)
             .collect();
-        assert_eq!(numbers, BTreeSet::from([0, 3, 4, 5, 6, 7, 8, 9]), "n = {n}");
+        assert_eq!(
+            numbers,
+            BTreeSet::from([0, 3, 4, 5, 6, 7, 8, 9, 14]),
+            "n = {n}"
+        );
     }
 }
 
@@ -31,7 +35,7 @@ fn lists_meet_every_number_a_book_can_give() {
 fn answered_tokens(lists: &[List]) -> BTreeSet<u8> {
     let mut tokens = BTreeSet::new();
     for list in lists {
-        for (call, answer) in list.calls.iter().zip(list.run().0) {
+        for (call, answer) in list.calls.iter().zip(list.run().answers) {
             if let (Call::Relation { formula, .. } | Call::Set { formula, .. }, 0) =
                 (call, answer.number)
             {

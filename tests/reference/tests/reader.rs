@@ -237,7 +237,7 @@ fn each_check_runs_over_the_whole_formula_before_the_next() {
     // Range before the formula, the formula before 8 and 9.
     assert_eq!(set(&mut book, 32, &[0x20]), Err(Refusal::OutOfRange));
     assert_eq!(
-        book.set(0, 0, &frame(&[0x70, 0x02, 0x30])),
+        set_within(&mut book, 0, 0, &[0x70, 0x02, 0x30]),
         Err(Refusal::ReadOdd)
     );
     assert_eq!(

@@ -2,6 +2,7 @@
 
 mod common;
 use common::*;
+use reference::accounts::Account;
 use reference::book::{words_for, Answer, Book, Call};
 use reference::formula::frame;
 use reference::refusal::Refusal;
@@ -18,21 +19,23 @@ fn numbers() {
         Refusal::Empty,
         Refusal::Full,
         Refusal::RoundsUsedUp,
+        Refusal::NoAccount,
     ]
     .map(Refusal::number)
     .to_vec();
-    assert_eq!(numbers, [1, 2, 3, 4, 5, 6, 7, 8, 9]);
+    assert_eq!(numbers, [1, 2, 3, 4, 5, 6, 7, 8, 9, 14]);
 }
 
 #[test]
 fn one_fresh_limits() {
-    let answered = |n, rows, words| Book::fresh(n, rows, words).is_ok();
+    let fresh = |n, rows, words| Book::fresh(n, rows, words, &mut [Account::LARGEST]);
+    let answered = |n, rows, words| fresh(n, rows, words).is_ok();
     assert!(answered(1, 1, 268) && !answered(1, 1, 267));
     assert!(answered(16, 60_000, 720_256) && !answered(16, 60_000, 720_255));
     assert!(!answered(0, 1, 1000) && !answered(17, 1, 1000));
     assert!(!answered(1, 0, 1000) && !answered(1, 60_001, 1_000_000));
     assert!(!answered(1 << 32 | 1, 1, 1000) && !answered(1, 1 << 32 | 1, 1000));
-    assert_eq!(Book::fresh(0, 1, 268), Err(Refusal::BadFresh));
+    assert_eq!(fresh(0, 1, 268), Err(Refusal::BadFresh));
     assert_eq!(words_for(1_344), 16_384);
 }
 
@@ -42,8 +45,8 @@ fn three_out_of_range() {
     let formula = frame(&[0x01]);
     assert_eq!(book.relation(8, &formula), Err(Refusal::OutOfRange));
     assert_eq!(book.relation(7, &formula), Ok(()));
-    assert_eq!(book.set(32, 0, &formula), Err(Refusal::OutOfRange));
-    assert!(book.set(31, 0, &formula).is_ok());
+    assert_eq!(set(&mut book, 32, &[0x01]), Err(Refusal::OutOfRange));
+    assert!(set(&mut book, 31, &[0x01]).is_ok());
     assert_eq!(book.clear(32), Err(Refusal::OutOfRange));
     assert_eq!(book.node(32), Err(Refusal::OutOfRange));
     assert_eq!(book.count(u64::MAX), Err(Refusal::OutOfRange));
@@ -81,6 +84,7 @@ fn every_refused_call_keeps_the_book() {
     set(&mut book, 0, &[0x70, 0x10]).unwrap();
     let before = book.clone();
     let set_call = |r, rounds, body: &[u8]| Call::Set {
+        place: 0,
         r,
         rounds,
         formula: frame(body),
@@ -109,8 +113,10 @@ fn every_refused_call_keeps_the_book() {
             rounds: 0,
             value: Some(0),
         };
-        assert_eq!(book.call(&call), refused, "{call:?}");
+        let mut accounts = [Account::LARGEST];
+        assert_eq!(book.call(&mut accounts, &call), refused, "{call:?}");
         assert_eq!(book, before);
+        assert_eq!(accounts, [Account::LARGEST]);
     }
 }
 
@@ -128,17 +134,16 @@ fn node_is_settled_for_no_state_and_every_state_only() {
 }
 
 #[test]
-fn collect_tally_and_count() {
+fn collect_and_count() {
     let mut book = toggle_book();
-    assert_eq!(book.call(&Call::Collect).value, Some(2));
+    let call = |book: &mut Book, call| book.call(&mut [], &call);
+    assert_eq!(call(&mut book, Call::Collect).value, Some(2));
     set(&mut book, 0, &REACH).unwrap();
     set(&mut book, 1, &[0x10]).unwrap();
-    assert_eq!(book.call(&Call::Collect).value, Some(3));
-    assert_eq!(book.call(&Call::Tally).value, Some(3));
-    assert_eq!(book.call(&Call::Count { r: 1 }).value, Some(1));
-    assert_eq!(book.call(&Call::Clear { r: 1 }).number, 0);
-    assert_eq!(book.call(&Call::Collect).value, Some(2));
-    assert_eq!(book.call(&Call::Tally).value, Some(3));
+    assert_eq!(call(&mut book, Call::Collect).value, Some(3));
+    assert_eq!(call(&mut book, Call::Count { r: 1 }).value, Some(1));
+    assert_eq!(call(&mut book, Call::Clear { r: 1 }).number, 0);
+    assert_eq!(call(&mut book, Call::Collect).value, Some(2));
 }
 
 #[test]

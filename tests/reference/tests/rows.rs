@@ -24,7 +24,8 @@ fn literal_count(n: u32, functions: &[Vec<bool>]) -> usize {
         }
     }
     found.retain(|table| table.contains(&true) && table.contains(&false));
-    let complement = |table: &Vec<bool>| -> Vec<bool> { table.iter().map(|value| !value).collect() };
+    let complement =
+        |table: &Vec<bool>| -> Vec<bool> { table.iter().map(|value| !value).collect() };
     let paired = (found.iter())
         .filter(|table| found.contains(&complement(table)))
         .count();

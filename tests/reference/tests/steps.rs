@@ -190,7 +190,6 @@ fn rounds_count_inner_bodies() {
         states_and_rounds(&mut book, 5, &body),
         Err(Refusal::RoundsUsedUp)
     );
-    assert_eq!(book.tally(), 6);
 }
 
 #[test]
@@ -237,37 +236,52 @@ fn inner_binder_starts_anew() {
 #[test]
 fn eight_before_nine_and_nine_before_eight() {
     // x AND y is refused with two rows; mu P. P wants a round where R = 0.
-    let first_full = frame(&[0x04, 0x03, 0x10, 0x11, 0x70, 0x30]);
-    let first_rounds = frame(&[0x04, 0x70, 0x30, 0x03, 0x10, 0x11]);
-    assert_eq!(book(2, 2).set(0, 0, &first_full), Err(Refusal::Full));
+    let first_full = [0x04, 0x03, 0x10, 0x11, 0x70, 0x30];
+    let first_rounds = [0x04, 0x70, 0x30, 0x03, 0x10, 0x11];
     assert_eq!(
-        book(2, 2).set(0, 0, &first_rounds),
+        set_within(&mut book(2, 2), 0, 0, &first_full),
+        Err(Refusal::Full)
+    );
+    assert_eq!(
+        set_within(&mut book(2, 2), 0, 0, &first_rounds),
         Err(Refusal::RoundsUsedUp)
     );
-    assert_eq!(book(2, 2).set(0, 1, &first_full), Err(Refusal::Full));
-    assert_eq!(book(2, 2).set(0, 1, &first_rounds), Err(Refusal::Full));
     assert_eq!(
-        book(2, 3).set(0, 0, &first_full),
+        set_within(&mut book(2, 2), 0, 1, &first_full),
+        Err(Refusal::Full)
+    );
+    assert_eq!(
+        set_within(&mut book(2, 2), 0, 1, &first_rounds),
+        Err(Refusal::Full)
+    );
+    assert_eq!(
+        set_within(&mut book(2, 3), 0, 0, &first_full),
         Err(Refusal::RoundsUsedUp)
     );
-    assert!(book(2, 3).set(0, 1, &first_full).is_ok());
+    assert!(set_within(&mut book(2, 3), 0, 1, &first_full).is_ok());
 }
 
 #[test]
 fn eight_inside_the_round_comes_before_nine_of_the_next() {
-    let body = frame(&[0x70, 0x03, 0x10, 0x11]);
-    assert_eq!(book(2, 2).set(0, 1, &body), Err(Refusal::Full));
-    assert_eq!(book(2, 3).set(0, 1, &body), Err(Refusal::RoundsUsedUp));
-    assert_eq!(book(2, 3).set(0, 0, &body), Err(Refusal::RoundsUsedUp));
+    let body = [0x70, 0x03, 0x10, 0x11];
+    assert_eq!(set_within(&mut book(2, 2), 0, 1, &body), Err(Refusal::Full));
+    assert_eq!(
+        set_within(&mut book(2, 3), 0, 1, &body),
+        Err(Refusal::RoundsUsedUp)
+    );
+    assert_eq!(
+        set_within(&mut book(2, 3), 0, 0, &body),
+        Err(Refusal::RoundsUsedUp)
+    );
     // Round 2 begins with the current set x AND y live, two rows, then x: 3.
-    assert_eq!(book(2, 3).set(0, 2, &body).unwrap().rounds, 2);
+    assert_eq!(set_within(&mut book(2, 3), 0, 2, &body).unwrap().rounds, 2);
 }
 
 #[test]
 fn no_round_is_wanted_without_a_binder() {
-    assert!(book(1, 1).set(0, 0, &frame(&[0x10])).is_ok());
+    assert!(set_within(&mut book(1, 1), 0, 0, &[0x10]).is_ok());
     assert_eq!(
-        book(1, 1).set(0, 0, &frame(&[0x70, 0x30])),
+        set_within(&mut book(1, 1), 0, 0, &[0x70, 0x30]),
         Err(Refusal::RoundsUsedUp)
     );
 }
@@ -354,7 +368,7 @@ fn evaluation_by_rounds_gives_the_meaning_by_sets() {
             let body = draw(&mut random, n, size, &[], &[], 0);
             let formula = read(u32::from(n), Kind::Set, &frame(&body)).unwrap();
             let meaning = states_of(book.held(), &formula);
-            book.set(2, u32::MAX, &frame(&body)).unwrap();
+            set_within(&mut book, 2, u32::MAX, &body).unwrap();
             assert_eq!(book.registers()[2], Some(meaning), "{body:x?}");
         }
     }

@@ -3,82 +3,29 @@ use native.Mathlib.Omega.{arith}
 use Rattle.tokens.specs.declared.Kind.the-variants.{Set}
 use Rattle.soundness.specs.Says.{says-pass, says-fail}
 use Rattle.contract.specs.Checked.{call-unsound}
-use Rattle.formula_calls.specs.Refused.{checks-told, set-range, set-checked}
+use Rattle.formula_calls.specs.Refused.{test-fails, test-named, checks-told, set-range, set-unnamed, set-checked}
 use borrow.Author.Needs.{needs}
 use Rattle.formula_calls.proofs.set.Statement.{statement}
 use Rattle.formula_calls.proofs.set.Tie as tie
-
--- src/lib.rt:139:9
-sound-requires : tie.Need-sound-requires
-sound-requires c κs = search needs
-
--- src/lib.rt:140:9
-same-length : tie.Need-same-length
-same-length c = search needs
-
--- src/lib.rt:140:9
-returns : tie.Need-returns
-returns c = call-unsound _ (says-fail (c .if1 .taken) (c .before .sound .ensures)) _
-
--- src/lib.rt:143:9
-same-length-2 : tie.Need-same-length-2
-same-length-2 c = search needs
-
--- src/lib.rt:143:9
-returns-2 : tie.Need-returns-2
-returns-2 c = set-range _ (says-pass (c .before .if1 .left) (c .before .before .sound .ensures)) _ _ _ (c .if2 .taken)
-
--- src/lib.rt:145:9
-header-word-requires : tie.Need-header-word-requires
-header-word-requires c κs = let z = (says-pass (c .before .before .if1 .left) (c .before .before .before .sound .ensures)) .good .sizes in omega arith
-
--- src/lib.rt:146:11
-check-formula-requires : tie.Need-check-formula-requires
-check-formula-requires c κs = search needs
-
--- src/lib.rt:147:26
-enum-known-x : tie.Need-enum-known-x
-enum-known-x c = search needs
-
--- src/lib.rt:148:35
-enum-told : tie.Need-enum-told
-enum-told c = search needs
-
--- src/lib.rt:148:25
-set-steps-requires : tie.Need-set-steps-requires
-set-steps-requires c κs = record { sound = (says-pass (c .before .before .before .before .before .before .before .before .if1 .left) (c .before .before .before .before .before .before .before .before .before .sound .ensures)); range = c .before .before .before .before .before .before .before .if2 .left; passed = checks-told _ (says-pass (c .before .before .before .before .before .before .before .before .if1 .left) (c .before .before .before .before .before .before .before .before .before .sound .ensures)) Set _ (c .before .before .before .before .before .header-word .ensures) (c .before .before .before .check-formula .ensures) (c .before .enum-told .given .1) }
-
--- src/lib.rt:136:1
-same-length-3 : tie.Need-same-length-3
-same-length-3 c = search needs
-
--- src/lib.rt:136:1
-returns-3 : tie.Need-returns-3
-returns-3 c = set-checked _ (says-pass (c .before .before .before .before .before .before .before .before .if1 .left) (c .before .before .before .before .before .before .before .before .before .sound .ensures)) _ _ _ (c .before .x .given .0 .0) (c .before .before .before .before .before .before .before .if2 .left) (checks-told _ (says-pass (c .before .before .before .before .before .before .before .before .if1 .left) (c .before .before .before .before .before .before .before .before .before .sound .ensures)) Set _ (c .before .before .before .before .before .header-word .ensures) (c .before .before .before .check-formula .ensures) (c .before .x .given .1))
-
--- src/lib.rt:136:1
-same-length-4 : tie.Need-same-length-4
-same-length-4 c = search needs
-
--- src/lib.rt:136:1
-returns-4 : tie.Need-returns-4
-returns-4 c = search needs
 
 pub set-spec : {M : Type 1} → statement M
 set-spec =
     tie.close
     (tie.spec
-    sound-requires
-    same-length
-    returns
-    same-length-2
-    returns-2
-    header-word-requires
-    check-formula-requires
-    enum-known-x
-    enum-told
-    set-steps-requires
-    same-length-3
-    returns-3
-    same-length-4
-    returns-4)
+    (λ c κs. search needs)
+    (λ c. search needs)
+    (λ c. call-unsound _ (says-fail (c .if1 .taken) (c .before .sound .ensures)) _)
+    (λ c. search needs)
+    (λ c. set-range _ (says-pass (c .before .if1 .left) (c .before .before .sound .ensures)) _ _ _ _ (c .if2 .taken))
+    (λ c κs. search needs)
+    (λ c. search needs)
+    (λ c. set-unnamed _ (says-pass (c .before .before .before .if1 .left) (c .before .before .before .before .sound .ensures)) _ _ _ _ (c .before .before .if2 .left) (test-fails (c .if3 .taken) (c .before .is-named .ensures)))
+    (λ c κs. let z = (says-pass (c .before .before .before .before .if1 .left) (c .before .before .before .before .before .sound .ensures)) .good .sizes in omega arith)
+    (λ c κs. search needs)
+    (λ c. search needs)
+    (λ c. search needs)
+    (λ c κs. record { sound = says-pass (c .before .before .before .before .before .before .before .before .before .before .if1 .left) (c .before .before .before .before .before .before .before .before .before .before .before .sound .ensures); range = c .before .before .before .before .before .before .before .before .before .if2 .left; listed = test-named (c .before .before .before .before .before .before .before .if3 .left) (c .before .before .before .before .before .before .before .before .is-named .ensures); passed = checks-told _ (says-pass (c .before .before .before .before .before .before .before .before .before .before .if1 .left) (c .before .before .before .before .before .before .before .before .before .before .before .sound .ensures)) Set _ (c .before .before .before .before .before .header-word .ensures) (c .before .before .before .check-formula .ensures) (c .before .enum-told .given .1) })
+    (λ c. search needs)
+    (λ c. set-checked _ (says-pass (c .before .before .before .before .before .before .before .before .before .before .if1 .left) (c .before .before .before .before .before .before .before .before .before .before .before .sound .ensures)) _ _ _ _ (c .before .x .given .0 .0) (c .before .before .before .before .before .before .before .before .before .if2 .left) (test-named (c .before .before .before .before .before .before .before .if3 .left) (c .before .before .before .before .before .before .before .before .is-named .ensures)) (checks-told _ (says-pass (c .before .before .before .before .before .before .before .before .before .before .if1 .left) (c .before .before .before .before .before .before .before .before .before .before .before .sound .ensures)) Set _ (c .before .before .before .before .before .header-word .ensures) (c .before .before .before .check-formula .ensures) (c .before .x .given .1)))
+    (λ c. search needs)
+    (λ c. search needs))

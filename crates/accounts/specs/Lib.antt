@@ -1,0 +1,3 @@
+pub mod Account
+pub mod Listed
+pub mod Terms

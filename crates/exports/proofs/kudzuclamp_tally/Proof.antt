@@ -1,9 +1,0 @@
--- `kudzuclamp_tally` meets its contract, which is its call's over the numbers that `give` makes of the answer. Assumes nothing.
-use mathlib.Core.Path.{sym, subst}
-use Rattle.contract.specs.Posts.{AskPost}
-use borrow.Author.Needs.{needs}
-use Rattle.exports.proofs.kudzuclamp_tally.Statement.{statement}
-use Rattle.exports.proofs.kudzuclamp_tally.Tie as tie
-
-pub kudzuclamp-tally-spec : {M : Type 1} → statement M
-kudzuclamp-tally-spec = tie.close (tie.spec (λ c κs. search needs) (λ c κs. search needs) (λ c. subst (AskPost _ _) (sym (c .give .ensures)) (c .before .before .tally .ensures)))

@@ -1,0 +1,107 @@
+//! Accounts through the library: limits, tallies, and what a refusal leaves.
+use kudzuclamp::{words_for, Account, Formula, Refusal, Stored, Table, MAX_ACCOUNTS};
+
+/// n = 1 with relation 0 turning the bit over.
+fn turning(accounts: &mut [Account]) -> Table<Vec<u32>> {
+    let mut table = Table::new(accounts, 1, 100).unwrap();
+    let (now, next) = (Formula::current(0), Formula::next(0));
+    let turn = (next.clone() & !now.clone()) | (!next & now);
+    table.relation(0, turn).unwrap();
+    table
+}
+
+/// Takes three rounds and needs four rows.
+fn reach() -> Formula {
+    let step = Formula::diamond(0, Formula::var(0));
+    Formula::mu(0, Formula::current(0) | step)
+}
+
+#[test]
+fn rounds_go_to_the_account_that_is_named() {
+    let mut accounts = [Account::unlimited(); MAX_ACCOUNTS];
+    let mut table = turning(&mut accounts);
+    for place in 0..MAX_ACCOUNTS {
+        for _ in 0..=place {
+            let stored = table.set(&mut accounts, place, 0, 3, reach());
+            assert_eq!(stored, Ok(Stored { node: 1, rounds: 3 }));
+        }
+    }
+    let tallies = accounts.map(|account| account.tally);
+    assert_eq!(tallies, [3, 6, 9, 12, 15, 18, 21, 24]);
+    table.restart(&mut accounts, 1, 100).unwrap();
+    assert_eq!(accounts, [Account::unlimited(); MAX_ACCOUNTS]);
+}
+
+#[test]
+fn the_smaller_limits_hold() {
+    let mut accounts = [
+        Account::limited(4, 3),
+        Account::limited(3, 3),
+        Account::limited(4, 2),
+        Account::limited(0, 0),
+    ];
+    let mut table = turning(&mut accounts);
+    let before = accounts;
+    assert_eq!(
+        table.set(&mut accounts, 1, 0, 9, reach()),
+        Err(Refusal::Full)
+    );
+    assert_eq!(
+        table.set(&mut accounts, 2, 0, 9, reach()),
+        Err(Refusal::Spent)
+    );
+    assert_eq!(
+        table.set(&mut accounts, 0, 0, 2, reach()),
+        Err(Refusal::Spent)
+    );
+    assert_eq!(
+        table.set(&mut accounts, 3, 0, 9, Formula::current(0)),
+        Err(Refusal::Full)
+    );
+    assert_eq!(accounts, before);
+    assert!(table.set(&mut accounts, 3, 0, 0, Formula::always()).is_ok());
+    assert!(table.set(&mut accounts, 0, 0, 9, reach()).is_ok());
+    assert_eq!(accounts.map(|account| account.tally), [3, 0, 0, 0]);
+}
+
+#[test]
+fn lists_of_1_to_8_accounts() {
+    for count in 0..12 {
+        let mut accounts = vec![Account::limited(7, 7); count];
+        accounts.iter_mut().for_each(|account| account.tally = 5);
+        let before = accounts.clone();
+        let fits = (1..=MAX_ACCOUNTS).contains(&count);
+        let mut table = turning(&mut [Account::unlimited()]);
+        for place in 0..count + 2 {
+            let taken = fits && place < count;
+            let stored = table.set(&mut accounts, place, 0, 9, Formula::always());
+            assert_eq!(stored.is_ok(), taken, "{count} accounts, place {place}");
+            assert!(taken || stored == Err(Refusal::Unlisted));
+            assert_eq!(accounts, before);
+        }
+        let far = table.set(&mut accounts, usize::MAX, 0, 9, Formula::always());
+        assert_eq!(far, Err(Refusal::Unlisted));
+        let fresh = table.restart(&mut accounts, 1, 100);
+        assert_eq!(fresh.is_ok(), fits);
+        let tally = if fits { 0 } else { 5 };
+        assert!(accounts.iter().all(|account| account.tally == tally));
+    }
+}
+
+#[test]
+fn order_of_the_checks() {
+    let mut accounts = [Account::unlimited()];
+    let mut words = vec![0; words_for(10)];
+    let small = Table::fresh(&mut words[1..], &mut [], 1, 10).map(|_| ());
+    assert_eq!(small, Err(Refusal::Sizes));
+    let unlisted = Table::fresh(&mut words[..], &mut [], 1, 10).map(|_| ());
+    assert_eq!(unlisted, Err(Refusal::Unlisted));
+    assert_eq!(words, vec![0; words_for(10)]);
+
+    let mut table = turning(&mut accounts);
+    assert_eq!(table.set(&mut [], 0, 32, 0, []), Err(Refusal::Range));
+    assert_eq!(table.set(&mut [], 0, 31, 0, []), Err(Refusal::Unlisted));
+    assert_eq!(table.set(&mut accounts, 0, 31, 0, []), Err(Refusal::Syntax));
+    table.words_mut()[0] = 0;
+    assert_eq!(table.set(&mut [], 0, 32, 0, []), Err(Refusal::Unsound));
+}
