@@ -14,7 +14,7 @@ use Rattle.mucalculus.specs.Sets.{mem, true-of, and-in}
 use Rattle.mucalculus.specs.Order.{weight}
 use Rattle.mucalculus.specs.Form.{filled}
 use Rattle.diagram.specs.Level.{Val}
-use Rattle.diagram.specs.Rows.{Arrow, row, den}
+use Rattle.diagram.specs.Rows.{Arrow, den}
 use Rattle.diagram.specs.Den.{den-zero, den-one}
 use Rattle.diagram.specs.Canon.{canonical}
 use Rattle.diagram.specs.Keep.{keeps-reach-back, reach-within}
@@ -131,7 +131,7 @@ collect-used b {t} {u} {v} p q i = same (u .rows .used i) (v .rows .used i) (use
     uses : {u v : Table} {y z : Reply} → Serves b collect t u y → Serves b collect t v z → u .rows .used i ≡ true → v .rows .used i ≡ true
     uses {u} p q e =
         let old = roots-within u t (u .reg) (u .rel) (λ r a l h. sym (p .numbers r l) ∙ h) (λ r a l h. sym (p .rels r l refl) ∙ h) in
-        q .kept .used i (keeps-reach-back (p .kept) (reach-within (λ j. old (row j)) (p .swept i e)))
+        q .kept .used i (keeps-reach-back (p .kept) (reach-within (λ a j _. old a) (p .swept i e)))
 
     same : (x y : Bool) → (x ≡ true → y ≡ true) → (y ≡ true → x ≡ true) → x ≡ y
     same true y f g = sym (f refl)
