@@ -21,6 +21,8 @@ pub enum Refusal {
     Full = 8,
     /// "rounds used up"
     RoundsUsedUp = 9,
+    /// "a binder's variable occurs nowhere free in its body"
+    BindsNothing = 12,
 }
 
 impl Refusal {
