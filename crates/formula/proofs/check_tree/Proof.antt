@@ -13,7 +13,6 @@ use Rattle.formula.proofs.filled_at.Reads as filled-at-reads
 use Rattle.formula.proofs.mentioned_at.Reads as mentioned-at-reads
 use Rattle.formula.proofs.steady_at.Reads as steady-at-reads
 
-
 pub check-tree-spec : {M : Type 1} → statement M
 check-tree-spec =
     tie.close
