@@ -88,7 +88,7 @@ module _ (old new : List ℕ) (r : ℕ) (s : SoundWords old) (l : r < REGISTERS)
 
   kept : Kept (clear r) (plain 0) old new
   kept = record {
-    all = λ a b c. absurd (a refl);
+    all = λ a. absurd a;
     size = ap (λ (v : View). v .size) is;
     header = λ h _ c. ap (λ (v : View). v .header h) is ∙ other (tableOf old) r h (eqb-false h at (or-false (freeWord h) (eqb h at) c));
     spare = λ i _. ap (λ (v : View). v .cell i SPARE) is;
@@ -139,7 +139,7 @@ module _ (old new : List ℕ) (s : SoundWords old) {rows k : ℕ} (er : rows ≡
 
   kept-words : Kept collect (valued k) old new
   kept-words = let f = post .freed .frame in record {
-    all = λ a b c. absurd (a refl);
+    all = λ a. absurd a;
     size = f .size;
     header = λ h _ c. f .header h
         (λ e. true≢false (subst (λ (x : ℕ). changes collect (valued k) x ≡ false) e c))

@@ -1,4 +1,4 @@
--- Refusals by the checks before a call's steps meet its contract: 2 on words that are no sound table, 3 to 7 on a sound one; all words are
+-- Refusals by the checks before a call's steps meet its contract: 2 on words that are no sound table, 3 to 7, 12 and 14 on a sound one; all words are
 -- kept. Assumes nothing.
 use mathlib.Core.Path.{_≡_, refl}
 use mathlib.Core.List.{List}
@@ -26,7 +26,7 @@ module _ (ws : List ℕ) (n : SoundWords ws → ⊥) where
 
 -- a refusal that keeps all words
 pub kept-refused : (c : Call) (k : ℕ) (ws : List ℕ) → Kept c (plain (suc k)) ws ws
-kept-refused c k ws = record { all = λ _ _ _. refl; size = refl; header = λ h l e. refl; spare = λ i l. refl; beyond = λ p l. refl; exact = exact c }
+kept-refused c k ws = record { all = λ _. refl; size = refl; header = λ h l e. refl; spare = λ i l. refl; beyond = λ p l. refl; exact = exact c }
   where
     exact : (c : Call) → Exact c (plain (suc k)) ws ws
     exact (relation t bs) = tt
@@ -35,7 +35,7 @@ kept-refused c k ws = record { all = λ _ _ _. refl; size = refl; header = λ h 
     exact collect = tt
 
 module _ (ws : List ℕ) (s : SoundWords ws) (k : ℕ) where
-  -- CHECKS 3 TO 7, AND 14: the book refuses with the number
+  -- CHECKS 3 TO 7, 12 AND 14: the book refuses with the number
   pub call-refused : (c : Call) → does (bookOf (seen ws)) c ≡ refuse (bookOf (seen ws)) (suc k) → CallPost c ws ws (plain (suc k))
   call-refused c e = record {
     performs = record { unsound = λ n. absurd (n s); served = λ _. (s, refusal-serves (bookOf (seen ws)) (seen ws) c k (sound-shows-book ws s) e) };

@@ -1,12 +1,12 @@
 -- "Kept": what a call leaves of the lent words, by its number. The parts that it does not name are those that document 01 frees in a sound
 -- table: unneeded rows, the index (list of used rows, chains, how many are used, where a search starts) and remembered results. Assumes nothing.
 use mathlib.Core.Path.{_≡_}
-use mathlib.Core.Logic.{_≢_}
 use mathlib.Core.Bool.{Bool, false, _&&_, _||_}
 use mathlib.Core.List.{List}
 use Prim.Native.Nat.{ℕ, _+_, _≤_, _<_}
-use lib.Dec.{eqb}
+use lib.Dec.{T, eqb}
 use lib.ListN.{length, getD, set}
+use Rattle.layout.specs.Refusals.{keepsAll}
 use Rattle.layout.specs.Places.{HEADER, ROWS, USED, CURSOR, SLOTS, STORED, SPARE, FIRST-REGISTER, FIRST-RELATION, wordsFor}
 use Rattle.layout.specs.View.{headerOf, cellOf}
 use Rattle.book.specs.Book.{Call, relation, set as setCall, clear, collect}
@@ -35,8 +35,8 @@ Exact (clear r) y old new = y .number ≡ 0 → new ≡ set old (FIRST-REGISTER 
 Exact collect y old new = Unit {0}
 
 pub record Kept (c : Call) (y : Reply) (old new : List ℕ) : Type 0 where
-  -- every refusal but 8 and 9: "all words"
-  pub all : y .number ≢ 0 → y .number ≢ 8 → y .number ≢ 9 → new ≡ old
+  -- "all words"
+  pub all : T (keepsAll (y .number)) → new ≡ old
   -- 8, 9 and an answer: the slice is as long, and n, N, registers, relations and every unused header word are as they were, but for the target
   pub size : length new ≡ length old
   pub header : (h : ℕ) → h < HEADER → changes c y h ≡ false → headerOf new h ≡ headerOf old h

@@ -5,7 +5,7 @@ use lib.ListN.{length}
 use Prim.Native.Nat.{ℕ, zero, suc}
 use Rattle.layout.specs.Refusals.{refusalNumber}
 use Rattle.layout.specs.declared.Refusal.{Refusal}
-use Rattle.layout.specs.declared.Refusal.the-variants.{Sizes, Unsound, Range, Syntax, Unbound, Odd, Empty, Full, Spent, Unlisted}
+use Rattle.layout.specs.declared.Refusal.the-variants.{Sizes, Unsound, Range, Syntax, Unbound, Vacuous, Odd, Empty, Full, Spent, Unlisted}
 use Rattle.accounts.specs.declared.Account.{Account}
 use Rattle.book.specs.Table.{Reply}
 use Rattle.book.specs.Tallies.{freshened}
@@ -35,6 +35,7 @@ left-refused n N old new e is same = subst (FreshLeft n N old new) (sym is) (at 
     at Range = same
     at Syntax = same
     at Unbound = same
+    at Vacuous = same
     at Odd = same
     at Empty = same
     at Full = same

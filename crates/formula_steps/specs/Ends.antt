@@ -1,7 +1,6 @@
 -- SET and RELATION after their steps: what the evaluator left, an arrow stored, a collection afterwards. Assumes nothing.
 use mathlib.Core.Path.{_≡_, refl, ap, _∙_}
 use mathlib.Core.Bool.{true, cond}
-use mathlib.Core.Logic.{_≢_}
 use mathlib.Core.List.{List}
 use mathlib.Core.Option.{Option, some}
 use Prim.Native.Nat.{ℕ, suc, _+_, _≤_, _<_}
@@ -12,6 +11,7 @@ use Rattle.accounts.specs.Terms.{named, rowsUnder, roundsUnder}
 use borrow.Author.Tests.{eq-eqb}
 use Rattle.mucalculus.specs.Form.{noEnv, put}
 use Rattle.tokens.specs.declared.Kind.the-variants.{Relation, Set}
+use Rattle.layout.specs.Refusals.{keepsAll}
 use Rattle.layout.specs.Places.{REGISTERS, RELATIONS, ROWS, FIRST-REGISTER, FIRST-RELATION}
 use Rattle.layout.specs.View.{View, view, headerOf}
 use Rattle.diagram.specs.Post.{Result, at, full as noRows}
@@ -64,7 +64,7 @@ pub through-sound : {old : List ℕ} {c : Call} {y : Reply} {Y : View} → Throu
 through-sound {Y = Y} p = table-sound Y (p .good) (sound-shows _ (seenIn Y) (p .serves .shows))
 
 -- and with it
-pub through-done : {old : List ℕ} {c : Call} {y : Reply} {Y : View} → SoundWords old → takesFormula c → (y .number ≢ 0 → y .number ≢ 8 → y .number ≢ 9 → ⊥) → Through old c y Y → {Z : View} → Tidied Y Z
+pub through-done : {old : List ℕ} {c : Call} {y : Reply} {Y : View} → SoundWords old → takesFormula c → (T (keepsAll (y .number)) → ⊥) → Through old c y Y → {Z : View} → Tidied Y Z
     → {new : List ℕ} → view (headerOf old ROWS) new ≡ Z → CallPost c old new y
 through-done {old} {c} {y} s k late p {Z} t {new} is =
     let d = tidied-served (bookOf (seen old)) c (seen old) y (p .good) t (p .serves) in formula-done c y old new k late s Z is (d .0) (tidied-left c y t (p .left)) (d .1)

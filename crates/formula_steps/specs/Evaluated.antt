@@ -7,10 +7,11 @@ use mathlib.Core.List.{List}
 use mathlib.Core.Option.{some}
 use Prim.Native.Nat.{ℕ, suc, _+_, _≤_, _<_}
 use native.Mathlib.Omega.{arith}
-use lib.Dec.{eqb}
+use lib.Dec.{T, eqb}
 use borrow.Author.Tests.{ne-eqb, eq-eqb, eqb-true, eqb-false}
 use Rattle.mucalculus.specs.Form.{put}
 use Rattle.diagram.specs.Collect.{Collects}
+use Rattle.layout.specs.Refusals.{keepsAll}
 use Rattle.layout.specs.Places.{REGISTERS, RELATIONS, BITS, ROWS, USED, CURSOR, SLOTS, STORED, SPARE, FIRST-REGISTER, FIRST-RELATION}
 use Rattle.layout.specs.View.{View, view, headerOf, putHeader}
 use Rattle.layout.specs.Same.{same-beyond}
@@ -202,7 +203,7 @@ exact-of (clear r) y old new k = absurd k
 exact-of collect y old new k = absurd k
 
 -- SET OR RELATION after its checks: the words `new` hold a table that serves the book, and no word changed that must not
-pub formula-done : (c : Call) (y : Reply) (old new : List ℕ) → takesFormula c → (y .number ≢ 0 → y .number ≢ 8 → y .number ≢ 9 → ⊥) → SoundWords old
+pub formula-done : (c : Call) (y : Reply) (old new : List ℕ) → takesFormula c → (T (keepsAll (y .number)) → ⊥) → SoundWords old
     → (Z : View) → view (headerOf old ROWS) new ≡ Z → Good Z → Left c y (tableOf old) Z → Serves (bookOf (seen old)) c (seen old) (seenIn Z) y → CallPost c old new y
 formula-done c y old new k late s Z is g l d = record {
   performs = record {
@@ -210,7 +211,7 @@ formula-done c y old new k late s Z is g l d = record {
     served = λ _. (subst Sound (sym table) (table-sound Z g (sound-shows _ (seenIn Z) (d .shows))), subst (λ (v : View). Serves (bookOf (seen old)) c (seen old) (seenIn v) y) (sym table) d);
   };
   kept = λ _. record {
-    all = λ a b c. absurd (late a b c);
+    all = λ a. absurd (late a);
     size = ap (λ (v : View). v .size) is ∙ l .size;
     header = λ h _ e. ap (λ (v : View). v .header h) is ∙ l .header h e;
     spare = λ i _. ap (λ (v : View). v .cell i SPARE) is ∙ l .spare i;

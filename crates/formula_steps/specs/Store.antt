@@ -1,6 +1,5 @@
 -- What set and relation store of an evaluation, and what they answer. Assumes nothing.
 use mathlib.Core.Path.{_≡_, refl, sym, ap, _∙_, subst}
-use mathlib.Core.Logic.{_≢_}
 use mathlib.Core.List.{List}
 use Prim.Native.Nat.{ℕ, zero, suc, _+_, _≤_, _<_}
 use native.Mathlib.Omega.{arith}
@@ -8,6 +7,7 @@ use lib.Dec.{T}
 use lib.ListN.{length}
 use Rattle.accounts.specs.declared.Terms.{Terms}
 use Rattle.accounts.specs.Terms.{named, rowsUnder, roundsUnder}
+use Rattle.layout.specs.Refusals.{keepsAll}
 use Rattle.layout.specs.Places.{REGISTERS, RELATIONS, MAX-ROWS, BITS, ROWS, wordsFor, FIRST-REGISTER, FIRST-RELATION}
 use Rattle.layout.specs.View.{View, view, headerOf, putHeader}
 use Rattle.layout.specs.declared.Refusal.the-variants as refusal
@@ -68,14 +68,14 @@ relationLoaded X t (made.At a) = relationStored X t a
 relationLoaded X t made.Full = X
 
 -- neither ends in one of the checks' numbers
-stored-late : (y : Evaluated) → storedReply (storedOf y) .number ≢ 0 → storedReply (storedOf y) .number ≢ 8 → storedReply (storedOf y) .number ≢ 9 → ⊥
-stored-late (Value a k q) i j m = i refl
-stored-late Full i j m = j refl
-stored-late Spent i j m = m refl
+stored-late : (y : Evaluated) → T (keepsAll (storedReply (storedOf y) .number)) → ⊥
+stored-late (Value a k q) h = h
+stored-late Full h = h
+stored-late Spent h = h
 
-pub loaded-late : (y : Made) → loadedReply (loadedOf y) .number ≢ 0 → loadedReply (loadedOf y) .number ≢ 8 → loadedReply (loadedOf y) .number ≢ 9 → ⊥
-loaded-late (made.At a) i j m = i refl
-loaded-late made.Full i j m = j refl
+pub loaded-late : (y : Made) → T (keepsAll (loadedReply (loadedOf y) .number)) → ⊥
+loaded-late (made.At a) h = h
+loaded-late made.Full h = h
 
 -- ---- the steps of `store_set` and `store_relation`
 

@@ -1,8 +1,10 @@
 -- Document 01's table of causes. Assumes nothing.
 use Prim.Native.Nat.{ℕ, _≤_}
 use native.Mathlib.Omega.{arith}
+use mathlib.Core.Bool.{Bool, _&&_, _||_}
+use lib.Dec.{leb}
 use Rattle.layout.specs.declared.Refusal.{Refusal}
-use Rattle.layout.specs.declared.Refusal.the-variants.{Sizes, Unsound, Range, Syntax, Unbound, Odd, Empty, Full, Spent, Unlisted}
+use Rattle.layout.specs.declared.Refusal.the-variants.{Sizes, Unsound, Range, Syntax, Unbound, Vacuous, Odd, Empty, Full, Spent, Unlisted}
 
 abbrev pub refusalNumber : Refusal → ℕ
 -- "fresh: n, N or slice length"
@@ -15,6 +17,8 @@ refusalNumber Range = 3
 refusalNumber Syntax = 4
 -- "variable unbound, or bound inside itself"
 refusalNumber Unbound = 5
+-- "a binder's variable occurs nowhere free in its body"
+refusalNumber Vacuous = 12
 -- "variable read odd"
 refusalNumber Odd = 6
 -- "register or relation named is empty"
@@ -26,6 +30,10 @@ refusalNumber Spent = 9
 -- "the list is not 1 to 8 long or has no account at that place"
 refusalNumber Unlisted = 14
 
+-- "Kept: all words": 1 to 7, and of the later requests 12, 13 and 14
+abbrev pub keepsAll : ℕ → Bool
+keepsAll k = (leb 1 k && leb k 7) || (leb 12 k && leb k 14)
+
 -- no refusal has the number of an answer
 pub refusal-some : (x : Refusal) → 1 ≤ refusalNumber x
 refusal-some Sizes = omega arith
@@ -33,6 +41,7 @@ refusal-some Unsound = omega arith
 refusal-some Range = omega arith
 refusal-some Syntax = omega arith
 refusal-some Unbound = omega arith
+refusal-some Vacuous = omega arith
 refusal-some Odd = omega arith
 refusal-some Empty = omega arith
 refusal-some Full = omega arith

@@ -103,7 +103,7 @@ module _ (old : List ℕ) (s : SoundWords old) where
 
     pub noPairs-done : CallPost (relation t noPairs) old (write old (FIRST-RELATION + t) 1) (plain 0)
     noPairs-done =
-        through-done s tt (λ a c e. a refl)
+        through-done s tt (λ a. a)
         (relation-value old s (tableOf old) (s .good) (op-refl (tableOf old)) t noPairs l (noPairs-passes (b .n) (regFilled b) (relFilled b)) 0
         (subst Loads (noPairs-form (b .n)) (pair-none (b .n) (b .N) held (b .N) (s .good .rows))))
         (as-it-was refl)
@@ -127,7 +127,7 @@ module _ (old : List ℕ) (s : SoundWords old) where
       -- one round: node number 0 or 1
       pub self-done : 0 < R → CallPost (set alone r R (self d)) old (storedIn old r (startArrow d)) (setReply (ends (startArrow d) 1))
       self-done i =
-          through-done s tt (λ a c e. a refl)
+          through-done s tt (λ a. a)
           (set-value old s (tableOf old) (s .good) (op-refl (tableOf old)) alone r R (self d) l tt (self-passes d (b .n) (regFilled b) (relFilled b)) (startArrow d) 1
           (subst (Ends (ends (startArrow d) 1)) (self-form d (b .n)) (unlimited (ends (startArrow d) 1) (bind d 0 (var 0)) (self-ends (modelOf b) (b .N) R noEnv (liveOf b) 0 (s .good .rows) held d i))))
           (as-it-was refl)
@@ -136,7 +136,7 @@ module _ (old : List ℕ) (s : SoundWords old) where
       -- no round is allowed
       pub self-refused : R ≡ 0 → CallPost (set alone r R (self d)) old old (plain 9)
       self-refused z =
-          through-done s tt (λ a c e. e refl)
+          through-done s tt (λ a. a)
           (set-spent old s (tableOf old) (s .good) (op-refl (tableOf old)) alone r R (self d) l tt (self-passes d (b .n) (regFilled b) (relFilled b))
           (subst (Ends nine) (self-form d (b .n)) (unlimited nine (bind d 0 (var 0)) (self-spent (modelOf b) (b .N) R noEnv (liveOf b) 0 (s .good .rows) held d z))))
           (as-it-was refl) refl
