@@ -113,7 +113,7 @@ impl Formula {
     /// none. The formula's version is 2, and only set calls take it.
     ///
     /// ```
-    /// use kudzuclamp::{Formula, Refusal, Table};
+    /// use kudzuclamp::{Account, Formula, Refusal, Table};
     ///
     /// # fn main() -> Result<(), Refusal> {
     /// // Presses can keep bit 1 set until bit 0 is set.
@@ -121,9 +121,10 @@ impl Formula {
     /// assert_eq!(until.as_bytes(), [0x00, 0x04, 0x02, 0x90, 0x11, 0x10]);
     ///
     /// // A press may lead from any state to any: from 1 and 3 at once, from 2 by one press.
-    /// let mut room = Table::new(2, 100)?;
+    /// let mut accounts = [Account::unlimited()];
+    /// let mut room = Table::new(&mut accounts, 2, 100)?;
     /// room.relation(0, Formula::always())?;
-    /// room.set(0, 5, until.clone())?;
+    /// room.set(&mut accounts, 0, 0, 5, until.clone())?;
     /// assert_eq!((room.count(0)?, room.member(0, 2)?), (3, true));
     /// // Relation calls refuse version 2.
     /// assert_eq!(room.relation(1, until), Err(Refusal::Syntax));
@@ -139,19 +140,20 @@ impl Formula {
     /// comes to g, or never comes there, does not do.
     ///
     /// ```
-    /// use kudzuclamp::{Formula, Refusal, Table};
+    /// use kudzuclamp::{Account, Formula, Refusal, Table};
     ///
     /// # fn main() -> Result<(), Refusal> {
     /// // Bit 0 is "microphone open", bit 1 is "song runs". The one press starts the song, which
     /// // opens the microphone; a running song runs on for good.
     /// let (open, song) = (Formula::current(0), Formula::current(1));
-    /// let mut room = Table::new(2, 100)?;
+    /// let mut accounts = [Account::unlimited()];
+    /// let mut room = Table::new(&mut accounts, 2, 100)?;
     /// room.relation(0, Formula::next(0) & Formula::next(1))?;
     ///
     /// // The microphone stays closed until the song starts.
     /// let until = Formula::until_every(0, !open, song);
     /// assert_eq!(until.as_bytes(), [0x00, 0x05, 0x02, 0x98, 0x02, 0x10, 0x11]);
-    /// room.set(0, 5, until)?;
+    /// room.set(&mut accounts, 0, 0, 5, until)?;
     /// assert!(room.member(0, 0)? && !room.member(0, 1)?);
     /// # Ok(())
     /// # }
