@@ -17,9 +17,9 @@
  * account's answered sets since fresh. Where nothing is to be limited, one account whose limits are UINT32_MAX is enough.
  *
  * REFUSALS. Each function returns 0 where it answers, else the number of its refusal. Checks 1 to 7 run in the order of their numbers, 4 to 7
- * each over the whole formula; KUDZUCLAMP_UNLISTED (14) is checked directly after 3, in fresh after 1. Of 8 and 9 the one that evaluation meets
- * first is returned. A refused call writes 0 into every answer, and no refusal changes an account. KUDZUCLAMP_FULL and KUDZUCLAMP_SPENT keep
- * registers, relations and the rows that these need; every other refusal keeps all words.
+ * each over the whole formula, and KUDZUCLAMP_VACUOUS (12) so directly after 5; KUDZUCLAMP_UNLISTED (14) is checked directly after 3, in fresh
+ * after 1. Of 8 and 9 the one that evaluation meets first is returned. A refused call writes 0 into every answer, and no refusal changes an
+ * account. KUDZUCLAMP_FULL and KUDZUCLAMP_SPENT keep registers, relations and the rows that these need; every other refusal keeps all words.
  *
  * STACK. A call takes less than 160 KB of it, and more than 80 KB only on words whose lookup chains are longer than 32 rows (counted on the
  * compiled code, not proved).
@@ -73,6 +73,7 @@ enum kudzuclamp_number {
     KUDZUCLAMP_EMPTY = 7,     /* a register or relation named is empty */
     KUDZUCLAMP_FULL = 8,      /* a step needs more rows than N, or than the account's row limit */
     KUDZUCLAMP_SPENT = 9,     /* the rounds are used up: R's, or the account's */
+    KUDZUCLAMP_VACUOUS = 12,  /* a binder's variable occurs nowhere free in its body */
     KUDZUCLAMP_UNLISTED = 14  /* the list is not 1 to 8 accounts long, or has no account at that place */
 };
 
@@ -95,7 +96,7 @@ enum kudzuclamp_number {
  *   98 + t f g      until, version 2 only: every run of relation t passes
  *
  * The numbers before + are hexadecimal. Relation calls take 00 to 04, current bits and next bits only. Each variable is read below an even number
- * of NOTs, counted from its binder.
+ * of NOTs, counted from its binder, and each binder's variable stands somewhere in its body.
  *
  * UNTIL. A run from a state is a list of states that begins with it, each a next state of the one before; it has 2^n steps, or fewer and ends where
  * no next state exists. It passes where g holds somewhere on it, and f everywhere before the first such place; f need not hold at that place. So
@@ -120,7 +121,7 @@ uint32_t kudzuclamp_relation(uint32_t *words, size_t words_len, uint32_t t, cons
  * accounts_len - 1), whose tally grows by the rounds made. Each evaluation of a binder's body is one round, and so is one of until's f and g; a
  * round beyond `most` (R) or beyond the account's round limit is refused. With one binder or until in the formula 2^n + 1 rounds are enough.
  * *node is the set's node number: two registers hold the same set exactly where their node numbers are equal; 0 is no state, 1 is every state.
- * *rounds is how many rounds were made. It returns 0, 2 to 9 or KUDZUCLAMP_UNLISTED.
+ * *rounds is how many rounds were made. It returns 0, 2 to 9, KUDZUCLAMP_VACUOUS or KUDZUCLAMP_UNLISTED.
  */
 uint32_t kudzuclamp_set(uint32_t *words, size_t words_len, struct kudzuclamp_account *accounts, size_t accounts_len, uint32_t place, uint32_t r,
                         uint32_t most, const uint8_t *bytes, size_t bytes_len, uint32_t *node, uint32_t *rounds);
@@ -152,7 +153,7 @@ uint32_t kudzuclamp_count(const uint32_t *words, size_t words_len, uint32_t r, u
 
 /*
  * Checks formula bytes for a set call, or for a relation call where `relation` is not 0, and takes no step. It returns 2, or the number of 4 to 7
- * that the call's own checks of the formula give, or 0.
+ * or 12 that the call's own checks of the formula give, or 0.
  */
 uint32_t kudzuclamp_check(const uint32_t *words, size_t words_len, uint32_t relation, const uint8_t *bytes, size_t bytes_len);
 

@@ -96,12 +96,14 @@ impl Formula {
         Formula::operator(numbered(token::DIAMOND, RELATIONS, t), &[f])
     }
 
-    /// The least set A that equals the formula with A as variable P.
+    /// The least set A that equals the formula with A as variable P, which stands somewhere in it:
+    /// else the call is refused with [`Refusal::Vacuous`](crate::Refusal::Vacuous).
     pub fn mu(p: u8, f: Formula) -> Formula {
         Formula::operator(numbered(token::MU, VARIABLES, p), &[f])
     }
 
-    /// The greatest set A that equals the formula with A as variable P.
+    /// The greatest set A that equals the formula with A as variable P, as for
+    /// [`mu`](Formula::mu).
     pub fn nu(p: u8, f: Formula) -> Formula {
         Formula::operator(numbered(token::NU, VARIABLES, p), &[f])
     }

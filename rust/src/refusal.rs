@@ -33,6 +33,8 @@ pub enum Refusal {
     Full = 8,
     /// 9: the rounds are used up: those of the call, or those of the account.
     Spent = 9,
+    /// 12: a binder's variable occurs nowhere free in its body. Checked directly after 5.
+    Vacuous = 12,
     /// 14: the list is not 1 to 8 accounts long, or has no account at the place named. Checked
     /// directly after 3, in fresh after 1.
     Unlisted = 14,
@@ -40,7 +42,7 @@ pub enum Refusal {
 
 impl Refusal {
     /// All refusals, in the order of their numbers.
-    pub const ALL: [Refusal; 10] = [
+    pub const ALL: [Refusal; 11] = [
         Refusal::Sizes,
         Refusal::Unsound,
         Refusal::Range,
@@ -50,10 +52,11 @@ impl Refusal {
         Refusal::Empty,
         Refusal::Full,
         Refusal::Spent,
+        Refusal::Vacuous,
         Refusal::Unlisted,
     ];
 
-    /// The number, 1 to 9 or 14.
+    /// The number, 1 to 9, 12 or 14.
     pub const fn number(self) -> u32 {
         self as u32
     }
@@ -87,6 +90,7 @@ impl fmt::Display for Refusal {
             Refusal::Empty => "a register or relation named is empty",
             Refusal::Full => "a step needs more rows than the table has or the account may use",
             Refusal::Spent => "the rounds are used up",
+            Refusal::Vacuous => "a binder's variable occurs nowhere free in its body",
             Refusal::Unlisted => {
                 "the list is not 1 to 8 accounts long, or has no account at that place"
             }
@@ -101,9 +105,9 @@ mod tests {
     use super::Refusal;
 
     #[test]
-    fn numbers_are_one_to_nine_and_fourteen() {
+    fn numbers_are_those_of_the_header() {
         let numbers = Refusal::ALL.map(Refusal::number);
-        assert_eq!(numbers, [1, 2, 3, 4, 5, 6, 7, 8, 9, 14]);
+        assert_eq!(numbers, [1, 2, 3, 4, 5, 6, 7, 8, 9, 12, 14]);
         for number in 0..20 {
             let refusal = Refusal::from_number(number);
             assert_eq!(refusal.is_some(), numbers.contains(&number));

@@ -211,8 +211,8 @@ impl<W: AsRef<[u32]>> Table<W> {
         abi::count(self.words.as_ref(), r)
     }
 
-    /// The checks that a set call makes of its formula, [`Refusal::Syntax`] to [`Refusal::Empty`];
-    /// no step is taken.
+    /// The checks that a set call makes of its formula, [`Refusal::Syntax`] to [`Refusal::Empty`] and
+    /// [`Refusal::Vacuous`]; no step is taken.
     ///
     /// ```
     /// use kudzuclamp::{Account, Formula, Refusal, Table};

@@ -203,7 +203,10 @@ fn until() {
     let some = Formula::until_some(0, all(), open.clone());
     assert_eq!(set(&mut t, 0, 3, some), set(&mut t, 1, 3, reach()));
     let every = || Formula::until_every(0, all(), Formula::current(0));
-    assert_eq!(set(&mut t, 2, 3, every()), Ok(Stored { node: 1, rounds: 3 }));
+    assert_eq!(
+        set(&mut t, 2, 3, every()),
+        Ok(Stored { node: 1, rounds: 3 })
+    );
     assert_eq!(set(&mut t, 2, 2, every()), Err(Refusal::Spent));
     // The inner nu has its own rounds in each round: two rounds of each.
     t.relation(3, Formula::never()).unwrap();

@@ -83,6 +83,10 @@ cases =
           ∷ told (member 0 1) (answered (some 1))
           ∷ did collect (answered (some 2)) ∷ [];
     }
+    -- binders that bind nothing: 12, after 5 and before 6 and 7
+    ∷ refuses (0x70 ∷ 0x01 ∷ []) 12
+    ∷ refuses (0x03 ∷ 0x70 ∷ 0x01 ∷ 0x31 ∷ []) 5
+    ∷ refuses (0x03 ∷ 0x70 ∷ 0x02 ∷ 0x30 ∷ 0x71 ∷ 0x40 ∷ []) 12
     -- an account's smaller limits: 2 rows and 2 rounds are too few where 3 are enough
     ∷ record { n = 2; N = 100; lines = did (set (under 1 0 2 100) 0 100 (frame (0x03 ∷ 0x10 ∷ 0x11 ∷ []))) (refused 8) ∷ did (set (under 2 1 3 100) 0 100 (frame (0x03 ∷ 0x10 ∷ 0x11 ∷ []))) (made 0 none) ∷ [] }
     ∷ record { n = 1; N = 100; lines = loaded flip ∷ did (set (under 1 0 100 2) 0 100 (frame reach)) (refused 9) ∷ did (set (under 8 7 100 3) 0 100 (frame reach)) (made 3 (some 1)) ∷ [] }

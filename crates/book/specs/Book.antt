@@ -90,7 +90,7 @@ regFilled b r = ltb r registers && filled (b .reg r)
 abbrev pub relFilled : Book → ℕ → Bool
 relFilled b t = ltb t relations && filled (b .rel t)
 
--- the number of checks 4 to 7 on a call's formula bytes, 0 where they pass
+-- the number of checks 4 to 7 and 12 on a call's formula bytes, 0 where they pass
 abbrev pub checks : Book → Kind → List ℕ → ℕ
 checks b k bs = firstRefusal k (b .n) (regFilled b) (relFilled b) bs
 
@@ -147,7 +147,7 @@ abbrev pub passing : Book → ℕ → Done → Done
 passing b zero go = go
 passing b (suc k) go = refuse b (suc k)
 
--- checks 4 to 7 over the whole formula, then its steps
+-- checks 4, 5, 12, 6 and 7 over the whole formula, then its steps
 abbrev pub formulaCall : Book → Kind → List ℕ → (Form → Done) → Done
 formulaCall b k bs go = let d = go (formulaIn b k bs) in passing b (checks b k bs) d
 

@@ -1,4 +1,4 @@
--- The effect of each call by the outcome of its checks: 3 out of range, then 4 to 7, then the steps. Assumes nothing.
+-- The effect of each call by the outcome of its checks: 3 out of range, then 4, 5, 12, 6 and 7, then the steps. Assumes nothing.
 use mathlib.Core.Path.{_≡_, ap, _∙_}
 use mathlib.Core.Bool.{Bool, false, cond}
 use mathlib.Core.List.{List}

@@ -9,7 +9,7 @@ use native.Mathlib.Omega.{arith}
 use native.Mathlib.Nat.{lt-of-not-le}
 use lib.Dec.{T, ltb, ltb→lt, lt→ltb, eqb, eqb→eq}
 use lib.ListN.{length}
-use Rattle.mucalculus.specs.Form.{Form, bound, noneOpen, steady, Pairs, noEnv, put}
+use Rattle.mucalculus.specs.Form.{Form, bound, noneOpen, mentioned, steady, Pairs, noEnv, put}
 use Rattle.mucalculus.specs.Means.{means, meansPair, holds, length-means}
 use Rattle.mucalculus.specs.Rounds.{rounds}
 use Rattle.tokens.specs.declared.Kind.{Kind}
@@ -25,49 +25,54 @@ use Rattle.book.specs.Book.{formulaIn, Book, fresh, Call, relation, set,
 
 -- ---- the checks
 
--- what checks 4 to 7 give where none refuses
+-- what checks 4 to 7 and 12 give where none refuses
 pub record Passed (b : Book) (c : Kind) (bs : List ℕ) : Type 0 where
   pub isRead : T (isFormula (formulaOf c (b .n) bs))
   pub isBound : T (bound noneOpen (formulaIn b c bs))
+  pub isMentioned : T (mentioned (formulaIn b c bs))
   pub isSteady : T (steady (formulaIn b c bs))
   pub isFilled : T (filled (regFilled b) (relFilled b) (formulaIn b c bs))
 
--- the first refusal by the four tests
-tested : Bool → Bool → Bool → Bool → ℕ
-tested w x y z = firstOf ((w, 4) ∷ (x, 5) ∷ (y, 6) ∷ (z, 7) ∷ [])
+-- the first refusal by the five tests
+tested : Bool → Bool → Bool → Bool → Bool → ℕ
+tested w x u y z = firstOf ((w, 4) ∷ (x, 5) ∷ (u, 12) ∷ (y, 6) ∷ (z, 7) ∷ [])
 
-tested-all : (w x y z : Bool) → tested w x y z ≡ 0 → T w × T x × T y × T z
+tested-all : (w x u y z : Bool) → tested w x u y z ≡ 0 → T w × T x × T u × T y × T z
 unfolding tested
-tested-all true true true true i = (tt, tt, tt, tt)
-tested-all true true true false i = absurd (omega arith)
-tested-all true true false z i = absurd (omega arith)
-tested-all true false y z i = absurd (omega arith)
-tested-all false x y z i = absurd (omega arith)
+tested-all true true true true true i = (tt, tt, tt, tt, tt)
+tested-all true true true true false i = absurd (omega arith)
+tested-all true true true false z i = absurd (omega arith)
+tested-all true true false y z i = absurd (omega arith)
+tested-all true false u y z i = absurd (omega arith)
+tested-all false x u y z i = absurd (omega arith)
 
-tested-range : (k : ℕ) (w x y z : Bool) → tested w x y z ≡ suc k → (3 ≤ k) × (k ≤ 6)
+tested-range : (k : ℕ) (w x u y z : Bool) → tested w x u y z ≡ suc k → (3 ≤ k) × (k ≤ 11)
 unfolding tested
-tested-range k true true true true i = absurd (omega arith)
-tested-range k true true true false i = (omega arith, omega arith)
-tested-range k true true false z i = (omega arith, omega arith)
-tested-range k true false y z i = (omega arith, omega arith)
-tested-range k false x y z i = (omega arith, omega arith)
+tested-range k true true true true true i = absurd (omega arith)
+tested-range k true true true true false i = (omega arith, omega arith)
+tested-range k true true true false z i = (omega arith, omega arith)
+tested-range k true true false y z i = (omega arith, omega arith)
+tested-range k true false u y z i = (omega arith, omega arith)
+tested-range k false x u y z i = (omega arith, omega arith)
 
 module _ (b : Book) (c : Kind) (bs : List ℕ) where
-  number-is : checks b c bs ≡ tested (isFormula (formulaOf c (b .n) bs)) (bound noneOpen (formulaIn b c bs)) (steady (formulaIn b c bs)) (filled (regFilled b) (relFilled b) (formulaIn b c bs))
+  number-is : checks b c bs
+      ≡ tested (isFormula (formulaOf c (b .n) bs)) (bound noneOpen (formulaIn b c bs)) (mentioned (formulaIn b c bs)) (steady (formulaIn b c bs)) (filled (regFilled b) (relFilled b) (formulaIn b c bs))
   unfolding firstRefusal tested
   number-is = refl
 
   pub checks-passed : checks b c bs ≡ 0 → Passed b c bs
   checks-passed h =
-      let u = tested-all (isFormula (formulaOf c (b .n) bs)) (bound noneOpen (formulaIn b c bs)) (steady (formulaIn b c bs)) (filled (regFilled b) (relFilled b) (formulaIn b c bs)) (sym number-is ∙ h) in
-      record { isRead = u .0; isBound = u .1; isSteady = u .2; isFilled = u .3 }
+      let u = tested-all (isFormula (formulaOf c (b .n) bs)) (bound noneOpen (formulaIn b c bs)) (mentioned (formulaIn b c bs)) (steady (formulaIn b c bs)) (filled (regFilled b) (relFilled b) (formulaIn b c bs)) (sym number-is ∙ h) in
+      record { isRead = u .0; isBound = u .1; isMentioned = u .2; isSteady = u .3; isFilled = u .4 }
 
-  -- the checks' number is 0 or one of 4 to 7
-  checks-range : (k : ℕ) → checks b c bs ≡ suc k → (3 ≤ k) × (k ≤ 6)
-  checks-range k h = tested-range k (isFormula (formulaOf c (b .n) bs)) (bound noneOpen (formulaIn b c bs)) (steady (formulaIn b c bs)) (filled (regFilled b) (relFilled b) (formulaIn b c bs)) (sym number-is ∙ h)
+  -- the checks' number is 0 or one of 4 to 7 and 12
+  checks-range : (k : ℕ) → checks b c bs ≡ suc k → (3 ≤ k) × (k ≤ 11)
+  checks-range k h =
+      tested-range k (isFormula (formulaOf c (b .n) bs)) (bound noneOpen (formulaIn b c bs)) (mentioned (formulaIn b c bs)) (steady (formulaIn b c bs)) (filled (regFilled b) (relFilled b) (formulaIn b c bs)) (sym number-is ∙ h)
 
-  -- a call that takes a formula is refused by a check, 4 to 7, or goes on with a formula that passed
-  formula-cases : (P : Done → Type 0) (go : Form → Done) → ((k : ℕ) → 3 ≤ k → k ≤ 6 → P (refuse b (suc k))) → (Passed b c bs → P (go (formulaIn b c bs))) → P (formulaCall b c bs go)
+  -- a call that takes a formula is refused by a check, 4 to 7 or 12, or goes on with a formula that passed
+  formula-cases : (P : Done → Type 0) (go : Form → Done) → ((k : ℕ) → 3 ≤ k → k ≤ 11 → P (refuse b (suc k))) → (Passed b c bs → P (go (formulaIn b c bs))) → P (formulaCall b c bs go)
   formula-cases P go refuses goes = pass (checks b c bs) refl
     where
       pass : (k : ℕ) → checks b c bs ≡ k → P (passing b k (go (formulaIn b c bs)))
@@ -92,7 +97,7 @@ test-cases : {X : Type 0} (P : X → Type 0) (t : Bool) (x y : X) → (T t → P
 test-cases P true x y p q = p tt
 test-cases P false x y p q = q refl
 
--- a property of what a set or relation call leaves and answers holds if it holds of each refusal, 3 to 9 and 14, and of what is stored
+-- a property of what a set or relation call leaves and answers holds if it holds of each refusal, 3 to 9, 12 and 14, and of what is stored
 pub set-cases : (P : Done → Type 0) (b : Book) (acc : Terms) (r R : ℕ) (bs : List ℕ) → ((k : ℕ) → 2 ≤ k → k ≤ 13 → P (refuse b (suc k)))
     → (r < registers → Passed b Set bs → (q : ℕ) → P (setDone b r (means (modelOf b) noEnv (formulaIn b Set bs)) q)) → P (does b (set acc r R bs))
 set-cases P b acc r R bs refuses goes =
@@ -103,7 +108,7 @@ set-cases P b acc r R bs refuses goes =
     (λ e. refuses 13 (omega arith) (omega arith)))
     (λ l. refuses 2 (omega arith) (omega arith))
 
-pub relation-cases : (P : Done → Type 0) (b : Book) (t : ℕ) (bs : List ℕ) → ((k : ℕ) → 2 ≤ k → k ≤ 8 → P (refuse b (suc k)))
+pub relation-cases : (P : Done → Type 0) (b : Book) (t : ℕ) (bs : List ℕ) → ((k : ℕ) → 2 ≤ k → k ≤ 11 → P (refuse b (suc k)))
     → (t < relations → Passed b Relation bs → P (relationDone b t (formulaIn b Relation bs))) → P (does b (relation t bs))
 relation-cases P b t bs refuses goes =
     range-cases P t relations _ _

@@ -23,7 +23,7 @@ use Rattle.evaluator.specs.declared.Evaluated.{Evaluated}
 abbrev pub bookIn : View → Book
 bookIn W = bookOf (seenIn W)
 
--- a sound table, limits that are its own, and bytes that have passed checks 4 to 7
+-- a sound table, limits that are its own, and bytes that have passed checks 4 to 7 and 12
 pub record SetPre (L : Limits) (W : View) (bs : List ℕ) : Type 0 where
   pub sound : Sound W
   pub bits : L .bits ≡ W .header BITS

@@ -1,4 +1,4 @@
--- The checks of formula bytes alone: 2, then "4 to 7 each over the whole formula". Assumes nothing.
+-- The checks of formula bytes alone: 2, then "4 to 7 each over the whole formula", with 12 "directly after 5". Assumes nothing.
 use mathlib.Core.Path.{_≡_, refl, ap, sym, _∙_}
 use mathlib.Core.Logic.{_≢_}
 use mathlib.Core.List.{List}

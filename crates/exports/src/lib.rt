@@ -180,7 +180,7 @@ fn kind_of(relation: u32) -> Kind
     Kind::Relation
 }
 
-// The checks 2 and 4 to 7 that a set call, or a relation call, makes of formula bytes; no step is taken.
+// The checks 2, 4 to 7 and 12 that a set call, or a relation call, makes of formula bytes; no step is taken.
 #[no_mangle]
 pub extern "C" fn kudzuclamp_check<'a>(words: &'a [u32], relation: u32, bytes: &'a [u8]) -> u32
     ensures { λ k. ⌜ CheckPost (kindOf relation) (now (words .entry)) (now (bytes .entry)) k ⌝ }

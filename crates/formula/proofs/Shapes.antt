@@ -1,10 +1,12 @@
 -- What each check says of an operator by its parts, AND and OR alike, box and diamond, mu and nu. Assumes nothing.
-use mathlib.Core.Path.{_≡_, refl}
-use mathlib.Core.Bool.{Bool, true, false, not, _&&_}
+use mathlib.Core.Path.{_≡_, refl, ap, _∙_}
+use mathlib.Core.Bool.{Bool, true, false, not, _&&_, _||_}
 use mathlib.Core.List.{List}
 use Prim.Native.Nat.{ℕ}
+use lib.Dec.{eqb}
 use lib.ListN.{getD, set}
-use Rattle.mucalculus.specs.Form.{Form, neg, bound, reads, steady}
+use borrow.Author.Tests.{eq-eqb, ne-eqb}
+use Rattle.mucalculus.specs.Form.{Form, neg, bound, lacks, mentioned, reads, steady}
 use Rattle.tokens.specs.declared.Leaf.{Leaf}
 use Rattle.tokens.specs.declared.Leaf.the-variants.{False, True, Now, Next, Var, Reg}
 use Rattle.tokens.specs.declared.Join.the-variants.{And, Or}
@@ -86,6 +88,59 @@ unfolding steady
 steady-binder Mu P f = refl
 steady-binder Nu P f = refl
 
+-- ---- lacks
+
+pub lacks-neg : (p : ℕ) (f : Form) → lacks p (neg f) ≡ lacks p f
+unfolding lacks
+lacks-neg p f = refl
+
+pub lacks-join : (p : ℕ) (w : Two) (f g : Form) → lacks p (twoForm w f g) ≡ (lacks p f && lacks p g)
+unfolding lacks
+lacks-join p (Joins And) f g = refl
+lacks-join p (Joins Or) f g = refl
+lacks-join p (Until All t) f g = refl
+lacks-join p (Until Some t) f g = refl
+
+pub lacks-modal : (p : ℕ) (m : Mode) (t : ℕ) (f : Form) → lacks p (modalForm m t f) ≡ lacks p f
+unfolding lacks
+lacks-modal p All t f = refl
+lacks-modal p Some t f = refl
+
+lacks-binder : (p : ℕ) (x : Fix) (P : ℕ) (f : Form) → lacks p (binderForm x P f) ≡ (eqb P p || lacks p f)
+unfolding lacks
+lacks-binder p Mu P f = refl
+lacks-binder p Nu P f = refl
+
+-- a binder of the same variable, and of another
+pub lacks-same : (p : ℕ) (x : Fix) (P : ℕ) → P ≡ p → (f : Form) → lacks p (binderForm x P f) ≡ true
+lacks-same p x P e f = lacks-binder p x P f ∙ ap (λ (c : Bool). c || lacks p f) (eq-eqb P p e)
+
+pub lacks-other : (p : ℕ) (x : Fix) (P : ℕ) → (P ≡ p → ⊥) → (f : Form) → lacks p (binderForm x P f) ≡ lacks p f
+lacks-other p x P n f = lacks-binder p x P f ∙ ap (λ (c : Bool). c || lacks p f) (ne-eqb P p n)
+
+-- ---- mentioned
+
+pub mentioned-neg : (f : Form) → mentioned (neg f) ≡ mentioned f
+unfolding mentioned
+mentioned-neg f = refl
+
+pub mentioned-join : (w : Two) (f g : Form) → mentioned (twoForm w f g) ≡ (mentioned f && mentioned g)
+unfolding mentioned
+mentioned-join (Joins And) f g = refl
+mentioned-join (Joins Or) f g = refl
+mentioned-join (Until All t) f g = refl
+mentioned-join (Until Some t) f g = refl
+
+pub mentioned-modal : (m : Mode) (t : ℕ) (f : Form) → mentioned (modalForm m t f) ≡ mentioned f
+unfolding mentioned
+mentioned-modal All t f = refl
+mentioned-modal Some t f = refl
+
+pub mentioned-binder : (x : Fix) (P : ℕ) (f : Form) → mentioned (binderForm x P f) ≡ (not (lacks P f) && mentioned f)
+unfolding mentioned
+mentioned-binder Mu P f = refl
+mentioned-binder Nu P f = refl
+
 -- ---- filled
 
 pub filled-neg : (regs rels : ℕ → Bool) (f : Form) → filled regs rels (neg f) ≡ filled regs rels f
@@ -127,3 +182,22 @@ steady-leaf (Now q) = refl
 steady-leaf (Next q) = refl
 steady-leaf (Var q) = refl
 steady-leaf (Reg r) = refl
+
+pub mentioned-leaf : (l : Leaf) → true ≡ mentioned (leafForm l)
+unfolding mentioned
+mentioned-leaf False = refl
+mentioned-leaf True = refl
+mentioned-leaf (Now q) = refl
+mentioned-leaf (Next q) = refl
+mentioned-leaf (Var q) = refl
+mentioned-leaf (Reg r) = refl
+
+-- a leaf lacks what an odd reader takes
+pub lacks-leaf : (p : ℕ) (l : Leaf) → reads false p (leafForm l) ≡ lacks p (leafForm l)
+unfolding lacks reads
+lacks-leaf p False = refl
+lacks-leaf p True = refl
+lacks-leaf p (Now q) = refl
+lacks-leaf p (Next q) = refl
+lacks-leaf p (Var q) = refl
+lacks-leaf p (Reg r) = refl

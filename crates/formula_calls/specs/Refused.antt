@@ -1,4 +1,4 @@
--- SET and RELATION refused by a check before their steps: 3 out of range, 14, 4 to 7 by the reader's number. Assumes nothing.
+-- SET and RELATION refused by a check before their steps: 3 out of range, 14, 4 to 7 and 12 by the reader's number. Assumes nothing.
 use mathlib.Core.Path.{_≡_, refl, sym, ap, ap₂, _∙_, subst, fun-ext}
 use mathlib.Core.Bool.{Bool, true, false, not, cond, _&&_, true≢false}
 use mathlib.Core.List.{List}

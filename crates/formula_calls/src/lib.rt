@@ -16,7 +16,7 @@ ghost use Rattle.book.specs.Book as book;
 ghost use Rattle.contract.specs.Posts.{CallPost};
 ghost use Rattle.formula_steps.specs.Replies.{storedReply, loadedReply};
 
-// Relation t holds the pairs of a formula; 2 on unsound words, 3 where there is no such relation, 4 to 7 by the formula, 8 where a step needs more rows than there are.
+// Relation t holds the pairs of a formula; 2 on unsound words, 3 where there is no such relation, 4 to 7 and 12 by the formula, 8 where a step needs more rows than there are.
 pub fn relation(words: &mut [u32], t: u32, bytes: &[u8]) -> Loaded
     ensures { λ x. ⌜ CallPost (book.relation t (now (bytes .entry))) (now (words .entry)) (now (words .exit)) (loadedReply x) ⌝ }
 {
@@ -34,7 +34,7 @@ pub fn relation(words: &mut [u32], t: u32, bytes: &[u8]) -> Loaded
 }
 
 // Register r holds the states of a formula, found in at most so many rounds under the limits of an account; 2 on unsound words, 3 where there is no
-// such register, 14 where the list has not the account named, 4 to 7 by the formula, 8 where a step needs more rows than there are, 9 where the rounds are used up.
+// such register, 14 where the list has not the account named, 4 to 7 and 12 by the formula, 8 where a step needs more rows than there are, 9 where the rounds are used up.
 pub fn set(words: &mut [u32], terms: Terms, r: u32, most: u32, bytes: &[u8]) -> Stored
     ensures { λ x. ⌜ CallPost (book.set terms r most (now (bytes .entry))) (now (words .entry)) (now (words .exit)) (storedReply x) ⌝ }
 {

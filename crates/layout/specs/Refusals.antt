@@ -4,7 +4,7 @@ use native.Mathlib.Omega.{arith}
 use mathlib.Core.Bool.{Bool, _&&_, _||_}
 use lib.Dec.{leb}
 use Rattle.layout.specs.declared.Refusal.{Refusal}
-use Rattle.layout.specs.declared.Refusal.the-variants.{Sizes, Unsound, Range, Syntax, Unbound, Odd, Empty, Full, Spent, Unlisted}
+use Rattle.layout.specs.declared.Refusal.the-variants.{Sizes, Unsound, Range, Syntax, Unbound, Vacuous, Odd, Empty, Full, Spent, Unlisted}
 
 abbrev pub refusalNumber : Refusal → ℕ
 -- "fresh: n, N or slice length"
@@ -17,6 +17,8 @@ refusalNumber Range = 3
 refusalNumber Syntax = 4
 -- "variable unbound, or bound inside itself"
 refusalNumber Unbound = 5
+-- "a binder's variable occurs nowhere free in its body"
+refusalNumber Vacuous = 12
 -- "variable read odd"
 refusalNumber Odd = 6
 -- "register or relation named is empty"
@@ -39,6 +41,7 @@ refusal-some Unsound = omega arith
 refusal-some Range = omega arith
 refusal-some Syntax = omega arith
 refusal-some Unbound = omega arith
+refusal-some Vacuous = omega arith
 refusal-some Odd = omega arith
 refusal-some Empty = omega arith
 refusal-some Full = omega arith

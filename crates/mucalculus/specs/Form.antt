@@ -1,4 +1,4 @@
--- Formulas of the mu-calculus as trees, what they are read over, and the conditions that checks 4 to 6 put on a tree. Assumes nothing.
+-- Formulas of the mu-calculus as trees, what they are read over, and the conditions that checks 4, 5, 12 and 6 put on a tree. Assumes nothing.
 use mathlib.Core.Bool.{Bool, true, false, not, _&&_, _||_, cond}
 use mathlib.Core.List.{List, []}
 use mathlib.Core.Option.{Option, none, some}
@@ -94,6 +94,40 @@ bound scope (until b t f g) = bound scope f && bound scope g
 -- no variable is open: the 16 variables at a formula's start
 abbrev pub noneOpen : List Bool
 noneOpen = replicate 16 false
+
+-- P "occurs nowhere free in" f
+unfoldable pub lacks : ℕ → Form → Bool
+lacks P bot = true
+lacks P top = true
+lacks P (neg f) = lacks P f
+lacks P (conj f g) = lacks P f && lacks P g
+lacks P (disj f g) = lacks P f && lacks P g
+lacks P (now p) = true
+lacks P (next p) = true
+lacks P (var Q) = not (eqb Q P)
+lacks P (reg r) = true
+lacks P (box t f) = lacks P f
+lacks P (dia t f) = lacks P f
+lacks P (mu Q f) = eqb Q P || lacks P f
+lacks P (nu Q f) = eqb Q P || lacks P f
+lacks P (until b t f g) = lacks P f && lacks P g
+
+-- check 12, "a binder's variable occurs nowhere free in its body": of no binder (the X of until is its own, and no binder of the bytes)
+unfoldable pub mentioned : Form → Bool
+mentioned bot = true
+mentioned top = true
+mentioned (neg f) = mentioned f
+mentioned (conj f g) = mentioned f && mentioned g
+mentioned (disj f g) = mentioned f && mentioned g
+mentioned (now p) = true
+mentioned (next p) = true
+mentioned (var P) = true
+mentioned (reg r) = true
+mentioned (box t f) = mentioned f
+mentioned (dia t f) = mentioned f
+mentioned (mu P f) = not (lacks P f) && mentioned f
+mentioned (nu P f) = not (lacks P f) && mentioned f
+mentioned (until b t f g) = mentioned f && mentioned g
 
 -- "each NOT turns an even reading odd and an odd one even": no P is read odd, where the reading begins even or not
 unfoldable pub reads : Bool → ℕ → Form → Bool

@@ -10,7 +10,7 @@ use lib.Dec.{T, T-not, eqb, eqb-refl}
 use Rattle.mucalculus.specs.Sets.{mem, table, and-out, true-of}
 use Rattle.mucalculus.specs.Order.{start}
 use Rattle.mucalculus.specs.Fixpoint.{least, greatest}
-use Rattle.mucalculus.specs.Form.{Form, bot, top, neg, conj, disj, now, next, var, reg, box, dia, mu, nu, until, Pairs, Model, Env, put, inside}
+use Rattle.mucalculus.specs.Form.{Form, bot, top, neg, conj, disj, now, next, var, reg, box, dia, mu, nu, until, Pairs, Model, Env, put, inside, lacks, mentioned}
 use Rattle.mucalculus.specs.Runs.{pair, untilSet}
 use Rattle.mucalculus.specs.Means.{clip, compl, inter, union, always, sometimes, size, means}
 use Rattle.mucalculus.specs.Laws.{getD-table, table-ext, table-out}
@@ -146,3 +146,32 @@ module _ (m : Model) (e : Env) (b : Bool) (t X : ℕ) where
         none : (b : Bool) (A : List Bool) → rounds m (put e X A) (goes b t X) ≡ zero
         none true A = refl
         none false A = refl
+
+-- ---- check 12 on the written formula
+
+-- X stands free in what follows
+goes-names : (b : Bool) (t X : ℕ) → lacks X (goes b t X) ≡ false
+unfolding lacks
+goes-names true t X = ap not (true-of (eqb X X) (eqb-refl X))
+goes-names false t X = ap (λ (c : Bool). not c && true) (true-of (eqb X X) (eqb-refl X))
+
+-- the binder of the written formula always binds something, so check 12 says of it what it says of until
+pub mentioned-written : (b : Bool) (t X : ℕ) (f g : Form) → mentioned (written b t X f g) ≡ (mentioned g && mentioned f)
+unfolding mentioned lacks
+mentioned-written b t X f g =
+    ap (λ (c : Bool). not (lacks X g && (lacks X f && c)) && (mentioned g && (mentioned f && mentioned (goes b t X)))) (goes-names b t X)
+    ∙ none (lacks X g) (lacks X f)
+    ∙ ap (λ (c : Bool). mentioned g && c) (last b)
+  where
+    none : (x y : Bool) → (not (x && (y && false)) && (mentioned g && (mentioned f && mentioned (goes b t X)))) ≡ (mentioned g && (mentioned f && mentioned (goes b t X)))
+    none true true = refl
+    none true false = refl
+    none false y = refl
+
+    both : (c : Bool) → (c && true) ≡ c
+    both true = refl
+    both false = refl
+
+    last : (b : Bool) → (mentioned f && mentioned (goes b t X)) ≡ mentioned f
+    last true = both (mentioned f)
+    last false = both (mentioned f)

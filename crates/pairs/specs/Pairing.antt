@@ -101,7 +101,7 @@ pub record LeafPost (L : Limits) (W X : View) (stack : List ℕ) (held : ℕ) (l
 
 -- ---- the whole call's formula
 
--- a sound table, limits that are its own, and bytes that have passed check 4 (and 5 to 7, which ask nothing here)
+-- a sound table, limits that are its own, and bytes that have passed check 4 (and 5, 12, 6 and 7, which ask nothing here)
 pub record PairsPre (L : Limits) (W : View) (bs : List ℕ) : Type 0 where
   pub sound : Sound W
   pub bits : L .bits ≡ W .header BITS

@@ -122,7 +122,7 @@ fn round_limit(random: &mut Random, book: &Book, bytes: &[u8]) -> (u32, Option<C
     (rounds, Some(cost).filter(|_| rounds >= done.rounds))
 }
 
-/// The formula, where checks 4 to 7 find no cause.
+/// The formula, where checks 4 to 7 and 12 find no cause.
 fn checked(book: &Book, kind: Kind, bytes: &[u8]) -> Option<Formula> {
     let register = |r: usize| book.registers()[r].is_some();
     let relation = |t: usize| book.relations()[t].is_some();
@@ -199,8 +199,14 @@ fn special(random: &mut Random, book: &Book, kind: Kind) -> Vec<u8> {
         1 if book.n() < 3 => writer::tree(random, 9, &[0x00, 0x01, leaf]),
         2 if book.n() < 3 => [vec![0x02], writer::tree(random, 9, &[0x00, leaf])].concat(),
         _ if kind == Kind::Set => {
-            let binders = (0..16).map(|p| random.pick(&[0x70, 0x80]) + p);
-            binders.chain([0x30]).collect()
+            let (binder, operator) = random.pick(&[(0x70, 0x04), (0x80, 0x03)]);
+            let mut body = writer::all_binders(binder, operator);
+            // Now and then one of them binds nothing.
+            if random.chance(30) {
+                let variable = body.len() - 1 - random.below(16) as usize;
+                body[variable] = leaf;
+            }
+            body
         }
         _ => vec![leaf],
     }

@@ -14,7 +14,7 @@ pub struct Plan {
     /// Tokens wanted, about.
     pub size: u64,
     pub binders: u32,
-    /// Now and then a token that breaks one of checks 4 to 7.
+    /// Now and then a token that breaks one of checks 4 to 7, or a binder that binds nothing.
     pub slip: bool,
 }
 
@@ -133,6 +133,7 @@ impl Writer<'_> {
         let p = self.variable();
         let (base, usual) = self.random.pick(&[(0x70, 0x04), (0x80, 0x03)]);
         self.bytes.push(base + p);
+        let body = self.bytes.len();
         self.bound.push((p, self.nots));
         let operator = match self.random.chance(85) {
             true => usual,
@@ -144,6 +145,20 @@ impl Writer<'_> {
             _ => self.formula(size - 1),
         }
         self.bound.pop();
+        self.bind(body, operator, p);
+    }
+
+    /// Adds P to a body that has it not, but for a few in a slip: they get 12.
+    fn bind(&mut self, body: usize, operator: u8, p: u8) {
+        let mentioned = self.bytes[body..].contains(&(0x30 + p));
+        if mentioned || self.random.chance(if self.plan.slip { 50 } else { 2 }) {
+            return;
+        }
+        self.bytes.insert(body, operator);
+        if self.may_be_modal() && self.random.chance(70) {
+            self.modal_word();
+        }
+        self.bytes.push(0x30 + p);
     }
 
     /// A variable that no open binder has, unless in a slip.
@@ -253,6 +268,13 @@ pub fn counter(n: u8, last: bool) -> Vec<u8> {
 /// The bit is as the formula: both, or neither.
 fn same(bit: u8, f: &[u8]) -> Vec<u8> {
     [&[0x04, 0x03, bit], f, &[0x03, 0x02, bit, 0x02], f].concat()
+}
+
+/// All sixteen binders of one kind, one below the other, over all their variables: 16 rounds.
+pub fn all_binders(binder: u8, operator: u8) -> Vec<u8> {
+    let binders = (0..16).map(|p| binder + p);
+    let operators = [operator; 15];
+    binders.chain(operators).chain(0x30..=0x3F).collect()
 }
 
 /// NOT over and over: a formula `depth` deep.

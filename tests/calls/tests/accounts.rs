@@ -88,7 +88,7 @@ fn near_the_edge_as_the_book() {
         for (k, body) in [
             REACH,
             &[0x80, 0x71, 0x04, 0x03, 0x30, 0x68, 0x30, 0x68, 0x31],
-            &[0x70, 0x71, 0x10],
+            &[0x70, 0x71, 0x04, 0x10, 0x04, 0x30, 0x31],
             &[0x80, 0x60, 0x30],
             &[0x10],
         ]
@@ -212,7 +212,8 @@ fn only_an_answered_set_changes_an_account() {
         (7, 0, 9, &[0x41]),
         (8, 0, 9, REACH),
         (9, 0, 0, REACH),
-        (9, 1, 9, &[0x80, 0x71, 0x31]),
+        (9, 1, 9, &[0x80, 0x71, 0x04, 0x30, 0x31]),
+        (12, 0, 9, &[0x80, 0x71, 0x31]),
     ] {
         assert_eq!(set(&mut runner, place, rounds, body), number);
         assert_eq!(runner.accounts(), before, "{number}");

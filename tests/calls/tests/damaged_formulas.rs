@@ -202,7 +202,8 @@ fn depth_64_and_65() {
         assert_eq!(number(&mut runner, &left(65)), 4);
     }
     for binder in [0x70, 0x8F] {
-        let under = |depth: usize| [vec![0x02; depth - 2], vec![binder, 0x10]].concat();
+        let own = 0x30 + binder % 16;
+        let under = |depth: usize| [vec![0x02; depth - 2], vec![binder, own]].concat();
         assert_eq!(number(&mut runner, &under(64)), 0);
         assert_eq!(number(&mut runner, &under(65)), 4);
     }
@@ -269,25 +270,27 @@ fn until_in_until() {
     }
 }
 
-/// "Checks run in this order, 4 to 7 each over the whole formula".
+/// "Checks run in this order, 4 to 7 each over the whole formula"; 12 "directly after 5".
 #[test]
 fn order_of_the_checks() {
     let mut runner = room(1, 40);
-    // Faults in the order of their numbers: 4 an unknown byte, 5 P unbound, 6 P read odd, 7 register
-    // 9 empty. Each pair and triple, in all orders, below ANDs and untils.
-    let faults: [(u8, &[u8]); 4] = [
+    // Faults in the order of the checks: 4 an unknown byte, 5 P unbound, 12 P nowhere in its body, 6 P
+    // read odd, 7 register 9 empty. Each pair and triple, in all orders, below ANDs and untils.
+    let faults: [(u8, &[u8]); 5] = [
         (4, &[0x05]),
         (5, &[0x3A]),
+        (12, &[0x82, 0x10]),
         (6, &[0x71, 0x02, 0x31]),
         (7, &[0x49]),
     ];
-    for (a, first) in faults {
-        for (b, second) in faults {
-            for (c, third) in faults {
+    for (a, (_, first)) in faults.into_iter().enumerate() {
+        for (b, (_, second)) in faults.into_iter().enumerate() {
+            for (c, (_, third)) in faults.into_iter().enumerate() {
+                let (wanted, _) = faults[a.min(b).min(c)];
                 // Of AND, and of until: 90 names relation 0, which is filled.
                 for word in [0x03, 0x90, 0x98] {
                     let body = [&[word], first, &[word], second, third].concat();
-                    assert_eq!(number(&mut runner, &body), a.min(b).min(c), "{body:x?}");
+                    assert_eq!(number(&mut runner, &body), wanted, "{body:x?}");
                 }
             }
         }

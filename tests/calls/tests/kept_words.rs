@@ -114,7 +114,7 @@ fn two() {
 }
 
 #[test]
-fn three_to_seven() {
+fn three_to_seven_and_twelve() {
     let var = || Formula::var(0);
     keeps_all(Refusal::Range, |t| set(t, 32, 9, Formula::always()));
     keeps_all(Refusal::Range, |t| t.relation(8, Formula::always()));
@@ -123,6 +123,8 @@ fn three_to_seven() {
     keeps_all(Refusal::Syntax, |t| set(t, 0, 9, Formula::next(0)));
     keeps_all(Refusal::Syntax, |t| t.relation(0, Formula::register(0)));
     keeps_all(Refusal::Unbound, |t| set(t, 0, 9, var()));
+    let bit = || Formula::current(0);
+    keeps_all(Refusal::Vacuous, |t| set(t, 0, 9, Formula::nu(0, bit())));
     keeps_all(Refusal::Odd, |t| set(t, 0, 9, Formula::nu(0, !var())));
     keeps_all(Refusal::Empty, |t| set(t, 0, 9, Formula::register(9)));
     keeps_all(Refusal::Empty, |t| {

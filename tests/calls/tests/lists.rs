@@ -92,7 +92,7 @@ fn random_lists() {
         untils,
         ..
     } = totals.counts;
-    for number in (0..=9).chain([14]) {
+    for number in (0..=9).chain([12, 14]) {
         assert!(numbers[number] > 0, "no call gave {number}");
         // 1 is of fresh alone.
         assert!(number == 1 || untils[number] > 0, "no until gave {number}");

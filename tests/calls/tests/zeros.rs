@@ -99,10 +99,13 @@ fn refused_sets() {
     assert_eq!(set(room(), 1, 9, &[0x30]), [5, 0, 0]);
     assert_eq!(set(room(), 1, 9, &[0x70, 0x02, 0x30]), [6, 0, 0]);
     assert_eq!(set(room(), 1, 9, &[0x41]), [7, 0, 0]);
+    assert_eq!(set(room(), 1, 9, &[0x70, 0x11]), [12, 0, 0]);
     // In the second round, and after rounds were counted and rows made.
     let spent = [0x70, 0x04, 0x11, 0x30];
     assert_eq!(set(room(), 1, 1, &spent), [9, 0, 0]);
-    let full = [0x04, 0x71, 0x11, 0x04, 0x03, 0x10, 0x11, 0x02, 0x10];
+    let full = [
+        0x04, 0x71, 0x04, 0x11, 0x31, 0x04, 0x03, 0x10, 0x11, 0x02, 0x10,
+    ];
     assert_eq!(set(room(), 1, 9, &full), [8, 0, 0]);
     assert_eq!(set(room(), 1, 9, &[0x70, 0x30]), [0, 0, 1]);
 }

@@ -1,4 +1,4 @@
-//! Formula reader with checks 4 to 7.
+//! Formula reader with checks 4 to 7, and Slip 5's 12 after 5.
 
 use crate::refusal::Refusal;
 
@@ -60,7 +60,7 @@ pub fn frame_as(version: u8, body: &[u8]) -> Vec<u8> {
     bytes
 }
 
-/// Checks 4 to 7, "each over the whole formula", in this order.
+/// Checks 4, 5, 12, 6 and 7, "each over the whole formula", in this order.
 pub fn check(
     n: u32,
     kind: Kind,
@@ -71,6 +71,9 @@ pub fn check(
     let formula = read(n, kind, bytes).ok_or(Refusal::NotAFormula)?;
     if !scopes_hold(&formula, &mut Vec::new()) {
         return Err(Refusal::BadScope);
+    }
+    if any_binds_nothing(&formula) {
+        return Err(Refusal::BindsNothing);
     }
     if any_read_odd(&formula) {
         return Err(Refusal::ReadOdd);
@@ -202,6 +205,25 @@ fn scopes_hold(formula: &Formula, bound: &mut Vec<u8>) -> bool {
             hold
         }
         _ => formula.parts().into_iter().all(|f| scopes_hold(f, bound)),
+    }
+}
+
+/// Slip 5, check 12, made for each binder: its "variable occurs nowhere free in
+/// its body".
+fn any_binds_nothing(formula: &Formula) -> bool {
+    let here = match formula {
+        Formula::Binder(_, p, body) => !occurs_free(body, *p),
+        _ => false,
+    };
+    here || formula.parts().into_iter().any(any_binds_nothing)
+}
+
+/// Whether the variable stands in the formula outside every binder of it.
+fn occurs_free(formula: &Formula, p: u8) -> bool {
+    match formula {
+        Formula::Variable(q) => *q == p,
+        Formula::Binder(_, q, _) if *q == p => false,
+        _ => formula.parts().into_iter().any(|f| occurs_free(f, p)),
     }
 }
 

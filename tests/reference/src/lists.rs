@@ -346,7 +346,7 @@ fn filled<T>(places: &[Option<T>]) -> Vec<u8> {
         .collect()
 }
 
-/// Writes formula bytes in prefix order. A slip may break checks 4 to 7.
+/// Writes formula bytes in prefix order. A slip may break checks 4 to 7 and 12.
 struct Writer<'a> {
     random: &'a mut Random,
     kind: Kind,
@@ -423,12 +423,25 @@ impl Writer<'_> {
         };
         let base = self.random.pick(&[0x70, 0x80]);
         self.bytes.push(base + p);
+        let body = self.bytes.len();
         self.bound.push((p, self.nots));
         match self.may_be_modal() && self.random.chance(50) {
             true => self.reach(p),
             false => self.formula(size - 1),
         }
         self.bound.pop();
+        self.bind(body, p);
+    }
+
+    /// Adds P to a body that has it not, but for a few in a slip: they get 12.
+    fn bind(&mut self, body: usize, p: u8) {
+        let mentioned = self.bytes[body..].contains(&(0x30 + p));
+        if mentioned || self.random.chance(if self.slip { 50 } else { 2 }) {
+            return;
+        }
+        let operator = self.random.pick(&[0x03, 0x04]);
+        self.bytes.insert(body, operator);
+        self.bytes.push(0x30 + p);
     }
 
     /// The usual body of a fixpoint: a leaf with a modal word over P.

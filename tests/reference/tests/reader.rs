@@ -1,8 +1,9 @@
-//! Checks 4 to 7 and their order.
+//! Checks 4 to 7 and 12, and their order.
 
 mod common;
 use common::*;
-use reference::formula::{frame, read, Formula, Kind};
+use reference::accounts::Account;
+use reference::formula::{frame, frame_as, read, Formula, Kind};
 use reference::refusal::Refusal;
 
 fn reads(kind: Kind, n: u32, body: &[u8]) -> bool {
@@ -195,20 +196,62 @@ fn scope() {
     assert!(set(&mut book, 0, &[0x7F, 0x8E, 0x04, 0x3F, 0x3E]).is_ok());
 }
 
+/// Slip 5: "a binder's variable occurs nowhere free in its body", "in both
+/// versions".
+#[test]
+fn binders_that_bind_nothing() {
+    let mut book = toggle_book();
+    for version in [1, 2] {
+        let mut number = |body: &[u8]| {
+            let bytes = frame_as(version, body);
+            let answer = book.set(&mut [Account::LARGEST], 0, 0, 99, &bytes);
+            answer.map_or_else(Refusal::number, |_| 0)
+        };
+        for binder in [0x70, 0x7F, 0x80, 0x8F] {
+            let variable = 0x30 + binder % 16;
+            assert_eq!(number(&[binder, 0x10]), 12);
+            assert_eq!(number(&[binder, variable]), 0);
+            // Also where it is not the whole formula.
+            assert_eq!(number(&[0x02, 0x04, 0x01, binder, 0x10]), 12);
+        }
+        // The inner one, the outer one.
+        assert_eq!(number(&[0x70, 0x81, 0x30]), 12);
+        assert_eq!(number(&[0x70, 0x81, 0x31]), 12);
+        assert_eq!(number(&[0x70, 0x81, 0x04, 0x30, 0x31]), 0);
+        // What a neighbour reads does not count.
+        assert_eq!(number(&[0x04, 0x70, 0x30, 0x70, 0x10]), 12);
+        assert_eq!(number(&[0x04, 0x70, 0x10, 0x80, 0x30]), 12);
+        // Read odd it occurs.
+        assert_eq!(number(&[0x70, 0x02, 0x30]), 6);
+        // A binder inside one of the same variable is 5, though the outer binds nothing.
+        assert_eq!(number(&[0x70, 0x70, 0x30]), 5);
+    }
+    // Until's own variable is none of the sixteen.
+    let mut number = |body: &[u8]| {
+        let bytes = frame_as(2, body);
+        let answer = book.set(&mut [Account::LARGEST], 0, 0, 99, &bytes);
+        answer.map_or_else(Refusal::number, |_| 0)
+    };
+    assert_eq!(number(&[0x90, 0x01, 0x10]), 0);
+    assert_eq!(number(&[0x70, 0x98, 0x01, 0x10]), 12);
+    assert_eq!(number(&[0x70, 0x90, 0x30, 0x10]), 0);
+    assert_eq!(number(&[0x70, 0x98, 0x10, 0x30]), 0);
+}
+
 #[test]
 fn polarity_counts_from_the_own_binder() {
     let mut book = toggle_book();
     assert!(set(&mut book, 0, &[0x02, 0x70, 0x30]).is_ok());
-    assert!(set(&mut book, 0, &[0x70, 0x02, 0x71, 0x31]).is_ok());
+    assert!(set(&mut book, 0, &[0x70, 0x04, 0x30, 0x02, 0x71, 0x31]).is_ok());
     assert_eq!(
-        set(&mut book, 0, &[0x70, 0x02, 0x71, 0x30]),
+        set(&mut book, 0, &[0x70, 0x02, 0x71, 0x04, 0x30, 0x31]),
         Err(Refusal::ReadOdd)
     );
     assert_eq!(
         set(&mut book, 0, &[0x02, 0x70, 0x02, 0x30]),
         Err(Refusal::ReadOdd)
     );
-    assert!(set(&mut book, 0, &[0x70, 0x02, 0x71, 0x02, 0x30]).is_ok());
+    assert!(set(&mut book, 0, &[0x70, 0x02, 0x71, 0x04, 0x31, 0x02, 0x30]).is_ok());
     assert!(set(&mut book, 0, &[0x70, 0x60, 0x30]).is_ok());
     assert_eq!(
         set(&mut book, 0, &[0x70, 0x60, 0x02, 0x30]),
@@ -223,17 +266,22 @@ fn polarity_counts_from_the_own_binder() {
 #[test]
 fn each_check_runs_over_the_whole_formula_before_the_next() {
     let mut book = book(1, 1);
-    // 7 at the start, 6 after it, 5 after that, 4 at the end.
-    let mut body = vec![0x04, 0x40, 0x04, 0x70, 0x02, 0x30, 0x04, 0x31, 0x20];
-    assert_eq!(set(&mut book, 0, &body), Err(Refusal::NotAFormula));
-    body[8] = 0x01;
-    assert_eq!(set(&mut book, 0, &body), Err(Refusal::BadScope));
-    body[7] = 0x01;
-    assert_eq!(set(&mut book, 0, &body), Err(Refusal::ReadOdd));
-    body[5] = 0x01;
-    assert_eq!(set(&mut book, 0, &body), Err(Refusal::Empty));
-    body[1] = 0x01;
-    assert!(set(&mut book, 0, &body).is_ok());
+    // In the bytes 7 comes first, then 6, 12 and 5, and 4 at the end.
+    let causes: [(Refusal, &[u8]); 5] = [
+        (Refusal::NotAFormula, &[0x20]),
+        (Refusal::BadScope, &[0x31]),
+        (Refusal::BindsNothing, &[0x72, 0x01]),
+        (Refusal::ReadOdd, &[0x70, 0x02, 0x30]),
+        (Refusal::Empty, &[0x41]),
+    ];
+    for first in 0..causes.len() {
+        let mut body = vec![0x01];
+        for (_, cause) in &causes[first..] {
+            body = [&[0x04], *cause, &body].concat();
+        }
+        assert_eq!(set(&mut book, 0, &body), Err(causes[first].0));
+    }
+    assert!(set(&mut book, 0, &[0x01]).is_ok());
     // Range before the formula, the formula before 8 and 9.
     assert_eq!(set(&mut book, 32, &[0x20]), Err(Refusal::OutOfRange));
     assert_eq!(

@@ -19,11 +19,12 @@ fn numbers() {
         Refusal::Empty,
         Refusal::Full,
         Refusal::RoundsUsedUp,
+        Refusal::BindsNothing,
         Refusal::NoAccount,
     ]
     .map(Refusal::number)
     .to_vec();
-    assert_eq!(numbers, [1, 2, 3, 4, 5, 6, 7, 8, 9, 14]);
+    assert_eq!(numbers, [1, 2, 3, 4, 5, 6, 7, 8, 9, 12, 14]);
 }
 
 #[test]
@@ -81,7 +82,7 @@ fn every_refused_call_keeps_the_book() {
     // Relation 0, x OR next x, and register 0, x, need all three rows.
     let mut book = book(1, 3);
     relation(&mut book, 0, &[0x04, 0x10, 0x20]).unwrap();
-    set(&mut book, 0, &[0x70, 0x10]).unwrap();
+    set(&mut book, 0, &[0x70, 0x04, 0x10, 0x30]).unwrap();
     let before = book.clone();
     let set_call = |r, rounds, body: &[u8]| Call::Set {
         place: 0,
@@ -96,7 +97,8 @@ fn every_refused_call_keeps_the_book() {
         (6, set_call(0, 9, &[0x70, 0x02, 0x30])),
         (7, set_call(0, 9, &[0x41])),
         (8, set_call(0, 9, &[0x68, 0x02, 0x10])),
-        (9, set_call(0, 1, &[0x70, 0x10])),
+        (9, set_call(0, 1, &[0x70, 0x04, 0x10, 0x30])),
+        (12, set_call(0, 9, &[0x70, 0x10])),
         (
             8,
             Call::Relation {

@@ -142,9 +142,9 @@ fn old_relation_is_live() {
 
 #[test]
 fn outer_current_set_is_live_while_an_inner_binder_runs() {
-    // mu P. nu Q. (x OR P) AND y. In the second round of P its current set
+    // mu P. nu Q. (x OR P) AND (y AND Q). In the second round of P its current set
     // (x AND y: itself and y) is live beside the step's operands.
-    let nested = [0x70, 0x81, 0x03, 0x04, 0x10, 0x30, 0x11];
+    let nested = [0x70, 0x81, 0x03, 0x04, 0x10, 0x30, 0x03, 0x11, 0x31];
     let flat = [0x03, 0x04, 0x10, 0x00, 0x11];
     assert_eq!(need(&book(2, 1), &flat), 3);
     let mut book = book(2, 100);
@@ -152,8 +152,11 @@ fn outer_current_set_is_live_while_an_inner_binder_runs() {
     // Second round, OR x P: x, P (2 rows), result x: 3. Then y is below P; the
     // AND: x, y, itself = P. Still 3.
     assert_eq!(need(&common::book(2, 1), &nested), 3);
-    // mu P. (NOT x AND nu Q. NOT y) OR P: P is NOT x AND NOT y afterwards.
-    let held = [0x70, 0x04, 0x03, 0x02, 0x10, 0x81, 0x02, 0x11, 0x30];
+    // mu P. (NOT x AND nu Q. (NOT y AND Q)) OR P: P is NOT x AND NOT y
+    // afterwards.
+    let held = [
+        0x70, 0x04, 0x03, 0x02, 0x10, 0x81, 0x03, 0x02, 0x11, 0x31, 0x30,
+    ];
     // Round 2, at NOT y: P (itself, y) and NOT x waiting: 3; at AND the same; at
     // NOT x: P's 2 and x: 3.
     assert_eq!(need(&common::book(2, 1), &held), 3);
@@ -163,7 +166,7 @@ fn outer_current_set_is_live_while_an_inner_binder_runs() {
 fn constants_registers_and_variables_take_no_step() {
     let mut book = book(1, 1);
     set(&mut book, 0, &[0x10]).unwrap();
-    for body in [&[0x40][..], &[0x00], &[0x01], &[0x70, 0x30], &[0x70, 0x40]] {
+    for body in [&[0x40][..], &[0x00], &[0x01], &[0x70, 0x30], &[0x80, 0x30]] {
         assert_eq!(need(&book, body), 0, "{body:x?}");
         assert!(set(&mut book, 1, body).is_ok());
     }
@@ -183,7 +186,7 @@ fn all_steps_of_a_diamond_are_taken_over_constants_too() {
 #[test]
 fn rounds_count_inner_bodies() {
     // Outer: two rounds; inner: two each in a fresh start.
-    let body = [0x70, 0x71, 0x10];
+    let body = [0x70, 0x71, 0x04, 0x10, 0x04, 0x30, 0x31];
     let mut book = book(1, 100);
     assert_eq!(states_and_rounds(&mut book, 6, &body), Ok((1, 6)));
     assert_eq!(
@@ -263,7 +266,7 @@ fn eight_before_nine_and_nine_before_eight() {
 
 #[test]
 fn eight_inside_the_round_comes_before_nine_of_the_next() {
-    let body = [0x70, 0x03, 0x10, 0x11];
+    let body = [0x70, 0x04, 0x03, 0x10, 0x11, 0x30];
     assert_eq!(set_within(&mut book(2, 2), 0, 1, &body), Err(Refusal::Full));
     assert_eq!(
         set_within(&mut book(2, 3), 0, 1, &body),
@@ -324,11 +327,12 @@ fn draw(random: &mut Random, n: u8, size: u64, even: &[u8], odd: &[u8], fresh: u
         _ if fresh < 3 => {
             let even = [even, &[fresh]].concat();
             let operator = random.pick(&[0x70, 0x80]) + fresh;
-            [
-                vec![operator],
-                draw(random, n, size - 1, &even, odd, fresh + 1),
-            ]
-            .concat()
+            let mut body = draw(random, n, size - 1, &even, odd, fresh + 1);
+            if !body.contains(&(0x30 + fresh)) {
+                let join = random.pick(&[0x03, 0x04]);
+                body = [vec![join], body, vec![0x30 + fresh]].concat();
+            }
+            [vec![operator], body].concat()
         }
         _ => part(random, size - 1),
     }
