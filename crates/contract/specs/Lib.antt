@@ -2,6 +2,7 @@ pub mod Seen
 pub mod Kept
 pub mod Posts
 pub mod Closed
+pub mod Numbers
 pub mod Roots
 pub mod Checked
 pub mod Answered
