@@ -46,8 +46,6 @@ impl Table {
 
     pub const ROWS: usize = 1;
 
-    pub const TALLY: usize = 2;
-
     pub const USED: usize = 3;
 
     pub const CURSOR: usize = 4;

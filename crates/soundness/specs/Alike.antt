@@ -128,24 +128,6 @@ module _ {W X : View} (e : Alike W X) where
         ap even (k .level i t) ∙ s .even h a l b q′ i t;
   }
 
--- nor sound
-pub alike-sym : {W X : View} → Alike W X → Alike X W
-alike-sym {W} {X} e = record {
-  rows = sym (e .rows);
-  size = sym (e .size);
-  bits = sym (e .bits);
-  count = sym (e .count);
-  used = sym (e .used);
-  layout = sym (e .layout);
-  roots = λ h a l. sym (e .roots h a l);
-  list = λ k h. sym (e .list k (rw (e .used) at h));
-  cell = λ k h l m. let z = rw (e .used) at h in rw (e .list k z) (sym (e .cell k z l m));
-  head = λ k h. let z = rw (e .used) at h in
-      let q : keyOf X (X .list k) ≡ keyOf W (W .list k) =
-      rw (e .list k z, e .rows, e .cell k z LEVEL (omega arith), e .cell k z LOW (omega arith), e .cell k z HIGH (omega arith)) in
-      rw q (sym (e .head k z));
-}
-
 -- "All zero words are unsound."
 pub zeros-unsound : (ws : List ℕ) → ((k : ℕ) → getD ws k 0 ≡ 0) → Sound (tableOf ws) → ⊥
 zeros-unsound ws z s = let e = header-is ws BITS (omega arith) ∙ z BITS in let p = s .good .sizes .n-pos in omega arith
