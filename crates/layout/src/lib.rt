@@ -275,7 +275,7 @@ pub fn put_slot(words: &mut [u32], rows: u32, p: u32, v: u32)
 }
 
 // Word h of the header of any words: 0 past the end of the header or of the words.
-pub fn root_word(words: &[u32], h: usize) -> u32
+fn root_word(words: &[u32], h: usize) -> u32
     ensures { λ r. ⌜ r ≡ headerOf (now (words .entry)) h ⌝ }
 {
     if h >= Table::HEADER {

@@ -80,7 +80,7 @@ fn quad(bytes: &[u8], at: usize) -> u32
 }
 
 // Whether an operation takes so many bytes of arguments.
-pub fn takes(op: u8, count: usize) -> bool
+fn takes(op: u8, count: usize) -> bool
     ensures { λ r. ⌜ r ≡ takes op count ⌝ }
 {
     match op {
@@ -95,7 +95,7 @@ pub fn takes(op: u8, count: usize) -> bool
 }
 
 // Whether the bytes at hand are enough to say that no record can be read.
-pub fn doomed(bytes: &[u8]) -> bool
+fn doomed(bytes: &[u8]) -> bool
     ensures { λ r. ⌜ r ≡ doomed (now (bytes .entry)) ⌝ }
 {
     if bytes.len() < Format::VERSION_AT {
