@@ -99,6 +99,19 @@ impl Table {
     }
 }
 
+// The factors of multiplicative hashes, and how many values a word has.
+pub struct Hash;
+
+impl Hash {
+    pub const FIRST: u64 = 2654435761;
+
+    pub const SECOND: u64 = 2246822519;
+
+    pub const THIRD: u64 = 3266489917;
+
+    pub const VALUES: u64 = 4294967296;
+}
+
 // Why a call is refused.
 pub enum Refusal {
     Sizes,
