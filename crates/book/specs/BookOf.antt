@@ -106,9 +106,6 @@ shows-bookOf t s = record {
   rel = λ q l. subst (λ (o : Option Pairs). Place (2 * t .n) (t .rows) (fnOfPairs (t .n)) o (t .rel q)) (sym (in-range _ none q relations l)) (pairs (t .rel q) (s .rel q l));
 }
   where
-    m : ℕ
-    m = 2 * t .n
-
     D : ℕ → Fn
     D = den (2 * t .n) (t .rows)
 

@@ -11,7 +11,7 @@ use Rattle.mucalculus.specs.Sets.{mem, table, length-table, noStates, allStates
 use Rattle.mucalculus.specs.Form.{Form, neg, conj, disj, now, next, Pairs}
 use Rattle.mucalculus.specs.Means.{clip, compl, inter, union, bit, bitStates, pair, holds, meansPair}
 use Rattle.mucalculus.specs.Laws.{getD-table}
-use Rattle.diagram.specs.Level.{Val, Fn, Reads, T-true}
+use Rattle.diagram.specs.Level.{Val, Fn, T-true}
 use Rattle.diagram.specs.Even.{ReadsOn, even}
 use Rattle.diagram.specs.Steps.{bitF, notF, andF, orF}
 use Rattle.book.specs.States.{nowOf, nextOf, pairVal, nowOf-lt, nowOf-cong, nowOf-bit, pairVal-now, nowOf-pairVal, nextOf-pairVal}
@@ -62,14 +62,6 @@ module _ (n : ℕ) where
 
 module _ (n : ℕ) where
   -- ---- what is read
-
-  pub fnOf-reads : (A : List Bool) → Reads 0 (2 * n) (fnOf n A)
-  fnOf-reads A v w h = ap (mem A) (nowOf-cong n v w (λ p l. h (2 * p) (omega arith) (omega arith)))
-
-  pub fnOfPairs-reads : (R : Pairs) → Reads 0 (2 * n) (fnOfPairs n R)
-  fnOfPairs-reads R v w h =
-      ap₂ (pair R) (nowOf-cong n v w (λ p l. h (2 * p) (omega arith) (omega arith)))
-      (nowOf-cong n (λ l. v (suc l)) (λ l. w (suc l)) (λ p l. h (suc (2 * p)) (omega arith) (omega arith)))
 
   -- a set of states reads only the levels of current bits
   pub fnOf-even : (A : List Bool) → ReadsOn even (fnOf n A)

@@ -1,8 +1,7 @@
--- The book that long lists compute with: the value comes from the steps themselves. It is the book, call by call and list by list.
--- Assumes nothing.
+-- The book that long lists compute with: the value comes from the steps themselves. It is the book, call by call. Assumes nothing.
 use mathlib.Core.Path.{_≡_, refl, sym, ap, _∙_}
 use mathlib.Core.Bool.{Bool, true, false, cond}
-use mathlib.Core.List.{List, [], _∷_}
+use mathlib.Core.List.{List}
 use Prim.Native.Nat.{ℕ, zero, suc}
 use lib.Dec.{T, ltb}
 use Rattle.mucalculus.specs.Form.{Form, noEnv, steady}
@@ -14,7 +13,7 @@ use Rattle.accounts.specs.Terms.{named, rowsUnder, roundsUnder}
 use Rattle.book.specs.Ticks.{ticks, Verdict, counted, full, spent, verdict}
 use Rattle.book.specs.Run.{Outcome, value, full as fullRun, spent as spentRun, run, pairsFit}
 use Rattle.book.specs.Verdicts.{settle, run-ticks, pairs-ticks}
-use Rattle.book.specs.Book.{formulaIn, Book, Call, relation, set, clear, collect, Answer, registers, relations, modelOf, liveOf, checks, Done, refuse, ended, relationDone, setDone, relationSteps, setSteps, passing, formulaCall, does, play}
+use Rattle.book.specs.Book.{formulaIn, Book, Call, relation, set, clear, collect, registers, relations, modelOf, liveOf, checks, Done, refuse, ended, relationDone, setDone, relationSteps, setSteps, passing, formulaCall, does}
 use Rattle.book.specs.Stored.{Passed, checks-passed}
 
 -- relation t by its steps' needs alone
@@ -35,10 +34,6 @@ doesByRun b (relation t bs) = let d = formulaCall b Relation bs (relationByRun b
 doesByRun b (set acc r R bs) = let d = formulaCall b Set bs (setByRun b acc r R) in let e = cond (named acc) d (refuse b 14) in cond (ltb r registers) e (refuse b 3)
 doesByRun b (clear r) = does b (clear r)
 doesByRun b collect = does b collect
-
-abbrev pub playByRun : Book → List Call → Book × List Answer
-playByRun b [] = (b, [])
-playByRun b (c ∷ cs) = let d = doesByRun b c in let e = playByRun (d .0) cs in (e .0, d .1 ∷ e .1)
 
 -- ---- they agree
 
@@ -77,10 +72,3 @@ does-by-run b (set acc r R bs) =
     (formula-same b Set bs (setByRun b acc r R) (setSteps b acc r R) (λ p. set-by-run b acc r R (formulaIn b Set bs) (p .isSteady)))
 does-by-run b (clear r) = refl
 does-by-run b collect = refl
-
--- THE COMPUTING BOOK IS THE BOOK
-pub play-by-run : (b : Book) (cs : List Call) → playByRun b cs ≡ play b cs
-play-by-run b [] = refl
-play-by-run b (c ∷ cs) =
-    ap (λ (d : Done). (playByRun (d .0) cs .0, d .1 ∷ playByRun (d .0) cs .1)) (does-by-run b c)
-    ∙ ap (λ (e : Book × List Answer). (e .0, does b c .1 ∷ e .1)) (play-by-run (does b c .0) cs)

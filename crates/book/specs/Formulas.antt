@@ -17,7 +17,7 @@ use Rattle.book.specs.Ticks.{ticks, Verdict, counted, full, spent, verdi
 use Rattle.book.specs.Run.{Outcome, run, pairF, pairsFit}
 use Rattle.book.specs.Verdicts.{settle, run-ticks}
 use Rattle.book.specs.Effects.{does-set, does-relation}
-use Rattle.book.specs.Book.{formulaIn, Book, relation, set, registers, relations, modelOf, liveOf, checks, Done, refuse, withReg, ended, relationDone, setDone, relationSteps, setSteps, does}
+use Rattle.book.specs.Book.{formulaIn, Book, relation, set, registers, relations, modelOf, liveOf, checks, Done, refuse, ended, relationDone, setDone, relationSteps, setSteps, does}
 use Rattle.book.specs.Stored.{checks-passed}
 use Rattle.book.specs.ByRun.{relation-by-run}
 use Rattle.book.specs.Nodes.{node-settled}

@@ -11,10 +11,9 @@ use lib.ListN.{length, getD, length-set, set as place}
 use Rattle.accounts.specs.declared.Account.{Account}
 use Rattle.accounts.specs.Account.{tallyTop, tallied, counted, emptied, counted-none}
 use Rattle.accounts.specs.Listed.{none, emptiedTo, length-emptied}
-use Rattle.accounts.specs.declared.Terms.{Terms}
 use Rattle.accounts.specs.Terms.{termsOf}
-use Rattle.book.specs.Book.{Book, Call, relation, set, clear, collect, Answer, does, play}
-use Rattle.book.specs.Table.{Reply, Agrees}
+use Rattle.book.specs.Book.{Book, Call, relation, set, clear, collect, does, play}
+use Rattle.book.specs.Table.{Reply}
 use Rattle.book.specs.Demand.{Event, calls, AllAgree}
 
 -- ---- what a call leaves of the list

@@ -18,7 +18,7 @@ use Rattle.diagram.specs.Post.{Denotes}
 use Rattle.diagram.specs.Keep.{Keeps, keeps-refl, keeps-on, keeps-denotes}
 use Rattle.diagram.specs.Steps.{existsF}
 use Rattle.book.specs.Bridge.{fnOf, Sized, fnOf-inj}
-use Rattle.book.specs.Run.{Outcome, value, full, spent, andThen, step, existsSteps, notStep, twoStep, diaSteps, boxSteps, furtherSteps, bothSteps, keepRound, untilRound, loop, run}
+use Rattle.book.specs.Run.{Outcome, value, full, spent, andThen, step, existsSteps, notStep, diaSteps, boxSteps, furtherSteps, bothSteps, keepRound, untilRound, loop, run}
 use Rattle.book.specs.Held.{Held, held-arrow}
 use Rattle.book.specs.Follow.{Ended, ends, nine, Matches, Evals, Stops, evals-same, evals-stop, evals-from, denotes-none, denotes-all}
 

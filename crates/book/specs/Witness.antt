@@ -1,6 +1,6 @@
 -- The list theorem is not empty: tables themselves, under the contracts, implement the book, and here is a list that they play, with its
 -- demand. Assumes nothing.
-use mathlib.Core.Path.{_≡_, refl}
+use mathlib.Core.Path.{refl}
 use mathlib.Core.Bool.{false}
 use mathlib.Core.List.{List, [], _∷_}
 use mathlib.Core.Option.{none, some}

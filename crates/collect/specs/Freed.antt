@@ -1,10 +1,9 @@
 -- What marking from some roots and gathering leave: a sound table with exactly the rows that the roots reach, as many as they need. Assumes nothing.
 use mathlib.Core.Path.{_≡_, ap, sym, _∙_, subst}
-use mathlib.Core.Bool.{true}
 use mathlib.Core.List.{List, [], _∷_, map, List·Memᴰ as Mem}
 use Prim.Native.Nat.{ℕ, zero, suc, _*_, _≤_, _<_}
 use native.Mathlib.Omega.{arith}
-use Rattle.diagram.specs.Rows.{Rows, Extends, Arrow, WellFormed, den}
+use Rattle.diagram.specs.Rows.{Arrow, WellFormed, den}
 use Rattle.diagram.specs.Need.{need}
 use Rattle.diagram.specs.Used.{usedCount}
 use Rattle.diagram.specs.Reach.{Reach, reach-used, one-root}

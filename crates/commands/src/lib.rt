@@ -42,21 +42,21 @@ pub enum Taken {
     Bad,
 }
 
-// The operations of records.
-pub struct Operation;
+// The operations of records, as outcomes show them.
+struct Operation;
 
 impl Operation {
-    pub const FRESH: u32 = 1;
+    const FRESH: u32 = records::Operation::FRESH as u32;
 
-    pub const RELATION: u32 = 2;
+    const RELATION: u32 = records::Operation::RELATION as u32;
 
-    pub const SET: u32 = 3;
+    const SET: u32 = records::Operation::SET as u32;
 
-    pub const CLEAR: u32 = 4;
+    const CLEAR: u32 = records::Operation::CLEAR as u32;
 
-    pub const COUNT: u32 = 5;
+    const COUNT: u32 = records::Operation::COUNT as u32;
 
-    pub const COLLECT: u32 = 6;
+    const COLLECT: u32 = records::Operation::COLLECT as u32;
 }
 
 // The outcome of a command that makes no node and takes no rounds.

@@ -8,10 +8,9 @@ use Prim.Native.Nat.{ℕ, zero, suc, _≤_, _<_, _%_}
 use native.Mathlib.Decide.{decLe, ℕ-discrete}
 use native.Mathlib.Omega.{arith}
 use lib.Dec.{eqb}
-use Rattle.diagram.specs.Level.{Val, Fn, turn, turn-inj, upd, upd-same, upd-other, splice-below, splice-above, Reads, CofactorOf, PartOf}
+use Rattle.diagram.specs.Level.{Val, Fn, turn, turn-inj, upd-other, splice-below, splice-above, Reads, CofactorOf, PartOf}
 use Rattle.diagram.specs.Rows.{Rows, marked, target, Leads, row, Arrow, denTo, den, WellFormed, row-leads}
 use Rattle.diagram.specs.Canon.{level-told}
-use Rattle.diagram.specs.Steps.{twoF, existsF, shiftF}
 use Rattle.diagram.specs.Reach.{Reach, Reached, ReachedTo, reached-low, reached-high, reach-used, reach-part}
 
 -- f reads no level but those that pass the test P.
@@ -62,28 +61,6 @@ module _ (rows : Rows) (P : ℕ → Bool) (roots : List ℕ) (all : (i : ℕ) �
   pub reads-levels : (f a : ℕ) → Reached rows roots a → ReadsOn P (den f rows a)
   unfolding den
   reads-levels f a r v w h = ap (turn (marked a)) (readsTo-levels f (target a) r v w h)
-
--- What the steps read. NOT, AND and OR read what their operands do.
-pub readsOn-two : {P : ℕ → Bool} {f g : Fn} (op : Bool → Bool → Bool) → ReadsOn P f → ReadsOn P g → ReadsOn P (twoF op f g)
-readsOn-two op r s v w h =
-    let p = r v w h in
-    let q = s v w h in
-    cc (p, q)
-
--- EXISTS at x reads all that its operand reads but x.
-pub readsOn-exists : {P Q : ℕ → Bool} {f : Fn} (x : ℕ) → ((l : ℕ) → P l ≡ true → l ≢ x → Q l ≡ true) → ReadsOn P f → ReadsOn Q (existsF x f)
-readsOn-exists {P} x pq r v w h =
-    let agree : (b : Bool) (l : ℕ) → P l ≡ true → upd v x b l ≡ upd w x b l = λ b l p.
-    by-cases (ℕ-discrete l x) (λ e. rw e (upd-same v x b ∙ sym (upd-same w x b)))
-    (λ ne. upd-other v x b l ne ∙ h l (pq l p ne) ∙ sym (upd-other w x b l ne))
-    in
-    let p = r _ _ (agree false) in
-    let q = r _ _ (agree true) in
-    cc (p, q)
-
--- SHIFT reads the next level of each.
-pub readsOn-shift : {P Q : ℕ → Bool} {f : Fn} → ((l : ℕ) → P l ≡ true → Q (suc l) ≡ true) → ReadsOn P f → ReadsOn Q (shiftF f)
-readsOn-shift pq r v w h = r _ _ (λ l p. h (suc l) (pq l p))
 
 -- A function of even levels below m, an even number, does not read level m − 1.
 pub even-reads : {f : Fn} (lo k : ℕ) → even k ≡ false → ReadsOn even f → Reads lo (suc k) f → Reads lo k f

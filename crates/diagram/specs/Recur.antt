@@ -19,12 +19,6 @@ module _ {m N : ℕ} {rows : Rows} (wf : WellFormed m N rows) where
   answer-arrow : {limit : ℕ} (a : ℕ) (F : Fn) → Arrow rows a → ((v : Val) → den m rows a v ≡ F v) → OpPost m N limit rows rows (at a) F
   answer-arrow a F u e = post-arrow wf (record { arrow = u; same = e })
 
-  pub answer-zero : {limit : ℕ} (F : Fn) → ((v : Val) → F v ≡ false) → OpPost m N limit rows rows (at 0) F
-  answer-zero F e = answer-arrow 0 F tt (λ v. den-zero m rows v ∙ sym (e v))
-
-  pub answer-one : {limit : ℕ} (F : Fn) → ((v : Val) → F v ≡ true) → OpPost m N limit rows rows (at 1) F
-  answer-one F e = answer-arrow 1 F tt (λ v. den-one m rows v ∙ sym (e v))
-
   pub answer-same : {limit : ℕ} (a : ℕ) (F : Fn) → Arrow rows a → ((v : Val) → F v ≡ den m rows a v) → OpPost m N limit rows rows (at a) F
   answer-same a F u e = answer-arrow a F u (λ v. sym (e v))
 

@@ -159,18 +159,3 @@ module _ {m N limit : ℕ} {before : Rows} {F : Fn} (roots : List ℕ) (wf : Wel
           kept = keeps-trans clean-keeps (extends-keeps clean-wf (keeps-arrow clean-keeps) (q .kept));
           result = again-result part r q;
         }) s
-
--- EXACTNESS: a step is refused exactly where its result and what is live need more than `limit` rows.
-pub refused-needs : {m N limit : ℕ} {before after : Rows} {roots : List ℕ} {F : Fn} → StepPost m N limit before after roots full F
-    → limit < stepNeed m (map (den m before) roots) F
-refused-needs p = p .result
-
-pub needs-refused : {m N limit : ℕ} {before after : Rows} {roots : List ℕ} {F : Fn} (answer : Result) → StepPost m N limit before after roots answer F
-    → limit < stepNeed m (map (den m before) roots) F → answer ≡ full
-needs-refused (at a) p h = absurd (let (d, n) = p .result in omega (arith, h, n))
-needs-refused full p h = refl
-
--- The row need of an answered step is the number of rows that its result and the roots reach.
-pub step-count : {m N limit : ℕ} {before after clean : Rows} {a : ℕ} {F : Fn} (roots : List ℕ) → StepPost m N limit before after roots (at a) F
-    → Collects after clean (a ∷ roots) → usedCount clean N ≡ stepNeed m (map (den m before) roots) F
-step-count roots p c = count-need roots (p .wf) (p .kept) (p .result .0) c

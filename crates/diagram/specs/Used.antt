@@ -52,10 +52,6 @@ module _ (rows : Rows) where
 abbrev pub usedCount : Rows → ℕ → ℕ
 usedCount rows N = length (usedRows rows N)
 
--- It is at most N.
-pub usedCount-le : (rows : Rows) (N : ℕ) → usedCount rows N ≤ N
-usedCount-le rows N = pigeonhole N (usedRows rows N) (nodup-usedRows rows N) (λ i h. usedRows-mem rows N i h .0)
-
 -- A larger table has no fewer.
 pub usedCount-extends : {old new : Rows} (N : ℕ) → Extends old new → usedCount old N ≤ usedCount new N
 usedCount-extends {old} {new} N e =

@@ -14,7 +14,7 @@ use Rattle.soundness.specs.Sound.{Sound, tableOf}
 use Rattle.table.specs.Make.{result}
 use Rattle.table.specs.declared.Made.{Made}
 use Rattle.table.specs.declared.Made.the-variants as made
-use Rattle.book.specs.Book.{Book, relation, checks}
+use Rattle.book.specs.Book.{relation, checks}
 use Rattle.book.specs.BookOf.{bookOf}
 use Rattle.book.specs.Pairs.{PairEvals}
 use Rattle.contract.specs.Seen.{seen, SoundWords}
@@ -39,9 +39,6 @@ pub record RelationReady (t : ℕ) (old bs : List ℕ) : Type 0 where
 
 -- `rows` and `n` are what the code reads and hands on
 module _ {old bs : List ℕ} {t rows n : ℕ} (p : RelationReady t old bs) (er : rows ≡ headerOf old ROWS) (en : n ≡ headerOf old BITS) where
-  abbrev b : Book
-  b = bookOf (seen old)
-
   pub relation-asks : PairsPre (limitsOf n rows rows 0) (view rows old) bs
   relation-asks = rw (er, en) (record { sound = p .sound; bits = refl; rows = refl; limit = omega arith; passed = p .passed })
 

@@ -8,7 +8,7 @@ use lib.ListN.{length}
 use Rattle.accounts.specs.declared.Terms.{Terms}
 use Rattle.accounts.specs.Terms.{named, rowsUnder, roundsUnder}
 use Rattle.layout.specs.Refusals.{keepsAll}
-use Rattle.layout.specs.Places.{REGISTERS, RELATIONS, MAX-ROWS, BITS, ROWS, wordsFor, FIRST-REGISTER, FIRST-RELATION}
+use Rattle.layout.specs.Places.{REGISTERS, MAX-ROWS, BITS, ROWS, wordsFor, FIRST-REGISTER, FIRST-RELATION}
 use Rattle.layout.specs.View.{View, view, headerOf, putHeader}
 use Rattle.layout.specs.declared.Refusal.the-variants as refusal
 use Rattle.tokens.specs.declared.Kind.the-variants as kind
@@ -17,20 +17,19 @@ use Rattle.soundness.specs.Sound.{Sound, tableOf}
 use Rattle.table.specs.Make.{result}
 use Rattle.table.specs.declared.Made.{Made}
 use Rattle.table.specs.declared.Made.the-variants as made
-use Rattle.book.specs.Book.{set, relation, checks}
+use Rattle.book.specs.Book.{set, checks}
 use Rattle.book.specs.BookOf.{bookOf}
 use Rattle.book.specs.Run.{Outcome, value, full as noRows, spent}
 use Rattle.book.specs.Follow.{Evals}
 use Rattle.contract.specs.Seen.{seen, SoundWords}
 use Rattle.contract.specs.Posts.{CallPost}
 use Rattle.modal.specs.declared.Limits.{Limits}
-use Rattle.operations.specs.Work.{OpFrame}
 use Rattle.evaluator.specs.Scene.{endedOf}
 use Rattle.evaluator.specs.Whole.{SetPre, SetPost}
 use Rattle.evaluator.specs.declared.Evaluated.{Evaluated}
 use Rattle.evaluator.specs.declared.Evaluated.the-variants.{Value, Full, Spent}
 use Rattle.formula_steps.specs.Evaluated.{registerStored, relationStored, Tidied}
-use Rattle.formula_steps.specs.Ends.{Through, through-sound, through-done, SetEnds, set-value, set-full, set-spent, RelationEnds, relation-value, relation-full}
+use Rattle.formula_steps.specs.Ends.{Through, through-sound, through-done, SetEnds, set-value, set-full, set-spent}
 use Rattle.formula_steps.specs.Replies.{storedReply, loadedReply}
 use Rattle.formula_steps.specs.declared.Stored.{Stored}
 use Rattle.formula_steps.specs.declared.Stored.the-variants as stored

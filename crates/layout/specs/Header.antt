@@ -29,10 +29,6 @@ module _ (n N : ℕ) where
   room-two : length two ≡ HEADER
   room-two = length-set one ROWS N ∙ room
 
-  pub header-length : length (headerWords n N) ≡ HEADER
-  unfolding headerWords
-  header-length = length-set two LAYOUT MARKED ∙ room-two
-
   pub header-bits : getD (headerWords n N) BITS 0 ≡ n
   unfolding headerWords
   header-bits =

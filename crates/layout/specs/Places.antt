@@ -34,10 +34,6 @@ BITS = 0
 abbrev pub ROWS : ℕ
 ROWS = 1
 
--- the rounds of all answered set calls
-abbrev pub TALLY : ℕ
-TALLY = 2
-
 -- how many rows are used
 abbrev pub USED : ℕ
 USED = 3

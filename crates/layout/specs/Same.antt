@@ -5,9 +5,9 @@ use mathlib.Core.List.{List}
 use Prim.Native.Nat.{ℕ, _+_, _-_, _*_, _/_, _%_, _≤_, _<_}
 use native.Mathlib.Omega.{arith}
 use native.Mathlib.Decide.{decLt}
-use lib.ListN.{length, getD}
+use lib.ListN.{getD}
 use lib.Seq.{ext-getD}
-use Rattle.layout.specs.Places.{HEADER, CELLS, wordsFor, cellsAt, listAt, headsAt, slotsAt, beyondAt}
+use Rattle.layout.specs.Places.{HEADER, CELLS, cellsAt, listAt, headsAt, slotsAt, beyondAt}
 use Rattle.layout.specs.View.{View, view, header-is, cell-is, list-is, head-is, slot-is, beyondOf}
 
 -- "words beyond that are never changed": the words past the table, one by one

@@ -46,8 +46,6 @@ impl Table {
 
     pub const ROWS: usize = 1;
 
-    pub const TALLY: usize = 2;
-
     pub const USED: usize = 3;
 
     pub const CURSOR: usize = 4;
@@ -99,6 +97,19 @@ impl Table {
         words[Table::LAYOUT] = Table::MARKED;
         words
     }
+}
+
+// The factors of multiplicative hashes, and how many values a word has.
+pub struct Hash;
+
+impl Hash {
+    pub const FIRST: u64 = 2654435761;
+
+    pub const SECOND: u64 = 2246822519;
+
+    pub const THIRD: u64 = 3266489917;
+
+    pub const VALUES: u64 = 4294967296;
 }
 
 // Why a call is refused.
@@ -274,7 +285,7 @@ pub fn put_slot(words: &mut [u32], rows: u32, p: u32, v: u32)
 }
 
 // Word h of the header of any words: 0 past the end of the header or of the words.
-pub fn root_word(words: &[u32], h: usize) -> u32
+fn root_word(words: &[u32], h: usize) -> u32
     ensures { λ r. ⌜ r ≡ headerOf (now (words .entry)) h ⌝ }
 {
     if h >= Table::HEADER {

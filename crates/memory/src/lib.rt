@@ -1,4 +1,5 @@
 // Remembered results of operations: an entry is absent or right.
+use layout::Hash;
 use layout::Table;
 use layout::get;
 use layout::header_word;
@@ -56,8 +57,8 @@ fn slot_of(slots: u32, x: u32, y: u32) -> u32
     requires { ⌜ 0 < slots ⌝ }
     ensures { λ r. ⌜ r < slots ⌝ }
 {
-    let a = 2654435761 * (x as u64) % 4294967296;
-    let b = 2246822519 * (y as u64) % 4294967296;
+    let a = Hash::FIRST * (x as u64) % Hash::VALUES;
+    let b = Hash::SECOND * (y as u64) % Hash::VALUES;
     ((a + b) / 32768 & ((slots - 1) as u64)) as u32
 }
 

@@ -36,9 +36,6 @@ pub record Alike {A : Type 0} (xs ys : List A) : Type 0 where
   pub to : Within xs ys
   pub from : Within ys xs
 
-pub alike-refl : {A : Type 0} (xs : List A) → Alike xs xs
-alike-refl xs = record { to = λ a h. h; from = λ a h. h }
-
 pub alike-cons : {A : Type 0} {xs ys : List A} (x : A) → Alike xs ys → Alike (x ∷ xs) (x ∷ ys)
 alike-cons x s = record {
   to = λ a h. ⊎-elim (λ e. here e) (λ i. there (s .to a i)) (mem-cases h);
@@ -115,9 +112,6 @@ module _ {n N limit : ℕ} {W : View} (b : Base n N limit W) where
 
   pub base-bits : n ≤ MAX-BITS
   base-bits = let e = b .ready .levels-is in let l = b .sound .good .sizes .n-max in omega arith
-
-  pub base-some : 1 ≤ n
-  base-some = let e = b .ready .levels-is in let l = b .sound .good .sizes .n-pos in omega arith
 
   -- what a step asks, with the arrows that it is lent
   pub step-pre : {lent : List ℕ} {s : Step} → ((a : ℕ) → Mem a lent → Arrow (rowsOf W) a) → Fits (2 * n) (rowsOf W) s → StepPre (2 * n) N limit W lent s

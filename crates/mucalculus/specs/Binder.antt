@@ -1,6 +1,6 @@
 -- The meaning of a binder that passes check 6: it is a fixpoint, the least or the greatest, and iteration finds it in time.
 -- With b `true` this is mu, with `false` nu. Assumes nothing.
-use mathlib.Core.Path.{_≡_, refl, _∙_, subst}
+use mathlib.Core.Path.{_≡_, refl, subst}
 use mathlib.Core.Bool.{Bool, true, false}
 use mathlib.Core.List.{List}
 use Prim.Native.Nat.{ℕ, suc}
@@ -8,7 +8,7 @@ use lib.Dec.{T}
 use lib.ListN.{length}
 use Rattle.mucalculus.specs.Sets.{and-out}
 use Rattle.mucalculus.specs.Order.{Below, Dir, start}
-use Rattle.mucalculus.specs.Fixpoint.{fix, iter, Mono, fix-bound, fix-fixed, iter-found, stable}
+use Rattle.mucalculus.specs.Fixpoint.{fix, iter, Mono, fix-bound, fix-fixed, stable}
 use Rattle.mucalculus.specs.Form.{Form, mu, nu, Model, Env, put, reads, steady, bind}
 use Rattle.mucalculus.specs.Means.{size, means, length-means}
 use Rattle.mucalculus.specs.Polarity.{means-turns}
@@ -39,10 +39,6 @@ module _ (m : Model) (e : Env) (P : ℕ) (f : Form) (s : T (steady f)) (t : T (r
   -- the j-th set of the iteration: from no state for mu, from all for nu, each the body's value at the one before
   abbrev pub round : ℕ → List Bool
   round j = iter (body m e P f) j (start b (size m))
-
-  -- where a round leaves its set as it is, that set is the binder's meaning
-  pub round-found : (j : ℕ) → round (suc j) ≡ round j → round j ≡ means m e (bind b P f)
-  round-found j h = iter-found (size m) (body m e P f) (body-length m e P f) body-mono b j h ∙ means-bind m e P f b
 
   -- that comes to pass in round 2^n + 1 at the latest
   pub round-ends : round (suc (size m)) ≡ round (size m)

@@ -1,14 +1,14 @@
 -- The enumerated runs are exactly those that count; until in plain words. Assumes nothing.
-use mathlib.Core.Path.{_≡_, refl, sym, ap, ap₂, _∙_, subst}
+use mathlib.Core.Path.{_≡_, refl, sym, ap, ap₂, subst}
 use mathlib.Core.Logic.{_⊎_, inl, inr, _↔_}
 use mathlib.Core.Bool.{Bool, true, false, not, _&&_, _||_, cond}
 use mathlib.Core.List.{List, [], _∷_, _++_, map, List·Memᴰ, List·Memᴰ·head, List·Memᴰ·tail, List·Memᴰ·not-nil, Memᴰ·append-left, Memᴰ·append-right}
-use Prim.Native.Nat.{ℕ, zero, suc, _<_, suc-le-suc, zero-le}
+use Prim.Native.Nat.{ℕ, zero, suc, _<_}
 use native.Mathlib.Omega.{arith}
 use native.Mathlib.Nat.{suc-ne-zero, not-suc-le-zero, le-of-suc-le-suc}
-use lib.Dec.{T, T-not, ltb, eqb, ltb→lt, lt→ltb, eqb→eq, eqb-refl, eqb·suc-suc, leb·suc-suc}
+use lib.Dec.{T, ltb, eqb, ltb→lt, lt→ltb, eqb→eq, eqb·suc-suc, leb·suc-suc}
 use lib.ListN.{length}
-use Rattle.mucalculus.specs.Sets.{mem, table, and-in, and-out, or-left, or-right, or-out, all-in, all-out, any, any-in, any-out, keep, keep-in, keep-out, map-mem, false-of, true-of}
+use Rattle.mucalculus.specs.Sets.{mem, table, and-in, and-out, or-right, or-out, all-in, all-out, any, any-in, any-out, keep, keep-in, keep-out, map-mem, true-of}
 use Rattle.mucalculus.specs.Form.{Pairs}
 use Rattle.mucalculus.specs.Runs.{pair, stuck, isRun, endOf, counts, passes, nexts, gather, walks, untilSet}
 use Rattle.mucalculus.specs.Laws.{getD-table, table-out}

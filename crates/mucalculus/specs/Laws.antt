@@ -2,13 +2,12 @@
 use mathlib.Core.Path.{_≡_, refl, sym, ap, ap₂, _∙_, subst}
 use mathlib.Core.Bool.{Bool, true, false, not, _&&_, _||_}
 use mathlib.Core.List.{List, [], _∷_, List·Memᴰ, List·Memᴰ·head, List·Memᴰ·tail, List·Memᴰ·not-nil}
-use Prim.Native.Nat.{ℕ, zero, suc, _^_, _<_, suc-le-suc, zero-le}
+use Prim.Native.Nat.{ℕ, zero, suc, _<_, suc-le-suc, zero-le}
 use native.Mathlib.Nat.{le-of-suc-le-suc, not-suc-le-zero}
-use lib.ListN.{length, getD}
-use lib.Seq.{ext-getD}
-use Rattle.mucalculus.specs.Sets.{mem, table, length-table, all, any}
-use Rattle.mucalculus.specs.Form.{Form, Pairs}
-use Rattle.mucalculus.specs.Means.{clip, compl, pair, always, sometimes, meansPair, holds}
+use lib.ListN.{getD}
+use Rattle.mucalculus.specs.Sets.{mem, table, all, any}
+use Rattle.mucalculus.specs.Form.{Pairs}
+use Rattle.mucalculus.specs.Means.{compl, pair, always, sometimes}
 
 -- ---- tables
 
@@ -21,19 +20,11 @@ pub table-ext : {X : Type 0} (k : ℕ) (g h : ℕ → X) → ((i : ℕ) → i < 
 table-ext zero g h e = refl
 table-ext {X} (suc k) g h e = ap₂ (λ (x : X) (l : List X). x ∷ l) (e zero (suc-le-suc zero-le)) (table-ext k (λ i. g (suc i)) (λ i. h (suc i)) (λ i l. e (suc i) (suc-le-suc l)))
 
--- a set of k states is the table of its membership
-pub clip-same : (k : ℕ) (A : List Bool) → length A ≡ k → clip k A ≡ A
-clip-same k A e = ext-getD false (clip k A) A (length-table k (mem A) ∙ sym e) (λ i l. getD-table k (mem A) i false (subst (λ (n : ℕ). i < n) (length-table k (mem A)) l))
-
 -- the elements of a table
 pub table-out : {X : Type 0} (k : ℕ) (h : ℕ → X) (P : X → Type 0) → ((i : ℕ) → i < k → P (h i)) → (x : X) → List·Memᴰ x (table k h) → P x
 table-out zero h P c x m = absurd (List·Memᴰ·not-nil m)
 table-out (suc k) h P c x (List·Memᴰ·head e) = subst P (sym e) (c zero (suc-le-suc zero-le))
 table-out (suc k) h P c x (List·Memᴰ·tail m) = table-out k (λ i. h (suc i)) P (λ i l. c (suc i) (suc-le-suc l)) x m
-
--- a relation's meaning holds the pairs in which its formula holds
-pub pair-means : (n : ℕ) (f : Form) (s t : ℕ) → s < 2 ^ n → t < 2 ^ n → pair (meansPair n f) s t ≡ holds f s t
-pair-means n f s t h i = ap (λ (A : List Bool). mem A t) (getD-table (2 ^ n) (λ u. table (2 ^ n) (λ w. holds f u w)) s [] h) ∙ getD-table (2 ^ n) (λ w. holds f s w) t false i
 
 -- ---- box by diamond
 

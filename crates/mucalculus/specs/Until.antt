@@ -6,7 +6,7 @@ use Prim.Native.Nat.{ℕ, zero, suc, _<_}
 use lib.Dec.{T, T-not}
 use lib.ListN.{length}
 use Rattle.mucalculus.specs.Sets.{mem, table, length-table, noStates, allStates, and-out, all, all-out, any, any-in, any-out, keep, true-of, false-of}
-use Rattle.mucalculus.specs.Order.{Below, start}
+use Rattle.mucalculus.specs.Order.{Below}
 use Rattle.mucalculus.specs.Fixpoint.{least, iter, Mono, fix-iter, stable, fix-mono}
 use Rattle.mucalculus.specs.Form.{Pairs}
 use Rattle.mucalculus.specs.Runs.{pair, stuck, passes, before, nexts, gather, walks, over, untilSet}

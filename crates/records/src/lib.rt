@@ -26,6 +26,23 @@ pub enum Found {
     Record { command: Command, size: usize },
 }
 
+// The operations of records.
+pub struct Operation;
+
+impl Operation {
+    pub const FRESH: u8 = 1;
+
+    pub const RELATION: u8 = 2;
+
+    pub const SET: u8 = 3;
+
+    pub const CLEAR: u8 = 4;
+
+    pub const COUNT: u8 = 5;
+
+    pub const COLLECT: u8 = 6;
+}
+
 // The parts of a record: two length bytes L, the version, the operation, the arguments.
 pub struct Format;
 
@@ -80,22 +97,22 @@ fn quad(bytes: &[u8], at: usize) -> u32
 }
 
 // Whether an operation takes so many bytes of arguments.
-pub fn takes(op: u8, count: usize) -> bool
+fn takes(op: u8, count: usize) -> bool
     ensures { λ r. ⌜ r ≡ takes op count ⌝ }
 {
     match op {
-        1 => count == 3,
-        2 => 1 <= count,
-        3 => 5 <= count,
-        4 => count == 1,
-        5 => count == 1,
-        6 => count == 0,
+        Operation::FRESH => count == 3,
+        Operation::RELATION => 1 <= count,
+        Operation::SET => 5 <= count,
+        Operation::CLEAR => count == 1,
+        Operation::COUNT => count == 1,
+        Operation::COLLECT => count == 0,
         _ => false,
     }
 }
 
 // Whether the bytes at hand are enough to say that no record can be read.
-pub fn doomed(bytes: &[u8]) -> bool
+fn doomed(bytes: &[u8]) -> bool
     ensures { λ r. ⌜ r ≡ doomed (now (bytes .entry)) ⌝ }
 {
     if bytes.len() < Format::VERSION_AT {
@@ -126,23 +143,23 @@ fn command_in(op: u8, arguments: &[u8]) -> Command
     ensures { λ r. ⌜ r ≡ commandIn op (now (arguments .entry)) ⌝ }
 {
     match op {
-        1 => Command::Fresh {
+        Operation::FRESH => Command::Fresh {
             n: arguments[0] as u32,
             rows: pair(arguments, 1) as u32,
         },
-        2 => Command::Relation {
+        Operation::RELATION => Command::Relation {
             t: arguments[0] as u32,
             start: Format::RELATION_FORMULA,
         },
-        3 => Command::Set {
+        Operation::SET => Command::Set {
             r: arguments[0] as u32,
             rounds: quad(arguments, 1),
             start: Format::SET_FORMULA,
         },
-        4 => Command::Clear {
+        Operation::CLEAR => Command::Clear {
             r: arguments[0] as u32,
         },
-        5 => Command::Count {
+        Operation::COUNT => Command::Count {
             r: arguments[0] as u32,
         },
         _ => Command::Collect,

@@ -1,23 +1,23 @@
 -- What of a table's words soundness does not depend on: remembered results, header words that are neither sizes nor roots, spare words of rows,
 -- rows that are not in the list, and heads of buckets that no listed row has. Assumes nothing.
-use mathlib.Core.Path.{_≡_, refl, ap, sym, _∙_, subst}
+use mathlib.Core.Path.{_≡_, ap, sym, _∙_, subst}
 use mathlib.Core.Bool.{true}
 use mathlib.Core.List.{List, [], _∷_}
 use Prim.Native.Nat.{ℕ, zero, suc, _*_, _≤_, _<_}
 use native.Mathlib.Omega.{arith}
 use lib.ListN.{getD}
-use Rattle.diagram.specs.Rows.{Rows, Arrow, WellFormed, Extends, Same}
+use Rattle.diagram.specs.Rows.{Arrow, WellFormed, Same}
 use Rattle.diagram.specs.Grow.{arrow-extends, same-wellFormed}
 use Rattle.diagram.specs.Reach.{Reach, one-root}
 use Rattle.diagram.specs.Keep.{Keeps, extends-keeps, keeps-reach-back}
 use Rattle.diagram.specs.Even.{even}
-use Rattle.layout.specs.Places.{BITS, ROWS, USED, LAYOUT, FIRST-REGISTER, FIRST-RELATION, ROOTS-END, LOW, HIGH, LEVEL, NEXT, RANK}
+use Rattle.layout.specs.Places.{BITS, ROWS, USED, LAYOUT, FIRST-REGISTER, ROOTS-END, LOW, HIGH, LEVEL, NEXT, RANK}
 use Rattle.layout.specs.View.{View, header-is}
-use Rattle.soundness.specs.Used.{Sizes, used, used-yes, used-in, InList, Ranked, rowsOf}
-use Rattle.soundness.specs.Index.{bucket, keyOf, live, live-link, Hit, Down, Index}
+use Rattle.soundness.specs.Used.{used, used-yes, used-in, InList, rowsOf}
+use Rattle.soundness.specs.Index.{keyOf, live, live-link, Hit, Down, Index}
 use Rattle.soundness.specs.Framed.{hit-frame, live-more}
 use Rattle.soundness.specs.Roots.{Ref}
-use Rattle.soundness.specs.Sound.{Good, Sound, EvenRegs, tableOf, along}
+use Rattle.soundness.specs.Sound.{Good, Sound, tableOf}
 
 -- the two agree in sizes, layout and roots, in the list of used rows, and in the listed rows' level, arrows, link, rank and bucket
 pub record Alike (W X : View) : Type 0 where
@@ -127,24 +127,6 @@ module _ {W X : View} (e : Alike W X) where
         let t : Reach (rowsOf W) (b ∷ []) i = keeps-reach-back k r in
         ap even (k .level i t) ∙ s .even h a l b q′ i t;
   }
-
--- nor sound
-pub alike-sym : {W X : View} → Alike W X → Alike X W
-alike-sym {W} {X} e = record {
-  rows = sym (e .rows);
-  size = sym (e .size);
-  bits = sym (e .bits);
-  count = sym (e .count);
-  used = sym (e .used);
-  layout = sym (e .layout);
-  roots = λ h a l. sym (e .roots h a l);
-  list = λ k h. sym (e .list k (rw (e .used) at h));
-  cell = λ k h l m. let z = rw (e .used) at h in rw (e .list k z) (sym (e .cell k z l m));
-  head = λ k h. let z = rw (e .used) at h in
-      let q : keyOf X (X .list k) ≡ keyOf W (W .list k) =
-      rw (e .list k z, e .rows, e .cell k z LEVEL (omega arith), e .cell k z LOW (omega arith), e .cell k z HIGH (omega arith)) in
-      rw q (sym (e .head k z));
-}
 
 -- "All zero words are unsound."
 pub zeros-unsound : (ws : List ℕ) → ((k : ℕ) → getD ws k 0 ≡ 0) → Sound (tableOf ws) → ⊥

@@ -3,6 +3,7 @@ mod chains;
 
 use chains::Part;
 use chains::part_ok;
+use layout::Hash;
 use layout::Table;
 use layout::get;
 use layout::head;
@@ -40,11 +41,11 @@ pub fn bucket_of(rows: u32, level: u32, low: u32, high: u32) -> u32
     requires { ⌜ (0 < rows) × (rows ≤ MAX-ROWS) ⌝ }
     ensures { λ r. ⌜ (r ≡ bucket rows level low high) × (r < rows) ⌝ }
 {
-    let x = 2654435761 * (low as u64) % 4294967296;
-    let y = 2246822519 * (high as u64) % 4294967296;
-    let z = 3266489917 * (level as u64) % 4294967296;
-    let h = (x + (y + z)) % 4294967296;
-    (h * (rows as u64) / 4294967296) as u32
+    let x = Hash::FIRST * (low as u64) % Hash::VALUES;
+    let y = Hash::SECOND * (high as u64) % Hash::VALUES;
+    let z = Hash::THIRD * (level as u64) % Hash::VALUES;
+    let h = (x + (y + z)) % Hash::VALUES;
+    (h * (rows as u64) / Hash::VALUES) as u32
 }
 
 // Whether row i is used.

@@ -1,6 +1,6 @@
 -- A row joins the list of used rows and the index. Assumes nothing.
-use mathlib.Core.Path.{_≡_, refl, ap, sym, _∙_, subst}
-use mathlib.Core.Bool.{Bool, true, false, true≢false}
+use mathlib.Core.Path.{_≡_, refl, ap, sym, _∙_}
+use mathlib.Core.Bool.{true, false, true≢false}
 use mathlib.Core.Logic.{_≢_, by-cases}
 use Prim.Native.Nat.{ℕ, zero, suc, _+_, _<_}
 use native.Mathlib.Numerals.{add-one}
@@ -10,7 +10,7 @@ use borrow.Author.Tests.{eq-eqb, ne-eqb}
 use Rattle.layout.specs.Places.{USED, LOW, HIGH, LEVEL, NEXT, RANK}
 use Rattle.layout.specs.View.{View, putCell, putHeader, putList, putHead}
 use Rattle.soundness.specs.Used.{used, used-yes, used-in, Ranked, listed-used}
-use Rattle.soundness.specs.Index.{bucket, keyOf, live, live-used, live-link, Link, Has, Hit, stop, skip, Down, down-link, Index}
+use Rattle.soundness.specs.Index.{bucket, keyOf, live, live-used, live-link, Link, Has, Hit, stop, skip, Down, Index}
 use Rattle.soundness.specs.Framed.{hit-frame, live-more}
 
 -- row i takes the next place of the list, and becomes the first of its chain

@@ -1,5 +1,5 @@
 -- Columns of a table's view written from 0 up. Assumes nothing.
-use mathlib.Core.Path.{_≡_, refl, fun-ext, sym}
+use mathlib.Core.Path.{_≡_, refl, fun-ext}
 use mathlib.Core.Bool.{Bool, true, false, cond}
 use Prim.Native.Nat.{ℕ, _+_, _≤_, _<_}
 use native.Mathlib.Omega.{arith}

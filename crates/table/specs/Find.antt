@@ -8,7 +8,7 @@ use native.Mathlib.Omega.{arith}
 use Rattle.layout.specs.View.{View}
 use Rattle.soundness.specs.Used.{used}
 use Rattle.soundness.specs.Index.{bucket, live, Has, Hit, Index}
-use Rattle.soundness.specs.Checks.{Room, Links}
+use Rattle.soundness.specs.Checks.{Room}
 use Rattle.soundness.specs.Sound.{Good, room-of}
 use Rattle.table.specs.declared.Found.{Found}
 use Rattle.table.specs.declared.Found.the-variants as found
@@ -31,9 +31,6 @@ find-start W l lo hi x i u h = rw (h .level, h .low, h .high) at (x .found i u)
 
 pub good-room : (W : View) → Good W → Room W
 good-room W g = room-of W (g .sizes) (g .ranked .count-le)
-
-pub good-links : (W : View) → Good W → Links W
-good-links W g = record { room = good-room W g; nexts = g .index .nexts }
 
 -- what the search for an unused row finds from one row up to another
 pub record FreePost (W : View) (start stop r : ℕ) : Type 0 where

@@ -15,8 +15,6 @@ use Rattle.soundness.specs.Used.{rowsOf}
 use Rattle.soundness.specs.Mark.{reaches-used}
 use Rattle.soundness.specs.Roots.{Ref}
 use Rattle.soundness.specs.Sound.{Good, Sound}
-use Rattle.table.specs.Make.{MakePost}
-use Rattle.table.specs.declared.Made.{Made}
 
 -- what an old arrow reaches in the larger table it reaches in the old one
 pub reach-back : {m N : ℕ} {old new : Rows} → Extends old new → WellFormed m N old → {a i : ℕ} → Arrow old a → Reach new (a ∷ []) i → Reach old (a ∷ []) i
@@ -48,6 +46,3 @@ plain-extends (no-row n all f s) = s .forth
 pub made-extends : {m N limit : ℕ} {before after : Rows} {l a b : ℕ} {o : Result} → Making m N limit before after l a b o → Extends before after
 made-extends (as-is b p) = plain-extends p
 made-extends (turned b p e) = plain-extends p
-
-pub sound-made : {W X : View} {limit l lo hi : ℕ} {r : Made} → Sound W → MakePost W X limit l lo hi r → Sound X
-sound-made s p = sound-extends s (p .good) (λ h a l. p .frame .header h (omega arith) (omega arith)) (made-extends (p .made))

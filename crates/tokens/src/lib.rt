@@ -143,7 +143,7 @@ fn until_of(b: u8) -> Token
 }
 
 // The meaning of a byte.
-pub fn token_of(b: u8) -> Lead
+fn token_of(b: u8) -> Lead
     ensures { λ r. ⌜ r ≡ tokenOf b ⌝ }
 {
     let byte = wide(b);
@@ -166,7 +166,7 @@ pub fn token_of(b: u8) -> Lead
 }
 
 // Whether formulas speak of states.
-pub fn is_states(grammar: Grammar) -> bool
+fn is_states(grammar: Grammar) -> bool
     ensures { λ r. ⌜ r ≡ isStates grammar ⌝ }
 {
     match grammar {
@@ -177,7 +177,7 @@ pub fn is_states(grammar: Grammar) -> bool
 }
 
 // Whether formulas speak of runs.
-pub fn has_runs(grammar: Grammar) -> bool
+fn has_runs(grammar: Grammar) -> bool
     ensures { λ r. ⌜ r ≡ hasRuns grammar ⌝ }
 {
     match grammar {
@@ -188,7 +188,7 @@ pub fn has_runs(grammar: Grammar) -> bool
 }
 
 // Whether the grammar takes the leaf.
-pub fn leaf_allowed(l: Leaf, n: u32, grammar: Grammar) -> bool
+fn leaf_allowed(l: Leaf, n: u32, grammar: Grammar) -> bool
     ensures { λ r. ⌜ r ≡ leafAllowed l n grammar ⌝ }
 {
     match l {
@@ -207,7 +207,7 @@ pub fn leaf_allowed(l: Leaf, n: u32, grammar: Grammar) -> bool
 }
 
 // Whether the grammar takes the operator of two parts.
-pub fn two_allowed(w: Two, grammar: Grammar) -> bool
+fn two_allowed(w: Two, grammar: Grammar) -> bool
     ensures { λ r. ⌜ r ≡ twoAllowed w grammar ⌝ }
 {
     match w {
@@ -217,7 +217,7 @@ pub fn two_allowed(w: Two, grammar: Grammar) -> bool
 }
 
 // Whether the grammar takes the token.
-pub fn token_allowed(t: Token, n: u32, grammar: Grammar) -> bool
+fn token_allowed(t: Token, n: u32, grammar: Grammar) -> bool
     ensures { λ r. ⌜ r ≡ allowed t n grammar ⌝ }
 {
     match t {

@@ -8,8 +8,8 @@ use lib.ListN.{set as write}
 use Rattle.accounts.specs.Terms.{alone, rowsUnder, roundsUnder}
 use Rattle.mucalculus.specs.Form.{Form, bot, var, bind, noEnv}
 use Rattle.tokens.specs.declared.Kind.the-variants.{Relation, Set}
-use Rattle.layout.specs.Places.{REGISTERS, RELATIONS, ROWS, TALLY, USED, FIRST-REGISTER, FIRST-RELATION}
-use Rattle.layout.specs.View.{view, headerOf, view-header}
+use Rattle.layout.specs.Places.{REGISTERS, RELATIONS, ROWS, USED, FIRST-REGISTER, FIRST-RELATION}
+use Rattle.layout.specs.View.{headerOf, view-header}
 use Rattle.diagram.specs.Post.{at}
 use Rattle.diagram.specs.Grow.{extends-refl}
 use Rattle.diagram.specs.Reach.{reach-used}
@@ -40,7 +40,7 @@ use Rattle.contract.specs.Checked.{call-refused}
 use Rattle.operations.specs.Work.{op-refl}
 use Rattle.calls.specs.Fresh.{fresh-ready}
 use Rattle.calls.specs.Changes.{clear-done, collect-done}
-use Rattle.formula_steps.specs.Evaluated.{registerStored, as-it-was}
+use Rattle.formula_steps.specs.Evaluated.{as-it-was}
 use Rattle.formula_steps.specs.Ends.{set-value, set-spent, relation-value, through-done}
 use Rattle.witness.specs.Words.{zeros, freshOf, storedIn, length-zeros, view-fresh, view-stored}
 use Rattle.witness.specs.Rounds.{self-ends, self-spent}

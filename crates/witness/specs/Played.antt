@@ -1,19 +1,18 @@
 -- THE CLOSED LIST THEOREM IS INHABITED: a list of calls over the program's words, each under the predicate of its function's `ensures`, and
 -- the third demand of it. Assumes nothing.
-use mathlib.Core.Path.{_≡_, refl, sym, ap, _∙_, subst}
+use mathlib.Core.Path.{_≡_, refl, ap, _∙_}
 use mathlib.Core.Bool.{true, false}
 use mathlib.Core.List.{List, [], _∷_}
 use mathlib.Core.Option.{none, some}
 use Prim.Native.Nat.{ℕ, _+_, _<_}
 use native.Mathlib.Omega.{arith}
-use lib.Dec.{T}
 use lib.ListN.{getD, set as write}
 use Rattle.accounts.specs.declared.Account.{Account}
 use Rattle.accounts.specs.Listed.{none as noAccount}
 use Rattle.accounts.specs.Terms.{alone}
 use Rattle.book.specs.Tallies.{freshened, accountsAfter, tally-since-fresh}
 use borrow.Author.Tests.{ne-eqb}
-use Rattle.layout.specs.Places.{REGISTERS, ROWS, TALLY, USED, FIRST-REGISTER, FIRST-RELATION}
+use Rattle.layout.specs.Places.{REGISTERS, ROWS, USED, FIRST-REGISTER, FIRST-RELATION}
 use Rattle.layout.specs.View.{View, headerOf, view-header}
 use Rattle.book.specs.Book.{Book, freshNumber, relation, set, clear, collect}
 use Rattle.book.specs.BookOf.{bookOf}

@@ -6,7 +6,7 @@ use Prim.Native.Nat.{ℕ, suc, _+_, _≤_, _<_}
 use native.Mathlib.Omega.{arith}
 use native.Mathlib.Decide.{decLt}
 use lib.ListN.{length, replicate, set, length-set, length-replicate, getD-replicate}
-use Rattle.layout.specs.Places.{REGISTERS, HEADER, BITS, ROWS, TALLY, LAYOUT, MARKED, FIRST-REGISTER, wordsFor}
+use Rattle.layout.specs.Places.{REGISTERS, HEADER, BITS, ROWS, LAYOUT, MARKED, FIRST-REGISTER, wordsFor}
 use Rattle.layout.specs.View.{View, view, headerOf, headOf, upd, putHeader, view-header, header-is, header-past, head-is, head-past}
 use Rattle.layout.specs.Header.{headerWords, header-zero}
 use Rattle.table.specs.Fresh.{emptied}
