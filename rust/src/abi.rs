@@ -194,7 +194,7 @@ mod tests {
         let fresh_twice = [0, 5, 1, 1, 1, 0, 100, 0, 5, 1, 1, 1, 0, 100];
         let mut words = vec![3; 1_500];
         let mut list = [9; 7];
-        assert_eq!(super::play(&mut words, &fresh_twice, &mut list), (10, 0));
+        assert_eq!(super::play(&mut words, &fresh_twice, &mut list), (100, 0));
         assert_eq!((words, list), (vec![3; 1_500], [9; 7]));
     }
 
