@@ -2,7 +2,7 @@
 ghost use mathlib.Core.Path.{_≡_};
 ghost use Prim.Native.Nat.{_<_, _≤_, min};
 ghost use lib.ListN.{length, getD, set};
-ghost use Rattle.accounts.specs.Account.{tallied, counted, emptied, lifted, listFits};
+ghost use Rattle.accounts.specs.Account.{tallied, counted, emptied, listFits};
 ghost use Rattle.accounts.specs.Listed.{none, emptiedTo};
 ghost use Rattle.accounts.specs.Terms.{termsWith, named, lent, rowsUnder, roundsUnder, alone};
 
@@ -71,17 +71,6 @@ pub fn with_none(a: Account) -> Account
     Account {
         rows: a.rows,
         rounds: a.rounds,
-        tally: 0,
-    }
-}
-
-// An account with the largest limits.
-pub fn largest() -> Account
-    ensures { λ r. ⌜ r ≡ lifted ⌝ }
-{
-    Account {
-        rows: List::TOP,
-        rounds: List::TOP,
         tally: 0,
     }
 }
@@ -167,21 +156,6 @@ pub fn lone_terms() -> Terms
         rows: List::TOP,
         rounds: List::TOP,
     }
-}
-
-// How many accounts are lent.
-pub fn count(accounts: &[Account]) -> usize
-    ensures { λ r. ⌜ r ≡ length (now (accounts .entry)) ⌝ }
-{
-    accounts.len()
-}
-
-// A copy of the account at a place.
-pub fn account_at(accounts: &[Account], place: usize) -> Account
-    requires { ⌜ place < length (now accounts) ⌝ }
-    ensures { λ r. ⌜ r ≡ getD (now (accounts .entry)) place none ⌝ }
-{
-    accounts[place]
 }
 
 // An answered set's rounds go to the account at a place; every other account, and all limits, are as they were.

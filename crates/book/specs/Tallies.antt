@@ -41,10 +41,6 @@ Fed l (set acc r R bs) = acc ≡ termsOf l (acc .place)
 Fed l (clear r) = Unit {0}
 Fed l collect = Unit {0}
 
-abbrev pub AllFed : List Account → List Event → Type 0
-AllFed l [] = Unit {0}
-AllFed l (e ∷ es) = Fed l (e .0) × AllFed (charged l (e .0) (e .1)) es
-
 -- ---- what a tally counts
 
 -- the rounds of an answered set of the account at place p, by a number and its rounds

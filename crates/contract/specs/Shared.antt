@@ -8,11 +8,10 @@ use Rattle.accounts.specs.declared.Account.{Account}
 use Rattle.accounts.specs.Account.{tallyTop}
 use Rattle.accounts.specs.Listed.{none}
 use Rattle.accounts.specs.declared.Terms.{Terms}
-use Rattle.accounts.specs.Terms.{termsOf}
 use Rattle.book.specs.Book.{fresh, Call, relation, set, clear, collect}
 use Rattle.book.specs.Table.{Reply}
 use Rattle.book.specs.Demand.{Event, calls, Trace, stop, go, Session, Demand}
-use Rattle.book.specs.Tallies.{charged, freshened, accountsAfter, roundsAt, bookRounds, rounds-agree, tally-since-fresh}
+use Rattle.book.specs.Tallies.{charged, freshened, accountsAfter, Fed, roundsAt, bookRounds, rounds-agree, tally-since-fresh}
 use Rattle.contract.specs.Seen.{seen, SoundWords}
 use Rattle.contract.specs.Posts.{CallPost, FreshAllPost, SetAllPost}
 use Rattle.contract.specs.Closed.{makes, performs, asks, words-demand}
@@ -25,7 +24,7 @@ pub record Lent : Type 0 where
 -- a call on both: set names its account in the list and is fed from it; no other call gets the list
 abbrev pub Step : Lent → Call → Lent → Reply → Type 0
 Step a (relation t bs) b y = CallPost (relation t bs) (a .words) (b .words) y × (b .accounts ≡ a .accounts)
-Step a (set acc r R bs) b y = (termsOf (a .accounts) (acc .place) ≡ acc) × SetAllPost (acc .place) r R bs (a .words) (b .words) (a .accounts) (b .accounts) y
+Step a (set acc r R bs) b y = Fed (a .accounts) (set acc r R bs) × SetAllPost (acc .place) r R bs (a .words) (b .words) (a .accounts) (b .accounts) y
 Step a (clear r) b y = CallPost (clear r) (a .words) (b .words) y × (b .accounts ≡ a .accounts)
 Step a collect b y = CallPost collect (a .words) (b .words) y × (b .accounts ≡ a .accounts)
 
@@ -42,7 +41,7 @@ pub record Evening (n N : ℕ) (l : List Event) (end : Lent) : Type 0 where
 step-words : (a b : Lent) (c : Call) (y : Reply) → Step a c b y → CallPost c (a .words) (b .words) y × (b .accounts ≡ charged (a .accounts) c y)
 step-words a b (relation t bs) y (p, e) = (p, e)
 step-words a b (set acc r R bs) y (f, p) =
-    subst (λ (t : Terms). CallPost (set t r R bs) (a .words) (b .words) y × (b .accounts ≡ charged (a .accounts) (set t r R bs) y)) f (p .table, p .list)
+    subst (λ (t : Terms). CallPost (set t r R bs) (a .words) (b .words) y × (b .accounts ≡ charged (a .accounts) (set t r R bs) y)) (sym f) (p .table, p .list)
 step-words a b (clear r) y (p, e) = (p, e)
 step-words a b collect y (p, e) = (p, e)
 
