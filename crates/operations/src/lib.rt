@@ -15,7 +15,7 @@ use table::Code;
 use table::Found;
 use table::make;
 ghost use mathlib.Core.Path.{_≡_};
-ghost use mathlib.Core.Bool.{true};
+ghost use mathlib.Core.Bool.{true, false};
 ghost use Prim.Native.Nat.{_<_, _≤_, min, max};
 ghost use lib.ListN.{length};
 ghost use Rattle.diagram.specs.Rows.{Arrow, den};
@@ -23,7 +23,7 @@ ghost use Rattle.diagram.specs.Even.{ReadsOn, even};
 ghost use Rattle.diagram.specs.Steps.{bitF, andF, orF, shiftF, existsF, lowAt, highAt};
 ghost use Rattle.layout.specs.Places.{wordsFor};
 ghost use Rattle.layout.specs.View.{view};
-ghost use Rattle.layout.specs.Arrows.{isRow, rowOf};
+ghost use Rattle.layout.specs.Arrows.{isRow, rowOf, isMarked};
 ghost use Rattle.soundness.specs.Used.{rowsOf};
 ghost use Rattle.soundness.specs.Checks.{Room};
 ghost use Rattle.table.specs.Code.{madeOf};
@@ -31,6 +31,7 @@ ghost use Rattle.memory.specs.Memo.{Slots};
 ghost use Rattle.operations.specs.Work.{Ready, Known, Worked};
 ghost use Rattle.operations.specs.Open.{RowIs, ReachesLevel};
 ghost use Rattle.operations.specs.Odd.{OddKnown, OddPost, JoinPre, JoinPost};
+ghost use Rattle.operations.specs.Carried.{CarriedMade, carriedFound};
 ghost use Rattle.operations.specs.Pairs.{shortOf, KnownPost, BothRows};
 
 // A row's level, and the arrows that are followed from an arrow to it.
@@ -60,7 +61,27 @@ pub fn bit(words: &mut [u32], rows: u32, levels: u32, limit: u32, level: u32) ->
     make(words, rows, limit, level, Table::NOTHING, Table::EVERYTHING)
 }
 
-// What is known of SHIFT of an arrow: of a constant, or remembered.
+// An answer, with the NOT of an arrow: `Code::FULL` stays.
+fn carry_made(by: u32, made: u32) -> u32
+    ensures { λ r. ⌜ CarriedMade (isMarked by) made r ⌝ }
+{
+    if made == Code::FULL {
+        return Code::FULL;
+    }
+    carry(by, made)
+}
+
+// What was found, with the NOT of an arrow.
+fn carry_found(by: u32, found: Found) -> Found
+    ensures { λ r. ⌜ r ≡ carriedFound (isMarked by) found ⌝ }
+{
+    if let Found::At(r) = found {
+        return Found::At(carry(by, r));
+    }
+    Found::Nothing
+}
+
+// What is known of SHIFT of an arrow: of a constant, or remembered by its row for the arrow without a NOT.
 fn shift_known(words: &[u32], rows: u32, levels: u32, a: u32) -> Found
     requires { ⌜ Ready levels rows 0 (view rows (now words)) × Arrow (rowsOf (view rows (now words))) a ⌝ }
     ensures { λ r. ⌜ Known levels (view rows (now (words .entry))) r (shiftF (den levels (rowsOf (view rows (now (words .entry)))) a)) (isRow a ≡ true) ⌝ }
@@ -68,10 +89,11 @@ fn shift_known(words: &[u32], rows: u32, levels: u32, a: u32) -> Found
     if !is_row(a) {
         return Found::At(a);
     }
-    recall_row(words, rows, a, row_of(a), Memory::SHIFT)
+    let found = recall_row(words, rows, Table::NOTHING, row_of(a), Memory::SHIFT);
+    carry_found(a, found)
 }
 
-// SHIFT of an arrow whose rows all have even levels: every level becomes the next one.
+// SHIFT of an arrow whose rows all have even levels: every level becomes the next one. It is worked out for the arrow without a NOT, once for both.
 pub fn shift(words: &mut [u32], rows: u32, levels: u32, limit: u32, a: u32) -> u32
     requires { ⌜ Ready levels rows limit (view rows (now words)) × Arrow (rowsOf (view rows (now words))) a × ReadsOn even (den levels (rowsOf (view rows (now words))) a) ⌝ }
     ensures { λ r. ⌜ Worked levels rows limit (view rows (now (words .entry))) (view rows (now (words .exit))) (madeOf r) (shiftF (den levels (rowsOf (view rows (now (words .entry)))) a)) ⌝ }
@@ -80,7 +102,8 @@ pub fn shift(words: &mut [u32], rows: u32, levels: u32, limit: u32, a: u32) -> u
     if let Found::At(r) = known {
         return r;
     }
-    shift_row(words, rows, levels, limit, a)
+    let made = shift_row(words, rows, levels, limit, carry(a, a));
+    carry_made(a, made)
 }
 
 // `shift` of a part of a row. It is apart, so that it is inlined in `shift_row`: a part whose result is known costs no call.
@@ -92,16 +115,17 @@ fn shift_part(words: &mut [u32], rows: u32, levels: u32, limit: u32, a: u32) -> 
     if let Found::At(r) = known {
         return r;
     }
-    shift_row(words, rows, levels, limit, a)
+    let made = shift_row(words, rows, levels, limit, carry(a, a));
+    carry_made(a, made)
 }
 
-// SHIFT of an arrow to a row.
+// SHIFT of an arrow without a NOT to a row.
 fn shift_row(words: &mut [u32], rows: u32, levels: u32, limit: u32, a: u32) -> u32
-    requires { ⌜ Ready levels rows limit (view rows (now words)) × Arrow (rowsOf (view rows (now words))) a × ReadsOn even (den levels (rowsOf (view rows (now words))) a) × (isRow a ≡ true) ⌝ }
+    requires { ⌜ Ready levels rows limit (view rows (now words)) × Arrow (rowsOf (view rows (now words))) a × ReadsOn even (den levels (rowsOf (view rows (now words))) a) × (isRow a ≡ true) × (isMarked a ≡ false) ⌝ }
     ensures { λ r. ⌜ Worked levels rows limit (view rows (now (words .entry))) (view rows (now (words .exit))) (madeOf r) (shiftF (den levels (rowsOf (view rows (now (words .entry)))) a)) ⌝ }
 {
     let i = row_of(a);
-    let n = node_at(words, rows, a, i);
+    let n = node_at(words, rows, Table::NOTHING, i);
     let low = shift_part(words, rows, levels, limit, n.low);
     if low == Code::FULL {
         return Code::FULL;
@@ -111,7 +135,7 @@ fn shift_row(words: &mut [u32], rows: u32, levels: u32, limit: u32, a: u32) -> u
         return Code::FULL;
     }
     let made = make(words, rows, limit, n.level + 1, low, high);
-    remember_row(words, rows, a, i, Memory::SHIFT, made);
+    remember_row(words, rows, Table::NOTHING, i, Memory::SHIFT, made);
     made
 }
 

@@ -1,6 +1,7 @@
--- `shift` meets its contract: what is known, or the work on the row. Assumes nothing.
+-- `shift` meets its contract: what is known, or the work on the row, the mark carried. Assumes nothing.
 use borrow.Author.Needs.{needs}
 use Rattle.operations.specs.Work.{ready-look, worked-there}
+use Rattle.operations.specs.Carried.{plain-row, plain-mark, plain-arrow, plain-reads, shift-carried}
 use Rattle.operations.proofs.shift.Statement.{statement}
 use Rattle.operations.proofs.shift.Tie as tie
 
@@ -13,6 +14,8 @@ shift-spec =
     (λ c. search needs)
     (λ c. worked-there (c .before .before .before .before .before .before .pre .0) (c .before .before .before .shift-known .ensures .at _ (c .before .known .given .1)))
     (λ c. search needs)
-    (λ c κs. (c .before .before .before .before .before .before .pre .0, c .before .before .before .before .before .before .pre .1, c .before .before .before .before .before .before .pre .2, c .before .before .before .shift-known .ensures .none (c .before .enum-told .given .1)))
+    (λ c κs. search needs)
+    (λ c κs. let a = c .before .before .before .before .before .before .before .args .a in let e = c .carry .ensures in (c .before .before .before .before .before .before .before .pre .0, plain-arrow a e (c .before .before .before .before .before .before .before .pre .0) (c .before .before .before .before .before .before .before .pre .1), plain-reads a e (c .before .before .before .before .before .before .before .pre .0) (c .before .before .before .before .before .before .before .pre .2), plain-row a e (c .before .before .before .before .shift-known .ensures .none (c .before .before .enum-told .given .1)), plain-mark a e))
+    (λ c κs. search needs)
     (λ c. search needs)
-    (λ c. c .before .before .shift-row .ensures))
+    (λ c. shift-carried (c .before .before .before .before .before .before .before .before .before .before .before .args .a) (c .before .before .before .before .carry .ensures) (c .before .before .before .shift-row .ensures) (c .carry-made .ensures)))
