@@ -1,4 +1,6 @@
 pub mod Words
 pub mod Rounds
 pub mod Made
+pub mod Row
 pub mod Played
+pub mod Full

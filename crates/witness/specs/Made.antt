@@ -1,5 +1,5 @@
 -- Calls whose formulas take no step, on any words: each with the words that it leaves meets its contract. Assumes nothing.
-use mathlib.Core.Path.{_≡_, refl, sym, _∙_, subst}
+use mathlib.Core.Path.{_≡_, refl, sym, _∙_, subst, subst₂}
 use mathlib.Core.Bool.{Bool, true, false}
 use mathlib.Core.List.{List, [], _∷_}
 use Prim.Native.Nat.{ℕ, _+_, _*_, _<_, _≤_}
@@ -10,9 +10,10 @@ use Rattle.mucalculus.specs.Form.{Form, bot, var, bind, noEnv}
 use Rattle.tokens.specs.declared.Kind.the-variants.{Relation, Set}
 use Rattle.layout.specs.Places.{REGISTERS, RELATIONS, ROWS, USED, FIRST-REGISTER, FIRST-RELATION}
 use Rattle.layout.specs.View.{headerOf, view-header}
+use Rattle.diagram.specs.Rows.{Rows}
 use Rattle.diagram.specs.Post.{at}
 use Rattle.diagram.specs.Grow.{extends-refl}
-use Rattle.diagram.specs.Reach.{reach-used}
+use Rattle.diagram.specs.Reach.{Reach, reach-used}
 use Rattle.soundness.specs.Used.{Sizes, used, used-in, rowsOf}
 use Rattle.soundness.specs.Sound.{tableOf}
 use Rattle.soundness.specs.Filled.{filled, filled-arrow}
@@ -20,7 +21,7 @@ use Rattle.table.specs.Add.{frame-refl}
 use Rattle.collect.specs.Freed.{Freed, freed-count}
 use Rattle.formula.specs.Parse.{formOf, formulaOf}
 use Rattle.formula.specs.Checks.{firstRefusal}
-use Rattle.book.specs.Book.{Book, relation, set, clear, collect, modelOf, liveOf, regFilled, relFilled}
+use Rattle.book.specs.Book.{Book, relation, set, clear, collect, modelOf, liveOf, regFilled, relFilled, formulaIn}
 use Rattle.book.specs.Compute.{computing}
 use Rattle.book.specs.Listed.{frame}
 use Rattle.book.specs.Table.{rootsOf}
@@ -93,7 +94,7 @@ module _ (old : List ℕ) (s : SoundWords old) where
   abbrev b : Book
   b = bookOf (seen old)
 
-  held : Held (2 * b .n) (rowsOf (tableOf old)) (rootsOf (seen old)) (liveOf b)
+  pub held : Held (2 * b .n) (rowsOf (tableOf old)) (rootsOf (seen old)) (liveOf b)
   held = shows-held b (seen old) (sound-shows-book old s)
 
   -- relation t of no pairs
@@ -109,27 +110,34 @@ module _ (old : List ℕ) (s : SoundWords old) where
         (as-it-was refl)
         (view-header (headerOf old ROWS) old (s .good .sizes .room) (FIRST-RELATION + t) 1 (omega arith))
 
+  -- the evaluation of f under limits N and R ended so
+  abbrev pub Ends : Rows → ℕ → ℕ → Form → Ended → Type 0
+  Ends after N R f y = Evals (b .n) (b .N) (rowsOf (tableOf old)) after (rootsOf (seen old)) (run (modelOf b) N R noEnv (liveOf b) f 0) y
+
+  -- one account with the largest limits is no limit
+  pub unlimited : {after : Rows} (R : ℕ) (f : Form) (y : Ended) → R ≤ 4_294_967_295 → Ends after (b .N) R f y
+      → Ends after (rowsUnder (b .N) alone) (roundsUnder R alone) f y
+  unlimited {after} R f y small d =
+      let N-max = s .good .sizes .N-max in
+      let e : b .N ≡ rowsUnder (b .N) alone = omega arith in
+      let i : R ≡ roundsUnder R alone = omega arith in
+      subst₂ (λ (N R : ℕ). Ends after N R f y) e i d
+
   module _ (r : ℕ) (l : r < REGISTERS) where
     -- set r to mu P. P or nu P. P
     module _ (d : Bool) (R : ℕ) (small : R ≤ 4_294_967_295) where
-      abbrev Ends : Ended → Form → Type 0
-      Ends y f = Evals (b .n) (b .N) (rowsOf (tableOf old)) (rowsOf (tableOf old)) (rootsOf (seen old)) (run (modelOf b) (rowsUnder (b .N) alone) (roundsUnder R alone) noEnv (liveOf b) f 0) y
+      abbrev Alone : Ended → Form → Type 0
+      Alone y f = Ends (rowsOf (tableOf old)) (rowsUnder (b .N) alone) (roundsUnder R alone) f y
 
-      -- one account with the largest limits is no limit
-      unlimited : (y : Ended) (f : Form) → Evals (b .n) (b .N) (rowsOf (tableOf old)) (rowsOf (tableOf old)) (rootsOf (seen old)) (run (modelOf b) (b .N) R noEnv (liveOf b) f 0) y → Ends y f
-      unlimited y f d =
-          let N-max = s .good .sizes .N-max in
-          let e : b .N ≡ rowsUnder (b .N) alone = omega arith in
-          let i : R ≡ roundsUnder R alone = omega arith in
-          subst (λ (k : ℕ). Evals (b .n) (b .N) (rowsOf (tableOf old)) (rowsOf (tableOf old)) (rootsOf (seen old)) (run (modelOf b) (rowsUnder (b .N) alone) k noEnv (liveOf b) f 0) y) i
-          (subst (λ (k : ℕ). Evals (b .n) (b .N) (rowsOf (tableOf old)) (rowsOf (tableOf old)) (rootsOf (seen old)) (run (modelOf b) k R noEnv (liveOf b) f 0) y) e d)
+      self-alone : (y : Ended) → Ends (rowsOf (tableOf old)) (b .N) R (bind d 0 (var 0)) y → Alone y (formulaIn b Set (self d))
+      self-alone y e = subst (Alone y) (self-form d (b .n)) (unlimited R (bind d 0 (var 0)) y small e)
 
       -- one round: node number 0 or 1
       pub self-done : 0 < R → CallPost (set alone r R (self d)) old (storedIn old r (startArrow d)) (setReply (ends (startArrow d) 1))
       self-done i =
           through-done s tt (λ a. a)
           (set-value old s (tableOf old) (s .good) (op-refl (tableOf old)) alone r R (self d) l tt (self-passes d (b .n) (regFilled b) (relFilled b)) (startArrow d) 1
-          (subst (Ends (ends (startArrow d) 1)) (self-form d (b .n)) (unlimited (ends (startArrow d) 1) (bind d 0 (var 0)) (self-ends (modelOf b) (b .N) R noEnv (liveOf b) 0 (s .good .rows) held d i))))
+          (self-alone (ends (startArrow d) 1) (self-ends (modelOf b) (b .N) R noEnv (liveOf b) 0 (s .good .rows) held d i)))
           (as-it-was refl)
           (view-stored (headerOf old ROWS) r (startArrow d) old (s .good .sizes .room) l)
 
@@ -138,7 +146,7 @@ module _ (old : List ℕ) (s : SoundWords old) where
       self-refused z =
           through-done s tt (λ a. a)
           (set-spent old s (tableOf old) (s .good) (op-refl (tableOf old)) alone r R (self d) l tt (self-passes d (b .n) (regFilled b) (relFilled b))
-          (subst (Ends nine) (self-form d (b .n)) (unlimited nine (bind d 0 (var 0)) (self-spent (modelOf b) (b .N) R noEnv (liveOf b) 0 (s .good .rows) held d z))))
+          (self-alone nine (self-spent (modelOf b) (b .N) R noEnv (liveOf b) 0 (s .good .rows) held d z)))
           (as-it-was refl) refl
 
     -- set r to mu P. NOT P
@@ -148,17 +156,18 @@ module _ (old : List ℕ) (s : SoundWords old) where
     pub empty-done : CallPost (clear r) old (write old (FIRST-REGISTER + r) 0) (plain 0)
     empty-done = clear-done old (write old (FIRST-REGISTER + r) 0) r s l refl (view-header (headerOf old ROWS) old (s .good .sizes .room) (FIRST-REGISTER + r) 0 (omega arith))
 
-  -- collect where no row is used
-  module _ (z : headerOf old USED ≡ 0) where
-    unused : (i : ℕ) → used (tableOf old) i ≡ true → ⊥
-    unused i u = let p = used-in _ _ _ _ i u .place in omega arith
-
+  -- collect where registers and relations reach every used row
+  module _ (needed : (i : ℕ) → used (tableOf old) i ≡ true → Reach (rowsOf (tableOf old)) (filled (tableOf old)) i) where
     same : Freed (tableOf old) (tableOf old) (filled (tableOf old))
     same = record {
       sound = s;
       frame = frame-refl (tableOf old);
-      collects = record { kept = extends-refl (rowsOf (tableOf old)); only = λ i u. absurd (unused i u); all = λ i r. reach-used (s .good .rows) (filled-arrow s) r };
+      collects = record { kept = extends-refl (rowsOf (tableOf old)); only = needed; all = λ i r. reach-used (s .good .rows) (filled-arrow s) r };
     }
 
-    pub collected-done : CallPost collect old old (valued 0)
-    collected-done = collect-done old old s refl (record { freed = same; needs = sym z ∙ freed-count (tableOf old) (tableOf old) (filled (tableOf old)) s same })
+    pub collected-done : (k : ℕ) → headerOf old USED ≡ k → CallPost collect old old (valued k)
+    collected-done k z = collect-done old old s refl (record { freed = same; needs = sym z ∙ freed-count (tableOf old) (tableOf old) (filled (tableOf old)) s same })
+
+-- where none is used
+pub unused : (old : List ℕ) → headerOf old USED ≡ 0 → (i : ℕ) → used (tableOf old) i ≡ true → ⊥
+unused old z i u = let p = used-in _ _ _ _ i u .place in omega arith

@@ -24,7 +24,7 @@ use Rattle.contract.specs.Seen.{seen, SoundWords}
 use Rattle.contract.specs.Posts.{FreshPost, CallPost}
 use Rattle.contract.specs.Closed.{makes, performs, asks, words-demand}
 use Rattle.witness.specs.Words.{zeros, freshOf, storedIn, length-zeros, fresh-zero, view-stored}
-use Rattle.witness.specs.Made.{noPairs, self, odd, fresh-done, noPairs-done, self-done, self-refused, odd-done, collected-done, empty-done}
+use Rattle.witness.specs.Made.{noPairs, self, odd, fresh-done, noPairs-done, self-done, self-refused, odd-done, collected-done, unused, empty-done}
 
 -- ---- the list: n = 1, N = 100, the five calls, and refusals 6 and 9
 
@@ -126,7 +126,7 @@ played =
           go relation-loaded (go set-first (go set-second
           (go (odd-done twice s 1 (omega arith) 100)
           (go (self-refused twice s 1 (omega arith) false 0 (omega arith) refl)
-          (go (collected-done twice s (twice-stands .used))
+          (go (collected-done twice s (λ i u. absurd (unused twice (twice-stands .used) i u)) 0 (twice-stands .used))
           (go (empty-done twice s 0 (omega arith)) stop))))));
     }
 

@@ -1,13 +1,13 @@
--- The words that fresh leaves of zeros, and that a set without a new row leaves of any words. Assumes nothing.
-use mathlib.Core.Path.{_≡_, sym, ap, _∙_, fun-ext}
+-- The words that fresh leaves of zeros, and that a set without a new row leaves of any words; how words look after each write. Assumes nothing.
+use mathlib.Core.Path.{_≡_, refl, sym, ap, _∙_, fun-ext}
 use mathlib.Core.Logic.{_≢_, by-cases}
 use mathlib.Core.List.{List}
 use Prim.Native.Nat.{ℕ, suc, _+_, _≤_, _<_}
 use native.Mathlib.Omega.{arith}
 use native.Mathlib.Decide.{decLt}
 use lib.ListN.{length, replicate, set, length-set, length-replicate, getD-replicate}
-use Rattle.layout.specs.Places.{REGISTERS, HEADER, BITS, ROWS, LAYOUT, MARKED, FIRST-REGISTER, wordsFor}
-use Rattle.layout.specs.View.{View, view, headerOf, headOf, upd, putHeader, view-header, header-is, header-past, head-is, head-past}
+use Rattle.layout.specs.Places.{REGISTERS, HEADER, CELLS, BITS, ROWS, LAYOUT, MARKED, FIRST-REGISTER, wordsFor, cellsAt, listAt, headsAt}
+use Rattle.layout.specs.View.{View, view, headerOf, headOf, upd, putHeader, putCell, putList, putHead, view-header, view-cell, view-list, view-head, header-is, header-past, head-is, head-past}
 use Rattle.layout.specs.Header.{headerWords, header-zero}
 use Rattle.table.specs.Fresh.{emptied}
 use Rattle.formula_steps.specs.Evaluated.{registerStored}
@@ -42,19 +42,37 @@ heads-zeros N k l b = by-cases (decLt b N)
     (λ i. head-is N (replicate k 0) b i ∙ getD-replicate {A = ℕ} k _ 0 0 (omega arith))
     (λ i. head-past N (replicate k 0) b (omega arith))
 
--- two words of a table's header written
-two-written : (N h i v w : ℕ) (ws : List ℕ) → wordsFor N ≤ length ws → h < HEADER → i < HEADER → view N (set (set ws h v) i w) ≡ putHeader (putHeader (view N ws) h v) i w
-two-written N h i v w ws room l m =
-    let same = length-set ws h v in
-    view-header N (set ws h v) (omega arith) i w m ∙ ap (λ (x : View). putHeader x i w) (view-header N ws room h v l)
+-- ---- writing
 
--- and a third one
-three-written : (N h i j v w x : ℕ) (ws : List ℕ) → wordsFor N ≤ length ws → h < HEADER → i < HEADER → j < HEADER
-    → view N (set (set (set ws h v) i w) j x) ≡ putHeader (putHeader (putHeader (view N ws) h v) i w) j x
-three-written N h i j v w x ws room l m o =
-    let one = length-set ws h v in
-    let two = length-set (set ws h v) i w in
-    view-header N (set (set ws h v) i w) (omega arith) j x o ∙ ap (λ (y : View). putHeader y j x) (two-written N h i v w ws room l m)
+-- words with room for a table of N rows, and how they look
+pub record Viewed (N : ℕ) (ws : List ℕ) (W : View) : Type 0 where
+  pub room : wordsFor N ≤ length ws
+  pub is : view N ws ≡ W
+
+pub viewed : {N : ℕ} {ws : List ℕ} → wordsFor N ≤ length ws → Viewed N ws (view N ws)
+viewed r = record { room = r; is = refl }
+
+-- a word is written: of the header, of a row, of the list of used rows, of the heads
+module _ {N : ℕ} {ws : List ℕ} {W : View} (p : Viewed N ws W) where
+  roomy : (k v : ℕ) → wordsFor N ≤ length (set ws k v)
+  roomy k v = let e = length-set ws k v in let r = p .room in omega arith
+
+  pub put-header : (h v : ℕ) → h < HEADER → Viewed N (set ws h v) (putHeader W h v)
+  put-header h v l = record { room = roomy h v; is = view-header N ws (p .room) h v l ∙ ap (λ (x : View). putHeader x h v) (p .is) }
+
+  pub put-cell : (i k v : ℕ) → i < N → k < CELLS → Viewed N (set ws (cellsAt i + k) v) (putCell W i k v)
+  put-cell i k v l m = record { room = roomy (cellsAt i + k) v; is = view-cell N ws (p .room) i k v l m ∙ ap (λ (x : View). putCell x i k v) (p .is) }
+
+  pub put-list : (k v : ℕ) → k < N → Viewed N (set ws (listAt N + k) v) (putList W k v)
+  put-list k v l = record { room = roomy (listAt N + k) v; is = view-list N ws (p .room) k v l ∙ ap (λ (x : View). putList x k v) (p .is) }
+
+  pub put-head : (b v : ℕ) → b < N → Viewed N (set ws (headsAt N + b) v) (putHead W b v)
+  put-head b v l = record { room = roomy (headsAt N + b) v; is = view-head N ws (p .room) b v l ∙ ap (λ (x : View). putHead x b v) (p .is) }
+
+-- n, N and the layout
+sizes-put : (n N rows : ℕ) (ws : List ℕ) → wordsFor rows ≤ length ws
+    → Viewed rows (set (set (set ws BITS n) ROWS N) LAYOUT MARKED) (putHeader (putHeader (putHeader (view rows ws) BITS n) ROWS N) LAYOUT MARKED)
+sizes-put n N rows ws room = put-header (put-header (put-header (viewed room) BITS n (omega arith)) ROWS N (omega arith)) LAYOUT MARKED (omega arith)
 
 -- the header that fresh writes is zeros but for n, N and the layout
 header-fresh : (n N k : ℕ) → HEADER ≤ k → upd (upd (upd (headerOf (zeros k)) BITS n) ROWS N) LAYOUT MARKED ≡ headerOf (headerWords n N)
@@ -62,14 +80,14 @@ unfolding headerWords zeros
 header-fresh n N k l =
     let same = length-replicate {A = ℕ} HEADER 0 in
     ap (λ (f : ℕ → ℕ). upd (upd (upd f BITS n) ROWS N) LAYOUT MARKED) (fun-ext (λ h. header-zeros k l h ∙ sym (header-zeros HEADER (omega arith) h)))
-    ∙ sym (ap (λ (x : View). x .header) (three-written 0 BITS ROWS LAYOUT n N MARKED (replicate HEADER 0) (omega arith) (omega arith) (omega arith) (omega arith)))
+    ∙ sym (ap (λ (x : View). x .header) (sizes-put n N 0 (replicate HEADER 0) (omega arith) .is))
 
 -- "Fresh empties them all"
 pub view-fresh : (n N k : ℕ) → wordsFor N ≤ k → view N (freshOf n N k) ≡ emptied (view N (zeros k)) n N
 unfolding freshOf
 view-fresh n N k room =
     let same = length-zeros k in
-    three-written N BITS ROWS LAYOUT n N MARKED (zeros k) (omega arith) (omega arith) (omega arith) (omega arith)
+    sizes-put n N N (zeros k) (omega arith) .is
     ∙ (λ q. record {
       rows = N;
       size = length (zeros k);
