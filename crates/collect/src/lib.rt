@@ -1,15 +1,14 @@
 // Collecting: the rows that no root needs become unused.
 use layout::Table;
-use layout::get;
 use layout::header_word;
 use layout::listed;
 use layout::put_head;
 use layout::put_header;
 use soundness::Bitmap;
-use soundness::bucket_of;
 use soundness::mark;
 use soundness::mark_refs;
 use soundness::marked;
+use soundness::row_bucket;
 use table::append;
 ghost use mathlib.Core.Path.{_≡_};
 ghost use mathlib.Core.List.{_++_, List·Memᴰ as Mem};
@@ -90,10 +89,8 @@ fn clear_heads(words: &mut [u32], rows: u32, total: u32)
     let mut k = 0;
     while k < total {
         let i = listed(words, rows, k);
-        let level = get(words, rows, i, Table::LEVEL);
-        let low = get(words, rows, i, Table::LOW);
-        let high = get(words, rows, i, Table::HIGH);
-        put_head(words, rows, bucket_of(rows, level, low, high), 0);
+        let b = row_bucket(words, rows, i);
+        put_head(words, rows, b, 0);
         k += 1;
     }
 }

@@ -20,7 +20,7 @@ ghost use Rattle.layout.specs.Places.{MAX-ROWS, HEADER, wordsFor, BITS, ROWS, L
 ghost use Rattle.layout.specs.View.{view, headerOf, listOf, headOf};
 ghost use Rattle.layout.specs.Arrows.{isRow, isMarked};
 ghost use Rattle.soundness.specs.Used.{Sizes, used, rowsOf, Ranked};
-ghost use Rattle.soundness.specs.Index.{bucket, live, Has, Hit, Down, Link};
+ghost use Rattle.soundness.specs.Index.{bucket, keyOf, live, Has, Hit, Down, Link};
 ghost use Rattle.soundness.specs.Bits.{MARK-WORDS, isOn, Sets};
 ghost use Rattle.soundness.specs.Mark.{Marks, MarkPre};
 ghost use Rattle.soundness.specs.Roots.{Ref, MarksAll, RefPre, RefsPre, Held};
@@ -46,6 +46,17 @@ pub fn bucket_of(rows: u32, level: u32, low: u32, high: u32) -> u32
     let z = Hash::THIRD * (level as u64) % Hash::VALUES;
     let h = (x + (y + z)) % Hash::VALUES;
     (h * (rows as u64) / Hash::VALUES) as u32
+}
+
+// The bucket of row i.
+pub fn row_bucket(words: &[u32], rows: u32, i: u32) -> u32
+    requires { ⌜ (i < rows) × (rows ≤ MAX-ROWS) × (wordsFor rows ≤ length (now words)) ⌝ }
+    ensures { λ r. ⌜ (r ≡ keyOf (view rows (now (words .entry))) i) × (r < rows) ⌝ }
+{
+    let level = get(words, rows, i, Table::LEVEL);
+    let low = get(words, rows, i, Table::LOW);
+    let high = get(words, rows, i, Table::HIGH);
+    bucket_of(rows, level, low, high)
 }
 
 // Whether row i is used.
@@ -248,13 +259,13 @@ fn found_row(words: &[u32], rows: u32, i: u32) -> Walk
     requires { ⌜ (used (view rows (now words)) i ≡ true) × Links (view rows (now words)) ⌝ }
     ensures { λ r. ⌜ WalkSays (Finds (view rows (now (words .entry))) i) r ⌝ }
 {
-    let level = get(words, rows, i, Table::LEVEL);
-    let low = get(words, rows, i, Table::LOW);
-    let high = get(words, rows, i, Table::HIGH);
-    let b = bucket_of(rows, level, low, high);
+    let b = row_bucket(words, rows, i);
     if head(words, rows, b) == i + 1 {
         return Walk::Met;
     }
+    let level = get(words, rows, i, Table::LEVEL);
+    let low = get(words, rows, i, Table::LOW);
+    let high = get(words, rows, i, Table::HIGH);
     hits(words, rows, first(words, rows, b), level, low, high, i)
 }
 

@@ -10,7 +10,7 @@ use borrow.Author.Tests.{eq-eqb, ne-eqb}
 use Rattle.layout.specs.Places.{USED, LOW, HIGH, LEVEL, NEXT, RANK}
 use Rattle.layout.specs.View.{View, putCell, putHeader, putList, putHead}
 use Rattle.soundness.specs.Used.{used, used-yes, used-in, Ranked, listed-used}
-use Rattle.soundness.specs.Index.{bucket, keyOf, live, live-used, live-link, Link, Has, Hit, stop, skip, Down, Index}
+use Rattle.soundness.specs.Index.{keyOf, live, live-used, live-link, Link, Has, Hit, stop, skip, Down, Index}
 use Rattle.soundness.specs.Framed.{hit-frame, live-more}
 
 -- row i takes the next place of the list, and becomes the first of its chain
@@ -114,7 +114,6 @@ module _ (W : View) (i : ℕ) (ranked : Ranked W) (index : Index W) (row : i < W
   }
 
 -- the steps of `append`
-pub append-by : (W : View) (i : ℕ) {W₁ W₂ W₃ W₄ W₅ : View} {x y z b f u : ℕ} → x ≡ W .cell i LEVEL → y ≡ W .cell i LOW → z ≡ W .cell i HIGH → b ≡ bucket (W .rows) x y z
-    → f ≡ live (used W) (W .head b) → u ≡ W .header USED
+pub append-by : (W : View) (i : ℕ) {W₁ W₂ W₃ W₄ W₅ : View} {b f u : ℕ} → b ≡ keyOf W i → f ≡ live (used W) (W .head b) → u ≡ W .header USED
     → W₁ ≡ putCell W i NEXT f → W₂ ≡ putCell W₁ i RANK u → W₃ ≡ putList W₂ u i → W₄ ≡ putHead W₃ b (i + 1) → W₅ ≡ putHeader W₄ USED (u + 1) → W₅ ≡ appended W i
-append-by W i ex ey ez eb ef eu e₁ e₂ e₃ e₄ e₅ = rw (e₅, e₄, e₃, e₂, e₁, ef, eb, ex, ey, ez, eu)
+append-by W i eb ef eu e₁ e₂ e₃ e₄ e₅ = rw (e₅, e₄, e₃, e₂, e₁, ef, eb, eu)

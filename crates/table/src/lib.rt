@@ -11,6 +11,7 @@ use layout::put_header;
 use layout::put_listed;
 use soundness::bucket_of;
 use soundness::first;
+use soundness::row_bucket;
 use soundness::same_row;
 use soundness::used_row;
 ghost use mathlib.Core.Path.{_≡_};
@@ -135,10 +136,7 @@ pub fn append(words: &mut [u32], rows: u32, i: u32)
     requires { ⌜ (i < rows) × Room (view rows (now words)) × (headerOf (now words) USED < rows) ⌝ }
     ensures { λ _. ⌜ view rows (now (words .exit)) ≡ appended (view rows (now (words .entry))) i ⌝ }
 {
-    let level = get(words, rows, i, Table::LEVEL);
-    let low = get(words, rows, i, Table::LOW);
-    let high = get(words, rows, i, Table::HIGH);
-    let b = bucket_of(rows, level, low, high);
+    let b = row_bucket(words, rows, i);
     let next = first(words, rows, b);
     let used = header_word(words, Table::USED);
     put(words, rows, i, Table::NEXT, next);
