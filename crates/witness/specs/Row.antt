@@ -79,7 +79,7 @@ module _ (W : View) (none : W .header USED ≡ 0) where
   joined b l lo hi = putHeader (putHead (putList (putCell (putCell (written W 0 l lo hi) 0 NEXT 0) 0 RANK 0) 0 0) b 1) USED 1
 
   joined-is : (b l lo hi : ℕ) → b ≡ bucket (W .rows) l lo hi → joined b l lo hi ≡ rowAdded W 0 l lo hi
-  joined-is b l lo hi e = append-by (written W 0 l lo hi) 0 refl refl refl e (sym (live-none (used W) no-row (W .head b))) (sym none) refl refl refl refl refl
+  joined-is b l lo hi e = append-by (written W 0 l lo hi) 0 e (sym (live-none (used W) no-row (W .head b))) (sym none) refl refl refl refl refl
 
 view-row : (N b l lo hi : ℕ) (ws : List ℕ) → wordsFor N ≤ length ws → headerOf ws USED ≡ 0 → b ≡ bucket N l lo hi → b < N
     → Viewed N (joinedIn N (rowPutIn ws l lo hi) b) (rowAdded (view N ws) 0 l lo hi)
