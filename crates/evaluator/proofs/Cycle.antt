@@ -27,7 +27,9 @@ use Rattle.steps.specs.declared.Step.the-variants as step
 use Rattle.book.specs.Turns.{startArrow}
 use Rattle.modal.specs.declared.Limits.{Limits}
 use Rattle.modal.specs.Modal.{ModalPre}
-use Rattle.evaluator.specs.Scene.{stackSize, Scene, opened, Ready, Part, holdsReg, holdsRel, Answers, fromMade, bodyOf, roundOf, isLeast, OverPost, LivePre, LivePost, JoinedPre, JoinedPost, LeafPre, LeafPost, EvalPre, EvalPost, NegatePost, BothPre, BothPost, ModePre, ModePost, BindPre, BindPost, UntilPre, UntilPost}
+use Rattle.evaluator.specs.Scene.{stackSize, Scene, opened, Ready, holdsReg, holdsRel, Answers, fromMade, bodyOf, roundOf, isLeast, OverPost, LivePre, LivePost, JoinedPre, JoinedPost, LeafPre, LeafPost, EvalPre, EvalPost, NegatePost, BothPre, BothPost, ModePre, ModePost, fixOf, variableOf, BodyPart, UntilPost, TurnPre, TurnPost, BindPre, BindPost}
+use Rattle.evaluator.specs.declared.Body.{Body}
+use Rattle.evaluator.specs.declared.Body.the-variants as body
 use Rattle.evaluator.specs.declared.Context.{Context}
 use Rattle.evaluator.specs.declared.Evaluated.{Evaluated}
 use Rattle.evaluator.specs.declared.Evaluated.the-variants.{Value, Spent}
@@ -37,6 +39,7 @@ use Rattle.evaluator.proofs.Outcomes.{Halts}
 use Rattle.evaluator.proofs.Steps.{answers-same, eval-leaf, negate-stops, first-stops, mode-stops, value-set, value-is, negate-asks, negate-ends, both-part, both-ready, both-asks, both-joined}
 use Rattle.evaluator.proofs.Relations.{rel-range, rel-some, over-asks, over-ends}
 use Rattle.evaluator.proofs.Rounds.{Bound, bind-starts, bind-out, bind-ready, bind-stops, bind-ends, bind-turns, bind-less}
+use Rattle.evaluator.proofs.Untils.{absent-of, until-as, until-part, turn-asks, turn-answers}
 
 -- the part after an operator's byte
 abbrev pub inward : Context → Context
@@ -83,24 +86,26 @@ module _ {L : Limits} {W : View} {stack bs : List ℕ} {c : Context} (P : EvalPr
       answers = λ σ f e R p. answers-same (both-form (p .stands) found is two) (A .answers σ _ _ _ e R (left-part p found is two) (right-part p found is two));
     }
 
-  module _ {m : Mode} {u : ℕ} (two : t ≡ Both (Until m u)) where
-    pub until-asked : UntilPre L W stack bs (inward c) u
-    until-asked = record {
-      room = room;
-      scene = P .scene;
-      left = _;
-      right = _;
-      middle = _;
-      end = P .end;
-      ready = P .ready;
-      first = left-part (P .part) found is two;
-      second = right-part (P .part) found is two;
-      relation = until-relation (P .part) found is two;
-    }
+  module _ {m : Mode} {u : ℕ} (two : t ≡ Both (Until m u)) {b b′ : Body} (same : b ≡ b′) (body : UntilPost L bs (inward c) m u b′) where
+    pub until-asked : BindPre L W stack bs (inward c) b
+    until-asked =
+        let p = left-part (P .part) found is two in
+        subst (BindPre L W stack bs (inward c)) (sym (same ∙ body .says _ _ (p .stands))) (record {
+          room = room;
+          scene = P .scene;
+          form = _;
+          end = P .end;
+          ready = P .ready;
+          part = until-part m (P .ready) p (right-part (P .part) found is two) (until-relation (P .part) found is two);
+        })
 
-    pub until-answered : {X : View} {after : List ℕ} {r : Evaluated} → UntilPost L W X stack after bs (inward c) m u r → EvalPost L W X stack after bs c r
-    until-answered A = record {
-      answers = λ σ f e R p. answers-same (both-form (p .stands) found is two) (A .answers σ _ _ _ e R (left-part p found is two) (right-part p found is two) (until-relation p found is two));
+    pub until-answered : {X : View} {after : List ℕ} {r : Evaluated} → BindPost L W X stack after bs (inward c) b r → EvalPost L W X stack after bs c r
+    until-answered {X} {after} {r} A = record {
+      answers = λ σ f e R p.
+          let q = left-part p found is two in
+          let q′ = right-part p found is two in
+          let B = subst (λ (d : Body). BindPost L W X stack after bs (inward c) d r) (same ∙ body .says _ _ (q .stands)) A in
+          answers-same (both-form (p .stands) found is two) (until-as m u (absent-of q) (absent-of q′) (B .answers σ _ e R (until-part m R q q′ (until-relation p found is two))));
     }
 
   module _ {m : Mode} {u : ℕ} (one : t ≡ Modal m u) where
@@ -120,12 +125,23 @@ module _ {L : Limits} {W : View} {stack bs : List ℕ} {c : Context} (P : EvalPr
       answers = λ σ f e R p. answers-same (one-form (p .stands) found is one (is-modal m u)) (A .answers σ _ e R (modal-part p found is one) (modal-relation p found is one));
     }
 
-  module _ {x : Fix} {v : ℕ} (one : t ≡ Binder x v) where
-    pub bind-asked : BindPre L W stack bs (inward c) v
-    bind-asked = record { room = room; scene = P .scene; form = _; end = P .end; ready = P .ready; part = binder-part (P .part) found is one }
+  module _ {x : Fix} {v : ℕ} (one : t ≡ Binder x v) {b : Body} (same : b ≡ body.Binder x v) where
+    pub bind-asked : BindPre L W stack bs (inward c) b
+    bind-asked = subst (BindPre L W stack bs (inward c)) (sym same) (record {
+      room = room;
+      scene = P .scene;
+      form = _;
+      end = P .end;
+      ready = P .ready;
+      part = record { parts = binder-part (P .part) found is one };
+    })
 
-    pub bind-answered : {X : View} {after : List ℕ} {r : Evaluated} → BindPost L W X stack after bs (inward c) x v r → EvalPost L W X stack after bs c r
-    bind-answered A = record { answers = λ σ f e R p. answers-same (one-form (p .stands) found is one (is-binder x v)) (A .answers σ _ e R (binder-part p found is one)) }
+    pub bind-answered : {X : View} {after : List ℕ} {r : Evaluated} → BindPost L W X stack after bs (inward c) b r → EvalPost L W X stack after bs c r
+    bind-answered {X} {after} {r} A = record {
+      answers = λ σ f e R p.
+          let B = subst (λ (d : Body). BindPost L W X stack after bs (inward c) d r) same A in
+          answers-same (one-form (p .stands) found is one (is-binder x v)) (B .answers σ _ e R (record { parts = binder-part p found is one }));
+    }
 
 -- ---- NOT
 
@@ -211,69 +227,75 @@ module _ {L : Limits} {W X : View} {stack after bs : List ℕ} {c : Context} {r 
           → ModePost L W Y stack after bs c m t r′
       over-answered {Y} o m v made = record { answers = λ σ f e R p h. over-ends R (E .answers σ f e R p) z is t h x arrow Y o m v made }
 
--- ---- mu and nu
+-- ---- the rounds of a body
 
 pub same-depth : {b d : Context} → b ≡ d → b .depth ≡ d .depth
 same-depth e = ap (λ (x : Context). x .depth) e
 
--- where a binder's loop stands in every scene: after some rounds, with the arrow a as the current set
-pub record Turns (L : Limits) (W X : View) (stack after bs : List ℕ) (c : Context) (x : Fix) (v a counted : ℕ) : Type 0 where
-  pub bound : (σ : Scene) (f : Form) (e : ℕ) → Ready L W stack (c .places) (c .held) σ → Part (L .bits) bs (c .at) (c .depth) (set (σ .scope) v true) (holdsReg σ) (holdsRel σ) f e
-      → Bound L W X stack after (c .held) (c .rounds) σ x v f a counted
+-- where a body's loop stands in every scene: after some rounds, with the arrow a as the current set
+pub record Turns (L : Limits) (W X : View) (stack after bs : List ℕ) (c : Context) (body : Body) (a counted : ℕ) : Type 0 where
+  pub bound : (σ : Scene) (f : Form) (e : ℕ) → Ready L W stack (c .places) (c .held) σ → BodyPart (L .bits) bs (c .at) (c .depth) (set (σ .scope) (variableOf body) true) (holdsReg σ) (holdsRel σ) body f e
+      → Bound L W X stack after (c .held) (c .rounds) σ (fixOf body) (variableOf body) f a counted
 
--- what a binder's loop keeps, from the words and the stack at its start: their sizes, and where it stands if it started as x does
-pub record Looping (L : Limits) (words₀ words stack₀ stack bs : List ℕ) (c : Context) (v start a counted : ℕ) : Type 0 where
+-- what a loop keeps, from the words and the stack at its start: their sizes, and where it stands
+pub record Looping (L : Limits) (words₀ words stack₀ stack bs : List ℕ) (c : Context) (body : Body) (a counted : ℕ) : Type 0 where
   pub words-size : length words ≡ length words₀
   pub stack-size : length stack ≡ length stack₀
-  pub turns : (x : Fix) → start ≡ startArrow (isLeast x) → Turns L (view (L .rows) words₀) (view (L .rows) words) stack₀ stack bs c x v a counted
+  pub turns : Turns L (view (L .rows) words₀) (view (L .rows) words) stack₀ stack bs c body a counted
 
-pub loop-starts : {L : Limits} {words stack bs : List ℕ} {c : Context} {v a : ℕ} → Looping L words words stack stack bs c v a a (c .rounds)
-loop-starts = record { words-size = refl; stack-size = refl; turns = λ x e. record { bound = λ σ f _ R p. bind-starts R x _ f e } }
+pub loop-starts : {L : Limits} {words stack bs : List ℕ} {c : Context} {body : Body} {a : ℕ} → a ≡ startArrow (isLeast (fixOf body)) → Looping L words words stack stack bs c body a (c .rounds)
+loop-starts {body = body} e = record { words-size = refl; stack-size = refl; turns = record { bound = λ σ f _ R p. bind-starts R (fixOf body) (variableOf body) f e } }
 
-module _ {L : Limits} {words₀ words stack after bs : List ℕ} {c : Context} {v start a counted : ℕ} (P : BindPre L (view (L .rows) words₀) stack bs c v) (I : Looping L words₀ words stack after bs c v start a counted) where
-  pub rounds-out : (x : Fix) → start ≡ startArrow (isLeast x) → L .rounds ≤ counted → BindPost L (view (L .rows) words₀) (view (L .rows) words) stack after bs c x v Spent
-  rounds-out x s l = record { answers = λ σ f e R p. bind-out R (I .turns x s .bound σ f e R p) e l }
+module _ {L : Limits} {words₀ words stack after bs : List ℕ} {c : Context} {body : Body} {a counted : ℕ} (P : BindPre L (view (L .rows) words₀) stack bs c body) (I : Looping L words₀ words stack after bs c body a counted) where
+  pub rounds-out : L .rounds ≤ counted → BindPost L (view (L .rows) words₀) (view (L .rows) words) stack after bs c body Spent
+  rounds-out l = record { answers = λ σ f e R p. bind-out R (I .turns .bound σ f e R p) e l }
 
-  module _ {b : Context} (is-body : b ≡ bodyOf c v (counted + 1)) where
+  module _ {b : Context} {v : ℕ} (is-opened : b ≡ bodyOf c v (counted + 1)) (is-variable : v ≡ variableOf body) where
+    is-body : b ≡ bodyOf c (variableOf body) (counted + 1)
+    is-body = is-opened ∙ ap (λ (w : ℕ). bodyOf c w (counted + 1)) is-variable
+
     open-room : c .held < stackSize
     open-room = let l = P .room in omega arith
 
-    pub body-asked : (x : Fix) → start ≡ startArrow (isLeast x) → EvalPre L (view (L .rows) words) (set after (c .held) a) bs b
-    body-asked x s = subst (λ (d : Context). EvalPre L (view (L .rows) words) (set after (c .held) a) bs d) (sym is-body) (record {
-      room = let l = P .room in omega arith;
-      scene = _;
-      form = P .form;
-      end = P .end;
-      ready = bind-ready (P .ready) (I .turns x s .bound (P .scene) (P .form) (P .end) (P .ready) (P .part)) (I .stack-size) open-room;
-      part = P .part;
-    })
+    -- the scene of a round
+    module _ {σ : Scene} {f : Form} {e : ℕ} (R : Ready L (view (L .rows) words₀) stack (c .places) (c .held) σ)
+        (p : BodyPart (L .bits) bs (c .at) (c .depth) (set (σ .scope) (variableOf body) true) (holdsReg σ) (holdsRel σ) body f e) where
+      stands : Bound L (view (L .rows) words₀) (view (L .rows) words) stack after (c .held) (c .rounds) σ (fixOf body) (variableOf body) f a counted
+      stands = I .turns .bound σ f e R p
 
-    module _ {Y : View} {last : List ℕ} {r : Evaluated} (E : EvalPost L (view (L .rows) words) Y (set after (c .held) a) last bs b r) (more : counted < L .rounds) where
-      -- the body's answer in a scene
-      module _ (x : Fix) (s : start ≡ startArrow (isLeast x)) {σ : Scene} {f : Form} {e : ℕ} (R : Ready L (view (L .rows) words₀) stack (c .places) (c .held) σ)
-          (p : Part (L .bits) bs (c .at) (c .depth) (set (σ .scope) v true) (holdsReg σ) (holdsRel σ) f e) where
-        stands : Bound L (view (L .rows) words₀) (view (L .rows) words) stack after (c .held) (c .rounds) σ x v f a counted
-        stands = I .turns x s .bound σ f e R p
+      inner : Ready L (view (L .rows) words) (set after (c .held) a) (set (c .places) (variableOf body) (c .held)) (c .held + 1) (opened (L .bits) σ (variableOf body) a (stands .turning .A))
+      inner = bind-ready R stands (I .stack-size) open-room
 
-        answered : Answers L (view (L .rows) words) Y (set after (c .held) a) last (c .held + 1) (counted + 1) (opened (L .bits) σ v a (stands .turning .A)) f e r
-        answered = subst (λ (d : Context). EvalPost L (view (L .rows) words) Y (set after (c .held) a) last bs d r) is-body E .answers _ f e (bind-ready R stands (I .stack-size) open-room) p
+    pub body-asked : TurnPre L (view (L .rows) words) (set after (c .held) a) bs b body a
+    body-asked =
+        let T = stands (P .ready) (P .part) in
+        subst (λ (d : Context). TurnPre L (view (L .rows) words) (set after (c .held) a) bs d body a) (sym is-body)
+        (turn-asks {c = bodyOf c (variableOf body) (counted + 1)} (P .scene) (T .turning .A) (T .turning .denotes) body (inner (P .ready) (P .part)) (let l = P .room in omega arith) (P .part))
 
-      pub body-halts : Halts r → (x : Fix) → start ≡ startArrow (isLeast x) → BindPost L (view (L .rows) words₀) Y stack last bs c x v r
-      body-halts h x s = record { answers = λ σ f e R p. bind-stops R (stands x s R p) (I .stack-size) open-room (answered x s R p) more h }
+    module _ {Y : View} {last : List ℕ} {r : Evaluated} (E : TurnPost L (view (L .rows) words) Y (set after (c .held) a) last bs b body a r) (more : counted < L .rounds) where
+      module _ {σ : Scene} {f : Form} {e : ℕ} (R : Ready L (view (L .rows) words₀) stack (c .places) (c .held) σ)
+          (p : BodyPart (L .bits) bs (c .at) (c .depth) (set (σ .scope) (variableOf body) true) (holdsReg σ) (holdsRel σ) body f e) where
+        answered : Answers L (view (L .rows) words) Y (set after (c .held) a) last (c .held + 1) (counted + 1) (opened (L .bits) σ (variableOf body) a (stands R p .turning .A)) f e r
+        answered =
+            turn-answers {c = bodyOf c (variableOf body) (counted + 1)} σ (stands R p .turning .A) (stands R p .turning .denotes) body
+            (subst (λ (d : Context). TurnPost L (view (L .rows) words) Y (set after (c .held) a) last bs d body a r) is-body E) (inner R p) p
+
+      pub body-halts : Halts r → BindPost L (view (L .rows) words₀) Y stack last bs c body r
+      body-halts h = record { answers = λ σ f e R p. bind-stops R (stands R p) (I .stack-size) open-room (answered R p) more h }
 
       module _ {d k q : ℕ} (is : r ≡ Value d k q) where
-        pub body-same : d ≡ a → (x : Fix) → start ≡ startArrow (isLeast x) → BindPost L (view (L .rows) words₀) Y stack last bs c x v (Value d k q)
-        body-same h x s = record { answers = λ σ f e R p. bind-ends R (stands x s R p) (I .stack-size) open-room (answered x s R p) more is h }
+        pub body-same : d ≡ a → BindPost L (view (L .rows) words₀) Y stack last bs c body (Value d k q)
+        body-same h = record { answers = λ σ f e R p. bind-ends R (stands R p) (I .stack-size) open-room (answered R p) more is h }
 
-        pub body-less : (x : Fix) → start ≡ startArrow (isLeast x) → counted < q
-        body-less x s = bind-less (P .ready) (stands x s (P .ready) (P .part)) (I .stack-size) open-room (answered x s (P .ready) (P .part)) more is
+        pub body-less : counted < q
+        body-less = bind-less (P .ready) (stands (P .ready) (P .part)) (I .stack-size) open-room (answered (P .ready) (P .part)) more is
 
-        body-turns : d ≢ a → (x : Fix) → start ≡ startArrow (isLeast x) → Turns L (view (L .rows) words₀) Y stack last bs c x v d q
-        body-turns h x s = record { bound = λ σ f e R p. bind-turns R (stands x s R p) (I .stack-size) open-room (answered x s R p) more is h }
+        body-turns : d ≢ a → Turns L (view (L .rows) words₀) Y stack last bs c body d q
+        body-turns h = record { bound = λ σ f e R p. bind-turns R (stands R p) (I .stack-size) open-room (answered R p) more is h }
 
-        pub loop-turns : d ≢ a → (next : List ℕ) → Y ≡ view (L .rows) next → length next ≡ length words → length last ≡ length (set after (c .held) a) → Looping L words₀ next stack last bs c v start d q
+        pub loop-turns : d ≢ a → (next : List ℕ) → Y ≡ view (L .rows) next → length next ≡ length words → length last ≡ length (set after (c .held) a) → Looping L words₀ next stack last bs c body d q
         loop-turns h next y w z = record {
           words-size = w ∙ I .words-size;
           stack-size = simp length-set at z ∙ I .stack-size;
-          turns = λ x s. subst (λ (Z : View). Turns L (view (L .rows) words₀) Z stack last bs c x v d q) y (body-turns h x s);
+          turns = subst (λ (Z : View). Turns L (view (L .rows) words₀) Z stack last bs c body d q) y (body-turns h);
         }

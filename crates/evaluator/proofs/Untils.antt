@@ -1,7 +1,6 @@
 -- Until, round by round: what each of its functions asks, and what its answers are made of; a round is one of the formula written with a
 -- binder, whose laws are those of AND, OR, box, diamond and mu. Assumes nothing.
 use mathlib.Core.Path.{_≡_, refl, sym, ap, _∙_, subst}
-use mathlib.Core.Logic.{_≢_}
 use mathlib.Core.Bool.{Bool, true, false}
 use mathlib.Core.List.{List, _∷_, List·Memᴰ as Mem, List·Memᴰ·head as here, List·Memᴰ·tail as there}
 use Prim.Native.Nat.{ℕ, suc, _+_, _*_, _^_, _≤_, _<_}
@@ -17,7 +16,7 @@ use Rattle.tokens.specs.declared.Grammar.the-variants.{Runs}
 use Rattle.tokens.specs.declared.Mode.{Mode}
 use Rattle.tokens.specs.declared.Mode.the-variants.{All, Some}
 use Rattle.tokens.specs.declared.Join.the-variants.{And, Or}
-use Rattle.tokens.specs.declared.Fix.the-variants.{Mu}
+use Rattle.tokens.specs.declared.Fix.{Fix}
 use Rattle.formula.specs.Parse.{untilForm, modalForm, parse}
 use Rattle.formula.specs.Checks.{passOf}
 use Rattle.formula.specs.declared.Pass.{Pass}
@@ -27,7 +26,7 @@ use Rattle.formula.proofs.Readings.{parse-reads}
 use Rattle.formula.proofs.Written.{read-taken}
 use Rattle.formula.proofs.Versions.{takes-absent}
 use Rattle.layout.specs.Places.{HEADER, FIRST-RELATION}
-use Rattle.layout.specs.View.{View, view}
+use Rattle.layout.specs.View.{View}
 use Rattle.diagram.specs.Rows.{Rows}
 use Rattle.diagram.specs.Post.{Denotes}
 use Rattle.diagram.specs.Keep.{Keeps, keeps-denotes}
@@ -39,15 +38,16 @@ use Rattle.book.specs.Follow.{evals-same, evals-leaf, denotes-clip, denotes-all
 use Rattle.modal.specs.declared.Limits.{Limits}
 use Rattle.modal.specs.Modal.{ModalPre}
 use Rattle.modal.specs.Chain.{moved-refl, base-wf}
-use Rattle.evaluator.specs.Scene.{stackSize, Scene, modelIn, pushed, opened, Ready, Part, holdsReg, holdsRel, Answers, fromMade, OverPost, JoinedPre, JoinedPost, EvalPre, EvalPost, roundOf, own, isSome, roundForm, Current, IsValue, ReachPre, ReachPost, FurtherPre, FurtherPost, KeepPre, KeepPost, RoundPre, RoundPost, UntilPre, UntilPost}
+use Rattle.evaluator.specs.Scene.{stackSize, Scene, modelIn, pushed, opened, Ready, Part, holdsReg, holdsRel, Answers, fromMade, OverPost, JoinedPre, JoinedPost, EvalPre, EvalPost, roundOf, own, isSome, roundForm, Current, IsValue, ReachPre, ReachPost, FurtherPre, FurtherPost, KeepPre, KeepPost, RoundPre, RoundPost, variableOf, BodyPart, TurnPre, TurnPost, UntilPost}
+use Rattle.evaluator.specs.declared.Body.{Body}
+use Rattle.evaluator.specs.declared.Body.the-variants.{Binder, Until}
 use Rattle.evaluator.specs.declared.Context.{Context}
 use Rattle.evaluator.specs.declared.Evaluated.{Evaluated}
-use Rattle.evaluator.specs.declared.Evaluated.the-variants.{Value, Full, Spent}
+use Rattle.evaluator.specs.declared.Evaluated.the-variants.{Value, Full}
 use Rattle.evaluator.proofs.Outcomes.{Halts}
 use Rattle.evaluator.proofs.Tokens.{read-depth}
 use Rattle.evaluator.proofs.Steps.{first-stops, value-set, value-is, value-end, both-ready, both-asks, both-joined}
 use Rattle.evaluator.proofs.Relations.{rel-range, rel-some, over-asks, over-ends}
-use Rattle.evaluator.proofs.Rounds.{Bound, bind-starts, bind-out, bind-ready, bind-stops, bind-ends, bind-turns, bind-less}
 
 -- ---- the current set
 
@@ -242,127 +242,88 @@ module _ {L : Limits} {W X : View} {stack after bs : List ℕ} {c : Context} {mi
       pub or-answered : {Z : View} {r″ : Evaluated} → JoinedPost L Y Z last (c .held) Or a r′ r″ → RoundPost L W Z stack last bs c middle m t x r″
       or-answered J = record { answers = λ σ f g e R p p′ h u. both-joined R (goal-answers R p p′ h u) z is round-free same₃ (keep-answers R p p′ h u) Or J }
 
--- ---- the rounds
+-- ---- until as a body of rounds
 
--- where f ends is what the syntax pass says
-pub middle-is : {n : ℕ} {bs : List ℕ} {at depth : ℕ} {scope : List Bool} {regs rels : ℕ → Bool} {f : Form} {k : ℕ} → Part n bs at depth scope regs rels f k
-    → {y : Pass} → y ≡ passOf (λ (g : Form). true) (parse n Runs depth bs at) → {middle : ℕ} {ok : Bool} → y ≡ Past middle ok → k ≡ middle
-middle-is {n} {bs} {at} {depth} {k = k} p h {middle} {ok} z = let w : Past k true ≡ Past middle ok = sym (ap (passOf (λ (g : Form). true)) (p .stands .reads)) ∙ sym h ∙ z in cc
+-- where g begins is what the syntax pass of f says
+pub body-read : {L : Limits} {bs : List ℕ} {c : Context} {y : Pass} → y ≡ passOf (λ (g : Form). true) (parse (L .bits) Runs (c .depth) bs (c .at))
+    → {middle : ℕ} {ok : Bool} → y ≡ Past middle ok → {m : Mode} {t : ℕ} → UntilPost L bs c m t (Until m t middle)
+body-read h {middle} {ok} z {m} {t} = record {
+  says = λ f k p. let w : Past k true ≡ Past middle ok = sym (ap (passOf (λ (g : Form). true)) (p .reads)) ∙ sym h ∙ z in let same : middle ≡ k = cc in ap (Until m t) same;
+}
 
-pub middle-read : {n : ℕ} {bs : List ℕ} {at depth : ℕ} {scope : List Bool} {regs rels : ℕ → Bool} {f : Form} {k : ℕ} → Part n bs at depth scope regs rels f k
-    → {y : Pass} → y ≡ passOf (λ (g : Form). true) (parse n Runs depth bs at) → y ≡ Refused4 → ⊥
-middle-read p h z = not-past (sym z ∙ h ∙ ap (passOf (λ (g : Form). true)) (p .stands .reads))
+pub body-unread : {L : Limits} {bs : List ℕ} {c : Context} {y : Pass} → y ≡ passOf (λ (g : Form). true) (parse (L .bits) Runs (c .depth) bs (c .at)) → y ≡ Refused4
+    → {m : Mode} {t : ℕ} {b : Body} → UntilPost L bs c m t b
+body-unread h z = record { says = λ f k p. absurd (not-past (sym z ∙ h ∙ ap (passOf (λ (g : Form). true)) (p .reads))) }
 
 -- X stands nowhere in a formula of the bytes
-absent-of : {n : ℕ} {bs : List ℕ} {at depth : ℕ} {scope : List Bool} {regs rels : ℕ → Bool} {f : Form} {k : ℕ} → Part n bs at depth scope regs rels f k → T (absent own f)
+pub absent-of : {n : ℕ} {bs : List ℕ} {at depth : ℕ} {scope : List Bool} {regs rels : ℕ → Bool} {f : Form} {k : ℕ} → Part n bs at depth scope regs rels f k → T (absent own f)
 absent-of {n} {bs} {at} {depth} {f = f} {k = k} p = takes-absent n Runs f (read-taken n Runs bs (parse-reads n Runs bs depth at f k (p .stands .reads)))
 
 -- the formula written with the binder of X is until
-until-as : {L : Limits} {W X : View} {stack after : List ℕ} {held rounds : ℕ} {σ : Scene} {f g : Form} {e : ℕ} {r : Evaluated} (m : Mode) (t : ℕ) → T (absent own f) → T (absent own g)
+pub until-as : {L : Limits} {W X : View} {stack after : List ℕ} {held rounds : ℕ} {σ : Scene} {f g : Form} {e : ℕ} {r : Evaluated} (m : Mode) (t : ℕ) → T (absent own f) → T (absent own g)
     → Answers L W X stack after held rounds σ (written (isSome m) t own f g) e r → Answers L W X stack after held rounds σ (untilForm m t f g) e r
 until-as {L} {rounds = rounds} {σ = σ} {f = f} {g = g} All t hf hg A = record { moved = A .moved; kept = A .kept; evals = evals-same (sym (run-written (modelIn (L .bits) σ) (L .limit) (L .rounds) (σ .env) t own false f g hf hg (σ .fns) rounds)) (A .evals); end = A .end }
 until-as {L} {rounds = rounds} {σ = σ} {f = f} {g = g} Some t hf hg A = record { moved = A .moved; kept = A .kept; evals = evals-same (sym (run-written (modelIn (L .bits) σ) (L .limit) (L .rounds) (σ .env) t own true f g hf hg (σ .fns) rounds)) (A .evals); end = A .end }
 
--- where until's loop stands in every scene: after some rounds, with the arrow a as the current set
-pub record UntilTurns (L : Limits) (W X : View) (stack after bs : List ℕ) (c : Context) (m : Mode) (t a counted : ℕ) : Type 0 where
-  pub bound : (σ : Scene) (f g : Form) (k e : ℕ) → Ready L W stack (c .places) (c .held) σ → Part (L .bits) bs (c .at) (c .depth) (σ .scope) (holdsReg σ) (holdsRel σ) f k
-      → Part (L .bits) bs k (c .depth) (σ .scope) (holdsReg σ) (holdsRel σ) g e → holdsRel σ t ≡ true → Bound L W X stack after (c .held) (c .rounds) σ Mu own (roundForm m t f g) a counted
+-- X is none of a formula's variables
+own-open : {n : ℕ} {bs : List ℕ} {at depth : ℕ} {scope : List Bool} {regs rels : ℕ → Bool} {f : Form} {e : ℕ} → length scope ≡ 16 → Part n bs at depth scope regs rels f e
+    → Part n bs at depth (set scope own true) regs rels f e
+own-open {n} {bs} {at} {depth} {scope} {regs} {rels} {f} {e} z p = subst (λ (s : List Bool). Part n bs at depth s regs rels f e) (sym (set-out scope own true (omega (arith, z)))) p
 
--- what the loop keeps, from the words and the stack at its start
-pub record UntilLoops (L : Limits) (words₀ words stack₀ stack bs : List ℕ) (c : Context) (m : Mode) (t a counted : ℕ) : Type 0 where
-  pub words-size : length words ≡ length words₀
-  pub stack-size : length stack ≡ length stack₀
-  pub turns : UntilTurns L (view (L .rows) words₀) (view (L .rows) words) stack₀ stack bs c m t a counted
+pub until-part : {L : Limits} {W : View} {stack places bs : List ℕ} {held at depth : ℕ} {σ : Scene} {f g : Form} {e t middle : ℕ} (m : Mode) → Ready L W stack places held σ
+    → Part (L .bits) bs at depth (σ .scope) (holdsReg σ) (holdsRel σ) f middle → Part (L .bits) bs middle depth (σ .scope) (holdsReg σ) (holdsRel σ) g e → holdsRel σ t ≡ true
+    → BodyPart (L .bits) bs at depth (set (σ .scope) own true) (holdsReg σ) (holdsRel σ) (Until m t middle) (roundForm m t f g) e
+until-part m R p p′ h = record {
+  parts = record { left = _; right = _; is-round = refl; first = own-open (R .vars) p; second = own-open (R .vars) p′; relation = h };
+}
 
-pub until-starts : {L : Limits} {words stack bs : List ℕ} {c : Context} {m : Mode} {t : ℕ} → UntilLoops L words words stack stack bs c m t 0 (c .rounds)
-until-starts {m = m} {t = t} = record { words-size = refl; stack-size = refl; turns = record { bound = λ σ f g k e R p p′ h. bind-starts R Mu own (roundForm m t f g) refl } }
+-- ---- one round
 
-module _ {L : Limits} {words₀ words stack after bs : List ℕ} {c : Context} {m : Mode} {t a counted : ℕ} (P : UntilPre L (view (L .rows) words₀) stack bs c t) (I : UntilLoops L words₀ words stack after bs c m t a counted) where
-  pub until-out : L .rounds ≤ counted → UntilPost L (view (L .rows) words₀) (view (L .rows) words) stack after bs c m t Spent
-  until-out l = record { answers = λ σ f g k e R p p′ h. until-as m t (absent-of p) (absent-of p′) (bind-out R (I .turns .bound σ f g k e R p p′ h) e l) }
+current-open : {L : Limits} {W : View} (σ : Scene) (a : ℕ) (A : List Bool) → Denotes (2 * L .bits) (rowsOf W) a (fnOf (L .bits) A) → Current L W (opened (L .bits) σ own a A) a
+current-open {L} {W} σ a A d = record {
+  root = here refl;
+  denotes = subst (λ (C : List Bool). Denotes (2 * L .bits) (rowsOf W) a (fnOf (L .bits) C)) (sym (put-here (σ .env) own A)) d;
+}
 
-  pub until-free : c .held < stackSize
-  until-free = let l = P .room in omega arith
+module _ {L : Limits} {W : View} {stack bs : List ℕ} {c : Context} {a : ℕ} (σ : Scene) (A : List Bool) (d : Denotes (2 * L .bits) (rowsOf W) a (fnOf (L .bits) A)) {f : Form} {e : ℕ} where
+  pub turn-asks : (b : Body) → Ready L W stack (c .places) (c .held) (opened (L .bits) σ (variableOf b) a A) → c .held + 2 * c .depth < stackSize
+      → BodyPart (L .bits) bs (c .at) (c .depth) (set (σ .scope) (variableOf b) true) (holdsReg σ) (holdsRel σ) b f e → TurnPre L W stack bs c b a
+  turn-asks (Binder x P) R l p = record { asks = record { room = omega (arith, l); scene = _; form = f; end = e; ready = R; part = p .parts } }
+  turn-asks (Until m t middle) R l p = record {
+    asks = record {
+      room = l;
+      scene = _;
+      left = p .parts .left;
+      right = p .parts .right;
+      end = e;
+      ready = R;
+      first = p .parts .first;
+      second = p .parts .second;
+      relation = p .parts .relation;
+      current = current-open σ a A d;
+    };
+  }
 
-  -- the scene of a round
-  module _ {σ : Scene} {f g : Form} {k e : ℕ} (R : Ready L (view (L .rows) words₀) stack (c .places) (c .held) σ) (p : Part (L .bits) bs (c .at) (c .depth) (σ .scope) (holdsReg σ) (holdsRel σ) f k)
-      (p′ : Part (L .bits) bs k (c .depth) (σ .scope) (holdsReg σ) (holdsRel σ) g e) (h : holdsRel σ t ≡ true) where
-    stands : Bound L (view (L .rows) words₀) (view (L .rows) words) stack after (c .held) (c .rounds) σ Mu own (roundForm m t f g) a counted
-    stands = I .turns .bound σ f g k e R p p′ h
+  pub turn-answers : (b : Body) {X : View} {after : List ℕ} {r : Evaluated} → TurnPost L W X stack after bs c b a r
+      → Ready L W stack (c .places) (c .held) (opened (L .bits) σ (variableOf b) a A)
+      → BodyPart (L .bits) bs (c .at) (c .depth) (set (σ .scope) (variableOf b) true) (holdsReg σ) (holdsRel σ) b f e
+      → Answers L W X stack after (c .held) (c .rounds) (opened (L .bits) σ (variableOf b) a A) f e r
+  turn-answers (Binder x P) T R p = T .says .answers _ f e R (p .parts)
+  turn-answers (Until m t middle) {X} {after} {r} T R p =
+      subst (λ (h : Form). Answers L W X stack after (c .held) (c .rounds) (opened (L .bits) σ own a A) h e r) (sym (p .parts .is-round))
+      (T .says .answers _ (p .parts .left) (p .parts .right) e R (p .parts .first) (p .parts .second) (p .parts .relation) (current-open σ a A d))
 
-    inner : Scene
-    inner = opened (L .bits) σ own a (stands .turning .A)
+-- a binder's round is its formula, until's one is its own
+module _ {L : Limits} {W : View} {stack bs : List ℕ} {c : Context} {b : Body} {x : ℕ} where
+  pub formula-asked : {y : Fix} {P : ℕ} → b ≡ Binder y P → TurnPre L W stack bs c b x → EvalPre L W stack bs c
+  formula-asked e T = subst (λ (d : Body). TurnPre L W stack bs c d x) e T .asks
 
-    inner-ready : Ready L (view (L .rows) words) (set after (c .held) a) (c .places) (c .held + 1) inner
-    unfolding inner
-    inner-ready =
-        subst (λ (places : List ℕ). Ready L (view (L .rows) words) (set after (c .held) a) places (c .held + 1) (opened (L .bits) σ own a (stands .turning .A))) (set-out (c .places) own (c .held) (let s = R .slots in omega arith))
-        (bind-ready R stands (I .stack-size) until-free)
+  pub round-asked : {m : Mode} {t middle : ℕ} → b ≡ Until m t middle → TurnPre L W stack bs c b x → RoundPre L W stack bs c middle t x
+  round-asked e T = subst (λ (d : Body). TurnPre L W stack bs c d x) e T .asks
 
-    -- X is none of the formula's variables
-    inner-part : {at d : ℕ} {q : Form} {j : ℕ} → Part (L .bits) bs at d (σ .scope) (holdsReg σ) (holdsRel σ) q j → Part (L .bits) bs at d (inner .scope) (holdsReg inner) (holdsRel inner) q j
-    unfolding inner
-    inner-part {at} {d} {q} {j} u = subst (λ (scope : List Bool). Part (L .bits) bs at d scope (holdsReg σ) (holdsRel σ) q j) (sym (set-out (σ .scope) own true (let s = R .vars in omega arith))) u
+  pub formula-answered : {y : Fix} {P : ℕ} → b ≡ Binder y P → {X : View} {after : List ℕ} {r : Evaluated} → EvalPost L W X stack after bs c r → TurnPost L W X stack after bs c b x r
+  formula-answered e {X} {after} {r} E = subst (λ (d : Body). TurnPost L W X stack after bs c d x r) (sym e) (record { says = E })
 
-    inner-current : Current L (view (L .rows) words) inner a
-    unfolding inner
-    inner-current = record {
-      root = here refl;
-      denotes = subst (λ (C : List Bool). Denotes (2 * L .bits) (rowsOf (view (L .rows) words)) a (fnOf (L .bits) C)) (sym (put-here (σ .env) own (stands .turning .A))) (stands .turning .denotes);
-    }
-
-    inner-relation : holdsRel inner t ≡ true
-    unfolding inner
-    inner-relation = h
-
-  module _ {b : Context} (i : b ≡ roundOf c (c .at) (counted + 1)) {y : Pass} (syntax : y ≡ passOf (λ (g : Form). true) (parse (L .bits) Runs (c .depth) bs (c .at))) {middle : ℕ} {ok : Bool} (past : y ≡ Past middle ok) where
-    to-middle : {scope : List Bool} {regs rels : ℕ → Bool} {f g : Form} {k e : ℕ} → Part (L .bits) bs (c .at) (c .depth) scope regs rels f k → Part (L .bits) bs k (c .depth) scope regs rels g e
-        → Part (L .bits) bs (c .at) (c .depth) scope regs rels f middle × Part (L .bits) bs middle (c .depth) scope regs rels g e
-    to-middle {scope = scope} {regs = regs} {rels = rels} {f = f} {g = g} {e = e} p p′ =
-        let same = middle-is p syntax past in
-        (subst (λ (x : ℕ). Part (L .bits) bs (c .at) (c .depth) scope regs rels f x) same p, subst (λ (x : ℕ). Part (L .bits) bs x (c .depth) scope regs rels g e) same p′)
-
-    pub round-asked : RoundPre L (view (L .rows) words) (set after (c .held) a) bs b middle t a
-    round-asked =
-        let w = to-middle (inner-part (P .ready) (P .first) (P .second) (P .relation) (P .first)) (inner-part (P .ready) (P .first) (P .second) (P .relation) (P .second)) in
-        subst (λ (d : Context). RoundPre L (view (L .rows) words) (set after (c .held) a) bs d middle t a) (sym i) (record {
-          room = let l = P .room in omega arith;
-          scene = inner (P .ready) (P .first) (P .second) (P .relation);
-          left = P .left;
-          right = P .right;
-          end = P .end;
-          ready = inner-ready (P .ready) (P .first) (P .second) (P .relation);
-          first = w .0;
-          second = w .1;
-          relation = inner-relation (P .ready) (P .first) (P .second) (P .relation);
-          current = inner-current (P .ready) (P .first) (P .second) (P .relation);
-        })
-
-    module _ {Y : View} {last : List ℕ} {r : Evaluated} (E : RoundPost L (view (L .rows) words) Y (set after (c .held) a) last bs b middle m t a r) (more : counted < L .rounds) where
-      module _ {σ : Scene} {f g : Form} {k e : ℕ} (R : Ready L (view (L .rows) words₀) stack (c .places) (c .held) σ) (p : Part (L .bits) bs (c .at) (c .depth) (σ .scope) (holdsReg σ) (holdsRel σ) f k)
-          (p′ : Part (L .bits) bs k (c .depth) (σ .scope) (holdsReg σ) (holdsRel σ) g e) (h : holdsRel σ t ≡ true) where
-        answered : Answers L (view (L .rows) words) Y (set after (c .held) a) last (c .held + 1) (counted + 1) (opened (L .bits) σ own a (stands R p p′ h .turning .A)) (roundForm m t f g) e r
-        unfolding inner
-        answered =
-            let w = to-middle (inner-part R p p′ h p) (inner-part R p p′ h p′) in
-            subst (λ (d : Context). RoundPost L (view (L .rows) words) Y (set after (c .held) a) last bs d middle m t a r) i E .answers (inner R p p′ h) f g e (inner-ready R p p′ h) (w .0) (w .1) (inner-relation R p p′ h) (inner-current R p p′ h)
-
-      pub round-halts : Halts r → UntilPost L (view (L .rows) words₀) Y stack last bs c m t r
-      round-halts s = record { answers = λ σ f g k e R p p′ h. until-as m t (absent-of p) (absent-of p′) (bind-stops R (stands R p p′ h) (I .stack-size) until-free (answered R p p′ h) more s) }
-
-      module _ {d k₁ q : ℕ} (is : r ≡ Value d k₁ q) where
-        pub round-same : d ≡ a → UntilPost L (view (L .rows) words₀) Y stack last bs c m t (Value d k₁ q)
-        round-same z = record { answers = λ σ f g k e R p p′ h. until-as m t (absent-of p) (absent-of p′) (bind-ends R (stands R p p′ h) (I .stack-size) until-free (answered R p p′ h) more is z) }
-
-        pub round-less : counted < q
-        round-less = bind-less (P .ready) (stands (P .ready) (P .first) (P .second) (P .relation)) (I .stack-size) until-free (answered (P .ready) (P .first) (P .second) (P .relation)) more is
-
-        round-turns : d ≢ a → UntilTurns L (view (L .rows) words₀) Y stack last bs c m t d q
-        round-turns z = record { bound = λ σ f g k e R p p′ h. bind-turns R (stands R p p′ h) (I .stack-size) until-free (answered R p p′ h) more is z }
-
-        pub until-turns : d ≢ a → (next : List ℕ) → Y ≡ view (L .rows) next → length next ≡ length words → length last ≡ length (set after (c .held) a) → UntilLoops L words₀ next stack last bs c m t d q
-        until-turns z next y′ w l = record {
-          words-size = w ∙ I .words-size;
-          stack-size = simp length-set at l ∙ I .stack-size;
-          turns = subst (λ (Z : View). UntilTurns L (view (L .rows) words₀) Z stack last bs c m t d q) y′ (round-turns z);
-        }
+  pub round-answered : {m : Mode} {t middle : ℕ} → b ≡ Until m t middle → {X : View} {after : List ℕ} {r : Evaluated} → RoundPost L W X stack after bs c middle m t x r
+      → TurnPost L W X stack after bs c b x r
+  round-answered e {X} {after} {r} E = subst (λ (d : Body). TurnPost L W X stack after bs c d x r) (sym e) (record { says = E })

@@ -18,7 +18,7 @@ use Rattle.tokens.specs.declared.Join.{Join}
 use Rattle.tokens.specs.declared.Join.the-variants.{And, Or}
 use Rattle.tokens.specs.declared.Mode.{Mode}
 use Rattle.tokens.specs.declared.Mode.the-variants.{All, Some}
-use Rattle.formula.specs.Parse.{leafForm, joinForm, untilForm, modalForm, binderForm, got, parse}
+use Rattle.formula.specs.Parse.{leafForm, joinForm, modalForm, binderForm, got, parse}
 use Rattle.formula.specs.Checks.{filled}
 use Rattle.layout.specs.Places.{FIRST-REGISTER, FIRST-RELATION}
 use Rattle.layout.specs.View.{View}
@@ -42,6 +42,8 @@ use Rattle.contract.specs.Seen.{arrowIn}
 use Rattle.modal.specs.declared.Limits.{Limits}
 use Rattle.modal.specs.Chain.{Alike, Base, Moved}
 use Rattle.modal.specs.Modal.{DiamondPost, BoxPost}
+use Rattle.evaluator.specs.declared.Body.{Body}
+use Rattle.evaluator.specs.declared.Body.the-variants.{Binder, Until}
 use Rattle.evaluator.specs.declared.Context.{Context}
 use Rattle.evaluator.specs.declared.Evaluated.{Evaluated}
 use Rattle.evaluator.specs.declared.Evaluated.the-variants.{Value, Full, Spent}
@@ -241,19 +243,6 @@ pub record ModePost (L : Limits) (W X : View) (stack after bs : List ℕ) (c : C
   pub answers : (σ : Scene) (f : Form) (e : ℕ) → Ready L W stack (c .places) (c .held) σ → Part (L .bits) bs (c .at) (c .depth) (σ .scope) (holdsReg σ) (holdsRel σ) f e
       → holdsRel σ t ≡ true → Answers L W X stack after (c .held) (c .rounds) σ (modalForm m t f) e r
 
--- mu and nu: f is the body, in which P is open
-pub record BindPre (L : Limits) (W : View) (stack bs : List ℕ) (c : Context) (P : ℕ) : Type 0 where
-  pub room : c .held + 2 * c .depth + 1 < stackSize
-  pub scene : Scene
-  pub form : Form
-  pub end : ℕ
-  pub ready : Ready L W stack (c .places) (c .held) scene
-  pub part : Part (L .bits) bs (c .at) (c .depth) (set (scene .scope) P true) (holdsReg scene) (holdsRel scene) form end
-
-pub record BindPost (L : Limits) (W X : View) (stack after bs : List ℕ) (c : Context) (x : Fix) (P : ℕ) (r : Evaluated) : Type 0 where
-  pub answers : (σ : Scene) (f : Form) (e : ℕ) → Ready L W stack (c .places) (c .held) σ → Part (L .bits) bs (c .at) (c .depth) (set (σ .scope) P true) (holdsReg σ) (holdsRel σ) f e
-      → Answers L W X stack after (c .held) (c .rounds) σ (binderForm x P f) e r
-
 -- ---- until: "mu X (g or (f and diamond X))", "mu X (g or (f and (box X and diamond true)))", "X a variable of its own"
 
 -- X, which no formula's bytes name
@@ -338,19 +327,63 @@ pub record RoundPost (L : Limits) (W X : View) (stack after bs : List ℕ) (c : 
       → Part (L .bits) bs middle (c .depth) (σ .scope) (holdsReg σ) (holdsRel σ) g e → holdsRel σ t ≡ true → Current L W σ x
       → Answers L W X stack after (c .held) (c .rounds) σ (roundForm m t f g) e r
 
--- all rounds: f and, after it, g are the parts
-pub record UntilPre (L : Limits) (W : View) (stack bs : List ℕ) (c : Context) (t : ℕ) : Type 0 where
-  pub room : c .held + 2 * c .depth + 1 < stackSize
-  pub scene : Scene
+-- ---- the rounds of a body: of a binder's formula, or of until
+
+-- until is mu X
+abbrev pub fixOf : Body → Fix
+fixOf (Binder x P) = x
+fixOf (Until m t middle) = Mu
+
+abbrev pub variableOf : Body → ℕ
+variableOf (Binder x P) = P
+variableOf (Until m t middle) = own
+
+-- f is a round of until, whose parts stand in the bytes
+pub record UntilParts (n : ℕ) (bs : List ℕ) (at depth : ℕ) (scope : List Bool) (regs rels : ℕ → Bool) (m : Mode) (t middle : ℕ) (f : Form) (e : ℕ) : Type 0 where
   pub left : Form
   pub right : Form
-  pub middle : ℕ
+  pub is-round : f ≡ roundForm m t left right
+  pub first : Part n bs at depth scope regs rels left middle
+  pub second : Part n bs middle depth scope regs rels right e
+  pub relation : rels t ≡ true
+
+abbrev pub PartsOf : ℕ → List ℕ → ℕ → ℕ → List Bool → (ℕ → Bool) → (ℕ → Bool) → Body → Form → ℕ → Type 0
+PartsOf n bs at depth scope regs rels (Binder x P) f e = Part n bs at depth scope regs rels f e
+PartsOf n bs at depth scope regs rels (Until m t middle) f e = UntilParts n bs at depth scope regs rels m t middle f e
+
+-- f is what a round evaluates
+pub record BodyPart (n : ℕ) (bs : List ℕ) (at depth : ℕ) (scope : List Bool) (regs rels : ℕ → Bool) (b : Body) (f : Form) (e : ℕ) : Type 0 where
+  pub parts : PartsOf n bs at depth scope regs rels b f e
+
+-- where f stands, until's g begins after it
+pub record UntilPost (L : Limits) (bs : List ℕ) (c : Context) (m : Mode) (t : ℕ) (b : Body) : Type 0 where
+  pub says : (f : Form) (k : ℕ) → Stands (L .bits) Runs bs (c .at) (c .depth) f k → b ≡ Until m t k
+
+-- one round, x being the current set
+abbrev pub TurnAsks : Limits → View → List ℕ → List ℕ → Context → Body → ℕ → Type 0
+TurnAsks L W stack bs c (Binder y P) x = EvalPre L W stack bs c
+TurnAsks L W stack bs c (Until m t middle) x = RoundPre L W stack bs c middle t x
+
+pub record TurnPre (L : Limits) (W : View) (stack bs : List ℕ) (c : Context) (b : Body) (x : ℕ) : Type 0 where
+  pub asks : TurnAsks L W stack bs c b x
+
+abbrev pub TurnSays : Limits → View → View → List ℕ → List ℕ → List ℕ → Context → Body → ℕ → Evaluated → Type 0
+TurnSays L W X stack after bs c (Binder y P) x r = EvalPost L W X stack after bs c r
+TurnSays L W X stack after bs c (Until m t middle) x r = RoundPost L W X stack after bs c middle m t x r
+
+pub record TurnPost (L : Limits) (W X : View) (stack after bs : List ℕ) (c : Context) (b : Body) (x : ℕ) (r : Evaluated) : Type 0 where
+  pub says : TurnSays L W X stack after bs c b x r
+
+-- all rounds: mu or nu of f
+pub record BindPre (L : Limits) (W : View) (stack bs : List ℕ) (c : Context) (b : Body) : Type 0 where
+  pub room : c .held + 2 * c .depth + 1 < stackSize
+  pub scene : Scene
+  pub form : Form
   pub end : ℕ
   pub ready : Ready L W stack (c .places) (c .held) scene
-  pub first : Part (L .bits) bs (c .at) (c .depth) (scene .scope) (holdsReg scene) (holdsRel scene) left middle
-  pub second : Part (L .bits) bs middle (c .depth) (scene .scope) (holdsReg scene) (holdsRel scene) right end
-  pub relation : holdsRel scene t ≡ true
+  pub part : BodyPart (L .bits) bs (c .at) (c .depth) (set (scene .scope) (variableOf b) true) (holdsReg scene) (holdsRel scene) b form end
 
-pub record UntilPost (L : Limits) (W X : View) (stack after bs : List ℕ) (c : Context) (m : Mode) (t : ℕ) (r : Evaluated) : Type 0 where
-  pub answers : (σ : Scene) (f g : Form) (k e : ℕ) → Ready L W stack (c .places) (c .held) σ → Part (L .bits) bs (c .at) (c .depth) (σ .scope) (holdsReg σ) (holdsRel σ) f k
-      → Part (L .bits) bs k (c .depth) (σ .scope) (holdsReg σ) (holdsRel σ) g e → holdsRel σ t ≡ true → Answers L W X stack after (c .held) (c .rounds) σ (untilForm m t f g) e r
+pub record BindPost (L : Limits) (W X : View) (stack after bs : List ℕ) (c : Context) (b : Body) (r : Evaluated) : Type 0 where
+  pub answers : (σ : Scene) (f : Form) (e : ℕ) → Ready L W stack (c .places) (c .held) σ
+      → BodyPart (L .bits) bs (c .at) (c .depth) (set (σ .scope) (variableOf b) true) (holdsReg σ) (holdsRel σ) b f e
+      → Answers L W X stack after (c .held) (c .rounds) σ (binderForm (fixOf b) (variableOf b) f) e r

@@ -28,7 +28,7 @@ ghost use Rattle.layout.specs.View.{view, headerOf};
 ghost use Rattle.book.specs.Turns.{startArrow};
 ghost use Rattle.modal.specs.Modal.{ModalPre};
 ghost use Rattle.evaluator.specs.Whole.{SetPre, SetPost};
-ghost use Rattle.evaluator.specs.Scene.{stackSize, fromMade, bodyOf, roundOf, isLeast, joinStep, OverPost, LivePre, LivePost, JoinedPre, JoinedPost, LeafPre, LeafPost, EvalPre, EvalPost, NegatePost, BothPre, BothPost, ModePre, ModePost, BindPre, BindPost, ReachPre, ReachPost, FurtherPre, FurtherPost, EveryPost, KeepPre, KeepPost, RoundPre, RoundPost, UntilPre, UntilPost};
+ghost use Rattle.evaluator.specs.Scene.{stackSize, fromMade, bodyOf, roundOf, isLeast, fixOf, variableOf, joinStep, OverPost, LivePre, LivePost, JoinedPre, JoinedPost, LeafPre, LeafPost, EvalPre, EvalPost, NegatePost, BothPre, BothPost, ModePre, ModePost, BindPre, BindPost, ReachPre, ReachPost, FurtherPre, FurtherPost, EveryPost, KeepPre, KeepPost, RoundPre, RoundPost, TurnPre, TurnPost, UntilPost};
 
 // What an evaluation answers: the arrow of the set, the place after the formula and the rounds counted; or why there is none.
 pub enum Evaluated {
@@ -39,6 +39,18 @@ pub enum Evaluated {
     },
     Full,
     Spent,
+}
+
+// What rounds are taken of: a binder's formula at the context's place, or until over a relation, whose f stands there and whose g at the
+// place named.
+enum Body {
+    Binder(Fix, u32),
+    Until(Mode, u32, usize),
+}
+
+impl Body {
+    // The variable of until's current set, which no formula's bytes name: it has no place of its own among the open ones.
+    const OWN: u32 = 16;
 }
 
 // For each open variable the place of its binder's current set on the stack. Bytes, since a context is copied at each part of a formula.
@@ -116,13 +128,26 @@ fn onward(here: Context, next: usize, rounds: u32) -> Context
     rest
 }
 
-// The arrow where a binder starts: no state for mu, every state for nu.
-fn start_of(x: Fix) -> u32
-    ensures { λ r. ⌜ r ≡ startArrow (isLeast x) ⌝ }
+// The arrow where a body's rounds start: every state for nu, no state for mu and until.
+fn start_of(body: Body) -> u32
+    ensures { λ r. ⌜ r ≡ startArrow (isLeast (fixOf body)) ⌝ }
 {
-    match x {
-        Fix::Mu => Table::NOTHING,
-        Fix::Nu => Table::EVERYTHING,
+    match body {
+        Body::Binder(x, _) => match x {
+            Fix::Mu => Table::NOTHING,
+            Fix::Nu => Table::EVERYTHING,
+        },
+        Body::Until(_, _, _) => Table::NOTHING,
+    }
+}
+
+// The variable of a body's current set.
+fn variable_of(body: Body) -> u32
+    ensures { λ r. ⌜ r ≡ variableOf body ⌝ }
+{
+    match body {
+        Body::Binder(_, p) => p,
+        Body::Until(_, _, _) => Body::OWN,
     }
 }
 
@@ -305,6 +330,17 @@ fn further(
     }
 }
 
+// The body of until, whose parts f and g stand from the context's place on.
+fn until_body(bytes: &[u8], limits: Limits, here: Context, m: Mode, t: u32) -> Body
+    ensures { λ r. ⌜ UntilPost limits (now (bytes .entry)) here m t r ⌝ }
+{
+    let Pass::Past(middle, _) = syntax(bytes, limits.bits, Grammar::Runs, here.at, here.depth)
+    else {
+        return Body::Until(m, t, here.at);
+    };
+    Body::Until(m, t, middle)
+}
+
 // Evaluates the formula at the context's place, of depth at most its depth.
 fn eval(
     words: &mut [u32],
@@ -322,16 +358,19 @@ fn eval(
     let mut part = here;
     part.at = here.at + 1;
     part.depth = here.depth - 1;
-    match t {
-        Token::Leaf(l) => answer(leaf(words, stack, limits, here, l), part.at, here.rounds),
-        Token::Not => negate(words, stack, bytes, limits, part),
+    let body = match t {
+        Token::Leaf(l) => {
+            return answer(leaf(words, stack, limits, here, l), part.at, here.rounds);
+        }
+        Token::Not => return negate(words, stack, bytes, limits, part),
         Token::Both(w) => match w {
-            Two::Join(j) => both(words, stack, bytes, limits, part, j),
-            Two::Until(m, t) => until(words, stack, bytes, limits, part, m, t),
+            Two::Join(j) => return both(words, stack, bytes, limits, part, j),
+            Two::Until(m, t) => until_body(bytes, limits, part, m, t),
         },
-        Token::Modal(m, t) => modal(words, stack, bytes, limits, part, m, t),
-        Token::Binder(x, p) => bind(words, stack, bytes, limits, part, x, p),
-    }
+        Token::Modal(m, t) => return modal(words, stack, bytes, limits, part, m, t),
+        Token::Binder(x, p) => Body::Binder(x, p),
+    };
+    bind(words, stack, bytes, limits, part, body)
 }
 
 // Evaluates the formula at the context's place, and takes the step NOT.
@@ -415,26 +454,25 @@ fn modal(
     answer(made, end, counted)
 }
 
-// Rounds of the body at the context's place, variable p being the current set, which is live; until a round gives the same set again.
+// Rounds of the body, variable p being the current set, which is live; until a round gives the same set again.
 fn bind(
     words: &mut [u32],
     stack: &mut [u32],
     bytes: &[u8],
     limits: Limits,
     here: Context,
-    x: Fix,
-    p: u32,
+    body: Body,
 ) -> Evaluated
-    requires { ⌜ BindPre limits (view (limits .rows) (now words)) (now stack) (now bytes) here p ⌝ }
-    ensures { λ r. ⌜ BindPost limits (view (limits .rows) (now (words .entry))) (view (limits .rows) (now (words .exit))) (now (stack .entry)) (now (stack .exit)) (now (bytes .entry)) here x p r ⌝ }
+    requires { ⌜ BindPre limits (view (limits .rows) (now words)) (now stack) (now bytes) here body ⌝ }
+    ensures { λ r. ⌜ BindPost limits (view (limits .rows) (now (words .entry))) (view (limits .rows) (now (words .exit))) (now (stack .entry)) (now (stack .exit)) (now (bytes .entry)) here body r ⌝ }
 {
     let held = here.held;
-    let mut current = start_of(x);
+    let mut current = start_of(body);
     let mut counted = here.rounds;
     while counted < limits.rounds {
         stack[held] = current;
-        let body = opened(here, p, counted + 1);
-        let value = eval(words, stack, bytes, limits, body);
+        let inner = opened(here, variable_of(body), counted + 1);
+        let value = turn(words, stack, bytes, limits, inner, body, current);
         let Evaluated::Value {
             arrow: a,
             next: _,
@@ -450,6 +488,25 @@ fn bind(
         counted = total;
     }
     Evaluated::Spent
+}
+
+// Evaluates the body once, x being the current set.
+fn turn(
+    words: &mut [u32],
+    stack: &mut [u32],
+    bytes: &[u8],
+    limits: Limits,
+    here: Context,
+    body: Body,
+    x: u32,
+) -> Evaluated
+    requires { ⌜ TurnPre limits (view (limits .rows) (now words)) (now stack) (now bytes) here body x ⌝ }
+    ensures { λ r. ⌜ TurnPost limits (view (limits .rows) (now (words .entry))) (view (limits .rows) (now (words .exit))) (now (stack .entry)) (now (stack .exit)) (now (bytes .entry)) here body x r ⌝ }
+{
+    match body {
+        Body::Binder(_, _) => eval(words, stack, bytes, limits, here),
+        Body::Until(m, t, middle) => round(words, stack, bytes, limits, here, middle, m, t, x),
+    }
 }
 
 // In a round of until: evaluates f at the context's place and, its value being live meanwhile, what is wanted of the next states, and takes
@@ -516,47 +573,6 @@ fn round(
     let rest = onward(here, here.at, counted);
     let second = keep(words, stack, bytes, limits, rest, m, t, x, end);
     joined(words, stack, limits, held, Join::Or, a, second)
-}
-
-// Rounds of until, whose parts f and g stand from the context's place on, the current set being live; until a round gives the same set again.
-fn until(
-    words: &mut [u32],
-    stack: &mut [u32],
-    bytes: &[u8],
-    limits: Limits,
-    here: Context,
-    m: Mode,
-    t: u32,
-) -> Evaluated
-    requires { ⌜ UntilPre limits (view (limits .rows) (now words)) (now stack) (now bytes) here t ⌝ }
-    ensures { λ r. ⌜ UntilPost limits (view (limits .rows) (now (words .entry))) (view (limits .rows) (now (words .exit))) (now (stack .entry)) (now (stack .exit)) (now (bytes .entry)) here m t r ⌝ }
-{
-    let Pass::Past(middle, _) = syntax(bytes, limits.bits, Grammar::Runs, here.at, here.depth)
-    else {
-        return Evaluated::Full;
-    };
-    let held = here.held;
-    let mut reached = Table::NOTHING;
-    let mut counted = here.rounds;
-    while counted < limits.rounds {
-        stack[held] = reached;
-        let body = onward(here, here.at, counted + 1);
-        let value = round(words, stack, bytes, limits, body, middle, m, t, reached);
-        let Evaluated::Value {
-            arrow: a,
-            next: _,
-            rounds: total,
-        } = value
-        else {
-            return value;
-        };
-        if a == reached {
-            return value;
-        }
-        reached = a;
-        counted = total;
-    }
-    Evaluated::Spent
 }
 
 // Evaluates the set's formula in `bytes`, which has passed the checks, with nothing remembered before.

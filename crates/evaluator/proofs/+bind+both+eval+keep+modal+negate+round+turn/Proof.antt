@@ -6,37 +6,38 @@ use Prim.Native.Nat.{_*_, _+_, _-_, ℕ}
 use lib.ListN.{length-set}
 use lib.Seq.{length-take-le}
 use mathlib.Core.Path.{refl, sym, ap, _∙_}
+use mathlib.Core.Logic.{⊎-elim}
 use Rattle.tokens.specs.declared.Token.the-variants.{Both}
 use Rattle.evaluator.proofs.Tokens.{read-depth, read-token, read-inside}
-use Rattle.evaluator.proofs.Untils.{kept-asked, keep-halts, keep-room, further-asked, keep-asked, keep-answered, goal-asked, goal-halts, round-free, kept-part, or-asked, or-answered, middle-read, UntilLoops, until-starts, until-out, until-free, round-asked, round-halts, round-same, round-less, until-turns}
+use Rattle.evaluator.proofs.Untils.{kept-asked, keep-halts, keep-room, further-asked, keep-asked, keep-answered, goal-asked, goal-halts, round-free, kept-part, or-asked, or-answered, formula-asked, round-asked, formula-answered, round-answered}
 use Rattle.evaluator.proofs.Cycle.{leaf-asked, leaf-answered, not-asked, not-answered, both-asked, both-answered, until-asked, until-answered, mode-asked, mode-answered, bind-asked, bind-answered, negate-halts, step-asked, negate-answered, first-asked, first-halts, second-asked, joined-asked, joined-answered, part-asked, mode-halts, relation-asked, live-within, over-asked, over-answered, same-depth, Looping, loop-starts, rounds-out, body-asked, body-halts, body-same, body-less, loop-turns}
 use borrow.Fn.PlainCycle.{Measures}
-use Rattle.evaluator.proofs.+bind+both+eval+keep+modal+negate+round+until.{statement}
-use Rattle.evaluator.proofs.+bind+both+eval+keep+modal+negate+round+until.Tie.{close}
+use Rattle.evaluator.proofs.+bind+both+eval+keep+modal+negate+round+turn.{statement}
+use Rattle.evaluator.proofs.+bind+both+eval+keep+modal+negate+round+turn.Tie.{close}
 use Rattle.evaluator.proofs.bind.Reads as bind
 use Rattle.evaluator.proofs.bind.Kinds as bind-kinds
-use Rattle.evaluator.proofs.+bind+both+eval+keep+modal+negate+round+until.Lts-bind as bind-lts
+use Rattle.evaluator.proofs.+bind+both+eval+keep+modal+negate+round+turn.Lts-bind as bind-lts
 use Rattle.evaluator.proofs.both.Reads as both
 use Rattle.evaluator.proofs.both.Kinds as both-kinds
-use Rattle.evaluator.proofs.+bind+both+eval+keep+modal+negate+round+until.Lts-both as both-lts
+use Rattle.evaluator.proofs.+bind+both+eval+keep+modal+negate+round+turn.Lts-both as both-lts
 use Rattle.evaluator.proofs.eval.Reads as eval
 use Rattle.evaluator.proofs.eval.Kinds as eval-kinds
-use Rattle.evaluator.proofs.+bind+both+eval+keep+modal+negate+round+until.Lts-eval as eval-lts
+use Rattle.evaluator.proofs.+bind+both+eval+keep+modal+negate+round+turn.Lts-eval as eval-lts
 use Rattle.evaluator.proofs.keep.Reads as keep
 use Rattle.evaluator.proofs.keep.Kinds as keep-kinds
-use Rattle.evaluator.proofs.+bind+both+eval+keep+modal+negate+round+until.Lts-keep as keep-lts
+use Rattle.evaluator.proofs.+bind+both+eval+keep+modal+negate+round+turn.Lts-keep as keep-lts
 use Rattle.evaluator.proofs.modal.Reads as modal
 use Rattle.evaluator.proofs.modal.Kinds as modal-kinds
-use Rattle.evaluator.proofs.+bind+both+eval+keep+modal+negate+round+until.Lts-modal as modal-lts
+use Rattle.evaluator.proofs.+bind+both+eval+keep+modal+negate+round+turn.Lts-modal as modal-lts
 use Rattle.evaluator.proofs.negate.Reads as negate
 use Rattle.evaluator.proofs.negate.Kinds as negate-kinds
-use Rattle.evaluator.proofs.+bind+both+eval+keep+modal+negate+round+until.Lts-negate as negate-lts
+use Rattle.evaluator.proofs.+bind+both+eval+keep+modal+negate+round+turn.Lts-negate as negate-lts
 use Rattle.evaluator.proofs.round.Reads as round
 use Rattle.evaluator.proofs.round.Kinds as round-kinds
-use Rattle.evaluator.proofs.+bind+both+eval+keep+modal+negate+round+until.Lts-round as round-lts
-use Rattle.evaluator.proofs.until.Reads as until
-use Rattle.evaluator.proofs.until.Kinds as until-kinds
-use Rattle.evaluator.proofs.+bind+both+eval+keep+modal+negate+round+until.Lts-until as until-lts
+use Rattle.evaluator.proofs.+bind+both+eval+keep+modal+negate+round+turn.Lts-round as round-lts
+use Rattle.evaluator.proofs.turn.Reads as turn
+use Rattle.evaluator.proofs.turn.Kinds as turn-kinds
+use Rattle.evaluator.proofs.+bind+both+eval+keep+modal+negate+round+turn.Lts-turn as turn-lts
 use Rattle.evaluator.proofs.answer.Reads as answer-reads
 use Rattle.evaluator.proofs.further.Reads as further-reads
 use Rattle.evaluator.proofs.joined.Reads as joined-reads
@@ -47,78 +48,76 @@ use Rattle.evaluator.proofs.opened.Reads as opened-reads
 use Rattle.evaluator.proofs.over.Reads as over-reads
 use Rattle.evaluator.proofs.root_arrow.Reads as root-arrow-reads
 use Rattle.evaluator.proofs.start_of.Reads as start-of-reads
-use Rattle.formula.proofs.syntax.Reads as syntax-reads
+use Rattle.evaluator.proofs.until_body.Reads as until-body-reads
+use Rattle.evaluator.proofs.variable_of.Reads as variable-of-reads
 use Rattle.tokens.proofs.lead_at.Reads as lead-at-reads
 
 abbrev μ-bind : Measures 3 bind-kinds.ps ℕ
-μ-bind κs a = 4 * a .1 .1 .1 .1 .0 .depth + 1
+μ-bind κs a = 5 * a .1 .1 .1 .1 .0 .depth + 4
 
 abbrev μ-both : Measures 3 both-kinds.ps ℕ
-μ-both κs a = 4 * a .1 .1 .1 .1 .0 .depth + 1
+μ-both κs a = 5 * a .1 .1 .1 .1 .0 .depth + 1
 
 abbrev μ-eval : Measures 3 eval-kinds.ps ℕ
-μ-eval κs a = 4 * a .1 .1 .1 .1 .0 .depth
+μ-eval κs a = 5 * a .1 .1 .1 .1 .0 .depth
 
 abbrev μ-keep : Measures 3 keep-kinds.ps ℕ
-μ-keep κs a = 4 * a .1 .1 .1 .1 .0 .depth + 1
+μ-keep κs a = 5 * a .1 .1 .1 .1 .0 .depth + 1
 
 abbrev μ-modal : Measures 3 modal-kinds.ps ℕ
-μ-modal κs a = 4 * a .1 .1 .1 .1 .0 .depth + 1
+μ-modal κs a = 5 * a .1 .1 .1 .1 .0 .depth + 1
 
 abbrev μ-negate : Measures 3 negate-kinds.ps ℕ
-μ-negate κs a = 4 * a .1 .1 .1 .1 .0 .depth + 1
+μ-negate κs a = 5 * a .1 .1 .1 .1 .0 .depth + 1
 
 abbrev μ-round : Measures 3 round-kinds.ps ℕ
-μ-round κs a = 4 * a .1 .1 .1 .1 .0 .depth + 2
+μ-round κs a = 5 * a .1 .1 .1 .1 .0 .depth + 2
 
-abbrev μ-until : Measures 3 until-kinds.ps ℕ
-μ-until κs a = 4 * a .1 .1 .1 .1 .0 .depth + 3
+abbrev μ-turn : Measures 3 turn-kinds.ps ℕ
+μ-turn κs a = 5 * a .1 .1 .1 .1 .0 .depth + 3
 
 abbrev bind-Inv-loop : bind-lts.InvT-loop
-bind-Inv-loop words₀ stack₀ bytes limits here p held current₀ counted₀ words stack current counted = Looping limits words₀ words stack₀ stack bytes here p current₀ current counted
+bind-Inv-loop words₀ stack₀ bytes limits here body held current₀ counted₀ words stack current counted = Looping limits words₀ words stack₀ stack bytes here body current counted
 
 abbrev bind-μ-loop : bind-lts.MeasureT-loop
-bind-μ-loop words₀ stack₀ bytes limits here p held current₀ counted₀ words stack current counted = limits .rounds - counted
+bind-μ-loop words₀ stack₀ bytes limits here body held current₀ counted₀ words stack current counted = limits .rounds - counted
 
-abbrev until-Inv-loop : until-lts.InvT-loop
-until-Inv-loop words₀ stack₀ bytes limits here m t middle held current₀ counted₀ words stack current counted = UntilLoops limits words₀ words stack₀ stack bytes here m t current counted
-
-abbrev until-μ-loop : until-lts.MeasureT-loop
-until-μ-loop words₀ stack₀ bytes limits here m t middle held current₀ counted₀ words stack current counted = limits .rounds - counted
-
-pub +bind+both+eval+keep+modal+negate+round+until-spec : {M : Type 1} → statement M
-+bind+both+eval+keep+modal+negate+round+until-spec =
-    close μ-bind μ-both μ-eval μ-keep μ-modal μ-negate μ-round μ-until (λ t. bind-lts.spec (
+pub +bind+both+eval+keep+modal+negate+round+turn-spec : {M : Type 1} → statement M
++bind+both+eval+keep+modal+negate+round+turn-spec =
+    close μ-bind μ-both μ-eval μ-keep μ-modal μ-negate μ-round μ-turn (λ t. bind-lts.spec (
       start-of-reads.Asked,
       start-of-reads.Learnt,
+      variable-of-reads.Asked,
+      variable-of-reads.Learnt,
       opened-reads.Asked,
       opened-reads.Learnt,
-      below eval-kinds.ps μ-eval eval.Pre t,
-      eval.Post,
+      below turn-kinds.ps μ-turn turn.Pre t,
+      turn.Post,
     )
     (at bind-kinds.ps μ-bind bind.Pre t)
     bind.Post
     bind-Inv-loop
     bind-μ-loop
     (λ c κs. search needs)
-    (λ c. loop-starts)
+    (λ c. loop-starts (c .start-of .ensures))
     (λ c. search needs)
     (λ c. omega (arith, c .before .before .before .before .before .before .before .pre .1 .room, c .before .before .before .before .before .before .before .pre .1 .ready .size, c .before .before .loop .inv .stack-size))
+    (λ c κs. search needs)
     (λ c. search needs)
-    (λ c κs. omega (arith, c .before .before .before .before .before .before .before .pre .1 .room))
-    (λ c κs. (omega (arith, same-depth (c .before .before .opened .ensures), c .before .before .before .before .before .before .before .before .before .before .pre .0), body-asked (c .before .before .before .before .before .before .before .before .before .before .pre .1) (c .before .before .before .before .before .loop .inv) (c .before .before .opened .ensures) (c .before .before .before .before .before .before .before .before .before .before .args .x) (c .before .before .before .before .before .before .start-of .ensures)))
+    (λ c κs. omega (arith, c .before .before .before .before .before .before .before .before .pre .1 .room))
+    (λ c κs. (omega (arith, same-depth (c .before .before .opened .ensures), c .before .before .before .before .before .before .before .before .before .before .before .pre .0), body-asked (c .before .before .before .before .before .before .before .before .before .before .before .pre .1) (c .before .before .before .before .before .before .loop .inv) (c .before .before .opened .ensures) (c .before .before .before .variable-of .ensures)))
     (λ c. search needs)
-    (λ c. c .before .before .before .before .before .eval .kept .0 ∙ c .before .before .before .before .before .before .before .before .before .before .before .loop .inv .words-size)
-    (λ c. (simp length-set at (c .before .before .before .before .before .eval .kept .1 .0)) ∙ c .before .before .before .before .before .before .before .before .before .before .before .loop .inv .stack-size)
-    (λ c. body-halts (c .before .before .before .before .before .before .before .before .before .before .before .before .before .before .before .before .pre .1) (c .before .before .before .before .before .before .before .before .before .before .before .loop .inv) (c .before .before .before .before .before .before .before .before .opened .ensures) (c .before .before .before .before .before .eval .ensures) (c .before .before .before .before .before .before .before .before .before .if1 .taken) (c .match .keys2) (c .before .before .before .before .before .before .before .before .before .before .before .before .before .before .before .before .args .x) (c .before .before .before .before .before .before .before .before .before .before .before .before .start-of .ensures))
-    (λ c. c .before .before .before .before .before .before .before .before .eval .kept .0 ∙ c .before .before .before .before .before .before .before .before .before .before .before .before .before .before .loop .inv .words-size)
-    (λ c. (simp length-set at (c .before .before .before .before .before .before .before .before .eval .kept .1 .0)) ∙ c .before .before .before .before .before .before .before .before .before .before .before .before .before .before .loop .inv .stack-size)
-    (λ c. body-same (c .before .before .before .before .before .before .before .before .before .before .before .before .before .before .before .before .before .before .before .pre .1) (c .before .before .before .before .before .before .before .before .before .before .before .before .before .before .loop .inv) (c .before .before .before .before .before .before .before .before .before .before .before .opened .ensures) (c .before .before .before .before .before .before .before .before .eval .ensures) (c .before .before .before .before .before .before .before .before .before .before .before .before .if1 .taken) (c .before .before .value .given .1) (c .if2 .taken) (c .before .before .before .before .before .before .before .before .before .before .before .before .before .before .before .before .before .before .before .args .x) (c .before .before .before .before .before .before .before .before .before .before .before .before .before .before .before .start-of .ensures))
-    (λ c. omega (arith, body-less (c .before .before .before .before .before .before .before .before .before .before .before .before .before .before .before .before .before .before .before .pre .1) (c .before .before .before .before .before .before .before .before .before .before .before .before .before .before .loop .inv) (c .before .before .before .before .before .before .before .before .before .before .before .opened .ensures) (c .before .before .before .before .before .before .before .before .eval .ensures) (c .before .before .before .before .before .before .before .before .before .before .before .before .if1 .taken) (c .before .before .value .given .1) (c .before .before .before .before .before .before .before .before .before .before .before .before .before .before .before .before .before .before .before .args .x) (c .before .before .before .before .before .before .before .before .before .before .before .before .before .before .before .start-of .ensures), c .before .before .before .before .before .before .before .before .before .before .before .before .if1 .taken))
-    (λ c. loop-turns (c .before .before .before .before .before .before .before .before .before .before .before .before .before .before .before .before .before .before .before .pre .1) (c .before .before .before .before .before .before .before .before .before .before .before .before .before .before .loop .inv) (c .before .before .before .before .before .before .before .before .before .before .before .opened .ensures) (c .before .before .before .before .before .before .before .before .eval .ensures) (c .before .before .before .before .before .before .before .before .before .before .before .before .if1 .taken) (c .before .before .value .given .1) (c .if2 .left) _ refl (c .before .before .before .before .before .before .before .before .eval .kept .0) (c .before .before .before .before .before .before .before .before .eval .kept .1 .0))
-    (λ c. search needs)
-    (λ c. search needs)
-    (λ c. rounds-out (c .before .before .before .before .before .before .before .pre .1) (c .before .before .loop .inv) (c .before .before .before .before .before .before .before .args .x) (c .before .before .before .start-of .ensures) (c .if1 .left)))
+    (λ c. c .before .before .before .before .before .turn .kept .0 ∙ c .before .before .before .before .before .before .before .before .before .before .before .before .loop .inv .words-size)
+    (λ c. (simp length-set at (c .before .before .before .before .before .turn .kept .1 .0)) ∙ c .before .before .before .before .before .before .before .before .before .before .before .before .loop .inv .stack-size)
+    (λ c. body-halts (c .before .before .before .before .before .before .before .before .before .before .before .before .before .before .before .before .before .pre .1) (c .before .before .before .before .before .before .before .before .before .before .before .before .loop .inv) (c .before .before .before .before .before .before .before .before .opened .ensures) (c .before .before .before .before .before .before .before .before .before .variable-of .ensures) (c .before .before .before .before .before .turn .ensures) (c .before .before .before .before .before .before .before .before .before .before .if1 .taken) (c .match .keys2))
+    (λ c. c .before .before .before .before .before .before .before .before .turn .kept .0 ∙ c .before .before .before .before .before .before .before .before .before .before .before .before .before .before .before .loop .inv .words-size)
+    (λ c. (simp length-set at (c .before .before .before .before .before .before .before .before .turn .kept .1 .0)) ∙ c .before .before .before .before .before .before .before .before .before .before .before .before .before .before .before .loop .inv .stack-size)
+    (λ c. body-same (c .before .before .before .before .before .before .before .before .before .before .before .before .before .before .before .before .before .before .before .before .pre .1) (c .before .before .before .before .before .before .before .before .before .before .before .before .before .before .before .loop .inv) (c .before .before .before .before .before .before .before .before .before .before .before .opened .ensures) (c .before .before .before .before .before .before .before .before .before .before .before .before .variable-of .ensures) (c .before .before .before .before .before .before .before .before .turn .ensures) (c .before .before .before .before .before .before .before .before .before .before .before .before .before .if1 .taken) (c .before .before .value .given .1) (c .if2 .taken))
+    (λ c. omega (arith, body-less (c .before .before .before .before .before .before .before .before .before .before .before .before .before .before .before .before .before .before .before .before .pre .1) (c .before .before .before .before .before .before .before .before .before .before .before .before .before .before .before .loop .inv) (c .before .before .before .before .before .before .before .before .before .before .before .opened .ensures) (c .before .before .before .before .before .before .before .before .before .before .before .before .variable-of .ensures) (c .before .before .before .before .before .before .before .before .turn .ensures) (c .before .before .before .before .before .before .before .before .before .before .before .before .before .if1 .taken) (c .before .before .value .given .1), c .before .before .before .before .before .before .before .before .before .before .before .before .before .if1 .taken))
+    (λ c. loop-turns (c .before .before .before .before .before .before .before .before .before .before .before .before .before .before .before .before .before .before .before .before .pre .1) (c .before .before .before .before .before .before .before .before .before .before .before .before .before .before .before .loop .inv) (c .before .before .before .before .before .before .before .before .before .before .before .opened .ensures) (c .before .before .before .before .before .before .before .before .before .before .before .before .variable-of .ensures) (c .before .before .before .before .before .before .before .before .turn .ensures) (c .before .before .before .before .before .before .before .before .before .before .before .before .before .if1 .taken) (c .before .before .value .given .1) (c .if2 .left) _ refl (c .before .before .before .before .before .before .before .before .turn .kept .0) (c .before .before .before .before .before .before .before .before .turn .kept .1 .0))
+    (λ c. c .before .before .loop .inv .words-size)
+    (λ c. c .before .before .loop .inv .stack-size)
+    (λ c. rounds-out (c .before .before .before .before .before .before .before .pre .1) (c .before .before .loop .inv) (c .if1 .left)))
     (λ t. both-lts.spec (
       below eval-kinds.ps μ-eval eval.Pre t,
       eval.Post,
@@ -153,8 +152,8 @@ pub +bind+both+eval+keep+modal+negate+round+until-spec : {M : Type 1} → statem
       negate.Post,
       below both-kinds.ps μ-both both.Pre t,
       both.Post,
-      below until-kinds.ps μ-until until.Pre t,
-      until.Post,
+      until-body-reads.Asked,
+      until-body-reads.Learnt,
       below modal-kinds.ps μ-modal modal.Pre t,
       modal.Post,
       below bind-kinds.ps μ-bind bind.Pre t,
@@ -172,34 +171,31 @@ pub +bind+both+eval+keep+modal+negate+round+until-spec : {M : Type 1} → statem
     (λ c κs. leaf-asked (c .before .before .before .before .before .before .before .before .before .before .before .before .before .before .pre .1) (c .before .before .before .before .before .before .before .before .before .before .lead-at .ensures) (c .before .before .before .before .before .before .before .before .t .given .1) (c .before .before .before .t2 .given .1))
     (λ c κs. search needs)
     (λ c. search needs)
-    (λ c κs. (let d = read-depth (c .before .before .before .before .before .before .before .before .before .before .before .before .before .pre .1 .part .stands) in omega (arith, c .before .before .before .before .before .before .before .before .before .before .before .before .before .pre .0), not-asked (c .before .before .before .before .before .before .before .before .before .before .before .before .before .pre .1) (c .before .before .before .before .before .before .before .before .before .lead-at .ensures) (c .before .before .before .before .before .before .before .t .given .1) (c .before .before .enum-told2 .given .1)))
-    (λ c. search needs)
-    (λ c. search needs)
-    (λ c κs. (let d = read-depth (c .before .before .before .before .before .before .before .before .before .before .before .before .before .before .before .before .before .pre .1 .part .stands) in omega (arith, c .before .before .before .before .before .before .before .before .before .before .before .before .before .before .before .before .before .pre .0), both-asked (c .before .before .before .before .before .before .before .before .before .before .before .before .before .before .before .before .before .pre .1) (c .before .before .before .before .before .before .before .before .before .before .before .before .before .lead-at .ensures) (c .before .before .before .before .before .before .before .before .before .before .before .t .given .1) (c .before .before .before .before .before .before .t3 .given .1 ∙ ap Both (c .before .before .before .w .given .1))))
-    (λ c. search needs)
-    (λ c κs. (let d = read-depth (c .before .before .before .before .before .before .before .before .before .before .before .before .before .before .before .before .before .pre .1 .part .stands) in omega (arith, c .before .before .before .before .before .before .before .before .before .before .before .before .before .before .before .before .before .pre .0), until-asked (c .before .before .before .before .before .before .before .before .before .before .before .before .before .before .before .before .before .pre .1) (c .before .before .before .before .before .before .before .before .before .before .before .before .before .lead-at .ensures) (c .before .before .before .before .before .before .before .before .before .before .before .t .given .1) (c .before .before .before .before .before .before .t3 .given .1 ∙ ap Both (c .before .before .before .w2 .given .1))))
-    (λ c. search needs)
-    (λ c κs. (let d = read-depth (c .before .before .before .before .before .before .before .before .before .before .before .before .before .before .pre .1 .part .stands) in omega (arith, c .before .before .before .before .before .before .before .before .before .before .before .before .before .before .pre .0), mode-asked (c .before .before .before .before .before .before .before .before .before .before .before .before .before .before .pre .1) (c .before .before .before .before .before .before .before .before .before .before .lead-at .ensures) (c .before .before .before .before .before .before .before .before .t .given .1) (c .before .before .before .t4 .given .1)))
-    (λ c. search needs)
-    (λ c κs. (let d = read-depth (c .before .before .before .before .before .before .before .before .before .before .before .before .before .before .pre .1 .part .stands) in omega (arith, c .before .before .before .before .before .before .before .before .before .before .before .before .before .before .pre .0), bind-asked (c .before .before .before .before .before .before .before .before .before .before .before .before .before .before .pre .1) (c .before .before .before .before .before .before .before .before .before .before .lead-at .ensures) (c .before .before .before .before .before .before .before .before .t .given .1) (c .before .before .before .t5 .given .1)))
-    (λ c. search needs)
     (λ c. search needs)
     (λ c. leaf-answered (c .before .before .before .before .before .before .before .before .before .before .before .before .before .before .before .before .before .before .pre .1) (c .before .before .before .before .before .before .before .before .before .before .before .before .before .before .lead-at .ensures) (c .before .before .before .before .before .before .before .before .before .before .before .before .t .given .1) (c .before .before .before .before .before .before .before .t2 .given .1) (c .before .before .before .leaf .ensures) (c .answer .ensures))
+    (λ c. search needs)
+    (λ c κs. (let d = read-depth (c .before .before .before .before .before .before .before .before .before .before .before .before .before .pre .1 .part .stands) in omega (arith, c .before .before .before .before .before .before .before .before .before .before .before .before .before .pre .0), not-asked (c .before .before .before .before .before .before .before .before .before .before .before .before .before .pre .1) (c .before .before .before .before .before .before .before .before .before .lead-at .ensures) (c .before .before .before .before .before .before .before .t .given .1) (c .before .before .enum-told2 .given .1)))
     (λ c. search needs)
     (λ c. search needs)
     (λ c. not-answered (c .before .before .before .before .before .before .before .before .before .before .before .before .before .before .before .before .before .before .pre .1) (c .before .before .before .before .before .before .before .before .before .before .before .before .before .before .lead-at .ensures) (c .before .before .before .before .before .before .before .before .before .before .before .before .t .given .1) (c .before .before .before .before .before .before .before .enum-told2 .given .1) (c .before .before .before .before .negate .ensures))
     (λ c. search needs)
     (λ c. search needs)
+    (λ c κs. (let d = read-depth (c .before .before .before .before .before .before .before .before .before .before .before .before .before .before .before .before .before .pre .1 .part .stands) in omega (arith, c .before .before .before .before .before .before .before .before .before .before .before .before .before .before .before .before .before .pre .0), both-asked (c .before .before .before .before .before .before .before .before .before .before .before .before .before .before .before .before .before .pre .1) (c .before .before .before .before .before .before .before .before .before .before .before .before .before .lead-at .ensures) (c .before .before .before .before .before .before .before .before .before .before .before .t .given .1) (c .before .before .before .before .before .before .t3 .given .1 ∙ ap Both (c .before .before .before .w .given .1))))
+    (λ c. search needs)
+    (λ c. search needs)
     (λ c. both-answered (c .before .before .before .before .before .before .before .before .before .before .before .before .before .before .before .before .before .before .before .before .before .before .pre .1) (c .before .before .before .before .before .before .before .before .before .before .before .before .before .before .before .before .before .before .lead-at .ensures) (c .before .before .before .before .before .before .before .before .before .before .before .before .before .before .before .before .t .given .1) (c .before .before .before .before .before .before .before .before .before .before .before .t3 .given .1 ∙ ap Both (c .before .before .before .before .before .before .before .before .w .given .1)) (c .before .before .before .before .both .ensures))
     (λ c. search needs)
+    (λ c κs. search needs)
     (λ c. search needs)
-    (λ c. until-answered (c .before .before .before .before .before .before .before .before .before .before .before .before .before .before .before .before .before .before .before .before .before .before .pre .1) (c .before .before .before .before .before .before .before .before .before .before .before .before .before .before .before .before .before .before .lead-at .ensures) (c .before .before .before .before .before .before .before .before .before .before .before .before .before .before .before .before .t .given .1) (c .before .before .before .before .before .before .before .before .before .before .before .t3 .given .1 ∙ ap Both (c .before .before .before .before .before .before .before .before .w2 .given .1)) (c .before .before .before .before .until .ensures))
+    (λ c κs. (let d = read-depth (c .before .before .before .before .before .before .before .before .before .before .before .before .before .before .pre .1 .part .stands) in omega (arith, c .before .before .before .before .before .before .before .before .before .before .before .before .before .before .pre .0), mode-asked (c .before .before .before .before .before .before .before .before .before .before .before .before .before .before .pre .1) (c .before .before .before .before .before .before .before .before .before .before .lead-at .ensures) (c .before .before .before .before .before .before .before .before .t .given .1) (c .before .before .before .t4 .given .1)))
     (λ c. search needs)
     (λ c. search needs)
     (λ c. mode-answered (c .before .before .before .before .before .before .before .before .before .before .before .before .before .before .before .before .before .before .before .pre .1) (c .before .before .before .before .before .before .before .before .before .before .before .before .before .before .before .lead-at .ensures) (c .before .before .before .before .before .before .before .before .before .before .before .before .before .t .given .1) (c .before .before .before .before .before .before .before .before .t4 .given .1) (c .before .before .before .before .modal .ensures))
     (λ c. search needs)
+    (λ c κs. (let d = read-depth (c .before .before .before .before .before .before .before .before .before .before .before .before .pre .1 .part .stands) in omega (arith, c .before .before .before .before .before .before .before .before .before .before .before .before .pre .0), ⊎-elim (λ w. until-asked (c .before .before .before .before .before .before .before .before .before .before .before .before .pre .1) (c .before .before .before .before .before .before .before .before .lead-at .ensures) (c .before .before .before .before .before .before .t .given .1) (w .1 .given .1 ∙ ap Both (w .4 .given .1)) (w .7) (w .6 .ensures)) (λ w. bind-asked (c .before .before .before .before .before .before .before .before .before .before .before .before .pre .1) (c .before .before .before .before .before .before .before .before .lead-at .ensures) (c .before .before .before .before .before .before .t .given .1) (w .1 .given .1) (w .3)) (c .before .before .match2 .came)))
     (λ c. search needs)
-    (λ c. bind-answered (c .before .before .before .before .before .before .before .before .before .before .before .before .before .before .before .before .before .before .before .pre .1) (c .before .before .before .before .before .before .before .before .before .before .before .before .before .before .before .lead-at .ensures) (c .before .before .before .before .before .before .before .before .before .before .before .before .before .t .given .1) (c .before .before .before .before .before .before .before .before .t5 .given .1) (c .before .before .before .before .bind .ensures)))
+    (λ c. search needs)
+    (λ c. ⊎-elim (λ w. until-answered (c .before .before .before .before .before .before .before .before .before .before .before .before .before .before .before .before .before .pre .1) (c .before .before .before .before .before .before .before .before .before .before .before .before .before .lead-at .ensures) (c .before .before .before .before .before .before .before .before .before .before .before .t .given .1) (w .1 .given .1 ∙ ap Both (w .4 .given .1)) (w .7) (w .6 .ensures) (c .before .before .before .before .bind .ensures)) (λ w. bind-answered (c .before .before .before .before .before .before .before .before .before .before .before .before .before .before .before .before .before .pre .1) (c .before .before .before .before .before .before .before .before .before .before .before .before .before .lead-at .ensures) (c .before .before .before .before .before .before .before .before .before .before .before .t .given .1) (w .1 .given .1) (w .3) (c .before .before .before .before .bind .ensures)) (c .before .before .before .before .before .before .before .match2 .came)))
     (λ t. keep-lts.spec (
       below eval-kinds.ps μ-eval eval.Pre t,
       eval.Post,
@@ -296,37 +292,21 @@ pub +bind+both+eval+keep+modal+negate+round+until-spec : {M : Type 1} → statem
     (λ c. c .before .before .joined .kept .0 ∙ c .before .before .before .before .before .before .before .before .before .keep .kept .0 ∙ c .before .before .before .before .before .before .before .before .before .before .before .before .before .before .before .before .before .before .before .before .eval .kept .0)
     (λ c. (simp length-set at (c .before .before .before .before .before .before .before .before .before .keep .kept .1 .0)) ∙ c .before .before .before .before .before .before .before .before .before .before .before .before .before .before .before .before .before .before .before .before .eval .kept .1 .0)
     (λ c. or-answered (c .before .before .before .before .before .before .before .before .before .before .before .before .before .before .before .before .before .before .before .before .before .before .before .before .before .before .pre .1) (c .before .before .before .before .before .before .before .before .before .before .before .before .before .before .before .before .before .before .before .before .eval .ensures) (c .before .before .before .before .before .before .before .before .before .before .before .before .before .before .before .before .before .before .before .before .eval .kept .1 .0) (c .before .before .before .before .before .before .before .before .before .before .before .before .before .before .first .given .1) (c .before .before .before .before .before .before .before .before .before .before .before .before .onward .ensures) (c .before .before .before .before .before .before .before .before .before .keep .ensures) (c .before .before .before .before .before .before .before .before .before .keep .kept .1 .0) (c .before .before .joined .ensures)))
-    λ t. until-lts.spec (
-      syntax-reads.Asked,
-      syntax-reads.Learnt,
-      onward-reads.Asked,
-      onward-reads.Learnt,
+    λ t. turn-lts.spec (
+      below eval-kinds.ps μ-eval eval.Pre t,
+      eval.Post,
       below round-kinds.ps μ-round round.Pre t,
       round.Post,
     )
-    (at until-kinds.ps μ-until until.Pre t)
-    until.Post
-    until-Inv-loop
-    until-μ-loop
-    (λ c κs. search needs)
+    (at turn-kinds.ps μ-turn turn.Pre t)
+    turn.Post
+    (λ c. search needs)
+    (λ c κs. (omega (arith, c .before .before .before .before .before .before .before .pre .0), formula-asked (c .before .before .enum-told .given .1) (c .before .before .before .before .before .before .before .pre .1)))
+    (λ c. search needs)
+    (λ c κs. (omega (arith, c .before .before .before .before .before .before .before .before .pre .0), round-asked (c .before .before .before .body .given .1) (c .before .before .before .before .before .before .before .before .pre .1)))
     (λ c. search needs)
     (λ c. search needs)
-    (λ c. absurd (middle-read (c .before .before .before .before .before .before .pre .1 .first) (c .before .before .syntax .ensures) (c .enum-told .given .1)))
-    (λ c. until-starts)
+    (λ c. formula-answered (c .before .before .before .before .before .before .before .enum-told .given .1) (c .before .before .before .before .eval .ensures))
     (λ c. search needs)
-    (λ c. omega (arith, c .before .before .before .before .before .before .before .before .before .before .pre .1 .room, c .before .before .before .before .before .before .before .before .before .before .pre .1 .ready .size, c .before .before .loop .inv .stack-size))
     (λ c. search needs)
-    (λ c κs. omega (arith, c .before .before .before .before .before .before .before .before .before .before .pre .1 .room))
-    (λ c κs. (omega (arith, same-depth (c .before .before .onward .ensures), c .before .before .before .before .before .before .before .before .before .before .before .before .before .pre .0), round-asked (c .before .before .before .before .before .before .before .before .before .before .before .before .before .pre .1) (c .before .before .before .before .before .loop .inv) (c .before .before .onward .ensures) (c .before .before .before .before .before .before .before .before .before .syntax .ensures) (c .before .before .before .before .before .before .before .middle .given .1)))
-    (λ c. search needs)
-    (λ c. c .before .before .before .before .before .round .kept .0 ∙ c .before .before .before .before .before .before .before .before .before .before .before .loop .inv .words-size)
-    (λ c. (simp length-set at (c .before .before .before .before .before .round .kept .1 .0)) ∙ c .before .before .before .before .before .before .before .before .before .before .before .loop .inv .stack-size)
-    (λ c. round-halts (c .before .before .before .before .before .before .before .before .before .before .before .before .before .before .before .before .before .before .before .pre .1) (c .before .before .before .before .before .before .before .before .before .before .before .loop .inv) (c .before .before .before .before .before .before .before .before .onward .ensures) (c .before .before .before .before .before .before .before .before .before .before .before .before .before .before .before .syntax .ensures) (c .before .before .before .before .before .before .before .before .before .before .before .before .before .middle .given .1) (c .before .before .before .before .before .round .ensures) (c .before .before .before .before .before .before .before .before .before .if1 .taken) (c .match2 .keys2))
-    (λ c. c .before .before .before .before .before .before .before .before .round .kept .0 ∙ c .before .before .before .before .before .before .before .before .before .before .before .before .before .before .loop .inv .words-size)
-    (λ c. (simp length-set at (c .before .before .before .before .before .before .before .before .round .kept .1 .0)) ∙ c .before .before .before .before .before .before .before .before .before .before .before .before .before .before .loop .inv .stack-size)
-    (λ c. round-same (c .before .before .before .before .before .before .before .before .before .before .before .before .before .before .before .before .before .before .before .before .before .before .pre .1) (c .before .before .before .before .before .before .before .before .before .before .before .before .before .before .loop .inv) (c .before .before .before .before .before .before .before .before .before .before .before .onward .ensures) (c .before .before .before .before .before .before .before .before .before .before .before .before .before .before .before .before .before .before .syntax .ensures) (c .before .before .before .before .before .before .before .before .before .before .before .before .before .before .before .before .middle .given .1) (c .before .before .before .before .before .before .before .before .round .ensures) (c .before .before .before .before .before .before .before .before .before .before .before .before .if1 .taken) (c .before .before .value .given .1) (c .if2 .taken))
-    (λ c. omega (arith, round-less (c .before .before .before .before .before .before .before .before .before .before .before .before .before .before .before .before .before .before .before .before .before .before .pre .1) (c .before .before .before .before .before .before .before .before .before .before .before .before .before .before .loop .inv) (c .before .before .before .before .before .before .before .before .before .before .before .onward .ensures) (c .before .before .before .before .before .before .before .before .before .before .before .before .before .before .before .before .before .before .syntax .ensures) (c .before .before .before .before .before .before .before .before .before .before .before .before .before .before .before .before .middle .given .1) (c .before .before .before .before .before .before .before .before .round .ensures) (c .before .before .before .before .before .before .before .before .before .before .before .before .if1 .taken) (c .before .before .value .given .1), c .before .before .before .before .before .before .before .before .before .before .before .before .if1 .taken))
-    (λ c. until-turns (c .before .before .before .before .before .before .before .before .before .before .before .before .before .before .before .before .before .before .before .before .before .before .pre .1) (c .before .before .before .before .before .before .before .before .before .before .before .before .before .before .loop .inv) (c .before .before .before .before .before .before .before .before .before .before .before .onward .ensures) (c .before .before .before .before .before .before .before .before .before .before .before .before .before .before .before .before .before .before .syntax .ensures) (c .before .before .before .before .before .before .before .before .before .before .before .before .before .before .before .before .middle .given .1) (c .before .before .before .before .before .before .before .before .round .ensures) (c .before .before .before .before .before .before .before .before .before .before .before .before .if1 .taken) (c .before .before .value .given .1) (c .if2 .left) _ refl (c .before .before .before .before .before .before .before .before .round .kept .0) (c .before .before .before .before .before .before .before .before .round .kept .1 .0))
-    (λ c. c .before .before .loop .inv .words-size)
-    (λ c. c .before .before .loop .inv .stack-size)
-    (λ c. until-out (c .before .before .before .before .before .before .before .before .before .before .pre .1) (c .before .before .loop .inv) (c .if1 .left))
+    (λ c. round-answered (c .before .before .before .before .before .before .before .before .body .given .1) (c .before .before .before .before .round .ensures))
