@@ -2,3 +2,4 @@ pub mod Play
 pub mod Passes
 pub mod Chained
 pub mod Next
+pub mod OnePlay
