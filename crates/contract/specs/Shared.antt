@@ -29,7 +29,7 @@ Step a (clear r) b y = CallPost (clear r) (a .words) (b .words) y × (b .account
 Step a collect b y = CallPost collect (a .words) (b .words) y × (b .accounts ≡ a .accounts)
 
 -- an answered fresh, then the calls, "each call gets the list as the one before left it"
-pub record Evening (n N : ℕ) (l : List Event) (end : Lent) : Type 0 where
+pub record SharedSession (n N : ℕ) (l : List Event) (end : Lent) : Type 0 where
   pub lent : Lent
   pub made : Lent
   pub reply : Reply
@@ -53,13 +53,13 @@ trace-words (go {w = a} {v = m} {c = c} {y = y} {l = l} p t) =
     let (u, f) = trace-words t in
     (go q u, f ∙ ap (λ (x : List Account). accountsAfter x l) e)
 
-module _ (n N : ℕ) {l : List Event} {end : Lent} (x : Evening n N l end) where
+module _ (n N : ℕ) {l : List Event} {end : Lent} (x : SharedSession n N l end) where
   words-trace : Trace (List ℕ) performs (x .made .words) l (end .words) × (end .accounts ≡ accountsAfter (x .made .accounts) l)
   words-trace = trace-words (x .rest)
 
   -- the third demand, over the words
-  pub evening-demand : Demand SoundWords seen asks n N l (end .words)
-  evening-demand = words-demand n N record {
+  pub shared-demand : Demand SoundWords seen asks n N l (end .words)
+  shared-demand = words-demand n N record {
     lent = x .lent .words;
     count = length (x .lent .accounts);
     made = x .made .words;
@@ -70,13 +70,13 @@ module _ (n N : ℕ) {l : List Event} {end : Lent} (x : Evening n N l end) where
   }
 
   -- "a tally counts the rounds of its account's answered sets since fresh", and no limit is changed
-  pub evening-tally : (p : ℕ) → p < length (x .lent .accounts)
+  pub shared-tally : (p : ℕ) → p < length (x .lent .accounts)
       → getD (end .accounts) p none
       ≡ record { rows = getD (x .lent .accounts) p none .rows; rounds = getD (x .lent .accounts) p none .rounds; tally = min (roundsAt p l) tallyTop }
-  evening-tally p h =
+  shared-tally p h =
       ap (λ (k : List Account). getD k p none) (words-trace .1 ∙ ap (λ (k : List Account). accountsAfter k l) (x .start .list))
       ∙ tally-since-fresh (x .lent .accounts) (x .reply) l p (x .answered) h
 
   -- and these rounds are the book's
-  pub evening-rounds : (p : ℕ) → roundsAt p l ≡ bookRounds p (fresh n N) (calls l)
-  evening-rounds p = rounds-agree p (fresh n N) l (evening-demand .agree)
+  pub shared-rounds : (p : ℕ) → roundsAt p l ≡ bookRounds p (fresh n N) (calls l)
+  shared-rounds p = rounds-agree p (fresh n N) l (shared-demand .agree)
