@@ -3,10 +3,10 @@
 use mathlib.Core.Path.{_≡_, refl, sym, ap, ap₂, _∙_}
 use mathlib.Core.Bool.{Bool, true, false, true≢false}
 use Prim.Native.Nat.{ℕ, zero, suc, _+_, _*_, _/_, _%_, _^_, _<_}
-use native.Mathlib.Nat.{pow-suc, pow-succ', div-one, div-div-eq-div-mul}
+use native.Mathlib.Nat.{pow-suc, div-one}
 use native.Mathlib.Omega.{arith}
 use lib.Dec.{eqb, eqb→eq, eqb-refl}
-use Rattle.mucalculus.specs.Means.{bit}
+use Rattle.mucalculus.specs.Means.{bit, bit-half}
 use Rattle.diagram.specs.Level.{Val, T-true, T-false}
 
 -- a bit as a number
@@ -30,10 +30,6 @@ pairVal s t (suc zero) = bit 0 t
 pairVal s t (suc (suc l)) = pairVal (s / 2) (t / 2) l
 
 -- ---- bits of a number
-
--- bit p + 1 of a number is bit p of its half
-pub bit-half : (p s : ℕ) → bit (suc p) s ≡ bit p (s / 2)
-bit-half p s = ap (λ (q : ℕ). eqb (q % 2) 1) (ap (λ (d : ℕ). s / d) (pow-succ' 2 p) ∙ sym (div-div-eq-div-mul s 2 (2 ^ p)))
 
 -- a test of numbers that are equal or not
 eqb-same : (a b : ℕ) → a ≡ b → eqb a b ≡ true

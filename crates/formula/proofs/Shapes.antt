@@ -1,11 +1,10 @@
 -- What each check says of an operator by its parts, AND and OR alike, box and diamond, mu and nu. Assumes nothing.
-use mathlib.Core.Path.{_≡_, refl, ap, _∙_}
+use mathlib.Core.Path.{_≡_, refl}
 use mathlib.Core.Bool.{Bool, true, false, not, _&&_, _||_}
 use mathlib.Core.List.{List}
 use Prim.Native.Nat.{ℕ}
 use lib.Dec.{eqb}
 use lib.ListN.{getD, set}
-use borrow.Author.Tests.{eq-eqb, ne-eqb}
 use Rattle.mucalculus.specs.Form.{Form, neg, bound, lacks, mentioned, reads, steady}
 use Rattle.tokens.specs.declared.Leaf.{Leaf}
 use Rattle.tokens.specs.declared.Leaf.the-variants.{False, True, Now, Next, Var, Reg}
@@ -106,17 +105,10 @@ unfolding lacks
 lacks-modal p All t f = refl
 lacks-modal p Some t f = refl
 
-lacks-binder : (p : ℕ) (x : Fix) (P : ℕ) (f : Form) → lacks p (binderForm x P f) ≡ (eqb P p || lacks p f)
+pub lacks-binder : (p : ℕ) (x : Fix) (P : ℕ) (f : Form) → lacks p (binderForm x P f) ≡ (eqb P p || lacks p f)
 unfolding lacks
 lacks-binder p Mu P f = refl
 lacks-binder p Nu P f = refl
-
--- a binder of the same variable, and of another
-pub lacks-same : (p : ℕ) (x : Fix) (P : ℕ) → P ≡ p → (f : Form) → lacks p (binderForm x P f) ≡ true
-lacks-same p x P e f = lacks-binder p x P f ∙ ap (λ (c : Bool). c || lacks p f) (eq-eqb P p e)
-
-pub lacks-other : (p : ℕ) (x : Fix) (P : ℕ) → (P ≡ p → ⊥) → (f : Form) → lacks p (binderForm x P f) ≡ lacks p f
-lacks-other p x P n f = lacks-binder p x P f ∙ ap (λ (c : Bool). c || lacks p f) (ne-eqb P p n)
 
 -- ---- mentioned
 
@@ -182,22 +174,3 @@ steady-leaf (Now q) = refl
 steady-leaf (Next q) = refl
 steady-leaf (Var q) = refl
 steady-leaf (Reg r) = refl
-
-pub mentioned-leaf : (l : Leaf) → true ≡ mentioned (leafForm l)
-unfolding mentioned
-mentioned-leaf False = refl
-mentioned-leaf True = refl
-mentioned-leaf (Now q) = refl
-mentioned-leaf (Next q) = refl
-mentioned-leaf (Var q) = refl
-mentioned-leaf (Reg r) = refl
-
--- a leaf lacks what an odd reader takes
-pub lacks-leaf : (p : ℕ) (l : Leaf) → reads false p (leafForm l) ≡ lacks p (leafForm l)
-unfolding lacks reads
-lacks-leaf p False = refl
-lacks-leaf p True = refl
-lacks-leaf p (Now q) = refl
-lacks-leaf p (Next q) = refl
-lacks-leaf p (Var q) = refl
-lacks-leaf p (Reg r) = refl

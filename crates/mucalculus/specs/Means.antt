@@ -1,8 +1,9 @@
 -- The set of the states in which a formula holds, and the set of the pairs in which a relation's formula holds. Assumes nothing.
-use mathlib.Core.Path.{_≡_}
+use mathlib.Core.Path.{_≡_, sym, ap, _∙_}
 use mathlib.Core.Bool.{Bool, true, false, not, _&&_, _||_}
 use mathlib.Core.List.{List}
-use Prim.Native.Nat.{ℕ, _^_, _/_, _%_}
+use Prim.Native.Nat.{ℕ, suc, _^_, _/_, _%_}
+use native.Mathlib.Nat.{pow-succ', div-div-eq-div-mul}
 use lib.Dec.{eqb}
 use lib.ListN.{length}
 use Rattle.mucalculus.specs.Sets.{mem, table, length-table, noStates, allStates, all, any}
@@ -31,6 +32,10 @@ union k A B = table k (λ s. mem A s || mem B s)
 -- bit p of state s
 abbrev pub bit : ℕ → ℕ → Bool
 bit p s = eqb (s / 2 ^ p % 2) 1
+
+-- bit p + 1 of a number is bit p of its half
+pub bit-half : (p s : ℕ) → bit (suc p) s ≡ bit p (s / 2)
+bit-half p s = ap (λ (q : ℕ). eqb (q % 2) 1) (ap (λ (d : ℕ). s / d) (pow-succ' 2 p) ∙ sym (div-div-eq-div-mul s 2 (2 ^ p)))
 
 -- the states whose bit p is 1
 abbrev pub bitStates : ℕ → ℕ → List Bool
