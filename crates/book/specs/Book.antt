@@ -17,8 +17,10 @@ use Rattle.diagram.specs.Level.{Fn}
 use Rattle.diagram.specs.Need.{need}
 use Rattle.accounts.specs.declared.Terms.{Terms}
 use Rattle.accounts.specs.Terms.{lent, named, rowsUnder, roundsUnder}
+use Rattle.accounts.specs.declared.Count.{Count}
+use Rattle.accounts.specs.Count.{nothing}
 use Rattle.book.specs.Bridge.{fnOf, fnOfPairs}
-use Rattle.book.specs.Ticks.{contents, ticks, pairTicks, Count, nothing, Verdict, counted, full, spent, verdict}
+use Rattle.book.specs.Ticks.{contents, ticks, pairTicks, Verdict, counted, full, spent, verdict}
 
 -- "The table has N rows, 32 registers, 8 relations"; tallies are the accounts'
 abbrev pub registers : ℕ

@@ -10,7 +10,9 @@ use Rattle.tokens.specs.declared.Kind.{Kind}
 use Rattle.tokens.specs.declared.Kind.the-variants.{Relation, Set}
 use Rattle.accounts.specs.declared.Terms.{Terms}
 use Rattle.accounts.specs.Terms.{named, rowsUnder, roundsUnder}
-use Rattle.book.specs.Ticks.{ticks, Count, nothing, Verdict, counted, full, spent, verdict}
+use Rattle.accounts.specs.declared.Count.{Count}
+use Rattle.accounts.specs.Count.{nothing}
+use Rattle.book.specs.Ticks.{ticks, Verdict, counted, full, spent, verdict}
 use Rattle.book.specs.Run.{Outcome, value, full as fullRun, spent as spentRun, run, pairsFit, pairsCount}
 use Rattle.book.specs.Verdicts.{settle, run-ticks, pairs-ticks}
 use Rattle.book.specs.Book.{formulaIn, Book, Call, relation, set, clear, collect, registers, relations, modelOf, liveOf, checks, Done, refuse, ended, relationDone, setDone, relationSteps, setSteps, passing, formulaCall, does}

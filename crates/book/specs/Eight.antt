@@ -13,7 +13,9 @@ use Rattle.mucalculus.specs.Form.{noEnv}
 use Rattle.mucalculus.specs.Means.{means}
 use Rattle.tokens.specs.declared.Kind.the-variants.{Relation, Set}
 use Rattle.accounts.specs.Terms.{named, rowsUnder, roundsUnder}
-use Rattle.book.specs.Ticks.{Tick, ticks, pairTicks, Count, nothing, Verdict, counted, full, spent, verdict, withinRounds, peak}
+use Rattle.accounts.specs.declared.Count.{Count}
+use Rattle.accounts.specs.Count.{nothing}
+use Rattle.book.specs.Ticks.{Tick, ticks, pairTicks, Verdict, counted, full, spent, verdict, withinRounds, peak}
 use Rattle.book.specs.Verdicts.{fit}
 use Rattle.book.specs.Larger.{fit-peak, full-peak}
 use Rattle.book.specs.Effects.{does-set, does-relation}

@@ -14,8 +14,10 @@ use Rattle.diagram.specs.Count.{Within}
 use Rattle.diagram.specs.Keep.{Keeps, keeps-refl, keeps-trans, keeps-within, keeps-on, keeps-denotes}
 use Rattle.diagram.specs.Step.{StepPost}
 use Rattle.diagram.specs.Steps.{bitF, notF}
+use Rattle.accounts.specs.declared.Count.{Count}
+use Rattle.accounts.specs.Count.{needing}
 use Rattle.book.specs.Bridge.{fnOf, fnOf-none, fnOf-all, fnOf-bit, fnOf-not, fnOf-clip}
-use Rattle.book.specs.Run.{Count, needing, Outcome, value, full, spent, andThen, step, notStep, twoStep}
+use Rattle.book.specs.Run.{Outcome, value, full, spent, andThen, step, notStep, twoStep}
 use Rattle.book.specs.Held.{Held, denotes-same, denoted, held-arrow, held-push, held-keeps, goesOn, Needed, step-taken}
 
 -- what the evaluator answers: an arrow and what it counted, 8, or 9

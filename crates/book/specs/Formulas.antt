@@ -13,7 +13,9 @@ use Rattle.diagram.specs.Keep.{Keeps, keeps-within}
 use Rattle.diagram.specs.Post.{Result, at, full as noRows}
 use Rattle.accounts.specs.declared.Terms.{Terms}
 use Rattle.accounts.specs.Terms.{named, rowsUnder, roundsUnder}
-use Rattle.book.specs.Ticks.{ticks, Count, nothing, Verdict, counted, full, spent, verdict}
+use Rattle.accounts.specs.declared.Count.{Count}
+use Rattle.accounts.specs.Count.{nothing}
+use Rattle.book.specs.Ticks.{ticks, Verdict, counted, full, spent, verdict}
 use Rattle.book.specs.Run.{Outcome, run, pairF, pairsFit, pairsCount}
 use Rattle.book.specs.Verdicts.{settle, run-ticks}
 use Rattle.book.specs.Effects.{does-set, does-relation}

@@ -15,7 +15,9 @@ use Rattle.diagram.specs.Needed.{need-same}
 use Rattle.diagram.specs.Post.{Result, at, full as noRows, Denotes}
 use Rattle.diagram.specs.Keep.{Keeps, keeps-denotes}
 use Rattle.diagram.specs.Step.{StepPost}
-use Rattle.book.specs.Run.{Count, needing, Outcome, full, step}
+use Rattle.accounts.specs.declared.Count.{Count}
+use Rattle.accounts.specs.Count.{needing}
+use Rattle.book.specs.Run.{Outcome, full, step}
 
 pub record Held (m : ℕ) (rows : Rows) (roots : List ℕ) (live : List Fn) : Type 0 where
   pub each : (f : Fn) → Mem f live → (a : ℕ) × Mem a roots × Denotes m rows a f

@@ -15,7 +15,9 @@ use Rattle.mucalculus.specs.Form.{Form, Model, Env, reads, steady}
 use Rattle.mucalculus.specs.Means.{size}
 use Rattle.mucalculus.specs.Binder.{body, round-ends}
 use Rattle.mucalculus.specs.Rounds.{iter-on, same-set}
-use Rattle.book.specs.Ticks.{Tick, step, round, roundTicks, counted, full, spent, verdict, withinRounds, peak, Count, needing, another}
+use Rattle.accounts.specs.declared.Count.{Count}
+use Rattle.accounts.specs.Count.{needing, another}
+use Rattle.book.specs.Ticks.{Tick, step, round, roundTicks, counted, full, spent, verdict, withinRounds, peak}
 use Rattle.book.specs.Verdicts.{fit, verdict-full, not-full, not-spent}
 
 -- what is answered with some N and R is answered alike with more

@@ -12,7 +12,7 @@ use Rattle.mucalculus.specs.Form.{noEnv}
 use Rattle.mucalculus.specs.Means.{means}
 use Rattle.tokens.specs.declared.Kind.the-variants.{Set}
 use Rattle.accounts.specs.declared.Terms.{Terms}
-use Rattle.book.specs.Ticks.{Count}
+use Rattle.accounts.specs.declared.Count.{Count}
 use Rattle.book.specs.Book.{formulaIn, Book, Call, relation, set, clear, collect, Answer, answered, registers, modelOf, Done, withReg, setDone, does, play}
 use Rattle.book.specs.Stored.{range-cases, set-cases, relation-cases, some-inj, none-some, Passed, set-means}
 

@@ -8,8 +8,10 @@ use Rattle.diagram.specs.Post.{Result, at, full as noRows, Denotes}
 use Rattle.diagram.specs.Keep.{Keeps, keeps-on}
 use Rattle.diagram.specs.Step.{StepPost}
 use Rattle.diagram.specs.Steps.{existsF}
+use Rattle.accounts.specs.declared.Count.{Count}
+use Rattle.accounts.specs.Count.{needing}
 use Rattle.book.specs.Diamond.{existsNext}
-use Rattle.book.specs.Run.{Count, needing, Outcome, full, existsSteps}
+use Rattle.book.specs.Run.{Outcome, full, existsSteps}
 use Rattle.book.specs.Held.{Held, denotes-same, denoted, held-push, held-keeps, Needed, step-taken}
 
 -- a step's promise for F is one for each function with the same values

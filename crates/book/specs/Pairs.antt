@@ -13,8 +13,10 @@ use Rattle.diagram.specs.Post.{Result, at, full as noRows, Denotes}
 use Rattle.diagram.specs.Keep.{Keeps, keeps-refl, keeps-trans, keeps-within, keeps-on, keeps-denotes}
 use Rattle.diagram.specs.Step.{StepPost}
 use Rattle.diagram.specs.Steps.{bitF, notF}
+use Rattle.accounts.specs.declared.Count.{Count}
+use Rattle.accounts.specs.Count.{needing}
 use Rattle.book.specs.Bridge.{fnOf-holds, pairs-now, pairs-next, pairs-not}
-use Rattle.book.specs.Run.{Count, needing, pairF, pairsFit, pairsCount}
+use Rattle.book.specs.Run.{pairF, pairsFit, pairsCount}
 use Rattle.book.specs.Held.{Held, denotes-same, denoted, held-arrow, held-push, held-keeps, Needed, answered, held-need, step-fits}
 
 -- the answer is the book's: an arrow of F and what the book counts, where every step so far fits, and otherwise none

@@ -10,8 +10,10 @@ use Rattle.mucalculus.specs.Means.{clip, compl, inter, union, bitStates, someti
 use Rattle.diagram.specs.Level.{Fn}
 use Rattle.diagram.specs.Need.{stepNeed}
 use Rattle.diagram.specs.Steps.{andF, shiftF, existsF}
+use Rattle.accounts.specs.declared.Count.{Count}
+use Rattle.accounts.specs.Count.{needing, another}
 use Rattle.book.specs.Bridge.{fnOf, fnOfPairs}
-pub use Rattle.book.specs.Ticks.{addFilled, contents, pairF, Count, needing, another}
+pub use Rattle.book.specs.Ticks.{addFilled, contents, pairF}
 
 -- what the steps of a set's formula come to
 pub data Outcome : Type 0 where

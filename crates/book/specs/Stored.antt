@@ -18,8 +18,10 @@ use Rattle.formula.specs.Checks.{filled, firstOf, firstRefusal}
 use Rattle.tokens.specs.declared.Kind.the-variants.{Relation, Set}
 use Rattle.accounts.specs.declared.Terms.{Terms}
 use Rattle.accounts.specs.Terms.{named, rowsUnder, roundsUnder}
+use Rattle.accounts.specs.declared.Count.{Count}
+use Rattle.accounts.specs.Count.{nothing}
 use Rattle.book.specs.Bridge.{Sized, SizedPairs, sized-table}
-use Rattle.book.specs.Ticks.{ticks, pairTicks, Count, nothing, Verdict, counted, full, spent, verdict, peak, needsIn}
+use Rattle.book.specs.Ticks.{ticks, pairTicks, Verdict, counted, full, spent, verdict, peak, needsIn}
 use Rattle.book.specs.Verdicts.{roundsIn, verdict-counted, ticks-rounds}
 use Rattle.book.specs.Book.{formulaIn, Book, fresh, Call, relation, set, clear, collect, registers, relations, modelOf, liveOf, regFilled, relFilled, checks, Done, refuse, withRel, withReg, ended, relationDone, setDone, relationSteps, setSteps, passing, formulaCall, does}
 

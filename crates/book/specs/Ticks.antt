@@ -10,6 +10,8 @@ use Rattle.mucalculus.specs.Order.{start}
 use Rattle.mucalculus.specs.Form.{Form, bot, top, neg, conj, disj, now, next, var, reg, box, dia, mu, nu, until, Pairs, Model, Env, put, inside}
 use Rattle.mucalculus.specs.Means.{compl, inter, union, always, sometimes, size, means, meansPair}
 use Rattle.mucalculus.specs.Until.{further, onward}
+use Rattle.accounts.specs.declared.Count.{Count}
+use Rattle.accounts.specs.Count.{needing, another}
 use Rattle.diagram.specs.Level.{Fn}
 use Rattle.diagram.specs.Need.{stepNeed}
 use Rattle.diagram.specs.Steps.{andF, shiftF, existsF}
@@ -147,23 +149,6 @@ pairTicks n live (nu P f) = []
 pairTicks n live (until b t f g) = []
 
 -- ---- the verdict
-
--- what is counted as the steps go: the rounds, and the peak, "the largest row need, over its steps, of live sets and result together"
-pub record Count : Type 0 where
-  pub rounds : ℕ
-  pub peak : ℕ
-
--- nothing yet: the peak is "0 if it took no step"
-abbrev pub nothing : Count
-nothing = record { rounds = 0; peak = 0 }
-
--- after a step with need k
-abbrev pub needing : Count → ℕ → Count
-needing c k = record { rounds = c .rounds; peak = max (c .peak) k }
-
--- after a round's start
-abbrev pub another : Count → Count
-another c = record { rounds = suc (c .rounds); peak = c .peak }
 
 pub data Verdict : Type 0 where
   counted : Count → Verdict  -- every step fits, and so much is counted

@@ -17,8 +17,10 @@ use Rattle.diagram.specs.Canon.{canonical}
 use Rattle.diagram.specs.Post.{Denotes}
 use Rattle.diagram.specs.Keep.{Keeps, keeps-refl, keeps-on, keeps-denotes}
 use Rattle.diagram.specs.Steps.{andF, shiftF, existsF}
+use Rattle.accounts.specs.declared.Count.{Count}
+use Rattle.accounts.specs.Count.{needing, another}
 use Rattle.book.specs.Bridge.{fnOf, fnOfPairs, Sized, fnOf-inj}
-use Rattle.book.specs.Run.{Count, needing, another, Outcome, value, full, spent, andThen, step, existsSteps, notStep, diaSteps, boxSteps, furtherSteps, bothSteps, keepRound, untilRound, loop, run}
+use Rattle.book.specs.Run.{Outcome, value, full, spent, andThen, step, existsSteps, notStep, diaSteps, boxSteps, furtherSteps, bothSteps, keepRound, untilRound, loop, run}
 use Rattle.book.specs.Held.{Held, held-arrow}
 use Rattle.book.specs.Follow.{Ended, ends, nine, Matches, Evals, Stops, evals-same, evals-stop, evals-from, denotes-none, denotes-all}
 

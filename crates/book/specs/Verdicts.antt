@@ -21,8 +21,10 @@ use Rattle.mucalculus.specs.Rounds.{runs, rounds}
 use Rattle.diagram.specs.Level.{Fn}
 use Rattle.diagram.specs.Need.{stepNeed}
 use Rattle.diagram.specs.Steps.{andF, shiftF, existsF}
+use Rattle.accounts.specs.declared.Count.{Count}
+use Rattle.accounts.specs.Count.{needing, another}
 use Rattle.book.specs.Bridge.{fnOf, fnOfPairs}
-use Rattle.book.specs.Ticks.{Tick, step, round, steps, roundTicks, ticks, pairF, pairTicks, existsNeeds, notNeed, twoNeed, diaNeeds, boxNeeds, furtherTicks, keepTicks, untilTicks, Verdict, counted, full, spent, verdict, withinRounds, peak, needsIn, Count, needing, another}
+use Rattle.book.specs.Ticks.{Tick, step, round, steps, roundTicks, ticks, pairF, pairTicks, existsNeeds, notNeed, twoNeed, diaNeeds, boxNeeds, furtherTicks, keepTicks, untilTicks, Verdict, counted, full, spent, verdict, withinRounds, peak, needsIn}
 use Rattle.book.specs.Run.{Outcome, value, full as fullRun, spent as spentRun, andThen, existsSteps, notStep, twoStep, diaSteps, boxSteps, furtherSteps, bothSteps, keepRound, untilRound, loop, run, pairsFit, pairsCount}
 
 -- every need is at most N

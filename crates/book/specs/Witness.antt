@@ -8,8 +8,8 @@ use Prim.Native.Nat.{ℕ}
 use native.Mathlib.Omega.{arith}
 use Rattle.diagram.specs.Rows.{Rows}
 use Rattle.accounts.specs.Terms.{alone}
+use Rattle.accounts.specs.Count.{nothing}
 use Rattle.book.specs.Book.{Call, Question, set, clear, fresh}
-use Rattle.book.specs.Ticks.{nothing}
 use Rattle.book.specs.Compute.{computing}
 use Rattle.book.specs.Listed.{frame}
 use Rattle.book.specs.Table.{Table, Reply, Shows}

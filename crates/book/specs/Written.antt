@@ -15,9 +15,10 @@ use Rattle.mucalculus.specs.Polarity.{put-swap}
 use Rattle.mucalculus.specs.Written.{absent, goes, written, apart, var-apart, means-absent, put-here, sometimes-clip, always-clip, goes-means, written-round}
 use Rattle.diagram.specs.Level.{Fn}
 use Rattle.diagram.specs.Need.{stepNeed}
+use Rattle.accounts.specs.declared.Count.{Count}
 use Rattle.book.specs.Bridge.{fnOf, fnOfPairs, fnOf-clip}
 use Rattle.diagram.specs.Steps.{andF, shiftF}
-use Rattle.book.specs.Run.{Count, Outcome, value, andThen, step, existsSteps, notStep, diaSteps, boxSteps, furtherSteps, bothSteps, untilRound, loop, run}
+use Rattle.book.specs.Run.{Outcome, value, andThen, step, existsSteps, notStep, diaSteps, boxSteps, furtherSteps, bothSteps, untilRound, loop, run}
 use Rattle.book.specs.Ticks.{Tick, steps, roundTicks, ticks, notNeed, twoNeed, diamondNeeds, diaNeeds, boxNeeds, furtherTicks, untilTicks}
 
 -- two parts and the step that joins them: the left one's ticks and value, the right one's ticks by what is live, and its value
