@@ -1,0 +1,4 @@
+use Rattle.evaluator.proofs.unmoved.Statement.{statement}
+
+pub unmoved-spec : {M : Type 1} → statement M
+unmoved-spec = ?
