@@ -263,9 +263,9 @@ module _ {L : Limits} {words₀ words counts₀ counts stack after bs : List ℕ
   pub rounds-out : L .rounds ≤ counted .rounds → BindPost L (view (L .rows) words₀) (view (L .rows) words) stack after bs c body Spent
   rounds-out l = record { answers = λ σ f e R p. bind-out R (I .turns .bound σ f e R p) e l }
 
-  module _ {b : Context} {v : ℕ} (is-opened : b ≡ bodyOf c v (another counted)) (is-variable : v ≡ variableOf body) where
+  module _ {b : Context} {v : ℕ} {n : Count} (is-opened : b ≡ bodyOf c v n) (is-variable : v ≡ variableOf body) (is-count : n ≡ another counted) where
     is-body : b ≡ bodyOf c (variableOf body) (another counted)
-    is-body = is-opened ∙ ap (λ (w : ℕ). bodyOf c w (another counted)) is-variable
+    is-body = is-opened ∙ ap (λ (w : ℕ). bodyOf c w n) is-variable ∙ ap (bodyOf c (variableOf body)) is-count
 
     open-room : c .held < stackSize
     open-room = let l = P .room in omega arith

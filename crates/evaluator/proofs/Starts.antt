@@ -139,6 +139,9 @@ module _ {L : Limits} {W : View} {bs : List ℕ} (p : SetPre L W bs) where
       }
 
   module _ {X : View} (f : Forgot W X) where
+    pub set-begins : Sound X
+    set-begins = start-base L (p .sound) (p .bits) (p .rows) (p .limit) f .sound
+
     pub set-asks : EvalPre L X (replicate stackSize 0) bs starting
     set-asks = record {
       room = omega arith;
