@@ -93,7 +93,7 @@ step-roots {m} {N} {limit} {before} {after} {xs} {ys} {F} answer u s p = record 
     go full r = subst (λ (k : ℕ). limit < k) same r
 
 -- and so is its count
-counted-roots : (m : ℕ) (before : Rows) {xs ys : List ℕ} (F : Fn) (q : Count) (o : Taken) → ((a : ℕ) → Mem a ys → Arrow before a) → Alike xs ys
+pub counted-roots : (m : ℕ) (before : Rows) {xs ys : List ℕ} (F : Fn) (q : Count) (o : Taken) → ((a : ℕ) → Mem a ys → Arrow before a) → Alike xs ys
     → Counted m before xs F q o → Counted m before ys F q o
 counted-roots m before F q (taken.At a c) u s e = e ∙ ap (needing q) (need-alike m before F u s)
 counted-roots m before F q taken.Full u s e = tt
