@@ -328,16 +328,7 @@ fn reach(
     let relation = root_arrow(words, h);
     let held = here.held;
     let count = here.count;
-    let taken = over(
-        words,
-        counts,
-        limits,
-        &stack[..held],
-        m,
-        relation,
-        x,
-        count,
-    );
+    let taken = over(words, counts, limits, &stack[..held], m, relation, x, count);
     answer(taken, end)
 }
 
@@ -467,7 +458,15 @@ fn negate(
     else {
         return part;
     };
-    let taken = live_step(words, counts, stack, limits, here.held, Step::Not(a), counted);
+    let taken = live_step(
+        words,
+        counts,
+        stack,
+        limits,
+        here.held,
+        Step::Not(a),
+        counted,
+    );
     answer(taken, end)
 }
 
@@ -592,7 +591,18 @@ fn turn(
 {
     match body {
         Body::Binder(_, _) => eval(words, counts, stack, bytes, limits, here),
-        Body::Until(m, t, middle) => round(words, counts, stack, bytes, limits, here, middle, m, t, x),
+        Body::Until(m, t, middle) => round(
+            words,
+            counts,
+            stack,
+            bytes,
+            limits,
+            here,
+            middle,
+            m,
+            t,
+            x,
+        ),
     }
 }
 

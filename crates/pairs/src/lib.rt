@@ -64,11 +64,17 @@ fn leaf(
     match l {
         Leaf::False => unmoved(Table::NOTHING, count),
         Leaf::True => unmoved(Table::EVERYTHING, count),
-        Leaf::Now(p) => {
-            live_step(words, counts, stack, limits, held, Step::Bit(2 * p), count)
-        }
+        Leaf::Now(p) => { live_step(words, counts, stack, limits, held, Step::Bit(2 * p), count) }
         Leaf::Next(p) => {
-            live_step(words, counts, stack, limits, held, Step::Bit(2 * p + 1), count)
+            live_step(
+                words,
+                counts,
+                stack,
+                limits,
+                held,
+                Step::Bit(2 * p + 1),
+                count,
+            )
         }
         Leaf::Var(_) => Taken::Full,
         Leaf::Reg(_) => Taken::Full,
@@ -99,7 +105,18 @@ fn relate(
         Token::Leaf(l) => answer(leaf(words, counts, stack, limits, held, l, count), next),
         Token::Not => negate(words, counts, stack, bytes, limits, next, left, held, count),
         Token::Both(w) => match w {
-            Two::Join(j) => both(words, counts, stack, bytes, limits, next, left, held, j, count),
+            Two::Join(j) => both(
+                words,
+                counts,
+                stack,
+                bytes,
+                limits,
+                next,
+                left,
+                held,
+                j,
+                count,
+            ),
             Two::Until(_, _) => Related::Full,
         },
         Token::Modal(_, _) => Related::Full,
@@ -163,7 +180,17 @@ fn both(
         arrow: b,
         next: end,
         count: total,
-    } = relate(words, counts, stack, bytes, limits, middle, depth, held + 1, counted)
+    } = relate(
+        words,
+        counts,
+        stack,
+        bytes,
+        limits,
+        middle,
+        depth,
+        held + 1,
+        counted,
+    )
     else {
         return Related::Full;
     };
@@ -194,7 +221,8 @@ pub fn evaluate_pairs(words: &mut [u32], limits: Limits, bytes: &[u8]) -> Taken
         Table::DEPTH,
         0,
         Count { rounds: 0, peak: 0 },
-    ) else {
+    )
+    else {
         return Taken::Full;
     };
     unmoved(a, c)
