@@ -31,7 +31,7 @@ use Rattle.calls.specs.declared.Started.the-variants as started
 
 -- the rounds of an answered set, 0 of a refused one
 abbrev pub roundsOf : Stored → ℕ
-roundsOf (stored.Node a q) = q
+roundsOf (stored.Node a q p) = q
 roundsOf (stored.Refused e) = 0
 
 -- a refusal's number is none of an answer's
@@ -59,7 +59,7 @@ module _ (p r R : ℕ) (bs old new : List ℕ) (l : List Account) where
   found {m} x i h d e = record { table = d; list = e ∙ added x }
     where
       added : (x : Stored) → place l p (counted (getD l p none) (roundsOf x)) ≡ charged l c (storedReply x)
-      added (stored.Node a q) = refl
+      added (stored.Node a q k) = refl
       added (stored.Refused k) = ap (place l p) (counted-none (getD l p none) h) ∙ put-same l p i ∙ refused k _ l
 
   -- no account at the place: nothing is changed
@@ -67,7 +67,7 @@ module _ (p r R : ℕ) (bs old new : List ℕ) (l : List Account) where
   lost x h d = record { table = subst (λ a. CallPost (set (termsWith (length l) p a) r R bs) old new (storedReply x)) (sym (List·getD-eq-default l none h)) d; list = kept x }
     where
       kept : (x : Stored) → l ≡ charged l c (storedReply x)
-      kept (stored.Node a q) = put-beyond l p (counted (getD l p none) q) h
+      kept (stored.Node a q k) = put-beyond l p (counted (getD l p none) q) h
       kept (stored.Refused k) = refused k _ l
 
 -- ---- fresh

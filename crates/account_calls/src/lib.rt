@@ -51,6 +51,7 @@ pub fn rounds_of(x: Stored) -> u32
         Stored::Node {
             number: _,
             rounds: q,
+            peak: _,
         } => q,
         Stored::Refused(_) => 0,
     }

@@ -1,3 +1,4 @@
 pub mod Account
+pub mod Count
 pub mod Listed
 pub mod Terms

@@ -22,6 +22,12 @@ pub struct Terms {
     pub rounds: u32,
 }
 
+// What a call has counted as its steps go: its rounds, and its peak, the largest row need of a step.
+pub struct Count {
+    pub rounds: u32,
+    pub peak: u32,
+}
+
 // The counts of a list of accounts.
 pub struct List;
 

@@ -9,7 +9,7 @@ use Rattle.accounts.specs.declared.Terms.{Terms}
 use Rattle.accounts.specs.Terms.{alone}
 use Rattle.book.specs.Book.{fresh, relation, set, clear, collect, member, count, refused, answered}
 use Rattle.book.specs.Compute.{computing}
-use Rattle.book.specs.Listed.{frame, frame2, Line, did, told, holds, made, Gives, gives, testing, given}
+use Rattle.book.specs.Listed.{frame, frame2, Line, did, told, holds, made, related, Gives, gives, testing, given}
 
 -- a case: n and N of fresh, and the lines that are due
 pub record Case : Type 0 where
@@ -32,13 +32,13 @@ nobody = false ∷ false ∷ []
 abbrev everybody : List Bool
 everybody = true ∷ true ∷ []
 
--- an answered relation 0
-abbrev loaded : List ℕ → Line
-loaded rel = did (relation 0 (frame rel)) (answered (some 0))
+-- an answered relation 0, with its peak
+abbrev loaded : List ℕ → ℕ → Line
+loaded rel p = did (relation 0 (frame rel)) (related p)
 
 -- an empty table with n = 1, N = 100, R = 100: a set of register 0 that is answered with the set A, or refused
 abbrev answers : List ℕ → ℕ → ℕ → List Bool → Case
-answers f q a A = record { n = 1; N = 100; lines = did (set alone 0 100 (frame f)) (made q (some a)) ∷ holds 0 (some A) ∷ [] }
+answers f q a A = record { n = 1; N = 100; lines = did (set alone 0 100 (frame f)) (made q 0 (some a)) ∷ holds 0 (some A) ∷ [] }
 
 abbrev refuses : List ℕ → ℕ → Case
 refuses f k = record { n = 1; N = 100; lines = did (set alone 0 100 (frame f)) (refused k) ∷ holds 0 none ∷ [] }
@@ -49,8 +49,8 @@ under k place rows rounds = record { count = k; place = place; rows = rows; roun
 
 abbrev pub cases : List Case
 cases =
-    record { n = 1; N = 100; lines = loaded flip ∷ did (set alone 0 100 (frame reach)) (made 3 (some 1)) ∷ holds 0 (some everybody) ∷ [] }
-    ∷ record { n = 1; N = 100; lines = loaded flip ∷ did (set alone 0 2 (frame reach)) (refused 9) ∷ holds 0 none ∷ [] }
+    record { n = 1; N = 100; lines = loaded flip 4 ∷ did (set alone 0 100 (frame reach)) (made 3 4 (some 1)) ∷ holds 0 (some everybody) ∷ [] }
+    ∷ record { n = 1; N = 100; lines = loaded flip 4 ∷ did (set alone 0 2 (frame reach)) (refused 9) ∷ holds 0 none ∷ [] }
     ∷ answers (0x70 ∷ 0x30 ∷ []) 1 0 nobody
     ∷ answers (0x80 ∷ 0x30 ∷ []) 1 1 everybody
     ∷ refuses (0x70 ∷ 0x02 ∷ 0x30 ∷ []) 6
@@ -58,27 +58,27 @@ cases =
     ∷ refuses (0x30 ∷ []) 5
     ∷ refuses (0x70 ∷ 0x70 ∷ 0x30 ∷ []) 5
     ∷ refuses (0x60 ∷ 0x01 ∷ []) 7
-    ∷ record { n = 1; N = 100; lines = loaded (0x00 ∷ []) ∷ did (set alone 0 100 (frame (0x60 ∷ 0x00 ∷ []))) (made 0 (some 1)) ∷ told (count 0) (answered (some 2)) ∷ [] }
-    ∷ record { n = 1; N = 100; lines = loaded (0x00 ∷ []) ∷ did (set alone 0 100 (frame (0x68 ∷ 0x01 ∷ []))) (made 0 (some 0)) ∷ told (count 0) (answered (some 0)) ∷ [] }
-    ∷ record { n = 2; N = 3; lines = did (set alone 0 100 (frame (0x03 ∷ 0x10 ∷ 0x11 ∷ []))) (made 0 none) ∷ holds 0 (some (false ∷ false ∷ false ∷ true ∷ [])) ∷ [] }
+    ∷ record { n = 1; N = 100; lines = loaded (0x00 ∷ []) 0 ∷ did (set alone 0 100 (frame (0x60 ∷ 0x00 ∷ []))) (made 0 0 (some 1)) ∷ told (count 0) (answered (some 2)) ∷ [] }
+    ∷ record { n = 1; N = 100; lines = loaded (0x00 ∷ []) 0 ∷ did (set alone 0 100 (frame (0x68 ∷ 0x01 ∷ []))) (made 0 0 (some 0)) ∷ told (count 0) (answered (some 0)) ∷ [] }
+    ∷ record { n = 2; N = 3; lines = did (set alone 0 100 (frame (0x03 ∷ 0x10 ∷ 0x11 ∷ []))) (made 0 3 none) ∷ holds 0 (some (false ∷ false ∷ false ∷ true ∷ [])) ∷ [] }
     ∷ record { n = 2; N = 2; lines = did (set alone 0 100 (frame (0x03 ∷ 0x10 ∷ 0x11 ∷ []))) (refused 8) ∷ holds 0 none ∷ [] }
-    ∷ record { n = 1; N = 1; lines = did (set alone 0 100 (frame (0x02 ∷ 0x10 ∷ []))) (made 0 none) ∷ holds 0 (some (true ∷ false ∷ [])) ∷ [] }
+    ∷ record { n = 1; N = 1; lines = did (set alone 0 100 (frame (0x02 ∷ 0x10 ∷ []))) (made 0 1 none) ∷ holds 0 (some (true ∷ false ∷ [])) ∷ [] }
     ∷ record {
       n = 2;
       N = 2;
       lines =
-          did (set alone 0 100 (frame (0x10 ∷ []))) (made 0 none)
-          ∷ did (set alone 1 100 (frame (0x11 ∷ []))) (made 0 none)
+          did (set alone 0 100 (frame (0x10 ∷ []))) (made 0 1 none)
+          ∷ did (set alone 1 100 (frame (0x11 ∷ []))) (made 0 2 none)
           ∷ did (clear 0) (answered (some 0))
-          ∷ did (set alone 0 100 (frame (0x02 ∷ 0x11 ∷ []))) (made 0 none)
+          ∷ did (set alone 0 100 (frame (0x02 ∷ 0x11 ∷ []))) (made 0 1 none)
           ∷ holds 0 (some (true ∷ true ∷ false ∷ false ∷ [])) ∷ [];
     }
     ∷ record {
       n = 1;
       N = 100;
       lines =
-          loaded flip
-          ∷ did (set alone 0 3 (frame reach)) (made 3 (some 1))
+          loaded flip 4
+          ∷ did (set alone 0 3 (frame reach)) (made 3 4 (some 1))
           ∷ told (count 0) (answered (some 2))
           ∷ told (member 0 1) (answered (some 1))
           ∷ did collect (answered (some 2)) ∷ [];
@@ -88,29 +88,29 @@ cases =
     ∷ refuses (0x03 ∷ 0x70 ∷ 0x01 ∷ 0x31 ∷ []) 5
     ∷ refuses (0x03 ∷ 0x70 ∷ 0x02 ∷ 0x30 ∷ 0x71 ∷ 0x40 ∷ []) 12
     -- an account's smaller limits: 2 rows and 2 rounds are too few where 3 are enough
-    ∷ record { n = 2; N = 100; lines = did (set (under 1 0 2 100) 0 100 (frame (0x03 ∷ 0x10 ∷ 0x11 ∷ []))) (refused 8) ∷ did (set (under 2 1 3 100) 0 100 (frame (0x03 ∷ 0x10 ∷ 0x11 ∷ []))) (made 0 none) ∷ [] }
-    ∷ record { n = 1; N = 100; lines = loaded flip ∷ did (set (under 1 0 100 2) 0 100 (frame reach)) (refused 9) ∷ did (set (under 8 7 100 3) 0 100 (frame reach)) (made 3 (some 1)) ∷ [] }
+    ∷ record { n = 2; N = 100; lines = did (set (under 1 0 2 100) 0 100 (frame (0x03 ∷ 0x10 ∷ 0x11 ∷ []))) (refused 8) ∷ did (set (under 2 1 3 100) 0 100 (frame (0x03 ∷ 0x10 ∷ 0x11 ∷ []))) (made 0 3 none) ∷ [] }
+    ∷ record { n = 1; N = 100; lines = loaded flip 4 ∷ did (set (under 1 0 100 2) 0 100 (frame reach)) (refused 9) ∷ did (set (under 8 7 100 3) 0 100 (frame reach)) (made 3 4 (some 1)) ∷ [] }
     -- 14: no account, more than 8, no such place; after 3 and before 4
     ∷ record { n = 1; N = 100; lines = did (set (under 0 0 0 0) 0 100 (frame (0x01 ∷ []))) (refused 14) ∷ did (set (under 9 0 100 100) 0 100 (frame (0x01 ∷ []))) (refused 14) ∷ did (set (under 8 8 0 0) 0 100 (frame (0x01 ∷ []))) (refused 14) ∷ [] }
     ∷ record { n = 1; N = 100; lines = did (set (under 9 0 100 100) 32 100 (frame (0x01 ∷ []))) (refused 3) ∷ did (set (under 9 0 100 100) 0 100 []) (refused 14) ∷ did (set (under 8 0 100 100) 0 100 []) (refused 4) ∷ [] }
     ∷ []
 
--- a set of register 0 by a formula of version 2, on a table of n = 1 with relation 0 loaded: its rounds, node and set, or its refusal
-abbrev until : List ℕ → ℕ → List ℕ → ℕ → ℕ → List Bool → Case
-until rel R f q a A = record { n = 1; N = 100; lines = loaded rel ∷ did (set alone 0 R (frame2 f)) (made q (some a)) ∷ holds 0 (some A) ∷ [] }
+-- a set of register 0 by a formula of version 2, on a table of n = 1 with relation 0 loaded with peak l: its rounds, peak, node and set, or its refusal
+abbrev until : List ℕ → ℕ → ℕ → List ℕ → ℕ → ℕ → ℕ → List Bool → Case
+until rel l R f q p a A = record { n = 1; N = 100; lines = loaded rel l ∷ did (set alone 0 R (frame2 f)) (made q p (some a)) ∷ holds 0 (some A) ∷ [] }
 
-abbrev noUntil : List ℕ → ℕ → List ℕ → ℕ → Case
-noUntil rel R f k = record { n = 1; N = 100; lines = loaded rel ∷ did (set alone 0 R (frame2 f)) (refused k) ∷ holds 0 none ∷ [] }
+abbrev noUntil : List ℕ → ℕ → ℕ → List ℕ → ℕ → Case
+noUntil rel l R f k = record { n = 1; N = 100; lines = loaded rel l ∷ did (set alone 0 R (frame2 f)) (refused k) ∷ holds 0 none ∷ [] }
 
 -- "Until". Where each state leads to the other: true until bit 0, on some and on every run, is every state, by the written formula's 3 rounds, of
 -- which R = 2 is too few. Over the empty relation false is never reached. Version 1 has no such word, a relation call has no version 2, and
 -- check 7 names the relation
 abbrev pub untils : List Case
 untils =
-    until flip 100 (0x90 ∷ 0x01 ∷ 0x10 ∷ []) 3 1 everybody
-    ∷ until flip 100 (0x98 ∷ 0x01 ∷ 0x10 ∷ []) 3 1 everybody
-    ∷ noUntil flip 2 (0x98 ∷ 0x01 ∷ 0x10 ∷ []) 9
-    ∷ until (0x00 ∷ []) 100 (0x98 ∷ 0x01 ∷ 0x00 ∷ []) 1 0 nobody
+    until flip 4 100 (0x90 ∷ 0x01 ∷ 0x10 ∷ []) 3 4 1 everybody
+    ∷ until flip 4 100 (0x98 ∷ 0x01 ∷ 0x10 ∷ []) 3 4 1 everybody
+    ∷ noUntil flip 4 2 (0x98 ∷ 0x01 ∷ 0x10 ∷ []) 9
+    ∷ until (0x00 ∷ []) 0 100 (0x98 ∷ 0x01 ∷ 0x00 ∷ []) 1 0 0 nobody
     ∷ record {
       n = 1;
       N = 100;
@@ -118,7 +118,7 @@ untils =
           did (set alone 0 100 (frame (0x90 ∷ 0x01 ∷ 0x10 ∷ []))) (refused 4)
           ∷ did (relation 0 (frame2 (0x01 ∷ []))) (refused 4)
           ∷ did (set alone 0 100 (frame2 (0x91 ∷ 0x01 ∷ 0x10 ∷ []))) (refused 7)
-          ∷ did (set alone 0 100 (frame2 (0x01 ∷ []))) (made 0 (some 1)) ∷ [];
+          ∷ did (set alone 0 100 (frame2 (0x01 ∷ []))) (made 0 0 (some 1)) ∷ [];
     }
     ∷ []
 
@@ -129,7 +129,7 @@ nested = record {
   N = 100;
   lines =
       did (relation 3 (frame (0x00 ∷ []))) (answered (some 0))
-      ∷ did (set alone 0 4 (frame2 (0x93 ∷ 0x80 ∷ 0x30 ∷ 0x10 ∷ []))) (made 4 none)
+      ∷ did (set alone 0 4 (frame2 (0x93 ∷ 0x80 ∷ 0x30 ∷ 0x10 ∷ []))) (made 4 2 none)
       ∷ holds 0 (some (false ∷ true ∷ [])) ∷ [];
 }
 
@@ -139,8 +139,8 @@ wider = record {
   n = 2;
   N = 100;
   lines =
-      loaded (0x03 ∷ 0x20 ∷ 0x21 ∷ [])
-      ∷ did (set alone 0 100 (frame2 (0x90 ∷ 0x11 ∷ 0x03 ∷ 0x10 ∷ 0x11 ∷ []))) (made 3 none)
+      loaded (0x03 ∷ 0x20 ∷ 0x21 ∷ []) 3
+      ∷ did (set alone 0 100 (frame2 (0x90 ∷ 0x11 ∷ 0x03 ∷ 0x10 ∷ 0x11 ∷ []))) (made 3 5 none)
       ∷ holds 0 (some (false ∷ false ∷ true ∷ true ∷ [])) ∷ [];
 }
 

@@ -17,6 +17,8 @@ use Rattle.diagram.specs.Level.{Fn}
 use Rattle.diagram.specs.Need.{need}
 use Rattle.accounts.specs.declared.Terms.{Terms}
 use Rattle.accounts.specs.Terms.{lent, named, rowsUnder, roundsUnder}
+use Rattle.accounts.specs.declared.Count.{Count}
+use Rattle.accounts.specs.Count.{nothing}
 use Rattle.book.specs.Bridge.{fnOf, fnOfPairs}
 use Rattle.book.specs.Ticks.{contents, ticks, pairTicks, Verdict, counted, full, spent, verdict}
 
@@ -59,19 +61,20 @@ pub data Question : Type 0 where
   member : ℕ → ℕ → Question  -- member r, state
   count : ℕ → Question  -- count r
 
--- an answer: the refusal's number or 0, the rounds, and the value where the rules settle it ("Free for the builder: node numbers above 1")
+-- an answer: the refusal's number or 0, the rounds, the peak, and the value where the rules settle it ("Free for the builder: node numbers above 1")
 pub record Answer : Type 0 where
   pub number : ℕ
   pub rounds : ℕ
+  pub peak : ℕ
   pub value : Option ℕ
 
 -- "Returned: number, zeros"
 abbrev pub refused : ℕ → Answer
-refused k = record { number = k; rounds = 0; value = some 0 }
+refused k = record { number = k; rounds = 0; peak = 0; value = some 0 }
 
--- answered, with a value and no rounds
+-- answered, with a value, no rounds and no step
 abbrev pub answered : Option ℕ → Answer
-answered x = record { number = 0; rounds = 0; value = x }
+answered x = record { number = 0; rounds = 0; peak = 0; value = x }
 
 -- ---- what a call sees of the book
 
@@ -120,27 +123,27 @@ withReg b r A = record { n = b .n; N = b .N; rel = b .rel; reg = put (b .reg) r 
 abbrev pub nodeOf : List Bool → Option ℕ
 nodeOf A = cond (all (λ a. not a) A) (some 0) (cond (all (λ a. a) A) (some 1) none)
 
--- the steps' verdict decides: 8, 9, or what a call leaves and answers after its rounds
-abbrev pub ended : Book → Verdict → (ℕ → Done) → Done
+-- the steps' verdict decides: 8, 9, or what a call leaves and answers by what was counted
+abbrev pub ended : Book → Verdict → (Count → Done) → Done
 ended b (counted q) go = go q
 ended b full go = refuse b 8
 ended b spent go = refuse b 9
 
--- "relation t then holds exactly the pairs in which the formula holds"
-abbrev pub relationDone : Book → ℕ → Form → Done
-relationDone b t f = (withRel b t (some (meansPair (b .n) f)), answered (some 0))
+-- "relation t then holds exactly the pairs in which the formula holds"; "Each answered relation or set call also returns its peak"
+abbrev pub relationDone : Book → ℕ → Form → Count → Done
+relationDone b t f q = (withRel b t (some (meansPair (b .n) f)), record { number = 0; rounds = 0; peak = q .peak; value = some 0 })
 
--- "register r exactly the states": the set A, made in q rounds; set "returns node number and rounds"
-abbrev pub setDone : Book → ℕ → List Bool → ℕ → Done
-setDone b r A q = (withReg b r (some A), record { number = 0; rounds = q; value = nodeOf A })
+-- "register r exactly the states": the set A, made with the count q; set "returns node number and rounds", and its peak
+abbrev pub setDone : Book → ℕ → List Bool → Count → Done
+setDone b r A q = (withReg b r (some A), record { number = 0; rounds = q .rounds; peak = q .peak; value = nodeOf A })
 
 -- relation t, after its checks: "relation has no rounds"
 abbrev pub relationSteps : Book → ℕ → Form → Done
-relationSteps b t f = ended b (verdict (b .N) 0 0 (pairTicks (b .n) (liveOf b) f)) (λ q. relationDone b t f)
+relationSteps b t f = ended b (verdict (b .N) 0 nothing (pairTicks (b .n) (liveOf b) f)) (λ q. relationDone b t f q)
 
 -- set r, after its checks: the states "by the meaning above over the book as it stood before the call"; "Both limits hold"
 abbrev pub setSteps : Book → Terms → ℕ → ℕ → Form → Done
-setSteps b acc r R f = ended b (verdict (rowsUnder (b .N) acc) (roundsUnder R acc) 0 (ticks (modelOf b) noEnv (liveOf b) f)) (λ q. setDone b r (means (modelOf b) noEnv f) q)
+setSteps b acc r R f = ended b (verdict (rowsUnder (b .N) acc) (roundsUnder R acc) nothing (ticks (modelOf b) noEnv (liveOf b) f)) (λ q. setDone b r (means (modelOf b) noEnv f) q)
 
 -- go on where the number is 0, else refuse with it
 abbrev pub passing : Book → ℕ → Done → Done

@@ -10,15 +10,17 @@ use Rattle.tokens.specs.declared.Kind.{Kind}
 use Rattle.tokens.specs.declared.Kind.the-variants.{Relation, Set}
 use Rattle.accounts.specs.declared.Terms.{Terms}
 use Rattle.accounts.specs.Terms.{named, rowsUnder, roundsUnder}
+use Rattle.accounts.specs.declared.Count.{Count}
+use Rattle.accounts.specs.Count.{nothing}
 use Rattle.book.specs.Ticks.{ticks, Verdict, counted, full, spent, verdict}
-use Rattle.book.specs.Run.{Outcome, value, full as fullRun, spent as spentRun, run, pairsFit}
+use Rattle.book.specs.Run.{Outcome, value, full as fullRun, spent as spentRun, run, pairsFit, pairsCount}
 use Rattle.book.specs.Verdicts.{settle, run-ticks, pairs-ticks}
 use Rattle.book.specs.Book.{formulaIn, Book, Call, relation, set, clear, collect, registers, relations, modelOf, liveOf, checks, Done, refuse, ended, relationDone, setDone, relationSteps, setSteps, passing, formulaCall, does}
 use Rattle.book.specs.Stored.{Passed, checks-passed}
 
 -- relation t by its steps' needs alone
 abbrev pub relationByRun : Book → ℕ → Form → Done
-relationByRun b t f = cond (pairsFit (b .n) (b .N) (liveOf b) f) (relationDone b t f) (refuse b 8)
+relationByRun b t f = let d = relationDone b t f (pairsCount (b .n) (liveOf b) f nothing) in cond (pairsFit (b .n) (b .N) (liveOf b) f) d (refuse b 8)
 
 -- set r by what the run comes to
 abbrev pub setEnds : Book → ℕ → Outcome → Done
@@ -27,7 +29,7 @@ setEnds b r fullRun = refuse b 8
 setEnds b r spentRun = refuse b 9
 
 abbrev pub setByRun : Book → Terms → ℕ → ℕ → Form → Done
-setByRun b acc r R f = setEnds b r (run (modelOf b) (rowsUnder (b .N) acc) (roundsUnder R acc) noEnv (liveOf b) f 0)
+setByRun b acc r R f = setEnds b r (run (modelOf b) (rowsUnder (b .N) acc) (roundsUnder R acc) noEnv (liveOf b) f nothing)
 
 abbrev pub doesByRun : Book → Call → Done
 doesByRun b (relation t bs) = let d = formulaCall b Relation bs (relationByRun b t) in cond (ltb t relations) d (refuse b 3)
@@ -38,9 +40,12 @@ doesByRun b collect = does b collect
 -- ---- they agree
 
 pub relation-by-run : (b : Book) (t : ℕ) (f : Form) → relationSteps b t f ≡ relationByRun b t f
-relation-by-run b t f = ap (λ (w : Verdict). ended b w (λ q. relationDone b t f)) (pairs-ticks (b .N) 0 (b .n) (liveOf b) f 0) ∙ go (pairsFit (b .n) (b .N) (liveOf b) f)
+relation-by-run b t f = ap (λ (w : Verdict). ended b w (λ q. relationDone b t f q)) (pairs-ticks (b .N) 0 (b .n) (liveOf b) f nothing) ∙ go (pairsFit (b .n) (b .N) (liveOf b) f)
   where
-    go : (x : Bool) → ended b (cond x (counted 0) full) (λ q. relationDone b t f) ≡ cond x (relationDone b t f) (refuse b 8)
+    c : Count
+    c = pairsCount (b .n) (liveOf b) f nothing
+
+    go : (x : Bool) → ended b (cond x (counted c) full) (λ q. relationDone b t f q) ≡ cond x (relationDone b t f c) (refuse b 8)
     go true = refl
     go false = refl
 
@@ -52,8 +57,8 @@ ends-by-run b r A spent = refl
 -- for a formula that passes check 6
 pub set-by-run : (b : Book) (acc : Terms) (r R : ℕ) (f : Form) → T (steady f) → setByRun b acc r R f ≡ setSteps b acc r R f
 set-by-run b acc r R f t =
-    ap (setEnds b r) (run-ticks (rowsUnder (b .N) acc) (roundsUnder R acc) (modelOf b) noEnv (liveOf b) f 0 t)
-    ∙ ends-by-run b r (means (modelOf b) noEnv f) (verdict (rowsUnder (b .N) acc) (roundsUnder R acc) 0 (ticks (modelOf b) noEnv (liveOf b) f))
+    ap (setEnds b r) (run-ticks (rowsUnder (b .N) acc) (roundsUnder R acc) (modelOf b) noEnv (liveOf b) f nothing t)
+    ∙ ends-by-run b r (means (modelOf b) noEnv f) (verdict (rowsUnder (b .N) acc) (roundsUnder R acc) nothing (ticks (modelOf b) noEnv (liveOf b) f))
 
 -- two ways to go on that agree on the formulas that pass
 formula-same : (b : Book) (c : Kind) (bs : List ℕ) (x y : Form → Done) → (Passed b c bs → x (formulaIn b c bs) ≡ y (formulaIn b c bs)) → formulaCall b c bs x ≡ formulaCall b c bs y

@@ -23,7 +23,7 @@ use Rattle.book.specs.Effects.{in-range, out-of-range}
 pub clear-serves : (b : Book) (t : Table) (r : ℕ) → Shows b t → r < registers → Serves b (clear r) t (storeReg t r none) (plain 0)
 clear-serves b t r s l = record {
   shows = subst (λ (x : Done). Shows (x .0) (storeReg t r none)) (sym same) (shows-reg b t s r none none tt);
-  agrees = subst (λ (x : Done). Agrees (x .1) (plain 0)) (sym same) (record { number = refl; rounds = refl; value = refl });
+  agrees = subst (λ (x : Done). Agrees (x .1) (plain 0)) (sym same) (record { number = refl; rounds = refl; peak = refl; value = refl });
   numbers = λ q h. refl;
   rels = λ q h z. refl;
   kept = keeps-within (kept-before (clear r) (plain 0) t) (kept-all b t s);
@@ -38,7 +38,7 @@ pub collect-serves : (b : Book) (t : Table) (rows : Rows) → Shows b t → Coll
     → Serves b collect t (withRows t rows) (valued (usedCount rows (b .N)))
 collect-serves b t rows s c = record {
   shows = shows-rows b t s rows (collects-wellFormed (s .wf) c) (collects-keeps c);
-  agrees = record { number = refl; rounds = refl; value = collects-count (s .wf) c ∙ held-rows (held-keeps (shows-held b t s) (collects-keeps c)) };
+  agrees = record { number = refl; rounds = refl; peak = refl; value = collects-count (s .wf) c ∙ held-rows (held-keeps (shows-held b t s) (collects-keeps c)) };
   numbers = λ q h. refl;
   rels = λ q h z. refl;
   kept = keeps-within (kept-before collect (valued (usedCount rows (b .N))) t) (collects-keeps c);
@@ -49,7 +49,7 @@ collect-serves b t rows s c = record {
 pub refusal-serves : (b : Book) (t : Table) (c : Call) (k : ℕ) → Shows b t → does b c ≡ refuse b (suc k) → Serves b c t t (plain (suc k))
 refusal-serves b t c k s e = record {
   shows = subst (λ (x : Done). Shows (x .0) t) (sym e) s;
-  agrees = subst (λ (x : Done). Agrees (x .1) (plain (suc k))) (sym e) (record { number = refl; rounds = refl; value = refl });
+  agrees = subst (λ (x : Done). Agrees (x .1) (plain (suc k))) (sym e) (record { number = refl; rounds = refl; peak = refl; value = refl });
   numbers = λ q h. noting c q;
   rels = λ q h z. refl;
   kept = keeps-within (kept-before c (plain (suc k)) t) (kept-all b t s);

@@ -1,6 +1,6 @@
--- 8, exactly: for each set or relation call that no check refuses, the number is 8 where some need of a step reached within the rounds is
--- above N, and nowhere else. Assumes nothing.
-use mathlib.Core.Path.{_≡_, refl, sym, subst}
+-- 8, exactly: for each set or relation call that no check refuses, the number is 8 where the peak over the steps within the rounds is above N,
+-- and nowhere else. Assumes nothing.
+use mathlib.Core.Path.{_≡_, refl, sym, _∙_, subst}
 use mathlib.Core.Logic.{_↔_}
 use mathlib.Core.Bool.{Bool, true, false, _&&_}
 use mathlib.Core.List.{List, [], _∷_, List·Memᴰ as Mem, List·Memᴰ·head as here, List·Memᴰ·tail as there}
@@ -13,10 +13,52 @@ use Rattle.mucalculus.specs.Form.{noEnv}
 use Rattle.mucalculus.specs.Means.{means}
 use Rattle.tokens.specs.declared.Kind.the-variants.{Relation, Set}
 use Rattle.accounts.specs.Terms.{named, rowsUnder, roundsUnder}
-use Rattle.book.specs.Ticks.{Tick, ticks, pairTicks, Verdict, counted, full, spent, verdict, withinRounds}
-use Rattle.book.specs.Verdicts.{fit, verdict-full}
+use Rattle.accounts.specs.declared.Count.{Count}
+use Rattle.accounts.specs.Count.{nothing}
+use Rattle.book.specs.Ticks.{Tick, ticks, pairTicks, Verdict, counted, full, spent, verdict, withinRounds, peak}
+use Rattle.book.specs.Verdicts.{fit}
+use Rattle.book.specs.Larger.{fit-peak, full-peak}
 use Rattle.book.specs.Effects.{does-set, does-relation}
 use Rattle.book.specs.Book.{formulaIn, Book, Call, relation, set, clear, collect, registers, relations, modelOf, liveOf, checks, Done, ended, relationDone, setDone, does}
+
+-- a verdict's number is 8 exactly where it is full
+ended-eight : (b : Book) (w : Verdict) (go : Count → Done) → ((q : Count) → go q .1 .number ≡ 0) → (ended b w go .1 .number ≡ 8) ↔ (w ≡ full)
+ended-eight b (counted q) go z = ((λ e. absurd (omega (arith, z q))), (λ e. let i : _≡_ {A = ℕ} 0 1 = cc in absurd (omega arith)))
+ended-eight b full go z = ((λ e. refl), (λ e. refl))
+ended-eight b spent go z = ((λ e. absurd (omega arith)), (λ e. let i : _≡_ {A = ℕ} 0 1 = cc in absurd (omega arith)))
+
+eight : (b : Book) (N R : ℕ) (l : List Tick) (go : Count → Done) → ((q : Count) → go q .1 .number ≡ 0) → (ended b (verdict N R nothing l) go .1 .number ≡ 8) ↔ (N < peak (withinRounds R 0 l))
+eight b N R l go z =
+    let x = ended-eight b (verdict N R nothing l) go z in
+    let y = full-peak N R nothing l in
+    ((λ e. y .0 (x .0 e)), (λ w. x .1 (y .1 w)))
+
+-- "refused as full exactly when, at a step of document 01 reached within its rounds, the live sets and that step's result need more rows
+-- than the table has": "when its peak, over the steps reached within its rounds, would pass N", and under an account the smaller row figure; the
+-- claim for a call and the number k that it returned
+abbrev pub EightAt : Book → Call → ℕ → Type 0
+EightAt b (relation t bs) k =
+    t < relations → checks b Relation bs ≡ 0 → (k ≡ 8) ↔ (b .N < peak (withinRounds 0 0 (pairTicks (b .n) (liveOf b) (formulaIn b Relation bs))))
+EightAt b (set acc r R bs) k =
+    r < registers → T (named acc) → checks b Set bs ≡ 0
+    → (k ≡ 8) ↔ (rowsUnder (b .N) acc < peak (withinRounds (roundsUnder R acc) 0 (ticks (modelOf b) noEnv (liveOf b) (formulaIn b Set bs))))
+EightAt b (clear r) k = Unit {0}
+EightAt b collect k = Unit {0}
+
+-- the book's own numbers
+pub eight-exact : (b : Book) (c : Call) → EightAt b c (does b c .1 .number)
+eight-exact b (relation t bs) = λ l z.
+    let f = formulaIn b Relation bs in
+    subst (λ (d : Done). (d .1 .number ≡ 8) ↔ (b .N < peak (withinRounds 0 0 (pairTicks (b .n) (liveOf b) f)))) (sym (does-relation b t bs l z))
+    (eight b (b .N) 0 (pairTicks (b .n) (liveOf b) f) (λ q. relationDone b t f q) (λ q. refl))
+eight-exact b (set acc r R bs) = λ l t z.
+    let f = formulaIn b Set bs in
+    subst (λ (d : Done). (d .1 .number ≡ 8) ↔ (rowsUnder (b .N) acc < peak (withinRounds (roundsUnder R acc) 0 (ticks (modelOf b) noEnv (liveOf b) f)))) (sym (does-set b acc r R bs l t z))
+    (eight b (rowsUnder (b .N) acc) (roundsUnder R acc) (ticks (modelOf b) noEnv (liveOf b) f) (λ q. setDone b r (means (modelOf b) noEnv f) q) (λ q. refl))
+eight-exact b (clear r) = tt
+eight-exact b collect = tt
+
+-- ---- by some need
 
 -- some number of the list is above N
 abbrev pub Above : ℕ → List ℕ → Type 0
@@ -33,37 +75,9 @@ above-out N (k ∷ ks) e = go (leb k N) refl (above-out N ks) e
 above-in : (N : ℕ) (ks : List ℕ) → Above N ks → fit N ks ≡ false
 above-in N ks w = false-of (fit N ks) (λ t. let l = leb→le (w .0) N (all-out (λ k. leb k N) (w .1) t) in absurd (omega (arith, w .2)))
 
--- a verdict's number is 8 exactly where it is full
-ended-eight : (b : Book) (w : Verdict) (go : ℕ → Done) → ((q : ℕ) → go q .1 .number ≡ 0) → (ended b w go .1 .number ≡ 8) ↔ (w ≡ full)
-ended-eight b (counted q) go z = ((λ e. absurd (omega (arith, z q))), (λ e. let i : _≡_ {A = ℕ} 0 1 = cc in absurd (omega arith)))
-ended-eight b full go z = ((λ e. refl), (λ e. refl))
-ended-eight b spent go z = ((λ e. absurd (omega arith)), (λ e. let i : _≡_ {A = ℕ} 0 1 = cc in absurd (omega arith)))
-
-eight : (b : Book) (N R : ℕ) (l : List Tick) (go : ℕ → Done) → ((q : ℕ) → go q .1 .number ≡ 0) → (ended b (verdict N R 0 l) go .1 .number ≡ 8) ↔ Above N (withinRounds R 0 l)
-eight b N R l go z =
-    let x = ended-eight b (verdict N R 0 l) go z in
-    let y = verdict-full N R 0 l in
-    ((λ e. above-out N (withinRounds R 0 l) (y .0 (x .0 e))), (λ w. x .1 (y .1 (above-in N (withinRounds R 0 l) w))))
-
--- "refused as full exactly when, at a step of document 01 reached within its rounds, the live sets and that step's result need more rows
--- than the table has": the claim for a call and the number k that it returned
-abbrev pub EightAt : Book → Call → ℕ → Type 0
-EightAt b (relation t bs) k =
-    t < relations → checks b Relation bs ≡ 0 → (k ≡ 8) ↔ Above (b .N) (withinRounds 0 0 (pairTicks (b .n) (liveOf b) (formulaIn b Relation bs)))
-EightAt b (set acc r R bs) k =
-    r < registers → T (named acc) → checks b Set bs ≡ 0 → (k ≡ 8) ↔ Above (rowsUnder (b .N) acc) (withinRounds (roundsUnder R acc) 0 (ticks (modelOf b) noEnv (liveOf b) (formulaIn b Set bs)))
-EightAt b (clear r) k = Unit {0}
-EightAt b collect k = Unit {0}
-
--- the book's own numbers
-pub eight-exact : (b : Book) (c : Call) → EightAt b c (does b c .1 .number)
-eight-exact b (relation t bs) = λ l z.
-    let f = formulaIn b Relation bs in
-    subst (λ (d : Done). (d .1 .number ≡ 8) ↔ Above (b .N) (withinRounds 0 0 (pairTicks (b .n) (liveOf b) f))) (sym (does-relation b t bs l z))
-    (eight b (b .N) 0 (pairTicks (b .n) (liveOf b) f) (λ q. relationDone b t f) (λ q. refl))
-eight-exact b (set acc r R bs) = λ l t z.
-    let f = formulaIn b Set bs in
-    subst (λ (d : Done). (d .1 .number ≡ 8) ↔ Above (rowsUnder (b .N) acc) (withinRounds (roundsUnder R acc) 0 (ticks (modelOf b) noEnv (liveOf b) f))) (sym (does-set b acc r R bs l t z))
-    (eight b (rowsUnder (b .N) acc) (roundsUnder R acc) (ticks (modelOf b) noEnv (liveOf b) f) (λ q. setDone b r (means (modelOf b) noEnv f) q) (λ q. refl))
-eight-exact b (clear r) = tt
-eight-exact b collect = tt
+-- the peak would pass N exactly where some need of the list does
+pub peak-above : (N : ℕ) (ks : List ℕ) → (N < peak ks) ↔ Above N ks
+peak-above N ks = (
+  λ l. above-out N ks (fit-peak N ks ∙ false-of (leb (peak ks) N) (λ t. let z = leb→le (peak ks) N t in absurd (omega arith))),
+  λ w. lt-of-not-le (λ l. subst T (sym (fit-peak N ks) ∙ above-in N ks w) (le→leb (peak ks) N l)),
+)

@@ -14,13 +14,15 @@ use Rattle.diagram.specs.Count.{Within}
 use Rattle.diagram.specs.Keep.{Keeps, keeps-refl, keeps-trans, keeps-within, keeps-on, keeps-denotes}
 use Rattle.diagram.specs.Step.{StepPost}
 use Rattle.diagram.specs.Steps.{bitF, notF}
+use Rattle.accounts.specs.declared.Count.{Count}
+use Rattle.accounts.specs.Count.{needing}
 use Rattle.book.specs.Bridge.{fnOf, fnOf-none, fnOf-all, fnOf-bit, fnOf-not, fnOf-clip}
 use Rattle.book.specs.Run.{Outcome, value, full, spent, andThen, step, notStep, twoStep}
-use Rattle.book.specs.Held.{Held, denotes-same, denoted, held-arrow, held-push, held-keeps, goesOn, step-taken}
+use Rattle.book.specs.Held.{Held, denotes-same, denoted, held-arrow, held-push, held-keeps, goesOn, Needed, step-taken}
 
--- what the evaluator answers: an arrow and the rounds counted, 8, or 9
+-- what the evaluator answers: an arrow and what it counted, 8, or 9
 pub data Ended : Type 0 where
-  ends : ℕ → ℕ → Ended
+  ends : ℕ → Count → Ended
   eight nine : Ended
 
 -- the answer is the book's outcome
@@ -41,8 +43,8 @@ pub record Evals (n N : ℕ) (before after : Rows) (roots : List ℕ) (o : Outco
   pub kept : Keeps before after roots
   pub result : Matches n after o y
 
--- a step's answer, with the rounds counted before it
-abbrev pub endedBy : Result → ℕ → Ended
+-- a step's answer, with what is counted after it
+abbrev pub endedBy : Result → Count → Ended
 endedBy (at a) q = ends a q
 endedBy noRows q = eight
 
@@ -58,7 +60,7 @@ evals-same {n} {N} {before} {after} {roots} {y = y} e p = subst (λ (x : Outcome
 module _ (n N : ℕ) where
   -- ---- constants, registers and variables take no step
 
-  pub evals-leaf : {rows : Rows} {roots : List ℕ} {live : List Fn} {a : ℕ} {A : List Bool} (q : ℕ) → WellFormed (2 * n) N rows → Held (2 * n) rows roots live
+  pub evals-leaf : {rows : Rows} {roots : List ℕ} {live : List Fn} {a : ℕ} {A : List Bool} (q : Count) → WellFormed (2 * n) N rows → Held (2 * n) rows roots live
       → Denotes (2 * n) rows a (fnOf n A) → Evals n N rows rows roots (value A q) (ends a q)
   evals-leaf q wf h d = record { wf = wf; kept = keeps-refl wf (held-arrow h); result = (d, refl) }
 
@@ -74,21 +76,23 @@ module _ (n N : ℕ) where
 
   -- ---- one step
 
-  module _ {limit : ℕ} {before mid after : Rows} {roots roots′ : List ℕ} {live′ : List Fn} {F : Fn} (C : List Bool) (q : ℕ)
+  module _ {limit : ℕ} {before mid after : Rows} {roots roots′ : List ℕ} {live′ : List Fn} {F : Fn} (C : List Bool) (q : Count)
       (keeping : Keeps mid after roots′ → Keeps before after roots) (h : Held (2 * n) mid roots′ live′) (e : F ≡ fnOf n C) where
-    step-ends : (answer : Result) → StepPost (2 * n) N limit mid after roots′ answer (fnOf n C) → Evals n N before after roots (goesOn answer (value C q)) (endedBy answer q)
-    step-ends (at b) p = record { wf = p .wf; kept = keeping (p .kept); result = (p .result .0, refl) }
-    step-ends noRows p = record { wf = p .wf; kept = keeping (p .kept); result = tt }
+    step-ends : (c : Count) (answer : Result) → StepPost (2 * n) N limit mid after roots′ answer (fnOf n C) → Evals n N before after roots (goesOn answer (value C c)) (endedBy answer c)
+    step-ends c (at b) p = record { wf = p .wf; kept = keeping (p .kept); result = (p .result .0, refl) }
+    step-ends c noRows p = record { wf = p .wf; kept = keeping (p .kept); result = tt }
 
-    -- a step after others: its result is the set C
-    pub evals-step : (answer : Result) → StepPost (2 * n) N limit mid after roots′ answer F → Evals n N before after roots (step n limit live′ (fnOf n C) (value C q)) (endedBy answer q)
-    evals-step answer p′ =
+    -- a step after others: its result is the set C, and it needed k rows
+    pub evals-step : (answer : Result) → StepPost (2 * n) N limit mid after roots′ answer F → (k : ℕ) → Needed (2 * n) mid roots′ F answer k
+        → Evals n N before after roots (step n limit live′ (fnOf n C) q (λ c. value C c)) (endedBy answer (needing q k))
+    evals-step answer p′ k x =
         let p : StepPost (2 * n) N limit mid after roots′ answer (fnOf n C) = subst (λ (G : Fn). StepPost (2 * n) N limit mid after roots′ answer G) e p′ in
-        evals-same (sym (step-taken n N h answer p (value C q))) (step-ends answer p)
+        let y : Needed (2 * n) mid roots′ (fnOf n C) answer k = subst (λ (G : Fn). Needed (2 * n) mid roots′ G answer k) e x in
+        evals-same (sym (step-taken n N h answer p k y q (λ c. value C c))) (step-ends (needing q k) answer p)
 
   -- ---- what stopped stays so
 
-  pub evals-stop : {before after : Rows} {roots : List ℕ} (o : Outcome) (y : Ended) (G : List Bool → ℕ → Outcome) → Stops y
+  pub evals-stop : {before after : Rows} {roots : List ℕ} (o : Outcome) (y : Ended) (G : List Bool → Count → Outcome) → Stops y
       → Evals n N before after roots o y → Evals n N before after roots (andThen o G) y
   evals-stop {after = after} o y G s p = record { wf = p .wf; kept = p .kept; result = go after o y s (p .result) }
     where
@@ -109,47 +113,48 @@ module _ (n N : ℕ) where
   evals-from k within p = record { wf = p .wf; kept = keeps-trans k (keeps-within within (p .kept)); result = p .result }
 
   -- what follows a value
-  pub evals-then : {before mid after : Rows} {roots : List ℕ} {a p : ℕ} {y : Ended} (o : Outcome) (G : List Bool → ℕ → Outcome) → Evals n N before mid roots o (ends a p)
+  pub evals-then : {before mid after : Rows} {roots : List ℕ} {a : ℕ} {p : Count} {y : Ended} (o : Outcome) (G : List Bool → Count → Outcome) → Evals n N before mid roots o (ends a p)
       → ((A : List Bool) → Denotes (2 * n) mid a (fnOf n A) → Evals n N before after roots (G A p) y) → Evals n N before after roots (andThen o G) y
   evals-then {before} {mid} {after} {roots} {a} {p} {y} o G d k = go o (d .result)
     where
       go : (o : Outcome) → Matches n mid o (ends a p) → Evals n N before after roots (andThen o G) y
-      go (value A q) m = subst (λ (x : ℕ). Evals n N before after roots (G A x) y) (m .1) (k A (m .0))
+      go (value A q) m = subst (λ (x : Count). Evals n N before after roots (G A x) y) (m .1) (k A (m .0))
       go full m = absurd m
       go spent m = absurd m
 
   module _ {before : Rows} {roots : List ℕ} {live : List Fn} (h : Held (2 * n) before roots live) where
     -- a bit: current bit p is level 2p
-    pub evals-bit : {limit : ℕ} {after : Rows} (p q : ℕ) → p < n → (answer : Result) → StepPost (2 * n) N limit before after roots answer (bitF (2 * p))
-        → Evals n N before after roots (let A = table (2 ^ n) (λ s. bit p s) in step n limit live (fnOf n A) (value A q)) (endedBy answer q)
-    evals-bit p q l answer s = evals-step (table (2 ^ n) (λ s. bit p s)) q (λ k. k) h (sym (fnOf-bit n p l)) answer s
+    pub evals-bit : {limit : ℕ} {after : Rows} (p : ℕ) (q : Count) → p < n → (answer : Result) → StepPost (2 * n) N limit before after roots answer (bitF (2 * p)) → (k : ℕ) → Needed (2 * n) before roots (bitF (2 * p)) answer k
+        → Evals n N before after roots (let A = table (2 ^ n) (λ s. bit p s) in step n limit live (fnOf n A) q (λ c. value A c)) (endedBy answer (needing q k))
+    evals-bit p q l answer s k x = evals-step (table (2 ^ n) (λ s. bit p s)) q (λ k. k) h (sym (fnOf-bit n p l)) answer s k x
 
     -- NOT
-    pub evals-not : {limit : ℕ} {mid after : Rows} {a p : ℕ} (o : Outcome) → Evals n N before mid roots o (ends a p)
-        → (answer : Result) → StepPost (2 * n) N limit mid after (a ∷ roots) answer (notF (den (2 * n) mid a))
-        → Evals n N before after roots (andThen o (λ A q. notStep n limit live A q)) (endedBy answer p)
-    evals-not {p = p} o d answer s = evals-then o _ d (λ A e.
-        evals-step (compl (2 ^ n) A) p (keeps-on (d .kept)) (held-push (held-keeps h (d .kept)) e) (ap notF (denoted e) ∙ sym (fnOf-not n A)) answer s)
+    pub evals-not : {limit : ℕ} {mid after : Rows} {a : ℕ} {p : Count} (o : Outcome) → Evals n N before mid roots o (ends a p)
+        → (answer : Result) → StepPost (2 * n) N limit mid after (a ∷ roots) answer (notF (den (2 * n) mid a)) → (k : ℕ) → Needed (2 * n) mid (a ∷ roots) (notF (den (2 * n) mid a)) answer k
+        → Evals n N before after roots (andThen o (λ A q. notStep n limit live A q)) (endedBy answer (needing p k))
+    evals-not {p = p} o d answer s k x = evals-then o _ d (λ A e.
+        evals-step (compl (2 ^ n) A) p (keeps-on (d .kept)) (held-push (held-keeps h (d .kept)) e) (ap notF (denoted e) ∙ sym (fnOf-not n A)) answer s k x)
 
     -- AND and OR: the left part's value is live during the right part's steps
     pub evals-two : (op : List Bool → List Bool → List Bool) (opF : Fn → Fn → Fn) → ((A B : List Bool) → fnOf n (op A B) ≡ opF (fnOf n A) (fnOf n B))
-        → {limit : ℕ} {mid late after : Rows} {a b p q : ℕ} (o : Outcome) (G : List Bool → ℕ → Outcome) → Evals n N before mid roots o (ends a p)
+        → {limit : ℕ} {mid late after : Rows} {a b : ℕ} {p q : Count} (o : Outcome) (G : List Bool → Count → Outcome) → Evals n N before mid roots o (ends a p)
         → ((A : List Bool) → Denotes (2 * n) mid a (fnOf n A) → Evals n N mid late (a ∷ roots) (G A p) (ends b q))
         → (answer : Result) → StepPost (2 * n) N limit late after (b ∷ a ∷ roots) answer (opF (den (2 * n) late a) (den (2 * n) late b))
-        → Evals n N before after roots (andThen o (λ A r. andThen (G A r) (λ B t. twoStep n limit live op A B t))) (endedBy answer q)
-    evals-two op opF same {limit} {mid} {late} {after} {a} {b} {p} {q} o G d k answer s = evals-then o _ d (λ A e. right A e (k A e))
+        → (k : ℕ) → Needed (2 * n) late (b ∷ a ∷ roots) (opF (den (2 * n) late a) (den (2 * n) late b)) answer k
+        → Evals n N before after roots (andThen o (λ A r. andThen (G A r) (λ B t. twoStep n limit live op A B t))) (endedBy answer (needing q k))
+    evals-two op opF same {limit} {mid} {late} {after} {a} {b} {p} {q} o G d f answer s k x = evals-then o _ d (λ A e. right A e (f A e))
       where
         right : (A : List Bool) → Denotes (2 * n) mid a (fnOf n A) → Evals n N mid late (a ∷ roots) (G A p) (ends b q)
-            → Evals n N before after roots (andThen (G A p) (λ B t. twoStep n limit live op A B t)) (endedBy answer q)
+            → Evals n N before after roots (andThen (G A p) (λ B t. twoStep n limit live op A B t)) (endedBy answer (needing q k))
         right A e c =
             let w = evals-from (d .kept) (λ x i. there i) c in
             let e′ = keeps-denotes (c .kept) (here refl) e in
             evals-then (G A p) (λ B t. twoStep n limit live op A B t) w (λ B f.
             evals-step (op A B) q (λ l. keeps-trans (w .kept) (keeps-within (λ x i. there (there i)) l)) (held-push (held-push (held-keeps h (w .kept)) e′) f)
-            (ap₂ opF (denoted e′) (denoted f) ∙ sym (same A B)) answer s)
+            (ap₂ opF (denoted e′) (denoted f) ∙ sym (same A B)) answer s k x)
 
     -- the right part stopped
-    pub evals-two-stop : {mid late : Rows} {a p : ℕ} {y : Ended} (o : Outcome) (G : List Bool → ℕ → Outcome) (K : List Bool → List Bool → ℕ → Outcome) → Evals n N before mid roots o (ends a p)
+    pub evals-two-stop : {mid late : Rows} {a : ℕ} {p : Count} {y : Ended} (o : Outcome) (G : List Bool → Count → Outcome) (K : List Bool → List Bool → Count → Outcome) → Evals n N before mid roots o (ends a p)
         → ((A : List Bool) → Denotes (2 * n) mid a (fnOf n A) → Evals n N mid late (a ∷ roots) (G A p) y) → Stops y
         → Evals n N before late roots (andThen o (λ A r. andThen (G A r) (λ B t. K A B t))) y
     evals-two-stop {p = p} {y = y} o G K d k s = evals-then o _ d (λ A e. evals-stop (G A p) y (K A) s (evals-from (d .kept) (λ x i. there i) (k A e)))

@@ -13,8 +13,10 @@ use Rattle.diagram.specs.Keep.{Keeps, keeps-within}
 use Rattle.diagram.specs.Post.{Result, at, full as noRows}
 use Rattle.accounts.specs.declared.Terms.{Terms}
 use Rattle.accounts.specs.Terms.{named, rowsUnder, roundsUnder}
+use Rattle.accounts.specs.declared.Count.{Count}
+use Rattle.accounts.specs.Count.{nothing}
 use Rattle.book.specs.Ticks.{ticks, Verdict, counted, full, spent, verdict}
-use Rattle.book.specs.Run.{Outcome, run, pairF, pairsFit}
+use Rattle.book.specs.Run.{Outcome, run, pairF, pairsFit, pairsCount}
 use Rattle.book.specs.Verdicts.{settle, run-ticks}
 use Rattle.book.specs.Effects.{does-set, does-relation}
 use Rattle.book.specs.Book.{formulaIn, Book, relation, set, registers, relations, modelOf, liveOf, checks, Done, refuse, ended, relationDone, setDone, relationSteps, setSteps, does}
@@ -37,16 +39,16 @@ setLeaves t r rows nine = withRows t rows
 
 -- what set returns
 abbrev pub setReply : Ended → Reply
-setReply (ends a q) = record { number = 0; rounds = q; value = a }
-setReply eight = record { number = 8; rounds = 0; value = 0 }
-setReply nine = record { number = 9; rounds = 0; value = 0 }
+setReply (ends a q) = record { number = 0; rounds = q .rounds; peak = q .peak; value = a }
+setReply eight = record { number = 8; rounds = 0; peak = 0; value = 0 }
+setReply nine = record { number = 9; rounds = 0; peak = 0; value = 0 }
 
 -- from the evaluator's promise to the call's: the table shows the book after its steps, and the reply agrees with its answer
 pub set-served : (b : Book) (t : Table) (acc : Terms) (r R : ℕ) (f : Form) (rows : Rows) (y : Ended) → Shows b t → T (steady f)
-    → Evals (b .n) (b .N) (t .rows) rows (rootsOf t) (run (modelOf b) (rowsUnder (b .N) acc) (roundsUnder R acc) noEnv (liveOf b) f 0) y
+    → Evals (b .n) (b .N) (t .rows) rows (rootsOf t) (run (modelOf b) (rowsUnder (b .N) acc) (roundsUnder R acc) noEnv (liveOf b) f nothing) y
     → Shows (setSteps b acc r R f .0) (setLeaves t r rows y) × Agrees (setSteps b acc r R f .1) (setReply y)
 set-served b t acc r R f rows y s i d =
-    go (verdict (rowsUnder (b .N) acc) (roundsUnder R acc) 0 (ticks (modelOf b) noEnv (liveOf b) f)) y (subst (λ (o : Outcome). Matches (b .n) rows o y) (run-ticks (rowsUnder (b .N) acc) (roundsUnder R acc) (modelOf b) noEnv (liveOf b) f 0 i) (d .result))
+    go (verdict (rowsUnder (b .N) acc) (roundsUnder R acc) nothing (ticks (modelOf b) noEnv (liveOf b) f)) y (subst (λ (o : Outcome). Matches (b .n) rows o y) (run-ticks (rowsUnder (b .N) acc) (roundsUnder R acc) (modelOf b) noEnv (liveOf b) f nothing i) (d .result))
   where
     after : Shows b (withRows t rows)
     after = shows-rows b t s rows (d .wf) (d .kept)
@@ -56,22 +58,23 @@ set-served b t acc r R f rows y s i d =
 
     go : (w : Verdict) (y : Ended) → Matches (b .n) rows (settle A w) y
         → Shows (ended b w (λ q. setDone b r A q) .0) (setLeaves t r rows y) × Agrees (ended b w (λ q. setDone b r A q) .1) (setReply y)
-    go (counted q) (ends a p) m = (
-      shows-reg b (withRows t rows) after r (some A) (some a) (m .0),
-      record { number = refl; rounds = m .1; value = node-settled (b .n) (b .N) rows A a (length-means (modelOf b) noEnv f) (d .wf) (m .0) },
-    )
+    go (counted q) (ends a p) m =
+        (
+          shows-reg b (withRows t rows) after r (some A) (some a) (m .0),
+          record { number = refl; rounds = ap (λ (c : Count). c .rounds) (m .1); peak = ap (λ (c : Count). c .peak) (m .1); value = node-settled (b .n) (b .N) rows A a (length-means (modelOf b) noEnv f) (d .wf) (m .0) },
+        )
     go (counted q) eight m = absurd m
     go (counted q) nine m = absurd m
     go full (ends a p) m = absurd m
-    go full eight m = (after, record { number = refl; rounds = refl; value = refl })
+    go full eight m = (after, record { number = refl; rounds = refl; peak = refl; value = refl })
     go full nine m = absurd m
     go spent (ends a p) m = absurd m
     go spent eight m = absurd m
-    go spent nine m = (after, record { number = refl; rounds = refl; value = refl })
+    go spent nine m = (after, record { number = refl; rounds = refl; peak = refl; value = refl })
 
 -- SET, after its checks
 pub set-serves : (b : Book) (t : Table) (acc : Terms) (r R : ℕ) (bs : List ℕ) (rows : Rows) (y : Ended) → Shows b t → r < registers → T (named acc)
-    → checks b Set bs ≡ 0 → Evals (b .n) (b .N) (t .rows) rows (rootsOf t) (run (modelOf b) (rowsUnder (b .N) acc) (roundsUnder R acc) noEnv (liveOf b) (formulaIn b Set bs) 0) y
+    → checks b Set bs ≡ 0 → Evals (b .n) (b .N) (t .rows) rows (rootsOf t) (run (modelOf b) (rowsUnder (b .N) acc) (roundsUnder R acc) noEnv (liveOf b) (formulaIn b Set bs) nothing) y
     → Serves b (set acc r R bs) t (setLeaves t r rows y) (setReply y)
 set-serves b t acc r R bs rows y s l h z d = record {
   shows = subst (λ (x : Done). Shows (x .0) (setLeaves t r rows y)) (sym same) (p .0);
@@ -109,53 +112,58 @@ abbrev pub relationLeaves : Table → ℕ → Rows → Result → Table
 relationLeaves t q rows (at a) = storeRel (withRows t rows) q (some a)
 relationLeaves t q rows noRows = withRows t rows
 
-abbrev pub relationReply : Result → Reply
-relationReply (at a) = plain 0
-relationReply noRows = plain 8
+-- what relation returns, q being counted
+abbrev pub relationReply : Result → Count → Reply
+relationReply (at a) q = record { number = 0; rounds = 0; peak = q .peak; value = 0 }
+relationReply noRows q = plain 8
 
-relation-served : (b : Book) (t : Table) (q : ℕ) (f : Form) (rows : Rows) (y : Result) → Shows b t
-    → PairEvals (b .n) (b .N) (t .rows) rows (rootsOf t) (pairsFit (b .n) (b .N) (liveOf b) f) (pairF (b .n) f) y
-    → Shows (relationSteps b q f .0) (relationLeaves t q rows y) × Agrees (relationSteps b q f .1) (relationReply y)
-relation-served b t q f rows y s d =
-    subst (λ (x : Done). Shows (x .0) (relationLeaves t q rows y) × Agrees (x .1) (relationReply y)) (sym (relation-by-run b q f)) (go (pairsFit (b .n) (b .N) (liveOf b) f) y (d .result))
+relation-served : (b : Book) (t : Table) (x : ℕ) (f : Form) (rows : Rows) (y : Result) (q : Count) → Shows b t
+    → PairEvals (b .n) (b .N) (t .rows) rows (rootsOf t) (pairsFit (b .n) (b .N) (liveOf b) f) (pairF (b .n) f) (pairsCount (b .n) (liveOf b) f nothing) y q
+    → Shows (relationSteps b x f .0) (relationLeaves t x rows y) × Agrees (relationSteps b x f .1) (relationReply y q)
+relation-served b t x f rows y q s d =
+    subst (λ (z : Done). Shows (z .0) (relationLeaves t x rows y) × Agrees (z .1) (relationReply y q)) (sym (relation-by-run b x f)) (go (pairsFit (b .n) (b .N) (liveOf b) f) y (d .result))
   where
     after : Shows b (withRows t rows)
     after = shows-rows b t s rows (d .wf) (d .kept)
 
-    go : (x : Bool) (y : Result) → PairMatches (b .n) rows x (pairF (b .n) f) y
-        → Shows (cond x (relationDone b q f) (refuse b 8) .0) (relationLeaves t q rows y) × Agrees (cond x (relationDone b q f) (refuse b 8) .1) (relationReply y)
-    go true (at a) m = (shows-rel b (withRows t rows) after q (some (meansPair (b .n) f)) (some a) m, record { number = refl; rounds = refl; value = refl })
+    c : Count
+    c = pairsCount (b .n) (liveOf b) f nothing
+
+    go : (z : Bool) (y : Result) → PairMatches (b .n) rows z (pairF (b .n) f) c y q
+        → Shows (cond z (relationDone b x f c) (refuse b 8) .0) (relationLeaves t x rows y) × Agrees (cond z (relationDone b x f c) (refuse b 8) .1) (relationReply y q)
+    go true (at a) m = (shows-rel b (withRows t rows) after x (some (meansPair (b .n) f)) (some a) (m .0), record { number = refl; rounds = refl; peak = ap (λ (c : Count). c .peak) (m .1); value = refl })
     go true noRows m = absurd m
     go false (at a) m = absurd m
-    go false noRows m = (after, record { number = refl; rounds = refl; value = refl })
+    go false noRows m = (after, record { number = refl; rounds = refl; peak = refl; value = refl })
 
 -- RELATION, after its checks
-pub relation-serves : (b : Book) (t : Table) (q : ℕ) (bs : List ℕ) (rows : Rows) (y : Result) → Shows b t → q < relations
-    → checks b Relation bs ≡ 0 → PairEvals (b .n) (b .N) (t .rows) rows (rootsOf t) (pairsFit (b .n) (b .N) (liveOf b) (formulaIn b Relation bs)) (pairF (b .n) (formulaIn b Relation bs)) y
-    → Serves b (relation q bs) t (relationLeaves t q rows y) (relationReply y)
-relation-serves b t q bs rows y s l z d = record {
-  shows = subst (λ (x : Done). Shows (x .0) (relationLeaves t q rows y)) (sym same) (p .0);
-  agrees = subst (λ (x : Done). Agrees (x .1) (relationReply y)) (sym same) (p .1);
+pub relation-serves : (b : Book) (t : Table) (x : ℕ) (bs : List ℕ) (rows : Rows) (y : Result) (q : Count) → Shows b t → x < relations
+    → checks b Relation bs ≡ 0
+    → PairEvals (b .n) (b .N) (t .rows) rows (rootsOf t) (pairsFit (b .n) (b .N) (liveOf b) (formulaIn b Relation bs)) (pairF (b .n) (formulaIn b Relation bs)) (pairsCount (b .n) (liveOf b) (formulaIn b Relation bs) nothing) y q
+    → Serves b (relation x bs) t (relationLeaves t x rows y) (relationReply y q)
+relation-serves b t x bs rows y q s l z d = record {
+  shows = subst (λ (u : Done). Shows (u .0) (relationLeaves t x rows y)) (sym same) (p .0);
+  agrees = subst (λ (u : Done). Agrees (u .1) (relationReply y q)) (sym same) (p .1);
   numbers = λ r h. noting y r;
   rels = λ r h z. others y r z;
-  kept = keeps-within (kept-before (relation q bs) (relationReply y) t) (keeping y);
+  kept = keeps-within (kept-before (relation x bs) (relationReply y q) t) (keeping y);
   swept = tt;
 }
   where
-    same : does b (relation q bs) ≡ relationSteps b q (formulaIn b Relation bs)
-    same = does-relation b q bs l z
+    same : does b (relation x bs) ≡ relationSteps b x (formulaIn b Relation bs)
+    same = does-relation b x bs l z
 
-    p : Shows (relationSteps b q (formulaIn b Relation bs) .0) (relationLeaves t q rows y) × Agrees (relationSteps b q (formulaIn b Relation bs) .1) (relationReply y)
-    p = relation-served b t q (formulaIn b Relation bs) rows y s d
+    p : Shows (relationSteps b x (formulaIn b Relation bs) .0) (relationLeaves t x rows y) × Agrees (relationSteps b x (formulaIn b Relation bs) .1) (relationReply y q)
+    p = relation-served b t x (formulaIn b Relation bs) rows y q s d
 
-    others : (y : Result) (r : ℕ) → storesRel (relation q bs) (relationReply y) r ≡ false → relationLeaves t q rows y .rel r ≡ t .rel r
-    others (at a) r z = ap (λ (x : Bool). cond x (some a) (t .rel r)) z
+    others : (y : Result) (r : ℕ) → storesRel (relation x bs) (relationReply y q) r ≡ false → relationLeaves t x rows y .rel r ≡ t .rel r
+    others (at a) r z = ap (λ (u : Bool). cond u (some a) (t .rel r)) z
     others noRows r z = refl
 
-    keeping : (y : Result) → Keeps (t .rows) (relationLeaves t q rows y .rows) (rootsOf t)
+    keeping : (y : Result) → Keeps (t .rows) (relationLeaves t x rows y .rows) (rootsOf t)
     keeping (at a) = d .kept
     keeping noRows = d .kept
 
-    noting : (y : Result) (r : ℕ) → relationLeaves t q rows y .reg r ≡ t .reg r
+    noting : (y : Result) (r : ℕ) → relationLeaves t x rows y .reg r ≡ t .reg r
     noting (at a) r = refl
     noting noRows r = refl

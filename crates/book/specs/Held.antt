@@ -15,6 +15,8 @@ use Rattle.diagram.specs.Needed.{need-same}
 use Rattle.diagram.specs.Post.{Result, at, full as noRows, Denotes}
 use Rattle.diagram.specs.Keep.{Keeps, keeps-denotes}
 use Rattle.diagram.specs.Step.{StepPost}
+use Rattle.accounts.specs.declared.Count.{Count}
+use Rattle.accounts.specs.Count.{needing}
 use Rattle.book.specs.Run.{Outcome, full, step}
 
 pub record Held (m : ℕ) (rows : Rows) (roots : List ℕ) (live : List Fn) : Type 0 where
@@ -86,6 +88,11 @@ abbrev pub goesOn : Result → Outcome → Outcome
 goesOn (at a) o = o
 goesOn noRows o = full
 
+-- k is what an answered step needed: the rows of its result and of what is live
+abbrev pub Needed : ℕ → Rows → List ℕ → Fn → Result → ℕ → Type 0
+Needed m before roots F (at a) k = k ≡ stepNeed m (map (den m before) roots) F
+Needed m before roots F noRows k = Unit {0}
+
 module _ (n N : ℕ) {limit : ℕ} {before after : Rows} {roots : List ℕ} {live : List Fn} {F : Fn} (h : Held (2 * n) before roots live) where
   -- a step is answered in the table exactly where its need in the book is at most `limit`
   pub step-fits : (answer : Result) → StepPost (2 * n) N limit before after roots answer F → leb (stepNeed (2 * n) live F) limit ≡ answered answer
@@ -96,10 +103,11 @@ module _ (n N : ℕ) {limit : ℕ} {before after : Rows} {roots : List ℕ} {liv
       let k : limit < stepNeed (2 * n) live F = subst (λ (x : ℕ). limit < x) (held-need h F) (p .result) in
       false-of (leb (stepNeed (2 * n) live F) limit) (λ t. let l = leb→le (stepNeed (2 * n) live F) limit t in omega arith)
 
-  -- what a step answers in the table is what it comes to in the book
-  pub step-taken : (answer : Result) → StepPost (2 * n) N limit before after roots answer F → (go : Outcome) → step n limit live F go ≡ goesOn answer go
-  step-taken answer p go = ap (λ (b : Bool). cond b go full) (step-fits answer p) ∙ pick answer
+  -- what a step answers in the table is what it comes to in the book, its need counted
+  pub step-taken : (answer : Result) → StepPost (2 * n) N limit before after roots answer F → (k : ℕ) → Needed (2 * n) before roots F answer k → (q : Count) (go : Count → Outcome)
+      → step n limit live F q go ≡ goesOn answer (go (needing q k))
+  step-taken answer p k e q go = ap (λ (b : Bool). cond b (go (needing q (stepNeed (2 * n) live F))) full) (step-fits answer p) ∙ pick answer e
     where
-      pick : (answer : Result) → cond (answered answer) go full ≡ goesOn answer go
-      pick (at a) = refl
-      pick noRows = refl
+      pick : (answer : Result) → Needed (2 * n) before roots F answer k → cond (answered answer) (go (needing q (stepNeed (2 * n) live F))) full ≡ goesOn answer (go (needing q k))
+      pick (at a) i = ap (λ (x : ℕ). go (needing q x)) (sym (i ∙ held-need h F))
+      pick noRows i = refl

@@ -15,9 +15,13 @@ use Rattle.book.specs.Demand.{Event, Demand}
 use Rattle.book.specs.Listed.{frame}
 use Rattle.book.specs.Compute.{computing}
 
--- set r, R = 100, with its reply: a number, rounds and a node number
+-- set r, R = 100, with its reply: a number, rounds, a peak and a node number
+abbrev measured : ℕ → List ℕ → ℕ → ℕ → ℕ → ℕ → Event
+measured r f number rounds peak a = (set alone r 100 (frame f), record { number = number; rounds = rounds; peak = peak; value = a })
+
+-- with the peak 0
 abbrev replied : ℕ → List ℕ → ℕ → ℕ → ℕ → Event
-replied r f number rounds a = (set alone r 100 (frame f), record { number = number; rounds = rounds; value = a })
+replied r f number rounds a = measured r f number rounds 0 a
 
 -- the first place of a set
 abbrev first : List Bool → Bool
@@ -81,6 +85,11 @@ module _ {W : Type 0} (sound : W → Type 0) (view : W → Table) (asks : W → 
   pub made-up-rounds : (q a : ℕ) → Claim (replied 0 (0x70 ∷ 0x30 ∷ []) 0 q a ∷ []) → q ≡ 1
   unfolding computing
   made-up-rounds q a d = d .agree .0 .rounds
+
+  -- so with a peak
+  pub made-up-peak : (p a : ℕ) → Claim (measured 0 (0x03 ∷ 0x10 ∷ 0x02 ∷ 0x10 ∷ []) 0 0 p a ∷ []) → p ≡ 1
+  unfolding computing
+  made-up-peak p a d = d .agree .0 .peak
 
   pub made-up-count : (a k : ℕ) (w′ : W) → asks w (count 0) w′ (valued k) → Claim (replied 0 (0x10 ∷ []) 0 0 a ∷ []) → k ≡ 1
   unfolding computing

@@ -15,31 +15,30 @@ use Rattle.mucalculus.specs.Form.{Form, Model, Env, reads, steady}
 use Rattle.mucalculus.specs.Means.{size}
 use Rattle.mucalculus.specs.Binder.{body, round-ends}
 use Rattle.mucalculus.specs.Rounds.{iter-on, same-set}
-use Rattle.book.specs.Ticks.{Tick, step, round, roundTicks, counted, full, spent, verdict, withinRounds}
-use Rattle.book.specs.Verdicts.{fit, verdict-full}
+use Rattle.accounts.specs.declared.Count.{Count}
+use Rattle.accounts.specs.Count.{needing, another}
+use Rattle.book.specs.Ticks.{Tick, step, round, roundTicks, counted, full, spent, verdict, withinRounds, peak}
+use Rattle.book.specs.Verdicts.{fit, verdict-full, not-full, not-spent}
 
 -- what is answered with some N and R is answered alike with more
-pub verdict-more : (N M R S : ℕ) → N ≤ M → R ≤ S → (r : ℕ) (l : List Tick) (q : ℕ) → verdict N R r l ≡ counted q → verdict M S r l ≡ counted q
+pub verdict-more : (N M R S : ℕ) → N ≤ M → R ≤ S → (r : Count) (l : List Tick) (q : Count) → verdict N R r l ≡ counted q → verdict M S r l ≡ counted q
 verdict-more N M R S i j r [] q e = e
-verdict-more N M R S i j r (step k ∷ l) q e = go (leb k N) refl (verdict-more N M R S i j r l q) e
+verdict-more N M R S i j r (step k ∷ l) q e = go (leb k N) refl (verdict-more N M R S i j (needing r k) l q) e
   where
-    go : (t : Bool) → leb k N ≡ t → (verdict N R r l ≡ counted q → verdict M S r l ≡ counted q) → cond t (verdict N R r l) full ≡ counted q → cond (leb k M) (verdict M S r l) full ≡ counted q
+    go : (t : Bool) → leb k N ≡ t → (verdict N R (needing r k) l ≡ counted q → verdict M S (needing r k) l ≡ counted q) → cond t (verdict N R (needing r k) l) full ≡ counted q
+        → cond (leb k M) (verdict M S (needing r k) l) full ≡ counted q
     go true u below h =
         let k≤N = leb→le k N (subst T (sym u) tt) in
-        ap (λ (t : Bool). cond t (verdict M S r l) full) (true-of (leb k M) (le→leb k M (omega arith))) ∙ below h
-    go false u below h = let z : _≡_ {A = ℕ} 0 1 = cc in absurd (omega arith)
-verdict-more N M R S i j r (round ∷ l) q e = go (ltb r R) refl (verdict-more N M R S i j (suc r) l q) e
+        ap (λ (t : Bool). cond t (verdict M S (needing r k) l) full) (true-of (leb k M) (le→leb k M (omega arith))) ∙ below h
+    go false u below h = absurd (not-full N R q h)
+verdict-more N M R S i j r (round ∷ l) q e = go (ltb (r .rounds) R) refl (verdict-more N M R S i j (another r) l q) e
   where
-    go : (t : Bool) → ltb r R ≡ t → (verdict N R (suc r) l ≡ counted q → verdict M S (suc r) l ≡ counted q) → cond t (verdict N R (suc r) l) spent ≡ counted q → cond (ltb r S) (verdict M S (suc r) l) spent ≡ counted q
+    go : (t : Bool) → ltb (r .rounds) R ≡ t → (verdict N R (another r) l ≡ counted q → verdict M S (another r) l ≡ counted q) → cond t (verdict N R (another r) l) spent ≡ counted q
+        → cond (ltb (r .rounds) S) (verdict M S (another r) l) spent ≡ counted q
     go true u below h =
-        let r<R = ltb→lt r R (subst T (sym u) tt) in
-        ap (λ (t : Bool). cond t (verdict M S (suc r) l) spent) (true-of (ltb r S) (lt→ltb r S (omega arith))) ∙ below h
-    go false u below h = let z : _≡_ {A = ℕ} 0 1 = cc in absurd (omega arith)
-
--- the largest need, 0 without a step
-abbrev pub peak : List ℕ → ℕ
-peak [] = 0
-peak (k ∷ ks) = max k (peak ks)
+        let r<R = ltb→lt (r .rounds) R (subst T (sym u) tt) in
+        ap (λ (t : Bool). cond t (verdict M S (another r) l) spent) (true-of (ltb (r .rounds) S) (lt→ltb (r .rounds) S (omega arith))) ∙ below h
+    go false u below h = absurd (not-spent N R q h)
 
 -- every need is at most N exactly where the peak is
 pub fit-peak : (N : ℕ) (ks : List ℕ) → fit N ks ≡ leb (peak ks) N
@@ -54,12 +53,12 @@ fit-peak N (k ∷ ks) = ap (λ (b : Bool). leb k N && b) (fit-peak N ks) ∙ go 
     go true false u v = sym (false-of (leb (max k p) N) (λ t. let z = leb→le (max k p) N t in let y : T false = subst T v (le→leb p N (omega arith)) in y))
     go false t u v = sym (false-of (leb (max k p) N) (λ t. let z = leb→le (max k p) N t in let y : T false = subst T u (le→leb k N (omega arith)) in y))
 
--- full exactly where the peak over the steps reached within the rounds would pass N
-pub full-peak : (N R r : ℕ) (l : List Tick) → (verdict N R r l ≡ full) ↔ (N < peak (withinRounds R r l))
+-- "A call is full exactly when its peak, over the steps reached within its rounds, would pass N"
+pub full-peak : (N R : ℕ) (r : Count) (l : List Tick) → (verdict N R r l ≡ full) ↔ (N < peak (withinRounds R (r .rounds) l))
 full-peak N R r l =
     let w = verdict-full N R r l in
-    let p = peak (withinRounds R r l) in
-    ((λ e. lt-of-not-le (λ h. subst T (sym (fit-peak N (withinRounds R r l)) ∙ w .0 e) (le→leb p N h))), (λ h. w .1 (fit-peak N (withinRounds R r l) ∙ false-of (leb p N) (λ t. let z = leb→le p N t in absurd (omega arith)))))
+    let p = peak (withinRounds R (r .rounds) l) in
+    ((λ e. lt-of-not-le (λ h. subst T (sym (fit-peak N (withinRounds R (r .rounds) l)) ∙ w .0 e) (le→leb p N h))), (λ h. w .1 (fit-peak N (withinRounds R (r .rounds) l) ∙ false-of (leb p N) (λ t. let z = leb→le p N t in absurd (omega arith)))))
 
 -- where j rounds leave a set that the next one keeps, a larger bound than j + 1 gives the same ticks
 ticks-more : (h : List Bool → List Tick) (F : List Bool → List Bool) (j k : ℕ) → j ≤ k → (A : List Bool) → F (iter F j A) ≡ iter F j A → roundTicks h F (suc k) A ≡ roundTicks h F (suc j) A

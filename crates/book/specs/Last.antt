@@ -12,6 +12,7 @@ use Rattle.mucalculus.specs.Form.{noEnv}
 use Rattle.mucalculus.specs.Means.{means}
 use Rattle.tokens.specs.declared.Kind.the-variants.{Set}
 use Rattle.accounts.specs.declared.Terms.{Terms}
+use Rattle.accounts.specs.declared.Count.{Count}
 use Rattle.book.specs.Book.{formulaIn, Book, Call, relation, set, clear, collect, Answer, answered, registers, modelOf, Done, withReg, setDone, does, play}
 use Rattle.book.specs.Stored.{range-cases, set-cases, relation-cases, some-inj, none-some, Passed, set-means}
 
@@ -46,7 +47,7 @@ abbrev Comes : Book → ℕ → List Bool → Call → Done → Type 0
 Comes b r A c d = ((touches r c (d .1) ≡ false) × (b .reg r ≡ some A)) ⊎ ((acc : Terms) × (R : ℕ) × (bs : List ℕ) × (c ≡ set acc r R bs) × (d .1 .number ≡ 0))
 
 -- what an answered set leaves
-stored-comes : (b : Book) (r : ℕ) (A X : List Bool) (acc : Terms) (q R : ℕ) (bs : List ℕ) (k : ℕ) → setDone b q X k .0 .reg r ≡ some A → Comes b r A (set acc q R bs) (setDone b q X k)
+stored-comes : (b : Book) (r : ℕ) (A X : List Bool) (acc : Terms) (q R : ℕ) (bs : List ℕ) (k : Count) → setDone b q X k .0 .reg r ≡ some A → Comes b r A (set acc q R bs) (setDone b q X k)
 stored-comes b r A X acc q R bs k = go (eqb r q) refl
   where
     go : (t : Bool) → eqb r q ≡ t → cond t (some X) (b .reg r) ≡ some A
@@ -62,7 +63,7 @@ cleared-comes b r A q = go (eqb r q)
     go false h = inl (refl, h)
 
 comes : (b : Book) (r : ℕ) (A : List Bool) (c : Call) → does b c .0 .reg r ≡ some A → Comes b r A c (does b c)
-comes b r A (relation t bs) = relation-cases (λ (d : Done). d .0 .reg r ≡ some A → Comes b r A (relation t bs) d) b t bs (λ k i j h. inl (refl, h)) (λ l p h. inl (refl, h))
+comes b r A (relation t bs) = relation-cases (λ (d : Done). d .0 .reg r ≡ some A → Comes b r A (relation t bs) d) b t bs (λ k i j h. inl (refl, h)) (λ l p q h. inl (refl, h))
 comes b r A (set acc q R bs) =
     set-cases (λ (d : Done). d .0 .reg r ≡ some A → Comes b r A (set acc q R bs) d) b acc q R bs (λ k i j h. inl (ap (λ (x : Bool). x && eqb r q) (eqb·suc-zero k), h))
     (λ l p k h. stored-comes b r A (means (modelOf b) noEnv (formulaIn b Set bs)) acc q R bs k h)

@@ -83,11 +83,11 @@ kept-all b t s = keeps-refl (s .wf) (held-arrow (shows-held b t s))
 
 -- a reply with a number and zeros
 abbrev pub plain : ℕ → Reply
-plain k = record { number = k; rounds = 0; value = 0 }
+plain k = record { number = k; rounds = 0; peak = 0; value = 0 }
 
 -- an answer with a value
 abbrev pub valued : ℕ → Reply
-valued x = record { number = 0; rounds = 0; value = x }
+valued x = record { number = 0; rounds = 0; peak = 0; value = x }
 
 -- ---- what a register of the table says of the book's
 

@@ -31,9 +31,13 @@ pub data Line : Type 0 where
   holds : ℕ → Option (List Bool) → Line
   relates : ℕ → Option Pairs → Line
 
--- a set call that was answered after some rounds, with the node number where it is settled
-abbrev pub made : ℕ → Option ℕ → Answer
-made q a = record { number = 0; rounds = q; value = a }
+-- a set call that was answered after some rounds, with its peak, and the node number where it is settled
+abbrev pub made : ℕ → ℕ → Option ℕ → Answer
+made q p a = record { number = 0; rounds = q; peak = p; value = a }
+
+-- a relation call that was answered, with its peak
+abbrev pub related : ℕ → Answer
+related p = record { number = 0; rounds = 0; peak = p; value = some 0 }
 
 -- the book gives every line, one after the other
 abbrev pub Gives : Book → List Line → Type 0
@@ -59,7 +63,7 @@ sameContent q (some x) none = false
 sameContent q (some x) (some y) = q x y
 
 sameAnswer : Answer → Answer → Bool
-sameAnswer a b = eqb (a .number) (b .number) && (eqb (a .rounds) (b .rounds) && sameContent eqb (a .value) (b .value))
+sameAnswer a b = eqb (a .number) (b .number) && (eqb (a .rounds) (b .rounds) && (eqb (a .peak) (b .peak) && sameContent eqb (a .value) (b .value)))
 
 -- the computing book gives every line
 pub gives : Book → List Line → Bool
@@ -95,12 +99,14 @@ same-content q h (some x) (some y) t = ap some (h x y t)
 same-answer : (a b : Answer) → T (sameAnswer a b) → a ≡ b
 unfolding sameAnswer
 same-answer a b t =
-    let u = and-out (eqb (a .number) (b .number)) (eqb (a .rounds) (b .rounds) && sameContent eqb (a .value) (b .value)) t in
-    let z = and-out (eqb (a .rounds) (b .rounds)) (sameContent eqb (a .value) (b .value)) (u .1) in
+    let u = and-out (eqb (a .number) (b .number)) (eqb (a .rounds) (b .rounds) && (eqb (a .peak) (b .peak) && sameContent eqb (a .value) (b .value))) t in
+    let z = and-out (eqb (a .rounds) (b .rounds)) (eqb (a .peak) (b .peak) && sameContent eqb (a .value) (b .value)) (u .1) in
+    let w = and-out (eqb (a .peak) (b .peak)) (sameContent eqb (a .value) (b .value)) (z .1) in
     λ i. record {
       number = eqb→eq (a .number) (b .number) (u .0) i;
       rounds = eqb→eq (a .rounds) (b .rounds) (z .0) i;
-      value = same-content eqb eqb→eq (a .value) (b .value) (z .1) i;
+      peak = eqb→eq (a .peak) (b .peak) (w .0) i;
+      value = same-content eqb eqb→eq (a .value) (b .value) (w .1) i;
     }
 
 -- where the test holds, the book, which stores the meaning, gives every line

@@ -90,7 +90,7 @@ set-stores b acc r R bs {t} {u} {y} p l i =
 pub call-value : (c : Call) (b : Book) {s t u v : Table} {y z : Reply} → Serves b c s u y → Serves b c t v z
     → settledIn c (y .value) ≡ settledIn c (z .value)
 call-value (relation t bs) b p q =
-    one-value (does b (relation t bs) .1 .value) (relation-cases (λ (d : Done). T (filled (d .1 .value))) b t bs (λ k i j. tt) (λ l h. tt)) (p .agrees .value) (q .agrees .value)
+    one-value (does b (relation t bs) .1 .value) (relation-cases (λ (d : Done). T (filled (d .1 .value))) b t bs (λ k i j. tt) (λ l h q. tt)) (p .agrees .value) (q .agrees .value)
 call-value (set acc r R bs) b {u = u} {v} {y} {z} p q = by-cases (ℕ-discrete (y .number) 0) answered refusing
   where
     answered : y .number ≡ 0 → min (y .value) 2 ≡ min (z .value) 2

@@ -13,109 +13,119 @@ use Rattle.diagram.specs.Post.{Result, at, full as noRows, Denotes}
 use Rattle.diagram.specs.Keep.{Keeps, keeps-refl, keeps-trans, keeps-within, keeps-on, keeps-denotes}
 use Rattle.diagram.specs.Step.{StepPost}
 use Rattle.diagram.specs.Steps.{bitF, notF}
+use Rattle.accounts.specs.declared.Count.{Count}
+use Rattle.accounts.specs.Count.{needing}
 use Rattle.book.specs.Bridge.{fnOf-holds, pairs-now, pairs-next, pairs-not}
-use Rattle.book.specs.Run.{pairF, pairsFit}
-use Rattle.book.specs.Held.{Held, denotes-same, denoted, held-arrow, held-push, held-keeps, answered, step-fits}
+use Rattle.book.specs.Run.{pairF, pairsFit, pairsCount}
+use Rattle.book.specs.Held.{Held, denotes-same, denoted, held-arrow, held-push, held-keeps, Needed, answered, held-need, step-fits}
 
--- the answer is the book's: an arrow of F where every step so far fits, and otherwise none
-abbrev pub PairMatches : ℕ → Rows → Bool → Fn → Result → Type 0
-PairMatches n rows true F (at a) = Denotes (2 * n) rows a F
-PairMatches n rows true F noRows = ⊥
-PairMatches n rows false F (at a) = ⊥
-PairMatches n rows false F noRows = Unit {0}
+-- the answer is the book's: an arrow of F and what the book counts, where every step so far fits, and otherwise none
+abbrev pub PairMatches : ℕ → Rows → Bool → Fn → Count → Result → Count → Type 0
+PairMatches n rows true F c (at a) q = Denotes (2 * n) rows a F × (q ≡ c)
+PairMatches n rows true F c noRows q = ⊥
+PairMatches n rows false F c (at a) q = ⊥
+PairMatches n rows false F c noRows q = Unit {0}
 
--- the evaluator went from one table to another, kept the roots, and answered as the book does
-pub record PairEvals (n N : ℕ) (before after : Rows) (roots : List ℕ) (fits : Bool) (F : Fn) (y : Result) : Type 0 where
+-- the evaluator went from one table to another, kept the roots, and answered as the book does; q is what it counted
+pub record PairEvals (n N : ℕ) (before after : Rows) (roots : List ℕ) (fits : Bool) (F : Fn) (c : Count) (y : Result) (q : Count) : Type 0 where
   pub wf : WellFormed (2 * n) N after
   pub kept : Keeps before after roots
-  pub result : PairMatches n after fits F y
+  pub result : PairMatches n after fits F c y q
 
 module _ (n N : ℕ) where
   -- what stopped stays so
-  pub pair-stop : {before after : Rows} {roots : List ℕ} {F : Fn} (b c : Bool) (G : Fn) → PairEvals n N before after roots b F noRows → PairEvals n N before after roots (b && c) G noRows
-  pair-stop {after = after} {F = F} b c G p = record { wf = p .wf; kept = p .kept; result = go b (p .result) }
+  pub pair-stop : {before after : Rows} {roots : List ℕ} {F : Fn} {e q : Count} (b c : Bool) (G : Fn) (d : Count) → PairEvals n N before after roots b F e noRows q → PairEvals n N before after roots (b && c) G d noRows q
+  pair-stop {after = after} {F = F} {e} {q} b c G d p = record { wf = p .wf; kept = p .kept; result = go b (p .result) }
     where
-      go : (b : Bool) → PairMatches n after b F noRows → PairMatches n after (b && c) G noRows
+      go : (b : Bool) → PairMatches n after b F e noRows q → PairMatches n after (b && c) G d noRows q
       go true m = absurd m
       go false m = tt
 
   -- what follows a value: its steps so far fit
-  pub pair-then : {before mid after : Rows} {roots : List ℕ} {F G : Fn} {a : ℕ} {y : Result} (b c : Bool) → PairEvals n N before mid roots b F (at a)
-      → (Denotes (2 * n) mid a F → PairEvals n N before after roots c G y) → PairEvals n N before after roots (b && c) G y
-  pair-then true c d k = k (d .result)
+  pub pair-then : {before mid after : Rows} {roots : List ℕ} {F G : Fn} {a : ℕ} {y : Result} {e d p q : Count} (b c : Bool) → PairEvals n N before mid roots b F e (at a) p
+      → (Denotes (2 * n) mid a F → p ≡ e → PairEvals n N before after roots c G d y q) → PairEvals n N before after roots (b && c) G d y q
+  pair-then true c d k = k (d .result .0) (d .result .1)
   pair-then false c d k = absurd (d .result)
 
   module _ {before : Rows} {roots : List ℕ} {live : List Fn} (h : Held (2 * n) before roots live) where
     -- ---- the constants take no step
 
-    pub pair-none : (limit : ℕ) → WellFormed (2 * n) N before → PairEvals n N before before roots (pairsFit n limit live bot) (pairF n bot) (at 0)
-    pair-none limit wf = record {
+    pub pair-none : (limit : ℕ) (q : Count) → WellFormed (2 * n) N before → PairEvals n N before before roots (pairsFit n limit live bot) (pairF n bot) (pairsCount n live bot q) (at 0) q
+    pair-none limit q wf = record {
       wf = wf;
       kept = keeps-refl wf (held-arrow h);
-      result = denotes-same (sym (fnOf-holds n bot)) (record { arrow = tt; same = λ v. den-zero (2 * n) before v });
+      result = (denotes-same (sym (fnOf-holds n bot)) (record { arrow = tt; same = λ v. den-zero (2 * n) before v }), refl);
     }
 
-    pub pair-all : (limit : ℕ) → WellFormed (2 * n) N before → PairEvals n N before before roots (pairsFit n limit live top) (pairF n top) (at 1)
-    pair-all limit wf = record {
+    pub pair-all : (limit : ℕ) (q : Count) → WellFormed (2 * n) N before → PairEvals n N before before roots (pairsFit n limit live top) (pairF n top) (pairsCount n live top q) (at 1) q
+    pair-all limit q wf = record {
       wf = wf;
       kept = keeps-refl wf (held-arrow h);
-      result = denotes-same (sym (fnOf-holds n top)) (record { arrow = tt; same = λ v. den-one (2 * n) before v });
+      result = (denotes-same (sym (fnOf-holds n top)) (record { arrow = tt; same = λ v. den-one (2 * n) before v }), refl);
     }
 
     -- ---- a step after others
 
-    pub pair-step : {limit : ℕ} {mid after : Rows} {roots′ : List ℕ} {live′ : List Fn} {F : Fn} (G : Fn) → (Keeps mid after roots′ → Keeps before after roots)
-        → Held (2 * n) mid roots′ live′ → F ≡ G → (answer : Result) → StepPost (2 * n) N limit mid after roots′ answer F
-        → PairEvals n N before after roots (leb (stepNeed (2 * n) live′ G) limit) G answer
-    pair-step {limit} {mid} {after} {roots′} {live′} G keeping g e answer p′ =
-        subst (λ (b : Bool). PairEvals n N before after roots b G answer) (sym (step-fits n N g answer p)) (record {
-          wf = p .wf;
-          kept = keeping (p .kept);
-          result = go answer p;
+    -- p is what the code counted before it, which is what the book counts
+    pub pair-step : {limit : ℕ} {mid after : Rows} {roots′ : List ℕ} {live′ : List Fn} {F : Fn} (G : Fn) (p c : Count) → p ≡ c → (Keeps mid after roots′ → Keeps before after roots)
+        → Held (2 * n) mid roots′ live′ → F ≡ G → (answer : Result) → StepPost (2 * n) N limit mid after roots′ answer F → (k : ℕ) → Needed (2 * n) mid roots′ F answer k
+        → PairEvals n N before after roots (leb (stepNeed (2 * n) live′ G) limit) G (needing c (stepNeed (2 * n) live′ G)) answer (needing p k)
+    pair-step {limit} {mid} {after} {roots′} {live′} G p c pc keeping g e answer s′ k x′ =
+        subst (λ (b : Bool). PairEvals n N before after roots b G (needing c (stepNeed (2 * n) live′ G)) answer (needing p k)) (sym (step-fits n N g answer s)) (record {
+          wf = s .wf;
+          kept = keeping (s .kept);
+          result = go answer s x;
         })
       where
-        p : StepPost (2 * n) N limit mid after roots′ answer G
-        p = subst (λ (H : Fn). StepPost (2 * n) N limit mid after roots′ answer H) e p′
+        s : StepPost (2 * n) N limit mid after roots′ answer G
+        s = subst (λ (H : Fn). StepPost (2 * n) N limit mid after roots′ answer H) e s′
 
-        go : (answer : Result) → StepPost (2 * n) N limit mid after roots′ answer G → PairMatches n after (answered answer) G answer
-        go (at a) q = q .result .0
-        go noRows q = tt
+        x : Needed (2 * n) mid roots′ G answer k
+        x = subst (λ (H : Fn). Needed (2 * n) mid roots′ H answer k) e x′
+
+        go : (answer : Result) → StepPost (2 * n) N limit mid after roots′ answer G → Needed (2 * n) mid roots′ G answer k
+            → PairMatches n after (answered answer) G (needing c (stepNeed (2 * n) live′ G)) answer (needing p k)
+        go (at a) q i = (q .result .0, ap₂ needing pc (i ∙ held-need g G))
+        go noRows q i = tt
 
     -- a bit: current bit p is level 2p, next bit p level 2p + 1
-    pub pair-now : {limit : ℕ} {after : Rows} (p : ℕ) → p < n → (answer : Result) → StepPost (2 * n) N limit before after roots answer (bitF (2 * p))
-        → PairEvals n N before after roots (pairsFit n limit live (now p)) (pairF n (now p)) answer
-    pair-now p l answer s = pair-step (pairF n (now p)) (λ k. k) h (sym (pairs-now n p l)) answer s
+    pub pair-now : {limit : ℕ} {after : Rows} (p : ℕ) (q : Count) → p < n → (answer : Result) → StepPost (2 * n) N limit before after roots answer (bitF (2 * p)) → (k : ℕ) → Needed (2 * n) before roots (bitF (2 * p)) answer k
+        → PairEvals n N before after roots (pairsFit n limit live (now p)) (pairF n (now p)) (pairsCount n live (now p) q) answer (needing q k)
+    pair-now p q l answer s k x = pair-step (pairF n (now p)) q q refl (λ k. k) h (sym (pairs-now n p l)) answer s k x
 
-    pub pair-next : {limit : ℕ} {after : Rows} (p : ℕ) → p < n → (answer : Result) → StepPost (2 * n) N limit before after roots answer (bitF (suc (2 * p)))
-        → PairEvals n N before after roots (pairsFit n limit live (next p)) (pairF n (next p)) answer
-    pair-next p l answer s = pair-step (pairF n (next p)) (λ k. k) h (sym (pairs-next n p l)) answer s
+    pub pair-next : {limit : ℕ} {after : Rows} (p : ℕ) (q : Count) → p < n → (answer : Result) → StepPost (2 * n) N limit before after roots answer (bitF (suc (2 * p))) → (k : ℕ) → Needed (2 * n) before roots (bitF (suc (2 * p))) answer k
+        → PairEvals n N before after roots (pairsFit n limit live (next p)) (pairF n (next p)) (pairsCount n live (next p) q) answer (needing q k)
+    pair-next p q l answer s k x = pair-step (pairF n (next p)) q q refl (λ k. k) h (sym (pairs-next n p l)) answer s k x
 
     -- NOT
-    pub pair-not : {limit : ℕ} {mid after : Rows} {a : ℕ} (f : Form) → PairEvals n N before mid roots (pairsFit n limit live f) (pairF n f) (at a)
-        → (answer : Result) → StepPost (2 * n) N limit mid after (a ∷ roots) answer (notF (den (2 * n) mid a))
-        → PairEvals n N before after roots (pairsFit n limit live (neg f)) (pairF n (neg f)) answer
-    pair-not {limit} f d answer s = pair-then (pairsFit n limit live f) _ d (λ e.
-        pair-step (pairF n (neg f)) (keeps-on (d .kept)) (held-push (held-keeps h (d .kept)) e) (ap notF (denoted e) ∙ sym (pairs-not n f)) answer s)
+    pub pair-not : {limit : ℕ} {mid after : Rows} {a : ℕ} {p : Count} (q : Count) (f : Form) → PairEvals n N before mid roots (pairsFit n limit live f) (pairF n f) (pairsCount n live f q) (at a) p
+        → (answer : Result) → StepPost (2 * n) N limit mid after (a ∷ roots) answer (notF (den (2 * n) mid a)) → (k : ℕ) → Needed (2 * n) mid (a ∷ roots) (notF (den (2 * n) mid a)) answer k
+        → PairEvals n N before after roots (pairsFit n limit live (neg f)) (pairF n (neg f)) (pairsCount n live (neg f) q) answer (needing p k)
+    pair-not {limit} {p = p} q f d answer s k x = pair-then (pairsFit n limit live f) _ d (λ e i.
+        pair-step (pairF n (neg f)) p (pairsCount n live f q) i (keeps-on (d .kept)) (held-push (held-keeps h (d .kept)) e) (ap notF (denoted e) ∙ sym (pairs-not n f)) answer s k x)
 
     -- AND and OR: `whole` is the formula over f and g
     pub pair-two : (whole f g : Form) (opF : Fn → Fn → Fn) → pairF n whole ≡ opF (pairF n f) (pairF n g)
-        → {limit : ℕ} {mid late after : Rows} {a b : ℕ} → PairEvals n N before mid roots (pairsFit n limit live f) (pairF n f) (at a)
-        → (Denotes (2 * n) mid a (pairF n f) → PairEvals n N mid late (a ∷ roots) (pairsFit n limit (pairF n f ∷ live) g) (pairF n g) (at b))
+        → {limit : ℕ} {mid late after : Rows} {a b : ℕ} {p q : Count} (r : Count) → PairEvals n N before mid roots (pairsFit n limit live f) (pairF n f) (pairsCount n live f r) (at a) p
+        → (Denotes (2 * n) mid a (pairF n f) → PairEvals n N mid late (a ∷ roots) (pairsFit n limit (pairF n f ∷ live) g) (pairF n g) (pairsCount n (pairF n f ∷ live) g p) (at b) q)
         → (answer : Result) → StepPost (2 * n) N limit late after (b ∷ a ∷ roots) answer (opF (den (2 * n) late a) (den (2 * n) late b))
+        → (k : ℕ) → Needed (2 * n) late (b ∷ a ∷ roots) (opF (den (2 * n) late a) (den (2 * n) late b)) answer k
         → PairEvals n N before after roots
-        (pairsFit n limit live f && (pairsFit n limit (pairF n f ∷ live) g && leb (stepNeed (2 * n) (pairF n g ∷ pairF n f ∷ live) (pairF n whole)) limit)) (pairF n whole) answer
-    pair-two whole f g opF same {limit} {late = late} {a = a} d k answer s = pair-then (pairsFit n limit live f) _ d (λ e.
-        let c = k e in
+        (pairsFit n limit live f && (pairsFit n limit (pairF n f ∷ live) g && leb (stepNeed (2 * n) (pairF n g ∷ pairF n f ∷ live) (pairF n whole)) limit)) (pairF n whole)
+        (needing (pairsCount n (pairF n f ∷ live) g (pairsCount n live f r)) (stepNeed (2 * n) (pairF n g ∷ pairF n f ∷ live) (pairF n whole))) answer (needing q k)
+    pair-two whole f g opF same {limit} {late = late} {a = a} {p = p} {q} r d f′ answer s k x = pair-then (pairsFit n limit live f) _ d (λ e i.
+        let c = f′ e in
         let e′ = keeps-denotes (c .kept) (here refl) e in
         let w : Keeps before late roots = keeps-on (d .kept) (c .kept) in
-        pair-then (pairsFit n limit (pairF n f ∷ live) g) _ (record { wf = c .wf; kept = w; result = c .result }) (λ e2.
-        pair-step (pairF n whole) (λ l. keeps-trans w (keeps-within (λ x i. there (there i)) l)) (held-push (held-push (held-keeps h w) e′) e2) (ap₂ opF (denoted e′) (denoted e2) ∙ sym same) answer s))
+        pair-then (pairsFit n limit (pairF n f ∷ live) g) _ (record { wf = c .wf; kept = w; result = c .result }) (λ e2 j.
+        pair-step (pairF n whole) q (pairsCount n (pairF n f ∷ live) g (pairsCount n live f r)) (j ∙ ap (pairsCount n (pairF n f ∷ live) g) i) (λ l. keeps-trans w (keeps-within (λ x i. there (there i)) l))
+        (held-push (held-push (held-keeps h w) e′) e2) (ap₂ opF (denoted e′) (denoted e2) ∙ sym same) answer s k x))
 
     -- the right part stopped
-    pub pair-two-stop : (limit : ℕ) (whole f g : Form) {mid late : Rows} {a : ℕ} → PairEvals n N before mid roots (pairsFit n limit live f) (pairF n f) (at a)
-        → (Denotes (2 * n) mid a (pairF n f) → PairEvals n N mid late (a ∷ roots) (pairsFit n limit (pairF n f ∷ live) g) (pairF n g) noRows)
+    pub pair-two-stop : (limit : ℕ) (whole f g : Form) (whole-count r : Count) {mid late : Rows} {a : ℕ} {p q : Count} → PairEvals n N before mid roots (pairsFit n limit live f) (pairF n f) (pairsCount n live f r) (at a) p
+        → (Denotes (2 * n) mid a (pairF n f) → PairEvals n N mid late (a ∷ roots) (pairsFit n limit (pairF n f ∷ live) g) (pairF n g) (pairsCount n (pairF n f ∷ live) g p) noRows q)
         → PairEvals n N before late roots
-        (pairsFit n limit live f && (pairsFit n limit (pairF n f ∷ live) g && leb (stepNeed (2 * n) (pairF n g ∷ pairF n f ∷ live) (pairF n whole)) limit)) (pairF n whole) noRows
-    pair-two-stop limit whole f g d k = pair-then (pairsFit n limit live f) _ d (λ e.
+        (pairsFit n limit live f && (pairsFit n limit (pairF n f ∷ live) g && leb (stepNeed (2 * n) (pairF n g ∷ pairF n f ∷ live) (pairF n whole)) limit)) (pairF n whole) whole-count noRows q
+    pair-two-stop limit whole f g whole-count r d k = pair-then (pairsFit n limit live f) _ d (λ e i.
         let c = k e in
-        pair-stop (pairsFit n limit (pairF n f ∷ live) g) _ (pairF n whole) (record { wf = c .wf; kept = keeps-on (d .kept) (c .kept); result = c .result }))
+        pair-stop (pairsFit n limit (pairF n f ∷ live) g) _ (pairF n whole) whole-count (record { wf = c .wf; kept = keeps-on (d .kept) (c .kept); result = c .result }))

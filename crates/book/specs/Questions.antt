@@ -21,11 +21,11 @@ use Rattle.book.specs.Leaves.{shows-filled, shows-empty, plain, valued}
 
 -- a refusal with zeros
 refusal-agrees : (a : Answer) (k : ℕ) → a ≡ refused k → Agrees a (plain k)
-refusal-agrees a k e = subst (λ (x : Answer). Agrees x (plain k)) (sym e) (record { number = refl; rounds = refl; value = refl })
+refusal-agrees a k e = subst (λ (x : Answer). Agrees x (plain k)) (sym e) (record { number = refl; rounds = refl; peak = refl; value = refl })
 
 -- a value that is settled
 value-agrees : (a : Answer) (x : ℕ) → a ≡ answered (some x) → Agrees a (valued x)
-value-agrees a x e = subst (λ (y : Answer). Agrees y (valued x)) (sym e) (record { number = refl; rounds = refl; value = refl })
+value-agrees a x e = subst (λ (y : Answer). Agrees y (valued x)) (sym e) (record { number = refl; rounds = refl; peak = refl; value = refl })
 
 -- A REFUSED QUESTION
 pub refusal-tells : (b : Book) (q : Question) (h : ℕ → Option ℕ) (k : ℕ) → answer b q ≡ refused (suc k) → Tells b q h (plain (suc k))
@@ -78,7 +78,7 @@ module _ (b : Book) (t : Table) (r a : ℕ) (s : Shows b t) (l : r < registers) 
       let same : answer b (node r) ≡ answered (nodeOf A) = in-range _ (refused 3) r registers l ∙ ap (λ (o : Option (List Bool)). asked o nodeOf) i in
       record {
         agrees = subst (λ (x : Answer). Agrees x (valued a)) (sym same)
-            (record { number = refl; rounds = refl; value = node-settled (b .n) (b .N) (t .rows) A a (w .reg r A i .0) (s .wf) d });
+            (record { number = refl; rounds = refl; peak = refl; value = node-settled (b .n) (b .N) (t .rows) A a (w .reg r A i .0) (s .wf) d });
         nodeSays = λ z. e;
       }
 

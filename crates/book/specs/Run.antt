@@ -1,4 +1,4 @@
--- "Steps of evaluation" with their needs: the value and its rounds, or 8 or 9, whichever comes first in step order. Assumes nothing.
+-- "Steps of evaluation" with their needs: the value and what is counted, or 8 or 9, whichever comes first in step order. Assumes nothing.
 use mathlib.Core.Bool.{Bool, true, false, _&&_, cond}
 use mathlib.Core.List.{List, _∷_}
 use Prim.Native.Nat.{ℕ, zero, suc, _*_, _^_}
@@ -10,86 +10,85 @@ use Rattle.mucalculus.specs.Means.{clip, compl, inter, union, bitStates, someti
 use Rattle.diagram.specs.Level.{Fn}
 use Rattle.diagram.specs.Need.{stepNeed}
 use Rattle.diagram.specs.Steps.{andF, shiftF, existsF}
+use Rattle.accounts.specs.declared.Count.{Count}
+use Rattle.accounts.specs.Count.{needing, another}
 use Rattle.book.specs.Bridge.{fnOf, fnOfPairs}
 pub use Rattle.book.specs.Ticks.{addFilled, contents, pairF}
 
 -- what the steps of a set's formula come to
 pub data Outcome : Type 0 where
-  value : List Bool → ℕ → Outcome  -- the set, and the rounds counted
+  value : List Bool → Count → Outcome  -- the set, and what is counted
   full : Outcome  -- 8: a step needs more than N rows
   spent : Outcome  -- 9: rounds used up
 
 -- go on with a value and its count
-abbrev pub andThen : Outcome → (List Bool → ℕ → Outcome) → Outcome
-andThen (value A r) g = g A r
+abbrev pub andThen : Outcome → (List Bool → Count → Outcome) → Outcome
+andThen (value A c) g = g A c
 andThen full g = full
 andThen spent g = spent
 
--- "A reached step with a need above N is refusal 8"
-abbrev pub step : ℕ → ℕ → List Fn → Fn → Outcome → Outcome
-step n N live result go = cond (leb (stepNeed (2 * n) live result) N) go full
+-- "A reached step with a need above N is refusal 8"; c is counted before it
+abbrev pub step : ℕ → ℕ → List Fn → Fn → Count → (Count → Outcome) → Outcome
+step n N live result c go = let k = stepNeed (2 * n) live result in let more = go (needing c k) in cond (leb k N) more full
 
 -- EXISTS at levels 2j − 1, 2j − 3, down to 1, each a step
-abbrev pub existsSteps : ℕ → ℕ → List Fn → ℕ → Fn → Outcome → Outcome
-existsSteps n N live zero F go = go
-existsSteps n N live (suc j) F go =
+abbrev pub existsSteps : ℕ → ℕ → List Fn → ℕ → Fn → Count → (Count → Outcome) → Outcome
+existsSteps n N live zero F c go = go c
+existsSteps n N live (suc j) F c go =
     let E = existsF (suc (2 * j)) F in
-    let rest = existsSteps n N live j E go in
-    step n N (F ∷ live) E rest
+    step n N (F ∷ live) E c (λ d. existsSteps n N live j E d go)
 
 -- NOT of the value A
-abbrev pub notStep : ℕ → ℕ → List Fn → List Bool → ℕ → Outcome
-notStep n N live A q = let B = compl (2 ^ n) A in step n N (fnOf n A ∷ live) (fnOf n B) (value B q)
+abbrev pub notStep : ℕ → ℕ → List Fn → List Bool → Count → Outcome
+notStep n N live A q = let B = compl (2 ^ n) A in step n N (fnOf n A ∷ live) (fnOf n B) q (λ c. value B c)
 
 -- AND or OR of the values A and B
-abbrev pub twoStep : ℕ → ℕ → List Fn → (List Bool → List Bool → List Bool) → List Bool → List Bool → ℕ → Outcome
-twoStep n N live op A B q = let C = op A B in step n N (fnOf n B ∷ fnOf n A ∷ live) (fnOf n C) (value C q)
+abbrev pub twoStep : ℕ → ℕ → List Fn → (List Bool → List Bool → List Bool) → List Bool → List Bool → Count → Outcome
+twoStep n N live op A B q = let C = op A B in step n N (fnOf n B ∷ fnOf n A ∷ live) (fnOf n C) q (λ c. value C c)
 
 -- "Diamond of f: SHIFT f, AND with the relation, EXISTS at levels 2n − 1, 2n − 3, down to 1"
-abbrev pub diaSteps : ℕ → ℕ → List Fn → Pairs → List Bool → ℕ → Outcome
+abbrev pub diaSteps : ℕ → ℕ → List Fn → Pairs → List Bool → Count → Outcome
 diaSteps n N live R A q =
     let B = sometimes (2 ^ n) R A in
     let S = shiftF (fnOf n A) in
     let C = andF S (fnOfPairs n R) in
-    let rest = existsSteps n N live n C (value B q) in
-    let more = step n N (S ∷ fnOfPairs n R ∷ live) C rest in
-    step n N (fnOf n A ∷ live) S more
+    step n N (fnOf n A ∷ live) S q (λ c. step n N (S ∷ fnOfPairs n R ∷ live) C c (λ d. existsSteps n N live n C d (λ e. value B e)))
 
 -- "Box: NOT f, diamond, NOT"
-abbrev pub boxSteps : ℕ → ℕ → List Fn → Pairs → List Bool → ℕ → Outcome
+abbrev pub boxSteps : ℕ → ℕ → List Fn → Pairs → List Bool → Count → Outcome
 boxSteps n N live R A q = andThen (notStep n N live A q) (λ B p. andThen (diaSteps n N live R B p) (λ C o. notStep n N live C o))
 
 -- after f in a round of until at the set A: diamond X, with `false` box X and diamond true
-abbrev pub furtherSteps : Bool → ℕ → ℕ → List Fn → Pairs → List Bool → ℕ → Outcome
+abbrev pub furtherSteps : Bool → ℕ → ℕ → List Fn → Pairs → List Bool → Count → Outcome
 furtherSteps true n N live R A q = diaSteps n N live R A q
 furtherSteps false n N live R A q =
     andThen (boxSteps n N live R A q) (λ B p. andThen (diaSteps n N (fnOf n B ∷ live) R (allStates (2 ^ n)) p) (λ D o. twoStep n N live (inter (2 ^ n)) B D o))
 
 -- two parts: the left one's outcome x, the right one's y at the left one's value, which is live meanwhile, and the step op
-abbrev pub bothSteps : ℕ → ℕ → List Fn → (List Bool → List Bool → List Bool) → Outcome → (List Bool → ℕ → Outcome) → Outcome
+abbrev pub bothSteps : ℕ → ℕ → List Fn → (List Bool → List Bool → List Bool) → Outcome → (List Bool → Count → Outcome) → Outcome
 bothSteps n N live op x y = andThen x (λ A q. andThen (y A q) (λ B p. twoStep n N live op A B p))
 
 -- f and what follows, in a round of until at the set A: f's outcome is fs
-abbrev pub keepRound : ℕ → ℕ → List Fn → Bool → Pairs → (List Fn → ℕ → Outcome) → List Bool → ℕ → Outcome
+abbrev pub keepRound : ℕ → ℕ → List Fn → Bool → Pairs → (List Fn → Count → Outcome) → List Bool → Count → Outcome
 keepRound n N live b R fs A p = bothSteps n N live (inter (2 ^ n)) (fs live p) (λ F o. furtherSteps b n N (fnOf n F ∷ live) R A o)
 
 -- a round of until at the set A: g's outcome is gs
-abbrev pub untilRound : ℕ → ℕ → List Fn → Bool → Pairs → (List Fn → ℕ → Outcome) → (List Fn → ℕ → Outcome) → List Bool → ℕ → Outcome
+abbrev pub untilRound : ℕ → ℕ → List Fn → Bool → Pairs → (List Fn → Count → Outcome) → (List Fn → Count → Outcome) → List Bool → Count → Outcome
 untilRound n N live b R fs gs A q =
     let held = fnOf n A ∷ live in
     bothSteps n N held (union (2 ^ n)) (gs held q) (λ G p. keepRound n N (fnOf n G ∷ held) b R fs A p)
 
--- rounds from the set A with r counted: "Every evaluated body is one round, counted as its evaluation starts; a round wanted when R are
+-- rounds from the set A with r counted before: "Every evaluated body is one round, counted as its evaluation starts; a round wanted when R are
 -- counted gives 9. If the value is the same set the binder ends with it." No more than R rounds can start, so R is enough fuel
-abbrev pub loop : ℕ → (List Bool → ℕ → Outcome) → ℕ → List Bool → ℕ → Outcome
+abbrev pub loop : ℕ → (List Bool → Count → Outcome) → ℕ → List Bool → Count → Outcome
 loop R g zero A r = spent
 loop R g (suc j) A r =
-    let go = andThen (g A (suc r)) (λ B q. let more = loop R g j B q in cond (same B A) (value B q) more) in
-    cond (ltb r R) go spent
+    let go = andThen (g A (another r)) (λ B q. let more = loop R g j B q in cond (same B A) (value B q) more) in
+    cond (ltb (r .rounds) R) go spent
 
--- the steps of f with r rounds counted before them. `live` are the functions live throughout: filled registers and relations, current sets
+-- the steps of f with r counted before them. `live` are the functions live throughout: filled registers and relations, current sets
 -- of open binders, values made and not yet used
-abbrev pub run : Model → ℕ → ℕ → Env → List Fn → Form → ℕ → Outcome
+abbrev pub run : Model → ℕ → ℕ → Env → List Fn → Form → Count → Outcome
 run m N R e live bot r = value (noStates (size m)) r
 run m N R e live top r = value (allStates (size m)) r
 run m N R e live (neg f) r = andThen (run m N R e live f r) (λ A q. notStep (m .n) N live A q)
@@ -97,7 +96,7 @@ run m N R e live (conj f g) r =
     andThen (run m N R e live f r) (λ A q. andThen (run m N R e (fnOf (m .n) A ∷ live) g q) (λ B p. twoStep (m .n) N live (inter (size m)) A B p))
 run m N R e live (disj f g) r =
     andThen (run m N R e live f r) (λ A q. andThen (run m N R e (fnOf (m .n) A ∷ live) g q) (λ B p. twoStep (m .n) N live (union (size m)) A B p))
-run m N R e live (now p) r = let A = bitStates (size m) p in step (m .n) N live (fnOf (m .n) A) (value A r)
+run m N R e live (now p) r = let A = bitStates (size m) p in step (m .n) N live (fnOf (m .n) A) r (λ c. value A c)
 run m N R e live (next p) r = value (noStates (size m)) r
 run m N R e live (var P) r = value (clip (size m) (e P)) r
 run m N R e live (reg x) r = value (clip (size m) (inside (m .reg x))) r
@@ -128,3 +127,20 @@ pairsFit n N live (dia t f) = true
 pairsFit n N live (mu P f) = true
 pairsFit n N live (nu P f) = true
 pairsFit n N live (until b t f g) = true
+
+-- what is counted after a relation's steps, c before them
+abbrev pub pairsCount : ℕ → List Fn → Form → Count → Count
+pairsCount n live bot c = c
+pairsCount n live top c = c
+pairsCount n live (neg f) c = needing (pairsCount n live f c) (stepNeed (2 * n) (pairF n f ∷ live) (pairF n (neg f)))
+pairsCount n live (conj f g) c = needing (pairsCount n (pairF n f ∷ live) g (pairsCount n live f c)) (stepNeed (2 * n) (pairF n g ∷ pairF n f ∷ live) (pairF n (conj f g)))
+pairsCount n live (disj f g) c = needing (pairsCount n (pairF n f ∷ live) g (pairsCount n live f c)) (stepNeed (2 * n) (pairF n g ∷ pairF n f ∷ live) (pairF n (disj f g)))
+pairsCount n live (now p) c = needing c (stepNeed (2 * n) live (pairF n (now p)))
+pairsCount n live (next p) c = needing c (stepNeed (2 * n) live (pairF n (next p)))
+pairsCount n live (var P) c = c
+pairsCount n live (reg x) c = c
+pairsCount n live (box t f) c = c
+pairsCount n live (dia t f) c = c
+pairsCount n live (mu P f) c = c
+pairsCount n live (nu P f) c = c
+pairsCount n live (until b t f g) c = c

@@ -4,7 +4,7 @@ use mathlib.Core.Path.{_≡_, refl, sym, ap, _∙_, subst}
 use mathlib.Core.Bool.{Bool, true, false, cond}
 use mathlib.Core.List.{List, [], _∷_}
 use mathlib.Core.Option.{Option, none, some}
-use Prim.Native.Nat.{ℕ, zero, suc, _≤_, _<_, zero-le}
+use Prim.Native.Nat.{ℕ, zero, suc, _+_, _≤_, _<_, max, zero-le}
 use native.Mathlib.Omega.{arith}
 use native.Mathlib.Nat.{lt-of-not-le}
 use lib.Dec.{T, ltb, ltb→lt, lt→ltb, eqb, eqb→eq}
@@ -18,9 +18,11 @@ use Rattle.formula.specs.Checks.{filled, firstOf, firstRefusal}
 use Rattle.tokens.specs.declared.Kind.the-variants.{Relation, Set}
 use Rattle.accounts.specs.declared.Terms.{Terms}
 use Rattle.accounts.specs.Terms.{named, rowsUnder, roundsUnder}
+use Rattle.accounts.specs.declared.Count.{Count}
+use Rattle.accounts.specs.Count.{nothing}
 use Rattle.book.specs.Bridge.{Sized, SizedPairs, sized-table}
-use Rattle.book.specs.Ticks.{ticks, pairTicks, Verdict, counted, full, spent, verdict}
-use Rattle.book.specs.Verdicts.{verdict-counted, ticks-rounds}
+use Rattle.book.specs.Ticks.{ticks, pairTicks, Verdict, counted, full, spent, verdict, peak, needsIn}
+use Rattle.book.specs.Verdicts.{roundsIn, verdict-counted, ticks-rounds}
 use Rattle.book.specs.Book.{formulaIn, Book, fresh, Call, relation, set, clear, collect, registers, relations, modelOf, liveOf, regFilled, relFilled, checks, Done, refuse, withRel, withReg, ended, relationDone, setDone, relationSteps, setSteps, passing, formulaCall, does}
 
 -- ---- the checks
@@ -87,7 +89,7 @@ range-cases {X} P k limit x y p q = go (ltb k limit) refl
     go true e = p (ltb→lt k limit (subst T (sym e) tt))
     go false e = let h : limit < suc k = lt-of-not-le (λ l. subst T e (lt→ltb k limit l)) in q (omega arith)
 
-ended-cases : (P : Done → Type 0) (b : Book) (w : Verdict) (go : ℕ → Done) → ((q : ℕ) → P (go q)) → P (refuse b 8) → P (refuse b 9) → P (ended b w go)
+ended-cases : (P : Done → Type 0) (b : Book) (w : Verdict) (go : Count → Done) → ((q : Count) → P (go q)) → P (refuse b 8) → P (refuse b 9) → P (ended b w go)
 ended-cases P b (counted q) go k x y = k q
 ended-cases P b full go k x y = x
 ended-cases P b spent go k x y = y
@@ -99,42 +101,45 @@ test-cases P false x y p q = q refl
 
 -- a property of what a set or relation call leaves and answers holds if it holds of each refusal, 3 to 9, 12 and 14, and of what is stored
 pub set-cases : (P : Done → Type 0) (b : Book) (acc : Terms) (r R : ℕ) (bs : List ℕ) → ((k : ℕ) → 2 ≤ k → k ≤ 13 → P (refuse b (suc k)))
-    → (r < registers → Passed b Set bs → (q : ℕ) → P (setDone b r (means (modelOf b) noEnv (formulaIn b Set bs)) q)) → P (does b (set acc r R bs))
+    → (r < registers → Passed b Set bs → (q : Count) → P (setDone b r (means (modelOf b) noEnv (formulaIn b Set bs)) q)) → P (does b (set acc r R bs))
 set-cases P b acc r R bs refuses goes =
     range-cases P r registers _ _
     (λ l. test-cases P (named acc) _ _
     (λ t. formula-cases b Set bs P (setSteps b acc r R) (λ k i j. refuses k (omega arith) (omega arith))
-    (λ p. ended-cases P b (verdict (rowsUnder (b .N) acc) (roundsUnder R acc) 0 (ticks (modelOf b) noEnv (liveOf b) (formulaIn b Set bs))) _ (goes l p) (refuses 7 (omega arith) (omega arith)) (refuses 8 (omega arith) (omega arith))))
+    (λ p. ended-cases P b (verdict (rowsUnder (b .N) acc) (roundsUnder R acc) nothing (ticks (modelOf b) noEnv (liveOf b) (formulaIn b Set bs))) _ (goes l p) (refuses 7 (omega arith) (omega arith)) (refuses 8 (omega arith) (omega arith))))
     (λ e. refuses 13 (omega arith) (omega arith)))
     (λ l. refuses 2 (omega arith) (omega arith))
 
 pub relation-cases : (P : Done → Type 0) (b : Book) (t : ℕ) (bs : List ℕ) → ((k : ℕ) → 2 ≤ k → k ≤ 11 → P (refuse b (suc k)))
-    → (t < relations → Passed b Relation bs → P (relationDone b t (formulaIn b Relation bs))) → P (does b (relation t bs))
+    → (t < relations → Passed b Relation bs → (q : Count) → P (relationDone b t (formulaIn b Relation bs) q)) → P (does b (relation t bs))
 relation-cases P b t bs refuses goes =
     range-cases P t relations _ _
     (λ l. formula-cases b Relation bs P (relationSteps b t) (λ k i j. refuses k (omega arith) (omega arith))
-    (λ p. ended-cases P b (verdict (b .N) 0 0 (pairTicks (b .n) (liveOf b) (formulaIn b Relation bs))) _ (λ q. goes l p) (refuses 7 (omega arith) (omega arith)) (refuses 8 (omega arith) (omega arith))))
+    (λ p. ended-cases P b (verdict (b .N) 0 nothing (pairTicks (b .n) (liveOf b) (formulaIn b Relation bs))) _ (goes l p) (refuses 7 (omega arith) (omega arith)) (refuses 8 (omega arith) (omega arith))))
     (λ l. refuses 2 (omega arith) (omega arith))
 
 -- ---- what is stored
 
--- "register r exactly the states in which the formula holds", with the formula's rounds
+-- "register r exactly the states in which the formula holds", with the formula's rounds, and the largest need of its steps
 pub record SetStored (b : Book) (acc : Terms) (r R : ℕ) (f : Form) (d : Done) : Type 0 where
   pub book : d .0 ≡ withReg b r (some (means (modelOf b) noEnv f))
   pub count : d .1 .rounds ≡ rounds (modelOf b) noEnv f
   pub within : rounds (modelOf b) noEnv f ≤ roundsUnder R acc
+  pub peaks : d .1 .peak ≡ peak (needsIn (ticks (modelOf b) noEnv (liveOf b) f))
 
 pub set-stored : (b : Book) (acc : Terms) (r R : ℕ) (f : Form) → setSteps b acc r R f .1 .number ≡ 0 → SetStored b acc r R f (setSteps b acc r R f)
-set-stored b acc r R f h = go (verdict (rowsUnder (b .N) acc) (roundsUnder R acc) 0 (ticks (modelOf b) noEnv (liveOf b) f)) refl h
+set-stored b acc r R f h = go (verdict (rowsUnder (b .N) acc) (roundsUnder R acc) nothing (ticks (modelOf b) noEnv (liveOf b) f)) refl h
   where
     A : List Bool
     A = means (modelOf b) noEnv f
 
-    go : (w : Verdict) → verdict (rowsUnder (b .N) acc) (roundsUnder R acc) 0 (ticks (modelOf b) noEnv (liveOf b) f) ≡ w → ended b w (λ q. setDone b r A q) .1 .number ≡ 0 → SetStored b acc r R f (ended b w (λ q. setDone b r A q))
+    go : (w : Verdict) → verdict (rowsUnder (b .N) acc) (roundsUnder R acc) nothing (ticks (modelOf b) noEnv (liveOf b) f) ≡ w → ended b w (λ q. setDone b r A q) .1 .number ≡ 0 → SetStored b acc r R f (ended b w (λ q. setDone b r A q))
     go (counted q) e z =
-        let d = verdict-counted (rowsUnder (b .N) acc) (roundsUnder R acc) 0 (ticks (modelOf b) noEnv (liveOf b) f) q zero-le e in
-        let i : q ≡ rounds (modelOf b) noEnv f = omega (arith, d .0, ticks-rounds (modelOf b) noEnv (liveOf b) f) in
-        record { book = refl; count = i; within = omega (arith, d .1) }
+        let d = verdict-counted (rowsUnder (b .N) acc) (roundsUnder R acc) nothing (ticks (modelOf b) noEnv (liveOf b) f) q zero-le e in
+        let j : q .rounds ≡ 0 + roundsIn (ticks (modelOf b) noEnv (liveOf b) f) = ap (λ (c : Count). c .rounds) (d .0) in
+        let i : q .rounds ≡ rounds (modelOf b) noEnv f = omega (arith, j, ticks-rounds (modelOf b) noEnv (liveOf b) f) in
+        let k : max 0 (peak (needsIn (ticks (modelOf b) noEnv (liveOf b) f))) ≡ peak (needsIn (ticks (modelOf b) noEnv (liveOf b) f)) = omega arith in
+        record { book = refl; count = i; within = omega (arith, d .1); peaks = ap (λ (c : Count). c .peak) (d .0) ∙ k }
     go full e z = absurd (omega arith)
     go spent e z = absurd (omega arith)
 
@@ -154,15 +159,32 @@ set-means b acc r R bs =
     (λ e z. absurd (omega arith)))
     (λ l z. absurd (omega arith))
 
--- an answered relation call: its bytes were a formula, and the pairs in which it holds are what relation t holds
+-- an answered relation call: its bytes were a formula, the pairs in which it holds are what relation t holds, and the peak is the largest need of its steps
 pub record Relates (b : Book) (t : ℕ) (bs : List ℕ) (d : Done) : Type 0 where
   pub range : t < relations
   pub passed : Passed b Relation bs
   pub stored : d .0 ≡ withRel b t (some (meansPair (b .n) (formulaIn b Relation bs)))
+  pub peaks : d .1 .peak ≡ peak (needsIn (pairTicks (b .n) (liveOf b) (formulaIn b Relation bs)))
+
+relation-stored : (b : Book) (t : ℕ) (f : Form) → relationSteps b t f .1 .number ≡ 0
+    → (relationSteps b t f .0 ≡ withRel b t (some (meansPair (b .n) f))) × (relationSteps b t f .1 .peak ≡ peak (needsIn (pairTicks (b .n) (liveOf b) f)))
+relation-stored b t f h = go (verdict (b .N) 0 nothing (pairTicks (b .n) (liveOf b) f)) refl h
+  where
+    go : (w : Verdict) → verdict (b .N) 0 nothing (pairTicks (b .n) (liveOf b) f) ≡ w → ended b w (λ q. relationDone b t f q) .1 .number ≡ 0
+        → (ended b w (λ q. relationDone b t f q) .0 ≡ withRel b t (some (meansPair (b .n) f))) × (ended b w (λ q. relationDone b t f q) .1 .peak ≡ peak (needsIn (pairTicks (b .n) (liveOf b) f)))
+    go (counted q) e z =
+        let d = verdict-counted (b .N) 0 nothing (pairTicks (b .n) (liveOf b) f) q zero-le e in
+        let k : max 0 (peak (needsIn (pairTicks (b .n) (liveOf b) f))) ≡ peak (needsIn (pairTicks (b .n) (liveOf b) f)) = omega arith in
+        (refl, ap (λ (c : Count). c .peak) (d .0) ∙ k)
+    go full e z = absurd (omega arith)
+    go spent e z = absurd (omega arith)
 
 pub relation-means : (b : Book) (t : ℕ) (bs : List ℕ) → does b (relation t bs) .1 .number ≡ 0 → Relates b t bs (does b (relation t bs))
 relation-means b t bs =
-    relation-cases (λ (d : Done). d .1 .number ≡ 0 → Relates b t bs d) b t bs (λ k i j z. absurd (omega arith)) (λ l p z. record { range = l; passed = p; stored = refl })
+    range-cases (λ (d : Done). d .1 .number ≡ 0 → Relates b t bs d) t relations _ _
+    (λ l. formula-cases b Relation bs (λ (d : Done). d .1 .number ≡ 0 → Relates b t bs d) (relationSteps b t) (λ k i j z. absurd (omega arith))
+    (λ p z. let w = relation-stored b t (formulaIn b Relation bs) z in record { range = l; passed = p; stored = w .0; peaks = w .1 }))
+    (λ l z. absurd (omega arith))
 
 -- ---- every filled place has its full size, and none is filled past the registers and relations
 
@@ -199,7 +221,7 @@ whole-rel b t f l w = record {
 
 -- a call keeps the book whole
 pub whole-does : (b : Book) (c : Call) → Whole b → Whole (does b c .0)
-whole-does b (relation t bs) w = relation-cases (λ (d : Done). Whole (d .0)) b t bs (λ k i j. w) (λ l p. whole-rel b t (formulaIn b Relation bs) l w)
+whole-does b (relation t bs) w = relation-cases (λ (d : Done). Whole (d .0)) b t bs (λ k i j. w) (λ l p q. whole-rel b t (formulaIn b Relation bs) l w)
 whole-does b (set acc r R bs) w =
     set-cases (λ (d : Done). Whole (d .0)) b acc r R bs (λ k i j. w) (λ l p q.
     let f = formulaIn b Set bs in

@@ -21,10 +21,11 @@ pub record Table : Type 0 where
   pub reg : ℕ → Option ℕ
   pub rel : ℕ → Option ℕ
 
--- what a call or a question returned: a refusal's number or 0, the rounds, and a value (of set and node the node number)
+-- what a call or a question returned: a refusal's number or 0, the rounds, the peak, and a value (of set and node the node number)
 pub record Reply : Type 0 where
   pub number : ℕ
   pub rounds : ℕ
+  pub peak : ℕ
   pub value : ℕ
 
 -- "filled exactly where the book's is, and then holds the book's set": both empty, or an arrow that denotes the set's function
@@ -62,15 +63,16 @@ abbrev pub SettledTo : Option ℕ → ℕ → Type 0
 SettledTo none x = Unit {0}
 SettledTo (some y) x = x ≡ y
 
--- "answered where the book answers it, and elsewhere refused with the book's number", with its rounds and values
+-- "answered where the book answers it, and elsewhere refused with the book's number", with its rounds, peak and values
 pub record Agrees (a : Answer) (y : Reply) : Type 0 where
   pub number : y .number ≡ a .number
   pub rounds : y .rounds ≡ a .rounds
+  pub peak : y .peak ≡ a .peak
   pub value : SettledTo (a .value) (y .value)
 
 -- "Returned: number, zeros"
 abbrev pub Refusal : ℕ → Reply → Type 0
-Refusal k y = (y .number ≡ k) × (y .rounds ≡ 0) × (y .value ≡ 0)
+Refusal k y = (y .number ≡ k) × (y .rounds ≡ 0) × (y .peak ≡ 0) × (y .value ≡ 0)
 
 -- ---- a call
 

@@ -3,13 +3,15 @@
 use mathlib.Core.Bool.{Bool, true, false, cond}
 use mathlib.Core.List.{List, [], _∷_, _++_}
 use mathlib.Core.Option.{Option, none, some}
-use Prim.Native.Nat.{ℕ, zero, suc, _*_, _^_}
+use Prim.Native.Nat.{ℕ, zero, suc, _*_, _^_, max}
 use lib.Dec.{leb, ltb}
 use Rattle.mucalculus.specs.Sets.{allStates, same}
 use Rattle.mucalculus.specs.Order.{start}
 use Rattle.mucalculus.specs.Form.{Form, bot, top, neg, conj, disj, now, next, var, reg, box, dia, mu, nu, until, Pairs, Model, Env, put, inside}
 use Rattle.mucalculus.specs.Means.{compl, inter, union, always, sometimes, size, means, meansPair}
 use Rattle.mucalculus.specs.Until.{further, onward}
+use Rattle.accounts.specs.declared.Count.{Count}
+use Rattle.accounts.specs.Count.{needing, another}
 use Rattle.diagram.specs.Level.{Fn}
 use Rattle.diagram.specs.Need.{stepNeed}
 use Rattle.diagram.specs.Steps.{andF, shiftF, existsF}
@@ -149,19 +151,30 @@ pairTicks n live (until b t f g) = []
 -- ---- the verdict
 
 pub data Verdict : Type 0 where
-  counted : ℕ → Verdict  -- every step fits, and so many rounds are counted
+  counted : Count → Verdict  -- every step fits, and so much is counted
   full : Verdict  -- 8: a reached step needs more than N rows
   spent : Verdict  -- 9: a round is wanted when R are counted
 
--- "A reached step with a need above N is refusal 8; a round wanted beyond R before any such step is 9": the first in order decides, r rounds
--- being counted before
-abbrev pub verdict : ℕ → ℕ → ℕ → List Tick → Verdict
-verdict N R r [] = counted r
-verdict N R r (step k ∷ l) = let more = verdict N R r l in cond (leb k N) more full
-verdict N R r (round ∷ l) = let more = verdict N R (suc r) l in cond (ltb r R) more spent
+-- "A reached step with a need above N is refusal 8; a round wanted beyond R before any such step is 9": the first in order decides, c being
+-- counted before
+abbrev pub verdict : ℕ → ℕ → Count → List Tick → Verdict
+verdict N R c [] = counted c
+verdict N R c (step k ∷ l) = let more = verdict N R (needing c k) l in cond (leb k N) more full
+verdict N R c (round ∷ l) = let more = verdict N R (another c) l in cond (ltb (c .rounds) R) more spent
 
--- the needs of the steps before a round beyond R is wanted, those after a need above N too
+-- the needs of the steps within the rounds: of all that come before a round beyond R is wanted, whatever N is
 abbrev pub withinRounds : ℕ → ℕ → List Tick → List ℕ
 withinRounds R r [] = []
 withinRounds R r (step k ∷ l) = k ∷ withinRounds R r l
 withinRounds R r (round ∷ l) = let more = withinRounds R (suc r) l in cond (ltb r R) more []
+
+-- the largest of some needs, 0 of none
+abbrev pub peak : List ℕ → ℕ
+peak [] = 0
+peak (k ∷ ks) = max k (peak ks)
+
+-- the needs of all steps
+abbrev pub needsIn : List Tick → List ℕ
+needsIn [] = []
+needsIn (step k ∷ l) = k ∷ needsIn l
+needsIn (round ∷ l) = needsIn l

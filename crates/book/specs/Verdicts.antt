@@ -1,10 +1,10 @@
--- The verdict on the ticks is what the computing runs answer: `run` for sets, `pairsFit` for relations. Its count is the formula's rounds; 8
+-- The verdict on the ticks is what the computing runs answer: `run` for sets, `pairsFit` for relations. Its count is the formula's rounds and the largest need of its steps; 8
 -- and 9 come exactly by their causes. Assumes nothing.
 use mathlib.Core.Path.{_≡_, refl, sym, ap, ap₂, _∙_, subst}
 use mathlib.Core.Logic.{_↔_}
 use mathlib.Core.Bool.{Bool, true, false, _&&_, cond}
 use mathlib.Core.List.{List, [], _∷_, _++_}
-use Prim.Native.Nat.{ℕ, zero, suc, _+_, _*_, _^_, _≤_, _<_}
+use Prim.Native.Nat.{ℕ, zero, suc, _+_, _*_, _^_, _≤_, _<_, max}
 use native.Mathlib.Omega.{arith}
 use native.Mathlib.Nat.{add-zero, lt-of-not-le}
 use lib.Dec.{T, leb, ltb, ltb→lt, lt→ltb}
@@ -21,9 +21,11 @@ use Rattle.mucalculus.specs.Rounds.{runs, rounds}
 use Rattle.diagram.specs.Level.{Fn}
 use Rattle.diagram.specs.Need.{stepNeed}
 use Rattle.diagram.specs.Steps.{andF, shiftF, existsF}
+use Rattle.accounts.specs.declared.Count.{Count}
+use Rattle.accounts.specs.Count.{needing, another}
 use Rattle.book.specs.Bridge.{fnOf, fnOfPairs}
-use Rattle.book.specs.Ticks.{Tick, step, round, steps, roundTicks, ticks, pairF, pairTicks, existsNeeds, notNeed, twoNeed, diaNeeds, boxNeeds, furtherTicks, keepTicks, untilTicks, Verdict, counted, full, spent, verdict, withinRounds}
-use Rattle.book.specs.Run.{Outcome, value, full as fullRun, spent as spentRun, andThen, existsSteps, notStep, twoStep, diaSteps, boxSteps, furtherSteps, bothSteps, keepRound, untilRound, loop, run, pairsFit}
+use Rattle.book.specs.Ticks.{Tick, step, round, steps, roundTicks, ticks, pairF, pairTicks, existsNeeds, notNeed, twoNeed, diaNeeds, boxNeeds, furtherTicks, keepTicks, untilTicks, Verdict, counted, full, spent, verdict, withinRounds, peak, needsIn}
+use Rattle.book.specs.Run.{Outcome, value, full as fullRun, spent as spentRun, andThen, existsSteps, notStep, twoStep, diaSteps, boxSteps, furtherSteps, bothSteps, keepRound, untilRound, loop, run, pairsFit, pairsCount}
 
 -- every need is at most N
 abbrev pub fit : ℕ → List ℕ → Bool
@@ -35,6 +37,11 @@ roundsIn [] = zero
 roundsIn (step k ∷ l) = roundsIn l
 roundsIn (round ∷ l) = suc (roundsIn l)
 
+-- what is counted after some steps
+abbrev pub needingAll : Count → List ℕ → Count
+needingAll c [] = c
+needingAll c (k ∷ ks) = needingAll (needing c k) ks
+
 -- the verdict with the set A as a run's outcome
 abbrev pub settle : List Bool → Verdict → Outcome
 settle A (counted q) = value A q
@@ -42,7 +49,7 @@ settle A full = fullRun
 settle A spent = spentRun
 
 -- go on with the count
-abbrev verdictThen : Verdict → (ℕ → Verdict) → Verdict
+abbrev verdictThen : Verdict → (Count → Verdict) → Verdict
 verdictThen (counted q) h = h q
 verdictThen full h = full
 verdictThen spent h = spent
@@ -53,55 +60,67 @@ steps-append (x ∷ xs) ys = ap (λ (l : List Tick). step x ∷ l) (steps-append
 
 module _ (N R : ℕ) where
   -- one list after the other
-  pub verdict-append : (r : ℕ) (xs ys : List Tick) → verdict N R r (xs ++ ys) ≡ verdictThen (verdict N R r xs) (λ q. verdict N R q ys)
+  pub verdict-append : (r : Count) (xs ys : List Tick) → verdict N R r (xs ++ ys) ≡ verdictThen (verdict N R r xs) (λ q. verdict N R q ys)
   verdict-append r [] ys = refl
-  verdict-append r (step k ∷ xs) ys = go (leb k N) (verdict-append r xs ys)
+  verdict-append r (step k ∷ xs) ys = go (leb k N) (verdict-append (needing r k) xs ys)
     where
-      go : (t : Bool) → verdict N R r (xs ++ ys) ≡ verdictThen (verdict N R r xs) (λ q. verdict N R q ys)
-          → cond t (verdict N R r (xs ++ ys)) full ≡ verdictThen (cond t (verdict N R r xs) full) (λ q. verdict N R q ys)
+      go : (t : Bool) → verdict N R (needing r k) (xs ++ ys) ≡ verdictThen (verdict N R (needing r k) xs) (λ q. verdict N R q ys)
+          → cond t (verdict N R (needing r k) (xs ++ ys)) full ≡ verdictThen (cond t (verdict N R (needing r k) xs) full) (λ q. verdict N R q ys)
       go true e = e
       go false e = refl
-  verdict-append r (round ∷ xs) ys = go (ltb r R) (verdict-append (suc r) xs ys)
+  verdict-append r (round ∷ xs) ys = go (ltb (r .rounds) R) (verdict-append (another r) xs ys)
     where
-      go : (t : Bool) → verdict N R (suc r) (xs ++ ys) ≡ verdictThen (verdict N R (suc r) xs) (λ q. verdict N R q ys)
-          → cond t (verdict N R (suc r) (xs ++ ys)) spent ≡ verdictThen (cond t (verdict N R (suc r) xs) spent) (λ q. verdict N R q ys)
+      go : (t : Bool) → verdict N R (another r) (xs ++ ys) ≡ verdictThen (verdict N R (another r) xs) (λ q. verdict N R q ys)
+          → cond t (verdict N R (another r) (xs ++ ys)) spent ≡ verdictThen (cond t (verdict N R (another r) xs) spent) (λ q. verdict N R q ys)
       go true e = e
       go false e = refl
 
-  -- the count does not fall
-  verdict-grows : (r : ℕ) (xs : List Tick) (q : ℕ) → verdict N R r xs ≡ counted q → r ≤ q
-  verdict-grows r [] q e = let i : r ≡ q = cc in omega arith
-  verdict-grows r (step k ∷ xs) q e = go (leb k N) (verdict-grows r xs q) e
+  -- a count that is the verdict
+  pub counted-same : (c d : Count) → counted c ≡ counted d → c ≡ d
+  counted-same c d e = cc
+
+  -- no verdict is two
+  pub not-full : (c : Count) → full ≡ counted c → ⊥
+  not-full c e = let z : _≡_ {A = ℕ} 0 1 = cc in absurd (omega arith)
+
+  pub not-spent : (c : Count) → spent ≡ counted c → ⊥
+  not-spent c e = let z : _≡_ {A = ℕ} 0 1 = cc in absurd (omega arith)
+
+  -- the count of rounds does not fall
+  verdict-grows : (r : Count) (xs : List Tick) (q : Count) → verdict N R r xs ≡ counted q → r .rounds ≤ q .rounds
+  verdict-grows r [] q e = let i : r .rounds ≡ q .rounds = ap (λ (c : Count). c .rounds) (counted-same r q e) in omega arith
+  verdict-grows r (step k ∷ xs) q e = go (leb k N) (verdict-grows (needing r k) xs q) e
     where
-      go : (t : Bool) → (verdict N R r xs ≡ counted q → r ≤ q) → cond t (verdict N R r xs) full ≡ counted q → r ≤ q
+      go : (t : Bool) → (verdict N R (needing r k) xs ≡ counted q → r .rounds ≤ q .rounds) → cond t (verdict N R (needing r k) xs) full ≡ counted q → r .rounds ≤ q .rounds
       go true h i = h i
-      go false h i = let z : _≡_ {A = ℕ} 0 1 = cc in absurd (omega arith)
-  verdict-grows r (round ∷ xs) q e = go (ltb r R) (verdict-grows (suc r) xs q) e
+      go false h i = absurd (not-full q i)
+  verdict-grows r (round ∷ xs) q e = go (ltb (r .rounds) R) (verdict-grows (another r) xs q) e
     where
-      go : (t : Bool) → (verdict N R (suc r) xs ≡ counted q → suc r ≤ q) → cond t (verdict N R (suc r) xs) spent ≡ counted q → r ≤ q
+      go : (t : Bool) → (verdict N R (another r) xs ≡ counted q → suc (r .rounds) ≤ q .rounds) → cond t (verdict N R (another r) xs) spent ≡ counted q → r .rounds ≤ q .rounds
       go true h i = let l = h i in omega arith
-      go false h i = let z : _≡_ {A = ℕ} 0 1 = cc in absurd (omega arith)
+      go false h i = absurd (not-spent q i)
 
   -- steps alone
-  pub steps-verdict : (r : ℕ) (ks : List ℕ) → verdict N R r (steps ks) ≡ cond (fit N ks) (counted r) full
+  pub steps-verdict : (r : Count) (ks : List ℕ) → verdict N R r (steps ks) ≡ cond (fit N ks) (counted (needingAll r ks)) full
   steps-verdict r [] = refl
-  steps-verdict r (k ∷ ks) = go (leb k N) (steps-verdict r ks)
+  steps-verdict r (k ∷ ks) = go (leb k N) (steps-verdict (needing r k) ks)
     where
-      go : (t : Bool) → verdict N R r (steps ks) ≡ cond (fit N ks) (counted r) full → cond t (verdict N R r (steps ks)) full ≡ cond (t && fit N ks) (counted r) full
+      go : (t : Bool) → verdict N R (needing r k) (steps ks) ≡ cond (fit N ks) (counted (needingAll (needing r k) ks)) full
+          → cond t (verdict N R (needing r k) (steps ks)) full ≡ cond (t && fit N ks) (counted (needingAll r (k ∷ ks))) full
       go true e = e
       go false e = refl
 
   -- one step more in front
-  settle-step : (C : List Bool) (r k : ℕ) (l : List Tick) → settle C (verdict N R r (step k ∷ l)) ≡ cond (leb k N) (settle C (verdict N R r l)) fullRun
+  settle-step : (C : List Bool) (r : Count) (k : ℕ) (l : List Tick) → settle C (verdict N R r (step k ∷ l)) ≡ cond (leb k N) (settle C (verdict N R (needing r k) l)) fullRun
   settle-step C r k l = go (leb k N)
     where
-      go : (t : Bool) → settle C (cond t (verdict N R r l) full) ≡ cond t (settle C (verdict N R r l)) fullRun
+      go : (t : Bool) → settle C (cond t (verdict N R (needing r k) l) full) ≡ cond t (settle C (verdict N R (needing r k) l)) fullRun
       go true = refl
       go false = refl
 
   -- what follows a value
-  settle-then : (x : Outcome) (A C : List Bool) (r : ℕ) (xs ys : List Tick) (G : List Bool → ℕ → Outcome) → x ≡ settle A (verdict N R r xs)
-      → ((q : ℕ) → r ≤ q → G A q ≡ settle C (verdict N R q ys)) → andThen x G ≡ settle C (verdict N R r (xs ++ ys))
+  settle-then : (x : Outcome) (A C : List Bool) (r : Count) (xs ys : List Tick) (G : List Bool → Count → Outcome) → x ≡ settle A (verdict N R r xs)
+      → ((q : Count) → r .rounds ≤ q .rounds → G A q ≡ settle C (verdict N R q ys)) → andThen x G ≡ settle C (verdict N R r (xs ++ ys))
   settle-then x A C r xs ys G d h = ap (λ (o : Outcome). andThen o G) d ∙ go (verdict N R r xs) refl ∙ ap (settle C) (sym (verdict-append r xs ys))
     where
       go : (w : Verdict) → verdict N R r xs ≡ w → andThen (settle A w) G ≡ settle C (verdictThen w (λ q. verdict N R q ys))
@@ -112,17 +131,17 @@ module _ (N R : ℕ) where
   -- ---- the steps
 
   -- a last step
-  last-step : (C : List Bool) (q k : ℕ) → cond (leb k N) (value C q) fullRun ≡ settle C (verdict N R q (steps (k ∷ [])))
+  last-step : (C : List Bool) (q : Count) (k : ℕ) → cond (leb k N) (value C (needing q k)) fullRun ≡ settle C (verdict N R q (steps (k ∷ [])))
   last-step C q k = sym (settle-step C q k [])
 
-  pub exists-ticks : (n : ℕ) (live : List Fn) (C : List Bool) (q j : ℕ) (F : Fn) → existsSteps n N live j F (value C q) ≡ settle C (verdict N R q (steps (existsNeeds n live j F)))
+  pub exists-ticks : (n : ℕ) (live : List Fn) (C : List Bool) (q : Count) (j : ℕ) (F : Fn) → existsSteps n N live j F q (λ c. value C c) ≡ settle C (verdict N R q (steps (existsNeeds n live j F)))
   exists-ticks n live C q zero F = refl
   exists-ticks n live C q (suc j) F =
       let E = existsF (suc (2 * j)) F in
       let k = stepNeed (2 * n) (F ∷ live) E in
-      ap (λ (o : Outcome). cond (leb k N) o fullRun) (exists-ticks n live C q j E) ∙ sym (settle-step C q k (steps (existsNeeds n live j E)))
+      ap (λ (o : Outcome). cond (leb k N) o fullRun) (exists-ticks n live C (needing q k) j E) ∙ sym (settle-step C q k (steps (existsNeeds n live j E)))
 
-  pub dia-ticks : (n : ℕ) (live : List Fn) (Q : Pairs) (A : List Bool) (q : ℕ) → diaSteps n N live Q A q ≡ settle (sometimes (2 ^ n) Q A) (verdict N R q (steps (diaNeeds n live Q A)))
+  pub dia-ticks : (n : ℕ) (live : List Fn) (Q : Pairs) (A : List Bool) (q : Count) → diaSteps n N live Q A q ≡ settle (sometimes (2 ^ n) Q A) (verdict N R q (steps (diaNeeds n live Q A)))
   dia-ticks n live Q A q =
       let S = shiftF (fnOf n A) in
       let C = andF S (fnOfPairs n Q) in
@@ -130,10 +149,10 @@ module _ (N R : ℕ) where
       let k = stepNeed (2 * n) (fnOf n A ∷ live) S in
       let l = stepNeed (2 * n) (S ∷ fnOfPairs n Q ∷ live) C in
       ap (λ (o : Outcome). cond (leb k N) o fullRun)
-      (ap (λ (o : Outcome). cond (leb l N) o fullRun) (exists-ticks n live B q n C) ∙ sym (settle-step B q l (steps (existsNeeds n live n C))))
+      (ap (λ (o : Outcome). cond (leb l N) o fullRun) (exists-ticks n live B (needing (needing q k) l) n C) ∙ sym (settle-step B (needing q k) l (steps (existsNeeds n live n C))))
       ∙ sym (settle-step B q k (step l ∷ steps (existsNeeds n live n C)))
 
-  pub box-ticks : (n : ℕ) (live : List Fn) (Q : Pairs) (A : List Bool) (q : ℕ) → boxSteps n N live Q A q ≡ settle (always (2 ^ n) Q A) (verdict N R q (steps (boxNeeds n live Q A)))
+  pub box-ticks : (n : ℕ) (live : List Fn) (Q : Pairs) (A : List Bool) (q : Count) → boxSteps n N live Q A q ≡ settle (always (2 ^ n) Q A) (verdict N R q (steps (boxNeeds n live Q A)))
   box-ticks n live Q A q =
       let B = compl (2 ^ n) A in
       let C = sometimes (2 ^ n) Q B in
@@ -144,15 +163,15 @@ module _ (N R : ℕ) where
       ∙ ap₂ (λ (X : List Bool) (l : List Tick). settle X (verdict N R q (step (notNeed n live A) ∷ l))) (sym (box-dual (2 ^ n) Q A)) (sym (steps-append (diaNeeds n live Q B) last))
 
   -- two parts, left before right, the left one's value live during the right one's steps
-  both-ticks : (n : ℕ) (live : List Fn) (op : List Bool → List Bool → List Bool) (x : Outcome) (y : List Bool → ℕ → Outcome) (A B : List Bool) (r : ℕ) (xs ys : List Tick)
-      → x ≡ settle A (verdict N R r xs) → ((q : ℕ) → y A q ≡ settle B (verdict N R q ys))
+  both-ticks : (n : ℕ) (live : List Fn) (op : List Bool → List Bool → List Bool) (x : Outcome) (y : List Bool → Count → Outcome) (A B : List Bool) (r : Count) (xs ys : List Tick)
+      → x ≡ settle A (verdict N R r xs) → ((q : Count) → y A q ≡ settle B (verdict N R q ys))
       → bothSteps n N live op x y ≡ settle (op A B) (verdict N R r (xs ++ (ys ++ steps (twoNeed n live op A B ∷ []))))
   both-ticks n live op x y A B r xs ys i j =
       let last = twoNeed n live op A B ∷ [] in
       settle-then x A (op A B) r xs (ys ++ steps last) _ i
       (λ q h. settle-then (y A q) B (op A B) q ys (steps last) (λ X p. twoStep n N live op A X p) (j q) (λ p o. last-step (op A B) p (twoNeed n live op A B)))
 
-  pub further-ticks : (b : Bool) (n : ℕ) (live : List Fn) (Q : Pairs) (A : List Bool) (q : ℕ) → furtherSteps b n N live Q A q ≡ settle (further b (2 ^ n) Q A) (verdict N R q (furtherTicks b n live Q A))
+  pub further-ticks : (b : Bool) (n : ℕ) (live : List Fn) (Q : Pairs) (A : List Bool) (q : Count) → furtherSteps b n N live Q A q ≡ settle (further b (2 ^ n) Q A) (verdict N R q (furtherTicks b n live Q A))
   further-ticks true n live Q A q = dia-ticks n live Q A q
   further-ticks false n live Q A q =
       let B = always (2 ^ n) Q A in
@@ -161,8 +180,8 @@ module _ (N R : ℕ) where
       (box-ticks n live Q A q) (λ p. dia-ticks n (fnOf n B ∷ live) Q all p)
 
   -- a round of until, given its parts
-  until-ticks : (n : ℕ) (live : List Fn) (b : Bool) (Q : Pairs) (F G : List Bool) (fs gs : List Fn → List Tick) (xs ys : List Fn → ℕ → Outcome)
-      → ((l : List Fn) (q : ℕ) → xs l q ≡ settle F (verdict N R q (fs l))) → ((l : List Fn) (q : ℕ) → ys l q ≡ settle G (verdict N R q (gs l))) → (A : List Bool) (q : ℕ)
+  until-ticks : (n : ℕ) (live : List Fn) (b : Bool) (Q : Pairs) (F G : List Bool) (fs gs : List Fn → List Tick) (xs ys : List Fn → Count → Outcome)
+      → ((l : List Fn) (q : Count) → xs l q ≡ settle F (verdict N R q (fs l))) → ((l : List Fn) (q : Count) → ys l q ≡ settle G (verdict N R q (gs l))) → (A : List Bool) (q : Count)
       → untilRound n N live b Q xs ys A q ≡ settle (onward b (2 ^ n) Q F G A) (verdict N R q (untilTicks n live b Q F G fs gs A))
   until-ticks n live b Q F G fs gs xs ys i j A q =
       let held = fnOf n A ∷ live in
@@ -174,17 +193,17 @@ module _ (N R : ℕ) where
       (λ o. further-ticks b n (fnOf n F ∷ l) Q A o))
 
   -- a binder's rounds, given those of its body
-  module _ (k : ℕ) (b : Bool) (F : List Bool → List Bool) (h : List Bool → List Tick) (g : List Bool → ℕ → Outcome)
-      (len : (A : List Bool) → length (F A) ≡ k) (mono : Mono F) (exact : (A : List Bool) (q : ℕ) → g A q ≡ settle (F A) (verdict N R q (h A))) where
+  module _ (k : ℕ) (b : Bool) (F : List Bool → List Bool) (h : List Bool → List Tick) (g : List Bool → Count → Outcome)
+      (len : (A : List Bool) → length (F A) ≡ k) (mono : Mono F) (exact : (A : List Bool) (q : Count) → g A q ≡ settle (F A) (verdict N R q (h A))) where
     abbrev nth : ℕ → List Bool
     nth i = iter F i (start b k)
 
     -- with fuel j the loop from the i-th set answers as the ticks of d + 1 rounds say
     abbrev Rounds : ℕ → Type 0
-    Rounds j = (d i r : ℕ) → i + d ≡ k → R ≤ r + j → loop R g j (nth i) r ≡ settle (fix b k F) (verdict N R r (roundTicks h F (suc d) (nth i)))
+    Rounds j = (d i : ℕ) (r : Count) → i + d ≡ k → R ≤ r .rounds + j → loop R g j (nth i) r ≡ settle (fix b k F) (verdict N R r (roundTicks h F (suc d) (nth i)))
 
     -- after a round: it left the set as it is, or the next one follows
-    ends : (j : ℕ) → Rounds j → (d i q : ℕ) → i + d ≡ k → R ≤ q + j → (t : Bool) → same (F (nth i)) (nth i) ≡ t
+    ends : (j : ℕ) → Rounds j → (d i : ℕ) (q : Count) → i + d ≡ k → R ≤ q .rounds + j → (t : Bool) → same (F (nth i)) (nth i) ≡ t
         → cond t (value (F (nth i)) q) (loop R g j (F (nth i)) q) ≡ settle (fix b k F) (verdict N R q (cond t [] (roundTicks h F d (F (nth i)))))
     ends j below d i q s f true u =
         let e = same-eq (F (nth i)) (nth i) (subst T (sym u) tt) in
@@ -194,20 +213,20 @@ module _ (N R : ℕ) where
 
     loop-ticks : (j : ℕ) → Rounds j
     loop-ticks zero d i r s f =
-        ap (λ (t : Bool). settle (fix b k F) (cond t (verdict N R (suc r) (h (nth i) ++ cond (same (F (nth i)) (nth i)) [] (roundTicks h F d (F (nth i))))) spent))
-        (sym (false-of (ltb r R) (λ t. let l = ltb→lt r R t in omega arith)))
-    loop-ticks (suc j) d i r s f = go (loop-ticks j) (ltb r R)
+        ap (λ (t : Bool). settle (fix b k F) (cond t (verdict N R (another r) (h (nth i) ++ cond (same (F (nth i)) (nth i)) [] (roundTicks h F d (F (nth i))))) spent))
+        (sym (false-of (ltb (r .rounds) R) (λ t. let l = ltb→lt (r .rounds) R t in omega arith)))
+    loop-ticks (suc j) d i r s f = go (loop-ticks j) (ltb (r .rounds) R)
       where
         rest : List Tick
         rest = cond (same (F (nth i)) (nth i)) [] (roundTicks h F d (F (nth i)))
 
         -- what follows the round
-        follow : List Bool → ℕ → Outcome
+        follow : List Bool → Count → Outcome
         follow B p = cond (same B (nth i)) (value B p) (loop R g j B p)
 
-        go : Rounds j → (t : Bool) → cond t (andThen (g (nth i) (suc r)) follow) spentRun ≡ settle (fix b k F) (cond t (verdict N R (suc r) (h (nth i) ++ rest)) spent)
+        go : Rounds j → (t : Bool) → cond t (andThen (g (nth i) (another r)) follow) spentRun ≡ settle (fix b k F) (cond t (verdict N R (another r) (h (nth i) ++ rest)) spent)
         go below true =
-            settle-then (g (nth i) (suc r)) (F (nth i)) (fix b k F) (suc r) (h (nth i)) rest follow (exact (nth i) (suc r))
+            settle-then (g (nth i) (another r)) (F (nth i)) (fix b k F) (another r) (h (nth i)) rest follow (exact (nth i) (another r))
             (λ q l. ends j below d i q s (omega arith) (same (F (nth i)) (nth i)) refl)
         go below false = refl
 
@@ -215,9 +234,9 @@ module _ (N R : ℕ) where
 
   module _ (m : Model) where
     -- two parts, left before right, the left one's value live during the right one's steps
-    two-ticks : (e : Env) (live : List Fn) (f g : Form) (r : ℕ) (op : List Bool → List Bool → List Bool)
+    two-ticks : (e : Env) (live : List Fn) (f g : Form) (r : Count) (op : List Bool → List Bool → List Bool)
         → run m N R e live f r ≡ settle (means m e f) (verdict N R r (ticks m e live f))
-        → ((l : List Fn) (q : ℕ) → run m N R e l g q ≡ settle (means m e g) (verdict N R q (ticks m e l g)))
+        → ((l : List Fn) (q : Count) → run m N R e l g q ≡ settle (means m e g) (verdict N R q (ticks m e l g)))
         → andThen (run m N R e live f r) (λ A q. andThen (run m N R e (fnOf (m .n) A ∷ live) g q) (λ B p. twoStep (m .n) N live op A B p))
         ≡ settle (op (means m e f) (means m e g)) (verdict N R r (ticks m e live f ++ (ticks m e (fnOf (m .n) (means m e f) ∷ live) g ++ steps (twoNeed (m .n) live op (means m e f) (means m e g) ∷ []))))
     two-ticks e live f g r op i j =
@@ -225,7 +244,7 @@ module _ (N R : ℕ) where
         both-ticks (m .n) live op (run m N R e live f r) (λ A q. run m N R e (fnOf (m .n) A ∷ live) g q) (means m e f) (means m e g) r (ticks m e live f) (ticks m e l g) i (j l)
 
     -- THE VERDICT IS THE RUN'S ANSWER: the value is the meaning, and its rounds, 8 and 9 are the verdict's
-    pub run-ticks : (e : Env) (live : List Fn) (f : Form) (r : ℕ) → T (steady f) → run m N R e live f r ≡ settle (means m e f) (verdict N R r (ticks m e live f))
+    pub run-ticks : (e : Env) (live : List Fn) (f : Form) (r : Count) → T (steady f) → run m N R e live f r ≡ settle (means m e f) (verdict N R r (ticks m e live f))
     unfolding steady
     run-ticks e live bot r t = refl
     run-ticks e live top r t = refl
@@ -268,27 +287,25 @@ module _ (N R : ℕ) where
   -- ---- relations
 
   -- a part, and what follows it
-  fits-then : (r : ℕ) (a b : Bool) (xs ys : List Tick) → verdict N R r xs ≡ cond a (counted r) full → verdict N R r ys ≡ cond b (counted r) full → verdict N R r (xs ++ ys) ≡ cond (a && b) (counted r) full
-  fits-then r a b xs ys d e = verdict-append r xs ys ∙ ap (λ (w : Verdict). verdictThen w (λ q. verdict N R q ys)) d ∙ go a
+  fits-then : (r q p : Count) (a b : Bool) (xs ys : List Tick) → verdict N R r xs ≡ cond a (counted q) full → verdict N R q ys ≡ cond b (counted p) full → verdict N R r (xs ++ ys) ≡ cond (a && b) (counted p) full
+  fits-then r q p a b xs ys d e = verdict-append r xs ys ∙ ap (λ (w : Verdict). verdictThen w (λ q. verdict N R q ys)) d ∙ go a
     where
-      go : (a : Bool) → verdictThen (cond a (counted r) full) (λ q. verdict N R q ys) ≡ cond (a && b) (counted r) full
+      go : (a : Bool) → verdictThen (cond a (counted q) full) (λ q. verdict N R q ys) ≡ cond (a && b) (counted p) full
       go true = e
       go false = refl
 
-  -- a last step
-  fits-one : (r k : ℕ) → verdict N R r (steps (k ∷ [])) ≡ cond (leb k N) (counted r) full
-  fits-one r k = refl
-
-  pub pairs-ticks : (n : ℕ) (live : List Fn) (f : Form) (r : ℕ) → verdict N R r (pairTicks n live f) ≡ cond (pairsFit n N live f) (counted r) full
+  pub pairs-ticks : (n : ℕ) (live : List Fn) (f : Form) (r : Count) → verdict N R r (pairTicks n live f) ≡ cond (pairsFit n N live f) (counted (pairsCount n live f r)) full
   pairs-ticks n live bot r = refl
   pairs-ticks n live top r = refl
-  pairs-ticks n live (neg f) r = fits-then r (pairsFit n N live f) _ (pairTicks n live f) _ (pairs-ticks n live f r) (fits-one r _)
+  pairs-ticks n live (neg f) r = fits-then r (pairsCount n live f r) _ (pairsFit n N live f) _ (pairTicks n live f) _ (pairs-ticks n live f r) refl
   pairs-ticks n live (conj f g) r =
-      fits-then r (pairsFit n N live f) _ (pairTicks n live f) _ (pairs-ticks n live f r)
-      (fits-then r (pairsFit n N (pairF n f ∷ live) g) _ (pairTicks n (pairF n f ∷ live) g) _ (pairs-ticks n (pairF n f ∷ live) g r) (fits-one r _))
+      let q = pairsCount n live f r in
+      fits-then r q _ (pairsFit n N live f) _ (pairTicks n live f) _ (pairs-ticks n live f r)
+      (fits-then q (pairsCount n (pairF n f ∷ live) g q) _ (pairsFit n N (pairF n f ∷ live) g) _ (pairTicks n (pairF n f ∷ live) g) _ (pairs-ticks n (pairF n f ∷ live) g q) refl)
   pairs-ticks n live (disj f g) r =
-      fits-then r (pairsFit n N live f) _ (pairTicks n live f) _ (pairs-ticks n live f r)
-      (fits-then r (pairsFit n N (pairF n f ∷ live) g) _ (pairTicks n (pairF n f ∷ live) g) _ (pairs-ticks n (pairF n f ∷ live) g r) (fits-one r _))
+      let q = pairsCount n live f r in
+      fits-then r q _ (pairsFit n N live f) _ (pairTicks n live f) _ (pairs-ticks n live f r)
+      (fits-then q (pairsCount n (pairF n f ∷ live) g q) _ (pairsFit n N (pairF n f ∷ live) g) _ (pairTicks n (pairF n f ∷ live) g) _ (pairs-ticks n (pairF n f ∷ live) g q) refl)
   pairs-ticks n live (now p) r = refl
   pairs-ticks n live (next p) r = refl
   pairs-ticks n live (var P) r = refl
@@ -302,56 +319,86 @@ module _ (N R : ℕ) where
   -- ---- 8, exactly
 
   -- 8 exactly where the need of some step within the rounds is above N
-  pub verdict-full : (r : ℕ) (l : List Tick) → (verdict N R r l ≡ full) ↔ (fit N (withinRounds R r l) ≡ false)
-  verdict-full r [] = ((λ e. let z : _≡_ {A = ℕ} 0 1 = cc in absurd (omega arith)), (λ e. let z : _≡_ {A = ℕ} 0 1 = cc in absurd (omega arith)))
-  verdict-full r (step k ∷ l) = go (leb k N) (verdict-full r l)
+  pub verdict-full : (r : Count) (l : List Tick) → (verdict N R r l ≡ full) ↔ (fit N (withinRounds R (r .rounds) l) ≡ false)
+  verdict-full r [] = ((λ e. absurd (not-full r (sym e))), (λ e. let z : _≡_ {A = ℕ} 0 1 = cc in absurd (omega arith)))
+  verdict-full r (step k ∷ l) = go (leb k N) (verdict-full (needing r k) l)
     where
-      go : (t : Bool) → (verdict N R r l ≡ full) ↔ (fit N (withinRounds R r l) ≡ false) → (cond t (verdict N R r l) full ≡ full) ↔ ((t && fit N (withinRounds R r l)) ≡ false)
+      go : (t : Bool) → (verdict N R (needing r k) l ≡ full) ↔ (fit N (withinRounds R (r .rounds) l) ≡ false)
+          → (cond t (verdict N R (needing r k) l) full ≡ full) ↔ ((t && fit N (withinRounds R (r .rounds) l)) ≡ false)
       go true h = h
       go false h = ((λ e. refl), (λ e. refl))
-  verdict-full r (round ∷ l) = go (ltb r R) (verdict-full (suc r) l)
+  verdict-full r (round ∷ l) = go (ltb (r .rounds) R) (verdict-full (another r) l)
     where
-      go : (t : Bool) → (verdict N R (suc r) l ≡ full) ↔ (fit N (withinRounds R (suc r) l) ≡ false) → (cond t (verdict N R (suc r) l) spent ≡ full) ↔ (fit N (cond t (withinRounds R (suc r) l) []) ≡ false)
+      go : (t : Bool) → (verdict N R (another r) l ≡ full) ↔ (fit N (withinRounds R (suc (r .rounds)) l) ≡ false)
+          → (cond t (verdict N R (another r) l) spent ≡ full) ↔ (fit N (cond t (withinRounds R (suc (r .rounds)) l) []) ≡ false)
       go true h = h
       go false h = ((λ e. let z : _≡_ {A = ℕ} 0 1 = cc in absurd (omega arith)), (λ e. let z : _≡_ {A = ℕ} 0 1 = cc in absurd (omega arith)))
 
   -- ---- the count, and 9 exactly
 
-  -- what is counted is the rounds of the list, and they are within R
-  pub verdict-counted : (r : ℕ) (l : List Tick) (q : ℕ) → r ≤ R → verdict N R r l ≡ counted q → (q ≡ r + roundsIn l) × (q ≤ R)
-  verdict-counted r [] q h e = let i : r ≡ q = cc in (omega arith, omega arith)
-  verdict-counted r (step k ∷ l) q h e = go (leb k N) (verdict-counted r l q h) e
+  -- what is counted after a list
+  abbrev pub after : Count → List Tick → Count
+  after r l = record { rounds = r .rounds + roundsIn l; peak = max (r .peak) (peak (needsIn l)) }
+
+  -- one tick more in front
+  after-step : (r : Count) (k : ℕ) (l : List Tick) → after (needing r k) l ≡ after r (step k ∷ l)
+  after-step r k l = let e : max (max (r .peak) k) (peak (needsIn l)) ≡ max (r .peak) (max k (peak (needsIn l))) = omega arith in ap (λ (p : ℕ). record { rounds = r .rounds + roundsIn l; peak = p }) e
+
+  after-round : (r : Count) (l : List Tick) → after (another r) l ≡ after r (round ∷ l)
+  after-round r l = let e : suc (r .rounds) + roundsIn l ≡ r .rounds + suc (roundsIn l) = omega arith in ap (λ (q : ℕ). record { rounds = q; peak = max (r .peak) (peak (needsIn l)) }) e
+
+  after-none : (r : Count) → after r [] ≡ r
+  after-none r = let e : max (r .peak) 0 ≡ r .peak = omega arith in let i : r .rounds + 0 ≡ r .rounds = omega arith in ap₂ (λ (q p : ℕ). record { rounds = q; peak = p }) i e
+
+  -- what is counted is the rounds of the list and the largest of its needs, and the rounds are within R
+  pub verdict-counted : (r : Count) (l : List Tick) (q : Count) → r .rounds ≤ R → verdict N R r l ≡ counted q → (q ≡ after r l) × (q .rounds ≤ R)
+  verdict-counted r [] q h e = let i : q ≡ r = sym (counted-same r q e) in (i ∙ sym (after-none r), subst (λ (c : Count). c .rounds ≤ R) (sym i) h)
+  verdict-counted r (step k ∷ l) q h e = go (leb k N) (verdict-counted (needing r k) l q h) e
     where
-      go : (t : Bool) → (verdict N R r l ≡ counted q → (q ≡ r + roundsIn l) × (q ≤ R)) → cond t (verdict N R r l) full ≡ counted q → (q ≡ r + roundsIn l) × (q ≤ R)
-      go true below i = below i
-      go false below i = let z : _≡_ {A = ℕ} 0 1 = cc in absurd (omega arith)
-  verdict-counted r (round ∷ l) q h e = go (ltb r R) refl (verdict-counted (suc r) l q) e
+      go : (t : Bool) → (verdict N R (needing r k) l ≡ counted q → (q ≡ after (needing r k) l) × (q .rounds ≤ R)) → cond t (verdict N R (needing r k) l) full ≡ counted q → (q ≡ after r (step k ∷ l)) × (q .rounds ≤ R)
+      go true below i = let w = below i in (w .0 ∙ after-step r k l, w .1)
+      go false below i = absurd (not-full q i)
+  verdict-counted r (round ∷ l) q h e = go (ltb (r .rounds) R) refl (verdict-counted (another r) l q) e
     where
-      go : (t : Bool) → ltb r R ≡ t → (suc r ≤ R → verdict N R (suc r) l ≡ counted q → (q ≡ suc r + roundsIn l) × (q ≤ R)) → cond t (verdict N R (suc r) l) spent ≡ counted q
-          → (q ≡ r + suc (roundsIn l)) × (q ≤ R)
-      go true u below i = let w = below (ltb→lt r R (subst T (sym u) tt)) i in (omega (arith, w .0), w .1)
-      go false u below i = let z : _≡_ {A = ℕ} 0 1 = cc in absurd (omega arith)
+      go : (t : Bool) → ltb (r .rounds) R ≡ t → (suc (r .rounds) ≤ R → verdict N R (another r) l ≡ counted q → (q ≡ after (another r) l) × (q .rounds ≤ R)) → cond t (verdict N R (another r) l) spent ≡ counted q
+          → (q ≡ after r (round ∷ l)) × (q .rounds ≤ R)
+      go true u below i = let w = below (ltb→lt (r .rounds) R (subst T (sym u) tt)) i in (w .0 ∙ after-round r l, w .1)
+      go false u below i = absurd (not-spent q i)
 
   -- 9 exactly where every need within the rounds is at most N and the list has more rounds than R
-  pub verdict-spent : (r : ℕ) (l : List Tick) → r ≤ R → (verdict N R r l ≡ spent) ↔ (T (fit N (withinRounds R r l)) × (R < r + roundsIn l))
-  verdict-spent r [] h = ((λ e. let z : _≡_ {A = ℕ} 0 1 = cc in absurd (omega arith)), (λ w. absurd (omega (arith, w .1))))
-  verdict-spent r (step k ∷ l) h = go (leb k N) (verdict-spent r l h)
+  pub verdict-spent : (r : Count) (l : List Tick) → r .rounds ≤ R → (verdict N R r l ≡ spent) ↔ (T (fit N (withinRounds R (r .rounds) l)) × (R < r .rounds + roundsIn l))
+  verdict-spent r [] h = ((λ e. absurd (not-spent r (sym e))), (λ w. absurd (omega (arith, w .1))))
+  verdict-spent r (step k ∷ l) h = go (leb k N) (verdict-spent (needing r k) l h)
     where
-      go : (t : Bool) → (verdict N R r l ≡ spent) ↔ (T (fit N (withinRounds R r l)) × (R < r + roundsIn l))
-          → (cond t (verdict N R r l) full ≡ spent) ↔ (T (t && fit N (withinRounds R r l)) × (R < r + roundsIn l))
+      go : (t : Bool) → (verdict N R (needing r k) l ≡ spent) ↔ (T (fit N (withinRounds R (r .rounds) l)) × (R < r .rounds + roundsIn l))
+          → (cond t (verdict N R (needing r k) l) full ≡ spent) ↔ (T (t && fit N (withinRounds R (r .rounds) l)) × (R < r .rounds + roundsIn l))
       go true below = below
       go false below = ((λ e. let z : _≡_ {A = ℕ} 0 1 = cc in absurd (omega arith)), (λ w. absurd (w .0)))
-  verdict-spent r (round ∷ l) h = go (ltb r R) refl (verdict-spent (suc r) l)
+  verdict-spent r (round ∷ l) h = go (ltb (r .rounds) R) refl (verdict-spent (another r) l)
     where
-      go : (t : Bool) → ltb r R ≡ t → (suc r ≤ R → (verdict N R (suc r) l ≡ spent) ↔ (T (fit N (withinRounds R (suc r) l)) × (R < suc r + roundsIn l)))
-          → (cond t (verdict N R (suc r) l) spent ≡ spent) ↔ (T (fit N (cond t (withinRounds R (suc r) l) [])) × (R < r + suc (roundsIn l)))
+      go : (t : Bool) → ltb (r .rounds) R ≡ t → (suc (r .rounds) ≤ R → (verdict N R (another r) l ≡ spent) ↔ (T (fit N (withinRounds R (suc (r .rounds)) l)) × (R < suc (r .rounds) + roundsIn l)))
+          → (cond t (verdict N R (another r) l) spent ≡ spent) ↔ (T (fit N (cond t (withinRounds R (suc (r .rounds)) l) [])) × (R < r .rounds + suc (roundsIn l)))
       go true u below =
-          let w = below (ltb→lt r R (subst T (sym u) tt)) in
+          let w = below (ltb→lt (r .rounds) R (subst T (sym u) tt)) in
           ((λ e. (w .0 e .0, omega (arith, w .0 e .1))), (λ x. w .1 (x .0, omega (arith, x .1))))
-      go false u below = ((λ e. (tt, let n : R ≤ r = ge u in omega arith)), (λ x. refl))
+      go false u below = ((λ e. (tt, let n : R ≤ r .rounds = ge u in omega arith)), (λ x. refl))
         where
-          ge : ltb r R ≡ false → R ≤ r
-          ge i = let l : R < suc r = lt-of-not-le (λ l. subst T i (lt→ltb r R l)) in omega arith
+          ge : ltb (r .rounds) R ≡ false → R ≤ r .rounds
+          ge i = let l : R < suc (r .rounds) = lt-of-not-le (λ l. subst T i (lt→ltb (r .rounds) R l)) in omega arith
+
+  -- within the rounds of an answered list are all its steps
+  pub within-all : (r : Count) (l : List Tick) (q : Count) → verdict N R r l ≡ counted q → withinRounds R (r .rounds) l ≡ needsIn l
+  within-all r [] q e = refl
+  within-all r (step k ∷ l) q e = go (leb k N) (within-all (needing r k) l q) e
+    where
+      go : (t : Bool) → (verdict N R (needing r k) l ≡ counted q → withinRounds R (r .rounds) l ≡ needsIn l) → cond t (verdict N R (needing r k) l) full ≡ counted q → k ∷ withinRounds R (r .rounds) l ≡ k ∷ needsIn l
+      go true below i = ap (λ (ks : List ℕ). k ∷ ks) (below i)
+      go false below i = absurd (not-full q i)
+  within-all r (round ∷ l) q e = go (ltb (r .rounds) R) (within-all (another r) l q) e
+    where
+      go : (t : Bool) → (verdict N R (another r) l ≡ counted q → withinRounds R (suc (r .rounds)) l ≡ needsIn l) → cond t (verdict N R (another r) l) spent ≡ counted q → cond t (withinRounds R (suc (r .rounds)) l) [] ≡ needsIn l
+      go true below i = below i
+      go false below i = absurd (not-spent q i)
 
 -- ---- the rounds of a formula's ticks are the formula's rounds
 

@@ -8,6 +8,7 @@ use Prim.Native.Nat.{ℕ}
 use native.Mathlib.Omega.{arith}
 use Rattle.diagram.specs.Rows.{Rows}
 use Rattle.accounts.specs.Terms.{alone}
+use Rattle.accounts.specs.Count.{nothing}
 use Rattle.book.specs.Book.{Call, Question, set, clear, fresh}
 use Rattle.book.specs.Compute.{computing}
 use Rattle.book.specs.Listed.{frame}
@@ -67,7 +68,7 @@ first : Performs SoundTable (λ x. x) (set alone 0 100 (frame (0x01 ∷ []))) bl
 unfolding computing
 first =
     let s : Shows (bookOf blank) blank = shows-bookOf blank blank-sound in
-    let d = set-serves (bookOf blank) blank alone 0 100 (frame (0x01 ∷ [])) noRows (ends 1 0) s (omega arith) tt refl (evals-leaf 1 100 0 (s .wf) (shows-held (bookOf blank) blank s) (denotes-all 1 100 noRows)) in
+    let d = set-serves (bookOf blank) blank alone 0 100 (frame (0x01 ∷ [])) noRows (ends 1 nothing) s (omega arith) tt refl (evals-leaf 1 100 nothing (s .wf) (shows-held (bookOf blank) blank s) (denotes-all 1 100 noRows)) in
     record { unsound = λ n. absurd (n blank-sound); served = λ k. (sound-shows _ stored (d .shows), d) }
 
 stored-sound : SoundTable stored
@@ -84,7 +85,7 @@ played = record {
   count = 1;
   made = blank;
   reply = plain 0;
-  start = record { answers = λ i. ((refl, refl, refl), blank-sound, empty); refuses = λ k i. absurd (omega arith) };
+  start = record { answers = λ i. ((refl, refl, refl, refl), blank-sound, empty); refuses = λ k i. absurd (omega arith) };
   answered = refl;
   rest = go {v = stored} first (go {v = emptied} second stop);
 }

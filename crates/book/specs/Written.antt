@@ -15,6 +15,7 @@ use Rattle.mucalculus.specs.Polarity.{put-swap}
 use Rattle.mucalculus.specs.Written.{absent, goes, written, apart, var-apart, means-absent, put-here, sometimes-clip, always-clip, goes-means, written-round}
 use Rattle.diagram.specs.Level.{Fn}
 use Rattle.diagram.specs.Need.{stepNeed}
+use Rattle.accounts.specs.declared.Count.{Count}
 use Rattle.book.specs.Bridge.{fnOf, fnOfPairs, fnOf-clip}
 use Rattle.diagram.specs.Steps.{andF, shiftF}
 use Rattle.book.specs.Run.{Outcome, value, andThen, step, existsSteps, notStep, diaSteps, boxSteps, furtherSteps, bothSteps, untilRound, loop, run}
@@ -112,14 +113,14 @@ module _ (m : Model) (e : Env) (t X : ℕ) where
 
 -- ---- the same of the run
 
-two-ext : {Y : Type 0} {h k : List Bool → ℕ → Y} → ((A : List Bool) (q : ℕ) → h A q ≡ k A q) → h ≡ k
+two-ext : {Y : Type 0} {h k : List Bool → Count → Y} → ((A : List Bool) (q : Count) → h A q ≡ k A q) → h ≡ k
 two-ext e = fun-ext (λ A. fun-ext (λ q. e A q))
 
-live-ext : {Y : Type 0} {h k : List Fn → ℕ → Y} → ((l : List Fn) (q : ℕ) → h l q ≡ k l q) → h ≡ k
+live-ext : {Y : Type 0} {h k : List Fn → Count → Y} → ((l : List Fn) (q : Count) → h l q ≡ k l q) → h ≡ k
 live-ext e = fun-ext (λ l. fun-ext (λ q. e l q))
 
 module _ (m : Model) (N R X : ℕ) (A : List Bool) where
-  pub run-absent : (f : Form) → T (absent X f) → (e : Env) (live : List Fn) (r : ℕ) → run m N R (put e X A) live f r ≡ run m N R e live f r
+  pub run-absent : (f : Form) → T (absent X f) → (e : Env) (live : List Fn) (r : Count) → run m N R (put e X A) live f r ≡ run m N R e live f r
   run-absent bot h e live r = refl
   run-absent top h e live r = refl
   run-absent (neg f) h e live r = ap (λ (o : Outcome). andThen o (λ B q. notStep (m .n) N live B q)) (run-absent f h e live r)
@@ -137,31 +138,31 @@ module _ (m : Model) (N R X : ℕ) (A : List Bool) where
   run-absent (dia t f) h e live r = ap (λ (o : Outcome). andThen o (λ B q. diaSteps (m .n) N live (inside (m .rel t)) B q)) (run-absent f h e live r)
   run-absent (mu P f) h e live r =
       let w = and-out (not (eqb P X)) (absent X f) h in
-      ap (λ (G : List Bool → ℕ → Outcome). loop R G R (start true (size m)) r)
+      ap (λ (G : List Bool → Count → Outcome). loop R G R (start true (size m)) r)
       (two-ext (λ B q. ap (λ (d : Env). run m N R d (fnOf (m .n) B ∷ live) f q) (put-swap e X A P B (apart P X (w .0))) ∙ run-absent f (w .1) (put e P B) (fnOf (m .n) B ∷ live) q))
   run-absent (nu P f) h e live r =
       let w = and-out (not (eqb P X)) (absent X f) h in
-      ap (λ (G : List Bool → ℕ → Outcome). loop R G R (start false (size m)) r)
+      ap (λ (G : List Bool → Count → Outcome). loop R G R (start false (size m)) r)
       (two-ext (λ B q. ap (λ (d : Env). run m N R d (fnOf (m .n) B ∷ live) f q) (put-swap e X A P B (apart P X (w .0))) ∙ run-absent f (w .1) (put e P B) (fnOf (m .n) B ∷ live) q))
   run-absent (until b t f g) h e live r =
       let w = and-out (absent X f) (absent X g) h in
-      ap₂ (λ (fs gs : List Fn → ℕ → Outcome). loop R (untilRound (m .n) N live b (inside (m .rel t)) fs gs) R (start true (size m)) r)
+      ap₂ (λ (fs gs : List Fn → Count → Outcome). loop R (untilRound (m .n) N live b (inside (m .rel t)) fs gs) R (start true (size m)) r)
       (live-ext (λ l q. run-absent f (w .0) e l q)) (live-ext (λ l q. run-absent g (w .1) e l q))
 
-dia-steps-clip : (n N : ℕ) (live : List Fn) (R : Pairs) (A : List Bool) (q : ℕ) → diaSteps n N live R (clip (2 ^ n) A) q ≡ diaSteps n N live R A q
+dia-steps-clip : (n N : ℕ) (live : List Fn) (R : Pairs) (A : List Bool) (q : Count) → diaSteps n N live R (clip (2 ^ n) A) q ≡ diaSteps n N live R A q
 dia-steps-clip n N live R A q = ap₂ taken (fnOf-clip n A) (sometimes-clip (2 ^ n) R A)
   where
     taken : Fn → List Bool → Outcome
-    taken F B = step n N (F ∷ live) (shiftF F) (step n N (shiftF F ∷ fnOfPairs n R ∷ live) (andF (shiftF F) (fnOfPairs n R)) (existsSteps n N live n (andF (shiftF F) (fnOfPairs n R)) (value B q)))
+    taken F B = step n N (F ∷ live) (shiftF F) q (λ c. step n N (shiftF F ∷ fnOfPairs n R ∷ live) (andF (shiftF F) (fnOfPairs n R)) c (λ d. existsSteps n N live n (andF (shiftF F) (fnOfPairs n R)) d (λ x. value B x)))
 
-box-steps-clip : (n N : ℕ) (live : List Fn) (R : Pairs) (A : List Bool) (q : ℕ) → boxSteps n N live R (clip (2 ^ n) A) q ≡ boxSteps n N live R A q
+box-steps-clip : (n N : ℕ) (live : List Fn) (R : Pairs) (A : List Bool) (q : Count) → boxSteps n N live R (clip (2 ^ n) A) q ≡ boxSteps n N live R A q
 box-steps-clip n N live R A q = ap₂ taken (fnOf-clip n A) (compl-clip (2 ^ n) A)
   where
     taken : Fn → List Bool → Outcome
-    taken F B = andThen (step n N (F ∷ live) (fnOf n B) (value B q)) (λ C p. andThen (diaSteps n N live R C p) (λ D o. notStep n N live D o))
+    taken F B = andThen (step n N (F ∷ live) (fnOf n B) q (λ c. value B c)) (λ C p. andThen (diaSteps n N live R C p) (λ D o. notStep n N live D o))
 
 module _ (m : Model) (N R : ℕ) (e : Env) (t X : ℕ) where
-  goes-run : (b : Bool) (A : List Bool) (live : List Fn) (q : ℕ) → run m N R (put e X A) live (goes b t X) q ≡ furtherSteps b (m .n) N live (inside (m .rel t)) A q
+  goes-run : (b : Bool) (A : List Bool) (live : List Fn) (q : Count) → run m N R (put e X A) live (goes b t X) q ≡ furtherSteps b (m .n) N live (inside (m .rel t)) A q
   goes-run true A live q =
       ap (λ (B : List Bool). diaSteps (m .n) N live (inside (m .rel t)) (clip (size m) B) q) (put-here e X A) ∙ dia-steps-clip (m .n) N live (inside (m .rel t)) A q
   goes-run false A live q =
@@ -169,9 +170,9 @@ module _ (m : Model) (N R : ℕ) (e : Env) (t X : ℕ) where
       (ap (λ (B : List Bool). boxSteps (m .n) N live (inside (m .rel t)) (clip (size m) B) q) (put-here e X A) ∙ box-steps-clip (m .n) N live (inside (m .rel t)) A q)
 
   -- the run of until is that of the written formula
-  pub run-written : (b : Bool) (f g : Form) → T (absent X f) → T (absent X g) → (live : List Fn) (r : ℕ) → run m N R e live (until b t f g) r ≡ run m N R e live (written b t X f g) r
+  pub run-written : (b : Bool) (f g : Form) → T (absent X f) → T (absent X g) → (live : List Fn) (r : Count) → run m N R e live (until b t f g) r ≡ run m N R e live (written b t X f g) r
   run-written b f g hf hg live r =
-      ap (λ (G : List Bool → ℕ → Outcome). loop R G R (start true (size m)) r)
+      ap (λ (G : List Bool → Count → Outcome). loop R G R (start true (size m)) r)
       (two-ext (λ A q.
       let held = fnOf (m .n) A ∷ live in
       sym

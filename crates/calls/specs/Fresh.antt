@@ -63,13 +63,13 @@ module _ {n N size : ℕ} where
 pub fresh-refused : (n N count : ℕ) (ws : List ℕ) → (Sizes n N (length ws) → ⊥) → FreshPost n N count ws ws (plain 1)
 fresh-refused n N count ws no-fit =
     let one : freshNumber n N (length ws) count ≡ 1 = ap (λ (t : Bool). cond t (cond (lent count) 0 14) 1) (false-of (freshFits n N (length ws)) (λ t. no-fit (fits-sizes t))) in
-    record { answers = λ e. absurd (omega (arith, one, e)); refuses = λ k e. let i : k ≡ 0 = omega (arith, one, e) in rw i ((refl, refl, refl), refl) }
+    record { answers = λ e. absurd (omega (arith, one, e)); refuses = λ k e. let i : k ≡ 0 = omega (arith, one, e) in rw i ((refl, refl, refl, refl), refl) }
 
 -- REFUSED: "the list is not 1 to 8 long"
 pub fresh-unlisted : (n N count : ℕ) (ws : List ℕ) → Sizes n N (length ws) → lent count ≡ false → FreshPost n N count ws ws (plain 14)
 fresh-unlisted n N count ws z l =
     let more : freshNumber n N (length ws) count ≡ 14 = ap (λ (t : Bool). cond t (cond (lent count) 0 14) 1) (true-of (freshFits n N (length ws)) (sizes-fits z)) ∙ ap (λ (t : Bool). cond t 0 14) l in
-    record { answers = λ e. absurd (omega (arith, more, e)); refuses = λ k e. let i : k ≡ 13 = omega (arith, more, e) in rw i ((refl, refl, refl), refl) }
+    record { answers = λ e. absurd (omega (arith, more, e)); refuses = λ k e. let i : k ≡ 13 = omega (arith, more, e) in rw i ((refl, refl, refl, refl), refl) }
 
 -- ANSWERED: "Fresh empties them all"
 module _ (n N count : ℕ) (old new : List ℕ) (z : Sizes n N (length old)) (l : lent count ≡ true) (w : view N new ≡ emptied (view N old) n N) where
@@ -93,6 +93,6 @@ module _ (n N count : ℕ) (old new : List ℕ) (z : Sizes n N (length old)) (l 
 
   pub fresh-ready : FreshPost n N count old new (plain 0)
   fresh-ready = record {
-    answers = λ _. ((refl, refl, refl), subst Sound (sym table-is) (emptied-sound (view N old) n z), subst (λ (v : View). Empty n N (seenIn v)) (sym table-is) empty);
+    answers = λ _. ((refl, refl, refl, refl), subst Sound (sym table-is) (emptied-sound (view N old) n z), subst (λ (v : View). Empty n N (seenIn v)) (sym table-is) empty);
     refuses = λ k e. absurd (omega (arith, zero, e));
   }

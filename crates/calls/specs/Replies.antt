@@ -1,4 +1,4 @@
--- What each answer returns: document 01's number, rounds and value; "Returned: number, zeros" of a refusal. Assumes nothing.
+-- What each answer returns: document 01's number, rounds, peak and value; "Returned: number, zeros" of a refusal. Assumes nothing.
 use Rattle.layout.specs.Refusals.{refusalNumber}
 use Rattle.book.specs.Table.{Reply}
 use Rattle.book.specs.Leaves.{plain, valued}

@@ -9,6 +9,8 @@ use Rattle.book.specs.Table.{Reply}
 use Rattle.book.specs.Leaves.{valued}
 use Rattle.contract.specs.Posts.{FreshPost, CallPost, AskPost}
 use Rattle.calls.specs.declared.Started.the-variants.{Ready}
+use Rattle.calls.specs.declared.Answer.{Answer}
+use Rattle.calls.specs.Replies.{answerReply}
 use Rattle.calls.specs.Fresh.{FreshWords}
 use Rattle.records.specs.declared.Found.{Found}
 use Rattle.records.specs.declared.Found.the-variants as found
@@ -23,17 +25,17 @@ operationOf (start n N) = 1
 operationOf (call c) = opOf c
 operationOf (states r) = 5
 
--- an outcome without a node number and without rounds
+-- an outcome without a node number, without rounds and without a peak
 abbrev pub plainOutcome : ℕ → ℕ → ℕ → Outcome
-plainOutcome op k v = record { operation = op; number = k; node = 0; rounds = 0; value = v }
+plainOutcome op k v = record { operation = op; number = k; node = 0; rounds = 0; value = v; peak = 0 }
 
--- number, rounds and the value shown, as a reply
+-- number, rounds, peak and the value shown, as a reply
 abbrev pub shownReply : Outcome → Reply
-shownReply x = record { number = x .number; rounds = x .rounds; value = x .value }
+shownReply x = record { number = x .number; rounds = x .rounds; peak = x .peak; value = x .value }
 
--- set "returns node number and rounds"
+-- set "returns node number and rounds", and its peak
 abbrev pub nodeReply : Outcome → Reply
-nodeReply x = record { number = x .number; rounds = x .rounds; value = x .node }
+nodeReply x = record { number = x .number; rounds = x .rounds; peak = x .peak; value = x .node }
 
 -- a call's reply in an outcome
 abbrev pub replyOf : Call → Outcome → Reply
@@ -51,7 +53,7 @@ Beside collect new x = x .node ≡ 0
 
 -- the value of a count of register r, 0 where it is refused
 abbrev pub StatesIn : ℕ → List ℕ → ℕ → Type 0
-StatesIn r ws k = (y : Reply) × AskPost (count r) ws y × (y .rounds ≡ 0) × (k ≡ y .value)
+StatesIn r ws k = (v : Answer) × AskPost (count r) ws (answerReply v) × (k ≡ answerReply v .value)
 
 -- a command under the contract of its call
 abbrev pub Posted : Command → List ℕ → List ℕ → Outcome → Type 0

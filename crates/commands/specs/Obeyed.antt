@@ -2,7 +2,7 @@
 use mathlib.Core.Path.{_≡_, refl, sym, ap, _∙_, subst}
 use mathlib.Core.Bool.{Bool}
 use mathlib.Core.List.{List}
-use Prim.Native.Nat.{ℕ, zero, suc, _≤_}
+use Prim.Native.Nat.{ℕ, _≤_}
 use native.Mathlib.Omega.{arith}
 use Rattle.accounts.specs.declared.Terms.{Terms}
 use Rattle.book.specs.Book.{Call, relation, set, clear, collect, count}
@@ -17,7 +17,7 @@ use Rattle.calls.specs.declared.Answer.{Answer}
 use Rattle.calls.specs.declared.Answer.the-variants as answer
 use Rattle.calls.specs.Fresh.{FreshWords}
 use Rattle.calls.specs.Replies.{startedReply, answerReply}
-use Rattle.layout.specs.Refusals.{refusalNumber}
+use Rattle.layout.specs.Refusals.{refusalNumber, refusal-some}
 use Rattle.layout.specs.declared.Refusal.{Refusal}
 use Rattle.records.specs.declared.Command as records
 use Rattle.records.specs.declared.Found.{Found}
@@ -26,12 +26,9 @@ use Rattle.commands.specs.declared.Outcome.{Outcome}
 use Rattle.commands.specs.declared.Taken.{Taken}
 use Rattle.commands.specs.Obey.{plainOutcome, StatesIn, Obeys, Takes, TakePost}
 
--- a reply without rounds
+-- a reply without rounds and without a peak
 abbrev pub reply : ℕ → ℕ → Reply
-reply k v = record { number = k; rounds = 0; value = v }
-
-abbrev made : ℕ → ℕ → ℕ → Reply
-made k q v = record { number = k; rounds = q; value = v }
+reply k v = record { number = k; rounds = 0; peak = 0; value = v }
 
 -- ---- fresh
 
@@ -49,6 +46,11 @@ module _ {n N : ℕ} {old new : List ℕ} {v : Started} {x : Outcome} (p : Fresh
   }
 
 -- ---- relation, clear, collect
+
+-- an answered relation, with its peak
+pub relation-done : (t : ℕ) (bs : List ℕ) {old new : List ℕ} {x : Outcome} (p : ℕ) → CallPost (relation t bs) old new record { number = 0; rounds = 0; peak = p; value = 0 }
+    → x ≡ record { operation = 2; number = 0; node = 0; rounds = 0; value = 0; peak = p } → Obeys (call (relation t bs)) old new x
+relation-done t bs {old} {new} p d i = subst (Obeys (call (relation t bs)) old new) (sym i) record { operation = refl; posted = (d, refl) }
 
 -- the calls that return no node number
 abbrev Nodeless : Call → Type 0
@@ -73,26 +75,19 @@ count-told r {ws} p j i = subst (Obeys (states r) ws ws) (sym i) record { operat
 
 -- ---- set
 
-pub states-told : (r : ℕ) {ws : List ℕ} {k : ℕ} (v : Answer) → AskPost (count r) ws (answerReply v) → k ≡ answerReply v .value → StatesIn r ws k
-states-told r v p e = (answerReply v, p, none v, e)
-  where
-    none : (v : Answer) → answerReply v .rounds ≡ 0
-    none (answer.Value k) = refl
-    none (answer.Refused f) = refl
-
 module _ (acc : Terms) (r R : ℕ) (bs : List ℕ) {old new : List ℕ} {x : Outcome} where
   pub set-refused : {k : ℕ} → 1 ≤ k → CallPost (set acc r R bs) old new (plain k) → x ≡ plainOutcome 3 k 0 → Obeys (call (set acc r R bs)) old new x
   set-refused l p i = subst (Obeys (call (set acc r R bs)) old new) (sym i) record { operation = refl; posted = (p, ((λ z. absurd (omega arith)), λ z. refl)) }
 
   -- after an answered set its register is counted
-  pub set-done : (a q k : ℕ) → CallPost (set acc r R bs) old new record { number = 0; rounds = q; value = a } → StatesIn r new k
-      → x ≡ record { operation = 3; number = 0; node = a; rounds = q; value = k } → Obeys (call (set acc r R bs)) old new x
-  set-done a q k p (y, c, h, e) i = subst (Obeys (call (set acc r R bs)) old new) (sym i) record { operation = refl; posted = (p, ((λ z. told (y .number) refl), λ z. absurd (omega arith))) }
+  pub set-done : (a q p k : ℕ) → CallPost (set acc r R bs) old new record { number = 0; rounds = q; peak = p; value = a } → StatesIn r new k
+      → x ≡ record { operation = 3; number = 0; node = a; rounds = q; value = k; peak = p } → Obeys (call (set acc r R bs)) old new x
+  set-done a q p k d (v, c, e) i = subst (Obeys (call (set acc r R bs)) old new) (sym i) record { operation = refl; posted = (d, ((λ z. told v c e), λ z. absurd (omega arith))) }
     where
       -- the count is answered
-      told : (n : ℕ) → y .number ≡ n → AskPost (count r) new (valued k)
-      told zero z = subst (AskPost (count r) new) (ap (λ (j : ℕ). made j (y .rounds) (y .value)) z ∙ ap (λ (j : ℕ). made 0 j (y .value)) h ∙ ap (reply 0) (sym e)) c
-      told (suc n) z = absurd (omega (arith, count-answered old new acc r R bs _ p refl y c))
+      told : (v : Answer) → AskPost (count r) new (answerReply v) → k ≡ answerReply v .value → AskPost (count r) new (valued k)
+      told (answer.Value j) c e = subst (AskPost (count r) new) (ap valued (sym e)) c
+      told (answer.Refused f) c e = absurd (omega (arith, refusal-some f, count-answered old new acc r R bs _ d refl _ c))
 
 -- a call's terms, as a function made them
 pub termed : {t u : Terms} (r R : ℕ) (bs old new : List ℕ) (y : Reply) → t ≡ u → CallPost (set t r R bs) old new y → CallPost (set u r R bs) old new y

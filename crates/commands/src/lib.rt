@@ -25,13 +25,14 @@ ghost use Rattle.book.specs.Program as program;
 ghost use Rattle.records.specs.Record.{startOf, asked};
 ghost use Rattle.commands.specs.Obey.{plainOutcome, Obeys, StatesIn, TakePost};
 
-// What a record returned: its operation, a refusal's number or 0, set's node number, the rounds, and the value that the program shows.
+// What a record returned: its operation, a refusal's number or 0, set's node number, the rounds, the value that the program shows, and the peak.
 pub struct Outcome {
     pub operation: u32,
     pub number: u32,
     pub node: u32,
     pub rounds: u32,
     pub value: u32,
+    pub peak: u32,
 }
 
 // What became of the bytes at hand: a record was obeyed, nothing is left, more bytes are needed, or no record can be read.
@@ -59,7 +60,7 @@ impl Operation {
     const COLLECT: u32 = records::Operation::COLLECT as u32;
 }
 
-// The outcome of a command that makes no node and takes no rounds.
+// The outcome of a command that makes no node, takes no rounds and no step.
 fn plain(operation: u32, number: u32, value: u32) -> Outcome
     ensures { λ x. ⌜ x ≡ plainOutcome operation number value ⌝ }
 {
@@ -69,6 +70,7 @@ fn plain(operation: u32, number: u32, value: u32) -> Outcome
         node: 0,
         rounds: 0,
         value,
+        peak: 0,
     }
 }
 
@@ -87,7 +89,14 @@ fn obey_relation(words: &mut [u32], t: u32, formula: &[u8]) -> Outcome
     ensures { λ x. ⌜ Obeys (program.call (book.relation t (now (formula .entry)))) (now (words .entry)) (now (words .exit)) x ⌝ }
 {
     match relation(words, t, formula) {
-        Loaded::Done => plain(Operation::RELATION, 0, 0),
+        Loaded::Done { peak: p } => Outcome {
+            operation: Operation::RELATION,
+            number: 0,
+            node: 0,
+            rounds: 0,
+            value: 0,
+            peak: p,
+        },
         Loaded::Refused(x) => plain(Operation::RELATION, refusal_number(x), 0),
     }
 }
@@ -110,6 +119,7 @@ fn obey_set(words: &mut [u32], r: u32, most: u32, formula: &[u8]) -> Outcome
         Stored::Node {
             number: a,
             rounds: q,
+            peak: p,
         } => {
             let states = states_in(words, r);
             Outcome {
@@ -118,6 +128,7 @@ fn obey_set(words: &mut [u32], r: u32, most: u32, formula: &[u8]) -> Outcome
                 node: a,
                 rounds: q,
                 value: states,
+                peak: p,
             }
         }
         Stored::Refused(x) => plain(Operation::SET, refusal_number(x), 0),

@@ -17,12 +17,12 @@ module _ (ws : List ℕ) (n : SoundWords ws → ⊥) where
   -- CHECK 2: "table unsound"
   pub call-unsound : (c : Call) → CallPost c ws ws (plain 2)
   call-unsound c = record {
-    performs = record { unsound = λ _. ((refl, refl, refl), refl); served = λ s. absurd (n s) };
+    performs = record { unsound = λ _. ((refl, refl, refl, refl), refl); served = λ s. absurd (n s) };
     kept = λ s. absurd (n s);
   }
 
   pub ask-unsound : (q : Question) → AskPost q ws (plain 2)
-  ask-unsound q = record { same = refl; unsound = λ _. (refl, refl, refl); told = λ s. absurd (n s) }
+  ask-unsound q = record { same = refl; unsound = λ _. (refl, refl, refl, refl); told = λ s. absurd (n s) }
 
 -- a refusal that keeps all words
 pub kept-refused : (c : Call) (k : ℕ) (ws : List ℕ) → Kept c (plain (suc k)) ws ws

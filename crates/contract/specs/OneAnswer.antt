@@ -43,6 +43,7 @@ pub record OneAnswer (c : Call) (old v w : List ℕ) (y z : Reply) : Type 0 wher
   -- the reply: of set's node number only whether it is 0, 1 or above
   pub number : y .number ≡ z .number
   pub rounds : y .rounds ≡ z .rounds
+  pub peak : y .peak ≡ z .peak
   pub value : settledIn c (y .value) ≡ settledIn c (z .value)
   -- n, N, and every register and relation: filled in both or in none, and with the same set
   pub book : bookOf (seen v) ≡ bookOf (seen w)
@@ -62,11 +63,11 @@ pub record OneAnswer (c : Call) (old v w : List ℕ) (y z : Reply) : Type 0 wher
 
 -- ---- fresh, and a question
 
-same-reply : {y z : Reply} → y .number ≡ z .number → y .rounds ≡ z .rounds → y .value ≡ z .value → y ≡ z
-same-reply a b c = λ i. record { number = a i; rounds = b i; value = c i }
+same-reply : {y z : Reply} → y .number ≡ z .number → y .rounds ≡ z .rounds → y .peak ≡ z .peak → y .value ≡ z .value → y ≡ z
+same-reply a b c d = λ i. record { number = a i; rounds = b i; peak = c i; value = d i }
 
 same-refusal : {k : ℕ} {y z : Reply} → Refusal k y → Refusal k z → y ≡ z
-same-refusal {k} {y} {z} f g = same-reply {y = y} {z = z} (f .0 ∙ sym (g .0)) (f .1 ∙ sym (g .1)) (f .2 ∙ sym (g .2))
+same-refusal {k} {y} {z} f g = same-reply {y = y} {z = z} (f .0 ∙ sym (g .0)) (f .1 ∙ sym (g .1)) (f .2 ∙ sym (g .2)) (f .3 ∙ sym (g .3))
 
 -- fresh, where so many accounts are lent: one reply, one book, and a refusal keeps all words
 pub fresh-one : (n N count : ℕ) {old v w : List ℕ} {y z : Reply} → FreshPost n N count old v y → FreshPost n N count old w z
@@ -90,6 +91,7 @@ pub ask-one : (q : Question) {ws : List ℕ} {y z : Reply} → AskPost q ws y �
 ask-one q {ws} {y} {z} a b = same-reply {y = y} {z = z}
     (agree (λ x. x .number) (λ s. a .told s .agrees .number ∙ sym (b .told s .agrees .number)))
     (agree (λ x. x .rounds) (λ s. a .told s .agrees .rounds ∙ sym (b .told s .agrees .rounds)))
+    (agree (λ x. x .peak) (λ s. a .told s .agrees .peak ∙ sym (b .told s .agrees .peak)))
     (agree (λ x. x .value) (λ s. ask-value q (bookOf (seen ws)) (seen ws .reg) (a .told s) (b .told s)))
   where
     agree : (f : Reply → ℕ) → (SoundWords ws → f y ≡ f z) → f y ≡ f z
@@ -177,6 +179,7 @@ module _ (c : Call) {old v w : List ℕ} {y z : Reply} (p : CallPost c old v y) 
   call-one = record {
     number = agree ℕ-discrete (λ x u. x .number) one-number;
     rounds = agree ℕ-discrete (λ x u. x .rounds) (λ s. first s .agrees .rounds ∙ sym (second s .agrees .rounds));
+    peak = agree ℕ-discrete (λ x u. x .peak) (λ s. first s .agrees .peak ∙ sym (second s .agrees .peak));
     value = agree ℕ-discrete (λ x u. settledIn c (x .value)) (λ s. call-value c b (first s) (second s));
     book = λ i. record {
       n = agree ℕ-discrete (λ x u. seen u .n) (λ s. ap (λ (x : Book). x .n) (one-book s)) i;
@@ -219,4 +222,4 @@ set-accounts place r R bs {l = l} {y = y} {z = z} p q =
     p .list ∙ ap₂ (λ (k j : ℕ). charged l c (made k j)) (o .number) (o .rounds) ∙ sym (q .list)
   where
     made : ℕ → ℕ → Reply
-    made k j = record { number = k; rounds = j; value = 0 }
+    made k j = record { number = k; rounds = j; peak = 0; value = 0 }

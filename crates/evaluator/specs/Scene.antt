@@ -20,24 +20,25 @@ use Rattle.tokens.specs.declared.Mode.{Mode}
 use Rattle.tokens.specs.declared.Mode.the-variants.{All, Some}
 use Rattle.formula.specs.Parse.{leafForm, joinForm, modalForm, binderForm, got, parse}
 use Rattle.formula.specs.Checks.{filled}
+use Rattle.accounts.specs.declared.Count.{Count}
 use Rattle.layout.specs.Places.{FIRST-REGISTER, FIRST-RELATION}
 use Rattle.layout.specs.View.{View}
 use Rattle.diagram.specs.Level.{Fn}
 use Rattle.diagram.specs.Post.{Denotes}
 use Rattle.soundness.specs.Used.{rowsOf}
-use Rattle.table.specs.Make.{result}
-use Rattle.table.specs.declared.Made.{Made}
-use Rattle.table.specs.declared.Made.the-variants as made
 use Rattle.collect.specs.Lent.{live}
 use Rattle.steps.specs.declared.Step.{Step}
 use Rattle.steps.specs.declared.Step.the-variants as step
-use Rattle.steps.specs.Steps.{StepPre, Stepped}
+use Rattle.steps.specs.Steps.{stepF, liveAt, StepPre, Stepped}
+use Rattle.counting.specs.Taken.{madeIn, Counted}
+use Rattle.counting.specs.declared.Taken.{Taken}
+use Rattle.counting.specs.declared.Taken.the-variants as taken
 use Rattle.book.specs.Bridge.{fnOf, fnOfPairs}
 use Rattle.book.specs.Book.{registers, relations}
 use Rattle.book.specs.Table.{Place}
 use Rattle.book.specs.Run.{run}
 use Rattle.book.specs.Held.{Held}
-use Rattle.book.specs.Follow.{Ended, ends, eight, nine, Evals, endedBy}
+use Rattle.book.specs.Follow.{Ended, ends, eight, nine, Evals}
 use Rattle.contract.specs.Seen.{arrowIn}
 use Rattle.modal.specs.declared.Limits.{Limits}
 use Rattle.modal.specs.Chain.{Alike, Base, Moved}
@@ -124,35 +125,40 @@ EndsAt e (Value a k q) = k ≡ e
 EndsAt e Full = Unit {0}
 EndsAt e Spent = Unit {0}
 
--- the evaluation of f with `rounds` counted before: what it leaves of the words, the live part of the stack as it was, and the book's outcome
-pub record Answers (L : Limits) (W X : View) (stack after : List ℕ) (held rounds : ℕ) (σ : Scene) (f : Form) (e : ℕ) (r : Evaluated) : Type 0 where
+-- the evaluation of f with so much counted before: what it leaves of the words, the live part of the stack as it was, and the book's outcome
+pub record Answers (L : Limits) (W X : View) (stack after : List ℕ) (held : ℕ) (count : Count) (σ : Scene) (f : Form) (e : ℕ) (r : Evaluated) : Type 0 where
   pub moved : Moved (L .bits) W X
   pub kept : take held after ≡ take held stack
-  pub evals : Evals (L .bits) (L .rows) (rowsOf W) (rowsOf X) (σ .roots) (run (modelIn (L .bits) σ) (L .limit) (L .rounds) (σ .env) (σ .fns) f rounds) (endedOf r)
+  pub evals : Evals (L .bits) (L .rows) (rowsOf W) (rowsOf X) (σ .roots) (run (modelIn (L .bits) σ) (L .limit) (L .rounds) (σ .env) (σ .fns) f count) (endedOf r)
   pub end : EndsAt e r
 
--- the value of a leaf, or its step: the same with any number of rounds counted before
-pub record LeafAnswers (L : Limits) (W X : View) (σ : Scene) (f : Form) (o : Made) : Type 0 where
+-- a step's answer as the book has it
+abbrev pub endedIn : Taken → Ended
+endedIn (taken.At a c) = ends a c
+endedIn taken.Full = eight
+
+-- the value of a leaf, or its step
+pub record LeafAnswers (L : Limits) (W X : View) (count : Count) (σ : Scene) (f : Form) (o : Taken) : Type 0 where
   pub moved : Moved (L .bits) W X
-  pub evals : (q : ℕ) → Evals (L .bits) (L .rows) (rowsOf W) (rowsOf X) (σ .roots) (run (modelIn (L .bits) σ) (L .limit) (L .rounds) (σ .env) (σ .fns) f q) (endedBy (result o) q)
+  pub evals : Evals (L .bits) (L .rows) (rowsOf W) (rowsOf X) (σ .roots) (run (modelIn (L .bits) σ) (L .limit) (L .rounds) (σ .env) (σ .fns) f count) (endedIn o)
 
 -- a step's result as an answer
-abbrev pub fromMade : ℕ → ℕ → Made → Evaluated
-fromMade e q (made.At a) = Value a e q
-fromMade e q made.Full = Full
+abbrev pub fromTaken : ℕ → Taken → Evaluated
+fromTaken e (taken.At a c) = Value a e c
+fromTaken e taken.Full = Full
 
 -- the step of AND or OR
 abbrev pub joinStep : Join → ℕ → ℕ → Step
 joinStep And a b = step.And a b
 joinStep Or a b = step.Or a b
 
--- the context of a binder's body: variable P's place is the next one of the stack, and `rounds` are counted
-abbrev pub bodyOf : Context → ℕ → ℕ → Context
-bodyOf c P rounds = record { at = c .at; depth = c .depth; held = c .held + 1; places = set (c .places) P (c .held); rounds = rounds }
+-- the context of a binder's body: variable P's place is the next one of the stack, and so much is counted
+abbrev pub bodyOf : Context → ℕ → Count → Context
+bodyOf c P q = record { at = c .at; depth = c .depth; held = c .held + 1; places = set (c .places) P (c .held); count = q }
 
--- the context of what follows at k, with one live word more and `rounds` counted
-abbrev pub roundOf : Context → ℕ → ℕ → Context
-roundOf c k rounds = record { at = k; depth = c .depth; held = c .held + 1; places = c .places; rounds = rounds }
+-- the context of what follows at k, with one live word more and so much counted
+abbrev pub roundOf : Context → ℕ → Count → Context
+roundOf c k q = record { at = k; depth = c .depth; held = c .held + 1; places = c .places; count = q }
 
 -- mu is the least fixpoint
 abbrev pub isLeast : Fix → Bool
@@ -160,7 +166,7 @@ isLeast Mu = true
 isLeast Nu = false
 
 -- box or diamond over functions of levels
-abbrev pub OverPost : Mode → ℕ → ℕ → ℕ → View → View → List ℕ → ℕ → ℕ → Made → Type 0
+abbrev pub OverPost : Mode → ℕ → ℕ → ℕ → View → View → List ℕ → ℕ → ℕ → Count → Taken → Type 0
 OverPost All = BoxPost
 OverPost Some = DiamondPost
 
@@ -171,15 +177,16 @@ pub record LivePre (L : Limits) (W : View) (stack : List ℕ) (held : ℕ) (s : 
   pub within : held ≤ length stack
   pub asks : StepPre (2 * L .bits) (L .rows) (L .limit) W (take held stack) s
 
-abbrev pub LivePost : Limits → View → View → List ℕ → ℕ → Step → Made → Type 0
-LivePost L W X stack held s o = Stepped (2 * L .bits) (L .rows) (L .limit) W X (take held stack) s o
+pub record LivePost (L : Limits) (W X : View) (stack : List ℕ) (held : ℕ) (s : Step) (q : Count) (o : Taken) : Type 0 where
+  pub stepped : Stepped (2 * L .bits) (L .rows) (L .limit) W X (take held stack) s (madeIn o)
+  pub count : Counted (2 * L .bits) (rowsOf W) (liveAt W (take held stack) s) (stepF (2 * L .bits) (rowsOf W) s) q o
 
 -- two parts, of which the first has the value a: the second one's answer where that is no value, else the step of both values
 pub record JoinedPre (L : Limits) (W : View) (stack : List ℕ) (held : ℕ) (j : Join) (a : ℕ) (second : Evaluated) : Type 0 where
-  pub asks : (b k q : ℕ) → second ≡ Value b k q → LivePre L W stack held (joinStep j a b)
+  pub asks : (b k : ℕ) (q : Count) → second ≡ Value b k q → LivePre L W stack held (joinStep j a b)
 
 abbrev pub JoinedTo : Limits → View → View → List ℕ → ℕ → Join → ℕ → Evaluated → Evaluated → Type 0
-JoinedTo L W X stack held j a (Value b k q) r = (o : Made) × LivePost L W X stack held (joinStep j a b) o × (r ≡ fromMade k q o)
+JoinedTo L W X stack held j a (Value b k q) r = (o : Taken) × LivePost L W X stack held (joinStep j a b) q o × (r ≡ fromTaken k o)
 JoinedTo L W X stack held j a Full r = (X ≡ W) × (r ≡ Full)
 JoinedTo L W X stack held j a Spent r = (X ≡ W) × (r ≡ Spent)
 
@@ -193,8 +200,8 @@ pub record LeafPre (L : Limits) (W : View) (stack : List ℕ) (c : Context) (l :
   pub named : Named (scene .scope) (holdsReg scene) (holdsRel scene) (leafForm l)
   pub taken : leafAllowed l (L .bits) Runs ≡ true
 
-pub record LeafPost (L : Limits) (W X : View) (stack : List ℕ) (c : Context) (l : Leaf) (o : Made) : Type 0 where
-  pub answers : (σ : Scene) → Ready L W stack (c .places) (c .held) σ → Named (σ .scope) (holdsReg σ) (holdsRel σ) (leafForm l) → LeafAnswers L W X σ (leafForm l) o
+pub record LeafPost (L : Limits) (W X : View) (stack : List ℕ) (c : Context) (l : Leaf) (o : Taken) : Type 0 where
+  pub answers : (σ : Scene) → Ready L W stack (c .places) (c .held) σ → Named (σ .scope) (holdsReg σ) (holdsRel σ) (leafForm l) → LeafAnswers L W X (c .count) σ (leafForm l) o
 
 pub record EvalPre (L : Limits) (W : View) (stack bs : List ℕ) (c : Context) : Type 0 where
   pub room : c .held + 2 * c .depth ≤ stackSize
@@ -206,12 +213,12 @@ pub record EvalPre (L : Limits) (W : View) (stack bs : List ℕ) (c : Context) :
 
 pub record EvalPost (L : Limits) (W X : View) (stack after bs : List ℕ) (c : Context) (r : Evaluated) : Type 0 where
   pub answers : (σ : Scene) (f : Form) (e : ℕ) → Ready L W stack (c .places) (c .held) σ → Part (L .bits) bs (c .at) (c .depth) (σ .scope) (holdsReg σ) (holdsRel σ) f e
-      → Answers L W X stack after (c .held) (c .rounds) σ f e r
+      → Answers L W X stack after (c .held) (c .count) σ f e r
 
 -- NOT: f is its part, of which it asks what evaluating it does
 pub record NegatePost (L : Limits) (W X : View) (stack after bs : List ℕ) (c : Context) (r : Evaluated) : Type 0 where
   pub answers : (σ : Scene) (f : Form) (e : ℕ) → Ready L W stack (c .places) (c .held) σ → Part (L .bits) bs (c .at) (c .depth) (σ .scope) (holdsReg σ) (holdsRel σ) f e
-      → Answers L W X stack after (c .held) (c .rounds) σ (neg f) e r
+      → Answers L W X stack after (c .held) (c .count) σ (neg f) e r
 
 -- AND and OR: f and, after it, g are the parts
 pub record BothPre (L : Limits) (W : View) (stack bs : List ℕ) (c : Context) : Type 0 where
@@ -227,7 +234,7 @@ pub record BothPre (L : Limits) (W : View) (stack bs : List ℕ) (c : Context) :
 
 pub record BothPost (L : Limits) (W X : View) (stack after bs : List ℕ) (c : Context) (j : Join) (r : Evaluated) : Type 0 where
   pub answers : (σ : Scene) (f g : Form) (m e : ℕ) → Ready L W stack (c .places) (c .held) σ → Part (L .bits) bs (c .at) (c .depth) (σ .scope) (holdsReg σ) (holdsRel σ) f m
-      → Part (L .bits) bs m (c .depth) (σ .scope) (holdsReg σ) (holdsRel σ) g e → Answers L W X stack after (c .held) (c .rounds) σ (joinForm j f g) e r
+      → Part (L .bits) bs m (c .depth) (σ .scope) (holdsReg σ) (holdsRel σ) g e → Answers L W X stack after (c .held) (c .count) σ (joinForm j f g) e r
 
 -- box and diamond over relation t: f is the part
 pub record ModePre (L : Limits) (W : View) (stack bs : List ℕ) (c : Context) (t : ℕ) : Type 0 where
@@ -241,7 +248,7 @@ pub record ModePre (L : Limits) (W : View) (stack bs : List ℕ) (c : Context) (
 
 pub record ModePost (L : Limits) (W X : View) (stack after bs : List ℕ) (c : Context) (m : Mode) (t : ℕ) (r : Evaluated) : Type 0 where
   pub answers : (σ : Scene) (f : Form) (e : ℕ) → Ready L W stack (c .places) (c .held) σ → Part (L .bits) bs (c .at) (c .depth) (σ .scope) (holdsReg σ) (holdsRel σ) f e
-      → holdsRel σ t ≡ true → Answers L W X stack after (c .held) (c .rounds) σ (modalForm m t f) e r
+      → holdsRel σ t ≡ true → Answers L W X stack after (c .held) (c .count) σ (modalForm m t f) e r
 
 -- ---- until: "mu X (g or (f and diamond X))", "mu X (g or (f and (box X and diamond true)))", "X a variable of its own"
 
@@ -265,7 +272,7 @@ pub record Current (L : Limits) (W : View) (σ : Scene) (x : ℕ) : Type 0 where
 
 -- x is the value of f, which took no step
 abbrev pub IsValue : Limits → View → List ℕ → Context → Scene → Form → ℕ → ℕ → Type 0
-IsValue L W stack c σ f x e = Answers L W W stack stack (c .held) (c .rounds) σ f e (Value x e (c .rounds))
+IsValue L W stack c σ f x e = Answers L W W stack stack (c .held) (c .count) σ f e (Value x e (c .count))
 
 -- box and diamond of a value
 pub record ReachPre (L : Limits) (W : View) (stack : List ℕ) (c : Context) (t x e : ℕ) : Type 0 where
@@ -277,7 +284,7 @@ pub record ReachPre (L : Limits) (W : View) (stack : List ℕ) (c : Context) (t 
 
 pub record ReachPost (L : Limits) (W X : View) (stack : List ℕ) (c : Context) (m : Mode) (t x e : ℕ) (r : Evaluated) : Type 0 where
   pub answers : (σ : Scene) (f : Form) → Ready L W stack (c .places) (c .held) σ → holdsRel σ t ≡ true → IsValue L W stack c σ f x e
-      → Answers L W X stack stack (c .held) (c .rounds) σ (modalForm m t f) e r
+      → Answers L W X stack stack (c .held) (c .count) σ (modalForm m t f) e r
 
 -- what is wanted of the next states
 pub record FurtherPre (L : Limits) (W : View) (stack : List ℕ) (c : Context) (t x : ℕ) : Type 0 where
@@ -289,7 +296,7 @@ pub record FurtherPre (L : Limits) (W : View) (stack : List ℕ) (c : Context) (
 
 pub record FurtherPost (L : Limits) (W X : View) (stack after : List ℕ) (c : Context) (m : Mode) (t x e : ℕ) (r : Evaluated) : Type 0 where
   pub answers : (σ : Scene) → Ready L W stack (c .places) (c .held) σ → holdsRel σ t ≡ true → Current L W σ x
-      → Answers L W X stack after (c .held) (c .rounds) σ (goes (isSome m) t own) e r
+      → Answers L W X stack after (c .held) (c .count) σ (goes (isSome m) t own) e r
 
 abbrev pub EveryPost : Limits → View → View → List ℕ → List ℕ → Context → ℕ → ℕ → ℕ → Evaluated → Type 0
 EveryPost L W X stack after c t x e r = FurtherPost L W X stack after c All t x e r
@@ -307,7 +314,7 @@ pub record KeepPre (L : Limits) (W : View) (stack bs : List ℕ) (c : Context) (
 
 pub record KeepPost (L : Limits) (W X : View) (stack after bs : List ℕ) (c : Context) (m : Mode) (t x e : ℕ) (r : Evaluated) : Type 0 where
   pub answers : (σ : Scene) (f : Form) (k : ℕ) → Ready L W stack (c .places) (c .held) σ → Part (L .bits) bs (c .at) (c .depth) (σ .scope) (holdsReg σ) (holdsRel σ) f k
-      → holdsRel σ t ≡ true → Current L W σ x → Answers L W X stack after (c .held) (c .rounds) σ (conj f (goes (isSome m) t own)) e r
+      → holdsRel σ t ≡ true → Current L W σ x → Answers L W X stack after (c .held) (c .count) σ (conj f (goes (isSome m) t own)) e r
 
 -- a round: g, or f and that
 pub record RoundPre (L : Limits) (W : View) (stack bs : List ℕ) (c : Context) (middle t x : ℕ) : Type 0 where
@@ -325,7 +332,7 @@ pub record RoundPre (L : Limits) (W : View) (stack bs : List ℕ) (c : Context) 
 pub record RoundPost (L : Limits) (W X : View) (stack after bs : List ℕ) (c : Context) (middle : ℕ) (m : Mode) (t x : ℕ) (r : Evaluated) : Type 0 where
   pub answers : (σ : Scene) (f g : Form) (e : ℕ) → Ready L W stack (c .places) (c .held) σ → Part (L .bits) bs (c .at) (c .depth) (σ .scope) (holdsReg σ) (holdsRel σ) f middle
       → Part (L .bits) bs middle (c .depth) (σ .scope) (holdsReg σ) (holdsRel σ) g e → holdsRel σ t ≡ true → Current L W σ x
-      → Answers L W X stack after (c .held) (c .rounds) σ (roundForm m t f g) e r
+      → Answers L W X stack after (c .held) (c .count) σ (roundForm m t f g) e r
 
 -- ---- the rounds of a body: of a binder's formula, or of until
 
@@ -386,4 +393,4 @@ pub record BindPre (L : Limits) (W : View) (stack bs : List ℕ) (c : Context) (
 pub record BindPost (L : Limits) (W X : View) (stack after bs : List ℕ) (c : Context) (b : Body) (r : Evaluated) : Type 0 where
   pub answers : (σ : Scene) (f : Form) (e : ℕ) → Ready L W stack (c .places) (c .held) σ
       → BodyPart (L .bits) bs (c .at) (c .depth) (set (σ .scope) (variableOf b) true) (holdsReg σ) (holdsRel σ) b f e
-      → Answers L W X stack after (c .held) (c .rounds) σ (binderForm (fixOf b) (variableOf b) f) e r
+      → Answers L W X stack after (c .held) (c .count) σ (binderForm (fixOf b) (variableOf b) f) e r

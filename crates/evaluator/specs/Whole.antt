@@ -12,6 +12,7 @@ use Rattle.operations.specs.Work.{OpFrame}
 use Rattle.book.specs.Book.{Book, modelOf, liveOf, checks, formulaIn}
 use Rattle.book.specs.BookOf.{bookOf}
 use Rattle.book.specs.Table.{rootsOf}
+use Rattle.accounts.specs.Count.{nothing}
 use Rattle.book.specs.Run.{run}
 use Rattle.book.specs.Follow.{Evals}
 use Rattle.contract.specs.Seen.{seenIn}
@@ -31,9 +32,9 @@ pub record SetPre (L : Limits) (W : View) (bs : List ℕ) : Type 0 where
   pub limit : L .limit ≤ L .rows
   pub passed : checks (bookIn W) Set bs ≡ 0
 
--- a sound table with the rows that registers and relations need, nothing else touched, and the outcome of the book's steps: the set and its rounds, 8 or 9
+-- a sound table with the rows that registers and relations need, nothing else touched, and the outcome of the book's steps: the set with its rounds and peak, 8 or 9
 pub record SetPost (L : Limits) (W X : View) (bs : List ℕ) (r : Evaluated) : Type 0 where
   pub sound : Sound X
   pub frame : OpFrame W X
   pub evals : Evals (bookIn W .n) (bookIn W .N) (rowsOf W) (rowsOf X) (rootsOf (seenIn W))
-      (run (modelOf (bookIn W)) (L .limit) (L .rounds) noEnv (liveOf (bookIn W)) (formulaIn (bookIn W) Set bs) 0) (endedOf r)
+      (run (modelOf (bookIn W)) (L .limit) (L .rounds) noEnv (liveOf (bookIn W)) (formulaIn (bookIn W) Set bs) nothing) (endedOf r)

@@ -1,4 +1,9 @@
 // The evaluation of a set's formula from its bytes, over the words of a table.
+use accounts::Count;
+use counting::Counts;
+use counting::Taken;
+use counting::begin;
+use counting::take;
 use formula::Frame;
 use formula::Pass;
 use formula::syntax;
@@ -9,8 +14,6 @@ use modal::Limits;
 use modal::boxed;
 use modal::diamond;
 use steps::Step;
-use steps::take_step;
-use table::Made;
 use tokens::Fix;
 use tokens::Grammar;
 use tokens::Join;
@@ -25,17 +28,20 @@ ghost use Prim.Native.Nat.{_+_, _<_, _≤_};
 ghost use lib.ListN.{length, getD, set};
 ghost use Rattle.layout.specs.Places.{HEADER};
 ghost use Rattle.layout.specs.View.{view, headerOf};
+ghost use Rattle.accounts.specs.Count.{another};
+ghost use Rattle.counting.specs.Counts.{CountsOf};
+ghost use Rattle.counting.specs.declared.Taken.the-variants.{At};
 ghost use Rattle.book.specs.Turns.{startArrow};
 ghost use Rattle.modal.specs.Modal.{ModalPre};
 ghost use Rattle.evaluator.specs.Whole.{SetPre, SetPost};
-ghost use Rattle.evaluator.specs.Scene.{stackSize, fromMade, bodyOf, roundOf, isLeast, fixOf, variableOf, joinStep, OverPost, LivePre, LivePost, JoinedPre, JoinedPost, LeafPre, LeafPost, EvalPre, EvalPost, NegatePost, BothPre, BothPost, ModePre, ModePost, BindPre, BindPost, ReachPre, ReachPost, FurtherPre, FurtherPost, EveryPost, KeepPre, KeepPost, RoundPre, RoundPost, TurnPre, TurnPost, UntilPost};
+ghost use Rattle.evaluator.specs.Scene.{stackSize, fromTaken, bodyOf, roundOf, isLeast, fixOf, variableOf, joinStep, OverPost, LivePre, LivePost, JoinedPre, JoinedPost, LeafPre, LeafPost, EvalPre, EvalPost, NegatePost, BothPre, BothPost, ModePre, ModePost, BindPre, BindPost, ReachPre, ReachPost, FurtherPre, FurtherPost, EveryPost, KeepPre, KeepPost, RoundPre, RoundPost, TurnPre, TurnPost, UntilPost};
 
-// What an evaluation answers: the arrow of the set, the place after the formula and the rounds counted; or why there is none.
+// What an evaluation answers: the arrow of the set, the place after the formula and what is counted; or why there is none.
 pub enum Evaluated {
     Value {
         arrow: u32,
         next: usize,
-        rounds: u32,
+        count: Count,
     },
     Full,
     Spent,
@@ -66,26 +72,37 @@ impl Stack {
 }
 
 // Where an evaluation stands: its place in the bytes, the depth left, how many words of the stack are live, the places of the open
-// variables among them, and the rounds counted.
+// variables among them, and what is counted.
 struct Context {
     at: usize,
     depth: usize,
     held: usize,
     places: Places,
-    rounds: u32,
+    count: Count,
 }
 
 // A step's result as an answer.
-fn answer(made: Made, next: usize, rounds: u32) -> Evaluated
-    ensures { λ r. ⌜ r ≡ fromMade next rounds made ⌝ }
+fn answer(taken: Taken, next: usize) -> Evaluated
+    ensures { λ r. ⌜ r ≡ fromTaken next taken ⌝ }
 {
-    match made {
-        Made::At(a) => Evaluated::Value {
+    match taken {
+        Taken::At { arrow: a, count: c } => Evaluated::Value {
             arrow: a,
             next: next,
-            rounds: rounds,
+            count: c,
         },
-        Made::Full => Evaluated::Full,
+        Taken::Full => Evaluated::Full,
+    }
+}
+
+// One round more is counted.
+fn another_round(c: Count) -> Count
+    requires { ⌜ c .rounds < 4_294_967_295 ⌝ }
+    ensures { λ r. ⌜ r ≡ another c ⌝ }
+{
+    Count {
+        rounds: c.rounds + 1,
+        peak: c.peak,
     }
 }
 
@@ -102,29 +119,29 @@ fn with_place(places: Places, p: u32, place: usize) -> Places
     inner
 }
 
-// The context of a binder's body: the current set of variable p is one live word more, and `rounds` are counted.
-fn opened(here: Context, p: u32, rounds: u32) -> Context
+// The context of a binder's body: the current set of variable p is one live word more, and so much is counted.
+fn opened(here: Context, p: u32, count: Count) -> Context
     requires { ⌜ here .held < stackSize ⌝ }
-    ensures { λ r. ⌜ r ≡ bodyOf here p rounds ⌝ }
+    ensures { λ r. ⌜ r ≡ bodyOf here p count ⌝ }
 {
     let places = here.places;
     let inner = with_place(places, p, here.held);
     let mut body = here;
     body.held = here.held + 1;
     body.places = inner;
-    body.rounds = rounds;
+    body.count = count;
     body
 }
 
-// The context of what follows at `next`, with one live word more and `rounds` counted.
-fn onward(here: Context, next: usize, rounds: u32) -> Context
+// The context of what follows at `next`, with one live word more and so much counted.
+fn onward(here: Context, next: usize, count: Count) -> Context
     requires { ⌜ here .held < stackSize ⌝ }
-    ensures { λ r. ⌜ r ≡ roundOf here next rounds ⌝ }
+    ensures { λ r. ⌜ r ≡ roundOf here next count ⌝ }
 {
     let mut rest = here;
     rest.at = next;
     rest.held = here.held + 1;
-    rest.rounds = rounds;
+    rest.count = count;
     rest
 }
 
@@ -180,23 +197,34 @@ fn variable(stack: &[u32], places: Places, p: u32) -> u32
 }
 
 // Takes a step, the first `held` words of the stack being live.
-pub fn live_step(words: &mut [u32], stack: &[u32], limits: Limits, held: usize, s: Step) -> Made
-    requires { ⌜ LivePre limits (view (limits .rows) (now words)) (now stack) held s ⌝ }
-    ensures { λ r. ⌜ LivePost limits (view (limits .rows) (now (words .entry))) (view (limits .rows) (now (words .exit))) (now (stack .entry)) held s r ⌝ }
+pub fn live_step(
+    words: &mut [u32],
+    counts: &mut [u32],
+    stack: &[u32],
+    limits: Limits,
+    held: usize,
+    s: Step,
+    count: Count,
+) -> Taken
+    requires { ⌜ LivePre limits (view (limits .rows) (now words)) (now stack) held s × CountsOf (view (limits .rows) (now words)) (now counts) ⌝ }
+    ensures { λ r. ⌜ LivePost limits (view (limits .rows) (now (words .entry))) (view (limits .rows) (now (words .exit))) (now (stack .entry)) held s count r × CountsOf (view (limits .rows) (now (words .exit))) (now (counts .exit)) ⌝ }
 {
-    take_step(
+    take(
         words,
+        counts,
         limits.rows,
         2 * limits.bits,
         limits.limit,
         &stack[..held],
         s,
+        count,
     )
 }
 
 // The answer of two parts, of which the first has the value `a`: the second one's, where that has no value, else the step AND or OR of both values.
 fn joined(
     words: &mut [u32],
+    counts: &mut [u32],
     stack: &[u32],
     limits: Limits,
     held: usize,
@@ -204,56 +232,87 @@ fn joined(
     a: u32,
     second: Evaluated,
 ) -> Evaluated
-    requires { ⌜ JoinedPre limits (view (limits .rows) (now words)) (now stack) held j a second ⌝ }
-    ensures { λ r. ⌜ JoinedPost limits (view (limits .rows) (now (words .entry))) (view (limits .rows) (now (words .exit))) (now (stack .entry)) held j a second r ⌝ }
+    requires { ⌜ JoinedPre limits (view (limits .rows) (now words)) (now stack) held j a second × CountsOf (view (limits .rows) (now words)) (now counts) ⌝ }
+    ensures { λ r. ⌜ JoinedPost limits (view (limits .rows) (now (words .entry))) (view (limits .rows) (now (words .exit))) (now (stack .entry)) held j a second r × CountsOf (view (limits .rows) (now (words .exit))) (now (counts .exit)) ⌝ }
 {
     let Evaluated::Value {
         arrow: b,
         next: end,
-        rounds: total,
+        count: total,
     } = second
     else {
         return second;
     };
-    let made = live_step(words, stack, limits, held, join_of(j, a, b));
-    answer(made, end, total)
+    let taken = live_step(words, counts, stack, limits, held, join_of(j, a, b), total);
+    answer(taken, end)
+}
+
+// An arrow that takes no step.
+pub fn unmoved(a: u32, count: Count) -> Taken
+    ensures { λ r. ⌜ r ≡ At a count ⌝ }
+{
+    Taken::At {
+        arrow: a,
+        count: count,
+    }
 }
 
 // A leaf: constants, registers and variables take no step, a current bit is one. A set's formula has no next bit.
-fn leaf(words: &mut [u32], stack: &[u32], limits: Limits, here: Context, l: Leaf) -> Made
-    requires { ⌜ LeafPre limits (view (limits .rows) (now words)) (now stack) here l ⌝ }
-    ensures { λ r. ⌜ LeafPost limits (view (limits .rows) (now (words .entry))) (view (limits .rows) (now (words .exit))) (now (stack .entry)) here l r ⌝ }
+fn leaf(
+    words: &mut [u32],
+    counts: &mut [u32],
+    stack: &[u32],
+    limits: Limits,
+    here: Context,
+    l: Leaf,
+) -> Taken
+    requires { ⌜ LeafPre limits (view (limits .rows) (now words)) (now stack) here l × CountsOf (view (limits .rows) (now words)) (now counts) ⌝ }
+    ensures { λ r. ⌜ LeafPost limits (view (limits .rows) (now (words .entry))) (view (limits .rows) (now (words .exit))) (now (stack .entry)) here l r × CountsOf (view (limits .rows) (now (words .exit))) (now (counts .exit)) ⌝ }
 {
+    let count = here.count;
     match l {
-        Leaf::False => Made::At(Table::NOTHING),
-        Leaf::True => Made::At(Table::EVERYTHING),
-        Leaf::Now(p) => live_step(words, stack, limits, here.held, Step::Bit(2 * p)),
-        Leaf::Next(_) => Made::At(Table::NOTHING),
+        Leaf::False => unmoved(Table::NOTHING, count),
+        Leaf::True => unmoved(Table::EVERYTHING, count),
+        Leaf::Now(p) => {
+            let held = here.held;
+            live_step(words, counts, stack, limits, held, Step::Bit(2 * p), count)
+        }
+        Leaf::Next(_) => unmoved(Table::NOTHING, count),
         Leaf::Var(p) => {
             let places = here.places;
-            Made::At(variable(stack, places, p))
+            unmoved(variable(stack, places, p), count)
         }
         Leaf::Reg(r) => {
             let h = Table::FIRST_REGISTER + (r as usize);
-            Made::At(root_arrow(words, h))
+            unmoved(root_arrow(words, h), count)
         }
     }
 }
 
 // Box or diamond of an arrow.
-fn over(words: &mut [u32], limits: Limits, roots: &[u32], m: Mode, relation: u32, a: u32) -> Made
-    requires { ⌜ ModalPre (limits .bits) (limits .rows) (limits .limit) (view (limits .rows) (now words)) (now roots) relation a ⌝ }
-    ensures { λ r. ⌜ OverPost m (limits .bits) (limits .rows) (limits .limit) (view (limits .rows) (now (words .entry))) (view (limits .rows) (now (words .exit))) (now (roots .entry)) relation a r ⌝ }
+fn over(
+    words: &mut [u32],
+    counts: &mut [u32],
+    limits: Limits,
+    roots: &[u32],
+    m: Mode,
+    relation: u32,
+    a: u32,
+    count: Count,
+) -> Taken
+    requires { ⌜ ModalPre (limits .bits) (limits .rows) (limits .limit) (view (limits .rows) (now words)) (now roots) relation a × CountsOf (view (limits .rows) (now words)) (now counts) ⌝ }
+    ensures { λ r. ⌜ OverPost m (limits .bits) (limits .rows) (limits .limit) (view (limits .rows) (now (words .entry))) (view (limits .rows) (now (words .exit))) (now (roots .entry)) relation a count r × CountsOf (view (limits .rows) (now (words .exit))) (now (counts .exit)) ⌝ }
 {
     match m {
-        Mode::All => boxed(words, limits, roots, relation, a),
-        Mode::Some => diamond(words, limits, roots, relation, a),
+        Mode::All => boxed(words, counts, limits, roots, relation, a, count),
+        Mode::Some => diamond(words, counts, limits, roots, relation, a, count),
     }
 }
 
 // Box or diamond of a value over relation t; the answer names the place `end`.
 fn reach(
     words: &mut [u32],
+    counts: &mut [u32],
     stack: &[u32],
     limits: Limits,
     here: Context,
@@ -262,19 +321,21 @@ fn reach(
     x: u32,
     end: usize,
 ) -> Evaluated
-    requires { ⌜ ReachPre limits (view (limits .rows) (now words)) (now stack) here t x end ⌝ }
-    ensures { λ r. ⌜ ReachPost limits (view (limits .rows) (now (words .entry))) (view (limits .rows) (now (words .exit))) (now (stack .entry)) here m t x end r ⌝ }
+    requires { ⌜ ReachPre limits (view (limits .rows) (now words)) (now stack) here t x end × CountsOf (view (limits .rows) (now words)) (now counts) ⌝ }
+    ensures { λ r. ⌜ ReachPost limits (view (limits .rows) (now (words .entry))) (view (limits .rows) (now (words .exit))) (now (stack .entry)) here m t x end r × CountsOf (view (limits .rows) (now (words .exit))) (now (counts .exit)) ⌝ }
 {
     let h = Table::FIRST_RELATION + (t as usize);
     let relation = root_arrow(words, h);
     let held = here.held;
-    let made = over(words, limits, &stack[..held], m, relation, x);
-    answer(made, end, here.rounds)
+    let count = here.count;
+    let taken = over(words, counts, limits, &stack[..held], m, relation, x, count);
+    answer(taken, end)
 }
 
 // Box of the current set x, and diamond of true, and AND.
 fn every(
     words: &mut [u32],
+    counts: &mut [u32],
     stack: &mut [u32],
     limits: Limits,
     here: Context,
@@ -282,14 +343,14 @@ fn every(
     x: u32,
     end: usize,
 ) -> Evaluated
-    requires { ⌜ FurtherPre limits (view (limits .rows) (now words)) (now stack) here t x ⌝ }
-    ensures { λ r. ⌜ EveryPost limits (view (limits .rows) (now (words .entry))) (view (limits .rows) (now (words .exit))) (now (stack .entry)) (now (stack .exit)) here t x end r ⌝ }
+    requires { ⌜ FurtherPre limits (view (limits .rows) (now words)) (now stack) here t x × CountsOf (view (limits .rows) (now words)) (now counts) ⌝ }
+    ensures { λ r. ⌜ EveryPost limits (view (limits .rows) (now (words .entry))) (view (limits .rows) (now (words .exit))) (now (stack .entry)) (now (stack .exit)) here t x end r × CountsOf (view (limits .rows) (now (words .exit))) (now (counts .exit)) ⌝ }
 {
-    let first = reach(words, stack, limits, here, Mode::All, t, x, end);
+    let first = reach(words, counts, stack, limits, here, Mode::All, t, x, end);
     let Evaluated::Value {
         arrow: a,
         next: _,
-        rounds: counted,
+        count: counted,
     } = first
     else {
         return first;
@@ -299,6 +360,7 @@ fn every(
     let rest = onward(here, here.at, counted);
     let second = reach(
         words,
+        counts,
         stack,
         limits,
         rest,
@@ -307,12 +369,13 @@ fn every(
         Table::EVERYTHING,
         end,
     );
-    joined(words, stack, limits, held, Join::And, a, second)
+    joined(words, counts, stack, limits, held, Join::And, a, second)
 }
 
 // What a round of until wants of the next states: diamond of the current set x, or box of it and diamond of true.
 fn further(
     words: &mut [u32],
+    counts: &mut [u32],
     stack: &mut [u32],
     limits: Limits,
     here: Context,
@@ -321,12 +384,12 @@ fn further(
     x: u32,
     end: usize,
 ) -> Evaluated
-    requires { ⌜ FurtherPre limits (view (limits .rows) (now words)) (now stack) here t x ⌝ }
-    ensures { λ r. ⌜ FurtherPost limits (view (limits .rows) (now (words .entry))) (view (limits .rows) (now (words .exit))) (now (stack .entry)) (now (stack .exit)) here m t x end r ⌝ }
+    requires { ⌜ FurtherPre limits (view (limits .rows) (now words)) (now stack) here t x × CountsOf (view (limits .rows) (now words)) (now counts) ⌝ }
+    ensures { λ r. ⌜ FurtherPost limits (view (limits .rows) (now (words .entry))) (view (limits .rows) (now (words .exit))) (now (stack .entry)) (now (stack .exit)) here m t x end r × CountsOf (view (limits .rows) (now (words .exit))) (now (counts .exit)) ⌝ }
 {
     match m {
-        Mode::All => every(words, stack, limits, here, t, x, end),
-        Mode::Some => reach(words, stack, limits, here, Mode::Some, t, x, end),
+        Mode::All => every(words, counts, stack, limits, here, t, x, end),
+        Mode::Some => reach(words, counts, stack, limits, here, Mode::Some, t, x, end),
     }
 }
 
@@ -344,13 +407,14 @@ fn until_body(bytes: &[u8], limits: Limits, here: Context, m: Mode, t: u32) -> B
 // Evaluates the formula at the context's place, of depth at most its depth.
 fn eval(
     words: &mut [u32],
+    counts: &mut [u32],
     stack: &mut [u32],
     bytes: &[u8],
     limits: Limits,
     here: Context,
 ) -> Evaluated
-    requires { ⌜ EvalPre limits (view (limits .rows) (now words)) (now stack) (now bytes) here ⌝ }
-    ensures { λ r. ⌜ EvalPost limits (view (limits .rows) (now (words .entry))) (view (limits .rows) (now (words .exit))) (now (stack .entry)) (now (stack .exit)) (now (bytes .entry)) here r ⌝ }
+    requires { ⌜ EvalPre limits (view (limits .rows) (now words)) (now stack) (now bytes) here × CountsOf (view (limits .rows) (now words)) (now counts) ⌝ }
+    ensures { λ r. ⌜ EvalPost limits (view (limits .rows) (now (words .entry))) (view (limits .rows) (now (words .exit))) (now (stack .entry)) (now (stack .exit)) (now (bytes .entry)) here r × CountsOf (view (limits .rows) (now (words .exit))) (now (counts .exit)) ⌝ }
 {
     let Lead::Is(t) = lead_at(bytes, limits.bits, Grammar::Runs, here.at) else {
         return Evaluated::Full;
@@ -360,60 +424,70 @@ fn eval(
     part.depth = here.depth - 1;
     let body = match t {
         Token::Leaf(l) => {
-            return answer(leaf(words, stack, limits, here, l), part.at, here.rounds);
+            return answer(leaf(words, counts, stack, limits, here, l), part.at);
         }
-        Token::Not => return negate(words, stack, bytes, limits, part),
+        Token::Not => return negate(words, counts, stack, bytes, limits, part),
         Token::Both(w) => match w {
-            Two::Join(j) => return both(words, stack, bytes, limits, part, j),
+            Two::Join(j) => return both(words, counts, stack, bytes, limits, part, j),
             Two::Until(m, t) => until_body(bytes, limits, part, m, t),
         },
-        Token::Modal(m, t) => return modal(words, stack, bytes, limits, part, m, t),
+        Token::Modal(m, t) => return modal(words, counts, stack, bytes, limits, part, m, t),
         Token::Binder(x, p) => Body::Binder(x, p),
     };
-    bind(words, stack, bytes, limits, part, body)
+    bind(words, counts, stack, bytes, limits, part, body)
 }
 
 // Evaluates the formula at the context's place, and takes the step NOT.
 fn negate(
     words: &mut [u32],
+    counts: &mut [u32],
     stack: &mut [u32],
     bytes: &[u8],
     limits: Limits,
     here: Context,
 ) -> Evaluated
-    requires { ⌜ EvalPre limits (view (limits .rows) (now words)) (now stack) (now bytes) here ⌝ }
-    ensures { λ r. ⌜ NegatePost limits (view (limits .rows) (now (words .entry))) (view (limits .rows) (now (words .exit))) (now (stack .entry)) (now (stack .exit)) (now (bytes .entry)) here r ⌝ }
+    requires { ⌜ EvalPre limits (view (limits .rows) (now words)) (now stack) (now bytes) here × CountsOf (view (limits .rows) (now words)) (now counts) ⌝ }
+    ensures { λ r. ⌜ NegatePost limits (view (limits .rows) (now (words .entry))) (view (limits .rows) (now (words .exit))) (now (stack .entry)) (now (stack .exit)) (now (bytes .entry)) here r × CountsOf (view (limits .rows) (now (words .exit))) (now (counts .exit)) ⌝ }
 {
-    let part = eval(words, stack, bytes, limits, here);
+    let part = eval(words, counts, stack, bytes, limits, here);
     let Evaluated::Value {
         arrow: a,
         next: end,
-        rounds: counted,
+        count: counted,
     } = part
     else {
         return part;
     };
-    let made = live_step(words, stack, limits, here.held, Step::Not(a));
-    answer(made, end, counted)
+    let taken = live_step(
+        words,
+        counts,
+        stack,
+        limits,
+        here.held,
+        Step::Not(a),
+        counted,
+    );
+    answer(taken, end)
 }
 
 // Evaluates the two formulas from the context's place on, the first one's value being live meanwhile, and takes the step AND or OR.
 fn both(
     words: &mut [u32],
+    counts: &mut [u32],
     stack: &mut [u32],
     bytes: &[u8],
     limits: Limits,
     here: Context,
     j: Join,
 ) -> Evaluated
-    requires { ⌜ BothPre limits (view (limits .rows) (now words)) (now stack) (now bytes) here ⌝ }
-    ensures { λ r. ⌜ BothPost limits (view (limits .rows) (now (words .entry))) (view (limits .rows) (now (words .exit))) (now (stack .entry)) (now (stack .exit)) (now (bytes .entry)) here j r ⌝ }
+    requires { ⌜ BothPre limits (view (limits .rows) (now words)) (now stack) (now bytes) here × CountsOf (view (limits .rows) (now words)) (now counts) ⌝ }
+    ensures { λ r. ⌜ BothPost limits (view (limits .rows) (now (words .entry))) (view (limits .rows) (now (words .exit))) (now (stack .entry)) (now (stack .exit)) (now (bytes .entry)) here j r × CountsOf (view (limits .rows) (now (words .exit))) (now (counts .exit)) ⌝ }
 {
-    let first = eval(words, stack, bytes, limits, here);
+    let first = eval(words, counts, stack, bytes, limits, here);
     let Evaluated::Value {
         arrow: a,
         next: middle,
-        rounds: counted,
+        count: counted,
     } = first
     else {
         return first;
@@ -421,13 +495,14 @@ fn both(
     let held = here.held;
     stack[held] = a;
     let rest = onward(here, middle, counted);
-    let second = eval(words, stack, bytes, limits, rest);
-    joined(words, stack, limits, held, j, a, second)
+    let second = eval(words, counts, stack, bytes, limits, rest);
+    joined(words, counts, stack, limits, held, j, a, second)
 }
 
 // Evaluates the formula at the context's place, and takes the steps of box or diamond over relation t.
 fn modal(
     words: &mut [u32],
+    counts: &mut [u32],
     stack: &mut [u32],
     bytes: &[u8],
     limits: Limits,
@@ -435,14 +510,14 @@ fn modal(
     m: Mode,
     t: u32,
 ) -> Evaluated
-    requires { ⌜ ModePre limits (view (limits .rows) (now words)) (now stack) (now bytes) here t ⌝ }
-    ensures { λ r. ⌜ ModePost limits (view (limits .rows) (now (words .entry))) (view (limits .rows) (now (words .exit))) (now (stack .entry)) (now (stack .exit)) (now (bytes .entry)) here m t r ⌝ }
+    requires { ⌜ ModePre limits (view (limits .rows) (now words)) (now stack) (now bytes) here t × CountsOf (view (limits .rows) (now words)) (now counts) ⌝ }
+    ensures { λ r. ⌜ ModePost limits (view (limits .rows) (now (words .entry))) (view (limits .rows) (now (words .exit))) (now (stack .entry)) (now (stack .exit)) (now (bytes .entry)) here m t r × CountsOf (view (limits .rows) (now (words .exit))) (now (counts .exit)) ⌝ }
 {
-    let part = eval(words, stack, bytes, limits, here);
+    let part = eval(words, counts, stack, bytes, limits, here);
     let Evaluated::Value {
         arrow: a,
         next: end,
-        rounds: counted,
+        count: counted,
     } = part
     else {
         return part;
@@ -450,33 +525,43 @@ fn modal(
     let h = Table::FIRST_RELATION + (t as usize);
     let relation = root_arrow(words, h);
     let held = here.held;
-    let made = over(words, limits, &stack[..held], m, relation, a);
-    answer(made, end, counted)
+    let taken = over(
+        words,
+        counts,
+        limits,
+        &stack[..held],
+        m,
+        relation,
+        a,
+        counted,
+    );
+    answer(taken, end)
 }
 
 // Rounds of the body, variable p being the current set, which is live; until a round gives the same set again.
 fn bind(
     words: &mut [u32],
+    counts: &mut [u32],
     stack: &mut [u32],
     bytes: &[u8],
     limits: Limits,
     here: Context,
     body: Body,
 ) -> Evaluated
-    requires { ⌜ BindPre limits (view (limits .rows) (now words)) (now stack) (now bytes) here body ⌝ }
-    ensures { λ r. ⌜ BindPost limits (view (limits .rows) (now (words .entry))) (view (limits .rows) (now (words .exit))) (now (stack .entry)) (now (stack .exit)) (now (bytes .entry)) here body r ⌝ }
+    requires { ⌜ BindPre limits (view (limits .rows) (now words)) (now stack) (now bytes) here body × CountsOf (view (limits .rows) (now words)) (now counts) ⌝ }
+    ensures { λ r. ⌜ BindPost limits (view (limits .rows) (now (words .entry))) (view (limits .rows) (now (words .exit))) (now (stack .entry)) (now (stack .exit)) (now (bytes .entry)) here body r × CountsOf (view (limits .rows) (now (words .exit))) (now (counts .exit)) ⌝ }
 {
     let held = here.held;
     let mut current = start_of(body);
-    let mut counted = here.rounds;
-    while counted < limits.rounds {
+    let mut counted = here.count;
+    while counted.rounds < limits.rounds {
         stack[held] = current;
-        let inner = opened(here, variable_of(body), counted + 1);
-        let value = turn(words, stack, bytes, limits, inner, body, current);
+        let inner = opened(here, variable_of(body), another_round(counted));
+        let value = turn(words, counts, stack, bytes, limits, inner, body, current);
         let Evaluated::Value {
             arrow: a,
             next: _,
-            rounds: total,
+            count: total,
         } = value
         else {
             return value;
@@ -493,6 +578,7 @@ fn bind(
 // Evaluates the body once, x being the current set.
 fn turn(
     words: &mut [u32],
+    counts: &mut [u32],
     stack: &mut [u32],
     bytes: &[u8],
     limits: Limits,
@@ -500,12 +586,23 @@ fn turn(
     body: Body,
     x: u32,
 ) -> Evaluated
-    requires { ⌜ TurnPre limits (view (limits .rows) (now words)) (now stack) (now bytes) here body x ⌝ }
-    ensures { λ r. ⌜ TurnPost limits (view (limits .rows) (now (words .entry))) (view (limits .rows) (now (words .exit))) (now (stack .entry)) (now (stack .exit)) (now (bytes .entry)) here body x r ⌝ }
+    requires { ⌜ TurnPre limits (view (limits .rows) (now words)) (now stack) (now bytes) here body x × CountsOf (view (limits .rows) (now words)) (now counts) ⌝ }
+    ensures { λ r. ⌜ TurnPost limits (view (limits .rows) (now (words .entry))) (view (limits .rows) (now (words .exit))) (now (stack .entry)) (now (stack .exit)) (now (bytes .entry)) here body x r × CountsOf (view (limits .rows) (now (words .exit))) (now (counts .exit)) ⌝ }
 {
     match body {
-        Body::Binder(_, _) => eval(words, stack, bytes, limits, here),
-        Body::Until(m, t, middle) => round(words, stack, bytes, limits, here, middle, m, t, x),
+        Body::Binder(_, _) => eval(words, counts, stack, bytes, limits, here),
+        Body::Until(m, t, middle) => round(
+            words,
+            counts,
+            stack,
+            bytes,
+            limits,
+            here,
+            middle,
+            m,
+            t,
+            x,
+        ),
     }
 }
 
@@ -513,6 +610,7 @@ fn turn(
 // the step AND.
 fn keep(
     words: &mut [u32],
+    counts: &mut [u32],
     stack: &mut [u32],
     bytes: &[u8],
     limits: Limits,
@@ -522,14 +620,14 @@ fn keep(
     x: u32,
     end: usize,
 ) -> Evaluated
-    requires { ⌜ KeepPre limits (view (limits .rows) (now words)) (now stack) (now bytes) here t x ⌝ }
-    ensures { λ r. ⌜ KeepPost limits (view (limits .rows) (now (words .entry))) (view (limits .rows) (now (words .exit))) (now (stack .entry)) (now (stack .exit)) (now (bytes .entry)) here m t x end r ⌝ }
+    requires { ⌜ KeepPre limits (view (limits .rows) (now words)) (now stack) (now bytes) here t x × CountsOf (view (limits .rows) (now words)) (now counts) ⌝ }
+    ensures { λ r. ⌜ KeepPost limits (view (limits .rows) (now (words .entry))) (view (limits .rows) (now (words .exit))) (now (stack .entry)) (now (stack .exit)) (now (bytes .entry)) here m t x end r × CountsOf (view (limits .rows) (now (words .exit))) (now (counts .exit)) ⌝ }
 {
-    let first = eval(words, stack, bytes, limits, here);
+    let first = eval(words, counts, stack, bytes, limits, here);
     let Evaluated::Value {
         arrow: a,
         next: _,
-        rounds: counted,
+        count: counted,
     } = first
     else {
         return first;
@@ -537,14 +635,15 @@ fn keep(
     let held = here.held;
     stack[held] = a;
     let rest = onward(here, here.at, counted);
-    let second = further(words, stack, limits, rest, m, t, x, end);
-    joined(words, stack, limits, held, Join::And, a, second)
+    let second = further(words, counts, stack, limits, rest, m, t, x, end);
+    joined(words, counts, stack, limits, held, Join::And, a, second)
 }
 
 // A round of until with the current set x: evaluates g at `middle` and, its value being live meanwhile, f and what is wanted of the next
 // states, and takes the step OR.
 fn round(
     words: &mut [u32],
+    counts: &mut [u32],
     stack: &mut [u32],
     bytes: &[u8],
     limits: Limits,
@@ -554,16 +653,16 @@ fn round(
     t: u32,
     x: u32,
 ) -> Evaluated
-    requires { ⌜ RoundPre limits (view (limits .rows) (now words)) (now stack) (now bytes) here middle t x ⌝ }
-    ensures { λ r. ⌜ RoundPost limits (view (limits .rows) (now (words .entry))) (view (limits .rows) (now (words .exit))) (now (stack .entry)) (now (stack .exit)) (now (bytes .entry)) here middle m t x r ⌝ }
+    requires { ⌜ RoundPre limits (view (limits .rows) (now words)) (now stack) (now bytes) here middle t x × CountsOf (view (limits .rows) (now words)) (now counts) ⌝ }
+    ensures { λ r. ⌜ RoundPost limits (view (limits .rows) (now (words .entry))) (view (limits .rows) (now (words .exit))) (now (stack .entry)) (now (stack .exit)) (now (bytes .entry)) here middle m t x r × CountsOf (view (limits .rows) (now (words .exit))) (now (counts .exit)) ⌝ }
 {
     let mut goal = here;
     goal.at = middle;
-    let first = eval(words, stack, bytes, limits, goal);
+    let first = eval(words, counts, stack, bytes, limits, goal);
     let Evaluated::Value {
         arrow: a,
         next: end,
-        rounds: counted,
+        count: counted,
     } = first
     else {
         return first;
@@ -571,8 +670,8 @@ fn round(
     let held = here.held;
     stack[held] = a;
     let rest = onward(here, here.at, counted);
-    let second = keep(words, stack, bytes, limits, rest, m, t, x, end);
-    joined(words, stack, limits, held, Join::Or, a, second)
+    let second = keep(words, counts, stack, bytes, limits, rest, m, t, x, end);
+    joined(words, counts, stack, limits, held, Join::Or, a, second)
 }
 
 // Evaluates the set's formula in `bytes`, which has passed the checks, with nothing remembered before.
@@ -581,6 +680,8 @@ pub fn evaluate_set(words: &mut [u32], limits: Limits, bytes: &[u8]) -> Evaluate
     ensures { λ r. ⌜ SetPost limits (view (limits .rows) (now (words .entry))) (view (limits .rows) (now (words .exit))) (now (bytes .entry)) r ⌝ }
 {
     forget(words, limits.rows);
+    let mut counts = [0u32; Counts::WORDS];
+    begin(words, limits.rows, &mut counts);
     let mut stack = [0u32; Stack::WORDS];
     let places = [0u8; Grammar::VARIABLES];
     let start = Context {
@@ -588,7 +689,7 @@ pub fn evaluate_set(words: &mut [u32], limits: Limits, bytes: &[u8]) -> Evaluate
         depth: Table::DEPTH,
         held: 0,
         places: places,
-        rounds: 0,
+        count: Count { rounds: 0, peak: 0 },
     };
-    eval(words, &mut stack, bytes, limits, start)
+    eval(words, &mut counts, &mut stack, bytes, limits, start)
 }

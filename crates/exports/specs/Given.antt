@@ -16,9 +16,9 @@ use Rattle.calls.specs.declared.Started.{Started}
 use Rattle.calls.specs.Fresh.{FreshWords, fresh-words-one}
 use Rattle.calls.specs.declared.Started.the-variants.{Ready, Refused}
 
--- the returned number, the rounds and the value that are written
-abbrev pub given : ℕ → ℕ → ℕ → Reply
-given k q v = record { number = k; rounds = q; value = v }
+-- the returned number, and the rounds, the peak and the value that are written
+abbrev pub given : ℕ → ℕ → ℕ → ℕ → Reply
+given k q p v = record { number = k; rounds = q; peak = p; value = v }
 
 -- the words that fresh leaves, by its number
 abbrev pub FreshLeft : ℕ → ℕ → List ℕ → List ℕ → ℕ → Type 0
@@ -40,11 +40,11 @@ left-refused n N old new e {k} is same = at k (omega (arith, is, refusal-some e)
 
 -- fresh by its number: the table, the words that it leaves, and the tallies
 pub record FreshGiven (n N : ℕ) (old new : List ℕ) (before after : List Account) (k : ℕ) : Type 0 where
-  pub post : FreshPost n N (length before) old new (given k 0 0)
+  pub post : FreshPost n N (length before) old new (given k 0 0 0)
   pub left : FreshLeft n N old new k
-  pub list : after ≡ freshened before (given k 0 0)
+  pub list : after ≡ freshened before (given k 0 0 0)
 
-pub fresh-given : (n N : ℕ) (old new : List ℕ) (before after : List Account) (x : Started) (k : ℕ) → FreshListPost n N old new before after x → given k 0 0 ≡ startedReply x
+pub fresh-given : (n N : ℕ) (old new : List ℕ) (before after : List Account) (x : Started) (k : ℕ) → FreshListPost n N old new before after x → given k 0 0 0 ≡ startedReply x
     → FreshGiven n N old new before after k
 fresh-given n N old new before after x k p e = record {
   post = subst (FreshPost n N (length before) old new) (sym e) (p .table .post);
@@ -52,6 +52,6 @@ fresh-given n N old new before after x k p e = record {
   list = p .list ∙ ap (freshened before) (sym e);
 }
   where
-    at : (y : Started) → FreshWords n N old new y → given k 0 0 ≡ startedReply y → FreshLeft n N old new k
+    at : (y : Started) → FreshWords n N old new y → given k 0 0 0 ≡ startedReply y → FreshLeft n N old new k
     at Ready w e = subst (FreshLeft n N old new) (sym (ap (λ (r : Reply). r .number) e)) w
     at (Refused z) w e = left-refused n N old new z (ap (λ (r : Reply). r .number) e) w

@@ -26,7 +26,7 @@ ghost use Rattle.exports.specs.Playing.{PlayGiven};
 
 // The number of what fresh answers.
 fn started_number(x: Started) -> u32
-    ensures { λ k. ⌜ given k 0 0 ≡ startedReply x ⌝ }
+    ensures { λ k. ⌜ given k 0 0 0 ≡ startedReply x ⌝ }
 {
     match x {
         Started::Ready => 0,
@@ -48,41 +48,55 @@ pub extern "C" fn kudzuclamp_fresh(
     started_number(x)
 }
 
-// Relation t holds the pairs of a formula.
+// Relation t holds the pairs of a formula; gives its peak.
 #[no_mangle]
-pub extern "C" fn kudzuclamp_relation(words: &mut [u32], t: u32, bytes: &[u8]) -> u32
-    ensures { λ k. ⌜ CallPost (book.relation t (now (bytes .entry))) (now (words .entry)) (now (words .exit)) (given k 0 0) ⌝ }
+pub extern "C" fn kudzuclamp_relation(
+    words: &mut [u32],
+    t: u32,
+    bytes: &[u8],
+    peak: &mut u32,
+) -> u32
+    ensures { λ k. ⌜ CallPost (book.relation t (now (bytes .entry))) (now (words .entry)) (now (words .exit)) (given k 0 (now (peak .exit)) 0) ⌝ }
 {
     let x = formula_calls::relation(words, t, bytes);
     match x {
-        Loaded::Done => 0,
-        Loaded::Refused(e) => refusal_number(e),
+        Loaded::Done { peak: p } => {
+            *peak = p;
+            0
+        }
+        Loaded::Refused(e) => {
+            *peak = 0;
+            refusal_number(e)
+        }
     }
 }
 
-// Gives the node number and the rounds of an answered set, zeros of a refused one.
-fn give_stored(x: Stored, node: &mut u32, rounds: &mut u32) -> u32
-    ensures { λ k. ⌜ given k (now (rounds .exit)) (now (node .exit)) ≡ storedReply x ⌝ }
+// Gives the node number, the rounds and the peak of an answered set, zeros of a refused one.
+fn give_stored(x: Stored, node: &mut u32, rounds: &mut u32, peak: &mut u32) -> u32
+    ensures { λ k. ⌜ given k (now (rounds .exit)) (now (peak .exit)) (now (node .exit)) ≡ storedReply x ⌝ }
 {
     match x {
         Stored::Node {
             number: a,
             rounds: q,
+            peak: p,
         } => {
             *node = a;
             *rounds = q;
+            *peak = p;
             0
         }
         Stored::Refused(e) => {
             *node = 0;
             *rounds = 0;
+            *peak = 0;
             refusal_number(e)
         }
     }
 }
 
 // Register r holds the states of a formula, found under the limits of the account at a place and in at most `most` rounds, which go to its tally; gives its
-// node number and the rounds.
+// node number, the rounds and the peak.
 #[no_mangle]
 pub extern "C" fn kudzuclamp_set(
     words: &mut [u32],
@@ -93,17 +107,18 @@ pub extern "C" fn kudzuclamp_set(
     bytes: &[u8],
     node: &mut u32,
     rounds: &mut u32,
+    peak: &mut u32,
 ) -> u32
-    ensures { λ k. ⌜ SetAllPost place r most (now (bytes .entry)) (now (words .entry)) (now (words .exit)) (now (accounts .entry)) (now (accounts .exit)) (given k (now (rounds .exit)) (now (node .exit))) ⌝ }
+    ensures { λ k. ⌜ SetAllPost place r most (now (bytes .entry)) (now (words .entry)) (now (words .exit)) (now (accounts .entry)) (now (accounts .exit)) (given k (now (rounds .exit)) (now (peak .exit)) (now (node .exit))) ⌝ }
 {
     let x = account_calls::set(words, accounts, place, r, most, bytes);
-    give_stored(x, node, rounds)
+    give_stored(x, node, rounds, peak)
 }
 
 // Empties register r.
 #[no_mangle]
 pub extern "C" fn kudzuclamp_clear(words: &mut [u32], r: u32) -> u32
-    ensures { λ k. ⌜ CallPost (book.clear r) (now (words .entry)) (now (words .exit)) (given k 0 0) ⌝ }
+    ensures { λ k. ⌜ CallPost (book.clear r) (now (words .entry)) (now (words .exit)) (given k 0 0 0) ⌝ }
 {
     let x = calls::clear(words, r);
     match x {
@@ -115,7 +130,7 @@ pub extern "C" fn kudzuclamp_clear(words: &mut [u32], r: u32) -> u32
 // Frees the rows that no register and no relation needs; gives how many are needed.
 #[no_mangle]
 pub extern "C" fn kudzuclamp_collect(words: &mut [u32], rows: &mut u32) -> u32
-    ensures { λ k. ⌜ CallPost book.collect (now (words .entry)) (now (words .exit)) (given k 0 (now (rows .exit))) ⌝ }
+    ensures { λ k. ⌜ CallPost book.collect (now (words .entry)) (now (words .exit)) (given k 0 0 (now (rows .exit))) ⌝ }
 {
     let x = calls::collect(words);
     match x {
@@ -132,7 +147,7 @@ pub extern "C" fn kudzuclamp_collect(words: &mut [u32], rows: &mut u32) -> u32
 
 // Gives a question's value.
 fn give(x: Answer, value: &mut u32) -> u32
-    ensures { λ k. ⌜ given k 0 (now (value .exit)) ≡ answerReply x ⌝ }
+    ensures { λ k. ⌜ given k 0 0 (now (value .exit)) ≡ answerReply x ⌝ }
 {
     match x {
         Answer::Value(v) => {
@@ -149,7 +164,7 @@ fn give(x: Answer, value: &mut u32) -> u32
 // Gives the node number in register r.
 #[no_mangle]
 pub extern "C" fn kudzuclamp_node(words: &[u32], r: u32, node: &mut u32) -> u32
-    ensures { λ k. ⌜ AskPost (book.node r) (now (words .entry)) (given k 0 (now (node .exit))) ⌝ }
+    ensures { λ k. ⌜ AskPost (book.node r) (now (words .entry)) (given k 0 0 (now (node .exit))) ⌝ }
 {
     give(calls::node(words, r), node)
 }
@@ -157,7 +172,7 @@ pub extern "C" fn kudzuclamp_node(words: &[u32], r: u32, node: &mut u32) -> u32
 // Gives 1 where the set in register r has state s, else 0.
 #[no_mangle]
 pub extern "C" fn kudzuclamp_member(words: &[u32], r: u32, s: u32, value: &mut u32) -> u32
-    ensures { λ k. ⌜ AskPost (book.member r s) (now (words .entry)) (given k 0 (now (value .exit))) ⌝ }
+    ensures { λ k. ⌜ AskPost (book.member r s) (now (words .entry)) (given k 0 0 (now (value .exit))) ⌝ }
 {
     give(calls::member(words, r, s), value)
 }
@@ -165,7 +180,7 @@ pub extern "C" fn kudzuclamp_member(words: &[u32], r: u32, s: u32, value: &mut u
 // Gives how many states the set in register r has.
 #[no_mangle]
 pub extern "C" fn kudzuclamp_count(words: &[u32], r: u32, value: &mut u32) -> u32
-    ensures { λ k. ⌜ AskPost (book.count r) (now (words .entry)) (given k 0 (now (value .exit))) ⌝ }
+    ensures { λ k. ⌜ AskPost (book.count r) (now (words .entry)) (given k 0 0 (now (value .exit))) ⌝ }
 {
     give(calls::count(words, r), value)
 }
@@ -204,7 +219,7 @@ impl Playing {
     pub const UNREADABLE: u32 = 101;
 }
 
-// Plays the calls of all records in order, and writes number, node, rounds and value of each to the list; gives how many records there were.
+// Plays the calls of all records in order, and writes number, node, rounds, value and peak of each to the list; gives how many records there were.
 #[no_mangle]
 pub extern "C" fn kudzuclamp_play(
     words: &mut [u32],

@@ -7,6 +7,8 @@ use Prim.Native.Nat.{ℕ, suc, _+_, _<_}
 use lib.Dec.{T, eqb}
 use Rattle.accounts.specs.declared.Terms.{Terms}
 use Rattle.accounts.specs.Terms.{named, rowsUnder, roundsUnder}
+use Rattle.accounts.specs.declared.Count.{Count}
+use Rattle.accounts.specs.Count.{nothing}
 use borrow.Author.Tests.{eq-eqb}
 use Rattle.mucalculus.specs.Form.{noEnv, put}
 use Rattle.tokens.specs.declared.Kind.the-variants.{Relation, Set}
@@ -18,7 +20,7 @@ use Rattle.soundness.specs.Used.{rowsOf}
 use Rattle.soundness.specs.Sound.{Good, Sound, tableOf}
 use Rattle.book.specs.Book.{Book, Call, relation, set, modelOf, liveOf, checks, formulaIn}
 use Rattle.book.specs.Table.{Table, Reply, rootsOf, Serves}
-use Rattle.book.specs.Run.{run, pairF, pairsFit}
+use Rattle.book.specs.Run.{run, pairF, pairsFit, pairsCount}
 use Rattle.book.specs.Follow.{Ended, ends, eight, nine, Evals}
 use Rattle.book.specs.Pairs.{PairEvals}
 use Rattle.book.specs.Alike.{Alike, alike-serves}
@@ -87,13 +89,13 @@ module _ (old : List ℕ) (s : SoundWords old) (X : View) (g : Good X) (f : OpFr
 
     -- the evaluation of the call's formula ended so
     abbrev pub SetEnds : Ended → Type 0
-    SetEnds y = Evals (b .n) (b .N) (rowsOf W) (rowsOf X) (rootsOf (seen old)) (run (modelOf b) (rowsUnder (b .N) acc) (roundsUnder R acc) noEnv (liveOf b) (formulaIn b Set bs) 0) y
+    SetEnds y = Evals (b .n) (b .N) (rowsOf W) (rowsOf X) (rootsOf (seen old)) (run (modelOf b) (rowsUnder (b .N) acc) (roundsUnder R acc) noEnv (liveOf b) (formulaIn b Set bs) nothing) y
 
     serves : (y : Ended) → SetEnds y → Serves b c (seen old) (setLeaves (seen old) r (rowsOf X) y) (setReply y)
     serves y d = set-serves b (seen old) acc r R bs (rowsOf X) y (sound-shows-book old s) l m z d
 
-    -- "returns node number and rounds"
-    pub set-value : (a q : ℕ) → SetEnds (ends a q) → Through old c (setReply (ends a q)) (registerStored X r a)
+    -- "returns node number and rounds", and its peak
+    pub set-value : (a : ℕ) (q : Count) → SetEnds (ends a q) → Through old c (setReply (ends a q)) (registerStored X r a)
     set-value a q d = record {
       good = register-good X r a l g;
       left = left-put c (setReply (ends a q)) (FIRST-REGISTER + r) (suc a) (left c (setReply (ends a q))) refl own;
@@ -116,21 +118,22 @@ module _ (old : List ℕ) (s : SoundWords old) (X : View) (g : Good X) (f : OpFr
     abbrev k : Call
     k = relation q bs
 
-    abbrev pub RelationEnds : Result → Type 0
-    RelationEnds y = PairEvals (b .n) (b .N) (rowsOf W) (rowsOf X) (rootsOf (seen old)) (pairsFit (b .n) (b .N) (liveOf b) (formulaIn b Relation bs)) (pairF (b .n) (formulaIn b Relation bs)) y
+    abbrev pub RelationEnds : Result → Count → Type 0
+    RelationEnds y p = PairEvals (b .n) (b .N) (rowsOf W) (rowsOf X) (rootsOf (seen old)) (pairsFit (b .n) (b .N) (liveOf b) (formulaIn b Relation bs)) (pairF (b .n) (formulaIn b Relation bs)) (pairsCount (b .n) (liveOf b) (formulaIn b Relation bs) nothing) y p
 
-    loads : (y : Result) → RelationEnds y → Serves b k (seen old) (relationLeaves (seen old) q (rowsOf X) y) (relationReply y)
-    loads y d = relation-serves b (seen old) q bs (rowsOf X) y (sound-shows-book old s) l z d
+    loads : (y : Result) (p : Count) → RelationEnds y p → Serves b k (seen old) (relationLeaves (seen old) q (rowsOf X) y) (relationReply y p)
+    loads y p d = relation-serves b (seen old) q bs (rowsOf X) y p (sound-shows-book old s) l z d
 
-    pub relation-value : (a : ℕ) → RelationEnds (at a) → Through old k (plain 0) (relationStored X q a)
-    relation-value a d = record {
+    -- "also returns its peak"
+    pub relation-value : (a : ℕ) (p : Count) → RelationEnds (at a) p → Through old k (relationReply (at a) p) (relationStored X q a)
+    relation-value a p d = record {
       good = relation-good X q a l g;
-      left = left-put k (plain 0) (FIRST-RELATION + q) (suc a) (left k (plain 0)) refl own;
-      serves = alike-serves (alike-trans (alike-rel q (some a) (rows-seen W X f)) (relation-seen X q a l)) b k (seen old) (plain 0) (loads (at a) d);
+      left = left-put k (relationReply (at a) p) (FIRST-RELATION + q) (suc a) (left k (relationReply (at a) p)) refl own;
+      serves = alike-serves (alike-trans (alike-rel q (some a) (rows-seen W X f)) (relation-seen X q a l)) b k (seen old) (relationReply (at a) p) (loads (at a) p d);
     }
       where
         own : target k (FIRST-RELATION + q) ≡ true
         own = rw (eq-eqb (FIRST-RELATION + q) (FIRST-RELATION + q) refl)
 
-    pub relation-full : RelationEnds noRows → Through old k (plain 8) X
-    relation-full d = record { good = g; left = left k (plain 8); serves = alike-serves (rows-seen W X f) b k (seen old) (plain 8) (loads noRows d) }
+    pub relation-full : (p : Count) → RelationEnds noRows p → Through old k (plain 8) X
+    relation-full p d = record { good = g; left = left k (plain 8); serves = alike-serves (rows-seen W X f) b k (seen old) (plain 8) (loads noRows p d) }

@@ -5,6 +5,7 @@ use mathlib.Core.List.{List}
 use Prim.Native.Nat.{ℕ, _≤_, _<_}
 use native.Mathlib.Omega.{arith}
 use lib.ListN.{length}
+use Rattle.accounts.specs.declared.Count.{Count}
 use Rattle.layout.specs.Places.{RELATIONS, MAX-ROWS, BITS, ROWS, wordsFor}
 use Rattle.layout.specs.View.{View, view, headerOf}
 use Rattle.tokens.specs.declared.Kind.the-variants.{Relation}
@@ -12,8 +13,9 @@ use Rattle.diagram.specs.Level.{Fn}
 use Rattle.diagram.specs.Rows.{Rows}
 use Rattle.soundness.specs.Sound.{Sound, tableOf}
 use Rattle.table.specs.Make.{result}
-use Rattle.table.specs.declared.Made.{Made}
-use Rattle.table.specs.declared.Made.the-variants as made
+use Rattle.counting.specs.Taken.{madeIn, countIn}
+use Rattle.counting.specs.declared.Taken.{Taken}
+use Rattle.counting.specs.declared.Taken.the-variants as taken
 use Rattle.book.specs.Book.{relation, checks}
 use Rattle.book.specs.BookOf.{bookOf}
 use Rattle.book.specs.Pairs.{PairEvals}
@@ -26,10 +28,10 @@ use Rattle.formula_steps.specs.Replies.{loadedReply}
 use Rattle.formula_steps.specs.Store.{Carries, loadedOf, relationLoaded, loaded-late, arrow-fits, limitsOf}
 use Rattle.formula_steps.specs.declared.Loaded.{Loaded}
 
-ends-carries : {n N : ℕ} {before after : Rows} {roots : List ℕ} {F : Fn} (fits : Bool) (y : Made) → N ≤ MAX-ROWS → PairEvals n N before after roots fits F (result y) → Carries y
-ends-carries true (made.At a) l d = arrow-fits (d .wf) l a (d .result .arrow)
-ends-carries false (made.At a) l d = absurd (d .result)
-ends-carries fits made.Full l d = tt
+ends-carries : {n N : ℕ} {before after : Rows} {roots : List ℕ} {F : Fn} {p : Count} (fits : Bool) (y : Taken) → N ≤ MAX-ROWS → PairEvals n N before after roots fits F p (result (madeIn y)) (countIn y) → Carries y
+ends-carries true (taken.At a q) l d = arrow-fits (d .wf) l a (d .result .0 .arrow)
+ends-carries false (taken.At a q) l d = absurd (d .result)
+ends-carries fits taken.Full l d = tt
 
 -- what a relation call asks after its checks
 pub record RelationReady (t : ℕ) (old bs : List ℕ) : Type 0 where
@@ -42,7 +44,7 @@ module _ {old bs : List ℕ} {t rows n : ℕ} (p : RelationReady t old bs) (er :
   pub relation-asks : PairsPre (limitsOf n rows rows 0) (view rows old) bs
   relation-asks = rw (er, en) (record { sound = p .sound; bits = refl; rows = refl; limit = omega arith; passed = p .passed })
 
-  module _ (mid : List ℕ) {y : Made} (d : PairsPost (limitsOf n rows rows 0) (view rows old) (view rows mid) bs y) where
+  module _ (mid : List ℕ) {y : Taken} (d : PairsPost (limitsOf n rows rows 0) (view rows old) (view rows mid) bs y) where
     post : PairsPost (limitsOf (headerOf old BITS) (headerOf old ROWS) (headerOf old ROWS) 0) (tableOf old) (view (headerOf old ROWS) mid) bs y
     post = rw (er, en) at d
 
@@ -50,15 +52,15 @@ module _ {old bs : List ℕ} {t rows n : ℕ} (p : RelationReady t old bs) (er :
     X = view (headerOf old ROWS) mid
 
     -- the book's steps
-    evals : RelationEnds old (p .sound) X (post .sound .good) (post .frame) t bs (p .range) (p .passed) (result y)
+    evals : RelationEnds old (p .sound) X (post .sound .good) (post .frame) t bs (p .range) (p .passed) (result (madeIn y)) (countIn y)
     evals = post .evals
 
     through : Through old (relation t bs) (loadedReply (loadedOf y)) (relationLoaded X t y)
     through = go y evals
       where
-        go : (y : Made) → RelationEnds old (p .sound) X (post .sound .good) (post .frame) t bs (p .range) (p .passed) (result y) → Through old (relation t bs) (loadedReply (loadedOf y)) (relationLoaded X t y)
-        go (made.At a) e = relation-value old (p .sound) X (post .sound .good) (post .frame) t bs (p .range) (p .passed) a e
-        go made.Full e = relation-full old (p .sound) X (post .sound .good) (post .frame) t bs (p .range) (p .passed) e
+        go : (y : Taken) → RelationEnds old (p .sound) X (post .sound .good) (post .frame) t bs (p .range) (p .passed) (result (madeIn y)) (countIn y) → Through old (relation t bs) (loadedReply (loadedOf y)) (relationLoaded X t y)
+        go (taken.At a q) e = relation-value old (p .sound) X (post .sound .good) (post .frame) t bs (p .range) (p .passed) a q e
+        go taken.Full e = relation-full old (p .sound) X (post .sound .good) (post .frame) t bs (p .range) (p .passed) _ e
 
     -- what `store_relation` asks
     pub relation-storing : (t < RELATIONS) × (wordsFor rows ≤ length mid) × Carries y

@@ -7,6 +7,7 @@ use lib.Dec.{T}
 use lib.ListN.{length}
 use Rattle.accounts.specs.declared.Terms.{Terms}
 use Rattle.accounts.specs.Terms.{named, rowsUnder, roundsUnder}
+use Rattle.accounts.specs.declared.Count.{Count}
 use Rattle.layout.specs.Refusals.{keepsAll}
 use Rattle.layout.specs.Places.{REGISTERS, MAX-ROWS, BITS, ROWS, wordsFor, FIRST-REGISTER, FIRST-RELATION}
 use Rattle.layout.specs.View.{View, view, headerOf, putHeader}
@@ -14,9 +15,8 @@ use Rattle.layout.specs.declared.Refusal.the-variants as refusal
 use Rattle.tokens.specs.declared.Kind.the-variants as kind
 use Rattle.diagram.specs.Rows.{Rows, target, Arrow, ArrowTo, WellFormed}
 use Rattle.soundness.specs.Sound.{Sound, tableOf}
-use Rattle.table.specs.Make.{result}
-use Rattle.table.specs.declared.Made.{Made}
-use Rattle.table.specs.declared.Made.the-variants as made
+use Rattle.counting.specs.declared.Taken.{Taken}
+use Rattle.counting.specs.declared.Taken.the-variants as taken
 use Rattle.book.specs.Book.{set, checks}
 use Rattle.book.specs.BookOf.{bookOf}
 use Rattle.book.specs.Run.{Outcome, value, full as noRows, spent}
@@ -44,7 +44,7 @@ Holds Spent = Unit {0}
 
 -- set's answer, and the words with the arrow
 abbrev pub storedOf : Evaluated → Stored
-storedOf (Value a k q) = stored.Node a q
+storedOf (Value a k q) = stored.Node a (q .rounds) (q .peak)
 storedOf Full = stored.Refused refusal.Full
 storedOf Spent = stored.Refused refusal.Spent
 
@@ -54,17 +54,17 @@ setStored X r Full = X
 setStored X r Spent = X
 
 -- relation's answer, and the words with the arrow
-abbrev pub Carries : Made → Type 0
-Carries (made.At a) = suc a < 4_294_967_296
-Carries made.Full = Unit {0}
+abbrev pub Carries : Taken → Type 0
+Carries (taken.At a q) = suc a < 4_294_967_296
+Carries taken.Full = Unit {0}
 
-abbrev pub loadedOf : Made → Loaded
-loadedOf (made.At a) = loaded.Done
-loadedOf made.Full = loaded.Refused refusal.Full
+abbrev pub loadedOf : Taken → Loaded
+loadedOf (taken.At a q) = loaded.Done (q .peak)
+loadedOf taken.Full = loaded.Refused refusal.Full
 
-abbrev pub relationLoaded : View → ℕ → Made → View
-relationLoaded X t (made.At a) = relationStored X t a
-relationLoaded X t made.Full = X
+abbrev pub relationLoaded : View → ℕ → Taken → View
+relationLoaded X t (taken.At a q) = relationStored X t a
+relationLoaded X t taken.Full = X
 
 -- neither ends in one of the checks' numbers
 stored-late : (y : Evaluated) → T (keepsAll (storedReply (storedOf y) .number)) → ⊥
@@ -72,16 +72,16 @@ stored-late (Value a k q) h = h
 stored-late Full h = h
 stored-late Spent h = h
 
-pub loaded-late : (y : Made) → T (keepsAll (loadedReply (loadedOf y) .number)) → ⊥
-loaded-late (made.At a) h = h
-loaded-late made.Full h = h
+pub loaded-late : (y : Taken) → T (keepsAll (loadedReply (loadedOf y) .number)) → ⊥
+loaded-late (taken.At a q) h = h
+loaded-late taken.Full h = h
 
 -- ---- the steps of `store_set` and `store_relation`
 
-pub holds-fits : {y : Evaluated} {a k q : ℕ} → y ≡ Value a k q → Holds y → suc a < 4_294_967_296
+pub holds-fits : {y : Evaluated} {a k : ℕ} {q : Count} → y ≡ Value a k q → Holds y → suc a < 4_294_967_296
 holds-fits e h = subst Holds e h
 
-pub carries-fits : {y : Made} {a : ℕ} → y ≡ made.At a → Carries y → suc a < 4_294_967_296
+pub carries-fits : {y : Taken} {a : ℕ} {q : Count} → y ≡ taken.At a q → Carries y → suc a < 4_294_967_296
 carries-fits e h = subst Carries e h
 
 module _ (X : View) (r : ℕ) where
@@ -91,15 +91,15 @@ module _ (X : View) (r : ℕ) where
   pub stored-spent : {y : Evaluated} → y ≡ Spent → (stored.Refused refusal.Spent ≡ storedOf y) × (X ≡ setStored X r y)
   stored-spent e = rw e (refl, refl)
 
-  pub stored-value : {y : Evaluated} {a k q : ℕ} {Z : View} → y ≡ Value a k q → Z ≡ putHeader X (FIRST-REGISTER + r) (a + 1) → (stored.Node a q ≡ storedOf y) × (Z ≡ setStored X r y)
+  pub stored-value : {y : Evaluated} {a k : ℕ} {q : Count} {Z : View} → y ≡ Value a k q → Z ≡ putHeader X (FIRST-REGISTER + r) (a + 1) → (stored.Node a (q .rounds) (q .peak) ≡ storedOf y) × (Z ≡ setStored X r y)
   stored-value {a = a} {q = q} {Z = Z} e m =
-      subst (λ (y : Evaluated). (stored.Node a q ≡ storedOf y) × (Z ≡ setStored X r y)) (sym e) (refl, m ∙ ap (λ (x : ℕ). putHeader X (FIRST-REGISTER + r) x) (omega arith))
+      subst (λ (y : Evaluated). (stored.Node a (q .rounds) (q .peak) ≡ storedOf y) × (Z ≡ setStored X r y)) (sym e) (refl, m ∙ ap (λ (x : ℕ). putHeader X (FIRST-REGISTER + r) x) (omega arith))
 
-  pub loaded-full : {y : Made} → y ≡ made.Full → (loaded.Refused refusal.Full ≡ loadedOf y) × (X ≡ relationLoaded X r y)
+  pub loaded-full : {y : Taken} → y ≡ taken.Full → (loaded.Refused refusal.Full ≡ loadedOf y) × (X ≡ relationLoaded X r y)
   loaded-full e = rw e (refl, refl)
 
-  pub loaded-value : {y : Made} {a : ℕ} {Z : View} → y ≡ made.At a → Z ≡ putHeader X (FIRST-RELATION + r) (a + 1) → (loaded.Done ≡ loadedOf y) × (Z ≡ relationLoaded X r y)
-  loaded-value {a = a} {Z = Z} e n = subst (λ (y : Made). (loaded.Done ≡ loadedOf y) × (Z ≡ relationLoaded X r y)) (sym e) (refl, n ∙ ap (λ (x : ℕ). putHeader X (FIRST-RELATION + r) x) (omega arith))
+  pub loaded-value : {y : Taken} {a : ℕ} {q : Count} {Z : View} → y ≡ taken.At a q → Z ≡ putHeader X (FIRST-RELATION + r) (a + 1) → (loaded.Done (q .peak) ≡ loadedOf y) × (Z ≡ relationLoaded X r y)
+  loaded-value {a = a} {q = q} {Z = Z} e n = subst (λ (y : Taken). (loaded.Done (q .peak) ≡ loadedOf y) × (Z ≡ relationLoaded X r y)) (sym e) (refl, n ∙ ap (λ (x : ℕ). putHeader X (FIRST-RELATION + r) x) (omega arith))
 
 -- an arrow's word fits
 fits-to : {m N : ℕ} {rows : Rows} → WellFormed m N rows → N ≤ MAX-ROWS → (a k : ℕ) → target a ≡ k → ArrowTo rows k → suc a < 4_294_967_296

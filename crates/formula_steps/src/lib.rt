@@ -3,6 +3,7 @@ use accounts::Terms;
 use accounts::rounds_under;
 use accounts::rows_under;
 use collect::free_many;
+use counting::Taken;
 use evaluator::Evaluated;
 use evaluator::evaluate_set;
 use layout::Refusal;
@@ -11,7 +12,6 @@ use layout::header_word;
 use layout::put_header;
 use modal::Limits;
 use pairs::evaluate_pairs;
-use table::Made;
 ghost use mathlib.Core.Path.{_≡_};
 ghost use Prim.Native.Nat.{_<_, _≤_};
 ghost use lib.ListN.{length};
@@ -25,15 +25,15 @@ ghost use Rattle.formula_steps.specs.Load.{RelationReady};
 ghost use Rattle.formula_steps.specs.Replies.{storedReply, loadedReply};
 ghost use Rattle.formula_steps.specs.Store.{SetReady, Holds, storedOf, setStored, Carries, loadedOf, relationLoaded};
 
-// What set answers: the node number and the rounds.
+// What set answers: the node number, the rounds and the peak.
 pub enum Stored {
-    Node { number: u32, rounds: u32 },
+    Node { number: u32, rounds: u32, peak: u32 },
     Refused(Refusal),
 }
 
-// What relation answers.
+// What relation answers: the peak.
 pub enum Loaded {
-    Done,
+    Done { peak: u32 },
     Refused(Refusal),
 }
 
@@ -61,29 +61,30 @@ fn store_set(words: &mut [u32], rows: u32, r: u32, done: Evaluated) -> Stored
         Evaluated::Value {
             arrow: a,
             next: _,
-            rounds: q,
+            count: q,
         } => {
             let at = Table::FIRST_REGISTER + (r as usize);
             put_header(words, rows, at, a + 1);
             Stored::Node {
                 number: a,
-                rounds: q,
+                rounds: q.rounds,
+                peak: q.peak,
             }
         }
     }
 }
 
 // Stores what an evaluation gave in relation t.
-fn store_relation(words: &mut [u32], rows: u32, t: u32, done: Made) -> Loaded
+fn store_relation(words: &mut [u32], rows: u32, t: u32, done: Taken) -> Loaded
     requires { ⌜ (t < RELATIONS) × (wordsFor rows ≤ length (now words)) × Carries done ⌝ }
     ensures { λ x. ⌜ (x ≡ loadedOf done) × (view rows (now (words .exit)) ≡ relationLoaded (view rows (now (words .entry))) t done) ⌝ }
 {
     match done {
-        Made::Full => Loaded::Refused(Refusal::Full),
-        Made::At(a) => {
+        Taken::Full => Loaded::Refused(Refusal::Full),
+        Taken::At { arrow: a, count: q } => {
             let at = Table::FIRST_RELATION + (t as usize);
             put_header(words, rows, at, a + 1);
-            Loaded::Done
+            Loaded::Done { peak: q.peak }
         }
     }
 }

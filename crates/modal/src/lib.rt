@@ -1,17 +1,10 @@
 // Diamond and box over arrows: chains of steps, with no bytes.
-use layout::Table;
-use layout::header_word;
-use operations::exists_odd;
+use accounts::Count;
+use counting::Taken;
+use counting::take;
 use steps::Step;
-use steps::take_exists;
-use steps::take_step;
-use table::Code;
-use table::Made;
-ghost use Prim.Native.Nat.{_*_, _≤_};
-ghost use lib.ListN.{length};
-ghost use Rattle.layout.specs.Places.{HEADER, USED};
-ghost use Rattle.layout.specs.View.{view, headerOf};
-ghost use Rattle.soundness.specs.Says.{Says};
+ghost use Rattle.layout.specs.View.{view};
+ghost use Rattle.counting.specs.Counts.{CountsOf};
 ghost use Rattle.modal.specs.Modal.{QuantifyPre, QuantifyPost, ModalPre, DiamondPost, BoxPost};
 
 // The sizes of a table and what an evaluation may use of it: state bits, rows, the row limit and the rounds.
@@ -22,110 +15,131 @@ pub struct Limits {
     pub rounds: u32,
 }
 
-// EXISTS at levels 2n − 1, 2n − 3, down to 1, step by step.
-fn quantify_steps(words: &mut [u32], limits: Limits, roots: &[u32], a: u32) -> Made
-    requires { ⌜ QuantifyPre (limits .bits) (limits .rows) (limits .limit) (view (limits .rows) (now words)) (now roots) a ⌝ }
-    ensures { λ r. ⌜ QuantifyPost (limits .bits) (limits .rows) (limits .limit) (view (limits .rows) (now (words .entry))) (view (limits .rows) (now (words .exit))) (now (roots .entry)) a r ⌝ }
+// EXISTS at levels 2n − 1, 2n − 3, down to 1.
+fn quantify(
+    words: &mut [u32],
+    counts: &mut [u32],
+    limits: Limits,
+    roots: &[u32],
+    a: u32,
+    count: Count,
+) -> Taken
+    requires { ⌜ QuantifyPre (limits .bits) (limits .rows) (limits .limit) (view (limits .rows) (now words)) (now roots) a × CountsOf (view (limits .rows) (now words)) (now counts) ⌝ }
+    ensures { λ r. ⌜ QuantifyPost (limits .bits) (limits .rows) (limits .limit) (view (limits .rows) (now (words .entry))) (view (limits .rows) (now (words .exit))) (now (roots .entry)) a count r × CountsOf (view (limits .rows) (now (words .exit))) (now (counts .exit)) ⌝ }
 {
     let levels = 2 * limits.bits;
     let mut c = a;
+    let mut total = count;
     let mut left = limits.bits;
     while 0 < left {
         left -= 1;
-        let level = 2 * left + 1;
-        let Made::At(d) = take_exists(words, limits.rows, levels, limits.limit, roots, level, c)
+        let step = Step::Exists(2 * left + 1, c);
+        let Taken::At {
+            arrow: d,
+            count: more,
+        } = take(words, counts, limits.rows, levels, limits.limit, roots, step, total)
         else {
-            return Made::Full;
+            return Taken::Full;
         };
         c = d;
+        total = more;
     }
-    Made::At(c)
-}
-
-// Whether the used rows, five times, are at most the limit: then no step of a diamond's EXISTS needs more.
-fn spacious(words: &[u32], limit: u32) -> bool
-    requires { ⌜ HEADER ≤ length (now words) ⌝ }
-    ensures { λ r. ⌜ Says (5 * headerOf (now (words .entry)) USED ≤ limit) r ⌝ }
-{
-    let used = header_word(words, Table::USED) as u64;
-    if 5 * used > limit as u64 {
-        return false;
+    Taken::At {
+        arrow: c,
+        count: total,
     }
-    true
-}
-
-// EXISTS at levels 2n − 1, 2n − 3, down to 1: at once where that is sure to fit, else step by step.
-fn quantify(words: &mut [u32], limits: Limits, roots: &[u32], a: u32) -> Made
-    requires { ⌜ QuantifyPre (limits .bits) (limits .rows) (limits .limit) (view (limits .rows) (now words)) (now roots) a ⌝ }
-    ensures { λ r. ⌜ QuantifyPost (limits .bits) (limits .rows) (limits .limit) (view (limits .rows) (now (words .entry))) (view (limits .rows) (now (words .exit))) (now (roots .entry)) a r ⌝ }
-{
-    if !spacious(words, limits.limit) {
-        return quantify_steps(words, limits, roots, a);
-    }
-    let c = exists_odd(words, limits.rows, 2 * limits.bits, limits.limit, a);
-    if c == Code::FULL {
-        return quantify_steps(words, limits, roots, a);
-    }
-    if !spacious(words, limits.limit) {
-        return quantify_steps(words, limits, roots, a);
-    }
-    Made::At(c)
 }
 
 // Diamond: SHIFT, AND with the relation, EXISTS at each next bit.
-pub fn diamond(words: &mut [u32], limits: Limits, roots: &[u32], relation: u32, a: u32) -> Made
-    requires { ⌜ ModalPre (limits .bits) (limits .rows) (limits .limit) (view (limits .rows) (now words)) (now roots) relation a ⌝ }
-    ensures { λ r. ⌜ DiamondPost (limits .bits) (limits .rows) (limits .limit) (view (limits .rows) (now (words .entry))) (view (limits .rows) (now (words .exit))) (now (roots .entry)) relation a r ⌝ }
+pub fn diamond(
+    words: &mut [u32],
+    counts: &mut [u32],
+    limits: Limits,
+    roots: &[u32],
+    relation: u32,
+    a: u32,
+    count: Count,
+) -> Taken
+    requires { ⌜ ModalPre (limits .bits) (limits .rows) (limits .limit) (view (limits .rows) (now words)) (now roots) relation a × CountsOf (view (limits .rows) (now words)) (now counts) ⌝ }
+    ensures { λ r. ⌜ DiamondPost (limits .bits) (limits .rows) (limits .limit) (view (limits .rows) (now (words .entry))) (view (limits .rows) (now (words .exit))) (now (roots .entry)) relation a count r × CountsOf (view (limits .rows) (now (words .exit))) (now (counts .exit)) ⌝ }
 {
     let levels = 2 * limits.bits;
-    let Made::At(x) = take_step(
+    let Taken::At {
+        arrow: x,
+        count: first,
+    } = take(
         words,
+        counts,
         limits.rows,
         levels,
         limits.limit,
         roots,
         Step::Shift(a),
+        count,
     ) else {
-        return Made::Full;
+        return Taken::Full;
     };
-    let Made::At(c) = take_step(
+    let Taken::At {
+        arrow: c,
+        count: second,
+    } = take(
         words,
+        counts,
         limits.rows,
         levels,
         limits.limit,
         roots,
         Step::And(x, relation),
+        first,
     ) else {
-        return Made::Full;
+        return Taken::Full;
     };
-    quantify(words, limits, roots, c)
+    quantify(words, counts, limits, roots, c, second)
 }
 
 // Box: NOT, diamond, NOT.
-pub fn boxed(words: &mut [u32], limits: Limits, roots: &[u32], relation: u32, a: u32) -> Made
-    requires { ⌜ ModalPre (limits .bits) (limits .rows) (limits .limit) (view (limits .rows) (now words)) (now roots) relation a ⌝ }
-    ensures { λ r. ⌜ BoxPost (limits .bits) (limits .rows) (limits .limit) (view (limits .rows) (now (words .entry))) (view (limits .rows) (now (words .exit))) (now (roots .entry)) relation a r ⌝ }
+pub fn boxed(
+    words: &mut [u32],
+    counts: &mut [u32],
+    limits: Limits,
+    roots: &[u32],
+    relation: u32,
+    a: u32,
+    count: Count,
+) -> Taken
+    requires { ⌜ ModalPre (limits .bits) (limits .rows) (limits .limit) (view (limits .rows) (now words)) (now roots) relation a × CountsOf (view (limits .rows) (now words)) (now counts) ⌝ }
+    ensures { λ r. ⌜ BoxPost (limits .bits) (limits .rows) (limits .limit) (view (limits .rows) (now (words .entry))) (view (limits .rows) (now (words .exit))) (now (roots .entry)) relation a count r × CountsOf (view (limits .rows) (now (words .exit))) (now (counts .exit)) ⌝ }
 {
     let levels = 2 * limits.bits;
-    let Made::At(b) = take_step(
+    let Taken::At {
+        arrow: b,
+        count: first,
+    } = take(
         words,
+        counts,
         limits.rows,
         levels,
         limits.limit,
         roots,
         Step::Not(a),
+        count,
     ) else {
-        return Made::Full;
+        return Taken::Full;
     };
-    let Made::At(c) = diamond(words, limits, roots, relation, b) else {
-        return Made::Full;
+    let Taken::At {
+        arrow: c,
+        count: second,
+    } = diamond(words, counts, limits, roots, relation, b, first) else {
+        return Taken::Full;
     };
-    take_step(
+    take(
         words,
+        counts,
         limits.rows,
         levels,
         limits.limit,
         roots,
         Step::Not(c),
+        second,
     )
 }

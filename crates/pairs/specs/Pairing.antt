@@ -11,22 +11,24 @@ use Rattle.tokens.specs.declared.Grammar.the-variants.{Pairs}
 use Rattle.tokens.specs.declared.Leaf.{Leaf}
 use Rattle.tokens.specs.declared.Join.{Join}
 use Rattle.formula.specs.Parse.{leafForm, joinForm, depthLimit}
+use Rattle.accounts.specs.declared.Count.{Count}
+use Rattle.accounts.specs.Count.{nothing}
 use Rattle.layout.specs.Places.{BITS}
 use Rattle.layout.specs.View.{View}
-use Rattle.diagram.specs.Post.{Result, at as arrow, full as noRows}
 use Rattle.soundness.specs.Used.{rowsOf}
 use Rattle.soundness.specs.Sound.{Sound}
 use Rattle.table.specs.Make.{result}
-use Rattle.table.specs.declared.Made.{Made}
-use Rattle.table.specs.declared.Made.the-variants as made
 use Rattle.operations.specs.Work.{OpFrame}
+use Rattle.counting.specs.Taken.{madeIn, countIn}
+use Rattle.counting.specs.declared.Taken.{Taken}
+use Rattle.counting.specs.declared.Taken.the-variants as taken
 use Rattle.book.specs.Book.{liveOf, checks, formulaIn}
 use Rattle.book.specs.Table.{rootsOf}
-use Rattle.book.specs.Run.{pairF, pairsFit}
+use Rattle.book.specs.Run.{pairF, pairsFit, pairsCount}
 use Rattle.book.specs.Pairs.{PairEvals}
 use Rattle.contract.specs.Seen.{seenIn}
 use Rattle.modal.specs.declared.Limits.{Limits}
-use Rattle.modal.specs.Chain.{Moved, Ran}
+use Rattle.modal.specs.Chain.{Ran}
 use Rattle.evaluator.specs.Scene.{Scene, Ready, Stands}
 use Rattle.evaluator.specs.Whole.{bookIn}
 use Rattle.pairs.specs.declared.Related.{Related}
@@ -36,26 +38,29 @@ use Rattle.pairs.specs.declared.Related.the-variants.{Value, Full}
 abbrev pub noPlaces : List ℕ
 noPlaces = replicate 16 0
 
--- the answer as the book has it, and the place after the formula
-abbrev pub resultOf : Related → Result
-resultOf (Value a k) = arrow a
-resultOf Full = noRows
+-- the answer without its place, and the place after the formula
+abbrev pub takenOf : Related → Taken
+takenOf (Value a k c) = taken.At a c
+takenOf Full = taken.Full
 
 abbrev pub EndsAt : ℕ → Related → Type 0
-EndsAt e (Value a k) = k ≡ e
+EndsAt e (Value a k c) = k ≡ e
 EndsAt e Full = Unit {0}
 
--- the evaluation of f: what it leaves of the words, the live part of the stack as it was, and the book's outcome
-pub record Relates (L : Limits) (W X : View) (stack after : List ℕ) (held : ℕ) (σ : Scene) (f : Form) (e : ℕ) (r : Related) : Type 0 where
-  pub moved : Moved (L .bits) W X
+-- the steps of f with so much counted before: what they leave of the words, and the book's outcome
+abbrev pub RanFor : Limits → View → View → Scene → Form → Count → Taken → Type 0
+RanFor L W X σ f count o = Ran (L .bits) (L .rows) W X (σ .roots) (pairsFit (L .bits) (L .limit) (σ .fns) f) (pairF (L .bits) f) (pairsCount (L .bits) (σ .fns) f count) o
+
+-- the evaluation of f: its steps, and the live part of the stack as it was
+pub record Relates (L : Limits) (W X : View) (stack after : List ℕ) (held : ℕ) (count : Count) (σ : Scene) (f : Form) (e : ℕ) (r : Related) : Type 0 where
+  pub ran : RanFor L W X σ f count (takenOf r)
   pub kept : take held after ≡ take held stack
-  pub evals : PairEvals (L .bits) (L .rows) (rowsOf W) (rowsOf X) (σ .roots) (pairsFit (L .bits) (L .limit) (σ .fns) f) (pairF (L .bits) f) (resultOf r)
   pub end : EndsAt e r
 
 -- a step's result as an answer
-abbrev pub fromMade : ℕ → Made → Related
-fromMade e (made.At a) = Value a e
-fromMade e made.Full = Full
+abbrev pub fromTaken : ℕ → Taken → Related
+fromTaken e (taken.At a c) = Value a e c
+fromTaken e taken.Full = Full
 
 -- ---- what the functions ask, and what they promise in every scene that the words and the stack hold
 
@@ -67,12 +72,12 @@ pub record RelatePre (L : Limits) (W : View) (stack bs : List ℕ) (at depth hel
   pub ready : Ready L W stack noPlaces held scene
   pub stands : Stands (L .bits) Pairs bs at depth form end
 
-pub record RelatePost (L : Limits) (W X : View) (stack after bs : List ℕ) (at depth held : ℕ) (r : Related) : Type 0 where
-  pub answers : (σ : Scene) (f : Form) (e : ℕ) → Ready L W stack noPlaces held σ → Stands (L .bits) Pairs bs at depth f e → Relates L W X stack after held σ f e r
+pub record RelatePost (L : Limits) (W X : View) (stack after bs : List ℕ) (at depth held : ℕ) (count : Count) (r : Related) : Type 0 where
+  pub answers : (σ : Scene) (f : Form) (e : ℕ) → Ready L W stack noPlaces held σ → Stands (L .bits) Pairs bs at depth f e → Relates L W X stack after held count σ f e r
 
 -- NOT: f is its part, of which it asks what evaluating it does
-pub record NegatePost (L : Limits) (W X : View) (stack after bs : List ℕ) (at depth held : ℕ) (r : Related) : Type 0 where
-  pub answers : (σ : Scene) (f : Form) (e : ℕ) → Ready L W stack noPlaces held σ → Stands (L .bits) Pairs bs at depth f e → Relates L W X stack after held σ (neg f) e r
+pub record NegatePost (L : Limits) (W X : View) (stack after bs : List ℕ) (at depth held : ℕ) (count : Count) (r : Related) : Type 0 where
+  pub answers : (σ : Scene) (f : Form) (e : ℕ) → Ready L W stack noPlaces held σ → Stands (L .bits) Pairs bs at depth f e → Relates L W X stack after held count σ (neg f) e r
 
 -- AND and OR: f and, after it, g are the parts
 pub record BothPre (L : Limits) (W : View) (stack bs : List ℕ) (at depth held : ℕ) : Type 0 where
@@ -86,9 +91,9 @@ pub record BothPre (L : Limits) (W : View) (stack bs : List ℕ) (at depth held 
   pub first : Stands (L .bits) Pairs bs at depth left middle
   pub second : Stands (L .bits) Pairs bs middle depth right end
 
-pub record BothPost (L : Limits) (W X : View) (stack after bs : List ℕ) (at depth held : ℕ) (j : Join) (r : Related) : Type 0 where
+pub record BothPost (L : Limits) (W X : View) (stack after bs : List ℕ) (at depth held : ℕ) (j : Join) (count : Count) (r : Related) : Type 0 where
   pub answers : (σ : Scene) (f g : Form) (m e : ℕ) → Ready L W stack noPlaces held σ → Stands (L .bits) Pairs bs at depth f m → Stands (L .bits) Pairs bs m depth g e
-      → Relates L W X stack after held σ (joinForm j f g) e r
+      → Relates L W X stack after held count σ (joinForm j f g) e r
 
 -- a leaf
 pub record LeafPre (L : Limits) (W : View) (stack : List ℕ) (held : ℕ) (l : Leaf) : Type 0 where
@@ -96,8 +101,8 @@ pub record LeafPre (L : Limits) (W : View) (stack : List ℕ) (held : ℕ) (l : 
   pub ready : Ready L W stack noPlaces held scene
   pub taken : leafAllowed l (L .bits) Pairs ≡ true
 
-pub record LeafPost (L : Limits) (W X : View) (stack : List ℕ) (held : ℕ) (l : Leaf) (o : Made) : Type 0 where
-  pub answers : (σ : Scene) → Ready L W stack noPlaces held σ → Ran (L .bits) (L .rows) W X (σ .roots) (pairsFit (L .bits) (L .limit) (σ .fns) (leafForm l)) (pairF (L .bits) (leafForm l)) o
+pub record LeafPost (L : Limits) (W X : View) (stack : List ℕ) (held : ℕ) (l : Leaf) (count : Count) (o : Taken) : Type 0 where
+  pub answers : (σ : Scene) → Ready L W stack noPlaces held σ → RanFor L W X σ (leafForm l) count o
 
 -- ---- the whole call's formula
 
@@ -109,9 +114,10 @@ pub record PairsPre (L : Limits) (W : View) (bs : List ℕ) : Type 0 where
   pub limit : L .limit ≤ L .rows
   pub passed : checks (bookIn W) Relation bs ≡ 0
 
--- a sound table with the rows that registers and relations need, nothing else touched, and the outcome of the book's steps: the relation, or 8
-pub record PairsPost (L : Limits) (W X : View) (bs : List ℕ) (o : Made) : Type 0 where
+-- a sound table with the rows that registers and relations need, nothing else touched, and the outcome of the book's steps: the relation with its peak, or 8
+pub record PairsPost (L : Limits) (W X : View) (bs : List ℕ) (o : Taken) : Type 0 where
   pub sound : Sound X
   pub frame : OpFrame W X
   pub evals : PairEvals (bookIn W .n) (bookIn W .N) (rowsOf W) (rowsOf X) (rootsOf (seenIn W))
-      (pairsFit (bookIn W .n) (L .limit) (liveOf (bookIn W)) (formulaIn (bookIn W) Relation bs)) (pairF (bookIn W .n) (formulaIn (bookIn W) Relation bs)) (result o)
+      (pairsFit (bookIn W .n) (L .limit) (liveOf (bookIn W)) (formulaIn (bookIn W) Relation bs)) (pairF (bookIn W .n) (formulaIn (bookIn W) Relation bs))
+      (pairsCount (bookIn W .n) (liveOf (bookIn W)) (formulaIn (bookIn W) Relation bs) nothing) (result (madeIn o)) (countIn o)

@@ -1,13 +1,17 @@
 // The evaluation of a relation's formula from its bytes, over the words of a table.
+use accounts::Count;
+use counting::Counts;
+use counting::Taken;
+use counting::begin;
 use evaluator::Stack;
 use evaluator::join_of;
 use evaluator::live_step;
+use evaluator::unmoved;
 use formula::Frame;
 use layout::Table;
 use memory::forget;
 use modal::Limits;
 use steps::Step;
-use table::Made;
 use tokens::Grammar;
 use tokens::Join;
 use tokens::Lead;
@@ -17,54 +21,80 @@ use tokens::Two;
 use tokens::lead_at;
 ghost use mathlib.Core.Path.{_≡_};
 ghost use Rattle.layout.specs.View.{view};
-ghost use Rattle.pairs.specs.Pairing.{fromMade, LeafPre, LeafPost, RelatePre, RelatePost, NegatePost, BothPre, BothPost, PairsPre, PairsPost};
+ghost use Rattle.counting.specs.Counts.{CountsOf};
+ghost use Rattle.pairs.specs.Pairing.{fromTaken, LeafPre, LeafPost, RelatePre, RelatePost, NegatePost, BothPre, BothPost, PairsPre, PairsPost};
 
-// What an evaluation answers: the arrow of the relation and the place after the formula, or that rows ran out.
+// What an evaluation answers: the arrow of the relation, the place after the formula and what is counted; or that rows ran out.
 pub enum Related {
-    Value { arrow: u32, next: usize },
+    Value {
+        arrow: u32,
+        next: usize,
+        count: Count,
+    },
     Full,
 }
 
 // A step's result as an answer.
-fn answer(made: Made, next: usize) -> Related
-    ensures { λ r. ⌜ r ≡ fromMade next made ⌝ }
+fn answer(taken: Taken, next: usize) -> Related
+    ensures { λ r. ⌜ r ≡ fromTaken next taken ⌝ }
 {
-    match made {
-        Made::At(a) => Related::Value {
+    match taken {
+        Taken::At { arrow: a, count: c } => Related::Value {
             arrow: a,
             next: next,
+            count: c,
         },
-        Made::Full => Related::Full,
+        Taken::Full => Related::Full,
     }
 }
 
 // A leaf: constants take no step, a current or next bit is one. A relation's formula has no other.
-fn leaf(words: &mut [u32], stack: &[u32], limits: Limits, held: usize, l: Leaf) -> Made
-    requires { ⌜ LeafPre limits (view (limits .rows) (now words)) (now stack) held l ⌝ }
-    ensures { λ r. ⌜ LeafPost limits (view (limits .rows) (now (words .entry))) (view (limits .rows) (now (words .exit))) (now (stack .entry)) held l r ⌝ }
+fn leaf(
+    words: &mut [u32],
+    counts: &mut [u32],
+    stack: &[u32],
+    limits: Limits,
+    held: usize,
+    l: Leaf,
+    count: Count,
+) -> Taken
+    requires { ⌜ LeafPre limits (view (limits .rows) (now words)) (now stack) held l × CountsOf (view (limits .rows) (now words)) (now counts) ⌝ }
+    ensures { λ r. ⌜ LeafPost limits (view (limits .rows) (now (words .entry))) (view (limits .rows) (now (words .exit))) (now (stack .entry)) held l count r × CountsOf (view (limits .rows) (now (words .exit))) (now (counts .exit)) ⌝ }
 {
     match l {
-        Leaf::False => Made::At(Table::NOTHING),
-        Leaf::True => Made::At(Table::EVERYTHING),
-        Leaf::Now(p) => live_step(words, stack, limits, held, Step::Bit(2 * p)),
-        Leaf::Next(p) => live_step(words, stack, limits, held, Step::Bit(2 * p + 1)),
-        Leaf::Var(_) => Made::Full,
-        Leaf::Reg(_) => Made::Full,
+        Leaf::False => unmoved(Table::NOTHING, count),
+        Leaf::True => unmoved(Table::EVERYTHING, count),
+        Leaf::Now(p) => { live_step(words, counts, stack, limits, held, Step::Bit(2 * p), count) }
+        Leaf::Next(p) => {
+            live_step(
+                words,
+                counts,
+                stack,
+                limits,
+                held,
+                Step::Bit(2 * p + 1),
+                count,
+            )
+        }
+        Leaf::Var(_) => Taken::Full,
+        Leaf::Reg(_) => Taken::Full,
     }
 }
 
 // Evaluates the formula at `at`, of depth at most `depth`. The first `held` words of the stack are live.
 fn relate(
     words: &mut [u32],
+    counts: &mut [u32],
     stack: &mut [u32],
     bytes: &[u8],
     limits: Limits,
     at: usize,
     depth: usize,
     held: usize,
+    count: Count,
 ) -> Related
-    requires { ⌜ RelatePre limits (view (limits .rows) (now words)) (now stack) (now bytes) at depth held ⌝ }
-    ensures { λ r. ⌜ RelatePost limits (view (limits .rows) (now (words .entry))) (view (limits .rows) (now (words .exit))) (now (stack .entry)) (now (stack .exit)) (now (bytes .entry)) at depth held r ⌝ }
+    requires { ⌜ RelatePre limits (view (limits .rows) (now words)) (now stack) (now bytes) at depth held × CountsOf (view (limits .rows) (now words)) (now counts) ⌝ }
+    ensures { λ r. ⌜ RelatePost limits (view (limits .rows) (now (words .entry))) (view (limits .rows) (now (words .exit))) (now (stack .entry)) (now (stack .exit)) (now (bytes .entry)) at depth held count r × CountsOf (view (limits .rows) (now (words .exit))) (now (counts .exit)) ⌝ }
 {
     let Lead::Is(t) = lead_at(bytes, limits.bits, Grammar::Pairs, at) else {
         return Related::Full;
@@ -72,10 +102,21 @@ fn relate(
     let next = at + 1;
     let left = depth - 1;
     match t {
-        Token::Leaf(l) => answer(leaf(words, stack, limits, held, l), next),
-        Token::Not => negate(words, stack, bytes, limits, next, left, held),
+        Token::Leaf(l) => answer(leaf(words, counts, stack, limits, held, l, count), next),
+        Token::Not => negate(words, counts, stack, bytes, limits, next, left, held, count),
         Token::Both(w) => match w {
-            Two::Join(j) => both(words, stack, bytes, limits, next, left, held, j),
+            Two::Join(j) => both(
+                words,
+                counts,
+                stack,
+                bytes,
+                limits,
+                next,
+                left,
+                held,
+                j,
+                count,
+            ),
             Two::Until(_, _) => Related::Full,
         },
         Token::Modal(_, _) => Related::Full,
@@ -86,30 +127,34 @@ fn relate(
 // Evaluates the formula at `at`, and takes the step NOT.
 fn negate(
     words: &mut [u32],
+    counts: &mut [u32],
     stack: &mut [u32],
     bytes: &[u8],
     limits: Limits,
     at: usize,
     depth: usize,
     held: usize,
+    count: Count,
 ) -> Related
-    requires { ⌜ RelatePre limits (view (limits .rows) (now words)) (now stack) (now bytes) at depth held ⌝ }
-    ensures { λ r. ⌜ NegatePost limits (view (limits .rows) (now (words .entry))) (view (limits .rows) (now (words .exit))) (now (stack .entry)) (now (stack .exit)) (now (bytes .entry)) at depth held r ⌝ }
+    requires { ⌜ RelatePre limits (view (limits .rows) (now words)) (now stack) (now bytes) at depth held × CountsOf (view (limits .rows) (now words)) (now counts) ⌝ }
+    ensures { λ r. ⌜ NegatePost limits (view (limits .rows) (now (words .entry))) (view (limits .rows) (now (words .exit))) (now (stack .entry)) (now (stack .exit)) (now (bytes .entry)) at depth held count r × CountsOf (view (limits .rows) (now (words .exit))) (now (counts .exit)) ⌝ }
 {
     let Related::Value {
         arrow: a,
         next: end,
-    } = relate(words, stack, bytes, limits, at, depth, held)
+        count: counted,
+    } = relate(words, counts, stack, bytes, limits, at, depth, held, count)
     else {
         return Related::Full;
     };
-    let made = live_step(words, stack, limits, held, Step::Not(a));
-    answer(made, end)
+    let taken = live_step(words, counts, stack, limits, held, Step::Not(a), counted);
+    answer(taken, end)
 }
 
 // Evaluates the two formulas from `at` on, the first one's value being live meanwhile, and takes the step AND or OR.
 fn both(
     words: &mut [u32],
+    counts: &mut [u32],
     stack: &mut [u32],
     bytes: &[u8],
     limits: Limits,
@@ -117,14 +162,16 @@ fn both(
     depth: usize,
     held: usize,
     j: Join,
+    count: Count,
 ) -> Related
-    requires { ⌜ BothPre limits (view (limits .rows) (now words)) (now stack) (now bytes) at depth held ⌝ }
-    ensures { λ r. ⌜ BothPost limits (view (limits .rows) (now (words .entry))) (view (limits .rows) (now (words .exit))) (now (stack .entry)) (now (stack .exit)) (now (bytes .entry)) at depth held j r ⌝ }
+    requires { ⌜ BothPre limits (view (limits .rows) (now words)) (now stack) (now bytes) at depth held × CountsOf (view (limits .rows) (now words)) (now counts) ⌝ }
+    ensures { λ r. ⌜ BothPost limits (view (limits .rows) (now (words .entry))) (view (limits .rows) (now (words .exit))) (now (stack .entry)) (now (stack .exit)) (now (bytes .entry)) at depth held j count r × CountsOf (view (limits .rows) (now (words .exit))) (now (counts .exit)) ⌝ }
 {
     let Related::Value {
         arrow: a,
         next: middle,
-    } = relate(words, stack, bytes, limits, at, depth, held)
+        count: counted,
+    } = relate(words, counts, stack, bytes, limits, at, depth, held, count)
     else {
         return Related::Full;
     };
@@ -132,31 +179,51 @@ fn both(
     let Related::Value {
         arrow: b,
         next: end,
-    } = relate(words, stack, bytes, limits, middle, depth, held + 1)
+        count: total,
+    } = relate(
+        words,
+        counts,
+        stack,
+        bytes,
+        limits,
+        middle,
+        depth,
+        held + 1,
+        counted,
+    )
     else {
         return Related::Full;
     };
-    let made = live_step(words, stack, limits, held, join_of(j, a, b));
-    answer(made, end)
+    let taken = live_step(words, counts, stack, limits, held, join_of(j, a, b), total);
+    answer(taken, end)
 }
 
 // Evaluates the relation's formula in `bytes`, which has passed the checks, with nothing remembered before.
-pub fn evaluate_pairs(words: &mut [u32], limits: Limits, bytes: &[u8]) -> Made
+pub fn evaluate_pairs(words: &mut [u32], limits: Limits, bytes: &[u8]) -> Taken
     requires { ⌜ PairsPre limits (view (limits .rows) (now words)) (now bytes) ⌝ }
     ensures { λ r. ⌜ PairsPost limits (view (limits .rows) (now (words .entry))) (view (limits .rows) (now (words .exit))) (now (bytes .entry)) r ⌝ }
 {
     forget(words, limits.rows);
+    let mut counts = [0u32; Counts::WORDS];
+    begin(words, limits.rows, &mut counts);
     let mut stack = [0u32; Stack::WORDS];
-    let Related::Value { arrow: a, next: _ } = relate(
+    let Related::Value {
+        arrow: a,
+        next: _,
+        count: c,
+    } = relate(
         words,
+        &mut counts,
         &mut stack,
         bytes,
         limits,
         Frame::START,
         Table::DEPTH,
         0,
-    ) else {
-        return Made::Full;
+        Count { rounds: 0, peak: 0 },
+    )
+    else {
+        return Taken::Full;
     };
-    Made::At(a)
+    unmoved(a, c)
 }

@@ -21,7 +21,7 @@ use Rattle.commands.specs.Obey.{shownReply, replyOf, Posted, Obeys}
 use Rattle.records.specs.Text.{Wrote, wrote-then}
 use Rattle.player.specs.declared.Played.{Played}
 use Rattle.player.specs.declared.Played.the-variants as played
-use Rattle.player.specs.Play.{Entry, outcomeWords, commandsOf, wordsOf, Chain, done, next, Since, noted, since, Standing, commands, AllPost, DonePost, PlayPost, entriesOf}
+use Rattle.player.specs.Play.{Entry, entryWords, outcomeWords, commandsOf, wordsOf, Chain, done, next, Since, noted, since, Standing, commands, AllPost, DonePost, PlayPost, entriesOf}
 use Rattle.player.specs.Passes.{some-inj, Passed, passed-none, passed-next, passed-all, passed-left}
 
 -- ---- sessions
@@ -77,7 +77,7 @@ pub commands-length : (l : List Entry) → length (commandsOf l) ≡ length l
 commands-length [] = refl
 commands-length (e ∷ l) = ap suc (commands-length l)
 
-words-length : (l : List Entry) → length (wordsOf l) ≡ length l * 4
+words-length : (l : List Entry) → length (wordsOf l) ≡ length l * entryWords
 words-length [] = refl
 words-length (e ∷ l) = omega (arith, words-length l)
 
@@ -85,7 +85,7 @@ words-length (e ∷ l) = omega (arith, words-length l)
 pub record Progress (bs w₀ l₀ : List ℕ) (at place : ℕ) (w l : List ℕ) : Type 0 where
   pub entries : List Entry
   pub passed : Passed bs at (commandsOf entries)
-  pub placed : place ≡ length entries * 4
+  pub placed : place ≡ length entries * entryWords
   pub chain : Chain w₀ entries w
   pub listed : Wrote l₀ 0 (wordsOf entries) l place
 
@@ -94,20 +94,20 @@ progress-none bs w l = record { entries = []; passed = passed-none bs; placed = 
 
 pub progress-next : {bs w₀ l₀ w l w′ l′ : List ℕ} {at place : ℕ} (r : ℕ) (e : Entry) → Progress bs w₀ l₀ at place w l → at < length bs
     → commandAt (drop at bs) ≡ some (e .command) → r ≡ 2 + recordLength (drop at bs) → r ≤ length (drop at bs) → Obeys (e .command) w w′ (e .outcome)
-    → l′ ≡ sets l place (outcomeWords (e .outcome)) → Progress bs w₀ l₀ (at + r) (place + 4) w′ l′
+    → l′ ≡ sets l place (outcomeWords (e .outcome)) → Progress bs w₀ l₀ (at + r) (place + entryWords) w′ l′
 progress-next {bs} {w₀} {l₀} {w} {l} {w′} {l′} {at} {place} r e p h read size within o i = record {
   entries = p .entries ++ (e ∷ []);
   passed = subst (Passed bs (at + r)) (sym (commands-last (p .entries) e)) (passed-next (e .command) r (p .passed) h read size within);
   placed = omega (arith, p .placed, length-append (p .entries) (e ∷ []));
   chain = chain-last e (p .chain) o;
   listed =
-      subst (λ (ws : List ℕ). Wrote l₀ 0 ws l′ (place + 4)) (sym (words-last (p .entries) e))
+      subst (λ (ws : List ℕ). Wrote l₀ 0 ws l′ (place + entryWords)) (sym (words-last (p .entries) e))
       (wrote-then (wordsOf (p .entries)) (outcomeWords (e .outcome)) (p .listed) record { contents = i; past = refl });
 }
 
 -- there is room for the next outcome
-pub room-at : {bs w₀ l₀ w l : List ℕ} {at place : ℕ} {cs : List Command} → Progress bs w₀ l₀ at place w l → commands bs ≡ some cs → length cs * 4 ≤ length l₀ → at < length bs
-    → place + 4 ≤ length l₀
+pub room-at : {bs w₀ l₀ w l : List ℕ} {at place : ℕ} {cs : List Command} → Progress bs w₀ l₀ at place w l → commands bs ≡ some cs → length cs * entryWords ≤ length l₀ → at < length bs
+    → place + entryWords ≤ length l₀
 room-at {cs = cs} p e room h = omega (arith, p .placed, passed-left cs (p .passed) e h .1, commands-length (p .entries))
 
 pub progress-all : {bs w₀ l₀ w l : List ℕ} {at place : ℕ} → Progress bs w₀ l₀ at place w l → length bs ≤ at → AllPost bs w₀ w l₀ l

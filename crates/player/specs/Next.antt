@@ -63,11 +63,12 @@ Other Bad = Unit {0}
 pub next-other : (bs w w′ : List ℕ) {r : Taken} (q : Taken) → 1 ≤ length bs → Readable bs → TakePost bs true w w′ r → r ≡ q → Other q → ⊥
 next-other bs w w′ q h e p i o = let t = took bs {w = w} {w′ = w′} h e p in subst Other (sym i ∙ t .is) o
 
--- ---- the four words of an outcome
+-- ---- the five words of an outcome
 
-pub put-four : (l : List ℕ) (at a b c d : ℕ) → set (set (set (set l at a) (at + 1) b) (at + 2) c) (at + 3) d ≡ sets l at (a ∷ b ∷ c ∷ d ∷ [])
-put-four l at a b c d =
+pub put-five : (l : List ℕ) (at a b c d e : ℕ) → set (set (set (set (set l at a) (at + 1) b) (at + 2) c) (at + 3) d) (at + 4) e ≡ sets l at (a ∷ b ∷ c ∷ d ∷ e ∷ [])
+put-five l at a b c d e =
     let p : at + 1 ≡ suc at = omega arith in
     let q : at + 2 ≡ suc (suc at) = omega arith in
     let r : at + 3 ≡ suc (suc (suc at)) = omega arith in
-    rw (p, q, r) refl
+    let s : at + 4 ≡ suc (suc (suc (suc at))) = omega arith in
+    rw (p, q, r, s) refl

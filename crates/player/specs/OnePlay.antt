@@ -36,9 +36,9 @@ use Rattle.player.specs.declared.Played.the-variants as played
 use Rattle.player.specs.Play.{commands, Entry, commandsOf, Chain, done, next, AllPost, DonePost, PlayPost}
 use Rattle.player.specs.Chained.{commands-length}
 
--- an outcome's four words; of a node number only whether it is 0, 1 or above
+-- an outcome's five words; of a node number only whether it is 0, 1 or above
 abbrev pub settledWords : Outcome → List ℕ
-settledWords x = x .number ∷ min (x .node) 2 ∷ x .rounds ∷ x .value ∷ []
+settledWords x = x .number ∷ min (x .node) 2 ∷ x .rounds ∷ x .value ∷ x .peak ∷ []
 
 abbrev pub settledList : List Entry → List ℕ
 settledList [] = []
@@ -56,10 +56,11 @@ alike-ends {a} {b} {v} {w} i j h = subst (λ (x : List ℕ). Alike v x) (sym j) 
 
 -- ---- one command on words alike
 
--- a call's number, rounds and value, and words alike again
+-- a call's number, rounds, peak and value, and words alike again
 record Steps (c : Call) (v w : List ℕ) (y z : Reply) : Type 0 where
   number : y .number ≡ z .number
   rounds : y .rounds ≡ z .rounds
+  peak : y .peak ≡ z .peak
   value : settledIn c (y .value) ≡ settledIn c (z .value)
   ends : Alike v w
 
@@ -67,6 +68,7 @@ call-steps : (c : Call) {a b v w : List ℕ} {y z : Reply} → Alike a b → Cal
 call-steps c {a} {b} {v} {w} {y} {z} h p q = record {
   number = s .1 .agrees .number ∙ sym (t .agrees .number);
   rounds = s .1 .agrees .rounds ∙ sym (t .agrees .rounds);
+  peak = s .1 .agrees .peak ∙ sym (t .agrees .peak);
   value = call-value c (bookOf (seen a)) (s .1) t;
   ends = record {
     first = s .0;
@@ -108,7 +110,7 @@ fresh-steps n N a b v w x z h o p q = go (freshNumber n N (length a) 1) refl
     go zero e =
         let (f, sv, ev) = p .0 .answers e in
         let (g, sw, ew) = q .0 .answers (there zero e) in (
-          plain-one o (f .0 ∙ sym (g .0)) (f .1 ∙ sym (g .1)) (f .2 ∙ sym (g .2)) (p .2) (q .2),
+          plain-one o (f .0 ∙ sym (g .0)) (f .1 ∙ sym (g .1)) (f .3 ∙ sym (g .3)) (f .2 ∙ sym (g .2)) (p .2) (q .2),
           record {
             first = sv;
             second = sw;
@@ -119,7 +121,7 @@ fresh-steps n N a b v w x z h o p q = go (freshNumber n N (length a) 1) refl
     go (suc k) e =
         let (f, i) = p .0 .refuses k e in
         let (g, j) = q .0 .refuses k (there (suc k) e) in
-        (plain-one o (f .0 ∙ sym (g .0)) (f .1 ∙ sym (g .1)) (f .2 ∙ sym (g .2)) (p .2) (q .2), alike-ends i j h)
+        (plain-one o (f .0 ∙ sym (g .0)) (f .1 ∙ sym (g .1)) (f .3 ∙ sym (g .3)) (f .2 ∙ sym (g .2)) (p .2) (q .2), alike-ends i j h)
 
 count-steps : (r : ℕ) (a b v w : List ℕ) (x z : Outcome) → Alike a b → x .operation ≡ z .operation → Posted (states r) a v x → Posted (states r) b w z → OneOutcome x z × Alike v w
 count-steps r a b v w x z h o p q =
@@ -127,20 +129,20 @@ count-steps r a b v w x z h o p q =
     let t = subst (λ (k : Book). Agrees (answer k (count r)) (shownReply z)) (sym (h .book)) (q .1 .told (h .second) .agrees) in
     let first : Tells (bookOf (seen a)) (count r) (seen a .reg) (shownReply x) = record { agrees = s; nodeSays = tt } in
     let second : Tells (bookOf (seen a)) (count r) (seen a .reg) (shownReply z) = record { agrees = t; nodeSays = tt } in
-    (plain-one o (s .number ∙ sym (t .number)) (s .rounds ∙ sym (t .rounds)) (ask-value (count r) (bookOf (seen a)) (seen a .reg) first second) (p .2) (q .2), alike-ends (p .0) (q .0) h)
+    (plain-one o (s .number ∙ sym (t .number)) (s .rounds ∙ sym (t .rounds)) (ask-value (count r) (bookOf (seen a)) (seen a .reg) first second) (s .peak ∙ sym (t .peak)) (p .2) (q .2), alike-ends (p .0) (q .0) h)
 
 step-one : (c : Command) {a b v w : List ℕ} {x z : Outcome} → Alike a b → Obeys c a v x → Obeys c b w z → OneOutcome x z × Alike v w
 step-one (start n N) {a} {b} {v} {w} {x} {z} h p q = fresh-steps n N a b v w x z h (p .operation ∙ sym (q .operation)) (p .posted) (q .posted)
 step-one (states r) {a} {b} {v} {w} {x} {z} h p q = count-steps r a b v w x z h (p .operation ∙ sym (q .operation)) (p .posted) (q .posted)
 step-one (call (relation t bs)) h p q =
     let s = call-steps (relation t bs) h (p .posted .0) (q .posted .0) in
-    (plain-one (p .operation ∙ sym (q .operation)) (s .number) (s .rounds) (s .value) (p .posted .1) (q .posted .1), s .ends)
+    (plain-one (p .operation ∙ sym (q .operation)) (s .number) (s .rounds) (s .value) (s .peak) (p .posted .1) (q .posted .1), s .ends)
 step-one (call (clear r)) h p q =
     let s = call-steps (clear r) h (p .posted .0) (q .posted .0) in
-    (plain-one (p .operation ∙ sym (q .operation)) (s .number) (s .rounds) (s .value) (p .posted .1) (q .posted .1), s .ends)
+    (plain-one (p .operation ∙ sym (q .operation)) (s .number) (s .rounds) (s .value) (s .peak) (p .posted .1) (q .posted .1), s .ends)
 step-one (call collect) h p q =
     let s = call-steps collect h (p .posted .0) (q .posted .0) in
-    (plain-one (p .operation ∙ sym (q .operation)) (s .number) (s .rounds) (s .value) (p .posted .1) (q .posted .1), s .ends)
+    (plain-one (p .operation ∙ sym (q .operation)) (s .number) (s .rounds) (s .value) (s .peak) (p .posted .1) (q .posted .1), s .ends)
 step-one (call (set acc r R bs)) {a} {b} {v} {w} {x} {z} h p q =
     let s = call-steps (set acc r R bs) h (p .posted .0) (q .posted .0) in (
       record {
@@ -148,6 +150,7 @@ step-one (call (set acc r R bs)) {a} {b} {v} {w} {x} {z} h p q =
         number = s .number;
         rounds = s .rounds;
         value = set-states acc r R bs a b v w x z (h .book) (p .posted) (q .posted) (s .number);
+        peak = s .peak;
         node = s .value;
       },
       s .ends,
@@ -167,7 +170,7 @@ joined : {x y k l : List ℕ} → x ≡ y → k ≡ l → x ++ k ≡ y ++ l
 joined d e = ap₂ _++_ d e
 
 settled-words : {x z : Outcome} → OneOutcome x z → settledWords x ≡ settledWords z
-settled-words o = λ i. o .number i ∷ o .node i ∷ o .rounds i ∷ o .value i ∷ []
+settled-words o = λ i. o .number i ∷ o .node i ∷ o .rounds i ∷ o .value i ∷ o .peak i ∷ []
 
 -- two chains of the same commands, from the same words or from words alike
 pub chain-one : {a b v w : List ℕ} {k l : List Entry} → (a ≡ b) ⊎ Alike a b → Chain a k v → Chain b l w → commandsOf k ≡ commandsOf l → settledList k ≡ settledList l

@@ -42,9 +42,12 @@ pub record Entry : Type 0 where
   pub command : Command
   pub outcome : Outcome
 
--- the list's words for an outcome: number, node, rounds, value
+-- the list's words for an outcome: number, node, rounds, value, peak
+abbrev pub entryWords : ℕ
+entryWords = 5
+
 abbrev pub outcomeWords : Outcome → List ℕ
-outcomeWords x = x .number ∷ x .node ∷ x .rounds ∷ x .value ∷ []
+outcomeWords x = x .number ∷ x .node ∷ x .rounds ∷ x .value ∷ x .peak ∷ []
 
 abbrev pub commandsOf : List Entry → List Command
 commandsOf [] = []
@@ -117,7 +120,7 @@ pub record NextPost (bs w w′ l l′ : List ℕ) (at r : ℕ) : Type 0 where
 
 -- there is room for every outcome
 abbrev pub AllPre : List ℕ → List ℕ → Type 0
-AllPre bs l = (cs : List Command) × (commands bs ≡ some cs) × (length cs * 4 ≤ length l)
+AllPre bs l = (cs : List Command) × (commands bs ≡ some cs) × (length cs * entryWords ≤ length l)
 
 -- every record was obeyed in order, and its outcome stands in the list, all else of which is as it was
 pub record AllPost (bs w w′ l l′ : List ℕ) : Type 0 where
@@ -140,8 +143,8 @@ Unchanged w w′ l l′ = (w′ ≡ w) × (l′ ≡ l)
 
 -- the list's room decides, once all records can be read
 abbrev pub PlayPost : List ℕ → List ℕ → List ℕ → List ℕ → List ℕ → Played → Type 0
-PlayPost bs w w′ l l′ (played.Done k) = (k * 4 ≤ length l) × DonePost bs w w′ l l′ k
-PlayPost bs w w′ l l′ played.Short = ((cs : List Command) × (commands bs ≡ some cs) × (length l < length cs * 4)) × Unchanged w w′ l l′
+PlayPost bs w w′ l l′ (played.Done k) = (k * entryWords ≤ length l) × DonePost bs w w′ l l′ k
+PlayPost bs w w′ l l′ played.Short = ((cs : List Command) × (commands bs ≡ some cs) × (length l < length cs * entryWords)) × Unchanged w w′ l l′
 PlayPost bs w w′ l l′ played.Unreadable = (commands bs ≡ none) × Unchanged w w′ l l′
 
 -- the commands that were obeyed, with what they returned

@@ -8,7 +8,7 @@ ghost use mathlib.Core.Path.{_≡_};
 ghost use Prim.Native.Nat.{_+_, _*_, _≤_, _<_};
 ghost use lib.ListN.{length, drop};
 ghost use lib.Seq.{sets};
-ghost use Rattle.player.specs.Play.{SizePost, CountPost, outcomeWords, Readable, NextPost, AllPre, AllPost, PlayPost};
+ghost use Rattle.player.specs.Play.{SizePost, CountPost, entryWords, outcomeWords, Readable, NextPost, AllPre, AllPost, PlayPost};
 
 // What a list of calls came to: so many records were obeyed; or, with nothing changed, there was no room for their outcomes or a record could not be read.
 pub enum Played {
@@ -23,11 +23,11 @@ enum Counted {
     Unreadable,
 }
 
-// The words of an outcome in the list: number, node, rounds, value.
+// The words of an outcome in the list: number, node, rounds, value, peak.
 pub struct Entry;
 
 impl Entry {
-    pub const WORDS: usize = 4;
+    pub const WORDS: usize = 5;
 }
 
 // The size of the record at the front of the bytes, 0 where none can be read.
@@ -64,18 +64,19 @@ fn count_records(bytes: &[u8]) -> Counted
 
 // Writes an outcome to the list.
 fn put_outcome(list: &mut [u32], at: usize, x: Outcome)
-    requires { ⌜ at + 4 ≤ length (now list) ⌝ }
+    requires { ⌜ at + entryWords ≤ length (now list) ⌝ }
     ensures { λ _. ⌜ now (list .exit) ≡ sets (now (list .entry)) at (outcomeWords x) ⌝ }
 {
     list[at] = x.number;
     list[at + 1] = x.node;
     list[at + 2] = x.rounds;
     list[at + 3] = x.value;
+    list[at + 4] = x.peak;
 }
 
 // Obeys the record at the front of the bytes, writes its outcome to the list, and answers its size.
 fn obey_next(words: &mut [u32], bytes: &[u8], list: &mut [u32], at: usize) -> usize
-    requires { ⌜ (1 ≤ length (now bytes)) × Readable (now bytes) × (at + 4 ≤ length (now list)) ⌝ }
+    requires { ⌜ (1 ≤ length (now bytes)) × Readable (now bytes) × (at + entryWords ≤ length (now list)) ⌝ }
     ensures { λ r. ⌜ NextPost (now (bytes .entry)) (now (words .entry)) (now (words .exit)) (now (list .entry)) (now (list .exit)) at r ⌝ }
 {
     match take_record(words, bytes, true) {
@@ -102,7 +103,7 @@ fn obey_all(words: &mut [u32], bytes: &[u8], list: &mut [u32])
     }
 }
 
-// Plays the calls of all records in order, and writes number, node, rounds and value of each to the list.
+// Plays the calls of all records in order, and writes number, node, rounds, value and peak of each to the list.
 pub fn play(words: &mut [u32], bytes: &[u8], list: &mut [u32]) -> Played
     ensures { λ r. ⌜ PlayPost (now (bytes .entry)) (now (words .entry)) (now (words .exit)) (now (list .entry)) (now (list .exit)) r ⌝ }
 {

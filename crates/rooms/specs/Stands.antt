@@ -64,11 +64,11 @@ module _ (o : Option Book) (n N : ℕ) (old new : List ℕ) (x : Outcome) (z : l
       go : (t : Bool) → freshFits n N wordsLent ≡ t → Obeyed (cond t (some (fresh n N), fields 1 0 0 0) (o, fields 1 1 0 0)) new x
       go true i =
           let (y, w, m) = p .0 .answers (ap (λ (t : Bool). cond t 0 1) (lent ∙ i)) in
-          let (a, b, c) = y in
+          let (a, b, d, c) = y in
           record { line = cc; stands = (ap (λ (v : View). v .size) (p .1 a) ∙ z, w, only-book (fresh n N) (seen new) (whole-fresh n N) (shows-fresh n N (seen new) m)) }
       go false i =
           let (y, w) = p .0 .refuses 0 (ap (λ (t : Bool). cond t 0 1) (lent ∙ i)) in
-          let (a, b, c) = y in
+          let (a, b, d, c) = y in
           record { line = cc; stands = subst (Stands o) (sym w) s }
 
 -- ---- a call on unsound words
@@ -96,7 +96,7 @@ reply-rounds collect x = refl
 none-obeyed : (c : Call) (old new : List ℕ) (x : Outcome) → Stands none old → x .operation ≡ opOf c → Posted (call c) old new x → Obeyed (obey none (call c)) new x
 none-obeyed c old new x s e p =
     let (y, w) = p .0 .performs .unsound (s .1) in
-    let (a, b, v) = y in
+    let (a, b, d, v) = y in
     let i = reply-number c x in
     let j = reply-rounds c x in
     let u = refused-value c new x (p .1) (omega (arith, a, i)) v in
@@ -114,7 +114,7 @@ value-shown k v w a r = go (eqb k 0) refl
 
 -- relation and clear always settle their value at 0
 relation-value : (b : Book) (t : ℕ) (bs : List ℕ) → does b (relation t bs) .1 .value ≡ some 0
-relation-value b t bs = relation-cases (λ (d : Done). d .1 .value ≡ some 0) b t bs (λ k i j. refl) (λ l p. refl)
+relation-value b t bs = relation-cases (λ (d : Done). d .1 .value ≡ some 0) b t bs (λ k i j. refl) (λ l p q. refl)
 
 clear-value : (b : Book) (r : ℕ) → does b (clear r) .1 .value ≡ some 0
 clear-value b r = range-cases (λ (d : Done). d .1 .value ≡ some 0) r registers _ _ (λ l. refl) (λ l. refl)
@@ -174,7 +174,7 @@ count-value b r x = go (ltb r registers) (b .reg r)
 
 none-counted : (r : ℕ) (old new : List ℕ) (x : Outcome) → Stands none old → x .operation ≡ 5 → Posted (states r) old new x → Obeyed (obey none (states r)) new x
 none-counted r old new x s e p =
-    let (a, b, v) = p .1 .unsound (s .1) in
+    let (a, b, d, v) = p .1 .unsound (s .1) in
     record { line = cc; stands = subst (Stands none) (sym (p .0)) s }
 
 some-counted : (r : ℕ) (old new : List ℕ) (x : Outcome) → length old ≡ wordsLent → SoundWords old → x .operation ≡ 5 → Posted (states r) old new x

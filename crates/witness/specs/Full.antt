@@ -15,13 +15,15 @@ use Rattle.mucalculus.specs.Form.{now}
 use Rattle.tokens.specs.declared.Kind.the-variants.{Set}
 use Rattle.layout.specs.Places.{REGISTERS, BITS, ROWS, USED, CURSOR, FIRST-REGISTER, ROOTS-END, wordsFor}
 use Rattle.layout.specs.View.{View, view, headerOf, view-header}
+use Rattle.diagram.specs.Need.{stepNeed}
 use Rattle.diagram.specs.Rows.{target}
 use Rattle.diagram.specs.Reach.{Reach, root}
+use Rattle.diagram.specs.Steps.{bitF}
 use Rattle.soundness.specs.Used.{used, used-in, rowsOf}
 use Rattle.soundness.specs.Index.{bucket-lt}
 use Rattle.soundness.specs.Sound.{tableOf}
 use Rattle.soundness.specs.Filled.{filled, filled-mem}
-use Rattle.book.specs.Book.{Book, Call, set, clear, collect, checks, formulaIn, does, refuse}
+use Rattle.book.specs.Book.{Book, Call, set, clear, collect, liveOf, checks, formulaIn, does, refuse}
 use Rattle.book.specs.BookOf.{bookOf}
 use Rattle.book.specs.Compute.{computing}
 use Rattle.book.specs.Listed.{frame}
@@ -48,9 +50,9 @@ first = set alone 0 100 (bit 0)
 abbrev second : Call
 second = set alone 1 100 (bit 1)
 
--- a set that is answered with the table's row, without rounds
+-- a set that is answered with the table's row, without rounds and with the peak 1
 abbrev node : Reply
-node = record { number = 0; rounds = 0; value = 3 }
+node = record { number = 0; rounds = 0; peak = 1; value = 3 }
 
 abbrev pub events : List Event
 events =
@@ -114,15 +116,17 @@ module _ {l : List Event} {ws : List ℕ} (t : Trace (List ℕ) performs made l 
       bit-seen = view-bit 1 0 r p ws room none (omega arith) (let h = bucket-lt 1 (2 * p) 1 0 (omega arith) in omega arith) i
 
       bit-set : p < 2 → checks (bookAfter 2 1 l) Set (bit p) ≡ 0 → now p ≡ formulaIn (bookAfter 2 1 l) Set (bit p)
+          → 1 ≡ stepNeed (2 * bookAfter 2 1 l .n) (liveOf (bookAfter 2 1 l)) (bitF (2 * p))
           → CallPost (set alone r 100 (bit p)) ws (bitIn 1 ws 0 r p) node
-      bit-set j passes is =
+      bit-set j passes is needs =
           let e = two in
           let o = one in
           let h = bucket-lt (headerOf ws ROWS) (2 * p) 1 0 (omega arith) in
           subst (λ (k : ℕ). CallPost (set alone r 100 (bit p)) ws (bitIn k ws 0 r p) node) one
-          (bit-done ws sound none p (omega arith) r 100 0 (bit p) i (omega arith) (omega arith)
+          (bit-done ws sound none p (omega arith) r 100 0 1 (bit p) i (omega arith) (omega arith)
           (subst (λ (b : Book). checks b Set (bit p) ≡ 0) (sym holds) passes)
-          (subst (λ (b : Book). now p ≡ formulaIn b Set (bit p)) (sym holds) is))
+          (subst (λ (b : Book). now p ≡ formulaIn b Set (bit p)) (sym holds) is)
+          (subst (λ (b : Book). 1 ≡ stepNeed (2 * b .n) (liveOf b) (bitF (2 * p))) (sym holds) needs))
 
 -- ---- up to the 8
 
@@ -131,7 +135,7 @@ none-made = fresh-zero 2 1 268 USED (omega arith) (omega arith) (omega arith) (o
 
 set-first : CallPost first made once node
 unfolding computing
-set-first = bit-set stop refl refl none-made 0 0 (omega arith) (omega arith) refl refl
+set-first = bit-set stop refl refl none-made 0 0 (omega arith) (omega arith) refl refl refl
 
 to-once : Trace (List ℕ) performs made ((first, node) ∷ []) once
 to-once = go set-first stop
@@ -190,7 +194,7 @@ to-freed = go set-first (go clear-first (go collect-second stop))
 
 set-second : CallPost second freed end node
 unfolding computing
-set-second = bit-set to-freed refl refl none-freed 1 1 (omega arith) (omega arith) refl refl
+set-second = bit-set to-freed refl refl none-freed 1 1 (omega arith) (omega arith) refl refl refl
 
 -- ---- the whole list under the calls' contracts, and what the closed list theorem says of it
 

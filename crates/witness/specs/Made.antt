@@ -6,6 +6,7 @@ use Prim.Native.Nat.{ℕ, _+_, _*_, _<_, _≤_}
 use native.Mathlib.Omega.{arith}
 use lib.ListN.{set as write}
 use Rattle.accounts.specs.Terms.{alone, rowsUnder, roundsUnder}
+use Rattle.accounts.specs.Count.{nothing, another}
 use Rattle.mucalculus.specs.Form.{Form, bot, var, bind, noEnv}
 use Rattle.tokens.specs.declared.Kind.the-variants.{Relation, Set}
 use Rattle.layout.specs.Places.{REGISTERS, RELATIONS, ROWS, USED, FIRST-REGISTER, FIRST-RELATION}
@@ -29,7 +30,7 @@ use Rattle.book.specs.Leaves.{plain, valued}
 use Rattle.book.specs.Held.{Held}
 use Rattle.book.specs.Roots.{shows-held}
 use Rattle.book.specs.Effects.{set-refused}
-use Rattle.book.specs.Run.{run, pairF, pairsFit}
+use Rattle.book.specs.Run.{run, pairF, pairsFit, pairsCount}
 use Rattle.book.specs.Follow.{Ended, ends, nine, Evals}
 use Rattle.book.specs.Pairs.{PairEvals, pair-none}
 use Rattle.book.specs.Turns.{startArrow}
@@ -100,19 +101,19 @@ module _ (old : List ℕ) (s : SoundWords old) where
   -- relation t of no pairs
   module _ (t : ℕ) (l : t < RELATIONS) where
     abbrev Loads : Form → Type 0
-    Loads f = PairEvals (b .n) (b .N) (rowsOf (tableOf old)) (rowsOf (tableOf old)) (rootsOf (seen old)) (pairsFit (b .n) (b .N) (liveOf b) f) (pairF (b .n) f) (at 0)
+    Loads f = PairEvals (b .n) (b .N) (rowsOf (tableOf old)) (rowsOf (tableOf old)) (rootsOf (seen old)) (pairsFit (b .n) (b .N) (liveOf b) f) (pairF (b .n) f) (pairsCount (b .n) (liveOf b) f nothing) (at 0) nothing
 
     pub noPairs-done : CallPost (relation t noPairs) old (write old (FIRST-RELATION + t) 1) (plain 0)
     noPairs-done =
         through-done s tt (λ a. a)
-        (relation-value old s (tableOf old) (s .good) (op-refl (tableOf old)) t noPairs l (noPairs-passes (b .n) (regFilled b) (relFilled b)) 0
-        (subst Loads (noPairs-form (b .n)) (pair-none (b .n) (b .N) held (b .N) (s .good .rows))))
+        (relation-value old s (tableOf old) (s .good) (op-refl (tableOf old)) t noPairs l (noPairs-passes (b .n) (regFilled b) (relFilled b)) 0 nothing
+        (subst Loads (noPairs-form (b .n)) (pair-none (b .n) (b .N) held (b .N) nothing (s .good .rows))))
         (as-it-was refl)
         (view-header (headerOf old ROWS) old (s .good .sizes .room) (FIRST-RELATION + t) 1 (omega arith))
 
   -- the evaluation of f under limits N and R ended so
   abbrev pub Ends : Rows → ℕ → ℕ → Form → Ended → Type 0
-  Ends after N R f y = Evals (b .n) (b .N) (rowsOf (tableOf old)) after (rootsOf (seen old)) (run (modelOf b) N R noEnv (liveOf b) f 0) y
+  Ends after N R f y = Evals (b .n) (b .N) (rowsOf (tableOf old)) after (rootsOf (seen old)) (run (modelOf b) N R noEnv (liveOf b) f nothing) y
 
   -- one account with the largest limits is no limit
   pub unlimited : {after : Rows} (R : ℕ) (f : Form) (y : Ended) → R ≤ 4_294_967_295 → Ends after (b .N) R f y
@@ -132,12 +133,12 @@ module _ (old : List ℕ) (s : SoundWords old) where
       self-alone : (y : Ended) → Ends (rowsOf (tableOf old)) (b .N) R (bind d 0 (var 0)) y → Alone y (formulaIn b Set (self d))
       self-alone y e = subst (Alone y) (self-form d (b .n)) (unlimited R (bind d 0 (var 0)) y small e)
 
-      -- one round: node number 0 or 1
-      pub self-done : 0 < R → CallPost (set alone r R (self d)) old (storedIn old r (startArrow d)) (setReply (ends (startArrow d) 1))
+      -- one round and no step: node number 0 or 1
+      pub self-done : 0 < R → CallPost (set alone r R (self d)) old (storedIn old r (startArrow d)) (setReply (ends (startArrow d) (another nothing)))
       self-done i =
           through-done s tt (λ a. a)
-          (set-value old s (tableOf old) (s .good) (op-refl (tableOf old)) alone r R (self d) l tt (self-passes d (b .n) (regFilled b) (relFilled b)) (startArrow d) 1
-          (self-alone (ends (startArrow d) 1) (self-ends (modelOf b) (b .N) R noEnv (liveOf b) 0 (s .good .rows) held d i)))
+          (set-value old s (tableOf old) (s .good) (op-refl (tableOf old)) alone r R (self d) l tt (self-passes d (b .n) (regFilled b) (relFilled b)) (startArrow d) (another nothing)
+          (self-alone (ends (startArrow d) (another nothing)) (self-ends (modelOf b) (b .N) R noEnv (liveOf b) 0 (s .good .rows) held d i)))
           (as-it-was refl)
           (view-stored (headerOf old ROWS) r (startArrow d) old (s .good .sizes .room) l)
 

@@ -28,9 +28,9 @@ use Rattle.witness.specs.Made.{noPairs, self, odd, fresh-done, noPairs-d
 
 -- ---- the list: n = 1, N = 100, the five calls, and refusals 6 and 9
 
--- an answered set: its node number, and one round
+-- an answered set: its node number, one round, and no step
 abbrev node : ℕ → Reply
-node a = record { number = 0; rounds = 1; value = a }
+node a = record { number = 0; rounds = 1; peak = 0; value = a }
 
 abbrev pub events : List Event
 events =

@@ -8,10 +8,12 @@ use native.Mathlib.Omega.{arith}
 use lib.ListN.{length, set as write}
 use borrow.Author.Tests.{ne-eqb}
 use Rattle.accounts.specs.Terms.{alone, rowsUnder, roundsUnder}
+use Rattle.accounts.specs.Count.{nothing, needing}
 use Rattle.mucalculus.specs.Form.{Form, now}
 use Rattle.tokens.specs.declared.Kind.the-variants.{Set}
 use Rattle.layout.specs.Places.{REGISTERS, BITS, ROWS, USED, CURSOR, FIRST-REGISTER, ROOTS-END, LOW, HIGH, LEVEL, NEXT, RANK, MEMO-KEY, wordsFor, cellsAt, listAt, headsAt}
 use Rattle.layout.specs.View.{View, view, headerOf, putHeader, putCell, putList, putHead}
+use Rattle.diagram.specs.Need.{stepNeed}
 use Rattle.diagram.specs.Post.{at, added-row, Making, turned}
 use Rattle.diagram.specs.Grow.{same-refl}
 use Rattle.diagram.specs.Reach.{Reach, root, by-low, by-high}
@@ -28,10 +30,10 @@ use Rattle.table.specs.Count.{count-used}
 use Rattle.table.specs.Find.{Absent}
 use Rattle.collect.specs.Answers.{CollectPost}
 use Rattle.collect.specs.Freed.{Freed, freed-count}
-use Rattle.book.specs.Book.{Book, set, collect, checks, formulaIn}
+use Rattle.book.specs.Book.{Book, set, collect, liveOf, checks, formulaIn}
 use Rattle.book.specs.Table.{rootsOf}
 use Rattle.book.specs.Leaves.{valued}
-use Rattle.book.specs.Held.{held-arrow}
+use Rattle.book.specs.Held.{held-arrow, held-need}
 use Rattle.book.specs.Follow.{ends, evals-bit}
 use Rattle.book.specs.BookOf.{bookOf}
 use Rattle.book.specs.Formulas.{setReply}
@@ -143,14 +145,15 @@ module _ (old : List ℕ) (s : SoundWords old) (none : headerOf old USED ≡ 0) 
   abbrev b : Book
   b = bookOf (seen old)
 
-  pub bit-done : (r R k : ℕ) (bs : List ℕ) → r < REGISTERS → R ≤ 4_294_967_295 → k ≡ bucket (W .rows) (2 * p) 1 0
-      → checks b Set bs ≡ 0 → now p ≡ formulaIn b Set bs
-      → CallPost (set alone r R bs) old (bitIn (W .rows) old k r p) (setReply (ends 3 0))
-  bit-done r R k bs l small e passes is =
+  -- q is what its one step needs
+  pub bit-done : (r R k q : ℕ) (bs : List ℕ) → r < REGISTERS → R ≤ 4_294_967_295 → k ≡ bucket (W .rows) (2 * p) 1 0
+      → checks b Set bs ≡ 0 → now p ≡ formulaIn b Set bs → q ≡ stepNeed (2 * b .n) (liveOf b) (bitF (2 * p))
+      → CallPost (set alone r R bs) old (bitIn (W .rows) old k r p) (setReply (ends 3 (needing nothing q)))
+  bit-done r R k q bs l small e passes is i =
       through-done s tt (λ a. a)
-      (set-value old s X grown frame alone r R bs l tt passes 3 0
-      (subst (λ (f : Form). Ends old s (rowsOf X) (rowsUnder (b .N) alone) (roundsUnder R alone) f (ends 3 0)) is
-      (unlimited old s R (now p) (ends 3 0) small (evals-bit (b .n) (b .N) (held old s) p 0 low (at 3) step))))
+      (set-value old s X grown frame alone r R bs l tt passes 3 (needing nothing q)
+      (subst (λ (f : Form). Ends old s (rowsOf X) (rowsUnder (b .N) alone) (roundsUnder R alone) f (ends 3 (needing nothing q))) is
+      (unlimited old s R (now p) (ends 3 (needing nothing q)) small (evals-bit (b .n) (b .N) (held old s) p nothing low (at 3) step q (i ∙ sym (held-need (held old s) (bitF (2 * p))))))))
       (as-it-was refl)
       (view-bit (W .rows) k r p old (s .good .sizes .room) none room e l .is)
 

@@ -1,8 +1,9 @@
 -- `obey_relation` is the reply of `relation` as an outcome. Assumes nothing.
-use mathlib.Core.Path.{ap, sym, _∙_}
+use mathlib.Core.Path.{refl, ap, sym, _∙_, subst}
 use Rattle.book.specs.Leaves.{plain}
+use Rattle.contract.specs.Posts.{CallPost}
 use Rattle.formula_steps.specs.Replies.{loadedReply}
-use Rattle.commands.specs.Obeyed.{call-told}
+use Rattle.commands.specs.Obeyed.{relation-done, call-told}
 use borrow.Author.Needs.{needs}
 use Rattle.commands.proofs.obey_relation.Statement.{statement}
 use Rattle.commands.proofs.obey_relation.Tie as tie
@@ -13,11 +14,10 @@ obey-relation-spec =
     (tie.spec
     (λ c κs. search needs)
     (λ c. search needs)
-    (λ c κs. search needs)
     (λ c. search needs)
     (λ c κs. search needs)
     (λ c κs. search needs)
     (λ c. search needs)
-    (λ c. call-told _ tt (c .before .before .before .before .before .relation .ensures) (ap loadedReply (c .before .enum-told .given .1)) (c .plain .ensures))
+    (λ c. relation-done _ _ _ (subst (CallPost _ _ _) (ap loadedReply (c .before .p .given .1)) (c .before .before .before .before .before .relation .ensures)) refl)
     (λ c. search needs)
-    (λ c. call-told _ tt (c .before .before .before .before .before .before .before .relation .ensures) (ap loadedReply (c .before .before .before .x .given .1) ∙ ap plain (sym (c .before .refusal-number .ensures))) (c .plain2 .ensures)))
+    (λ c. call-told _ tt (c .before .before .before .before .before .before .before .relation .ensures) (ap loadedReply (c .before .before .before .x .given .1) ∙ ap plain (sym (c .before .refusal-number .ensures))) (c .plain .ensures)))

@@ -2,7 +2,6 @@
 use mathlib.Core.Path.{ap, sym}
 use Rattle.calls.specs.declared.Answer.{Answer}
 use Rattle.calls.specs.Replies.{answerReply}
-use Rattle.commands.specs.Obeyed.{states-told}
 use borrow.Author.Needs.{needs}
 use Rattle.commands.proofs.states_in.Statement.{statement}
 use Rattle.commands.proofs.states_in.Tie as tie
@@ -14,5 +13,5 @@ states-in-spec =
     (λ c κs. search needs)
     (λ c. search needs)
     (λ c. search needs)
-    (λ c. states-told _ (c .before .before .before .count .result) (c .before .before .before .count .ensures) (sym (ap (λ (v : Answer). answerReply v .value) (c .before .k .given .1))))
-    (λ c. states-told _ (c .before .before .count .result) (c .before .before .count .ensures) (sym (ap (λ (v : Answer). answerReply v .value) (c .enum-told .given .1)))))
+    (λ c. (c .before .before .before .count .result, c .before .before .before .count .ensures, sym (ap (λ (v : Answer). answerReply v .value) (c .before .k .given .1))))
+    (λ c. (c .before .before .count .result, c .before .before .count .ensures, sym (ap (λ (v : Answer). answerReply v .value) (c .enum-told .given .1)))))

@@ -69,8 +69,8 @@ module _ {M : Type 1} (𝓤 : URA M) (H : Heap 𝓤) (A : Atoms 𝓤) (at-mem : 
   Num = tripleOf 𝓤 H A num.signature (num.spec 𝓤 H A at-mem run)
 
   -- of the second callee's `ensured`, the clause alone
-  said-num : (r : Started) (k : ℕ) → ent 𝓤 (ensured 𝓤 H A num.ended (num.clauses 𝓤 H A at-mem run) tt (r, tt) tt k) (fact 𝓤 (given k 0 0 ≡ startedReply r))
-  said-num r k = exE 𝓤 _ (λ ws. snd∗ 𝓤 (sem 𝓤 H A (lasts num.ended tt (r, tt) ws)) (fact 𝓤 (given k 0 0 ≡ startedReply r)))
+  said-num : (r : Started) (k : ℕ) → ent 𝓤 (ensured 𝓤 H A num.ended (num.clauses 𝓤 H A at-mem run) tt (r, tt) tt k) (fact 𝓤 (given k 0 0 0 ≡ startedReply r))
+  said-num r k = exE 𝓤 _ (λ ws. snd∗ 𝓤 (sem 𝓤 H A (lasts num.ended tt (r, tt) ws)) (fact 𝓤 (given k 0 0 0 ≡ startedReply r)))
 
 module _ {M : Type 1} (𝓤 : URA M) (H : Heap 𝓤) (A : Atoms 𝓤) (W : Given 𝓤 H A) (at-mem : Memory → SProp 𝓤) (run : Routine → Fun 𝓤)
     (κ₀ κ₁ : Lft) (q₀ q₁ : Share) (bw ow : ℕ) (γw : GName) (ws : List ℕ) (b o : ℕ) (γ : GName) (ys : List Account) (n N : ℕ)
@@ -159,7 +159,7 @@ module _ {M : Type 1} (𝓤 : URA M) (H : Heap 𝓤) (A : Atoms 𝓤) (W : Given
         use0 W (raw (Num 𝓤 H A at-mem run .pre (to-num r u))) (goes-num r u is) $
         calls-at ! fm (Num 𝓤 H A at-mem run) known-num (to-num r u) (and-then ! (load ! (from ! (stop !)) (look ! 15 refl)) (no-more !)) (λ v.
         use1 W (later (some (λ (k : ℕ). (‵ ftrue ⊛ ‵ (u32 .own k (v ∷ []))) ⊛ raw (ensured 𝓤 H A num.ended (num.clauses 𝓤 H A at-mem run) tt (r, tt) tt k)))) (id⊢ 𝓤 _) $ await ! tt $ pick ! (λ k.
-        split ! $ move ! (1 ∷ []) $ use1 W (raw (fact 𝓤 (given k 0 0 ≡ startedReply r))) (said-num 𝓤 H A at-mem run r k) $ heard ! (given k 0 0 ≡ startedReply r) (λ ek. split ! $ drop ! $
+        split ! $ move ! (1 ∷ []) $ use1 W (raw (fact 𝓤 (given k 0 0 0 ≡ startedReply r))) (said-num 𝓤 H A at-mem run r k) $ heard ! (given k 0 0 0 ≡ startedReply r) (λ ek. split ! $ drop ! $
         peeks ! u32 (Is u32) (shows 𝓤 H A u32) k (v ∷ []) (λ isk.
         land ! (from ! (stop !)) (init ! 25 refl (uint-lawful 𝓤 H A W w32 .typed k _ isk .0)) $
         returns ! (look ! 25 refl) $

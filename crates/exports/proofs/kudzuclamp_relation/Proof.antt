@@ -16,6 +16,6 @@ kudzuclamp-relation-spec =
     (λ c. search needs)
     (λ c κs. search needs)
     (λ c. search needs)
-    (λ c. subst (CallPost _ _ _) (ap loadedReply (c .enum-told .given .1)) (c .before .before .before .before .relation .ensures))
+    (λ c. subst (CallPost _ _ _) (ap loadedReply (c .before .x .given .1)) (c .before .before .before .before .before .relation .ensures))
     (λ c. search needs)
-    (λ c. subst (CallPost _ _ _) (ap loadedReply (c .before .before .x .given .1) ∙ ap plain (sym (c .refusal-number .ensures))) (c .before .before .before .before .before .before .relation .ensures)))
+    (λ c. subst (CallPost _ _ _) (ap loadedReply (c .before .before .x2 .given .1) ∙ ap plain (sym (c .refusal-number .ensures))) (c .before .before .before .before .before .before .relation .ensures)))

@@ -1,4 +1,4 @@
--- `kudzuclamp_set` meets its contract: a walk of its MIR, by hand. The words, the accounts and the bytes go on to the call, the two answers to `give_stored`, each at its own lifetime. Assumes nothing.
+-- `kudzuclamp_set` meets its contract: a walk of its MIR, by hand. The words, the accounts and the bytes go on to the call, the three answers to `give_stored`, each at its own lifetime. Assumes nothing.
 use mathlib.Core.Path.{_≡_, refl, sym, ap, subst, _∙_}
 use Prim.Native.Nat.{ℕ, _<_, _≤_, _^_}
 use mathlib.Core.List.{List, [], _∷_}
@@ -58,7 +58,7 @@ use Rattle.exports.proofs.kudzuclamp_set.Statement as stated
 use Rattle.exports.proofs.kudzuclamp_set.Code as code
 
 abbrev stayed : Stays (f.ended .signature .params) (f.ended .kept)
-stayed = (gave-slice (0 ∷ []) tt (plain (λ _. u32)), (gave-slice (1 ∷ []) tt (plain (λ _. R)), (stay-none (λ _. u32) yes, (stay-none (λ _. u32) yes, (stay-none (λ _. u32) yes, (stay-none-slice (2 ∷ []) tt (plain (λ _. u8)) yes, (gave-ref (3 ∷ []) tt (plain (λ _. u32)), (gave-ref (4 ∷ []) tt (plain (λ _. u32)), tt))))))))
+stayed = (gave-slice (0 ∷ []) tt (plain (λ _. u32)), (gave-slice (1 ∷ []) tt (plain (λ _. R)), (stay-none (λ _. u32) yes, (stay-none (λ _. u32) yes, (stay-none (λ _. u32) yes, (stay-none-slice (2 ∷ []) tt (plain (λ _. u8)) yes, (gave-ref (3 ∷ []) tt (plain (λ _. u32)), (gave-ref (4 ∷ []) tt (plain (λ _. u32)), (gave-ref (5 ∷ []) tt (plain (λ _. u32)), tt)))))))))
 
 module _ {M : Type 1} (𝓤 : URA M) (H : Heap 𝓤) (A : Atoms 𝓤) (at-mem : Memory → SProp 𝓤) (run : Routine → Fun 𝓤) where
   -- the contracts that the proof cites
@@ -69,8 +69,8 @@ module _ {M : Type 1} (𝓤 : URA M) (H : Heap 𝓤) (A : Atoms 𝓤) (at-mem : 
   Give = tripleOf 𝓤 H A gv.signature (gv.spec 𝓤 H A at-mem run)
 
 module _ {M : Type 1} (𝓤 : URA M) (H : Heap 𝓤) (A : Atoms 𝓤) (W : Given 𝓤 H A) (at-mem : Memory → SProp 𝓤) (run : Routine → Fun 𝓤)
-    (κ₀ κ₁ κ₂ κ₃ κ₄ : Lft) (q₀ q₁ q₂ q₃ q₄ : Share) (bw ow : ℕ) (γw : GName) (ws : List ℕ) (b o : ℕ) (γ : GName) (ys : List Account) (p reg mo : ℕ) (bb ob : ℕ) (γb : GName) (bs : List ℕ)
-    (bn on : ℕ) (γn : GName) (xn : ℕ) (bq oq : ℕ) (γq : GName) (xq : ℕ)
+    (κ₀ κ₁ κ₂ κ₃ κ₄ κ₅ : Lft) (q₀ q₁ q₂ q₃ q₄ q₅ : Share) (bw ow : ℕ) (γw : GName) (ws : List ℕ) (b o : ℕ) (γ : GName) (ys : List Account) (p reg mo : ℕ) (bb ob : ℕ) (γb : GName) (bs : List ℕ)
+    (bn on : ℕ) (γn : GName) (xn : ℕ) (bq oq : ℕ) (γq : GName) (xq : ℕ) (bp op : ℕ) (γp : GName) (xp : ℕ)
     (gw : Room u32 (length ws)) (ga : Room R (length ys)) (gp : p < 2 ^ 32) (gr : reg < 2 ^ 32) (gm : mo < 2 ^ 32) (gb : Room u8 (length bs)) where
   -- the borrows, and the arguments
   abbrev at-words : List ℕ → RefT (List ℕ)
@@ -88,11 +88,14 @@ module _ {M : Type 1} (𝓤 : URA M) (H : Heap 𝓤) (A : Atoms 𝓤) (W : Given
   abbrev at-rounds : RefT ℕ
   at-rounds = record { ptr = (bq, oq); name = γq; now = xq }
 
+  abbrev at-peak : RefT ℕ
+  at-peak = record { ptr = (bp, op); name = γp; now = xp }
+
   abbrev Arg : Type 0
-  Arg = RefT (List ℕ) × (RefT (List Account) × (ℕ × (ℕ × (ℕ × (RefT (List ℕ) × (RefT ℕ × (RefT ℕ × Unit {0})))))))
+  Arg = RefT (List ℕ) × (RefT (List Account) × (ℕ × (ℕ × (ℕ × (RefT (List ℕ) × (RefT ℕ × (RefT ℕ × (RefT ℕ × Unit {0}))))))))
 
   abbrev x : Arg
-  x = (at-words ws, (at-list ys, (p, (reg, (mo, (at-bytes bs, (at-node, (at-rounds, tt))))))))
+  x = (at-words ws, (at-list ys, (p, (reg, (mo, (at-bytes bs, (at-node, (at-rounds, (at-peak, tt)))))))))
 
   abbrev sw : Val
   sw = sliceVal (bw, ow) (length ws)
@@ -106,21 +109,21 @@ module _ {M : Type 1} (𝓤 : URA M) (H : Heap 𝓤) (A : Atoms 𝓤) (W : Given
   abbrev Ob : Fml
   Ob = ShrSlice (named 2) κ₂ u8 .own (at-bytes bs) (sb ∷ [])
 
-  abbrev at : Vals f.signature (κ₀, (κ₁, (κ₂, (κ₃, (κ₄, tt)))))
-  at = (sw ∷ [], (sa ∷ [], (vint w32 p ∷ [], (vint w32 reg ∷ [], (vint w32 mo ∷ [], (sb ∷ [], (vptr bn on ∷ [], (vptr bq oq ∷ [], tt))))))))
+  abbrev at : Vals f.signature (κ₀, (κ₁, (κ₂, (κ₃, (κ₄, (κ₅, tt))))))
+  at = (sw ∷ [], (sa ∷ [], (vint w32 p ∷ [], (vint w32 reg ∷ [], (vint w32 mo ∷ [], (sb ∷ [], (vptr bn on ∷ [], (vptr bq oq ∷ [], (vptr bp op ∷ [], tt)))))))))
 
   abbrev Post : Val → SProp 𝓤
-  Post = walkOf 𝓤 H A f.ended stayed (f.clauses 𝓤 H A at-mem run) .post (((κ₀, (κ₁, (κ₂, (κ₃, (κ₄, tt))))), (q₀, (q₁, (q₂, (q₃, (q₄, tt))))), tt, x, at), tt)
+  Post = walkOf 𝓤 H A f.ended stayed (f.clauses 𝓤 H A at-mem run) .post (((κ₀, (κ₁, (κ₂, (κ₃, (κ₄, (κ₅, tt)))))), (q₀, (q₁, (q₂, (q₃, (q₄, (q₅, tt)))))), tt, x, at), tt)
 
-  exits : (k : ℕ) (v : Val) (zs : List ℕ) (l : List Account) (a q : ℕ) → length zs ≡ length ws → length l ≡ length ys → SetAllPost p reg mo bs ws zs ys l (given k q a)
-      → ent 𝓤 (⋆ 𝓤 H A ((‵ (flft κ₀ q₀) ⊛ ‵ (flft κ₁ q₁) ⊛ ‵ (flft κ₂ q₂) ⊛ ‵ ftrue) ∷ (‵ (flft κ₃ q₃) ⊛ ‵ (flft κ₄ q₄) ⊛ ‵ ftrue) ∷ ‵ (finally u32 γw zs) ∷ ‵ (finally R γ l) ∷ ‵ Ob ∷ ‵ (fres γn (u32 .coded .code a)) ∷ ‵ (fres γq (u32 .coded .code q)) ∷ ‵ (u32 .own k (v ∷ [])) ∷ [])) (Post v)
-  exits k v zs l a q ew el post =
-      qed W ((‵ (flft κ₀ q₀) ⊛ ‵ (flft κ₁ q₁) ⊛ ‵ (flft κ₂ q₂) ⊛ ‵ ftrue) ∷ (‵ (flft κ₃ q₃) ⊛ ‵ (flft κ₄ q₄) ⊛ ‵ ftrue) ∷ ‵ (finally u32 γw zs) ∷ ‵ (finally R γ l) ∷ ‵ Ob ∷ ‵ (fres γn (u32 .coded .code a)) ∷ ‵ (fres γq (u32 .coded .code q)) ∷ ‵ (u32 .own k (v ∷ [])) ∷ []) ∵
-      suffices ! _ (ends-at 𝓤 H A f.ended stayed (f.clauses 𝓤 H A at-mem run) W (((κ₀, (κ₁, (κ₂, (κ₃, (κ₄, tt))))), (q₀, (q₁, (q₂, (q₃, (q₄, tt))))), tt, x, at), tt) v k (zs, (l, (tt, (tt, (tt, (tt, (a, (q, tt)))))))) (ew, (el, (tt, (tt, (tt, (tt, (tt, (tt, tt))))))))) $ says ! post $
-      -- the five tokens
+  exits : (k : ℕ) (v : Val) (zs : List ℕ) (l : List Account) (a q m : ℕ) → length zs ≡ length ws → length l ≡ length ys → SetAllPost p reg mo bs ws zs ys l (given k q m a)
+      → ent 𝓤 (⋆ 𝓤 H A ((‵ (flft κ₀ q₀) ⊛ ‵ (flft κ₁ q₁) ⊛ ‵ (flft κ₂ q₂) ⊛ ‵ ftrue) ∷ (‵ (flft κ₃ q₃) ⊛ ‵ (flft κ₄ q₄) ⊛ ‵ (flft κ₅ q₅) ⊛ ‵ ftrue) ∷ ‵ (finally u32 γw zs) ∷ ‵ (finally R γ l) ∷ ‵ Ob ∷ ‵ (fres γn (u32 .coded .code a)) ∷ ‵ (fres γq (u32 .coded .code q)) ∷ ‵ (fres γp (u32 .coded .code m)) ∷ ‵ (u32 .own k (v ∷ [])) ∷ [])) (Post v)
+  exits k v zs l a q m ew el post =
+      qed W ((‵ (flft κ₀ q₀) ⊛ ‵ (flft κ₁ q₁) ⊛ ‵ (flft κ₂ q₂) ⊛ ‵ ftrue) ∷ (‵ (flft κ₃ q₃) ⊛ ‵ (flft κ₄ q₄) ⊛ ‵ (flft κ₅ q₅) ⊛ ‵ ftrue) ∷ ‵ (finally u32 γw zs) ∷ ‵ (finally R γ l) ∷ ‵ Ob ∷ ‵ (fres γn (u32 .coded .code a)) ∷ ‵ (fres γq (u32 .coded .code q)) ∷ ‵ (fres γp (u32 .coded .code m)) ∷ ‵ (u32 .own k (v ∷ [])) ∷ []) ∵
+      suffices ! _ (ends-at 𝓤 H A f.ended stayed (f.clauses 𝓤 H A at-mem run) W (((κ₀, (κ₁, (κ₂, (κ₃, (κ₄, (κ₅, tt)))))), (q₀, (q₁, (q₂, (q₃, (q₄, (q₅, tt)))))), tt, x, at), tt) v k (zs, (l, (tt, (tt, (tt, (tt, (a, (q, (m, tt))))))))) (ew, (el, (tt, (tt, (tt, (tt, (tt, (tt, (tt, tt)))))))))) $ says ! post $
+      -- the six tokens
       split ! $ move ! (1 ∷ []) $ split ! $ move ! (1 ∷ []) $ split ! $ move ! (0 ∷ 4 ∷ []) $ join ! $ move ! (2 ∷ 0 ∷ []) $ join ! $ move ! (2 ∷ 0 ∷ []) $ join ! $ frame ! $ drop ! $
-      -- [the words' last list; the accounts'; the bytes; the node; the rounds; the result]
-      nothing ! $ move ! (5 ∷ 0 ∷ []) $ fjoin ! $ move ! (4 ∷ 0 ∷ []) $ fjoin ! $ move ! (3 ∷ 0 ∷ []) $ fjoin ! $
+      -- [the words' last list; the accounts'; the bytes; the node; the rounds; the peak; the result]
+      nothing ! $ move ! (6 ∷ 0 ∷ []) $ fjoin ! $ move ! (5 ∷ 0 ∷ []) $ fjoin ! $ move ! (4 ∷ 0 ∷ []) $ fjoin ! $ move ! (3 ∷ 0 ∷ []) $ fjoin ! $
       owned ! u32 (Is u32) (uint-makes 𝓤 H A W w32) mo _ (refl, gm) $ fjoin ! $ owned ! u32 (Is u32) (uint-makes 𝓤 H A W w32) reg _ (refl, gr) $ fjoin ! $ owned ! u32 (Is u32) (uint-makes 𝓤 H A W w32) p _ (refl, gp) $ fjoin ! $ move ! (2 ∷ 0 ∷ []) $ fjoin ! $ move ! (1 ∷ 0 ∷ []) $ fjoin ! $ done !
 
   -- what each callee is passed
@@ -141,39 +144,40 @@ module _ {M : Type 1} (𝓤 : URA M) (H : Heap 𝓤) (A : Atoms 𝓤) (W : Given
       nothing ! $ move ! (3 ∷ 0 ∷ []) $ fjoin ! $ owned ! u32 (Is u32) (uint-makes 𝓤 H A W w32) mo _ (refl, gm) $ fjoin ! $ owned ! u32 (Is u32) (uint-makes 𝓤 H A W w32) reg _ (refl, gr) $ fjoin ! $ owned ! u32 (Is u32) (uint-makes 𝓤 H A W w32) p _ (refl, gp) $ fjoin ! $ move ! (2 ∷ []) $ split ! $ move ! (1 ∷ 2 ∷ []) $ fjoin ! $ move ! (1 ∷ 0 ∷ []) $ fjoin ! $ move ! (1 ∷ 0 ∷ []) $ join ! $ frame ! $ done !
 
   abbrev GiveArgs : Type 0
-  GiveArgs = Stored × (RefT ℕ × (RefT ℕ × Unit {0}))
+  GiveArgs = Stored × (RefT ℕ × (RefT ℕ × (RefT ℕ × Unit {0})))
 
   abbrev give-args : Stored → GiveArgs
-  give-args r = (r, (at-node, (at-rounds, tt)))
+  give-args r = (r, (at-node, (at-rounds, (at-peak, tt))))
 
   abbrev to-give : Stored → Val → Give 𝓤 H A at-mem run .Ghost
-  to-give r u = (((κ₃, (κ₄, tt)), (q₃, (q₄, tt)), tt, give-args r, (u ∷ [], (vptr bn on ∷ [], (vptr bq oq ∷ [], tt)))), tt)
+  to-give r u = (((κ₃, (κ₄, (κ₅, tt))), (q₃, (q₄, (q₅, tt))), tt, give-args r, (u ∷ [], (vptr bn on ∷ [], (vptr bq oq ∷ [], (vptr bp op ∷ [], tt))))), tt)
 
-  goes-give : (r : Stored) (u : Val) → Is S.the-row r (u ∷ []) → ent 𝓤 (⋆ 𝓤 H A ((‵ (flft κ₃ q₃) ⊛ ‵ (flft κ₄ q₄) ⊛ ‵ ftrue) ∷ ‵ (MutRef (named 3) κ₃ u32 .own at-node (vptr bn on ∷ [])) ∷ ‵ (MutRef (named 4) κ₄ u32 .own at-rounds (vptr bq oq ∷ [])) ∷ [])) (Give 𝓤 H A at-mem run .pre (to-give r u))
+  goes-give : (r : Stored) (u : Val) → Is S.the-row r (u ∷ []) → ent 𝓤 (⋆ 𝓤 H A ((‵ (flft κ₃ q₃) ⊛ ‵ (flft κ₄ q₄) ⊛ ‵ (flft κ₅ q₅) ⊛ ‵ ftrue) ∷ ‵ (MutRef (named 3) κ₃ u32 .own at-node (vptr bn on ∷ [])) ∷ (‵ (MutRef (named 4) κ₄ u32 .own at-rounds (vptr bq oq ∷ [])) ⊛ ‵ (MutRef (named 5) κ₅ u32 .own at-peak (vptr bp op ∷ []))) ∷ [])) (Give 𝓤 H A at-mem run .pre (to-give r u))
   goes-give r u is =
-      qed W ((‵ (flft κ₃ q₃) ⊛ ‵ (flft κ₄ q₄) ⊛ ‵ ftrue) ∷ ‵ (MutRef (named 3) κ₃ u32 .own at-node (vptr bn on ∷ [])) ∷ ‵ (MutRef (named 4) κ₄ u32 .own at-rounds (vptr bq oq ∷ [])) ∷ []) ∵ nothing ! $ move ! (3 ∷ 0 ∷ []) $ fjoin ! $ move ! (2 ∷ 0 ∷ []) $ fjoin ! $
+      qed W ((‵ (flft κ₃ q₃) ⊛ ‵ (flft κ₄ q₄) ⊛ ‵ (flft κ₅ q₅) ⊛ ‵ ftrue) ∷ ‵ (MutRef (named 3) κ₃ u32 .own at-node (vptr bn on ∷ [])) ∷ (‵ (MutRef (named 4) κ₄ u32 .own at-rounds (vptr bq oq ∷ [])) ⊛ ‵ (MutRef (named 5) κ₅ u32 .own at-peak (vptr bp op ∷ []))) ∷ []) ∵ move ! (2 ∷ []) $ split ! $ nothing ! $ move ! (2 ∷ 0 ∷ []) $ fjoin ! $ move ! (1 ∷ 0 ∷ []) $ fjoin ! $ move ! (2 ∷ 0 ∷ []) $ fjoin ! $
       owned ! S.the-row (Is S.the-row) ((EL.makes S.the-type S′.the-plain) 𝓤 H A) r _ is $ fjoin ! $ move ! (1 ∷ 0 ∷ []) $ join ! $ frame ! $ done !
 
   module _ (C : Calls 𝓤 H) (Λ : Loops 𝓤 H) (fm : FmC 𝓤 H (W .laws) C) (known-set : Triple 𝓤 (C #calls·set) (Set 𝓤 H A at-mem run)) (known-give : Triple 𝓤 (C #exports·give-stored) (Give 𝓤 H A at-mem run)) where
-    walk : ent 𝓤 (onEntry 𝓤 H A f.signature (κ₀, (κ₁, (κ₂, (κ₃, (κ₄, tt))))) (q₀, (q₁, (q₂, (q₃, (q₄, tt))))) x at) (WpFn 𝓤 H C Λ code.function (sw ∷ sa ∷ vint w32 p ∷ vint w32 reg ∷ vint w32 mo ∷ sb ∷ vptr bn on ∷ vptr bq oq ∷ []) Post)
+    walk : ent 𝓤 (onEntry 𝓤 H A f.signature (κ₀, (κ₁, (κ₂, (κ₃, (κ₄, (κ₅, tt)))))) (q₀, (q₁, (q₂, (q₃, (q₄, (q₅, tt)))))) x at) (WpFn 𝓤 H C Λ code.function (sw ∷ sa ∷ vint w32 p ∷ vint w32 reg ∷ vint w32 mo ∷ sb ∷ vptr bn on ∷ vptr bq oq ∷ vptr bp op ∷ []) Post)
     walk =
-        qed W ((‵ (flft κ₀ q₀) ⊛ ‵ (flft κ₁ q₁) ⊛ ‵ (flft κ₂ q₂) ⊛ ‵ (flft κ₃ q₃) ⊛ ‵ (flft κ₄ q₄) ⊛ ‵ ftrue) ∷ ‵ (owns (MutSlice (named 0) κ₀ u32 ∷ MutSlice (named 1) κ₁ R ∷ u32 ∷ u32 ∷ u32 ∷ ShrSlice (named 2) κ₂ u8 ∷ MutRef (named 3) κ₃ u32 ∷ MutRef (named 4) κ₄ u32 ∷ []) x at) ∷ []) ∵
-        enter ! C Λ code.function (sw ∷ sa ∷ vint w32 p ∷ vint w32 reg ∷ vint w32 mo ∷ sb ∷ vptr bn on ∷ vptr bq oq ∷ []) _ $
-        alloc1 ! (λ l₀. alloc1 ! (λ l₁. alloc1 ! (λ l₂. alloc1 ! (λ l₃. alloc1 ! (λ l₄. alloc1 ! (λ l₅. alloc1 ! (λ l₆. alloc1 ! (λ l₇. alloc1 ! (λ l₈. alloc1 ! (λ l₉. alloc1 ! (λ l₁₀. alloc1 ! (λ l₁₁. alloc1 ! (λ l₁₂. alloc1 ! (λ l₁₃. alloc1 ! (λ l₁₄. alloc1 ! (λ l₁₅. alloc0 ! $ params1 ! $
-        pass1 ! (init ! 28 refl (tt, (tt, (record { fits = gw .0 }, tt)))) $
-        pass1 ! (init ! 26 refl (tt, (tt, (record { fits = ga .0 }, tt)))) $
-        pass1 ! (init ! 24 refl (tt, record { fits = gp })) $
-        pass1 ! (init ! 22 refl (tt, record { fits = gr })) $
-        pass1 ! (init ! 20 refl (tt, record { fits = gm })) $
-        pass1 ! (init ! 18 refl (tt, (tt, (record { fits = gb .0 }, tt)))) $
+        qed W ((‵ (flft κ₀ q₀) ⊛ ‵ (flft κ₁ q₁) ⊛ ‵ (flft κ₂ q₂) ⊛ ‵ (flft κ₃ q₃) ⊛ ‵ (flft κ₄ q₄) ⊛ ‵ (flft κ₅ q₅) ⊛ ‵ ftrue) ∷ ‵ (owns (MutSlice (named 0) κ₀ u32 ∷ MutSlice (named 1) κ₁ R ∷ u32 ∷ u32 ∷ u32 ∷ ShrSlice (named 2) κ₂ u8 ∷ MutRef (named 3) κ₃ u32 ∷ MutRef (named 4) κ₄ u32 ∷ MutRef (named 5) κ₅ u32 ∷ []) x at) ∷ []) ∵
+        enter ! C Λ code.function (sw ∷ sa ∷ vint w32 p ∷ vint w32 reg ∷ vint w32 mo ∷ sb ∷ vptr bn on ∷ vptr bq oq ∷ vptr bp op ∷ []) _ $
+        alloc1 ! (λ l₀. alloc1 ! (λ l₁. alloc1 ! (λ l₂. alloc1 ! (λ l₃. alloc1 ! (λ l₄. alloc1 ! (λ l₅. alloc1 ! (λ l₆. alloc1 ! (λ l₇. alloc1 ! (λ l₈. alloc1 ! (λ l₉. alloc1 ! (λ l₁₀. alloc1 ! (λ l₁₁. alloc1 ! (λ l₁₂. alloc1 ! (λ l₁₃. alloc1 ! (λ l₁₄. alloc1 ! (λ l₁₅. alloc1 ! (λ l₁₆. alloc1 ! (λ l₁₇. alloc0 ! $ params1 ! $
+        pass1 ! (init ! 32 refl (tt, (tt, (record { fits = gw .0 }, tt)))) $
+        pass1 ! (init ! 30 refl (tt, (tt, (record { fits = ga .0 }, tt)))) $
+        pass1 ! (init ! 28 refl (tt, record { fits = gp })) $
+        pass1 ! (init ! 26 refl (tt, record { fits = gr })) $
+        pass1 ! (init ! 24 refl (tt, record { fits = gm })) $
+        pass1 ! (init ! 22 refl (tt, (tt, (record { fits = gb .0 }, tt)))) $
+        pass1 ! (init ! 20 refl (tt, tt)) $
+        pass1 ! (init ! 18 refl (tt, tt)) $
         pass1 ! (init ! 16 refl (tt, tt)) $
-        pass1 ! (init ! 14 refl (tt, tt)) $
         pass0 ! $
-        assigns ! (addr ! (from ! (fld ! refl (hop ! (look-in ! 28 (sub ! 0 refl (whole !))) (stop !))))) (from ! (stop !)) (init ! 10 refl (tt, tt)) $
-        assigns ! (agg ! (and-then ! (load ! (from ! (stop !)) (look ! 10 refl)) (and-then ! (load ! (from ! (fld ! refl (stop !))) (look-in ! 28 (sub ! 1 refl (whole !)))) (no-more !)))) (from ! (stop !)) (init ! 8 refl (tt, (tt, (record { fits = gw .0 }, tt)))) $
-        assigns ! (addr ! (from ! (fld ! refl (hop ! (look-in ! 26 (sub ! 0 refl (whole !))) (stop !))))) (from ! (stop !)) (init ! 6 refl (tt, tt)) $
-        assigns ! (agg ! (and-then ! (load ! (from ! (stop !)) (look ! 6 refl)) (and-then ! (load ! (from ! (fld ! refl (stop !))) (look-in ! 26 (sub ! 1 refl (whole !)))) (no-more !)))) (from ! (stop !)) (init ! 4 refl (tt, (tt, (record { fits = ga .0 }, tt)))) $
-        move ! (33 ∷ []) $
+        assigns ! (addr ! (from ! (fld ! refl (hop ! (look-in ! 32 (sub ! 0 refl (whole !))) (stop !))))) (from ! (stop !)) (init ! 12 refl (tt, tt)) $
+        assigns ! (agg ! (and-then ! (load ! (from ! (stop !)) (look ! 12 refl)) (and-then ! (load ! (from ! (fld ! refl (stop !))) (look-in ! 32 (sub ! 1 refl (whole !)))) (no-more !)))) (from ! (stop !)) (init ! 10 refl (tt, (tt, (record { fits = gw .0 }, tt)))) $
+        assigns ! (addr ! (from ! (fld ! refl (hop ! (look-in ! 30 (sub ! 0 refl (whole !))) (stop !))))) (from ! (stop !)) (init ! 8 refl (tt, tt)) $
+        assigns ! (agg ! (and-then ! (load ! (from ! (stop !)) (look ! 8 refl)) (and-then ! (load ! (from ! (fld ! refl (stop !))) (look-in ! 30 (sub ! 1 refl (whole !)))) (no-more !)))) (from ! (stop !)) (init ! 6 refl (tt, (tt, (record { fits = ga .0 }, tt)))) $
+        move ! (37 ∷ []) $
         fsplit ! $
         move ! (1 ∷ []) $
         fsplit ! $
@@ -189,23 +193,25 @@ module _ {M : Type 1} (𝓤 : URA M) (H : Heap 𝓤) (A : Atoms 𝓤) (W : Given
         fsplit ! $
         move ! (1 ∷ []) $
         fsplit ! $
-        move ! (41 ∷ []) $
+        move ! (1 ∷ []) $
+        fsplit ! $
+        move ! (46 ∷ []) $
         split ! $
         move ! (1 ∷ []) $
         split ! $
         move ! (1 ∷ []) $
         split ! $
-        move ! (7 ∷ []) $
+        move ! (8 ∷ []) $
         use1 W (‵ Ob ⊛ ‵ Ob) (shr-slice-copy 𝓤 H A W (named 2) κ₂ u8 .twice (at-bytes bs) (sb ∷ [])) $ split ! $
         move ! (4 ∷ 2 ∷ []) $
         join ! $
         move ! (4 ∷ 0 ∷ []) $
         join ! $
-        move ! (11 ∷ 10 ∷ []) $
+        move ! (12 ∷ 11 ∷ []) $
         join ! $
         move ! (1 ∷ 0 ∷ 3 ∷ []) $
         use3 W (raw (Set 𝓤 H A at-mem run .pre to-set)) goes-set $
-        calls-at ! fm (Set 𝓤 H A at-mem run) known-set to-set (and-then ! (load ! (from ! (stop !)) (look ! 17 refl)) (and-then ! (load ! (from ! (stop !)) (look ! 13 refl)) (and-then ! (load ! (from ! (stop !)) (look ! 33 refl)) (and-then ! (load ! (from ! (stop !)) (look ! 31 refl)) (and-then ! (load ! (from ! (stop !)) (look ! 29 refl)) (and-then ! (load ! (from ! (stop !)) (look ! 27 refl)) (no-more !))))))) (λ u.
+        calls-at ! fm (Set 𝓤 H A at-mem run) known-set to-set (and-then ! (load ! (from ! (stop !)) (look ! 20 refl)) (and-then ! (load ! (from ! (stop !)) (look ! 16 refl)) (and-then ! (load ! (from ! (stop !)) (look ! 38 refl)) (and-then ! (load ! (from ! (stop !)) (look ! 36 refl)) (and-then ! (load ! (from ! (stop !)) (look ! 34 refl)) (and-then ! (load ! (from ! (stop !)) (look ! 32 refl)) (no-more !))))))) (λ u.
         use1 W (later (some (λ (r : Stored). ((‵ (flft κ₀ q₀) ⊛ ‵ (flft κ₁ q₁) ⊛ ‵ (flft κ₂ q₂) ⊛ ‵ ftrue) ⊛ ‵ (S.the-row .own r (u ∷ []))) ⊛ raw (ensured 𝓤 H A st.ended (st.clauses 𝓤 H A at-mem run) (κ₀, (κ₁, (κ₂, tt))) set-args tt r)))) (id⊢ 𝓤 _) $ await ! tt $ pick ! (λ r.
         split ! $ move ! (1 ∷ []) $ use1 W (some (λ (zs : List ℕ × (List Account × (Unit {0} × (Unit {0} × (Unit {0} × (Unit {0} × Unit {0})))))). ‵ (lasts st.ended (κ₀, (κ₁, (κ₂, tt))) set-args zs) ⊛ raw (fact 𝓤 (SetAllPost p reg mo bs ws (zs .0) ys (zs .1 .0) (storedReply r))))) (id⊢ 𝓤 _) $ pick ! (λ zs.
         split ! $ move ! (1 ∷ []) $ heard ! (SetAllPost p reg mo bs ws (zs .0) ys (zs .1 .0) (storedReply r)) (λ e. fsplit ! $ fsplit ! $ move ! (1 ∷ []) $ feqL ! (λ lw.
@@ -215,87 +221,99 @@ module _ {M : Type 1} (𝓤 : URA M) (H : Heap 𝓤) (A : Atoms 𝓤) (W : Given
         split ! $
         move ! (1 ∷ []) $
         peeks ! S.the-row (Is S.the-row) (shows 𝓤 H A S.the-row) r (u ∷ []) (λ is.
-        land ! (from ! (stop !)) (init ! 25 refl (EL.lawful S.the-type S′.the-laws 𝓤 H A W tt .typed r _ is .0)) $
-        assigns ! (addr ! (from ! (hop ! (look ! 29 refl) (stop !)))) (from ! (stop !)) (init ! 15 refl (tt, tt)) $
-        assigns ! (addr ! (from ! (hop ! (look ! 27 refl) (stop !)))) (from ! (stop !)) (init ! 13 refl (tt, tt)) $
-        move ! (6 ∷ 9 ∷ 7 ∷ []) $
+        land ! (from ! (stop !)) (init ! 28 refl (EL.lawful S.the-type S′.the-laws 𝓤 H A W tt .typed r _ is .0)) $
+        assigns ! (addr ! (from ! (hop ! (look ! 34 refl) (stop !)))) (from ! (stop !)) (init ! 18 refl (tt, tt)) $
+        assigns ! (addr ! (from ! (hop ! (look ! 32 refl) (stop !)))) (from ! (stop !)) (init ! 16 refl (tt, tt)) $
+        assigns ! (addr ! (from ! (hop ! (look ! 30 refl) (stop !)))) (from ! (stop !)) (init ! 14 refl (tt, tt)) $
+        move ! (9 ∷ 7 ∷ []) $
+        join ! $
+        move ! (7 ∷ 9 ∷ 0 ∷ []) $
         use3 W (raw (Give 𝓤 H A at-mem run .pre (to-give r u))) (goes-give r u is) $
-        calls-at ! fm (Give 𝓤 H A at-mem run) known-give (to-give r u) (and-then ! (load ! (from ! (stop !)) (look ! 23 refl)) (and-then ! (load ! (from ! (stop !)) (look ! 13 refl)) (and-then ! (load ! (from ! (stop !)) (look ! 11 refl)) (no-more !)))) (λ v.
-        use1 W (later (some (λ (k : ℕ). ((‵ (flft κ₃ q₃) ⊛ ‵ (flft κ₄ q₄) ⊛ ‵ ftrue) ⊛ ‵ (u32 .own k (v ∷ []))) ⊛ raw (ensured 𝓤 H A gv.ended (gv.clauses 𝓤 H A at-mem run) (κ₃, (κ₄, tt)) (give-args r) tt k)))) (id⊢ 𝓤 _) $ await ! tt $ pick ! (λ k.
-        split ! $ move ! (1 ∷ []) $ use1 W (some (λ (ls : Unit {0} × (ℕ × (ℕ × Unit {0}))). ‵ (lasts gv.ended (κ₃, (κ₄, tt)) (give-args r) ls) ⊛ raw (fact 𝓤 (given k (ls .1 .1 .0) (ls .1 .0) ≡ storedReply r)))) (id⊢ 𝓤 _) $ pick ! (λ ls.
-        split ! $ move ! (1 ∷ []) $ heard ! (given k (ls .1 .1 .0) (ls .1 .0) ≡ storedReply r) (λ ek. fsplit ! $ drop ! $ fsplit ! $
+        calls-at ! fm (Give 𝓤 H A at-mem run) known-give (to-give r u) (and-then ! (load ! (from ! (stop !)) (look ! 25 refl)) (and-then ! (load ! (from ! (stop !)) (look ! 15 refl)) (and-then ! (load ! (from ! (stop !)) (look ! 13 refl)) (and-then ! (load ! (from ! (stop !)) (look ! 11 refl)) (no-more !))))) (λ v.
+        use1 W (later (some (λ (k : ℕ). ((‵ (flft κ₃ q₃) ⊛ ‵ (flft κ₄ q₄) ⊛ ‵ (flft κ₅ q₅) ⊛ ‵ ftrue) ⊛ ‵ (u32 .own k (v ∷ []))) ⊛ raw (ensured 𝓤 H A gv.ended (gv.clauses 𝓤 H A at-mem run) (κ₃, (κ₄, (κ₅, tt))) (give-args r) tt k)))) (id⊢ 𝓤 _) $ await ! tt $ pick ! (λ k.
+        split ! $ move ! (1 ∷ []) $ use1 W (some (λ (ls : Unit {0} × (ℕ × (ℕ × (ℕ × Unit {0})))). ‵ (lasts gv.ended (κ₃, (κ₄, (κ₅, tt))) (give-args r) ls) ⊛ raw (fact 𝓤 (given k (ls .1 .1 .0) (ls .1 .1 .1 .0) (ls .1 .0) ≡ storedReply r)))) (id⊢ 𝓤 _) $ pick ! (λ ls.
+        split ! $ move ! (1 ∷ []) $ heard ! (given k (ls .1 .1 .0) (ls .1 .1 .1 .0) (ls .1 .0) ≡ storedReply r) (λ ek. fsplit ! $ drop ! $ fsplit ! $
         move ! (1 ∷ []) $
         fsplit ! $
-        move ! (3 ∷ []) $
+        move ! (1 ∷ []) $
+        fsplit ! $
+        move ! (4 ∷ []) $
         split ! $
         move ! (1 ∷ []) $
         peeks ! u32 (Is u32) (shows 𝓤 H A u32) k (v ∷ []) (λ isk.
-        land ! (from ! (stop !)) (init ! 45 refl (uint-lawful 𝓤 H A W w32 .typed k _ isk .0)) $
-        returns ! (look ! 45 refl) $
-        forget ! 15 refl $
-        forget ! 17 refl $
-        forget ! 19 refl $
-        forget ! 21 refl $
-        forget ! 23 refl $
-        forget ! 25 refl $
-        forget ! 27 refl $
-        forget ! 29 refl $
-        forget ! 31 refl $
-        forget ! 33 refl $
-        forget ! 35 refl $
-        forget ! 37 refl $
-        forget ! 39 refl $
-        forget ! 41 refl $
-        forget ! 43 refl $
-        forget ! 45 refl $
-        move ! (45 ∷ 46 ∷ []) $
+        land ! (from ! (stop !)) (init ! 50 refl (uint-lawful 𝓤 H A W w32 .typed k _ isk .0)) $
+        returns ! (look ! 50 refl) $
+        forget ! 16 refl $
+        forget ! 18 refl $
+        forget ! 20 refl $
+        forget ! 22 refl $
+        forget ! 24 refl $
+        forget ! 26 refl $
+        forget ! 28 refl $
+        forget ! 30 refl $
+        forget ! 32 refl $
+        forget ! 34 refl $
+        forget ! 36 refl $
+        forget ! 38 refl $
+        forget ! 40 refl $
+        forget ! 42 refl $
+        forget ! 44 refl $
+        forget ! 46 refl $
+        forget ! 48 refl $
+        forget ! 50 refl $
+        move ! (50 ∷ 51 ∷ []) $
         free1 ! $
-        move ! (43 ∷ 44 ∷ []) $
+        move ! (48 ∷ 49 ∷ []) $
         free1 ! $
-        move ! (41 ∷ 42 ∷ []) $
+        move ! (46 ∷ 47 ∷ []) $
         free1 ! $
-        move ! (39 ∷ 40 ∷ []) $
+        move ! (44 ∷ 45 ∷ []) $
         free1 ! $
-        move ! (37 ∷ 38 ∷ []) $
+        move ! (42 ∷ 43 ∷ []) $
         free1 ! $
-        move ! (35 ∷ 36 ∷ []) $
+        move ! (40 ∷ 41 ∷ []) $
         free1 ! $
-        move ! (33 ∷ 34 ∷ []) $
+        move ! (38 ∷ 39 ∷ []) $
         free1 ! $
-        move ! (31 ∷ 32 ∷ []) $
+        move ! (36 ∷ 37 ∷ []) $
         free1 ! $
-        move ! (29 ∷ 30 ∷ []) $
+        move ! (34 ∷ 35 ∷ []) $
         free1 ! $
-        move ! (27 ∷ 28 ∷ []) $
+        move ! (32 ∷ 33 ∷ []) $
         free1 ! $
-        move ! (25 ∷ 26 ∷ []) $
+        move ! (30 ∷ 31 ∷ []) $
         free1 ! $
-        move ! (23 ∷ 24 ∷ []) $
+        move ! (28 ∷ 29 ∷ []) $
         free1 ! $
-        move ! (21 ∷ 22 ∷ []) $
+        move ! (26 ∷ 27 ∷ []) $
         free1 ! $
-        move ! (19 ∷ 20 ∷ []) $
+        move ! (24 ∷ 25 ∷ []) $
         free1 ! $
-        move ! (17 ∷ 18 ∷ []) $
+        move ! (22 ∷ 23 ∷ []) $
         free1 ! $
-        move ! (15 ∷ 16 ∷ []) $
+        move ! (20 ∷ 21 ∷ []) $
+        free1 ! $
+        move ! (18 ∷ 19 ∷ []) $
+        free1 ! $
+        move ! (16 ∷ 17 ∷ []) $
         free1 ! $
         free0 ! $
-        keep ! (6 ∷ 1 ∷ 9 ∷ 7 ∷ 10 ∷ 4 ∷ 2 ∷ 0 ∷ []) $
-        by ! (exits k v (zs .0) (zs .1 .0) (ls .1 .0) (ls .1 .1 .0) lw la (subst (SetAllPost p reg mo bs ws (zs .0) ys (zs .1 .0)) (sym ek) e))))))))))))))))))))))))))))))
+        keep ! (7 ∷ 1 ∷ 10 ∷ 8 ∷ 11 ∷ 5 ∷ 4 ∷ 2 ∷ 0 ∷ []) $
+        by ! (exits k v (zs .0) (zs .1 .0) (ls .1 .0) (ls .1 .1 .0) (ls .1 .1 .1 .0) lw la (subst (SetAllPost p reg mo bs ws (zs .0) ys (zs .1 .0)) (sym ek) e))))))))))))))))))))))))))))))))
 
 module _ {M : Type 1} (𝓤 : URA M) (H : Heap 𝓤) (A : Atoms 𝓤) (W : Given 𝓤 H A) (at-mem : Memory → SProp 𝓤) (run : Routine → Fun 𝓤) where
   set-walks : (C : Calls 𝓤 H) (Λ : Loops 𝓤 H) → FmC 𝓤 H (W .laws) C → Triple 𝓤 (C #calls·set) (Set 𝓤 H A at-mem run) → Triple 𝓤 (C #exports·give-stored) (Give 𝓤 H A at-mem run)
       → Walks 𝓤 H A f.ended stayed (WpFn 𝓤 H C Λ code.function) (f.clauses 𝓤 H A at-mem run)
   set-walks C Λ fm known-set known-give = walked 𝓤 H A f.ended stayed (f.clauses 𝓤 H A at-mem run) (WpFn 𝓤 H C Λ code.function)
-      (λ κs. (slice-vals, (slice-vals, (uint-vals w32, (uint-vals w32, (uint-vals w32, (slice-vals, (ptr-vals, (ptr-vals, tt)))))))))
-      (λ κs. (mut-slice-tells (named 0) (κs .0) u32, (mut-slice-tells (named 1) (κs .1 .0) R, (uint-tells w32, (uint-tells w32, (uint-tells w32, (shr-slice-tells (named 2) (κs .1 .1 .0) u8, (mut-tells (named 3) (κs .1 .1 .1 .0) u32, (mut-tells (named 4) (κs .1 .1 .1 .1 .0) u32, tt)))))))))
+      (λ κs. (slice-vals, (slice-vals, (uint-vals w32, (uint-vals w32, (uint-vals w32, (slice-vals, (ptr-vals, (ptr-vals, (ptr-vals, tt))))))))))
+      (λ κs. (mut-slice-tells (named 0) (κs .0) u32, (mut-slice-tells (named 1) (κs .1 .0) R, (uint-tells w32, (uint-tells w32, (uint-tells w32, (shr-slice-tells (named 2) (κs .1 .1 .0) u8, (mut-tells (named 3) (κs .1 .1 .1 .0) u32, (mut-tells (named 4) (κs .1 .1 .1 .1 .0) u32, (mut-tells (named 5) (κs .1 .1 .1 .1 .1 .0) u32, tt))))))))))
       (λ κs qs bounds a g are. via 𝓤 _ (fst∗ 𝓤 _ (emp 𝓤))
-      (walk 𝓤 H A W at-mem run (κs .0) (κs .1 .0) (κs .1 .1 .0) (κs .1 .1 .1 .0) (κs .1 .1 .1 .1 .0) (qs .0) (qs .1 .0) (qs .1 .1 .0) (qs .1 .1 .1 .0) (qs .1 .1 .1 .1 .0)
+      (walk 𝓤 H A W at-mem run (κs .0) (κs .1 .0) (κs .1 .1 .0) (κs .1 .1 .1 .0) (κs .1 .1 .1 .1 .0) (κs .1 .1 .1 .1 .1 .0) (qs .0) (qs .1 .0) (qs .1 .1 .0) (qs .1 .1 .1 .0) (qs .1 .1 .1 .1 .0) (qs .1 .1 .1 .1 .1 .0)
       (a .0 .ptr .0) (a .0 .ptr .1) (a .0 .name) (a .0 .now) (a .1 .0 .ptr .0) (a .1 .0 .ptr .1) (a .1 .0 .name) (a .1 .0 .now)
       (a .1 .1 .0) (a .1 .1 .1 .0) (a .1 .1 .1 .1 .0) (a .1 .1 .1 .1 .1 .0 .ptr .0) (a .1 .1 .1 .1 .1 .0 .ptr .1) (a .1 .1 .1 .1 .1 .0 .name) (a .1 .1 .1 .1 .1 .0 .now)
       (a .1 .1 .1 .1 .1 .1 .0 .ptr .0) (a .1 .1 .1 .1 .1 .1 .0 .ptr .1) (a .1 .1 .1 .1 .1 .1 .0 .name) (a .1 .1 .1 .1 .1 .1 .0 .now)
       (a .1 .1 .1 .1 .1 .1 .1 .0 .ptr .0) (a .1 .1 .1 .1 .1 .1 .1 .0 .ptr .1) (a .1 .1 .1 .1 .1 .1 .1 .0 .name) (a .1 .1 .1 .1 .1 .1 .1 .0 .now)
+      (a .1 .1 .1 .1 .1 .1 .1 .1 .0 .ptr .0) (a .1 .1 .1 .1 .1 .1 .1 .1 .0 .ptr .1) (a .1 .1 .1 .1 .1 .1 .1 .1 .0 .name) (a .1 .1 .1 .1 .1 .1 .1 .1 .0 .now)
       (are .0 .0 .1) (are .1 .0 .0 .1) (are .1 .1 .0 .1) (are .1 .1 .1 .0 .1) (are .1 .1 .1 .1 .0 .1) (are .1 .1 .1 .1 .1 .0 .0 .1) C Λ fm known-set known-give))
 
 set-meets : {M : Type 1} (𝓤 : URA M) (H : Heap 𝓤) (A : Atoms 𝓤) (W : Given 𝓤 H A) (at-mem : Memory → SProp 𝓤) (run : Routine → Fun 𝓤) (𝓣 : Tables 𝓤 H)
@@ -303,16 +321,16 @@ set-meets : {M : Type 1} (𝓤 : URA M) (H : Heap 𝓤) (A : Atoms 𝓤) (W : Gi
     → Meets 𝓤 H A f.signature (WpFn 𝓤 H (𝓣 .C) (𝓣 .Λ) code.function) (f.spec 𝓤 H A at-mem run)
 set-meets 𝓤 H A W at-mem run 𝓣 known-set known-give =
     walk-meets 𝓤 H A f.ended stayed W (
-      goes-gave-slice 𝓤 H A W 5 0 tt (plain (λ _. u32)),
+      goes-gave-slice 𝓤 H A W 6 0 tt (plain (λ _. u32)),
       (
-        goes-gave-slice 𝓤 H A W 5 1 tt (plain (λ _. R)),
+        goes-gave-slice 𝓤 H A W 6 1 tt (plain (λ _. R)),
         (
-          goes-none 𝓤 H A W 5 (λ _. u32) yes (λ κs x f. refl),
+          goes-none 𝓤 H A W 6 (λ _. u32) yes (λ κs x f. refl),
           (
-            goes-none 𝓤 H A W 5 (λ _. u32) yes (λ κs x f. refl),
+            goes-none 𝓤 H A W 6 (λ _. u32) yes (λ κs x f. refl),
             (
-              goes-none 𝓤 H A W 5 (λ _. u32) yes (λ κs x f. refl),
-              (goes-none-slice 𝓤 H A W 5 (2 ∷ []) tt (plain (λ _. u8)) yes, (goes-gave-ref 𝓤 H A W 5 3 tt (plain (λ _. u32)), (goes-gave-ref 𝓤 H A W 5 4 tt (plain (λ _. u32)), tt))),
+              goes-none 𝓤 H A W 6 (λ _. u32) yes (λ κs x f. refl),
+              (goes-none-slice 𝓤 H A W 6 (2 ∷ []) tt (plain (λ _. u8)) yes, (goes-gave-ref 𝓤 H A W 6 3 tt (plain (λ _. u32)), (goes-gave-ref 𝓤 H A W 6 4 tt (plain (λ _. u32)), (goes-gave-ref 𝓤 H A W 6 5 tt (plain (λ _. u32)), tt)))),
             ),
           ),
         ),

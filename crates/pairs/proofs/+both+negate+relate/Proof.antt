@@ -27,14 +27,14 @@ use Rattle.pairs.proofs.answer.Reads as answer-reads
 use Rattle.pairs.proofs.leaf.Reads as leaf-reads
 use Rattle.tokens.proofs.lead_at.Reads as lead-at-reads
 
-abbrev μ-both : Measures 3 both-kinds.ps ℕ
-μ-both κs a = 2 * a .1 .1 .1 .1 .1 .0 + 1
+abbrev μ-both : Measures 4 both-kinds.ps ℕ
+μ-both κs a = 2 * a .1 .1 .1 .1 .1 .1 .0 + 1
 
-abbrev μ-negate : Measures 3 negate-kinds.ps ℕ
-μ-negate κs a = 2 * a .1 .1 .1 .1 .1 .0 + 1
+abbrev μ-negate : Measures 4 negate-kinds.ps ℕ
+μ-negate κs a = 2 * a .1 .1 .1 .1 .1 .1 .0 + 1
 
-abbrev μ-relate : Measures 3 relate-kinds.ps ℕ
-μ-relate κs a = 2 * a .1 .1 .1 .1 .1 .0
+abbrev μ-relate : Measures 4 relate-kinds.ps ℕ
+μ-relate κs a = 2 * a .1 .1 .1 .1 .1 .1 .0
 
 pub +both+negate+relate-spec : {M : Type 1} → statement M
 +both+negate+relate-spec = close μ-both μ-negate μ-relate (λ t. both-lts.spec (
@@ -49,27 +49,30 @@ pub +both+negate+relate-spec : {M : Type 1} → statement M
 )
     (at both-kinds.ps μ-both both.Pre t)
     both.Post
-    (λ c κs. (omega (arith, c .before .before .before .before .before .pre .0), first-asked (c .before .before .before .before .before .pre .1)))
+    (λ c κs. (omega (arith, c .before .before .before .before .before .before .before .pre .0), (first-asked (c .before .before .before .before .before .before .before .pre .1 .0), c .before .before .before .before .before .before .before .pre .1 .1)))
     (λ c. search needs)
     (λ c. search needs)
     (λ c. search needs)
     (λ c. search needs)
-    (λ c. first-halts (c .before .before .before .before .before .before .before .before .before .before .before .before .pre .1) (c .before .before .before .before .before .before .relate .ensures) (c .enum-told .given .1) (c .before .before .before .before .before .before .before .before .before .before .before .before .args .j))
     (λ c. search needs)
-    (λ c. omega (arith, c .before .before .before .before .before .before .before .before .before .before .before .before .before .pre .1 .room, c .before .before .before .before .before .before .before .before .before .before .before .before .before .pre .1 .ready .size, c .before .before .before .before .before .before .before .relate .kept .1 .0))
-    (λ c. omega (arith, c .before .before .before .before .before .before .before .before .before .before .before .before .before .before .before .pre .1 .room))
-    (λ c κs. (omega (arith, c .before .before .before .before .before .before .before .before .before .before .before .before .before .before .before .pre .0), second-asked (c .before .before .before .before .before .before .before .before .before .before .before .before .before .before .before .pre .1) (c .before .before .before .before .before .before .before .before .before .relate .ensures) (c .before .before .before .before .before .before .before .before .before .relate .kept .1 .0) (c .before .before .before .a .given .1)))
+    (λ c. (first-halts (c .before .before .before .before .before .before .before .before .before .before .before .before .before .before .before .before .pre .1 .0) (c .before .before .before .before .before .before .before .before .relate .ensures .0) (c .enum-told .given .1) (c .before .before .before .before .before .before .before .before .before .before .before .before .before .before .before .before .args .j), c .before .before .before .before .before .before .before .before .relate .ensures .1))
+    (λ c. search needs)
+    (λ c. omega (arith, c .before .before .before .before .before .before .before .before .before .before .before .before .before .before .before .before .before .pre .1 .0 .room, c .before .before .before .before .before .before .before .before .before .before .before .before .before .before .before .before .before .pre .1 .0 .ready .size, c .before .before .before .before .before .before .before .before .before .relate .kept .1 .1 .0))
+    (λ c. omega (arith, c .before .before .before .before .before .before .before .before .before .before .before .before .before .before .before .before .before .before .before .before .pre .1 .0 .room))
+    (λ c κs. (omega (arith, c .before .before .before .before .before .before .before .before .before .before .before .before .before .before .before .before .before .before .before .before .pre .0), (second-asked (c .before .before .before .before .before .before .before .before .before .before .before .before .before .before .before .before .before .before .before .before .pre .1 .0) (c .before .before .before .before .before .before .before .before .before .before .before .before .relate .ensures .0) (c .before .before .before .before .before .before .before .before .before .before .before .before .relate .kept .1 .1 .0) (c .before .before .before .before .a .given .1), c .before .before .before .before .before .before .before .before .before .before .before .before .relate .ensures .1)))
     (λ c. search needs)
     (λ c. search needs)
-    (λ c. c .before .before .before .before .before .before .relate2 .kept .0 ∙ c .before .before .before .before .before .before .before .before .before .before .before .before .before .before .before .before .relate .kept .0)
-    (λ c. (simp length-set at (c .before .before .before .before .before .before .relate2 .kept .1 .0)) ∙ c .before .before .before .before .before .before .before .before .before .before .before .before .before .before .before .before .relate .kept .1 .0)
-    (λ c. second-halts (c .before .before .before .before .before .before .before .before .before .before .before .before .before .before .before .before .before .before .before .before .before .before .pre .1) (c .before .before .before .before .before .before .before .before .before .before .before .before .before .before .before .before .relate .ensures) (c .before .before .before .before .before .before .before .before .before .before .before .before .before .before .before .before .relate .kept .1 .0) (c .before .before .before .before .before .before .before .before .before .before .a .given .1) (c .before .before .before .before .before .before .relate2 .ensures) (c .before .before .before .before .before .before .relate2 .kept .1 .0) (c .enum-told2 .given .1) (c .before .before .before .before .before .before .before .before .before .before .before .before .before .before .before .before .before .before .before .before .before .before .args .j))
+    (λ c. c .before .before .before .before .before .before .before .before .relate2 .kept .0 ∙ c .before .before .before .before .before .before .before .before .before .before .before .before .before .before .before .before .before .before .before .before .before .relate .kept .0)
+    (λ c. c .before .before .before .before .before .before .before .before .relate2 .kept .1 .0 ∙ c .before .before .before .before .before .before .before .before .before .before .before .before .before .before .before .before .before .before .before .before .before .relate .kept .1 .0)
+    (λ c. (simp length-set at (c .before .before .before .before .before .before .before .before .relate2 .kept .1 .1 .0)) ∙ c .before .before .before .before .before .before .before .before .before .before .before .before .before .before .before .before .before .before .before .before .before .relate .kept .1 .1 .0)
+    (λ c. (second-halts (c .before .before .before .before .before .before .before .before .before .before .before .before .before .before .before .before .before .before .before .before .before .before .before .before .before .before .before .before .before .pre .1 .0) (c .before .before .before .before .before .before .before .before .before .before .before .before .before .before .before .before .before .before .before .before .before .relate .ensures .0) (c .before .before .before .before .before .before .before .before .before .before .before .before .before .before .before .before .before .before .before .before .before .relate .kept .1 .1 .0) (c .before .before .before .before .before .before .before .before .before .before .before .before .before .a .given .1) (c .before .before .before .before .before .before .before .before .relate2 .ensures .0) (c .before .before .before .before .before .before .before .before .relate2 .kept .1 .1 .0) (c .enum-told2 .given .1) (c .before .before .before .before .before .before .before .before .before .before .before .before .before .before .before .before .before .before .before .before .before .before .before .before .before .before .before .before .before .args .j), c .before .before .before .before .before .before .before .before .relate2 .ensures .1))
     (λ c κs. search needs)
-    (λ c κs. join-asked (c .before .before .before .before .before .before .before .before .before .before .before .before .before .before .before .before .before .before .before .before .before .before .before .before .before .before .pre .1) (c .before .before .before .before .before .before .before .before .before .before .before .before .before .before .before .before .before .before .before .before .relate .ensures) (c .before .before .before .before .before .before .before .before .before .before .before .before .before .before .before .before .before .before .before .before .relate .kept .1 .0) (c .before .before .before .before .before .before .before .before .before .before .before .before .before .before .a .given .1) (c .before .before .before .before .before .before .before .before .before .before .relate2 .ensures) (c .before .before .before .before .before .before .before .before .before .before .relate2 .kept .1 .0) (c .before .before .before .before .b .given .1) (c .before .before .before .before .before .before .before .before .before .before .before .before .before .before .before .before .before .before .before .before .before .before .before .before .before .before .args .j) (c .join-of .ensures))
+    (λ c κs. (join-asked (c .before .before .before .before .before .before .before .before .before .before .before .before .before .before .before .before .before .before .before .before .before .before .before .before .before .before .before .before .before .before .before .before .before .before .pre .1 .0) (c .before .before .before .before .before .before .before .before .before .before .before .before .before .before .before .before .before .before .before .before .before .before .before .before .before .before .relate .ensures .0) (c .before .before .before .before .before .before .before .before .before .before .before .before .before .before .before .before .before .before .before .before .before .before .before .before .before .before .relate .kept .1 .1 .0) (c .before .before .before .before .before .before .before .before .before .before .before .before .before .before .before .before .before .before .a .given .1) (c .before .before .before .before .before .before .before .before .before .before .before .before .before .relate2 .ensures .0) (c .before .before .before .before .before .before .before .before .before .before .before .before .before .relate2 .kept .1 .1 .0) (c .before .before .before .before .before .b .given .1) (c .before .before .before .before .before .before .before .before .before .before .before .before .before .before .before .before .before .before .before .before .before .before .before .before .before .before .before .before .before .before .before .before .before .before .args .j) (c .join-of .ensures), c .before .before .before .before .before .before .before .before .before .before .before .before .before .relate2 .ensures .1))
     (λ c κs. search needs)
-    (λ c. c .before .before .before .live-step .kept .0 ∙ c .before .before .before .before .before .before .before .before .before .before .before .before .before .before .relate2 .kept .0 ∙ c .before .before .before .before .before .before .before .before .before .before .before .before .before .before .before .before .before .before .before .before .before .before .before .before .relate .kept .0)
-    (λ c. (simp length-set at (c .before .before .before .before .before .before .before .before .before .before .before .before .before .before .relate2 .kept .1 .0)) ∙ c .before .before .before .before .before .before .before .before .before .before .before .before .before .before .before .before .before .before .before .before .before .before .before .before .relate .kept .1 .0)
-    (λ c. join-answered (c .before .before .before .before .before .before .before .before .before .before .before .before .before .before .before .before .before .before .before .before .before .before .before .before .before .before .before .before .before .before .pre .1) (c .before .before .before .before .before .before .before .before .before .before .before .before .before .before .before .before .before .before .before .before .before .before .before .before .relate .ensures) (c .before .before .before .before .before .before .before .before .before .before .before .before .before .before .before .before .before .before .before .before .before .before .before .before .relate .kept .1 .0) (c .before .before .before .before .before .before .before .before .before .before .before .before .before .before .before .before .before .before .a .given .1) (c .before .before .before .before .before .before .before .before .before .before .before .before .before .before .relate2 .ensures) (c .before .before .before .before .before .before .before .before .before .before .before .before .before .before .relate2 .kept .1 .0) (c .before .before .before .before .before .before .before .before .b .given .1) (c .before .before .before .before .before .before .before .before .before .before .before .before .before .before .before .before .before .before .before .before .before .before .before .before .before .before .before .before .before .before .args .j) (c .before .before .before .before .join-of .ensures) (c .before .before .before .live-step .ensures) (c .answer .ensures)))
+    (λ c. c .before .before .before .before .before .live-step .kept .0 ∙ c .before .before .before .before .before .before .before .before .before .before .before .before .before .before .before .before .before .before .before .relate2 .kept .0 ∙ c .before .before .before .before .before .before .before .before .before .before .before .before .before .before .before .before .before .before .before .before .before .before .before .before .before .before .before .before .before .before .before .before .relate .kept .0)
+    (λ c. c .before .before .before .before .before .live-step .kept .1 .0 ∙ c .before .before .before .before .before .before .before .before .before .before .before .before .before .before .before .before .before .before .before .relate2 .kept .1 .0 ∙ c .before .before .before .before .before .before .before .before .before .before .before .before .before .before .before .before .before .before .before .before .before .before .before .before .before .before .before .before .before .before .before .before .relate .kept .1 .0)
+    (λ c. (simp length-set at (c .before .before .before .before .before .before .before .before .before .before .before .before .before .before .before .before .before .before .before .relate2 .kept .1 .1 .0)) ∙ c .before .before .before .before .before .before .before .before .before .before .before .before .before .before .before .before .before .before .before .before .before .before .before .before .before .before .before .before .before .before .before .before .relate .kept .1 .1 .0)
+    (λ c. (join-answered (c .before .before .before .before .before .before .before .before .before .before .before .before .before .before .before .before .before .before .before .before .before .before .before .before .before .before .before .before .before .before .before .before .before .before .before .before .before .before .before .before .pre .1 .0) (c .before .before .before .before .before .before .before .before .before .before .before .before .before .before .before .before .before .before .before .before .before .before .before .before .before .before .before .before .before .before .before .before .relate .ensures .0) (c .before .before .before .before .before .before .before .before .before .before .before .before .before .before .before .before .before .before .before .before .before .before .before .before .before .before .before .before .before .before .before .before .relate .kept .1 .1 .0) (c .before .before .before .before .before .before .before .before .before .before .before .before .before .before .before .before .before .before .before .before .before .before .before .before .a .given .1) (c .before .before .before .before .before .before .before .before .before .before .before .before .before .before .before .before .before .before .before .relate2 .ensures .0) (c .before .before .before .before .before .before .before .before .before .before .before .before .before .before .before .before .before .before .before .relate2 .kept .1 .1 .0) (c .before .before .before .before .before .before .before .before .before .before .before .b .given .1) (c .before .before .before .before .before .before .before .before .before .before .before .before .before .before .before .before .before .before .before .before .before .before .before .before .before .before .before .before .before .before .before .before .before .before .before .before .before .before .before .before .args .j) (c .before .before .before .before .before .before .join-of .ensures) (c .before .before .before .before .before .live-step .ensures .0) (c .answer .ensures), c .before .before .before .before .before .live-step .ensures .1)))
     (λ t. negate-lts.spec (
       below relate-kinds.ps μ-relate relate.Pre t,
       relate.Post,
@@ -80,17 +83,19 @@ pub +both+negate+relate-spec : {M : Type 1} → statement M
     )
     (at negate-kinds.ps μ-negate negate.Pre t)
     negate.Post
-    (λ c κs. (omega (arith, c .before .before .before .before .before .pre .0), c .before .before .before .before .before .pre .1))
+    (λ c κs. (omega (arith, c .before .before .before .before .before .before .before .pre .0), c .before .before .before .before .before .before .before .pre .1))
     (λ c. search needs)
     (λ c. search needs)
     (λ c. search needs)
     (λ c. search needs)
-    (λ c. negate-halts (c .before .before .before .before .before .before .relate .ensures) (c .enum-told .given .1))
-    (λ c κs. step-asked (c .before .before .before .before .before .before .before .before .before .relate .ensures) (c .before .before .before .before .before .before .before .before .before .relate .kept .1 .0) (c .before .before .before .a .given .1) (c .before .before .before .before .before .before .before .before .before .before .before .before .before .before .before .pre .1))
+    (λ c. search needs)
+    (λ c. (negate-halts (c .before .before .before .before .before .before .before .before .relate .ensures .0) (c .enum-told .given .1), c .before .before .before .before .before .before .before .before .relate .ensures .1))
+    (λ c κs. (step-asked (c .before .before .before .before .before .before .before .before .before .before .before .before .relate .ensures .0) (c .before .before .before .before .before .before .before .before .before .before .before .before .relate .kept .1 .1 .0) (c .before .before .before .before .a .given .1) (c .before .before .before .before .before .before .before .before .before .before .before .before .before .before .before .before .before .before .before .before .pre .1 .0), c .before .before .before .before .before .before .before .before .before .before .before .before .relate .ensures .1))
     (λ c κs. search needs)
-    (λ c. c .before .before .before .live-step .kept .0 ∙ c .before .before .before .before .before .before .before .before .before .before .before .before .before .relate .kept .0)
+    (λ c. c .before .before .before .before .before .live-step .kept .0 ∙ c .before .before .before .before .before .before .before .before .before .before .before .before .before .before .before .before .before .before .relate .kept .0)
+    (λ c. c .before .before .before .before .before .live-step .kept .1 .0 ∙ c .before .before .before .before .before .before .before .before .before .before .before .before .before .before .before .before .before .before .relate .kept .1 .0)
     (λ c. search needs)
-    (λ c. negate-answered (c .before .before .before .before .before .before .before .before .before .before .before .before .before .relate .ensures) (c .before .before .before .before .before .before .before .before .before .before .before .before .before .relate .kept .1 .0) (c .before .before .before .before .before .before .before .a .given .1) (c .before .before .before .live-step .ensures) (c .answer .ensures)))
+    (λ c. (negate-answered (c .before .before .before .before .before .before .before .before .before .before .before .before .before .before .before .before .before .before .relate .ensures .0) (c .before .before .before .before .before .before .before .before .before .before .before .before .before .before .before .before .before .before .relate .kept .1 .1 .0) (c .before .before .before .before .before .before .before .before .before .before .a .given .1) (c .before .before .before .before .before .live-step .ensures .0) (c .answer .ensures), c .before .before .before .before .before .live-step .ensures .1)))
     λ t. relate-lts.spec (
       lead-at-reads.Asked,
       lead-at-reads.Learnt,
@@ -108,29 +113,32 @@ pub +both+negate+relate-spec : {M : Type 1} → statement M
     (λ c κs. search needs)
     (λ c. search needs)
     (λ c. search needs)
-    (λ c. absurd (read-token (c .before .before .before .before .before .before .pre .1 .stands) (c .before .before .lead-at .ensures) (c .enum-told .given .1)))
-    (λ c. omega (arith, read-inside (c .before .before .before .before .before .before .before .pre .1 .stands) (c .before .before .before .lead-at .ensures) (c .before .t .given .1), c .before .before .before .before .before .before .before .good))
-    (λ c. omega (arith, read-depth (c .before .before .before .before .before .before .before .pre .1 .stands)))
+    (λ c. absurd (read-token (c .before .before .before .before .before .before .before .pre .1 .0 .stands) (c .before .before .lead-at .ensures) (c .enum-told .given .1)))
+    (λ c. omega (arith, read-inside (c .before .before .before .before .before .before .before .before .pre .1 .0 .stands) (c .before .before .before .lead-at .ensures) (c .before .t .given .1), c .before .before .before .before .before .before .before .before .good))
+    (λ c. omega (arith, read-depth (c .before .before .before .before .before .before .before .before .pre .1 .0 .stands)))
     (λ c. search needs)
-    (λ c κs. leaf-asked (c .before .before .before .before .before .before .before .before .before .before .before .before .pre .1) (c .before .before .before .before .before .before .before .before .lead-at .ensures) (c .before .before .before .before .before .before .t .given .1) (c .before .before .before .t2 .given .1))
+    (λ c κs. (leaf-asked (c .before .before .before .before .before .before .before .before .before .before .before .before .before .before .pre .1 .0) (c .before .before .before .before .before .before .before .before .before .lead-at .ensures) (c .before .before .before .before .before .before .before .t .given .1) (c .before .before .before .before .t2 .given .1), c .before .before .before .before .before .before .before .before .before .before .before .before .before .before .pre .1 .1))
     (λ c κs. search needs)
     (λ c. search needs)
-    (λ c κs. (let d = read-depth (c .before .before .before .before .before .before .before .before .before .before .before .pre .1 .stands) in omega (arith, c .before .before .before .before .before .before .before .before .before .before .before .pre .0), not-asked (c .before .before .before .before .before .before .before .before .before .before .before .pre .1) (c .before .before .before .before .before .before .before .lead-at .ensures) (c .before .before .before .before .before .t .given .1) (c .before .before .enum-told2 .given .1)))
+    (λ c κs. (let d = read-depth (c .before .before .before .before .before .before .before .before .before .before .before .before .before .pre .1 .0 .stands) in omega (arith, c .before .before .before .before .before .before .before .before .before .before .before .before .before .pre .0), (not-asked (c .before .before .before .before .before .before .before .before .before .before .before .before .before .pre .1 .0) (c .before .before .before .before .before .before .before .before .lead-at .ensures) (c .before .before .before .before .before .before .t .given .1) (c .before .before .before .enum-told2 .given .1), c .before .before .before .before .before .before .before .before .before .before .before .before .before .pre .1 .1)))
     (λ c. search needs)
     (λ c. search needs)
-    (λ c κs. (let d = read-depth (c .before .before .before .before .before .before .before .before .before .before .before .before .before .before .before .pre .1 .stands) in omega (arith, c .before .before .before .before .before .before .before .before .before .before .before .before .before .before .before .pre .0), both-asked (c .before .before .before .before .before .before .before .before .before .before .before .before .before .before .before .pre .1) (c .before .before .before .before .before .before .before .before .before .before .before .lead-at .ensures) (c .before .before .before .before .before .before .before .before .before .t .given .1) (c .before .before .before .before .before .before .t3 .given .1 ∙ ap Both (c .before .before .before .w .given .1))))
+    (λ c κs. (let d = read-depth (c .before .before .before .before .before .before .before .before .before .before .before .before .before .before .before .before .before .pre .1 .0 .stands) in omega (arith, c .before .before .before .before .before .before .before .before .before .before .before .before .before .before .before .before .before .pre .0), (both-asked (c .before .before .before .before .before .before .before .before .before .before .before .before .before .before .before .before .before .pre .1 .0) (c .before .before .before .before .before .before .before .before .before .before .before .before .lead-at .ensures) (c .before .before .before .before .before .before .before .before .before .before .t .given .1) (c .before .before .before .before .before .before .before .t3 .given .1 ∙ ap Both (c .before .before .before .before .w .given .1)), c .before .before .before .before .before .before .before .before .before .before .before .before .before .before .before .before .before .pre .1 .1)))
     (λ c. search needs)
     (λ c. search needs)
     (λ c. search needs)
     (λ c. search needs)
     (λ c. search needs)
-    (λ c. leaf-answered (c .before .before .before .before .before .before .before .before .before .before .before .before .before .before .before .before .pre .1) (c .before .before .before .before .before .before .before .before .before .before .before .before .lead-at .ensures) (c .before .before .before .before .before .before .before .before .before .before .t .given .1) (c .before .before .before .before .before .before .before .t2 .given .1) (c .before .before .before .leaf .ensures) (c .answer .ensures))
+    (λ c. search needs)
+    (λ c. (leaf-answered (c .before .before .before .before .before .before .before .before .before .before .before .before .before .before .before .before .before .before .before .before .pre .1 .0) (c .before .before .before .before .before .before .before .before .before .before .before .before .before .before .before .lead-at .ensures) (c .before .before .before .before .before .before .before .before .before .before .before .before .before .t .given .1) (c .before .before .before .before .before .before .before .before .before .before .t2 .given .1) (c .before .before .before .before .before .leaf .ensures .0) (c .answer .ensures), c .before .before .before .before .before .leaf .ensures .1))
     (λ c. search needs)
     (λ c. search needs)
-    (λ c. not-answered (c .before .before .before .before .before .before .before .before .before .before .before .before .before .before .before .before .pre .1) (c .before .before .before .before .before .before .before .before .before .before .before .before .lead-at .ensures) (c .before .before .before .before .before .before .before .before .before .before .t .given .1) (c .before .before .before .before .before .before .before .enum-told2 .given .1) (c .before .before .before .before .negate .ensures))
+    (λ c. search needs)
+    (λ c. (not-answered (c .before .before .before .before .before .before .before .before .before .before .before .before .before .before .before .before .before .before .before .before .pre .1 .0) (c .before .before .before .before .before .before .before .before .before .before .before .before .before .before .before .lead-at .ensures) (c .before .before .before .before .before .before .before .before .before .before .before .before .before .t .given .1) (c .before .before .before .before .before .before .before .before .before .before .enum-told2 .given .1) (c .before .before .before .before .before .before .negate .ensures .0), c .before .before .before .before .before .before .negate .ensures .1))
     (λ c. search needs)
     (λ c. search needs)
-    (λ c. both-answered (c .before .before .before .before .before .before .before .before .before .before .before .before .before .before .before .before .before .before .before .before .pre .1) (c .before .before .before .before .before .before .before .before .before .before .before .before .before .before .before .before .lead-at .ensures) (c .before .before .before .before .before .before .before .before .before .before .before .before .before .before .t .given .1) (c .before .before .before .before .before .before .before .before .before .before .before .t3 .given .1 ∙ ap Both (c .before .before .before .before .before .before .before .before .w .given .1)) (c .before .before .before .before .both .ensures))
-    (λ c. absurd (true≢false (sym (read-allowed (c .before .before .before .before .before .before .before .before .before .before .before .before .pre .1 .stands) (c .before .before .before .before .before .before .before .before .lead-at .ensures) (c .before .before .before .before .before .before .t .given .1) (c .before .before .before .t3 .given .1 ∙ ap Both (c .enum-told3 .given .1))))))
-    (λ c. absurd (true≢false (sym (read-allowed (c .before .before .before .before .before .before .before .before .before .pre .1 .stands) (c .before .before .before .before .before .lead-at .ensures) (c .before .before .before .t .given .1) (c .enum-told4 .given .1)))))
-    (λ c. absurd (true≢false (sym (read-allowed (c .before .before .before .before .before .before .before .before .before .pre .1 .stands) (c .before .before .before .before .before .lead-at .ensures) (c .before .before .before .t .given .1) (c .enum-told5 .given .1)))))
+    (λ c. search needs)
+    (λ c. (both-answered (c .before .before .before .before .before .before .before .before .before .before .before .before .before .before .before .before .before .before .before .before .before .before .before .before .pre .1 .0) (c .before .before .before .before .before .before .before .before .before .before .before .before .before .before .before .before .before .before .before .lead-at .ensures) (c .before .before .before .before .before .before .before .before .before .before .before .before .before .before .before .before .before .t .given .1) (c .before .before .before .before .before .before .before .before .before .before .before .before .before .before .t3 .given .1 ∙ ap Both (c .before .before .before .before .before .before .before .before .before .before .before .w .given .1)) (c .before .before .before .before .before .before .both .ensures .0), c .before .before .before .before .before .before .both .ensures .1))
+    (λ c. absurd (true≢false (sym (read-allowed (c .before .before .before .before .before .before .before .before .before .before .before .before .before .pre .1 .0 .stands) (c .before .before .before .before .before .before .before .before .lead-at .ensures) (c .before .before .before .before .before .before .t .given .1) (c .before .before .before .t3 .given .1 ∙ ap Both (c .enum-told3 .given .1))))))
+    (λ c. absurd (true≢false (sym (read-allowed (c .before .before .before .before .before .before .before .before .before .before .pre .1 .0 .stands) (c .before .before .before .before .before .lead-at .ensures) (c .before .before .before .t .given .1) (c .enum-told4 .given .1)))))
+    (λ c. absurd (true≢false (sym (read-allowed (c .before .before .before .before .before .before .before .before .before .before .pre .1 .0 .stands) (c .before .before .before .before .before .lead-at .ensures) (c .before .before .before .t .given .1) (c .enum-told5 .given .1)))))

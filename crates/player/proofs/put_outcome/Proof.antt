@@ -1,7 +1,7 @@
--- `put_outcome` writes four words one after the other. Assumes nothing.
+-- `put_outcome` writes five words one after the other. Assumes nothing.
 use native.Mathlib.Omega.{arith}
 use lib.ListN.{length-set}
-use Rattle.player.specs.Next.{put-four}
+use Rattle.player.specs.Next.{put-five}
 use borrow.Author.Needs.{needs}
 use Rattle.player.proofs.put_outcome.Statement.{statement}
 use Rattle.player.proofs.put_outcome.Tie as tie
@@ -22,4 +22,7 @@ put-outcome-spec =
     (λ c. search needs)
     (λ c. simp length-set (omega (arith, c .pre)))
     (λ c. search needs)
-    (λ c. put-four (c .args .list .now) (c .args .at) (c .args .x .number) (c .args .x .node) (c .args .x .rounds) (c .args .x .value)))
+    (λ c. search needs)
+    (λ c. simp length-set (omega (arith, c .pre)))
+    (λ c. search needs)
+    (λ c. put-five (c .args .list .now) (c .args .at) (c .args .x .number) (c .args .x .node) (c .args .x .rounds) (c .args .x .value) (c .args .x .peak)))
