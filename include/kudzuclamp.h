@@ -21,6 +21,12 @@
  * after 1. Of 8 and 9 the one that evaluation meets first is returned. A refused call writes 0 into every answer, and no refusal changes an
  * account. KUDZUCLAMP_FULL and KUDZUCLAMP_SPENT keep registers, relations and the rows that these need; every other refusal keeps all words.
  *
+ * PEAK. Where relation and set are answered they also return their peak: the largest number of rows that a step of the call needed, of its
+ * result and of all that was live at it, what registers and relations hold included; 0 where the formula takes no step. It does not depend on N.
+ * Exactly where the peak would pass N, or for a set the lesser of N and its account's row limit, the call is refused with KUDZUCLAMP_FULL instead.
+ * So to choose N, make the room's calls once on a table that is large enough: the greatest of their peaks is the least N with which the same calls
+ * are all answered.
+ *
  * STACK. A call takes less than 160 KB of it, and more than 80 KB only on words whose lookup chains are longer than 32 rows (counted on the
  * compiled code, not proved).
  *
@@ -112,19 +118,19 @@ uint32_t kudzuclamp_fresh(uint32_t *words, size_t words_len, struct kudzuclamp_a
                           uint32_t rows);
 
 /*
- * Relation t (0 to 7) then holds exactly the pairs of states in which the formula holds. It returns 0, 2, 3, 4 or 8.
+ * Relation t (0 to 7) then holds exactly the pairs of states in which the formula holds. *peak is the call's peak. It returns 0, 2, 3, 4 or 8.
  */
-uint32_t kudzuclamp_relation(uint32_t *words, size_t words_len, uint32_t t, const uint8_t *bytes, size_t bytes_len);
+uint32_t kudzuclamp_relation(uint32_t *words, size_t words_len, uint32_t t, const uint8_t *bytes, size_t bytes_len, uint32_t *peak);
 
 /*
  * Register r (0 to 31) then holds exactly the states in which the formula holds, found under the limits of the account at `place` (0 to
  * accounts_len - 1), whose tally grows by the rounds made. Each evaluation of a binder's body is one round, and so is one of until's f and g; a
  * round beyond `most` (R) or beyond the account's round limit is refused. With one binder or until in the formula 2^n + 1 rounds are enough.
  * *node is the set's node number: two registers hold the same set exactly where their node numbers are equal; 0 is no state, 1 is every state.
- * *rounds is how many rounds were made. It returns 0, 2 to 9, KUDZUCLAMP_VACUOUS or KUDZUCLAMP_UNLISTED.
+ * *rounds is how many rounds were made, and *peak the call's peak. It returns 0, 2 to 9, KUDZUCLAMP_VACUOUS or KUDZUCLAMP_UNLISTED.
  */
 uint32_t kudzuclamp_set(uint32_t *words, size_t words_len, struct kudzuclamp_account *accounts, size_t accounts_len, uint32_t place, uint32_t r,
-                        uint32_t most, const uint8_t *bytes, size_t bytes_len, uint32_t *node, uint32_t *rounds);
+                        uint32_t most, const uint8_t *bytes, size_t bytes_len, uint32_t *node, uint32_t *rounds, uint32_t *peak);
 
 /*
  * Empties register r; an empty one stays so. It returns 0, 2 or 3.
@@ -158,14 +164,18 @@ uint32_t kudzuclamp_count(const uint32_t *words, size_t words_len, uint32_t r, u
 uint32_t kudzuclamp_check(const uint32_t *words, size_t words_len, uint32_t relation, const uint8_t *bytes, size_t bytes_len);
 
 /* Refusals of kudzuclamp_play itself, before its first call: all words and the list are kept, and *count is 0. */
-#define KUDZUCLAMP_PLAY_SHORT 100u      /* the list has fewer than 4 words for each record */
+#define KUDZUCLAMP_PLAY_SHORT 100u      /* the list has fewer than KUDZUCLAMP_PLAY_WORDS words for each record */
 #define KUDZUCLAMP_PLAY_UNREADABLE 101u /* a record cannot be read */
+
+/* The words of a record in kudzuclamp_play's list. */
+#define KUDZUCLAMP_PLAY_WORDS 5
 
 /*
  * Plays the calls of all records in `bytes`, in the format of the program `roomrules` (two-byte length, version 1, an operation, its arguments), one
- * after the other; sets are made under one account with the largest limits. Record k, counted from 0, leaves four words in the list from 4k on: its
- * refusal's number or 0, the node number of an answered set, the rounds of an answered set, and the value that roomrules prints. *count is how many
- * records there were. It returns 0, also where calls among the records are refused, or KUDZUCLAMP_PLAY_SHORT or KUDZUCLAMP_PLAY_UNREADABLE.
+ * after the other; sets are made under one account with the largest limits. Record k, counted from 0, leaves five words in the list from 5k on: its
+ * refusal's number or 0, the node number of an answered set, the rounds of an answered set, the value that roomrules prints, and the peak of an answered
+ * relation or set; what a record has not is 0. *count is how many records there were. It returns 0, also where calls among the records are refused, or
+ * KUDZUCLAMP_PLAY_SHORT or KUDZUCLAMP_PLAY_UNREADABLE.
  */
 uint32_t kudzuclamp_play(uint32_t *words, size_t words_len, const uint8_t *bytes, size_t bytes_len, uint32_t *list, size_t list_len, size_t *count);
 

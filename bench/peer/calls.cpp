@@ -23,15 +23,16 @@ static std::vector<uint8_t> framed(std::vector<uint8_t> f) {
 }
 
 static void set(Words &w, u32 r, const std::vector<uint8_t> &f) {
-    u32 node, rounds;
-    if (kudzuclamp_set(w.data(), w.size(), &account, 1, 0, r, 100, f.data(), f.size(), &node, &rounds)) { fprintf(stderr, "set was refused\n"); exit(1); }
+    u32 node, rounds, peak;
+    if (kudzuclamp_set(w.data(), w.size(), &account, 1, 0, r, 100, f.data(), f.size(), &node, &rounds, &peak)) { fprintf(stderr, "set was refused\n"); exit(1); }
 }
 
 // A small table: a relation (next 0 is bit 1) and three sets.
 static Words small(u32 rows) {
     Words w = table(8, rows);
     auto f = framed({4, 3, 0x20, 0x11, 3, 2, 0x20, 2, 0x11});
-    if (kudzuclamp_relation(w.data(), w.size(), 0, f.data(), f.size())) exit(1);
+    u32 peak;
+    if (kudzuclamp_relation(w.data(), w.size(), 0, f.data(), f.size(), &peak)) exit(1);
     for (u32 r = 0; r < 3; r++) set(w, r, framed({3, (uint8_t)(0x10 + r), 2, (uint8_t)(0x11 + r)}));
     return w;
 }

@@ -6,21 +6,9 @@
 #include <cstdlib>
 #include <map>
 
-static const u32 MOST_ROWS = 60000;
 static const u64 ENOUGH = 150000000; // nanoseconds of the library at one size
 static const int LEAST_TURNS = 5, MOST_TURNS = 200;
 static const u64 NEVER = ~0ull;
-
-// The least number of rows with which every call of the list is answered.
-static u32 needed(const List &list) {
-    u32 below = 0, enough = MOST_ROWS;
-    while (enough - below > 1) {
-        u32 middle = (below + enough) / 2;
-        if (run_own(list, middle, false).failed) below = middle;
-        else enough = middle;
-    }
-    return enough;
-}
 
 // Stops with an error where two runs answered differently.
 static void same(const std::string &name, u32 rows, const Run &own, const Run &other) {
@@ -32,7 +20,7 @@ static void same(const std::string &name, u32 rows, const Run &own, const Run &o
 }
 
 struct Least {
-    u64 own = NEVER, again = NEVER, buddy[4] = {NEVER, NEVER, NEVER, NEVER};
+    u64 own = NEVER, again = NEVER, buddy[WAYS] = {NEVER, NEVER, NEVER, NEVER, NEVER};
     u32 cache = 0, collections = 0;
 };
 
@@ -55,7 +43,7 @@ static Least measure(const std::string &name, const List &list, u32 rows) {
     Run own = run_own(list, rows, true);
     if (own.failed) { fprintf(stderr, "%s with %u rows: refused\n", name.c_str(), rows); exit(1); }
     std::map<std::pair<u32, Way>, bool> works;
-    for (Way way : {STEPS, FORGETTING, AT_ONCE, FUSED})
+    for (Way way : {STEPS, COUNTING, FORGETTING, AT_ONCE, FUSED})
         for (u32 cache : caches(rows, way)) {
             Run other = run_buddy(list, rows, cache, way, true);
             works[{cache, way}] = !other.failed;
@@ -86,17 +74,14 @@ static void print_ratio(u64 own, u64 other) {
 }
 
 int main(int count, char **argv) {
-    printf("| workload | rows | of the need | own, ms | BuDDy same steps, ms | own ÷ same steps | own ÷ forgetting | own ÷ at once | own ÷ fused | BuDDy's cache, collections |\n");
-    printf("|---|--:|--:|--:|--:|--:|--:|--:|--:|--:|\n");
-    int slower = 0, slower_forgetting = 0, slower_at_once = 0, compared = 0;
-    double worst = 0, low = 1, high = 1;
+    printf("| workload | rows | of the need | own, ms | BuDDy same steps, ms | own ÷ same steps | own ÷ counting | own ÷ forgetting | own ÷ at once | own ÷ fused | BuDDy's cache, collections |\n");
+    printf("|---|--:|--:|--:|--:|--:|--:|--:|--:|--:|--:|\n");
+    int slower = 0, slower_counting = 0, slower_forgetting = 0, slower_at_once = 0, compared = 0;
+    double worst = 0, worst_counting = 0, low = 1, high = 1;
     for (int k = 1; k < count; k++) {
         std::string word = argv[k], name = word.substr(0, word.find('=')), path = word.substr(word.find('=') + 1);
         List list = read_list(path);
-        u32 need = needed(list);
-        std::vector<std::pair<std::string, u32>> sizes = {{"1 ×", need}, {"2 ×", 2 * need}, {"10 ×", 10 * need}, {"all", MOST_ROWS}};
-        for (auto &[times, rows] : sizes) {
-            if (rows > MOST_ROWS) continue;
+        for (auto &[times, rows] : sizes(needed(list))) {
             Least l = measure(name, list, rows);
             printf("| %s | %u | %s | %.3f |", name.c_str(), rows, times.c_str(), l.own / 1e6);
             low = std::min(low, (double)l.own / l.again);
@@ -109,11 +94,13 @@ int main(int count, char **argv) {
             if (times == "1 ×" || steps == NEVER) continue;
             compared++;
             slower += l.own > steps;
+            slower_counting += l.own > l.buddy[COUNTING];
+            worst_counting = std::max(worst_counting, (double)l.own / l.buddy[COUNTING]);
             slower_forgetting += l.own > l.buddy[FORGETTING];
             slower_at_once += l.own > l.buddy[AT_ONCE];
             worst = std::max(worst, (double)l.own / steps);
         }
     }
-    printf("\nSlower than BuDDy on the same steps at 2 ×, 10 × and all rows: %d of %d, worst ratio %.2f; where BuDDy forgets at each call: %d; where it takes all EXISTS of a diamond at once: %d.\n", slower, compared, worst, slower_forgetting, slower_at_once);
+    printf("\nSlower than BuDDy on the same steps at 2 ×, 10 × and all rows: %d of %d, worst ratio %.2f; where BuDDy counts at each step too: %d, worst ratio %.2f; where it forgets at each call: %d; where it takes all EXISTS of a diamond at once: %d.\n", slower, compared, worst, slower_counting, worst_counting, slower_forgetting, slower_at_once);
     printf("Control, the library against itself in the same turns: %.2f to %.2f.\n", low, high);
 }

@@ -7,10 +7,11 @@ struct Account {
 };
 extern "C" {
 uint32_t kudzuclamp_fresh(uint32_t *words, size_t size, Account *accounts, size_t count, uint32_t n, uint32_t rows);
-uint32_t kudzuclamp_relation(uint32_t *words, size_t size, uint32_t t, const uint8_t *bytes, size_t length);
+uint32_t kudzuclamp_relation(uint32_t *words, size_t size, uint32_t t, const uint8_t *bytes, size_t length, uint32_t *peak);
 uint32_t kudzuclamp_set(uint32_t *words, size_t size, Account *accounts, size_t count, uint32_t place, uint32_t r, uint32_t most, const uint8_t *bytes,
-                        size_t length, uint32_t *node, uint32_t *rounds);
+                        size_t length, uint32_t *node, uint32_t *rounds, uint32_t *peak);
 uint32_t kudzuclamp_clear(uint32_t *words, size_t size, uint32_t r);
 uint32_t kudzuclamp_collect(uint32_t *words, size_t size, uint32_t *kept);
 uint32_t kudzuclamp_count(const uint32_t *words, size_t size, uint32_t r, uint32_t *states);
+uint32_t kudzuclamp_play(uint32_t *words, size_t size, const uint8_t *bytes, size_t length, uint32_t *list, size_t room, size_t *count);
 }

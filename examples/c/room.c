@@ -2,7 +2,7 @@
  * A room with a microphone (bit 0), an echo return (bit 1) and a monitor loudspeaker (bit 2), each on or off. It howls where all three are on.
  * A press turns one of them over. By the rules, a press that would join the third to the other two does nothing; the rules as first written
  * forget this for the monitor. Can presses, from all off, make the room howl? A tablet and a phone share the table; the phone may take fewer rows
- * and rounds.
+ * and rounds. The calls' peaks tell how small a table would do.
  */
 #include "kudzuclamp.h"
 
@@ -58,6 +58,14 @@ static struct kudzuclamp_account accounts[ACCOUNTS] = {
     [PHONE] = {.rows = 50, .rounds = 4},
 };
 
+/* The greatest peak of the answered calls: the least number of rows with which they are all answered. */
+static uint32_t enough;
+
+static void note(uint32_t peak)
+{
+    enough = peak > enough ? peak : enough;
+}
+
 /* Ends the program where a call that must be answered is refused. */
 static void must(const char *what, uint32_t number)
 {
@@ -83,23 +91,27 @@ static void relation(const char *what, uint32_t t, const uint8_t *formula, size_
 {
     uint8_t bytes[1026];
     size_t length = framed(bytes, formula, count);
-    must(what, kudzuclamp_relation(words, words_len, t, bytes, length));
-    printf("%s: loaded\n", what);
+    uint32_t peak;
+    must(what, kudzuclamp_relation(words, words_len, t, bytes, length, &peak));
+    note(peak);
+    printf("%s: loaded; peak: %u rows\n", what, (unsigned)peak);
 }
 
 static void set(const char *what, uint32_t place, uint32_t r, uint32_t most, const uint8_t *formula, size_t count)
 {
     uint8_t bytes[1026];
     size_t length = framed(bytes, formula, count);
-    uint32_t node, rounds, states, all_off;
-    uint32_t number = kudzuclamp_set(words, words_len, accounts, ACCOUNTS, place, r, most, bytes, length, &node, &rounds);
+    uint32_t node, rounds, peak, states, all_off;
+    uint32_t number = kudzuclamp_set(words, words_len, accounts, ACCOUNTS, place, r, most, bytes, length, &node, &rounds, &peak);
     if (number != KUDZUCLAMP_ANSWERED) {
         printf("%s: refused with %u\n", what, (unsigned)number);
         return;
     }
+    note(peak);
     must("count", kudzuclamp_count(words, words_len, r, &states));
     must("member", kudzuclamp_member(words, words_len, r, 0, &all_off));
-    printf("%s: %u of 8 states; all off: %s; rounds: %u\n", what, (unsigned)states, all_off ? "yes" : "no", (unsigned)rounds);
+    printf("%s: %u of 8 states; all off: %s; rounds: %u; peak: %u rows\n", what, (unsigned)states, all_off ? "yes" : "no", (unsigned)rounds,
+           (unsigned)peak);
 }
 
 int main(void)
@@ -126,5 +138,6 @@ int main(void)
     printf("the set kept by the refused calls: %u states\n", (unsigned)kept);
     must("collect", kudzuclamp_collect(words, words_len, &rows));
     printf("rows needed: %u; rounds: tablet %u, phone %u\n", (unsigned)rows, (unsigned)accounts[TABLET].tally, (unsigned)accounts[PHONE].tally);
+    printf("a table of %u rows is enough for these calls, and no smaller one\n", (unsigned)enough);
     return EXIT_SUCCESS;
 }

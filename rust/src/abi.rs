@@ -3,7 +3,7 @@
 //! The entry points ask of their caller only what a Rust reference has: a pointer that is aligned
 //! and not null, to as many elements as the length says, and mutable memory that overlaps nothing
 //! else. Their contracts have no other precondition: any words, numbers and bytes are answered.
-use crate::{Account, Refusal};
+use crate::{Account, Loaded, Refusal, Stored};
 
 /// The declarations of `include/kudzuclamp.h`: a slice is a pointer and then a length.
 mod library {
@@ -24,6 +24,7 @@ mod library {
             t: u32,
             bytes: *const u8,
             bytes_len: usize,
+            peak: *mut u32,
         ) -> u32;
         pub fn kudzuclamp_set(
             words: *mut u32,
@@ -37,6 +38,7 @@ mod library {
             bytes_len: usize,
             node: *mut u32,
             rounds: *mut u32,
+            peak: *mut u32,
         ) -> u32;
         pub fn kudzuclamp_clear(words: *mut u32, words_len: usize, r: u32) -> u32;
         pub fn kudzuclamp_collect(words: *mut u32, words_len: usize, rows: *mut u32) -> u32;
@@ -104,8 +106,10 @@ pub fn fresh(
     answered(number, ())
 }
 
-pub fn relation(words: &mut [u32], t: u32, bytes: &[u8]) -> Result<(), Refusal> {
-    // SAFETY: pointers and lengths are those of slices; the mutable one overlaps nothing.
+pub fn relation(words: &mut [u32], t: u32, bytes: &[u8]) -> Result<Loaded, Refusal> {
+    let mut peak = 0;
+    // SAFETY: pointers and lengths are those of slices; the mutable one overlaps nothing. The last
+    // pointer is a local's.
     let number = unsafe {
         library::kudzuclamp_relation(
             words.as_mut_ptr(),
@@ -113,12 +117,12 @@ pub fn relation(words: &mut [u32], t: u32, bytes: &[u8]) -> Result<(), Refusal> 
             t,
             bytes.as_ptr(),
             bytes.len(),
+            &mut peak,
         )
     };
-    answered(number, ())
+    answered(number, Loaded { peak })
 }
 
-/// The node number and the rounds.
 pub fn set(
     words: &mut [u32],
     accounts: &mut [Account],
@@ -126,10 +130,10 @@ pub fn set(
     r: u32,
     most: u32,
     bytes: &[u8],
-) -> Result<(u32, u32), Refusal> {
-    let (mut node, mut rounds) = (0, 0);
+) -> Result<Stored, Refusal> {
+    let (mut node, mut rounds, mut peak) = (0, 0, 0);
     // SAFETY: pointers and lengths are those of slices; the mutable ones overlap nothing. The last
-    // two pointers are two locals'.
+    // three pointers are three locals'.
     let number = unsafe {
         library::kudzuclamp_set(
             words.as_mut_ptr(),
@@ -143,9 +147,11 @@ pub fn set(
             bytes.len(),
             &mut node,
             &mut rounds,
+            &mut peak,
         )
     };
-    answered(number, (node, rounds))
+    let stored = Stored { node, rounds, peak };
+    answered(number, stored)
 }
 
 pub fn clear(words: &mut [u32], r: u32) -> Result<(), Refusal> {
@@ -222,16 +228,16 @@ mod tests {
     fn play_keeps_all_where_the_list_is_short() {
         let fresh_twice = [0, 5, 1, 1, 1, 0, 100, 0, 5, 1, 1, 1, 0, 100];
         let mut words = vec![3; 1_500];
-        let mut list = [9; 7];
+        let mut list = [9; 9];
         assert_eq!(super::play(&mut words, &fresh_twice, &mut list), (100, 0));
-        assert_eq!((words, list), (vec![3; 1_500], [9; 7]));
+        assert_eq!((words, list), (vec![3; 1_500], [9; 9]));
     }
 
     #[test]
     fn play_leaves_the_rest_of_the_list() {
         let mut words = vec![3; 1_500];
-        let mut list = [9; 6];
+        let mut list = [9; 7];
         assert_eq!(super::play(&mut words, &[0, 2, 1, 6], &mut list), (0, 1));
-        assert_eq!(list, [2, 0, 0, 0, 9, 9]);
+        assert_eq!(list, [2, 0, 0, 0, 0, 9, 9]);
     }
 }

@@ -31,7 +31,8 @@
 //! # }
 //! ```
 //!
-//! Callers may share a table under limits of their own: see [`Account`].
+//! Callers may share a table under limits of their own: see [`Account`]. Relations and sets return
+//! how many rows they needed at most, to choose a table's size by: see [`Loaded`].
 //!
 //! The static library is made by `rt staticlib exports` in the repository's root.
 #![deny(missing_docs, unsafe_code)]
@@ -48,4 +49,4 @@ pub use account::{Account, MAX_ACCOUNTS};
 pub use formula::Formula;
 pub use play::{play, Outcome, Unreadable};
 pub use refusal::Refusal;
-pub use table::{words_for, Stored, Table, MAX_BITS, MAX_ROWS, REGISTERS, RELATIONS};
+pub use table::{words_for, Loaded, Stored, Table, MAX_BITS, MAX_ROWS, REGISTERS, RELATIONS};

@@ -3,7 +3,7 @@ use crate::{abi, Refusal};
 use std::fmt;
 
 /// The words that an outcome has in the library's list.
-const WORDS: usize = 4;
+const WORDS: usize = 5;
 
 /// The bytes that a record has at least.
 const LEAST_RECORD: usize = 4;
@@ -24,6 +24,8 @@ pub struct Outcome {
     /// The value that `roomrules` prints: states in the register of an answered set or count, rows of a
     /// collect, else 0.
     pub value: u32,
+    /// The peak of an answered relation or set, as in [`Loaded`](crate::Loaded), else 0.
+    pub peak: u32,
 }
 
 /// A record cannot be read: it is cut short, its length or version is another one, its operation is
@@ -50,6 +52,8 @@ impl std::error::Error for Unreadable {}
 /// let all = [0x00, 0x0B, 0x01, 0x03, 0x00, 0x00, 0x00, 0x00, 0x03, 0x00, 0x02, 0x01, 0x01];
 /// let outcomes = play(&mut words, &[&fresh[..], &all[..]].concat())?;
 /// assert_eq!((outcomes[1].refusal, outcomes[1].node, outcomes[1].value), (None, 1, 2));
+/// // A constant takes no step.
+/// assert_eq!(outcomes[1].peak, 0);
 /// assert_eq!(play(&mut words, &fresh[..6]), Err(Unreadable));
 /// # Ok::<(), Unreadable>(())
 /// ```
@@ -69,5 +73,6 @@ fn outcome(words: &[u32]) -> Outcome {
         node: words[1],
         rounds: words[2],
         value: words[3],
+        peak: words[4],
     }
 }

@@ -19,6 +19,16 @@ pub const fn words_for(rows: u32) -> usize {
     256 + 12 * rows as usize
 }
 
+/// What an answered [`Table::relation`] gives.
+#[derive(Clone, Copy, Debug, PartialEq, Eq, Hash)]
+pub struct Loaded {
+    /// The largest number of rows that a step of the call needed, of its result and of all that was
+    /// live at it, what registers and relations hold included; 0 where the formula takes no step.
+    /// It does not depend on the table's number of rows; exactly where it would pass that, the call
+    /// is refused with [`Refusal::Full`] instead.
+    pub peak: u32,
+}
+
 /// What an answered [`Table::set`] gives.
 #[derive(Clone, Copy, Debug, PartialEq, Eq, Hash)]
 pub struct Stored {
@@ -27,6 +37,10 @@ pub struct Stored {
     pub node: u32,
     /// How many times a binder's body was evaluated.
     pub rounds: u32,
+    /// The largest number of rows that a step needed, as in [`Loaded`]; exactly where it would pass
+    /// the lesser of the table's number of rows and the account's row limit, the call is refused
+    /// with [`Refusal::Full`] instead.
+    pub peak: u32,
 }
 
 /// A table of decision-diagram rows with 32 registers, each empty or holding a set of states, and 8
@@ -55,6 +69,8 @@ pub struct Stored {
 /// let stored = table.set(&mut accounts, 0, 0, 100, reach)?;
 /// assert_eq!((stored.rounds, accounts[0].tally), (3, 3));
 /// assert_eq!(table.count(0)?, 2);
+/// // No step needed more than 4 rows: with 4 it is answered too, with 3 it is refused.
+/// assert_eq!(stored.peak, 4);
 /// # Ok(())
 /// # }
 /// ```
@@ -113,7 +129,23 @@ impl<W: AsRef<[u32]> + AsMut<[u32]>> Table<W> {
 
     /// Relation t, from 0 to 7, then holds exactly the pairs of states in which the formula holds.
     /// Formulas of relations have constants, NOT, AND, OR and current and next bits only.
-    pub fn relation(&mut self, t: u32, formula: impl AsRef<[u8]>) -> Result<(), Refusal> {
+    ///
+    /// ```
+    /// use kudzuclamp::{Account, Formula, Loaded, Refusal, Table};
+    ///
+    /// # fn main() -> Result<(), Refusal> {
+    /// let mut accounts = [Account::unlimited()];
+    /// let same = (Formula::next(0) & Formula::current(0)) | !(Formula::next(0) | Formula::current(0));
+    /// let mut table = Table::new(&mut accounts, 1, 100)?;
+    /// // How many rows does it take? So many are enough, and one fewer is not.
+    /// let Loaded { peak } = table.relation(0, &same)?;
+    /// assert!(Table::new(&mut accounts, 1, peak)?.relation(0, &same).is_ok());
+    /// let mut small = Table::new(&mut accounts, 1, peak - 1)?;
+    /// assert_eq!(small.relation(0, &same), Err(Refusal::Full));
+    /// # Ok(())
+    /// # }
+    /// ```
+    pub fn relation(&mut self, t: u32, formula: impl AsRef<[u8]>) -> Result<Loaded, Refusal> {
         abi::relation(self.words.as_mut(), t, formula.as_ref())
     }
 
@@ -125,13 +157,13 @@ impl<W: AsRef<[u32]> + AsMut<[u32]>> Table<W> {
     /// The formula is a [`Formula`](crate::Formula), or framed bytes from elsewhere.
     ///
     /// ```
-    /// use kudzuclamp::{Account, Formula, Refusal, Stored, Table};
+    /// use kudzuclamp::{Account, Formula, Refusal, Table};
     ///
     /// # fn main() -> Result<(), Refusal> {
     /// let mut accounts = [Account::unlimited()];
     /// let mut table = Table::new(&mut accounts, 1, 100)?;
     /// let all = table.set(&mut accounts, 0, 0, 1, [0, 3, 1, 0x80, 0x30])?;
-    /// assert_eq!(all, Stored { node: 1, rounds: 1 });
+    /// assert_eq!((all.node, all.rounds, all.peak), (1, 1, 0));
     /// let again = Formula::nu(0, Formula::var(0));
     /// assert_eq!(table.set(&mut accounts, 0, 1, 0, &again), Err(Refusal::Spent));
     /// assert_eq!(table.set(&mut accounts, 1, 1, 9, &again), Err(Refusal::Unlisted));
@@ -149,9 +181,14 @@ impl<W: AsRef<[u32]> + AsMut<[u32]>> Table<W> {
     ) -> Result<Stored, Refusal> {
         // No list that is taken has a place that does not fit.
         let place = u32::try_from(place).unwrap_or(u32::MAX);
-        let bytes = formula.as_ref();
-        let (node, rounds) = abi::set(self.words.as_mut(), accounts, place, r, most, bytes)?;
-        Ok(Stored { node, rounds })
+        abi::set(
+            self.words.as_mut(),
+            accounts,
+            place,
+            r,
+            most,
+            formula.as_ref(),
+        )
     }
 
     /// Empties register r; an empty one stays so.

@@ -23,7 +23,12 @@ fn rounds_go_to_the_account_that_is_named() {
     for place in 0..MAX_ACCOUNTS {
         for _ in 0..=place {
             let stored = table.set(&mut accounts, place, 0, 3, reach());
-            assert_eq!(stored, Ok(Stored { node: 1, rounds: 3 }));
+            let reached = Stored {
+                node: 1,
+                rounds: 3,
+                peak: 4,
+            };
+            assert_eq!(stored, Ok(reached));
         }
     }
     let tallies = accounts.map(|account| account.tally);

@@ -1,5 +1,5 @@
 //! Document 01's bench and example, through the library.
-use kudzuclamp::{words_for, Account, Formula, Refusal, Stored, Table, MAX_ROWS};
+use kudzuclamp::{words_for, Account, Formula, Loaded, Refusal, Stored, Table, MAX_ROWS};
 
 /// A table of n bits and so many rows, all empty.
 fn new(n: u32, rows: u32) -> Result<Table<Vec<u32>>, Refusal> {
@@ -29,6 +29,10 @@ fn example() -> Table<Vec<u32>> {
     t
 }
 
+fn stored(node: u32, rounds: u32, peak: u32) -> Result<Stored, Refusal> {
+    Ok(Stored { node, rounds, peak })
+}
+
 fn reach() -> Formula {
     Formula::mu(
         0,
@@ -39,10 +43,7 @@ fn reach() -> Formula {
 #[test]
 fn the_set_of_the_example() {
     let mut t = example();
-    assert_eq!(
-        set(&mut t, 0, 100, reach()),
-        Ok(Stored { node: 1, rounds: 3 })
-    );
+    assert_eq!(set(&mut t, 0, 100, reach()), stored(1, 3, 4));
     assert_eq!(t.count(0), Ok(2));
     assert_eq!(t.collect(), Ok(2));
 }
@@ -58,15 +59,9 @@ fn two_rounds_are_too_few() {
 fn binders() {
     let mut t = table(1, 100);
     let var = || Formula::var(0);
-    assert_eq!(
-        set(&mut t, 0, 100, Formula::mu(0, var())),
-        Ok(Stored { node: 0, rounds: 1 })
-    );
+    assert_eq!(set(&mut t, 0, 100, Formula::mu(0, var())), stored(0, 1, 0));
     assert_eq!(t.count(0), Ok(0));
-    assert_eq!(
-        set(&mut t, 0, 100, Formula::nu(0, var())),
-        Ok(Stored { node: 1, rounds: 1 })
-    );
+    assert_eq!(set(&mut t, 0, 100, Formula::nu(0, var())), stored(1, 1, 0));
     assert_eq!(t.count(0), Ok(2));
     assert_eq!(
         set(&mut t, 0, 100, Formula::mu(0, !var())),
@@ -74,7 +69,7 @@ fn binders() {
     );
     assert_eq!(
         set(&mut t, 0, 100, Formula::mu(0, !!var())),
-        Ok(Stored { node: 0, rounds: 1 })
+        stored(0, 1, 0)
     );
     assert_eq!(set(&mut t, 0, 100, var()), Err(Refusal::Unbound));
     assert_eq!(
@@ -100,24 +95,36 @@ fn box_and_diamond() {
 #[test]
 fn rows() {
     let both = || Formula::current(0) & Formula::current(1);
-    assert!(set(&mut table(2, 3), 0, 100, both()).is_ok());
+    let done = set(&mut table(2, 3), 0, 100, both());
+    assert_eq!(done.map(|done| done.peak), Ok(3));
     assert_eq!(set(&mut table(2, 2), 0, 100, both()), Err(Refusal::Full));
-    assert!(set(&mut table(1, 1), 0, 100, !Formula::current(0)).is_ok());
+    let done = set(&mut table(1, 1), 0, 100, !Formula::current(0));
+    assert_eq!(done.map(|done| done.peak), Ok(1));
 
     let mut t = table(2, 2);
-    set(&mut t, 0, 100, Formula::current(0)).unwrap();
-    set(&mut t, 1, 100, Formula::current(1)).unwrap();
+    let mut peak = |r, formula| set(&mut t, r, 100, formula).map(|done| done.peak);
+    assert_eq!(peak(0, Formula::current(0)), Ok(1));
+    assert_eq!(peak(1, Formula::current(1)), Ok(2));
     t.clear(0).unwrap();
-    set(&mut t, 0, 100, !Formula::current(1)).unwrap();
-    assert_eq!(
-        (
-            t.member(0, 0),
-            t.member(0, 1),
-            t.member(0, 2),
-            t.member(0, 3)
-        ),
-        (Ok(true), Ok(true), Ok(false), Ok(false))
-    );
+    let done = set(&mut t, 0, 100, !Formula::current(1)).unwrap();
+    assert_eq!(done.peak, 1);
+    let states = [0, 1, 2, 3].map(|state| t.member(0, state));
+    assert_eq!(states, [Ok(true), Ok(true), Ok(false), Ok(false)]);
+}
+
+/// The peak tells how many rows are enough: as many, and no fewer.
+#[test]
+fn a_table_as_large_as_the_peak() {
+    let (now, next) = (Formula::current(0), Formula::next(0));
+    let turn = (next.clone() & !now.clone()) | (!next & now);
+    let first = table(1, 100).relation(0, &turn).unwrap().peak;
+    assert_eq!(first, 4);
+    assert_eq!(table(1, first - 1).relation(0, &turn), Err(Refusal::Full));
+    let reached = set(&mut example(), 0, 100, reach()).unwrap().peak;
+    let rows = first.max(reached);
+    let mut t = table(1, rows);
+    assert_eq!(t.relation(0, &turn), Ok(Loaded { peak: first }));
+    assert_eq!(set(&mut t, 0, 100, reach()), stored(1, 3, reached));
 }
 
 #[test]
@@ -203,10 +210,7 @@ fn until() {
     let some = Formula::until_some(0, all(), open.clone());
     assert_eq!(set(&mut t, 0, 3, some), set(&mut t, 1, 3, reach()));
     let every = || Formula::until_every(0, all(), Formula::current(0));
-    assert_eq!(
-        set(&mut t, 2, 3, every()),
-        Ok(Stored { node: 1, rounds: 3 })
-    );
+    assert_eq!(set(&mut t, 2, 3, every()), stored(1, 3, 4));
     assert_eq!(set(&mut t, 2, 2, every()), Err(Refusal::Spent));
     // The inner nu has its own rounds in each round: two rounds of each.
     t.relation(3, Formula::never()).unwrap();

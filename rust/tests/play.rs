@@ -17,15 +17,15 @@ fn listing() {
     let outcomes = play(&mut words, LISTING).expect("every record can be read");
     let shown: Vec<_> = outcomes
         .iter()
-        .map(|x| (x.refusal, x.node, x.value, x.rounds))
+        .map(|x| (x.refusal, x.node, x.value, x.rounds, x.peak))
         .collect();
     assert_eq!(
         shown,
         [
-            (None, 0, 0, 0),
-            (None, 0, 0, 0),
-            (None, 1, 2, 3),
-            (None, 0, 2, 0)
+            (None, 0, 0, 0, 0),
+            (None, 0, 0, 0, 4),
+            (None, 1, 2, 3, 4),
+            (None, 0, 2, 0, 0)
         ]
     );
     assert_eq!(Table::over(words).and_then(|table| table.count(0)), Ok(2));

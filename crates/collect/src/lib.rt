@@ -39,7 +39,7 @@ fn mark_list(words: &[u32], rows: u32, marks: &mut [u32], roots: &[u32])
 }
 
 // Marks the rows that registers and relations reach.
-fn mark_filled(words: &[u32], rows: u32, marks: &mut [u32])
+pub fn mark_filled(words: &[u32], rows: u32, marks: &mut [u32])
     requires { ⌜ RefsPre (view rows (now words)) (length (now marks)) FIRST-REGISTER ROOTS-END ⌝ }
     ensures { λ _. ⌜ MarksAll (rowsOf (view rows (now (words .entry)))) (now (marks .entry)) (now (marks .exit)) (Held (view rows (now (words .entry))) FIRST-REGISTER ROOTS-END) ⌝ }
 {
@@ -67,7 +67,7 @@ fn mark_of(marks: &[u32], i: u32) -> u32
 }
 
 // How many rows are marked.
-fn count_marks(words: &[u32], rows: u32, marks: &[u32]) -> u32
+pub fn count_marks(words: &[u32], rows: u32, marks: &[u32]) -> u32
     requires { ⌜ Ranked (view rows (now words)) × (rows ≤ 32 * length (now marks)) × (wordsFor rows ≤ length (now words)) ⌝ }
     ensures { λ r. ⌜ r ≡ markCount (view rows (now (words .entry))) (now (marks .entry)) (headerOf (now (words .entry)) USED) ⌝ }
 {

@@ -1,2 +1,4 @@
+pub mod News
 pub mod Counts
 pub mod Taken
+pub mod Peak

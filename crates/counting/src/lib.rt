@@ -1,35 +1,175 @@
-// Steps with the count of their rows: a step is taken, and the count given becomes that with its need.
+// Counting rows: how many rows each step of an evaluation needs, for its peak.
 use accounts::Count;
+use collect::count_marks;
+use collect::mark_filled;
+use layout::Table;
+use layout::get;
+use layout::header_word;
+use layout::is_row;
+use layout::row_of;
+use soundness::Bitmap;
+use soundness::marked;
+use soundness::set_mark;
 use steps::Step;
+use steps::operands_of;
+use steps::take_step;
+use table::Made;
 ghost use mathlib.Core.Path.{_≡_};
+ghost use mathlib.Core.Bool.{true, false};
+ghost use mathlib.Core.List.{_∷_, _++_};
+ghost use Prim.Native.Nat.{max};
+ghost use lib.ListN.{length};
 ghost use Rattle.layout.specs.View.{view};
+ghost use Rattle.layout.specs.Arrows.{isRow, rowOf};
 ghost use Rattle.soundness.specs.Used.{rowsOf};
+ghost use Rattle.soundness.specs.Bits.{MARK-WORDS, isOn};
+ghost use Rattle.soundness.specs.Mark.{MarkPre};
 ghost use Rattle.soundness.specs.Sound.{Sound};
-ghost use Rattle.steps.specs.Steps.{stepF, liveAt, StepPre, Stepped};
-ghost use Rattle.counting.specs.Counts.{CountsOf, Unused};
-ghost use Rattle.counting.specs.Taken.{madeIn, Counted};
+ghost use Rattle.diagram.specs.Sizes.{Reaches};
+ghost use Rattle.collect.specs.Lent.{LentPre, live};
+ghost use Rattle.collect.specs.Answers.{FreePre};
+ghost use Rattle.steps.specs.Steps.{StepPre, liveAt};
+ghost use Rattle.steps.specs.Clean.{CleanPre};
+ghost use Rattle.counting.specs.News.{MarksNew, ListNew};
+ghost use Rattle.counting.specs.Counts.{COUNT-WORDS, Blank, marksOf, needOf, CountsOf};
+ghost use Rattle.counting.specs.Peak.{TakenPost};
 
-// The words in which an evaluation marks the rows that registers and relations reach.
+// What an evaluation counts rows with: marks of the rows that registers and relations reach, the base, and how many these are.
 pub struct Counts;
 
 impl Counts {
     pub const WORDS: usize = 1876;
+    // The place of the number.
+    const NUMBER: usize = 1875;
 }
 
-// What a step answers: its arrow and the count with its need, or that rows ran out.
+// What a step answers: the arrow of its result and the count with its need, or that the rows ran out.
 pub enum Taken {
     At { arrow: u32, count: Count },
     Full,
 }
 
-// Begins to count: marks the rows that registers and relations reach.
+// Counts the rows that registers and relations reach.
 pub fn begin(words: &[u32], rows: u32, counts: &mut [u32])
-    requires { ⌜ Sound (view rows (now words)) × Unused (now counts) ⌝ }
+    requires { ⌜ Sound (view rows (now words)) × Blank (now counts) ⌝ }
     ensures { λ _. ⌜ CountsOf (view rows (now (words .entry))) (now (counts .exit)) ⌝ }
 {
+    mark_filled(words, rows, &mut counts[..Bitmap::WORDS]);
+    let number = count_marks(words, rows, &counts[..Bitmap::WORDS]);
+    counts[Counts::NUMBER] = number;
 }
 
-// Takes a step, and counts its need.
+// Copies the marks of the base.
+fn copy_marks(counts: &[u32], marks: &mut [u32])
+    requires { ⌜ (length (now counts) ≡ COUNT-WORDS) × (length (now marks) ≡ MARK-WORDS) ⌝ }
+    ensures { λ _. ⌜ now (marks .exit) ≡ marksOf (now (counts .entry)) ⌝ }
+{
+    let mut k = 0;
+    while k < Bitmap::WORDS {
+        marks[k] = counts[k];
+        k += 1;
+    }
+}
+
+// Marks the rows that arrow a reaches, and counts those that were not marked.
+fn mark_new(words: &[u32], rows: u32, marks: &mut [u32], a: u32) -> u32
+    requires { ⌜ MarkPre (view rows (now words)) (length (now marks)) a ⌝ }
+    ensures { λ r. ⌜ MarksNew (rowsOf (view rows (now (words .entry)))) (now (marks .entry)) (now (marks .exit)) a r ⌝ }
+{
+    if !is_row(a) {
+        return 0;
+    }
+    if marked(marks, row_of(a)) {
+        return 0;
+    }
+    new_row(words, rows, marks, a)
+}
+
+// `mark_new` of an arrow of a row. It is apart, so that it is inlined in `new_row`: an arrow with nothing to mark costs no call.
+fn new_part(words: &[u32], rows: u32, marks: &mut [u32], a: u32) -> u32
+    requires { ⌜ MarkPre (view rows (now words)) (length (now marks)) a ⌝ }
+    ensures { λ r. ⌜ MarksNew (rowsOf (view rows (now (words .entry)))) (now (marks .entry)) (now (marks .exit)) a r ⌝ }
+{
+    if !is_row(a) {
+        return 0;
+    }
+    if marked(marks, row_of(a)) {
+        return 0;
+    }
+    new_row(words, rows, marks, a)
+}
+
+// `mark_new` of an arrow to a row that is not marked.
+fn new_row(words: &[u32], rows: u32, marks: &mut [u32], a: u32) -> u32
+    requires { ⌜ MarkPre (view rows (now words)) (length (now marks)) a × (isRow a ≡ true) × (isOn (now marks) (rowOf a) ≡ false) ⌝ }
+    ensures { λ r. ⌜ MarksNew (rowsOf (view rows (now (words .entry)))) (now (marks .entry)) (now (marks .exit)) a r ⌝ }
+{
+    let i = row_of(a);
+    let low = new_part(words, rows, marks, get(words, rows, i, Table::LOW));
+    let high = new_part(words, rows, marks, get(words, rows, i, Table::HIGH));
+    set_mark(marks, i);
+    low + high + 1
+}
+
+// Marks the rows that a list of arrows reaches, and counts those that were not marked.
+fn list_new(words: &[u32], rows: u32, marks: &mut [u32], roots: &[u32]) -> u32
+    requires { ⌜ LentPre (view rows (now words)) (length (now marks)) (now roots) ⌝ }
+    ensures { λ r. ⌜ ListNew (rowsOf (view rows (now (words .entry)))) (now (marks .entry)) (now (marks .exit)) (now (roots .entry)) r ⌝ }
+{
+    let mut found = 0;
+    let mut k = 0;
+    while k < roots.len() {
+        found += mark_new(words, rows, marks, roots[k]);
+        k += 1;
+    }
+    found
+}
+
+// How many rows registers, relations and two lists of further arrows reach.
+fn count_live(words: &[u32], rows: u32, counts: &[u32], roots: &[u32], more: &[u32]) -> u32
+    requires { ⌜ FreePre (view rows (now words)) (now roots ++ now more) × CountsOf (view rows (now words)) (now counts) ⌝ }
+    ensures { λ r. ⌜ Reaches (rowsOf (view rows (now (words .entry)))) (live (view rows (now (words .entry))) (now (roots .entry) ++ now (more .entry))) r ⌝ }
+{
+    let mut marks = [0u32; Bitmap::WORDS];
+    copy_marks(counts, &mut marks);
+    let base = counts[Counts::NUMBER];
+    let first = list_new(words, rows, &mut marks, roots);
+    let second = list_new(words, rows, &mut marks, more);
+    base + first + second
+}
+
+// The greater of two numbers.
+fn greater(a: u32, b: u32) -> u32
+    ensures { λ r. ⌜ r ≡ max a b ⌝ }
+{
+    if a < b {
+        return b;
+    }
+    a
+}
+
+// The peak with a step whose result is arrow a: the rows that it and all that is live need, where they are more than the peak before.
+fn note(
+    words: &[u32],
+    rows: u32,
+    counts: &[u32],
+    roots: &[u32],
+    step: Step,
+    a: u32,
+    peak: u32,
+) -> u32
+    requires { ⌜ CleanPre (view rows (now words)) (now roots) step a × CountsOf (view rows (now words)) (now counts) ⌝ }
+    ensures { λ r. ⌜ r ≡ max peak (needOf (view rows (now (words .entry))) (a ∷ liveAt (view rows (now (words .entry))) (now (roots .entry)) step)) ⌝ }
+{
+    if header_word(words, Table::USED) <= peak {
+        return peak;
+    }
+    let p = operands_of(step);
+    let more = [p.first, p.second, a];
+    greater(peak, count_live(words, rows, counts, roots, &more))
+}
+
+// Takes a step as `take_step` does, and counts what it needs.
 pub fn take(
     words: &mut [u32],
     counts: &mut [u32],
@@ -41,9 +181,17 @@ pub fn take(
     count: Count,
 ) -> Taken
     requires { ⌜ StepPre levels rows limit (view rows (now words)) (now roots) step × CountsOf (view rows (now words)) (now counts) ⌝ }
-    ensures { λ r. ⌜ Stepped levels rows limit (view rows (now (words .entry))) (view rows (now (words .exit))) (now (roots .entry)) step (madeIn r)
-        × CountsOf (view rows (now (words .exit))) (now (counts .exit))
-        × Counted levels (rowsOf (view rows (now (words .entry)))) (liveAt (view rows (now (words .entry))) (now (roots .entry)) step) (stepF levels (rowsOf (view rows (now (words .entry)))) step) count r ⌝ }
+    ensures { λ r. ⌜ TakenPost levels rows limit (view rows (now (words .entry))) (view rows (now (words .exit))) (now (roots .entry)) (now (counts .exit)) step count r ⌝ }
 {
-    Taken::Full
+    let Made::At(a) = take_step(words, rows, levels, limit, roots, step) else {
+        return Taken::Full;
+    };
+    let p = note(words, rows, counts, roots, step, a, count.peak);
+    Taken::At {
+        arrow: a,
+        count: Count {
+            rounds: count.rounds,
+            peak: p,
+        },
+    }
 }

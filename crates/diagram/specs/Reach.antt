@@ -109,6 +109,26 @@ module _ {m N : ℕ} {rows : Rows} (wf : WellFormed m N rows) where
         let (a, ma, c) = reach-part r in
         (a, ma, part-trans c (part-trans (part-cofactor (splits-high (row-splits wf i (reach-used r)))) (leads-part (rows .high i) j e)))
 
+  -- Every row that an arrow reaches is of its level or a deeper one; so a row's arrows do not reach it.
+  reach-level : (a : ℕ) → Arrow rows a → {i : ℕ} → Reach rows (a ∷ []) i → levelOf m rows a ≤ rows .level i
+  reach-level a u (root {a = b} {i = i} h e) = let l = leads-level m rows a i (rw (mem-only h) at e) in omega arith
+  reach-level a u (by-low {i = i} {j = j} r e) =
+      let o = wf .ok i (reach-used (one-root (Arrow rows) u) r) .low-deeper in
+      let h = reach-level a u r in
+      let l = leads-level m rows (rows .low i) j e in
+      omega arith
+  reach-level a u (by-high {i = i} {j = j} r e) =
+      let o = wf .ok i (reach-used (one-root (Arrow rows) u) r) .high-deeper in
+      let h = reach-level a u r in
+      let l = leads-level m rows (rows .high i) j e in
+      omega arith
+
+  pub low-apart : (i : ℕ) → rows .used i ≡ true → Reach rows (rows .low i ∷ []) i → ⊥
+  low-apart i u r = let o = wf .ok i u in let h = reach-level (rows .low i) (o .low-arrow) r in let d = o .low-deeper in omega arith
+
+  pub high-apart : (i : ℕ) → rows .used i ≡ true → Reach rows (rows .high i ∷ []) i → ⊥
+  high-apart i u r = let o = wf .ok i u in let h = reach-level (rows .high i) (o .high-arrow) r in let d = o .high-deeper in omega arith
+
   -- Every cofactor of what an arrow of P denotes is denoted by one of P, where P goes on from an arrow to those that are followed: the walk
   -- along the fixed bits.
   module _ (P : ℕ → Type 0) (on : (a i : ℕ) (b : Bool) → P a → Leads a i → P (follow rows a i b)) where

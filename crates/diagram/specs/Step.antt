@@ -57,7 +57,7 @@ record Tried (m N limit : ℕ) (before tried : Rows) (roots : List ℕ) (answer 
   result : TryResult m limit before tried roots answer F
 
 -- The result and the roots, in the table that is left, need what F and the roots needed before.
-same-need : {m : ℕ} {before after : Rows} {a : ℕ} {F : Fn} (roots : List ℕ) → Keeps before after roots → Denotes m after a F
+pub same-need : {m : ℕ} {before after : Rows} {a : ℕ} {F : Fn} (roots : List ℕ) → Keeps before after roots → Denotes m after a F
     → need m (map (den m after) (a ∷ roots)) ≡ stepNeed m (map (den m before) roots) F
 same-need {m} {before} {after} {a} {F} roots k d =
     let e : den m after a ≡ F = fun-ext (d .same) in

@@ -20,14 +20,17 @@ use Rattle.tokens.specs.declared.Token.the-variants.{Leaf as LeafToken, Not, Bo
 use Rattle.tokens.specs.declared.Lead.{Lead}
 use Rattle.tokens.specs.declared.Lead.the-variants.{Is}
 use Rattle.formula.proofs.Steps.{is-not, is-modal, is-binder}
+use Rattle.accounts.specs.declared.Count.{Count}
+use Rattle.accounts.specs.Count.{another}
 use Rattle.layout.specs.Places.{HEADER, FIRST-RELATION}
 use Rattle.layout.specs.View.{View, view}
-use Rattle.table.specs.declared.Made.{Made}
 use Rattle.steps.specs.declared.Step.the-variants as step
+use Rattle.counting.specs.Counts.{CountsOf}
+use Rattle.counting.specs.declared.Taken.{Taken}
 use Rattle.book.specs.Turns.{startArrow}
 use Rattle.modal.specs.declared.Limits.{Limits}
 use Rattle.modal.specs.Modal.{ModalPre}
-use Rattle.evaluator.specs.Scene.{stackSize, Scene, opened, Ready, holdsReg, holdsRel, Answers, fromMade, bodyOf, roundOf, isLeast, OverPost, LivePre, LivePost, JoinedPre, JoinedPost, LeafPre, LeafPost, EvalPre, EvalPost, NegatePost, BothPre, BothPost, ModePre, ModePost, fixOf, variableOf, BodyPart, UntilPost, TurnPre, TurnPost, BindPre, BindPost}
+use Rattle.evaluator.specs.Scene.{stackSize, Scene, opened, Ready, holdsReg, holdsRel, Answers, fromTaken, bodyOf, roundOf, isLeast, OverPost, LivePre, LivePost, JoinedPre, JoinedPost, LeafPre, LeafPost, EvalPre, EvalPost, NegatePost, BothPre, BothPost, ModePre, ModePost, fixOf, variableOf, BodyPart, UntilPost, TurnPre, TurnPost, BindPre, BindPost}
 use Rattle.evaluator.specs.declared.Body.{Body}
 use Rattle.evaluator.specs.declared.Body.the-variants as body
 use Rattle.evaluator.specs.declared.Context.{Context}
@@ -43,7 +46,7 @@ use Rattle.evaluator.proofs.Untils.{absent-of, until-as, until-part, tu
 
 -- the part after an operator's byte
 abbrev pub inward : Context → Context
-inward c = record { at = c .at + 1; depth = c .depth - 1; held = c .held; places = c .places; rounds = c .rounds }
+inward c = record { at = c .at + 1; depth = c .depth - 1; held = c .held; places = c .places; count = c .count }
 
 -- ---- by the token
 
@@ -55,9 +58,9 @@ module _ {L : Limits} {W : View} {stack bs : List ℕ} {c : Context} (P : EvalPr
     pub leaf-asked : LeafPre L W stack c l
     leaf-asked = record { scene = P .scene; ready = P .ready; named = leaf-named (P .part) found is leaf; taken = read-allowed (P .part .stands) found is leaf }
 
-    pub leaf-answered : {X : View} {o : Made} {r : Evaluated} → LeafPost L W X stack c l o → r ≡ fromMade (c .at + 1) (c .rounds) o → EvalPost L W X stack stack bs c r
-    leaf-answered A made = record {
-      answers = λ σ f e R p. eval-leaf l (leaf-form (p .stands) found is leaf) (leaf-end (p .stands) found is leaf) (A .answers σ R (leaf-named p found is leaf)) made;
+    pub leaf-answered : {X : View} {o : Taken} {r : Evaluated} → LeafPost L W X stack c l o → r ≡ fromTaken (c .at + 1) o → EvalPost L W X stack stack bs c r
+    leaf-answered A is-r = record {
+      answers = λ σ f e R p. eval-leaf l (leaf-form (p .stands) found is leaf) (leaf-end (p .stands) found is leaf) (A .answers σ R (leaf-named p found is leaf)) is-r;
     }
 
   module _ (one : t ≡ Not) where
@@ -149,12 +152,12 @@ module _ {L : Limits} {W X : View} {stack after bs : List ℕ} {c : Context} {r 
   pub negate-halts : Halts r → NegatePost L W X stack after bs c r
   negate-halts s = record { answers = λ σ f e R p. negate-stops (E .answers σ f e R p) s }
 
-  module _ (z : length after ≡ length stack) {a k q : ℕ} (is : r ≡ Value a k q) where
+  module _ (z : length after ≡ length stack) {a k : ℕ} {q : Count} (is : r ≡ Value a k q) where
     pub step-asked : EvalPre L W stack bs c → LivePre L X after (c .held) (step.Not a)
     step-asked P = negate-asks (P .ready) (E .answers (P .scene) (P .form) (P .end) (P .ready) (P .part)) z is
 
-    pub negate-answered : {Y : View} {o : Made} {r′ : Evaluated} → LivePost L X Y after (c .held) (step.Not a) o → r′ ≡ fromMade k q o → NegatePost L W Y stack after bs c r′
-    negate-answered s made = record { answers = λ σ f e R p. negate-ends R (E .answers σ f e R p) z is s made }
+    pub negate-answered : {Y : View} {o : Taken} {r′ : Evaluated} → LivePost L X Y after (c .held) (step.Not a) q o → r′ ≡ fromTaken k o → NegatePost L W Y stack after bs c r′
+    negate-answered s is-r = record { answers = λ σ f e R p. negate-ends R (E .answers σ f e R p) z is s is-r }
 
 -- ---- AND and OR
 
@@ -165,11 +168,11 @@ module _ {L : Limits} {W X : View} {stack after bs : List ℕ} {c : Context} {r 
   pub first-halts : Halts r → (j : Join) → BothPost L W X stack after bs c j r
   first-halts s j = record { answers = λ σ f g m e R p q. first-stops (E .answers σ f m R p) s j g e }
 
-  module _ (z : length after ≡ length stack) {a k q : ℕ} (is : r ≡ Value a k q) where
+  module _ (z : length after ≡ length stack) {a k : ℕ} {q : Count} (is : r ≡ Value a k q) where
     free : c .held < stackSize
     free = let l = P .room in omega arith
 
-    first : Answers L W X stack after (c .held) (c .rounds) (P .scene) (P .left) (P .middle) r
+    first : Answers L W X stack after (c .held) (c .count) (P .scene) (P .left) (P .middle) r
     first = E .answers (P .scene) (P .left) (P .middle) (P .ready) (P .first)
 
     pub second-asked : {b : Context} → b ≡ roundOf c k q → EvalPre L X (set after (c .held) a) bs b
@@ -209,8 +212,8 @@ module _ {L : Limits} {W X : View} {stack after bs : List ℕ} {c : Context} {r 
   pub mode-halts : Halts r → (m : Mode) → ModePost L W X stack after bs c m t r
   mode-halts s m = record { answers = λ σ f e R p h. mode-stops (E .answers σ f e R p) s m t }
 
-  module _ (z : length after ≡ length stack) {a k q : ℕ} (is : r ≡ Value a k q) where
-    whole : Answers L W X stack after (c .held) (c .rounds) (P .scene) (P .form) (P .end) r
+  module _ (z : length after ≡ length stack) {a k : ℕ} {q : Count} (is : r ≡ Value a k q) where
+    whole : Answers L W X stack after (c .held) (c .count) (P .scene) (P .form) (P .end) r
     whole = E .answers (P .scene) (P .form) (P .end) (P .ready) (P .part)
 
     pub relation-asked : (FIRST-RELATION + t < HEADER) × (HEADER ≤ X .size) × (0 < X .header (FIRST-RELATION + t))
@@ -223,9 +226,9 @@ module _ {L : Limits} {W X : View} {stack after bs : List ℕ} {c : Context} {r 
       pub over-asked : ModalPre (L .bits) (L .rows) (L .limit) X (take (c .held) after) x a
       over-asked = over-asks (P .ready) whole z is t (P .relation) x arrow
 
-      pub over-answered : {Y : View} (o : Made) (m : Mode) {r′ : Evaluated} → OverPost m (L .bits) (L .rows) (L .limit) X Y (take (c .held) after) x a o → r′ ≡ fromMade k q o
+      pub over-answered : {Y : View} (o : Taken) (m : Mode) {r′ : Evaluated} → OverPost m (L .bits) (L .rows) (L .limit) X Y (take (c .held) after) x a q o → r′ ≡ fromTaken k o
           → ModePost L W Y stack after bs c m t r′
-      over-answered {Y} o m v made = record { answers = λ σ f e R p h. over-ends R (E .answers σ f e R p) z is t h x arrow Y o m v made }
+      over-answered {Y} o m v is-r = record { answers = λ σ f e R p h. over-ends R (E .answers σ f e R p) z is t h x arrow Y o m v is-r }
 
 -- ---- the rounds of a body
 
@@ -233,26 +236,36 @@ pub same-depth : {b d : Context} → b ≡ d → b .depth ≡ d .depth
 same-depth e = ap (λ (x : Context). x .depth) e
 
 -- where a body's loop stands in every scene: after some rounds, with the arrow a as the current set
-pub record Turns (L : Limits) (W X : View) (stack after bs : List ℕ) (c : Context) (body : Body) (a counted : ℕ) : Type 0 where
+pub record Turns (L : Limits) (W X : View) (stack after bs : List ℕ) (c : Context) (body : Body) (a : ℕ) (counted : Count) : Type 0 where
   pub bound : (σ : Scene) (f : Form) (e : ℕ) → Ready L W stack (c .places) (c .held) σ → BodyPart (L .bits) bs (c .at) (c .depth) (set (σ .scope) (variableOf body) true) (holdsReg σ) (holdsRel σ) body f e
-      → Bound L W X stack after (c .held) (c .rounds) σ (fixOf body) (variableOf body) f a counted
+      → Bound L W X stack after (c .held) (c .count) σ (fixOf body) (variableOf body) f a counted
 
--- what a loop keeps, from the words and the stack at its start: their sizes, and where it stands
-pub record Looping (L : Limits) (words₀ words stack₀ stack bs : List ℕ) (c : Context) (body : Body) (a counted : ℕ) : Type 0 where
+-- what a loop keeps, from the words and the stack at its start: their sizes, what the counts say of the words, and where it stands
+pub record Looping (L : Limits) (words₀ words counts₀ counts stack₀ stack bs : List ℕ) (c : Context) (body : Body) (a : ℕ) (counted : Count) : Type 0 where
   pub words-size : length words ≡ length words₀
+  pub counts-size : length counts ≡ length counts₀
   pub stack-size : length stack ≡ length stack₀
+  pub counts-of : CountsOf (view (L .rows) words) counts
   pub turns : Turns L (view (L .rows) words₀) (view (L .rows) words) stack₀ stack bs c body a counted
 
-pub loop-starts : {L : Limits} {words stack bs : List ℕ} {c : Context} {body : Body} {a : ℕ} → a ≡ startArrow (isLeast (fixOf body)) → Looping L words words stack stack bs c body a (c .rounds)
-loop-starts {body = body} e = record { words-size = refl; stack-size = refl; turns = record { bound = λ σ f _ R p. bind-starts R (fixOf body) (variableOf body) f e } }
+pub loop-starts : {L : Limits} {words counts stack bs : List ℕ} {c : Context} {body : Body} {a : ℕ} → CountsOf (view (L .rows) words) counts → a ≡ startArrow (isLeast (fixOf body))
+    → Looping L words words counts counts stack stack bs c body a (c .count)
+loop-starts {body = body} C e = record {
+  words-size = refl;
+  counts-size = refl;
+  stack-size = refl;
+  counts-of = C;
+  turns = record { bound = λ σ f _ R p. bind-starts R (fixOf body) (variableOf body) f e };
+}
 
-module _ {L : Limits} {words₀ words stack after bs : List ℕ} {c : Context} {body : Body} {a counted : ℕ} (P : BindPre L (view (L .rows) words₀) stack bs c body) (I : Looping L words₀ words stack after bs c body a counted) where
-  pub rounds-out : L .rounds ≤ counted → BindPost L (view (L .rows) words₀) (view (L .rows) words) stack after bs c body Spent
+module _ {L : Limits} {words₀ words counts₀ counts stack after bs : List ℕ} {c : Context} {body : Body} {a : ℕ} {counted : Count} (P : BindPre L (view (L .rows) words₀) stack bs c body)
+    (I : Looping L words₀ words counts₀ counts stack after bs c body a counted) where
+  pub rounds-out : L .rounds ≤ counted .rounds → BindPost L (view (L .rows) words₀) (view (L .rows) words) stack after bs c body Spent
   rounds-out l = record { answers = λ σ f e R p. bind-out R (I .turns .bound σ f e R p) e l }
 
-  module _ {b : Context} {v : ℕ} (is-opened : b ≡ bodyOf c v (counted + 1)) (is-variable : v ≡ variableOf body) where
-    is-body : b ≡ bodyOf c (variableOf body) (counted + 1)
-    is-body = is-opened ∙ ap (λ (w : ℕ). bodyOf c w (counted + 1)) is-variable
+  module _ {b : Context} {v : ℕ} {n : Count} (is-opened : b ≡ bodyOf c v n) (is-variable : v ≡ variableOf body) (is-count : n ≡ another counted) where
+    is-body : b ≡ bodyOf c (variableOf body) (another counted)
+    is-body = is-opened ∙ ap (λ (w : ℕ). bodyOf c w n) is-variable ∙ ap (bodyOf c (variableOf body)) is-count
 
     open-room : c .held < stackSize
     open-room = let l = P .room in omega arith
@@ -260,7 +273,7 @@ module _ {L : Limits} {words₀ words stack after bs : List ℕ} {c : Context} {
     -- the scene of a round
     module _ {σ : Scene} {f : Form} {e : ℕ} (R : Ready L (view (L .rows) words₀) stack (c .places) (c .held) σ)
         (p : BodyPart (L .bits) bs (c .at) (c .depth) (set (σ .scope) (variableOf body) true) (holdsReg σ) (holdsRel σ) body f e) where
-      stands : Bound L (view (L .rows) words₀) (view (L .rows) words) stack after (c .held) (c .rounds) σ (fixOf body) (variableOf body) f a counted
+      stands : Bound L (view (L .rows) words₀) (view (L .rows) words) stack after (c .held) (c .count) σ (fixOf body) (variableOf body) f a counted
       stands = I .turns .bound σ f e R p
 
       inner : Ready L (view (L .rows) words) (set after (c .held) a) (set (c .places) (variableOf body) (c .held)) (c .held + 1) (opened (L .bits) σ (variableOf body) a (stands .turning .A))
@@ -270,32 +283,35 @@ module _ {L : Limits} {words₀ words stack after bs : List ℕ} {c : Context} {
     body-asked =
         let T = stands (P .ready) (P .part) in
         subst (λ (d : Context). TurnPre L (view (L .rows) words) (set after (c .held) a) bs d body a) (sym is-body)
-        (turn-asks {c = bodyOf c (variableOf body) (counted + 1)} (P .scene) (T .turning .A) (T .turning .denotes) body (inner (P .ready) (P .part)) (let l = P .room in omega arith) (P .part))
+        (turn-asks {c = bodyOf c (variableOf body) (another counted)} (P .scene) (T .turning .A) (T .turning .denotes) body (inner (P .ready) (P .part)) (let l = P .room in omega arith) (P .part))
 
-    module _ {Y : View} {last : List ℕ} {r : Evaluated} (E : TurnPost L (view (L .rows) words) Y (set after (c .held) a) last bs b body a r) (more : counted < L .rounds) where
+    module _ {Y : View} {last : List ℕ} {r : Evaluated} (E : TurnPost L (view (L .rows) words) Y (set after (c .held) a) last bs b body a r) (more : counted .rounds < L .rounds) where
       module _ {σ : Scene} {f : Form} {e : ℕ} (R : Ready L (view (L .rows) words₀) stack (c .places) (c .held) σ)
           (p : BodyPart (L .bits) bs (c .at) (c .depth) (set (σ .scope) (variableOf body) true) (holdsReg σ) (holdsRel σ) body f e) where
-        answered : Answers L (view (L .rows) words) Y (set after (c .held) a) last (c .held + 1) (counted + 1) (opened (L .bits) σ (variableOf body) a (stands R p .turning .A)) f e r
+        answered : Answers L (view (L .rows) words) Y (set after (c .held) a) last (c .held + 1) (another counted) (opened (L .bits) σ (variableOf body) a (stands R p .turning .A)) f e r
         answered =
-            turn-answers {c = bodyOf c (variableOf body) (counted + 1)} σ (stands R p .turning .A) (stands R p .turning .denotes) body
+            turn-answers {c = bodyOf c (variableOf body) (another counted)} σ (stands R p .turning .A) (stands R p .turning .denotes) body
             (subst (λ (d : Context). TurnPost L (view (L .rows) words) Y (set after (c .held) a) last bs d body a r) is-body E) (inner R p) p
 
       pub body-halts : Halts r → BindPost L (view (L .rows) words₀) Y stack last bs c body r
       body-halts h = record { answers = λ σ f e R p. bind-stops R (stands R p) (I .stack-size) open-room (answered R p) more h }
 
-      module _ {d k q : ℕ} (is : r ≡ Value d k q) where
+      module _ {d k : ℕ} {q : Count} (is : r ≡ Value d k q) where
         pub body-same : d ≡ a → BindPost L (view (L .rows) words₀) Y stack last bs c body (Value d k q)
         body-same h = record { answers = λ σ f e R p. bind-ends R (stands R p) (I .stack-size) open-room (answered R p) more is h }
 
-        pub body-less : counted < q
+        pub body-less : counted .rounds < q .rounds
         body-less = bind-less (P .ready) (stands (P .ready) (P .part)) (I .stack-size) open-room (answered (P .ready) (P .part)) more is
 
         body-turns : d ≢ a → Turns L (view (L .rows) words₀) Y stack last bs c body d q
         body-turns h = record { bound = λ σ f e R p. bind-turns R (stands R p) (I .stack-size) open-room (answered R p) more is h }
 
-        pub loop-turns : d ≢ a → (next : List ℕ) → Y ≡ view (L .rows) next → length next ≡ length words → length last ≡ length (set after (c .held) a) → Looping L words₀ next stack last bs c body d q
-        loop-turns h next y w z = record {
+        pub loop-turns : d ≢ a → (next : List ℕ) → Y ≡ view (L .rows) next → {more-counts : List ℕ} → CountsOf Y more-counts → length next ≡ length words → length more-counts ≡ length counts
+            → length last ≡ length (set after (c .held) a) → Looping L words₀ next counts₀ more-counts stack last bs c body d q
+        loop-turns h next y {more-counts} C w v z = record {
           words-size = w ∙ I .words-size;
+          counts-size = v ∙ I .counts-size;
           stack-size = simp length-set at z ∙ I .stack-size;
+          counts-of = subst (λ (Z : View). CountsOf Z more-counts) y C;
           turns = subst (λ (Z : View). Turns L (view (L .rows) words₀) Z stack last bs c body d q) y (body-turns h);
         }

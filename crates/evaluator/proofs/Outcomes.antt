@@ -18,24 +18,26 @@ use Rattle.tokens.specs.declared.Fix.the-variants.{Mu, Nu}
 use Rattle.formula.specs.Parse.{joinForm, modalForm, binderForm}
 use Rattle.diagram.specs.Level.{Fn}
 use Rattle.diagram.specs.Rows.{Rows}
-use Rattle.diagram.specs.Post.{Result, at, full as noRows, Denotes}
+use Rattle.diagram.specs.Post.{Denotes}
 use Rattle.table.specs.Make.{result}
-use Rattle.table.specs.declared.Made.{Made}
-use Rattle.table.specs.declared.Made.the-variants as made
+use Rattle.counting.specs.Taken.{madeIn, countIn}
+use Rattle.counting.specs.declared.Taken.{Taken}
+use Rattle.counting.specs.declared.Taken.the-variants as taken
+use Rattle.accounts.specs.declared.Count.{Count}
 use Rattle.diagram.specs.Need.{stepNeed}
 use Rattle.diagram.specs.Steps.{notF, andF, orF}
 use Rattle.book.specs.Bridge.{fnOf, fnOfPairs, fnOf-not, fnOf-and, fnOf-or}
 use Rattle.book.specs.Diamond.{diamondF, boxF, diamond-exact, box-exact}
 use Rattle.book.specs.Ticks.{counted, full as fullVerdict, diamondNeeds, diaNeeds, boxNeeds}
-use Rattle.book.specs.Verdicts.{fit, settle, steps-verdict, dia-ticks, box-ticks}
+use Rattle.book.specs.Verdicts.{fit, needingAll, settle, steps-verdict, dia-ticks, box-ticks}
 use Rattle.book.specs.Run.{Outcome, value, full, spent, andThen, twoStep, diaSteps, boxSteps, loop, run}
-use Rattle.book.specs.Follow.{ends, Matches, Evals, endedBy, Stops, evals-same}
+use Rattle.book.specs.Follow.{ends, Matches, Evals, Stops, evals-same}
 use Rattle.book.specs.Pairs.{PairEvals, PairMatches}
 use Rattle.modal.specs.Modal.{boxedNeeds}
 use Rattle.modal.specs.declared.Limits.{Limits}
 use Rattle.layout.specs.View.{View}
 use Rattle.steps.specs.declared.Step.{Step}
-use Rattle.evaluator.specs.Scene.{endedOf, EndsAt, fromMade, joinStep, isLeast, LivePre, LivePost, JoinedPre, JoinedPost}
+use Rattle.evaluator.specs.Scene.{endedOf, endedIn, EndsAt, fromTaken, joinStep, isLeast, LivePre, LivePost, JoinedPre, JoinedPost}
 use Rattle.evaluator.specs.declared.Evaluated.{Evaluated}
 use Rattle.evaluator.specs.declared.Evaluated.the-variants.{Value, Full, Spent}
 use Rattle.evaluator.proofs.Evaluated.{enum}
@@ -52,14 +54,14 @@ joined-stops (Value b k q) h = absurd (⊎-elim (λ x. omega arith) (λ x. omega
 joined-stops Full h = record { joins = (refl, refl) }
 joined-stops Spent h = record { joins = (refl, refl) }
 
-pub joined-step : {L : Limits} {W : View} {stack : List ℕ} {held : ℕ} {j : Join} {a : ℕ} {second : Evaluated} → JoinedPre L W stack held j a second → {b k q : ℕ} → second ≡ Value b k q
+pub joined-step : {L : Limits} {W : View} {stack : List ℕ} {held : ℕ} {j : Join} {a : ℕ} {second : Evaluated} → JoinedPre L W stack held j a second → {b k : ℕ} {q : Count} → second ≡ Value b k q
     → {s : Step} → s ≡ joinStep j a b → LivePre L W stack held s
 joined-step {L} {W} {stack} {held} P {b} {k} {q} is joins = subst (LivePre L W stack held) (sym joins) (P .asks b k q is)
 
-pub joined-steps : {L : Limits} {W X : View} {stack : List ℕ} {held : ℕ} {j : Join} {a : ℕ} {second : Evaluated} {b k q : ℕ} → second ≡ Value b k q → {s : Step} → s ≡ joinStep j a b
-    → {o : Made} {r : Evaluated} → LivePost L W X stack held s o → r ≡ fromMade k q o → JoinedPost L W X stack held j a second r
-joined-steps {L} {W} {X} {stack} {held} {j} {a} {second} {b} {k} {q} is {s} joins {o} {r} v made =
-    subst (λ (x : Evaluated). JoinedPost L W X stack held j a x r) (sym is) (record { joins = (o, subst (λ (y : Step). LivePost L W X stack held y o) joins v, made) })
+pub joined-steps : {L : Limits} {W X : View} {stack : List ℕ} {held : ℕ} {j : Join} {a : ℕ} {second : Evaluated} {b k : ℕ} {q : Count} → second ≡ Value b k q → {s : Step} → s ≡ joinStep j a b
+    → {o : Taken} {r : Evaluated} → LivePost L W X stack held s q o → r ≡ fromTaken k o → JoinedPost L W X stack held j a second r
+joined-steps {L} {W} {X} {stack} {held} {j} {a} {second} {b} {k} {q} is {s} joins {o} {r} v is-r =
+    subst (λ (x : Evaluated). JoinedPost L W X stack held j a x r) (sym is) (record { joins = (o, subst (λ (y : Step). LivePost L W X stack held y q o) joins v, is-r) })
 
 pub halts-stops : (r : Evaluated) → Halts r → Stops (endedOf r)
 halts-stops (Value a k q) h = ⊎-elim (λ x. omega arith) (λ x. omega arith) h
@@ -72,16 +74,16 @@ halts-end e Full h = tt
 halts-end e Spent h = tt
 
 -- a step's answer
-pub made-ended : (e q : ℕ) (o : Made) → endedBy (result o) q ≡ endedOf (fromMade e q o)
-made-ended e q (made.At a) = refl
-made-ended e q made.Full = refl
+pub taken-ended : (e : ℕ) (o : Taken) → endedIn o ≡ endedOf (fromTaken e o)
+taken-ended e (taken.At a c) = refl
+taken-ended e taken.Full = refl
 
-pub made-end : (e q : ℕ) (o : Made) → EndsAt e (fromMade e q o)
-made-end e q (made.At a) = refl
-made-end e q made.Full = tt
+pub taken-end : (e : ℕ) (o : Taken) → EndsAt e (fromTaken e o)
+taken-end e (taken.At a c) = refl
+taken-end e taken.Full = tt
 
 -- a value stands for a set that its arrow denotes
-pub evals-value : {n N : ℕ} {before after : Rows} {roots : List ℕ} {a p : ℕ} (o : Outcome) → Evals n N before after roots o (ends a p)
+pub evals-value : {n N : ℕ} {before after : Rows} {roots : List ℕ} {a : ℕ} {p : Count} (o : Outcome) → Evals n N before after roots o (ends a p)
     → (A : List Bool) × (o ≡ value A p) × Denotes (2 * n) after a (fnOf n A)
 evals-value {n} {after = after} {a = a} {p = p} o d = go o (d .result)
   where
@@ -104,37 +106,37 @@ pub join-exact : (n : ℕ) (j : Join) (A B : List Bool) → fnOf n (joinOp j (2 
 join-exact n And A B = fnOf-and n A B
 join-exact n Or A B = fnOf-or n A B
 
-pub run-join : (m : Model) (N R : ℕ) (e : Env) (live : List Fn) (j : Join) (f g : Form) (r : ℕ) → run m N R e live (joinForm j f g) r
+pub run-join : (m : Model) (N R : ℕ) (e : Env) (live : List Fn) (j : Join) (f g : Form) (r : Count) → run m N R e live (joinForm j f g) r
     ≡ andThen (run m N R e live f r) (λ A q. andThen (run m N R e (fnOf (m .n) A ∷ live) g q) (λ B p. twoStep (m .n) N live (joinOp j (size m)) A B p))
 run-join m N R e live And f g r = refl
 run-join m N R e live Or f g r = refl
 
-abbrev pub overSteps : Mode → ℕ → ℕ → List Fn → Pairs → List Bool → ℕ → Outcome
+abbrev pub overSteps : Mode → ℕ → ℕ → List Fn → Pairs → List Bool → Count → Outcome
 overSteps All = boxSteps
 overSteps Some = diaSteps
 
-pub run-modal : (m : Model) (N R : ℕ) (e : Env) (live : List Fn) (o : Mode) (t : ℕ) (f : Form) (r : ℕ) → run m N R e live (modalForm o t f) r
+pub run-modal : (m : Model) (N R : ℕ) (e : Env) (live : List Fn) (o : Mode) (t : ℕ) (f : Form) (r : Count) → run m N R e live (modalForm o t f) r
     ≡ andThen (run m N R e live f r) (λ A q. overSteps o (m .n) N live (inside (m .rel t)) A q)
 run-modal m N R e live All t f r = refl
 run-modal m N R e live Some t f r = refl
 
-pub run-binder : (m : Model) (N R : ℕ) (e : Env) (live : List Fn) (x : Fix) (P : ℕ) (f : Form) (r : ℕ) → run m N R e live (binderForm x P f) r
+pub run-binder : (m : Model) (N R : ℕ) (e : Env) (live : List Fn) (x : Fix) (P : ℕ) (f : Form) (r : Count) → run m N R e live (binderForm x P f) r
     ≡ loop R (λ A q. run m N R (put e P A) (fnOf (m .n) A ∷ live) f q) R (start (isLeast x) (size m)) r
 run-binder m N R e live Mu P f r = refl
 run-binder m N R e live Nu P f r = refl
 
 -- ---- a chain of steps
 
--- a chain for the set C
-pub chain-evals : {n N : ℕ} {before after : Rows} {roots : List ℕ} {F : Fn} (fits : Bool) (y : Result) (C : List Bool) (q : ℕ) → F ≡ fnOf n C → PairEvals n N before after roots fits F y
-    → Evals n N before after roots (settle C (cond fits (counted q) fullVerdict)) (endedBy y q)
-chain-evals {n} {after = after} {F = F} fits y C q e p = record { wf = p .wf; kept = p .kept; result = go fits y (p .result) }
+-- a chain for the set C, after which c is counted in the book
+pub chain-evals : {n N : ℕ} {before after : Rows} {roots : List ℕ} {F : Fn} {c : Count} (fits : Bool) (o : Taken) (C : List Bool) → F ≡ fnOf n C
+    → PairEvals n N before after roots fits F c (result (madeIn o)) (countIn o) → Evals n N before after roots (settle C (cond fits (counted c) fullVerdict)) (endedIn o)
+chain-evals {n} {after = after} {F = F} {c} fits o C e p = record { wf = p .wf; kept = p .kept; result = go fits o (p .result) }
   where
-    go : (fits : Bool) (y : Result) → PairMatches n after fits F y → Matches n after (settle C (cond fits (counted q) fullVerdict)) (endedBy y q)
-    go true (at a) m = (subst (λ (G : Fn). Denotes (2 * n) after a G) e m, refl)
-    go true noRows m = absurd m
-    go false (at a) m = absurd m
-    go false noRows m = tt
+    go : (fits : Bool) (o : Taken) → PairMatches n after fits F c (result (madeIn o)) (countIn o) → Matches n after (settle C (cond fits (counted c) fullVerdict)) (endedIn o)
+    go true (taken.At a q) m = (subst (λ (G : Fn). Denotes (2 * n) after a G) e (m .0), m .1)
+    go true taken.Full m = absurd m
+    go false (taken.At a q) m = absurd m
+    go false taken.Full m = tt
 
 -- the needs of box over the set's function and over the set
 box-needs : (n : ℕ) (fs : List Fn) (Q : Pairs) (A : List Bool) → boxedNeeds n fs (fnOfPairs n Q) (fnOf n A) ≡ boxNeeds n fs Q A
@@ -147,16 +149,18 @@ box-needs n fs Q A =
     B : List Bool
     B = compl (2 ^ n) A
 
-module _ {n N : ℕ} (limit : ℕ) {before after : Rows} {roots : List ℕ} (fs : List Fn) (Q : Pairs) (A : List Bool) (y : Result) (q : ℕ) where
-  pub diamond-evals : PairEvals n N before after roots (fit limit (diamondNeeds n fs (fnOfPairs n Q) (fnOf n A))) (diamondF n (fnOfPairs n Q) (fnOf n A)) y
-      → Evals n N before after roots (diaSteps n limit fs Q A q) (endedBy y q)
+module _ {n N : ℕ} (limit : ℕ) {before after : Rows} {roots : List ℕ} (fs : List Fn) (Q : Pairs) (A : List Bool) (o : Taken) (q : Count) where
+  pub diamond-evals : PairEvals n N before after roots (fit limit (diamondNeeds n fs (fnOfPairs n Q) (fnOf n A))) (diamondF n (fnOfPairs n Q) (fnOf n A))
+      (needingAll q (diamondNeeds n fs (fnOfPairs n Q) (fnOf n A))) (result (madeIn o)) (countIn o)
+      → Evals n N before after roots (diaSteps n limit fs Q A q) (endedIn o)
   diamond-evals p =
       evals-same (ap (settle (sometimes (2 ^ n) Q A)) (sym (steps-verdict limit 0 q (diaNeeds n fs Q A))) ∙ sym (dia-ticks limit 0 n fs Q A q))
-      (chain-evals (fit limit (diaNeeds n fs Q A)) y (sometimes (2 ^ n) Q A) q (sym (diamond-exact n Q A)) p)
+      (chain-evals (fit limit (diaNeeds n fs Q A)) o (sometimes (2 ^ n) Q A) (sym (diamond-exact n Q A)) p)
 
-  pub box-evals : PairEvals n N before after roots (fit limit (boxedNeeds n fs (fnOfPairs n Q) (fnOf n A))) (boxF n (fnOfPairs n Q) (fnOf n A)) y
-      → Evals n N before after roots (boxSteps n limit fs Q A q) (endedBy y q)
+  pub box-evals : PairEvals n N before after roots (fit limit (boxedNeeds n fs (fnOfPairs n Q) (fnOf n A))) (boxF n (fnOfPairs n Q) (fnOf n A))
+      (needingAll q (boxedNeeds n fs (fnOfPairs n Q) (fnOf n A))) (result (madeIn o)) (countIn o)
+      → Evals n N before after roots (boxSteps n limit fs Q A q) (endedIn o)
   box-evals p =
       evals-same (ap (settle (always (2 ^ n) Q A)) (sym (steps-verdict limit 0 q (boxNeeds n fs Q A))) ∙ sym (box-ticks limit 0 n fs Q A q))
-      (chain-evals (fit limit (boxNeeds n fs Q A)) y (always (2 ^ n) Q A) q (sym (box-exact n Q A))
-      (subst (λ (ks : List ℕ). PairEvals n N before after roots (fit limit ks) (boxF n (fnOfPairs n Q) (fnOf n A)) y) (box-needs n fs Q A) p))
+      (chain-evals (fit limit (boxNeeds n fs Q A)) o (always (2 ^ n) Q A) (sym (box-exact n Q A))
+      (subst (λ (ks : List ℕ). PairEvals n N before after roots (fit limit ks) (boxF n (fnOfPairs n Q) (fnOf n A)) (needingAll q ks) (result (madeIn o)) (countIn o)) (box-needs n fs Q A) p))

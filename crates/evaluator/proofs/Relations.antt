@@ -13,6 +13,7 @@ use Rattle.mucalculus.specs.Form.{Form, Pairs, inside}
 use Rattle.tokens.specs.declared.Mode.{Mode}
 use Rattle.tokens.specs.declared.Mode.the-variants.{All, Some}
 use Rattle.formula.specs.Parse.{modalForm}
+use Rattle.accounts.specs.declared.Count.{Count}
 use Rattle.layout.specs.Places.{FIRST-RELATION}
 use Rattle.layout.specs.View.{View}
 use Rattle.diagram.specs.Level.{Fn}
@@ -21,30 +22,30 @@ use Rattle.diagram.specs.Post.{Denotes}
 use Rattle.diagram.specs.Keep.{keeps-within}
 use Rattle.soundness.specs.Used.{rowsOf}
 use Rattle.table.specs.Make.{result}
-use Rattle.table.specs.declared.Made.{Made}
-use Rattle.collect.specs.Lent.{live}
+use Rattle.counting.specs.Taken.{madeIn, countIn}
+use Rattle.counting.specs.declared.Taken.{Taken}
 use Rattle.book.specs.Bridge.{fnOf, fnOfPairs, fnOf-even}
 use Rattle.book.specs.Book.{relations}
 use Rattle.book.specs.Ticks.{diamondNeeds}
 use Rattle.book.specs.Diamond.{diamondF, boxF}
-use Rattle.book.specs.Verdicts.{fit}
+use Rattle.book.specs.Verdicts.{fit, needingAll}
 use Rattle.book.specs.Held.{denoted}
-use Rattle.book.specs.Follow.{Evals, endedBy, evals-same, evals-then, evals-from}
+use Rattle.book.specs.Follow.{Evals, evals-same, evals-then, evals-from}
 use Rattle.book.specs.Pairs.{PairEvals}
 use Rattle.contract.specs.Seen.{arrowIn}
 use Rattle.modal.specs.declared.Limits.{Limits}
-use Rattle.modal.specs.Chain.{alike-sym, held-alike, Moved, moved-trans, Ran}
-use Rattle.modal.specs.Modal.{boxedNeeds, ModalPre}
-use Rattle.evaluator.specs.Scene.{Scene, modelIn, holdsRel, Ready, Answers, fromMade, OverPost}
+use Rattle.modal.specs.Chain.{alike-sym, held-alike, Moved, moved-trans}
+use Rattle.modal.specs.Modal.{boxedNeeds, Chained, ModalPre}
+use Rattle.evaluator.specs.Scene.{Scene, modelIn, holdsRel, Ready, Answers, endedIn, fromTaken, OverPost}
 use Rattle.evaluator.specs.declared.Evaluated.{Evaluated}
 use Rattle.evaluator.specs.declared.Evaluated.the-variants.{Value}
 use Rattle.evaluator.proofs.Parts.{and-first, and-second}
 use Rattle.evaluator.proofs.State.{lent-arrows, word-root, filled-place}
 use Rattle.evaluator.proofs.Outcomes.{overSteps, run-modal, diamond-evals, box-evals}
-use Rattle.evaluator.proofs.Steps.{runIn, answers-made, value-evals, value-end, value-set, value-is, value-ready}
+use Rattle.evaluator.proofs.Steps.{runIn, answers-taken, value-evals, value-end, value-set, value-is, value-ready}
 
-module _ {L : Limits} {W X : View} {stack after places : List ℕ} {held rounds : ℕ} {σ : Scene} {f : Form} {e : ℕ} {r : Evaluated} (R : Ready L W stack places held σ)
-    (A : Answers L W X stack after held rounds σ f e r) (z : length after ≡ length stack) {a k q : ℕ} (is : r ≡ Value a k q) (t : ℕ) (h : holdsRel σ t ≡ true) where
+module _ {L : Limits} {W X : View} {stack after places : List ℕ} {held : ℕ} {count : Count} {σ : Scene} {f : Form} {e : ℕ} {r : Evaluated} (R : Ready L W stack places held σ)
+    (A : Answers L W X stack after held count σ f e r) (z : length after ≡ length stack) {a k : ℕ} {q : Count} (is : r ≡ Value a k q) (t : ℕ) (h : holdsRel σ t ≡ true) where
   R₁ : Ready L X after places held σ
   R₁ = value-ready R A z is
 
@@ -72,35 +73,39 @@ module _ {L : Limits} {W X : View} {stack after places : List ℕ} {held rounds 
       even = λ v w g. value-is R A z is .same v ∙ fnOf-even (L .bits) (value-set R A z is) v w g ∙ sym (value-is R A z is .same w);
     }
 
-    module _ (Y : View) (o : Made) where
+    module _ (Y : View) (o : Taken) where
+      -- a chain for F with these needs
+      abbrev Chain : List ℕ → Fn → Type 0
+      Chain needs F = PairEvals (L .bits) (L .rows) (rowsOf X) (rowsOf Y) (σ .roots) (fit (L .limit) needs) F (needingAll q needs) (result (madeIn o)) (countIn o)
+
       -- a chain over the relation and the set, as functions of levels
       as-sets : (needs : Fn → Fn → List ℕ) (opF : Fn → Fn → Fn) (C : List Bool) → Denotes (2 * L .bits) (rowsOf X) a (fnOf (L .bits) C)
-          → Ran (L .bits) (L .rows) X Y (live X (take held after)) (fit (L .limit) (needs (den (2 * L .bits) (rowsOf X) x) (den (2 * L .bits) (rowsOf X) a))) (opF (den (2 * L .bits) (rowsOf X) x) (den (2 * L .bits) (rowsOf X) a)) o
-          → PairEvals (L .bits) (L .rows) (rowsOf X) (rowsOf Y) (σ .roots) (fit (L .limit) (needs (fnOfPairs (L .bits) (content .0)) (fnOf (L .bits) C))) (opF (fnOfPairs (L .bits) (content .0)) (fnOf (L .bits) C)) (result o)
+          → Chained (L .bits) (L .rows) (L .limit) X Y (take held after) (needs (den (2 * L .bits) (rowsOf X) x) (den (2 * L .bits) (rowsOf X) a)) (opF (den (2 * L .bits) (rowsOf X) x) (den (2 * L .bits) (rowsOf X) a)) q o
+          → Chain (needs (fnOfPairs (L .bits) (content .0)) (fnOf (L .bits) C)) (opF (fnOfPairs (L .bits) (content .0)) (fnOf (L .bits) C))
       as-sets needs opF C d p =
           let v = p .evals in
-          let v1 : PairEvals (L .bits) (L .rows) (rowsOf X) (rowsOf Y) (σ .roots) (fit (L .limit) (needs (den (2 * L .bits) (rowsOf X) x) (den (2 * L .bits) (rowsOf X) a))) (opF (den (2 * L .bits) (rowsOf X) x) (den (2 * L .bits) (rowsOf X) a)) (result o) =
+          let v1 : Chain (needs (den (2 * L .bits) (rowsOf X) x) (den (2 * L .bits) (rowsOf X) a)) (opF (den (2 * L .bits) (rowsOf X) x) (den (2 * L .bits) (rowsOf X) a)) =
           record { wf = v .wf; kept = keeps-within (R₁ .roots .from) (v .kept); result = v .result } in
-          let v2 = subst (λ (F : Fn). PairEvals (L .bits) (L .rows) (rowsOf X) (rowsOf Y) (σ .roots) (fit (L .limit) (needs F (den (2 * L .bits) (rowsOf X) a))) (opF F (den (2 * L .bits) (rowsOf X) a)) (result o)) (denoted x-is) v1 in
-          subst (λ (F : Fn). PairEvals (L .bits) (L .rows) (rowsOf X) (rowsOf Y) (σ .roots) (fit (L .limit) (needs (fnOfPairs (L .bits) (content .0)) F)) (opF (fnOfPairs (L .bits) (content .0)) F) (result o)) (denoted d) v2
+          let v2 = subst (λ (F : Fn). Chain (needs F (den (2 * L .bits) (rowsOf X) a)) (opF F (den (2 * L .bits) (rowsOf X) a))) (denoted x-is) v1 in
+          subst (λ (F : Fn). Chain (needs (fnOfPairs (L .bits) (content .0)) F) (opF (fnOfPairs (L .bits) (content .0)) F)) (denoted d) v2
 
-      over-evals : (m : Mode) → OverPost m (L .bits) (L .rows) (L .limit) X Y (take held after) x a o → (C : List Bool) → Denotes (2 * L .bits) (rowsOf X) a (fnOf (L .bits) C)
-          → Evals (L .bits) (L .rows) (rowsOf X) (rowsOf Y) (σ .roots) (overSteps m (L .bits) (L .limit) (σ .fns) (content .0) C q) (endedBy (result o) q)
+      over-evals : (m : Mode) → OverPost m (L .bits) (L .rows) (L .limit) X Y (take held after) x a q o → (C : List Bool) → Denotes (2 * L .bits) (rowsOf X) a (fnOf (L .bits) C)
+          → Evals (L .bits) (L .rows) (rowsOf X) (rowsOf Y) (σ .roots) (overSteps m (L .bits) (L .limit) (σ .fns) (content .0) C q) (endedIn o)
       over-evals All p C d =
-          box-evals (L .limit) (σ .fns) (content .0) C (result o) q
+          box-evals (L .limit) (σ .fns) (content .0) C o q
           (as-sets (λ Q F. boxedNeeds (L .bits) (σ .fns) Q F) (boxF (L .bits)) C d (p (σ .fns) (held-alike (alike-sym (R₁ .roots)) (R₁ .lives))))
       over-evals Some p C d =
-          diamond-evals (L .limit) (σ .fns) (content .0) C (result o) q
+          diamond-evals (L .limit) (σ .fns) (content .0) C o q
           (as-sets (λ Q F. diamondNeeds (L .bits) (σ .fns) Q F) (diamondF (L .bits)) C d (p (σ .fns) (held-alike (alike-sym (R₁ .roots)) (R₁ .lives))))
 
-      over-moved : (m : Mode) → OverPost m (L .bits) (L .rows) (L .limit) X Y (take held after) x a o → Moved (L .bits) X Y
+      over-moved : (m : Mode) → OverPost m (L .bits) (L .rows) (L .limit) X Y (take held after) x a q o → Moved (L .bits) X Y
       over-moved All p = p (σ .fns) (held-alike (alike-sym (R₁ .roots)) (R₁ .lives)) .moved
       over-moved Some p = p (σ .fns) (held-alike (alike-sym (R₁ .roots)) (R₁ .lives)) .moved
 
-      pub over-ends : (m : Mode) {r′ : Evaluated} → OverPost m (L .bits) (L .rows) (L .limit) X Y (take held after) x a o → r′ ≡ fromMade k q o
-          → Answers L W Y stack after held rounds σ (modalForm m t f) e r′
-      over-ends m p made = answers-made (modalForm m t f) k q o (value-end R A z is) made (moved-trans (A .moved) (over-moved m p)) (A .kept)
-          (evals-same (sym (run-modal (modelIn (L .bits) σ) (L .limit) (L .rounds) (σ .env) (σ .fns) m t f rounds))
-          (evals-then (L .bits) (L .rows) (runIn L σ f rounds) (λ C p. overSteps m (L .bits) (L .limit) (σ .fns) (inside (σ .rel t)) C p) (value-evals R A z is) (λ C d.
+      pub over-ends : (m : Mode) {r′ : Evaluated} → OverPost m (L .bits) (L .rows) (L .limit) X Y (take held after) x a q o → r′ ≡ fromTaken k o
+          → Answers L W Y stack after held count σ (modalForm m t f) e r′
+      over-ends m p is-r = answers-taken (modalForm m t f) k o (value-end R A z is) is-r (moved-trans (A .moved) (over-moved m p)) (A .kept)
+          (evals-same (sym (run-modal (modelIn (L .bits) σ) (L .limit) (L .rounds) (σ .env) (σ .fns) m t f count))
+          (evals-then (L .bits) (L .rows) (runIn L σ f count) (λ C p. overSteps m (L .bits) (L .limit) (σ .fns) (inside (σ .rel t)) C p) (value-evals R A z is) (λ C d.
           evals-from (L .bits) (L .rows) (A .evals .kept) (λ b i. i)
           (evals-same (ap (λ (u : Option Pairs). overSteps m (L .bits) (L .limit) (σ .fns) (inside u) C q) (sym (content .1))) (over-evals m p C d)))))

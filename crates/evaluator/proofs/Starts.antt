@@ -17,6 +17,7 @@ use Rattle.formula.specs.Parse.{got, formOf, depthLimit, parse}
 use Rattle.formula.proofs.Accepted.{found}
 use Rattle.formula.proofs.Fits.{Fitting, fitting}
 use Rattle.formula.proofs.Versions.{parse-runs}
+use Rattle.accounts.specs.Count.{nothing}
 use Rattle.layout.specs.Places.{BITS, FIRST-REGISTER, FIRST-RELATION}
 use Rattle.layout.specs.View.{View}
 use Rattle.diagram.specs.Level.{Fn}
@@ -117,7 +118,7 @@ set-read n bs v g {f} {e} k h = go (eqb v 1) (eqb v 2) k
 
 -- where the evaluation starts
 abbrev pub starting : Context
-starting = record { at = 3; depth = depthLimit; held = 0; places = replicate 16 0; rounds = 0 }
+starting = record { at = 3; depth = depthLimit; held = 0; places = replicate 16 0; count = nothing }
 
 module _ {L : Limits} {W : View} {bs : List ℕ} (p : SetPre L W bs) where
   fits : Fitting Set (W .header BITS) (regFilled (bookIn W)) (relFilled (bookIn W)) bs
@@ -138,6 +139,9 @@ module _ {L : Limits} {W : View} {bs : List ℕ} (p : SetPre L W bs) where
       }
 
   module _ {X : View} (f : Forgot W X) where
+    pub set-begins : Sound X
+    set-begins = start-base L (p .sound) (p .bits) (p .rows) (p .limit) f .sound
+
     pub set-asks : EvalPre L X (replicate stackSize 0) bs starting
     set-asks = record {
       room = omega arith;
@@ -153,11 +157,11 @@ module _ {L : Limits} {W : View} {bs : List ℕ} (p : SetPre L W bs) where
     set-ends {Y} {after} {r} E =
         let A = E .answers (sceneIn W) whole (length bs) (start-scene L (p .sound) (p .bits) (p .rows) (p .limit) f) whole-part in
         let v0 = A .evals in
-        let v1 = subst (λ (t : Rows). Evals (L .bits) (L .rows) t (rowsOf Y) (rootsOf (seenIn W)) (run (modelIn (L .bits) (sceneIn W)) (L .limit) (L .rounds) noEnv (liveOf (bookIn W)) whole 0) (endedOf r)) (rows-same (f .frame)) v0 in
-        let v2 = subst (λ (N : ℕ). Evals (L .bits) N (rowsOf W) (rowsOf Y) (rootsOf (seenIn W)) (run (modelIn (L .bits) (sceneIn W)) (L .limit) (L .rounds) noEnv (liveOf (bookIn W)) whole 0) (endedOf r)) (p .rows) v1 in
-        let v3 = subst (λ (n : ℕ). Evals n (W .rows) (rowsOf W) (rowsOf Y) (rootsOf (seenIn W)) (run (modelIn n (sceneIn W)) (L .limit) (L .rounds) noEnv (liveOf (bookIn W)) whole 0) (endedOf r)) (p .bits) v2 in
+        let v1 = subst (λ (t : Rows). Evals (L .bits) (L .rows) t (rowsOf Y) (rootsOf (seenIn W)) (run (modelIn (L .bits) (sceneIn W)) (L .limit) (L .rounds) noEnv (liveOf (bookIn W)) whole nothing) (endedOf r)) (rows-same (f .frame)) v0 in
+        let v2 = subst (λ (N : ℕ). Evals (L .bits) N (rowsOf W) (rowsOf Y) (rootsOf (seenIn W)) (run (modelIn (L .bits) (sceneIn W)) (L .limit) (L .rounds) noEnv (liveOf (bookIn W)) whole nothing) (endedOf r)) (p .rows) v1 in
+        let v3 = subst (λ (n : ℕ). Evals n (W .rows) (rowsOf W) (rowsOf Y) (rootsOf (seenIn W)) (run (modelIn n (sceneIn W)) (L .limit) (L .rounds) noEnv (liveOf (bookIn W)) whole nothing) (endedOf r)) (p .bits) v2 in
         record {
           sound = A .moved .sound;
           frame = op-trans (op-memo (f .frame)) (A .moved .frame);
-          evals = evals-same (ap (λ (g : Form). run (modelOf (bookIn W)) (L .limit) (L .rounds) noEnv (liveOf (bookIn W)) g 0) (sym (ap formOf (fits .read)))) v3;
+          evals = evals-same (ap (λ (g : Form). run (modelOf (bookIn W)) (L .limit) (L .rounds) noEnv (liveOf (bookIn W)) g nothing) (sym (ap formOf (fits .read)))) v3;
         }

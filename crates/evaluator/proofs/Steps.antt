@@ -2,7 +2,7 @@
 use mathlib.Core.Path.{_≡_, refl, sym, ap, _∙_, subst}
 use mathlib.Core.Logic.{⊎-elim, inl, inr}
 use mathlib.Core.Bool.{Bool}
-use mathlib.Core.List.{List, [], _∷_, _++_, List·Memᴰ as Mem, List·Memᴰ·head as here, List·Memᴰ·tail as there, List·Memᴰ·cases-cons as mem-cases, List·Memᴰ·append-cases as append-cases, List·Memᴰ·not-nil as mem-nil}
+use mathlib.Core.List.{List, [], _∷_, _++_, map, List·Memᴰ as Mem, List·Memᴰ·head as here, List·Memᴰ·tail as there, List·Memᴰ·cases-cons as mem-cases, List·Memᴰ·append-cases as append-cases, List·Memᴰ·not-nil as mem-nil}
 use Prim.Native.Nat.{ℕ, _+_, _-_, _*_, _^_, _<_}
 use lib.ListN.{length, set, take}
 use Rattle.mucalculus.specs.Form.{Form, neg, inside}
@@ -11,65 +11,70 @@ use Rattle.tokens.specs.declared.Mode.{Mode}
 use Rattle.tokens.specs.declared.Join.{Join}
 use Rattle.tokens.specs.declared.Join.the-variants.{And, Or}
 use Rattle.formula.specs.Parse.{leafForm, joinForm, modalForm}
+use Rattle.accounts.specs.declared.Count.{Count}
+use Rattle.accounts.specs.Count.{needing}
 use Rattle.layout.specs.View.{View}
 use Rattle.diagram.specs.Level.{Fn}
 use Rattle.diagram.specs.Rows.{Rows, Arrow, den}
-use Rattle.diagram.specs.Post.{Denotes}
+use Rattle.diagram.specs.Need.{stepNeed}
+use Rattle.diagram.specs.Post.{Result, Denotes}
 use Rattle.diagram.specs.Keep.{keeps-within, keeps-denotes}
 use Rattle.diagram.specs.Step.{StepPost}
 use Rattle.soundness.specs.Used.{rowsOf}
 use Rattle.table.specs.Make.{result}
-use Rattle.table.specs.declared.Made.{Made}
 use Rattle.collect.specs.Lent.{live}
 use Rattle.steps.specs.declared.Step.{Step}
 use Rattle.steps.specs.declared.Step.the-variants as step
 use Rattle.steps.specs.Steps.{stepF, operandsOf, Fits}
+use Rattle.counting.specs.Taken.{madeIn, Counted}
+use Rattle.counting.specs.declared.Taken.{Taken}
+use Rattle.counting.specs.declared.Taken.the-variants as taken
 use Rattle.book.specs.Bridge.{fnOf}
-use Rattle.book.specs.Held.{held-arrow}
+use Rattle.book.specs.Held.{held-arrow, Needed}
 use Rattle.book.specs.Run.{Outcome, value, andThen, notStep, twoStep, run}
-use Rattle.book.specs.Follow.{ends, Evals, endedBy, evals-same, evals-stop, evals-not, evals-two, evals-two-stop}
+use Rattle.book.specs.Follow.{Ended, ends, Evals, endedBy, evals-same, evals-stop, evals-not, evals-two, evals-two-stop}
 use Rattle.modal.specs.declared.Limits.{Limits}
-use Rattle.modal.specs.Chain.{Alike, alike-cons, step-roots, Moved, moved-trans, Took, took}
-use Rattle.evaluator.specs.Scene.{stackSize, Scene, modelIn, pushed, Ready, Part, endedOf, EndsAt, Answers, fromMade, joinStep, LeafAnswers, LivePre, LivePost, JoinedTo, JoinedPost}
+use Rattle.modal.specs.Chain.{Alike, alike-cons, step-roots, counted-roots, Moved, moved-trans, Took, took}
+use Rattle.evaluator.specs.Scene.{stackSize, Scene, modelIn, pushed, Ready, Part, endedOf, endedIn, EndsAt, Answers, fromTaken, joinStep, LeafAnswers, LivePre, LivePost, JoinedTo, JoinedPost}
 use Rattle.evaluator.specs.declared.Evaluated.{Evaluated}
 use Rattle.evaluator.specs.declared.Evaluated.the-variants.{Value, Full, Spent}
 use Rattle.evaluator.proofs.State.{still-below, live-pre, ready-next, ready-push}
-use Rattle.evaluator.proofs.Outcomes.{Halts, halts-stops, halts-end, made-ended, made-end, evals-value, joinOp, joinF, join-exact, run-join, overSteps, run-modal}
+use Rattle.evaluator.proofs.Outcomes.{Halts, halts-stops, halts-end, taken-ended, taken-end, evals-value, joinOp, joinF, join-exact, run-join, overSteps, run-modal}
 
 -- the run of f in a scene
-abbrev pub runIn : Limits → Scene → Form → ℕ → Outcome
+abbrev pub runIn : Limits → Scene → Form → Count → Outcome
 runIn L σ f r = run (modelIn (L .bits) σ) (L .limit) (L .rounds) (σ .env) (σ .fns) f r
 
 -- a part's answer that is no value is the answer of what goes on with its value
-pub answers-stop : {L : Limits} {W X : View} {stack after : List ℕ} {held rounds : ℕ} {σ : Scene} {f : Form} {e : ℕ} {r : Evaluated} → Answers L W X stack after held rounds σ f e r → Halts r
-    → (h : Form) (e′ : ℕ) (G : List Bool → ℕ → Outcome) → runIn L σ h rounds ≡ andThen (runIn L σ f rounds) G → Answers L W X stack after held rounds σ h e′ r
-answers-stop {L} {rounds = rounds} {σ = σ} {f = f} {r = r} A s h e′ G q = record {
+pub answers-stop : {L : Limits} {W X : View} {stack after : List ℕ} {held : ℕ} {count : Count} {σ : Scene} {f : Form} {e : ℕ} {r : Evaluated} → Answers L W X stack after held count σ f e r → Halts r
+    → (h : Form) (e′ : ℕ) (G : List Bool → Count → Outcome) → runIn L σ h count ≡ andThen (runIn L σ f count) G → Answers L W X stack after held count σ h e′ r
+answers-stop {L} {count = count} {σ = σ} {f = f} {r = r} A s h e′ G q = record {
   moved = A .moved;
   kept = A .kept;
-  evals = evals-same (sym q) (evals-stop (L .bits) (L .rows) (runIn L σ f rounds) (endedOf r) G (halts-stops r s) (A .evals));
+  evals = evals-same (sym q) (evals-stop (L .bits) (L .rows) (runIn L σ f count) (endedOf r) G (halts-stops r s) (A .evals));
   end = halts-end e′ r s;
 }
 
 -- a formula that is another one
-pub answers-same : {L : Limits} {W X : View} {stack after : List ℕ} {held rounds : ℕ} {σ : Scene} {f g : Form} {e : ℕ} {r : Evaluated} → f ≡ g → Answers L W X stack after held rounds σ g e r
-    → Answers L W X stack after held rounds σ f e r
-answers-same {L} {W} {X} {stack} {after} {held} {rounds} {σ} {e = e} {r = r} q A = subst (λ (h : Form). Answers L W X stack after held rounds σ h e r) (sym q) A
+pub answers-same : {L : Limits} {W X : View} {stack after : List ℕ} {held : ℕ} {count : Count} {σ : Scene} {f g : Form} {e : ℕ} {r : Evaluated} → f ≡ g → Answers L W X stack after held count σ g e r
+    → Answers L W X stack after held count σ f e r
+answers-same {L} {W} {X} {stack} {after} {held} {count} {σ} {e = e} {r = r} q A = subst (λ (h : Form). Answers L W X stack after held count σ h e r) (sym q) A
 
 -- a step's answer after a value
-pub answers-made : {L : Limits} {W X : View} {stack after : List ℕ} {held rounds : ℕ} {σ : Scene} (f : Form) {e : ℕ} (k q : ℕ) (o : Made) {r : Evaluated} → k ≡ e → r ≡ fromMade k q o → Moved (L .bits) W X
-    → take held after ≡ take held stack → Evals (L .bits) (L .rows) (rowsOf W) (rowsOf X) (σ .roots) (runIn L σ f rounds) (endedBy (result o) q) → Answers L W X stack after held rounds σ f e r
-answers-made {L} {W} {X} {stack} {after} {held} {rounds} {σ} f {e} k q o {r} at-e is m s v =
-    subst (λ (x : Evaluated). Answers L W X stack after held rounds σ f e x) (sym (is ∙ ap (λ (x : ℕ). fromMade x q o) at-e)) (record {
+pub answers-taken : {L : Limits} {W X : View} {stack after : List ℕ} {held : ℕ} {count : Count} {σ : Scene} (f : Form) {e : ℕ} (k : ℕ) (o : Taken) {r : Evaluated} → k ≡ e → r ≡ fromTaken k o → Moved (L .bits) W X
+    → take held after ≡ take held stack → Evals (L .bits) (L .rows) (rowsOf W) (rowsOf X) (σ .roots) (runIn L σ f count) (endedIn o) → Answers L W X stack after held count σ f e r
+answers-taken {L} {W} {X} {stack} {after} {held} {count} {σ} f {e} k o {r} at-e is m s v =
+    subst (λ (x : Evaluated). Answers L W X stack after held count σ f e x) (sym (is ∙ ap (λ (x : ℕ). fromTaken x o) at-e)) (record {
       moved = m;
       kept = s;
-      evals = subst (Evals (L .bits) (L .rows) (rowsOf W) (rowsOf X) (σ .roots) (runIn L σ f rounds)) (made-ended e q o) v;
-      end = made-end e q o;
+      evals = subst (Evals (L .bits) (L .rows) (rowsOf W) (rowsOf X) (σ .roots) (runIn L σ f count)) (taken-ended e o) v;
+      end = taken-end e o;
     })
 
 -- a leaf's value or step
-pub eval-leaf : {L : Limits} {W X : View} {stack : List ℕ} {held rounds : ℕ} {σ : Scene} {f : Form} (l : Leaf) {e k : ℕ} {o : Made} {r : Evaluated} → f ≡ leafForm l → e ≡ k
-    → LeafAnswers L W X σ (leafForm l) o → r ≡ fromMade k rounds o → Answers L W X stack stack held rounds σ f e r
-eval-leaf {rounds = rounds} l {k = k} {o = o} q at-e A made = answers-same q (answers-made (leafForm l) k rounds o (sym at-e) made (A .moved) refl (A .evals rounds))
+pub eval-leaf : {L : Limits} {W X : View} {stack : List ℕ} {held : ℕ} {count : Count} {σ : Scene} {f : Form} (l : Leaf) {e k : ℕ} {o : Taken} {r : Evaluated} → f ≡ leafForm l → e ≡ k
+    → LeafAnswers L W X count σ (leafForm l) o → r ≡ fromTaken k o → Answers L W X stack stack held count σ f e r
+eval-leaf l {k = k} {o = o} q at-e A is = answers-same q (answers-taken (leafForm l) k o (sym at-e) is (A .moved) refl (A .evals))
 
 alike-append : {A : Type 0} {xs ys : List A} (ops : List A) → Alike xs ys → Alike (ops ++ xs) (ops ++ ys)
 alike-append [] s = s
@@ -81,12 +86,31 @@ alike-swap x y zs = record { to = λ a h. go x y a h; from = λ a h. go y x a h 
     go : {A : Type 0} {zs : List A} (x y a : A) → Mem a (x ∷ y ∷ zs) → Mem a (y ∷ x ∷ zs)
     go x y a h = ⊎-elim (λ e. there (here e)) (λ i. ⊎-elim (λ e. here e) (λ j. there (there j)) (mem-cases i)) (mem-cases h)
 
+-- ---- one step
+
+-- a step over some roots is one over others with the same members
+took-alike : {n N limit : ℕ} {W X : View} {xs ys : List ℕ} {q : Count} {o : Taken} {F : Fn} → ((a : ℕ) → Mem a ys → Arrow (rowsOf W) a) → Alike xs ys → Took n N limit W X xs q o F → Took n N limit W X ys q o F
+took-alike {n} {W = W} {q = q} {o} {F} u s t = record {
+  moved = t .moved;
+  post = step-roots (result (madeIn o)) u s (t .post);
+  count = counted-roots (2 * n) (rowsOf W) F q o u s (t .count);
+}
+
 -- a step in a scene: its roots are its operands and the scene's
-pub took-roots : {L : Limits} {W X : View} {stack places : List ℕ} {held : ℕ} {σ : Scene} {o : Made} {F : Fn} (ops : List ℕ) → Ready L W stack places held σ
-    → ((a : ℕ) → Mem a ops → Arrow (rowsOf W) a) → Took (L .bits) (L .rows) (L .limit) W X (ops ++ live W (take held stack)) o F
-    → StepPost (2 * L .bits) (L .rows) (L .limit) (rowsOf W) (rowsOf X) (ops ++ σ .roots) (result o) F
-took-roots {W = W} {σ = σ} {o = o} ops R u t =
-    step-roots (result o) (λ a h. ⊎-elim (u a) (held-arrow (R .lives) a) (append-cases ops h)) (alike-append ops (R .roots)) (t .post)
+pub took-roots : {L : Limits} {W X : View} {stack places : List ℕ} {held : ℕ} {σ : Scene} {q : Count} {o : Taken} {F : Fn} (ops : List ℕ) → Ready L W stack places held σ
+    → ((a : ℕ) → Mem a ops → Arrow (rowsOf W) a) → Took (L .bits) (L .rows) (L .limit) W X (ops ++ live W (take held stack)) q o F
+    → Took (L .bits) (L .rows) (L .limit) W X (ops ++ σ .roots) q o F
+took-roots ops R u t = took-alike (λ a h. ⊎-elim (u a) (held-arrow (R .lives) a) (append-cases ops h)) (alike-append ops (R .roots)) t
+
+-- what holds of a step's answer and need, holds of what was taken
+pub took-evals : {n N limit : ℕ} {W X : View} {roots : List ℕ} {q : Count} {o : Taken} {F : Fn} → Took n N limit W X roots q o F → {before after : Rows} {kept : List ℕ} {u : Outcome}
+    → ((answer : Result) → StepPost (2 * n) N limit (rowsOf W) (rowsOf X) roots answer F → (k : ℕ) → Needed (2 * n) (rowsOf W) roots F answer k → Evals n N before after kept u (endedBy answer (needing q k)))
+    → Evals n N before after kept u (endedIn o)
+took-evals {n} {N} {limit} {W} {X} {roots} {q} {o} {F} t {before} {after} {kept} {u} law = go o (t .post) (t .count)
+  where
+    go : (o : Taken) → StepPost (2 * n) N limit (rowsOf W) (rowsOf X) roots (result (madeIn o)) F → Counted (2 * n) (rowsOf W) roots F q o → Evals n N before after kept u (endedIn o)
+    go (taken.At a c) p e = subst (λ (x : Count). Evals n N before after kept u (ends a x)) (sym e) (law (result (madeIn (taken.At a c))) p (stepNeed (2 * n) (map (den (2 * n) (rowsOf W)) roots) F) refl)
+    go taken.Full p e = law (result (madeIn taken.Full)) p 0 tt
 
 pub one-arrow : (rows : Rows) (a : ℕ) → Arrow rows a → (b : ℕ) → Mem b (a ∷ []) → Arrow rows b
 one-arrow rows a u b h = ⊎-elim (λ e. subst (Arrow rows) (sym e) u) (λ i. absurd (mem-nil i)) (mem-cases h)
@@ -99,58 +123,54 @@ pub join-fits : (m : ℕ) (rows : Rows) (j : Join) (a b : ℕ) → Arrow rows a 
 join-fits m rows And a b u v = (u, v)
 join-fits m rows Or a b u v = (u, v)
 
-pub took-join : {L : Limits} {W X : View} {stack places : List ℕ} {held : ℕ} {σ : Scene} {o : Made} {a b : ℕ} {s : Step} → Ready L W stack places held σ → (j : Join) → s ≡ joinStep j a b
-    → Arrow (rowsOf W) a → Arrow (rowsOf W) b → Took (L .bits) (L .rows) (L .limit) W X (operandsOf s ++ live W (take held stack)) o (stepF (2 * L .bits) (rowsOf W) s)
-    → StepPost (2 * L .bits) (L .rows) (L .limit) (rowsOf W) (rowsOf X) (b ∷ a ∷ σ .roots) (result o) (joinF j (den (2 * L .bits) (rowsOf W) a) (den (2 * L .bits) (rowsOf W) b))
-took-join {L} {W} {X} {stack} {places} {held} {σ} {o} {a} {b} R j e u v t =
-    post j (subst (λ (x : Step). Took (L .bits) (L .rows) (L .limit) W X (operandsOf x ++ live W (take held stack)) o (stepF (2 * L .bits) (rowsOf W) x)) e t)
+pub took-join : {L : Limits} {W X : View} {stack places : List ℕ} {held : ℕ} {σ : Scene} {q : Count} {o : Taken} {a b : ℕ} {s : Step} → Ready L W stack places held σ → (j : Join) → s ≡ joinStep j a b
+    → Arrow (rowsOf W) a → Arrow (rowsOf W) b → Took (L .bits) (L .rows) (L .limit) W X (operandsOf s ++ live W (take held stack)) q o (stepF (2 * L .bits) (rowsOf W) s)
+    → Took (L .bits) (L .rows) (L .limit) W X (b ∷ a ∷ σ .roots) q o (joinF j (den (2 * L .bits) (rowsOf W) a) (den (2 * L .bits) (rowsOf W) b))
+took-join {L} {W} {X} {stack} {places} {held} {σ} {q} {o} {a} {b} R j e u v t =
+    go j (subst (λ (x : Step). Took (L .bits) (L .rows) (L .limit) W X (operandsOf x ++ live W (take held stack)) q o (stepF (2 * L .bits) (rowsOf W) x)) e t)
   where
-    arrows : (x : ℕ) → Mem x (b ∷ a ∷ σ .roots) → Arrow (rowsOf W) x
-    arrows x h = ⊎-elim (two-arrows (rowsOf W) b a v u x) (held-arrow (R .lives) x) (append-cases (b ∷ a ∷ []) h)
+    swapped : {F : Fn} → Took (L .bits) (L .rows) (L .limit) W X (a ∷ b ∷ σ .roots) q o F → Took (L .bits) (L .rows) (L .limit) W X (b ∷ a ∷ σ .roots) q o F
+    swapped p = took-alike (λ x h. ⊎-elim (two-arrows (rowsOf W) b a v u x) (held-arrow (R .lives) x) (append-cases (b ∷ a ∷ []) h)) (alike-swap a b (σ .roots)) p
 
-    swapped : {F : Fn} → StepPost (2 * L .bits) (L .rows) (L .limit) (rowsOf W) (rowsOf X) (a ∷ b ∷ σ .roots) (result o) F
-        → StepPost (2 * L .bits) (L .rows) (L .limit) (rowsOf W) (rowsOf X) (b ∷ a ∷ σ .roots) (result o) F
-    swapped p = step-roots (result o) arrows (alike-swap a b (σ .roots)) p
-
-    post : (j : Join) → Took (L .bits) (L .rows) (L .limit) W X (operandsOf (joinStep j a b) ++ live W (take held stack)) o (stepF (2 * L .bits) (rowsOf W) (joinStep j a b))
-        → StepPost (2 * L .bits) (L .rows) (L .limit) (rowsOf W) (rowsOf X) (b ∷ a ∷ σ .roots) (result o) (joinF j (den (2 * L .bits) (rowsOf W) a) (den (2 * L .bits) (rowsOf W) b))
-    post And t = swapped (took-roots (a ∷ b ∷ []) R (two-arrows (rowsOf W) a b u v) t)
-    post Or t = swapped (took-roots (a ∷ b ∷ []) R (two-arrows (rowsOf W) a b u v) t)
+    go : (j : Join) → Took (L .bits) (L .rows) (L .limit) W X (operandsOf (joinStep j a b) ++ live W (take held stack)) q o (stepF (2 * L .bits) (rowsOf W) (joinStep j a b))
+        → Took (L .bits) (L .rows) (L .limit) W X (b ∷ a ∷ σ .roots) q o (joinF j (den (2 * L .bits) (rowsOf W) a) (den (2 * L .bits) (rowsOf W) b))
+    go And t = swapped (took-roots (a ∷ b ∷ []) R (two-arrows (rowsOf W) a b u v) t)
+    go Or t = swapped (took-roots (a ∷ b ∷ []) R (two-arrows (rowsOf W) a b u v) t)
 
 -- ---- a part that is no value
 
-module _ {L : Limits} {W X : View} {stack after : List ℕ} {held rounds : ℕ} {σ : Scene} {f : Form} {e : ℕ} {r : Evaluated} (A : Answers L W X stack after held rounds σ f e r) (s : Halts r) where
-  pub negate-stops : Answers L W X stack after held rounds σ (neg f) e r
+module _ {L : Limits} {W X : View} {stack after : List ℕ} {held : ℕ} {count : Count} {σ : Scene} {f : Form} {e : ℕ} {r : Evaluated} (A : Answers L W X stack after held count σ f e r) (s : Halts r) where
+  pub negate-stops : Answers L W X stack after held count σ (neg f) e r
   negate-stops = answers-stop A s (neg f) e (λ C p. notStep (L .bits) (L .limit) (σ .fns) C p) refl
 
-  pub first-stops : (j : Join) (g : Form) (e′ : ℕ) → Answers L W X stack after held rounds σ (joinForm j f g) e′ r
-  first-stops j g e′ = answers-stop A s (joinForm j f g) e′ _ (run-join (modelIn (L .bits) σ) (L .limit) (L .rounds) (σ .env) (σ .fns) j f g rounds)
+  pub first-stops : (j : Join) (g : Form) (e′ : ℕ) → Answers L W X stack after held count σ (joinForm j f g) e′ r
+  first-stops j g e′ = answers-stop A s (joinForm j f g) e′ _ (run-join (modelIn (L .bits) σ) (L .limit) (L .rounds) (σ .env) (σ .fns) j f g count)
 
-  pub mode-stops : (m : Mode) (t : ℕ) → Answers L W X stack after held rounds σ (modalForm m t f) e r
+  pub mode-stops : (m : Mode) (t : ℕ) → Answers L W X stack after held count σ (modalForm m t f) e r
   mode-stops m t = answers-stop A s (modalForm m t f) e (λ C p. overSteps m (L .bits) (L .limit) (σ .fns) (inside (σ .rel t)) C p)
-      (run-modal (modelIn (L .bits) σ) (L .limit) (L .rounds) (σ .env) (σ .fns) m t f rounds)
+      (run-modal (modelIn (L .bits) σ) (L .limit) (L .rounds) (σ .env) (σ .fns) m t f count)
 
 -- ---- after a part's value
 
-module _ {L : Limits} {W X : View} {stack after places : List ℕ} {held rounds : ℕ} {σ : Scene} {f : Form} {e : ℕ} {r : Evaluated} (R : Ready L W stack places held σ)
-    (A : Answers L W X stack after held rounds σ f e r) (z : length after ≡ length stack) {a k q : ℕ} (is : r ≡ Value a k q) where
-  pub value-evals : Evals (L .bits) (L .rows) (rowsOf W) (rowsOf X) (σ .roots) (runIn L σ f rounds) (ends a q)
-  value-evals = subst (λ (x : Evaluated). Evals (L .bits) (L .rows) (rowsOf W) (rowsOf X) (σ .roots) (runIn L σ f rounds) (endedOf x)) is (A .evals)
+module _ {L : Limits} {W X : View} {stack after places : List ℕ} {held : ℕ} {count : Count} {σ : Scene} {f : Form} {e : ℕ} {r : Evaluated} (R : Ready L W stack places held σ)
+    (A : Answers L W X stack after held count σ f e r) (z : length after ≡ length stack) {a k : ℕ} {q : Count} (is : r ≡ Value a k q) where
+  pub value-evals : Evals (L .bits) (L .rows) (rowsOf W) (rowsOf X) (σ .roots) (runIn L σ f count) (ends a q)
+  value-evals = subst (λ (x : Evaluated). Evals (L .bits) (L .rows) (rowsOf W) (rowsOf X) (σ .roots) (runIn L σ f count) (endedOf x)) is (A .evals)
 
   pub value-end : k ≡ e
   value-end = subst (EndsAt e) is (A .end)
 
   -- the set
   pub value-set : List Bool
-  value-set = evals-value (runIn L σ f rounds) value-evals .0
+  value-set = evals-value (runIn L σ f count) value-evals .0
 
-  pub value-run : runIn L σ f rounds ≡ value value-set q
+  pub value-run : runIn L σ f count ≡ value value-set q
   unfolding value-set
-  value-run = evals-value (runIn L σ f rounds) value-evals .1
+  value-run = evals-value (runIn L σ f count) value-evals .1
 
   pub value-is : Denotes (2 * L .bits) (rowsOf X) a (fnOf (L .bits) value-set)
   unfolding value-set
-  value-is = evals-value (runIn L σ f rounds) value-evals .2
+  value-is = evals-value (runIn L σ f count) value-evals .2
 
   pub value-ready : Ready L X after places held σ
   value-ready = ready-next R (A .moved) (A .evals .kept) after z (A .kept)
@@ -160,12 +180,11 @@ module _ {L : Limits} {W X : View} {stack after places : List ℕ} {held rounds 
   pub negate-asks : LivePre L X after held (step.Not a)
   negate-asks = live-pre value-ready (value-is .arrow)
 
-  pub negate-ends : {Y : View} {o : Made} {r′ : Evaluated} → LivePost L X Y after held (step.Not a) o → r′ ≡ fromMade k q o
-      → Answers L W Y stack after held rounds σ (neg f) e r′
-  negate-ends {Y} {o} s made =
-      let t = took (value-ready .base) (negate-asks .asks) s in
-      answers-made (neg f) k q o value-end made (moved-trans (A .moved) (t .moved)) (A .kept)
-      (evals-not (L .bits) (L .rows) (R .lives) (runIn L σ f rounds) value-evals (result o) (took-roots (a ∷ []) value-ready (one-arrow (rowsOf X) a (value-is .arrow)) t))
+  pub negate-ends : {Y : View} {o : Taken} {r′ : Evaluated} → LivePost L X Y after held (step.Not a) q o → r′ ≡ fromTaken k o → Answers L W Y stack after held count σ (neg f) e r′
+  negate-ends {Y} {o} s is-r =
+      let t = took {q = q} {o = o} (value-ready .base) (negate-asks .asks) (s .stepped) (s .count) in
+      answers-taken (neg f) k o value-end is-r (moved-trans (A .moved) (t .moved)) (A .kept)
+      (took-evals (took-roots (a ∷ []) value-ready (one-arrow (rowsOf X) a (value-is .arrow)) t) (evals-not (L .bits) (L .rows) (R .lives) (runIn L σ f count) value-evals))
 
   -- ---- AND and OR
 
@@ -186,17 +205,17 @@ module _ {L : Limits} {W X : View} {stack after places : List ℕ} {held rounds 
       below : take held last ≡ take held after
       below = still-below held last after a (B₀ .kept)
 
-      pub both-stops : (j : Join) → Halts r′ → Answers L W Y stack last held rounds σ (joinForm j f g) e′ r′
+      pub both-stops : (j : Join) → Halts r′ → Answers L W Y stack last held count σ (joinForm j f g) e′ r′
       both-stops j s = record {
         moved = moved-trans (A .moved) (B₀ .moved);
         kept = below ∙ A .kept;
-        evals = evals-same (sym (run-join (modelIn (L .bits) σ) (L .limit) (L .rounds) (σ .env) (σ .fns) j f g rounds))
-            (evals-two-stop (L .bits) (L .rows) (R .lives) (runIn L σ f rounds) (λ C p. runIn L (pushed σ a (fnOf (L .bits) C)) g p)
+        evals = evals-same (sym (run-join (modelIn (L .bits) σ) (L .limit) (L .rounds) (σ .env) (σ .fns) j f g count))
+            (evals-two-stop (L .bits) (L .rows) (R .lives) (runIn L σ f count) (λ C p. runIn L (pushed σ a (fnOf (L .bits) C)) g p)
             (λ C U p. twoStep (L .bits) (L .limit) (σ .fns) (joinOp j (2 ^ L .bits)) C U p) value-evals (λ C d. B C d .evals) (halts-stops r′ s));
         end = halts-end e′ r′ s;
       }
 
-      module _ {b k′ q′ : ℕ} (is′ : r′ ≡ Value b k′ q′) where
+      module _ {b k′ : ℕ} {q′ : Count} (is′ : r′ ≡ Value b k′ q′) where
         second-evals : (C : List Bool) → Denotes (2 * L .bits) (rowsOf X) a (fnOf (L .bits) C)
             → Evals (L .bits) (L .rows) (rowsOf X) (rowsOf Y) (a ∷ σ .roots) (runIn L (pushed σ a (fnOf (L .bits) C)) g q) (ends b q′)
         second-evals C d = subst (λ (x : Evaluated). Evals (L .bits) (L .rows) (rowsOf X) (rowsOf Y) (a ∷ σ .roots) (runIn L (pushed σ a (fnOf (L .bits) C)) g q) (endedOf x)) is′ (B C d .evals)
@@ -213,24 +232,24 @@ module _ {L : Limits} {W X : View} {stack after places : List ℕ} {held rounds 
         pub both-asks : (j : Join) {s : Step} → s ≡ joinStep j a b → LivePre L Y last held s
         both-asks j e = live-pre both-state (subst (Fits (2 * L .bits) (rowsOf Y)) (sym e) (join-fits (2 * L .bits) (rowsOf Y) j a b first-arrow second-arrow))
 
-        pub both-ends : (j : Join) {s : Step} → s ≡ joinStep j a b → {Z : View} {o : Made} {r″ : Evaluated} → LivePost L Y Z last held s o
-            → r″ ≡ fromMade k′ q′ o → Answers L W Z stack last held rounds σ (joinForm j f g) e′ r″
-        both-ends j {s} e {Z} {o} p made =
-            let t = took (both-state .base) (both-asks j e .asks) p in
-            answers-made (joinForm j f g) k′ q′ o (subst (EndsAt e′) is′ (B₀ .end)) made (moved-trans (A .moved) (moved-trans (B₀ .moved) (t .moved))) (below ∙ A .kept)
-            (evals-same (sym (run-join (modelIn (L .bits) σ) (L .limit) (L .rounds) (σ .env) (σ .fns) j f g rounds))
-            (evals-two (L .bits) (L .rows) (R .lives) (joinOp j (2 ^ L .bits)) (joinF j) (join-exact (L .bits) j) (runIn L σ f rounds) (λ C p. runIn L (pushed σ a (fnOf (L .bits) C)) g p)
-            value-evals second-evals (result o) (took-join both-state j e first-arrow second-arrow t)))
+        pub both-ends : (j : Join) {s : Step} → s ≡ joinStep j a b → {Z : View} {o : Taken} {r″ : Evaluated} → LivePost L Y Z last held s q′ o
+            → r″ ≡ fromTaken k′ o → Answers L W Z stack last held count σ (joinForm j f g) e′ r″
+        both-ends j {s} e {Z} {o} p is-r =
+            let t = took {q = q′} {o = o} (both-state .base) (both-asks j e .asks) (p .stepped) (p .count) in
+            answers-taken (joinForm j f g) k′ o (subst (EndsAt e′) is′ (B₀ .end)) is-r (moved-trans (A .moved) (moved-trans (B₀ .moved) (t .moved))) (below ∙ A .kept)
+            (evals-same (sym (run-join (modelIn (L .bits) σ) (L .limit) (L .rounds) (σ .env) (σ .fns) j f g count))
+            (took-evals (took-join both-state j e first-arrow second-arrow t)
+            (evals-two (L .bits) (L .rows) (R .lives) (joinOp j (2 ^ L .bits)) (joinF j) (join-exact (L .bits) j) (runIn L σ f count) (λ C p. runIn L (pushed σ a (fnOf (L .bits) C)) g p) value-evals second-evals)))
 
       -- the parts joined
-      pub both-joined : (j : Join) {Z : View} {r″ : Evaluated} → JoinedPost L Y Z last held j a r′ r″ → Answers L W Z stack last held rounds σ (joinForm j f g) e′ r″
+      pub both-joined : (j : Join) {Z : View} {r″ : Evaluated} → JoinedPost L Y Z last held j a r′ r″ → Answers L W Z stack last held count σ (joinForm j f g) e′ r″
       both-joined j {Z} {r″} J = go r′ refl (J .joins)
         where
-          stopped : Halts r′ → Z ≡ Y → r″ ≡ r′ → Answers L W Z stack last held rounds σ (joinForm j f g) e′ r″
-          stopped s u v = subst (λ (U : View). Answers L W U stack last held rounds σ (joinForm j f g) e′ r″) (sym u)
-              (subst (λ (x : Evaluated). Answers L W Y stack last held rounds σ (joinForm j f g) e′ x) (sym v) (both-stops j s))
+          stopped : Halts r′ → Z ≡ Y → r″ ≡ r′ → Answers L W Z stack last held count σ (joinForm j f g) e′ r″
+          stopped s u v = subst (λ (U : View). Answers L W U stack last held count σ (joinForm j f g) e′ r″) (sym u)
+              (subst (λ (x : Evaluated). Answers L W Y stack last held count σ (joinForm j f g) e′ x) (sym v) (both-stops j s))
 
-          go : (x : Evaluated) → r′ ≡ x → JoinedTo L Y Z last held j a x r″ → Answers L W Z stack last held rounds σ (joinForm j f g) e′ r″
+          go : (x : Evaluated) → r′ ≡ x → JoinedTo L Y Z last held j a x r″ → Answers L W Z stack last held count σ (joinForm j f g) e′ r″
           go (Value b k′ q′) is′ w = both-ends is′ j refl (w .1) (w .2)
           go Full is′ w = stopped (subst Halts (sym is′) (inl refl)) (w .0) (w .1 ∙ sym is′)
           go Spent is′ w = stopped (subst Halts (sym is′) (inr refl)) (w .0) (w .1 ∙ sym is′)

@@ -25,20 +25,21 @@ use Rattle.formula.proofs.Passes.{not-past}
 use Rattle.formula.proofs.Readings.{parse-reads}
 use Rattle.formula.proofs.Written.{read-taken}
 use Rattle.formula.proofs.Versions.{takes-absent}
+use Rattle.accounts.specs.declared.Count.{Count}
 use Rattle.layout.specs.Places.{HEADER, FIRST-RELATION}
 use Rattle.layout.specs.View.{View}
 use Rattle.diagram.specs.Rows.{Rows}
 use Rattle.diagram.specs.Post.{Denotes}
 use Rattle.diagram.specs.Keep.{Keeps, keeps-denotes}
 use Rattle.soundness.specs.Used.{rowsOf}
-use Rattle.table.specs.declared.Made.{Made}
+use Rattle.counting.specs.declared.Taken.{Taken}
 use Rattle.book.specs.Bridge.{fnOf}
 use Rattle.book.specs.Written.{run-written}
 use Rattle.book.specs.Follow.{evals-same, evals-leaf, denotes-clip, denotes-all}
 use Rattle.modal.specs.declared.Limits.{Limits}
 use Rattle.modal.specs.Modal.{ModalPre}
 use Rattle.modal.specs.Chain.{moved-refl, base-wf}
-use Rattle.evaluator.specs.Scene.{stackSize, Scene, modelIn, pushed, opened, Ready, Part, holdsReg, holdsRel, Answers, fromMade, OverPost, JoinedPre, JoinedPost, EvalPre, EvalPost, roundOf, own, isSome, roundForm, Current, IsValue, ReachPre, ReachPost, FurtherPre, FurtherPost, KeepPre, KeepPost, RoundPre, RoundPost, variableOf, BodyPart, TurnPre, TurnPost, UntilPost}
+use Rattle.evaluator.specs.Scene.{stackSize, Scene, modelIn, pushed, opened, Ready, Part, holdsReg, holdsRel, Answers, fromTaken, OverPost, JoinedPre, JoinedPost, EvalPre, EvalPost, roundOf, own, isSome, roundForm, Current, IsValue, ReachPre, ReachPost, FurtherPre, FurtherPost, KeepPre, KeepPost, RoundPre, RoundPost, variableOf, BodyPart, TurnPre, TurnPost, UntilPost}
 use Rattle.evaluator.specs.declared.Body.{Body}
 use Rattle.evaluator.specs.declared.Body.the-variants.{Binder, Until}
 use Rattle.evaluator.specs.declared.Context.{Context}
@@ -63,11 +64,11 @@ module _ {L : Limits} {W : View} {σ : Scene} {x : ℕ} (c : Current L W σ x) w
 module _ (c : Context) {L : Limits} {W : View} {stack : List ℕ} {σ : Scene} (R : Ready L W stack (c .places) (c .held) σ) where
   -- it is X's value
   pub own-value : {x : ℕ} (e : ℕ) → Current L W σ x → IsValue L W stack c σ (var own) x e
-  own-value e u = record { moved = moved-refl (R .base); kept = refl; evals = evals-leaf (L .bits) (L .rows) (c .rounds) (base-wf (R .base)) (R .lives) (denotes-clip (L .bits) (L .rows) (σ .env own) (u .denotes)); end = refl }
+  own-value e u = record { moved = moved-refl (R .base); kept = refl; evals = evals-leaf (L .bits) (L .rows) (c .count) (base-wf (R .base)) (R .lives) (denotes-clip (L .bits) (L .rows) (σ .env own) (u .denotes)); end = refl }
 
   -- all states are the value of true
   pub all-value : (e : ℕ) → IsValue L W stack c σ top 1 e
-  all-value e = record { moved = moved-refl (R .base); kept = refl; evals = evals-leaf (L .bits) (L .rows) (c .rounds) (base-wf (R .base)) (R .lives) (denotes-all (L .bits) (L .rows) (rowsOf W)); end = refl }
+  all-value e = record { moved = moved-refl (R .base); kept = refl; evals = evals-leaf (L .bits) (L .rows) (c .count) (base-wf (R .base)) (R .lives) (denotes-all (L .bits) (L .rows) (rowsOf W)); end = refl }
 
 -- ---- box and diamond of a value
 
@@ -85,9 +86,9 @@ module _ {L : Limits} {W : View} {stack : List ℕ} {c : Context} {t x e : ℕ} 
   pub reach-asks : (y : ℕ) → y + 1 ≡ W .header (FIRST-RELATION + t) → ModalPre (L .bits) (L .rows) (L .limit) W (take (c .held) stack) y x
   reach-asks y arrow = over-asks (P .ready) (P .is-value) refl refl t (P .relation) y arrow
 
-pub reach-answers : {L : Limits} {W : View} {stack : List ℕ} {c : Context} {t x e : ℕ} (y : ℕ) → y + 1 ≡ W .header (FIRST-RELATION + t) → {X : View} (o : Made) (m : Mode) {r : Evaluated}
-    → OverPost m (L .bits) (L .rows) (L .limit) W X (take (c .held) stack) y x o → r ≡ fromMade e (c .rounds) o → ReachPost L W X stack c m t x e r
-reach-answers {t = t} y arrow {X} o m v made = record { answers = λ σ f R h A. over-ends R A refl refl t h y arrow X o m v made }
+pub reach-answers : {L : Limits} {W : View} {stack : List ℕ} {c : Context} {t x e : ℕ} (y : ℕ) → y + 1 ≡ W .header (FIRST-RELATION + t) → {X : View} (o : Taken) (m : Mode) {r : Evaluated}
+    → OverPost m (L .bits) (L .rows) (L .limit) W X (take (c .held) stack) y x (c .count) o → r ≡ fromTaken e o → ReachPost L W X stack c m t x e r
+reach-answers {t = t} y arrow {X} o m v is-r = record { answers = λ σ f R h A. over-ends R A refl refl t h y arrow X o m v is-r }
 
 -- ---- box of the current set and diamond of true
 
@@ -99,8 +100,8 @@ module _ {L : Limits} {W : View} {stack : List ℕ} {c : Context} {t x : ℕ} (P
     pub box-halts : Halts r → FurtherPost L W X stack stack c All t x e r
     box-halts s = record { answers = λ σ R h u. first-stops (E .answers σ (var own) R h (own-value c R e u)) s And (dia t top) e }
 
-    module _ {a k q : ℕ} (is : r ≡ Value a k q) where
-      boxed : (σ : Scene) → Ready L W stack (c .places) (c .held) σ → holdsRel σ t ≡ true → Current L W σ x → Answers L W X stack stack (c .held) (c .rounds) σ (box t (var own)) e r
+    module _ {a k : ℕ} {q : Count} (is : r ≡ Value a k q) where
+      boxed : (σ : Scene) → Ready L W stack (c .places) (c .held) σ → holdsRel σ t ≡ true → Current L W σ x → Answers L W X stack stack (c .held) (c .count) σ (box t (var own)) e r
       boxed σ R h u = E .answers σ (var own) R h (own-value c R e u)
 
       pub all-asked : {b : Context} → b ≡ roundOf c (c .at) q → ReachPre L X (set stack (c .held) a) b t 1 e
@@ -147,7 +148,7 @@ module _ {L : Limits} {W X : View} {stack after bs : List ℕ} {c : Context} {t 
   pub keep-room : c .held + 1 < stackSize
   keep-room = let l = P .room in let d = read-depth (P .part .stands) in omega arith
 
-  module _ (z : length after ≡ length stack) {a k q : ℕ} (is : r ≡ Value a k q) where
+  module _ (z : length after ≡ length stack) {a k : ℕ} {q : Count} (is : r ≡ Value a k q) where
     free : c .held < stackSize
     free = let l = keep-room in omega arith
 
@@ -171,7 +172,7 @@ module _ {L : Limits} {W X : View} {stack after bs : List ℕ} {c : Context} {t 
       same₂ = simp length-set at z′
 
       module _ {σ : Scene} {f : Form} {k₁ : ℕ} (R : Ready L W stack (c .places) (c .held) σ) (p : Part (L .bits) bs (c .at) (c .depth) (σ .scope) (holdsReg σ) (holdsRel σ) f k₁) (h : holdsRel σ t ≡ true) (u : Current L W σ x) where
-        part-answers : Answers L W X stack after (c .held) (c .rounds) σ f k₁ r
+        part-answers : Answers L W X stack after (c .held) (c .count) σ f k₁ r
         part-answers = E .answers σ f k₁ R p
 
         rest-answers : (C : List Bool) → Denotes (2 * L .bits) (rowsOf X) a (fnOf (L .bits) C) → Answers L X Y (set after (c .held) a) last (c .held + 1) q (pushed σ a (fnOf (L .bits) C)) (goes (isSome m) t own) e r′
@@ -189,7 +190,7 @@ module _ {L : Limits} {W X : View} {stack after bs : List ℕ} {c : Context} {t 
 
 -- g's context
 abbrev pub goalOf : Context → ℕ → Context
-goalOf c k = record { at = k; depth = c .depth; held = c .held; places = c .places; rounds = c .rounds }
+goalOf c k = record { at = k; depth = c .depth; held = c .held; places = c .places; count = c .count }
 
 pub goal-asked : {L : Limits} {W : View} {stack bs : List ℕ} {c : Context} {middle t x : ℕ} → RoundPre L W stack bs c middle t x → EvalPre L W stack bs (goalOf c middle)
 goal-asked P = record { room = let l = P .room in omega arith; scene = P .scene; form = P .right; end = P .end; ready = P .ready; part = P .second }
@@ -201,7 +202,7 @@ module _ {L : Limits} {W X : View} {stack after bs : List ℕ} {c : Context} {mi
   pub round-free : c .held < stackSize
   round-free = let l = P .room in omega arith
 
-  module _ (z : length after ≡ length stack) {a k q : ℕ} (is : r ≡ Value a k q) where
+  module _ (z : length after ≡ length stack) {a k : ℕ} {q : Count} (is : r ≡ Value a k q) where
     pub kept-part : {b : Context} → b ≡ roundOf c (c .at) q → KeepPre L X (set after (c .held) a) bs b t x
     kept-part i =
         let A = E .answers (P .scene) (P .right) (P .end) (P .ready) (P .second) in
@@ -226,7 +227,7 @@ module _ {L : Limits} {W X : View} {stack after bs : List ℕ} {c : Context} {mi
 
       module _ {σ : Scene} {f g : Form} {e : ℕ} (R : Ready L W stack (c .places) (c .held) σ) (p : Part (L .bits) bs (c .at) (c .depth) (σ .scope) (holdsReg σ) (holdsRel σ) f middle)
           (p′ : Part (L .bits) bs middle (c .depth) (σ .scope) (holdsReg σ) (holdsRel σ) g e) (h : holdsRel σ t ≡ true) (u : Current L W σ x) where
-        goal-answers : Answers L W X stack after (c .held) (c .rounds) σ g e r
+        goal-answers : Answers L W X stack after (c .held) (c .count) σ g e r
         goal-answers = E .answers σ g e R p′
 
         keep-answers : (C : List Bool) → Denotes (2 * L .bits) (rowsOf X) a (fnOf (L .bits) C) → Answers L X Y (set after (c .held) a) last (c .held + 1) q (pushed σ a (fnOf (L .bits) C)) (conj f (goes (isSome m) t own)) e r′
@@ -260,10 +261,10 @@ pub absent-of : {n : ℕ} {bs : List ℕ} {at depth : ℕ} {scope : List Bool} {
 absent-of {n} {bs} {at} {depth} {f = f} {k = k} p = takes-absent n Runs f (read-taken n Runs bs (parse-reads n Runs bs depth at f k (p .stands .reads)))
 
 -- the formula written with the binder of X is until
-pub until-as : {L : Limits} {W X : View} {stack after : List ℕ} {held rounds : ℕ} {σ : Scene} {f g : Form} {e : ℕ} {r : Evaluated} (m : Mode) (t : ℕ) → T (absent own f) → T (absent own g)
-    → Answers L W X stack after held rounds σ (written (isSome m) t own f g) e r → Answers L W X stack after held rounds σ (untilForm m t f g) e r
-until-as {L} {rounds = rounds} {σ = σ} {f = f} {g = g} All t hf hg A = record { moved = A .moved; kept = A .kept; evals = evals-same (sym (run-written (modelIn (L .bits) σ) (L .limit) (L .rounds) (σ .env) t own false f g hf hg (σ .fns) rounds)) (A .evals); end = A .end }
-until-as {L} {rounds = rounds} {σ = σ} {f = f} {g = g} Some t hf hg A = record { moved = A .moved; kept = A .kept; evals = evals-same (sym (run-written (modelIn (L .bits) σ) (L .limit) (L .rounds) (σ .env) t own true f g hf hg (σ .fns) rounds)) (A .evals); end = A .end }
+pub until-as : {L : Limits} {W X : View} {stack after : List ℕ} {held : ℕ} {count : Count} {σ : Scene} {f g : Form} {e : ℕ} {r : Evaluated} (m : Mode) (t : ℕ) → T (absent own f) → T (absent own g)
+    → Answers L W X stack after held count σ (written (isSome m) t own f g) e r → Answers L W X stack after held count σ (untilForm m t f g) e r
+until-as {L} {count = count} {σ = σ} {f = f} {g = g} All t hf hg A = record { moved = A .moved; kept = A .kept; evals = evals-same (sym (run-written (modelIn (L .bits) σ) (L .limit) (L .rounds) (σ .env) t own false f g hf hg (σ .fns) count)) (A .evals); end = A .end }
+until-as {L} {count = count} {σ = σ} {f = f} {g = g} Some t hf hg A = record { moved = A .moved; kept = A .kept; evals = evals-same (sym (run-written (modelIn (L .bits) σ) (L .limit) (L .rounds) (σ .env) t own true f g hf hg (σ .fns) count)) (A .evals); end = A .end }
 
 -- X is none of a formula's variables
 own-open : {n : ℕ} {bs : List ℕ} {at depth : ℕ} {scope : List Bool} {regs rels : ℕ → Bool} {f : Form} {e : ℕ} → length scope ≡ 16 → Part n bs at depth scope regs rels f e
@@ -307,10 +308,10 @@ module _ {L : Limits} {W : View} {stack bs : List ℕ} {c : Context} {a : ℕ} (
   pub turn-answers : (b : Body) {X : View} {after : List ℕ} {r : Evaluated} → TurnPost L W X stack after bs c b a r
       → Ready L W stack (c .places) (c .held) (opened (L .bits) σ (variableOf b) a A)
       → BodyPart (L .bits) bs (c .at) (c .depth) (set (σ .scope) (variableOf b) true) (holdsReg σ) (holdsRel σ) b f e
-      → Answers L W X stack after (c .held) (c .rounds) (opened (L .bits) σ (variableOf b) a A) f e r
+      → Answers L W X stack after (c .held) (c .count) (opened (L .bits) σ (variableOf b) a A) f e r
   turn-answers (Binder x P) T R p = T .says .answers _ f e R (p .parts)
   turn-answers (Until m t middle) {X} {after} {r} T R p =
-      subst (λ (h : Form). Answers L W X stack after (c .held) (c .rounds) (opened (L .bits) σ own a A) h e r) (sym (p .parts .is-round))
+      subst (λ (h : Form). Answers L W X stack after (c .held) (c .count) (opened (L .bits) σ own a A) h e r) (sym (p .parts .is-round))
       (T .says .answers _ (p .parts .left) (p .parts .right) e R (p .parts .first) (p .parts .second) (p .parts .relation) (current-open σ a A d))
 
 -- a binder's round is its formula, until's one is its own

@@ -76,9 +76,9 @@ held-own {m} {rows} {roots} u = record {
 }
 
 -- a step needs the same over some roots and over others with the same members
-pub need-alike : (m : ℕ) {rows : Rows} {xs ys : List ℕ} (F : Fn) → ((a : ℕ) → Mem a ys → Arrow rows a) → Alike xs ys
+pub need-alike : (m : ℕ) (rows : Rows) {xs ys : List ℕ} (F : Fn) → ((a : ℕ) → Mem a ys → Arrow rows a) → Alike xs ys
     → stepNeed m (map (den m rows) xs) F ≡ stepNeed m (map (den m rows) ys) F
-need-alike m F u s = held-need (held-alike (alike-sym s) (held-own u)) F
+need-alike m rows F u s = held-need (held-alike (alike-sym s) (held-own u)) F
 
 -- a step's promise over some roots is one over others with the same members
 pub step-roots : {m N limit : ℕ} {before after : Rows} {xs ys : List ℕ} {F : Fn} (answer : Result) → ((a : ℕ) → Mem a ys → Arrow before a) → Alike xs ys
@@ -86,17 +86,17 @@ pub step-roots : {m N limit : ℕ} {before after : Rows} {xs ys : List ℕ} {F :
 step-roots {m} {N} {limit} {before} {after} {xs} {ys} {F} answer u s p = record { wf = p .wf; kept = keeps-within (s .from) (p .kept); result = go answer (p .result) }
   where
     same : stepNeed m (map (den m before) xs) F ≡ stepNeed m (map (den m before) ys) F
-    same = need-alike m F u s
+    same = need-alike m before F u s
 
     go : (answer : Result) → StepResult m limit before after xs answer F → StepResult m limit before after ys answer F
     go (at a) r = (r .0, subst (λ (k : ℕ). k ≤ limit) same (r .1))
     go full r = subst (λ (k : ℕ). limit < k) same r
 
 -- and so is its count
-pub counted-roots : {m : ℕ} {before : Rows} {xs ys : List ℕ} {F : Fn} {q : Count} (o : Taken) → ((a : ℕ) → Mem a ys → Arrow before a) → Alike xs ys
+counted-roots : (m : ℕ) (before : Rows) {xs ys : List ℕ} (F : Fn) (q : Count) (o : Taken) → ((a : ℕ) → Mem a ys → Arrow before a) → Alike xs ys
     → Counted m before xs F q o → Counted m before ys F q o
-counted-roots {m} {F = F} {q} (taken.At a c) u s e = e ∙ ap (needing q) (need-alike m F u s)
-counted-roots taken.Full u s e = tt
+counted-roots m before F q (taken.At a c) u s e = e ∙ ap (needing q) (need-alike m before F u s)
+counted-roots m before F q taken.Full u s e = tt
 
 -- ---- the table between steps
 
@@ -149,10 +149,10 @@ operands-first xs ys zs = record {
 pub took : {n N limit : ℕ} {W X : View} {lent : List ℕ} {s : Step} {q : Count} {o : Taken} → Base n N limit W → StepPre (2 * n) N limit W lent s
     → Stepped (2 * n) N limit W X lent s (madeIn o) → Counted (2 * n) (rowsOf W) (liveAt W lent s) (stepF (2 * n) (rowsOf W) s) q o
     → Took n N limit W X (operandsOf s ++ live W lent) q o (stepF (2 * n) (rowsOf W) s)
-took {n} {W = W} {lent = lent} {s = s} {o = o} b p d c = record {
+took {n} {W = W} {lent = lent} {s = s} {q = q} {o = o} b p d c = record {
   moved = record { sound = d .sound; memory = d .memory; frame = d .frame };
   post = step-roots (result (madeIn o)) arrows (operands-first (filled W) lent (operandsOf s)) (d .post);
-  count = counted-roots o arrows (operands-first (filled W) lent (operandsOf s)) c;
+  count = counted-roots (2 * n) (rowsOf W) (stepF (2 * n) (rowsOf W) s) q o arrows (operands-first (filled W) lent (operandsOf s)) c;
 }
   where
     arrows : (a : ℕ) → Mem a (operandsOf s ++ live W lent) → Arrow (rowsOf W) a

@@ -33,7 +33,7 @@ use Rattle.book.specs.Held.{Held, denoted, held-arrow, held-push, held-operand,
 use Rattle.book.specs.Pairs.{PairMatches}
 use Rattle.book.specs.Modal.{Quantifies, quantify-start, quantify-on, quantify-out, quantify-end}
 use Rattle.modal.specs.Chain.{alike-cons, alike-once, held-alike, denotes-own, held-own, Base, Moved, moved-refl, moved-trans, base-next, base-wf, step-pre, Took, Ran, ran-step, ran-stop, ran-kept, ran-value, ran-then}
-use Rattle.modal.specs.Modal.{boxedNeeds, QuantifyPre, ModalPre, QuantifyPost, DiamondPost, BoxPost}
+use Rattle.modal.specs.Modal.{boxedNeeds, Chained, QuantifyPre, ModalPre, QuantifyPost, DiamondPost, BoxPost}
 
 -- ---- the loop of EXISTS
 
@@ -47,13 +47,13 @@ fit-steps : (n limit : ℕ) (fs : List Fn) (C : Fn) (q : Count)
     → existsSteps n limit fs n C q (λ c. value [] c) ≡ settle [] (cond (fit limit (existsNeeds n fs n C)) (counted (needingAll q (existsNeeds n fs n C))) fullVerdict)
 fit-steps n limit fs C q = exists-ticks limit 0 n fs [] q n C ∙ ap (settle []) (steps-verdict limit 0 q (existsNeeds n fs n C))
 
-fit-true : (b : Bool) {r d : Count} → value [] r ≡ settle [] (cond b (counted d) fullVerdict) → (b ≡ true) × (r ≡ d)
-fit-true true e = (refl, cc)
-fit-true false e = let z : _≡_ {A = ℕ} 0 1 = cc in absurd (omega arith)
+fit-true : (b : Bool) (r d : Count) → value [] r ≡ settle [] (cond b (counted d) fullVerdict) → (b ≡ true) × (r ≡ d)
+fit-true true r d e = (refl, cc)
+fit-true false r d e = let z : _≡_ {A = ℕ} 0 1 = cc in absurd (omega arith)
 
-fit-false : (b : Bool) {d : Count} → fullRun ≡ settle [] (cond b (counted d) fullVerdict) → b ≡ false
-fit-false true e = let z : _≡_ {A = ℕ} 0 1 = cc in absurd (omega arith)
-fit-false false e = refl
+fit-false : (b : Bool) (d : Count) → fullRun ≡ settle [] (cond b (counted d) fullVerdict) → b ≡ false
+fit-false true d e = let z : _≡_ {A = ℕ} 0 1 = cc in absurd (omega arith)
+fit-false false d e = refl
 
 module _ {n N limit : ℕ} {W : View} {lent : List ℕ} {a : ℕ} (p : QuantifyPre n N limit W lent a) where
   own : Held (2 * n) (rowsOf W) (live W lent) (map (den (2 * n) (rowsOf W)) (live W lent))
@@ -104,7 +104,7 @@ module _ {n N limit : ℕ} {W : View} {lent : List ℕ} {a : ℕ} (p : QuantifyP
           let C : Fn = den (2 * n) (rowsOf W) a in
           let t = turn fs h in
           let v = taken-at e .post in
-          let out = fit-false (fit limit (existsNeeds n fs n C)) (sym (quantify-out n N limit h (j - 1) c t v (λ z. value [] z)) ∙ fit-steps n limit fs C q) in
+          let out = fit-false (fit limit (existsNeeds n fs n C)) (needingAll q (existsNeeds n fs n C)) (sym (quantify-out n N limit h (j - 1) c t v (λ z. value [] z)) ∙ fit-steps n limit fs C q) in
           record {
             moved = moved-trans (i .moved) (s .moved);
             evals = record {
@@ -119,7 +119,7 @@ module _ {n N limit : ℕ} {W : View} {lent : List ℕ} {a : ℕ} (p : QuantifyP
         let C : Fn = den (2 * n) (rowsOf W) a in
         let e : j ≡ 0 = omega arith in
         let t : Quantifies n N limit (rowsOf W) (rowsOf X) (live W lent) fs C q 0 c r = subst (λ (k : ℕ). Quantifies n N limit (rowsOf W) (rowsOf X) (live W lent) fs C q k c r) e (i .steps fs h) in
-        let fits = fit-true (fit limit (existsNeeds n fs n C)) (sym (t .steps (λ z. value [] z)) ∙ fit-steps n limit fs C q) in
+        let fits = fit-true (fit limit (existsNeeds n fs n C)) r (needingAll q (existsNeeds n fs n C)) (sym (t .steps (λ z. value [] z)) ∙ fit-steps n limit fs C q) in
         record {
           moved = i .moved;
           evals = record {
@@ -141,14 +141,14 @@ pub held-moved : {n : ℕ} {W X : View} (lent : List ℕ) {fs : List Fn} → Mov
 held-moved {n} {W} {X} lent {fs} m k h = subst (λ (xs : List ℕ). Held (2 * n) (rowsOf X) xs fs) (sym (live-same (m .frame) lent)) (held-keeps h k)
 
 -- a chain from a later table, whose roots are the same
-pub ran-from : {n N : ℕ} {W X Y : View} (lent : List ℕ) {b : Bool} {F : Fn} {o : Taken} → Moved n W X → Ran n N X Y (live X lent) b F o → Ran n N X Y (live W lent) b F o
-ran-from {n} {N} {W} {X} {Y} lent {b} {F} {o} m r = subst (λ (xs : List ℕ). Ran n N X Y xs b F o) (live-same (m .frame) lent) r
+pub ran-from : {n N : ℕ} {W X Y : View} (lent : List ℕ) {b : Bool} {F : Fn} {d : Count} {o : Taken} → Moved n W X → Ran n N X Y (live X lent) b F d o → Ran n N X Y (live W lent) b F d o
+ran-from {n} {N} {W} {X} {Y} lent {b} {F} {d} {o} m r = subst (λ (xs : List ℕ). Ran n N X Y xs b F d o) (live-same (m .frame) lent) r
 
 -- what a root denotes is among what the roots hold
 pub held-mem : {m : ℕ} {rows : Rows} {roots : List ℕ} {fs : List Fn} {a : ℕ} → Held m rows roots fs → Mem a roots → Mem (den m rows a) fs
 held-mem {a = a} h i = let (f, j, d) = h .only a i in mem-cast (denoted d) j
 
--- the needs of box fit where those of its three parts do
+-- the needs of box fit where those of its three parts do, and are counted one after the other
 fit-append : (N : ℕ) (xs ys : List ℕ) → fit N (xs ++ ys) ≡ (fit N xs && fit N ys)
 fit-append N [] ys = refl
 fit-append N (x ∷ xs) ys = go (leb x N) (fit-append N xs ys)
@@ -157,19 +157,27 @@ fit-append N (x ∷ xs) ys = go (leb x N) (fit-append N xs ys)
     go true e = e
     go false e = refl
 
+count-append : (q : Count) (xs ys : List ℕ) → needingAll q (xs ++ ys) ≡ needingAll (needingAll q xs) ys
+count-append q [] ys = refl
+count-append q (x ∷ xs) ys = count-append (needing q x) xs ys
+
 and-true : (b : Bool) → (b && true) ≡ b
 and-true true = refl
 and-true false = refl
 
-box-chain : {n N : ℕ} (limit : ℕ) {W X : View} {roots : List ℕ} (R F : Fn) {G : Fn} {o : Taken} (fs : List Fn)
-    → Ran n N W X roots (leb (stepNeed (2 * n) (F ∷ fs) (notF F)) limit && (fit limit (diamondNeeds n fs R (notF F)) && leb (stepNeed (2 * n) (diamondF n R (notF F) ∷ fs) (notF (diamondF n R (notF F)))) limit)) G o
-    → Ran n N W X roots (fit limit (boxedNeeds n fs R F)) G o
-box-chain {n} {N} limit {W} {X} {roots} R F {G} {o} fs r =
+box-chain : {n N : ℕ} (limit : ℕ) {W X : View} {roots : List ℕ} (R F : Fn) {G : Fn} (q : Count) {o : Taken} (fs : List Fn)
+    → Ran n N W X roots (leb (stepNeed (2 * n) (F ∷ fs) (notF F)) limit && (fit limit (diamondNeeds n fs R (notF F)) && leb (stepNeed (2 * n) (diamondF n R (notF F) ∷ fs) (notF (diamondF n R (notF F)))) limit)) G
+    (needing (needingAll (needing q (stepNeed (2 * n) (F ∷ fs) (notF F))) (diamondNeeds n fs R (notF F))) (stepNeed (2 * n) (diamondF n R (notF F) ∷ fs) (notF (diamondF n R (notF F))))) o
+    → Ran n N W X roots (fit limit (boxedNeeds n fs R F)) G (needingAll q (boxedNeeds n fs R F)) o
+box-chain {n} {N} limit {W} {X} {roots} R F {G} q {o} fs r =
     let k = stepNeed (2 * n) (diamondF n R (notF F) ∷ fs) (notF (diamondF n R (notF F))) in
+    let first = stepNeed (2 * n) (F ∷ fs) (notF F) in
     let e = ap (λ (b : Bool). fit limit (diamondNeeds n fs R (notF F)) && b) (sym (and-true (leb k limit))) ∙ sym (fit-append limit (diamondNeeds n fs R (notF F)) (k ∷ [])) in
-    subst (λ (b : Bool). Ran n N W X roots (leb (stepNeed (2 * n) (F ∷ fs) (notF F)) limit && b) G o) e r
+    subst (λ (b : Bool). Ran n N W X roots (leb first limit && b) G (needingAll q (boxedNeeds n fs R F)) o) e
+    (subst (λ (c : Count). Ran n N W X roots (leb first limit && (fit limit (diamondNeeds n fs R (notF F)) && leb k limit)) G c o)
+    (sym (count-append (needing q first) (diamondNeeds n fs R (notF F)) (k ∷ []))) r)
 
-module _ {n N limit : ℕ} {W : View} {lent : List ℕ} {t a : ℕ} (p : ModalPre n N limit W lent t a) where
+module _ {n N limit : ℕ} {W : View} {lent : List ℕ} {t a : ℕ} (q : Count) (p : ModalPre n N limit W lent t a) where
   -- the operand and the relation as functions
   abbrev F : Fn
   F = den (2 * n) (rowsOf W) a
@@ -190,16 +198,19 @@ module _ {n N limit : ℕ} {W : View} {lent : List ℕ} {t a : ℕ} (p : ModalPr
   not-asks = step-pre (p .base) (p .arrows) (p .operand)
 
   -- a first step from the operand
-  first-step : {X : View} {o : Taken} {G : Fn} → Took n N limit W X (a ∷ live W lent) o G → (fs : List Fn) → Held (2 * n) (rowsOf W) (live W lent) fs
-      → Ran n N W X (live W lent) (leb (stepNeed (2 * n) (F ∷ fs) G) limit) G o
+  first-step : {X : View} {o : Taken} {G : Fn} → Took n N limit W X (a ∷ live W lent) q o G → (fs : List Fn) → Held (2 * n) (rowsOf W) (live W lent) fs
+      → Ran n N W X (live W lent) (leb (stepNeed (2 * n) (F ∷ fs) G) limit) G (needing q (stepNeed (2 * n) (F ∷ fs) G)) o
   first-step s fs h = ran-step (held-push h (denotes-own (p .operand))) (λ b i. there i) s
 
-  module _ {X : View} {o : Taken} (s : Took n N limit W X (a ∷ live W lent) o (shiftF F)) where
-    pub shift-full : o ≡ taken.Full → DiamondPost n N limit W X lent t a taken.Full
-    shift-full e fs h = ran-stop _ (diamondF n R F) e (first-step s fs h)
+  module _ {X : View} {o : Taken} (s : Took n N limit W X (a ∷ live W lent) q o (shiftF F)) where
+    pub shift-full : o ≡ taken.Full → DiamondPost n N limit W X lent t a q taken.Full
+    shift-full e fs h = ran-stop _ (diamondF n R F) _ e (first-step s fs h)
 
-    module _ {x : ℕ} (e : o ≡ made.At x) where
-      shifted : (fs : List Fn) → Held (2 * n) (rowsOf W) (live W lent) fs → Ran n N W X (live W lent) (leb (stepNeed (2 * n) (F ∷ fs) (shiftF F)) limit) (shiftF F) o
+    module _ {x : ℕ} {q1 : Count} (e : o ≡ taken.At x q1) where
+      abbrev shiftNeed : List Fn → ℕ
+      shiftNeed fs = stepNeed (2 * n) (F ∷ fs) (shiftF F)
+
+      shifted : (fs : List Fn) → Held (2 * n) (rowsOf W) (live W lent) fs → Ran n N W X (live W lent) (leb (stepNeed (2 * n) (F ∷ fs) (shiftF F)) limit) (shiftF F) (needing q (shiftNeed fs)) o
       shifted fs h = first-step s fs h
 
       k1 : Keeps (rowsOf W) (rowsOf X) (live W lent)
@@ -217,22 +228,25 @@ module _ {n N limit : ℕ} {W : View} {lent : List ℕ} {t a : ℕ} (p : ModalPr
       pub and-asks : StepPre (2 * n) N limit X lent (And x t)
       and-asks = step-pre and-base (kept-lent W lent k1) (x-is .arrow, t-is .arrow)
 
-      module _ {Y : View} {u : Taken} (v : Took n N limit X Y (x ∷ t ∷ live X lent) u (andF (den (2 * n) (rowsOf X) x) (den (2 * n) (rowsOf X) t))) where
-        v1 : Took n N limit X Y (x ∷ t ∷ live W lent) u (andF (shiftF F) R)
+      module _ {Y : View} {u : Taken} (v : Took n N limit X Y (x ∷ t ∷ live X lent) q1 u (andF (den (2 * n) (rowsOf X) x) (den (2 * n) (rowsOf X) t))) where
+        v1 : Took n N limit X Y (x ∷ t ∷ live W lent) q1 u (andF (shiftF F) R)
         v1 =
-            subst (λ (G : Fn). Took n N limit X Y (x ∷ t ∷ live W lent) u G) (ap₂ andF (denoted x-is) (denoted t-is))
-            (subst (λ (xs : List ℕ). Took n N limit X Y (x ∷ t ∷ xs) u (andF (den (2 * n) (rowsOf X) x) (den (2 * n) (rowsOf X) t))) (live-same (s .moved .frame) lent) v)
+            subst (λ (G : Fn). Took n N limit X Y (x ∷ t ∷ live W lent) q1 u G) (ap₂ andF (denoted x-is) (denoted t-is))
+            (subst (λ (xs : List ℕ). Took n N limit X Y (x ∷ t ∷ xs) q1 u (andF (den (2 * n) (rowsOf X) x) (den (2 * n) (rowsOf X) t))) (live-same (s .moved .frame) lent) v)
+
+        abbrev andNeed : List Fn → ℕ
+        andNeed fs = stepNeed (2 * n) (shiftF F ∷ R ∷ fs) (andF (shiftF F) R)
 
         joined : (fs : List Fn) → Held (2 * n) (rowsOf W) (live W lent) fs
-            → Ran n N X Y (live W lent) (leb (stepNeed (2 * n) (shiftF F ∷ R ∷ fs) (andF (shiftF F) R)) limit) (andF (shiftF F) R) u
+            → Ran n N X Y (live W lent) (leb (stepNeed (2 * n) (shiftF F ∷ R ∷ fs) (andF (shiftF F) R)) limit) (andF (shiftF F) R) (needing q1 (andNeed fs)) u
         joined fs h =
             let g : Held (2 * n) (rowsOf X) (x ∷ live W lent) (shiftF F ∷ R ∷ fs) = held-push (held-operand (held-keeps h k1) (held-mem h (p .relation))) x-is in
             ran-step (held-alike (alike-cons x (alike-once (p .relation))) g) (λ b i. there (there i)) v1
 
-        pub and-full : u ≡ taken.Full → DiamondPost n N limit W Y lent t a taken.Full
-        and-full f fs h = ran-then e (shifted fs h) (ran-stop _ (diamondF n R F) f (joined fs h))
+        pub and-full : u ≡ taken.Full → DiamondPost n N limit W Y lent t a q taken.Full
+        and-full f fs h = ran-then e (shifted fs h) (λ c. needingAll (needing c (andNeed fs)) (existsNeeds n fs n (andF (shiftF F) R))) (ran-stop _ (diamondF n R F) _ f (joined fs h))
 
-        module _ {c : ℕ} (f : u ≡ made.At c) where
+        module _ {c : ℕ} {q2 : Count} (f : u ≡ taken.At c q2) where
           k2 : Keeps (rowsOf X) (rowsOf Y) (live W lent)
           k2 = ran-kept f (joined all all-held)
 
@@ -245,19 +259,26 @@ module _ {n N limit : ℕ} {W : View} {lent : List ℕ} {t a : ℕ} (p : ModalPr
           pub loop-asks : QuantifyPre n N limit Y lent c
           loop-asks = record { base = base-next (p .base) m2; arrows = kept-lent W lent (keeps-trans k1 k2); operand = c-is .arrow }
 
-          pub diamond-ends : {Z : View} {r : Taken} → QuantifyPost n N limit Y Z lent c r → DiamondPost n N limit W Z lent t a r
-          diamond-ends {Z} {r} q fs h =
-              let l = q fs (held-moved lent m2 (keeps-trans k1 k2) h) in
-              let l1 = subst (λ (G : Fn). Ran n N Y Z (live Y lent) (fit limit (existsNeeds n fs n G)) (existsNext n G) r) (denoted c-is) l in
-              ran-then e (shifted fs h) (ran-then f (joined fs h) (ran-from lent m2 l1))
+          pub diamond-ends : {Z : View} {r : Taken} → QuantifyPost n N limit Y Z lent c q2 r → DiamondPost n N limit W Z lent t a q r
+          diamond-ends {Z} {r} g fs h =
+              let l = g fs (held-moved lent m2 (keeps-trans k1 k2) h) in
+              let l1 = subst (λ (G : Fn). Chained n N limit Y Z lent (existsNeeds n fs n G) (existsNext n G) q2 r) (denoted c-is) l in
+              ran-then e (shifted fs h) (λ d. needingAll (needing d (andNeed fs)) (existsNeeds n fs n (andF (shiftF F) R)))
+              (ran-then f (joined fs h) (λ d. needingAll d (existsNeeds n fs n (andF (shiftF F) R))) (ran-from lent m2 l1))
 
   -- ---- box
 
-  module _ {X : View} {o : Taken} (s : Took n N limit W X (a ∷ live W lent) o (notF F)) where
-    pub not-full : o ≡ taken.Full → BoxPost n N limit W X lent t a taken.Full
-    not-full e fs h = ran-stop _ (boxF n R F) e (first-step s fs h)
+  module _ {X : View} {o : Taken} (s : Took n N limit W X (a ∷ live W lent) q o (notF F)) where
+    abbrev notNeed : List Fn → ℕ
+    notNeed fs = stepNeed (2 * n) (F ∷ fs) (notF F)
 
-    module _ {b : ℕ} (e : o ≡ made.At b) where
+    abbrev lastNeed : List Fn → ℕ
+    lastNeed fs = stepNeed (2 * n) (diamondF n R (notF F) ∷ fs) (notF (diamondF n R (notF F)))
+
+    pub not-full : o ≡ taken.Full → BoxPost n N limit W X lent t a q taken.Full
+    not-full e fs h = ran-stop _ (boxF n R F) _ e (first-step s fs h)
+
+    module _ {b : ℕ} {q1 : Count} (e : o ≡ taken.At b q1) where
       b-kept : Keeps (rowsOf W) (rowsOf X) (live W lent)
       b-kept = ran-kept e (first-step s all all-held)
 
@@ -276,18 +297,20 @@ module _ {n N limit : ℕ} {W : View} {lent : List ℕ} {t a : ℕ} (p : ModalPr
         even = λ v w g. b-is .same v ∙ ap not (p .even v w g) ∙ sym (b-is .same w);
       }
 
-      module _ {Y : View} {u : Taken} (d : DiamondPost n N limit X Y lent t b u) where
-        inner : (fs : List Fn) → Held (2 * n) (rowsOf W) (live W lent) fs → Ran n N X Y (live W lent) (fit limit (diamondNeeds n fs R (notF F))) (diamondF n R (notF F)) u
+      module _ {Y : View} {u : Taken} (d : DiamondPost n N limit X Y lent t b q1 u) where
+        inner : (fs : List Fn) → Held (2 * n) (rowsOf W) (live W lent) fs
+            → Ran n N X Y (live W lent) (fit limit (diamondNeeds n fs R (notF F))) (diamondF n R (notF F)) (needingAll q1 (diamondNeeds n fs R (notF F))) u
         inner fs h =
             let l = d fs (held-moved lent (s .moved) b-kept h) in
-            let l1 = subst (λ (G : Fn). Ran n N X Y (live X lent) (fit limit (diamondNeeds n fs (den (2 * n) (rowsOf X) t) G)) (diamondF n (den (2 * n) (rowsOf X) t) G) u) (denoted b-is) l in
-            let l2 = subst (λ (G : Fn). Ran n N X Y (live X lent) (fit limit (diamondNeeds n fs G (notF F))) (diamondF n G (notF F)) u) (denoted r-is) l1 in
+            let l1 = subst (λ (G : Fn). Chained n N limit X Y lent (diamondNeeds n fs (den (2 * n) (rowsOf X) t) G) (diamondF n (den (2 * n) (rowsOf X) t) G) q1 u) (denoted b-is) l in
+            let l2 = subst (λ (G : Fn). Chained n N limit X Y lent (diamondNeeds n fs G (notF F)) (diamondF n G (notF F)) q1 u) (denoted r-is) l1 in
             ran-from lent (s .moved) l2
 
-        pub inner-full : u ≡ taken.Full → BoxPost n N limit W Y lent t a taken.Full
-        inner-full f fs h = box-chain limit R F fs (ran-then e (first-step s fs h) (ran-stop _ (boxF n R F) f (inner fs h)))
+        pub inner-full : u ≡ taken.Full → BoxPost n N limit W Y lent t a q taken.Full
+        inner-full f fs h = box-chain limit R F q fs
+            (ran-then e (first-step s fs h) (λ c. needing (needingAll c (diamondNeeds n fs R (notF F))) (lastNeed fs)) (ran-stop _ (boxF n R F) _ f (inner fs h)))
 
-        module _ {c : ℕ} (f : u ≡ made.At c) where
+        module _ {c : ℕ} {q2 : Count} (f : u ≡ taken.At c q2) where
           c-kept : Keeps (rowsOf X) (rowsOf Y) (live W lent)
           c-kept = ran-kept f (inner all all-held)
 
@@ -303,10 +326,12 @@ module _ {n N limit : ℕ} {W : View} {lent : List ℕ} {t a : ℕ} (p : ModalPr
           pub last-asks : StepPre (2 * n) N limit Y lent (Not c)
           last-asks = step-pre last-base (kept-lent W lent (keeps-trans b-kept c-kept)) (d-is .arrow)
 
-          pub box-ends : {Z : View} {r : Taken} → Took n N limit Y Z (c ∷ live Y lent) r (notF (den (2 * n) (rowsOf Y) c)) → BoxPost n N limit W Z lent t a r
+          pub box-ends : {Z : View} {r : Taken} → Took n N limit Y Z (c ∷ live Y lent) q2 r (notF (den (2 * n) (rowsOf Y) c)) → BoxPost n N limit W Z lent t a q r
           box-ends {Z} {r} v fs h =
               let D : Fn = diamondF n R (notF F) in
-              let v1 = subst (λ (G : Fn). Took n N limit Y Z (c ∷ live Y lent) r (notF G)) (denoted d-is) v in
+              let v1 = subst (λ (G : Fn). Took n N limit Y Z (c ∷ live Y lent) q2 r (notF G)) (denoted d-is) v in
               let g : Held (2 * n) (rowsOf Y) (c ∷ live Y lent) (D ∷ fs) = held-push (held-moved lent c-moved (keeps-trans b-kept c-kept) h) d-is in
-              let l : Ran n N Y Z (live Y lent) (leb (stepNeed (2 * n) (D ∷ fs) (notF D)) limit) (notF D) r = ran-step g (λ b i. there i) v1 in
-              box-chain limit R F fs (ran-then e (first-step s fs h) (ran-then f (inner fs h) (ran-from lent c-moved l)))
+              let l : Ran n N Y Z (live Y lent) (leb (stepNeed (2 * n) (D ∷ fs) (notF D)) limit) (notF D) (needing q2 (lastNeed fs)) r = ran-step g (λ b i. there i) v1 in
+              box-chain limit R F q fs
+              (ran-then e (first-step s fs h) (λ x. needing (needingAll x (diamondNeeds n fs R (notF F))) (lastNeed fs))
+              (ran-then f (inner fs h) (λ x. needing x (lastNeed fs)) (ran-from lent c-moved l)))

@@ -1,4 +1,3 @@
 pub mod Chain
 pub mod Modal
 pub mod Laws
-pub mod Odd

@@ -1,5 +1,5 @@
 -- One law for each call and each return. Assumes nothing.
-use mathlib.Core.Path.{_≡_, refl, sym, ap, _∙_, subst}
+use mathlib.Core.Path.{_≡_, refl, sym, ap, ap₂, _∙_, subst}
 use mathlib.Core.Bool.{Bool, true, false, cond, _&&_}
 use mathlib.Core.List.{List, [], _∷_, List·Memᴰ·head as here, List·Memᴰ·tail as there, List·Memᴰ·not-nil as mem-nil}
 use Prim.Native.Nat.{ℕ, _+_, _*_, _<_}
@@ -21,117 +21,117 @@ use Rattle.tokens.specs.declared.Join.the-variants.{And, Or}
 use Rattle.formula.specs.Parse.{leafForm, joinForm, got, formOf, parse, depthLimit}
 use Rattle.formula.proofs.Accepted.{found}
 use Rattle.formula.proofs.Fits.{Fitting, fitting}
+use Rattle.accounts.specs.declared.Count.{Count}
+use Rattle.accounts.specs.Count.{nothing, needing}
 use Rattle.layout.specs.Places.{BITS}
 use Rattle.layout.specs.View.{View}
 use Rattle.diagram.specs.Level.{Fn}
-use Rattle.diagram.specs.Rows.{Rows, Arrow}
+use Rattle.diagram.specs.Rows.{Rows}
+use Rattle.diagram.specs.Count.{Within}
 use Rattle.diagram.specs.Need.{stepNeed}
-use Rattle.diagram.specs.Post.{Result, at, full as noRows, Denotes}
+use Rattle.diagram.specs.Post.{Denotes}
 use Rattle.diagram.specs.Keep.{keeps-within, keeps-denotes}
-use Rattle.diagram.specs.Step.{StepPost}
+use Rattle.diagram.specs.Steps.{bitF, notF}
 use Rattle.soundness.specs.Used.{rowsOf}
+use Rattle.soundness.specs.Sound.{Sound}
 use Rattle.table.specs.Make.{result}
-use Rattle.table.specs.declared.Made.{Made}
-use Rattle.table.specs.declared.Made.the-variants as made
 use Rattle.memory.specs.Frame.{rows-same}
 use Rattle.memory.specs.Forget.{Forgot}
 use Rattle.operations.specs.Work.{op-memo, op-trans}
 use Rattle.steps.specs.declared.Step.{Step}
 use Rattle.steps.specs.declared.Step.the-variants as step
 use Rattle.steps.specs.Steps.{Fits}
-use Rattle.book.specs.Bridge.{pairs-and, pairs-or}
+use Rattle.counting.specs.Taken.{madeIn, countIn}
+use Rattle.counting.specs.declared.Taken.{Taken}
+use Rattle.counting.specs.declared.Taken.the-variants as taken
+use Rattle.book.specs.Bridge.{pairs-now, pairs-next, pairs-not, pairs-and, pairs-or}
 use Rattle.book.specs.Book.{regFilled, relFilled, liveOf}
 use Rattle.book.specs.Table.{rootsOf}
-use Rattle.book.specs.Run.{pairF, pairsFit}
-use Rattle.book.specs.Pairs.{PairEvals, pair-stop, pair-none, pair-all, pair-now, pair-next, pair-not, pair-two, pair-two-stop}
+use Rattle.book.specs.Run.{pairF, pairsFit, pairsCount}
+use Rattle.book.specs.Held.{Held, denoted, held-push}
+use Rattle.book.specs.Pairs.{PairEvals, pair-none, pair-all}
 use Rattle.contract.specs.Seen.{seenIn}
 use Rattle.modal.specs.declared.Limits.{Limits}
-use Rattle.modal.specs.Chain.{Moved, moved-refl, moved-trans, base-wf, took, Ran, pair-value}
+use Rattle.modal.specs.Chain.{moved-refl, base-wf, Took, took, Ran, ran-step, ran-stop, ran-value, ran-then}
 use Rattle.evaluator.specs.Scene.{stackSize, Scene, pushed, Ready, Stands, joinStep, LivePre, LivePost}
 use Rattle.evaluator.specs.Whole.{bookIn}
 use Rattle.evaluator.proofs.State.{still-below, live-pre, ready-next, ready-push}
 use Rattle.evaluator.proofs.Outcomes.{joinF}
 use Rattle.evaluator.proofs.Steps.{took-roots, one-arrow, took-join, join-fits}
-use Rattle.evaluator.proofs.Starts.{sceneIn, start-scene}
-use Rattle.pairs.specs.Pairing.{noPlaces, resultOf, EndsAt, Relates, fromMade, RelatePre, RelatePost, PairsPre, PairsPost}
+use Rattle.evaluator.proofs.Starts.{sceneIn, start-base, start-scene}
+use Rattle.pairs.specs.Pairing.{noPlaces, takenOf, EndsAt, RanFor, Relates, fromTaken, RelatePre, RelatePost, PairsPre, PairsPost}
 use Rattle.pairs.specs.declared.Related.{Related}
 use Rattle.pairs.specs.declared.Related.the-variants.{Value, Full}
 
 -- ---- answers
 
-made-result : (e : ℕ) (o : Made) → result o ≡ resultOf (fromMade e o)
-made-result e (made.At a) = refl
-made-result e made.Full = refl
+taken-of : (e : ℕ) (o : Taken) → takenOf (fromTaken e o) ≡ o
+taken-of e (taken.At a c) = refl
+taken-of e taken.Full = refl
 
-made-end : (e : ℕ) (o : Made) → EndsAt e (fromMade e o)
-made-end e (made.At a) = refl
-made-end e made.Full = tt
+taken-end : (e : ℕ) (o : Taken) → EndsAt e (fromTaken e o)
+taken-end e (taken.At a c) = refl
+taken-end e taken.Full = tt
 
 -- a formula that is another one
-pub relates-same : {L : Limits} {W X : View} {stack after : List ℕ} {held : ℕ} {σ : Scene} {f g : Form} {e : ℕ} {r : Related} → f ≡ g → Relates L W X stack after held σ g e r
-    → Relates L W X stack after held σ f e r
-relates-same {L} {W} {X} {stack} {after} {held} {σ} {e = e} {r = r} q A = subst (λ (h : Form). Relates L W X stack after held σ h e r) (sym q) A
+pub relates-same : {L : Limits} {W X : View} {stack after : List ℕ} {held : ℕ} {count : Count} {σ : Scene} {f g : Form} {e : ℕ} {r : Related} → f ≡ g → Relates L W X stack after held count σ g e r
+    → Relates L W X stack after held count σ f e r
+relates-same {L} {W} {X} {stack} {after} {held} {count} {σ} {e = e} {r = r} q A = subst (λ (h : Form). Relates L W X stack after held count σ h e r) (sym q) A
 
 -- a step's answer
-relates-made : {L : Limits} {W X : View} {stack after : List ℕ} {held : ℕ} {σ : Scene} (f : Form) {e : ℕ} (k : ℕ) (o : Made) {r : Related} → k ≡ e → r ≡ fromMade k o → Moved (L .bits) W X
-    → take held after ≡ take held stack
-    → PairEvals (L .bits) (L .rows) (rowsOf W) (rowsOf X) (σ .roots) (pairsFit (L .bits) (L .limit) (σ .fns) f) (pairF (L .bits) f) (result o) → Relates L W X stack after held σ f e r
-relates-made {L} {W} {X} {stack} {after} {held} {σ} f {e} k o {r} at-e is m s v =
-    subst (λ (x : Related). Relates L W X stack after held σ f e x) (sym (is ∙ ap (λ (x : ℕ). fromMade x o) at-e)) (record {
-      moved = m;
+relates-taken : {L : Limits} {W X : View} {stack after : List ℕ} {held : ℕ} {count : Count} {σ : Scene} (f : Form) {e : ℕ} (k : ℕ) (o : Taken) {r : Related} → k ≡ e → r ≡ fromTaken k o
+    → take held after ≡ take held stack → RanFor L W X σ f count o → Relates L W X stack after held count σ f e r
+relates-taken {L} {W} {X} {stack} {after} {held} {count} {σ} f {e} k o {r} at-e is s v =
+    subst (λ (x : Related). Relates L W X stack after held count σ f e x) (sym (is ∙ ap (λ (x : ℕ). fromTaken x o) at-e)) (record {
+      ran = subst (λ (y : Taken). RanFor L W X σ f count y) (sym (taken-of e o)) v;
       kept = s;
-      evals = subst (PairEvals (L .bits) (L .rows) (rowsOf W) (rowsOf X) (σ .roots) (pairsFit (L .bits) (L .limit) (σ .fns) f) (pairF (L .bits) f)) (made-result e o) v;
-      end = made-end e o;
+      end = taken-end e o;
     })
 
--- rows ran out in a part
-stopped : {L : Limits} {W X : View} {stack after : List ℕ} {held : ℕ} {σ : Scene} (f : Form) (e : ℕ) → Moved (L .bits) W X → take held after ≡ take held stack
-    → PairEvals (L .bits) (L .rows) (rowsOf W) (rowsOf X) (σ .roots) (pairsFit (L .bits) (L .limit) (σ .fns) f) (pairF (L .bits) f) noRows → Relates L W X stack after held σ f e Full
-stopped f e m s v = record { moved = m; kept = s; evals = v; end = tt }
-
 -- a leaf's value or step
-pub relate-leaf : {L : Limits} {W X : View} {stack : List ℕ} {held : ℕ} {σ : Scene} {f : Form} (l : Leaf) {e k : ℕ} {o : Made} {r : Related} → f ≡ leafForm l → e ≡ k
-    → Ran (L .bits) (L .rows) W X (σ .roots) (pairsFit (L .bits) (L .limit) (σ .fns) (leafForm l)) (pairF (L .bits) (leafForm l)) o → r ≡ fromMade k o → Relates L W X stack stack held σ f e r
-relate-leaf l {k = k} {o = o} q at-e A made = relates-same q (relates-made (leafForm l) k o (sym at-e) made (A .moved) refl (A .evals))
+pub relate-leaf : {L : Limits} {W X : View} {stack : List ℕ} {held : ℕ} {count : Count} {σ : Scene} {f : Form} (l : Leaf) {e k : ℕ} {o : Taken} {r : Related} → f ≡ leafForm l → e ≡ k
+    → RanFor L W X σ (leafForm l) count o → r ≡ fromTaken k o → Relates L W X stack stack held count σ f e r
+relate-leaf l {k = k} {o = o} q at-e A is = relates-same q (relates-taken (leafForm l) k o (sym at-e) is refl A)
+
+-- ---- chains of steps
+
+-- one step for G, whose operands are among its roots
+step-ran : {n N limit : ℕ} {W X : View} {roots ys : List ℕ} {fs : List Fn} {q : Count} {o : Taken} {F : Fn} (G : Fn) → Held (2 * n) (rowsOf W) ys fs → Within roots ys → F ≡ G → Took n N limit W X ys q o F
+    → Ran n N W X roots (leb (stepNeed (2 * n) fs G) limit) G (needing q (stepNeed (2 * n) fs G)) o
+step-ran {n} {N} {limit} {W} {X} {ys = ys} {q = q} {o} G h w e t = ran-step h w (subst (λ (F : Fn). Took n N limit W X ys q o F) e t)
+
+-- fewer roots
+ran-within : {n N : ℕ} {W X : View} {roots ys : List ℕ} {b : Bool} {F : Fn} {c : Count} {o : Taken} → Within roots ys → Ran n N W X ys b F c o → Ran n N W X roots b F c o
+ran-within w r = record { moved = r .moved; evals = record { wf = r .evals .wf; kept = keeps-within w (r .evals .kept); result = r .evals .result } }
 
 -- ---- leaves
 
 module _ {L : Limits} {W : View} {stack : List ℕ} {held : ℕ} {σ : Scene} (R : Ready L W stack noPlaces held σ) where
-  pub leaf-none : Ran (L .bits) (L .rows) W W (σ .roots) (pairsFit (L .bits) (L .limit) (σ .fns) bot) (pairF (L .bits) bot) (made.At 0)
-  leaf-none = record { moved = moved-refl (R .base); evals = pair-none (L .bits) (L .rows) (R .lives) (L .limit) (base-wf (R .base)) }
+  pub leaf-none : {q : Count} → RanFor L W W σ bot q (taken.At 0 q)
+  leaf-none {q} = record { moved = moved-refl (R .base); evals = pair-none (L .bits) (L .rows) (R .lives) (L .limit) q (base-wf (R .base)) }
 
-  pub leaf-all : Ran (L .bits) (L .rows) W W (σ .roots) (pairsFit (L .bits) (L .limit) (σ .fns) top) (pairF (L .bits) top) (made.At 1)
-  leaf-all = record { moved = moved-refl (R .base); evals = pair-all (L .bits) (L .rows) (R .lives) (L .limit) (base-wf (R .base)) }
+  pub leaf-all : {q : Count} → RanFor L W W σ top q (taken.At 1 q)
+  leaf-all {q} = record { moved = moved-refl (R .base); evals = pair-all (L .bits) (L .rows) (R .lives) (L .limit) q (base-wf (R .base)) }
 
   module _ (x : ℕ) (l : x < 2 * L .bits) where
     pub bit-asks : LivePre L W stack held (step.Bit x)
     bit-asks = live-pre R l
 
-    bit-post : {X : View} {o : Made} → LivePost L W X stack held (step.Bit x) o
-        → StepPost (2 * L .bits) (L .rows) (L .limit) (rowsOf W) (rowsOf X) (σ .roots) (result o) (λ v. v x)
-    bit-post s = took-roots [] R (λ a h. absurd (mem-nil h)) (took (R .base) (bit-asks .asks) s)
+    bit-ran : {X : View} {q : Count} {o : Taken} (G : Fn) → bitF x ≡ G → LivePost L W X stack held (step.Bit x) q o
+        → Ran (L .bits) (L .rows) W X (σ .roots) (leb (stepNeed (2 * L .bits) (σ .fns) G) (L .limit)) G (needing q (stepNeed (2 * L .bits) (σ .fns) G)) o
+    bit-ran {q = q} {o} G e s =
+        step-ran G (R .lives) (λ a i. i) e (took-roots [] R (λ a h. absurd (mem-nil h)) (took {q = q} {o = o} (R .base) (bit-asks .asks) (s .stepped) (s .count)))
 
-    bit-moved : {X : View} {o : Made} → LivePost L W X stack held (step.Bit x) o → Moved (L .bits) W X
-    bit-moved s = took (R .base) (bit-asks .asks) s .moved
+  module _ {p : ℕ} (l : p < L .bits) {X : View} {q : Count} {o : Taken} where
+    pub leaf-now : LivePost L W X stack held (step.Bit (2 * p)) q o → RanFor L W X σ (now p) q o
+    leaf-now s = bit-ran (2 * p) (omega arith) (pairF (L .bits) (now p)) (sym (pairs-now (L .bits) p l)) s
 
-  module _ {p : ℕ} (l : p < L .bits) {X : View} {o : Made} where
-    pub leaf-now : LivePost L W X stack held (step.Bit (2 * p)) o
-        → Ran (L .bits) (L .rows) W X (σ .roots) (pairsFit (L .bits) (L .limit) (σ .fns) (now p)) (pairF (L .bits) (now p)) o
-    leaf-now s = record { moved = bit-moved (2 * p) (omega arith) s; evals = pair-now (L .bits) (L .rows) (R .lives) p l (result o) (bit-post (2 * p) (omega arith) s) }
-
-    pub leaf-next : LivePost L W X stack held (step.Bit (2 * p + 1)) o
-        → Ran (L .bits) (L .rows) W X (σ .roots) (pairsFit (L .bits) (L .limit) (σ .fns) (next p)) (pairF (L .bits) (next p)) o
-    leaf-next s = record {
-      moved = bit-moved (2 * p + 1) (omega arith) s;
-      evals = pair-next (L .bits) (L .rows) (R .lives) p l (result o)
-          (subst (λ (x : ℕ). StepPost (2 * L .bits) (L .rows) (L .limit) (rowsOf W) (rowsOf X) (σ .roots) (result o) (λ v. v x)) (add-one (2 * p)) (bit-post (2 * p + 1) (omega arith) s));
-    }
+    pub leaf-next : LivePost L W X stack held (step.Bit (2 * p + 1)) q o → RanFor L W X σ (next p) q o
+    leaf-next s = bit-ran (2 * p + 1) (omega arith) (pairF (L .bits) (next p)) (ap bitF (add-one (2 * p)) ∙ sym (pairs-next (L .bits) p l)) s
 
 -- by the leaf that stands there
-pub leaf-as : (L : Limits) {W X : View} (σ : Scene) {o : Made} {l : Leaf} (m : Leaf) → l ≡ m → Ran (L .bits) (L .rows) W X (σ .roots) (pairsFit (L .bits) (L .limit) (σ .fns) (leafForm m)) (pairF (L .bits) (leafForm m)) o
-    → Ran (L .bits) (L .rows) W X (σ .roots) (pairsFit (L .bits) (L .limit) (σ .fns) (leafForm l)) (pairF (L .bits) (leafForm l)) o
-leaf-as L {W} {X} σ {o} m e h =
-    subst (λ (x : Leaf). Ran (L .bits) (L .rows) W X (σ .roots) (pairsFit (L .bits) (L .limit) (σ .fns) (leafForm x)) (pairF (L .bits) (leafForm x)) o) (sym e) h
+pub leaf-as : (L : Limits) {W X : View} (σ : Scene) (q : Count) {o : Taken} {l : Leaf} (m : Leaf) → l ≡ m → RanFor L W X σ (leafForm m) q o → RanFor L W X σ (leafForm l) q o
+leaf-as L {W} {X} σ q {o} m e h = subst (λ (x : Leaf). RanFor L W X σ (leafForm x) q o) (sym e) h
 
 pub as-taken : (n : ℕ) {l : Leaf} (m : Leaf) → l ≡ m → leafAllowed l n Pairs ≡ true → leafAllowed m n Pairs ≡ true
 as-taken n m e h = subst (λ (x : Leaf). leafAllowed x n Pairs ≡ true) e h
@@ -142,56 +142,58 @@ now-taken n {l} {p} e h = ltb-true p n (as-taken n (Now p) e h)
 pub next-taken : (n : ℕ) {l : Leaf} {p : ℕ} → l ≡ Next p → leafAllowed l n Pairs ≡ true → p < n
 next-taken n {l} {p} e h = ltb-true p n (as-taken n (Next p) e h)
 
--- ---- a part that ran out
+-- ---- AND and OR of two parts
 
-module _ {L : Limits} {W X : View} {stack after : List ℕ} {held : ℕ} {σ : Scene} {f : Form} {e : ℕ} {r : Related} (A : Relates L W X stack after held σ f e r) (is : r ≡ Full) where
-  out : PairEvals (L .bits) (L .rows) (rowsOf W) (rowsOf X) (σ .roots) (pairsFit (L .bits) (L .limit) (σ .fns) f) (pairF (L .bits) f) noRows
-  out = subst (λ (x : Related). PairEvals (L .bits) (L .rows) (rowsOf W) (rowsOf X) (σ .roots) (pairsFit (L .bits) (L .limit) (σ .fns) f) (pairF (L .bits) f) (resultOf x)) is (A .evals)
-
-  pub negate-stops : (e′ : ℕ) → Relates L W X stack after held σ (neg f) e′ Full
-  negate-stops e′ = stopped (neg f) e′ (A .moved) (A .kept) (pair-stop (L .bits) (L .rows) (pairsFit (L .bits) (L .limit) (σ .fns) f) _ (pairF (L .bits) (neg f)) out)
-
-  pub first-stops : (j : Join) (g : Form) (e′ : ℕ) → Relates L W X stack after held σ (joinForm j f g) e′ Full
-  first-stops And g e′ = stopped (joinForm And f g) e′ (A .moved) (A .kept) (pair-stop (L .bits) (L .rows) (pairsFit (L .bits) (L .limit) (σ .fns) f) _ (pairF (L .bits) (joinForm And f g)) out)
-  first-stops Or g e′ = stopped (joinForm Or f g) e′ (A .moved) (A .kept) (pair-stop (L .bits) (L .rows) (pairsFit (L .bits) (L .limit) (σ .fns) f) _ (pairF (L .bits) (joinForm Or f g)) out)
-
--- ---- after a part's value
-
--- AND and OR of two parts
 join-exact : (n : ℕ) (j : Join) (f g : Form) → pairF n (joinForm j f g) ≡ joinF j (pairF n f) (pairF n g)
 join-exact n And f g = pairs-and n f g
 join-exact n Or f g = pairs-or n f g
 
-join-fit : (n limit : ℕ) (fs : List Fn) (j : Join) (f g : Form)
-    → (pairsFit n limit fs f && (pairsFit n limit (pairF n f ∷ fs) g && leb (stepNeed (2 * n) (pairF n g ∷ pairF n f ∷ fs) (pairF n (joinForm j f g))) limit)) ≡ pairsFit n limit fs (joinForm j f g)
-join-fit n limit fs And f g = refl
-join-fit n limit fs Or f g = refl
+-- what their step needs
+abbrev joinNeed : ℕ → List Fn → Join → Form → Form → ℕ
+joinNeed n fs j f g = stepNeed (2 * n) (pairF n g ∷ pairF n f ∷ fs) (pairF n (joinForm j f g))
 
-module _ {L : Limits} {W X : View} {stack after : List ℕ} {held : ℕ} {σ : Scene} {f : Form} {e : ℕ} {r : Related} (R : Ready L W stack noPlaces held σ)
-    (A : Relates L W X stack after held σ f e r) (z : length after ≡ length stack) {a k : ℕ} (is : r ≡ Value a k) where
-  value-evals : PairEvals (L .bits) (L .rows) (rowsOf W) (rowsOf X) (σ .roots) (pairsFit (L .bits) (L .limit) (σ .fns) f) (pairF (L .bits) f) (at a)
-  value-evals = subst (λ (x : Related). PairEvals (L .bits) (L .rows) (rowsOf W) (rowsOf X) (σ .roots) (pairsFit (L .bits) (L .limit) (σ .fns) f) (pairF (L .bits) f) (resultOf x)) is (A .evals)
+join-ran : (L : Limits) {W X : View} (σ : Scene) (count : Count) (j : Join) (f g : Form) {o : Taken}
+    → Ran (L .bits) (L .rows) W X (σ .roots)
+    (pairsFit (L .bits) (L .limit) (σ .fns) f && (pairsFit (L .bits) (L .limit) (pairF (L .bits) f ∷ σ .fns) g && leb (joinNeed (L .bits) (σ .fns) j f g) (L .limit))) (pairF (L .bits) (joinForm j f g))
+    (needing (pairsCount (L .bits) (pairF (L .bits) f ∷ σ .fns) g (pairsCount (L .bits) (σ .fns) f count)) (joinNeed (L .bits) (σ .fns) j f g)) o
+    → RanFor L W X σ (joinForm j f g) count o
+join-ran L σ count And f g r = r
+join-ran L σ count Or f g r = r
 
+-- ---- a part that ran out
+
+module _ {L : Limits} {W X : View} {stack after : List ℕ} {held : ℕ} {count : Count} {σ : Scene} {f : Form} {e : ℕ} {r : Related} (A : Relates L W X stack after held count σ f e r) (is : r ≡ Full) where
+  pub negate-stops : (e′ : ℕ) → Relates L W X stack after held count σ (neg f) e′ Full
+  negate-stops e′ = record { ran = ran-stop _ (pairF (L .bits) (neg f)) _ (ap takenOf is) (A .ran); kept = A .kept; end = tt }
+
+  pub first-stops : (j : Join) (g : Form) (e′ : ℕ) → Relates L W X stack after held count σ (joinForm j f g) e′ Full
+  first-stops j g e′ = record { ran = join-ran L σ count j f g (ran-stop _ (pairF (L .bits) (joinForm j f g)) _ (ap takenOf is) (A .ran)); kept = A .kept; end = tt }
+
+-- ---- after a part's value
+
+module _ {L : Limits} {W X : View} {stack after : List ℕ} {held : ℕ} {count : Count} {σ : Scene} {f : Form} {e : ℕ} {r : Related} (R : Ready L W stack noPlaces held σ)
+    (A : Relates L W X stack after held count σ f e r) (z : length after ≡ length stack) {a k : ℕ} {q : Count} (is : r ≡ Value a k q) where
   pub value-end : k ≡ e
   value-end = subst (EndsAt e) is (A .end)
 
   pub value-is : Denotes (2 * L .bits) (rowsOf X) a (pairF (L .bits) f)
-  value-is = pair-value (L .bits) _ (pairsFit (L .bits) (L .limit) (σ .fns) f) (value-evals .result)
+  value-is = ran-value (ap takenOf is) (A .ran)
 
   value-ready : Ready L X after noPlaces held σ
-  value-ready = ready-next R (A .moved) (A .evals .kept) after z (A .kept)
+  value-ready = ready-next R (A .ran .moved) (A .ran .evals .kept) after z (A .kept)
 
   -- ---- NOT
 
   pub negate-asks : LivePre L X after held (step.Not a)
   negate-asks = live-pre value-ready (value-is .arrow)
 
-  pub negate-ends : {Y : View} {o : Made} {r′ : Related} → LivePost L X Y after held (step.Not a) o → r′ ≡ fromMade k o
-      → Relates L W Y stack after held σ (neg f) e r′
-  negate-ends {Y} {o} s made =
-      let t = took (value-ready .base) (negate-asks .asks) s in
-      relates-made (neg f) k o value-end made (moved-trans (A .moved) (t .moved)) (A .kept)
-      (pair-not (L .bits) (L .rows) (R .lives) f value-evals (result o) (took-roots (a ∷ []) value-ready (one-arrow (rowsOf X) a (value-is .arrow)) t))
+  pub negate-ends : {Y : View} {o : Taken} {r′ : Related} → LivePost L X Y after held (step.Not a) q o → r′ ≡ fromTaken k o → Relates L W Y stack after held count σ (neg f) e r′
+  negate-ends {Y} {o} s is-r =
+      let t = took {q = q} {o = o} (value-ready .base) (negate-asks .asks) (s .stepped) (s .count) in
+      relates-taken (neg f) k o value-end is-r (A .kept)
+      (ran-then (ap takenOf is) (A .ran) (λ c. needing c (stepNeed (2 * L .bits) (pairF (L .bits) f ∷ σ .fns) (pairF (L .bits) (neg f))))
+      (step-ran (pairF (L .bits) (neg f)) (held-push (value-ready .lives) value-is) (λ b i. there i) (ap notF (denoted value-is) ∙ sym (pairs-not (L .bits) f))
+      (took-roots (a ∷ []) value-ready (one-arrow (rowsOf X) a (value-is .arrow)) t)))
 
   -- ---- AND and OR
 
@@ -203,39 +205,42 @@ module _ {L : Limits} {W X : View} {stack after : List ℕ} {held : ℕ} {σ : S
     both-ready = ready-push value-ready a (pairF (L .bits) f) value-is room
 
     module _ {Y : View} {last : List ℕ} {g : Form} {e′ : ℕ} {r′ : Related} (z′ : length last ≡ length after)
-        (B : Relates L X Y (set after held a) last (held + 1) (pushed σ a (pairF (L .bits) f)) g e′ r′) where
+        (B : Relates L X Y (set after held a) last (held + 1) q (pushed σ a (pairF (L .bits) f)) g e′ r′) where
       below : take held last ≡ take held after
       below = still-below held last after a (B .kept)
 
-      pub both-stops : (j : Join) → r′ ≡ Full → Relates L W Y stack last held σ (joinForm j f g) e′ Full
-      both-stops j s = stopped (joinForm j f g) e′ (moved-trans (A .moved) (B .moved)) (below ∙ A .kept)
-          (subst (λ (b : Bool). PairEvals (L .bits) (L .rows) (rowsOf W) (rowsOf Y) (σ .roots) b (pairF (L .bits) (joinForm j f g)) noRows) (join-fit (L .bits) (L .limit) (σ .fns) j f g)
-          (pair-two-stop (L .bits) (L .rows) (R .lives) (L .limit) (joinForm j f g) f g value-evals (λ d. out B s)))
+      -- what follows the first part's value, with a root less
+      both-ran : (j : Join) {Z : View} {o : Taken}
+          → Ran (L .bits) (L .rows) X Z (a ∷ σ .roots) (pairsFit (L .bits) (L .limit) (pairF (L .bits) f ∷ σ .fns) g && leb (joinNeed (L .bits) (σ .fns) j f g) (L .limit)) (pairF (L .bits) (joinForm j f g))
+          (needing (pairsCount (L .bits) (pairF (L .bits) f ∷ σ .fns) g q) (joinNeed (L .bits) (σ .fns) j f g)) o
+          → RanFor L W Z σ (joinForm j f g) count o
+      both-ran j t =
+          join-ran L σ count j f g (ran-then (ap takenOf is) (A .ran) (λ c. needing (pairsCount (L .bits) (pairF (L .bits) f ∷ σ .fns) g c) (joinNeed (L .bits) (σ .fns) j f g)) (ran-within (λ x i. there i) t))
 
-      module _ {b k′ : ℕ} (is′ : r′ ≡ Value b k′) where
-        second-evals : PairEvals (L .bits) (L .rows) (rowsOf X) (rowsOf Y) (a ∷ σ .roots) (pairsFit (L .bits) (L .limit) (pairF (L .bits) f ∷ σ .fns) g) (pairF (L .bits) g) (at b)
-        second-evals = subst (λ (x : Related). PairEvals (L .bits) (L .rows) (rowsOf X) (rowsOf Y) (a ∷ σ .roots) (pairsFit (L .bits) (L .limit) (pairF (L .bits) f ∷ σ .fns) g) (pairF (L .bits) g) (resultOf x)) is′ (B .evals)
+      pub both-stops : (j : Join) → r′ ≡ Full → Relates L W Y stack last held count σ (joinForm j f g) e′ Full
+      both-stops j s = record { ran = both-ran j (ran-stop _ (pairF (L .bits) (joinForm j f g)) _ (ap takenOf s) (B .ran)); kept = below ∙ A .kept; end = tt }
 
-        first-arrow : Arrow (rowsOf Y) a
-        first-arrow = keeps-denotes (B .evals .kept) (here refl) value-is .arrow
+      module _ {b k′ : ℕ} {q′ : Count} (is′ : r′ ≡ Value b k′ q′) where
+        first-is : Denotes (2 * L .bits) (rowsOf Y) a (pairF (L .bits) f)
+        first-is = keeps-denotes (B .ran .evals .kept) (here refl) value-is
 
-        second-arrow : Arrow (rowsOf Y) b
-        second-arrow = pair-value (L .bits) _ (pairsFit (L .bits) (L .limit) (pairF (L .bits) f ∷ σ .fns) g) (second-evals .result) .arrow
+        second-is : Denotes (2 * L .bits) (rowsOf Y) b (pairF (L .bits) g)
+        second-is = ran-value (ap takenOf is′) (B .ran)
 
         both-state : Ready L Y last noPlaces held σ
-        both-state = ready-next value-ready (B .moved) (keeps-within (λ x i. there i) (B .evals .kept)) last z′ below
+        both-state = ready-next value-ready (B .ran .moved) (keeps-within (λ x i. there i) (B .ran .evals .kept)) last z′ below
 
         pub both-asks : (j : Join) {s : Step} → s ≡ joinStep j a b → LivePre L Y last held s
-        both-asks j e = live-pre both-state (subst (Fits (2 * L .bits) (rowsOf Y)) (sym e) (join-fits (2 * L .bits) (rowsOf Y) j a b first-arrow second-arrow))
+        both-asks j e = live-pre both-state (subst (Fits (2 * L .bits) (rowsOf Y)) (sym e) (join-fits (2 * L .bits) (rowsOf Y) j a b (first-is .arrow) (second-is .arrow)))
 
-        pub both-ends : (j : Join) {s : Step} → s ≡ joinStep j a b → {Z : View} {o : Made} {r″ : Related} → LivePost L Y Z last held s o
-            → r″ ≡ fromMade k′ o → Relates L W Z stack last held σ (joinForm j f g) e′ r″
-        both-ends j {s} e {Z} {o} p made =
-            let t = took (both-state .base) (both-asks j e .asks) p in
-            relates-made (joinForm j f g) k′ o (subst (EndsAt e′) is′ (B .end)) made (moved-trans (A .moved) (moved-trans (B .moved) (t .moved))) (below ∙ A .kept)
-            (subst (λ (x : Bool). PairEvals (L .bits) (L .rows) (rowsOf W) (rowsOf Z) (σ .roots) x (pairF (L .bits) (joinForm j f g)) (result o)) (join-fit (L .bits) (L .limit) (σ .fns) j f g)
-            (pair-two (L .bits) (L .rows) (R .lives) (joinForm j f g) f g (joinF j) (join-exact (L .bits) j f g) value-evals (λ d. second-evals) (result o)
-            (took-join both-state j e first-arrow second-arrow t)))
+        pub both-ends : (j : Join) {s : Step} → s ≡ joinStep j a b → {Z : View} {o : Taken} {r″ : Related} → LivePost L Y Z last held s q′ o
+            → r″ ≡ fromTaken k′ o → Relates L W Z stack last held count σ (joinForm j f g) e′ r″
+        both-ends j {s} e {Z} {o} p is-r =
+            let t = took {q = q′} {o = o} (both-state .base) (both-asks j e .asks) (p .stepped) (p .count) in
+            relates-taken (joinForm j f g) k′ o (subst (EndsAt e′) is′ (B .end)) is-r (below ∙ A .kept)
+            (both-ran j (ran-then (ap takenOf is′) (B .ran) (λ c. needing c (joinNeed (L .bits) (σ .fns) j f g))
+            (step-ran (pairF (L .bits) (joinForm j f g)) (held-push (held-push (both-state .lives) first-is) second-is) (λ x i. there i)
+            (ap₂ (joinF j) (denoted first-is) (denoted second-is) ∙ sym (join-exact (L .bits) j f g)) (took-join both-state j e (first-is .arrow) (second-is .arrow) t))))
 
 -- ---- the whole formula
 
@@ -247,6 +252,12 @@ relation-grammar v g e = go (eqb v 1) (eqb v 2) e
     go true b q = cc
     go false true q = let z : _≡_ {A = ℕ} 0 1 = cc in absurd (omega arith)
     go false false q = let z : _≡_ {A = ℕ} 0 1 = cc in absurd (omega arith)
+
+-- the outcome of f's steps, nothing being counted before
+abbrev Evaluated : View → ℕ → ℕ → ℕ → Rows → Rows → Form → Taken → Type 0
+Evaluated W limit n N before after f o =
+    let fs = liveOf (bookIn W) in
+    PairEvals n N before after (rootsOf (seenIn W)) (pairsFit n limit fs f) (pairF n f) (pairsCount n fs f nothing) (result (madeIn o)) (countIn o)
 
 module _ {L : Limits} {W : View} {bs : List ℕ} (p : PairsPre L W bs) where
   fits : Fitting Relation (W .header BITS) (regFilled (bookIn W)) (relFilled (bookIn W)) bs
@@ -265,6 +276,9 @@ module _ {L : Limits} {W : View} {bs : List ℕ} (p : PairsPre L W bs) where
       }
 
   module _ {X : View} (f : Forgot W X) where
+    pub pairs-begins : Sound X
+    pairs-begins = start-base L (p .sound) (p .bits) (p .rows) (p .limit) f .sound
+
     pub pairs-asks : RelatePre L X (replicate stackSize 0) bs 3 depthLimit 0
     pairs-asks = record {
       room = omega arith;
@@ -275,18 +289,17 @@ module _ {L : Limits} {W : View} {bs : List ℕ} (p : PairsPre L W bs) where
       stands = whole-stands;
     }
 
-    module _ {Y : View} {after : List ℕ} {r : Related} (E : RelatePost L X Y (replicate stackSize 0) after bs 3 depthLimit 0 r) where
-      pub pairs-ends : {o : Made} → resultOf r ≡ result o → PairsPost L W Y bs o
+    module _ {Y : View} {after : List ℕ} {r : Related} (E : RelatePost L X Y (replicate stackSize 0) after bs 3 depthLimit 0 nothing r) where
+      pub pairs-ends : {o : Taken} → takenOf r ≡ o → PairsPost L W Y bs o
       unfolding whole
       pairs-ends {o} is =
           let A = E .answers (sceneIn W) whole (length bs) (start-scene L (p .sound) (p .bits) (p .rows) (p .limit) f) whole-stands in
-          let v0 = subst (λ (y : Result). PairEvals (L .bits) (L .rows) (rowsOf X) (rowsOf Y) (rootsOf (seenIn W)) (pairsFit (L .bits) (L .limit) (liveOf (bookIn W)) whole) (pairF (L .bits) whole) y) is (A .evals) in
-          let v1 = subst (λ (t : Rows). PairEvals (L .bits) (L .rows) t (rowsOf Y) (rootsOf (seenIn W)) (pairsFit (L .bits) (L .limit) (liveOf (bookIn W)) whole) (pairF (L .bits) whole) (result o)) (rows-same (f .frame)) v0 in
-          let v2 = subst (λ (N : ℕ). PairEvals (L .bits) N (rowsOf W) (rowsOf Y) (rootsOf (seenIn W)) (pairsFit (L .bits) (L .limit) (liveOf (bookIn W)) whole) (pairF (L .bits) whole) (result o)) (p .rows) v1 in
-          let v3 = subst (λ (n : ℕ). PairEvals n (W .rows) (rowsOf W) (rowsOf Y) (rootsOf (seenIn W)) (pairsFit n (L .limit) (liveOf (bookIn W)) whole) (pairF n whole) (result o)) (p .bits) v2 in
+          let v0 = subst (λ (y : Taken). Evaluated W (L .limit) (L .bits) (L .rows) (rowsOf X) (rowsOf Y) whole y) is (A .ran .evals) in
+          let v1 = subst (λ (t : Rows). Evaluated W (L .limit) (L .bits) (L .rows) t (rowsOf Y) whole o) (rows-same (f .frame)) v0 in
+          let v2 = subst (λ (N : ℕ). Evaluated W (L .limit) (L .bits) N (rowsOf W) (rowsOf Y) whole o) (p .rows) v1 in
+          let v3 = subst (λ (n : ℕ). Evaluated W (L .limit) n (W .rows) (rowsOf W) (rowsOf Y) whole o) (p .bits) v2 in
           record {
-            sound = A .moved .sound;
-            frame = op-trans (op-memo (f .frame)) (A .moved .frame);
-            evals = subst (λ (g : Form). PairEvals (W .header BITS) (W .rows) (rowsOf W) (rowsOf Y) (rootsOf (seenIn W)) (pairsFit (W .header BITS) (L .limit) (liveOf (bookIn W)) g) (pairF (W .header BITS) g) (result o))
-                (sym (ap formOf (fits .read))) v3;
+            sound = A .ran .moved .sound;
+            frame = op-trans (op-memo (f .frame)) (A .ran .moved .frame);
+            evals = subst (λ (g : Form). Evaluated W (L .limit) (W .header BITS) (W .rows) (rowsOf W) (rowsOf Y) g o) (sym (ap formOf (fits .read))) v3;
           }

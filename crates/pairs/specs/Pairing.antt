@@ -15,7 +15,6 @@ use Rattle.accounts.specs.declared.Count.{Count}
 use Rattle.accounts.specs.Count.{nothing}
 use Rattle.layout.specs.Places.{BITS}
 use Rattle.layout.specs.View.{View}
-use Rattle.diagram.specs.Post.{Result, at as arrow, full as noRows}
 use Rattle.soundness.specs.Used.{rowsOf}
 use Rattle.soundness.specs.Sound.{Sound}
 use Rattle.table.specs.Make.{result}
@@ -29,7 +28,7 @@ use Rattle.book.specs.Run.{pairF, pairsFit, pairsCount}
 use Rattle.book.specs.Pairs.{PairEvals}
 use Rattle.contract.specs.Seen.{seenIn}
 use Rattle.modal.specs.declared.Limits.{Limits}
-use Rattle.modal.specs.Chain.{Moved, Ran}
+use Rattle.modal.specs.Chain.{Ran}
 use Rattle.evaluator.specs.Scene.{Scene, Ready, Stands}
 use Rattle.evaluator.specs.Whole.{bookIn}
 use Rattle.pairs.specs.declared.Related.{Related}
@@ -39,24 +38,23 @@ use Rattle.pairs.specs.declared.Related.the-variants.{Value, Full}
 abbrev pub noPlaces : List ℕ
 noPlaces = replicate 16 0
 
--- the answer as the book has it, and the place after the formula
-abbrev pub resultOf : Related → Result
-resultOf (Value a k c) = arrow a
-resultOf Full = noRows
-
-abbrev pub countOf : Related → Count
-countOf (Value a k c) = c
-countOf Full = nothing
+-- the answer without its place, and the place after the formula
+abbrev pub takenOf : Related → Taken
+takenOf (Value a k c) = taken.At a c
+takenOf Full = taken.Full
 
 abbrev pub EndsAt : ℕ → Related → Type 0
 EndsAt e (Value a k c) = k ≡ e
 EndsAt e Full = Unit {0}
 
--- the evaluation of f with so much counted before: what it leaves of the words, the live part of the stack as it was, and the book's outcome
+-- the steps of f with so much counted before: what they leave of the words, and the book's outcome
+abbrev pub RanFor : Limits → View → View → Scene → Form → Count → Taken → Type 0
+RanFor L W X σ f count o = Ran (L .bits) (L .rows) W X (σ .roots) (pairsFit (L .bits) (L .limit) (σ .fns) f) (pairF (L .bits) f) (pairsCount (L .bits) (σ .fns) f count) o
+
+-- the evaluation of f: its steps, and the live part of the stack as it was
 pub record Relates (L : Limits) (W X : View) (stack after : List ℕ) (held : ℕ) (count : Count) (σ : Scene) (f : Form) (e : ℕ) (r : Related) : Type 0 where
-  pub moved : Moved (L .bits) W X
+  pub ran : RanFor L W X σ f count (takenOf r)
   pub kept : take held after ≡ take held stack
-  pub evals : PairEvals (L .bits) (L .rows) (rowsOf W) (rowsOf X) (σ .roots) (pairsFit (L .bits) (L .limit) (σ .fns) f) (pairF (L .bits) f) (pairsCount (L .bits) (σ .fns) f count) (resultOf r) (countOf r)
   pub end : EndsAt e r
 
 -- a step's result as an answer
@@ -104,7 +102,7 @@ pub record LeafPre (L : Limits) (W : View) (stack : List ℕ) (held : ℕ) (l : 
   pub taken : leafAllowed l (L .bits) Pairs ≡ true
 
 pub record LeafPost (L : Limits) (W X : View) (stack : List ℕ) (held : ℕ) (l : Leaf) (count : Count) (o : Taken) : Type 0 where
-  pub answers : (σ : Scene) → Ready L W stack noPlaces held σ → Ran (L .bits) (L .rows) W X (σ .roots) (pairsFit (L .bits) (L .limit) (σ .fns) (leafForm l)) (pairF (L .bits) (leafForm l)) (pairsCount (L .bits) (σ .fns) (leafForm l) count) o
+  pub answers : (σ : Scene) → Ready L W stack noPlaces held σ → RanFor L W X σ (leafForm l) count o
 
 -- ---- the whole call's formula
 

@@ -331,7 +331,7 @@ pub fn marked(marks: &[u32], i: u32) -> bool
 }
 
 // Marks row i.
-fn set_mark(marks: &mut [u32], i: u32)
+pub fn set_mark(marks: &mut [u32], i: u32)
     requires { ⌜ i < 32 * length (now marks) ⌝ }
     ensures { λ _. ⌜ Sets (now (marks .entry)) (now (marks .exit)) i ⌝ }
 {

@@ -84,14 +84,14 @@ module _ {W : View} {roots : List ℕ} {s : Step} {kept a b : ℕ} (ea : a ≡ f
   free-pre = rw (ea, eb) (record { sound = p .sound; arrows = λ c h. ⊎-elim (p .arrows c) (lent-arrow c) (append-cases roots h) })
 
   -- the rows that are left
-  to-live : (c i : ℕ) → Leads c i → Mem c (live W (roots ++ lent s kept)) → Mem c (kept ∷ liveAt W roots s)
+  pub to-live : (c i : ℕ) → Leads c i → Mem c (live W (roots ++ lent s kept)) → Mem c (kept ∷ liveAt W roots s)
   to-live c i l h =
       ⊎-elim (λ f. there (append-left (roots ++ operandsOf s) f))
       (λ t. ⊎-elim (λ r. there (append-right (filled W) (append-left (operandsOf s) r)))
       (λ u. ⊎-elim (λ o. there (append-right (filled W) (append-right roots o))) (λ e. here e) (lent-mem s kept c (λ e. absurd (omega (arith, l, e))) u)) (append-cases roots t))
       (append-cases (filled W) h)
 
-  to-lent : (c i : ℕ) → Leads c i → Mem c (kept ∷ liveAt W roots s) → Mem c (live W (roots ++ lent s kept))
+  pub to-lent : (c i : ℕ) → Leads c i → Mem c (kept ∷ liveAt W roots s) → Mem c (live W (roots ++ lent s kept))
   to-lent c i l h =
       ⊎-elim (λ e. append-right (filled W) (append-right roots (subst (λ (c : ℕ). Mem c (lent s kept)) (sym e) (kept-lent s kept))))
       (λ t. ⊎-elim (λ f. append-left (roots ++ lent s kept) f)

@@ -156,6 +156,8 @@ unfolding held
 held-same W X start zero e = refl
 held-same W X start (suc k) e = ap₂ push (e (start + k) (omega arith) (omega arith)) (held-same W X start k (λ h a b. e h a (omega arith)))
 
+pub filled-same : {W X : View} → OpFrame W X → filled X ≡ filled W
+filled-same {W} {X} f = held-same W X FIRST-REGISTER ROOTS (λ h a b. f .header h (omega arith) (omega arith) (omega arith) (omega arith))
+
 pub live-same : {W X : View} → OpFrame W X → (lent : List ℕ) → live X lent ≡ live W lent
-live-same {W} {X} f lent =
-    ap (λ (xs : List ℕ). xs ++ lent) (held-same W X FIRST-REGISTER ROOTS (λ h a b. f .header h (omega arith) (omega arith) (omega arith) (omega arith)))
+live-same f lent = ap (λ (xs : List ℕ). xs ++ lent) (filled-same f)

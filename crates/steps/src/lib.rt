@@ -39,7 +39,7 @@ pub struct Operands {
 }
 
 // A step's operands, and nothing for those that it does not have.
-fn operands_of(step: Step) -> Operands
+pub fn operands_of(step: Step) -> Operands
     ensures { λ r. ⌜ (r .first ≡ firstOperand step) × (r .second ≡ secondOperand step) ⌝ }
 {
     match step {
@@ -86,7 +86,7 @@ fn run_step(words: &mut [u32], rows: u32, levels: u32, limit: u32, step: Step) -
 }
 
 // Tries a step.
-fn try_step(words: &mut [u32], rows: u32, levels: u32, limit: u32, step: Step) -> Made
+pub fn try_step(words: &mut [u32], rows: u32, levels: u32, limit: u32, step: Step) -> Made
     requires { ⌜ Ready levels rows limit (view rows (now words)) × Fits levels (rowsOf (view rows (now words))) step ⌝ }
     ensures { λ r. ⌜ Worked levels rows limit (view rows (now (words .entry))) (view rows (now (words .exit))) r (stepF levels (rowsOf (view rows (now (words .entry)))) step) ⌝ }
 {
@@ -105,7 +105,14 @@ fn clean(words: &mut [u32], rows: u32, roots: &[u32], step: Step, kept: u32)
 }
 
 // The answer of a step from that of its last try: where more than `limit` rows are used, those that are reached decide.
-fn settle(words: &mut [u32], rows: u32, limit: u32, roots: &[u32], step: Step, made: Made) -> Made
+pub fn settle(
+    words: &mut [u32],
+    rows: u32,
+    limit: u32,
+    roots: &[u32],
+    step: Step,
+    made: Made,
+) -> Made
     requires { ⌜ SettlePre (view rows (now words)) (now roots) step made ⌝ }
     ensures { λ r. ⌜ SettlePost limit (view rows (now (words .entry))) (view rows (now (words .exit))) (now (roots .entry)) step made r ⌝ }
 {
@@ -123,7 +130,14 @@ fn settle(words: &mut [u32], rows: u32, limit: u32, roots: &[u32], step: Step, m
 }
 
 // Collects, and tries a step again.
-fn retry(words: &mut [u32], rows: u32, levels: u32, limit: u32, roots: &[u32], step: Step) -> Made
+pub fn retry(
+    words: &mut [u32],
+    rows: u32,
+    levels: u32,
+    limit: u32,
+    roots: &[u32],
+    step: Step,
+) -> Made
     requires { ⌜ StepPre levels rows limit (view rows (now words)) (now roots) step ⌝ }
     ensures { λ r. ⌜ Retried levels rows limit (view rows (now (words .entry))) (view rows (now (words .exit))) (now (roots .entry)) step r ⌝ }
 {

@@ -7,11 +7,11 @@ use reference::evaluate::{self, Limits};
 use reference::formula::{self, frame_as, Formula, Kind, RUNS_VERSION, VERSION};
 use reference::random::Random;
 
-/// What a call takes that would be answered with rows and an account in plenty: the greatest need of
-/// its steps, and its rounds.
+/// What a call takes that would be answered with rows and an account in plenty: its peak and its
+/// rounds.
 #[derive(Clone, Copy, Debug, PartialEq, Eq)]
 pub struct Cost {
-    pub need: usize,
+    pub peak: usize,
     pub rounds: u32,
 }
 
@@ -56,7 +56,7 @@ fn relation_call(random: &mut Random, book: &Book) -> (Call, Option<Cost>) {
     let done = checked(book, Kind::Relation, &formula)
         .and_then(|f| evaluate::relation(book.held(), MAX_ROWS as usize, &f).ok());
     let cost = done.filter(|_| t < RELATIONS as u64).map(|done| Cost {
-        need: done.highest_need,
+        peak: done.peak,
         rounds: 0,
     });
     (Call::Relation { t, formula }, cost)
@@ -116,7 +116,7 @@ fn round_limit(random: &mut Random, book: &Book, bytes: &[u8]) -> (u32, Option<C
         _ => u32::MAX,
     };
     let cost = Cost {
-        need: done.highest_need,
+        peak: done.peak,
         rounds: done.rounds,
     };
     (rounds, Some(cost).filter(|_| rounds >= done.rounds))

@@ -3,7 +3,7 @@
 use crate::kept;
 use crate::sound::sound;
 use crate::words::{Words, FIRST_REGISTER, FIRST_RELATION};
-use kudzuclamp::{Refusal, Stored, Table};
+use kudzuclamp::{Loaded, Refusal, Stored, Table};
 use reference::accounts::Account;
 use reference::book::{Answer, Book, Call, REGISTERS};
 use reference::formula::{self, Kind};
@@ -47,11 +47,10 @@ pub fn make(
     accounts: &mut [kudzuclamp::Account],
     call: &Call,
 ) -> Answer {
-    let plain = |value: u32| (0, value);
-    let none = |()| (0, 0);
-    let stored = |stored: Stored| (stored.rounds, stored.node);
+    let plain = |value: u32| Answer::plain(value.into());
+    let none = |()| Answer::plain(0);
     let result = match call {
-        Call::Relation { t, formula } => table.relation(*t as u32, formula).map(none),
+        Call::Relation { t, formula } => table.relation(*t as u32, formula).map(loaded),
         Call::Set {
             place,
             r,
@@ -70,23 +69,17 @@ pub fn make(
         }
         Call::Count { r } => table.count(*r as u32).map(plain),
     };
-    match result {
-        Ok((rounds, value)) => Answer {
-            number: 0,
-            rounds,
-            value: Some(value.into()),
-        },
-        Err(refusal) => refused(refusal.number() as u8),
-    }
+    // The wrapper gives no values with a refusal; tests/zeros.rs looks at them.
+    result.unwrap_or_else(|refusal| Answer::refused(refusal.number() as u8))
 }
 
-/// "number, zeros". The wrapper gives no values here; tests/zeros.rs looks at them.
-fn refused(number: u8) -> Answer {
-    Answer {
-        number,
-        rounds: 0,
-        value: Some(0),
-    }
+fn loaded(loaded: Loaded) -> Answer {
+    Answer::counted(0, loaded.peak as usize, Some(0))
+}
+
+fn stored(stored: Stored) -> Answer {
+    let node = Some(stored.node.into());
+    Answer::counted(stored.rounds, stored.peak as usize, node)
 }
 
 pub fn number_of<T>(result: &Result<T, Refusal>) -> u8 {
@@ -116,7 +109,7 @@ pub fn same<T: PartialEq + std::fmt::Debug>(
     }
 }
 
-/// Number, rounds and value. A node number that the book leaves free is above 1, and node answers
+/// Number, rounds, peak and value. A node number that the book leaves free is above 1, and node answers
 /// the one last returned.
 pub fn compare_answer(
     expected: &Expected,

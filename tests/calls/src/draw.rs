@@ -168,7 +168,7 @@ impl Session {
         let below = self.random.below(2) as u32;
         match known.rounds > 0 && self.random.chance(50) {
             true => account.rounds = known.rounds - below,
-            false => account.rows = (known.need as u32).saturating_sub(below),
+            false => account.rows = (known.peak as u32).saturating_sub(below),
         }
         self.waiting = Some((call, known));
         (Step::Accounts(accounts), None)
@@ -265,9 +265,9 @@ impl Session {
                 true => &mut edges.rows,
                 false => &mut edges.table,
             };
-            edge.note(cost.need as u64, rows as u64, number, 8);
+            edge.note(cost.peak as u64, rows as u64, number, 8);
         }
-        if let Some(limit) = rounds.filter(|_| cost.need <= rows) {
+        if let Some(limit) = rounds.filter(|_| cost.peak <= rows) {
             let (taken, limit) = (cost.rounds.into(), limit.into());
             edges.rounds.note(taken, limit, number, 9);
         }
@@ -294,7 +294,7 @@ fn steered_call(random: &mut Random, book: &Book, accounts: &[Account]) -> (Call
     for _ in 0..random.below(3) {
         let (rows, _) = limits_of(&drawn.0, book.rows(), accounts);
         match drawn.1 {
-            Some(cost) if cost.need < rows || cost.need > rows + 1 => {
+            Some(cost) if cost.peak < rows || cost.peak > rows + 1 => {
                 drawn = draw_call(random, book, accounts);
             }
             _ => break,

@@ -11,20 +11,20 @@ pub struct Sizes {
     costs: Vec<Cost>,
 }
 
-/// N at the need of one of some calls, one below or a little above: 8 is then decided at the edge.
+/// N at the peak of one of some calls, one below or a little above: 8 is then decided at the edge.
 pub fn draw_sizes(random: &mut Random, n: u32) -> Sizes {
     let costs = draw_costs(random, n);
-    let needs: Vec<usize> = costs.iter().map(|cost| cost.need.max(1)).collect();
-    let most = needs.iter().copied().max().unwrap_or(1);
-    let need = match needs.is_empty() || random.chance(60) {
+    let peaks: Vec<usize> = costs.iter().map(|cost| cost.peak.max(1)).collect();
+    let most = peaks.iter().copied().max().unwrap_or(1);
+    let peak = match peaks.is_empty() || random.chance(60) {
         true => most,
-        false => random.pick(&needs).max(most / 2),
+        false => random.pick(&peaks).max(most / 2),
     };
     let rows = match random.below(10) {
-        0..=3 => need,
-        4..=6 => need.saturating_sub(1),
-        7..=8 => need + random.below(4) as usize,
-        _ => need + 100,
+        0..=3 => peak,
+        4..=6 => peak.saturating_sub(1),
+        7..=8 => peak + random.below(4) as usize,
+        _ => peak + 100,
     };
     let rows = rows.max(1) as u32;
     Sizes { rows, costs }
@@ -64,17 +64,17 @@ fn draw_account(random: &mut Random, sizes: &Sizes) -> Account {
     }
 }
 
-/// The largest, near N, at a need or one below, or less.
+/// The largest, near N, at a peak or one below, or less.
 fn row_limit(random: &mut Random, sizes: &Sizes) -> u32 {
-    let need = match sizes.costs.is_empty() {
+    let peak = match sizes.costs.is_empty() {
         true => sizes.rows,
-        false => random.pick(&sizes.costs).need as u32,
+        false => random.pick(&sizes.costs).peak as u32,
     };
     match random.below(100) {
         0..=44 => u32::MAX,
         45..=64 => sizes.rows + random.below(2) as u32,
         65..=74 => sizes.rows - 1,
-        75..=90 => need.saturating_sub(random.below(2) as u32),
+        75..=90 => peak.saturating_sub(random.below(2) as u32),
         91..=94 => 0,
         _ => random.below(u64::from(sizes.rows)) as u32,
     }

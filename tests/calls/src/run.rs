@@ -8,7 +8,7 @@ use crate::words::{table_size, Words};
 use crate::writer::has_until;
 use kudzuclamp::{Refusal, Table};
 use reference::accounts::Account;
-use reference::book::{Book, Call, REGISTERS};
+use reference::book::{Answer, Book, Call, REGISTERS};
 use reference::formula::{Kind, RUNS_VERSION};
 
 /// Greatest n at which relations of a damaged table are enumerated.
@@ -18,12 +18,14 @@ pub const MAX_BITS: u32 = 5;
 pub const NUMBERS: usize = 15;
 
 /// How often each number came, 0 for answered: of all calls, of sets, and of sets whose formula has
-/// until; the last number; and how many questions the checks after the lists asked.
+/// until; how many answered calls have a peak above 0; the last number; and how many questions the
+/// checks after the lists asked.
 #[derive(Clone, Copy, Debug, Default, PartialEq, Eq)]
 pub struct Counts {
     pub numbers: [u64; NUMBERS],
     pub sets: u64,
     pub untils: [u64; NUMBERS],
+    pub peaks: u64,
     pub last: u8,
     pub questions: u64,
 }
@@ -34,8 +36,9 @@ impl Counts {
         self.last = number;
     }
 
-    fn note_call(&mut self, call: &Call, number: u8) {
+    fn note_call(&mut self, call: &Call, Answer { number, peak, .. }: Answer) {
         self.note(number);
+        self.peaks += u64::from(peak > 0);
         let Call::Set { formula, .. } = call else {
             return;
         };
@@ -51,6 +54,7 @@ impl Counts {
         sum(&mut self.numbers, other.numbers);
         sum(&mut self.untils, other.untils);
         self.sets += other.sets;
+        self.peaks += other.peaks;
         self.questions += other.questions;
     }
 }
@@ -187,7 +191,7 @@ impl Runner {
         let before = self.words().to_vec();
         let mut accounts = lent_accounts(&self.accounts);
         let got = make(&mut self.table, &mut accounts, call);
-        self.counts.note_call(call, got.number);
+        self.counts.note_call(call, got);
         let Some(expected) = &mut self.expected else {
             same("number", got.number, Refusal::Unsound.number() as u8)?;
             same("accounts", accounts, lent_accounts(&self.accounts))?;

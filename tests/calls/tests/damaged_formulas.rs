@@ -149,7 +149,13 @@ fn every_byte_before_its_parts() {
         runner.step(&numbered(t)).unwrap();
     }
     for byte in 0..=255 {
-        for parts in [&[][..], &[0x11], &[0x11, 0x10], &[0x30], &[0x40, 0x41, 0x10]] {
+        for parts in [
+            &[][..],
+            &[0x11],
+            &[0x11, 0x10],
+            &[0x30],
+            &[0x40, 0x41, 0x10],
+        ] {
             compare(&mut runner, frame(&[&[byte], parts].concat()));
             runner.step(&numbered(2)).unwrap();
         }

@@ -1,6 +1,6 @@
 //! Random lists of calls, n = 1 to 5, 1 to 8 accounts, on the library and on the separate evaluator.
 //!
-//! After each call: number, rounds, value, all accounts, kept words, soundness. After each list: node,
+//! After each call: number, rounds, peak, value, all accounts, kept words, soundness. After each list: node,
 //! count and member of every register and state, node numbers over all pairs of registers, relations.
 //! `KUDZUCLAMP_CALLS` calls (20,000) from seed `KUDZUCLAMP_SEED` (1) in `KUDZUCLAMP_THREADS` threads
 //! (one for each processor). A difference prints its list; save it and run it again with
@@ -122,6 +122,7 @@ fn report(totals: &Totals, seed: u64, lists: u64, seconds: f64) {
         numbers,
         sets,
         untils,
+        peaks,
         questions,
         ..
     } = totals.counts;
@@ -131,6 +132,7 @@ fn report(totals: &Totals, seed: u64, lists: u64, seconds: f64) {
         format!("seed {seed}: {lists} lists, {made} calls, {questions} questions after lists");
     text += &format!(", {differences} differences, {seconds:.1} s\n");
     text += &by_number(&numbers);
+    text += &format!("\npeaks above 0: {peaks}");
     let edges = [
         ("N", totals.edges.table),
         ("an account's row limit", totals.edges.rows),

@@ -1,9 +1,7 @@
 //! Damaged records: the program `target/bin/roomrules` (`rt check roomrules`) and the separate
 //! evaluator's program read the same bytes and must print the same lines.
 
-use calls::call::draw_call;
-use reference::accounts::Account;
-use reference::book::{words_for, Book, Call};
+use calls::records::{draw, record};
 use reference::random::Random;
 use reference::records::output_of;
 use std::io::{Read, Write};
@@ -25,45 +23,6 @@ fn program(input: &[u8]) -> String {
     stdout.read_to_string(&mut output).expect("lines are text");
     assert!(child.wait().expect("it ends").success());
     output
-}
-
-fn record(operation: u8, arguments: &[&[u8]]) -> Vec<u8> {
-    let arguments = arguments.concat();
-    let length = arguments.len() as u16 + 2;
-    [&length.to_be_bytes()[..], &[1, operation], &arguments].concat()
-}
-
-/// The record of a call that has one.
-fn record_of(call: &Call) -> Option<Vec<u8>> {
-    Some(match call {
-        Call::Relation { t, formula } => record(2, &[&[*t as u8], formula]),
-        // The program lends one account and names it.
-        Call::Set {
-            place: 0,
-            r,
-            rounds,
-            formula,
-        } => record(3, &[&[*r as u8], &rounds.to_be_bytes(), formula]),
-        Call::Clear { r } => record(4, &[&[*r as u8]]),
-        Call::Count { r } => record(5, &[&[*r as u8]]),
-        Call::Collect => record(6, &[]),
-        _ => return None,
-    })
-}
-
-/// Some records on a fresh table of few bits.
-fn draw(random: &mut Random) -> Vec<Vec<u8>> {
-    let n = 1 + random.below(3);
-    let rows = 1 + random.below(60);
-    let mut accounts = [Account::LARGEST];
-    let mut book = Book::fresh(n, rows, words_for(rows), &mut accounts).expect("sizes fit");
-    let mut records = vec![record(1, &[&[n as u8], &(rows as u16).to_be_bytes()])];
-    for _ in 0..12 {
-        let (call, _) = draw_call(random, &book, &accounts);
-        book.call(&mut accounts, &call);
-        records.extend(record_of(&call));
-    }
-    records
 }
 
 /// Whether a fresh record has an n for which the separate evaluator has too many pairs to
@@ -115,7 +74,7 @@ fn damaged_streams() {
     let mut random = Random::new(31);
     let (mut good, mut bad) = (0, 0);
     for _ in 0..60 {
-        let records = draw(&mut random);
+        let (records, _) = draw(&mut random);
         compare(&records.concat());
         for _ in 0..20 {
             let bytes = damage(&mut random, &records);

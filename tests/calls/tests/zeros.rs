@@ -5,6 +5,14 @@ use kudzuclamp::{Account, Formula, Table};
 use reference::formula::frame;
 
 extern "C" {
+    fn kudzuclamp_relation(
+        words: *mut u32,
+        words_len: usize,
+        t: u32,
+        bytes: *const u8,
+        bytes_len: usize,
+        peak: *mut u32,
+    ) -> u32;
     fn kudzuclamp_set(
         words: *mut u32,
         words_len: usize,
@@ -17,6 +25,7 @@ extern "C" {
         bytes_len: usize,
         node: *mut u32,
         rounds: *mut u32,
+        peak: *mut u32,
     ) -> u32;
     fn kudzuclamp_collect(words: *mut u32, words_len: usize, rows: *mut u32) -> u32;
     fn kudzuclamp_node(words: *const u32, words_len: usize, r: u32, node: *mut u32) -> u32;
@@ -42,16 +51,34 @@ fn room() -> Vec<u32> {
     table.into_words()
 }
 
-/// Number, node and rounds of a set under an account with the largest limits.
-fn set(words: Vec<u32>, r: u32, most: u32, body: &[u8]) -> [u32; 3] {
+/// Number and peak of a relation.
+fn relation(mut words: Vec<u32>, t: u32, body: &[u8]) -> [u32; 2] {
+    let bytes = frame(body);
+    let mut peak = BEFORE;
+    // SAFETY: pointers and lengths are those of vectors and a local.
+    let number = unsafe {
+        kudzuclamp_relation(
+            words.as_mut_ptr(),
+            words.len(),
+            t,
+            bytes.as_ptr(),
+            bytes.len(),
+            &mut peak,
+        )
+    };
+    [number, peak]
+}
+
+/// Number, node, rounds and peak of a set under an account with the largest limits.
+fn set(words: Vec<u32>, r: u32, most: u32, body: &[u8]) -> [u32; 4] {
     set_under(words, 0, r, most, body)
 }
 
 /// The same under the account at a place of a list of one.
-fn set_under(mut words: Vec<u32>, place: u32, r: u32, most: u32, body: &[u8]) -> [u32; 3] {
+fn set_under(mut words: Vec<u32>, place: u32, r: u32, most: u32, body: &[u8]) -> [u32; 4] {
     let mut accounts = [Account::unlimited()];
     let bytes = frame(body);
-    let (mut node, mut rounds) = (BEFORE, BEFORE);
+    let (mut node, mut rounds, mut peak) = (BEFORE, BEFORE, BEFORE);
     // SAFETY: pointers and lengths are those of vectors and locals.
     let number = unsafe {
         kudzuclamp_set(
@@ -66,9 +93,10 @@ fn set_under(mut words: Vec<u32>, place: u32, r: u32, most: u32, body: &[u8]) ->
             bytes.len(),
             &mut node,
             &mut rounds,
+            &mut peak,
         )
     };
-    [number, node, rounds]
+    [number, node, rounds, peak]
 }
 
 /// Numbers and values of node, member, count and collect.
@@ -92,22 +120,36 @@ fn questions(words: &mut [u32], r: u32, s: u32) -> [[u32; 2]; 4] {
 fn refused_sets() {
     let mut unsound = room();
     unsound[0] = 0;
-    assert_eq!(set(unsound, 1, 9, &[0x11]), [2, 0, 0]);
-    assert_eq!(set(room(), 32, 9, &[0x11]), [3, 0, 0]);
-    assert_eq!(set_under(room(), 1, 1, 9, &[0x11]), [14, 0, 0]);
-    assert_eq!(set(room(), 1, 9, &[0x12]), [4, 0, 0]);
-    assert_eq!(set(room(), 1, 9, &[0x30]), [5, 0, 0]);
-    assert_eq!(set(room(), 1, 9, &[0x70, 0x02, 0x30]), [6, 0, 0]);
-    assert_eq!(set(room(), 1, 9, &[0x41]), [7, 0, 0]);
-    assert_eq!(set(room(), 1, 9, &[0x70, 0x11]), [12, 0, 0]);
+    assert_eq!(set(unsound, 1, 9, &[0x11]), [2, 0, 0, 0]);
+    assert_eq!(set(room(), 32, 9, &[0x11]), [3, 0, 0, 0]);
+    assert_eq!(set_under(room(), 1, 1, 9, &[0x11]), [14, 0, 0, 0]);
+    assert_eq!(set(room(), 1, 9, &[0x12]), [4, 0, 0, 0]);
+    assert_eq!(set(room(), 1, 9, &[0x30]), [5, 0, 0, 0]);
+    assert_eq!(set(room(), 1, 9, &[0x70, 0x02, 0x30]), [6, 0, 0, 0]);
+    assert_eq!(set(room(), 1, 9, &[0x41]), [7, 0, 0, 0]);
+    assert_eq!(set(room(), 1, 9, &[0x70, 0x11]), [12, 0, 0, 0]);
     // In the second round, and after rounds were counted and rows made.
     let spent = [0x70, 0x04, 0x11, 0x30];
-    assert_eq!(set(room(), 1, 1, &spent), [9, 0, 0]);
+    assert_eq!(set(room(), 1, 1, &spent), [9, 0, 0, 0]);
     let full = [
         0x04, 0x71, 0x04, 0x11, 0x31, 0x04, 0x03, 0x10, 0x11, 0x02, 0x10,
     ];
-    assert_eq!(set(room(), 1, 9, &full), [8, 0, 0]);
-    assert_eq!(set(room(), 1, 9, &[0x70, 0x30]), [0, 0, 1]);
+    assert_eq!(set(room(), 1, 9, &full), [8, 0, 0, 0]);
+    assert_eq!(set(room(), 1, 9, &[0x70, 0x30]), [0, 0, 1, 0]);
+}
+
+#[test]
+fn refused_relations() {
+    let mut unsound = room();
+    unsound[0] = 0;
+    assert_eq!(relation(unsound, 0, &[0x20]), [2, 0]);
+    assert_eq!(relation(room(), 8, &[0x20]), [3, 0]);
+    assert_eq!(relation(room(), 0, &[0x40]), [4, 0]);
+    // After a step that fits.
+    let full = [0x03, 0x20, 0x03, 0x11, 0x21];
+    assert_eq!(relation(room(), 0, &full), [8, 0]);
+    assert_eq!(relation(room(), 0, &[0x20]), [0, 2]);
+    assert_eq!(relation(room(), 0, &[0x01]), [0, 0]);
 }
 
 #[test]

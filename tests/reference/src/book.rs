@@ -45,20 +45,29 @@ pub enum Call {
     },
 }
 
-/// Refusal number or 0, rounds, and the value, which is None where a node
+/// Refusal number or 0, rounds, peak, and the value, which is None where a node
 /// number is free. "Returned: number, zeros" where refused.
 #[derive(Clone, Copy, Debug, PartialEq, Eq)]
 pub struct Answer {
     pub number: u8,
     pub rounds: u32,
+    pub peak: usize,
     pub value: Option<u64>,
 }
 
-/// What an answered set call returns: "node number and rounds".
+/// What an answered relation call returns. Slip 2: "Each answered relation or
+/// set call also returns its peak".
+#[derive(Clone, Copy, Debug, PartialEq, Eq)]
+pub struct RelationAnswer {
+    pub peak: usize,
+}
+
+/// What an answered set call returns: "node number and rounds", and its peak.
 #[derive(Clone, Copy, Debug, PartialEq, Eq)]
 pub struct SetAnswer {
     pub node: Option<u64>,
     pub rounds: u32,
+    pub peak: usize,
 }
 
 /// "It has 8 relations and 32 registers, each empty or holding a set of pairs
@@ -133,10 +142,10 @@ impl Book {
 
     /// "relation t: stores the relation of exactly the pairs in which its
     /// formula holds."
-    pub fn relation(&mut self, t: u64, bytes: &[u8]) -> Result<(), Refusal> {
+    pub fn relation(&mut self, t: u64, bytes: &[u8]) -> Result<RelationAnswer, Refusal> {
         let done = self.evaluate_relation(t, bytes)?;
         self.relations[t as usize] = Some(done.value);
-        Ok(())
+        Ok(RelationAnswer { peak: done.peak })
     }
 
     /// "set r with R: stores the set of exactly the states in which its formula
@@ -158,6 +167,7 @@ impl Book {
         Ok(SetAnswer {
             node,
             rounds: done.rounds,
+            peak: done.peak,
         })
     }
 
@@ -231,9 +241,11 @@ impl Book {
     /// Makes any call and gives its answer in one form; only set takes the
     /// accounts.
     pub fn call(&mut self, accounts: &mut [Account], call: &Call) -> Answer {
-        let value_only = |value| (0, value);
         let result = match call {
-            Call::Relation { t, formula } => self.relation(*t, formula).map(|()| (0, Some(0))),
+            Call::Relation { t, formula } => {
+                let answer = self.relation(*t, formula);
+                answer.map(|RelationAnswer { peak }| Answer::counted(0, peak, Some(0)))
+            }
             Call::Set {
                 place,
                 r,
@@ -241,34 +253,42 @@ impl Book {
                 formula,
             } => {
                 let answer = self.set(accounts, *place, *r, *rounds, formula);
-                answer.map(|answer| (answer.rounds, answer.node))
+                answer.map(|set| Answer::counted(set.rounds, set.peak, set.node))
             }
-            Call::Clear { r } => self.clear(*r).map(|()| (0, Some(0))),
-            Call::Collect => Ok((0, Some(self.collect()))),
-            Call::Node { r } => self.node(*r).map(value_only),
+            Call::Clear { r } => self.clear(*r).map(|()| Answer::plain(0)),
+            Call::Collect => Ok(Answer::plain(self.collect())),
+            Call::Node { r } => self.node(*r).map(|node| Answer::counted(0, 0, node)),
             Call::Member { r, state } => {
                 let member = self.member(*r, *state);
-                member.map(|member| (0, Some(u64::from(member))))
+                member.map(|member| Answer::plain(member.into()))
             }
-            Call::Count { r } => self.count(*r).map(|count| (0, Some(count))),
+            Call::Count { r } => self.count(*r).map(Answer::plain),
         };
-        Answer::new(result)
+        result.unwrap_or_else(|refusal| Answer::refused(refusal.number()))
     }
 }
 
 impl Answer {
-    fn new(result: Result<(u32, Option<u64>), Refusal>) -> Self {
-        match result {
-            Ok((rounds, value)) => Answer {
-                number: 0,
-                rounds,
-                value,
-            },
-            Err(refusal) => Answer {
-                number: refusal.number(),
-                rounds: 0,
-                value: Some(0),
-            },
+    /// An answered call with what it counted.
+    pub fn counted(rounds: u32, peak: usize, value: Option<u64>) -> Answer {
+        Answer {
+            number: 0,
+            rounds,
+            peak,
+            value,
+        }
+    }
+
+    /// An answered call that takes no step and makes no round.
+    pub fn plain(value: u64) -> Answer {
+        Answer::counted(0, 0, Some(value))
+    }
+
+    /// "number, zeros".
+    pub fn refused(number: u8) -> Answer {
+        Answer {
+            number,
+            ..Answer::plain(0)
         }
     }
 }

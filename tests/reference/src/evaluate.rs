@@ -45,8 +45,9 @@ pub struct Limits {
 pub struct Evaluated<T> {
     pub value: T,
     pub rounds: u32,
-    /// The greatest need of its steps, 0 where it takes no step.
-    pub highest_need: usize,
+    /// Slip 2: "the largest row need, over its steps, of live sets and result
+    /// together, 0 if it took no step."
+    pub peak: usize,
 }
 
 /// Takes the steps of a relation call, which "has no rounds".
@@ -62,12 +63,25 @@ pub fn set(held: Held, limits: Limits, formula: &Formula) -> Result<Evaluated<St
     Ok(done.map(Value::into_states))
 }
 
+/// Slip 2: the peak of a set call "over the steps reached within its rounds",
+/// with rows in plenty.
+pub fn peak_within(held: Held, rounds: u32, formula: &Formula) -> usize {
+    let limits = Limits {
+        rows: usize::MAX,
+        rounds,
+    };
+    let mut evaluator = Evaluator::new(held, limits, Kind::Set);
+    // Where the rounds are used up it ends there.
+    let _ = evaluator.value(formula);
+    evaluator.peak
+}
+
 impl<T> Evaluated<T> {
     fn map<U>(self, change: impl FnOnce(T) -> U) -> Evaluated<U> {
         Evaluated {
             value: change(self.value),
             rounds: self.rounds,
-            highest_need: self.highest_need,
+            peak: self.peak,
         }
     }
 }
@@ -155,7 +169,7 @@ struct Evaluator<'a> {
     /// value made and not yet used".
     waiting: Vec<Value>,
     rounds: u32,
-    highest_need: usize,
+    peak: usize,
 }
 
 impl<'a> Evaluator<'a> {
@@ -168,7 +182,7 @@ impl<'a> Evaluator<'a> {
             open: Vec::new(),
             waiting: Vec::new(),
             rounds: 0,
-            highest_need: 0,
+            peak: 0,
         }
     }
 
@@ -177,7 +191,7 @@ impl<'a> Evaluator<'a> {
         Ok(Evaluated {
             value,
             rounds: self.rounds,
-            highest_need: self.highest_need,
+            peak: self.peak,
         })
     }
 
@@ -370,7 +384,7 @@ impl<'a> Evaluator<'a> {
     /// it." "A reached step with a need above N is refusal 8."
     fn step(&mut self, operands: &[&Value], result: Value) -> Result<Value, Refusal> {
         let need = self.need(operands, &result);
-        self.highest_need = self.highest_need.max(need);
+        self.peak = self.peak.max(need);
         if need > self.limits.rows {
             return Err(Refusal::Full);
         }

@@ -7,10 +7,11 @@
 //! N 4
 //! account 4294967295 3 0              row limit, round limit and the tally at
 //!                                     the end; a line for each that is lent
-//! relation 0 000a01... -> 0 0 0       relation t, framed formula
-//! set 0 0 3 000601...  -> 0 3 1       set account's place, r, R, framed
+//! relation 0 000a01... -> 0 0 4 0     relation t, framed formula
+//! set 0 0 3 000601...  -> 0 3 4 1     set account's place, r, R, framed
 //!                                     formula; value: node
-//! member 0 1           -> 0 0 1       number, rounds, value; `-`: node free
+//! member 0 1           -> 0 0 0 1     number, rounds, peak, value; `-`: node
+//!                                     free
 //! register 0 11                       filled at the end, state 0 first
 //! matrix 0 0110                       relation filled at the end, by now, next
 //! end
@@ -103,7 +104,13 @@ fn hex(bytes: &[u8]) -> String {
 
 fn answer_text(answer: &Answer) -> String {
     let value = answer.value.map_or("-".to_string(), |v| v.to_string());
-    format!("{} {} {value}", answer.number, answer.rounds)
+    let Answer {
+        number,
+        rounds,
+        peak,
+        ..
+    } = answer;
+    format!("{number} {rounds} {peak} {value}")
 }
 
 fn contents(book: &Book) -> String {
@@ -180,7 +187,7 @@ impl Drawer<'_> {
         let t = self.relation();
         let formula = self.formula(Kind::Relation);
         if let Ok(done) = self.scratch.evaluate_relation(t, &formula) {
-            self.needs.push(done.highest_need);
+            self.needs.push(done.peak);
         }
         Call::Relation { t, formula }
     }
@@ -192,7 +199,7 @@ impl Drawer<'_> {
         let mut rounds = 100;
         let done = (self.scratch).evaluate_set(&self.plenty, place, r, u32::MAX, &formula);
         if let Ok(done) = done {
-            self.needs.push(done.highest_need);
+            self.needs.push(done.peak);
             self.rounds.push(done.rounds);
             rounds = self.round_limit(done.rounds);
         }

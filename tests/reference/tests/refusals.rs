@@ -45,7 +45,7 @@ fn three_out_of_range() {
     let mut book = toggle_book();
     let formula = frame(&[0x01]);
     assert_eq!(book.relation(8, &formula), Err(Refusal::OutOfRange));
-    assert_eq!(book.relation(7, &formula), Ok(()));
+    assert!(book.relation(7, &formula).is_ok());
     assert_eq!(set(&mut book, 32, &[0x01]), Err(Refusal::OutOfRange));
     assert!(set(&mut book, 31, &[0x01]).is_ok());
     assert_eq!(book.clear(32), Err(Refusal::OutOfRange));
@@ -113,6 +113,7 @@ fn every_refused_call_keeps_the_book() {
         let refused = Answer {
             number,
             rounds: 0,
+            peak: 0,
             value: Some(0),
         };
         let mut accounts = [Account::LARGEST];

@@ -10,16 +10,14 @@ use reference::meaning::states_of;
 use reference::random::Random;
 use reference::refusal::Refusal;
 
-/// The greatest need of the steps of a set call on the book.
-fn need(book: &Book, body: &[u8]) -> usize {
+/// The peak of a set call on the book.
+fn peak(book: &Book, body: &[u8]) -> usize {
     let formula = read(book.n(), Kind::Set, &frame(body)).unwrap();
     let limits = Limits {
         rows: usize::MAX,
         rounds: u32::MAX,
     };
-    evaluate_set(book.held(), limits, &formula)
-        .unwrap()
-        .highest_need
+    evaluate_set(book.held(), limits, &formula).unwrap().peak
 }
 
 #[test]
@@ -40,7 +38,7 @@ fn set_is_answered_at_the_exact_need_and_refused_one_below() {
             relation(&mut book, 0, &both).unwrap();
             book
         };
-        let exact = need(&prepared(100), body) as u64;
+        let exact = peak(&prepared(100), body) as u64;
         assert!(set(&mut prepared(exact), 0, body).is_ok(), "{body:x?}");
         assert_eq!(
             set(&mut prepared(exact - 1), 0, body),
@@ -53,27 +51,24 @@ fn set_is_answered_at_the_exact_need_and_refused_one_below() {
 #[test]
 fn relation_is_answered_at_the_exact_need_and_refused_one_below() {
     let formula = frame(&TOGGLE);
-    let exact = book(1, 100)
-        .evaluate_relation(0, &formula)
-        .unwrap()
-        .highest_need as u64;
-    assert_eq!(book(1, exact).relation(0, &formula), Ok(()));
+    let exact = book(1, 100).evaluate_relation(0, &formula).unwrap().peak as u64;
+    assert!(book(1, exact).relation(0, &formula).is_ok());
     assert_eq!(book(1, exact - 1).relation(0, &formula), Err(Refusal::Full));
 }
 
 #[test]
 fn needs_counted_by_hand() {
     // x: bit 0. At NOT: x and NOT x, which need one row.
-    assert_eq!(need(&book(1, 1), &[0x02, 0x10]), 1);
+    assert_eq!(peak(&book(1, 1), &[0x02, 0x10]), 1);
     // Last OR: x, NOT x; the result is constant.
-    assert_eq!(need(&book(1, 1), &[0x04, 0x10, 0x02, 0x10]), 1);
+    assert_eq!(peak(&book(1, 1), &[0x04, 0x10, 0x02, 0x10]), 1);
     // Bits 0, 1; OR has itself and bit 1 beside bit 0.
-    assert_eq!(need(&book(2, 1), &[0x04, 0x10, 0x11]), 3);
+    assert_eq!(peak(&book(2, 1), &[0x04, 0x10, 0x11]), 3);
     // Over the toggle: 2 rows, of which one for the next bit and its NOT. The
     // diamond's SHIFT has that row; at EXISTS: the operand NOT x AND next x
     // and the result NOT x.
-    assert_eq!(need(&toggle_book(), &[0x68, 0x10]), 4);
-    assert_eq!(need(&toggle_book(), &[0x10]), 3);
+    assert_eq!(peak(&toggle_book(), &[0x68, 0x10]), 4);
+    assert_eq!(peak(&toggle_book(), &[0x10]), 3);
 }
 
 #[test]
@@ -82,11 +77,11 @@ fn each_step_of_a_box_has_its_need() {
     // first NOT needs most: the relation, and one row for x and NOT x.
     let mut first = book(1, 100);
     relation(&mut first, 0, &[0x02, 0x20]).unwrap();
-    assert_eq!(need(&first, &[0x60, 0x10]), 2);
+    assert_eq!(peak(&first, &[0x60, 0x10]), 2);
     // Relation 0 is x; the last NOT makes NOT x, which has its row.
     let mut last = book(1, 100);
     relation(&mut last, 0, &[0x10]).unwrap();
-    assert_eq!(need(&last, &[0x60, 0x00]), 1);
+    assert_eq!(peak(&last, &[0x60, 0x00]), 1);
 }
 
 #[test]
@@ -99,16 +94,16 @@ fn and_with_the_relation_has_its_need() {
     set(&mut book, 0, &xor).unwrap();
     relation(&mut book, 0, &[0x03, 0x10, 0x20]).unwrap();
     assert_eq!(book.collect(), 4);
-    assert_eq!(need(&book, &[0x68, 0x40]), 8);
+    assert_eq!(peak(&book, &[0x68, 0x40]), 8);
 }
 
 #[test]
 fn used_values_are_not_live_any_more() {
     // NOT NOT NOT x never needs more than the row of x and NOT x.
-    assert_eq!(need(&book(1, 1), &[0x02, 0x02, 0x02, 0x10]), 1);
+    assert_eq!(peak(&book(1, 1), &[0x02, 0x02, 0x02, 0x10]), 1);
     // (x AND y) OR z at n = 3: at the OR only x AND y (2 rows), z and the
     // result (3 rows, one of them z) are live; x is not.
-    assert_eq!(need(&book(3, 1), &[0x04, 0x03, 0x10, 0x11, 0x12]), 5);
+    assert_eq!(peak(&book(3, 1), &[0x04, 0x03, 0x10, 0x11, 0x12]), 5);
 }
 
 #[test]
@@ -116,11 +111,11 @@ fn waiting_left_operand_is_live_during_the_right_one() {
     // x AND y waits (itself and y) while z AND (w AND NOT z) is made: z, w and
     // w AND NOT z. The last OR has a constant beside it.
     let body = [0x04, 0x03, 0x10, 0x11, 0x03, 0x12, 0x03, 0x13, 0x02, 0x12];
-    assert_eq!(need(&book(4, 1), &body), 5);
+    assert_eq!(peak(&book(4, 1), &body), 5);
     assert_eq!(set(&mut book(4, 4), 0, &body), Err(Refusal::Full));
     // In the other order only three are live at once.
     let turned = [0x04, 0x03, 0x12, 0x03, 0x13, 0x02, 0x12, 0x03, 0x10, 0x11];
-    assert_eq!(need(&book(4, 1), &turned), 3);
+    assert_eq!(peak(&book(4, 1), &turned), 3);
 }
 
 #[test]
@@ -137,7 +132,7 @@ fn old_relation_is_live() {
     let mut book = book(1, 1);
     relation(&mut book, 0, &[0x10]).unwrap();
     assert_eq!(relation(&mut book, 0, &[0x20]), Err(Refusal::Full));
-    assert_eq!(relation(&mut book, 0, &[0x02, 0x10]), Ok(()));
+    assert!(relation(&mut book, 0, &[0x02, 0x10]).is_ok());
 }
 
 #[test]
@@ -146,12 +141,12 @@ fn outer_current_set_is_live_while_an_inner_binder_runs() {
     // (x AND y: itself and y) is live beside the step's operands.
     let nested = [0x70, 0x81, 0x03, 0x04, 0x10, 0x30, 0x03, 0x11, 0x31];
     let flat = [0x03, 0x04, 0x10, 0x00, 0x11];
-    assert_eq!(need(&book(2, 1), &flat), 3);
+    assert_eq!(peak(&book(2, 1), &flat), 3);
     let mut book = book(2, 100);
     assert_eq!(states_and_rounds(&mut book, 100, &nested), Ok((1, 6)));
     // Second round, OR x P: x, P (2 rows), result x: 3. Then y is below P; the
     // AND: x, y, itself = P. Still 3.
-    assert_eq!(need(&common::book(2, 1), &nested), 3);
+    assert_eq!(peak(&common::book(2, 1), &nested), 3);
     // mu P. (NOT x AND nu Q. (NOT y AND Q)) OR P: P is NOT x AND NOT y
     // afterwards.
     let held = [
@@ -159,7 +154,7 @@ fn outer_current_set_is_live_while_an_inner_binder_runs() {
     ];
     // Round 2, at NOT y: P (itself, y) and NOT x waiting: 3; at AND the same; at
     // NOT x: P's 2 and x: 3.
-    assert_eq!(need(&common::book(2, 1), &held), 3);
+    assert_eq!(peak(&common::book(2, 1), &held), 3);
 }
 
 #[test]
@@ -167,7 +162,7 @@ fn constants_registers_and_variables_take_no_step() {
     let mut book = book(1, 1);
     set(&mut book, 0, &[0x10]).unwrap();
     for body in [&[0x40][..], &[0x00], &[0x01], &[0x70, 0x30], &[0x80, 0x30]] {
-        assert_eq!(need(&book, body), 0, "{body:x?}");
+        assert_eq!(peak(&book, body), 0, "{body:x?}");
         assert!(set(&mut book, 1, body).is_ok());
     }
 }
@@ -176,11 +171,11 @@ fn constants_registers_and_variables_take_no_step() {
 fn all_steps_of_a_diamond_are_taken_over_constants_too() {
     // The need of a step that makes no row is what is live: the relation.
     let book = toggle_book();
-    assert_eq!(need(&book, &[0x68, 0x00]), 2);
+    assert_eq!(peak(&book, &[0x68, 0x00]), 2);
     // Box of true is NOT diamond of false; box of false meets the relation,
     // but its EXISTS gives a constant.
-    assert_eq!(need(&book, &[0x60, 0x01]), 2);
-    assert_eq!(need(&book, &[0x60, 0x00]), 2);
+    assert_eq!(peak(&book, &[0x60, 0x01]), 2);
+    assert_eq!(peak(&book, &[0x60, 0x00]), 2);
 }
 
 #[test]

@@ -6,4 +6,10 @@ use Rattle.evaluator.proofs.answer.Reads as reads
 use Rattle.evaluator.proofs.answer.Lts as lts
 
 pub answer-spec : {M : Type 1} → statement M
-answer-spec = tie.close (tie.spec (λ c. search needs) (λ c. search needs) (λ c. rw (c .before .made .given .1)) (λ c. search needs))
+answer-spec =
+    tie.close
+    (tie.spec
+    (λ c. search needs)
+    (λ c. search needs)
+    (λ c. rw (c .before .taken .given .1))
+    (λ c. search needs))

@@ -1,29 +1,32 @@
 -- `every` meets its contract: box of the current set, diamond of true, and AND. Assumes nothing.
+use mathlib.Core.Path.{_∙_}
 use native.Mathlib.Omega.{arith}
 use Rattle.evaluator.proofs.Untils.{own-asked, box-halts, all-asked, and-asked, and-answered}
+use Rattle.evaluator.proofs.joined.Reads as joined-reads
+use Rattle.evaluator.proofs.onward.Reads as onward-reads
+use Rattle.evaluator.proofs.reach.Reads as reach-reads
 use borrow.Author.Needs.{needs}
 use Rattle.evaluator.proofs.every.Statement.{statement}
 use Rattle.evaluator.proofs.every.Tie as tie
 use Rattle.evaluator.proofs.every.Reads as reads
 use Rattle.evaluator.proofs.every.Lts as lts
-use Rattle.evaluator.proofs.joined.Reads as joined-reads
-use Rattle.evaluator.proofs.onward.Reads as onward-reads
-use Rattle.evaluator.proofs.reach.Reads as reach-reads
 
 pub every-spec : {M : Type 1} → statement M
 every-spec =
     tie.close
     (tie.spec
-    (λ c κs. own-asked (c .before .before .before .before .pre) _)
+    (λ c κs. (own-asked (c .before .before .before .before .before .before .pre .0) _, c .before .before .before .before .before .before .pre .1))
     (λ c. search needs)
     (λ c. search needs)
     (λ c. search needs)
-    (λ c. box-halts (c .before .before .before .before .before .before .before .before .pre) (c .before .before .before .reach .ensures) (c .match .keys2))
     (λ c. search needs)
-    (λ c. omega (arith, c .before .before .before .before .before .before .before .before .before .before .pre .room, c .before .before .before .before .before .before .before .before .before .before .pre .ready .size))
-    (λ c κs. c .before .before .before .before .before .before .before .before .before .before .pre .room)
-    (λ c κs. all-asked (c .before .before .before .before .before .before .before .before .before .before .before .before .before .pre) (c .before .before .before .before .before .before .before .before .reach .ensures) (c .before .before .before .before .first .given .1) (c .before .before .onward .ensures))
-    (λ c κs. and-asked (c .before .before .before .before .before .before .before .before .before .before .before .before .before .before .before .before .before .before .pre) (c .before .before .before .before .before .before .before .before .before .before .before .before .before .reach .ensures) (c .before .before .before .before .before .before .before .before .before .first .given .1) (c .before .before .before .before .before .before .before .onward .ensures) (c .before .before .before .before .reach2 .ensures))
+    (λ c. (box-halts (c .before .before .before .before .before .before .before .before .before .before .before .before .pre .0) (c .before .before .before .before .before .reach .ensures .0) (c .match .keys2), c .before .before .before .before .before .reach .ensures .1))
     (λ c. search needs)
+    (λ c. omega (arith, c .before .before .before .before .before .before .before .before .before .before .before .before .before .before .pre .0 .room, c .before .before .before .before .before .before .before .before .before .before .before .before .before .before .pre .0 .ready .size))
+    (λ c κs. c .before .before .before .before .before .before .before .before .before .before .before .before .before .before .pre .0 .room)
+    (λ c κs. (all-asked (c .before .before .before .before .before .before .before .before .before .before .before .before .before .before .before .before .before .before .pre .0) (c .before .before .before .before .before .before .before .before .before .before .before .reach .ensures .0) (c .before .before .before .before .before .first .given .1) (c .before .before .before .onward .ensures), c .before .before .before .before .before .before .before .before .before .before .before .reach .ensures .1))
+    (λ c κs. (and-asked (c .before .before .before .before .before .before .before .before .before .before .before .before .before .before .before .before .before .before .before .before .before .before .before .before .before .before .pre .0) (c .before .before .before .before .before .before .before .before .before .before .before .before .before .before .before .before .before .before .before .reach .ensures .0) (c .before .before .before .before .before .before .before .before .before .before .before .before .before .first .given .1) (c .before .before .before .before .before .before .before .before .before .before .before .onward .ensures) (c .before .before .before .before .before .before .before .reach2 .ensures .0), c .before .before .before .before .before .before .before .reach2 .ensures .1))
+    (λ c. c .before .before .before .before .joined .kept .0 ∙ c .before .before .before .before .before .before .before .before .before .before .before .before .reach2 .kept .0 ∙ c .before .before .before .before .before .before .before .before .before .before .before .before .before .before .before .before .before .before .before .before .before .before .before .before .reach .kept .0)
+    (λ c. c .before .before .before .before .joined .kept .1 .0 ∙ c .before .before .before .before .before .before .before .before .before .before .before .before .reach2 .kept .1 .0 ∙ c .before .before .before .before .before .before .before .before .before .before .before .before .before .before .before .before .before .before .before .before .before .before .before .before .reach .kept .1 .0)
     (λ c. search needs)
-    (λ c. and-answered (c .before .before .before .before .before .before .before .before .before .before .before .before .before .before .before .before .before .before .before .before .before .pre) (c .before .before .before .before .before .before .before .before .before .before .before .before .before .before .before .before .reach .ensures) (c .before .before .before .before .before .before .before .before .before .before .before .before .first .given .1) (c .before .before .before .before .before .before .before .before .before .before .onward .ensures) (c .before .before .before .before .before .before .before .reach2 .ensures) (c .before .before .joined .ensures)))
+    (λ c. (and-answered (c .before .before .before .before .before .before .before .before .before .before .before .before .before .before .before .before .before .before .before .before .before .before .before .before .before .before .before .before .before .before .before .pre .0) (c .before .before .before .before .before .before .before .before .before .before .before .before .before .before .before .before .before .before .before .before .before .before .before .before .reach .ensures .0) (c .before .before .before .before .before .before .before .before .before .before .before .before .before .before .before .before .before .before .first .given .1) (c .before .before .before .before .before .before .before .before .before .before .before .before .before .before .before .before .onward .ensures) (c .before .before .before .before .before .before .before .before .before .before .before .before .reach2 .ensures .0) (c .before .before .before .before .joined .ensures .0), c .before .before .before .before .joined .ensures .1)))

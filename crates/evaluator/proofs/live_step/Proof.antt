@@ -10,4 +10,10 @@ use Rattle.evaluator.proofs.live_step.Lts as lts
 pub live-step-spec : {M : Type 1} → statement M
 live-step-spec =
     tie.close
-    (tie.spec (λ c. search needs) (λ c. sym (length-take-le _ _ (c .before .before .before .before .before .pre .within))) (λ c κs. c .before .before .before .before .before .pre .asks) (λ c. search needs) (λ c. search needs))
+    (tie.spec
+    (λ c. search needs)
+    (λ c. sym (length-take-le _ _ (c .before .before .before .before .before .before .before .pre .0 .within)))
+    (λ c κs. (c .before .before .before .before .before .before .before .pre .0 .asks, c .before .before .before .before .before .before .before .pre .1))
+    (λ c. search needs)
+    (λ c. search needs)
+    (λ c. (record { stepped = c .before .before .before .before .take .ensures .0; count = c .before .before .before .before .take .ensures .2 }, c .before .before .before .before .take .ensures .1)))

@@ -2,7 +2,7 @@
 #![allow(dead_code)]
 
 use reference::accounts::Account;
-use reference::book::{words_for, Book, SetAnswer};
+use reference::book::{words_for, Book, RelationAnswer, SetAnswer};
 use reference::formula::frame;
 use reference::refusal::Refusal;
 
@@ -22,7 +22,7 @@ pub fn toggle_book() -> Book {
     book
 }
 
-pub fn relation(book: &mut Book, t: u64, body: &[u8]) -> Result<(), Refusal> {
+pub fn relation(book: &mut Book, t: u64, body: &[u8]) -> Result<RelationAnswer, Refusal> {
     book.relation(t, &frame(body))
 }
 
