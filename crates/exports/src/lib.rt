@@ -59,15 +59,13 @@ pub extern "C" fn kudzuclamp_relation(
     ensures { λ k. ⌜ CallPost (book.relation t (now (bytes .entry))) (now (words .entry)) (now (words .exit)) (given k 0 (now (peak .exit)) 0) ⌝ }
 {
     let x = formula_calls::relation(words, t, bytes);
+    *peak = 0;
     match x {
         Loaded::Done { peak: p } => {
             *peak = p;
             0
         }
-        Loaded::Refused(e) => {
-            *peak = 0;
-            refusal_number(e)
-        }
+        Loaded::Refused(e) => refusal_number(e),
     }
 }
 
