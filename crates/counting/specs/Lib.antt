@@ -1,3 +1,6 @@
 pub mod News
+pub mod Sizes
 pub mod Counts
+pub mod Begin
+pub mod Bound
 pub mod Peak
