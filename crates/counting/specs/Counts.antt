@@ -1,39 +1,37 @@
--- What an evaluation counts rows with: marks of the rows that registers and relations reach, the base, and how many these are.
--- Assumes nothing.
+-- What an evaluation counts rows with: marks of the rows that registers and relations reach, the base, how many these are, and remembered
+-- sizes. Assumes nothing.
 use mathlib.Core.Path.{_≡_, refl, sym, ap, _∙_, subst}
-use mathlib.Core.Logic.{_⊎_, inl, inr, ⊎-elim}
-use mathlib.Core.Bool.{Bool, true, false, cond, true≢false}
-use mathlib.Core.List.{List, [], _∷_, _++_, map, List·Memᴰ as Mem, List·Memᴰ·head as here, List·Memᴰ·tail as there, List·Memᴰ·cases-cons as mem-cases, List·Memᴰ·not-nil as mem-nil, List·Memᴰ·append-cases as append-cases, Memᴰ·append-left as append-left, Memᴰ·append-right as append-right}
-use Prim.Native.Nat.{ℕ, zero, suc, _+_, _*_, _≤_, _<_}
-use native.Mathlib.Decide.{ℕ-discrete}
+use mathlib.Core.Logic.{inl, inr, ⊎-elim, by-cases}
+use mathlib.Core.List.{List, [], _∷_, _++_, map, List·Memᴰ as Mem, List·Memᴰ·append-cases as append-cases, Memᴰ·append-left as append-left, Memᴰ·append-right as append-right}
+use Prim.Native.Nat.{ℕ, zero, suc, _+_, _*_, _/_, _%_, _^_, _≤_, _<_}
+use native.Mathlib.Decide.{ℕ-discrete, decLt}
 use native.Mathlib.Numerals.{add-one}
 use native.Mathlib.Omega.{arith}
-use lib.ListN.{length, getD, set, take, drop, replicate, length-set, length-replicate}
-use lib.Seq.{take-suc, take-suc-set, take-length, take-at, take-set-le, getD-set-same, length-front, length-take-le}
-use Rattle.diagram.specs.Rows.{target, den}
-use Rattle.diagram.specs.Count.{NoDup}
+use lib.ListN.{length, getD, set, take, replicate, length-set, List·getD-eq-default}
+use lib.Dec.{eqb}
+use lib.Seq.{take-suc, take-suc-set, take-length, take-set-le, take-take, getD-set-same, getD-set-other, getD-take}
+use Rattle.diagram.specs.Rows.{target, Arrow, den, Extends}
+use Rattle.diagram.specs.Count.{pigeonhole}
 use Rattle.diagram.specs.Need.{need}
-use Rattle.diagram.specs.Reach.{Reach, ReachedTo, reached-root, reached-low, reached-high, reach-on, reach-used}
-use Rattle.diagram.specs.Keep.{Keeps, keeps-reach, keeps-reach-back, reach-within}
-use Rattle.diagram.specs.Sizes.{Reaches, reaches-need, reaches-keeps, reaches-more}
-use Rattle.layout.specs.Places.{BITS, USED, FIRST-REGISTER, ROOTS-END, RANK}
+use Rattle.diagram.specs.Reach.{Reach, ReachedTo, reached-root, reached-low, reached-high, reach-on, reach-used, one-root}
+use Rattle.diagram.specs.Keep.{Keeps, keeps-reach, keeps-reach-back, reach-within, extends-keeps}
+use Rattle.diagram.specs.Sizes.{Reaches, reaches-need, reaches-keeps, reaches-more, Outside}
+use Rattle.layout.specs.Places.{MAX-ROWS, BITS}
 use Rattle.layout.specs.View.{View}
-use Rattle.soundness.specs.Used.{used, used-in, Ranked, rowsOf}
-use Rattle.soundness.specs.Bits.{MARK-WORDS, isOn, On, no-marks}
+use Rattle.soundness.specs.Used.{rowsOf}
+use Rattle.soundness.specs.Bits.{MARK-WORDS, isOn, On}
 use Rattle.soundness.specs.Mark.{OnTo, OnArrow, onArrow-le, Closed, closed-reach}
-use Rattle.soundness.specs.Roots.{Held, MarksAll, RefsPre}
 use Rattle.soundness.specs.Sound.{Sound}
 use Rattle.soundness.specs.Filled.{filled, filled-arrow}
-use Rattle.collect.specs.Lent.{live, filled-marks, marked-reach, reach-marked}
-use Rattle.collect.specs.Counted.{markCount}
-use Rattle.collect.specs.Answers.{sound-base}
+use Rattle.collect.specs.Lent.{live}
 use Rattle.operations.specs.Work.{OpFrame}
 use Rattle.steps.specs.Steps.{filled-same}
-use Rattle.counting.specs.News.{ListNew}
+use Rattle.counting.specs.News.{MarksNew, ListNew}
+use Rattle.counting.specs.Sizes.{SIZES, placeOf, Remembered, remembered-none, remembered-extends, putSize, remembered-put}
 
--- the words: marks of the base, and their number
+-- the words: marks of the base, their number, and remembered sizes
 abbrev pub COUNT-WORDS : ℕ
-COUNT-WORDS = 1876
+COUNT-WORDS = 2388
 
 abbrev pub NUMBER : ℕ
 NUMBER = 1875
@@ -50,19 +48,40 @@ abbrev pub needOf : View → List ℕ → ℕ
 needOf W xs = need (2 * W .header BITS) (map (den (2 * W .header BITS) (rowsOf W)) xs)
 
 -- the marks are of exactly the rows that registers and relations reach, and the number says how many these are
-pub record CountsOf (W : View) (c : List ℕ) : Type 0 where
+pub record BaseOf (W : View) (c : List ℕ) : Type 0 where
   pub size : length c ≡ COUNT-WORDS
   pub only : (i : ℕ) → On (marksOf c) i → Reach (rowsOf W) (filled W) i
   pub all : (i : ℕ) → Reach (rowsOf W) (filled W) i → On (marksOf c) i
   pub number : Reaches (rowsOf W) (filled W) (getD c NUMBER 0)
 
+-- and each remembered size is right
+pub record CountsOf (W : View) (c : List ℕ) : Type 0 where
+  pub base : BaseOf W c
+  pub sizes : Remembered (rowsOf W) (filled W) c
+
 -- so the number is what registers and relations need
-pub number-need : {W : View} {c : List ℕ} → Sound W → CountsOf W c → getD c NUMBER 0 ≡ needOf W (filled W)
+pub number-need : {W : View} {c : List ℕ} → Sound W → BaseOf W c → getD c NUMBER 0 ≡ needOf W (filled W)
 number-need s p = reaches-need (s .good .rows) (filled-arrow s) (p .number)
 
--- it stays so while registers and relations stay, with what they reach
-pub counts-keeps : {W X : View} {c : List ℕ} → OpFrame W X → Keeps (rowsOf W) (rowsOf X) (filled W) → CountsOf W c → CountsOf X c
-counts-keeps {W} {X} {c} f k p =
+-- rows that are reached are no more than a table may have
+pub reaches-le : {W : View} {roots : List ℕ} {n : ℕ} → Sound W → ((a : ℕ) → Mem a roots → Arrow (rowsOf W) a) → Reaches (rowsOf W) roots n → n ≤ MAX-ROWS
+reaches-le {W} {roots} s arrows r =
+    let l = pigeonhole (W .rows) (r .list) (r .once) (λ i h. s .good .rows .bounded i (reach-used (s .good .rows) arrows (r .only i h))) in
+    let e = r .count in
+    let z = s .good .sizes .N-max in
+    omega (arith, l, e, z)
+
+pub number-le : {W : View} {c : List ℕ} → Sound W → BaseOf W c → getD c NUMBER 0 ≤ MAX-ROWS
+number-le s p = reaches-le s (filled-arrow s) (p .number)
+
+-- a mark, as it is read from all the words
+pub mark-read : (c : List ℕ) (i : ℕ) → i < MAX-ROWS → isOn (marksOf c) i ≡ isOn c i
+unfolding marksOf isOn
+mark-read c i l = ap (λ (w : ℕ). eqb (w / 2 ^ (i % 32) % 2) 1) (getD-take MARK-WORDS c (i / 32) 0 (omega arith))
+
+-- the base stays right while registers and relations stay, with what they reach
+pub base-keeps : {W X : View} {c : List ℕ} → OpFrame W X → Keeps (rowsOf W) (rowsOf X) (filled W) → BaseOf W c → BaseOf X c
+base-keeps {W} {X} {c} f k p =
     let e : filled W ≡ filled X = sym (filled-same f) in
     record {
       size = p .size;
@@ -71,120 +90,69 @@ counts-keeps {W} {X} {c} f k p =
       number = subst (λ (xs : List ℕ). Reaches (rowsOf X) xs (getD c NUMBER 0)) e (reaches-keeps k (p .number));
     }
 
--- the marked rows at the first k places of the list of used rows
-unfoldable markedRows : View → List ℕ → ℕ → List ℕ
-markedRows W m zero = []
-markedRows W m (suc k) = cond (isOn m (W .list k)) (W .list k ∷ markedRows W m k) (markedRows W m k)
+-- all of it while rows are only added
+pub counts-extends : {W X : View} {c : List ℕ} → Sound W → OpFrame W X → Extends (rowsOf W) (rowsOf X) → CountsOf W c → CountsOf X c
+counts-extends {W} {X} {c} s f e p = record {
+  base = base-keeps f (extends-keeps (s .good .rows) (filled-arrow s) e) (p .base);
+  sizes = subst (λ (xs : List ℕ). Remembered (rowsOf X) xs c) (sym (filled-same f)) (remembered-extends (s .good .rows) e (filled-arrow s) (p .sizes));
+}
 
-module _ (W : View) (m : List ℕ) where
-  marked-length : (k : ℕ) → length (markedRows W m k) ≡ markCount W m k
-  unfolding markedRows markCount
-  marked-length zero = refl
-  marked-length (suc k) = go (isOn m (W .list k)) (marked-length k)
-    where
-      go : (b : Bool) → length (markedRows W m k) ≡ markCount W m k → length (cond b (W .list k ∷ markedRows W m k) (markedRows W m k)) ≡ markCount W m k + cond b 1 0
-      go true e = omega (arith, e)
-      go false e = omega (arith, e)
+-- words of which only remembered sizes differ
+pub record Beside (c d : List ℕ) : Type 0 where
+  pub size : length d ≡ length c
+  pub first : take SIZES d ≡ take SIZES c
 
-  mem-marked : (k i : ℕ) → Mem i (markedRows W m k) → On m i × ((j : ℕ) × (j < k) × (W .list j ≡ i))
-  unfolding markedRows
-  mem-marked zero i h = absurd (mem-nil h)
-  mem-marked (suc k) i h = go (isOn m (W .list k)) refl (mem-marked k i) h
-    where
-      more : On m i × ((j : ℕ) × (j < k) × (W .list j ≡ i)) → On m i × ((j : ℕ) × (j < suc k) × (W .list j ≡ i))
-      more t = (t .0, (t .1 .0, omega (arith, t .1 .1), t .1 .2))
+pub base-beside : {W : View} {c d : List ℕ} → Beside c d → BaseOf W c → BaseOf W d
+unfolding marksOf
+base-beside {W} {c} {d} b p =
+    let marks : take MARK-WORDS d ≡ take MARK-WORDS c = sym (take-take MARK-WORDS SIZES d (omega arith)) ∙ ap (take MARK-WORDS) (b .first) ∙ take-take MARK-WORDS SIZES c (omega arith) in
+    let number : getD d NUMBER 0 ≡ getD c NUMBER 0 =
+    sym (getD-take SIZES d NUMBER 0 (omega arith)) ∙ ap (λ (xs : List ℕ). getD xs NUMBER 0) (b .first) ∙ getD-take SIZES c NUMBER 0 (omega arith)
+    in
+    record {
+      size = b .size ∙ p .size;
+      only = λ i o. p .only i (subst (λ (xs : List ℕ). On xs i) marks o);
+      all = λ i r. subst (λ (xs : List ℕ). On xs i) (sym marks) (p .all i r);
+      number = subst (λ (x : ℕ). Reaches (rowsOf W) (filled W) x) (sym number) (p .number);
+    }
 
-      go : (b : Bool) → isOn m (W .list k) ≡ b → (Mem i (markedRows W m k) → On m i × ((j : ℕ) × (j < k) × (W .list j ≡ i)))
-          → Mem i (cond b (W .list k ∷ markedRows W m k) (markedRows W m k)) → On m i × ((j : ℕ) × (j < suc k) × (W .list j ≡ i))
-      go true e rest h = ⊎-elim (λ q. (ap (isOn m) q ∙ e, (k, omega arith, sym q))) (λ t. more (rest t)) (mem-cases h)
-      go false e rest h = more (rest h)
+-- one size is remembered
+beside-set : (c : List ℕ) (k v : ℕ) → SIZES ≤ k → Beside c (set c k v)
+beside-set c k v l = record { size = length-set c k v; first = take-set-le SIZES c k v l }
 
-  marked-mem : (k j : ℕ) → j < k → On m (W .list j) → Mem (W .list j) (markedRows W m k)
-  unfolding markedRows
-  marked-mem zero j l o = absurd (omega arith)
-  marked-mem (suc k) j l o = go (isOn m (W .list k)) refl (λ h. marked-mem k j h o)
-    where
-      go : (b : Bool) → isOn m (W .list k) ≡ b → (j < k → Mem (W .list j) (markedRows W m k)) → Mem (W .list j) (cond b (W .list k ∷ markedRows W m k) (markedRows W m k))
-      go true e rest = elim (ℕ-discrete j k) [ yes q ↦ here (ap (W .list) q) | no n ↦ there (rest (omega arith)) ]
-      go false e rest = elim (ℕ-discrete j k) [ yes q ↦ absurd (true≢false (sym o ∙ ap (λ (x : ℕ). isOn m (W .list x)) q ∙ e)) | no n ↦ rest (omega arith) ]
+beside-trans : {c d e : List ℕ} → Beside c d → Beside d e → Beside c e
+beside-trans p q = record { size = q .size ∙ p .size; first = q .first ∙ p .first }
 
-  marked-once : Ranked W → (k : ℕ) → k ≤ W .header USED → NoDup (markedRows W m k)
-  unfolding markedRows
-  marked-once r zero l = tt
-  marked-once r (suc k) l = go (isOn m (W .list k)) (marked-once r k (omega arith))
-    where
-      apart : Mem (W .list k) (markedRows W m k) → ⊥
-      apart h =
-          let (o, at) = mem-marked k (W .list k) h in
-          let (j, lt, e) = at in
-          let q : j ≡ k = sym (r .back j (omega arith)) ∙ ap (λ (x : ℕ). W .cell x RANK) e ∙ r .back k (omega arith) in
-          omega arith
+pub counts-put : {W : View} {c : List ℕ} (a k : ℕ) → Arrow (rowsOf W) a → Outside (rowsOf W) (filled W) a k → CountsOf W c → CountsOf W (putSize c a k)
+counts-put {c = c} a k u o p = record {
+  base = base-beside (beside-trans (beside-set c (placeOf a) (a / 2) (omega arith)) (beside-set (set c (placeOf a) (a / 2)) (placeOf a + 1) k (omega arith))) (p .base);
+  sizes = remembered-put c a k (let e = p .base .size in omega (arith, e)) u o (p .sizes);
+}
 
-      go : (b : Bool) → NoDup (markedRows W m k) → NoDup (cond b (W .list k ∷ markedRows W m k) (markedRows W m k))
-      go true d = (apart, d)
-      go false d = d
+-- the sizes below place k are forgotten
+pub record Emptied (c d : List ℕ) (k : ℕ) : Type 0 where
+  pub beside : Beside c d
+  pub zeros : (j : ℕ) → SIZES ≤ j → j < k → getD d j 0 ≡ 0
 
-  -- where the marked rows are those that some roots reach, they are as many
-  pub marked-reaches : {n : ℕ} {roots : List ℕ} → Ranked W → ((i : ℕ) → Reach (rowsOf W) roots i → used W i ≡ true) → ((i : ℕ) → On m i → Reach (rowsOf W) roots i)
-      → ((i : ℕ) → Reach (rowsOf W) roots i → On m i) → n ≡ markCount W m (W .header USED) → Reaches (rowsOf W) roots n
-  marked-reaches r u only all e = record {
-    list = markedRows W m (W .header USED);
-    once = marked-once r (W .header USED) (omega arith);
-    only = λ i h. only i (mem-marked (W .header USED) i h .0);
-    all = λ i t.
-        let q = used-in (W .rows) (W .header USED) (λ x. W .cell x RANK) (W .list) i (u i t) in
-        subst (λ (x : ℕ). Mem x (markedRows W m (W .header USED))) (q .there) (marked-mem (W .header USED) (W .cell i RANK) (q .place) (rw (q .there) (all i t)));
-    count = marked-length (W .header USED) ∙ sym e;
-  }
+pub emptied-none : (c : List ℕ) → Emptied c c SIZES
+emptied-none c = record { beside = record { size = refl; first = refl }; zeros = λ j a b. absurd (omega arith) }
 
-take-zeros : (n k : ℕ) → n ≤ k → _≡_ {A = List ℕ} (take n (replicate k 0)) (replicate n 0)
-take-zeros zero k h = refl
-take-zeros (suc n) zero h = absurd (omega arith)
-take-zeros (suc n) (suc k) h = ap (λ (xs : List ℕ). 0 ∷ xs) (take-zeros n k (omega arith))
+pub emptied-more : {c d : List ℕ} {k : ℕ} → SIZES ≤ k → k < length c → Emptied c d k → Emptied c (set d k 0) (k + 1)
+emptied-more {c} {d} {k} l h p = record {
+  beside = beside-trans (p .beside) (beside-set d k 0 l);
+  zeros = λ j a b. by-cases (ℕ-discrete j k)
+      (λ e. rw e (getD-set-same d k 0 0 (let z = p .beside .size in omega (arith, z))))
+      (λ n. getD-set-other d k j 0 0 n ∙ p .zeros j a (omega arith));
+}
 
--- what `begin` asks of the words lent
-pub blank-size : {c : List ℕ} → Blank c → length c ≡ COUNT-WORDS
-blank-size z = ap length z ∙ length-replicate {A = ℕ} COUNT-WORDS 0
-
-pub blank-marks : {c : List ℕ} → Blank c → MARK-WORDS ≡ length (take MARK-WORDS c)
-blank-marks {c} z = let e = blank-size z in sym (length-take-le MARK-WORDS c (omega arith))
-
-pub filled-pre : {W : View} {c : List ℕ} → Sound W → Blank c → RefsPre W (length (take MARK-WORDS c)) FIRST-REGISTER ROOTS-END
-filled-pre s z = rw (← blank-marks z) (record { base = sound-base s; order = omega arith; within = omega arith; ref = s .refs })
-
--- and what it writes: the marks of registers and relations, then their number
-module _ {W : View} {c m : List ℕ} (s : Sound W) (z : Blank c) (l : length m ≡ length (take MARK-WORDS c))
-    (k : MarksAll (rowsOf W) (take MARK-WORDS c) m (Held W FIRST-REGISTER ROOTS-END)) where
-  none : (i : ℕ) → On (take MARK-WORDS c) i → ⊥
-  none i o = no-marks MARK-WORDS i (subst (λ (xs : List ℕ). On xs i) (ap (take MARK-WORDS) z ∙ take-zeros MARK-WORDS COUNT-WORDS (omega arith)) o)
-
-  pub marked-size : length (m ++ drop MARK-WORDS c) ≡ COUNT-WORDS
-  marked-size = length-front c m MARK-WORDS l ∙ blank-size z
-
-  front : take MARK-WORDS (m ++ drop MARK-WORDS c) ≡ m
-  front = take-at m (drop MARK-WORDS c) MARK-WORDS (l ∙ sym (blank-marks z))
-
-  pub front-size : MARK-WORDS ≡ length (take MARK-WORDS (m ++ drop MARK-WORDS c))
-  front-size = blank-marks z ∙ sym l ∙ sym (ap length front)
-
-  pub written-size : (n : ℕ) → length (set (m ++ drop MARK-WORDS c) NUMBER n) ≡ length c
-  written-size n = length-set (m ++ drop MARK-WORDS c) NUMBER n ∙ marked-size ∙ sym (blank-size z)
-
-  pub begun : {n : ℕ} → n ≡ markCount W (take MARK-WORDS (m ++ drop MARK-WORDS c)) (W .header USED) → CountsOf W (set (m ++ drop MARK-WORDS c) NUMBER n)
-  unfolding marksOf
-  begun {n} e =
-      let d : List ℕ = m ++ drop MARK-WORDS c in
-      let only : (i : ℕ) → On m i → Reach (rowsOf W) (filled W) i = marked-reach none (filled-marks k) in
-      let all : (i : ℕ) → Reach (rowsOf W) (filled W) i → On m i = reach-marked none (filled-marks k) in
-      let marks : take MARK-WORDS (set d NUMBER n) ≡ m = take-set-le MARK-WORDS d NUMBER n (omega arith) ∙ front in
-      let number : getD (set d NUMBER n) NUMBER 0 ≡ n = getD-set-same d NUMBER n 0 (omega (arith, marked-size)) in
-      record {
-        size = written-size n ∙ blank-size z;
-        only = λ i o. only i (subst (λ (xs : List ℕ). On xs i) marks o);
-        all = λ i r. subst (λ (xs : List ℕ). On xs i) (sym marks) (all i r);
-        number = subst (λ (x : ℕ). Reaches (rowsOf W) (filled W) x) (sym number)
-            (marked-reaches W m (s .good .ranked) (λ i r. reach-used (s .good .rows) (filled-arrow s) r) only all (e ∙ ap (λ (xs : List ℕ). markCount W xs (W .header USED)) front));
-      }
+-- all of them: what is left of the base, and nothing beside
+pub emptied-counts : {W : View} {c d : List ℕ} → Emptied c d COUNT-WORDS → BaseOf W c → CountsOf W d
+emptied-counts {W} {c} {d} z p =
+    let b = base-beside (z .beside) p in
+    record {
+      base = b;
+      sizes = remembered-none (λ k l. by-cases (decLt k COUNT-WORDS) (z .zeros k l) (λ n. List·getD-eq-default d 0 (let e = b .size in omega (arith, e))));
+    }
 
 -- copying the marks: the first k words
 pub record Copied (c m : List ℕ) (k : ℕ) : Type 0 where
@@ -205,7 +173,7 @@ unfolding marksOf
 copied-all {c} {m} {k} e p = sym (take-length m) ∙ ap (λ (n : ℕ). take n m) (p .size ∙ sym e) ∙ p .same ∙ ap (λ (n : ℕ). take n c) e
 
 -- the base's marks are closed: what they reach is marked
-module _ {W : View} {c : List ℕ} (p : CountsOf W c) where
+module _ {W : View} {c : List ℕ} (p : BaseOf W c) where
   on-reached : (k : ℕ) → ReachedTo (rowsOf W) (filled W) k → OnTo (marksOf c) k
   on-reached zero r = tt
   on-reached (suc i) r = p .all i r
@@ -235,3 +203,15 @@ module _ {W : View} {c : List ℕ} (p : CountsOf W c) where
       (λ i h r. q .news .unmarked i h (p .all i r))
       (λ i r. ⊎-elim (λ o. inl (p .only i o)) (λ h. inr h) (q .news .all i (marked i r)))
       (p .number))
+
+  -- and marking from one arrow, what it reaches beside the base
+  pub outside-counted : {m₀ m : List ℕ} {a n : ℕ} → m₀ ≡ marksOf c → MarksNew (rowsOf W) m₀ m a n → Outside (rowsOf W) (filled W) a n
+  outside-counted {a = a} {n} e k =
+      let q = rw e at k in
+      record {
+        rest = q .news .rows;
+        all = λ i r.
+            ⊎-elim (λ o. inl (p .only i o)) (λ h. inr h)
+            (q .news .all i (closed-reach (q .marks .closed base-closed) (one-root (OnArrow _) (q .marks .has)) r));
+        counted = let l = q .news .count in omega (arith, l);
+      }

@@ -1,4 +1,7 @@
 pub mod News
+pub mod Sizes
 pub mod Counts
 pub mod Taken
+pub mod Begin
+pub mod Bound
 pub mod Peak

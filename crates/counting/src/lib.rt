@@ -12,11 +12,13 @@ use soundness::marked;
 use soundness::set_mark;
 use steps::Step;
 use steps::operands_of;
-use steps::take_step;
+use steps::retry;
+use steps::settle;
+use steps::try_step;
 use table::Made;
 ghost use mathlib.Core.Path.{_≡_};
 ghost use mathlib.Core.Bool.{true, false};
-ghost use mathlib.Core.List.{_∷_, _++_};
+ghost use mathlib.Core.List.{_++_};
 ghost use Prim.Native.Nat.{max};
 ghost use lib.ListN.{length};
 ghost use Rattle.layout.specs.View.{view};
@@ -25,22 +27,30 @@ ghost use Rattle.soundness.specs.Used.{rowsOf};
 ghost use Rattle.soundness.specs.Bits.{MARK-WORDS, isOn};
 ghost use Rattle.soundness.specs.Mark.{MarkPre};
 ghost use Rattle.soundness.specs.Sound.{Sound};
-ghost use Rattle.diagram.specs.Sizes.{Reaches};
+ghost use Rattle.soundness.specs.Filled.{filled};
+ghost use Rattle.diagram.specs.Sizes.{Reaches, Outside};
 ghost use Rattle.collect.specs.Lent.{LentPre, live};
 ghost use Rattle.collect.specs.Answers.{FreePre};
-ghost use Rattle.steps.specs.Steps.{StepPre, liveAt};
+ghost use Rattle.steps.specs.Steps.{StepPre};
 ghost use Rattle.steps.specs.Clean.{CleanPre};
 ghost use Rattle.counting.specs.News.{MarksNew, ListNew};
-ghost use Rattle.counting.specs.Counts.{COUNT-WORDS, Blank, marksOf, needOf, CountsOf};
-ghost use Rattle.counting.specs.Peak.{TakenPost};
+ghost use Rattle.counting.specs.Sizes.{placeOf, putSize};
+ghost use Rattle.counting.specs.Counts.{COUNT-WORDS, Blank, marksOf, BaseOf, CountsOf, Emptied};
+ghost use Rattle.counting.specs.Bound.{SizePre, SizePost, SumPost, WithinPost};
+ghost use Rattle.counting.specs.Peak.{NotePost, StepCounted, TakenPost};
 
-// What an evaluation counts rows with: marks of the rows that registers and relations reach, the base, and how many these are.
+// What an evaluation counts rows with: marks of the rows that registers and relations reach, the base; how many these are; and sizes, which
+// are remembered: of an arrow, how many rows it reaches beside the base.
 pub struct Counts;
 
 impl Counts {
-    pub const WORDS: usize = 1876;
-    // The place of the number.
+    pub const WORDS: usize = 2388;
+    // The place of the base's number.
     const NUMBER: usize = 1875;
+    // The place of the first size, and how many there are.
+    const SIZES: usize = 1876;
+
+    const PAIRS: u32 = 256;
 }
 
 // What a step answers: the arrow of its result and the count with its need, or that the rows ran out.
@@ -127,7 +137,7 @@ fn list_new(words: &[u32], rows: u32, marks: &mut [u32], roots: &[u32]) -> u32
 
 // How many rows registers, relations and two lists of further arrows reach.
 fn count_live(words: &[u32], rows: u32, counts: &[u32], roots: &[u32], more: &[u32]) -> u32
-    requires { ⌜ FreePre (view rows (now words)) (now roots ++ now more) × CountsOf (view rows (now words)) (now counts) ⌝ }
+    requires { ⌜ FreePre (view rows (now words)) (now roots ++ now more) × BaseOf (view rows (now words)) (now counts) ⌝ }
     ensures { λ r. ⌜ Reaches (rowsOf (view rows (now (words .entry)))) (live (view rows (now (words .entry))) (now (roots .entry) ++ now (more .entry))) r ⌝ }
 {
     let mut marks = [0u32; Bitmap::WORDS];
@@ -136,6 +146,110 @@ fn count_live(words: &[u32], rows: u32, counts: &[u32], roots: &[u32], more: &[u
     let first = list_new(words, rows, &mut marks, roots);
     let second = list_new(words, rows, &mut marks, more);
     base + first + second
+}
+
+// How many rows arrow a reaches beside the base.
+fn count_outside(words: &[u32], rows: u32, counts: &[u32], a: u32) -> u32
+    requires { ⌜ SizePre (view rows (now words)) (now counts) a ⌝ }
+    ensures { λ r. ⌜ Outside (rowsOf (view rows (now (words .entry)))) (filled (view rows (now (words .entry)))) a r ⌝ }
+{
+    let mut marks = [0u32; Bitmap::WORDS];
+    copy_marks(counts, &mut marks);
+    mark_new(words, rows, &mut marks, a)
+}
+
+// The place of an arrow's size.
+fn place(a: u32) -> usize
+    ensures { λ r. ⌜ r ≡ placeOf a ⌝ }
+{
+    Counts::SIZES + 2 * ((a / 2 % Counts::PAIRS) as usize)
+}
+
+// Remembers the size of an arrow.
+fn remember(counts: &mut [u32], a: u32, size: u32)
+    requires { ⌜ length (now counts) ≡ COUNT-WORDS ⌝ }
+    ensures { λ _. ⌜ now (counts .exit) ≡ putSize (now (counts .entry)) a size ⌝ }
+{
+    let at = place(a);
+    counts[at] = a / 2;
+    counts[at + 1] = size;
+}
+
+// Forgets all sizes.
+fn forget_sizes(counts: &mut [u32])
+    requires { ⌜ length (now counts) ≡ COUNT-WORDS ⌝ }
+    ensures { λ _. ⌜ Emptied (now (counts .entry)) (now (counts .exit)) COUNT-WORDS ⌝ }
+{
+    let mut k = Counts::SIZES;
+    while k < Counts::WORDS {
+        counts[k] = 0;
+        k += 1;
+    }
+}
+
+// How many rows, at most, arrow a reaches beside the base: its size, as it is remembered, or counted and remembered.
+fn size_of(words: &[u32], rows: u32, counts: &mut [u32], a: u32) -> u32
+    requires { ⌜ SizePre (view rows (now words)) (now counts) a ⌝ }
+    ensures { λ r. ⌜ SizePost (view rows (now (words .entry))) (now (counts .exit)) a r ⌝ }
+{
+    if !is_row(a) {
+        return 0;
+    }
+    if marked(counts, row_of(a)) {
+        return 0;
+    }
+    let at = place(a);
+    if counts[at] == a / 2 {
+        return counts[at + 1];
+    }
+    let size = count_outside(words, rows, counts, a);
+    remember(counts, a, size);
+    size
+}
+
+// `sum` and the sizes of a list of arrows, or as soon as that is more than `most`, what it is then.
+fn add_sizes(
+    words: &[u32],
+    rows: u32,
+    counts: &mut [u32],
+    arrows: &[u32],
+    sum: u64,
+    most: u32,
+) -> u64
+    requires { ⌜ FreePre (view rows (now words)) (now arrows) × CountsOf (view rows (now words)) (now counts) ⌝ }
+    ensures { λ r. ⌜ SumPost (view rows (now (words .entry))) (now (counts .exit)) (now (arrows .entry)) sum most r ⌝ }
+{
+    let mut total = sum;
+    let mut k = 0;
+    while k < arrows.len() {
+        if total > most as u64 {
+            return total;
+        }
+        total += size_of(words, rows, counts, arrows[k]) as u64;
+        k += 1;
+    }
+    total
+}
+
+// Whether the base's number and the sizes of two lists of arrows sum to at most `most`.
+fn sizes_within(
+    words: &[u32],
+    rows: u32,
+    counts: &mut [u32],
+    roots: &[u32],
+    more: &[u32],
+    most: u32,
+) -> bool
+    requires { ⌜ FreePre (view rows (now words)) (now roots ++ now more) × CountsOf (view rows (now words)) (now counts) ⌝ }
+    ensures { λ r. ⌜ WithinPost (view rows (now (words .entry))) (now (counts .exit)) (now (roots .entry)) (now (more .entry)) most r ⌝ }
+{
+    let base = counts[Counts::NUMBER] as u64;
+    let first = add_sizes(words, rows, counts, roots, base, most);
+    let second = add_sizes(words, rows, counts, more, first, most);
+    if second <= most as u64 {
+        return true;
+    }
+    false
 }
 
 // The greater of two numbers.
@@ -152,21 +266,53 @@ fn greater(a: u32, b: u32) -> u32
 fn note(
     words: &[u32],
     rows: u32,
-    counts: &[u32],
+    counts: &mut [u32],
     roots: &[u32],
     step: Step,
     a: u32,
     peak: u32,
 ) -> u32
     requires { ⌜ CleanPre (view rows (now words)) (now roots) step a × CountsOf (view rows (now words)) (now counts) ⌝ }
-    ensures { λ r. ⌜ r ≡ max peak (needOf (view rows (now (words .entry))) (a ∷ liveAt (view rows (now (words .entry))) (now (roots .entry)) step)) ⌝ }
+    ensures { λ r. ⌜ NotePost (view rows (now (words .entry))) (now (counts .exit)) (now (roots .entry)) step a peak r ⌝ }
 {
     if header_word(words, Table::USED) <= peak {
         return peak;
     }
     let p = operands_of(step);
     let more = [p.first, p.second, a];
+    if sizes_within(words, rows, counts, roots, &more, peak) {
+        return peak;
+    }
     greater(peak, count_live(words, rows, counts, roots, &more))
+}
+
+// Takes a step as `take_step` does. Where rows may have been freed, no size is remembered afterwards.
+fn take_counted(
+    words: &mut [u32],
+    counts: &mut [u32],
+    rows: u32,
+    levels: u32,
+    limit: u32,
+    roots: &[u32],
+    step: Step,
+) -> Made
+    requires { ⌜ StepPre levels rows limit (view rows (now words)) (now roots) step × CountsOf (view rows (now words)) (now counts) ⌝ }
+    ensures { λ r. ⌜ StepCounted levels rows limit (view rows (now (words .entry))) (view rows (now (words .exit))) (now (roots .entry)) (now (counts .exit)) step r ⌝ }
+{
+    let made = try_step(words, rows, levels, limit, step);
+    match made {
+        Made::At(a) => {
+            if header_word(words, Table::USED) <= limit {
+                return Made::At(a);
+            }
+            forget_sizes(counts);
+            settle(words, rows, limit, roots, step, Made::At(a))
+        }
+        Made::Full => {
+            forget_sizes(counts);
+            retry(words, rows, levels, limit, roots, step)
+        }
+    }
 }
 
 // Takes a step as `take_step` does, and counts what it needs.
@@ -183,7 +329,7 @@ pub fn take(
     requires { ⌜ StepPre levels rows limit (view rows (now words)) (now roots) step × CountsOf (view rows (now words)) (now counts) ⌝ }
     ensures { λ r. ⌜ TakenPost levels rows limit (view rows (now (words .entry))) (view rows (now (words .exit))) (now (roots .entry)) (now (counts .exit)) step count r ⌝ }
 {
-    let Made::At(a) = take_step(words, rows, levels, limit, roots, step) else {
+    let Made::At(a) = take_counted(words, counts, rows, levels, limit, roots, step) else {
         return Taken::Full;
     };
     let p = note(words, rows, counts, roots, step, a, count.peak);

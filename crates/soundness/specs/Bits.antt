@@ -90,7 +90,7 @@ sets-to m i v h e = record {
 pub sets : (m : List ℕ) (i : ℕ) → i < 32 * length m → Sets m (set m (i / 32) (bitOr (getD m (i / 32) 0) (1 * 2 ^ (i % 32) % 2 ^ 32))) i
 sets m i h = sets-to m i _ (omega arith) (ap (bitOr (getD m (i / 32) 0)) (shl-exact 1 (i % 32) 32 (le-refl 2) (omega arith)))
 
-zeros : (n k : ℕ) → _≡_ {A = ℕ} (getD (replicate n 0) k 0) 0
+pub zeros : (n k : ℕ) → _≡_ {A = ℕ} (getD (replicate n 0) k 0) 0
 zeros zero k = refl
 zeros (suc n) zero = refl
 zeros (suc n) (suc k) = zeros n k

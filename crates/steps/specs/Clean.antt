@@ -91,8 +91,8 @@ module _ {W : View} {roots : List ℕ} {s : Step} {kept a b : ℕ} (ea : a ≡ f
       (λ u. ⊎-elim (λ o. there (append-right (filled W) (append-right roots o))) (λ e. here e) (lent-mem s kept c (λ e. absurd (omega (arith, l, e))) u)) (append-cases roots t))
       (append-cases (filled W) h)
 
-  pub to-lent : (c i : ℕ) → Leads c i → Mem c (kept ∷ liveAt W roots s) → Mem c (live W (roots ++ lent s kept))
-  to-lent c i l h =
+  pub to-lent : (c : ℕ) → Mem c (kept ∷ liveAt W roots s) → Mem c (live W (roots ++ lent s kept))
+  to-lent c h =
       ⊎-elim (λ e. append-right (filled W) (append-right roots (subst (λ (c : ℕ). Mem c (lent s kept)) (sym e) (kept-lent s kept))))
       (λ t. ⊎-elim (λ f. append-left (roots ++ lent s kept) f)
       (λ u. append-right (filled W) (⊎-elim (λ r. append-left (lent s kept) r) (λ o. append-right roots (mem-lent s kept c o)) (append-cases roots u)))
@@ -106,5 +106,5 @@ module _ {W : View} {roots : List ℕ} {s : Step} {kept a b : ℕ} (ea : a ≡ f
         sound = alike-sound (memo-alike (g .frame)) (f .sound);
         memory = λ m. forgot-remembers m g;
         frame = op-trans (op-made (f .frame)) (op-memo (g .frame));
-        collects = subst (λ (t : Rows). Collects (rowsOf W) t (kept ∷ liveAt W roots s)) (sym (rows-same (g .frame))) (collects-same to-live to-lent (f′ .collects));
+        collects = subst (λ (t : Rows). Collects (rowsOf W) t (kept ∷ liveAt W roots s)) (sym (rows-same (g .frame))) (collects-same to-live (λ c i l. to-lent c) (f′ .collects));
       }
