@@ -58,11 +58,10 @@ set-served b t acc r R f rows y s i d =
 
     go : (w : Verdict) (y : Ended) → Matches (b .n) rows (settle A w) y
         → Shows (ended b w (λ q. setDone b r A q) .0) (setLeaves t r rows y) × Agrees (ended b w (λ q. setDone b r A q) .1) (setReply y)
-    go (counted q) (ends a p) m =
-        (
-          shows-reg b (withRows t rows) after r (some A) (some a) (m .0),
-          record { number = refl; rounds = ap (λ (c : Count). c .rounds) (m .1); peak = ap (λ (c : Count). c .peak) (m .1); value = node-settled (b .n) (b .N) rows A a (length-means (modelOf b) noEnv f) (d .wf) (m .0) },
-        )
+    go (counted q) (ends a p) m = (
+      shows-reg b (withRows t rows) after r (some A) (some a) (m .0),
+      record { number = refl; rounds = ap (λ (c : Count). c .rounds) (m .1); peak = ap (λ (c : Count). c .peak) (m .1); value = node-settled (b .n) (b .N) rows A a (length-means (modelOf b) noEnv f) (d .wf) (m .0) },
+    )
     go (counted q) eight m = absurd m
     go (counted q) nine m = absurd m
     go full (ends a p) m = absurd m

@@ -37,7 +37,16 @@ fn quantify(
         let Taken::At {
             arrow: d,
             count: more,
-        } = take(words, counts, limits.rows, levels, limits.limit, roots, step, total)
+        } = take(
+            words,
+            counts,
+            limits.rows,
+            levels,
+            limits.limit,
+            roots,
+            step,
+            total,
+        )
         else {
             return Taken::Full;
         };
@@ -76,7 +85,8 @@ pub fn diamond(
         roots,
         Step::Shift(a),
         count,
-    ) else {
+    )
+    else {
         return Taken::Full;
     };
     let Taken::At {
@@ -91,7 +101,8 @@ pub fn diamond(
         roots,
         Step::And(x, relation),
         first,
-    ) else {
+    )
+    else {
         return Taken::Full;
     };
     quantify(words, counts, limits, roots, c, second)
@@ -123,13 +134,15 @@ pub fn boxed(
         roots,
         Step::Not(a),
         count,
-    ) else {
+    )
+    else {
         return Taken::Full;
     };
     let Taken::At {
         arrow: c,
         count: second,
-    } = diamond(words, counts, limits, roots, relation, b, first) else {
+    } = diamond(words, counts, limits, roots, relation, b, first)
+    else {
         return Taken::Full;
     };
     take(
