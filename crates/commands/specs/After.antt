@@ -1,6 +1,7 @@
 -- WHETHER THE WORDS ARE A SOUND TABLE AFTER A RECORD: they were one before it, or it was answered, which on other words fresh alone is. Assumes nothing.
 use mathlib.Core.Path.{_≡_, refl, sym, ap, _∙_, subst}
 use mathlib.Core.Bool.{Bool, true, false, _||_}
+use mathlib.Core.Logic.{_≢_}
 use mathlib.Core.List.{List}
 use Prim.Native.Nat.{ℕ, zero, suc, _≤_}
 use native.Mathlib.Omega.{arith}
@@ -30,17 +31,24 @@ soundTaken b End = b
 soundTaken b More = b
 soundTaken b Bad = b
 
+-- the tests of `sound_after`
+pub after-answered : (b : Bool) (k : ℕ) → b ≡ false → k ≡ 0 → true ≡ soundAfter b k
+after-answered b k e z = sym (ap (λ (t : Bool). t || eqb k 0) e ∙ eq-eqb k 0 z)
+
+pub after-refused : (b : Bool) (k : ℕ) → b ≡ false → k ≢ 0 → false ≡ soundAfter b k
+after-refused b k e n = sym (ap (λ (t : Bool). t || eqb k 0) e ∙ ne-eqb k 0 n)
+
 -- ---- one command
 
 -- "every later call on a sound table leave a sound one"
-stays-sound : (c : Command) {old new : List ℕ} {x : Outcome} → SoundWords old → Posted c old new x → SoundWords new
-stays-sound (start n N) {old} {new} s p = pick (freshNumber n N (length old) 1) refl
+stays-sound : (c : Command) (old new : List ℕ) (x : Outcome) → SoundWords old → Posted c old new x → SoundWords new
+stays-sound (start n N) old new x s p = pick (freshNumber n N (length old) 1) refl
   where
     pick : (k : ℕ) → freshNumber n N (length old) 1 ≡ k → SoundWords new
     pick zero e = p .0 .answers e .1
     pick (suc k) e = subst SoundWords (sym (p .0 .refuses k e .1)) s
-stays-sound (call c) s p = p .0 .performs .served s .0
-stays-sound (states r) s p = subst SoundWords (sym (p .0)) s
+stays-sound (call c) old new x s p = p .0 .performs .served s .0
+stays-sound (states r) old new x s p = subst SoundWords (sym (p .0)) s
 
 -- a number says whether P holds
 answered-says : {P : Type 0} (k : ℕ) → k ≡ 0 → P → Says P (eqb k 0)
@@ -56,8 +64,8 @@ number-of (clear r) x = refl
 number-of collect x = refl
 
 -- "An answered fresh .. leave a sound one"; "table unsound: 2, all words"
-from-unsound : (c : Command) {old new : List ℕ} {x : Outcome} → (SoundWords old → ⊥) → Posted c old new x → Says (SoundWords new) (eqb (x .number) 0)
-from-unsound (start n N) {old} {new} {x} u p = pick (freshNumber n N (length old) 1) refl
+from-unsound : (c : Command) (old new : List ℕ) (x : Outcome) → (SoundWords old → ⊥) → Posted c old new x → Says (SoundWords new) (eqb (x .number) 0)
+from-unsound (start n N) old new x u p = pick (freshNumber n N (length old) 1) refl
   where
     pick : (k : ℕ) → freshNumber n N (length old) 1 ≡ k → Says (SoundWords new) (eqb (x .number) 0)
     pick zero e = answered-says (x .number) (p .0 .answers e .0 .0) (p .0 .answers e .1)
@@ -65,17 +73,17 @@ from-unsound (start n N) {old} {new} {x} u p = pick (freshNumber n N (length old
         let (y, w) = p .0 .refuses k e in
         let i = y .0 in
         refused-says (x .number) (omega (arith, i)) (λ s. u (subst SoundWords w s))
-from-unsound (call c) {x = x} u p =
+from-unsound (call c) old new x u p =
     let (y, w) = p .0 .performs .unsound u in
     let i = sym (number-of c x) ∙ y .0 in
     refused-says (x .number) (omega (arith, i)) (λ s. u (subst SoundWords w s))
-from-unsound (states r) {x = x} u p =
+from-unsound (states r) old new x u p =
     let i = p .1 .unsound u .0 in
     refused-says (x .number) (omega (arith, i)) (λ s. u (subst SoundWords (p .0) s))
 
 pub obeyed-says : (c : Command) (b : Bool) {old new : List ℕ} {x : Outcome} → Says (SoundWords old) b → Obeys c old new x → Says (SoundWords new) (soundAfter b (x .number))
-obeyed-says c true (holds s) o = holds (stays-sound c s (o .posted))
-obeyed-says c false (fails u) o = from-unsound c u (o .posted)
+obeyed-says c true (holds s) o = holds (stays-sound c _ _ _ s (o .posted))
+obeyed-says c false (fails u) o = from-unsound c _ _ _ u (o .posted)
 
 -- ---- the bytes at hand
 

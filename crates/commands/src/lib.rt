@@ -203,11 +203,11 @@ fn obey_unsound(words: &mut [u32], command: Command) -> Outcome
 }
 
 // The command of the record of so many bytes, on words that are a sound table or not; its formula is the rest of the record.
-fn obey(words: &mut [u32], is_sound: bool, bytes: &[u8], size: usize, command: Command) -> Outcome
-    requires { ⌜ (startOf command ≤ size) × (size ≤ length (now bytes)) × Says (SoundWords (now words)) is_sound ⌝ }
+fn obey(words: &mut [u32], sound: bool, bytes: &[u8], size: usize, command: Command) -> Outcome
+    requires { ⌜ (startOf command ≤ size) × (size ≤ length (now bytes)) × Says (SoundWords (now words)) sound ⌝ }
     ensures { λ x. ⌜ Obeys (asked (now (bytes .entry)) size command) (now (words .entry)) (now (words .exit)) x ⌝ }
 {
-    if !is_sound {
+    if !sound {
         return obey_unsound(words, command);
     }
     match command {
@@ -221,10 +221,10 @@ fn obey(words: &mut [u32], is_sound: bool, bytes: &[u8], size: usize, command: C
 }
 
 // Whether the words are a sound table after a record with that number: they were one before it, or it was answered, which on other words fresh alone is.
-pub fn sound_after(is_sound: bool, number: u32) -> bool
-    ensures { λ r. ⌜ r ≡ soundAfter is_sound number ⌝ }
+pub fn sound_after(sound: bool, number: u32) -> bool
+    ensures { λ r. ⌜ r ≡ soundAfter sound number ⌝ }
 {
-    if is_sound {
+    if sound {
         return true;
     }
     if number == 0 {
@@ -233,9 +233,9 @@ pub fn sound_after(is_sound: bool, number: u32) -> bool
     false
 }
 
-// Obeys the record at the front of the bytes at hand; `is_sound` says whether the words are a sound table, `ended` that no more bytes will come.
-pub fn take_record(words: &mut [u32], is_sound: bool, bytes: &[u8], ended: bool) -> Taken
-    requires { ⌜ Says (SoundWords (now words)) is_sound ⌝ }
+// Obeys the record at the front of the bytes at hand; `sound` says whether the words are a sound table, `ended` that no more bytes will come.
+pub fn take_record(words: &mut [u32], sound: bool, bytes: &[u8], ended: bool) -> Taken
+    requires { ⌜ Says (SoundWords (now words)) sound ⌝ }
     ensures { λ r. ⌜ TakePost (now (bytes .entry)) ended (now (words .entry)) (now (words .exit)) r ⌝ }
 {
     match read_record(bytes, ended) {
@@ -243,7 +243,7 @@ pub fn take_record(words: &mut [u32], is_sound: bool, bytes: &[u8], ended: bool)
         Found::More => Taken::More,
         Found::Bad => Taken::Bad,
         Found::Record { command, size } => {
-            let outcome = obey(words, is_sound, bytes, size, command);
+            let outcome = obey(words, sound, bytes, size, command);
             Taken::Done { outcome, size }
         }
     }
