@@ -87,9 +87,9 @@ obeyed-says c false (fails u) o = from-unsound c _ _ _ u (o .posted)
 
 -- ---- the bytes at hand
 
-pub taken-says : (bs : List ℕ) (ended b : Bool) (old new : List ℕ) {r : Taken} (v : Taken) → Says (SoundWords old) b → TakePost bs ended old new r → r ≡ v
+pub taken-says : (bs : List ℕ) (ended b : Bool) (old new : List ℕ) {r : Taken} (v : Taken) → TakePost bs ended old new r → r ≡ v → Says (SoundWords old) b
     → Says (SoundWords new) (soundTaken b v)
-taken-says bs ended b old new {r} v s p i = subst (λ (t : Taken). Says (SoundWords new) (soundTaken b t)) i (go (readRecord bs ended) p)
+taken-says bs ended b old new {r} v p i s = subst (λ (t : Taken). Says (SoundWords new) (soundTaken b t)) i (go (readRecord bs ended) p)
   where
     -- no word changes
     same : (t : Taken) → soundTaken b t ≡ b → r ≡ t → new ≡ old → Says (SoundWords new) (soundTaken b r)
@@ -103,6 +103,7 @@ taken-says bs ended b old new {r} v s p i = subst (λ (t : Taken). Says (SoundWo
     go found.Bad (e, w) = same Bad refl e w
     go (found.Record c size) (x, e, o) = subst (λ (t : Taken). Says (SoundWords new) (soundTaken b t)) (sym e) (obeyed-says (asked bs size c) b s o)
 
--- what was computed is that
-pub after-says : {P : Type 0} {r b : Bool} → r ≡ b → Says P b → Says P r
-after-says {P} e = subst (Says P) (sym e)
+-- a record was obeyed, and what is so after it was computed
+pub obeyed-sound : (bs : List ℕ) (ended b : Bool) (old new : List ℕ) {r : Taken} {x : Outcome} {size : ℕ} {t : Bool} → TakePost bs ended old new r → r ≡ Done x size
+    → Says (SoundWords old) b → t ≡ soundAfter b (x .number) → Says (SoundWords new) t
+obeyed-sound bs ended b old new {x = x} {size = size} p i s e = subst (Says (SoundWords new)) (sym e) (taken-says bs ended b old new (Done x size) p i s)
