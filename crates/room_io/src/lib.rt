@@ -122,7 +122,13 @@ fn turn(words: &mut [u32], input: &mut [u8], output: &mut [u8], p: Progress) -> 
     let start = p.start;
     let end = p.end;
     let pending = p.pending;
-    let reply = answer(words, p.sound, &input[start..end], p.ended, &mut output[pending..]);
+    let reply = answer(
+        words,
+        p.sound,
+        &input[start..end],
+        p.ended,
+        &mut output[pending..],
+    );
     let said = reply.said;
     match said {
         Said::Line { used, written } => Progress {
