@@ -1,3 +1,4 @@
 pub mod Obey
 pub mod Obeyed
+pub mod After
 pub mod OneOutcome

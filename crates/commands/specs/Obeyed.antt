@@ -10,6 +10,8 @@ use Rattle.book.specs.Program.{Command, start, call, states, opOf}
 use Rattle.book.specs.Table.{Reply}
 use Rattle.book.specs.Leaves.{plain, valued}
 use Rattle.contract.specs.Posts.{FreshPost, CallPost, AskPost}
+use Rattle.contract.specs.Seen.{SoundWords}
+use Rattle.contract.specs.Checked.{call-unsound, ask-unsound}
 use Rattle.contract.specs.Answered.{count-answered}
 use Rattle.calls.specs.declared.Started.{Started}
 use Rattle.calls.specs.declared.Started.the-variants as started
@@ -92,6 +94,19 @@ module _ (acc : Terms) (r R : ℕ) (bs : List ℕ) {old new : List ℕ} {x : Out
 -- a call's terms, as a function made them
 pub termed : {t u : Terms} (r R : ℕ) (bs old new : List ℕ) (y : Reply) → t ≡ u → CallPost (set t r R bs) old new y → CallPost (set u r R bs) old new y
 termed r R bs old new y e d = subst (λ (t : Terms). CallPost (set t r R bs) old new y) e d
+
+-- ---- words that are no sound table
+
+-- "table unsound": 2, and all words are kept
+module _ {ws : List ℕ} {x : Outcome} (n : SoundWords ws → ⊥) where
+  pub call-refused : (c : Call) → x ≡ plainOutcome (opOf c) 2 0 → Obeys (call c) ws ws x
+  call-refused (relation t bs) i = call-told (relation t bs) tt (call-unsound ws n (relation t bs)) refl i
+  call-refused (set acc r R bs) i = set-refused acc r R bs (omega arith) (call-unsound ws n (set acc r R bs)) i
+  call-refused (clear r) i = call-told (clear r) tt (call-unsound ws n (clear r)) refl i
+  call-refused collect i = call-told collect tt (call-unsound ws n collect) refl i
+
+  pub count-refused : (r : ℕ) → x ≡ plainOutcome 5 2 0 → Obeys (states r) ws ws x
+  count-refused r i = count-told r (ask-unsound ws n (count r)) refl i
 
 -- ---- a record
 

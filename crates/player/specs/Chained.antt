@@ -113,6 +113,11 @@ room-at {cs = cs} p e room h = omega (arith, p .placed, passed-left cs (p .passe
 pub progress-all : {bs w₀ l₀ w l : List ℕ} {at place : ℕ} → Progress bs w₀ l₀ at place w l → length bs ≤ at → AllPost bs w₀ w l₀ l
 progress-all p h = record { entries = p .entries; read = passed-all (p .passed) h; chain = p .chain; listed = p .listed .contents }
 
+-- no record at all
+pub all-none : {bs : List ℕ} (w l : List ℕ) {k : ℕ} (cs : List Command) → commands bs ≡ some cs → length cs ≡ k → k ≡ 0 → AllPost bs w w l l
+all-none w l [] e i z = record { entries = []; read = e; chain = done; listed = refl }
+all-none w l (c ∷ cs) e i z = absurd (omega arith)
+
 -- all of them, with the claim
 pub all-done : {bs w w′ l l′ : List ℕ} {k : ℕ} {cs : List Command} → AllPost bs w w′ l l′ → commands bs ≡ some cs → length cs ≡ k → DonePost bs w w′ l l′ k
 all-done {cs = cs} p e i = record {

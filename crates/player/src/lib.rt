@@ -1,13 +1,17 @@
 // A whole list of calls, given as records in a byte slice, over lent words.
 use commands::Outcome;
 use commands::Taken;
+use commands::sound_after;
 use commands::take_record;
 use records::Found;
 use records::read_record;
+use soundness::sound;
 ghost use mathlib.Core.Path.{_≡_};
 ghost use Prim.Native.Nat.{_+_, _*_, _≤_, _<_};
 ghost use lib.ListN.{length, drop};
 ghost use lib.Seq.{sets};
+ghost use Rattle.soundness.specs.Says.{Says};
+ghost use Rattle.contract.specs.Seen.{SoundWords};
 ghost use Rattle.player.specs.Play.{SizePost, CountPost, entryWords, outcomeWords, Readable, NextPost, AllPre, AllPost, PlayPost};
 
 // What a list of calls came to: so many records were obeyed; or, with nothing changed, there was no room for their outcomes or a record could not be read.
@@ -21,6 +25,12 @@ pub enum Played {
 enum Counted {
     Records(usize),
     Unreadable,
+}
+
+// A record that was obeyed: its size, and whether the words are a sound table after it.
+struct Step {
+    size: usize,
+    sound: bool,
 }
 
 // The words of an outcome in the list: number, node, rounds, value, peak.
@@ -74,31 +84,38 @@ fn put_outcome(list: &mut [u32], at: usize, x: Outcome)
     list[at + 4] = x.peak;
 }
 
-// Obeys the record at the front of the bytes, writes its outcome to the list, and answers its size.
-fn obey_next(words: &mut [u32], bytes: &[u8], list: &mut [u32], at: usize) -> usize
-    requires { ⌜ (1 ≤ length (now bytes)) × Readable (now bytes) × (at + entryWords ≤ length (now list)) ⌝ }
-    ensures { λ r. ⌜ NextPost (now (bytes .entry)) (now (words .entry)) (now (words .exit)) (now (list .entry)) (now (list .exit)) at r ⌝ }
+// Obeys the record at the front of the bytes, and writes its outcome to the list; `sound` says whether the words are a sound table.
+fn obey_next(words: &mut [u32], sound: bool, bytes: &[u8], list: &mut [u32], at: usize) -> Step
+    requires { ⌜ (1 ≤ length (now bytes)) × Readable (now bytes) × (at + entryWords ≤ length (now list)) × Says (SoundWords (now words)) sound ⌝ }
+    ensures { λ r. ⌜ NextPost (now (bytes .entry)) (now (words .entry)) (now (words .exit)) (now (list .entry)) (now (list .exit)) at (r .size) ⌝ }
+    ensures { λ r. ⌜ Says (SoundWords (now (words .exit))) (r .sound) ⌝ }
 {
-    match take_record(words, bytes, true) {
+    match take_record(words, sound, bytes, true) {
         Taken::Done { outcome, size } => {
             put_outcome(list, at, outcome);
-            size
+            Step {
+                size,
+                sound: sound_after(sound, outcome.number),
+            }
         }
-        Taken::End => 0,
-        Taken::More => 0,
-        Taken::Bad => 0,
+        Taken::End => Step { size: 0, sound },
+        Taken::More => Step { size: 0, sound },
+        Taken::Bad => Step { size: 0, sound },
     }
 }
 
-// Obeys all records and writes their outcomes to the list.
+// Obeys all records and writes their outcomes to the list. Whether the words are a sound table is decided once: what a record leaves is known.
 fn obey_all(words: &mut [u32], bytes: &[u8], list: &mut [u32])
     requires { ⌜ AllPre (now bytes) (now list) ⌝ }
     ensures { λ _. ⌜ AllPost (now (bytes .entry)) (now (words .entry)) (now (words .exit)) (now (list .entry)) (now (list .exit)) ⌝ }
 {
+    let mut is_sound = sound(words);
     let mut at = 0;
     let mut next = 0;
     while at < bytes.len() {
-        at += obey_next(words, &bytes[at..], list, next);
+        let step = obey_next(words, is_sound, &bytes[at..], list, next);
+        is_sound = step.sound;
+        at += step.size;
         next += Entry::WORDS;
     }
 }
@@ -112,6 +129,9 @@ pub fn play(words: &mut [u32], bytes: &[u8], list: &mut [u32]) -> Played
     };
     if list.len() / Entry::WORDS < count {
         return Played::Short;
+    }
+    if count == 0 {
+        return Played::Done(0);
     }
     obey_all(words, bytes, list);
     Played::Done(count)

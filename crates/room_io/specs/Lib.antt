@@ -4,3 +4,4 @@ pub mod Turns
 pub mod Served
 pub mod Text
 pub mod Pace
+pub mod Known

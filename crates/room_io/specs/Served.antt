@@ -28,9 +28,9 @@ pub record State : Type 0 where
   pub handed : List ℕ
   pub way : Way
 
--- nothing is at hand and nothing is unwritten
+-- nothing is at hand, nothing is unwritten, and "All zero words are unsound"
 abbrev pub start : Progress
-start = record { start = 0; end = 0; pending = 0; ended = false; done = false }
+start = record { start = 0; end = 0; pending = 0; ended = false; done = false; sound = false }
 
 abbrev pub atStart : List ℕ → List ℕ → List ℕ → State
 atStart w i o = record { progress = start; words = w; input = i; output = o; brought = []; handed = []; way = going }

@@ -6,19 +6,23 @@ use rooms::answer;
 ghost use mathlib.Core.Path.{_≡_};
 ghost use Prim.Native.Nat.{_-_, _≤_, _<_};
 ghost use lib.ListN.{length, take, drop};
+ghost use Rattle.soundness.specs.Says.{Says};
+ghost use Rattle.contract.specs.Seen.{SoundWords};
 ghost use Rattle.rooms.specs.Replies.{lineRoom};
 ghost use Rattle.rooms.specs.Whole.{zeros};
 ghost use Rattle.room_io.specs.Places.{Placed, ReadWithin, Refilled, Turned, longest};
 ghost use Rattle.room_io.specs.Served.{Served};
 
 // How far the program is: the bytes at hand stand in the input buffer from `start` to `end`, and `pending` bytes at the front of the output
-// buffer are still to be written. `ended`: no more bytes will come. `done`: the last line is written, or a read or a write failed.
+// buffer are still to be written. `ended`: no more bytes will come. `done`: the last line is written, or a read or a write failed. `sound`: the
+// words are a sound table.
 pub struct Progress {
     pub start: usize,
     pub end: usize,
     pub pending: usize,
     pub ended: bool,
     pub done: bool,
+    pub sound: bool,
 }
 
 // What a read brought: so many bytes, the end of the input, or nothing, as it failed.
@@ -60,6 +64,7 @@ fn to_front(input: &mut [u8], start: usize, end: usize) -> usize
 fn refill(input: &mut [u8], p: Progress) -> Progress
     requires { ⌜ (p .start ≤ p .end) × (p .end ≤ length (now input)) × (p .end - p .start < length (now input)) ⌝ }
     ensures { λ r. ⌜ Refilled p r (now (input .entry)) (now (input .exit)) ⌝ }
+    ensures { λ r. ⌜ r .sound ≡ p .sound ⌝ }
 {
     let held = to_front(input, p.start, p.end);
     match read_some(&mut input[held..]) {
@@ -69,6 +74,7 @@ fn refill(input: &mut [u8], p: Progress) -> Progress
             pending: p.pending,
             ended: false,
             done: false,
+            sound: p.sound,
         },
         Brought::End => Progress {
             start: 0,
@@ -76,6 +82,7 @@ fn refill(input: &mut [u8], p: Progress) -> Progress
             pending: p.pending,
             ended: true,
             done: false,
+            sound: p.sound,
         },
         Brought::Failed => Progress {
             start: 0,
@@ -83,6 +90,7 @@ fn refill(input: &mut [u8], p: Progress) -> Progress
             pending: p.pending,
             ended: true,
             done: true,
+            sound: p.sound,
         },
     }
 }
@@ -91,6 +99,7 @@ fn refill(input: &mut [u8], p: Progress) -> Progress
 fn flush(output: &[u8], p: Progress) -> Progress
     requires { ⌜ p .pending ≤ length (now output) ⌝ }
     ensures { λ r. ⌜ (r .start ≡ p .start) × (r .end ≡ p .end) × (r .pending ≡ 0) × (r .ended ≡ p .ended) ⌝ }
+    ensures { λ r. ⌜ r .sound ≡ p .sound ⌝ }
 {
     let pending = p.pending;
     let is_written = io::write_all(STDOUT_FILENO, &output[..pending]);
@@ -100,24 +109,35 @@ fn flush(output: &[u8], p: Progress) -> Progress
         pending: 0,
         ended: p.ended,
         done: !is_written,
+        sound: p.sound,
     }
 }
 
 // One answer, and the read or the write that it asks for.
 fn turn(words: &mut [u32], input: &mut [u8], output: &mut [u8], p: Progress) -> Progress
-    requires { ⌜ Placed p (length (now input)) (length (now output)) ⌝ }
+    requires { ⌜ Placed p (length (now input)) (length (now output)) × Says (SoundWords (now words)) (p .sound) ⌝ }
     ensures { λ r. ⌜ Turned p r (now (words .entry)) (now (words .exit)) (now (input .entry)) (now (input .exit)) (now (output .entry)) (now (output .exit)) ⌝ }
+    ensures { λ r. ⌜ Says (SoundWords (now (words .exit))) (r .sound) ⌝ }
 {
     let start = p.start;
     let end = p.end;
     let pending = p.pending;
-    match answer(words, &input[start..end], p.ended, &mut output[pending..]) {
+    let reply = answer(
+        words,
+        p.sound,
+        &input[start..end],
+        p.ended,
+        &mut output[pending..],
+    );
+    let said = reply.said;
+    match said {
         Said::Line { used, written } => Progress {
             start: start + used,
             end,
             pending: pending + written,
             ended: p.ended,
             done: false,
+            sound: reply.sound,
         },
         Said::End { written } => Progress {
             start,
@@ -125,13 +145,14 @@ fn turn(words: &mut [u32], input: &mut [u8], output: &mut [u8], p: Progress) -> 
             pending: pending + written,
             ended: p.ended,
             done: true,
+            sound: reply.sound,
         },
         Said::More => refill(input, p),
         Said::Room => flush(output, p),
     }
 }
 
-// Answers records until the last line is written, on the program's words and through buffers that are lent.
+// Answers records until the last line is written, on the program's words, which are no sound table at first, and through buffers that are lent.
 fn serve(words: &mut [u32], input: &mut [u8], output: &mut [u8])
     requires { ⌜ (now words ≡ zeros) × (longest ≤ length (now input)) × (lineRoom ≤ length (now output)) ⌝ }
     ensures { λ _. ⌜ Served (now (words .entry)) (now (words .exit)) (now (input .entry)) (now (input .exit)) (now (output .entry)) (now (output .exit)) ⌝ }
@@ -142,6 +163,7 @@ fn serve(words: &mut [u32], input: &mut [u8], output: &mut [u8])
         pending: 0,
         ended: false,
         done: false,
+        sound: false,
     };
     let mut turns = u64::MAX;
     while turns > 0 && !p.done {

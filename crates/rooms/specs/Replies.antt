@@ -174,3 +174,18 @@ module _ {bs : List ℕ} {ended : Bool} {old new out out′ : List ℕ} where
 
   pub more-said : {r : Said} → Replies bs ended old new out out′ r → r ≡ said.More → (ended ≡ false) × (length bs < 1_102)
   more-said h e = more-fits (subst (Replies bs ended old new out out′) e h)
+
+  -- where no line is written the words stay
+  pub more-same : {r : Said} → Replies bs ended old new out out′ r → r ≡ said.More → new ≡ old
+  more-same {r} h i = plain-cases (new ≡ old) h (λ e. never (cc)) go
+    where
+      go : lineRoom ≤ length out → (f : Found) → readRecord bs ended ≡ f → (t : Taken) → Takes bs old new f t → Prints t out out′ r → new ≡ old
+      go g found.End j t p w = p .1
+      go g found.More j t p w = p .1
+      go g found.Bad j t p w = p .1
+      go g (found.Record c size) j t (x, k, o) w = let (m, e, q) = subst (λ (v : Taken). Prints v out out′ r) k w in never (cc)
+
+  pub room-same : {r : Said} → Replies bs ended old new out out′ r → r ≡ said.Room → new ≡ old
+  room-same {r} h i = by-cases (decLt (length out) lineRoom)
+      (λ l. h .room l .1)
+      (λ l. absurd (room-wanted (subst (Replies bs ended old new out out′) i h) (omega arith)))

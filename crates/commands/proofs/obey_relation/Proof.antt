@@ -1,4 +1,4 @@
--- `obey_relation` is the reply of `relation` as an outcome. Assumes nothing.
+-- `obey_relation` is the reply of `relation_unchecked` as an outcome. Assumes nothing.
 use mathlib.Core.Path.{refl, ap, sym, _∙_, subst}
 use Rattle.book.specs.Leaves.{plain}
 use Rattle.contract.specs.Posts.{CallPost}
@@ -12,12 +12,12 @@ pub obey-relation-spec : {M : Type 1} → statement M
 obey-relation-spec =
     tie.close
     (tie.spec
-    (λ c κs. search needs)
+    (λ c κs. c .before .before .before .pre)
     (λ c. search needs)
     (λ c. search needs)
     (λ c κs. search needs)
     (λ c κs. search needs)
     (λ c. search needs)
-    (λ c. relation-done _ _ _ (subst (CallPost _ _ _) (ap loadedReply (c .before .p .given .1)) (c .before .before .before .before .before .relation .ensures)) refl)
+    (λ c. relation-done _ _ _ (subst (CallPost _ _ _) (ap loadedReply (c .before .p .given .1)) (c .before .before .before .before .before .relation-unchecked .ensures)) refl)
     (λ c. search needs)
-    (λ c. call-told _ tt (c .before .before .before .before .before .before .before .relation .ensures) (ap loadedReply (c .before .before .before .x .given .1) ∙ ap plain (sym (c .before .refusal-number .ensures))) (c .plain .ensures)))
+    (λ c. call-told _ tt (c .before .before .before .before .before .before .before .relation-unchecked .ensures) (ap loadedReply (c .before .before .before .x .given .1) ∙ ap plain (sym (c .before .refusal-number .ensures))) (c .plain .ensures)))

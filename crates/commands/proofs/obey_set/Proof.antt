@@ -1,4 +1,4 @@
--- `obey_set` is the reply of `set` as an outcome, with the count of what it stored. Assumes nothing.
+-- `obey_set` is the reply of `set_unchecked` as an outcome, with the count of what it stored: an answered set leaves a sound table. Assumes nothing.
 use mathlib.Core.Path.{refl, ap, sym, _∙_, subst}
 use Prim.Native.Nat.{ℕ, _≤_}
 use Rattle.book.specs.Leaves.{plain}
@@ -15,13 +15,13 @@ obey-set-spec =
     tie.close
     (tie.spec
     (λ c κs. search needs)
-    (λ c κs. search needs)
+    (λ c κs. c .before .before .before .before .pre)
+    (λ c. search needs)
+    (λ c κs. c .before .before .before .before .before .before .set-unchecked .ensures .performs .served (c .before .before .before .before .before .before .before .before .before .before .before .pre) .0)
     (λ c. search needs)
     (λ c κs. search needs)
-    (λ c. search needs)
-    (λ c κs. search needs)
     (λ c κs. search needs)
     (λ c. search needs)
-    (λ c. set-done _ _ _ _ _ _ _ _ (subst (CallPost _ _ _) (ap storedReply (c .before .before .before .a .given .1)) (termed _ _ _ _ _ _ (c .before .before .before .before .before .before .before .before .lone-terms .ensures) (c .before .before .before .before .before .before .before .set .ensures))) (c .states-in .ensures) refl)
+    (λ c. set-done _ _ _ _ _ _ _ _ (subst (CallPost _ _ _) (ap storedReply (c .before .before .before .a .given .1)) (termed _ _ _ _ _ _ (c .before .before .before .before .before .before .before .before .lone-terms .ensures) (c .before .before .before .before .before .before .before .set-unchecked .ensures))) (c .states-in .ensures) refl)
     (λ c. search needs)
-    (λ c. set-refused _ _ _ _ (subst (λ (k : ℕ). 1 ≤ k) (sym (c .before .refusal-number .ensures)) (refusal-some (c .before .before .before .x .given .0 .0))) (subst (CallPost _ _ _) (ap storedReply (c .before .before .before .x .given .1) ∙ ap plain (sym (c .before .refusal-number .ensures))) (termed _ _ _ _ _ _ (c .before .before .before .before .before .before .before .before .lone-terms .ensures) (c .before .before .before .before .before .before .before .set .ensures))) (c .plain .ensures)))
+    (λ c. set-refused _ _ _ _ (subst (λ (k : ℕ). 1 ≤ k) (sym (c .before .refusal-number .ensures)) (refusal-some (c .before .before .before .x .given .0 .0))) (subst (CallPost _ _ _) (ap storedReply (c .before .before .before .x .given .1) ∙ ap plain (sym (c .before .refusal-number .ensures))) (termed _ _ _ _ _ _ (c .before .before .before .before .before .before .before .before .lone-terms .ensures) (c .before .before .before .before .before .before .before .set-unchecked .ensures))) (c .plain .ensures)))

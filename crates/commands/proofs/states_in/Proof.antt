@@ -10,8 +10,8 @@ pub states-in-spec : {M : Type 1} → statement M
 states-in-spec =
     tie.close
     (tie.spec
-    (λ c κs. search needs)
+    (λ c κs. c .before .pre)
     (λ c. search needs)
     (λ c. search needs)
-    (λ c. (c .before .before .before .count .result, c .before .before .before .count .ensures, sym (ap (λ (v : Answer). answerReply v .value) (c .before .k .given .1))))
-    (λ c. (c .before .before .count .result, c .before .before .count .ensures, sym (ap (λ (v : Answer). answerReply v .value) (c .enum-told .given .1)))))
+    (λ c. (c .before .before .before .count-unchecked .result, c .before .before .before .count-unchecked .ensures, sym (ap (λ (v : Answer). answerReply v .value) (c .before .k .given .1))))
+    (λ c. (c .before .before .count-unchecked .result, c .before .before .count-unchecked .ensures, sym (ap (λ (v : Answer). answerReply v .value) (c .enum-told .given .1)))))

@@ -1,5 +1,6 @@
 -- `room_io::refill` meets its contract: the bytes at hand stand at the front, and what a read brought stands behind them.
 -- Assumes nothing.
+use mathlib.Core.Path.{refl}
 use mathlib.Core.Bool.{true, false}
 use native.Mathlib.Omega.{arith}
 use Rattle.room_io.specs.Turns.{bytes-fit, refilled-bytes, refilled-none}
@@ -21,8 +22,8 @@ refill-spec =
     (λ c. search needs)
     (λ c. search needs)
     (λ c. search needs)
-    (λ c. refilled-bytes (c .before .before .before .before .before .before .before .before .before .before .before .before .args .p) (c .before .before .before .before .before .before .before .before .before .before .before .before .args .input .now) (c .before .before .before .before .before .before .before .before .before .to-front .last .0) (c .before .before .before .before .before .read-some .last .0) (omega (arith, c .before .before .before .before .before .before .before .before .before .to-front .ensures .0, c .before .before .before .before .before .before .before .before .before .to-front .kept .0)) (c .before .before .before .before .before .before .before .before .before .to-front .ensures .0) (c .before .before .before .before .before .before .before .before .before .to-front .ensures .1) (c .before .before .before .before .before .read-some .kept .0) (c .before .before .before .before .before .read-some .ensures) (c .before .n .given .1))
+    (λ c. (refilled-bytes (c .before .before .before .before .before .before .before .before .before .before .before .before .args .p) (c .before .before .before .before .before .before .before .before .before .before .before .before .args .input .now) (c .before .before .before .before .before .before .before .before .before .to-front .last .0) (c .before .before .before .before .before .read-some .last .0) (omega (arith, c .before .before .before .before .before .before .before .before .before .to-front .ensures .0, c .before .before .before .before .before .before .before .before .before .to-front .kept .0)) (c .before .before .before .before .before .before .before .before .before .to-front .ensures .0) (c .before .before .before .before .before .before .before .before .before .to-front .ensures .1) (c .before .before .before .before .before .read-some .kept .0) (c .before .before .before .before .before .read-some .ensures) (c .before .n .given .1), refl))
     (λ c. search needs)
-    (λ c. refilled-none (c .before .before .before .before .before .before .before .before .before .before .before .args .p) (c .before .before .before .before .before .before .before .before .before .before .before .args .input .now) (c .before .before .before .before .before .before .before .before .to-front .last .0) (c .before .before .before .before .read-some .last .0) (omega (arith, c .before .before .before .before .before .before .before .before .to-front .ensures .0, c .before .before .before .before .before .before .before .before .to-front .kept .0)) (c .before .before .before .before .before .before .before .before .to-front .ensures .0) (c .before .before .before .before .before .before .before .before .to-front .ensures .1) (c .before .before .before .before .read-some .kept .0) false)
+    (λ c. (refilled-none (c .before .before .before .before .before .before .before .before .before .before .before .args .p) (c .before .before .before .before .before .before .before .before .before .before .before .args .input .now) (c .before .before .before .before .before .before .before .before .to-front .last .0) (c .before .before .before .before .read-some .last .0) (omega (arith, c .before .before .before .before .before .before .before .before .to-front .ensures .0, c .before .before .before .before .before .before .before .before .to-front .kept .0)) (c .before .before .before .before .before .before .before .before .to-front .ensures .0) (c .before .before .before .before .before .before .before .before .to-front .ensures .1) (c .before .before .before .before .read-some .kept .0) false, refl))
     (λ c. search needs)
-    (λ c. refilled-none (c .before .before .before .before .before .before .before .before .before .before .before .args .p) (c .before .before .before .before .before .before .before .before .before .before .before .args .input .now) (c .before .before .before .before .before .before .before .before .to-front .last .0) (c .before .before .before .before .read-some .last .0) (omega (arith, c .before .before .before .before .before .before .before .before .to-front .ensures .0, c .before .before .before .before .before .before .before .before .to-front .kept .0)) (c .before .before .before .before .before .before .before .before .to-front .ensures .0) (c .before .before .before .before .before .before .before .before .to-front .ensures .1) (c .before .before .before .before .read-some .kept .0) true))
+    (λ c. (refilled-none (c .before .before .before .before .before .before .before .before .before .before .before .args .p) (c .before .before .before .before .before .before .before .before .before .before .before .args .input .now) (c .before .before .before .before .before .before .before .before .to-front .last .0) (c .before .before .before .before .read-some .last .0) (omega (arith, c .before .before .before .before .before .before .before .before .to-front .ensures .0, c .before .before .before .before .before .before .before .before .to-front .kept .0)) (c .before .before .before .before .before .before .before .before .to-front .ensures .0) (c .before .before .before .before .before .before .before .before .to-front .ensures .1) (c .before .before .before .before .read-some .kept .0) true, refl)))
