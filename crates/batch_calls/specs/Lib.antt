@@ -1,3 +1,5 @@
 pub mod Posts
+pub mod Laid
 pub mod Members
 pub mod Facts
+pub mod OneBatch

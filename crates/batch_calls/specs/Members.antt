@@ -1,77 +1,70 @@
 -- Each return of `members` meets its contract. Assumes nothing.
 use mathlib.Core.Path.{_≡_, refl, ap, sym, _∙_, subst}
-use mathlib.Core.Logic.{_≢_, by-cases, ⊎-elim}
-use mathlib.Core.List.{List, [], _∷_}
-use mathlib.Core.List.{List·Memᴰ as Mem, List·Memᴰ·head as here, List·Memᴰ·tail as there, List·Memᴰ·cases-cons as mem-cases, List·Memᴰ·not-nil as mem-nil}
+use mathlib.Core.Logic.{_≢_, ⊎-elim}
+use mathlib.Core.Bool.{Bool}
+use mathlib.Core.List.{List, [], _∷_, map}
+use mathlib.Core.List.{List·Memᴰ as Mem, List·Memᴰ·cases-cons as mem-cases, List·Memᴰ·not-nil as mem-nil}
 use mathlib.Core.Option.{none, some}
-use Prim.Native.Nat.{ℕ, zero, suc, _+_, _-_, _*_, _/_, _%_, _^_, _≤_, _<_}
+use Prim.Native.Nat.{ℕ, zero, suc, _+_, _-_, _*_, _^_, _≤_, _<_}
 use native.Mathlib.Omega.{arith}
-use native.Mathlib.Nat.{div-add-mod', mod-lt, div-eq-of-lt}
-use native.Mathlib.Decide.{decLt, ℕ-discrete}
-use lib.ListN.{length, getD, set}
-use lib.Seq.{getD-set-same, getD-set-other}
-use lib.Pow.{pow-pos}
+use lib.ListN.{length, getD, take, drop, length-map, length-drop}
+use lib.Seq.{ext-getD, length-take-le, getD-take, getD-drop}
+use Rattle.mucalculus.specs.Sets.{mem}
 use Rattle.diagram.specs.Rows.{den}
 use Rattle.layout.specs.Places.{REGISTERS, BITS, ROWS, FIRST-REGISTER}
 use Rattle.layout.specs.View.{view, headerOf}
 use Rattle.soundness.specs.Used.{rowsOf}
 use Rattle.soundness.specs.Roots.{ref-arrow}
 use Rattle.soundness.specs.Sound.{tableOf}
-use Rattle.soundness.specs.Says.{Says}
 use Rattle.collect.specs.Answers.{sound-base}
+use Rattle.collect.specs.Lent.{getD-mem}
 use Rattle.states.specs.Walk.{WalkPre}
-use Rattle.book.specs.States.{pairVal}
-use Rattle.book.specs.Book.{member, oneOf}
+use Rattle.book.specs.States.{pairVal, nowOf-pairVal}
+use Rattle.book.specs.Book.{registers, oneOf}
 use Rattle.book.specs.BookOf.{bookOf}
 use Rattle.book.specs.Stored.{some-inj, none-some}
-use Rattle.book.specs.Leaves.{plain, valued}
-use Rattle.book.specs.Questions as book
+use Rattle.book.specs.Leaves.{plain, valued, shows-filled}
 use Rattle.contract.specs.Seen.{arrowIn, seen, SoundWords, sound-shows-book}
-use Rattle.contract.specs.Posts.{AskPost}
-use Rattle.batch.specs.Visits.{rowReads, entered-reads}
-use Rattle.batch.specs.Arrange.{Arranged, inside-now, stays, kept-after}
-use Rattle.batch.specs.Parts.{Segment, Among, AskPre, Asked}
-use Rattle.batch_calls.specs.Posts.{ListsFit, Below, InRange, Laid, Stands, Answered, BatchPost}
-
--- a state is below 2^n exactly if nothing is left of it after n bits
-pub state-out : (s n : ℕ) → s / 2 ^ n ≢ 0 → s < 2 ^ n → ⊥
-state-out s n h l = h (div-eq-of-lt l)
-
-pub state-in : (s n : ℕ) → s / 2 ^ n ≡ 0 → s < 2 ^ n
-state-in s n e =
-    let p : 0 < 2 ^ n = pow-pos n in
-    let d = div-add-mod' s (2 ^ n) in
-    let m = mod-lt s p in
-    subst (λ (q : ℕ). q * 2 ^ n + s % 2 ^ n ≡ s → s < 2 ^ n) (sym e) (λ z. omega arith) d
-
--- the places are laid one by one
-pub laid-none : (u : List ℕ) → Laid u u 0
-laid-none u = record { first = λ i l. absurd (omega arith); rest = λ i l. refl }
-
-pub laid-more : {u v : List ℕ} {k : ℕ} → Laid u v k → k < length v → Laid u (set v k k) (k + 1)
-laid-more {u} {v} {k} d l = record {
-  first = λ i h. by-cases (ℕ-discrete i k) (λ e. rw e (getD-set-same v k k 0 l)) (λ n. getD-set-other v k i k 0 n ∙ d .first i (omega arith));
-  rest = λ i h. getD-set-other v k i k 0 (λ e. omega arith) ∙ d .rest i (omega arith);
-}
+use Rattle.batch.specs.Entered.{entered-reads}
+use Rattle.batch.specs.Arrange.{inside-now, stays, kept-after}
+use Rattle.batch.specs.Parts.{Segment, Among}
+use Rattle.batch.specs.Asked.{AskPre, Asked}
+use Rattle.batch_calls.specs.Posts.{Fit, Below, InRange, answersOf, Stands, Rearranged, Answered, BatchPost}
+use Rattle.batch_calls.specs.Laid.{Laid}
 
 -- the members of a list stand at its places
-pub mem-at : (ss : List ℕ) (s : ℕ) → Mem s ss → (i : ℕ) × (i < length ss) × (getD ss i 0 ≡ s)
+mem-at : (ss : List ℕ) (s : ℕ) → Mem s ss → (i : ℕ) × (i < length ss) × (getD ss i 0 ≡ s)
 mem-at [] s m = absurd (mem-nil m)
 mem-at (x ∷ xs) s m = ⊎-elim
     (λ e. (0, omega arith, sym e))
     (λ t. let (i, l, e) = mem-at xs s t in (suc i, omega arith, e))
     (mem-cases m)
 
-pub at-mem : (ss : List ℕ) (i : ℕ) → i < length ss → Mem (getD ss i 0) ss
-at-mem [] i l = absurd (omega arith)
-at-mem (x ∷ xs) zero l = here refl
-at-mem (x ∷ xs) (suc i) l = there (at-mem xs i (omega arith))
+-- what a list that is made place by place has there
+pub map-at : (f : ℕ → ℕ) (ss : List ℕ) (i : ℕ) → i < length ss → getD (map f ss) i 0 ≡ f (getD ss i 0)
+map-at f [] i l = absurd (omega arith)
+map-at f (x ∷ xs) zero l = refl
+map-at f (x ∷ xs) (suc i) l = map-at f xs i (omega arith)
+
+-- lists of the same length whose entries from place k on are equal
+drop-same : (k : ℕ) (u v : List ℕ) → length u ≡ length v → ((i : ℕ) → k ≤ i → getD u i 0 ≡ getD v i 0) → drop k u ≡ drop k v
+drop-same k u v size h = ext-getD 0 (drop k u) (drop k v)
+    (length-drop k u ∙ ap (λ (n : ℕ). n - k) size ∙ sym (length-drop k v))
+    (λ i l. getD-drop k u i 0 ∙ h (k + i) (omega arith) ∙ sym (getD-drop k v i 0))
+
+-- the walk from a register's arrow tells whether the book's set has the state
+pub set-walk : {r a : ℕ} (words : List ℕ) → SoundWords words → r < registers → seen words .reg r ≡ some a
+    → (A : List Bool) → bookOf (seen words) .reg r ≡ some A → (u : ℕ) → u < 2 ^ headerOf words BITS
+    → den (2 * headerOf words BITS) (rowsOf (tableOf words)) a (pairVal u 0) ≡ mem A u
+set-walk {r} {a} words s l ea A e u h =
+    let (B, is, d) = shows-filled (bookOf (seen words)) (seen words) r a (sound-shows-book words s) l ea in
+    d .same (pairVal u 0) ∙ ap (mem B) (nowOf-pairVal (headerOf words BITS) u 0 h) ∙ ap (λ (C : List Bool). mem C u) (some-inj (sym is ∙ e))
 
 -- n as it was read
-pub range-is : {n r : ℕ} {states : List ℕ} (words : List ℕ) → n ≡ headerOf words BITS → r < REGISTERS → Below states n → InRange (headerOf words BITS) r states
+pub range-is : {n r : ℕ} {states : List ℕ} (words : List ℕ) → n ≡ headerOf words BITS → r < REGISTERS → Below n states → InRange (headerOf words BITS) r states
 range-is words e l b = record { register = l; below = rw e at b }
 
-pub range-not : {n r : ℕ} {states : List ℕ} (words : List ℕ) → n ≡ headerOf words BITS → (Below states n → ⊥) → InRange (headerOf words BITS) r states → ⊥
+pub range-not : {n r : ℕ} {states : List ℕ} (words : List ℕ) → n ≡ headerOf words BITS → (Below n states → ⊥) → InRange (headerOf words BITS) r states → ⊥
 range-not words e n g = n (rw e (g .below))
 
 -- a filled register's arrow
@@ -80,9 +73,9 @@ filled words r x ex h = let e : headerOf words (FIRST-REGISTER + r) ≡ suc (x -
 
 module _ {r : ℕ} (words : List ℕ) {states order answers : List ℕ} where
   -- 1
-  pub refuse-sizes : (ListsFit (length states) (length order) (length answers) → ⊥) → BatchPost r words states order order answers answers (plain 1)
+  pub refuse-sizes : (Fit states order answers → ⊥) → BatchPost r words states order order answers answers (plain 1)
   refuse-sizes n = record {
-    sizes = λ _. (refl, refl, refl);
+    sizes = λ _. (refl, refl, refl, refl);
     unsound = λ f. absurd (n f);
     range = λ f. absurd (n f);
     empty = λ f. absurd (n f);
@@ -90,12 +83,12 @@ module _ {r : ℕ} (words : List ℕ) {states order answers : List ℕ} where
     kept = λ _. (refl, refl);
   }
 
-  module _ (f : ListsFit (length states) (length order) (length answers)) where
+  module _ (f : Fit states order answers) where
     -- 2
     pub refuse-unsound : (SoundWords words → ⊥) → BatchPost r words states order order answers answers (plain 2)
     refuse-unsound n = record {
       sizes = λ z. absurd (z f);
-      unsound = λ _ _. (refl, refl, refl);
+      unsound = λ _ _. (refl, refl, refl, refl);
       range = λ _ s. absurd (n s);
       empty = λ _ s. absurd (n s);
       answered = λ _ s. absurd (n s);
@@ -108,7 +101,7 @@ module _ {r : ℕ} (words : List ℕ) {states order answers : List ℕ} where
       refuse-range n = record {
         sizes = λ z. absurd (z f);
         unsound = λ _ z. absurd (z s);
-        range = λ _ _ _. (refl, refl, refl);
+        range = λ _ _ _. (refl, refl, refl, refl);
         empty = λ _ _ z. absurd (n z);
         answered = λ _ _ z. absurd (n z);
         kept = λ _. (refl, refl);
@@ -123,14 +116,15 @@ module _ {r : ℕ} (words : List ℕ) {states order answers : List ℕ} where
               sizes = λ n. absurd (n f);
               unsound = λ _ n. absurd (n s);
               range = λ _ _ n. absurd (n g);
-              empty = λ _ _ _ _. (refl, refl, refl);
-              answered = λ _ _ _ a q. absurd (none-some (sym e ∙ q));
+              empty = λ _ _ _ _. (refl, refl, refl, refl);
+              answered = λ _ _ _ a q _ _. absurd (none-some (sym e ∙ q));
               kept = λ _. (refl, refl);
             }
 
         module _ (h : x ≢ 0) where
           -- what the walk asks
-          pub ask-pre : {rows k : ℕ} {laid : List ℕ} → rows ≡ headerOf words ROWS → k ≡ length states → Laid order laid k → length laid ≡ length order → AskPre (view rows words) (x - 1) states laid answers 0 k
+          pub ask-pre : {rows k : ℕ} {laid : List ℕ} → rows ≡ headerOf words ROWS → k ≡ length states → Laid order laid k → length laid ≡ length order 
+              → AskPre (view rows words) (x - 1) states laid answers 0 k
           ask-pre {rows} {k} {laid} er ek d size =
               let l = g .register in
               let places : (m : ℕ) → k ≤ m → Segment m laid 0 k = λ m b. record {
@@ -151,18 +145,8 @@ module _ {r : ℕ} (words : List ℕ) {states order answers : List ℕ} where
               }
 
           -- ANSWERED, with what was read written out
-          module _ {q : ℕ} {laid order′ answers′ : List ℕ} (d : Laid order laid (length states)) (c : Asked (tableOf words) (x - 1) states laid order′ answers answers′ 0 (length states) q) where
-            -- answer i
-            answer-is : (i : ℕ) → i < length states → getD answers′ i 0 ≡ oneOf (den (2 * headerOf words BITS) (rowsOf (tableOf words)) (x - 1) (pairVal (getD states i 0) 0))
-            answer-is i l = subst (λ (p : ℕ). getD answers′ p 0 ≡ oneOf (den (2 * headerOf words BITS) (rowsOf (tableOf words)) (x - 1) (pairVal (getD states p 0) 0))) (d .first i l) (c .answered i (omega arith) l)
-
-            each-told : (i : ℕ) → i < length states → AskPost (member r (getD states i 0)) words (valued (getD answers′ i 0))
-            each-told i l = rw (answer-is i l) (record {
-              same = refl;
-              unsound = λ n. absurd (n s);
-              told = λ _. book.member-tells (bookOf (seen words)) (seen words) r (x - 1) (sound-shows-book words s) (g .register) (filled words r x ex h) (getD states i 0) (g .below i l);
-            })
-
+          module _ {q : ℕ} {laid order′ answers′ : List ℕ} (d : Laid order laid (length states)) (order-size : length order′ ≡ length order)
+              (answers-size : length answers′ ≡ length answers) (c : Asked (tableOf words) (x - 1) states laid order′ answers answers′ 0 (length states) q) where
             -- the entry at place j is where it stood
             entry : (j : ℕ) → j < length states → getD order′ j 0 ≡ c .arranged .was j
             entry j l = c .arranged .moved j ∙ d .first (c .arranged .was j) (c .arranged .inside j (omega arith) l .1)
@@ -178,20 +162,39 @@ module _ {r : ℕ} (words : List ℕ) {states order answers : List ℕ} where
                 }
 
             to-mem : (t : ℕ) → Among states laid 0 (length states) t → Mem t states
-            to-mem t m = subst (λ (u : ℕ). Mem u states) (ap (λ (p : ℕ). getD states p 0) (sym (d .first (m .at) (m .last))) ∙ m .is) (at-mem states (m .at) (m .last))
+            to-mem t m = subst (λ (u : ℕ). Mem u states) (ap (λ (p : ℕ). getD states p 0) (sym (d .first (m .at) (m .last))) ∙ m .is) (getD-mem states (m .at) (m .last))
 
             of-mem : (t : ℕ) → Mem t states → Among states laid 0 (length states) t
-            of-mem t m = let (i, l, e) = mem-at states t m in record { at = i; first = omega arith; last = l; is = ap (λ (p : ℕ). getD states p 0) (d .first i l) ∙ e }
+            of-mem t m =
+                let (i, l, e) = mem-at states t m in
+                record { at = i; first = omega arith; last = l; is = ap (λ (p : ℕ). getD states p 0) (d .first i l) ∙ e }
 
-            all-answered : Answered r (x - 1) words states order order′ answers answers′ (valued q)
-            all-answered = record {
-              number = refl;
-              each = each-told;
-              reads = entered-reads states to-mem of-mem (c .reads);
-              stands = stands-at;
-              places = λ j l. rw (entry j l) (c .arranged .inside j (omega arith) l .1);
-              order-rest = λ i l. kept-after (c .arranged) i l ∙ d .rest i l;
-              answers-rest = λ i l. c .kept i (λ p _ m e. let z = d .first p m in omega arith);
+            -- answer i, by the walk and by the book's set
+            walked : (i : ℕ) → i < length states
+                → getD answers′ i 0 ≡ oneOf (den (2 * headerOf words BITS) (rowsOf (tableOf words)) (x - 1) (pairVal (getD states i 0) 0))
+            walked i l = subst
+                (λ (p : ℕ). getD answers′ p 0 ≡ oneOf (den (2 * headerOf words BITS) (rowsOf (tableOf words)) (x - 1) (pairVal (getD states p 0) 0)))
+                (d .first i l) (c .answered i (omega arith) l)
+
+            by-set : (A : List Bool) → bookOf (seen words) .reg r ≡ some A → (i : ℕ) → i < length states → getD answers′ i 0 ≡ oneOf (mem A (getD states i 0))
+            by-set A e i l = walked i l ∙ ap oneOf (set-walk words s (g .register) (filled words r x ex h) A e (getD states i 0) (g .below i l))
+
+            all-answered : (A : List Bool) → bookOf (seen words) .reg r ≡ some A → Answered (x - 1) A words states order order′ answers answers′ (valued q)
+            all-answered A e = record {
+              reply = ap valued (entered-reads states to-mem of-mem (c .reads));
+              told =
+                  let size = length-take-le (length states) answers′ (let w = f .answer-room in omega arith) in
+                  ext-getD 0 (take (length states) answers′) (answersOf A states)
+                  (size ∙ sym (length-map states (λ u. oneOf (mem A u))))
+                  (λ i l. let m : i < length states = omega arith in
+                  getD-take (length states) answers′ i 0 m ∙ by-set A e i m ∙ sym (map-at (λ u. oneOf (mem A u)) states i m));
+              rest = drop-same (length states) answers′ answers answers-size (λ i l. c .kept i (λ p _ m z. let w = d .first p m in omega arith));
+              rearranged = record {
+                size = order-size;
+                each = stands-at;
+                places = λ j l. rw (entry j l) (c .arranged .inside j (omega arith) l .1);
+                rest = drop-same (length states) order′ order order-size (λ i l. kept-after (c .arranged) i l ∙ d .rest i l);
+              };
             }
 
             answer-at : BatchPost r words states order order′ answers answers′ (valued q)
@@ -200,10 +203,12 @@ module _ {r : ℕ} (words : List ℕ) {states order answers : List ℕ} where
               unsound = λ _ n. absurd (n s);
               range = λ _ _ n. absurd (n g);
               empty = λ _ _ _ n. absurd (none-some (sym n ∙ filled words r x ex h));
-              answered = λ _ _ _ a e. subst (λ (b : ℕ). Answered r b words states order order′ answers answers′ (valued q)) (some-inj (sym (filled words r x ex h) ∙ e)) all-answered;
+              answered = λ _ _ _ a e A i. subst (λ (b : ℕ). Answered b A words states order order′ answers answers′ (valued q))
+                  (some-inj (sym (filled words r x ex h) ∙ e)) (all-answered A i);
               kept = λ n. absurd (n refl);
             }
 
           pub answer : {rows k q : ℕ} {laid order′ answers′ : List ℕ} → rows ≡ headerOf words ROWS → k ≡ length states → Laid order laid k
-              → Asked (view rows words) (x - 1) states laid order′ answers answers′ 0 k q → BatchPost r words states order order′ answers answers′ (valued q)
-          answer er ek d c = answer-at (rw ek at d) (rw ek at (rw er at c))
+              → length order′ ≡ length order → length answers′ ≡ length answers → Asked (view rows words) (x - 1) states laid order′ answers answers′ 0 k q
+              → BatchPost r words states order order′ answers answers′ (valued q)
+          answer er ek d o a c = answer-at (rw ek at d) o a (rw ek at (rw er at c))

@@ -6,7 +6,7 @@ use native.Mathlib.Omega.{arith}
 use lib.ListN.{length, getD}
 use borrow.Author.Count.{below-more}
 use Rattle.soundness.specs.Says.{holds, fails}
-use Rattle.batch_calls.specs.Members.{state-in, state-out}
+use Rattle.calls.specs.Questions.{state-in, state-out}
 use Rattle.batch_calls.proofs.in_range.Statement.{statement}
 use Rattle.batch_calls.proofs.in_range.Tie as tie
 use Rattle.batch_calls.proofs.in_range.Reads as reads
@@ -29,7 +29,7 @@ in-range-spec =
     (λ c. search needs)
     (λ c. omega (arith, c .shared-slice-known .given (c .before .before .loop .k)))
     (λ c. search needs)
-    (λ c. fails (λ q. state-out _ _ (c .if1 .taken) (q _ (c .before .before .loop-test .taken))))
+    (λ c. fails (λ q. let o = state-out _ _ (c .if1 .taken) in let l = q _ (c .before .before .loop-test .taken) in omega arith))
     (λ c. search needs)
     (λ c. search needs)
     (λ c. below-more _ _ (c .before .before .before .loop .inv) (state-in _ _ (c .if1 .left)))

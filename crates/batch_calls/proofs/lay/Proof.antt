@@ -4,8 +4,7 @@ use mathlib.Core.Path.{_≡_, refl, _∙_}
 use Prim.Native.Nat.{ℕ, _+_, _-_, _≤_, _<_}
 use native.Mathlib.Omega.{arith}
 use lib.ListN.{length, length-set}
-use Rattle.batch_calls.specs.Posts.{Laid}
-use Rattle.batch_calls.specs.Members.{laid-none, laid-more}
+use Rattle.batch_calls.specs.Laid.{Laid, laid-none, laid-more}
 use Rattle.batch_calls.proofs.lay.Statement.{statement}
 use Rattle.batch_calls.proofs.lay.Tie as tie
 use Rattle.batch_calls.proofs.lay.Reads as reads

@@ -37,4 +37,4 @@ members-spec =
     (λ c κs. ask-pre _ (says-pass (c .before .before .before .before .before .before .before .before .before .before .before .before .before .before .before .if1 .left) (c .before .before .before .before .before .before .before .before .before .before .before .before .before .before .before .before .lists-fit .ensures)) (says-pass (c .before .before .before .before .before .before .before .before .before .before .before .before .before .if2 .left) (c .before .before .before .before .before .before .before .before .before .before .before .before .before .before .sound .ensures)) (range-is _ (c .before .before .before .before .before .before .before .before .before .before .before .header-word .ensures) (c .before .before .before .before .before .before .before .before .before .before .before .before .if3 .left) (says-pass (c .before .before .before .before .before .before .before .before .before .if4 .left) (c .before .before .before .before .before .before .before .before .before .before .in-range .ensures))) (c .before .before .before .before .before .before .before .before .header-word2 .ensures) (c .before .before .before .before .before .before .before .if5 .left) (c .before .before .before .before .before .before .header-word3 .ensures) refl (c .before .before .before .before .lay .ensures) (c .before .before .before .before .lay .kept .0))
     (λ c. c .before .before .before .before .ask .kept .1 .1 .1 .1 .0 ∙ c .before .before .before .before .before .before .before .before .before .lay .kept .0)
     (λ c. c .before .before .before .before .ask .kept .1 .1 .1 .1 .1 .0)
-    (λ c. answer _ (says-pass (c .before .before .before .before .before .before .before .before .before .before .before .before .before .before .before .before .before .before .before .before .if1 .left) (c .before .before .before .before .before .before .before .before .before .before .before .before .before .before .before .before .before .before .before .before .before .lists-fit .ensures)) (says-pass (c .before .before .before .before .before .before .before .before .before .before .before .before .before .before .before .before .before .before .if2 .left) (c .before .before .before .before .before .before .before .before .before .before .before .before .before .before .before .before .before .before .before .sound .ensures)) (range-is _ (c .before .before .before .before .before .before .before .before .before .before .before .before .before .before .before .before .header-word .ensures) (c .before .before .before .before .before .before .before .before .before .before .before .before .before .before .before .before .before .if3 .left) (says-pass (c .before .before .before .before .before .before .before .before .before .before .before .before .before .before .if4 .left) (c .before .before .before .before .before .before .before .before .before .before .before .before .before .before .before .in-range .ensures))) (c .before .before .before .before .before .before .before .before .before .before .before .before .before .header-word2 .ensures) (c .before .before .before .before .before .before .before .before .before .before .before .before .if5 .left) (c .before .before .before .before .before .before .before .before .before .before .before .header-word3 .ensures) refl (c .before .before .before .before .before .before .before .before .before .lay .ensures) (c .before .before .before .before .ask .ensures)))
+    (λ c. answer _ (says-pass (c .before .before .before .before .before .before .before .before .before .before .before .before .before .before .before .before .before .before .before .before .if1 .left) (c .before .before .before .before .before .before .before .before .before .before .before .before .before .before .before .before .before .before .before .before .before .lists-fit .ensures)) (says-pass (c .before .before .before .before .before .before .before .before .before .before .before .before .before .before .before .before .before .before .if2 .left) (c .before .before .before .before .before .before .before .before .before .before .before .before .before .before .before .before .before .before .before .sound .ensures)) (range-is _ (c .before .before .before .before .before .before .before .before .before .before .before .before .before .before .before .before .header-word .ensures) (c .before .before .before .before .before .before .before .before .before .before .before .before .before .before .before .before .before .if3 .left) (says-pass (c .before .before .before .before .before .before .before .before .before .before .before .before .before .before .if4 .left) (c .before .before .before .before .before .before .before .before .before .before .before .before .before .before .before .in-range .ensures))) (c .before .before .before .before .before .before .before .before .before .before .before .before .before .header-word2 .ensures) (c .before .before .before .before .before .before .before .before .before .before .before .before .if5 .left) (c .before .before .before .before .before .before .before .before .before .before .before .header-word3 .ensures) refl (c .before .before .before .before .before .before .before .before .before .lay .ensures) (c .before .before .before .before .ask .kept .1 .1 .1 .1 .0 ∙ c .before .before .before .before .before .before .before .before .before .lay .kept .0) (c .before .before .before .before .ask .kept .1 .1 .1 .1 .1 .0) (c .before .before .before .before .ask .ensures)))
