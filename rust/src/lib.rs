@@ -34,6 +34,8 @@
 //! Callers may share a table under limits of their own: see [`Account`]. Relations and sets return
 //! how many rows they needed at most, to choose a table's size by: see [`Loaded`].
 //!
+//! Many states are asked at once by [`Table::members`]; [`Table::states`] gives all that a set has.
+//!
 //! The static library is made by `rt staticlib exports` in the repository's root.
 #![deny(missing_docs, unsafe_code)]
 
@@ -43,10 +45,12 @@ mod account;
 mod formula;
 mod play;
 mod refusal;
+mod states;
 mod table;
 
 pub use account::{Account, MAX_ACCOUNTS};
 pub use formula::Formula;
 pub use play::{play, Outcome, Unreadable};
 pub use refusal::Refusal;
+pub use states::{States, MAX_STATES};
 pub use table::{words_for, Loaded, Stored, Table, MAX_BITS, MAX_ROWS, REGISTERS, RELATIONS};

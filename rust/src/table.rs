@@ -1,5 +1,5 @@
 //! The table over lent or owned words.
-use crate::{abi, Account, Refusal};
+use crate::{abi, Account, Refusal, States};
 
 /// The greatest number of state bits of a table.
 pub const MAX_BITS: u32 = 16;
@@ -241,6 +241,57 @@ impl<W: AsRef<[u32]>> Table<W> {
     /// Whether the set in register r has a state, from 0 to 2^n − 1; its bit p has weight 2^p.
     pub fn member(&self, r: u32, state: u32) -> Result<bool, Refusal> {
         Ok(abi::member(self.words.as_ref(), r, state)? == 1)
+    }
+
+    /// Which of up to [`MAX_STATES`](crate::MAX_STATES) states, each from 0 to 2^n − 1, the set in
+    /// register r has: answer i becomes 1 where it has state i, else 0. Gives how many rows were read;
+    /// a row counts once for all states that reach it by the same answers to the rows before it.
+    ///
+    /// The order is lent for the work: its entries end as the states' places, from 0 up, in some
+    /// order. Entries of both lists past the states are not changed, and none is where the question
+    /// is refused: with [`Refusal::Sizes`] where there are too many states or a list is shorter.
+    ///
+    /// ```
+    /// use kudzuclamp::{Account, Formula, Refusal, Table};
+    ///
+    /// # fn main() -> Result<(), Refusal> {
+    /// let mut accounts = [Account::unlimited()];
+    /// let mut table = Table::new(&mut accounts, 2, 10)?;
+    /// table.set(&mut accounts, 0, 0, 0, Formula::current(1))?;
+    /// let (mut order, mut answers) = ([0; 4], [9; 4]);
+    /// // Bit 0 is never asked, so one row is read once for all three.
+    /// assert_eq!(table.members(0, &[3, 0, 3], &mut order, &mut answers)?, 1);
+    /// assert_eq!(answers, [1, 0, 1, 9]);
+    /// assert_eq!(table.members(0, &[4], &mut order, &mut answers), Err(Refusal::Range));
+    /// # Ok(())
+    /// # }
+    /// ```
+    pub fn members(
+        &self,
+        r: u32,
+        states: &[u16],
+        order: &mut [u16],
+        answers: &mut [u8],
+    ) -> Result<u32, Refusal> {
+        abi::members(self.words.as_ref(), r, states, order, answers)
+    }
+
+    /// All states of the set in register r, the least first.
+    ///
+    /// ```
+    /// use kudzuclamp::{Account, Formula, Refusal, Table};
+    ///
+    /// # fn main() -> Result<(), Refusal> {
+    /// let mut accounts = [Account::unlimited()];
+    /// let mut table = Table::new(&mut accounts, 3, 10)?;
+    /// table.set(&mut accounts, 0, 0, 0, Formula::current(0) & !Formula::current(1))?;
+    /// assert_eq!(table.states(0)?.collect::<Vec<u16>>(), [1, 5]);
+    /// assert_eq!(table.states(1).err(), Some(Refusal::Empty));
+    /// # Ok(())
+    /// # }
+    /// ```
+    pub fn states(&self, r: u32) -> Result<States<'_>, Refusal> {
+        States::new(self.words.as_ref(), r)
     }
 
     /// How many states the set in register r has, from 0 to 2^n.
