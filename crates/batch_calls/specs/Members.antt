@@ -123,7 +123,7 @@ module _ {r : ℕ} (words : List ℕ) {states order answers : List ℕ} where
 
         module _ (h : x ≢ 0) where
           -- what the walk asks
-          pub ask-pre : {rows k : ℕ} {laid : List ℕ} → rows ≡ headerOf words ROWS → k ≡ length states → Laid order laid k → length laid ≡ length order 
+          pub ask-pre : {rows k : ℕ} {laid : List ℕ} → rows ≡ headerOf words ROWS → k ≡ length states → Laid order laid k → length laid ≡ length order
               → AskPre (view rows words) (x - 1) states laid answers 0 k
           ask-pre {rows} {k} {laid} er ek d size =
               let l = g .register in

@@ -188,7 +188,10 @@ pub extern "C" fn kudzuclamp_members(
 ) -> u32
     ensures { λ k. ⌜ BatchPost r (now (words .entry)) (now (states .entry)) (now (order .entry)) (now (order .exit)) (now (answers .entry)) (now (answers .exit)) (given k 0 0 (now (reads .exit))) ⌝ }
 {
-    give(batch_calls::members(words, r, states, order, answers), reads)
+    give(
+        batch_calls::members(words, r, states, order, answers),
+        reads,
+    )
 }
 
 // Gives how many states the set in register r has.
