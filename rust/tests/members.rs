@@ -33,10 +33,7 @@ fn answers_stand_in_the_order_of_the_states() {
 fn a_question_for_no_state_reads_no_row() {
     let table = holding(2, differ(0, 1));
     assert_eq!(table.members(0, &[], &mut [], &mut []), Ok(0));
-    assert_eq!(
-        table.members(1, &[], &mut [], &mut []),
-        Err(Refusal::Empty)
-    );
+    assert_eq!(table.members(1, &[], &mut [], &mut []), Err(Refusal::Empty));
     assert_eq!(
         table.members(32, &[], &mut [], &mut []),
         Err(Refusal::Range)
