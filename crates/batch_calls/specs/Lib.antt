@@ -3,3 +3,4 @@ pub mod Laid
 pub mod Members
 pub mod Facts
 pub mod OneBatch
+pub mod Truthful
