@@ -1,9 +1,9 @@
 -- The row reads of a small set, computed: bit 0 differs from bit 1, over two bits. Its second row is reached after either answer, and so read
 -- twice where both are given. Assumes nothing.
 use mathlib.Core.Path.{_≡_, refl}
-use mathlib.Core.Bool.{Bool, true, false}
-use mathlib.Core.List.{List, [], _∷_, map}
-use Prim.Native.Nat.{ℕ, _-_, _*_}
+use mathlib.Core.Bool.{true, false}
+use mathlib.Core.List.{[], _∷_, map}
+use Prim.Native.Nat.{_-_, _*_}
 use lib.Dec.{ltb}
 use Rattle.diagram.specs.Rows.{Rows, denTo, den}
 use Rattle.book.specs.States.{pairVal}

@@ -8,10 +8,10 @@ use mathlib.Core.List.{List·Memᴰ as Mem, List·Memᴰ·head as here, List·Me
 use mathlib.Core.List.{Memᴰ·map as mem-map, Memᴰ·of-map as mem-of-map, List·Memᴰ·append-cases as append-cases, Memᴰ·append-left as mem-left, Memᴰ·append-right as mem-right}
 use Prim.Native.Nat.{ℕ, zero, suc, _+_, _/_, _≤_, _<_}
 use native.Mathlib.Omega.{arith}
-use lib.ListN.{length, length-map, length-append}
+use lib.ListN.{length-map, length-append}
 use Rattle.mucalculus.specs.Means.{bit}
 use Rattle.diagram.specs.Rows.{Rows, target, marked, Leads, levelOf, child, follow, carry-target, leads-level}
-use Rattle.diagram.specs.Count.{NoDup, nodup-append}
+use Rattle.diagram.specs.Count.{nodup-append}
 use Rattle.batch.specs.Visits.{Visit, after, visits, visitsAll, rowReads}
 use Rattle.batch.specs.Counted.{Counted, counted-same, distinct-counted, start-apart, nodup-after}
 

@@ -1,6 +1,6 @@
 -- ROW READS: "the number of distinct pairs of a row and the bit answers that led to it, over the listed states". Only bits that rows ask are
 -- answered: a level that an arrow skips adds no answer, and a constant is no row. Assumes nothing.
-use mathlib.Core.Bool.{Bool, true, false, cond, _&&_, _||_}
+use mathlib.Core.Bool.{Bool, false, cond, _&&_, _||_}
 use mathlib.Core.List.{List, [], _∷_, _++_, map}
 use Prim.Native.Nat.{ℕ, zero, suc, _+_, _/_}
 use lib.Dec.{eqb}

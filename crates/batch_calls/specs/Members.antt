@@ -18,7 +18,6 @@ use Rattle.soundness.specs.Roots.{ref-arrow}
 use Rattle.soundness.specs.Sound.{tableOf}
 use Rattle.collect.specs.Answers.{sound-base}
 use Rattle.collect.specs.Lent.{getD-mem}
-use Rattle.states.specs.Walk.{WalkPre}
 use Rattle.book.specs.States.{pairVal, nowOf-pairVal}
 use Rattle.book.specs.Book.{registers, oneOf}
 use Rattle.book.specs.BookOf.{bookOf}
@@ -29,7 +28,7 @@ use Rattle.batch.specs.Entered.{entered-reads}
 use Rattle.batch.specs.Arrange.{inside-now, stays, kept-after}
 use Rattle.batch.specs.Parts.{Segment, Among}
 use Rattle.batch.specs.Asked.{AskPre, Asked}
-use Rattle.batch_calls.specs.Posts.{Fit, Below, InRange, answersOf, Stands, Rearranged, Answered, BatchPost}
+use Rattle.batch_calls.specs.Posts.{Fit, Below, InRange, answersOf, Stands, Answered, BatchPost}
 use Rattle.batch_calls.specs.Laid.{Laid}
 
 -- the members of a list stand at its places

@@ -1,6 +1,6 @@
 -- ONE ANSWER: on the same words and lists the contract allows one reply and one list of answers, and leaves only the arrangement of the places in the
 -- order list free. Words need not be sound, nor states in range, nor is that decided. Assumes nothing.
-use mathlib.Core.Path.{_≡_, refl, sym, ap, _∙_, subst}
+use mathlib.Core.Path.{_≡_, refl, sym, ap, _∙_}
 use mathlib.Core.Logic.{_≢_}
 use mathlib.Core.Bool.{Bool, cond}
 use mathlib.Core.List.{List, _++_, List-discrete}

@@ -1,7 +1,6 @@
 -- `in_range` meets its contract: the invariant is that every state passed is below 2^n. Assumes nothing.
 use borrow.Author.Needs.{needs}
-use mathlib.Core.Path.{_≡_}
-use Prim.Native.Nat.{ℕ, _+_, _-_, _^_, _≤_, _<_}
+use Prim.Native.Nat.{ℕ, _-_, _^_, _<_}
 use native.Mathlib.Omega.{arith}
 use lib.ListN.{length, getD}
 use borrow.Author.Count.{below-more}
@@ -9,8 +8,6 @@ use Rattle.soundness.specs.Says.{holds, fails}
 use Rattle.calls.specs.Questions.{state-in, state-out}
 use Rattle.batch_calls.proofs.in_range.Statement.{statement}
 use Rattle.batch_calls.proofs.in_range.Tie as tie
-use Rattle.batch_calls.proofs.in_range.Reads as reads
-use Rattle.batch_calls.proofs.in_range.Lts as lts
 
 abbrev Inv-loop : tie.InvT-loop
 Inv-loop states n k₀ k = (i : ℕ) → i < k → getD states i 0 < 2 ^ n

@@ -1,14 +1,11 @@
 -- `lay` meets its contract: the places passed are laid. Assumes nothing.
-use borrow.Author.Needs.{needs}
-use mathlib.Core.Path.{_≡_, refl, _∙_}
-use Prim.Native.Nat.{ℕ, _+_, _-_, _≤_, _<_}
+use mathlib.Core.Path.{_≡_, refl}
+use Prim.Native.Nat.{_-_, _≤_}
 use native.Mathlib.Omega.{arith}
 use lib.ListN.{length, length-set}
 use Rattle.batch_calls.specs.Laid.{Laid, laid-none, laid-more}
 use Rattle.batch_calls.proofs.lay.Statement.{statement}
 use Rattle.batch_calls.proofs.lay.Tie as tie
-use Rattle.batch_calls.proofs.lay.Reads as reads
-use Rattle.batch_calls.proofs.lay.Lts as lts
 
 abbrev Inv-loop : tie.InvT-loop
 Inv-loop order₀ k i₀ order i = (i ≤ k) × (length order ≡ length order₀) × Laid order₀ order i

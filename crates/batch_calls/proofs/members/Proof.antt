@@ -1,20 +1,11 @@
 -- `members` meets its contract: each test is one check, in order; the rest is the walk over the places as they are laid. Assumes nothing.
-use mathlib.Core.Path.{_≡_, refl, _∙_}
-use Prim.Native.Nat.{ℕ, _+_, _-_, _≤_, _<_}
+use mathlib.Core.Path.{refl, _∙_}
 use native.Mathlib.Omega.{arith}
 use Rattle.soundness.specs.Says.{says-pass, says-fail}
 use Rattle.batch_calls.specs.Members.{refuse-sizes, refuse-unsound, refuse-range, refuse-empty, range-is, range-not, ask-pre, answer}
 use borrow.Author.Needs.{needs}
 use Rattle.batch_calls.proofs.members.Statement.{statement}
 use Rattle.batch_calls.proofs.members.Tie as tie
-use Rattle.batch_calls.proofs.members.Reads as reads
-use Rattle.batch_calls.proofs.members.Lts as lts
-use Rattle.batch.proofs.ask.Reads as ask-reads
-use Rattle.batch_calls.proofs.in_range.Reads as in-range-reads
-use Rattle.batch_calls.proofs.lay.Reads as lay-reads
-use Rattle.batch_calls.proofs.lists_fit.Reads as lists-fit-reads
-use Rattle.layout.proofs.header_word.Reads as header-word-reads
-use Rattle.soundness.proofs.sound.Reads as sound-reads
 
 pub members-spec : {M : Type 1} → statement M
 members-spec =
