@@ -1,5 +1,5 @@
--- The row reads of a small set, computed: bit 0 differs from bit 1, over two bits. Its second row is reached after either answer, and so read
--- twice where both are given. Assumes nothing.
+-- The row reads of small sets over two bits, computed. Bit 0 differs from bit 1: its second row is reached after either answer, and so
+-- read twice where both are given. Assumes nothing.
 use mathlib.Core.Path.{_≡_, refl}
 use mathlib.Core.Bool.{true, false}
 use mathlib.Core.List.{[], _∷_, map}

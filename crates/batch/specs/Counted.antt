@@ -1,5 +1,5 @@
--- Visits counted by lists without repeats: a single question reads no row twice, so "that figure is never above the sum over single questions".
--- Assumes nothing.
+-- Visits counted by lists without repeats: a single question reads no row twice, so "that figure is never above the sum over single
+-- questions". Assumes nothing.
 use mathlib.Core.Path.{_≡_, refl, sym, ap, ap₂, _∙_, subst}
 use mathlib.Core.Logic.{⊎-elim}
 use mathlib.Core.Bool.{Bool, true, false, cond, true≢false}
@@ -24,10 +24,12 @@ pub record Counted (P : Visit → Type 0) (r : ℕ) : Type 0 where
   pub all : (v : Visit) → P v → Mem v list
   pub size : length list ≡ r
 
-pub counted-same : {P Q : Visit → Type 0} {r q : ℕ} → ((v : Visit) → P v → Q v) → ((v : Visit) → Q v → P v) → Counted P r → Counted Q q → r ≡ q
+pub counted-same : {P Q : Visit → Type 0} {r q : ℕ} → ((v : Visit) → P v → Q v) → ((v : Visit) → Q v → P v) → Counted P r → Counted Q q
+    → r ≡ q
 counted-same to back c d =
     sym (c .size)
-    ∙ nodup-same-length (c .list) (d .list) (c .nodup) (d .nodup) (λ v m. d .all v (to v (c .only v m))) (λ v m. c .all v (back v (d .only v m)))
+    ∙ nodup-same-length (c .list) (d .list) (c .nodup) (d .nodup) (λ v m. d .all v (to v (c .only v m)))
+    (λ v m. c .all v (back v (d .only v m)))
     ∙ d .size
 
 -- the tests say what they look like
@@ -37,7 +39,8 @@ same-visit v w t =
     ap₂ (λ (x : ℕ) (y : List Bool). (x, y)) (eqb→eq (v .0) (w .0) p) (same-eq (v .1) (w .1) q)
 
 visit-same : (v w : Visit) → v ≡ w → T (sameVisit v w)
-visit-same v w e = subst (λ (x : Visit). T (sameVisit v x)) e (and-in (eqb (v .0) (v .0)) (same (v .1) (v .1)) (eqb-refl (v .0)) (same-refl (v .1)))
+visit-same v w e = subst (λ (x : Visit). T (sameVisit v x)) e (and-in (eqb (v .0) (v .0)) (same (v .1) (v .1)) (eqb-refl (v .0))
+    (same-refl (v .1)))
 
 listed-mem : (v : Visit) (vs : List Visit) → T (listed v vs) → Mem v vs
 listed-mem v [] t = absurd t

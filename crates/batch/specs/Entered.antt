@@ -1,5 +1,5 @@
--- Rows that are entered with some of the states: how many visits these make, row by row down from an arrow. States are given by a predicate, so
--- repeats and the order of the list do not matter. Assumes nothing.
+-- Rows that are entered with some of the states: how many visits these make, row by row down from an arrow. States are given by a
+-- predicate, so repeats and the order of the list do not matter. Assumes nothing.
 use mathlib.Core.Path.{_≡_, refl, sym, ap, ap₂, _∙_, subst}
 use mathlib.Core.Logic.{⊎-elim}
 use mathlib.Core.Bool.{Bool, true, false, true≢false}
@@ -40,7 +40,8 @@ constant-visits (suc f) rows s v m = mem-nil m
 -- at a constant, none
 pub entered-constant : (m : ℕ) (rows : Rows) (S : ℕ → Type 0) (a : ℕ) → target a ≡ 0 → Entered m rows S a 0
 entered-constant m rows S a e = record {
-  counted = λ f l. nothing (λ v p. constant-visits f rows (p .state) v (subst (λ (k : ℕ). Mem v (visits f rows k (p .state))) e (p .visit)));
+  counted = λ f l. nothing (λ v p. constant-visits f rows (p .state) v
+      (subst (λ (k : ℕ). Mem v (visits f rows k (p .state))) e (p .visit)));
 }
 
 -- what one state visits from an arrow to row i
@@ -74,35 +75,44 @@ pub record Half (S S0 : ℕ → Type 0) (p : ℕ) (b : Bool) : Type 0 where
 
 module _ (f : ℕ) (rows : Rows) (a i : ℕ) (S : ℕ → Type 0) (l : Leads a i) where
   -- what the states of a half visit below the row
-  down : (b : Bool) {T : ℕ → Type 0} → Half S T (rows .level i / 2) b → (v : Visit) → Visited f rows T (follow rows a i b) v → Visited (suc f) rows S a (after b v)
+  down : (b : Bool) {T : ℕ → Type 0} → Half S T (rows .level i / 2) b → (v : Visit) → Visited f rows T (follow rows a i b) v
+      → Visited (suc f) rows S a (after b v)
   down b h v p = record {
     state = p .state;
     among = h .only (p .state) (p .among);
-    visit = subst (λ (vs : List Visit). Mem (after b v) vs) (sym (visits-row f rows a i (p .state) b l (h .bit-is (p .state) (p .among)))) (there (mem-map (after b) (p .visit)));
+    visit = subst (λ (vs : List Visit). Mem (after b v) vs)
+        (sym (visits-row f rows a i (p .state) b l (h .bit-is (p .state) (p .among))))
+        (there (mem-map (after b) (p .visit)));
   }
 
   -- a visit is that of the row, or one below it
   up : {S0 S1 : ℕ → Type 0} (P : Visit → Type 0) → Half S S0 (rows .level i / 2) false → Half S S1 (rows .level i / 2) true → (v : Visit)
-      → P (i, []) → ((w : Visit) → Visited f rows S0 (follow rows a i false) w → P (after false w)) → ((w : Visit) → Visited f rows S1 (follow rows a i true) w → P (after true w))
+      → P (i, []) → ((w : Visit) → Visited f rows S0 (follow rows a i false) w → P (after false w))
+      → ((w : Visit) → Visited f rows S1 (follow rows a i true) w → P (after true w))
       → Visited (suc f) rows S a v → P v
   up P h0 h1 v at lo hi p = go (bit (rows .level i / 2) (p .state)) refl
     where
       go : (b : Bool) → bit (rows .level i / 2) (p .state) ≡ b → P v
       go false e = ⊎-elim (λ q. subst P (sym q) at)
-          (λ t. let (w, mw, q) = mem-of-map (after false) _ t in subst P q (lo w (record { state = p .state; among = h0 .all (p .state) (p .among) e; visit = mw })))
+          (λ t. let (w, mw, q) = mem-of-map (after false) _ t in subst P q
+          (lo w (record { state = p .state; among = h0 .all (p .state) (p .among) e; visit = mw })))
           (mem-cases (subst (λ (vs : List Visit). Mem v vs) (visits-row f rows a i (p .state) false l e) (p .visit)))
       go true e = ⊎-elim (λ q. subst P (sym q) at)
-          (λ t. let (w, mw, q) = mem-of-map (after true) _ t in subst P q (hi w (record { state = p .state; among = h1 .all (p .state) (p .among) e; visit = mw })))
+          (λ t. let (w, mw, q) = mem-of-map (after true) _ t in subst P q
+          (hi w (record { state = p .state; among = h1 .all (p .state) (p .among) e; visit = mw })))
           (mem-cases (subst (λ (vs : List Visit). Mem v vs) (visits-row f rows a i (p .state) true l e) (p .visit)))
 
   -- the row, and what either half visits
   counted-row : {S0 S1 : ℕ → Type 0} {x y : ℕ} (s : ℕ) → S s → Half S S0 (rows .level i / 2) false → Half S S1 (rows .level i / 2) true
-      → Counted (Visited f rows S0 (follow rows a i false)) x → Counted (Visited f rows S1 (follow rows a i true)) y → Counted (Visited (suc f) rows S a) (suc (x + y))
+      → Counted (Visited f rows S0 (follow rows a i false)) x → Counted (Visited f rows S1 (follow rows a i true)) y
+      → Counted (Visited (suc f) rows S a) (suc (x + y))
   counted-row {S0} {S1} {x} {y} s some h0 h1 c d = record {
     list = (i, []) ∷ joined (c .list) (d .list);
     nodup = (
-      (λ m. ⊎-elim (λ p. start-apart i false (c .list) p) (λ p. start-apart i true (d .list) p) (append-cases (map (after false) (c .list)) m)),
-      nodup-append (map (after false) (c .list)) (map (after true) (d .list)) (nodup-after false (c .list) (c .nodup)) (nodup-after true (d .list) (d .nodup)) (halves-apart (c .list) (d .list)),
+      (λ m. ⊎-elim (λ p. start-apart i false (c .list) p) (λ p. start-apart i true (d .list) p)
+          (append-cases (map (after false) (c .list)) m)),
+      nodup-append (map (after false) (c .list)) (map (after true) (d .list)) (nodup-after false (c .list) (c .nodup))
+          (nodup-after true (d .list) (d .nodup)) (halves-apart (c .list) (d .list)),
     );
     only = λ v m. ⊎-elim (λ q. subst (Visited (suc f) rows S a) (sym q) (top (bit (rows .level i / 2) s) refl))
         (λ t. ⊎-elim
@@ -113,11 +123,14 @@ module _ (f : ℕ) (rows : Rows) (a i : ℕ) (S : ℕ → Type 0) (l : Leads a i
     all = λ v p. up (λ z. Mem z ((i, []) ∷ joined (c .list) (d .list))) h0 h1 v (here refl)
         (λ w q. there (mem-left {s = map (after false) (c .list)} (map (after true) (d .list)) (mem-map (after false) (c .all w q))))
         (λ w q. there (mem-right (map (after false) (c .list)) (mem-map (after true) (d .all w q)))) p;
-    size = ap suc (length-append (map (after false) (c .list)) (map (after true) (d .list)) ∙ ap₂ (λ (u v : ℕ). u + v) (length-map (c .list) (after false) ∙ c .size) (length-map (d .list) (after true) ∙ d .size));
+    size = ap suc (length-append (map (after false) (c .list)) (map (after true) (d .list))
+        ∙ ap₂ (λ (u v : ℕ). u + v) (length-map (c .list) (after false) ∙ c .size) (length-map (d .list) (after true) ∙ d .size));
   }
     where
       top : (b : Bool) → bit (rows .level i / 2) s ≡ b → Visited (suc f) rows S a (i, [])
-      top b e = record { state = s; among = some; visit = subst (λ (vs : List Visit). Mem (i, []) vs) (sym (visits-row f rows a i s b l e)) (here refl) }
+      top b e =
+          let read = subst (λ (vs : List Visit). Mem (i, []) vs) (sym (visits-row f rows a i s b l e)) (here refl) in
+          record { state = s; among = some; visit = read }
 
 -- ENTERING A ROW with some state: it is read, and each half goes on
 pub entered-row : {m : ℕ} {rows : Rows} {a i x y : ℕ} {S S0 S1 : ℕ → Type 0} (s : ℕ) → Leads a i → rows .level i < m
@@ -139,7 +152,8 @@ mem-all : (m : ℕ) (rows : Rows) (a : ℕ) (ss : List ℕ) (v : Visit) → Visi
 unfolding visitsAll
 mem-all m rows a [] v p = absurd (mem-nil (p .among))
 mem-all m rows a (s ∷ ss) v p = ⊎-elim
-    (λ e. mem-left {s = visits m rows (target a) s} (visitsAll m rows a ss) (subst (λ (t : ℕ). Mem v (visits m rows (target a) t)) e (p .visit)))
+    (λ e. mem-left {s = visits m rows (target a) s} (visitsAll m rows a ss)
+    (subst (λ (t : ℕ). Mem v (visits m rows (target a) t)) e (p .visit)))
     (λ t. mem-right (visits m rows (target a) s) (mem-all m rows a ss v (record { state = p .state; among = t; visit = p .visit })))
     (mem-cases (p .among))
 

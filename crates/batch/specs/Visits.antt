@@ -1,5 +1,5 @@
--- ROW READS: "the number of distinct pairs of a row and the bit answers that led to it, over the listed states". Only bits that rows ask are
--- answered: a level that an arrow skips adds no answer, and a constant is no row. Assumes nothing.
+-- ROW READS: "the number of distinct pairs of a row and the bit answers that led to it, over the listed states". Only bits that rows ask
+-- are answered: a level that an arrow skips adds no answer, and a constant is no row. Assumes nothing.
 use mathlib.Core.Bool.{Bool, false, cond, _&&_, _||_}
 use mathlib.Core.List.{List, [], _∷_, _++_, map}
 use Prim.Native.Nat.{ℕ, zero, suc, _+_, _/_}
@@ -16,8 +16,8 @@ Visit = ℕ × List Bool
 abbrev pub after : Bool → Visit → Visit
 after b v = (v .0, b ∷ v .1)
 
--- the rows that the question for state s reads from what an arrow leads to (0 the constant, i + 1 row i), at most `fuel` of them: each asks the
--- bit of its level, and the answer chooses its arrow
+-- the rows that the question for state s reads from what an arrow leads to (0 the constant, i + 1 row i), at most `fuel` of them: each asks
+-- the bit of its level, and the answer chooses its arrow
 unfoldable pub visits : ℕ → Rows → ℕ → ℕ → List Visit
 visits zero rows k s = []
 visits (suc fuel) rows zero s = []

@@ -1,5 +1,5 @@
--- What follows from the contract: each answer is that of the single question, and the row reads are never above the sum over single questions.
--- Assumes nothing.
+-- What follows from the contract: each answer is that of the single question, and the row reads are never above the sum over single
+-- questions. Assumes nothing.
 use mathlib.Core.Path.{_≡_, refl, ap, sym, _∙_}
 use mathlib.Core.Bool.{Bool}
 use mathlib.Core.List.{List}
@@ -38,7 +38,8 @@ module _ {a : ℕ} {A : List Bool} {words states order order′ answers answers�
       ∙ map-at (λ s. oneOf (mem A s)) states i l
 
   -- so it is what `member` answers for state i
-  pub as-member : {r : ℕ} → SoundWords words → InRange (seen words .n) r states → seen words .reg r ≡ some a → bookOf (seen words) .reg r ≡ some A
+  pub as-member : {r : ℕ} → SoundWords words → InRange (seen words .n) r states → seen words .reg r ≡ some a
+      → bookOf (seen words) .reg r ≡ some A
       → (i : ℕ) → i < length states → AskPost (member r (getD states i 0)) words (valued (getD answers′ i 0))
   as-member {r} s g ea e i l =
       let u : ℕ = getD states i 0 in

@@ -60,10 +60,12 @@ set-walk {r} {a} words s l ea A e u h =
     d .same (pairVal u 0) ∙ ap (mem B) (nowOf-pairVal (headerOf words BITS) u 0 h) ∙ ap (λ (C : List Bool). mem C u) (some-inj (sym is ∙ e))
 
 -- n as it was read
-pub range-is : {n r : ℕ} {states : List ℕ} (words : List ℕ) → n ≡ headerOf words BITS → r < REGISTERS → Below n states → InRange (headerOf words BITS) r states
+pub range-is : {n r : ℕ} {states : List ℕ} (words : List ℕ) → n ≡ headerOf words BITS → r < REGISTERS → Below n states
+    → InRange (headerOf words BITS) r states
 range-is words e l b = record { register = l; below = rw e at b }
 
-pub range-not : {n r : ℕ} {states : List ℕ} (words : List ℕ) → n ≡ headerOf words BITS → (Below n states → ⊥) → InRange (headerOf words BITS) r states → ⊥
+pub range-not : {n r : ℕ} {states : List ℕ} (words : List ℕ) → n ≡ headerOf words BITS → (Below n states → ⊥)
+    → InRange (headerOf words BITS) r states → ⊥
 range-not words e n g = n (rw e (g .below))
 
 -- a filled register's arrow
@@ -122,7 +124,8 @@ module _ {r : ℕ} (words : List ℕ) {states order answers : List ℕ} where
 
         module _ (h : x ≢ 0) where
           -- what the walk asks
-          pub ask-pre : {rows k : ℕ} {laid : List ℕ} → rows ≡ headerOf words ROWS → k ≡ length states → Laid order laid k → length laid ≡ length order
+          pub ask-pre : {rows k : ℕ} {laid : List ℕ} → rows ≡ headerOf words ROWS → k ≡ length states → Laid order laid k
+              → length laid ≡ length order
               → AskPre (view rows words) (x - 1) states laid answers 0 k
           ask-pre {rows} {k} {laid} er ek d size =
               let l = g .register in
@@ -133,7 +136,11 @@ module _ {r : ℕ} (words : List ℕ) {states order answers : List ℕ} where
               } in
               record {
                 walk = rw er (record {
-                  mark = record { base = sound-base s; arrow = ref-arrow (rowsOf (tableOf words)) x h (rw ex (s .refs (FIRST-REGISTER + r) (omega arith) (omega arith))) };
+                  mark = record {
+                    base = sound-base s;
+                    arrow = ref-arrow (rowsOf (tableOf words)) x h
+                        (rw ex (s .refs (FIRST-REGISTER + r) (omega arith) (omega arith)));
+                  };
                   bits = s .good .sizes .n-max;
                   evens = s .even (FIRST-REGISTER + r) (omega arith) (omega arith) (x - 1) (omega arith);
                 });
@@ -145,7 +152,8 @@ module _ {r : ℕ} (words : List ℕ) {states order answers : List ℕ} where
 
           -- ANSWERED, with what was read written out
           module _ {q : ℕ} {laid order′ answers′ : List ℕ} (d : Laid order laid (length states)) (order-size : length order′ ≡ length order)
-              (answers-size : length answers′ ≡ length answers) (c : Asked (tableOf words) (x - 1) states laid order′ answers answers′ 0 (length states) q) where
+              (answers-size : length answers′ ≡ length answers)
+              (c : Asked (tableOf words) (x - 1) states laid order′ answers answers′ 0 (length states) q) where
             -- the entry at place j is where it stood
             entry : (j : ℕ) → j < length states → getD order′ j 0 ≡ c .arranged .was j
             entry j l = c .arranged .moved j ∙ d .first (c .arranged .was j) (c .arranged .inside j (omega arith) l .1)
@@ -161,7 +169,9 @@ module _ {r : ℕ} (words : List ℕ) {states order answers : List ℕ} where
                 }
 
             to-mem : (t : ℕ) → Among states laid 0 (length states) t → Mem t states
-            to-mem t m = subst (λ (u : ℕ). Mem u states) (ap (λ (p : ℕ). getD states p 0) (sym (d .first (m .at) (m .last))) ∙ m .is) (getD-mem states (m .at) (m .last))
+            to-mem t m =
+                let e = ap (λ (p : ℕ). getD states p 0) (sym (d .first (m .at) (m .last))) ∙ m .is in
+                subst (λ (u : ℕ). Mem u states) e (getD-mem states (m .at) (m .last))
 
             of-mem : (t : ℕ) → Mem t states → Among states laid 0 (length states) t
             of-mem t m =
@@ -172,13 +182,17 @@ module _ {r : ℕ} (words : List ℕ) {states order answers : List ℕ} where
             walked : (i : ℕ) → i < length states
                 → getD answers′ i 0 ≡ oneOf (den (2 * headerOf words BITS) (rowsOf (tableOf words)) (x - 1) (pairVal (getD states i 0) 0))
             walked i l = subst
-                (λ (p : ℕ). getD answers′ p 0 ≡ oneOf (den (2 * headerOf words BITS) (rowsOf (tableOf words)) (x - 1) (pairVal (getD states p 0) 0)))
+                (λ (p : ℕ). getD answers′ p 0 ≡ oneOf (den (2 * headerOf words BITS) (rowsOf (tableOf words)) (x - 1)
+                (pairVal (getD states p 0) 0)))
                 (d .first i l) (c .answered i (omega arith) l)
 
-            by-set : (A : List Bool) → bookOf (seen words) .reg r ≡ some A → (i : ℕ) → i < length states → getD answers′ i 0 ≡ oneOf (mem A (getD states i 0))
-            by-set A e i l = walked i l ∙ ap oneOf (set-walk words s (g .register) (filled words r x ex h) A e (getD states i 0) (g .below i l))
+            by-set : (A : List Bool) → bookOf (seen words) .reg r ≡ some A → (i : ℕ) → i < length states
+                → getD answers′ i 0 ≡ oneOf (mem A (getD states i 0))
+            by-set A e i l = walked i l ∙ ap oneOf (set-walk words s (g .register) (filled words r x ex h) A e (getD states i 0)
+                (g .below i l))
 
-            all-answered : (A : List Bool) → bookOf (seen words) .reg r ≡ some A → Answered (x - 1) A words states order order′ answers answers′ (valued q)
+            all-answered : (A : List Bool) → bookOf (seen words) .reg r ≡ some A
+                → Answered (x - 1) A words states order order′ answers answers′ (valued q)
             all-answered A e = record {
               reply = ap valued (entered-reads states to-mem of-mem (c .reads));
               told =
@@ -187,7 +201,8 @@ module _ {r : ℕ} (words : List ℕ) {states order answers : List ℕ} where
                   (size ∙ sym (length-map states (λ u. oneOf (mem A u))))
                   (λ i l. let m : i < length states = omega arith in
                   getD-take (length states) answers′ i 0 m ∙ by-set A e i m ∙ sym (map-at (λ u. oneOf (mem A u)) states i m));
-              rest = drop-same (length states) answers′ answers answers-size (λ i l. c .kept i (λ p _ m z. let w = d .first p m in omega arith));
+              rest = drop-same (length states) answers′ answers answers-size
+                  (λ i l. c .kept i (λ p _ m z. let w = d .first p m in omega arith));
               rearranged = record {
                 size = order-size;
                 each = stands-at;
@@ -208,6 +223,7 @@ module _ {r : ℕ} (words : List ℕ) {states order answers : List ℕ} where
             }
 
           pub answer : {rows k q : ℕ} {laid order′ answers′ : List ℕ} → rows ≡ headerOf words ROWS → k ≡ length states → Laid order laid k
-              → length order′ ≡ length order → length answers′ ≡ length answers → Asked (view rows words) (x - 1) states laid order′ answers answers′ 0 k q
+              → length order′ ≡ length order → length answers′ ≡ length answers → Asked (view rows words) (x - 1) states laid order′
+              answers answers′ 0 k q
               → BatchPost r words states order order′ answers answers′ (valued q)
           answer er ek d o a c = answer-at (rw ek at d) o a (rw ek at (rw er at c))

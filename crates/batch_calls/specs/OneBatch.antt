@@ -1,5 +1,5 @@
--- ONE ANSWER: on the same words and lists the contract allows one reply and one list of answers, and leaves only the arrangement of the places in the
--- order list free. Words need not be sound, nor states in range, nor is that decided. Assumes nothing.
+-- ONE ANSWER: on the same words and lists the contract allows one reply and one list of answers, and leaves only the arrangement of the
+-- places in the order list free. Words need not be sound, nor states in range, nor is that decided. Assumes nothing.
 use mathlib.Core.Path.{_≡_, refl, sym, ap, _∙_}
 use mathlib.Core.Logic.{_≢_}
 use mathlib.Core.Bool.{Bool, cond}
@@ -32,7 +32,8 @@ pub record OneBatch (states v w a b : List ℕ) (y z : Reply) : Type 0 where
 held : {a : ℕ} (r : ℕ) (words : List ℕ) {states : List ℕ} → InRange (seen words .n) r states → seen words .reg r ≡ some a
     → bookOf (seen words) .reg r ≡ some (setOf (seen words .n) (den (2 * seen words .n) (seen words .rows) a))
 held r words g e =
-    ap (λ (t : Bool). cond t (standsFor (setOf (seen words .n)) (den (2 * seen words .n) (seen words .rows)) (seen words .reg r)) none) (lt-ltb r registers (g .register))
+    ap (λ (t : Bool). cond t (standsFor (setOf (seen words .n)) (den (2 * seen words .n) (seen words .rows)) (seen words .reg r)) none)
+    (lt-ltb r registers (g .register))
     ∙ ap (standsFor (setOf (seen words .n)) (den (2 * seen words .n) (seen words .rows))) e
 
 module _ {r : ℕ} (words : List ℕ) {states order v w answers a b : List ℕ} {y z : Reply}
@@ -77,7 +78,8 @@ module _ {r : ℕ} (words : List ℕ) {states order v w answers a b : List ℕ} 
   not-two : (OneBatch states v w a b y z → ⊥) → ⊥
   not-two n =
       let range : Fit states order answers → SoundWords words → InRange (seen words .n) r states → ⊥ = λ f s g. n (in-range-one f s g) in
-      let sound : Fit states order answers → SoundWords words → ⊥ = λ f s. n (refused-one (p .range f s (range f s)) (q .range f s (range f s))) in
+      let sound : Fit states order answers → SoundWords words → ⊥ = λ f s. n
+      (refused-one (p .range f s (range f s)) (q .range f s (range f s))) in
       let fit : Fit states order answers → ⊥ = λ f. n (refused-one (p .unsound f (sound f)) (q .unsound f (sound f))) in
       n (refused-one (p .sizes fit) (q .sizes fit))
 

@@ -44,8 +44,8 @@ pub record Stands (order : List ℕ) (k i : ℕ) : Type 0 where
   pub is : getD order at 0 ≡ i
   pub only : (j : ℕ) → j < k → getD order j 0 ≡ i → j ≡ at
 
--- "ends as a rearrangement of the places, from 0 up": the first k entries are the places below k, each once, in an order that is free; "entries past
--- the states are unchanged"
+-- "ends as a rearrangement of the places, from 0 up": the first k entries are the places below k, each once, in an order that is free;
+-- "entries past the states are unchanged"
 pub record Rearranged (k : ℕ) (order order′ : List ℕ) : Type 0 where
   pub size : length order′ ≡ length order
   pub each : (i : ℕ) → i < k → Stands order′ k i

@@ -1,5 +1,5 @@
--- DEMAND 2 for many states: after an answered set, on whatever words, an answered question tells the states in which the set's formula holds.
--- Assumes nothing.
+-- DEMAND 2 for many states: after an answered set, on whatever words, an answered question tells the states in which the set's formula
+-- holds. Assumes nothing.
 use mathlib.Core.Path.{_≡_, refl, sym, ap, _∙_}
 use mathlib.Core.Bool.{Bool}
 use mathlib.Core.List.{List, List-discrete}
@@ -22,7 +22,8 @@ use Rattle.contract.specs.Posts.{CallPost}
 use Rattle.batch_calls.specs.Posts.{Fit, InRange, answersOf, BatchPost}
 
 module _ (old mid : List ℕ) (acc : Terms) (r R : ℕ) (bs : List ℕ) (x : Reply) (p : CallPost (set acc r R bs) old mid x) (z : x .number ≡ 0)
-    {states order order′ answers answers′ : List ℕ} {y : Reply} (q : BatchPost r mid states order order′ answers answers′ y) (i : y .number ≡ 0) where
+    {states order order′ answers answers′ : List ℕ} {y : Reply} (q : BatchPost r mid states order order′ answers answers′ y)
+    (i : y .number ≡ 0) where
   abbrev b : Book
   b = bookOf (seen old)
 
@@ -34,7 +35,8 @@ module _ (old mid : List ℕ) (acc : Terms) (r R : ℕ) (bs : List ℕ) (x : Rep
   held : SoundWords old → bookOf (seen mid) .reg r ≡ some M
   held s =
       let served = p .performs .served s .1 in
-      let same = only-book (does b (set acc r R bs) .0) (seen mid) (whole-does b (set acc r R bs) (whole-bookOf (seen old))) (served .shows) in
+      let same = only-book (does b (set acc r R bs) .0) (seen mid) (whole-does b (set acc r R bs) (whole-bookOf (seen old)))
+      (served .shows) in
       ap (λ (c : Book). c .reg r) (sym same) ∙ set-leaves b acc r R bs x (served .agrees) z
 
   -- no check refuses the question, for it is answered
