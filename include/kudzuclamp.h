@@ -30,10 +30,10 @@
  * STACK. A call takes less than 160 KB of it, and more than 80 KB only on words whose lookup chains are longer than 32 rows (counted on the
  * compiled code, not proved).
  *
- * POINTERS. A slice is a pointer and its number of elements. No pointer may be null, not even with 0 elements. Words that are not const, the
- * accounts, and each answer must overlap nothing else that is lent to the call, and no other thread may use them meanwhile; nor may one write
- * the rest. Words, accounts and answers are aligned as their types are, to 4 bytes, and *count of kudzuclamp_play to 8; bytes stand anywhere. So
- * words that come from a byte buffer or a file are copied into an array of uint32_t first.
+ * POINTERS. A slice is a pointer and its number of elements. No pointer may be null, not even with 0 elements. Words and lists that are not const,
+ * the accounts, and each answer must overlap nothing else that is lent to the call, and no other thread may use them meanwhile; nor may one write
+ * the rest. Words, accounts and answers are aligned as their types are, to 4 bytes, lists of 16-bit numbers to 2, and *count of
+ * kudzuclamp_play to 8; bytes stand anywhere. So words that come from a byte buffer or a file are copied into an array of uint32_t first.
  */
 #ifndef KUDZUCLAMP_H
 #define KUDZUCLAMP_H
@@ -71,6 +71,9 @@ extern "C" {
 /* The longest list of accounts. */
 #define KUDZUCLAMP_MAX_ACCOUNTS 8
 
+/* How many states may be asked at once. */
+#define KUDZUCLAMP_MAX_STATES 1024
+
 /*
  * An account. A set under it may need at most the lesser of N and `rows` rows, counted with all that registers and relations keep, and take at
  * most the lesser of R and `rounds` rounds. `tally` counts rounds. Any values may be lent.
@@ -84,7 +87,7 @@ struct kudzuclamp_account {
 /* What a function returns. */
 enum kudzuclamp_number {
     KUDZUCLAMP_ANSWERED = 0,
-    KUDZUCLAMP_SIZES = 1,     /* fresh: n, N or the number of words out of range */
+    KUDZUCLAMP_SIZES = 1,     /* fresh: n, N or the number of words out of range; members: too many states, or too short a list */
     KUDZUCLAMP_UNSOUND = 2,   /* the words are no sound table */
     KUDZUCLAMP_RANGE = 3,     /* register, relation or state number out of range */
     KUDZUCLAMP_SYNTAX = 4,    /* the bytes are no formula for this call */
@@ -267,6 +270,16 @@ uint32_t kudzuclamp_node(const uint32_t *words, size_t words_len, uint32_t r, ui
  */
 KUDZUCLAMP_USE_RESULT
 uint32_t kudzuclamp_member(const uint32_t *words, size_t words_len, uint32_t r, uint32_t s, uint32_t *value);
+
+/*
+ * Asks of up to KUDZUCLAMP_MAX_STATES states at once which of them the set in register r has; they may repeat, and there may be none. answers[i]
+ * becomes 1 where it has states[i], else 0. `order` is lent for the work: its first states_len entries end as the numbers 0 to states_len - 1 in
+ * some order. Both lists are at least as long as the states; what they have beyond is never changed. *reads is how many rows were read: a row
+ * counts once for all states whose bits, as far as the rows on the way asked for them, are the same. So it is never above the sum over the same
+ * states asked one by one. It returns 0, 1, 2, 3 or 7; a refusal keeps both lists.
+ */
+uint32_t kudzuclamp_members(const uint32_t *words, size_t words_len, uint32_t r, const uint16_t *states, size_t states_len, uint16_t *order,
+                            size_t order_len, uint8_t *answers, size_t answers_len, uint32_t *reads);
 
 /*
  * *value is how many states the set in register r has, 0 to 2^n. It returns 0, 2, 3 or 7.

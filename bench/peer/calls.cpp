@@ -1,4 +1,5 @@
-// What one call costs on a small set, at two sizes of the table; what count costs; and how long a hostile table takes.
+// What one call costs on a small set, at two sizes of the table; what count costs; what many states cost at once and one by one; and how long a
+// hostile table takes.
 #include "list.h"
 #include "own.h"
 #include <algorithm>
@@ -7,6 +8,7 @@
 #include <functional>
 #include <numeric>
 #include <random>
+#include <set>
 
 typedef std::vector<u32> Words;
 static Account account;
@@ -99,31 +101,32 @@ static void counts() {
     printf("\n");
 }
 
-// A table of 60,000 rows that is sound but for register 0, which has an odd row: it is refused, after every other check. The rows' places are in order or `mixed`.
-class Hostile {
+// A table of 60,000 rows, laid out by hand. The hostile ones are sound but for register 0, which has an odd row: they are refused, after every other
+// check. The rows' places are in order or `mixed`.
+class Laid {
   public:
     static const u32 ROWS = 60000;
     static const size_t LIST = 256 + 8 * ROWS, HEADS = LIST + ROWS;
     Words w = table(16, ROWS);
 
     // All rows in one chain, to which every head leads.
-    static Hostile one_chain(bool mixed) {
-        Hostile h(mixed);
+    static Laid one_chain(bool mixed) {
+        Laid h(mixed);
         h.fill(ROWS, true);
         std::fill(h.w.begin() + HEADS + 1, h.w.begin() + HEADS + ROWS, h.w[HEADS]);
         return h;
     }
     // The same with a row in the middle equal to the first, and no register.
-    static Hostile equal_rows(bool mixed) {
-        Hostile h = one_chain(mixed);
+    static Laid equal_rows(bool mixed) {
+        Laid h = one_chain(mixed);
         const u32 *first = &h.w[256 + 8 * (size_t)h.place[0]];
         std::copy(first, first + 3, &h.w[256 + 8 * (size_t)h.place[ROWS / 2]]);
         h.w[16] = 0;
         return h;
     }
     // 15,000 rows in their own buckets, and 45,000 above them that were picked to fall into bucket 7.
-    static Hostile one_bucket(bool mixed) {
-        Hostile h(mixed);
+    static Laid one_bucket(bool mixed) {
+        Laid h(mixed);
         u32 level = h.fill(15000, false);
         std::vector<u32> arrows = h.arrows;
         for (; h.w[3] < ROWS; level--)
@@ -133,9 +136,29 @@ class Hostile {
         return h;
     }
 
+    // A sound table: so many used rows, all on even levels and in their own buckets, about as many on each level as on the next; their arrows lead to the next
+    // level where that has enough rows. Register 0 has the set of the last row, on level 0.
+    static Laid levels(u32 used) {
+        Laid h(true);
+        std::mt19937 random(2);
+        std::vector<u32> plain = h.arrows;
+        for (u32 level = 30; h.w[3] < used; level -= 2) {
+            std::vector<u32> all = both(plain);
+            size_t before = h.arrows.size(), most = std::min<size_t>((used - h.w[3]) / (level / 2 + 1), all.size() * plain.size() - plain.size());
+            std::set<std::pair<u32, u32>> made;
+            while (made.size() < most) {
+                u32 low = all[random() % all.size()], high = plain[random() % plain.size()];
+                if (low != high && made.insert({low, high}).second) h.put(level, low, high, false);
+            }
+            plain.assign(h.arrows.begin() + (most > 100 ? before : 0), h.arrows.end());
+        }
+        h.w[16] = h.arrows.back() + 1;
+        return h;
+    }
+
   private:
     std::vector<u32> place, arrows = {0}; // arrows without a NOT: a high arrow has none
-    explicit Hostile(bool mixed) : place(ROWS) {
+    explicit Laid(bool mixed) : place(ROWS) {
         std::iota(place.begin(), place.end(), 0);
         std::mt19937 random(1);
         if (mixed) std::shuffle(place.begin(), place.end(), random);
@@ -169,17 +192,47 @@ class Hostile {
     }
 };
 
+// States asked at once, and one by one.
+static void many_states() {
+    Laid h = Laid::levels(20000);
+    std::mt19937 random(3);
+    u32 rows = h.w[3], value, reads, singly;
+    printf("| states, %u used rows | one call, µs | single calls, µs | ratio | row reads | singly |\n|--:|--:|--:|--:|--:|--:|\n", rows);
+    for (size_t count : {1, 32, 1024}) {
+        std::vector<uint16_t> states(count), order(count);
+        std::vector<uint8_t> answers(count);
+        for (uint16_t &s : states) s = random();
+        auto ask = [&](const uint16_t *first, size_t some) {
+            if (kudzuclamp_members(h.w.data(), h.w.size(), 0, first, some, order.data(), count, answers.data(), count, &reads)) exit(1);
+        };
+        double one = least(10, [&](int) { ask(states.data(), count); });
+        std::vector<uint8_t> told = answers;
+        double single = 1e18;
+        for (int turn = 0; turn < 3; turn++) {
+            u64 start = thread_time();
+            for (size_t k = 0; k < count; k++)
+                if (kudzuclamp_member(h.w.data(), h.w.size(), 0, states[k], &value) || value != told[k]) exit(1);
+            single = std::min(single, (double)(thread_time() - start));
+        }
+        singly = 0;
+        for (const uint16_t &s : states) ask(&s, 1), singly += reads;
+        ask(states.data(), count);
+        printf("| %zu | %.1f | %.1f | %.1f | %u | %u |\n", count, one / 1000, single / 1000, single / one, reads, singly);
+    }
+    printf("\n");
+}
+
 static void refusals() {
-    struct Kind { const char *name; Hostile (*table)(bool); };
+    struct Kind { const char *name; Laid (*table)(bool); };
     const Kind kinds[] = {
-        {"all rows in one chain, register 0 odd", Hostile::one_chain},
-        {"45,000 rows in one bucket, register 0 odd", Hostile::one_bucket},
-        {"all rows in one chain, one in the middle equal to the first", Hostile::equal_rows},
+        {"all rows in one chain, register 0 odd", Laid::one_chain},
+        {"45,000 rows in one bucket, register 0 odd", Laid::one_bucket},
+        {"all rows in one chain, one in the middle equal to the first", Laid::equal_rows},
     };
     printf("| hostile table of 60,000 rows | answer to clear | s |\n|---|--:|--:|\n");
     for (const Kind &kind : kinds)
         for (bool mixed : {false, true}) {
-            Hostile h = kind.table(mixed);
+            Laid h = kind.table(mixed);
             u64 start = thread_time();
             u32 answer = kudzuclamp_clear(h.w.data(), h.w.size(), 5);
             printf("| %s, places %s | %u | %.3f |\n", kind.name, mixed ? "mixed" : "in order", answer, (thread_time() - start) / 1e9);
@@ -190,5 +243,6 @@ static void refusals() {
 int main() {
     small_calls();
     counts();
+    many_states();
     refusals();
 }

@@ -12,6 +12,9 @@ uint32_t kudzuclamp_set(uint32_t *words, size_t size, Account *accounts, size_t 
                         size_t length, uint32_t *node, uint32_t *rounds, uint32_t *peak);
 uint32_t kudzuclamp_clear(uint32_t *words, size_t size, uint32_t r);
 uint32_t kudzuclamp_collect(uint32_t *words, size_t size, uint32_t *kept);
+uint32_t kudzuclamp_member(const uint32_t *words, size_t size, uint32_t r, uint32_t s, uint32_t *value);
+uint32_t kudzuclamp_members(const uint32_t *words, size_t size, uint32_t r, const uint16_t *states, size_t count, uint16_t *order, size_t order_room,
+                            uint8_t *answers, size_t answers_room, uint32_t *reads);
 uint32_t kudzuclamp_count(const uint32_t *words, size_t size, uint32_t r, uint32_t *states);
 uint32_t kudzuclamp_play(uint32_t *words, size_t size, const uint8_t *bytes, size_t length, uint32_t *list, size_t room, size_t *count);
 }

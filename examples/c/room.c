@@ -100,6 +100,26 @@ static void set(const char *what, uint32_t place, uint32_t r, uint32_t most, con
            (unsigned)peak);
 }
 
+/* The states of a set, all asked at once. */
+static void states_of(const char *what, uint32_t r)
+{
+    enum { STATES = 1 << BITS };
+    uint16_t states[STATES], order[STATES];
+    uint8_t answers[STATES];
+    uint32_t reads;
+    for (uint16_t s = 0; s < STATES; s++) {
+        states[s] = s;
+    }
+    must("members", kudzuclamp_members(words, words_len, r, states, STATES, order, STATES, answers, STATES, &reads));
+    printf("%s:", what);
+    for (size_t i = 0; i < STATES; i++) {
+        if (answers[i]) {
+            printf(" %u", (unsigned)states[i]);
+        }
+    }
+    printf("; row reads: %u\n", (unsigned)reads);
+}
+
 int main(void)
 {
     uint32_t safe, complement, kept, rows;
@@ -116,6 +136,7 @@ int main(void)
     must("node", kudzuclamp_node(words, words_len, MENDED_SAFE, &safe));
     must("node", kudzuclamp_node(words, words_len, NOT_IN_DANGER, &complement));
     printf("the last two sets: %s\n", safe == complement ? "the same" : "different");
+    states_of("their states", MENDED_SAFE);
 
     set("can howl by the first rules, in 2 rounds", TABLET, FIRST_DANGER, 2, first_danger, sizeof first_danger);
     set("can howl by the first rules, on the phone", PHONE, FIRST_DANGER, ROUNDS, first_danger, sizeof first_danger);

@@ -50,6 +50,18 @@ mod library {
             s: u32,
             value: *mut u32,
         ) -> u32;
+        pub fn kudzuclamp_members(
+            words: *const u32,
+            words_len: usize,
+            r: u32,
+            states: *const u16,
+            states_len: usize,
+            order: *mut u16,
+            order_len: usize,
+            answers: *mut u8,
+            answers_len: usize,
+            reads: *mut u32,
+        ) -> u32;
         pub fn kudzuclamp_count(
             words: *const u32,
             words_len: usize,
@@ -180,6 +192,33 @@ pub fn member(words: &[u32], r: u32, s: u32) -> Result<u32, Refusal> {
     let number =
         unsafe { library::kudzuclamp_member(words.as_ptr(), words.len(), r, s, &mut value) };
     answered(number, value)
+}
+
+pub fn members(
+    words: &[u32],
+    r: u32,
+    states: &[u16],
+    order: &mut [u16],
+    answers: &mut [u8],
+) -> Result<u32, Refusal> {
+    let mut reads = 0;
+    // SAFETY: pointers and lengths are those of slices; the mutable ones overlap nothing. The last
+    // pointer is a local's.
+    let number = unsafe {
+        library::kudzuclamp_members(
+            words.as_ptr(),
+            words.len(),
+            r,
+            states.as_ptr(),
+            states.len(),
+            order.as_mut_ptr(),
+            order.len(),
+            answers.as_mut_ptr(),
+            answers.len(),
+            &mut reads,
+        )
+    };
+    answered(number, reads)
 }
 
 pub fn count(words: &[u32], r: u32) -> Result<u32, Refusal> {

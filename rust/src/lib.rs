@@ -21,7 +21,7 @@
 //! let reach = Formula::mu(0, howl | Formula::diamond(0, Formula::var(0)));
 //! room.set(&mut accounts, 0, 0, 1_000, reach)?;
 //! assert_eq!(room.count(0)?, 4);
-//! assert_eq!(room.states(0)?, [0, 1, 2, 3]);
+//! assert_eq!(room.states(0)?.collect::<Vec<u32>>(), [0, 1, 2, 3]);
 //!
 //! // Register 1: the states from which they never do.
 //! room.set(&mut accounts, 0, 1, 1_000, !Formula::register(0))?;
@@ -34,6 +34,8 @@
 //! Callers may share a table under limits of their own: see [`Account`]. Relations and sets return
 //! how many rows they needed at most, to choose a table's size by: see [`Loaded`].
 //!
+//! Many states are asked at once by [`Table::members`]; [`Table::states`] gives all that a set has.
+//!
 //! The static library is made by `rt staticlib exports` in the repository's root; [`PROVED`] tells
 //! whether the one that is linked was.
 #![deny(missing_docs, unsafe_code)]
@@ -41,11 +43,11 @@
 #[allow(unsafe_code)]
 mod abi;
 mod account;
-mod diagram;
 mod display;
 mod formula;
 mod play;
 mod refusal;
+mod states;
 mod table;
 mod token;
 
@@ -53,6 +55,7 @@ pub use account::{Account, MAX_ACCOUNTS};
 pub use formula::Formula;
 pub use play::{play, Outcome, Unreadable};
 pub use refusal::Refusal;
+pub use states::{States, MAX_STATES};
 pub use table::{words_for, Loaded, Stored, Table, MAX_BITS, MAX_ROWS, REGISTERS, RELATIONS};
 
 /// Whether the linked library is one that `rt staticlib` made, which checks all proofs first. It is

@@ -17,7 +17,8 @@ use std::fmt;
 #[non_exhaustive]
 #[derive(Clone, Copy, Debug, PartialEq, Eq, Hash, PartialOrd, Ord)]
 pub enum Refusal {
-    /// 1: fresh was given a number of bits or rows out of range, or too few words.
+    /// 1: fresh was given a number of bits or rows out of range, or too few words; or a question for
+    /// many states too many of them, or too short a list.
     Sizes = 1,
     /// 2: the words are no sound table.
     Unsound = 2,
@@ -85,7 +86,7 @@ impl fmt::Display for Refusal {
     fn fmt(&self, f: &mut fmt::Formatter<'_>) -> fmt::Result {
         f.write_str(match self {
             Refusal::Sizes => {
-                "the number of bits or rows is out of range, or there are too few words"
+                "the number of bits, rows or states is out of range, or there are too few words or places"
             }
             Refusal::Unsound => "the words are no sound table",
             Refusal::Range => "a register, relation or state number is out of range",

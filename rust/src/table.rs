@@ -1,5 +1,9 @@
 //! The table over lent or owned words.
-use crate::{abi, diagram, Account, Refusal};
+use crate::{abi, Account, Refusal, States};
+
+/// The words of a sound table that have n and N.
+pub(crate) const BITS: usize = 0;
+const ROWS: usize = 1;
 
 /// The greatest number of state bits of a table.
 pub const MAX_BITS: u32 = 16;
@@ -287,7 +291,7 @@ impl<W: AsRef<[u32]>> Table<W> {
     /// assert_eq!((table.bits(), table.rows()), (Ok(6), Ok(1_344)));
     /// ```
     pub fn bits(&self) -> Result<u32, Refusal> {
-        self.sound().map(diagram::bits)
+        self.sound().map(|words| words[BITS])
     }
 
     /// N: how many rows the table has.
@@ -296,33 +300,7 @@ impl<W: AsRef<[u32]>> Table<W> {
     ///
     /// [`Refusal::Unsound`].
     pub fn rows(&self) -> Result<u32, Refusal> {
-        self.sound().map(diagram::rows)
-    }
-
-    /// All states of the set in register r, least first.
-    ///
-    /// The library finds that the words are sound and gives the register's node number; the states
-    /// are then read off the rows by this wrapper, which is not proved. [`Table::member`] asks the
-    /// library about a single state.
-    ///
-    /// # Errors
-    ///
-    /// [`Refusal::Unsound`], [`Refusal::Range`] or [`Refusal::Empty`].
-    ///
-    /// ```
-    /// use kudzuclamp::{Account, Formula, Refusal, Table};
-    ///
-    /// # fn main() -> Result<(), Refusal> {
-    /// let mut accounts = [Account::unlimited()];
-    /// let mut table = Table::new(&mut accounts, 3, 100)?;
-    /// table.set(&mut accounts, 0, 5, 0, Formula::current(0) ^ Formula::current(2))?;
-    /// assert_eq!(table.states(5)?, [0b001, 0b011, 0b100, 0b110]);
-    /// # Ok(())
-    /// # }
-    /// ```
-    pub fn states(&self, r: u32) -> Result<Vec<u32>, Refusal> {
-        let node = self.node(r)?;
-        Ok(diagram::states(self.words.as_ref(), node))
+        self.sound().map(|words| words[ROWS])
     }
 
     /// The node number in register r, as the call that last set it gave it.
@@ -341,6 +319,66 @@ impl<W: AsRef<[u32]>> Table<W> {
     /// [`Refusal::Unsound`], [`Refusal::Range`] (register or state) or [`Refusal::Empty`].
     pub fn member(&self, r: u32, state: u32) -> Result<bool, Refusal> {
         Ok(abi::member(self.words.as_ref(), r, state)? == 1)
+    }
+
+    /// Which of up to [`MAX_STATES`](crate::MAX_STATES) states, each from 0 to 2^n − 1, the set in
+    /// register r has: answer i becomes 1 where it has state i, else 0. Gives how many rows were read;
+    /// a row counts once for all states that reach it by the same answers to the rows before it.
+    ///
+    /// The order is lent for the work: its entries end as the states' places, from 0 up, in some
+    /// order. Entries of both lists past the states are not changed, and none is where the question
+    /// is refused.
+    ///
+    /// # Errors
+    ///
+    /// [`Refusal::Sizes`] where there are too many states or a list is shorter, [`Refusal::Unsound`],
+    /// [`Refusal::Range`] (register or state) or [`Refusal::Empty`].
+    ///
+    /// ```
+    /// use kudzuclamp::{Account, Formula, Refusal, Table};
+    ///
+    /// # fn main() -> Result<(), Refusal> {
+    /// let mut accounts = [Account::unlimited()];
+    /// let mut table = Table::new(&mut accounts, 2, 10)?;
+    /// table.set(&mut accounts, 0, 0, 0, Formula::current(1))?;
+    /// let (mut order, mut answers) = ([0; 4], [9; 4]);
+    /// // Bit 0 is never asked, so one row is read once for all three.
+    /// assert_eq!(table.members(0, &[3, 0, 3], &mut order, &mut answers)?, 1);
+    /// assert_eq!(answers, [1, 0, 1, 9]);
+    /// assert_eq!(table.members(0, &[4], &mut order, &mut answers), Err(Refusal::Range));
+    /// # Ok(())
+    /// # }
+    /// ```
+    pub fn members(
+        &self,
+        r: u32,
+        states: &[u16],
+        order: &mut [u16],
+        answers: &mut [u8],
+    ) -> Result<u32, Refusal> {
+        abi::members(self.words.as_ref(), r, states, order, answers)
+    }
+
+    /// All states of the set in register r, the least first, asked of the library 1,024 at a time.
+    ///
+    /// # Errors
+    ///
+    /// [`Refusal::Unsound`], [`Refusal::Range`] or [`Refusal::Empty`].
+    ///
+    /// ```
+    /// use kudzuclamp::{Account, Formula, Refusal, Table};
+    ///
+    /// # fn main() -> Result<(), Refusal> {
+    /// let mut accounts = [Account::unlimited()];
+    /// let mut table = Table::new(&mut accounts, 3, 10)?;
+    /// table.set(&mut accounts, 0, 0, 0, Formula::current(0) & !Formula::current(1))?;
+    /// assert_eq!(table.states(0)?.collect::<Vec<u32>>(), [1, 5]);
+    /// assert_eq!(table.states(1).err(), Some(Refusal::Empty));
+    /// # Ok(())
+    /// # }
+    /// ```
+    pub fn states(&self, r: u32) -> Result<States<'_>, Refusal> {
+        States::new(self.words.as_ref(), r)
     }
 
     /// How many states the set in register r has, from 0 to 2^n.

@@ -60,12 +60,12 @@ fn states_are_the_members() {
             let r = turn % 32;
             set(&mut t, r, &formula);
             let members: Vec<u32> = (0..1 << n).filter(|&s| t.member(r, s).unwrap()).collect();
-            assert_eq!(t.states(r).unwrap(), members, "{formula}");
+            assert!(t.states(r).unwrap().eq(members), "{formula}");
         }
         set(&mut t, 0, &Formula::never());
         set(&mut t, 1, &Formula::always());
-        assert_eq!(t.states(0), Ok(vec![]));
-        assert_eq!(t.states(1), Ok((0..1 << n).collect()));
+        assert_eq!(t.states(0).unwrap().count(), 0);
+        assert!(t.states(1).unwrap().eq(0..1 << n));
     }
 }
 
@@ -82,16 +82,16 @@ fn states_of_16_bits() {
     let states: Vec<u32> = (0..1 << 16)
         .filter(|s: &u32| s.count_ones() % 2 == 1)
         .collect();
-    assert_eq!(t.states(0), Ok(states));
+    assert!(t.states(0).unwrap().eq(states));
 }
 
 #[test]
 fn refused_as_node_is() {
     let mut t = table(2, 10);
-    assert_eq!(t.states(0), Err(Refusal::Empty));
-    assert_eq!(t.states(32), Err(Refusal::Range));
+    assert_eq!(t.states(0).err(), Some(Refusal::Empty));
+    assert_eq!(t.states(32).err(), Some(Refusal::Range));
     t.words_mut()[0] = 17;
-    assert_eq!(t.states(0), Err(Refusal::Unsound));
+    assert_eq!(t.states(0).err(), Some(Refusal::Unsound));
     assert_eq!(
         (t.bits(), t.rows()),
         (Err(Refusal::Unsound), Err(Refusal::Unsound))

@@ -30,10 +30,10 @@ use Rattle.contract.specs.Posts.{AskPost}
 use Rattle.contract.specs.Checked.{ask-refused}
 
 -- a state is below 2^n exactly if nothing is left of it after n bits
-state-out : (s n : ℕ) → s / 2 ^ n ≢ 0 → 2 ^ n ≤ s
+pub state-out : (s n : ℕ) → s / 2 ^ n ≢ 0 → 2 ^ n ≤ s
 state-out s n h = by-cases (decLt s (2 ^ n)) (λ l. absurd (h (div-eq-of-lt l))) (λ g. omega arith)
 
-state-in : (s n : ℕ) → s / 2 ^ n ≡ 0 → s < 2 ^ n
+pub state-in : (s n : ℕ) → s / 2 ^ n ≡ 0 → s < 2 ^ n
 state-in s n e =
     let p : 0 < 2 ^ n = pow-pos n in
     let d = div-add-mod' s (2 ^ n) in

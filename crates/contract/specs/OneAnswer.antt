@@ -63,10 +63,10 @@ pub record OneAnswer (c : Call) (old v w : List ℕ) (y z : Reply) : Type 0 wher
 
 -- ---- fresh, and a question
 
-same-reply : {y z : Reply} → y .number ≡ z .number → y .rounds ≡ z .rounds → y .peak ≡ z .peak → y .value ≡ z .value → y ≡ z
+pub same-reply : {y z : Reply} → y .number ≡ z .number → y .rounds ≡ z .rounds → y .peak ≡ z .peak → y .value ≡ z .value → y ≡ z
 same-reply a b c d = λ i. record { number = a i; rounds = b i; peak = c i; value = d i }
 
-same-refusal : {k : ℕ} {y z : Reply} → Refusal k y → Refusal k z → y ≡ z
+pub same-refusal : {k : ℕ} {y z : Reply} → Refusal k y → Refusal k z → y ≡ z
 same-refusal {k} {y} {z} f g = same-reply {y = y} {z = z} (f .0 ∙ sym (g .0)) (f .1 ∙ sym (g .1)) (f .2 ∙ sym (g .2)) (f .3 ∙ sym (g .3))
 
 -- fresh, where so many accounts are lent: one reply, one book, and a refusal keeps all words

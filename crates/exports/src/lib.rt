@@ -17,6 +17,7 @@ use soundness::sound;
 use tokens::Kind;
 ghost use mathlib.Core.Path.{_≡_};
 ghost use Rattle.book.specs.Book as book;
+ghost use Rattle.batch_calls.specs.Posts.{BatchPost};
 ghost use Rattle.calls.specs.Replies.{answerReply, startedReply};
 ghost use Rattle.contract.specs.Posts.{CallPost, AskPost, SetAllPost};
 ghost use Rattle.formula_steps.specs.Replies.{storedReply};
@@ -173,6 +174,24 @@ pub extern "C" fn kudzuclamp_member(words: &[u32], r: u32, s: u32, value: &mut u
     ensures { λ k. ⌜ AskPost (book.member r s) (now (words .entry)) (given k 0 0 (now (value .exit))) ⌝ }
 {
     give(calls::member(words, r, s), value)
+}
+
+// Answers for each of up to 1,024 states whether the set in register r has it; gives how many rows were read. The order is lent for the work.
+#[no_mangle]
+pub extern "C" fn kudzuclamp_members(
+    words: &[u32],
+    r: u32,
+    states: &[u16],
+    order: &mut [u16],
+    answers: &mut [u8],
+    reads: &mut u32,
+) -> u32
+    ensures { λ k. ⌜ BatchPost r (now (words .entry)) (now (states .entry)) (now (order .entry)) (now (order .exit)) (now (answers .entry)) (now (answers .exit)) (given k 0 0 (now (reads .exit))) ⌝ }
+{
+    give(
+        batch_calls::members(words, r, states, order, answers),
+        reads,
+    )
 }
 
 // Gives how many states the set in register r has.

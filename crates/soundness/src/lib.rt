@@ -1,5 +1,5 @@
 // Whether words are a sound table.
-mod chains;
+pub mod chains;
 
 use chains::Part;
 use chains::part_ok;

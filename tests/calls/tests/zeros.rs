@@ -36,6 +36,18 @@ extern "C" {
         s: u32,
         value: *mut u32,
     ) -> u32;
+    fn kudzuclamp_members(
+        words: *const u32,
+        words_len: usize,
+        r: u32,
+        states: *const u16,
+        states_len: usize,
+        order: *mut u16,
+        order_len: usize,
+        answers: *mut u8,
+        answers_len: usize,
+        reads: *mut u32,
+    ) -> u32;
     fn kudzuclamp_count(words: *const u32, words_len: usize, r: u32, value: *mut u32) -> u32;
 }
 
@@ -165,4 +177,46 @@ fn refused_questions() {
     assert_eq!(questions(&mut words, 0, 4)[1], [3, 0]);
     words[1] = 0;
     assert_eq!(questions(&mut words, 0, 1), [[2, 0]; 4]);
+}
+
+/// Number and reads of a question for some states, with lists of so many places; of both lists only
+/// an answered one changes anything.
+fn members(words: &[u32], r: u32, states: &[u16], places: usize) -> [u32; 2] {
+    let (mut order, mut answers) = (vec![0xAAAA; places], vec![0xAA; places]);
+    let mut reads = BEFORE;
+    // SAFETY: pointers and lengths are those of slices, vectors and a local.
+    let number = unsafe {
+        kudzuclamp_members(
+            words.as_ptr(),
+            words.len(),
+            r,
+            states.as_ptr(),
+            states.len(),
+            order.as_mut_ptr(),
+            places,
+            answers.as_mut_ptr(),
+            places,
+            &mut reads,
+        )
+    };
+    if number != 0 {
+        assert_eq!(order, vec![0xAAAA; places]);
+        assert_eq!(answers, vec![0xAA; places]);
+    }
+    [number, reads]
+}
+
+#[test]
+fn refused_questions_for_many_states() {
+    let mut words = room();
+    assert_eq!(members(&words, 0, &[0, 1, 3], 3), [0, 1]);
+    assert_eq!(members(&words, 0, &[], 0), [0, 0]);
+    assert_eq!(members(&words, 0, &[0, 1, 3], 2), [1, 0]);
+    assert_eq!(members(&words, 0, &[0; 1_025], 1_025), [1, 0]);
+    assert_eq!(members(&words, 32, &[0], 1), [3, 0]);
+    assert_eq!(members(&words, 0, &[0, 4], 2), [3, 0]);
+    assert_eq!(members(&words, 1, &[0, 1], 2), [7, 0]);
+    words[1] = 0;
+    assert_eq!(members(&words, 0, &[0], 1), [2, 0]);
+    assert_eq!(members(&words, 0, &[0], 0), [1, 0]);
 }

@@ -3,6 +3,7 @@
 use crate::accounts::{check_list, check_place, Account};
 use crate::evaluate::{self, Evaluated, Held};
 use crate::formula::{self, Formula, Kind};
+use crate::members::{members, Members, MAX_STATES};
 use crate::refusal::Refusal;
 use crate::states::{state_count, PairSet, StateSet};
 
@@ -88,7 +89,7 @@ impl Book {
         let n_fits = (1..=MAX_STATE_BITS).contains(&n);
         let rows_fit = (1..=MAX_ROWS).contains(&rows);
         if !n_fits || !rows_fit || words < words_for(rows) {
-            return Err(Refusal::BadFresh);
+            return Err(Refusal::BadSizes);
         }
         check_list(accounts)?;
         accounts.iter_mut().for_each(|account| account.tally = 0);
@@ -226,6 +227,28 @@ impl Book {
         in_range(r, REGISTERS)?;
         let state = in_range(state, state_count(self.n))?;
         Ok(self.filled(r)?.contains(state))
+    }
+
+    /// Which of the states lie in register r, with lists of so many places.
+    /// Slip 10: "More than 1,024 states, or an answer or order list shorter than
+    /// the states, is refused by 1, and a state out of range by 3".
+    pub fn members(
+        &self,
+        r: u64,
+        states: &[u64],
+        order: usize,
+        answers: usize,
+    ) -> Result<Members, Refusal> {
+        let places = order.min(answers).min(MAX_STATES);
+        if states.len() > places {
+            return Err(Refusal::BadSizes);
+        }
+        in_range(r, REGISTERS)?;
+        let states: Result<Vec<usize>, Refusal> = (states.iter())
+            .map(|&state| in_range(state, state_count(self.n)))
+            .collect();
+        let states = states?;
+        Ok(members(self.filled(r)?, &states))
     }
 
     pub fn count(&self, r: u64) -> Result<u64, Refusal> {

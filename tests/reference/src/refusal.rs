@@ -3,8 +3,9 @@
 /// The table "Cause | No." of document 01; the discriminant is the number.
 #[derive(Clone, Copy, Debug, PartialEq, Eq, PartialOrd, Ord, Hash)]
 pub enum Refusal {
-    /// "fresh: n, N or slice length"
-    BadFresh = 1,
+    /// "fresh: n, N or slice length"; Slip 10: "More than 1,024 states, or an
+    /// answer or order list shorter than the states"
+    BadSizes = 1,
     /// "table unsound"
     Unsound = 2,
     /// "register, relation or state number out of range"

@@ -102,7 +102,7 @@ fn fourteen() {
 fn order_of_the_checks() {
     // In fresh after 1.
     let fresh = |n, accounts: &mut [Account]| Book::fresh(n, 1, words_for(1), accounts);
-    assert_eq!(fresh(0, &mut []), Err(Refusal::BadFresh));
+    assert_eq!(fresh(0, &mut []), Err(Refusal::BadSizes));
     assert_eq!(fresh(1, &mut []), Err(Refusal::NoAccount));
     // Directly after 3.
     let mut book = book(1, 100);

@@ -10,7 +10,7 @@ use reference::refusal::Refusal;
 #[test]
 fn numbers() {
     let numbers: Vec<u8> = [
-        Refusal::BadFresh,
+        Refusal::BadSizes,
         Refusal::Unsound,
         Refusal::OutOfRange,
         Refusal::NotAFormula,
@@ -36,7 +36,7 @@ fn one_fresh_limits() {
     assert!(!answered(0, 1, 1000) && !answered(17, 1, 1000));
     assert!(!answered(1, 0, 1000) && !answered(1, 60_001, 1_000_000));
     assert!(!answered(1 << 32 | 1, 1, 1000) && !answered(1, 1 << 32 | 1, 1000));
-    assert_eq!(fresh(0, 1, 268), Err(Refusal::BadFresh));
+    assert_eq!(fresh(0, 1, 268), Err(Refusal::BadSizes));
     assert_eq!(words_for(1_344), 16_384);
 }
 

@@ -1,0 +1,95 @@
+//! Many states asked at once, and the states of a set one after the other.
+use kudzuclamp::{Account, Formula, Refusal, Table, MAX_STATES};
+
+/// n bits with a set in register 0.
+fn holding(n: u32, formula: Formula) -> Table<Vec<u32>> {
+    let mut accounts = [Account::unlimited()];
+    let mut table = Table::new(&mut accounts, n, 1_000).unwrap();
+    table.set(&mut accounts, 0, 0, 0, formula).unwrap();
+    table
+}
+
+/// Bits p and q differ.
+fn differ(p: u8, q: u8) -> Formula {
+    let (p, q) = (Formula::current(p), Formula::current(q));
+    (p.clone() & !q.clone()) | (!p & q)
+}
+
+#[test]
+fn answers_stand_in_the_order_of_the_states() {
+    let table = holding(2, differ(0, 1));
+    let (mut order, mut answers) = ([7; 6], [7; 6]);
+    let states = [3, 1, 1, 0, 2];
+    // The first row once, and the second after either answer of the first.
+    let reads = table.members(0, &states, &mut order, &mut answers);
+    assert_eq!(reads, Ok(3));
+    assert_eq!(answers, [0, 1, 1, 0, 1, 7]);
+    assert_eq!(order[5], 7);
+    order[..5].sort();
+    assert_eq!(order[..5], [0, 1, 2, 3, 4]);
+}
+
+#[test]
+fn a_question_for_no_state_reads_no_row() {
+    let table = holding(2, differ(0, 1));
+    assert_eq!(table.members(0, &[], &mut [], &mut []), Ok(0));
+    assert_eq!(table.members(1, &[], &mut [], &mut []), Err(Refusal::Empty));
+    assert_eq!(
+        table.members(32, &[], &mut [], &mut []),
+        Err(Refusal::Range)
+    );
+}
+
+#[test]
+fn refusals_keep_both_lists() {
+    let mut table = holding(2, differ(0, 1));
+    let kept = |table: &Table<Vec<u32>>, r, states: &[u16], places: usize, wanted| {
+        let (mut order, mut answers) = (vec![7; places], vec![9; places]);
+        let words = table.words().to_vec();
+        let refused = table.members(r, states, &mut order, &mut answers);
+        assert_eq!(refused, Err(wanted));
+        assert_eq!((order, answers), (vec![7; places], vec![9; places]));
+        assert_eq!(table.words(), words);
+    };
+    let many = [0; MAX_STATES + 1];
+    kept(&table, 0, &many, many.len(), Refusal::Sizes);
+    kept(&table, 0, &[1, 2], 1, Refusal::Sizes);
+    kept(&table, 32, &[1, 2], 2, Refusal::Range);
+    kept(&table, 0, &[1, 2, 4], 3, Refusal::Range);
+    kept(&table, 1, &[1, 2], 2, Refusal::Empty);
+    table.words_mut()[0] = 0;
+    kept(&table, 0, &[1, 2, 4], 3, Refusal::Unsound);
+    kept(&table, 0, &many, many.len(), Refusal::Sizes);
+}
+
+#[test]
+fn all_states_of_a_set() {
+    for n in [1, 2, 9, 10, 11, 16] {
+        let (first, last) = (Formula::current(0), Formula::current(n as u8 - 1));
+        let is_last = |state: u32| state >> (n - 1) == 1;
+        let cases: [(Formula, &dyn Fn(u32) -> bool); 5] = [
+            (last.clone(), &is_last),
+            (first.clone(), &|state| state % 2 == 1),
+            (!first & last, &|state| state % 2 == 0 && is_last(state)),
+            (Formula::always(), &|_| true),
+            (Formula::never(), &|_| false),
+        ];
+        for (formula, has) in cases {
+            let table = holding(n, formula);
+            let states = table.states(0).unwrap();
+            assert_eq!(states.len() as u32, table.count(0).unwrap());
+            let wanted: Vec<u32> = (0..1 << n).filter(|&state| has(state)).collect();
+            let given: Vec<u32> = states.map(u32::from).collect();
+            assert_eq!(given, wanted, "n = {n}");
+        }
+    }
+}
+
+#[test]
+fn states_of_no_table() {
+    let mut table = holding(3, Formula::current(0));
+    assert_eq!(table.states(32).err(), Some(Refusal::Range));
+    assert_eq!(table.states(9).err(), Some(Refusal::Empty));
+    table.words_mut()[3] = 900;
+    assert_eq!(table.states(0).err(), Some(Refusal::Unsound));
+}
