@@ -111,7 +111,7 @@ static inline const char *kudzuclamp_text(uint32_t number)
     case KUDZUCLAMP_ANSWERED:
         return "answered";
     case KUDZUCLAMP_SIZES:
-        return "the number of bits or rows is out of range, or there are too few words";
+        return "the number of bits, rows or states is out of range, or there are too few words or places";
     case KUDZUCLAMP_UNSOUND:
         return "the words are no sound table";
     case KUDZUCLAMP_RANGE:

@@ -10,9 +10,8 @@ fn holding(n: u32, formula: Formula) -> Table<Vec<u32>> {
 }
 
 /// Bits p and q differ.
-fn differ(p: u8, q: u8) -> Formula {
-    let (p, q) = (Formula::current(p), Formula::current(q));
-    (p.clone() & !q.clone()) | (!p & q)
+fn differ(p: u32, q: u32) -> Formula {
+    Formula::current(p) ^ Formula::current(q)
 }
 
 #[test]
@@ -65,7 +64,7 @@ fn refusals_keep_both_lists() {
 #[test]
 fn all_states_of_a_set() {
     for n in [1, 2, 9, 10, 11, 16] {
-        let (first, last) = (Formula::current(0), Formula::current(n as u8 - 1));
+        let (first, last) = (Formula::current(0), Formula::current(n - 1));
         let is_last = |state: u32| state >> (n - 1) == 1;
         let cases: [(Formula, &dyn Fn(u32) -> bool); 5] = [
             (last.clone(), &is_last),
@@ -78,9 +77,8 @@ fn all_states_of_a_set() {
             let table = holding(n, formula);
             let states = table.states(0).unwrap();
             assert_eq!(states.len() as u32, table.count(0).unwrap());
-            let wanted: Vec<u32> = (0..1 << n).filter(|&state| has(state)).collect();
-            let given: Vec<u32> = states.map(u32::from).collect();
-            assert_eq!(given, wanted, "n = {n}");
+            let wanted = (0..1 << n).filter(|&state| has(state));
+            assert!(states.eq(wanted), "n = {n}");
         }
     }
 }

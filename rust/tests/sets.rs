@@ -120,7 +120,7 @@ fn presses() {
                 }))
             };
             set(&mut t, 0, &Formula::diamond(0, only(state)));
-            assert_eq!(t.states(0), Ok(vec![state ^ 1 << p]));
+            assert!(t.states(0).unwrap().eq([state ^ 1 << p]));
         }
     }
 }

@@ -76,7 +76,7 @@ fn draw_set(random: &mut Random, n: u32, size: u64) -> (Formula, StateSet) {
     if size == 0 {
         let mut bit = || {
             let p = random.below(n.into());
-            (Formula::current(p as u8), StateSet::bit(n, p as u32))
+            (Formula::current(p as u32), StateSet::bit(n, p as u32))
         };
         let ((f, left), (g, right)) = (bit(), bit());
         return match random.chance(50) {
@@ -224,7 +224,7 @@ fn all_states_at_once() {
             assert!(table
                 .states(3)
                 .unwrap()
-                .all(|s| answers[usize::from(s)] == 1));
+                .all(|s| answers[s as usize] == 1));
             if n < 10 {
                 states.extend_from_within(..);
                 let again = table.members(3, &states, &mut order, &mut answers);
