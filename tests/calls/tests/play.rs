@@ -2,7 +2,7 @@
 //! it; and the room that the list must have.
 
 use calls::records::{draw, Made};
-use kudzuclamp::{play, Outcome};
+use kudzuclamp::{play, Outcome, Refusal};
 use reference::book::Call;
 use reference::random::Random;
 
@@ -53,6 +53,41 @@ fn every_word_is_that_of_the_call() {
         }
     }
     assert!(peaks > 300, "{peaks}");
+}
+
+/// One play decides once whether the words are a sound table; a play for each record decides it each
+/// time. Both leave the same words and outcomes: on words of an earlier list, damaged or not, with fresh
+/// at any place among the records.
+#[test]
+fn one_play_and_a_play_for_each_record() {
+    let mut random = Random::new(77);
+    let (mut unsound, mut sound, mut mended) = (0, 0, 0);
+    for _ in 0..500 {
+        let mut words = vec![0; WORDS];
+        play(&mut words, &draw(&mut random).0.concat()).expect("records can be read");
+        for _ in 0..random.below(3) {
+            words[random.below(400) as usize] = random.below(200) as u32;
+        }
+        let (mut records, _) = draw(&mut random);
+        let place = random.below(records.len() as u64) as usize;
+        records.swap(0, place);
+        let mut other = words.clone();
+        let whole = play(&mut words, &records.concat()).expect("records can be read");
+        let mut parts = Vec::new();
+        for record in &records {
+            parts.extend(play(&mut other, record).expect("it can be read"));
+        }
+        assert_eq!(whole, parts);
+        assert_eq!(words, other);
+        let is_unsound = |outcome: &&Outcome| outcome.refusal == Some(Refusal::Unsound);
+        let refused = whole.iter().filter(is_unsound).count();
+        unsound += refused;
+        sound += place.saturating_sub(refused);
+        mended += usize::from(refused > 0 && refused < records.len());
+        // no call after fresh is refused with 2
+        assert!(!whole[place..].iter().any(|outcome| is_unsound(&outcome)));
+    }
+    assert!(unsound > 300 && sound > 300 && mended > 50);
 }
 
 extern "C" {
