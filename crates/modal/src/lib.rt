@@ -2,7 +2,9 @@
 use accounts::Count;
 use counting::Taken;
 use counting::take;
+use stages::rest;
 use steps::Step;
+use table::Found;
 ghost use Rattle.layout.specs.View.{view};
 ghost use Rattle.counting.specs.Counts.{CountsOf};
 ghost use Rattle.modal.specs.Modal.{QuantifyPre, QuantifyPost, ModalPre, DiamondPost, BoxPost};
@@ -52,6 +54,13 @@ fn quantify(
         };
         c = d;
         total = more;
+        let found = rest(words, counts, limits.rows, limits.bits, limits.limit, roots, c, left, total.peak);
+        if let Found::At(r) = found {
+            return Taken::At {
+                arrow: r,
+                count: total,
+            };
+        }
     }
     Taken::At {
         arrow: c,
