@@ -1,1 +1,4 @@
 pub mod Left
+pub mod Levels
+pub mod Shades
+pub mod Surveys

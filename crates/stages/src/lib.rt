@@ -13,18 +13,24 @@ use soundness::marked;
 use soundness::set_mark;
 use table::Code;
 use table::Found;
-ghost use Prim.Native.Nat.{_*_};
+ghost use mathlib.Core.Path.{_≡_};
+ghost use mathlib.Core.Bool.{true};
+ghost use Prim.Native.Nat.{_*_, _≤_, _<_};
+ghost use lib.ListN.{length};
 ghost use Rattle.diagram.specs.Rows.{Arrow};
 ghost use Rattle.layout.specs.View.{view};
 ghost use Rattle.soundness.specs.Used.{rowsOf};
 ghost use Rattle.operations.specs.Work.{Ready};
 ghost use Rattle.operations.specs.Odd.{Grown};
 ghost use Rattle.stages.specs.Left.{LookPre, LookPost};
+ghost use Rattle.stages.specs.Levels.{MOST, countOf, OneMore};
+ghost use Rattle.stages.specs.Shades.{ShadePre, ShadePost};
+ghost use Rattle.stages.specs.Surveys.{SurveyPre, SurveyPost};
 
 // What a survey counts with.
-pub struct Survey;
+pub struct Counter;
 
-impl Survey {
+impl Counter {
     // Words with a bit for each arrow.
     const ARROWS: usize = 3751;
     // A count for each level and for two behind the last.
@@ -38,8 +44,19 @@ pub enum Looked {
     Unknown,
 }
 
+// Counts one more of a level.
+fn count_one(counts: &mut [u32], level: u32)
+    requires { ⌜ (level < length (now counts)) × (countOf (now counts) level < MOST) ⌝ }
+    ensures { λ _. ⌜ OneMore (now (counts .entry)) (now (counts .exit)) level ⌝ }
+{
+    let at = level as usize;
+    counts[at] = counts[at] + 1;
+}
+
 // Marks the rows that arrow b reaches, and counts by level those that were not marked.
 fn shade(words: &[u32], rows: u32, dark: &mut [u32], deep: &mut [u32], b: u32)
+    requires { ⌜ ShadePre (view rows (now words)) (now dark) (now deep) b ⌝ }
+    ensures { λ _. ⌜ ShadePost (rowsOf (view rows (now (words .entry)))) (now (dark .entry)) (now (dark .exit)) (now (deep .entry)) (now (deep .exit)) b ⌝ }
 {
     if !is_row(b) {
         return;
@@ -51,8 +68,7 @@ fn shade(words: &[u32], rows: u32, dark: &mut [u32], deep: &mut [u32], b: u32)
     shade(words, rows, dark, deep, get(words, rows, i, Table::LOW));
     shade(words, rows, dark, deep, get(words, rows, i, Table::HIGH));
     set_mark(dark, i);
-    let l = get(words, rows, i, Table::LEVEL) as usize;
-    deep[l] = deep[l] + 1;
+    count_one(deep, get(words, rows, i, Table::LEVEL));
 }
 
 // Counts by level the arrows that are followed from arrow a, each with its sign, and `shade`s what is remembered as EXISTS at every odd level of
@@ -67,6 +83,8 @@ fn survey(
     deep: &mut [u32],
     a: u32,
 ) -> bool
+    requires { ⌜ SurveyPre levels rows (view rows (now words)) (now seen) (now above) (now dark) (now deep) a ⌝ }
+    ensures { λ r. ⌜ (r ≡ true → SurveyPost levels (rowsOf (view rows (now (words .entry)))) (now (seen .entry)) (now (seen .exit)) (now (above .entry)) (now (above .exit)) (now (dark .entry)) (now (dark .exit)) (now (deep .entry)) (now (deep .exit)) a) ⌝ }
 {
     if !is_row(a) {
         return true;
@@ -87,8 +105,7 @@ fn survey(
         return false;
     }
     set_mark(seen, a);
-    let l = n.level as usize;
-    above[l] = above[l] + 1;
+    count_one(above, n.level);
     true
 }
 
@@ -140,9 +157,9 @@ fn look(
 {
     let mut dark = [0u32; Bitmap::WORDS];
     let live = mark_live(words, rows, counts, roots, &mut dark);
-    let mut seen = [0u32; Survey::ARROWS];
-    let mut above = [0u32; Survey::LEVELS];
-    let mut deep = [0u32; Survey::LEVELS];
+    let mut seen = [0u32; Counter::ARROWS];
+    let mut above = [0u32; Counter::LEVELS];
+    let mut deep = [0u32; Counter::LEVELS];
     if !survey(words, rows, 2 * bits, &mut seen, &mut above, &mut dark, &mut deep, a) {
         return Looked::Unknown;
     }
@@ -173,7 +190,7 @@ fn renew_all(words: &mut [u32], rows: u32, levels: u32, limit: u32, a: u32)
     requires { ⌜ Ready levels rows limit (view rows (now words)) × Arrow (rowsOf (view rows (now words))) a ⌝ }
     ensures { λ _. ⌜ Grown levels (view rows (now (words .entry))) (view rows (now (words .exit))) ⌝ }
 {
-    let mut seen = [0u32; Survey::ARROWS];
+    let mut seen = [0u32; Counter::ARROWS];
     renew(words, rows, levels, limit, &mut seen, a);
 }
 
