@@ -212,6 +212,9 @@ module _ {W : View} {c : List ℕ} (p : BaseOf W c) where
       in
       record { number = number; only = reached; all = marked }
 
+  pub live-marks : {m₀ m : List ℕ} {xs : List ℕ} {n : ℕ} → m₀ ≡ marksOf c → ListNew (rowsOf W) m₀ m xs n → LiveMarked W xs m (getD c NUMBER 0 + n)
+  live-marks e q = live-marked (rw e at q)
+
   pub live-reaches : {m : List ℕ} {xs : List ℕ} {n : ℕ} → ListNew (rowsOf W) (marksOf c) m xs n → Reaches (rowsOf W) (live W xs) (getD c NUMBER 0 + n)
   live-reaches q = live-marked q .number
 
