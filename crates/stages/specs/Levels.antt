@@ -26,6 +26,11 @@ MOST = 120002
 abbrev pub countOf : List ℕ → ℕ → ℕ
 countOf d l = getD d l 0
 
+-- the counts of all levels
+pub record Levels (d : List ℕ) : Type 0 where
+  pub size : length d ≡ LEVELS
+  pub few : (l : ℕ) → countOf d l ≤ MOST
+
 -- one more of level l, and nothing else
 pub record OneMore (d e : List ℕ) (l : ℕ) : Type 0 where
   pub each : (k : ℕ) → countOf e k ≡ bump (countOf d) l k
@@ -44,3 +49,13 @@ one-more-le {d} {l = l} {n = n} o h k = rw (o .each k) (go (eqb l k) (h k))
     go : (b : Bool) → countOf d k ≤ n → cond b (suc (countOf d k)) (countOf d k) ≤ suc n
     go true x = omega (arith, x)
     go false x = omega (arith, x)
+
+-- the sum of counts
+pub sum-le : (h : ℕ → ℕ) (n k : ℕ) → ((l : ℕ) → h l ≤ n) → sumTo h k ≤ k * n
+unfolding sumTo
+sum-le h n zero f = omega arith
+sum-le h n (suc k) f = let i = sum-le h n k f in let e = f k in omega (arith, i, e)
+
+-- the bound of each EXISTS left, at the odd levels below 2 · left, is at most `most`
+abbrev pub AllWithin : ℕ → ℕ → (ℕ → ℕ) → (ℕ → ℕ) → ℕ → ℕ → Type 0
+AllWithin m live above deep left most = (j : ℕ) → j < left → bound m live above deep j ≤ most

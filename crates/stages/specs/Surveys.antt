@@ -111,8 +111,8 @@ follows-level {m} {rows = rows} wf u (on {c = c} {i = i} b t l) =
 
 module _ {m N : ℕ} {W : View} {seen above dark deep : List ℕ} {a : ℕ} (p : SurveyPre m N W seen above dark deep a) where
   -- the arrow has a bit
-  pub survey-room : {s : List ℕ} → length s ≡ length seen → a < 32 * length s
-  survey-room e =
+  pub survey-room : (s : List ℕ) → length s ≡ length seen → a < 32 * length s
+  survey-room s e =
       let l = arrow-below a (target a) refl (p .shade .good .rows) (p .shade .arrow) in
       let n = p .shade .good .sizes .N-max in
       let z = p .seen-size in
@@ -256,7 +256,8 @@ module _ {m N : ℕ} {W : View} {s₀ a₀ k₀ d₀ : List ℕ} {a i : ℕ} (p 
 
             added : Survey m (rowsOf W) [] (a ∷ s .list) (bump (countOf a₂) l)
             added = rw (n .level) (survey-add (s .list) (countOf a₂) a i (s .survey) (at-row .leads)
-                (rw (n .low) at passed lo (λ j q. high .kept lo (low .has j q))) (rw (n .high) at passed hi (high .has)))
+                (subst (Passed (rowsOf W) [] (s .list)) (n .low) (passed lo (λ j q. high .kept lo (low .has j q))))
+                (subst (Passed (rowsOf W) [] (s .list)) (n .high) (passed hi (high .has))))
 
             own : Cover m (rowsOf W) k₃ a
             own = record {

@@ -19,13 +19,16 @@ ghost use Prim.Native.Nat.{_*_, _≤_, _<_};
 ghost use lib.ListN.{length};
 ghost use Rattle.diagram.specs.Rows.{Arrow};
 ghost use Rattle.layout.specs.View.{view};
+ghost use Rattle.layout.specs.Places.{MAX-BITS};
 ghost use Rattle.soundness.specs.Used.{rowsOf};
+ghost use Rattle.soundness.specs.Says.{Says};
+ghost use Rattle.diagram.specs.Tally.{sumTo};
 ghost use Rattle.operations.specs.Work.{Ready};
 ghost use Rattle.operations.specs.Odd.{Grown};
 ghost use Rattle.stages.specs.Left.{LookPre, LookPost};
-ghost use Rattle.stages.specs.Levels.{MOST, countOf, OneMore};
+ghost use Rattle.stages.specs.Levels.{LEVELS, MOST, countOf, OneMore, Levels, AllWithin};
 ghost use Rattle.stages.specs.Shades.{ShadePre, ShadePost};
-ghost use Rattle.stages.specs.Surveys.{SurveyPre, SurveyPost};
+ghost use Rattle.stages.specs.Surveys.{ARROW-WORDS, SurveyPre, SurveyPost};
 
 // What a survey counts with.
 pub struct Counter;
@@ -111,6 +114,8 @@ fn survey(
 
 // The sum of the first k counts.
 fn total(counts: &[u32], k: usize) -> u64
+    requires { ⌜ (k ≤ LEVELS) × Levels (now counts) ⌝ }
+    ensures { λ r. ⌜ r ≡ sumTo (countOf (now (counts .entry))) k ⌝ }
 {
     let mut sum = 0u64;
     let mut j = 0;
@@ -123,6 +128,8 @@ fn total(counts: &[u32], k: usize) -> u64
 
 // Whether the bounds of all EXISTS left, at levels below 2 · left, are at most `most`, `live` rows being live.
 fn within(above: &[u32], deep: &[u32], bits: u32, left: u32, live: u32, most: u32) -> bool
+    requires { ⌜ Levels (now above) × Levels (now deep) × (left ≤ bits) × (bits ≤ MAX-BITS) ⌝ }
+    ensures { λ r. ⌜ Says (AllWithin (2 * bits) live (countOf (now (above .entry))) (countOf (now (deep .entry))) left most) r ⌝ }
 {
     let all = live as u64 + total(deep, 2 * (bits as usize));
     let mut below = above[0] as u64;
@@ -171,6 +178,8 @@ fn look(
 
 // Works out EXISTS at every odd level of each arrow that is followed from a, so that it is remembered.
 fn renew(words: &mut [u32], rows: u32, levels: u32, limit: u32, seen: &mut [u32], a: u32)
+    requires { ⌜ Ready levels rows limit (view rows (now words)) × Arrow (rowsOf (view rows (now words))) a × (length (now seen) ≡ ARROW-WORDS) ⌝ }
+    ensures { λ _. ⌜ Grown levels (view rows (now (words .entry))) (view rows (now (words .exit))) ⌝ }
 {
     if !is_row(a) {
         return;
