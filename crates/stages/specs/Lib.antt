@@ -2,3 +2,4 @@ pub mod Left
 pub mod Levels
 pub mod Shades
 pub mod Surveys
+pub mod Renews

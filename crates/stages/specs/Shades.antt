@@ -12,12 +12,12 @@ use Rattle.diagram.specs.Rows.{Rows, target, Leads, Arrow, WellFormed, leads-us
 use Rattle.diagram.specs.Count.{NoDup, pigeonhole}
 use Rattle.diagram.specs.Reach.{Reach, low-apart, high-apart}
 use Rattle.diagram.specs.Survey.{Shade, Dim, bump, shade-none, shade-add}
-use Rattle.layout.specs.Places.{BITS, LOW, HIGH}
+use Rattle.layout.specs.Places.{wordsFor, CELLS}
 use Rattle.layout.specs.View.{View}
 use Rattle.layout.specs.Arrows.{isRow, rowOf, row-is}
 use Rattle.soundness.specs.Used.{rowsOf}
 use Rattle.soundness.specs.Bits.{MARK-WORDS, isOn, On, Sets}
-use Rattle.soundness.specs.Mark.{OnTo, OnArrow, onArrow-le, Marks, MarkPre, Base, marks-constant, marks-again, marks-row}
+use Rattle.soundness.specs.Mark.{OnTo, OnArrow, onArrow-le, Marks, MarkPre, Base, Step, depth, step, marks-constant, marks-again, marks-row}
 use Rattle.soundness.specs.Sound.{Good}
 use Rattle.stages.specs.Levels.{LEVELS, MOST, countOf, OneMore, one-more-le}
 
@@ -68,7 +68,10 @@ module _ {W : View} {dark deep : List ℕ} {b : ℕ} (p : ShadePre W dark deep b
   pub shade-mark : MarkPre W (length dark) b
   shade-mark = record { base = shade-base; arrow = p .arrow }
 
-  -- a further arrow
+  -- another arrow, and a further one
+  pub shade-at : {y : ℕ} → Arrow (rowsOf W) y → ShadePre W dark deep y
+  shade-at u = record { good = p .good; arrow = u; marks-size = p .marks-size; counts-size = p .counts-size; roots = p .roots; shades = p .shades }
+
   pub shade-next : {dark′ deep′ : List ℕ} {x y : ℕ} → length dark′ ≡ length dark → length deep′ ≡ length deep → ShadePost (rowsOf W) dark dark′ deep deep′ x
       → Arrow (rowsOf W) y → ShadePre W dark′ deep′ y
   shade-next e f q u = record {
@@ -79,6 +82,28 @@ module _ {W : View} {dark deep : List ℕ} {b : ℕ} (p : ShadePre W dark deep b
     roots = p .roots;
     shades = q .shades (p .roots) (p .shades);
   }
+
+-- an arrow to a row: the row has a mark, and its two arrows lie nearer to the last level
+module _ {W : View} {dark deep : List ℕ} {b : ℕ} (p : ShadePre W dark deep b) {i : ℕ} (h : isRow b ≡ true) (e : i ≡ rowOf b) where
+  at-row : Step W (length dark) b i
+  at-row = step b (shade-mark p) h e
+
+  pub shade-get : (f : ℕ) → f < CELLS → (i < W .rows) × (f < CELLS) × (wordsFor (W .rows) ≤ W .size)
+  shade-get f l = (at-row .row, l, p .good .sizes .room)
+
+  pub shade-in : i < 32 * MARK-WORDS
+  shade-in = let r = at-row .row in let z = p .good .sizes .N-max in omega (arith, r, z)
+
+  pub shade-low : {t x : ℕ} → depth W b ≡ t → x ≡ rowsOf W .low i → (depth W x < t) × ShadePre W dark deep x
+  shade-low {t} q z =
+      subst (λ (y : ℕ). (depth W y < t) × ShadePre W dark deep y) (sym z)
+      (subst (λ (k : ℕ). depth W (rowsOf W .low i) < k) q (at-row .low-less), shade-at p (at-row .low .arrow))
+
+  pub shade-high : {dark′ deep′ : List ℕ} {t x y : ℕ} → depth W b ≡ t → ShadePost (rowsOf W) dark dark′ deep deep′ x → length dark′ ≡ length dark → length deep′ ≡ length deep
+      → y ≡ rowsOf W .high i → (depth W y < t) × ShadePre W dark′ deep′ y
+  shade-high {dark′} {deep′} {t} q lo em ed z =
+      subst (λ (y : ℕ). (depth W y < t) × ShadePre W dark′ deep′ y) (sym z)
+      (subst (λ (k : ℕ). depth W (rowsOf W .high i) < k) q (at-row .high-less), shade-next p em ed lo (at-row .high .arrow))
 
 -- arrows 0 and 1, and rows that are marked, add nothing
 pub shade-constant : (rows : Rows) (dark deep : List ℕ) (b : ℕ) → isRow b ≡ false → ShadePost rows dark dark deep deep b

@@ -18,13 +18,14 @@ use Rattle.layout.specs.Arrows.{isRow, rowOf, no-row-leads}
 use Rattle.soundness.specs.Used.{rowsOf}
 use Rattle.soundness.specs.Bits.{isOn, On, Sets}
 use Rattle.soundness.specs.Mark.{OnArrow, onArrow-le}
+use Rattle.soundness.specs.Sound.{Good}
 use Rattle.table.specs.declared.Found.{Found}
 use Rattle.table.specs.declared.Found.the-variants as find
 use Rattle.operations.specs.Work.{Ready, ready-wf}
 use Rattle.operations.specs.Open.{RowIs, RowAt, Opened, depth, row-at, opened, part-falls, low-falls, high-falls}
 use Rattle.operations.specs.Odd.{OddKnown}
 use Rattle.stages.specs.Levels.{LEVELS, MOST, countOf, OneMore, one-more-le}
-use Rattle.stages.specs.Shades.{Shades, ShadePre, ShadePost}
+use Rattle.stages.specs.Shades.{Shades, ShadePre, ShadePost, shade-at, shade-next}
 
 -- how many words hold a bit of each arrow
 abbrev pub ARROW-WORDS : ℕ
@@ -95,6 +96,10 @@ arrow-below : {m N : ℕ} {rows : Rows} (a k : ℕ) → target a ≡ k → WellF
 arrow-below a zero e wf u = omega (arith, e)
 arrow-below a (suc i) e wf u = let l = wf .bounded i u in omega (arith, e, l)
 
+-- so it has a bit
+pub arrow-in : {W : View} {a : ℕ} → Good W → Arrow (rowsOf W) a → a < 32 * ARROW-WORDS
+arrow-in {a = a} g u = let l = arrow-below a (target a) refl (g .rows) u in let n = g .sizes .N-max in omega (arith, l, n)
+
 -- what is followed from a part is followed from the arrow, and lies no higher
 follows-part : {rows : Rows} {a i c : ℕ} (b : Bool) → Leads a i → Follows rows (follow rows a i b) c → Follows rows a c
 follows-part b l self = on b self l
@@ -111,12 +116,8 @@ follows-level {m} {rows = rows} wf u (on {c = c} {i = i} b t l) =
 
 module _ {m N : ℕ} {W : View} {seen above dark deep : List ℕ} {a : ℕ} (p : SurveyPre m N W seen above dark deep a) where
   -- the arrow has a bit
-  pub survey-room : (s : List ℕ) → length s ≡ length seen → a < 32 * length s
-  survey-room s e =
-      let l = arrow-below a (target a) refl (p .shade .good .rows) (p .shade .arrow) in
-      let n = p .shade .good .sizes .N-max in
-      let z = p .seen-size in
-      omega (arith, e, l, n, z)
+  pub survey-in : a < 32 * ARROW-WORDS
+  survey-in = arrow-in (p .shade .good) (p .shade .arrow)
 
   -- arrows 0 and 1, and arrows with a bit, add nothing
   survey-same : ((i : ℕ) → Leads a i → On seen a) → SurveyPost m (rowsOf W) seen seen above above dark dark deep deep a
@@ -139,14 +140,7 @@ module _ {m N : ℕ} {W : View} {s₀ a₀ k₀ d₀ : List ℕ} {a i : ℕ} (p 
 
   -- what covers it is marked first
   pub cover-asks : {f : Found} {b : ℕ} → f ≡ find.At b → OddKnown m W a f → ShadePre W k₀ d₀ b
-  cover-asks {b = b} e k = record {
-    good = p .shade .good;
-    arrow = k .at b e .arrow;
-    marks-size = p .shade .marks-size;
-    counts-size = p .shade .counts-size;
-    roots = p .shade .roots;
-    shades = p .shade .shades;
-  }
+  cover-asks {b = b} e k = shade-at (p .shade) (k .at b e .arrow)
 
   module _ {k₁ d₁ : List ℕ} {f : Found} {b l lo hi : ℕ} (ef : f ≡ find.At b) (known : OddKnown m W a f) (sh : ShadePost (rowsOf W) k₀ k₁ d₀ d₁ b) (n : RowIs (rowsOf W) a i l lo hi) where
     open-at : Opened m (rowsOf W) a i l lo hi
@@ -159,14 +153,7 @@ module _ {m N : ℕ} {W : View} {s₀ a₀ k₀ d₀ : List ℕ} {a i : ℕ} (p 
       seen-size = p .seen-size;
       above-size = p .above-size;
       surveys = surveys-darker (sh .marks .kept) (p .surveys);
-      shade = record {
-        good = p .shade .good;
-        arrow = open-at .parts .low-arrow;
-        marks-size = ek ∙ p .shade .marks-size;
-        counts-size = ed ∙ p .shade .counts-size;
-        roots = p .shade .roots;
-        shades = sh .shades (p .shade .roots) (p .shade .shades);
-      };
+      shade = shade-next (p .shade) ek ed sh (open-at .parts .low-arrow);
     }
 
     pub low-depth : depth m (rowsOf W) lo < depth m (rowsOf W) a

@@ -28,7 +28,8 @@ ghost use Rattle.operations.specs.Odd.{Grown};
 ghost use Rattle.stages.specs.Left.{LookPre, LookPost};
 ghost use Rattle.stages.specs.Levels.{LEVELS, MOST, countOf, OneMore, Levels, AllWithin};
 ghost use Rattle.stages.specs.Shades.{ShadePre, ShadePost};
-ghost use Rattle.stages.specs.Surveys.{ARROW-WORDS, SurveyPre, SurveyPost};
+ghost use Rattle.stages.specs.Surveys.{SurveyPre, SurveyPost};
+ghost use Rattle.stages.specs.Renews.{RenewPre};
 
 // What a survey counts with.
 pub struct Counter;
@@ -178,7 +179,7 @@ fn look(
 
 // Works out EXISTS at every odd level of each arrow that is followed from a, so that it is remembered.
 fn renew(words: &mut [u32], rows: u32, levels: u32, limit: u32, seen: &mut [u32], a: u32)
-    requires { ⌜ Ready levels rows limit (view rows (now words)) × Arrow (rowsOf (view rows (now words))) a × (length (now seen) ≡ ARROW-WORDS) ⌝ }
+    requires { ⌜ RenewPre levels rows limit (view rows (now words)) (now seen) a ⌝ }
     ensures { λ _. ⌜ Grown levels (view rows (now (words .entry))) (view rows (now (words .exit))) ⌝ }
 {
     if !is_row(a) {
