@@ -59,6 +59,9 @@ pub sum-next : {s : ℕ} (h : ℕ → ℕ) (k : ℕ) → s ≡ sumTo h k → s +
 unfolding sumTo
 sum-next {s} h k e = let q : k + 1 ≡ suc k = omega arith in rw q (omega (arith, e))
 
+pub sum-done : {s : ℕ} (h : ℕ → ℕ) (j k : ℕ) → s ≡ sumTo h j → j ≤ k → k ≤ j → s ≡ sumTo h k
+sum-done h j k e a b = let q : j ≡ k = omega (arith, a, b) in e ∙ ap (sumTo h) q
+
 sum-two : {s : ℕ} (h : ℕ → ℕ) (k l : ℕ) → s ≡ sumTo h k → l ≡ k + 1 + 1 → s + h k + h (k + 1) ≡ sumTo h l
 sum-two h k l e q = rw q (sum-next h (k + 1) (sum-next h k e))
 
@@ -84,6 +87,14 @@ looking-none m live above deep most = record {
   past-is = let e = sum-two {s = 0} (countOf deep) 0 2 (sum-none (countOf deep)) refl in omega (arith, e);
   fits = λ j l. absurd (omega (arith, l));
 }
+
+-- they are small
+pub looking-small : {m live most j below past : ℕ} {above deep : List ℕ} → Levels above → Levels deep → j ≤ 16 → Looking m live above deep most j below past
+    → (below ≤ 5000000) × (past ≤ 5000000)
+looking-small {j = j} {above = above} {deep = deep} a d l k =
+    let x = sum-le (countOf above) MOST (2 * j + 1) (a .few) in
+    let y = sum-le (countOf deep) MOST (2 * j + 2) (d .few) in
+    (omega (arith, x, l, k .below-is), omega (arith, y, l, k .past-is))
 
 module _ {m live most j below past all : ℕ} {above deep : List ℕ} (k : Looking m live above deep most j below past) (e : all ≡ live + sumTo (countOf deep) m) (l : 2 * j + 2 ≤ m) where
   next-below : below + getD above (2 * j + 1) 0 + getD above (2 * j + 2) 0 ≡ sumTo (countOf above) (2 * (j + 1) + 1)

@@ -9,10 +9,12 @@ use native.Mathlib.Omega.{arith}
 use lib.ListN.{length}
 use Rattle.diagram.specs.Rows.{Rows, target, Leads, Arrow, ArrowTo, levelOf, follow, den, WellFormed, leads-used, leads-level}
 use Rattle.diagram.specs.Den.{follow-arrow, follow-deeper}
+use Rattle.diagram.specs.Grow.{extends-refl}
 use Rattle.diagram.specs.Count.{NoDup, pigeonhole}
 use Rattle.diagram.specs.Post.{Denotes}
 use Rattle.diagram.specs.Odd.{oddF, Follows, self, on}
 use Rattle.diagram.specs.Survey.{Survey, Passed, bump, survey-none, survey-add}
+use Rattle.layout.specs.Places.{wordsFor}
 use Rattle.layout.specs.View.{View}
 use Rattle.layout.specs.Arrows.{isRow, rowOf, no-row-leads}
 use Rattle.soundness.specs.Used.{rowsOf}
@@ -22,7 +24,7 @@ use Rattle.soundness.specs.Sound.{Good}
 use Rattle.table.specs.declared.Found.{Found}
 use Rattle.table.specs.declared.Found.the-variants as find
 use Rattle.operations.specs.Work.{Ready, ready-wf}
-use Rattle.operations.specs.Open.{RowIs, RowAt, Opened, depth, row-at, opened, part-falls, low-falls, high-falls}
+use Rattle.operations.specs.Open.{RowIs, RowAt, Opened, depth, row-at, opened, low-falls, high-falls}
 use Rattle.operations.specs.Odd.{OddKnown}
 use Rattle.stages.specs.Levels.{LEVELS, MOST, countOf, OneMore, one-more-le}
 use Rattle.stages.specs.Shades.{Shades, ShadePre, ShadePost, shade-at, shade-next}
@@ -129,42 +131,37 @@ module _ {m N : ℕ} {W : View} {seen above dark deep : List ℕ} {a : ℕ} (p :
   pub survey-again : On seen a → SurveyPost m (rowsOf W) seen seen above above dark dark deep deep a
   survey-again o = survey-same (λ i l. o)
 
+  -- what covers the arrow is marked first
+  pub cover-asks : {f : Found} {b : ℕ} → f ≡ find.At b → OddKnown m W a f → ShadePre W dark deep b
+  cover-asks {b = b} e k = shade-at (p .shade) (k .at b e .arrow)
+
 -- the walk from an arrow to row i that has no bit
 module _ {m N : ℕ} {W : View} {s₀ a₀ k₀ d₀ : List ℕ} {a i : ℕ} (p : SurveyPre m N W s₀ a₀ k₀ d₀ a) (h : isRow a ≡ true) (ei : i ≡ rowOf a) where
   at-row : RowAt (rowsOf W) a i
   at-row = row-at a (p .shade .arrow) h ei
 
   -- the row is in the table
-  pub survey-at : i < W .rows
-  survey-at = p .shade .good .rows .bounded i (at-row .used)
-
-  -- what covers it is marked first
-  pub cover-asks : {f : Found} {b : ℕ} → f ≡ find.At b → OddKnown m W a f → ShadePre W k₀ d₀ b
-  cover-asks {b = b} e k = shade-at (p .shade) (k .at b e .arrow)
+  pub survey-row-at : (i < W .rows) × (wordsFor (W .rows) ≤ W .size)
+  survey-row-at = (p .shade .good .rows .bounded i (at-row .used), p .shade .good .sizes .room)
 
   module _ {k₁ d₁ : List ℕ} {f : Found} {b l lo hi : ℕ} (ef : f ≡ find.At b) (known : OddKnown m W a f) (sh : ShadePost (rowsOf W) k₀ k₁ d₀ d₁ b) (n : RowIs (rowsOf W) a i l lo hi) where
     open-at : Opened m (rowsOf W) a i l lo hi
     open-at = opened (ready-wf (p .ready)) at-row n
 
     -- then the two arrows that are followed from it, first the low one
-    pub low-asks : length k₁ ≡ length k₀ → length d₁ ≡ length d₀ → SurveyPre m N W s₀ a₀ k₁ d₁ lo
-    low-asks ek ed = record {
+    pub low-asks : {t : ℕ} → depth m (rowsOf W) a ≡ t → length k₁ ≡ length k₀ → length d₁ ≡ length d₀ → (depth m (rowsOf W) lo < t) × SurveyPre m N W s₀ a₀ k₁ d₁ lo
+    low-asks q ek ed = (subst (λ (k : ℕ). depth m (rowsOf W) lo < k) q (low-falls open-at), record {
       ready = p .ready;
       seen-size = p .seen-size;
       above-size = p .above-size;
       surveys = surveys-darker (sh .marks .kept) (p .surveys);
       shade = shade-next (p .shade) ek ed sh (open-at .parts .low-arrow);
-    }
-
-    pub low-depth : depth m (rowsOf W) lo < depth m (rowsOf W) a
-    low-depth = low-falls open-at
-
-    pub high-depth : depth m (rowsOf W) hi < depth m (rowsOf W) a
-    high-depth = let x = open-at .parts .high-deeper in let q = open-at .level in let s = open-at .shallow in omega (arith, x, q, s)
+    })
 
     module _ {s₁ a₁ k₂ d₂ : List ℕ} (low : SurveyPost m (rowsOf W) s₀ s₁ a₀ a₁ k₁ k₂ d₁ d₂ lo) where
-      pub high-asks : length s₁ ≡ length s₀ → length a₁ ≡ length a₀ → length k₂ ≡ length k₀ → length d₂ ≡ length d₀ → SurveyPre m N W s₁ a₁ k₂ d₂ hi
-      high-asks es ea ek ed = record {
+      pub high-asks : {t : ℕ} → depth m (rowsOf W) a ≡ t → length s₁ ≡ length s₀ → length a₁ ≡ length a₀ → length k₂ ≡ length k₀ → length d₂ ≡ length d₀
+          → (depth m (rowsOf W) hi < t) × SurveyPre m N W s₁ a₁ k₂ d₂ hi
+      high-asks q es ea ek ed = (subst (λ (k : ℕ). depth m (rowsOf W) hi < k) q (high-falls open-at (extends-refl (rowsOf W))), record {
         ready = p .ready;
         seen-size = es ∙ p .seen-size;
         above-size = ea ∙ p .above-size;
@@ -177,7 +174,7 @@ module _ {m N : ℕ} {W : View} {s₀ a₀ k₀ d₀ : List ℕ} {a i : ℕ} (p 
           roots = p .shade .roots;
           shades = low .shades (p .shade .roots) (sh .shades (p .shade .roots) (p .shade .shades));
         };
-      }
+      })
 
       module _ {s₂ a₂ k₃ d₃ : List ℕ} (off : isOn s₀ a ≡ false) (high : SurveyPost m (rowsOf W) s₁ s₂ a₁ a₂ k₂ k₃ d₂ d₃ hi) where
         -- it has no bit still: what is followed from the parts lies deeper

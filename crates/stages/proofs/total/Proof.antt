@@ -1,10 +1,10 @@
 -- `total` meets its contract: the invariant is that the counts passed are summed. Assumes nothing.
 use borrow.Author.Needs.{needs}
-use mathlib.Core.Path.{_≡_, _∙_, ap}
+use mathlib.Core.Path.{_≡_}
 use Prim.Native.Nat.{_-_, _≤_}
 use native.Mathlib.Omega.{arith}
 use Rattle.diagram.specs.Tally.{sumTo}
-use Rattle.stages.specs.Levels.{MOST, countOf, sum-none, sum-next, sum-le}
+use Rattle.stages.specs.Levels.{MOST, countOf, sum-none, sum-next, sum-done, sum-le}
 use Rattle.stages.proofs.total.Statement.{statement}
 use Rattle.stages.proofs.total.Tie as tie
 use Rattle.stages.proofs.total.Reads as reads
@@ -25,9 +25,9 @@ total-spec =
     (λ c. (omega arith, sum-none _))
     (λ c. search needs)
     (λ c. search needs)
-    (λ c. ?)
-    (λ c. let p = c .before .before .before .pre in let v = c .before .before .loop .inv in let l = sum-le (countOf _) MOST _ (p .1 .few) in let f = p .1 .few _ in omega (arith, l, f, p .0, v .0, v .1))
+    (λ c. let f = c .before .before .before .pre .1 .few (c .before .before .loop .j) in omega (arith, f))
+    (λ c. let p = c .before .before .before .pre in let v = c .before .before .loop .inv in let l = sum-le (countOf (c .before .before .before .args .counts .now)) MOST (c .before .before .loop .j) (p .1 .few) in let f = p .1 .few (c .before .before .loop .j) in omega (arith, l, f, p .0, v .0, v .1))
     (λ c. search needs)
     (λ c. search needs)
     (λ c. let v = c .before .before .loop .inv in (omega arith, sum-next (countOf _) _ (v .1)))
-    (λ c. let v = c .before .loop .inv in v .1 ∙ ap (sumTo (countOf _)) (omega arith)))
+    (λ c. let v = c .before .loop .inv in sum-done (countOf _) _ _ (v .1) (v .0) (c .loop-test .left)))
