@@ -90,7 +90,7 @@ module _ {m : ℕ} {rows : Rows} {evens : List ℕ} where
           subst (Passed rows evens (c ∷ cs)) f (more c i b (side b))
 
   -- and has, once it is done with arrow a, all that is followed from a.
-  survey-all : (cs : List ℕ) (above : ℕ → ℕ) (a c : ℕ) → Survey m rows evens cs above → Passed rows evens cs a → Follows rows a c → Passed rows evens cs c
+  pub survey-all : (cs : List ℕ) (above : ℕ → ℕ) (a c : ℕ) → Survey m rows evens cs above → Passed rows evens cs a → Follows rows a c → Passed rows evens cs c
   survey-all cs above a c s p self = p
   survey-all cs above a c s p (on {c = x} {i = i} b t l) =
       ⊎-elim (λ r. λ j q. inl (subst (ReachedTo rows evens) q (reached-follow rows evens x i b (subst (ReachedTo rows evens) (sym l) r) l)))

@@ -3,3 +3,4 @@ pub mod Levels
 pub mod Shades
 pub mod Surveys
 pub mod Renews
+pub mod Looks

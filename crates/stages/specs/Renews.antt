@@ -25,7 +25,7 @@ pub record RenewPre (m N limit : ℕ) (W : View) (seen : List ℕ) (a : ℕ) : T
 module _ {m N limit : ℕ} {W : View} {seen : List ℕ} {a : ℕ} (p : RenewPre m N limit W seen a) where
   -- the arrow has a bit
   pub renew-in : a < 32 * ARROW-WORDS
-  renew-in = arrow-in (p .ready .good) (p .arrow)
+  renew-in = arrow-in (p .ready .good) a (p .arrow)
 
   -- nothing is worked out
   pub renew-none : Grown m W W

@@ -99,8 +99,11 @@ arrow-below a zero e wf u = omega (arith, e)
 arrow-below a (suc i) e wf u = let l = wf .bounded i u in omega (arith, e, l)
 
 -- so it has a bit
-pub arrow-in : {W : View} {a : ℕ} → Good W → Arrow (rowsOf W) a → a < 32 * ARROW-WORDS
-arrow-in {a = a} g u = let l = arrow-below a (target a) refl (g .rows) u in let n = g .sizes .N-max in omega (arith, l, n)
+pub arrow-most : {W : View} → Good W → (a : ℕ) → Arrow (rowsOf W) a → a < MOST
+arrow-most g a u = let l = arrow-below a (target a) refl (g .rows) u in let n = g .sizes .N-max in omega (arith, l, n)
+
+pub arrow-in : {W : View} → Good W → (a : ℕ) → Arrow (rowsOf W) a → a < 32 * ARROW-WORDS
+arrow-in g a u = let l = arrow-most g a u in omega (arith, l)
 
 -- what is followed from a part is followed from the arrow, and lies no higher
 follows-part : {rows : Rows} {a i c : ℕ} (b : Bool) → Leads a i → Follows rows (follow rows a i b) c → Follows rows a c
@@ -119,7 +122,7 @@ follows-level {m} {rows = rows} wf u (on {c = c} {i = i} b t l) =
 module _ {m N : ℕ} {W : View} {seen above dark deep : List ℕ} {a : ℕ} (p : SurveyPre m N W seen above dark deep a) where
   -- the arrow has a bit
   pub survey-in : a < 32 * ARROW-WORDS
-  survey-in = arrow-in (p .shade .good) (p .shade .arrow)
+  survey-in = arrow-in (p .shade .good) a (p .shade .arrow)
 
   -- arrows 0 and 1, and arrows with a bit, add nothing
   survey-same : ((i : ℕ) → Leads a i → On seen a) → SurveyPost m (rowsOf W) seen seen above above dark dark deep deep a
