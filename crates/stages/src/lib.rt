@@ -13,18 +13,21 @@ use soundness::marked;
 use soundness::set_mark;
 use table::Code;
 use table::Found;
-ghost use Prim.Native.Nat.{_*_};
+ghost use mathlib.Core.Path.{_≡_};
+ghost use Prim.Native.Nat.{_*_, min};
 ghost use Rattle.diagram.specs.Rows.{Arrow};
 ghost use Rattle.layout.specs.View.{view};
 ghost use Rattle.soundness.specs.Used.{rowsOf};
 ghost use Rattle.operations.specs.Work.{Ready};
 ghost use Rattle.operations.specs.Odd.{Grown};
+ghost use Rattle.counting.specs.Counts.{BaseOf, CountsOf};
 ghost use Rattle.stages.specs.Left.{LookPre, LookPost};
+ghost use Rattle.stages.specs.Rest.{RestPre, SurePost, RestPost};
 
 // What a survey counts with.
-pub struct Survey;
+pub struct Counter;
 
-impl Survey {
+impl Counter {
     // Words with a bit for each arrow.
     const ARROWS: usize = 3751;
     // A count for each level and for two behind the last.
@@ -140,9 +143,9 @@ fn look(
 {
     let mut dark = [0u32; Bitmap::WORDS];
     let live = mark_live(words, rows, counts, roots, &mut dark);
-    let mut seen = [0u32; Survey::ARROWS];
-    let mut above = [0u32; Survey::LEVELS];
-    let mut deep = [0u32; Survey::LEVELS];
+    let mut seen = [0u32; Counter::ARROWS];
+    let mut above = [0u32; Counter::LEVELS];
+    let mut deep = [0u32; Counter::LEVELS];
     if !survey(words, rows, 2 * bits, &mut seen, &mut above, &mut dark, &mut deep, a) {
         return Looked::Unknown;
     }
@@ -173,13 +176,27 @@ fn renew_all(words: &mut [u32], rows: u32, levels: u32, limit: u32, a: u32)
     requires { ⌜ Ready levels rows limit (view rows (now words)) × Arrow (rowsOf (view rows (now words))) a ⌝ }
     ensures { λ _. ⌜ Grown levels (view rows (now (words .entry))) (view rows (now (words .exit))) ⌝ }
 {
-    let mut seen = [0u32; Survey::ARROWS];
+    let mut seen = [0u32; Counter::ARROWS];
     renew(words, rows, levels, limit, &mut seen, a);
 }
 
-// Whether a look told that all fit.
-fn told(looked: Looked) -> bool
+// A look once more, with all results worked out anew.
+fn look_again(
+    words: &mut [u32],
+    counts: &[u32],
+    rows: u32,
+    bits: u32,
+    limit: u32,
+    roots: &[u32],
+    a: u32,
+    left: u32,
+    most: u32,
+) -> bool
+    requires { ⌜ RestPre bits rows limit (view rows (now words)) (now roots) a left × BaseOf (view rows (now words)) (now counts) ⌝ }
+    ensures { λ r. ⌜ SurePost bits (view rows (now (words .entry))) (view rows (now (words .exit))) (now (roots .entry)) a left most r ⌝ }
 {
+    renew_all(words, rows, 2 * bits, limit, a);
+    let looked = look(words, counts, rows, bits, roots, a, left, most);
     match looked {
         Looked::Fits => true,
         Looked::Over => false,
@@ -199,20 +216,20 @@ fn sure(
     left: u32,
     most: u32,
 ) -> bool
+    requires { ⌜ RestPre bits rows limit (view rows (now words)) (now roots) a left × BaseOf (view rows (now words)) (now counts) ⌝ }
+    ensures { λ r. ⌜ SurePost bits (view rows (now (words .entry))) (view rows (now (words .exit))) (now (roots .entry)) a left most r ⌝ }
 {
     let looked = look(words, counts, rows, bits, roots, a, left, most);
     match looked {
         Looked::Fits => true,
         Looked::Over => false,
-        Looked::Unknown => {
-            renew_all(words, rows, 2 * bits, limit, a);
-            told(look(words, counts, rows, bits, roots, a, left, most))
-        }
+        Looked::Unknown => look_again(words, counts, rows, bits, limit, roots, a, left, most),
     }
 }
 
 // The lesser of two numbers.
 fn lesser(a: u32, b: u32) -> u32
+    ensures { λ r. ⌜ r ≡ min a b ⌝ }
 {
     if a < b {
         return a;
@@ -232,6 +249,8 @@ pub fn rest(
     left: u32,
     peak: u32,
 ) -> Found
+    requires { ⌜ RestPre bits rows limit (view rows (now words)) (now roots) a left × CountsOf (view rows (now words)) (now counts) ⌝ }
+    ensures { λ r. ⌜ RestPost bits (view rows (now (words .entry))) (view rows (now (words .exit))) (now (roots .entry)) a left (min peak limit) r × CountsOf (view rows (now (words .exit))) (now (counts .exit)) ⌝ }
 {
     let most = lesser(peak, limit);
     // a guess, that spares the work where the answer is likely to be none
