@@ -23,7 +23,7 @@ use Rattle.table.specs.declared.Found.{Found}
 use Rattle.table.specs.declared.Found.the-variants as find
 use Rattle.collect.specs.Lent.{live}
 use Rattle.collect.specs.Answers.{FreePre}
-use Rattle.operations.specs.Work.{Ready, ready-look}
+use Rattle.operations.specs.Work.{Ready, ready-look, ready-wf}
 use Rattle.operations.specs.Odd.{Grown, OddPost, grown-none, ready-grown, grown-trans}
 use Rattle.counting.specs.Counts.{BaseOf, CountsOf, base-keeps, counts-extends}
 use Rattle.stages.specs.Left.{LeftFits, LookPre, LookPost}
@@ -110,4 +110,4 @@ module _ {n N limit : ℕ} {W : View} {roots : List ℕ} {a left : ℕ} (p : Res
     }
       where
         denotes : Denotes (2 * n) (rowsOf Y) c (oddF (den (2 * n) (rowsOf W) a))
-        denotes = denotes-extends (o .grown .good .rows) (s .grown .kept) (o .result v)
+        denotes = denotes-extends (ready-wf (ready-grown (p .ready) (o .grown))) (s .grown .kept) (o .result v)
