@@ -30,6 +30,9 @@ use Rattle.table.specs.declared.Found.{Found}
 use Rattle.table.specs.declared.Found.the-variants as find
 use Rattle.collect.specs.Lent.{live}
 use Rattle.operations.specs.Odd.{Grown}
+use Rattle.steps.specs.declared.Step.the-variants.{Exists}
+use Rattle.steps.specs.Steps.{StepPre, Stepped, stepF, liveAt}
+use Rattle.counting.specs.Taken.{madeIn, Counted}
 use Rattle.counting.specs.declared.Taken.{Taken}
 use Rattle.counting.specs.declared.Taken.the-variants as taken
 use Rattle.stages.specs.Left.{LeftFits}
@@ -41,9 +44,9 @@ use Rattle.book.specs.Verdicts.{fit, needingAll, settle}
 use Rattle.book.specs.Held.{Held, denoted}
 use Rattle.book.specs.Pairs.{PairMatches}
 use Rattle.book.specs.Modal.{Quantifies}
-use Rattle.modal.specs.Chain.{Base, Moved, moved-trans, base-next, base-wf, base-bits, Took}
+use Rattle.modal.specs.Chain.{Base, Moved, moved-trans, base-next, base-wf, base-bits, Took, took}
 use Rattle.modal.specs.Modal.{QuantifyPre, QuantifyPost}
-use Rattle.modal.specs.Laws.{Quantified, quantify-base, quantify-turns, held-moved, fit-steps, fit-true, at-own}
+use Rattle.modal.specs.Laws.{Quantified, quantify-begins, quantify-base, quantify-asks, quantify-turns, quantify-full, quantify-ends, held-moved, fit-steps, fit-true, at-own}
 
 -- the chain of EXISTS is EXISTS from the last odd level down
 next-from : (j d : ℕ) (C : Fn) → existsNext j (existsFrom d j C) ≡ existsFrom (j + d) 0 C
@@ -76,7 +79,7 @@ held-among : {m : ℕ} {rows : Rows} {roots : List ℕ} {fs : List Fn} → Held 
 held-among {m} {rows} {roots} h f mf = let (b, mb, d) = h .each f mf in mem-cast (sym (denoted d)) (mem-map (den m rows) mb)
 
 -- the needs left fit any number that is not less
-module _ {n left most : ℕ} {rows : Rows} {roots : List ℕ} {a : ℕ} {fs : List Fn} (h : Held (2 * n) rows roots fs) (l : LeftFits (2 * n) rows roots a left most) (top : ℕ) (le : most ≤ top) where
+module _ (n a left most : ℕ) {rows : Rows} {roots : List ℕ} {fs : List Fn} (h : Held (2 * n) rows roots fs) (l : LeftFits (2 * n) rows roots a left most) (top : ℕ) (le : most ≤ top) where
   fits-from : (d j : ℕ) → d + j ≡ left → fit top (existsNeeds n fs j (existsFrom d j (den (2 * n) rows a))) ≡ true
   unfolding existsFrom
   fits-from d zero e = refl
@@ -194,7 +197,7 @@ module _ {n N limit : ℕ} {W : View} {lent : List ℕ} {a : ℕ} (p : QuantifyP
         here-is = same (s .grown) ∙ denoted (t .denotes)
 
         left : (top : ℕ) → min (r .peak) limit ≤ top → fit top (existsNeeds n fs j (t .F)) ≡ true
-        left top l = subst (λ (f : Fn). fit top (existsNeeds n fs j f) ≡ true) here-is (fits-left held (s .fits v e) top l)
+        left top l = subst (λ (f : Fn). fit top (existsNeeds n fs j f) ≡ true) here-is (fits-left n c j (min (r .peak) limit) held (s .fits v e) top l)
 
         fits : (fit limit (existsNeeds n fs n C) ≡ true) × (r ≡ needingAll q (existsNeeds n fs n C))
         fits = fit-true (fit limit (existsNeeds n fs n C)) r (needingAll q (existsNeeds n fs n C))
@@ -208,3 +211,40 @@ module _ {n N limit : ℕ} {W : View} {lent : List ℕ} {a : ℕ} (p : QuantifyP
             ap oddF (denoted (t .denotes)) ∙ sym (next-odd j (t .F) (omega arith) (subst (Blind j) (denoted (t .denotes)) b)) ∙ sym (t .rest)
             in
             subst (Denotes (2 * n) (rowsOf Y) v) f d
+
+-- ---- the loop of EXISTS, with what `rest` asks: its invariant, and what each call and each return gives
+pub record Stands (n N limit : ℕ) (W X : View) (lent : List ℕ) (a : ℕ) (q : Count) (j c : ℕ) (r : Count) : Type 0 where
+  pub done : Quantified n N limit W X lent a q j c r
+  pub blind : Blind j (den (2 * n) (rowsOf X) c)
+  pub fewer : j ≤ n
+
+module _ {n N limit : ℕ} {W : View} {lent : List ℕ} {a : ℕ} (p : QuantifyPre n N limit W lent a) where
+  pub stands-begins : (q : Count) → Stands n N limit W W lent a q n a q
+  stands-begins q = record { done = quantify-begins p q; blind = blind-begins p; fewer = omega arith }
+
+  module _ {X : View} {q r : Count} {j c : ℕ} (i : Stands n N limit W X lent a q j c r) where
+    pub stands-asks : 0 < j → StepPre (2 * n) N limit X lent (Exists (2 * (j - 1) + 1) c)
+    stands-asks less = quantify-asks p (i .done) (omega (arith, i .fewer))
+
+    module _ {Y : View} {o : Taken} (less : 0 < j) (s : Stepped (2 * n) N limit X Y lent (Exists (2 * (j - 1) + 1) c) (madeIn o))
+        (k : Counted (2 * n) (rowsOf X) (liveAt X lent (Exists (2 * (j - 1) + 1) c)) (stepF (2 * n) (rowsOf X) (Exists (2 * (j - 1) + 1) c)) r o) where
+      step : Took n N limit X Y (c ∷ live X lent) r o (existsF (2 * (j - 1) + 1) (den (2 * n) (rowsOf X) c))
+      step = took (quantify-base p (i .done)) (stands-asks less) s k
+
+      pub stands-full : o ≡ taken.Full → QuantifyPost n N limit W Y lent a q taken.Full
+      stands-full e = quantify-full p (i .done) less step e
+
+      pub stands-turns : {d : ℕ} {m : Count} → o ≡ taken.At d m → Stands n N limit W Y lent a q (j - 1) d m
+      stands-turns e = record { done = quantify-turns p (i .done) less step e; blind = blind-turns p (i .done) (i .blind) less step e; fewer = omega (arith, i .fewer) }
+
+    pub stands-rest : RestPre n N limit X lent c j
+    stands-rest = rest-asks p (i .done) (i .blind) (i .fewer)
+
+    pub stands-grown : {Y : View} → Grown (2 * n) X Y → Stands n N limit W Y lent a q j c r
+    stands-grown g = record { done = grown-on p (i .done) (i .blind) g; blind = grown-blind p (i .done) (i .blind) g; fewer = i .fewer }
+
+    pub stands-found : {Y : View} {o : Found} {v : ℕ} → RestPost n X Y lent c j (min (r .peak) limit) o → o ≡ find.At v → QuantifyPost n N limit W Y lent a q (taken.At v r)
+    stands-found s e = rest-ends p (i .done) (i .blind) (i .fewer) s e
+
+    pub stands-ends : j ≤ 0 → QuantifyPost n N limit W X lent a q (taken.At c r)
+    stands-ends z = quantify-ends p (i .done) z
