@@ -1,2 +1,6 @@
 pub mod Left
+pub mod Levels
+pub mod Shades
+pub mod Surveys
+pub mod Renews
 pub mod Rest

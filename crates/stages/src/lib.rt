@@ -14,15 +14,24 @@ use soundness::set_mark;
 use table::Code;
 use table::Found;
 ghost use mathlib.Core.Path.{_≡_};
-ghost use Prim.Native.Nat.{_*_, min};
+ghost use mathlib.Core.Bool.{true};
+ghost use Prim.Native.Nat.{_*_, _≤_, _<_, min};
+ghost use lib.ListN.{length};
 ghost use Rattle.diagram.specs.Rows.{Arrow};
 ghost use Rattle.layout.specs.View.{view};
+ghost use Rattle.layout.specs.Places.{MAX-BITS};
 ghost use Rattle.soundness.specs.Used.{rowsOf};
+ghost use Rattle.soundness.specs.Says.{Says};
+ghost use Rattle.diagram.specs.Tally.{sumTo};
 ghost use Rattle.operations.specs.Work.{Ready};
 ghost use Rattle.operations.specs.Odd.{Grown};
 ghost use Rattle.counting.specs.Counts.{BaseOf, CountsOf};
 ghost use Rattle.stages.specs.Left.{LookPre, LookPost};
 ghost use Rattle.stages.specs.Rest.{RestPre, SurePost, RestPost};
+ghost use Rattle.stages.specs.Levels.{LEVELS, MOST, countOf, OneMore, Levels, AllWithin};
+ghost use Rattle.stages.specs.Shades.{ShadePre, ShadePost};
+ghost use Rattle.stages.specs.Surveys.{SurveyPre, SurveyPost};
+ghost use Rattle.stages.specs.Renews.{RenewPre};
 
 // What a survey counts with.
 pub struct Counter;
@@ -41,8 +50,19 @@ pub enum Looked {
     Unknown,
 }
 
+// Counts one more of a level.
+fn count_one(counts: &mut [u32], level: u32)
+    requires { ⌜ (level < length (now counts)) × (countOf (now counts) level < MOST) ⌝ }
+    ensures { λ _. ⌜ OneMore (now (counts .entry)) (now (counts .exit)) level ⌝ }
+{
+    let at = level as usize;
+    counts[at] = counts[at] + 1;
+}
+
 // Marks the rows that arrow b reaches, and counts by level those that were not marked.
 fn shade(words: &[u32], rows: u32, dark: &mut [u32], deep: &mut [u32], b: u32)
+    requires { ⌜ ShadePre (view rows (now words)) (now dark) (now deep) b ⌝ }
+    ensures { λ _. ⌜ ShadePost (rowsOf (view rows (now (words .entry)))) (now (dark .entry)) (now (dark .exit)) (now (deep .entry)) (now (deep .exit)) b ⌝ }
 {
     if !is_row(b) {
         return;
@@ -54,8 +74,7 @@ fn shade(words: &[u32], rows: u32, dark: &mut [u32], deep: &mut [u32], b: u32)
     shade(words, rows, dark, deep, get(words, rows, i, Table::LOW));
     shade(words, rows, dark, deep, get(words, rows, i, Table::HIGH));
     set_mark(dark, i);
-    let l = get(words, rows, i, Table::LEVEL) as usize;
-    deep[l] = deep[l] + 1;
+    count_one(deep, get(words, rows, i, Table::LEVEL));
 }
 
 // Counts by level the arrows that are followed from arrow a, each with its sign, and `shade`s what is remembered as EXISTS at every odd level of
@@ -70,6 +89,8 @@ fn survey(
     deep: &mut [u32],
     a: u32,
 ) -> bool
+    requires { ⌜ SurveyPre levels rows (view rows (now words)) (now seen) (now above) (now dark) (now deep) a ⌝ }
+    ensures { λ r. ⌜ (r ≡ true → SurveyPost levels (rowsOf (view rows (now (words .entry)))) (now (seen .entry)) (now (seen .exit)) (now (above .entry)) (now (above .exit)) (now (dark .entry)) (now (dark .exit)) (now (deep .entry)) (now (deep .exit)) a) ⌝ }
 {
     if !is_row(a) {
         return true;
@@ -90,13 +111,14 @@ fn survey(
         return false;
     }
     set_mark(seen, a);
-    let l = n.level as usize;
-    above[l] = above[l] + 1;
+    count_one(above, n.level);
     true
 }
 
 // The sum of the first k counts.
 fn total(counts: &[u32], k: usize) -> u64
+    requires { ⌜ (k ≤ LEVELS) × Levels (now counts) ⌝ }
+    ensures { λ r. ⌜ r ≡ sumTo (countOf (now (counts .entry))) k ⌝ }
 {
     let mut sum = 0u64;
     let mut j = 0;
@@ -109,6 +131,8 @@ fn total(counts: &[u32], k: usize) -> u64
 
 // Whether the bounds of all EXISTS left, at levels below 2 · left, are at most `most`, `live` rows being live.
 fn within(above: &[u32], deep: &[u32], bits: u32, left: u32, live: u32, most: u32) -> bool
+    requires { ⌜ Levels (now above) × Levels (now deep) × (left ≤ bits) × (bits ≤ MAX-BITS) ⌝ }
+    ensures { λ r. ⌜ Says (AllWithin (2 * bits) live (countOf (now (above .entry))) (countOf (now (deep .entry))) left most) r ⌝ }
 {
     let all = live as u64 + total(deep, 2 * (bits as usize));
     let mut below = above[0] as u64;
@@ -157,6 +181,8 @@ fn look(
 
 // Works out EXISTS at every odd level of each arrow that is followed from a, so that it is remembered.
 fn renew(words: &mut [u32], rows: u32, levels: u32, limit: u32, seen: &mut [u32], a: u32)
+    requires { ⌜ RenewPre levels rows limit (view rows (now words)) (now seen) a ⌝ }
+    ensures { λ _. ⌜ Grown levels (view rows (now (words .entry))) (view rows (now (words .exit))) ⌝ }
 {
     if !is_row(a) {
         return;
