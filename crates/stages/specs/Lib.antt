@@ -4,3 +4,4 @@ pub mod Shades
 pub mod Surveys
 pub mod Renews
 pub mod Looks
+pub mod Rest

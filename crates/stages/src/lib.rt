@@ -15,7 +15,7 @@ use table::Code;
 use table::Found;
 ghost use mathlib.Core.Path.{_≡_};
 ghost use mathlib.Core.Bool.{true};
-ghost use Prim.Native.Nat.{_*_, _≤_, _<_};
+ghost use Prim.Native.Nat.{_*_, _≤_, _<_, min};
 ghost use lib.ListN.{length};
 ghost use Rattle.diagram.specs.Rows.{Arrow};
 ghost use Rattle.layout.specs.View.{view};
@@ -25,7 +25,9 @@ ghost use Rattle.soundness.specs.Says.{Says};
 ghost use Rattle.diagram.specs.Tally.{sumTo};
 ghost use Rattle.operations.specs.Work.{Ready};
 ghost use Rattle.operations.specs.Odd.{Grown};
+ghost use Rattle.counting.specs.Counts.{BaseOf, CountsOf};
 ghost use Rattle.stages.specs.Left.{LookPre, LookPost};
+ghost use Rattle.stages.specs.Rest.{RestPre, SurePost, RestPost};
 ghost use Rattle.stages.specs.Levels.{LEVELS, MOST, countOf, OneMore, Levels, AllWithin};
 ghost use Rattle.stages.specs.Shades.{ShadePre, ShadePost};
 ghost use Rattle.stages.specs.Surveys.{SurveyPre, SurveyPost};
@@ -204,9 +206,23 @@ fn renew_all(words: &mut [u32], rows: u32, levels: u32, limit: u32, a: u32)
     renew(words, rows, levels, limit, &mut seen, a);
 }
 
-// Whether a look told that all fit.
-fn told(looked: Looked) -> bool
+// A look once more, with all results worked out anew.
+fn look_again(
+    words: &mut [u32],
+    counts: &[u32],
+    rows: u32,
+    bits: u32,
+    limit: u32,
+    roots: &[u32],
+    a: u32,
+    left: u32,
+    most: u32,
+) -> bool
+    requires { ⌜ RestPre bits rows limit (view rows (now words)) (now roots) a left × BaseOf (view rows (now words)) (now counts) ⌝ }
+    ensures { λ r. ⌜ SurePost bits (view rows (now (words .entry))) (view rows (now (words .exit))) (now (roots .entry)) a left most r ⌝ }
 {
+    renew_all(words, rows, 2 * bits, limit, a);
+    let looked = look(words, counts, rows, bits, roots, a, left, most);
     match looked {
         Looked::Fits => true,
         Looked::Over => false,
@@ -226,20 +242,20 @@ fn sure(
     left: u32,
     most: u32,
 ) -> bool
+    requires { ⌜ RestPre bits rows limit (view rows (now words)) (now roots) a left × BaseOf (view rows (now words)) (now counts) ⌝ }
+    ensures { λ r. ⌜ SurePost bits (view rows (now (words .entry))) (view rows (now (words .exit))) (now (roots .entry)) a left most r ⌝ }
 {
     let looked = look(words, counts, rows, bits, roots, a, left, most);
     match looked {
         Looked::Fits => true,
         Looked::Over => false,
-        Looked::Unknown => {
-            renew_all(words, rows, 2 * bits, limit, a);
-            told(look(words, counts, rows, bits, roots, a, left, most))
-        }
+        Looked::Unknown => look_again(words, counts, rows, bits, limit, roots, a, left, most),
     }
 }
 
 // The lesser of two numbers.
 fn lesser(a: u32, b: u32) -> u32
+    ensures { λ r. ⌜ r ≡ min a b ⌝ }
 {
     if a < b {
         return a;
@@ -259,6 +275,8 @@ pub fn rest(
     left: u32,
     peak: u32,
 ) -> Found
+    requires { ⌜ RestPre bits rows limit (view rows (now words)) (now roots) a left × CountsOf (view rows (now words)) (now counts) ⌝ }
+    ensures { λ r. ⌜ RestPost bits (view rows (now (words .entry))) (view rows (now (words .exit))) (now (roots .entry)) a left (min peak limit) r × CountsOf (view rows (now (words .exit))) (now (counts .exit)) ⌝ }
 {
     let most = lesser(peak, limit);
     // a guess, that spares the work where the answer is likely to be none
