@@ -37,9 +37,11 @@ pub record OneMore (d e : List ℕ) (l : ℕ) : Type 0 where
 
 pub one-more : (d : List ℕ) (l : ℕ) → l < length d → OneMore d (set d l (getD d l 0 + 1)) l
 unfolding bump
-one-more d l h = record { each = λ k. by-cases (ℕ-discrete l k)
-    (λ e. rw (← e, eq-eqb l l refl) (getD-set-same d l (getD d l 0 + 1) 0 h ∙ (let q : getD d l 0 + 1 ≡ suc (getD d l 0) = omega arith in q)))
-    (λ n. rw (ne-eqb l k n) (getD-set-other d l k (getD d l 0 + 1) 0 (λ e. n (sym e)))) }
+one-more d l h = record {
+  each = λ k. by-cases (ℕ-discrete l k)
+      (λ e. rw (← e, eq-eqb l l refl) (getD-set-same d l (getD d l 0 + 1) 0 h ∙ (let q : getD d l 0 + 1 ≡ suc (getD d l 0) = omega arith in q)))
+      (λ n. rw (ne-eqb l k n) (getD-set-other d l k (getD d l 0 + 1) 0 (λ e. n (sym e))));
+}
 
 -- a count and one more are at most one more
 pub one-more-le : {d e : List ℕ} {l n : ℕ} → OneMore d e l → ((k : ℕ) → countOf d k ≤ n) → (k : ℕ) → countOf e k ≤ suc n

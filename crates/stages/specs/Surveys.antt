@@ -153,31 +153,37 @@ module _ {m N : ℕ} {W : View} {s₀ a₀ k₀ d₀ : List ℕ} {a i : ℕ} (p 
 
     -- then the two arrows that are followed from it, first the low one
     pub low-asks : {t : ℕ} → depth m (rowsOf W) a ≡ t → length k₁ ≡ length k₀ → length d₁ ≡ length d₀ → (depth m (rowsOf W) lo < t) × SurveyPre m N W s₀ a₀ k₁ d₁ lo
-    low-asks q ek ed = (subst (λ (k : ℕ). depth m (rowsOf W) lo < k) q (low-falls open-at), record {
-      ready = p .ready;
-      seen-size = p .seen-size;
-      above-size = p .above-size;
-      surveys = surveys-darker (sh .marks .kept) (p .surveys);
-      shade = shade-next (p .shade) ek ed sh (open-at .parts .low-arrow);
-    })
+    low-asks q ek ed = (
+      subst (λ (k : ℕ). depth m (rowsOf W) lo < k) q (low-falls open-at),
+      record {
+        ready = p .ready;
+        seen-size = p .seen-size;
+        above-size = p .above-size;
+        surveys = surveys-darker (sh .marks .kept) (p .surveys);
+        shade = shade-next (p .shade) ek ed sh (open-at .parts .low-arrow);
+      },
+    )
 
     module _ {s₁ a₁ k₂ d₂ : List ℕ} (low : SurveyPost m (rowsOf W) s₀ s₁ a₀ a₁ k₁ k₂ d₁ d₂ lo) where
       pub high-asks : {t : ℕ} → depth m (rowsOf W) a ≡ t → length s₁ ≡ length s₀ → length a₁ ≡ length a₀ → length k₂ ≡ length k₀ → length d₂ ≡ length d₀
           → (depth m (rowsOf W) hi < t) × SurveyPre m N W s₁ a₁ k₂ d₂ hi
-      high-asks q es ea ek ed = (subst (λ (k : ℕ). depth m (rowsOf W) hi < k) q (high-falls open-at (extends-refl (rowsOf W))), record {
-        ready = p .ready;
-        seen-size = es ∙ p .seen-size;
-        above-size = ea ∙ p .above-size;
-        surveys = low .surveys;
-        shade = record {
-          good = p .shade .good;
-          arrow = open-at .parts .high-arrow;
-          marks-size = ek ∙ p .shade .marks-size;
-          counts-size = ed ∙ p .shade .counts-size;
-          roots = p .shade .roots;
-          shades = low .shades (p .shade .roots) (sh .shades (p .shade .roots) (p .shade .shades));
-        };
-      })
+      high-asks q es ea ek ed = (
+        subst (λ (k : ℕ). depth m (rowsOf W) hi < k) q (high-falls open-at (extends-refl (rowsOf W))),
+        record {
+          ready = p .ready;
+          seen-size = es ∙ p .seen-size;
+          above-size = ea ∙ p .above-size;
+          surveys = low .surveys;
+          shade = record {
+            good = p .shade .good;
+            arrow = open-at .parts .high-arrow;
+            marks-size = ek ∙ p .shade .marks-size;
+            counts-size = ed ∙ p .shade .counts-size;
+            roots = p .shade .roots;
+            shades = low .shades (p .shade .roots) (sh .shades (p .shade .roots) (p .shade .shades));
+          };
+        },
+      )
 
       module _ {s₂ a₂ k₃ d₃ : List ℕ} (off : isOn s₀ a ≡ false) (high : SurveyPost m (rowsOf W) s₁ s₂ a₁ a₂ k₂ k₃ d₂ d₃ hi) where
         -- it has no bit still: what is followed from the parts lies deeper

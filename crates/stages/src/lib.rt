@@ -170,7 +170,16 @@ fn look(
     let mut seen = [0u32; Counter::ARROWS];
     let mut above = [0u32; Counter::LEVELS];
     let mut deep = [0u32; Counter::LEVELS];
-    if !survey(words, rows, 2 * bits, &mut seen, &mut above, &mut dark, &mut deep, a) {
+    if !survey(
+        words,
+        rows,
+        2 * bits,
+        &mut seen,
+        &mut above,
+        &mut dark,
+        &mut deep,
+        a,
+    ) {
         return Looked::Unknown;
     }
     if within(&above, &deep, bits, left, live, most) {

@@ -6,7 +6,6 @@ use Rattle.stages.proofs.count_one.Tie as tie
 use Rattle.stages.proofs.count_one.Reads as reads
 use Rattle.stages.proofs.count_one.Lts as lts
 
-
 pub count-one-spec : {M : Type 1} → statement M
 count-one-spec =
     tie.close
