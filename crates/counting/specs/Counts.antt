@@ -59,6 +59,12 @@ pub record CountsOf (W : View) (c : List ℕ) : Type 0 where
   pub base : BaseOf W c
   pub sizes : Remembered (rowsOf W) (filled W) c
 
+-- n rows are reached from what is live, further arrows among it, and these are marked
+pub record LiveMarked (W : View) (xs m : List ℕ) (n : ℕ) : Type 0 where
+  pub number : Reaches (rowsOf W) (live W xs) n
+  pub only : (i : ℕ) → On m i → Reach (rowsOf W) (live W xs) i
+  pub all : (i : ℕ) → Reach (rowsOf W) (live W xs) i → On m i
+
 -- so the number is what registers and relations need
 pub number-need : {W : View} {c : List ℕ} → Sound W → BaseOf W c → getD c NUMBER 0 ≡ needOf W (filled W)
 number-need s p = reaches-need (s .good .rows) (filled-arrow s) (p .number)
@@ -187,9 +193,9 @@ module _ {W : View} {c : List ℕ} (p : BaseOf W c) where
   base-on : (a : ℕ) → Mem a (filled W) → OnArrow (marksOf c) a
   base-on a h = on-reached (target a) (reached-root (rowsOf W) (filled W) a h)
 
-  -- marking from further arrows counts what they and the base reach
-  pub live-reaches : {m : List ℕ} {xs : List ℕ} {n : ℕ} → ListNew (rowsOf W) (marksOf c) m xs n → Reaches (rowsOf W) (live W xs) (getD c NUMBER 0 + n)
-  live-reaches {m} {xs} {n} q =
+  -- marking from further arrows marks and counts what they and the base reach
+  pub live-marked : {m : List ℕ} {xs : List ℕ} {n : ℕ} → ListNew (rowsOf W) (marksOf c) m xs n → LiveMarked W xs m (getD c NUMBER 0 + n)
+  live-marked {m} {xs} {n} q =
       let rows = rowsOf W in
       let reached : (i : ℕ) → On m i → Reach rows (live W xs) i = λ i o.
       ⊎-elim (λ b. reach-within (λ a j e h. append-left xs h) (p .only i b)) (λ t. reach-on (reached-root rows (live W xs) (t .0) (append-right (filled W) (t .1))) (t .2)) (q .marks .only i o)
@@ -197,12 +203,20 @@ module _ {W : View} {c : List ℕ} (p : BaseOf W c) where
       let marked : (i : ℕ) → Reach rows (live W xs) i → On m i = λ i r.
       closed-reach (q .marks .closed base-closed) (λ a h. ⊎-elim (λ f. onArrow-le (marksOf c) m (q .marks .kept) a (base-on a f)) (λ t. q .marks .has a t) (append-cases (filled W) h)) r
       in
-      subst (λ (k : ℕ). Reaches rows (live W xs) (getD c NUMBER 0 + k)) (q .news .count)
+      let number = subst (λ (k : ℕ). Reaches rows (live W xs) (getD c NUMBER 0 + k)) (q .news .count)
       (reaches-more (q .news .rows) (λ a h. append-left xs h) (q .news .once)
       (λ i h. reached i (q .news .marked i h))
       (λ i h r. q .news .unmarked i h (p .all i r))
       (λ i r. ⊎-elim (λ o. inl (p .only i o)) (λ h. inr h) (q .news .all i (marked i r)))
       (p .number))
+      in
+      record { number = number; only = reached; all = marked }
+
+  pub live-marks : {m₀ m : List ℕ} {xs : List ℕ} {n : ℕ} → m₀ ≡ marksOf c → ListNew (rowsOf W) m₀ m xs n → LiveMarked W xs m (getD c NUMBER 0 + n)
+  live-marks e q = live-marked (rw e at q)
+
+  pub live-reaches : {m : List ℕ} {xs : List ℕ} {n : ℕ} → ListNew (rowsOf W) (marksOf c) m xs n → Reaches (rowsOf W) (live W xs) (getD c NUMBER 0 + n)
+  live-reaches q = live-marked q .number
 
   -- and marking from one arrow, what it reaches beside the base
   pub outside-counted : {m₀ m : List ℕ} {a n : ℕ} → m₀ ≡ marksOf c → MarksNew (rowsOf W) m₀ m a n → Outside (rowsOf W) (filled W) a n

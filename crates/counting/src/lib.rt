@@ -35,7 +35,7 @@ ghost use Rattle.steps.specs.Steps.{StepPre};
 ghost use Rattle.steps.specs.Clean.{CleanPre};
 ghost use Rattle.counting.specs.News.{MarksNew, ListNew};
 ghost use Rattle.counting.specs.Sizes.{placeOf, putSize};
-ghost use Rattle.counting.specs.Counts.{COUNT-WORDS, Blank, marksOf, BaseOf, CountsOf, Emptied};
+ghost use Rattle.counting.specs.Counts.{COUNT-WORDS, Blank, marksOf, BaseOf, CountsOf, Emptied, LiveMarked};
 ghost use Rattle.counting.specs.Bound.{SizePre, SizePost, SumPost, WithinPost};
 ghost use Rattle.counting.specs.Peak.{NotePost, StepCounted, TakenPost};
 
@@ -135,6 +135,16 @@ fn list_new(words: &[u32], rows: u32, marks: &mut [u32], roots: &[u32]) -> u32
     found
 }
 
+// Marks the rows that registers, relations and a list of arrows reach, and counts them.
+pub fn mark_live(words: &[u32], rows: u32, counts: &[u32], roots: &[u32], marks: &mut [u32]) -> u32
+    requires { ⌜ FreePre (view rows (now words)) (now roots) × BaseOf (view rows (now words)) (now counts) × (length (now marks) ≡ MARK-WORDS) ⌝ }
+    ensures { λ r. ⌜ LiveMarked (view rows (now (words .entry))) (now (roots .entry)) (now (marks .exit)) r ⌝ }
+{
+    copy_marks(counts, marks);
+    let base = counts[Counts::NUMBER];
+    base + list_new(words, rows, marks, roots)
+}
+
 // How many rows registers, relations and two lists of further arrows reach.
 fn count_live(words: &[u32], rows: u32, counts: &[u32], roots: &[u32], more: &[u32]) -> u32
     requires { ⌜ FreePre (view rows (now words)) (now roots ++ now more) × BaseOf (view rows (now words)) (now counts) ⌝ }
@@ -232,7 +242,7 @@ fn add_sizes(
 }
 
 // Whether the base's number and the sizes of two lists of arrows sum to at most `most`.
-fn sizes_within(
+pub fn sizes_within(
     words: &[u32],
     rows: u32,
     counts: &mut [u32],

@@ -1,10 +1,10 @@
 -- How many rows some roots reach, which is what they need, and how many more an arrow reaches, which bounds what it needs beside them.
--- Assumes nothing.
+-- Needs of lists of functions: of two together, and of the steps before a product. Assumes nothing.
 use mathlib.Core.Path.{_≡_, refl, sym, ap, _∙_, subst}
 use mathlib.Core.Logic.{_⊎_, inl, inr, ⊎-elim}
 use mathlib.Core.Bool.{Bool}
 use mathlib.Core.List.{List, [], _∷_, _++_, map}
-use mathlib.Core.List.{List·Memᴰ as Mem, List·Memᴰ·head as here, List·Memᴰ·cases-cons as mem-cases, List·Memᴰ·append-cases as append-cases}
+use mathlib.Core.List.{List·Memᴰ as Mem, List·Memᴰ·head as here, List·Memᴰ·tail as there, List·Memᴰ·cases-cons as mem-cases, List·Memᴰ·append-cases as append-cases}
 use mathlib.Core.List.{Memᴰ·cast as mem-cast, Memᴰ·map as mem-map, Memᴰ·of-map as mem-of-map, Memᴰ·append-left as append-left, Memᴰ·append-right as append-right}
 use Prim.Native.Nat.{ℕ, _+_, _≤_}
 use native.Mathlib.Omega.{arith}
@@ -14,7 +14,7 @@ use Rattle.diagram.specs.Rows.{Rows, Leads, Arrow, den, WellFormed}
 use Rattle.diagram.specs.Canon.{row-varies}
 use Rattle.diagram.specs.Count.{NoDup, Within, nodup-length, nodup-append}
 use Rattle.diagram.specs.Need.{need}
-use Rattle.diagram.specs.Needed.{class, classes, need-length, needed-source, mem-needed, nodup-needed}
+use Rattle.diagram.specs.Needed.{class, classes, need-length, needed-source, mem-needed, nodup-needed, need-mono}
 use Rattle.diagram.specs.Reach.{Reach, den-reads-all, reach-used, reach-part, tab, cofactor-row, reach-count}
 use Rattle.diagram.specs.Keep.{Keeps, keeps-reach, keeps-reach-back, reach-within}
 
@@ -78,7 +78,7 @@ outside-keeps kb kx o = record {
 }
 
 -- Functions need at most as many rows as a list has entries that has the classes of all their non-constant cofactors.
-need-within : (m : ℕ) (fs : List Fn) (ts : List (List Bool)) → ((f g : Fn) → Mem f fs → CofactorOf f g → Varies g → Mem (class m g) ts) → need m fs ≤ length ts
+pub need-within : (m : ℕ) (fs : List Fn) (ts : List (List Bool)) → ((f g : Fn) → Mem f fs → CofactorOf f g → Varies g → Mem (class m g) ts) → need m fs ≤ length ts
 need-within m fs ts all =
     let n = nodup-length (classes m fs) ts (nodup-needed m fs) (λ t h.
     let s = needed-source m fs t h in
@@ -87,24 +87,62 @@ need-within m fs ts all =
     let e = need-length m fs in
     omega arith
 
+-- Each root denotes one of some functions of m levels.
+pub record Rooted (m : ℕ) (rows : Rows) (fs : List Fn) (roots : List ℕ) : Type 0 where
+  pub reads : (f : Fn) → Mem f fs → Reads 0 m f
+  pub listed : (b : ℕ) → Mem b roots → Arrow rows b × Mem (den m rows b) fs
+
+module _ {m N : ℕ} {rows : Rows} (wf : WellFormed m N rows) where
+  -- The functions of the roots themselves.
+  pub rooted-own : (roots : List ℕ) → ((b : ℕ) → Mem b roots → Arrow rows b) → Rooted m rows (map (den m rows) roots) roots
+  rooted-own roots arrows = record {
+    reads = λ f mf. let (b, mb, e) = mem-of-map (den m rows) roots mf in subst (Reads 0 m) e (den-reads-all wf b (arrows b mb));
+    listed = λ b mb. (arrows b mb, mem-map (den m rows) mb);
+  }
+
+  -- One more arrow, with its function.
+  pub rooted-arrow : {fs : List Fn} {roots : List ℕ} (a : ℕ) → Arrow rows a → Rooted m rows fs roots → Rooted m rows (den m rows a ∷ fs) (a ∷ roots)
+  rooted-arrow a wa p = record {
+    reads = λ g mg. ⊎-elim (λ e. subst (Reads 0 m) (sym e) (den-reads-all wf a wa)) (λ h. p .reads g h) (mem-cases mg);
+    listed = λ b mb. ⊎-elim (λ e. (subst (Arrow rows) (sym e) wa, here (ap (den m rows) e))) (λ h. (p .listed b h .0, there (p .listed b h .1))) (mem-cases mb);
+  }
+
+  -- A row that is reached from the roots is among what their functions need.
+  pub row-needed : {fs : List Fn} {roots : List ℕ} → Rooted m rows fs roots → (i : ℕ) → Reach rows roots i → Mem (tab wf i) (classes m fs)
+  row-needed {fs} {roots} p i r =
+      let arrows : (b : ℕ) → Mem b roots → Arrow rows b = λ b h. p .listed b h .0 in
+      let (b, mb, c) = reach-part wf arrows r in
+      mem-needed fs (p .listed b mb .1) (den-reads-all wf b (arrows b mb)) c (row-varies wf i (reach-used wf arrows r))
+
 -- One arrow more, beside roots that reach what the base does, needs at most its rows outside the base more.
 pub need-outside : {m N : ℕ} {rows : Rows} {base : List ℕ} → WellFormed m N rows → (roots : List ℕ) → ((a : ℕ) → Mem a roots → Arrow rows a) → Within base roots
     → (x k : ℕ) → Arrow rows x → Outside rows base x k → need m (map (den m rows) (x ∷ roots)) ≤ k + need m (map (den m rows) roots)
 need-outside {m} {rows = rows} wf roots arrows w x k u o =
+    let p = rooted-own wf roots arrows in
     let fs = map (den m rows) roots in
     let xs = classes m fs in
     let ys = map (tab wf) (o .rest) in
-    let reached : (i : ℕ) → Reach rows roots i → Mem (tab wf i) xs = λ i r.
-    let (a, ma, c) = reach-part wf arrows r in
-    mem-needed fs (mem-map (den m rows) ma) (den-reads-all wf a (arrows a ma)) c (row-varies wf i (reach-used wf arrows r))
-    in
     let all = need-within m (den m rows x ∷ fs) (xs ++ ys) (λ f g mf c y.
     ⊎-elim (λ e.
     let (i, t, v, q) = cofactor-row wf (x ∷ []) x g (here refl) u (subst (λ f. CofactorOf f g) e c) y in
-    mem-cast (sym q) (⊎-elim (λ b. append-left {s = xs} ys (reached i (reach-within (λ a j e. w a) b))) (λ b. append-right xs (mem-map (tab wf) b)) (o .all i t)))
-    (λ h.
-    let (a, ma, e) = mem-of-map (den m rows) roots h in
-    append-left {s = xs} ys (mem-needed fs h (subst (λ f. Reads 0 m f) e (den-reads-all wf a (arrows a ma))) (part-cofactor c) y))
+    mem-cast (sym q) (⊎-elim (λ b. append-left {s = xs} ys (row-needed wf p i (reach-within (λ a j e. w a) b))) (λ b. append-right xs (mem-map (tab wf) b)) (o .all i t)))
+    (λ h. append-left {s = xs} ys (mem-needed fs h (p .reads f h) (part-cofactor c) y))
     (mem-cases mf))
     in
     omega (arith, all, need-length m fs, length-append xs ys, length-map (o .rest) (tab wf), o .counted)
+
+-- B5: two lists of functions together need at most what each needs.
+pub need-append : (m : ℕ) (fs gs : List Fn) → ((f : Fn) → Mem f (fs ++ gs) → Reads 0 m f) → need m (fs ++ gs) ≤ need m fs + need m gs
+need-append m fs gs reads =
+    let xs = classes m fs in
+    let ys = classes m gs in
+    let all = need-within m (fs ++ gs) (xs ++ ys) (λ h g mh c y.
+    ⊎-elim (λ a. append-left {s = xs} ys (mem-needed fs a (reads h mh) (part-cofactor c) y)) (λ b. append-right xs (mem-needed gs b (reads h mh) (part-cofactor c) y)) (append-cases fs mh))
+    in
+    omega (arith, all, need-length m fs, need-length m gs, length-append xs ys)
+
+-- B6: where the operand of SHIFT is live, its step needs no more than the AND that follows.
+pub shift-under : (m : ℕ) (live : List Fn) (f s r c : Fn) → Mem f live → need m (s ∷ f ∷ live) ≤ need m (c ∷ s ∷ r ∷ live)
+shift-under m live f s r c mf =
+    need-mono m (s ∷ f ∷ live) (c ∷ s ∷ r ∷ live) (λ h mh.
+    ⊎-elim (λ e. there (here e)) (λ q. ⊎-elim (λ e. there (there (there (mem-cast e mf)))) (λ l. there (there (there l))) (mem-cases q)) (mem-cases mh))

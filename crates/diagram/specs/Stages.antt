@@ -25,7 +25,7 @@ use Rattle.diagram.specs.Odd.{existsFrom, oddF, Follows, self, on, Cover
 use Rattle.diagram.specs.OddLaws.{from-reads, from-fewer}
 
 -- To set a level from k on, and to fix those below k, go in either order.
-upd-splice : (k : ℕ) (u v : Val) (x : ℕ) (b : Bool) → k ≤ x → upd (splice k u v) x b ≡ splice k u (upd v x b)
+pub upd-splice : (k : ℕ) (u v : Val) (x : ℕ) (b : Bool) → k ≤ x → upd (splice k u v) x b ≡ splice k u (upd v x b)
 upd-splice k u v x b h =
     fun-ext λ l.
     by-cases (ℕ-discrete l x)
@@ -35,14 +35,14 @@ upd-splice k u v x b h =
     (λ g. splice-below k u v l (omega arith) ∙ sym (splice-below k u (upd v x b) l (omega arith))))
 
 -- To fix levels below b by what fixes those below k, a greater level, already is nothing new.
-splice-again : (b k : ℕ) (u v : Val) → b ≤ k → splice b u (splice k u v) ≡ splice k u v
+pub splice-again : (b k : ℕ) (u v : Val) → b ≤ k → splice b u (splice k u v) ≡ splice k u v
 splice-again b k u v h =
     fun-ext λ l.
     by-cases (decLe b l) (λ g. splice-above b u (splice k u v) l g)
     (λ g. splice-below b u (splice k u v) l (omega arith) ∙ sym (splice-below k u v l (omega arith)))
 
 -- EXISTS commutes with fixing levels below all those it is at.
-from-splice : (d j k : ℕ) (u : Val) (f : Fn) → k ≤ suc (2 * j) → (v : Val) → existsFrom d j f (splice k u v) ≡ existsFrom d j (λ w. f (splice k u w)) v
+pub from-splice : (d j k : ℕ) (u : Val) (f : Fn) → k ≤ suc (2 * j) → (v : Val) → existsFrom d j f (splice k u v) ≡ existsFrom d j (λ w. f (splice k u w)) v
 unfolding existsFrom
 from-splice zero j k u f h v = refl
 from-splice (suc d) j k u f h v =
@@ -69,7 +69,7 @@ module _ {lo hi : ℕ} (f : Fn) (r : Reads lo hi f) where
   from-first d z j h g = fun-ext (from-fewer {f = f} z d j h (λ v w e. r v w (λ l a b. e l (omega arith) (omega arith))))
 
   -- and all but the first i of i + d.
-  from-last : (i d j t z : ℕ) → i + j ≡ t → i + d ≡ z → 2 * t ≤ lo → existsFrom z j f ≡ existsFrom d t f
+  pub from-last : (i d j t z : ℕ) → i + j ≡ t → i + d ≡ z → 2 * t ≤ lo → existsFrom z j f ≡ existsFrom d t f
   unfolding existsFrom
   from-last zero d j t z et ez h =
       let p : j ≡ t = omega arith in
@@ -87,14 +87,14 @@ stage-odd n d j f h e r =
     ∙ sym (from-first {lo = suc (2 * j)} {hi = 2 * n} f r n 16 0 h (omega arith))
 
 -- What f has where levels below k are fixed reads only those from k on.
-splice-reads : {m : ℕ} {f : Fn} (k : ℕ) (u : Val) → Reads 0 m f → Reads k m (λ w. f (splice k u w))
+pub splice-reads : {m : ℕ} {f : Fn} (k : ℕ) (u : Val) → Reads 0 m f → Reads k m (λ w. f (splice k u w))
 splice-reads k u r v w h =
     r _ _ (λ l _ lm. by-cases (decLe k l)
     (λ g. splice-above k u v l g ∙ h l g lm ∙ sym (splice-above k u w l g))
     (λ g. splice-below k u v l (omega arith) ∙ sym (splice-below k u w l (omega arith))))
 
 -- An arrow with a varying stage leads to a row.
-stage-row : (m : ℕ) (rows : Rows) (c x : ℕ) → target c ≡ x → (d j : ℕ) (g : Fn) (at : Val → Val)
+pub stage-row : (m : ℕ) (rows : Rows) (c x : ℕ) → target c ≡ x → (d j : ℕ) (g : Fn) (at : Val → Val)
     → ((v : Val) → g v ≡ existsFrom d j (den m rows c) (at v)) → Varies g → (i : ℕ) × Leads c i
 stage-row m rows c zero e d j g at h y = absurd (varies-not (marked c) y (λ v. h v ∙ from-const d j (den m rows c) (marked c) (den-constant m rows c e) (at v)))
 stage-row m rows c (suc i) e d j g at h y = (i, e)

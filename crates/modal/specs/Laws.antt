@@ -43,11 +43,11 @@ pub record Quantified (n N limit : ℕ) (W X : View) (lent : List ℕ) (a : ℕ)
   pub steps : (fs : List Fn) → Held (2 * n) (rowsOf W) (live W lent) fs → Quantifies n N limit (rowsOf W) (rowsOf X) (live W lent) fs (den (2 * n) (rowsOf W) a) q j c r
 
 -- the steps at a list of needs fit, or do not
-fit-steps : (n limit : ℕ) (fs : List Fn) (C : Fn) (q : Count)
-    → existsSteps n limit fs n C q (λ c. value [] c) ≡ settle [] (cond (fit limit (existsNeeds n fs n C)) (counted (needingAll q (existsNeeds n fs n C))) fullVerdict)
-fit-steps n limit fs C q = exists-ticks limit 0 n fs [] q n C ∙ ap (settle []) (steps-verdict limit 0 q (existsNeeds n fs n C))
+pub fit-steps : (n limit : ℕ) (fs : List Fn) (j : ℕ) (F : Fn) (q : Count)
+    → existsSteps n limit fs j F q (λ c. value [] c) ≡ settle [] (cond (fit limit (existsNeeds n fs j F)) (counted (needingAll q (existsNeeds n fs j F))) fullVerdict)
+fit-steps n limit fs j F q = exists-ticks limit 0 n fs [] q j F ∙ ap (settle []) (steps-verdict limit 0 q (existsNeeds n fs j F))
 
-fit-true : (b : Bool) (r d : Count) → value [] r ≡ settle [] (cond b (counted d) fullVerdict) → (b ≡ true) × (r ≡ d)
+pub fit-true : (b : Bool) (r d : Count) → value [] r ≡ settle [] (cond b (counted d) fullVerdict) → (b ≡ true) × (r ≡ d)
 fit-true true r d e = (refl, cc)
 fit-true false r d e = let z : _≡_ {A = ℕ} 0 1 = cc in absurd (omega arith)
 
@@ -66,7 +66,7 @@ module _ {n N limit : ℕ} {W : View} {lent : List ℕ} {a : ℕ} (p : QuantifyP
   }
 
   module _ {X : View} {q r : Count} {j c : ℕ} (i : Quantified n N limit W X lent a q j c r) where
-    at-own : Quantifies n N limit (rowsOf W) (rowsOf X) (live W lent) (map (den (2 * n) (rowsOf W)) (live W lent)) (den (2 * n) (rowsOf W) a) q j c r
+    pub at-own : Quantifies n N limit (rowsOf W) (rowsOf X) (live W lent) (map (den (2 * n) (rowsOf W)) (live W lent)) (den (2 * n) (rowsOf W) a) q j c r
     at-own = i .steps _ own
 
     pub quantify-base : Base n N limit X
@@ -104,7 +104,7 @@ module _ {n N limit : ℕ} {W : View} {lent : List ℕ} {a : ℕ} (p : QuantifyP
           let C : Fn = den (2 * n) (rowsOf W) a in
           let t = turn fs h in
           let v = taken-at e .post in
-          let out = fit-false (fit limit (existsNeeds n fs n C)) (needingAll q (existsNeeds n fs n C)) (sym (quantify-out n N limit h (j - 1) c t v (λ z. value [] z)) ∙ fit-steps n limit fs C q) in
+          let out = fit-false (fit limit (existsNeeds n fs n C)) (needingAll q (existsNeeds n fs n C)) (sym (quantify-out n N limit h (j - 1) c t v (λ z. value [] z)) ∙ fit-steps n limit fs n C q) in
           record {
             moved = moved-trans (i .moved) (s .moved);
             evals = record {
@@ -119,7 +119,7 @@ module _ {n N limit : ℕ} {W : View} {lent : List ℕ} {a : ℕ} (p : QuantifyP
         let C : Fn = den (2 * n) (rowsOf W) a in
         let e : j ≡ 0 = omega arith in
         let t : Quantifies n N limit (rowsOf W) (rowsOf X) (live W lent) fs C q 0 c r = subst (λ (k : ℕ). Quantifies n N limit (rowsOf W) (rowsOf X) (live W lent) fs C q k c r) e (i .steps fs h) in
-        let fits = fit-true (fit limit (existsNeeds n fs n C)) r (needingAll q (existsNeeds n fs n C)) (sym (t .steps (λ z. value [] z)) ∙ fit-steps n limit fs C q) in
+        let fits = fit-true (fit limit (existsNeeds n fs n C)) r (needingAll q (existsNeeds n fs n C)) (sym (t .steps (λ z. value [] z)) ∙ fit-steps n limit fs n C q) in
         record {
           moved = i .moved;
           evals = record {

@@ -1,3 +1,4 @@
 pub mod Chain
 pub mod Modal
 pub mod Laws
+pub mod Left

@@ -2,7 +2,9 @@
 use accounts::Count;
 use counting::Taken;
 use counting::take;
+use stages::rest;
 use steps::Step;
+use table::Found;
 ghost use Rattle.layout.specs.View.{view};
 ghost use Rattle.counting.specs.Counts.{CountsOf};
 ghost use Rattle.modal.specs.Modal.{QuantifyPre, QuantifyPost, ModalPre, DiamondPost, BoxPost};
@@ -15,7 +17,7 @@ pub struct Limits {
     pub rounds: u32,
 }
 
-// EXISTS at levels 2n − 1, 2n − 3, down to 1.
+// EXISTS at levels 2n − 1, 2n − 3, down to 1: one by one, until those left are sure to raise nothing and are taken at once.
 fn quantify(
     words: &mut [u32],
     counts: &mut [u32],
@@ -52,6 +54,23 @@ fn quantify(
         };
         c = d;
         total = more;
+        let found = rest(
+            words,
+            counts,
+            limits.rows,
+            limits.bits,
+            limits.limit,
+            roots,
+            c,
+            left,
+            total.peak,
+        );
+        if let Found::At(r) = found {
+            return Taken::At {
+                arrow: r,
+                count: total,
+            };
+        }
     }
     Taken::At {
         arrow: c,

@@ -42,7 +42,7 @@ pub struct Node {
 }
 
 // The level of row i, and the arrows that are followed from a, an arrow to it: they carry its NOT.
-fn node_at(words: &[u32], rows: u32, a: u32, i: u32) -> Node
+pub fn node_at(words: &[u32], rows: u32, a: u32, i: u32) -> Node
     requires { ⌜ (i < rows) × (wordsFor rows ≤ length (now words)) ⌝ }
     ensures { λ r. ⌜ RowIs (rowsOf (view rows (now (words .entry)))) a i (r .level) (r .low) (r .high) ⌝ }
 {
@@ -346,7 +346,7 @@ fn exists_row(words: &mut [u32], rows: u32, levels: u32, limit: u32, x: u32, a: 
 }
 
 // What is known of EXISTS at every odd level of an arrow: of a constant, or remembered.
-fn odd_known(words: &[u32], rows: u32, levels: u32, a: u32) -> Found
+pub fn odd_known(words: &[u32], rows: u32, levels: u32, a: u32) -> Found
     requires { ⌜ Ready levels rows 0 (view rows (now words)) × Arrow (rowsOf (view rows (now words))) a ⌝ }
     ensures { λ r. ⌜ OddKnown levels (view rows (now (words .entry))) a r ⌝ }
 {

@@ -1,0 +1,304 @@
+// The EXISTS that are left of a diamond: where counts by level show that none of them can raise the peak, they are taken at once.
+use counting::mark_live;
+use counting::sizes_within;
+use layout::Table;
+use layout::get;
+use layout::is_row;
+use layout::row_of;
+use operations::exists_odd;
+use operations::node_at;
+use operations::odd_known;
+use soundness::Bitmap;
+use soundness::marked;
+use soundness::set_mark;
+use table::Code;
+use table::Found;
+ghost use mathlib.Core.Path.{_≡_};
+ghost use mathlib.Core.Bool.{true};
+ghost use Prim.Native.Nat.{_*_, _≤_, _<_, min};
+ghost use lib.ListN.{length};
+ghost use Rattle.diagram.specs.Rows.{Arrow};
+ghost use Rattle.layout.specs.View.{view};
+ghost use Rattle.layout.specs.Places.{MAX-BITS};
+ghost use Rattle.soundness.specs.Used.{rowsOf};
+ghost use Rattle.soundness.specs.Says.{Says};
+ghost use Rattle.diagram.specs.Tally.{sumTo};
+ghost use Rattle.operations.specs.Work.{Ready};
+ghost use Rattle.operations.specs.Odd.{Grown};
+ghost use Rattle.counting.specs.Counts.{BaseOf, CountsOf};
+ghost use Rattle.stages.specs.Left.{LookPre, LookPost};
+ghost use Rattle.stages.specs.Rest.{RestPre, SurePost, RestPost};
+ghost use Rattle.stages.specs.Levels.{LEVELS, MOST, countOf, OneMore, Levels, AllWithin};
+ghost use Rattle.stages.specs.Shades.{ShadePre, ShadePost};
+ghost use Rattle.stages.specs.Surveys.{SurveyPre, SurveyPost};
+ghost use Rattle.stages.specs.Renews.{RenewPre};
+
+// What a survey counts with.
+pub struct Counter;
+
+impl Counter {
+    // Words with a bit for each arrow.
+    const ARROWS: usize = 3751;
+    // A count for each level and for two behind the last.
+    const LEVELS: usize = 34;
+}
+
+// What a look at the EXISTS left tells: none needs more than a number; one may; or a result that is wanted is not remembered.
+pub enum Looked {
+    Fits,
+    Over,
+    Unknown,
+}
+
+// Counts one more of a level.
+fn count_one(counts: &mut [u32], level: u32)
+    requires { ⌜ (level < length (now counts)) × (countOf (now counts) level < MOST) ⌝ }
+    ensures { λ _. ⌜ OneMore (now (counts .entry)) (now (counts .exit)) level ⌝ }
+{
+    let at = level as usize;
+    counts[at] = counts[at] + 1;
+}
+
+// Marks the rows that arrow b reaches, and counts by level those that were not marked.
+fn shade(words: &[u32], rows: u32, dark: &mut [u32], deep: &mut [u32], b: u32)
+    requires { ⌜ ShadePre (view rows (now words)) (now dark) (now deep) b ⌝ }
+    ensures { λ _. ⌜ ShadePost (rowsOf (view rows (now (words .entry)))) (now (dark .entry)) (now (dark .exit)) (now (deep .entry)) (now (deep .exit)) b ⌝ }
+{
+    if !is_row(b) {
+        return;
+    }
+    let i = row_of(b);
+    if marked(dark, i) {
+        return;
+    }
+    shade(words, rows, dark, deep, get(words, rows, i, Table::LOW));
+    shade(words, rows, dark, deep, get(words, rows, i, Table::HIGH));
+    set_mark(dark, i);
+    count_one(deep, get(words, rows, i, Table::LEVEL));
+}
+
+// Counts by level the arrows that are followed from arrow a, each with its sign, and `shade`s what is remembered as EXISTS at every odd level of
+// each. False where that is not remembered.
+fn survey(
+    words: &[u32],
+    rows: u32,
+    levels: u32,
+    seen: &mut [u32],
+    above: &mut [u32],
+    dark: &mut [u32],
+    deep: &mut [u32],
+    a: u32,
+) -> bool
+    requires { ⌜ SurveyPre levels rows (view rows (now words)) (now seen) (now above) (now dark) (now deep) a ⌝ }
+    ensures { λ r. ⌜ (r ≡ true → SurveyPost levels (rowsOf (view rows (now (words .entry)))) (now (seen .entry)) (now (seen .exit)) (now (above .entry)) (now (above .exit)) (now (dark .entry)) (now (dark .exit)) (now (deep .entry)) (now (deep .exit)) a) ⌝ }
+{
+    if !is_row(a) {
+        return true;
+    }
+    if marked(seen, a) {
+        return true;
+    }
+    let known = odd_known(words, rows, levels, a);
+    let Found::At(b) = known else {
+        return false;
+    };
+    shade(words, rows, dark, deep, b);
+    let n = node_at(words, rows, a, row_of(a));
+    if !survey(words, rows, levels, seen, above, dark, deep, n.low) {
+        return false;
+    }
+    if !survey(words, rows, levels, seen, above, dark, deep, n.high) {
+        return false;
+    }
+    set_mark(seen, a);
+    count_one(above, n.level);
+    true
+}
+
+// The sum of the first k counts.
+fn total(counts: &[u32], k: usize) -> u64
+    requires { ⌜ (k ≤ LEVELS) × Levels (now counts) ⌝ }
+    ensures { λ r. ⌜ r ≡ sumTo (countOf (now (counts .entry))) k ⌝ }
+{
+    let mut sum = 0u64;
+    let mut j = 0;
+    while j < k {
+        sum += counts[j] as u64;
+        j += 1;
+    }
+    sum
+}
+
+// Whether the bounds of all EXISTS left, at levels below 2 · left, are at most `most`, `live` rows being live.
+fn within(above: &[u32], deep: &[u32], bits: u32, left: u32, live: u32, most: u32) -> bool
+    requires { ⌜ Levels (now above) × Levels (now deep) × (left ≤ bits) × (bits ≤ MAX-BITS) ⌝ }
+    ensures { λ r. ⌜ Says (AllWithin (2 * bits) live (countOf (now (above .entry))) (countOf (now (deep .entry))) left most) r ⌝ }
+{
+    let all = live as u64 + total(deep, 2 * (bits as usize));
+    let mut below = above[0] as u64;
+    let mut past = deep[0] as u64 + deep[1] as u64;
+    let mut j = 0;
+    while j < left {
+        let at = 2 * (j as usize);
+        let next = below + above[at + 1] as u64 + above[at + 2] as u64;
+        if all + below + next > most as u64 + past {
+            return false;
+        }
+        below = next;
+        past += deep[at + 2] as u64 + deep[at + 3] as u64;
+        j += 1;
+    }
+    true
+}
+
+// Looks at the EXISTS left of arrow a, at levels below 2 · left.
+fn look(
+    words: &[u32],
+    counts: &[u32],
+    rows: u32,
+    bits: u32,
+    roots: &[u32],
+    a: u32,
+    left: u32,
+    most: u32,
+) -> Looked
+    requires { ⌜ LookPre bits rows (view rows (now words)) (now counts) (now roots) a left ⌝ }
+    ensures { λ r. ⌜ LookPost bits (view rows (now (words .entry))) (now (roots .entry)) a left most r ⌝ }
+{
+    let mut dark = [0u32; Bitmap::WORDS];
+    let live = mark_live(words, rows, counts, roots, &mut dark);
+    let mut seen = [0u32; Counter::ARROWS];
+    let mut above = [0u32; Counter::LEVELS];
+    let mut deep = [0u32; Counter::LEVELS];
+    if !survey(
+        words,
+        rows,
+        2 * bits,
+        &mut seen,
+        &mut above,
+        &mut dark,
+        &mut deep,
+        a,
+    ) {
+        return Looked::Unknown;
+    }
+    if within(&above, &deep, bits, left, live, most) {
+        return Looked::Fits;
+    }
+    Looked::Over
+}
+
+// Works out EXISTS at every odd level of each arrow that is followed from a, so that it is remembered.
+fn renew(words: &mut [u32], rows: u32, levels: u32, limit: u32, seen: &mut [u32], a: u32)
+    requires { ⌜ RenewPre levels rows limit (view rows (now words)) (now seen) a ⌝ }
+    ensures { λ _. ⌜ Grown levels (view rows (now (words .entry))) (view rows (now (words .exit))) ⌝ }
+{
+    if !is_row(a) {
+        return;
+    }
+    if marked(seen, a) {
+        return;
+    }
+    let n = node_at(words, rows, a, row_of(a));
+    renew(words, rows, levels, limit, seen, n.low);
+    renew(words, rows, levels, limit, seen, n.high);
+    set_mark(seen, a);
+    exists_odd(words, rows, levels, limit, a);
+}
+
+// The same, for a whole arrow.
+fn renew_all(words: &mut [u32], rows: u32, levels: u32, limit: u32, a: u32)
+    requires { ⌜ Ready levels rows limit (view rows (now words)) × Arrow (rowsOf (view rows (now words))) a ⌝ }
+    ensures { λ _. ⌜ Grown levels (view rows (now (words .entry))) (view rows (now (words .exit))) ⌝ }
+{
+    let mut seen = [0u32; Counter::ARROWS];
+    renew(words, rows, levels, limit, &mut seen, a);
+}
+
+// A look once more, with all results worked out anew.
+fn look_again(
+    words: &mut [u32],
+    counts: &[u32],
+    rows: u32,
+    bits: u32,
+    limit: u32,
+    roots: &[u32],
+    a: u32,
+    left: u32,
+    most: u32,
+) -> bool
+    requires { ⌜ RestPre bits rows limit (view rows (now words)) (now roots) a left × BaseOf (view rows (now words)) (now counts) ⌝ }
+    ensures { λ r. ⌜ SurePost bits (view rows (now (words .entry))) (view rows (now (words .exit))) (now (roots .entry)) a left most r ⌝ }
+{
+    renew_all(words, rows, 2 * bits, limit, a);
+    let looked = look(words, counts, rows, bits, roots, a, left, most);
+    match looked {
+        Looked::Fits => true,
+        Looked::Over => false,
+        Looked::Unknown => false,
+    }
+}
+
+// Whether the EXISTS left of arrow a, at levels below 2 · left, are sure to need at most `most` rows each.
+fn sure(
+    words: &mut [u32],
+    counts: &[u32],
+    rows: u32,
+    bits: u32,
+    limit: u32,
+    roots: &[u32],
+    a: u32,
+    left: u32,
+    most: u32,
+) -> bool
+    requires { ⌜ RestPre bits rows limit (view rows (now words)) (now roots) a left × BaseOf (view rows (now words)) (now counts) ⌝ }
+    ensures { λ r. ⌜ SurePost bits (view rows (now (words .entry))) (view rows (now (words .exit))) (now (roots .entry)) a left most r ⌝ }
+{
+    let looked = look(words, counts, rows, bits, roots, a, left, most);
+    match looked {
+        Looked::Fits => true,
+        Looked::Over => false,
+        Looked::Unknown => look_again(words, counts, rows, bits, limit, roots, a, left, most),
+    }
+}
+
+// The lesser of two numbers.
+fn lesser(a: u32, b: u32) -> u32
+    ensures { λ r. ⌜ r ≡ min a b ⌝ }
+{
+    if a < b {
+        return a;
+    }
+    b
+}
+
+// EXISTS at every odd level of arrow a, of which those below 2 · left are left, where each of them is sure to need at most `peak` and `limit` rows.
+pub fn rest(
+    words: &mut [u32],
+    counts: &mut [u32],
+    rows: u32,
+    bits: u32,
+    limit: u32,
+    roots: &[u32],
+    a: u32,
+    left: u32,
+    peak: u32,
+) -> Found
+    requires { ⌜ RestPre bits rows limit (view rows (now words)) (now roots) a left × CountsOf (view rows (now words)) (now counts) ⌝ }
+    ensures { λ r. ⌜ RestPost bits (view rows (now (words .entry))) (view rows (now (words .exit))) (now (roots .entry)) a left (min peak limit) r × CountsOf (view rows (now (words .exit))) (now (counts .exit)) ⌝ }
+{
+    let most = lesser(peak, limit);
+    // a guess, that spares the work where the answer is likely to be none
+    let twice = [a, a];
+    if !sizes_within(words, rows, counts, roots, &twice, most) {
+        return Found::Nothing;
+    }
+    let c = exists_odd(words, rows, 2 * bits, limit, a);
+    if c == Code::FULL {
+        return Found::Nothing;
+    }
+    if sure(words, counts, rows, bits, limit, roots, a, left, most) {
+        return Found::At(c);
+    }
+    Found::Nothing
+}
