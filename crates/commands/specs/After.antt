@@ -1,4 +1,5 @@
--- WHETHER THE WORDS ARE A SOUND TABLE AFTER A RECORD: they were one before it, or it was answered, which on other words fresh alone is. Assumes nothing.
+-- WHETHER THE WORDS ARE A SOUND TABLE AFTER A RECORD: they were one before it, or it was answered, which on other words fresh alone is.
+-- Assumes nothing.
 use mathlib.Core.Path.{_≡_, refl, sym, ap, _∙_, subst}
 use mathlib.Core.Bool.{Bool, true, false, _||_}
 use mathlib.Core.Logic.{_≢_}
@@ -64,7 +65,8 @@ number-of (clear r) x = refl
 number-of collect x = refl
 
 -- "An answered fresh .. leave a sound one"; "table unsound: 2, all words"
-from-unsound : (c : Command) (old new : List ℕ) (x : Outcome) → (SoundWords old → ⊥) → Posted c old new x → Says (SoundWords new) (eqb (x .number) 0)
+from-unsound : (c : Command) (old new : List ℕ) (x : Outcome) → (SoundWords old → ⊥) → Posted c old new x
+    → Says (SoundWords new) (eqb (x .number) 0)
 from-unsound (start n N) old new x u p = pick (freshNumber n N (length old) 1) refl
   where
     pick : (k : ℕ) → freshNumber n N (length old) 1 ≡ k → Says (SoundWords new) (eqb (x .number) 0)
@@ -81,14 +83,15 @@ from-unsound (states r) old new x u p =
     let i = p .1 .unsound u .0 in
     refused-says (x .number) (omega (arith, i)) (λ s. u (subst SoundWords (p .0) s))
 
-pub obeyed-says : (c : Command) (b : Bool) {old new : List ℕ} {x : Outcome} → Says (SoundWords old) b → Obeys c old new x → Says (SoundWords new) (soundAfter b (x .number))
+pub obeyed-says : (c : Command) (b : Bool) {old new : List ℕ} {x : Outcome} → Says (SoundWords old) b → Obeys c old new x
+    → Says (SoundWords new) (soundAfter b (x .number))
 obeyed-says c true (holds s) o = holds (stays-sound c _ _ _ s (o .posted))
 obeyed-says c false (fails u) o = from-unsound c _ _ _ u (o .posted)
 
 -- ---- the bytes at hand
 
-pub taken-says : (bs : List ℕ) (ended b : Bool) (old new : List ℕ) {r : Taken} (v : Taken) → TakePost bs ended old new r → r ≡ v → Says (SoundWords old) b
-    → Says (SoundWords new) (soundTaken b v)
+pub taken-says : (bs : List ℕ) (ended b : Bool) (old new : List ℕ) {r : Taken} (v : Taken) → TakePost bs ended old new r → r ≡ v
+    → Says (SoundWords old) b → Says (SoundWords new) (soundTaken b v)
 taken-says bs ended b old new {r} v p i s = subst (λ (t : Taken). Says (SoundWords new) (soundTaken b t)) i (go (readRecord bs ended) p)
   where
     -- no word changes
@@ -101,9 +104,11 @@ taken-says bs ended b old new {r} v p i s = subst (λ (t : Taken). Says (SoundWo
     go found.End (e, w) = same End refl e w
     go found.More (e, w) = same More refl e w
     go found.Bad (e, w) = same Bad refl e w
-    go (found.Record c size) (x, e, o) = subst (λ (t : Taken). Says (SoundWords new) (soundTaken b t)) (sym e) (obeyed-says (asked bs size c) b s o)
+    go (found.Record c size) (x, e, o) =
+        subst (λ (t : Taken). Says (SoundWords new) (soundTaken b t)) (sym e) (obeyed-says (asked bs size c) b s o)
 
 -- a record was obeyed, and what is so after it was computed
-pub obeyed-sound : (bs : List ℕ) (ended b : Bool) (old new : List ℕ) {r : Taken} {x : Outcome} {size : ℕ} {t : Bool} → TakePost bs ended old new r → r ≡ Done x size
-    → Says (SoundWords old) b → t ≡ soundAfter b (x .number) → Says (SoundWords new) t
-obeyed-sound bs ended b old new {x = x} {size = size} p i s e = subst (Says (SoundWords new)) (sym e) (taken-says bs ended b old new (Done x size) p i s)
+pub obeyed-sound : (bs : List ℕ) (ended b : Bool) (old new : List ℕ) {r : Taken} {x : Outcome} {size : ℕ} {t : Bool}
+    → TakePost bs ended old new r → r ≡ Done x size → Says (SoundWords old) b → t ≡ soundAfter b (x .number) → Says (SoundWords new) t
+obeyed-sound bs ended b old new {x = x} {size = size} p i s e =
+    subst (Says (SoundWords new)) (sym e) (taken-says bs ended b old new (Done x size) p i s)

@@ -220,7 +220,8 @@ fn obey(words: &mut [u32], sound: bool, bytes: &[u8], size: usize, command: Comm
     }
 }
 
-// Whether the words are a sound table after a record with that number: they were one before it, or it was answered, which on other words fresh alone is.
+// Whether the words are a sound table after a record with that number: they were one before it, or it was answered, which on other words fresh
+// alone is.
 pub fn sound_after(sound: bool, number: u32) -> bool
     ensures { λ r. ⌜ r ≡ soundAfter sound number ⌝ }
 {
@@ -233,7 +234,7 @@ pub fn sound_after(sound: bool, number: u32) -> bool
     false
 }
 
-// Obeys the record at the front of the bytes at hand; `sound` says whether the words are a sound table, `ended` that no more bytes will come.
+// Obeys the record at the front of the bytes at hand; `sound` says whether the words are a sound table, `ended` that no more will come.
 pub fn take_record(words: &mut [u32], sound: bool, bytes: &[u8], ended: bool) -> Taken
     requires { ⌜ Says (SoundWords (now words)) sound ⌝ }
     ensures { λ r. ⌜ TakePost (now (bytes .entry)) ended (now (words .entry)) (now (words .exit)) r ⌝ }

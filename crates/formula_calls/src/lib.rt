@@ -1,5 +1,5 @@
-// The entry points that take a formula. Each makes its checks in document 01's order, and then leaves the work to one lower function. A function
-// `.._unchecked` is its entry point after check 2, on words that are known to be a sound table.
+// The entry points that take a formula. Each makes its checks in document 01's order, and then leaves the work to one lower function.
+// A function `.._unchecked` is its entry point after check 2, on words that are known to be a sound table.
 use accounts::Terms;
 use accounts::is_named;
 use formula::Checked;
@@ -18,7 +18,8 @@ ghost use Rattle.contract.specs.Seen.{SoundWords};
 ghost use Rattle.contract.specs.Posts.{CallPost};
 ghost use Rattle.formula_steps.specs.Replies.{storedReply, loadedReply};
 
-// Relation t of a sound table holds the pairs of a formula; 3 where there is no such relation, 4 to 7 and 12 by the formula, 8 where a step needs more rows than there are.
+// Relation t of a sound table holds the pairs of a formula; 3 where there is no such relation, 4 to 7 and 12 by the formula, 8 where a step needs
+// more rows than there are.
 pub fn relation_unchecked(words: &mut [u32], t: u32, bytes: &[u8]) -> Loaded
     requires { ⌜ SoundWords (now words) ⌝ }
     ensures { λ x. ⌜ CallPost (book.relation t (now (bytes .entry))) (now (words .entry)) (now (words .exit)) (loadedReply x) ⌝ }
@@ -43,8 +44,9 @@ pub fn relation(words: &mut [u32], t: u32, bytes: &[u8]) -> Loaded
     relation_unchecked(words, t, bytes)
 }
 
-// Register r of a sound table holds the states of a formula, found in at most so many rounds under the limits of an account; 3 where there is no
-// such register, 14 where the list has not the account named, 4 to 7 and 12 by the formula, 8 where a step needs more rows than there are, 9 where the rounds are used up.
+// Register r of a sound table holds the states of a formula, found in at most so many rounds under the limits of an account; 3 where there is
+// no such register, 14 where the list has not the account named, 4 to 7 and 12 by the formula, 8 where a step needs more rows than there are,
+// 9 where the rounds are used up.
 pub fn set_unchecked(words: &mut [u32], terms: Terms, r: u32, most: u32, bytes: &[u8]) -> Stored
     requires { ⌜ SoundWords (now words) ⌝ }
     ensures { λ x. ⌜ CallPost (book.set terms r most (now (bytes .entry))) (now (words .entry)) (now (words .exit)) (storedReply x) ⌝ }

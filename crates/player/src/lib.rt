@@ -104,7 +104,7 @@ fn obey_next(words: &mut [u32], sound: bool, bytes: &[u8], list: &mut [u32], at:
     }
 }
 
-// Obeys all records and writes their outcomes to the list. Whether the words are a sound table is decided once: what a record leaves is known.
+// Obeys all records and writes their outcomes to the list. Whether the words are a sound table is decided once; after a record it is known.
 fn obey_all(words: &mut [u32], bytes: &[u8], list: &mut [u32])
     requires { ⌜ AllPre (now bytes) (now list) ⌝ }
     ensures { λ _. ⌜ AllPost (now (bytes .entry)) (now (words .entry)) (now (words .exit)) (now (list .entry)) (now (list .exit)) ⌝ }

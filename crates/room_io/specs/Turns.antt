@@ -77,7 +77,8 @@ module _ (p : Progress) (input moved part : List ℕ) {held : ℕ} (within : hel
   kept-front = front ∙ ap (λ (k : ℕ). take k (drop (p .start) input)) is
 
   pub refilled-bytes : {n : ℕ} {b : Brought} → ReadWithin (length part) b → b ≡ brought.Bytes n
-      → Refilled p (record { start = 0; end = held + n; pending = p .pending; ended = false; done = false; sound = p .sound }) input (putMid held (length moved - held) moved part)
+      → Refilled p (record { start = 0; end = held + n; pending = p .pending; ended = false; done = false; sound = p .sound }) input
+      (putMid held (length moved - held) moved part)
   refilled-bytes {n} read e =
       let (f, i) = bytes-fit read e in
       let z : held + n - 0 ≡ held + n = omega arith in
@@ -94,7 +95,9 @@ module _ (p : Progress) (input moved part : List ℕ) {held : ℕ} (within : hel
       }
 
   -- the end of the input, or a read that failed
-  pub refilled-none : (failed : Bool) → Refilled p (record { start = 0; end = held; pending = p .pending; ended = true; done = failed; sound = p .sound }) input (putMid held (length moved - held) moved part)
+  pub refilled-none : (failed : Bool)
+      → Refilled p (record { start = 0; end = held; pending = p .pending; ended = true; done = failed; sound = p .sound }) input
+      (putMid held (length moved - held) moved part)
   refilled-none failed =
       let z : held - 0 ≡ held = omega arith in
       record {
@@ -132,7 +135,8 @@ module _ {p : Progress} (old new input output room : List ℕ) {r : Said} (place
   unwritten-then k i = put-front (p .pending) output room (placed .waiting) size k i
 
   pub turned-line : {used k : ℕ} {b : Bool} → r ≡ Line used k
-      → Turned p (record { start = p .start + used; end = p .end; pending = p .pending + k; ended = p .ended; done = false; sound = b }) old new input input output written
+      → Turned p (record { start = p .start + used; end = p .end; pending = p .pending + k; ended = p .ended; done = false; sound = b })
+      old new input input output written
   turned-line {used} {k} e =
       let f = line-said answered e in
       let n = length-take-le (p .end - p .start) (drop (p .start) input) (omega (arith, placed .order, placed .within, length-drop (p .start) input)) in
@@ -157,7 +161,8 @@ module _ {p : Progress} (old new input output room : List ℕ) {r : Said} (place
       }
 
   pub turned-end : {k : ℕ} {b : Bool} → r ≡ End k
-      → Turned p (record { start = p .start; end = p .end; pending = p .pending + k; ended = p .ended; done = true; sound = b }) old new input input output written
+      → Turned p (record { start = p .start; end = p .end; pending = p .pending + k; ended = p .ended; done = true; sound = b })
+      old new input input output written
   turned-end {k} e =
       let f = end-said answered e in
       record {

@@ -14,8 +14,8 @@ ghost use Rattle.room_io.specs.Places.{Placed, ReadWithin, Refilled, Tur
 ghost use Rattle.room_io.specs.Served.{Served};
 
 // How far the program is: the bytes at hand stand in the input buffer from `start` to `end`, and `pending` bytes at the front of the output
-// buffer are still to be written. `ended`: no more bytes will come. `done`: the last line is written, or a read or a write failed. `sound`: the
-// words are a sound table.
+// buffer are still to be written. `ended`: no more bytes will come. `done`: the last line is written, or a read or a write failed.
+// `sound`: the words are a sound table.
 pub struct Progress {
     pub start: usize,
     pub end: usize,
@@ -152,7 +152,7 @@ fn turn(words: &mut [u32], input: &mut [u8], output: &mut [u8], p: Progress) -> 
     }
 }
 
-// Answers records until the last line is written, on the program's words, which are no sound table at first, and through buffers that are lent.
+// Answers records until the last line is written, on the program's words, which are no sound table yet, and through buffers that are lent.
 fn serve(words: &mut [u32], input: &mut [u8], output: &mut [u8])
     requires { ⌜ (now words ≡ zeros) × (longest ≤ length (now input)) × (lineRoom ≤ length (now output)) ⌝ }
     ensures { λ _. ⌜ Served (now (words .entry)) (now (words .exit)) (now (input .entry)) (now (input .exit)) (now (output .entry)) (now (output .exit)) ⌝ }

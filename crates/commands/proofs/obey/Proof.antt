@@ -1,4 +1,5 @@
--- `obey` takes the command apart: each has its function, and a formula is the part from its start to the record's end; without a sound table it is `obey_unsound`. Assumes nothing.
+-- `obey` takes the command apart: each has its function, and a formula is the part from its start to the record's end.
+-- Without a sound table it is `obey_unsound`. Assumes nothing.
 use Rattle.soundness.specs.Says.{says-pass, says-fail}
 use Rattle.commands.specs.Obeyed.{obeys-as, starts-as}
 use borrow.Author.Needs.{needs}

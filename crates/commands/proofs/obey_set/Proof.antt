@@ -1,4 +1,5 @@
--- `obey_set` is the reply of `set_unchecked` as an outcome, with the count of what it stored: an answered set leaves a sound table. Assumes nothing.
+-- `obey_set` is the reply of `set_unchecked` as an outcome, with the count of what it stored: an answered set leaves a sound table.
+-- Assumes nothing.
 use mathlib.Core.Path.{refl, ap, sym, _∙_, subst}
 use Prim.Native.Nat.{ℕ, _≤_}
 use Rattle.book.specs.Leaves.{plain}

@@ -1,5 +1,5 @@
--- `room_io::serve` meets its contract: the turns made so far are a chain, they are counted down, and it is known whether the words are a sound table.
--- Assumes nothing.
+-- `room_io::serve` meets its contract: the turns made so far are a chain, they are counted down, and it is known whether the words
+-- are a sound table. Assumes nothing.
 use mathlib.Core.Path.{_≡_, refl, _∙_}
 use native.Mathlib.Omega.{arith}
 use lib.ListN.{length}
