@@ -63,29 +63,34 @@ impl Mistake {
     }
 }
 
-/// The names among those given that are most like the word, and so may be meant: at most one
-/// character in three is another one.
+/// The name among those given that is most like the word, and so may be meant: up to half of the characters are others, and
+/// three at most.
 pub fn similar<'a>(word: &str, names: impl Iterator<Item = &'a str>) -> Option<&'a str> {
-    let most = word.chars().count().max(3) / 3;
+    let most = (word.chars().count().max(4) / 2).min(3);
     let near = names.map(|name| (distance(word, name), name));
     let (apart, name) = near.min_by_key(|&(apart, _)| apart)?;
     (apart <= most).then_some(name)
 }
 
-/// How many characters must be put in, taken out or exchanged; capitals count as small letters.
+/// How many characters must be put in, taken out, exchanged, or swapped with their neighbour; capitals count as small letters.
 fn distance(a: &str, b: &str) -> usize {
-    let b: Vec<char> = b.to_lowercase().chars().collect();
-    let mut row: Vec<usize> = (0..=b.len()).collect();
-    for (i, c) in a.to_lowercase().chars().enumerate() {
-        let mut corner = row[0];
-        row[0] = i + 1;
-        for (j, d) in b.iter().enumerate() {
-            let exchanged = corner + usize::from(c != *d);
-            corner = row[j + 1];
-            row[j + 1] = exchanged.min(row[j] + 1).min(corner + 1);
+    let small = |text: &str| -> Vec<char> { text.to_lowercase().chars().collect() };
+    let (a, b) = (small(a), small(b));
+    // The distances of the first characters of both.
+    let mut of: Vec<Vec<usize>> = vec![(0..=b.len()).collect()];
+    for i in 1..=a.len() {
+        let mut row = vec![i];
+        for j in 1..=b.len() {
+            let exchanged = of[i - 1][j - 1] + usize::from(a[i - 1] != b[j - 1]);
+            let mut least = exchanged.min(of[i - 1][j] + 1).min(row[j - 1] + 1);
+            if i > 1 && j > 1 && a[i - 1] == b[j - 2] && a[i - 2] == b[j - 1] {
+                least = least.min(of[i - 2][j - 2] + 1);
+            }
+            row.push(least);
         }
+        of.push(row);
     }
-    row[b.len()]
+    of[a.len()][b.len()]
 }
 
 #[cfg(test)]
@@ -106,13 +111,14 @@ mod tests {
         }
         assert_eq!(distance("MIC-a", "mic-A"), 0);
         assert_eq!(distance("kitten", "sitting"), 3);
+        assert_eq!(distance("maens", "means"), 1);
     }
 
     #[test]
     fn names_that_may_be_meant() {
         let names = || ["mic-A", "mic-B", "echo"].into_iter();
         assert_eq!(similar("ecko", names()), Some("echo"));
-        assert_eq!(similar("song", names()), None);
+        assert_eq!(similar("trumpet", names()), None);
         assert_eq!(similar("mic_B", names()), Some("mic-B"));
     }
 

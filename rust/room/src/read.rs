@@ -1,7 +1,7 @@
 //! What the words of a room file say.
 use crate::mistake::{similar, Mistake};
 use crate::room::{
-    width_of, Asked, Change, Cond, Effect, Named, Part, Question, Room, Rule, State, MAX_BITS,
+    width_of, Asked, Change, Cond, Effect, Named, Part, Question, Room, Rule, MAX_BITS,
 };
 use crate::words::{self, Word, RESERVED};
 use std::collections::HashMap;
@@ -355,42 +355,43 @@ impl<'a> Reader<'a> {
         }
         self.started = true;
         self.room.start_line = keyword.line;
-        if line.is("all") {
-            return self.all_off(line);
-        }
         if line.peek().is_none() {
             return self.wrong(
                 &keyword,
                 "say what is on at the start, or \"all off\"".to_string(),
             );
         }
+        if line.is("all") && self.all_off(line)? {
+            return Ok(());
+        }
         let effects = self.effects(line)?;
         self.end(line)?;
-        let mut state: State = 0;
         for effect in effects {
+            let part = &self.room.parts[effect.part];
             match effect.change {
-                Change::Becomes(value) => state = self.room.parts[effect.part].with(state, value),
+                Change::Becomes(value) => self.room.start = part.with(self.room.start, value),
                 Change::TurnsOver => {
-                    let name = self.room.parts[effect.part].name.clone();
-                    return self.wrong(&keyword, format!("at the start \"{name}\" is on or off"));
+                    let says = format!("at the start \"{}\" is on or off", part.name);
+                    return self.wrong(&keyword, says);
                 }
             }
         }
-        self.room.start = state;
         Ok(())
     }
 
-    fn all_off(&mut self, line: &mut Line<'a, '_>) -> Read<()> {
+    /// Reads `all off`, and the comma after it; whether that is all.
+    fn all_off(&mut self, line: &mut Line<'a, '_>) -> Read<bool> {
         let all = line.words[line.at];
         line.next();
         if !line.take("off") {
             return self.wrong(&all, "write \"all off\", or name what is on".to_string());
         }
         match line.peek() {
-            None => Ok(()),
+            None => Ok(true),
+            Some(_) if line.take(",") => Ok(false),
             Some(word) => self.wrong(
                 &word,
-                "after \"all off\" nothing else comes: or name only what is on".to_string(),
+                format!("a comma is missing before \"{}\"", word.text),
             ),
         }
     }
@@ -495,7 +496,7 @@ impl<'a> Reader<'a> {
                 format!("the name comes first: write \"{thing} {verb}\""),
             );
         }
-        let part = self.place_of(&name, line.is("="))?;
+        let part = self.place_of(&name)?;
         let change = match line.peek().map(|word| word.text) {
             Some("=") => {
                 line.next();
@@ -550,7 +551,7 @@ impl<'a> Reader<'a> {
     }
 
     /// The place of a part that an effect names; none where the name is unknown.
-    fn place_of(&mut self, name: &Word, _selector: bool) -> Read<Option<usize>> {
+    fn place_of(&mut self, name: &Word) -> Read<Option<usize>> {
         if let Some(place) = self
             .room
             .parts
@@ -789,7 +790,10 @@ impl<'a> Reader<'a> {
     /// The bytes of a condition as a formula.
     fn size(&self, cond: &Cond) -> usize {
         match cond {
-            Cond::Is(part, _) => 3 * self.room.parts[*part].width as usize - 1,
+            Cond::Is(part, value) => {
+                let width = self.room.parts[*part].width;
+                (3 * width - 1 - value.count_ones()) as usize
+            }
             Cond::Named(place) => self.sizes[*place],
             Cond::Not(cond) => 1 + self.size(cond),
             Cond::All(conds) | Cond::Any(conds) => {

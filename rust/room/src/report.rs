@@ -1,9 +1,9 @@
 //! Verdicts in words.
 use crate::ask::{press, Difference, Limits, Verdict};
 use crate::echo::{self, grouped};
-use crate::room::{Question, Room};
+use crate::room::{Asked, Question, Room, Rule};
 use crate::sense;
-use crate::walk::{End, Run, Walk};
+use crate::walk::{members, End, Run, Walk};
 use kudzuclamp::Refusal;
 
 /// The steps of a long run that are shown from its start and from its end.
@@ -49,7 +49,10 @@ pub fn verdict(
     let asked = echo::asked(room, &question.asked);
     match verdict {
         Verdict::Safe => format!("SAFE        {asked}\n"),
-        Verdict::Broken(run) => format!("BROKEN      {asked}\n{}", shown(room, run, whole)),
+        Verdict::Broken(run) => format!(
+            "BROKEN      {asked}\n{}",
+            shown(room, &question.asked, run, whole)
+        ),
         Verdict::None(refusal) => format!(
             "NO VERDICT  {asked}\n            {}\n",
             cause(*refusal, limits)
@@ -72,7 +75,7 @@ fn cause(refusal: Refusal, limits: Limits) -> String {
 }
 
 /// A run, a line for each press.
-fn shown(room: &Room, run: &Run, whole: bool) -> String {
+fn shown(room: &Room, asked: &Asked, run: &Run, whole: bool) -> String {
     let presses = run.states.len() - 1;
     let steps: Vec<(String, String)> = (run.states.windows(2))
         .map(|pair| {
@@ -107,7 +110,7 @@ fn shown(room: &Room, run: &Run, whole: bool) -> String {
             text += &line(&(at + 1).to_string(), name, state);
         }
     }
-    text + &closing(run)
+    text + &closing(room, asked, run.end)
 }
 
 fn introduction(run: &Run, presses: usize) -> String {
@@ -126,16 +129,25 @@ fn introduction(run: &Run, presses: usize) -> String {
 }
 
 /// What is wrong at the end of a run, where the question does not say it by itself.
-fn closing(run: &Run) -> String {
-    match run.end {
+fn closing(room: &Room, asked: &Asked, end: End) -> String {
+    let (first, second) = match asked {
+        Asked::Never(x) | Asked::AlwaysPossible(x) => (echo::cond(room, x), String::new()),
+        Asked::Until(x, y) => (echo::cond(room, x), echo::cond(room, y)),
+    };
+    let again = |state: String| {
+        format!(
+            "  That is {state} again: so it can go on for ever, and \"{second}\" need not come.\n"
+        )
+    };
+    match end {
         End::Reached => String::new(),
-        End::NoWay => "  From there no presses lead to it.\n".to_string(),
-        End::Lost => "  There what comes before \"until\" no longer holds, and what comes after it has not come.\n".to_string(),
-        End::Stuck => "  There no press works, and what comes after \"until\" has not come.\n".to_string(),
-        End::Circle(0) => "  That is the start again: so it can go on for ever, and what comes after \"until\" need not come.\n".to_string(),
-        End::Circle(place) => format!(
-            "  That is the state after press {place} again: so it can go on for ever, and what comes after \"until\" need not come.\n"
-        ),
+        End::NoWay => format!("  From there no presses lead to \"{first}\".\n"),
+        End::Lost => {
+            format!("  There \"{first}\" no longer holds, and \"{second}\" has not come.\n")
+        }
+        End::Stuck => format!("  There no press works, and \"{second}\" has not come.\n"),
+        End::Circle(0) => again("the start".to_string()),
+        End::Circle(place) => again(format!("the state after press {place}")),
     }
 }
 
@@ -188,8 +200,7 @@ pub fn notes(room: &Room, walk: &Walk) -> Vec<String> {
     let mut notes = Vec::new();
     for part in &room.parts {
         let place = room.parts.iter().position(|other| other.name == part.name);
-        let changes =
-            |rule: &crate::room::Rule| rule.effects.iter().any(|effect| Some(effect.part) == place);
+        let changes = |rule: &Rule| rule.effects.iter().any(|effect| Some(effect.part) == place);
         if !room.rules.iter().any(changes) {
             notes.push(format!(
                 "no press changes {}: it stays as it is at the start.",
@@ -206,7 +217,7 @@ pub fn notes(room: &Room, walk: &Walk) -> Vec<String> {
         }
     }
     let reached = walk.reached(room.start);
-    let states: Vec<u32> = crate::walk::members(&reached);
+    let states = members(&reached);
     for rule in &room.rules {
         if !states.iter().any(|&state| room.works(rule, state)) {
             notes.push(format!(

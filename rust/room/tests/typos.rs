@@ -1,0 +1,99 @@
+//! Every single-character change of a room of 40 lines: it is refused, or it changes nothing, or the reading back by
+//! `--echo` changes. What is not seen in the reading back must mean exactly the same.
+use room::echo::echo;
+use room::read::read;
+use room::room::{Asked, Room};
+use room::sense;
+use room::walk::members;
+use room::walk::Walk;
+
+const TEXT: &str = include_str!("../../../examples/booth.room");
+
+/// What may be typed: all of ASCII that has a key, and some more.
+fn typed() -> impl Iterator<Item = char> {
+    (' '..='~').chain(['\t', '\n', 'é', '\u{a0}', '\u{200b}'])
+}
+
+/// What a room says, without a word of its file but the names: the states, each press in each state, the start and the sets
+/// that are asked about.
+fn meaning(room: &Room) -> String {
+    let parts: Vec<(&str, &[String])> = room
+        .parts
+        .iter()
+        .map(|part| (part.name.as_str(), part.positions.as_slice()))
+        .collect();
+    let mut said = format!("{parts:?} {}\n", room.start);
+    let walk = Walk::new(room);
+    for rule in &room.rules {
+        let steps: Vec<(u32, u32)> = (members(&walk.exists).into_iter())
+            .filter_map(|state| Some((state, room.pressed(rule, state)?)))
+            .collect();
+        said += &format!("{} {steps:?}\n", rule.press);
+    }
+    for question in &room.questions {
+        let set = |cond| members(&walk.set(room, cond));
+        said += &match &question.asked {
+            Asked::Never(x) => format!("never {:?}\n", set(x)),
+            Asked::AlwaysPossible(x) => format!("always possible {:?}\n", set(x)),
+            Asked::Until(x, y) => format!("{:?} until {:?}\n", set(x), set(y)),
+        };
+    }
+    said
+}
+
+#[derive(Default, Debug)]
+struct Counts {
+    refused: usize,
+    nothing: usize,
+    seen: usize,
+}
+
+#[test]
+fn single_characters() {
+    assert_eq!(TEXT.lines().count(), 40);
+    let original = read(TEXT).expect("the room is a good one");
+    let (reading, meant) = (echo(&original), meaning(&original));
+    let mut counts = Counts::default();
+    let mut look = |changed: &str| {
+        let room = match read(changed) {
+            Ok(room) if sense::mistakes(&room).is_empty() => room,
+            _ => return counts.refused += 1,
+        };
+        if echo(&room) != reading {
+            return counts.seen += 1;
+        }
+        counts.nothing += 1;
+        assert_eq!(meaning(&room), meant, "{changed}");
+    };
+    for (at, c) in TEXT.char_indices() {
+        let (before, after) = (&TEXT[..at], &TEXT[at + c.len_utf8()..]);
+        look(&format!("{before}{after}"));
+        for new in typed() {
+            look(&format!("{before}{new}{c}{after}"));
+            if new != c {
+                look(&format!("{before}{new}{after}"));
+            }
+        }
+    }
+    println!("{counts:?}");
+    // Most of what is not refused stands in comments.
+    assert!(
+        counts.refused > counts.seen && counts.seen > 1_000,
+        "{counts:?}"
+    );
+}
+
+/// The reading back is a room file itself, and says the same.
+#[test]
+fn read_back() {
+    for text in [
+        TEXT,
+        include_str!("../../../examples/hall.room"),
+        include_str!("../../../examples/mended.room"),
+    ] {
+        let room = read(text).expect("the room is a good one");
+        let again = read(&echo(&room)).expect("what is read back can be read");
+        assert_eq!(echo(&again), echo(&room));
+        assert_eq!(meaning(&again), meaning(&room));
+    }
+}
