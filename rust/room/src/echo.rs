@@ -4,6 +4,7 @@ use crate::sense;
 
 /// The text of a room, with what each press keeps and how many states each condition has.
 pub fn echo(room: &Room) -> String {
+    let states = room.all_states();
     let mut text = format!("# as understood: {} states\n", grouped(room.states()));
     for part in grouped_things(&room.parts) {
         text += &(part + "\n");
@@ -11,11 +12,11 @@ pub fn echo(room: &Room) -> String {
     text += &format!("start: {}\n", start(room));
     for named in &room.named {
         let line = format!("{} means {}", named.name, cond(room, &named.means));
-        text += &(line + &counted(room, &named.means) + "\n");
+        text += &(line + &counted(room, &states, &named.means) + "\n");
     }
     text.push('\n');
     for rule in &room.rules {
-        text += &rule_lines(room, rule);
+        text += &rule_lines(room, &states, rule);
     }
     text.push('\n');
     for question in &room.questions {
@@ -53,11 +54,11 @@ fn start(room: &Room) -> String {
     values.collect::<Vec<_>>().join(", ")
 }
 
-fn rule_lines(room: &Room, rule: &Rule) -> String {
+fn rule_lines(room: &Room, states: &[State], rule: &Rule) -> String {
     let effects: Vec<String> = rule.effects.iter().map(|e| effect(room, e)).collect();
     let mut text = format!("press {}: {}", rule.press, effects.join(", "));
     if let Some(when) = &rule.when {
-        text += &format!(" when {}{}", cond(room, when), counted(room, when));
+        text += &format!(" when {}{}", cond(room, when), counted(room, states, when));
     }
     let named = |at: usize| rule.effects.iter().any(|effect| effect.part == at);
     let kept = (room.parts.iter().enumerate()).filter(|(at, _)| !named(*at));
@@ -120,8 +121,8 @@ fn inner(room: &Room, c: &Cond) -> String {
 }
 
 /// How many states meet a condition, as a comment.
-fn counted(room: &Room, c: &Cond) -> String {
-    let count = sense::count(room, c);
+fn counted(room: &Room, states: &[State], c: &Cond) -> String {
+    let count = sense::count(room, states, c);
     format!(
         "   # {} of {} states",
         grouped(count),

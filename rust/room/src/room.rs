@@ -139,6 +139,13 @@ impl Room {
         self.parts.iter().map(Part::values).product()
     }
 
+    /// All states that exist.
+    pub fn all_states(&self) -> Vec<State> {
+        (0..self.patterns())
+            .filter(|&state| self.exists(state))
+            .collect()
+    }
+
     pub fn holds(&self, cond: &Cond, state: State) -> bool {
         match cond {
             Cond::Is(part, value) => self.parts[*part].value(state) == *value,

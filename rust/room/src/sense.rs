@@ -1,25 +1,25 @@
 //! Conditions that were read, but make no sense: no state meets them, or every state does.
 use crate::mistake::Mistake;
-use crate::room::{Asked, Cond, Room};
+use crate::room::{Asked, Cond, Room, State};
 
-/// How many of the room's states meet a condition.
-pub fn count(room: &Room, cond: &Cond) -> u32 {
-    let states = (0..room.patterns()).filter(|&state| room.exists(state));
-    states.filter(|&state| room.holds(cond, state)).count() as u32
+/// How many of some states meet a condition.
+pub fn count(room: &Room, states: &[State], cond: &Cond) -> u32 {
+    let met = states.iter().filter(|&&state| room.holds(cond, state));
+    met.count() as u32
 }
 
 /// A verdict on such a condition would tell nothing, so they are mistakes.
 pub fn mistakes(room: &Room) -> Vec<Mistake> {
-    let states = room.states();
+    let states = room.all_states();
     let mut found = Vec::new();
     let mut look = |line: usize, cond: &Cond, what: &str, all_too: bool| {
-        let met = count(room, cond);
+        let met = count(room, &states, cond);
         if met == 0 {
             found.push(Mistake::line(
                 line,
                 format!("no state of the room is like this, so {what}"),
             ));
-        } else if met == states && all_too {
+        } else if met == room.states() && all_too {
             found.push(Mistake::line(
                 line,
                 format!("every state of the room is like this, so {what}"),
