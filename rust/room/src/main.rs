@@ -10,14 +10,15 @@ use std::io::{self, IsTerminal, Read, Write};
 use std::process::ExitCode;
 
 const HELP: &str = "\
-room FILE          reads a room's switching rules in words and answers its questions
-room --echo FILE   prints the rules as understood, and asks nothing
+room FILE             reads a room's switching rules in words and answers its questions
+room --echo FILE      prints the rules as understood, and asks nothing
 room --records FILE   prints the questions as records for roomrules
 room --explain FILE   FILE has records: plays them, and says why one is refused
 
-  --rows N         a table of N rows, 1 to 60000 (60000)
-  --rounds R       at most R rounds for each answer (4294967295)
-  --whole-run      shows every press of a long run
+  --rows N            a table of N rows, 1 to 60000 (60000)
+  --rounds R          at most R rounds for each answer (4294967295)
+  --peak              says how many rows the table needs
+  --whole-run         shows every press of a long run
   --help, --version
 
 FILE is - for standard input. A room file:
@@ -56,6 +57,7 @@ struct Options {
     file: String,
     limits: Limits,
     whole_run: bool,
+    peak: bool,
 }
 
 enum Command {
@@ -76,7 +78,8 @@ fn main() -> ExitCode {
 }
 
 fn command(words: impl Iterator<Item = String>) -> Result<Command, String> {
-    let (mut mode, mut file, mut limits, mut whole_run) = (Mode::Ask, None, Limits::LARGEST, false);
+    let (mut mode, mut file, mut limits) = (Mode::Ask, None, Limits::LARGEST);
+    let (mut whole_run, mut peak) = (false, false);
     let mut words = words;
     while let Some(word) = words.next() {
         let mut number = |least: u32, most: u32| {
@@ -97,6 +100,10 @@ fn command(words: impl Iterator<Item = String>) -> Result<Command, String> {
             }
             "--whole-run" => {
                 whole_run = true;
+                continue;
+            }
+            "--peak" => {
+                peak = true;
                 continue;
             }
             "--echo" => Mode::Echo,
@@ -122,6 +129,7 @@ fn command(words: impl Iterator<Item = String>) -> Result<Command, String> {
         file,
         limits,
         whole_run,
+        peak,
     }))
 }
 
@@ -141,8 +149,11 @@ fn print(text: &str, outcome: Outcome) -> Outcome {
 }
 
 fn run(options: &Options) -> Outcome {
-    let name = options.file.as_str();
-    let bytes = match contents(name) {
+    let name = match options.file.as_str() {
+        "-" => "standard input",
+        name => name,
+    };
+    let bytes = match contents(&options.file) {
         Ok(bytes) => bytes,
         Err(error) => {
             eprintln!("room: {name} cannot be read: {error}");
@@ -229,12 +240,12 @@ fn ask(room: &Room, plan: &plan::Plan, options: &Options) -> Outcome {
     ));
     let walk = Walk::new(room);
     progress.says("loading the presses");
-    let differs = |difference| print(&report::difference(&difference), Outcome::Differs);
     let mut asker = match Asker::new(room, &walk, plan, options.limits) {
         Ok(asker) => asker,
         Err(difference) => {
             progress.done();
-            return differs(difference);
+            let text = report::difference(&difference, "all questions");
+            return print(&text, Outcome::Differs);
         }
     };
     progress.done();
@@ -256,7 +267,10 @@ fn ask(room: &Room, plan: &plan::Plan, options: &Options) -> Outcome {
                 print(&text, Outcome::Safe);
                 verdicts.push(verdict);
             }
-            Err(difference) => return differs(difference),
+            Err(difference) => {
+                let text = report::difference(&difference, &asked);
+                return print(&text, Outcome::Differs);
+            }
         }
     }
     let mut text = String::new();
@@ -264,6 +278,12 @@ fn ask(room: &Room, plan: &plan::Plan, options: &Options) -> Outcome {
         text += &format!("Note: {note}\n");
     }
     text += &report::summary(&verdicts);
+    if options.peak && report::outcome(&verdicts) != Outcome::NoVerdict {
+        text += &format!(
+            "A table of {} rows is enough for these questions, and no smaller one.\n",
+            echo::grouped(asker.peak.max(1))
+        );
+    }
     if !kudzuclamp::PROVED {
         text += "(A quick build: the library in this room command is not proved. README tells how to build the proved one.)\n";
     }
@@ -275,9 +295,13 @@ struct Progress {
     on: bool,
 }
 
+/// The most characters of that line, so that it stays one.
+const PROGRESS: usize = 70;
+
 impl Progress {
     fn says(&self, text: &str) {
         if self.on {
+            let text: String = text.chars().take(PROGRESS).collect();
             eprint!("\r\x1b[K{text} ...");
         }
     }

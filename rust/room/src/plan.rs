@@ -59,7 +59,10 @@ pub fn plan(room: &Room) -> Result<Plan, Vec<Mistake>> {
         .parts
         .iter()
         .map(|part| rules::value_is(part, part.value(room.start), Formula::current));
-    let presses = |k: usize| format!("relation {k}: presses, part {} of {count}", k + 1);
+    let presses = |k: usize| match count {
+        1 => "relation 0: the presses".to_string(),
+        _ => format!("relation {k}: the presses, part {} of {count}", k + 1),
+    };
     let relations = formulas.into_iter().enumerate();
     Ok(Plan {
         relations: relations

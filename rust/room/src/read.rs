@@ -622,8 +622,9 @@ impl<'a> Reader<'a> {
     fn until(&mut self, line: &mut Line<'a, '_>) -> Read<()> {
         let (before, _) = self.condition(line)?;
         if !line.take("until") {
-            let word = line.words[line.at];
-            return self.unexpected(&word);
+            self.end(line)?;
+            let last = line.last();
+            return self.wrong(&last, "\"until\" is missing after this".to_string());
         }
         let (comes, _) = self.condition(line)?;
         self.question(line, Asked::Until(before, comes))

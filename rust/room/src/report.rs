@@ -116,7 +116,7 @@ fn shown(room: &Room, asked: &Asked, run: &Run, whole: bool) -> String {
 fn introduction(run: &Run, presses: usize) -> String {
     let number = match presses {
         0 => return "At the start already:".to_string(),
-        1 => "One press does it".to_string(),
+        1 => return "One press does it:".to_string(),
         _ => format!("{} presses do it", grouped(presses as u32)),
     };
     match run.end {
@@ -143,7 +143,7 @@ fn closing(room: &Room, asked: &Asked, end: End) -> String {
         End::Reached => String::new(),
         End::NoWay => format!("  From there no presses lead to \"{first}\".\n"),
         End::Lost => {
-            format!("  There \"{first}\" no longer holds, and \"{second}\" has not come.\n")
+            format!("  There \"{first}\" does not hold, and \"{second}\" has not come.\n")
         }
         End::Stuck => format!("  There no press works, and \"{second}\" has not come.\n"),
         End::Circle(0) => again("the start".to_string()),
@@ -151,11 +151,12 @@ fn closing(room: &Room, asked: &Asked, end: End) -> String {
     }
 }
 
-/// What the two do not agree on.
-pub fn difference(difference: &Difference) -> String {
+/// What the two do not agree on, and for which question.
+pub fn difference(difference: &Difference, asked: &str) -> String {
     format!(
-        "NO VERDICT  The table and a plain walk over all states do not agree: {}.\n            \
-         This is a mistake of the command room, not of the file. Do not hand over by it; please report the file.\n",
+        "NO VERDICT  {asked}\n            \
+         The table and a plain walk over all states do not agree: {}.\n            \
+         This is a fault of the command room, not of the file. Do not hand over by it, and please report the file.\n",
         difference.says
     )
 }
@@ -187,11 +188,13 @@ pub fn summary(verdicts: &[Verdict]) -> String {
     match outcome(verdicts) {
         Outcome::Safe if of == 1 => "SAFE.\n".to_string(),
         Outcome::Safe => format!("SAFE: all {of} questions.\n"),
-        Outcome::Broken if none == 0 => format!("BROKEN: {broken} of {of}. Do not hand over.\n"),
-        Outcome::Broken => {
-            format!("BROKEN: {broken} of {of}, and {none} without a verdict. Do not hand over.\n")
+        Outcome::Broken if none == 0 => {
+            format!("BROKEN: {broken} of {of} questions. Do not hand over.\n")
         }
-        _ => format!("NO VERDICT: {none} of {of}. Do not hand over.\n"),
+        Outcome::Broken => {
+            format!("BROKEN: {broken} of {of} questions, and {none} without a verdict. Do not hand over.\n")
+        }
+        _ => format!("NO VERDICT: {none} of {of} questions. Do not hand over.\n"),
     }
 }
 

@@ -74,7 +74,7 @@ BROKEN      never howl
   6  START    mic-B, echo, song, monitor, latch
 SAFE        always possible: quiet
 SAFE        always possible: song
-BROKEN: 1 of 3. Do not hand over.
+BROKEN: 1 of 3 questions. Do not hand over.
 ";
     assert_eq!(run(&["hall.room"]), (hall.to_string(), String::new(), 1));
 }
@@ -156,7 +156,7 @@ fn no_verdict() {
         printed.contains(&format!("NO VERDICT  never howl\n            {cause}")),
         "{printed}"
     );
-    assert!(printed.ends_with("NO VERDICT: 3 of 3. Do not hand over.\n"));
+    assert!(printed.ends_with("NO VERDICT: 3 of 3 questions. Do not hand over.\n"));
     assert_eq!((errors.as_str(), status), ("", 3));
     let (printed, _, status) = run(&["--rounds", "1", "mended.room"]);
     let cause = "The 1 rounds are used up. Not safe, not broken: unknown. Take more: --rounds\n";
@@ -170,10 +170,31 @@ fn no_verdict() {
     // A question that is broken counts more than one without a verdict.
     let (printed, _, status) = run(&["--rounds", "8", "hall.room"]);
     assert!(
-        printed.ends_with("SAFE        always possible: song\nBROKEN: 1 of 3. Do not hand over.\n"),
+        printed.ends_with(
+            "SAFE        always possible: song\nBROKEN: 1 of 3 questions. Do not hand over.\n"
+        ),
         "{printed}"
     );
     assert_eq!(status, 1);
+}
+
+/// The peak is enough, and one row fewer is not.
+#[test]
+fn peaks() {
+    for (name, status) in [("hall.room", 1), ("mended.room", 0), ("booth.room", 0)] {
+        let (printed, _, _) = run(&["--peak", name]);
+        let last = printed.lines().last().unwrap();
+        let rows = last.strip_prefix("A table of ").and_then(|rest| {
+            rest.strip_suffix(" rows is enough for these questions, and no smaller one.")
+        });
+        let rows: u32 = rows.unwrap().replace(',', "").parse().unwrap();
+        assert_eq!(
+            run(&["--peak", "--rows", &rows.to_string(), name]),
+            (printed, String::new(), status)
+        );
+        let (printed, _, _) = run(&["--rows", &(rows - 1).to_string(), name]);
+        assert!(printed.contains("NO VERDICT"), "{printed}");
+    }
 }
 
 #[test]
@@ -182,7 +203,7 @@ fn bad_files() {
         &["-"],
         b"things: mic\nstart: all off\npress MIC: mick on\nnever mic\n",
     );
-    let expected = "-, line 3: nothing here is called \"mick\". Is \"mic\" meant?\n    press MIC: mick on\n               ^^^^\n\
+    let expected = "standard input, line 3: nothing here is called \"mick\". Is \"mic\" meant?\n    press MIC: mick on\n               ^^^^\n\
                     1 mistake. Nothing was asked.\n";
     assert_eq!(
         (printed.as_str(), errors.as_str(), status),
@@ -191,7 +212,7 @@ fn bad_files() {
     let (_, errors, status) = given(&["-"], b"things: mic\nstart: \xff\n");
     assert_eq!(
         (errors.as_str(), status),
-        ("-, line 2: this is no text (UTF-8)\n", 2)
+        ("standard input, line 2: this is no text (UTF-8)\n", 2)
     );
     let (_, errors, status) = run(&["none.room"]);
     assert!(
@@ -322,6 +343,22 @@ fn explained_records() {
                     line 2, byte 10 of the record, 40: a relation has only constants, NOT, AND, OR and bits\n\
                     2 records: 1 answered, 1 refused\n";
     assert_eq!((printed.as_str(), status), (expected, 2));
+}
+
+/// What is said where table and walk differ: no room that is read leads there.
+#[test]
+fn differences() {
+    let difference = room::ask::Difference {
+        says: "the table finds 3 states, the walk 4".to_string(),
+    };
+    let expected = "NO VERDICT  never howl\n            The table and a plain walk over all states do not agree: the table finds 3 states, \
+                    the walk 4.\n            This is a fault of the command room, not of the file. Do not hand over by it, and please \
+                    report the file.\n";
+    assert_eq!(
+        room::report::difference(&difference, "never howl"),
+        expected
+    );
+    assert_eq!(room::report::Outcome::Differs.status(), 4);
 }
 
 /// Where nobody looks, no progress is told; where nobody reads on, the status still counts.

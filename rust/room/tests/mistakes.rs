@@ -679,3 +679,53 @@ fn names_that_double() {
         found[0].says
     );
 }
+
+/// Words in any order: each file is read or refused, and what is read can be read back.
+#[test]
+fn any_words() {
+    let words = [
+        "things", "selector", "start", "press", "means", "never", "always", "possible", "until",
+        "when", "and", "or", "not", "on", "off", "turns", "over", "all", "mic", "echo", "send",
+        "desk", "hall", "howl", "x", ":", ",", "=", "(", ")", "\n", "\n", "\n", "\n ", "#", "1",
+        ";", "é", "\u{200b}", "-",
+    ];
+    let starts = [
+        "things: mic echo\n",
+        "selector send: desk hall\n",
+        "start: all off\n",
+        "press X: mic on\n",
+        "never mic\n",
+    ];
+    let mut seed = 11_u64;
+    let mut draw = |bound: usize| {
+        seed = seed
+            .wrapping_mul(6364136223846793005)
+            .wrapping_add(1442695040888963407);
+        (seed >> 33) as usize % bound
+    };
+    let (mut good, mut bad) = (0, 0);
+    for _ in 0..100_000 {
+        let mut text: String = starts.iter().filter(|_| draw(10) > 0).copied().collect();
+        for _ in 0..draw(9) {
+            text += words[draw(words.len())];
+            text += ["", " "][draw(2)];
+        }
+        match read::read(&text) {
+            Ok(room) => {
+                good += 1;
+                let again =
+                    read::read(&room::echo::echo(&room)).expect("what is read back can be read");
+                assert_eq!(room::echo::echo(&again), room::echo::echo(&room), "{text}");
+            }
+            Err(mistakes) => {
+                bad += 1;
+                let shown: String = mistakes
+                    .iter()
+                    .map(|mistake| mistake.shown("a", &text))
+                    .collect();
+                assert!(shown.ends_with('\n'));
+            }
+        }
+    }
+    assert!(good > 1_000 && bad > 1_000, "{good} {bad}");
+}
