@@ -11,12 +11,12 @@ const FIRST_STEPS: usize = 20;
 const LAST_STEPS: usize = 5;
 
 /// What the command found, with its exit status.
-#[derive(Clone, Copy, Debug, PartialEq, Eq, PartialOrd, Ord)]
+#[derive(Clone, Copy, Debug, PartialEq, Eq)]
 pub enum Outcome {
     Safe = 0,
-    NoVerdict = 3,
     Broken = 1,
     BadFile = 2,
+    NoVerdict = 3,
     Differs = 4,
 }
 

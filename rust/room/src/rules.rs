@@ -28,13 +28,13 @@ pub fn value_is(part: &Part, value: u32, bit: fn(u32) -> Formula) -> Formula {
 }
 
 /// A rule without what it keeps, and the bits that it names.
-struct Part1<'a> {
+struct Changes<'a> {
     rule: &'a Rule,
     formula: Formula,
     named: u32,
 }
 
-fn changes<'a>(room: &Room, rule: &'a Rule) -> Part1<'a> {
+fn changes<'a>(room: &Room, rule: &'a Rule) -> Changes<'a> {
     let when = rule.when.iter().map(|when| condition(room, when));
     let effects = rule.effects.iter().map(|effect| {
         let part = &room.parts[effect.part];
@@ -44,7 +44,7 @@ fn changes<'a>(room: &Room, rule: &'a Rule) -> Part1<'a> {
         }
     });
     let parts = rule.effects.iter().map(|effect| &room.parts[effect.part]);
-    Part1 {
+    Changes {
         rule,
         formula: Formula::all(when.chain(effects)),
         named: parts.fold(0, |bits, part| bits | part.with(0, (1 << part.width) - 1)),
@@ -53,7 +53,7 @@ fn changes<'a>(room: &Room, rule: &'a Rule) -> Part1<'a> {
 
 /// One of the rules, where so many bits keep but for those that the rule itself names. What all rules of
 /// a half keep is said once.
-fn one_of(rules: &[Part1], bits: u32) -> Formula {
+fn one_of(rules: &[Changes], bits: u32) -> Formula {
     let named = rules.iter().fold(0, |named, rule| named | rule.named);
     let kept = (0..u32::BITS).filter(|p| bits & !named & 1 << p != 0);
     let body = match rules {
@@ -67,13 +67,13 @@ fn one_of(rules: &[Part1], bits: u32) -> Formula {
 }
 
 /// A relation of exactly the presses by these rules.
-fn relation(room: &Room, rules: &[Part1]) -> Formula {
+fn relation(room: &Room, rules: &[Changes]) -> Formula {
     valid::pairs(room, one_of(rules, room.patterns() - 1))
 }
 
 /// The presses as relations, as few as the order of the lines allows; or why they do not fit.
 pub fn relations(room: &Room) -> Result<Vec<Formula>, Mistake> {
-    let rules: Vec<Part1> = room.rules.iter().map(|rule| changes(room, rule)).collect();
+    let rules: Vec<Changes> = room.rules.iter().map(|rule| changes(room, rule)).collect();
     let mut relations: Vec<Formula> = Vec::new();
     let mut first = 0;
     for end in 1..=rules.len() {

@@ -58,6 +58,8 @@ fn all(cases: &[(&str, &str, &str)]) {
 #[test]
 fn no_mistake() {
     assert_eq!(mistakes(&format!("{BEFORE}{AFTER}")), []);
+    let windows = format!("\u{feff}{BEFORE}{AFTER}").replace('\n', "\r\n");
+    assert_eq!(mistakes(&windows), []);
 }
 
 #[test]
@@ -83,6 +85,11 @@ fn lines() {
         ),
         ("mic and echo", "mic", kinds),
         ("; mic", ";", kinds),
+        (
+            "\u{200b}mic and echo",
+            "\u{200b}",
+            "a character that means nothing stands here (U+200B)",
+        ),
     ]);
 }
 
