@@ -114,17 +114,21 @@ fn sixteen_bits_in_under_a_second() {
             things.join(" and ")
         )
     };
-    let start = Instant::now();
-    let (printed, _, status) = given(&["-"], chain.as_bytes());
-    let took = start.elapsed();
-    assert!(
-        printed.starts_with("65,536 states, 16 presses.") && status == 1,
-        "{printed}"
-    );
-    assert!(
-        printed.contains("16 presses do it, and no fewer:"),
-        "{printed}"
-    );
+    let mut took = Duration::MAX;
+    // The least of three, since others may use the machine.
+    for _ in 0..3 {
+        let start = Instant::now();
+        let (printed, _, status) = given(&["-"], chain.as_bytes());
+        took = took.min(start.elapsed());
+        assert!(
+            printed.starts_with("65,536 states, 16 presses.") && status == 1,
+            "{printed}"
+        );
+        assert!(
+            printed.contains("16 presses do it, and no fewer:"),
+            "{printed}"
+        );
+    }
     assert!(took < Duration::from_secs(1), "{took:?}");
 }
 

@@ -60,41 +60,84 @@ struct Counts {
     seen: usize,
 }
 
-#[test]
-fn single_characters() {
-    assert_eq!(TEXT.lines().count(), 40);
-    let original = unplaced(read(TEXT).expect("the room is a good one"));
-    let (reading, meant) = (echo(&original), meaning(&original));
-    let mut counts = Counts::default();
-    let mut look = |changed: &str| {
+/// The room, its reading back and what it says.
+struct Original {
+    room: Room,
+    reading: String,
+    meant: String,
+}
+
+impl Original {
+    /// What comes of a changed text.
+    fn look(&self, changed: &str, counts: &mut Counts) {
         let room = match read(changed) {
             Ok(room) => unplaced(room),
             Err(_) => return counts.refused += 1,
         };
-        if room == original {
+        if room == self.room {
             return counts.nothing += 1;
         }
         if !sense::mistakes(&room).is_empty() {
             return counts.refused += 1;
         }
-        if echo(&room) != reading {
+        if echo(&room) != self.reading {
             return counts.seen += 1;
         }
         counts.nothing += 1;
-        assert_eq!(meaning(&room), meant, "{changed}");
-    };
-    for (at, c) in TEXT.char_indices() {
+        assert_eq!(meaning(&room), self.meant, "{changed}");
+    }
+
+    /// Every change at one character: it is taken out, another is put before it, or it is exchanged.
+    fn changes(&self, at: usize, c: char, counts: &mut Counts) {
         let (before, after) = (&TEXT[..at], &TEXT[at + c.len_utf8()..]);
-        look(&format!("{before}{after}"));
+        self.look(&format!("{before}{after}"), counts);
         for new in typed() {
-            look(&format!("{before}{new}{c}{after}"));
+            self.look(&format!("{before}{new}{c}{after}"), counts);
             if new != c {
-                look(&format!("{before}{new}{after}"));
+                self.look(&format!("{before}{new}{after}"), counts);
             }
         }
     }
+}
+
+#[test]
+fn single_characters() {
+    assert_eq!(TEXT.lines().count(), 40);
+    let room = unplaced(read(TEXT).expect("the room is a good one"));
+    let (reading, meant) = (echo(&room), meaning(&room));
+    let original = Original {
+        room,
+        reading,
+        meant,
+    };
+    let places: Vec<(usize, char)> = TEXT.char_indices().collect();
+    let threads = std::thread::available_parallelism().map_or(1, usize::from);
+    let work = |first: usize| {
+        let mut counts = Counts::default();
+        let own = places.iter().skip(first).step_by(threads);
+        own.for_each(|&(at, c)| original.changes(at, c, &mut counts));
+        counts
+    };
+    let counts = std::thread::scope(|scope| {
+        let started: Vec<_> = (0..threads)
+            .map(|first| {
+                scope.spawn({
+                    let work = &work;
+                    move || work(first)
+                })
+            })
+            .collect();
+        let done = started
+            .into_iter()
+            .map(|thread| thread.join().expect("no change fails"));
+        done.fold(Counts::default(), |sum, counts| Counts {
+            refused: sum.refused + counts.refused,
+            nothing: sum.nothing + counts.nothing,
+            seen: sum.seen + counts.seen,
+        })
+    });
     println!("{counts:?}");
-    // Most of what is not refused stands in comments.
+    // Most of what changes nothing stands in comments.
     assert!(
         counts.refused > counts.seen && counts.seen > 1_000,
         "{counts:?}"
