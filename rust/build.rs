@@ -30,9 +30,6 @@ fn main() {
     }
     let dir = directory();
     let library = |name: &str| dir.join(format!("lib{name}.a"));
-    for name in NAMES {
-        println!("cargo:rerun-if-changed={}", library(name).display());
-    }
     let Some(name) = NAMES.into_iter().find(|name| library(name).is_file()) else {
         panic!(
             "{} is missing. Make it with `rt staticlib exports` in the repository's root, or set \
@@ -40,6 +37,7 @@ fn main() {
             library(NAMES[0]).display()
         );
     };
+    println!("cargo:rerun-if-changed={}", library(name).display());
     let archive = fs::read(library(name)).expect("the library can be read");
     if !(archive.windows(UNPROVED.len())).any(|bytes| bytes == UNPROVED) {
         println!("cargo:rustc-cfg=kudzuclamp_proved");

@@ -1,0 +1,207 @@
+//! The library's answers to a room's questions, given only where the plain walk finds the same.
+use crate::plan::{Asking, Plan, Store, ANSWER, FIRST, INNER, SECOND, START};
+use crate::room::{Question, Room, State};
+use crate::valid;
+use crate::walk::{members, Run, Set, Sets, Walk};
+use kudzuclamp::{Account, Refusal, Table};
+
+/// The table that is used.
+#[derive(Clone, Copy, Debug, PartialEq, Eq)]
+pub struct Limits {
+    pub rows: u32,
+    pub rounds: u32,
+}
+
+impl Limits {
+    pub const LARGEST: Limits = Limits {
+        rows: kudzuclamp::MAX_ROWS,
+        rounds: u32::MAX,
+    };
+}
+
+#[derive(Clone, Debug, PartialEq, Eq)]
+pub enum Verdict {
+    Safe,
+    /// With a run that shows it.
+    Broken(Run),
+    /// The library refused: the table is full, or the rounds are used up.
+    None(Refusal),
+}
+
+/// What the table and the plain walk do not agree on. No verdict is given then.
+#[derive(Clone, Debug, PartialEq, Eq)]
+pub struct Difference {
+    pub says: String,
+}
+
+/// A table that holds the room's presses and the sets that all questions use.
+pub struct Asker<'a> {
+    room: &'a Room,
+    walk: &'a Walk,
+    plan: &'a Plan,
+    limits: Limits,
+    table: Table<Vec<u32>>,
+    /// The refusal of a call before the first question.
+    refused: Option<Refusal>,
+    /// The most rows that a step has needed so far.
+    pub peak: u32,
+}
+
+/// Why a call gives nothing to compare.
+enum Halt {
+    Refused(Refusal),
+    Differs(Difference),
+}
+
+impl From<Refusal> for Halt {
+    fn from(refusal: Refusal) -> Halt {
+        Halt::Refused(refusal)
+    }
+}
+
+fn differs<T>(says: String) -> Result<T, Halt> {
+    Err(Halt::Differs(Difference { says }))
+}
+
+impl<'a> Asker<'a> {
+    /// Loads the presses and the start. A refusal is kept for the verdicts.
+    pub fn new(
+        room: &'a Room,
+        walk: &'a Walk,
+        plan: &'a Plan,
+        limits: Limits,
+    ) -> Result<Asker<'a>, Difference> {
+        let made = Table::new(&mut [Account::unlimited()], room.bits(), limits.rows);
+        let table = made.map_err(|refusal| unforeseen(refusal, "the empty table"))?;
+        let mut asker = Asker {
+            room,
+            walk,
+            plan,
+            limits,
+            table,
+            refused: None,
+            peak: 0,
+        };
+        match asker.load() {
+            Ok(()) => Ok(asker),
+            Err(Halt::Differs(difference)) => Err(difference),
+            Err(Halt::Refused(refusal)) => {
+                asker.refused = Some(ending(refusal, "the presses")?);
+                Ok(asker)
+            }
+        }
+    }
+
+    fn load(&mut self) -> Result<(), Halt> {
+        for relation in &self.plan.relations {
+            let loaded = self.table.relation(relation.place, &relation.formula)?;
+            self.peak = self.peak.max(loaded.peak);
+        }
+        for set in &self.plan.sets {
+            self.store(set)?;
+        }
+        let mut start = vec![false; self.walk.exists.len()];
+        start[self.room.start as usize] = true;
+        self.same(valid::REGISTER, &self.walk.exists)?;
+        self.same(START, &start)
+    }
+
+    fn store(&mut self, set: &Store) -> Result<(), Halt> {
+        let accounts = &mut [Account::unlimited()];
+        let stored = self
+            .table
+            .set(accounts, 0, set.place, self.limits.rounds, &set.formula)?;
+        self.peak = self.peak.max(stored.peak);
+        Ok(())
+    }
+
+    /// Whether a register has exactly the states that the walk found: all of them, and as many as the library counts.
+    fn same(&self, register: u32, set: &Set) -> Result<(), Halt> {
+        let found = members(set);
+        let states = self.table.states(register)?;
+        if states == found && self.table.count(register)? as usize == found.len() {
+            return Ok(());
+        }
+        differs(format!(
+            "the table finds {} states, the walk {}",
+            states.len(),
+            found.len()
+        ))
+    }
+
+    /// The verdict on a question, by its place.
+    pub fn ask(&mut self, place: usize) -> Result<Verdict, Difference> {
+        if let Some(refusal) = self.refused {
+            return Ok(Verdict::None(refusal));
+        }
+        let question = &self.room.questions[place];
+        match self.answer(question, &self.plan.questions[place]) {
+            Ok(verdict) => Ok(verdict),
+            Err(Halt::Differs(difference)) => Err(difference),
+            Err(Halt::Refused(refusal)) => Ok(Verdict::None(ending(refusal, "the question")?)),
+        }
+    }
+
+    fn answer(&mut self, question: &Question, asking: &Asking) -> Result<Verdict, Halt> {
+        for set in &asking.sets {
+            self.store(set)?;
+        }
+        let sets = self.walk.sets(self.room, &question.asked);
+        self.compare(&sets)?;
+        let start = self.room.start;
+        let found = self.table.member(ANSWER, start)?;
+        if found != sets.answer[start as usize] {
+            return differs("the start is in one answer and not in the other".to_string());
+        }
+        let trouble = self.walk.trouble(start, &question.asked, &sets);
+        match (found == asking.holds, trouble) {
+            (true, None) => Ok(Verdict::Safe),
+            (false, Some(run)) if self.is_run(&run.states) => Ok(Verdict::Broken(run)),
+            _ => differs("a run into trouble is there, or is not, against the answer".to_string()),
+        }
+    }
+
+    /// All sets of a question, register by register.
+    fn compare(&self, sets: &Sets) -> Result<(), Halt> {
+        self.same(FIRST, &sets.first)?;
+        self.same(ANSWER, &sets.answer)?;
+        if let Some(second) = &sets.second {
+            self.same(SECOND, second)?;
+        }
+        match &sets.inner {
+            Some(inner) => self.same(INNER, inner),
+            None => Ok(()),
+        }
+    }
+
+    /// Whether every step of a run is a press, by the rules as read.
+    fn is_run(&self, states: &[State]) -> bool {
+        let pressed = |pair: &[State]| press(self.room, pair[0], pair[1]).is_some();
+        states.first() == Some(&self.room.start) && states.windows(2).all(pressed)
+    }
+}
+
+/// The first press in the file that leads from one state to another.
+pub fn press(room: &Room, from: State, to: State) -> Option<&str> {
+    let rule = room
+        .rules
+        .iter()
+        .find(|rule| room.pressed(rule, from) == Some(to));
+    rule.map(|rule| rule.press.as_str())
+}
+
+/// A refusal that ends a question without a verdict; any other shows that the calls are not what they should be.
+fn ending(refusal: Refusal, of: &str) -> Result<Refusal, Difference> {
+    match refusal {
+        Refusal::Full | Refusal::Spent => Ok(refusal),
+        _ => Err(unforeseen(refusal, of)),
+    }
+}
+
+fn unforeseen(refusal: Refusal, of: &str) -> Difference {
+    let says = format!(
+        "the library refuses {of} with {}: {refusal}",
+        refusal.number()
+    );
+    Difference { says }
+}

@@ -1,0 +1,27 @@
+//! The command `room`: reads a room's switching rules in words, asks the proved library, and answers in words.
+//!
+//! Nothing here is proved. So a verdict is given only where a plain walk over all states (`walk`), which
+//! uses no formula and no table, finds the same sets as the library (`ask`).
+//!
+//! - `words`, `read`, `mistake`: a room file's words, what they say, and what is wrong with them;
+//! - `room`: what was read; `echo`: the same as text again; `sense`: conditions that no state meets;
+//! - `valid`, `rules`, `plan`: formulas of selectors, of presses, and the calls that answer the questions;
+//! - `walk` (with `circles`), `ask`, `report`: the plain walk, the library's answers held against it, and the words for both;
+//! - `records`, `explain`: the same calls as records for `roomrules`, and what is wrong with records.
+#![deny(unsafe_code)]
+
+pub mod ask;
+mod circles;
+pub mod echo;
+pub mod explain;
+pub mod mistake;
+pub mod plan;
+pub mod read;
+pub mod records;
+pub mod report;
+pub mod room;
+pub mod rules;
+pub mod sense;
+pub mod valid;
+pub mod walk;
+pub mod words;

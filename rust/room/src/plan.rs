@@ -1,0 +1,171 @@
+//! The calls that answer a room's questions.
+use crate::mistake::Mistake;
+use crate::room::{Asked, Cond, Room};
+use crate::{echo, rules, valid};
+use kudzuclamp::Formula;
+
+/// The registers: states that exist, the start state, a question's two sets, its inner and its last answer, and
+/// the start state if it is in that answer.
+pub const START: u32 = 1;
+pub const FIRST: u32 = 2;
+pub const SECOND: u32 = 3;
+pub const INNER: u32 = 4;
+pub const ANSWER: u32 = 5;
+pub const START_IN_ANSWER: u32 = 6;
+
+/// A relation or a set to store, with a line that says what it is.
+#[derive(Clone, Debug, PartialEq, Eq)]
+pub struct Store {
+    pub place: u32,
+    pub formula: Formula,
+    pub says: String,
+}
+
+/// The calls of one question.
+#[derive(Clone, Debug, PartialEq, Eq)]
+pub struct Asking {
+    pub sets: Vec<Store>,
+    /// Whether the answer has the states in which the question holds, or those in which it is broken.
+    pub holds: bool,
+}
+
+/// All calls after fresh.
+#[derive(Clone, Debug, PartialEq, Eq)]
+pub struct Plan {
+    pub relations: Vec<Store>,
+    /// The states that exist, and the start state.
+    pub sets: Vec<Store>,
+    pub questions: Vec<Asking>,
+}
+
+/// The calls for a room; or what of it does not fit into them.
+pub fn plan(room: &Room) -> Result<Plan, Vec<Mistake>> {
+    let formulas = rules::relations(room).map_err(|mistake| vec![mistake])?;
+    let count = formulas.len() as u32;
+    let mut too_long = Vec::new();
+    let mut questions = Vec::new();
+    for question in &room.questions {
+        let asking = asking(room, &question.asked, count);
+        if !asking.sets.iter().all(|set| rules::fits(&set.formula)) {
+            let says = "this question is too long: say it with fewer words";
+            too_long.push(Mistake::line(question.line, says.to_string()));
+        }
+        questions.push(asking);
+    }
+    if !too_long.is_empty() {
+        return Err(too_long);
+    }
+    let start = room
+        .parts
+        .iter()
+        .map(|part| rules::value_is(part, part.value(room.start), Formula::current));
+    let presses = |k: usize| match count {
+        1 => "relation 0: the presses".to_string(),
+        _ => format!("relation {k}: the presses, part {} of {count}", k + 1),
+    };
+    let relations = formulas.into_iter().enumerate();
+    Ok(Plan {
+        relations: relations
+            .map(|(k, formula)| store(k as u32, formula, presses(k)))
+            .collect(),
+        sets: vec![
+            store(
+                valid::REGISTER,
+                valid::states(room),
+                format!("the {} states that exist", echo::grouped(room.states())),
+            ),
+            store(
+                START,
+                Formula::all(start),
+                format!("the start: {}", echo::state(room, room.start)),
+            ),
+        ],
+        questions,
+    })
+}
+
+fn store(place: u32, formula: Formula, says: String) -> Store {
+    Store {
+        place,
+        formula,
+        says,
+    }
+}
+
+/// The calls of a question over so many relations.
+fn asking(room: &Room, asked: &Asked, relations: u32) -> Asking {
+    let first = Formula::register(FIRST);
+    let set = |register: u32, cond: &Cond| {
+        let formula = valid::within(room, rules::condition(room, cond));
+        store(
+            register,
+            formula,
+            format!("where {}", echo::cond(room, cond)),
+        )
+    };
+    let leads = |says: &str| store(INNER, leads_to(relations, &first), says.to_string());
+    let (mut sets, answer, holds) = match asked {
+        Asked::Never(x) => {
+            let answer = store(
+                ANSWER,
+                leads_to(relations, &first),
+                "from where presses lead there".to_string(),
+            );
+            (vec![set(FIRST, x)], answer, false)
+        }
+        Asked::AlwaysPossible(x) => {
+            let inner = Formula::register(INNER);
+            let formula = Formula::nu(0, inner & every(relations, &Formula::var(0)));
+            let says = "from where they still do after any presses".to_string();
+            let sets = vec![set(FIRST, x), leads("from where presses lead there")];
+            (sets, store(ANSWER, formula, says), true)
+        }
+        Asked::Until(x, y) => {
+            let formula = until(relations, &first, &Formula::register(SECOND));
+            let says = "from where every run of presses passes".to_string();
+            (
+                vec![set(FIRST, x), set(SECOND, y)],
+                store(ANSWER, formula, says),
+                true,
+            )
+        }
+    };
+    let found = Formula::register(START) & Formula::register(ANSWER);
+    let counts = if holds {
+        "1 state: SAFE, 0: BROKEN"
+    } else {
+        "0 states: SAFE, 1: BROKEN"
+    };
+    sets.push(answer);
+    sets.push(store(
+        START_IN_ANSWER,
+        found,
+        format!("is the start among them? {counts}"),
+    ));
+    Asking { sets, holds }
+}
+
+/// Some press leads into a set.
+fn some(relations: u32, f: &Formula) -> Formula {
+    Formula::any((0..relations).map(|t| Formula::diamond(t, f)))
+}
+
+/// Every press leads into a set.
+fn every(relations: u32, f: &Formula) -> Formula {
+    Formula::all((0..relations).map(|t| Formula::boxed(t, f)))
+}
+
+/// Some presses, or none, lead into a set.
+fn leads_to(relations: u32, f: &Formula) -> Formula {
+    Formula::mu(0, f | some(relations, &Formula::var(0)))
+}
+
+/// Every run of presses comes to g, and f holds before. Until has one relation; over several it is the binder that it
+/// stands for.
+fn until(relations: u32, f: &Formula, g: &Formula) -> Formula {
+    if relations == 1 {
+        return Formula::until_every(0, f, g);
+    }
+    let goes_on = every(relations, &Formula::var(0)) & some(relations, &Formula::always());
+    Formula::mu(0, g | (f & goes_on))
+}

@@ -1,0 +1,404 @@
+//! What the words of a room file say.
+mod conditions;
+mod presses;
+
+use crate::mistake::{similar, Mistake};
+use crate::room::{width_of, Asked, Named, Part, Question, Room, MAX_BITS};
+use crate::words::{self, Word, RESERVED};
+use std::collections::HashMap;
+
+/// The words that begin a line.
+const FIRST_WORDS: [&str; 6] = ["things", "selector", "start", "press", "never", "always"];
+
+/// What a line's reading gives; a line that is given up has told its mistake already.
+type Read<T> = Result<T, GivenUp>;
+
+struct GivenUp;
+
+/// The room that a file's text says, or every mistake in it.
+pub fn read(text: &str) -> Result<Room, Vec<Mistake>> {
+    // Some editors put this mark at the beginning of a text.
+    let lines = words::lines(text.strip_prefix('\u{feff}').unwrap_or(text));
+    let mut reader = Reader {
+        declared: declared(&lines),
+        ..Reader::default()
+    };
+    for words in &lines {
+        // A line that is given up leaves its mistake; the next ones are read all the same.
+        let _ = reader.line(Line { words, at: 0 });
+    }
+    reader.whole();
+    if reader.mistakes.is_empty() {
+        Ok(reader.room)
+    } else {
+        Err(reader.mistakes)
+    }
+}
+
+/// Every name that some line seems to declare, with that line.
+fn declared<'a>(lines: &[Vec<Word<'a>>]) -> HashMap<&'a str, usize> {
+    let mut found = HashMap::new();
+    for words in lines {
+        let names = match words[0].text {
+            "things" => &words[1..],
+            "selector" => &words[1..words.len().min(2)],
+            _ if words.len() > 1 && words[1].text == "means" => &words[..1],
+            _ => continue,
+        };
+        for word in names {
+            found.entry(word.text).or_insert(word.line);
+        }
+    }
+    found
+}
+
+/// The words of a line, and how far they are read.
+struct Line<'a, 'w> {
+    words: &'w [Word<'a>],
+    at: usize,
+}
+
+impl<'a> Line<'a, '_> {
+    fn peek(&self) -> Option<Word<'a>> {
+        self.words.get(self.at).copied()
+    }
+
+    fn is(&self, text: &str) -> bool {
+        self.peek().is_some_and(|word| word.text == text)
+    }
+
+    fn next(&mut self) -> Option<Word<'a>> {
+        let word = self.peek()?;
+        self.at += 1;
+        Some(word)
+    }
+
+    /// Reads a word if it comes next.
+    fn take(&mut self, text: &str) -> bool {
+        let taken = self.is(text);
+        self.at += usize::from(taken);
+        taken
+    }
+
+    /// The word read last.
+    fn last(&self) -> Word<'a> {
+        self.words[self.at.max(1) - 1]
+    }
+}
+
+#[derive(Default)]
+struct Reader<'a> {
+    room: Room,
+    /// The bytes that each named set takes.
+    sizes: Vec<usize>,
+    started: bool,
+    declared: HashMap<&'a str, usize>,
+    mistakes: Vec<Mistake>,
+}
+
+impl<'a> Reader<'a> {
+    fn wrong<T>(&mut self, word: &Word, says: String) -> Read<T> {
+        self.mistakes.push(Mistake::at(word, says));
+        Err(GivenUp)
+    }
+
+    fn line(&mut self, mut line: Line<'a, '_>) -> Read<()> {
+        let first = line.words[0];
+        let second = line.words.get(1).map_or("", |word| word.text);
+        match first.text {
+            "things" => self.things(&mut line),
+            "selector" => self.selector(&mut line),
+            "start" => self.start(&mut line),
+            "press" => self.press(&mut line),
+            "never" => self.never(&mut line),
+            "always" => self.always_possible(&mut line),
+            _ if second == "means" => self.means(&mut line),
+            _ if line.words.iter().any(|word| word.text == "until") => self.until(&mut line),
+            _ => self.no_line(&line),
+        }
+    }
+
+    /// What the file must have besides.
+    fn whole(&mut self) {
+        let lacks = [
+            (
+                self.room.parts.is_empty(),
+                "nothing is switched here: a line such as \"things: mic echo song\" is missing",
+            ),
+            (
+                !self.started,
+                "the start is missing: a line such as \"start: all off\"",
+            ),
+            (
+                self.room.rules.is_empty(),
+                "no press is here: a line such as \"press ECHO: echo turns over\" is missing",
+            ),
+            (
+                self.room.questions.is_empty(),
+                "nothing is asked: a line such as \"never howl\" is missing",
+            ),
+        ];
+        // Where a line was given up, what it would have said is not missed.
+        if self.mistakes.is_empty() {
+            let lacks = lacks.into_iter().filter(|(lacks, _)| *lacks);
+            self.mistakes = lacks.map(|(_, says)| Mistake::file(says)).collect();
+        }
+    }
+
+    fn no_line(&mut self, line: &Line) -> Read<()> {
+        let first = line.words[0];
+        if !first.is_name() && !first.text.is_ascii() {
+            return self.wrong(&first, strange(first.text));
+        }
+        if let Some(word) = similar(first.text, FIRST_WORDS.into_iter()) {
+            return self.wrong(
+                &first,
+                format!(
+                    "no line begins with \"{}\". Is \"{word}\" meant?",
+                    first.text
+                ),
+            );
+        }
+        if let Some(second) = line.words.get(1) {
+            if similar(second.text, ["means"].into_iter()).is_some() {
+                return self.wrong(
+                    second,
+                    format!("\"{}\" is not understood. Is \"means\" meant?", second.text),
+                );
+            }
+        }
+        let says = "a line begins with things, selector, start, press, never or always possible, or it is \
+                    \"NAME means ...\" or \"... until ...\"";
+        self.wrong(&first, says.to_string())
+    }
+
+    fn colon(&mut self, line: &mut Line, after: &str) -> Read<()> {
+        if line.take(":") {
+            return Ok(());
+        }
+        let last = line.last();
+        self.wrong(&last, format!("a colon is missing after \"{after}\""))
+    }
+
+    fn end(&mut self, line: &Line) -> Read<()> {
+        match line.peek() {
+            None => Ok(()),
+            Some(word) => self.unexpected(&word),
+        }
+    }
+
+    /// A word that does not fit where it stands.
+    fn unexpected<T>(&mut self, word: &Word) -> Read<T> {
+        let text = word.text;
+        let says = match text {
+            ")" => "this ) has no ( before it".to_string(),
+            "until" => "one line asks one \"until\", outside all parentheses".to_string(),
+            _ if FIRST_WORDS.contains(&text) => {
+                format!("\"{text}\" begins a line of its own, at the left edge")
+            }
+            _ if word.is_name() || text == "(" => {
+                format!("\"and\", \"or\" or a comma is missing before \"{text}\"")
+            }
+            _ => strange(text),
+        };
+        self.wrong(word, says)
+    }
+
+    // Declarations.
+
+    fn things(&mut self, line: &mut Line<'a, '_>) -> Read<()> {
+        line.next();
+        self.colon(line, "things")?;
+        for word in self.names(line, "things")? {
+            self.part(&word, Vec::new());
+        }
+        Ok(())
+    }
+
+    fn selector(&mut self, line: &mut Line<'a, '_>) -> Read<()> {
+        let keyword = line.words[0];
+        line.next();
+        let Some(name) = line.next().filter(|word| word.text != ":") else {
+            return self.wrong(
+                &keyword,
+                "say the selector's name: selector NAME: its positions".to_string(),
+            );
+        };
+        self.colon(line, name.text)?;
+        let positions = self.names(line, name.text)?;
+        if positions.len() < 2 {
+            return self.wrong(
+                &name,
+                format!("\"{}\" needs two positions or more", name.text),
+            );
+        }
+        let mut texts: Vec<String> = Vec::new();
+        for word in positions {
+            self.reserved(&word)?;
+            if texts.iter().any(|text| text == word.text) {
+                return self.wrong(
+                    &word,
+                    format!("\"{}\" has the position \"{}\" twice", name.text, word.text),
+                );
+            }
+            texts.push(word.text.to_string());
+        }
+        self.part(&name, texts);
+        Ok(())
+    }
+
+    /// Names up to the end of the line, with blanks or commas between.
+    fn names(&mut self, line: &mut Line<'a, '_>, of: &str) -> Read<Vec<Word<'a>>> {
+        let mut names = Vec::new();
+        while let Some(word) = line.next() {
+            if !word.is_name() {
+                return self.wrong(&word, no_name(word.text));
+            }
+            names.push(word);
+            if line.take(",") && line.peek().is_none() {
+                let comma = line.last();
+                return self.wrong(&comma, "a name is missing after the comma".to_string());
+            }
+        }
+        if names.is_empty() {
+            let last = line.last();
+            return self.wrong(&last, format!("names are missing after \"{of}:\""));
+        }
+        Ok(names)
+    }
+
+    /// Adds a thing or a selector, where its name is free and its bits fit.
+    fn part(&mut self, name: &Word, positions: Vec<String>) {
+        if self.free(name).is_err() {
+            return;
+        }
+        let low = self.room.bits();
+        let width = width_of(positions.len().max(2));
+        if low + width > MAX_BITS {
+            let says = format!(
+                "\"{}\" does not fit: a room has at most {MAX_BITS} bits, and {low} are taken. A thing takes 1, a \
+                 selector of 3 or 4 positions 2, of 5 to 8 positions 3, and so on",
+                name.text
+            );
+            self.mistakes.push(Mistake::at(name, says));
+            return;
+        }
+        self.room.parts.push(Part {
+            name: name.text.to_string(),
+            line: name.line,
+            positions,
+            low,
+            width,
+        });
+    }
+
+    fn reserved(&mut self, word: &Word) -> Read<()> {
+        if !word.is_name() {
+            return self.wrong(word, no_name(word.text));
+        }
+        if RESERVED.contains(&word.text) {
+            return self.wrong(
+                word,
+                format!(
+                    "\"{}\" has a meaning of its own here and can be no name",
+                    word.text
+                ),
+            );
+        }
+        Ok(())
+    }
+
+    /// Whether a name may be given.
+    fn free(&mut self, word: &Word) -> Read<()> {
+        self.reserved(word)?;
+        let part = |part: &Part| (part.name.as_str() == word.text).then_some(part.line);
+        let named = |named: &Named| (named.name.as_str() == word.text).then_some(named.line);
+        let taken =
+            (self.room.parts.iter().find_map(part)).or(self.room.named.iter().find_map(named));
+        match taken {
+            None => Ok(()),
+            Some(line) => self.wrong(
+                word,
+                format!("\"{}\" has been named already, on line {line}", word.text),
+            ),
+        }
+    }
+
+    fn means(&mut self, line: &mut Line<'a, '_>) -> Read<()> {
+        let name = line.words[0];
+        line.at = 2;
+        self.free(&name)?;
+        let (means, size) = self.condition(line)?;
+        self.end(line)?;
+        self.sizes.push(size);
+        self.room.named.push(Named {
+            name: name.text.to_string(),
+            line: name.line,
+            means,
+        });
+        Ok(())
+    }
+
+    // Questions.
+
+    fn never(&mut self, line: &mut Line<'a, '_>) -> Read<()> {
+        line.next();
+        let (cond, _) = self.condition(line)?;
+        self.question(line, Asked::Never(cond))
+    }
+
+    fn always_possible(&mut self, line: &mut Line<'a, '_>) -> Read<()> {
+        let keyword = line.words[0];
+        line.next();
+        if !line.take("possible") {
+            return self.wrong(&keyword, "write \"always possible: ...\"".to_string());
+        }
+        self.colon(line, "always possible")?;
+        let (cond, _) = self.condition(line)?;
+        self.question(line, Asked::AlwaysPossible(cond))
+    }
+
+    fn until(&mut self, line: &mut Line<'a, '_>) -> Read<()> {
+        let (before, _) = self.condition(line)?;
+        if !line.take("until") {
+            self.end(line)?;
+            let last = line.last();
+            return self.wrong(&last, "\"until\" is missing after this".to_string());
+        }
+        let (comes, _) = self.condition(line)?;
+        self.question(line, Asked::Until(before, comes))
+    }
+
+    fn question(&mut self, line: &Line, asked: Asked) -> Read<()> {
+        self.end(line)?;
+        let line = line.words[0].line;
+        self.room.questions.push(Question { line, asked });
+        Ok(())
+    }
+}
+
+/// A selector's positions as a list.
+fn one_of(part: &Part) -> String {
+    part.positions.join(", ")
+}
+
+/// Why a word can be no name.
+fn no_name(text: &str) -> String {
+    if text.starts_with(|c: char| c.is_ascii_digit() || c == '-' || c == '_') {
+        return format!("\"{text}\" can be no name: a name begins with a letter");
+    }
+    strange(text)
+}
+
+/// A character that means nothing.
+fn strange(text: &str) -> String {
+    let c = text.chars().next().unwrap_or(' ');
+    if c.is_ascii_graphic() || c.is_alphanumeric() {
+        format!("\"{text}\" means nothing here")
+    } else {
+        format!(
+            "a character that means nothing stands here (U+{:04X})",
+            u32::from(c)
+        )
+    }
+}

@@ -1,0 +1,269 @@
+//! The start and the presses.
+use super::{one_of, strange, Line, Read, Reader};
+use crate::room::{Change, Effect, Rule};
+use crate::words::Word;
+
+impl<'a> Reader<'a> {
+    pub(super) fn start(&mut self, line: &mut Line<'a, '_>) -> Read<()> {
+        let keyword = line.words[0];
+        line.next();
+        self.colon(line, "start")?;
+        if self.started {
+            let says = format!(
+                "the start has been said already, on line {}",
+                self.room.start_line
+            );
+            return self.wrong(&keyword, says);
+        }
+        self.started = true;
+        self.room.start_line = keyword.line;
+        if line.peek().is_none() {
+            return self.wrong(
+                &keyword,
+                "say what is on at the start, or \"all off\"".to_string(),
+            );
+        }
+        if line.is("all") && self.all_off(line)? {
+            return Ok(());
+        }
+        let effects = self.effects(line)?;
+        self.end(line)?;
+        for effect in effects {
+            let part = &self.room.parts[effect.part];
+            match effect.change {
+                Change::Becomes(value) => self.room.start = part.with(self.room.start, value),
+                Change::TurnsOver => {
+                    let says = format!("at the start \"{}\" is on or off", part.name);
+                    return self.wrong(&keyword, says);
+                }
+            }
+        }
+        Ok(())
+    }
+
+    /// Reads `all off`, and the comma after it; whether that is all.
+    fn all_off(&mut self, line: &mut Line<'a, '_>) -> Read<bool> {
+        let all = line.words[line.at];
+        line.next();
+        if !line.take("off") {
+            return self.wrong(&all, "write \"all off\", or name what is on".to_string());
+        }
+        match line.peek() {
+            None => Ok(true),
+            Some(_) if line.take(",") => Ok(false),
+            Some(word) => self.wrong(
+                &word,
+                format!("a comma is missing before \"{}\"", word.text),
+            ),
+        }
+    }
+
+    pub(super) fn press(&mut self, line: &mut Line<'a, '_>) -> Read<()> {
+        let keyword = line.words[0];
+        let Some(colon) = line.words.iter().position(|word| word.text == ":") else {
+            return self.wrong(
+                &keyword,
+                "a colon is missing: press NAME: what it does".to_string(),
+            );
+        };
+        if colon == 1 {
+            return self.wrong(
+                &keyword,
+                "say which button: press NAME: what it does".to_string(),
+            );
+        }
+        let press = self.label(&line.words[1..colon])?;
+        line.at = colon + 1;
+        if line.peek().is_none() || line.is("when") {
+            let last = line.last();
+            return self.wrong(
+                &last,
+                "say what the press does, such as \"echo on\" or \"mic turns over\"".to_string(),
+            );
+        }
+        let effects = self.effects(line)?;
+        let when = match line.take("when") {
+            true => Some(self.condition(line)?.0),
+            false => None,
+        };
+        self.end(line)?;
+        self.room.rules.push(Rule {
+            press,
+            line: keyword.line,
+            effects,
+            when,
+        });
+        Ok(())
+    }
+
+    /// A button's name: any words, one blank between those that do not touch.
+    fn label(&mut self, words: &[Word]) -> Read<String> {
+        let mut label = String::new();
+        for (at, word) in words.iter().enumerate() {
+            let plain = |c: char| c.is_alphanumeric() || c.is_ascii_graphic();
+            if !word.text.chars().all(plain) {
+                return self.wrong(word, strange(word.text));
+            }
+            if at > 0 && !words[at - 1].touches(word) {
+                label.push(' ');
+            }
+            label += word.text;
+        }
+        Ok(label)
+    }
+
+    /// What happens, with commas between.
+    fn effects(&mut self, line: &mut Line<'a, '_>) -> Read<Vec<Effect>> {
+        let mut effects: Vec<Effect> = Vec::new();
+        loop {
+            let name = line.peek();
+            let effect = self.effect(line)?;
+            if let (Some(effect), Some(name)) = (effect, name) {
+                if effects.iter().any(|other| other.part == effect.part) {
+                    return self.wrong(&name, format!("\"{}\" stands here twice", name.text));
+                }
+                effects.push(effect);
+            }
+            if line.is("and") {
+                let and = line.words[line.at];
+                return self.wrong(
+                    &and,
+                    "write a comma between two things that happen".to_string(),
+                );
+            }
+            if !line.take(",") {
+                return Ok(effects);
+            }
+        }
+    }
+
+    /// One thing that happens; nothing where its name is unknown, which is told.
+    fn effect(&mut self, line: &mut Line<'a, '_>) -> Read<Option<Effect>> {
+        let Some(name) = line.next() else {
+            let last = line.last();
+            return self.wrong(
+                &last,
+                "something is missing here, such as \"echo on\"".to_string(),
+            );
+        };
+        let verb = match name.text {
+            "on" | "off" => Some(name.text),
+            "turn" | "turns" => Some("turns over"),
+            _ => None,
+        };
+        if let Some(verb) = verb {
+            let thing = line.peek().map_or("NAME", |word| word.text);
+            return self.wrong(
+                &name,
+                format!("the name comes first: write \"{thing} {verb}\""),
+            );
+        }
+        let part = self.place_of(&name)?;
+        let change = match line.peek().map(|word| word.text) {
+            Some("=") => {
+                line.next();
+                Change::Becomes(self.position(part, &name, line)?)
+            }
+            Some("on") => Change::Becomes(1),
+            Some("off") => Change::Becomes(0),
+            Some("turns") => Change::TurnsOver,
+            _ => return self.no_change(part, &name, line),
+        };
+        if line.take("on") || line.take("off") || line.take("turns") {
+            let verb = line.last();
+            self.no_selector(part, &verb)?;
+            if verb.text == "turns" && !line.take("over") {
+                return self.wrong(&verb, "write \"turns over\"".to_string());
+            }
+        }
+        Ok(part.map(|part| Effect { part, change }))
+    }
+
+    fn no_change(&mut self, part: Option<usize>, name: &Word, line: &Line) -> Read<Option<Effect>> {
+        let marked = line.peek().unwrap_or(*name);
+        let says = match part.map(|part| &self.room.parts[part]) {
+            Some(part) if part.is_selector() => {
+                format!(
+                    "\"{0}\" is a selector: write \"{0} = {1}\", or another of {2}",
+                    part.name,
+                    part.positions[0],
+                    one_of(part)
+                )
+            }
+            _ => format!(
+                "say what happens to \"{0}\": {0} on, {0} off or {0} turns over",
+                name.text
+            ),
+        };
+        self.wrong(&marked, says)
+    }
+
+    pub(super) fn no_selector(&mut self, part: Option<usize>, verb: &Word) -> Read<()> {
+        match part.map(|part| &self.room.parts[part]) {
+            Some(part) if part.is_selector() => {
+                let says = format!(
+                    "\"{}\" is a selector and has positions: {}",
+                    part.name,
+                    one_of(part)
+                );
+                self.wrong(verb, says)
+            }
+            _ => Ok(()),
+        }
+    }
+
+    /// The place of a part that an effect names; none where the name is unknown.
+    fn place_of(&mut self, name: &Word) -> Read<Option<usize>> {
+        if let Some(place) = self
+            .room
+            .parts
+            .iter()
+            .position(|part| part.name == name.text)
+        {
+            return Ok(Some(place));
+        }
+        if self.room.named.iter().any(|named| named.name == name.text) {
+            return self.wrong(
+                name,
+                format!(
+                    "\"{}\" is no thing and no selector, so no press changes it by name",
+                    name.text
+                ),
+            );
+        }
+        self.unknown(name)?;
+        Ok(None)
+    }
+
+    /// The position after `=`, as a number.
+    pub(super) fn position(
+        &mut self,
+        part: Option<usize>,
+        name: &Word,
+        line: &mut Line<'a, '_>,
+    ) -> Read<u32> {
+        let Some(word) = line.next() else {
+            let last = line.last();
+            return self.wrong(&last, format!("a position of \"{}\" is missing", name.text));
+        };
+        let Some(part) = part.map(|part| &self.room.parts[part]) else {
+            return Ok(0);
+        };
+        if !part.is_selector() {
+            let says = format!("\"{}\" is on or off and has no positions", part.name);
+            return self.wrong(&word, says);
+        }
+        match part.positions.iter().position(|text| text == word.text) {
+            Some(value) => Ok(value as u32),
+            None => {
+                let says = format!(
+                    "\"{}\" has no position \"{}\". It has {}",
+                    part.name,
+                    word.text,
+                    one_of(part)
+                );
+                self.wrong(&word, says)
+            }
+        }
+    }
+}

@@ -1,0 +1,248 @@
+//! Verdicts in words.
+use crate::ask::{press, Difference, Limits, Verdict};
+use crate::echo::{self, grouped};
+use crate::room::{Asked, Question, Room, Rule};
+use crate::sense;
+use crate::walk::{members, End, Run, Walk};
+use kudzuclamp::Refusal;
+
+/// The steps of a long run that are shown from its start and from its end.
+const FIRST_STEPS: usize = 20;
+const LAST_STEPS: usize = 5;
+
+/// What the command found, with its exit status.
+#[derive(Clone, Copy, Debug, PartialEq, Eq)]
+pub enum Outcome {
+    Safe = 0,
+    Broken = 1,
+    BadFile = 2,
+    NoVerdict = 3,
+    Differs = 4,
+}
+
+impl Outcome {
+    pub fn status(self) -> u8 {
+        self as u8
+    }
+}
+
+/// The worst outcome of all verdicts: broken, else no verdict, else safe.
+pub fn outcome(verdicts: &[Verdict]) -> Outcome {
+    let is = |wanted: fn(&Verdict) -> bool| verdicts.iter().any(wanted);
+    if is(|verdict| matches!(verdict, Verdict::Broken(_))) {
+        Outcome::Broken
+    } else if is(|verdict| matches!(verdict, Verdict::None(_))) {
+        Outcome::NoVerdict
+    } else {
+        Outcome::Safe
+    }
+}
+
+/// The lines of a question and its verdict.
+pub fn verdict(
+    room: &Room,
+    question: &Question,
+    verdict: &Verdict,
+    limits: Limits,
+    whole: bool,
+) -> String {
+    let asked = echo::asked(room, &question.asked);
+    match verdict {
+        Verdict::Safe => format!("SAFE        {asked}\n"),
+        Verdict::Broken(run) => format!(
+            "BROKEN      {asked}\n{}",
+            shown(room, &question.asked, run, whole)
+        ),
+        Verdict::None(refusal) => format!(
+            "NO VERDICT  {asked}\n            {}\n",
+            cause(*refusal, limits)
+        ),
+    }
+}
+
+fn cause(refusal: Refusal, limits: Limits) -> String {
+    match refusal {
+        Refusal::Full => format!(
+            "The table is full: a step needs more than its {} rows. Not safe, not broken: unknown.{}",
+            grouped(limits.rows),
+            if limits.rows < Limits::LARGEST.rows { " Take a larger table: --rows" } else { "" }
+        ),
+        _ => format!(
+            "The {} rounds are used up. Not safe, not broken: unknown. Take more: --rounds",
+            grouped(limits.rounds)
+        ),
+    }
+}
+
+/// A run, a line for each press.
+fn shown(room: &Room, asked: &Asked, run: &Run, whole: bool) -> String {
+    let presses = run.states.len() - 1;
+    let steps: Vec<(String, String)> = (run.states.windows(2))
+        .map(|pair| {
+            let name = press(room, pair[0], pair[1]).unwrap_or("?");
+            (name.to_string(), echo::state(room, pair[1]))
+        })
+        .collect();
+    let widest = steps
+        .iter()
+        .map(|(name, _)| name.chars().count())
+        .max()
+        .unwrap_or(0)
+        .max("start".len());
+    let digits = presses.to_string().len();
+    let line = |number: &str, name: &str, state: &str| {
+        format!("  {number:>digits$}  {name:widest$}  {state}\n")
+    };
+    let mut text = format!("  {}\n", introduction(run, presses));
+    text += &line("", "start", &echo::state(room, run.states[0]));
+    let hidden = match whole || presses <= FIRST_STEPS + LAST_STEPS {
+        true => presses..presses,
+        false => FIRST_STEPS..presses - LAST_STEPS,
+    };
+    for (at, (name, state)) in steps.iter().enumerate() {
+        if at == hidden.start && !hidden.is_empty() {
+            text += &format!(
+                "  ... {} presses more; --whole-run shows them\n",
+                grouped(hidden.len() as u32)
+            );
+        }
+        if !hidden.contains(&at) {
+            text += &line(&(at + 1).to_string(), name, state);
+        }
+    }
+    text + &closing(room, asked, run.end)
+}
+
+fn introduction(run: &Run, presses: usize) -> String {
+    let number = match presses {
+        0 => return "At the start already:".to_string(),
+        1 => return "One press does it:".to_string(),
+        _ => format!("{} presses do it", grouped(presses as u32)),
+    };
+    match run.end {
+        End::Circle(_) => format!(
+            "{}, the shortest way into a circle of presses:",
+            number.replace("do it", "from the start")
+        ),
+        _ => format!("{number}, and no fewer:"),
+    }
+}
+
+/// What is wrong at the end of a run, where the question does not say it by itself.
+fn closing(room: &Room, asked: &Asked, end: End) -> String {
+    let (first, second) = match asked {
+        Asked::Never(x) | Asked::AlwaysPossible(x) => (echo::cond(room, x), String::new()),
+        Asked::Until(x, y) => (echo::cond(room, x), echo::cond(room, y)),
+    };
+    let again = |state: String| {
+        format!(
+            "  That is {state} again: so it can go on for ever, and \"{second}\" need not come.\n"
+        )
+    };
+    match end {
+        End::Reached => String::new(),
+        End::NoWay => format!("  From there no presses lead to \"{first}\".\n"),
+        End::Lost => {
+            format!("  There \"{first}\" does not hold, and \"{second}\" has not come.\n")
+        }
+        End::Stuck => format!("  There no press works, and \"{second}\" has not come.\n"),
+        End::Circle(0) => again("the start".to_string()),
+        End::Circle(place) => again(format!("the state after press {place}")),
+    }
+}
+
+/// What the two do not agree on, and for which question.
+pub fn difference(difference: &Difference, asked: &str) -> String {
+    format!(
+        "NO VERDICT  {asked}\n            \
+         The table and a plain walk over all states do not agree: {}.\n            \
+         This is a fault of the command room, not of the file. Do not hand over by it, and please report the file.\n",
+        difference.says
+    )
+}
+
+/// The line above the verdicts.
+pub fn heading(room: &Room) -> String {
+    let mut presses: Vec<&str> = room.rules.iter().map(|rule| rule.press.as_str()).collect();
+    presses.sort_unstable();
+    presses.dedup();
+    let count = |number: usize, one: &str, more: &str| match number {
+        1 => format!("1 {one}"),
+        _ => format!("{} {more}", grouped(number as u32)),
+    };
+    format!(
+        "{}, {}. Start: {}.\n",
+        count(room.states() as usize, "state", "states"),
+        count(presses.len(), "press", "presses"),
+        echo::state(room, room.start)
+    )
+}
+
+/// The last line.
+pub fn summary(verdicts: &[Verdict]) -> String {
+    let count =
+        |wanted: fn(&Verdict) -> bool| verdicts.iter().filter(|verdict| wanted(verdict)).count();
+    let broken = count(|verdict| matches!(verdict, Verdict::Broken(_)));
+    let none = count(|verdict| matches!(verdict, Verdict::None(_)));
+    let of = verdicts.len();
+    match outcome(verdicts) {
+        Outcome::Safe if of == 1 => "SAFE.\n".to_string(),
+        Outcome::Safe => format!("SAFE: all {of} questions.\n"),
+        Outcome::Broken if none == 0 => {
+            format!("BROKEN: {broken} of {of} questions. Do not hand over.\n")
+        }
+        Outcome::Broken => {
+            format!("BROKEN: {broken} of {of} questions, and {none} without a verdict. Do not hand over.\n")
+        }
+        _ => format!("NO VERDICT: {none} of {of} questions. Do not hand over.\n"),
+    }
+}
+
+/// What is no mistake, but may not be meant.
+pub fn notes(room: &Room, walk: &Walk) -> Vec<String> {
+    let mut notes = Vec::new();
+    for part in &room.parts {
+        let place = room.parts.iter().position(|other| other.name == part.name);
+        let changes = |rule: &Rule| rule.effects.iter().any(|effect| Some(effect.part) == place);
+        if !room.rules.iter().any(changes) {
+            notes.push(format!(
+                "no press changes {}: it stays as it is at the start.",
+                part.name
+            ));
+        }
+    }
+    for (place, named) in room.named.iter().enumerate() {
+        if !sense::uses(room, place) {
+            notes.push(format!(
+                "line {}: \"{}\" is named and never used.",
+                named.line, named.name
+            ));
+        }
+    }
+    let reached = walk.reached(room.start);
+    let states = members(&reached);
+    for rule in &room.rules {
+        if !states.iter().any(|&state| room.works(rule, state)) {
+            notes.push(format!(
+                "line {}: {} never works in a state that presses lead to.",
+                rule.line, rule.press
+            ));
+        }
+    }
+    for (at, rule) in room.rules.iter().enumerate() {
+        let both = room.rules[..at].iter().find(|other| {
+            let differ = |state: u32| {
+                let (one, two) = (room.pressed(other, state), room.pressed(rule, state));
+                one.is_some() && two.is_some() && one != two
+            };
+            other.press == rule.press && states.iter().any(|&state| differ(state))
+        });
+        if let Some(other) = both {
+            notes.push(format!(
+                "lines {} and {}: {} can do one or the other in the same state.",
+                other.line, rule.line, rule.press
+            ));
+        }
+    }
+    notes
+}

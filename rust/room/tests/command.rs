@@ -1,0 +1,391 @@
+//! The command itself: what it prints, and its exit status.
+use std::io::Write;
+use std::process::{Command, Output, Stdio};
+use std::time::{Duration, Instant};
+
+const EXAMPLES: &str = concat!(env!("CARGO_MANIFEST_DIR"), "/../../examples");
+
+fn room(arguments: &[&str]) -> Command {
+    let mut command = Command::new(env!("CARGO_BIN_EXE_room"));
+    command.args(arguments).current_dir(EXAMPLES);
+    command
+}
+
+/// What is printed, what stands on standard error, and the status. A quick build's own line is left out.
+fn said(output: Output) -> (String, String, i32) {
+    let text = |bytes: Vec<u8>| String::from_utf8(bytes).unwrap();
+    let lines = text(output.stdout);
+    let kept = lines
+        .lines()
+        .filter(|line| !line.starts_with("(A quick build"));
+    let printed: String = kept.map(|line| format!("{line}\n")).collect();
+    (printed, text(output.stderr), output.status.code().unwrap())
+}
+
+fn run(arguments: &[&str]) -> (String, String, i32) {
+    said(room(arguments).output().unwrap())
+}
+
+/// A run with a text on standard input.
+fn given(arguments: &[&str], text: &[u8]) -> (String, String, i32) {
+    let mut child = room(arguments)
+        .stdin(Stdio::piped())
+        .stdout(Stdio::piped())
+        .stderr(Stdio::piped())
+        .spawn()
+        .unwrap();
+    // The command may end before it has read all.
+    let _ = child.stdin.take().unwrap().write_all(text);
+    said(child.wait_with_output().unwrap())
+}
+
+/// A room of n things: each press turns one over, where all before the one before it are off and that one is on.
+fn gray(n: usize) -> String {
+    let things: Vec<String> = (0..n).map(|k| format!("t{k}")).collect();
+    let mut text = format!(
+        "things: {}\nstart: all off\npress T0: t0 turns over\n",
+        things.join(" ")
+    );
+    for k in 1..n {
+        let mut when: Vec<String> = (0..k - 1).map(|j| format!("not t{j}")).collect();
+        when.push(format!("t{}", k - 1));
+        text += &format!("press T{k}: t{k} turns over when {}\n", when.join(" and "));
+    }
+    let none: Vec<String> = (0..n - 1).map(|k| format!("not t{k}")).collect();
+    text + &format!(
+        "never t{} and {}\nalways possible: not t0\n",
+        n - 1,
+        none.join(" and ")
+    )
+}
+
+#[test]
+fn the_hall() {
+    let hall = "\
+64 states, 6 presses. Start: all off.
+BROKEN      never howl
+  6 presses do it, and no fewer:
+     start    all off
+  1  MIC B    mic-B
+  2  START    mic-B, song
+  3  ECHO     mic-B, echo, song, latch
+  4  STOP     mic-B, latch
+  5  MONITOR  mic-B, monitor, latch
+  6  START    mic-B, echo, song, monitor, latch
+SAFE        always possible: quiet
+SAFE        always possible: song
+BROKEN: 1 of 3 questions. Do not hand over.
+";
+    assert_eq!(run(&["hall.room"]), (hall.to_string(), String::new(), 1));
+}
+
+/// The example rooms print what the documents show.
+#[test]
+fn as_documented() {
+    let documents = ["../README.md", "README.md"]
+        .map(|name| std::fs::read_to_string(format!("{EXAMPLES}/{name}")).unwrap());
+    for (name, status) in [("hall.room", 1), ("mended.room", 0), ("booth.room", 0)] {
+        let (printed, errors, found) = run(&[name]);
+        assert_eq!((errors.as_str(), found), ("", status));
+        let shown: String = printed
+            .lines()
+            .map(|line| format!("    {line}\n"))
+            .collect();
+        assert!(
+            documents.iter().any(|text| text.contains(&shown)),
+            "no document shows\n{shown}"
+        );
+    }
+}
+
+#[test]
+fn sixteen_bits_in_under_a_second() {
+    let chain: String = {
+        let things: Vec<String> = (0..16).map(|k| format!("t{k}")).collect();
+        let mut text = format!(
+            "things: {}\nstart: all off\npress T0: t0 turns over\n",
+            things.join(" ")
+        );
+        for k in 1..16 {
+            text += &format!("press T{k}: t{k} turns over when t{}\n", k - 1);
+        }
+        text + &format!(
+            "never {}\nalways possible: not t0 and not t15\nnot t15 until t1\n",
+            things.join(" and ")
+        )
+    };
+    let mut took = Duration::MAX;
+    // The least of three, since others may use the machine.
+    for _ in 0..3 {
+        let start = Instant::now();
+        let (printed, _, status) = given(&["-"], chain.as_bytes());
+        took = took.min(start.elapsed());
+        assert!(
+            printed.starts_with("65,536 states, 16 presses.") && status == 1,
+            "{printed}"
+        );
+        assert!(
+            printed.contains("16 presses do it, and no fewer:"),
+            "{printed}"
+        );
+    }
+    assert!(took < Duration::from_secs(1), "{took:?}");
+}
+
+#[test]
+fn a_long_run_is_shortened() {
+    let (printed, _, status) = given(&["-"], gray(8).as_bytes());
+    assert_eq!(status, 1);
+    assert!(
+        printed.contains("255 presses do it, and no fewer:"),
+        "{printed}"
+    );
+    assert!(printed.contains("\n  ... 230 presses more; --whole-run shows them\n"));
+    assert_eq!(
+        printed.lines().filter(|line| line.contains("  T")).count(),
+        25
+    );
+    let (printed, _, _) = given(&["--whole-run", "-"], gray(8).as_bytes());
+    assert_eq!(
+        printed.lines().filter(|line| line.contains("  T")).count(),
+        255
+    );
+}
+
+#[test]
+fn no_verdict() {
+    let (printed, errors, status) = run(&["--rows", "100", "mended.room"]);
+    let cause = "The table is full: a step needs more than its 100 rows. Not safe, not broken: unknown. Take a larger table: --rows\n";
+    assert!(
+        printed.contains(&format!("NO VERDICT  never howl\n            {cause}")),
+        "{printed}"
+    );
+    assert!(printed.ends_with("NO VERDICT: 3 of 3 questions. Do not hand over.\n"));
+    assert_eq!((errors.as_str(), status), ("", 3));
+    let (printed, _, status) = run(&["--rounds", "1", "mended.room"]);
+    let cause = "The 1 rounds are used up. Not safe, not broken: unknown. Take more: --rounds\n";
+    assert!(
+        printed.contains(&format!(
+            "NO VERDICT  always possible: quiet\n            {cause}"
+        )),
+        "{printed}"
+    );
+    assert_eq!(status, 3);
+    // A question that is broken counts more than one without a verdict.
+    let (printed, _, status) = run(&["--rounds", "8", "hall.room"]);
+    assert!(
+        printed.ends_with(
+            "SAFE        always possible: song\nBROKEN: 1 of 3 questions. Do not hand over.\n"
+        ),
+        "{printed}"
+    );
+    assert_eq!(status, 1);
+}
+
+/// The peak is enough, and one row fewer is not.
+#[test]
+fn peaks() {
+    for (name, status) in [("hall.room", 1), ("mended.room", 0), ("booth.room", 0)] {
+        let (printed, _, _) = run(&["--peak", name]);
+        let last = printed.lines().last().unwrap();
+        let rows = last.strip_prefix("A table of ").and_then(|rest| {
+            rest.strip_suffix(" rows is enough for these questions, and no smaller one.")
+        });
+        let rows: u32 = rows.unwrap().replace(',', "").parse().unwrap();
+        assert_eq!(
+            run(&["--peak", "--rows", &rows.to_string(), name]),
+            (printed, String::new(), status)
+        );
+        let (printed, _, _) = run(&["--rows", &(rows - 1).to_string(), name]);
+        assert!(printed.contains("NO VERDICT"), "{printed}");
+    }
+}
+
+#[test]
+fn bad_files() {
+    let (printed, errors, status) = given(
+        &["-"],
+        b"things: mic\nstart: all off\npress MIC: mick on\nnever mic\n",
+    );
+    let expected = "standard input, line 3: nothing here is called \"mick\". Is \"mic\" meant?\n    press MIC: mick on\n               ^^^^\n\
+                    1 mistake. Nothing was asked.\n";
+    assert_eq!(
+        (printed.as_str(), errors.as_str(), status),
+        ("", expected, 2)
+    );
+    let (_, errors, status) = given(&["-"], b"things: mic\nstart: \xff\n");
+    assert_eq!(
+        (errors.as_str(), status),
+        ("standard input, line 2: this is no text (UTF-8)\n", 2)
+    );
+    let (_, errors, status) = run(&["none.room"]);
+    assert!(
+        errors.starts_with("room: none.room cannot be read: "),
+        "{errors}"
+    );
+    assert_eq!(status, 2);
+    let many: String = (0..30).map(|k| format!("x{k}\n")).collect();
+    let (_, errors, _) = given(&["-"], many.as_bytes());
+    assert!(
+        errors.ends_with("30 mistakes, of which the first 20 are shown. Nothing was asked.\n"),
+        "{errors}"
+    );
+}
+
+#[test]
+fn command_lines() {
+    let cases: [(&[&str], &str); 8] = [
+        (&[], "no file is named"),
+        (&["--perfect", "hall.room"], "--perfect is no option"),
+        (&["hall.room", "mended.room"], "one file at a time"),
+        (
+            &["--echo", "--records", "hall.room"],
+            "one of --echo, --records and --explain at a time",
+        ),
+        (&["--rows"], "--rows needs a number from 1 to 60000"),
+        (
+            &["--rows", "0", "hall.room"],
+            "--rows needs a number from 1 to 60000",
+        ),
+        (
+            &["--rows", "60001", "hall.room"],
+            "--rows needs a number from 1 to 60000",
+        ),
+        (
+            &["--rounds", "many", "hall.room"],
+            "--rounds needs a number from 0 to 4294967295",
+        ),
+    ];
+    for (arguments, says) in cases {
+        let expected = format!("room: {says}. See room --help\n");
+        assert_eq!(run(arguments), (String::new(), expected, 2));
+    }
+}
+
+#[test]
+fn help_and_version() {
+    let (printed, errors, status) = run(&["--help"]);
+    assert!(
+        printed.starts_with("room FILE ")
+            && printed.contains("Exit status: 0 all SAFE, 1 one BROKEN, 2 a mistake")
+    );
+    assert_eq!((errors.as_str(), status), ("", 0));
+    let (printed, _, status) = run(&["--version"]);
+    let library = if kudzuclamp::PROVED {
+        "is proved"
+    } else {
+        "is NOT proved"
+    };
+    assert!(
+        printed.starts_with(&format!("room {} (", env!("CARGO_PKG_VERSION")))
+            && printed.contains(library)
+    );
+    assert_eq!(status, 0);
+}
+
+/// The room that the help shows is one.
+#[test]
+fn the_room_in_the_help() {
+    let (printed, _, _) = run(&["--help"]);
+    let from = printed.find("  # what is behind").unwrap();
+    let to = printed.find("\nA press works").unwrap();
+    let lines = printed[from..to]
+        .lines()
+        .map(|line| match line.trim_start().split_once("   ") {
+            Some((said, _)) => format!("{said}\n"),
+            None => format!("{}\n", line.trim_start()),
+        });
+    let text: String = lines.collect();
+    let (printed, errors, status) = given(&["-"], text.as_bytes());
+    assert_eq!((errors.as_str(), status), ("", 1), "{text}");
+    assert!(printed.contains("24 states, 3 presses."), "{printed}");
+}
+
+#[test]
+fn echo_and_records() {
+    let (printed, errors, status) = run(&["--echo", "booth.room"]);
+    assert!(printed.starts_with("# as understood: 288 states\nthings: paid light mic echo song\nselector volume: low middle loud\n"));
+    let press = "press OUT: paid off, light off, mic off, echo off when paid and not song   # 72 of 288 states\n    # keeps song, volume, key\n";
+    assert!(printed.contains(press), "{printed}");
+    assert_eq!((errors.as_str(), status), ("", 0));
+    let (again, _, _) = given(&["--echo", "-"], printed.as_bytes());
+    assert_eq!(again, printed);
+
+    let (records, errors, status) = run(&["--records", "hall.room"]);
+    assert_eq!((errors.as_str(), status), ("", 0));
+    assert!(
+        records.contains("\n# fresh: 6 bits, 1,344 rows\n00 05 01 01 06 05 40\n"),
+        "{records}"
+    );
+    let (explained, _, status) = given(&["--explain", "-"], records.as_bytes());
+    assert_eq!(
+        (explained.as_str(), status),
+        ("15 records: 15 answered, 0 refused\n", 0)
+    );
+}
+
+#[test]
+fn explained_records() {
+    let (printed, errors, status) = run(&["--explain", "hall.records"]);
+    assert_eq!((errors.as_str(), status), ("", 2));
+    // Those that the hall's own lines show as refused.
+    let refused: Vec<&str> = printed
+        .lines()
+        .filter(|line| line.contains("is refused with"))
+        .collect();
+    assert_eq!(refused.len(), 3, "{printed}");
+    assert!(
+        refused
+            .iter()
+            .zip(["with 9", "with 7", "with 8"])
+            .all(|(line, number)| line.contains(number)),
+        "{printed}"
+    );
+    let text = "00 05 01 01 02 00 64\n00 0A 01 02 00 00 05 01 03 20 40 01";
+    let (printed, _, status) = given(&["--explain", "-"], text.as_bytes());
+    let expected = "line 2: record 2 is refused with 4: the bytes are no formula for this call\n    \
+                    line 2, byte 10 of the record, 40: a relation has only constants, NOT, AND, OR and bits\n\
+                    2 records: 1 answered, 1 refused\n";
+    assert_eq!((printed.as_str(), status), (expected, 2));
+}
+
+/// What is said where table and walk differ: no room that is read leads there.
+#[test]
+fn differences() {
+    let difference = room::ask::Difference {
+        says: "the table finds 3 states, the walk 4".to_string(),
+    };
+    let expected = "NO VERDICT  never howl\n            The table and a plain walk over all states do not agree: the table finds 3 states, \
+                    the walk 4.\n            This is a fault of the command room, not of the file. Do not hand over by it, and please \
+                    report the file.\n";
+    assert_eq!(
+        room::report::difference(&difference, "never howl"),
+        expected
+    );
+    assert_eq!(room::report::Outcome::Differs.status(), 4);
+}
+
+/// Where nobody looks, no progress is told; where nobody reads on, the status still counts.
+#[test]
+fn pipes() {
+    assert_eq!(run(&["hall.room"]).1, "");
+    let mut child = room(&["hall.room"]).stdout(Stdio::piped()).spawn().unwrap();
+    drop(child.stdout.take());
+    assert_eq!(child.wait().unwrap().code(), Some(1));
+}
+
+/// Things that are no mistakes, but may not be meant.
+#[test]
+fn notes() {
+    let text = "things: mic lamp song\nstart: all off\nloud means mic and song\npress MIC: mic on\npress MIC: mic on, song on\n\
+                press END: song off when lamp\nnever lamp\n";
+    let (printed, _, status) = given(&["-"], text.as_bytes());
+    let expected = "8 states, 2 presses. Start: all off.\n\
+        SAFE        never lamp\n\
+        Note: no press changes lamp: it stays as it is at the start.\n\
+        Note: line 3: \"loud\" is named and never used.\n\
+        Note: line 6: END never works in a state that presses lead to.\n\
+        Note: lines 4 and 5: MIC can do one or the other in the same state.\n\
+        SAFE.\n";
+    assert_eq!((printed.as_str(), status), (expected, 0));
+}

@@ -1,0 +1,381 @@
+//! Random rooms: the library and the plain walk agree, runs are runs and shortest ones, the records say the same; and where the
+//! two are given different rooms, no verdict passes that is not both rooms' own.
+use room::ask::{press, Asker, Difference, Limits, Verdict};
+use room::echo::echo;
+use room::plan::{plan, Plan, ANSWER, START_IN_ANSWER};
+use room::read::read;
+use room::records::records;
+use room::room::{Asked, Change, Room};
+use room::sense;
+use room::walk::{End, Run, Walk};
+use std::collections::VecDeque;
+
+/// Numbers of a small generator, each below a bound.
+struct Drawn(u64);
+
+impl Drawn {
+    fn below(&mut self, bound: usize) -> usize {
+        self.0 = self
+            .0
+            .wrapping_mul(6364136223846793005)
+            .wrapping_add(1442695040888963407);
+        (self.0 >> 33) as usize % bound
+    }
+
+    /// A condition over so many things and selectors.
+    fn cond(&mut self, things: usize, selectors: usize, depth: usize) -> String {
+        if depth == 0 || self.below(3) == 0 {
+            let at = self.below(things + selectors);
+            return match at < things {
+                true => format!("t{at}"),
+                false => format!("s{} = p{}", at - things, self.below(3)),
+            };
+        }
+        let (f, g) = (
+            self.cond(things, selectors, depth - 1),
+            self.cond(things, selectors, depth - 1),
+        );
+        match self.below(3) {
+            0 => format!("not ({f})"),
+            1 => format!("({f}) and ({g})"),
+            _ => format!("({f}) or ({g})"),
+        }
+    }
+
+    fn effect(&mut self, at: usize, things: usize) -> String {
+        if at >= things {
+            return format!("s{} = p{}", at - things, self.below(3));
+        }
+        let verb = ["on", "off", "turns over"][self.below(3)];
+        format!("t{at} {verb}")
+    }
+
+    /// A room file.
+    fn room(&mut self) -> String {
+        let (things, selectors) = (1 + self.below(4), self.below(3));
+        let names: Vec<String> = (0..things).map(|k| format!("t{k}")).collect();
+        let mut text = format!("things: {}\n", names.join(" "));
+        for k in 0..selectors {
+            let positions = ["p0 p1 p2", "p0 p1 p2 p3 p4", "p0 p1 p2 p3"][self.below(3)];
+            text += &format!("selector s{k}: {positions}\n");
+        }
+        text += &format!("start: {}\n", ["all off", "t0 on"][self.below(2)]);
+        for k in 0..1 + self.below(6) {
+            let first = self.below(things + selectors);
+            let mut effects = vec![self.effect(first, things)];
+            let second = self.below(things + selectors);
+            if second != first {
+                effects.push(self.effect(second, things));
+            }
+            let when = match self.below(3) {
+                0 => String::new(),
+                _ => format!(" when {}", self.cond(things, selectors, 2)),
+            };
+            text += &format!("press B{}: {}{when}\n", k / 2, effects.join(", "));
+        }
+        for _ in 0..3 {
+            let (f, g) = (
+                self.cond(things, selectors, 2),
+                self.cond(things, selectors, 2),
+            );
+            text += &match self.below(3) {
+                0 => format!("never {f}\n"),
+                1 => format!("always possible: {f}\n"),
+                _ => format!("{f} until {g}\n"),
+            };
+        }
+        text
+    }
+}
+
+/// Rooms that make sense, as many as wanted.
+fn rooms(seed: u64, count: usize) -> Vec<Room> {
+    let mut draw = Drawn(seed);
+    let mut rooms = Vec::new();
+    while rooms.len() < count {
+        let room = read(&draw.room()).expect("a drawn room can be read");
+        if sense::mistakes(&room).is_empty() {
+            rooms.push(room);
+        }
+    }
+    rooms
+}
+
+/// The verdicts on a room, by a plan and a walk.
+fn verdicts(
+    room: &Room,
+    plan: &Plan,
+    walk: &Walk,
+    limits: Limits,
+) -> Result<Vec<Verdict>, Difference> {
+    let mut asker = Asker::new(room, walk, plan, limits)?;
+    (0..room.questions.len())
+        .map(|place| asker.ask(place))
+        .collect()
+}
+
+fn own(room: &Room) -> Vec<Verdict> {
+    let plan = plan(room).unwrap();
+    verdicts(room, &plan, &Walk::new(room), Limits::LARGEST)
+        .unwrap_or_else(|difference| panic!("{}\n{}", difference.says, echo(room)))
+}
+
+/// How many presses a state is from the start, at least, through states that a test admits before it.
+fn presses_to(
+    room: &Room,
+    goal: impl Fn(u32) -> bool,
+    through: impl Fn(u32) -> bool,
+) -> Option<usize> {
+    let mut seen = vec![false; room.patterns() as usize];
+    seen[room.start as usize] = true;
+    let mut open = VecDeque::from([(room.start, 0)]);
+    while let Some((state, presses)) = open.pop_front() {
+        if goal(state) {
+            return Some(presses);
+        }
+        for to in room
+            .rules
+            .iter()
+            .filter(|_| through(state))
+            .filter_map(|rule| room.pressed(rule, state))
+        {
+            if !std::mem::replace(&mut seen[to as usize], true) {
+                open.push_back((to, presses + 1));
+            }
+        }
+    }
+    None
+}
+
+/// A run into trouble shows what it says, and no shorter one does.
+fn check(room: &Room, asked: &Asked, run: &Run) {
+    let presses = run.states.len() - 1;
+    let last = run.states[presses];
+    assert_eq!(run.states[0], room.start);
+    assert!(run
+        .states
+        .windows(2)
+        .all(|pair| press(room, pair[0], pair[1]).is_some()));
+    let leads = |cond, from: u32| {
+        let there = Room {
+            start: from,
+            ..room.clone()
+        };
+        presses_to(&there, |state| room.holds(cond, state), |_| true).is_some()
+    };
+    let stuck = |state: u32| {
+        room.rules
+            .iter()
+            .all(|rule| room.pressed(rule, state).is_none())
+    };
+    match asked {
+        Asked::Never(x) => {
+            assert!(room.holds(x, last) && run.end == End::Reached);
+            assert_eq!(
+                presses_to(room, |state| room.holds(x, state), |_| true),
+                Some(presses)
+            );
+        }
+        Asked::AlwaysPossible(x) => {
+            assert!(!leads(x, last) && run.end == End::NoWay);
+            assert_eq!(
+                presses_to(room, |state| !leads(x, state), |_| true),
+                Some(presses)
+            );
+        }
+        Asked::Until(x, y) => {
+            assert!(run.states.iter().all(|&state| !room.holds(y, state)));
+            assert!(run.states[..presses]
+                .iter()
+                .all(|&state| room.holds(x, state)));
+            let lost =
+                |state: u32| !room.holds(y, state) && (!room.holds(x, state) || stuck(state));
+            let shortest = presses_to(room, lost, |state| !room.holds(y, state));
+            match run.end {
+                End::Lost => assert!(!room.holds(x, last) && shortest == Some(presses)),
+                End::Stuck => assert!(stuck(last) && shortest == Some(presses)),
+                End::Circle(place) => {
+                    assert!(run.states[place] == last && place < presses && shortest.is_none())
+                }
+                _ => panic!("an until does not end so"),
+            }
+        }
+    }
+}
+
+#[test]
+fn the_library_and_the_walk_agree() {
+    let mut kinds = std::collections::BTreeMap::new();
+    for room in rooms(1, 1_500) {
+        for (question, verdict) in room.questions.iter().zip(own(&room)) {
+            let kind = match (&question.asked, &verdict) {
+                (_, Verdict::Broken(run)) => format!("{:?}", run.end)
+                    .split('(')
+                    .next()
+                    .unwrap_or_default()
+                    .to_string(),
+                (Asked::Never(_), _) => "never: safe".to_string(),
+                (Asked::AlwaysPossible(_), _) => "always possible: safe".to_string(),
+                (Asked::Until(..), _) => "until: safe".to_string(),
+            };
+            *kinds.entry(kind).or_insert(0) += 1;
+            if let Verdict::Broken(run) = &verdict {
+                check(&room, &question.asked, run);
+            }
+        }
+    }
+    println!("{kinds:?}");
+    assert!(
+        kinds.len() == 8 && kinds.values().all(|&count| count > 20),
+        "{kinds:?}"
+    );
+}
+
+/// The reading back of a room has the same verdicts.
+#[test]
+fn read_back() {
+    for room in rooms(2, 200) {
+        let again = read(&echo(&room)).unwrap();
+        assert_eq!(own(&again), own(&room));
+    }
+}
+
+/// The records, played by the library, count 1 or 0 states where the verdicts say so.
+#[test]
+fn records_say_the_same() {
+    for room in rooms(3, 200) {
+        let plan = plan(&room).unwrap();
+        let text = records(&room, &plan, Limits::LARGEST, "a room");
+        let hex = text.lines().map(|line| line.split('#').next().unwrap());
+        let bytes: Vec<u8> = hex
+            .flat_map(str::split_whitespace)
+            .map(|byte| u8::from_str_radix(byte, 16).unwrap())
+            .collect();
+        let outcomes = kudzuclamp::play(&mut vec![0; 16_384], &bytes).unwrap();
+        assert!(outcomes.iter().all(|outcome| outcome.refusal.is_none()));
+        let mut at = 1 + plan.relations.len() + plan.sets.len();
+        for (asking, verdict) in plan.questions.iter().zip(own(&room)) {
+            at += asking.sets.len();
+            assert_eq!(asking.sets.last().unwrap().place, START_IN_ANSWER);
+            let found = outcomes[at - 1].value == 1;
+            assert_eq!(found == asking.holds, verdict == Verdict::Safe);
+        }
+        assert_eq!(at, outcomes.len());
+    }
+}
+
+/// A room that is another one by one change.
+fn changed(room: &Room, draw: &mut Drawn) -> Room {
+    let mut other = room.clone();
+    let rule = draw.below(other.rules.len());
+    match draw.below(4) {
+        0 => other.start ^= 1,
+        1 => other.rules[rule].when = None,
+        2 => {
+            let effect = &mut other.rules[rule].effects[0];
+            effect.change = match effect.change {
+                Change::Becomes(value) => Change::Becomes(1 - value.min(1)),
+                Change::TurnsOver => Change::Becomes(1),
+            };
+        }
+        _ if other.rules.len() > 1 => {
+            other.rules.remove(rule);
+        }
+        _ => {}
+    }
+    other
+}
+
+/// The library is asked about one room, the walk goes through another: where their verdicts differ, that is told.
+#[test]
+fn differences_are_found() {
+    let mut draw = Drawn(4);
+    let (mut told, mut differ) = (0, 0);
+    for room in rooms(5, 1_000) {
+        let other = changed(&room, &mut draw);
+        let passed = verdicts(
+            &other,
+            &plan(&room).unwrap(),
+            &Walk::new(&other),
+            Limits::LARGEST,
+        );
+        let safe = |verdicts: &[Verdict]| -> Vec<bool> {
+            verdicts
+                .iter()
+                .map(|verdict| *verdict == Verdict::Safe)
+                .collect()
+        };
+        let (one, two) = (safe(&own(&room)), safe(&own(&other)));
+        differ += usize::from(one != two);
+        match passed {
+            Err(_) => told += 1,
+            Ok(verdicts) => assert!(
+                safe(&verdicts) == one && one == two,
+                "{}{}",
+                echo(&room),
+                echo(&other)
+            ),
+        }
+    }
+    println!("{told} told, {differ} with other verdicts");
+    assert!(differ > 100 && told > differ);
+}
+
+/// Answers that are damaged on the way: each set of the last question is another one.
+#[test]
+fn damaged_plans_are_found() {
+    let text = "things: a b c\nstart: all off\npress A: a on\npress B: b on when a\npress C: c turns over\nalways possible: c\n";
+    let room = read(text).unwrap();
+    let good = plan(&room).unwrap();
+    let asked = |plan: &Plan| verdicts(&room, plan, &Walk::new(&room), Limits::LARGEST);
+    assert_eq!(asked(&good), Ok(vec![Verdict::Safe]));
+    let sets = good.questions[0].sets.len() - 1;
+    for at in 0..sets {
+        let mut bad = good.clone();
+        let set = &mut bad.questions[0].sets[at];
+        set.formula = !&set.formula;
+        assert!(asked(&bad).is_err(), "set {at}");
+    }
+    for place in 0..2 {
+        let mut bad = good.clone();
+        bad.sets[place].formula = !&bad.sets[place].formula;
+        assert!(asked(&bad).is_err());
+    }
+    let mut bad = good.clone();
+    bad.relations[0].formula = kudzuclamp::Formula::never();
+    assert!(asked(&bad).is_err());
+    // What is no formula is told, too, and is no missing verdict.
+    let mut bad = good.clone();
+    bad.questions[0].sets[0].formula = kudzuclamp::Formula::current(7);
+    let says = asked(&bad).unwrap_err().says;
+    assert_eq!(
+        says,
+        "the library refuses the question with 4: the bytes are no formula for this call"
+    );
+    let mut bad = good.clone();
+    bad.questions[0].holds = !bad.questions[0].holds;
+    assert!(asked(&bad).is_err());
+    assert_eq!(good.questions[0].sets[sets - 1].place, ANSWER);
+}
+
+/// A small table or few rounds give no verdict, and never a wrong one.
+#[test]
+fn limits() {
+    let (mut full, mut spent) = (0, 0);
+    for room in rooms(6, 60) {
+        let (walk, plan, good) = (Walk::new(&room), plan(&room).unwrap(), own(&room));
+        for rows in [1, 5, 10, 20, 40, 80] {
+            for rounds in [0, 1, 2, 3, 60_000] {
+                let found = verdicts(&room, &plan, &walk, Limits { rows, rounds }).unwrap();
+                for (verdict, good) in found.iter().zip(&good) {
+                    match verdict {
+                        Verdict::None(kudzuclamp::Refusal::Full) => full += 1,
+                        Verdict::None(kudzuclamp::Refusal::Spent) => spent += 1,
+                        verdict => assert_eq!(verdict, good),
+                    }
+                }
+            }
+        }
+    }
+    assert!(full > 100 && spent > 100, "{full} {spent}");
+}
