@@ -13,5 +13,6 @@ uint32_t kudzuclamp_set(uint32_t *words, size_t size, Account *accounts, size_t 
 uint32_t kudzuclamp_clear(uint32_t *words, size_t size, uint32_t r);
 uint32_t kudzuclamp_collect(uint32_t *words, size_t size, uint32_t *kept);
 uint32_t kudzuclamp_count(const uint32_t *words, size_t size, uint32_t r, uint32_t *states);
+uint32_t kudzuclamp_shortest(uint32_t *words, size_t size, uint16_t *list, size_t room, uint32_t a, uint32_t b, uint32_t t, uint32_t *states);
 uint32_t kudzuclamp_play(uint32_t *words, size_t size, const uint8_t *bytes, size_t length, uint32_t *list, size_t room, size_t *count);
 }

@@ -12,6 +12,7 @@ pub mod evaluate;
 pub mod formula;
 pub mod lists;
 pub mod meaning;
+pub mod paths;
 pub mod random;
 pub mod records;
 pub mod refusal;
