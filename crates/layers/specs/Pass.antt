@@ -10,14 +10,15 @@ use lib.Pow.{pow-mono}
 use lib.Dec.{T, ltb, lt→ltb, ltb→lt}
 use Rattle.mucalculus.specs.Sets.{mem, same, true-of, false-of, same-eq, and-out, or-right}
 use Rattle.layout.specs.Places.{BITS}
+use Rattle.accounts.specs.declared.Count.{Count}
 use Rattle.layout.specs.View.{View}
 use Rattle.diagram.specs.Rows.{Arrow, den}
 use Rattle.diagram.specs.Post.{Denotes}
 use Rattle.diagram.specs.Keep.{Keeps, keeps-denotes}
 use Rattle.soundness.specs.Used.{rowsOf}
 use Rattle.soundness.specs.Filled.{filled}
-use Rattle.table.specs.declared.Made.{Made}
-use Rattle.table.specs.declared.Made.the-variants as made
+use Rattle.counting.specs.declared.Taken.{Taken}
+use Rattle.counting.specs.declared.Taken.the-variants as taken
 use Rattle.collect.specs.Answers.{sound-base}
 use Rattle.book.specs.States.{pairVal, nowOf-pairVal}
 use Rattle.book.specs.Bridge.{fnOf}
@@ -139,17 +140,17 @@ module _ {n N limit : ℕ} {W : View} {t a b : ℕ} (p : PassPre n N limit W t a
         passed : NoneBelow (stopsAt S A) (d + 1)
         passed = none-next (stopsAt S A) d (now .before) (ap₂ _||_ apart (now .grew))
 
-        module _ {Y : View} {o : Made} (v : NextPost n N limit X Y t b x o) where
+        module _ {Y : View} {o : Taken} (v : NextPost n N limit X Y t b x o) where
           after : Steps n W Y
           after = record { moved = moved-on (p .start) (now .layered) v; kept = all-kept (p .start) (now .layered) v }
 
           -- the next layer is full
-          pub pass-full : o ≡ made.Full → Passed n limit W Y t b S A reached.Full
+          pub pass-full : o ≡ taken.Full → Passed n limit W Y t b S A reached.Full
           pass-full e =
               let h = before-last S A (d + 1) passed in
               record { steps = after; ends = full-after limit S d (lastOf S A) (omega arith) (layered-full (p .start) (now .layered) v e) }
 
-          module _ {y : ℕ} (e : o ≡ made.At y) where
+          module _ {y : ℕ} {c : Count} (e : o ≡ taken.At y c) where
             next : Layered n W Y t b S (suc d) y
             next = layered-next (p .start) (now .layered) v e .0
 

@@ -7,6 +7,7 @@ use native.Mathlib.Nat.{lt-of-not-le}
 use native.Mathlib.Decide.{decLe}
 use native.Mathlib.Omega.{arith}
 use lib.Dec.{T}
+use Rattle.accounts.specs.declared.Count.{Count}
 use Rattle.mucalculus.specs.Sets.{mem, length-table, and-in, and-out, true-of, false-of}
 use Rattle.mucalculus.specs.Form.{Pairs}
 use Rattle.mucalculus.specs.Means.{union, sometimes}
@@ -18,18 +19,19 @@ use Rattle.diagram.specs.Keep.{Keeps, keeps-refl, keeps-trans, keeps-within, ke
 use Rattle.soundness.specs.Used.{rowsOf}
 use Rattle.soundness.specs.Filled.{filled, filled-arrow}
 use Rattle.table.specs.Make.{result}
-use Rattle.table.specs.declared.Made.{Made}
-use Rattle.table.specs.declared.Made.the-variants as made
+use Rattle.counting.specs.Taken.{madeIn, countIn}
+use Rattle.counting.specs.declared.Taken.{Taken}
+use Rattle.counting.specs.declared.Taken.the-variants as taken
 use Rattle.operations.specs.Work.{OpFrame}
 use Rattle.steps.specs.Steps.{live-same}
 use Rattle.book.specs.Bridge.{fnOf, fnOfPairs, fnOf-even, Sized}
-use Rattle.book.specs.Verdicts.{fit}
+use Rattle.book.specs.Verdicts.{fit, needingAll, fit-append}
 use Rattle.book.specs.Held.{Held, held-keeps}
 use Rattle.book.specs.Pairs.{PairMatches}
 use Rattle.modal.specs.Chain.{Base, Moved, moved-refl, moved-trans, base-next, base-wf, Ran}
 use Rattle.paths.specs.Runs.{layer, layerNeeds, madeNeeds}
-use Rattle.paths.specs.Exact.{fit-append, made-less}
-use Rattle.layers.specs.Next.{NextPre, NextPost}
+use Rattle.paths.specs.Exact.{made-less}
+use Rattle.layers.specs.Next.{NextPre, uncounted, NextPost}
 
 -- the functions that registers and relations hold, the pairs of relation t and the states of set b
 pub record Scene (n : ℕ) (W : View) (t b : ℕ) : Type 0 where
@@ -68,13 +70,13 @@ pub layer-sized : {n : ℕ} {W : View} {t b : ℕ} (S : Scene n W t b) (i : ℕ)
 layer-sized S zero = S .sized
 layer-sized S (suc i) = length-table _ _
 
-matches-at : (n : ℕ) (rows : Rows) {F : Fn} {a : ℕ} (b : Bool) → PairMatches n rows b F (at a) → (b ≡ true) × Denotes (2 * n) rows a F
-matches-at n rows true m = (refl, m)
-matches-at n rows false m = absurd m
+matches-at : (n : ℕ) (rows : Rows) {F : Fn} {a : ℕ} (c q : Count) (b : Bool) → PairMatches n rows b F c (at a) q → (b ≡ true) × Denotes (2 * n) rows a F
+matches-at n rows c q true m = (refl, m .0)
+matches-at n rows c q false m = absurd m
 
-matches-full : (n : ℕ) (rows : Rows) (F : Fn) (b : Bool) → PairMatches n rows b F noRows → b ≡ false
-matches-full n rows F true m = absurd m
-matches-full n rows F false m = refl
+matches-full : (n : ℕ) (rows : Rows) (F : Fn) (c q : Count) (b : Bool) → PairMatches n rows b F c noRows q → b ≡ false
+matches-full n rows F c q true m = absurd m
+matches-full n rows F c q false m = refl
 
 module _ {n N limit : ℕ} {W : View} {t b : ℕ} (p : Start n N limit W t b) where
   pub layered-start : (S : Scene n W t b) → Layered n W W t b S 0 b
@@ -96,8 +98,14 @@ module _ {n N limit : ℕ} {W : View} {t b : ℕ} (p : Start n N limit W t b) wh
       even = λ v w h. q .layer-is .same v ∙ fnOf-even n (layerOf S i) v w h ∙ sym (q .layer-is .same w);
     }
 
-    module _ {Y : View} {o : Made} (s : NextPost n N limit X Y t b x o) where
-      ran : Ran n N X Y (filled X ++ (x ∷ [])) (fit limit (layerNeeds n (S .fs) (S .R) (S .B) (layerOf S i))) (fnOf n (layerOf S (suc i))) o
+    module _ {Y : View} {o : Taken} (s : NextPost n N limit X Y t b x o) where
+      abbrev layer-needs : List ℕ
+      layer-needs = layerNeeds n (S .fs) (S .R) (S .B) (layerOf S i)
+
+      abbrev Matches : Taken → Type 0
+      Matches z = PairMatches n (rowsOf Y) (fit limit layer-needs) (fnOf n (layerOf S (suc i))) (needingAll (uncounted N) layer-needs) (result (madeIn z)) (countIn z)
+
+      ran : Ran n N X Y (filled X ++ (x ∷ [])) (fit limit layer-needs) (fnOf n (layerOf S (suc i))) (needingAll (uncounted N) layer-needs) o
       ran = s (S .fs) (S .R) (S .B) (layerOf S i) (subst (λ (xs : List ℕ). Held (2 * n) (rowsOf X) xs (S .fs)) (sym same-roots) (held-keeps (S .held) (q .kept)))
           (keeps-denotes (q .kept) (p .t-live) (S .relation)) (keeps-denotes (q .kept) (p .b-live) (S .goal)) (q .layer-is)
 
@@ -117,17 +125,14 @@ module _ {n N limit : ℕ} {W : View} {t b : ℕ} (p : Start n N limit W t b) wh
       after-wf = ran .evals .wf
 
       -- the next layer
-      pub layered-next : {y : ℕ} → o ≡ made.At y → Layered n W Y t b S (suc i) y × (fit limit (layerNeeds n (S .fs) (S .R) (S .B) (layerOf S i)) ≡ true)
-      layered-next {y} e =
-          let m = matches-at n (rowsOf Y) (fit limit (layerNeeds n (S .fs) (S .R) (S .B) (layerOf S i)))
-          (subst (λ (z : Made). PairMatches n (rowsOf Y) (fit limit (layerNeeds n (S .fs) (S .R) (S .B) (layerOf S i))) (fnOf n (layerOf S (suc i))) (result z)) e (ran .evals .result)) in
+      pub layered-next : {y : ℕ} {q : Count} → o ≡ taken.At y q → Layered n W Y t b S (suc i) y × (fit limit (layerNeeds n (S .fs) (S .R) (S .B) (layerOf S i)) ≡ true)
+      layered-next {q = q} e =
+          let m = matches-at n (rowsOf Y) (needingAll (uncounted N) layer-needs) q (fit limit layer-needs) (subst Matches e (ran .evals .result)) in
           (record { moved = moved-on; kept = kept-on; layer-is = m .1 }, m .0)
 
       -- it is full
-      pub layered-full : o ≡ made.Full → fit limit (layerNeeds n (S .fs) (S .R) (S .B) (layerOf S i)) ≡ false
-      layered-full e =
-          matches-full n (rowsOf Y) (fnOf n (layerOf S (suc i))) (fit limit (layerNeeds n (S .fs) (S .R) (S .B) (layerOf S i)))
-          (subst (λ (z : Made). PairMatches n (rowsOf Y) (fit limit (layerNeeds n (S .fs) (S .R) (S .B) (layerOf S i))) (fnOf n (layerOf S (suc i))) (result z)) e (ran .evals .result))
+      pub layered-full : o ≡ taken.Full → fit limit (layerNeeds n (S .fs) (S .R) (S .B) (layerOf S i)) ≡ false
+      layered-full e = matches-full n (rowsOf Y) (fnOf n (layerOf S (suc i))) (needingAll (uncounted N) layer-needs) (countIn taken.Full) (fit limit layer-needs) (subst Matches e (ran .evals .result))
 
 -- ---- needs
 

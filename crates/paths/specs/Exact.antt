@@ -12,20 +12,12 @@ use Rattle.mucalculus.specs.Sets.{and-in, and-out}
 use Rattle.mucalculus.specs.Form.{Pairs}
 use Rattle.diagram.specs.Level.{Fn}
 use Rattle.book.specs.Bridge.{Sized}
-use Rattle.book.specs.Verdicts.{fit}
+use Rattle.book.specs.Verdicts.{fit, fit-append}
 use Rattle.paths.specs.Runs.{isRun, Shortest, layer, meets, lastLayer, route, layerNeeds, madeNeeds, againNeeds, pathNeeds, Outcome, full, none, short, found, outcome}
 use Rattle.paths.specs.Layers.{run-meets}
 use Rattle.paths.specs.Written.{route-shortest, shortest-only}
 
 -- ---- needs
-
-pub fit-append : (N : ℕ) (xs ys : List ℕ) → fit N (xs ++ ys) ≡ (fit N xs && fit N ys)
-fit-append N [] ys = refl
-fit-append N (x ∷ xs) ys = go (leb x N) (fit-append N xs ys)
-  where
-    go : (b : Bool) → fit N (xs ++ ys) ≡ (fit N xs && fit N ys) → (b && fit N (xs ++ ys)) ≡ ((b && fit N xs) && fit N ys)
-    go true e = e
-    go false e = refl
 
 module _ (n N : ℕ) (live : List Fn) (R : Pairs) (B : List Bool) where
   -- a layer that is made on the way to another fits where that one does
