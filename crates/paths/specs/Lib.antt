@@ -4,3 +4,4 @@ pub mod Layers
 pub mod Written
 pub mod Exact
 pub mod Example
+pub mod Call

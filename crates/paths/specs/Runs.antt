@@ -117,31 +117,8 @@ outcome n N live R A B room =
     let l = route k R A B d in
     cond (fit N (pathNeeds n live R A B)) (cond (meets k A (layer k R B d)) (cond (leb (length l) room) (found l) short) none) full
 
--- ---- the answer
-
--- "New numbers": 8, 10, 11, and 0 where the call is answered
-abbrev pub numberOf : Outcome → ℕ
-numberOf full = 8
-numberOf none = 10
-numberOf short = 11
-numberOf (found l) = 0
-
--- "The call returns their number"
-abbrev pub countOf : Outcome → ℕ
-countOf full = 0
-countOf none = 0
-countOf short = 0
-countOf (found l) = length l
-
 -- a list with the states of l at its first places: "places beyond the run are never written"
 abbrev pub written : List ℕ → List ℕ → List ℕ
 written [] m = m
 written (s ∷ l) [] = []
 written (s ∷ l) (x ∷ m) = s ∷ written l m
-
--- "every refusal keeps the list"
-abbrev pub listAfter : Outcome → List ℕ → List ℕ
-listAfter full m = m
-listAfter none m = m
-listAfter short m = m
-listAfter (found l) m = written l m

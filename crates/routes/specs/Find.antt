@@ -8,15 +8,20 @@ use lib.Dec.{T, leb, le→leb, leb→le}
 use lib.ListN.{length, set}
 use lib.Pow.{pow-mono}
 use Rattle.mucalculus.specs.Sets.{mem, and-out, true-of, false-of}
+use Rattle.layout.specs.Refusals.{refusalNumber}
 use Rattle.layout.specs.View.{View}
+use Rattle.layout.specs.declared.Refusal.the-variants as refusal
 use Rattle.diagram.specs.Post.{Denotes}
 use Rattle.diagram.specs.Keep.{Keeps, keeps-trans}
 use Rattle.soundness.specs.Used.{rowsOf}
 use Rattle.soundness.specs.Filled.{filled}
 use Rattle.book.specs.Bridge.{fnOf}
 use Rattle.book.specs.Verdicts.{fit}
+use Rattle.book.specs.Table.{Reply}
+use Rattle.book.specs.Leaves.{plain}
 use Rattle.modal.specs.Chain.{moved-trans, base-bits}
-use Rattle.paths.specs.Runs.{Outcome, full, none, short, found, outcome, numberOf, countOf, written, listAfter, runsInto, isRun, layer, common, meets, lastLayer, onward, route, pathNeeds, madeNeeds}
+use Rattle.paths.specs.Runs.{Outcome, full, none, short, found, outcome, written, runsInto, isRun, layer, common, meets, lastLayer, onward, route, pathNeeds, madeNeeds}
+use Rattle.paths.specs.Call.{ends}
 use Rattle.paths.specs.Layers.{run-lt, last-lt}
 use Rattle.paths.specs.Written.{onward-length, route-run, route-length}
 use Rattle.paths.specs.Exact.{first-pass}
@@ -25,27 +30,18 @@ use Rattle.layers.specs.Pass.{PassPre, PassPost, Passed, Steps, Ends, lastOf}
 use Rattle.layers.specs.declared.Reached.{Reached}
 use Rattle.layers.specs.declared.Reached.the-variants as reached
 use Rattle.routes.specs.Write.{putAll, put-written, start-later, scene-later, Onward, WritePre, WritePost, Wrote, steps-start}
-use Rattle.routes.specs.declared.Way.{Way}
-use Rattle.routes.specs.declared.Way.the-variants as way
+use Rattle.routes.specs.declared.Found.{Found}
+use Rattle.routes.specs.declared.Found.the-variants as answer
 
--- the paper's number and value for each answer
-abbrev pub wayNumber : Way → ℕ
-wayNumber (way.Run c) = 0
-wayNumber way.Nothing = 10
-wayNumber way.Short = 11
-wayNumber way.Full = 8
-
-abbrev pub wayCount : Way → ℕ
-wayCount (way.Run c) = c
-wayCount way.Nothing = 0
-wayCount way.Short = 0
-wayCount way.Full = 0
+-- "For each answer that is an enum, a definition gives this paper's number and values for each of the enum's cases"
+abbrev pub foundReply : Found → Reply
+foundReply (answer.States c) = record { number = 0; rounds = 0; peak = 0; value = c }
+foundReply (answer.Refused e) = plain (refusalNumber e)
 
 -- the answer and the list are the outcome's
-pub record Told (o : Outcome) (r : Way) (old new : List ℕ) : Type 0 where
-  pub number : wayNumber r ≡ numberOf o
-  pub count : wayCount r ≡ countOf o
-  pub list : new ≡ listAfter o old
+pub record Told (o : Outcome) (r : Found) (old new : List ℕ) : Type 0 where
+  pub reply : foundReply r ≡ ends o old .reply
+  pub list : new ≡ ends o old .list
 
 -- ---- the run from its first state
 
@@ -56,20 +52,18 @@ pub record RunPre (n N limit : ℕ) (W : View) (t b d s : ℕ) : Type 0 where
   pub few : d ≤ 65_537
 
 -- the run l is written, or the list is too short
-abbrev pub RunTold : List ℕ → List ℕ → List ℕ → Way → Type 0
-RunTold l old new (way.Run c) = (length l ≤ length old) × (c ≡ length l) × (new ≡ written l old)
-RunTold l old new way.Nothing = ⊥
-RunTold l old new way.Short = (length old < length l) × (new ≡ old)
-RunTold l old new way.Full = ⊥
+pub data RunTold (l old : List ℕ) : List ℕ → Found → Type 0 where
+  is-written : length l ≤ length old → RunTold l old (written l old) (answer.States (length l))
+  is-short : length old < length l → RunTold l old old (answer.Refused refusal.Short)
 
 abbrev pub runOf : {n : ℕ} {W : View} {t b : ℕ} → Scene n W t b → ℕ → ℕ → List ℕ
 runOf {n} S d s = s ∷ onward (2 ^ n) (S .R) (S .B) d s
 
-pub record RunDone (n limit : ℕ) (W X : View) (t b : ℕ) (S : Scene n W t b) (d s : ℕ) (old new : List ℕ) (r : Way) : Type 0 where
+pub record RunDone (n limit : ℕ) (W X : View) (t b : ℕ) (S : Scene n W t b) (d s : ℕ) (old new : List ℕ) (r : Found) : Type 0 where
   pub steps : Steps n W X
   pub told : RunTold (runOf S d s) old new r
 
-abbrev pub RunPost : ℕ → ℕ → View → View → ℕ → ℕ → ℕ → ℕ → List ℕ → List ℕ → Way → Type 0
+abbrev pub RunPost : ℕ → ℕ → View → View → ℕ → ℕ → ℕ → ℕ → List ℕ → List ℕ → Found → Type 0
 RunPost n limit W X t b d s old new r = (S : Scene n W t b) → Onward limit S d s → RunDone n limit W X t b S d s old new r
 
 run-size : {n : ℕ} {W : View} {t b : ℕ} (S : Scene n W t b) (d s : ℕ) → length (runOf S d s) ≡ suc d
@@ -82,26 +76,30 @@ module _ {n N limit : ℕ} {W : View} {t b d s : ℕ} (p : RunPre n N limit W t 
       let m : 2 ^ n ≤ 65_536 = pow-mono (base-bits (p .start .base)) in
       omega arith
 
-  pub run-short : {old : List ℕ} → length old ≤ d → RunPost n limit W W t b d s old old way.Short
-  run-short {old} l S r = record { steps = steps-start (p .start); told = (let e = run-size S d s in omega arith, refl) }
+  pub run-short : {old : List ℕ} → length old ≤ d → RunPost n limit W W t b d s old old (answer.Refused refusal.Short)
+  run-short {old} l S r = record { steps = steps-start (p .start); told = is-short (let e = run-size S d s in omega arith) }
 
   pub run-asks : {list : List ℕ} → d < length list → WritePre n N limit W t b d s list
   run-asks l = record { start = p .start; scene = p .scene; ready = p .ready; room = l }
 
-  pub run-written : {X : View} (old : List ℕ) {new : List ℕ} → d < length old → WritePost n limit W X t b d s (set old 0 s) new → RunPost n limit W X t b d s old new (way.Run (d + 1))
+  pub run-written : {X : View} (old : List ℕ) {new : List ℕ} → d < length old → WritePost n limit W X t b d s (set old 0 s) new → RunPost n limit W X t b d s old new (answer.States (d + 1))
   run-written {X} old {new} l w S r =
       let v = w S r in
       let e = run-size S d s in
-      record { steps = v .steps; told = (omega arith, omega arith, v .list ∙ put-written (runOf S d s) old (omega arith)) }
+      record { steps = v .steps; told =
+            let q : d + 1 ≡ length (runOf S d s) = omega arith in
+            let w = v .list ∙ put-written (runOf S d s) old (omega arith) in
+            subst (λ (c : ℕ). RunTold (runOf S d s) old new (answer.States c)) (sym q) (subst (λ (m : List ℕ). RunTold (runOf S d s) old m (answer.States (length (runOf S d s)))) (sym w) (is-written (omega arith)));
+      }
 
 -- ---- the whole search
 
-pub record Found (n limit : ℕ) (W X : View) (t b : ℕ) (S : Scene n W t b) (A : List Bool) (old new : List ℕ) (r : Way) : Type 0 where
+pub record Finds (n limit : ℕ) (W X : View) (t b : ℕ) (S : Scene n W t b) (A : List Bool) (old new : List ℕ) (r : Found) : Type 0 where
   pub steps : Steps n W X
   pub told : Told (outcome n limit (S .fs) (S .R) A (S .B) (length old)) r old new
 
-abbrev pub FindPost : ℕ → ℕ → View → View → ℕ → ℕ → ℕ → List ℕ → List ℕ → Way → Type 0
-FindPost n limit W X t a b old new r = (S : Scene n W t b) (A : List Bool) → Denotes (2 * n) (rowsOf W) a (fnOf n A) → Found n limit W X t b S A old new r
+abbrev pub FindPost : ℕ → ℕ → View → View → ℕ → ℕ → ℕ → List ℕ → List ℕ → Found → Type 0
+FindPost n limit W X t a b old new r = (S : Scene n W t b) (A : List Bool) → Denotes (2 * n) (rowsOf W) a (fnOf n A) → Finds n limit W X t b S A old new r
 
 -- the outcome by its three tests
 module _ {n : ℕ} {W : View} {t b : ℕ} (limit : ℕ) (S : Scene n W t b) (A : List Bool) (room : ℕ) where
@@ -131,7 +129,7 @@ module _ {n : ℕ} {W : View} {t b : ℕ} (limit : ℕ) (S : Scene n W t b) (A :
   pub outcome-found : fit limit (needsOf S (lastOf S A)) ≡ true → meets (2 ^ n) A (layerOf S (lastOf S A)) ≡ true → length whole ≤ room → out ≡ found whole
   outcome-found e m l = outcome-by e m (true-of _ (le→leb (length whole) room l))
 
-pub told-by : {o o′ : Outcome} {r : Way} {old new : List ℕ} → o ≡ o′ → Told o′ r old new → Told o r old new
+pub told-by : {o o′ : Outcome} {r : Found} {old new : List ℕ} → o ≡ o′ → Told o′ r old new → Told o r old new
 told-by {r = r} {old = old} {new = new} e h = subst (λ (x : Outcome). Told x r old new) (sym e) h
 
 -- steps after steps
@@ -145,15 +143,15 @@ module _ {n N limit : ℕ} {W : View} {t a b : ℕ} (p : PassPre n N limit W t a
   ended : {u : Reached} → r ≡ u → (S : Scene n W t b) (A : List Bool) → Denotes (2 * n) (rowsOf W) a (fnOf n A) → Passed n limit W X t b S A u
   ended e S A from = subst (λ (u : Reached). Passed n limit W X t b S A u) e (q S A from)
 
-  pub find-full : {old : List ℕ} → r ≡ reached.Full → FindPost n limit W X t a b old old way.Full
+  pub find-full : {old : List ℕ} → r ≡ reached.Full → FindPost n limit W X t a b old old (answer.Refused refusal.Full)
   find-full {old} e S A from =
       let h = ended e S A from in
-      record { steps = h .steps; told = told-by (outcome-full limit S A (length old) (h .ends)) (record { number = refl; count = refl; list = refl }) }
+      record { steps = h .steps; told = told-by (outcome-full limit S A (length old) (h .ends)) (record { reply = refl; list = refl }) }
 
-  pub find-none : {old : List ℕ} → r ≡ reached.Nothing → FindPost n limit W X t a b old old way.Nothing
+  pub find-none : {old : List ℕ} → r ≡ reached.Nothing → FindPost n limit W X t a b old old (answer.Refused refusal.NoRun)
   find-none {old} e S A from =
       let h = ended e S A from in
-      record { steps = h .steps; told = told-by (outcome-none limit S A (length old) (h .ends .1) (h .ends .0)) (record { number = refl; count = refl; list = refl }) }
+      record { steps = h .steps; told = told-by (outcome-none limit S A (length old) (h .ends .1) (h .ends .0)) (record { reply = refl; list = refl }) }
 
   module _ {d s : ℕ} (e : r ≡ reached.At d s) where
     -- the first state and what follows it
@@ -187,16 +185,14 @@ module _ {n N limit : ℕ} {W : View} {t a b : ℕ} (p : PassPre n N limit W t a
           omega (arith, own .ends .0);
     }
 
-    run-told : {o : Outcome} (S : Scene n W t b) (A : List Bool) (old : List ℕ) {new : List ℕ} (y : Way) → fit limit (needsOf S (lastOf S A)) ≡ true → meets (2 ^ n) A (layerOf S (lastOf S A)) ≡ true
+    run-told : {o : Outcome} (S : Scene n W t b) (A : List Bool) (old : List ℕ) {new : List ℕ} {y : Found} → fit limit (needsOf S (lastOf S A)) ≡ true → meets (2 ^ n) A (layerOf S (lastOf S A)) ≡ true
         → RunTold (route (2 ^ n) (S .R) A (S .B) (lastOf S A)) old new y → outcome n limit (S .fs) (S .R) A (S .B) (length old) ≡ o → Told o y old new
-    run-told S A old (way.Run c) f m h z = told-by (sym z ∙ outcome-found limit S A (length old) f m (h .0)) (record { number = refl; count = h .1; list = h .2 })
-    run-told S A old way.Nothing f m h z = absurd h
-    run-told S A old way.Short f m h z = told-by (sym z ∙ outcome-short limit S A (length old) f m (h .0)) (record { number = refl; count = refl; list = h .1 })
-    run-told S A old way.Full f m h z = absurd h
+    run-told S A old f m (is-written h) z = told-by (sym z ∙ outcome-found limit S A (length old) f m h) (record { reply = refl; list = refl })
+    run-told S A old f m (is-short h) z = told-by (sym z ∙ outcome-short limit S A (length old) f m h) (record { reply = refl; list = refl })
 
-    pub find-run : {Y : View} (old : List ℕ) {new : List ℕ} {y : Way} → RunPost n limit X Y t b d s old new y → FindPost n limit W Y t a b old new y
+    pub find-run : {Y : View} (old : List ℕ) {new : List ℕ} {y : Found} → RunPost n limit X Y t b d s old new y → FindPost n limit W Y t a b old new y
     find-run {Y} old {new} {y} v S A from =
         let h = ended e S A from in
         let w = v (scene-later (p .start) (h .steps) S) (onward-is S A from) in
         let l = subst (λ (x : List ℕ). RunTold x old new y) (whole-is S A from) (w .told) in
-        record { steps = steps-then (h .steps) (w .steps); told = run-told S A old y (h .ends .2) (h .ends .1) l refl }
+        record { steps = steps-then (h .steps) (w .steps); told = run-told S A old (h .ends .2) (h .ends .1) l refl }
