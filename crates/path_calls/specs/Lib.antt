@@ -1,2 +1,4 @@
 pub mod Search
-pub mod Call
+pub mod Post
+pub mod Checks
+pub mod OnePath

@@ -12,13 +12,15 @@ use Rattle.layout.specs.View.{View}
 use Rattle.diagram.specs.Level.{Fn}
 use Rattle.diagram.specs.Rows.{Rows}
 use Rattle.diagram.specs.Post.{Denotes}
-use Rattle.diagram.specs.Keep.{Keeps}
+use Rattle.diagram.specs.Keep.{Keeps, keeps-trans}
+use Rattle.diagram.specs.Collect.{collects-keeps}
 use Rattle.soundness.specs.Used.{rowsOf}
 use Rattle.soundness.specs.Sound.{Sound}
 use Rattle.soundness.specs.Filled.{filled, filled-mem}
+use Rattle.collect.specs.Answers.{FreeManyPost, few, many}
 use Rattle.memory.specs.Frame.{rows-same}
 use Rattle.memory.specs.Forget.{Forgot}
-use Rattle.operations.specs.Work.{OpFrame, op-trans, op-memo}
+use Rattle.operations.specs.Work.{OpFrame, op-trans, op-memo, op-made}
 use Rattle.steps.specs.Again.{start-ready}
 use Rattle.book.specs.Bridge.{fnOf, fnOfPairs, Sized}
 use Rattle.book.specs.Book.{Book, registers, relations, liveOf}
@@ -31,8 +33,8 @@ use Rattle.contract.specs.Roots.{filled-root, root-filled}
 use Rattle.modal.specs.Chain.{Base, held-alike}
 use Rattle.paths.specs.Runs.{outcome}
 use Rattle.layers.specs.Scene.{Scene, filled-same}
-use Rattle.layers.specs.Pass.{PassPre}
-use Rattle.routes.specs.declared.Way.{Way}
+use Rattle.layers.specs.Pass.{PassPre, Steps}
+use Rattle.routes.specs.declared.Found.{Found}
 use Rattle.routes.specs.Find.{Told, FindPost}
 
 -- the book that a table stands for
@@ -59,13 +61,13 @@ pub record SearchPre (n N limit : ℕ) (W : View) (t a b : ℕ) : Type 0 where
   pub named : Named W ra rb rt a b t
 
 -- a sound table, nothing touched but unneeded rows, the index and remembered results, and the book's outcome
-pub record Searched (n limit : ℕ) (W X : View) (ra rb rt : ℕ) (old new : List ℕ) (r : Way) : Type 0 where
+pub record Searched (n limit : ℕ) (W X : View) (ra rb rt : ℕ) (old new : List ℕ) (r : Found) : Type 0 where
   pub sound : Sound X
   pub frame : OpFrame W X
   pub kept : Keeps (rowsOf W) (rowsOf X) (filled W)
   pub told : Told (outcome n limit (liveOf (bookIn W)) (inside (bookIn W .rel rt)) (inside (bookIn W .reg ra)) (inside (bookIn W .reg rb)) (length old)) r old new
 
-abbrev pub SearchPost : ℕ → ℕ → View → View → ℕ → ℕ → ℕ → List ℕ → List ℕ → Way → Type 0
+abbrev pub SearchPost : ℕ → ℕ → View → View → ℕ → ℕ → ℕ → List ℕ → List ℕ → Found → Type 0
 SearchPost n limit W X t a b old new r = (ra rb rt : ℕ) → Named W ra rb rt a b t → Searched n limit W X ra rb rt old new r
 
 -- what a filled place's arrow stands for
@@ -76,6 +78,20 @@ place-some g (some x) p = p
 pub place-sized : (n m : ℕ) (rows : Rows) (a : ℕ) (g : List Bool → Fn) (o : Option (List Bool)) → Place m rows g o (some a) → ((x : List Bool) → o ≡ some x → Sized n x) → Sized n (inside o)
 place-sized n m rows a g none p h = absurd p
 place-sized n m rows a g (some x) p h = h x refl
+
+-- steps, and rows freed afterwards or not
+pub record After (X Z : View) : Type 0 where
+  pub sound : Sound Z
+  pub frame : OpFrame X Z
+  pub kept : Keeps (rowsOf X) (rowsOf Z) (filled X)
+
+pub steps-freed : {n : ℕ} {X Y Z : View} → Steps n X Y → FreeManyPost Y Z → After X Z
+steps-freed {X = X} s (few e) = subst (After X) (sym e) (record { sound = s .moved .sound; frame = s .moved .frame; kept = s .kept })
+steps-freed {X = X} {Y = Y} {Z = Z} s (many f) = record {
+  sound = f .sound;
+  frame = op-trans (s .moved .frame) (op-made (f .frame));
+  kept = keeps-trans (s .kept) (subst (λ (xs : List ℕ). Keeps (rowsOf Y) (rowsOf Z) xs) (filled-same (s .moved .frame)) (collects-keeps (f .collects)));
+}
 
 module _ {n N limit : ℕ} {W : View} {t a b : ℕ} (p : SearchPre n N limit W t a b) {X : View} (f : Forgot W X) where
   pub shows : Shows (bookIn W) (seenIn W)
@@ -140,12 +156,17 @@ module _ {n N limit : ℕ} {W : View} {t a b : ℕ} (p : SearchPre n N limit W t
   pub search-asks : PassPre n N limit X t a b
   search-asks = asks-named (p .named)
 
-  pub search-done : {Y : View} (old : List ℕ) {new : List ℕ} {r : Way} → FindPost n limit X Y t a b old new r → SearchPost n limit W Y t a b old new r
-  search-done {Y} old {new} {r} v ra rb rt m =
+  -- what freeing asks
+  pub search-frees : {Y : View} (old : List ℕ) {new : List ℕ} {r : Found} → FindPost n limit X Y t a b old new r → Sound Y
+  search-frees old v = v (scene (p .named)) (inside (bookIn W .reg (p .ra))) (from (p .named)) .steps .moved .sound
+
+  pub search-done : {Y Z : View} (old : List ℕ) {new : List ℕ} {r : Found} → FindPost n limit X Y t a b old new r → FreeManyPost Y Z → SearchPost n limit W Z t a b old new r
+  search-done {Y} {Z} old {new} {r} v f ra rb rt m =
       let w = v (scene m) (inside (bookIn W .reg ra)) (from m) in
+      let z = steps-freed (w .steps) f in
       record {
-        sound = w .steps .moved .sound;
-        frame = op-trans frame (w .steps .moved .frame);
-        kept = subst (λ (u : Rows). Keeps u (rowsOf Y) (filled W)) (sym same-rows) (subst (λ (xs : List ℕ). Keeps (rowsOf X) (rowsOf Y) xs) (filled-same frame) (w .steps .kept));
+        sound = z .sound;
+        frame = op-trans frame (z .frame);
+        kept = subst (λ (u : Rows). Keeps u (rowsOf Z) (filled W)) (sym same-rows) (subst (λ (xs : List ℕ). Keeps (rowsOf X) (rowsOf Z) xs) (filled-same frame) (z .kept));
         told = w .told;
       }
