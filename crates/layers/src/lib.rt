@@ -38,9 +38,15 @@ pub fn next_layer(
         peak: limits.rows,
     };
     let roots = [last];
-    let Taken::At { arrow: d, count: q } =
-        diamond(words, counts, limits, &roots, relation, last, uncounted)
-    else {
+    let Taken::At { arrow: d, count: q } = diamond(
+        words,
+        counts,
+        limits,
+        &roots,
+        relation,
+        last,
+        uncounted,
+    ) else {
         return Taken::Full;
     };
     take(
@@ -70,8 +76,7 @@ pub fn make_layer(
     let mut x = b;
     let mut i = 0;
     while i < j {
-        let Taken::At { arrow: y, count: _ } =
-            next_layer(words, counts, limits, relation, b, x)
+        let Taken::At { arrow: y, count: _ } = next_layer(words, counts, limits, relation, b, x)
         else {
             return x;
         };
@@ -101,8 +106,7 @@ pub fn reach(
         if s < states {
             return Reached::At(d, s);
         }
-        let Taken::At { arrow: y, count: _ } =
-            next_layer(words, counts, limits, relation, b, x)
+        let Taken::At { arrow: y, count: _ } = next_layer(words, counts, limits, relation, b, x)
         else {
             return Reached::Full;
         };

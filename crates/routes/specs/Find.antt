@@ -86,7 +86,9 @@ module _ {n N limit : ℕ} {W : View} {t b d s : ℕ} (p : RunPre n N limit W t 
   run-written {X} old {new} l w S r =
       let v = w S r in
       let e = run-size S d s in
-      record { steps = v .steps; told =
+      record {
+        steps = v .steps;
+        told =
             let q : d + 1 ≡ length (runOf S d s) = omega arith in
             let w = v .list ∙ put-written (runOf S d s) old (omega arith) in
             subst (λ (c : ℕ). RunTold (runOf S d s) old new (answer.States c)) (sym q) (subst (λ (m : List ℕ). RunTold (runOf S d s) old m (answer.States (length (runOf S d s)))) (sym w) (is-written (omega arith)));

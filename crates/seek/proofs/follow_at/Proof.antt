@@ -8,7 +8,7 @@ use Rattle.seek.specs.Apart.{stays, stays-constant, follows}
 use Rattle.layout.proofs.is_row.Reads as is-row-reads
 use Rattle.layout.proofs.row_of.Reads as row-of-reads
 use Rattle.seek.proofs.level_of.Reads as level-of-reads
-use Rattle.seek.proofs.side.Reads as side-reads
+use Rattle.states.proofs.side.Reads as side-reads
 use borrow.Author.Needs.{needs}
 use Rattle.seek.proofs.follow_at.Statement.{statement}
 use Rattle.seek.proofs.follow_at.Tie as tie

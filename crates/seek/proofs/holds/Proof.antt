@@ -13,7 +13,7 @@ use Rattle.layout.proofs.get.Reads as get-reads
 use Rattle.layout.proofs.is_row.Reads as is-row-reads
 use Rattle.layout.proofs.row_of.Reads as row-of-reads
 use Rattle.seek.proofs.level_bit.Reads as level-bit-reads
-use Rattle.seek.proofs.side.Reads as side-reads
+use Rattle.states.proofs.side.Reads as side-reads
 
 abbrev Inv-loop : tie.InvT-loop
 Inv-loop words rows a s t x₀ x = HoldsPre (view rows words) x × (holdsAt (view rows words) x s t ≡ holdsAt (view rows words) a s t)
