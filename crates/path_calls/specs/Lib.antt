@@ -1,4 +1,3 @@
 pub mod Search
 pub mod Post
-pub mod Checks
 pub mod OnePath

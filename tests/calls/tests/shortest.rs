@@ -114,7 +114,9 @@ impl Room {
 /// tables of as many rows as the call needs, and of one fewer, where these can be filled.
 fn compare_room(random: &mut Random, seen: &mut Seen, n: u32, relation: &[u8], sets: [&[u8]; 2]) {
     let mut room = Room::new(n, 3_000, relation, sets).expect("rows in plenty");
-    for (a, b) in [(0, 1), (1, 0), (0, 0)] {
+    let mut ways = vec![(0, 1), (1, 0)];
+    ways.extend(random.chance(10).then_some((0, 0)));
+    for (a, b) in ways {
         let run = room.book.shortest(a, b, 0, 1 << 16);
         let states = run.as_ref().map_or(0, Vec::len);
         let longer = states + 1 + random.below(5) as usize;
@@ -166,7 +168,7 @@ fn some_pairs(random: &mut Random, n: u32) -> Vec<u8> {
 }
 
 fn some_states(random: &mut Random, n: u32) -> Vec<u8> {
-    let many = random.below(4);
+    let many = random.pick(&[0, 1, 1, 1, 2, 3]);
     let states = (0..many).map(|_| state(n, 0x10, random.below(1 << n)));
     let body = either(states.collect());
     match random.chance(5) {
@@ -178,8 +180,8 @@ fn some_states(random: &mut Random, n: u32) -> Vec<u8> {
 #[test]
 fn drawn_rooms() {
     let (mut random, mut seen) = (Random::new(31), Seen::default());
-    for round in 0..260 {
-        let n = 1 + round % 5;
+    for round in 0..240 {
+        let n = [1, 2, 3, 3, 4, 4, 4, 5][round % 8];
         let relation = match random.below(10) {
             0..=5 => some_pairs(&mut random, n),
             6 => counter(n as u8, random.chance(50)),
@@ -191,9 +193,9 @@ fn drawn_rooms() {
         compare_room(&mut random, &mut seen, n, &frame(&relation), sets);
     }
     println!("{seen:?}");
-    let [answered, ..] = seen.numbers;
-    assert!(answered > 500 && seen.numbers[8] > 100 && seen.numbers[10] > 100);
-    assert!(seen.numbers[11] > 100 && seen.edges > 100 && seen.single > 20);
+    let enough = |number: usize, least: u64| seen.numbers[number] > least;
+    assert!(enough(0, 300) && enough(8, 60) && enough(10, 300) && enough(11, 200));
+    assert!(seen.edges > 60 && seen.single > 20 && seen.longest > 8);
 }
 
 /// The longest run at n = 4: all 16 states of the counter, each of them once.

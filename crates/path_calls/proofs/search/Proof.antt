@@ -1,7 +1,7 @@
 -- `search` meets its contract: after forgetting, the table holds the scene of its own book; freeing keeps what registers and relations need. Assumes
 -- nothing.
 use mathlib.Core.Path.{refl, _∙_}
-use Rattle.path_calls.specs.Search.{start-base, search-asks, search-frees, search-done}
+use Rattle.path_calls.proofs.Searching.{start-base, search-asks, search-frees, search-done}
 use Rattle.memory.proofs.forget.Reads as forget-reads
 use Rattle.counting.proofs.begin.Reads as begin-reads
 use Rattle.collect.proofs.free_many.Reads as free-many-reads
