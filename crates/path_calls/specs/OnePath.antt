@@ -4,20 +4,23 @@ use mathlib.Core.Path.{_≡_, refl, sym, ap, _∙_, subst}
 use mathlib.Core.HLevel.{Discrete}
 use mathlib.Core.Bool.{Bool, true, false, _&&_, _||_, Bool-discrete}
 use mathlib.Core.List.{List, List-discrete}
-use Prim.Native.Nat.{ℕ, _≤_, _<_}
+use Prim.Native.Nat.{ℕ, _^_, _≤_, _<_}
 use native.Mathlib.Decide.{ℕ-discrete}
 use lib.Dec.{T, eqb}
 use lib.ListN.{length, getD}
+use Rattle.mucalculus.specs.Form.{inside}
 use Rattle.layout.specs.Refusals.{keepsAll}
 use Rattle.layout.specs.Places.{HEADER, ROWS, SPARE, wordsFor}
 use Rattle.layout.specs.View.{headerOf, cellOf}
 use Rattle.diagram.specs.Reach.{Reach}
 use Rattle.book.specs.Book.{collect}
 use Rattle.book.specs.Table.{Reply, rootsOf}
-use Rattle.book.specs.BookOf.{bookOf}
+use Rattle.book.specs.BookOf.{bookOf, whole-bookOf}
 use Rattle.contract.specs.Seen.{seen, SoundWords, any-words}
 use Rattle.contract.specs.Kept.{freeWord, changes}
 use Rattle.contract.specs.OneAnswer.{SameRow}
+use Rattle.paths.specs.Call.{Ended, shortest}
+use Rattle.paths.specs.Meaning.{Meant, shortest-means}
 use Rattle.path_calls.specs.Post.{PathPost}
 
 -- two replies y, z, two lists k, l and two ends v, w
@@ -77,3 +80,12 @@ module _ (a b t : ℕ) (old : List ℕ) {v w list k l : List ℕ} {y z : Reply} 
     beyond = λ i h. p .kept .beyond i h ∙ sym (q .kept .beyond i h);
     all = λ h. p .kept .all h ∙ sym (q .kept .all (subst (λ (x : ℕ). T (keepsAll x)) one-number h));
   }
+
+-- the same in plain words: on a sound table the list is the one shortest run of the book that the words stand for, 10 says that there is no run, 11
+-- that the list is too short for it, and every refusal keeps the list
+pub path-means : (a b t : ℕ) {old new lent left : List ℕ} {y : Reply} → PathPost a b t old new lent left y → SoundWords old
+    → Meant (2 ^ bookOf (seen old) .n) (inside (bookOf (seen old) .rel t)) (inside (bookOf (seen old) .reg a)) (inside (bookOf (seen old) .reg b)) lent (record { reply = y; list = left })
+path-means a b t {old} {new} {lent} {left} {y} p s =
+    let q : Ended → Type 0 = Meant (2 ^ bookOf (seen old) .n) (inside (bookOf (seen old) .rel t)) (inside (bookOf (seen old) .reg a)) (inside (bookOf (seen old) .reg b)) lent in
+    let is : shortest (bookOf (seen old)) a b t lent ≡ record { reply = y; list = left } = λ i. record { reply = sym (p .told s .reply) i; list = sym (p .told s .list) i } in
+    subst q is (shortest-means (bookOf (seen old)) lent (whole-bookOf (seen old)) a b t)

@@ -5,3 +5,4 @@ pub mod Written
 pub mod Exact
 pub mod Example
 pub mod Call
+pub mod Meaning
