@@ -18,8 +18,9 @@
  *
  * REFUSALS. Each function returns 0 where it answers, else the number of its refusal. Checks 1 to 7 run in the order of their numbers, 4 to 7
  * each over the whole formula, and KUDZUCLAMP_VACUOUS (12) so directly after 5; KUDZUCLAMP_UNLISTED (14) is checked directly after 3, in fresh
- * after 1. Of 8 and 9 the one that evaluation meets first is returned. A refused call writes 0 into every answer, and no refusal changes an
- * account. KUDZUCLAMP_FULL and KUDZUCLAMP_SPENT keep registers, relations and the rows that these need; every other refusal keeps all words.
+ * after 1. Of 8 and 9 the one that evaluation meets first is returned; KUDZUCLAMP_NO_RUN (10) and then KUDZUCLAMP_SHORT (11) come after 8. A refused
+ * call writes 0 into every answer, and no refusal changes an account or a list of states. KUDZUCLAMP_FULL, KUDZUCLAMP_SPENT, KUDZUCLAMP_NO_RUN and
+ * KUDZUCLAMP_SHORT keep registers, relations and the rows that these need; every other refusal keeps all words.
  *
  * PEAK. Where relation and set are answered they also return their peak: the largest number of rows that a step of the call needed, of its
  * result and of all that was live at it, what registers and relations hold included; 0 where the formula takes no step. It does not depend on N.
@@ -96,6 +97,8 @@ enum kudzuclamp_number {
     KUDZUCLAMP_EMPTY = 7,     /* a register or relation named is empty */
     KUDZUCLAMP_FULL = 8,      /* a step needs more rows than N, or than the account's row limit */
     KUDZUCLAMP_SPENT = 9,     /* the rounds are used up: R's, or the account's */
+    KUDZUCLAMP_NO_RUN = 10,   /* there is no run from the one set into the other */
+    KUDZUCLAMP_SHORT = 11,    /* the list is too short for the run */
     KUDZUCLAMP_VACUOUS = 12,  /* a binder's variable occurs nowhere free in its body */
     KUDZUCLAMP_UNLISTED = 14  /* the list is not 1 to 8 accounts long, or has no account at that place */
 };
@@ -128,6 +131,10 @@ static inline const char *kudzuclamp_text(uint32_t number)
         return "a step needs more rows than the table has or the account may use";
     case KUDZUCLAMP_SPENT:
         return "the rounds are used up";
+    case KUDZUCLAMP_NO_RUN:
+        return "there is no run from the one set into the other";
+    case KUDZUCLAMP_SHORT:
+        return "the list is too short for the run";
     case KUDZUCLAMP_VACUOUS:
         return "a binder's variable occurs nowhere free in its body";
     case KUDZUCLAMP_UNLISTED:
@@ -286,6 +293,15 @@ uint32_t kudzuclamp_members(const uint32_t *words, size_t words_len, uint32_t r,
  */
 KUDZUCLAMP_USE_RESULT
 uint32_t kudzuclamp_count(const uint32_t *words, size_t words_len, uint32_t r, uint32_t *value);
+
+/*
+ * Writes the states of a shortest run from the set in register a into the set in register b over relation t to the first places of the list: the
+ * first state is the least one of a at the shortest distance, each next one the least that still lies on a shortest run. *states is how many they
+ * are, at most 2^n; 1 where the sets share a state. Later places are never written, and none where the call is refused. No register or relation
+ * changes. A step may need at most N rows, of the last layer of states by their distance, of the next one's steps and of what registers and
+ * relations hold. It returns 0, 2, 3, 7, 8, KUDZUCLAMP_NO_RUN or KUDZUCLAMP_SHORT.
+ */
+uint32_t kudzuclamp_shortest(uint32_t *words, size_t words_len, uint16_t *list, size_t list_len, uint32_t a, uint32_t b, uint32_t t, uint32_t *states);
 
 /*
  * Checks formula bytes for a set call, or for a relation call where `relation` is not 0, and takes no step. It returns 2, or the number of 4 to 7

@@ -68,6 +68,16 @@ mod library {
             r: u32,
             value: *mut u32,
         ) -> u32;
+        pub fn kudzuclamp_shortest(
+            words: *mut u32,
+            words_len: usize,
+            list: *mut u16,
+            list_len: usize,
+            a: u32,
+            b: u32,
+            t: u32,
+            states: *mut u32,
+        ) -> u32;
         pub fn kudzuclamp_check(
             words: *const u32,
             words_len: usize,
@@ -226,6 +236,31 @@ pub fn count(words: &[u32], r: u32) -> Result<u32, Refusal> {
     // SAFETY: as in `node`.
     let number = unsafe { library::kudzuclamp_count(words.as_ptr(), words.len(), r, &mut value) };
     answered(number, value)
+}
+
+/// How many states of a shortest run were written to the list.
+pub fn shortest(
+    words: &mut [u32],
+    list: &mut [u16],
+    a: u32,
+    b: u32,
+    t: u32,
+) -> Result<u32, Refusal> {
+    let mut states = 0;
+    // SAFETY: pointers and lengths are those of slices and a local; they overlap nothing.
+    let number = unsafe {
+        library::kudzuclamp_shortest(
+            words.as_mut_ptr(),
+            words.len(),
+            list.as_mut_ptr(),
+            list.len(),
+            a,
+            b,
+            t,
+            &mut states,
+        )
+    };
+    answered(number, states)
 }
 
 /// The checks of formula bytes for a relation call, or else for a set call.

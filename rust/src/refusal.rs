@@ -4,8 +4,9 @@ use std::fmt;
 
 /// Why a call is refused, with document 01's numbers.
 ///
-/// `Full` and `Spent` keep registers, relations and the rows that they need; every other refusal
-/// keeps all words. No refusal changes an account. Later versions may have more of them.
+/// `Full`, `Spent`, `NoRun` and `Short` keep registers, relations and the rows that they need; every
+/// other refusal keeps all words. No refusal changes an account or a list of states. Later versions
+/// may have more of them.
 ///
 /// ```
 /// use kudzuclamp::Refusal;
@@ -36,6 +37,10 @@ pub enum Refusal {
     Full = 8,
     /// 9: the rounds are used up: those of the call, or those of the account.
     Spent = 9,
+    /// 10: there is no run from the one set into the other.
+    NoRun = 10,
+    /// 11: the list is too short for the run.
+    Short = 11,
     /// 12: a binder's variable occurs nowhere free in its body. Checked directly after 5.
     Vacuous = 12,
     /// 14: the list is not 1 to 8 accounts long, or has no account at the place named. Checked
@@ -55,11 +60,13 @@ impl Refusal {
         Refusal::Empty,
         Refusal::Full,
         Refusal::Spent,
+        Refusal::NoRun,
+        Refusal::Short,
         Refusal::Vacuous,
         Refusal::Unlisted,
     ];
 
-    /// The number, 1 to 9, 12 or 14.
+    /// The number, 1 to 12 or 14.
     #[must_use]
     pub const fn number(self) -> u32 {
         self as u32
@@ -96,6 +103,8 @@ impl fmt::Display for Refusal {
             Refusal::Empty => "a register or relation named is empty",
             Refusal::Full => "a step needs more rows than the table has or the account may use",
             Refusal::Spent => "the rounds are used up",
+            Refusal::NoRun => "there is no run from the one set into the other",
+            Refusal::Short => "the list is too short for the run",
             Refusal::Vacuous => "a binder's variable occurs nowhere free in its body",
             Refusal::Unlisted => {
                 "the list is not 1 to 8 accounts long, or has no account at that place"
@@ -116,7 +125,7 @@ mod tests {
             .iter()
             .map(|refusal| refusal.number())
             .collect();
-        assert_eq!(numbers, [1, 2, 3, 4, 5, 6, 7, 8, 9, 12, 14]);
+        assert_eq!(numbers, [1, 2, 3, 4, 5, 6, 7, 8, 9, 10, 11, 12, 14]);
         for number in 0..20 {
             let refusal = Refusal::from_number(number);
             assert_eq!(refusal.is_some(), numbers.contains(&number));

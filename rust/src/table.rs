@@ -236,6 +236,68 @@ impl<W: AsRef<[u32]> + AsMut<[u32]>> Table<W> {
         abi::collect(self.words.as_mut())
     }
 
+    /// The states of a shortest run from the set in register a into the set in register b over
+    /// relation t: the first is the least state of a at the shortest distance, each next one the
+    /// least that still lies on a shortest run. Refused with [`Refusal::NoRun`] where there is none;
+    /// no register, relation or account changes.
+    ///
+    /// ```
+    /// use kudzuclamp::{Account, Formula, Refusal, Table};
+    ///
+    /// # fn main() -> Result<(), Refusal> {
+    /// // Two switches; each press turns the second over, and the first where the second is on.
+    /// let mut accounts = [Account::unlimited()];
+    /// let mut table = Table::new(&mut accounts, 2, 100)?;
+    /// let same = |a: Formula, b: Formula| (a.clone() & b.clone()) | !(a | b);
+    /// let (first, second) = (Formula::current(0), Formula::current(1));
+    /// let turned = !same(first.clone(), second.clone());
+    /// table.relation(0, same(Formula::next(0), turned) & !same(Formula::next(1), second.clone()))?;
+    /// // By which presses, from both off, are both on?
+    /// table.set(&mut accounts, 0, 0, 0, !(first.clone() | second.clone()))?;
+    /// table.set(&mut accounts, 0, 1, 0, first & second)?;
+    /// assert_eq!(table.shortest(0, 1, 0)?, [0, 2, 1, 3]);
+    /// # Ok(())
+    /// # }
+    /// ```
+    pub fn shortest(&mut self, a: u32, b: u32, t: u32) -> Result<Vec<u16>, Refusal> {
+        // No shortest run has a state twice.
+        let mut list = vec![0; 1 << MAX_BITS];
+        let states = self.write_shortest(&mut list, a, b, t)?;
+        list.truncate(states);
+        Ok(list)
+    }
+
+    /// Writes the states that [`Table::shortest`] gives to the first places of a list, and gives how
+    /// many they are; later places are never written, and none where the call is refused. Refused
+    /// with [`Refusal::Short`] where the list is too short for the run.
+    ///
+    /// ```
+    /// use kudzuclamp::{Account, Formula, Refusal, Table};
+    ///
+    /// # fn main() -> Result<(), Refusal> {
+    /// let mut accounts = [Account::unlimited()];
+    /// let mut table = Table::new(&mut accounts, 1, 100)?;
+    /// table.relation(0, Formula::next(0))?;
+    /// table.set(&mut accounts, 0, 0, 0, !Formula::current(0))?;
+    /// table.set(&mut accounts, 0, 1, 0, Formula::current(0))?;
+    /// let mut list = [7; 3];
+    /// assert_eq!(table.write_shortest(&mut list[..1], 0, 1, 0), Err(Refusal::Short));
+    /// assert_eq!(table.write_shortest(&mut list, 1, 0, 0), Err(Refusal::NoRun));
+    /// assert_eq!((table.write_shortest(&mut list, 0, 1, 0)?, list), (2, [0, 1, 7]));
+    /// # Ok(())
+    /// # }
+    /// ```
+    pub fn write_shortest(
+        &mut self,
+        list: &mut [u16],
+        a: u32,
+        b: u32,
+        t: u32,
+    ) -> Result<usize, Refusal> {
+        let states = abi::shortest(self.words.as_mut(), list, a, b, t)?;
+        Ok(states as usize)
+    }
+
     /// The words, to change at will: the next call refuses with [`Refusal::Unsound`] where they are
     /// then no sound table.
     #[must_use]

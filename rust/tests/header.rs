@@ -26,11 +26,23 @@ fn version_and_sizes() {
     }
 }
 
+/// `NoRun` is `KUDZUCLAMP_NO_RUN`.
+fn c_name(refusal: &Refusal) -> String {
+    let mut name = "KUDZUCLAMP".to_string();
+    for letter in format!("{refusal:?}").chars() {
+        if letter.is_uppercase() {
+            name.push('_');
+        }
+        name.push(letter.to_ascii_uppercase());
+    }
+    name
+}
+
 /// Each refusal stands in the enum with its number, and its text in `kudzuclamp_text`.
 #[test]
 fn refusals() {
     let named = |refusal: &Refusal| {
-        let name = format!("KUDZUCLAMP_{refusal:?}").to_uppercase();
+        let name = c_name(refusal);
         let number = format!("{name} = {}", refusal.number());
         let case = format!("case {name}:\n        return \"{refusal}\";");
         let mut lines = HEADER.lines().map(str::trim_start);

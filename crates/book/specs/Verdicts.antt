@@ -42,6 +42,19 @@ abbrev pub needingAll : Count → List ℕ → Count
 needingAll c [] = c
 needingAll c (k ∷ ks) = needingAll (needing c k) ks
 
+-- steps after steps: all fit where both do, and they are counted one after the other
+pub fit-append : (N : ℕ) (xs ys : List ℕ) → fit N (xs ++ ys) ≡ (fit N xs && fit N ys)
+fit-append N [] ys = refl
+fit-append N (x ∷ xs) ys = go (leb x N) (fit-append N xs ys)
+  where
+    go : (b : Bool) → fit N (xs ++ ys) ≡ (fit N xs && fit N ys) → (b && fit N (xs ++ ys)) ≡ ((b && fit N xs) && fit N ys)
+    go true e = e
+    go false e = refl
+
+pub count-append : (q : Count) (xs ys : List ℕ) → needingAll q (xs ++ ys) ≡ needingAll (needingAll q xs) ys
+count-append q [] ys = refl
+count-append q (x ∷ xs) ys = count-append (needing q x) xs ys
+
 -- the verdict with the set A as a run's outcome
 abbrev pub settle : List Bool → Verdict → Outcome
 settle A (counted q) = value A q

@@ -13,6 +13,7 @@ use layout::Table;
 use layout::header_word;
 use layout::refusal_number;
 use player::Played;
+use routes::Found;
 use soundness::sound;
 use tokens::Kind;
 ghost use mathlib.Core.Path.{_≡_};
@@ -21,6 +22,7 @@ ghost use Rattle.batch_calls.specs.Posts.{BatchPost};
 ghost use Rattle.calls.specs.Replies.{answerReply, startedReply};
 ghost use Rattle.contract.specs.Posts.{CallPost, AskPost, SetAllPost};
 ghost use Rattle.formula_steps.specs.Replies.{storedReply};
+ghost use Rattle.path_calls.specs.Post.{PathPost};
 ghost use Rattle.exports.specs.Given.{given, FreshGiven};
 ghost use Rattle.exports.specs.Check.{kindOf, CheckPost};
 ghost use Rattle.exports.specs.Playing.{PlayGiven};
@@ -200,6 +202,31 @@ pub extern "C" fn kudzuclamp_count(words: &[u32], r: u32, value: &mut u32) -> u3
     ensures { λ k. ⌜ AskPost (book.count r) (now (words .entry)) (given k 0 0 (now (value .exit))) ⌝ }
 {
     give(calls::count(words, r), value)
+}
+
+// Writes the states of a shortest run from register a into register b over relation t to the list; gives how many they are.
+#[no_mangle]
+pub extern "C" fn kudzuclamp_shortest(
+    words: &mut [u32],
+    list: &mut [u16],
+    a: u32,
+    b: u32,
+    t: u32,
+    states: &mut u32,
+) -> u32
+    ensures { λ k. ⌜ PathPost a b t (now (words .entry)) (now (words .exit)) (now (list .entry)) (now (list .exit)) (given k 0 0 (now (states .exit))) ⌝ }
+{
+    let x = path_calls::shortest(words, list, a, b, t);
+    match x {
+        Found::States(c) => {
+            *states = c;
+            0
+        }
+        Found::Refused(e) => {
+            *states = 0;
+            refusal_number(e)
+        }
+    }
 }
 
 // The call that formula bytes are for: set at 0, else relation.

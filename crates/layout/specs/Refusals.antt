@@ -4,7 +4,7 @@ use native.Mathlib.Omega.{arith}
 use mathlib.Core.Bool.{Bool, _&&_, _||_}
 use lib.Dec.{leb}
 use Rattle.layout.specs.declared.Refusal.{Refusal}
-use Rattle.layout.specs.declared.Refusal.the-variants.{Sizes, Unsound, Range, Syntax, Unbound, Vacuous, Odd, Empty, Full, Spent, Unlisted}
+use Rattle.layout.specs.declared.Refusal.the-variants.{Sizes, Unsound, Range, Syntax, Unbound, Vacuous, Odd, Empty, Full, Spent, NoRun, Short, Unlisted}
 
 abbrev pub refusalNumber : Refusal → ℕ
 -- "fresh: n, N or slice length"
@@ -27,6 +27,10 @@ refusalNumber Empty = 7
 refusalNumber Full = 8
 -- "rounds used up"
 refusalNumber Spent = 9
+-- "no run exists"
+refusalNumber NoRun = 10
+-- "the list is too short for the run"
+refusalNumber Short = 11
 -- "the list is not 1 to 8 long or has no account at that place"
 refusalNumber Unlisted = 14
 
@@ -46,4 +50,6 @@ refusal-some Odd = omega arith
 refusal-some Empty = omega arith
 refusal-some Full = omega arith
 refusal-some Spent = omega arith
+refusal-some NoRun = omega arith
+refusal-some Short = omega arith
 refusal-some Unlisted = omega arith

@@ -124,6 +124,8 @@ pub enum Refusal {
     Empty,
     Full,
     Spent,
+    NoRun,
+    Short,
     Unlisted,
 }
 
@@ -142,6 +144,8 @@ pub fn refusal_number(r: Refusal) -> u32
         Refusal::Empty => 7,
         Refusal::Full => 8,
         Refusal::Spent => 9,
+        Refusal::NoRun => 10,
+        Refusal::Short => 11,
         Refusal::Unlisted => 14,
     }
 }

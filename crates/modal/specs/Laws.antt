@@ -28,7 +28,7 @@ use Rattle.counting.specs.declared.Taken.the-variants as taken
 use Rattle.book.specs.Ticks.{existsNeeds, diamondNeeds, counted, full as fullVerdict}
 use Rattle.book.specs.Run.{value, full as fullRun, existsSteps}
 use Rattle.book.specs.Diamond.{existsNext, diamondF, boxF}
-use Rattle.book.specs.Verdicts.{fit, needingAll, settle, steps-verdict, exists-ticks}
+use Rattle.book.specs.Verdicts.{fit, needingAll, fit-append, count-append, settle, steps-verdict, exists-ticks}
 use Rattle.book.specs.Held.{Held, denoted, held-arrow, held-push, held-operand, held-keeps}
 use Rattle.book.specs.Pairs.{PairMatches}
 use Rattle.book.specs.Modal.{Quantifies, quantify-start, quantify-on, quantify-out, quantify-end}
@@ -148,23 +148,11 @@ ran-from {n} {N} {W} {X} {Y} lent {b} {F} {d} {o} m r = subst (λ (xs : List ℕ
 pub held-mem : {m : ℕ} {rows : Rows} {roots : List ℕ} {fs : List Fn} {a : ℕ} → Held m rows roots fs → Mem a roots → Mem (den m rows a) fs
 held-mem {a = a} h i = let (f, j, d) = h .only a i in mem-cast (denoted d) j
 
--- the needs of box fit where those of its three parts do, and are counted one after the other
-fit-append : (N : ℕ) (xs ys : List ℕ) → fit N (xs ++ ys) ≡ (fit N xs && fit N ys)
-fit-append N [] ys = refl
-fit-append N (x ∷ xs) ys = go (leb x N) (fit-append N xs ys)
-  where
-    go : (b : Bool) → fit N (xs ++ ys) ≡ (fit N xs && fit N ys) → (b && fit N (xs ++ ys)) ≡ ((b && fit N xs) && fit N ys)
-    go true e = e
-    go false e = refl
-
-count-append : (q : Count) (xs ys : List ℕ) → needingAll q (xs ++ ys) ≡ needingAll (needingAll q xs) ys
-count-append q [] ys = refl
-count-append q (x ∷ xs) ys = count-append (needing q x) xs ys
-
 and-true : (b : Bool) → (b && true) ≡ b
 and-true true = refl
 and-true false = refl
 
+-- the needs of box fit where those of its three parts do, and are counted one after the other
 box-chain : {n N : ℕ} (limit : ℕ) {W X : View} {roots : List ℕ} (R F : Fn) {G : Fn} (q : Count) {o : Taken} (fs : List Fn)
     → Ran n N W X roots (leb (stepNeed (2 * n) (F ∷ fs) (notF F)) limit && (fit limit (diamondNeeds n fs R (notF F)) && leb (stepNeed (2 * n) (diamondF n R (notF F) ∷ fs) (notF (diamondF n R (notF F)))) limit)) G
     (needing (needingAll (needing q (stepNeed (2 * n) (F ∷ fs) (notF F))) (diamondNeeds n fs R (notF F))) (stepNeed (2 * n) (diamondF n R (notF F) ∷ fs) (notF (diamondF n R (notF F))))) o

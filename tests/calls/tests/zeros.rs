@@ -49,6 +49,16 @@ extern "C" {
         reads: *mut u32,
     ) -> u32;
     fn kudzuclamp_count(words: *const u32, words_len: usize, r: u32, value: *mut u32) -> u32;
+    fn kudzuclamp_shortest(
+        words: *mut u32,
+        words_len: usize,
+        list: *mut u16,
+        list_len: usize,
+        a: u32,
+        b: u32,
+        t: u32,
+        states: *mut u32,
+    ) -> u32;
 }
 
 /// What stands in an answer before the call.
@@ -126,6 +136,26 @@ fn questions(words: &mut [u32], r: u32, s: u32) -> [[u32; 2]; 4] {
         ]
     };
     std::array::from_fn(|k| [numbers[k], values[k]])
+}
+
+/// Number and states of a shortest run into register b, for a list of so many places.
+fn shortest(words: &mut [u32], b: u32, places: usize) -> [u32; 2] {
+    let mut list = vec![7; 9];
+    let mut states = BEFORE;
+    // SAFETY: pointers and lengths are those of a slice, a vector and a local.
+    let number = unsafe {
+        kudzuclamp_shortest(
+            words.as_mut_ptr(),
+            words.len(),
+            list.as_mut_ptr(),
+            places,
+            0,
+            b,
+            0,
+            &mut states,
+        )
+    };
+    [number, states]
 }
 
 #[test]
@@ -219,4 +249,22 @@ fn refused_questions_for_many_states() {
     words[1] = 0;
     assert_eq!(members(&words, 0, &[0], 1), [2, 0]);
     assert_eq!(members(&words, 0, &[0], 0), [1, 0]);
+}
+
+#[test]
+fn refused_runs() {
+    let mut accounts = [Account::unlimited()];
+    let mut table = Table::new(&mut accounts, 2, 6).unwrap();
+    table.relation(0, frame(&[0x21])).unwrap();
+    for (r, body) in (0..).zip([[0x10], [0x11], [0x00]]) {
+        table.set(&mut accounts, 0, r, 0, frame(&body)).unwrap();
+    }
+    let mut words = table.into_words();
+    assert_eq!(shortest(&mut words, 32, 9), [3, 0]);
+    assert_eq!(shortest(&mut words, 5, 9), [7, 0]);
+    assert_eq!(shortest(&mut words, 2, 9), [10, 0]);
+    assert_eq!(shortest(&mut words, 1, 0), [11, 0]);
+    assert_eq!(shortest(&mut words, 1, 9), [0, 1]);
+    words[1] = 0;
+    assert_eq!(shortest(&mut words, 1, 9), [2, 0]);
 }

@@ -4,6 +4,7 @@ use crate::accounts::{check_list, check_place, Account};
 use crate::evaluate::{self, Evaluated, Held};
 use crate::formula::{self, Formula, Kind};
 use crate::members::{members, Members, MAX_STATES};
+use crate::paths;
 use crate::refusal::Refusal;
 use crate::states::{state_count, PairSet, StateSet};
 
@@ -253,6 +254,24 @@ impl Book {
 
     pub fn count(&self, r: u64) -> Result<u64, Refusal> {
         Ok(self.filled(r)?.count())
+    }
+
+    /// Slip 3: the states of a shortest run from register a into register b over
+    /// relation t, for a list of so many places. It changes nothing.
+    pub fn shortest(&self, a: u64, b: u64, t: u64, room: usize) -> Result<Vec<u16>, Refusal> {
+        let (a, b) = (in_range(a, REGISTERS)?, in_range(b, REGISTERS)?);
+        let t = in_range(t, RELATIONS)?;
+        let from = self.registers[a].as_ref().ok_or(Refusal::Empty)?;
+        let goal = self.registers[b].as_ref().ok_or(Refusal::Empty)?;
+        let relation = self.relations[t].as_ref().ok_or(Refusal::Empty)?;
+        let last = paths::first_pass(self.held(), self.rows, t, from, goal)?;
+        let run = paths::shortest(relation, from, goal).expect("a layer shares a state with a");
+        assert_eq!(run.len(), last + 1, "the layers end at another distance");
+        if run.len() > room {
+            return Err(Refusal::ListTooShort);
+        }
+        paths::again(self.held(), self.rows, t, goal, last)?;
+        Ok(run.into_iter().map(|state| state as u16).collect())
     }
 
     /// The set in register r: checks 3 and 7.

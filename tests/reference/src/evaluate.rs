@@ -76,6 +76,24 @@ pub fn peak_within(held: Held, rounds: u32, formula: &Formula) -> usize {
     evaluator.peak
 }
 
+/// Slip 3: the layer after the last one, "b OR diamond of the last layer". "Only
+/// the last layer is live, until the next is made".
+pub fn next_layer(
+    held: Held,
+    rows: usize,
+    t: usize,
+    goal: &StateSet,
+    last: &StateSet,
+) -> Result<StateSet, Refusal> {
+    let limits = Limits { rows, rounds: 0 };
+    let mut evaluator = Evaluator::new(held, limits, Kind::Set);
+    let (goal, last) = (Value::States(goal.clone()), Value::States(last.clone()));
+    evaluator.waiting.push(last.clone());
+    let before = evaluator.diamond(t, last)?;
+    let layer = evaluator.step(&[&goal, &before], goal.or(&before))?;
+    Ok(layer.into_states())
+}
+
 impl<T> Evaluated<T> {
     fn map<U>(self, change: impl FnOnce(T) -> U) -> Evaluated<U> {
         Evaluated {

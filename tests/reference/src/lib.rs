@@ -13,6 +13,7 @@ pub mod formula;
 pub mod lists;
 pub mod meaning;
 pub mod members;
+pub mod paths;
 pub mod random;
 pub mod records;
 pub mod refusal;

@@ -22,6 +22,10 @@ pub enum Refusal {
     Full = 8,
     /// "rounds used up"
     RoundsUsedUp = 9,
+    /// Slip 3: "no run exists"
+    NoRun = 10,
+    /// Slip 3: "the list is too short for the run"
+    ListTooShort = 11,
     /// Slip 5: "a binder's variable occurs nowhere free in its body"
     BindsNothing = 12,
     /// Slip 7: "the list is not 1 to 8 long or has no account at that place"

@@ -1,0 +1,87 @@
+// The shortest run from one set into another, written to a lent list.
+use layers::Reached;
+use layers::make_layer;
+use layers::reach;
+use layout::Refusal;
+use modal::Limits;
+use seek::least_next;
+ghost use Rattle.layout.specs.View.{view};
+ghost use Rattle.counting.specs.Counts.{CountsOf};
+ghost use Rattle.layers.specs.Pass.{PassPre};
+ghost use Rattle.routes.specs.Write.{WritePre, WritePost};
+ghost use Rattle.routes.specs.Find.{RunPre, RunPost, FindPost};
+
+// What the call for a run answers: how many states it has.
+pub enum Found {
+    States(u32),
+    Refused(Refusal),
+}
+
+// Writes the d states after the first one from place 1 on: at each the least next state that lies a layer nearer.
+fn write_on(
+    words: &mut [u32],
+    counts: &mut [u32],
+    list: &mut [u16],
+    limits: Limits,
+    relation: u32,
+    b: u32,
+    d: u32,
+    first: u32,
+)
+    requires { ⌜ WritePre (limits .bits) (limits .rows) (limits .limit) (view (limits .rows) (now words)) relation b d first (now list) × CountsOf (view (limits .rows) (now words)) (now counts) ⌝ }
+    ensures { λ _. ⌜ WritePost (limits .bits) (limits .limit) (view (limits .rows) (now (words .entry))) (view (limits .rows) (now (words .exit))) relation b d first (now (list .entry)) (now (list .exit)) ⌝ }
+{
+    let mut s = first;
+    let mut left = d;
+    let mut at = 1;
+    while 0 < left {
+        left -= 1;
+        let x = make_layer(words, counts, limits, relation, b, left);
+        s = least_next(words, limits.rows, limits.bits, relation, s, x);
+        list[at] = s as u16;
+        at += 1;
+    }
+}
+
+// Writes the run from its first state, in layer d, where the list has room.
+fn write_run(
+    words: &mut [u32],
+    counts: &mut [u32],
+    list: &mut [u16],
+    limits: Limits,
+    relation: u32,
+    b: u32,
+    d: u32,
+    first: u32,
+) -> Found
+    requires { ⌜ RunPre (limits .bits) (limits .rows) (limits .limit) (view (limits .rows) (now words)) relation b d first × CountsOf (view (limits .rows) (now words)) (now counts) ⌝ }
+    ensures { λ r. ⌜ RunPost (limits .bits) (limits .limit) (view (limits .rows) (now (words .entry))) (view (limits .rows) (now (words .exit))) relation b d first (now (list .entry)) (now (list .exit)) r ⌝ }
+{
+    if list.len() <= d as usize {
+        return Found::Refused(Refusal::Short);
+    }
+    list[0] = first as u16;
+    write_on(words, counts, list, limits, relation, b, d, first);
+    Found::States(d + 1)
+}
+
+// Finds the shortest run from a into b that is least at each place, and writes it; the list is kept where there is none or it is too short.
+pub fn find_run(
+    words: &mut [u32],
+    counts: &mut [u32],
+    list: &mut [u16],
+    limits: Limits,
+    relation: u32,
+    a: u32,
+    b: u32,
+) -> Found
+    requires { ⌜ PassPre (limits .bits) (limits .rows) (limits .limit) (view (limits .rows) (now words)) relation a b × CountsOf (view (limits .rows) (now words)) (now counts) ⌝ }
+    ensures { λ r. ⌜ FindPost (limits .bits) (limits .limit) (view (limits .rows) (now (words .entry))) (view (limits .rows) (now (words .exit))) relation a b (now (list .entry)) (now (list .exit)) r ⌝ }
+{
+    let reached = reach(words, counts, limits, relation, a, b);
+    match reached {
+        Reached::At(d, s) => write_run(words, counts, list, limits, relation, b, d, s),
+        Reached::Nothing => Found::Refused(Refusal::NoRun),
+        Reached::Full => Found::Refused(Refusal::Full),
+    }
+}
