@@ -4,8 +4,7 @@ use room::echo::echo;
 use room::read::read;
 use room::room::{Asked, Room};
 use room::sense;
-use room::walk::members;
-use room::walk::Walk;
+use room::walk::{members, Walk};
 
 const TEXT: &str = include_str!("../../../examples/booth.room");
 
