@@ -21,7 +21,7 @@ pub enum Reached {
 
 // The layer after the last one: b OR diamond of it. Only the last layer is live, until the next is made. No peak is asked: one that is N
 // already is never passed, so nothing is counted.
-pub fn next_layer(
+fn next_layer(
     words: &mut [u32],
     counts: &mut [u32],
     limits: Limits,

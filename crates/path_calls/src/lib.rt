@@ -16,7 +16,7 @@ ghost use Rattle.path_calls.specs.Search.{SearchPre, SearchPost};
 ghost use Rattle.path_calls.specs.Post.{PathPost};
 
 // The search, with nothing remembered before; then rows are freed where many are not needed any more.
-pub fn search(
+fn search(
     words: &mut [u32],
     list: &mut [u16],
     limits: Limits,
