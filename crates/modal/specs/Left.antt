@@ -3,7 +3,7 @@
 use mathlib.Core.Path.{_≡_, refl, sym, ap, _∙_, subst, fun-ext}
 use mathlib.Core.Logic.{⊎-elim}
 use mathlib.Core.Bool.{Bool, true, false, _&&_, cond, true≢false}
-use mathlib.Core.List.{List, [], _∷_, map, List·Memᴰ as Mem, List·Memᴰ·head as here, List·Memᴰ·tail as there, List·Memᴰ·cases-cons as mem-cases, List·Memᴰ·not-nil as mem-nil, Memᴰ·cast as mem-cast, Memᴰ·map as mem-map, Memᴰ·append-right as append-right}
+use mathlib.Core.List.{List, [], _∷_, map, List·Memᴰ·head as here, List·Memᴰ·tail as there, List·Memᴰ·cases-cons as mem-cases, List·Memᴰ·not-nil as mem-nil, Memᴰ·cast as mem-cast, Memᴰ·map as mem-map, Memᴰ·append-right as append-right}
 use Prim.Native.Nat.{ℕ, zero, suc, _+_, _-_, _*_, _≤_, _<_, max, min}
 use native.Mathlib.Omega.{arith}
 use lib.Dec.{T, leb, leb→le}
@@ -14,7 +14,7 @@ use Rattle.layout.specs.View.{View}
 use Rattle.diagram.specs.Level.{Fn}
 use Rattle.diagram.specs.Rows.{Rows, Arrow, den, WellFormed}
 use Rattle.diagram.specs.Count.{Within}
-use Rattle.diagram.specs.Need.{need, stepNeed}
+use Rattle.diagram.specs.Need.{stepNeed}
 use Rattle.diagram.specs.Needed.{need-mono}
 use Rattle.diagram.specs.Reach.{den-reads-all}
 use Rattle.diagram.specs.Grow.{den-extends}
@@ -38,13 +38,13 @@ use Rattle.counting.specs.declared.Taken.the-variants as taken
 use Rattle.stages.specs.Left.{LeftFits}
 use Rattle.stages.specs.Rest.{RestPre, RestPost}
 use Rattle.book.specs.Ticks.{existsNeeds, counted, full as fullVerdict}
-use Rattle.book.specs.Run.{Outcome, value, existsSteps}
+use Rattle.book.specs.Run.{value, existsSteps}
 use Rattle.book.specs.Diamond.{existsNext}
 use Rattle.book.specs.Verdicts.{fit, needingAll, settle}
 use Rattle.book.specs.Held.{Held, denoted}
 use Rattle.book.specs.Pairs.{PairMatches}
 use Rattle.book.specs.Modal.{Quantifies}
-use Rattle.modal.specs.Chain.{Base, Moved, moved-trans, base-next, base-wf, base-bits, Took, took}
+use Rattle.modal.specs.Chain.{Moved, moved-trans, base-next, base-wf, base-bits, Took, took}
 use Rattle.modal.specs.Modal.{QuantifyPre, QuantifyPost}
 use Rattle.modal.specs.Laws.{Quantified, quantify-begins, quantify-base, quantify-asks, quantify-turns, quantify-full, quantify-ends, held-moved, fit-steps, fit-true, at-own}
 

@@ -1,14 +1,12 @@
 -- All EXISTS left of an arrow at once: what is asked, what is promised, and what each call and each return gives. Assumes nothing.
-use mathlib.Core.Path.{_≡_, refl, sym, ap, _∙_, subst, fun-ext}
-use mathlib.Core.Logic.{_≢_}
+use mathlib.Core.Path.{_≡_, sym, subst, fun-ext}
+use mathlib.Core.Logic.{_≢_, ⊎-elim}
 use mathlib.Core.Bool.{Bool, true, false, true≢false}
 use mathlib.Core.List.{List, [], _∷_, _++_, List·Memᴰ as Mem, List·Memᴰ·cases-cons as mem-cases, List·Memᴰ·not-nil as mem-nil, List·Memᴰ·append-cases as append-cases}
-use mathlib.Core.Logic.{⊎-elim}
-use Prim.Native.Nat.{ℕ, suc, _+_, _*_, _≤_}
+use Prim.Native.Nat.{ℕ, _*_, _≤_}
 use native.Mathlib.Omega.{arith}
 use Rattle.layout.specs.View.{View}
-use Rattle.diagram.specs.Level.{Fn}
-use Rattle.diagram.specs.Rows.{Rows, Arrow, den}
+use Rattle.diagram.specs.Rows.{Arrow, den}
 use Rattle.diagram.specs.Odd.{oddF}
 use Rattle.diagram.specs.Blind.{Blind}
 use Rattle.diagram.specs.Grow.{arrow-extends, den-extends}

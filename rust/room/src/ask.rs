@@ -118,7 +118,7 @@ impl<'a> Asker<'a> {
     /// Whether a register has exactly the states that the walk found: all of them, and as many as the library counts.
     fn same(&self, register: u32, set: &Set) -> Result<(), Halt> {
         let found = members(set);
-        let states = self.table.states(register)?;
+        let states: Vec<u32> = self.table.states(register)?.collect();
         if states == found && self.table.count(register)? as usize == found.len() {
             return Ok(());
         }

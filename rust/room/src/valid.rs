@@ -73,7 +73,7 @@ mod tests {
         let mut accounts = [Account::unlimited()];
         let mut table = Table::new(&mut accounts, n, 10_000).unwrap();
         table.set(&mut accounts, 0, 0, 0, formula).unwrap();
-        table.states(0).unwrap()
+        table.states(0).unwrap().collect()
     }
 
     #[test]
