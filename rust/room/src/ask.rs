@@ -1,9 +1,12 @@
 //! The library's answers to a room's questions, given only where the plain walk finds the same.
 use crate::plan::{Asking, Plan, Store, ANSWER, FIRST, INNER, SECOND, START};
-use crate::room::{Question, Room, State};
+use crate::room::{Asked, Question, Room, State};
 use crate::valid;
 use crate::walk::{members, Run, Set, Sets, Walk};
 use kudzuclamp::{Account, Refusal, Table};
+
+/// The states of the longest run that is asked of the library as well.
+const LONGEST: usize = 200;
 
 /// The table that is used.
 #[derive(Clone, Copy, Debug, PartialEq, Eq)]
@@ -154,6 +157,9 @@ impl<'a> Asker<'a> {
             return differs("the start is in one answer and not in the other".to_string());
         }
         let trouble = self.walk.trouble(start, &question.asked, &sets);
+        if let Asked::Never(_) = question.asked {
+            self.same_run(trouble.as_ref())?;
+        }
         match (found == asking.holds, trouble) {
             (true, None) => Ok(Verdict::Safe),
             (false, Some(run)) if self.is_run(&run.states) => Ok(Verdict::Broken(run)),
@@ -172,6 +178,28 @@ impl<'a> Asker<'a> {
             Some(inner) => self.same(INNER, inner),
             None => Ok(()),
         }
+    }
+
+    /// Where all presses are one relation the library finds the shortest run too, or that there is none. It works out its
+    /// distances again for each state of the run, so long runs are left to the walk; and so they are where rows run out.
+    fn same_run(&mut self, run: Option<&Run>) -> Result<(), Halt> {
+        let [relation] = &self.plan.relations[..] else {
+            return Ok(());
+        };
+        let walked = run.map(|run| &run.states[..]);
+        if walked.is_some_and(|states| states.len() > LONGEST) {
+            return Ok(());
+        }
+        let found = match self.table.shortest(START, FIRST, relation.place) {
+            Ok(states) => Some(states.into_iter().map(State::from).collect::<Vec<State>>()),
+            Err(Refusal::NoRun) => None,
+            Err(Refusal::Full) => return Ok(()),
+            Err(refusal) => return Err(refusal.into()),
+        };
+        if found.as_deref() == walked {
+            return Ok(());
+        }
+        differs("the table finds another shortest run than the walk".to_string())
     }
 
     /// Whether every step of a run is a press, by the rules as read.

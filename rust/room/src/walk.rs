@@ -184,7 +184,7 @@ impl Walk {
 
     /// The states of a shortest run from the start into a set, through states of another set before: at each place the
     /// least state that lies on a shortest run. None where no run leads there. This is the one place that finds such
-    /// runs: once the library has a call for it (request 3), its answer can be held against this one.
+    /// runs; where all presses are one relation the library's answer is held against it (`Asker::same_run`).
     pub fn shortest_run(&self, start: State, into: &Set, through: &Set) -> Option<Vec<State>> {
         let mut distance: Vec<Option<usize>> = vec![None; self.next.len()];
         let mut layer = members(into);
