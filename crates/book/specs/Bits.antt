@@ -5,20 +5,20 @@ use mathlib.Core.Bool.{Bool, true, false, not, _&&_, _||_, cond}
 use mathlib.Core.List.{List}
 use Prim.Native.Nat.{ℕ, _^_, _<_}
 use lib.Dec.{T, eqb, ltb}
-use lib.ListN.{getD, length}
-use Rattle.mucalculus.specs.Sets.{mem, and-out, true-of}
-use Rattle.mucalculus.specs.Form.{Form, bot, top, neg, conj, disj, now, next, var, reg, box, dia, mu, nu, until, Env, noEnv}
+use lib.ListN.{getD}
+use Rattle.mucalculus.specs.Sets.{mem, and-in, and-out}
+use Rattle.mucalculus.specs.Form.{Form, bot, top, neg, conj, disj, now, next, var, reg, box, dia, mu, nu, until, noEnv}
 use Rattle.mucalculus.specs.Means.{holds, exist, means}
 use Rattle.mucalculus.specs.Laws.{getD-table}
 use Rattle.tokens.specs.Tokens.{grammarOf}
 use Rattle.tokens.specs.declared.Kind.the-variants.{Valid}
 use Rattle.tokens.specs.declared.Grammar.{Grammar}
 use Rattle.tokens.specs.declared.Grammar.the-variants.{Bits}
-use Rattle.tokens.specs.declared.Reading.{Reading}
 use Rattle.tokens.specs.declared.Reading.the-variants.{Is as Reads, Unknown}
+use Rattle.tokens.proofs.Table.{both-true}
 use Rattle.formula.specs.Parse.{Got, fails, got, isFormula, formOf, formulaOf}
 use Rattle.formula.specs.Bytes.{takes}
-use Rattle.formula.proofs.Accepted.{found, Found}
+use Rattle.formula.proofs.Accepted.{found}
 use Rattle.formula.proofs.Readings.{parse-reads}
 use Rattle.formula.proofs.Written.{read-taken}
 use Rattle.book.specs.States.{nowOf, nextOf, nowOf-lt}
@@ -79,75 +79,32 @@ valid-fn n f h = fnOf-holds n f ∙ fun-ext (λ v. sym (states-hold n (nowOf n v
 
 -- ---- the bytes
 
+-- what is never true
+never : (a c : Bool) → (a && false) ≡ true → T c
+never true c z = absurd (subst T (sym z) tt)
+never false c z = absurd (subst T (sym z) tt)
+
+never-part : (a c d : Bool) → ((a && false) && c) ≡ true → T d
+never-part true c d z = absurd (subst T (sym z) tt)
+never-part false c d z = absurd (subst T (sym z) tt)
+
 taken-bits : (n : ℕ) (f : Form) → takes n Bits f ≡ true → T (bitsOnly f)
 unfolding takes bitsOnly
 taken-bits n bot e = tt
 taken-bits n top e = tt
 taken-bits n (neg f) e = taken-bits n f e
-taken-bits n (conj f g) e = two (takes n Bits f) (takes n Bits g) (taken-bits n f) (taken-bits n g) e
-  where
-    two : (a c : Bool) → (a ≡ true → T (bitsOnly f)) → (c ≡ true → T (bitsOnly g)) → (a && c) ≡ true → T (bitsOnly f && bitsOnly g)
-    two true c h i z = join (bitsOnly f) (bitsOnly g) (h refl) (i z)
-      where
-        join : (x y : Bool) → T x → T y → T (x && y)
-        join true y p q = q
-        join false y p q = absurd p
-    two false c h i z = absurd (subst T (sym z) tt)
-taken-bits n (disj f g) e = two (takes n Bits f) (takes n Bits g) (taken-bits n f) (taken-bits n g) e
-  where
-    two : (a c : Bool) → (a ≡ true → T (bitsOnly f)) → (c ≡ true → T (bitsOnly g)) → (a && c) ≡ true → T (bitsOnly f && bitsOnly g)
-    two true c h i z = join (bitsOnly f) (bitsOnly g) (h refl) (i z)
-      where
-        join : (x y : Bool) → T x → T y → T (x && y)
-        join true y p q = q
-        join false y p q = absurd p
-    two false c h i z = absurd (subst T (sym z) tt)
+taken-bits n (conj f g) e = let w = both-true (takes n Bits f) (takes n Bits g) e in and-in (bitsOnly f) (bitsOnly g) (taken-bits n f (w .0)) (taken-bits n g (w .1))
+taken-bits n (disj f g) e = let w = both-true (takes n Bits f) (takes n Bits g) e in and-in (bitsOnly f) (bitsOnly g) (taken-bits n f (w .0)) (taken-bits n g (w .1))
 taken-bits n (now p) e = tt
-taken-bits n (next p) e = absurd (no (ltb p 16) e)
-  where
-    no : (a : Bool) → (a && false) ≡ true → ⊥
-    no true z = subst T (sym z) tt
-    no false z = subst T (sym z) tt
-taken-bits n (var P) e = absurd (no (ltb P 16) e)
-  where
-    no : (a : Bool) → (a && false) ≡ true → ⊥
-    no true z = subst T (sym z) tt
-    no false z = subst T (sym z) tt
-taken-bits n (reg r) e = absurd (no (ltb r 32) e)
-  where
-    no : (a : Bool) → (a && false) ≡ true → ⊥
-    no true z = subst T (sym z) tt
-    no false z = subst T (sym z) tt
-taken-bits n (box t f) e = absurd (no (ltb t 8) (takes n Bits f) e)
-  where
-    no : (a c : Bool) → ((a && false) && c) ≡ true → ⊥
-    no true c z = subst T (sym z) tt
-    no false c z = subst T (sym z) tt
-taken-bits n (dia t f) e = absurd (no (ltb t 8) (takes n Bits f) e)
-  where
-    no : (a c : Bool) → ((a && false) && c) ≡ true → ⊥
-    no true c z = subst T (sym z) tt
-    no false c z = subst T (sym z) tt
-taken-bits n (mu P f) e = absurd (no (ltb P 16) (takes n Bits f) e)
-  where
-    no : (a c : Bool) → ((a && false) && c) ≡ true → ⊥
-    no true c z = subst T (sym z) tt
-    no false c z = subst T (sym z) tt
-taken-bits n (nu P f) e = absurd (no (ltb P 16) (takes n Bits f) e)
-  where
-    no : (a c : Bool) → ((a && false) && c) ≡ true → ⊥
-    no true c z = subst T (sym z) tt
-    no false c z = subst T (sym z) tt
-taken-bits n (until true t f g) e = absurd (no (ltb t 8) (takes n Bits f && takes n Bits g) e)
-  where
-    no : (a c : Bool) → ((a && false) && c) ≡ true → ⊥
-    no true c z = subst T (sym z) tt
-    no false c z = subst T (sym z) tt
-taken-bits n (until false t f g) e = absurd (no (ltb t 8) (takes n Bits f && takes n Bits g) e)
-  where
-    no : (a c : Bool) → ((a && false) && c) ≡ true → ⊥
-    no true c z = subst T (sym z) tt
-    no false c z = subst T (sym z) tt
+taken-bits n (next p) e = never (ltb p 16) false e
+taken-bits n (var P) e = never (ltb P 16) false e
+taken-bits n (reg r) e = never (ltb r 32) false e
+taken-bits n (box t f) e = never-part (ltb t 8) (takes n Bits f) false e
+taken-bits n (dia t f) e = never-part (ltb t 8) (takes n Bits f) false e
+taken-bits n (mu P f) e = never-part (ltb P 16) (takes n Bits f) false e
+taken-bits n (nu P f) e = never-part (ltb P 16) (takes n Bits f) false e
+taken-bits n (until true t f g) e = never-part (ltb t 8) (takes n Bits f && takes n Bits g) false e
+taken-bits n (until false t f g) e = never-part (ltb t 8) (takes n Bits f && takes n Bits g) false e
 
 -- the one grammar of valid
 only-bits : (v : ℕ) (g : Grammar) → grammarOf Valid v ≡ Reads g → g ≡ Bits

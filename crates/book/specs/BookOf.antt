@@ -8,7 +8,7 @@ use Prim.Native.Nat.{ℕ, suc, _*_, _<_, _^_, _/_, _%_}
 use native.Mathlib.Decide.{ℕ-discrete}
 use native.Mathlib.Omega.{arith}
 use lib.Dec.{T, ltb, ltb→lt, lt→ltb, eqb→eq}
-use Rattle.mucalculus.specs.Sets.{mem, table, mem-table, length-table, and-out}
+use Rattle.mucalculus.specs.Sets.{mem, table, mem-table, length-table, and-out, true-of}
 use Rattle.mucalculus.specs.Order.{Below}
 use Rattle.mucalculus.specs.Laws.{getD-table}
 use Rattle.mucalculus.specs.Means.{pair, exist, related}
@@ -16,6 +16,7 @@ use Rattle.mucalculus.specs.Exist.{Inside, related-same}
 use Rattle.mucalculus.specs.Form.{Pairs, inside}
 use Rattle.diagram.specs.Level.{Val, Fn, Reads}
 use Rattle.diagram.specs.Rows.{Arrow, den, WellFormed}
+use Rattle.diagram.specs.Post.{Denotes}
 use Rattle.diagram.specs.Reach.{Reach, reached-root, den-reads-all}
 use Rattle.diagram.specs.Even.{ReadsOn, even, reads-levels, levels-read}
 use Rattle.book.specs.States.{nowOf, nextOf, pairVal, nowOf-bit, nowOf-lt, nowOf-pairVal, nextOf-pairVal, pairVal-now, pairVal-next}
@@ -33,15 +34,23 @@ abbrev pub EvenRows : Table → ℕ → Type 0
 EvenRows t a = (i : ℕ) → Reach (t .rows) (a ∷ []) i → even (t .rows .level i) ≡ true
 
 -- what an arrow denotes
-abbrev pub means : Table → ℕ → Fn
-means t a = den (2 * t .n) (t .rows) a
+abbrev pub denIn : Table → ℕ → Fn
+denIn t a = den (2 * t .n) (t .rows) a
 
--- "A table is sound only with V's rows on even levels, registers within V, and relations within V and SHIFT of V"
+-- G holds wherever F does
+abbrev pub Under : Fn → Fn → Type 0
+Under F G = (v : Val) → F v ≡ true → G v ≡ true
+
+-- "each register is empty or an arrow whose rows all have even levels; each relation is empty or any arrow"; "A table is sound only with V's rows on
+-- even levels, registers within V, and relations within V and SHIFT of V"
 pub record SoundTable (t : Table) : Type 0 where
   pub wf : WellFormed (2 * t .n) (t .N) (t .rows)
   pub valid : Arrow (t .rows) (t .valid) × EvenRows t (t .valid)
-  pub reg : (r : ℕ) → r < registers → (a : ℕ) → t .reg r ≡ some a → Arrow (t .rows) a × EvenRows t a × ((v : Val) → T (means t a v) → T (means t (t .valid) v))
-  pub rel : (q : ℕ) → q < relations → (a : ℕ) → t .rel q ≡ some a → Arrow (t .rows) a × ((v : Val) → T (means t a v) → T (means t (t .valid) v) × T (shiftF (means t (t .valid)) v))
+  pub reg : (r : ℕ) → r < registers → (a : ℕ) → t .reg r ≡ some a → Arrow (t .rows) a × EvenRows t a
+  pub rel : (q : ℕ) → q < relations → (a : ℕ) → t .rel q ≡ some a → Arrow (t .rows) a
+  pub regWithin : (r : ℕ) → r < registers → (a : ℕ) → t .reg r ≡ some a → Under (denIn t a) (denIn t (t .valid))
+  pub relWithin : (q : ℕ) → q < relations → (a : ℕ) → t .rel q ≡ some a → Under (denIn t a) (denIn t (t .valid))
+  pub relShifted : (q : ℕ) → q < relations → (a : ℕ) → t .rel q ≡ some a → Under (denIn t a) (shiftF (denIn t (t .valid)))
 
 -- what a place stands for
 abbrev pub standsFor : {X : Type 0} → (Fn → X) → (ℕ → Fn) → Option ℕ → Option X
@@ -99,55 +108,55 @@ pairs-back n F r v = ap (λ (G : Fn). G v) (fnOfPairs-table n (λ s u. F (pairVa
         subst (λ (k : ℕ). pairVal (nowOf n v) (nextOf n v) k ≡ v k) half (pairVal-next (l / 2) (nowOf n v) (nextOf n v) ∙ nowOf-bit n (λ k. v (suc k)) (l / 2) (omega arith))
 
 -- an arrow with even rows denotes its set of states
-even-stands : (t : Table) → WellFormed (2 * t .n) (t .N) (t .rows) → (a : ℕ) → Arrow (t .rows) a → EvenRows t a → fnOf (t .n) (setOf (t .n) (means t a)) ≡ means t a
-even-stands t wf a r e = fnOf-setOf (t .n) (means t a) (current (t .n) (means t a) (den-reads-all wf a r) (reads-levels (t .rows) even (a ∷ []) e (2 * t .n) a (reached-root (t .rows) (a ∷ []) a (here refl))))
+even-stands : (t : Table) → WellFormed (2 * t .n) (t .N) (t .rows) → (a : ℕ) → Arrow (t .rows) a → EvenRows t a → fnOf (t .n) (setOf (t .n) (denIn t a)) ≡ denIn t a
+even-stands t wf a r e = fnOf-setOf (t .n) (denIn t a) (current (t .n) (denIn t a) (den-reads-all wf a r) (reads-levels (t .rows) even (a ∷ []) e (2 * t .n) a (reached-root (t .rows) (a ∷ []) a (here refl))))
 
 module _ (t : Table) (s : SoundTable t) where
   -- V's set
   E : List Bool
-  E = setOf (t .n) (means t (t .valid))
+  E = setOf (t .n) (denIn t (t .valid))
 
-  valid-stands : fnOf (t .n) E ≡ means t (t .valid)
+  valid-stands : fnOf (t .n) E ≡ denIn t (t .valid)
   unfolding E
   valid-stands = even-stands t (s .wf) (t .valid) (s .valid .0) (s .valid .1)
 
   -- what is in the book's sets and pairs is what the arrows denote
-  valid-at : (v : Val) → T (means t (t .valid) v) → T (mem E (nowOf (t .n) v))
-  valid-at v p = subst (λ (F : Fn). T (F v)) (sym valid-stands) p
+  valid-at : (v : Val) → denIn t (t .valid) v ≡ true → T (mem E (nowOf (t .n) v))
+  valid-at v p = subst T (sym (ap (λ (F : Fn). F v) valid-stands ∙ p)) tt
 
-  sets-whole : (o : Option ℕ) → ((a : ℕ) → o ≡ some a → (v : Val) → T (means t a v) → T (means t (t .valid) v)) → (A : List Bool) → standsFor (setOf (t .n)) (means t) o ≡ some A
+  sets-whole : (o : Option ℕ) → ((a : ℕ) → o ≡ some a → Under (denIn t a) (denIn t (t .valid))) → (A : List Bool) → standsFor (setOf (t .n)) (denIn t) o ≡ some A
       → Sized (t .n) A × Below A E
   sets-whole none h A e = absurd (none-some e)
   sets-whole (some a) h A e =
       subst (λ (X : List Bool). Sized (t .n) X × Below X E) (some-inj e)
-      (length-table (2 ^ t .n) (λ s. means t a (pairVal s 0)), λ u p.
-      let w = and-out (ltb u (2 ^ t .n)) (means t a (pairVal u 0)) (subst T (mem-table (2 ^ t .n) (λ s. means t a (pairVal s 0)) u) p) in
-      subst (λ (x : ℕ). T (mem E x)) (nowOf-pairVal (t .n) u 0 (ltb→lt u (2 ^ t .n) (w .0))) (valid-at (pairVal u 0) (h a refl (pairVal u 0) (w .1))))
+      (length-table (2 ^ t .n) (λ s. denIn t a (pairVal s 0)), λ u p.
+      let w = and-out (ltb u (2 ^ t .n)) (denIn t a (pairVal u 0)) (subst T (mem-table (2 ^ t .n) (λ s. denIn t a (pairVal s 0)) u) p) in
+      subst (λ (x : ℕ). T (mem E x)) (nowOf-pairVal (t .n) u 0 (ltb→lt u (2 ^ t .n) (w .0))) (valid-at (pairVal u 0) (h a refl (pairVal u 0) (true-of _ (w .1)))))
 
-  pairs-whole : (o : Option ℕ) → ((a : ℕ) → o ≡ some a → (v : Val) → T (means t a v) → T (means t (t .valid) v) × T (shiftF (means t (t .valid)) v)) → (Q : Pairs)
-      → standsFor (pairsOf (t .n)) (means t) o ≡ some Q → SizedPairs (t .n) Q × Inside (2 ^ t .n) E Q
-  pairs-whole none h Q e = absurd (none-some e)
-  pairs-whole (some a) h Q e =
+  pairs-whole : (o : Option ℕ) → ((a : ℕ) → o ≡ some a → Under (denIn t a) (denIn t (t .valid))) → ((a : ℕ) → o ≡ some a → Under (denIn t a) (shiftF (denIn t (t .valid)))) → (Q : Pairs)
+      → standsFor (pairsOf (t .n)) (denIn t) o ≡ some Q → SizedPairs (t .n) Q × Inside (2 ^ t .n) E Q
+  pairs-whole none h k Q e = absurd (none-some e)
+  pairs-whole (some a) h k Q e =
       subst (λ (X : Pairs). SizedPairs (t .n) X × Inside (2 ^ t .n) E X) (some-inj e)
-      (sized-table (t .n) (λ s u. means t a (pairVal s u)), λ x u l i p.
-      let at : pair (pairsOf (t .n) (means t a)) x u ≡ means t a (pairVal x u) =
-      ap (λ (A : List Bool). mem A u) (getD-table (2 ^ t .n) (λ s. table (2 ^ t .n) (λ w. means t a (pairVal s w))) x [] l) ∙ getD-table (2 ^ t .n) (λ w. means t a (pairVal x w)) u false i
+      (sized-table (t .n) (λ s u. denIn t a (pairVal s u)), λ x u l i p.
+      let at : pair (pairsOf (t .n) (denIn t a)) x u ≡ denIn t a (pairVal x u) =
+      ap (λ (A : List Bool). mem A u) (getD-table (2 ^ t .n) (λ s. table (2 ^ t .n) (λ w. denIn t a (pairVal s w))) x [] l) ∙ getD-table (2 ^ t .n) (λ w. denIn t a (pairVal x w)) u false i
       in
-      let w = h a refl (pairVal x u) (subst T at p) in
+      let q = true-of _ (subst T at p) in
       (
-        subst (λ (z : ℕ). T (mem E z)) (nowOf-pairVal (t .n) x u l) (valid-at (pairVal x u) (w .0)),
-        subst (λ (z : ℕ). T (mem E z)) (nextOf-pairVal (t .n) x u i) (valid-at (λ k. pairVal x u (suc k)) (w .1)),
+        subst (λ (z : ℕ). T (mem E z)) (nowOf-pairVal (t .n) x u l) (valid-at (pairVal x u) (h a refl (pairVal x u) q)),
+        subst (λ (z : ℕ). T (mem E z)) (nextOf-pairVal (t .n) x u i) (valid-at (λ j. pairVal x u (suc j)) (k a refl (pairVal x u) q)),
       ))
 
 -- the book that a sound table stands for is whole
 pub whole-bookOf : (t : Table) → SoundTable t → Whole (bookOf t)
 unfolding E
 whole-bookOf t s = record {
-  valid = length-table (2 ^ t .n) (λ u. means t (t .valid) (pairVal u 0));
-  reg = λ r. limited (λ i A. Sized (t .n) A × (i < registers) × Below A (setOf (t .n) (means t (t .valid)))) r registers (standsFor (setOf (t .n)) (den (2 * t .n) (t .rows)) (t .reg r))
-      (λ l A e. let w = sets-whole t s (t .reg r) (λ a i. s .reg r l a i .2) A e in (w .0, l, w .1));
-  rel = λ q. limited (λ i Q. SizedPairs (t .n) Q × (i < relations) × Inside (2 ^ t .n) (setOf (t .n) (means t (t .valid))) Q) q relations (standsFor (pairsOf (t .n)) (den (2 * t .n) (t .rows)) (t .rel q))
-      (λ l Q e. let w = pairs-whole t s (t .rel q) (λ a i. s .rel q l a i .1) Q e in (w .0, l, w .1));
+  valid = length-table (2 ^ t .n) (λ u. denIn t (t .valid) (pairVal u 0));
+  reg = λ r. limited (λ i A. Sized (t .n) A × (i < registers) × Below A (setOf (t .n) (denIn t (t .valid)))) r registers (standsFor (setOf (t .n)) (den (2 * t .n) (t .rows)) (t .reg r))
+      (λ l A e. let w = sets-whole t s (t .reg r) (s .regWithin r l) A e in (w .0, l, w .1));
+  rel = λ q. limited (λ i Q. SizedPairs (t .n) Q × (i < relations) × Inside (2 ^ t .n) (setOf (t .n) (denIn t (t .valid))) Q) q relations (standsFor (pairsOf (t .n)) (den (2 * t .n) (t .rows)) (t .rel q))
+      (λ l Q e. let w = pairs-whole t s (t .rel q) (s .relWithin q l) (s .relShifted q l) Q e in (w .0, l, w .1));
 }
 
 pub shows-bookOf : (t : Table) → SoundTable t → Shows (bookOf t) t
@@ -157,13 +166,13 @@ shows-bookOf t s = record {
   wf = s .wf;
   valid = record { arrow = s .valid .0; same = λ v. ap (λ (F : Fn). F v) (sym (even-stands t (s .wf) (t .valid) (s .valid .0) (s .valid .1))) };
   reg = λ r l. subst (λ (o : Option (List Bool)). Place (2 * t .n) (t .rows) (fnOf (t .n)) o (t .reg r)) (sym (in-range _ none r registers l)) (sets (t .reg r) (s .reg r l));
-  rel = λ q l. subst (λ (o : Option Pairs). Place (2 * t .n) (t .rows) (fnOfPairs (t .n)) o (t .rel q)) (sym (in-range _ none q relations l)) (pairs (t .rel q) (λ a e. s .rel q l a e .0));
+  rel = λ q l. subst (λ (o : Option Pairs). Place (2 * t .n) (t .rows) (fnOfPairs (t .n)) o (t .rel q)) (sym (in-range _ none q relations l)) (pairs (t .rel q) (s .rel q l));
 }
   where
     D : ℕ → Fn
     D = den (2 * t .n) (t .rows)
 
-    sets : (o : Option ℕ) → ((a : ℕ) → o ≡ some a → Arrow (t .rows) a × EvenRows t a × ((v : Val) → T (means t a v) → T (means t (t .valid) v))) → Place (2 * t .n) (t .rows) (fnOf (t .n)) (standsFor (setOf (t .n)) D o) o
+    sets : (o : Option ℕ) → ((a : ℕ) → o ≡ some a → Arrow (t .rows) a × EvenRows t a) → Place (2 * t .n) (t .rows) (fnOf (t .n)) (standsFor (setOf (t .n)) D o) o
     sets none h = tt
     sets (some a) h = let w = h a refl in record { arrow = w .0; same = λ v. ap (λ (F : Fn). F v) (sym (even-stands t (s .wf) a (w .0) (w .1))) }
 
@@ -221,8 +230,22 @@ module _ (b : Book) (t : Table) (w : Whole b) (s : Shows b t) where
 -- a table that shows a whole book is sound: V and its registers denote sets of states, which read current bits only, the registers' within V
 module _ (b : Book) (t : Table) (w : Whole b) (s : Shows b t) where
   -- what the arrows denote in the book, at the table's own n
-  valid-den : (v : Val) → means t (t .valid) v ≡ mem (b .valid) (nowOf (b .n) v)
+  valid-den : (v : Val) → denIn t (t .valid) v ≡ mem (b .valid) (nowOf (b .n) v)
   valid-den v = ap (λ (n : ℕ). den (2 * n) (t .rows) (t .valid) v) (s .n) ∙ s .valid .same v
+
+  relation-of : (q a : ℕ) → q < relations → t .rel q ≡ some a → (Q : Pairs) × (b .rel q ≡ some Q) × Denotes (2 * b .n) (t .rows) a (fnOfPairs (b .n) Q)
+  relation-of q a l e = go (b .rel q) refl (subst (λ (u : Option ℕ). Place (2 * b .n) (t .rows) (fnOfPairs (b .n)) (b .rel q) u) e (s .rel q l))
+    where
+      go : (o : Option Pairs) → b .rel q ≡ o → Place (2 * b .n) (t .rows) (fnOfPairs (b .n)) o (some a) → (Q : Pairs) × (b .rel q ≡ some Q) × Denotes (2 * b .n) (t .rows) a (fnOfPairs (b .n) Q)
+      go none i p = absurd p
+      go (some Q) i p = (Q, i, p)
+
+  -- the pairs of a relation are of existing states
+  pair-in : (q a : ℕ) → q < relations → t .rel q ≡ some a → (v : Val) → denIn t a v ≡ true → T (mem (b .valid) (nowOf (b .n) v)) × T (mem (b .valid) (nextOf (b .n) v))
+  pair-in q a l e v h =
+      let (Q, i, d) = relation-of q a l e in
+      w .rel q Q i .2 (nowOf (b .n) v) (nextOf (b .n) v) (nowOf-lt (b .n) v) (nowOf-lt (b .n) (λ l. v (suc l)))
+      (subst T (sym (sym (ap (λ (n : ℕ). den (2 * n) (t .rows) a v) (s .n) ∙ d .same v) ∙ h)) tt)
 
   pub sound-shows : SoundTable t
   sound-shows = record {
@@ -230,23 +253,14 @@ module _ (b : Book) (t : Table) (w : Whole b) (s : Shows b t) where
     valid = (s .valid .arrow, λ i. levels-read (s .wf) even (t .valid) (s .valid .arrow) (subst (ReadsOn even) (sym (denoted (s .valid))) (fnOf-even (b .n) (b .valid))) i);
     reg = λ r l a e.
         let (A, i, d) = shows-filled b t r a s l e in
-        (
-          d .arrow,
-          λ i. levels-read (s .wf) even a (d .arrow) (subst (ReadsOn even) (sym (denoted d)) (fnOf-even (b .n) A)) i,
-          λ v p. subst T (sym (valid-den v)) (w .reg r A i .2 (nowOf (b .n) v) (subst T (ap (λ (n : ℕ). den (2 * n) (t .rows) a v) (s .n) ∙ d .same v) p)),
-        );
-    rel = λ q l a e. relation-of q a (b .rel q) refl (subst (λ (u : Option ℕ). Place (2 * b .n) (t .rows) (fnOfPairs (b .n)) (b .rel q) u) e (s .rel q l));
+        (d .arrow, λ i. levels-read (s .wf) even a (d .arrow) (subst (ReadsOn even) (sym (denoted d)) (fnOf-even (b .n) A)) i);
+    rel = λ q l a e. relation-of q a l e .2 .arrow;
+    regWithin = λ r l a e v h.
+        let (A, i, d) = shows-filled b t r a s l e in
+        valid-den v ∙ true-of _ (w .reg r A i .2 (nowOf (b .n) v) (subst T (sym (sym (ap (λ (n : ℕ). den (2 * n) (t .rows) a v) (s .n) ∙ d .same v) ∙ h)) tt));
+    relWithin = λ q l a e v h. valid-den v ∙ true-of _ (pair-in q a l e v h .0);
+    relShifted = λ q l a e v h. valid-den (λ l. v (suc l)) ∙ true-of _ (pair-in q a l e v h .1);
   }
-    where
-      relation-of : (q a : ℕ) (o : Option Pairs) → b .rel q ≡ o → Place (2 * b .n) (t .rows) (fnOfPairs (b .n)) o (some a)
-          → Arrow (t .rows) a × ((v : Val) → T (means t a v) → T (means t (t .valid) v) × T (shiftF (means t (t .valid)) v))
-      relation-of q a none i p = absurd p
-      relation-of q a (some Q) i p = (
-        p .arrow,
-        λ v h.
-        let x = w .rel q Q i .2 (nowOf (b .n) v) (nextOf (b .n) v) (nowOf-lt (b .n) v) (nowOf-lt (b .n) (λ l. v (suc l))) (subst T (ap (λ (n : ℕ). den (2 * n) (t .rows) a v) (s .n) ∙ p .same v) h) in
-        (subst T (sym (valid-den v)) (x .0), subst T (sym (valid-den (λ l. v (suc l)))) (x .1)),
-      )
 
 -- ---- the relations of a whole book are those that exist, as functions
 
