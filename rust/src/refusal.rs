@@ -5,7 +5,7 @@ use std::fmt;
 /// Why a call is refused, with document 01's numbers.
 ///
 /// `Full` and `Spent` keep registers, relations and the rows that they need; every other refusal
-/// keeps all words. No refusal changes an account.
+/// keeps all words. No refusal changes an account. Later versions may have more of them.
 ///
 /// ```
 /// use kudzuclamp::Refusal;
@@ -13,6 +13,8 @@ use std::fmt;
 /// assert_eq!(Refusal::Empty.number(), 7);
 /// assert_eq!(Refusal::Empty.to_string(), "a register or relation named is empty");
 /// ```
+#[must_use]
+#[non_exhaustive]
 #[derive(Clone, Copy, Debug, PartialEq, Eq, Hash, PartialOrd, Ord)]
 pub enum Refusal {
     /// 1: fresh was given a number of bits or rows out of range, or too few words.
@@ -42,7 +44,7 @@ pub enum Refusal {
 
 impl Refusal {
     /// All refusals, in the order of their numbers.
-    pub const ALL: [Refusal; 11] = [
+    pub const ALL: &'static [Refusal] = &[
         Refusal::Sizes,
         Refusal::Unsound,
         Refusal::Range,
@@ -57,6 +59,7 @@ impl Refusal {
     ];
 
     /// The number, 1 to 9, 12 or 14.
+    #[must_use]
     pub const fn number(self) -> u32 {
         self as u32
     }
@@ -69,9 +72,11 @@ impl Refusal {
     /// assert_eq!(Refusal::from_number(8), Some(Refusal::Full));
     /// assert_eq!(Refusal::from_number(0), None);
     /// ```
+    #[must_use]
     pub fn from_number(number: u32) -> Option<Refusal> {
         Refusal::ALL
-            .into_iter()
+            .iter()
+            .copied()
             .find(|refusal| refusal.number() == number)
     }
 }
@@ -106,7 +111,10 @@ mod tests {
 
     #[test]
     fn numbers_are_those_of_the_header() {
-        let numbers = Refusal::ALL.map(Refusal::number);
+        let numbers: Vec<u32> = Refusal::ALL
+            .iter()
+            .map(|refusal| refusal.number())
+            .collect();
         assert_eq!(numbers, [1, 2, 3, 4, 5, 6, 7, 8, 9, 12, 14]);
         for number in 0..20 {
             let refusal = Refusal::from_number(number);
