@@ -19,7 +19,8 @@ pub fn sound(words: &[u32]) -> Result<(), String> {
             return Err(format!("the index does not find row {row}"));
         }
     }
-    roots(words)
+    roots(words)?;
+    valid(words)
 }
 
 fn demand(holds: bool, what: impl FnOnce() -> String) -> Result<(), String> {
@@ -37,7 +38,7 @@ fn sizes(words: &[u32]) -> Result<(), String> {
     demand(n_fits && rows_fit, || "n or N out of range".to_string())?;
     let size = table_size(words[ROWS] as usize);
     demand(words.len() >= size, || "too few words".to_string())?;
-    demand(words[LAYOUT] == MARKED, || "another layout".to_string())
+    demand(words[LAYOUT] == CURRENT, || "another layout".to_string())
 }
 
 /// "the k-th used row, k < USED: below N, and its RANK is k"; so each is listed once.
@@ -119,16 +120,39 @@ pub fn bucket(rows: usize, level: u32, low: u32, high: u32) -> usize {
 /// "each register is empty or an arrow whose rows all have even levels; each relation is empty or
 /// any arrow".
 fn roots(words: Words) -> Result<(), String> {
-    for place in FIRST_REGISTER..ROOTS_END {
+    for place in VALID..ROOTS_END {
         let leads = match words.root(place).map(arrow) {
             Some(Arrow::Row(row)) => words.is_used(row),
             _ => true,
         };
         demand(leads, || format!("root {place} leads to no used row"))?;
     }
-    let below = words.reached(FIRST_REGISTER..FIRST_RELATION);
+    let below = words.reached(VALID..FIRST_RELATION);
     let mut levels = below.iter().map(|&row| words.field(row, LEVEL));
     demand(levels.all(|level| level % 2 == 0), || {
-        "a register has an odd level".to_string()
+        "V or a register has an odd level".to_string()
     })
+}
+
+/// Slip 6: "registers within V, and relations within V and SHIFT of V". Of a wide table only what
+/// is no constant is looked at by enumeration.
+fn valid(words: Words) -> Result<(), String> {
+    let root = words.root(VALID).ok_or("no V".to_string())?;
+    if arrow(root) == Arrow::Constant(true) {
+        return Ok(());
+    }
+    let states = 0..1usize << words.n();
+    let exists: Vec<bool> = states.clone().map(|s| words.has(root, s, 0)).collect();
+    for place in FIRST_REGISTER..ROOTS_END {
+        let Some(root) = words.root(place) else {
+            continue;
+        };
+        let relation = place >= FIRST_RELATION;
+        let within = states.clone().all(|now| match relation {
+            false => exists[now] || !words.has(root, now, 0),
+            true => (states.clone()).all(|next| exists[now] && exists[next] || !words.has(root, now, next)),
+        });
+        demand(within, || format!("root {place} is not within V"))?;
+    }
+    Ok(())
 }

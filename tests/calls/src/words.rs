@@ -11,8 +11,9 @@ pub const UNUSED: usize = 2;
 pub const USED: usize = 3;
 pub const STORED: usize = 6;
 pub const LAYOUT: usize = 7;
-/// The layout in which arrows may carry a NOT.
-pub const MARKED: u32 = 2;
+/// The layout with a root for V.
+pub const CURRENT: u32 = 3;
+pub const VALID: usize = 15;
 pub const FIRST_REGISTER: usize = 16;
 pub const FIRST_RELATION: usize = 48;
 /// Where the roots end and where the rows begin.
@@ -128,6 +129,12 @@ impl Words<'_> {
         rows
     }
 
+    /// "the set V of states that exist" of a sound table.
+    pub fn valid(self) -> StateSet {
+        let root = self.root(VALID).expect("V is never empty of an arrow");
+        StateSet::from_fn(self.n(), |s| self.has(root, s, 0))
+    }
+
     pub fn register(self, r: usize) -> Option<StateSet> {
         let root = self.root(FIRST_REGISTER + r)?;
         Some(StateSet::from_fn(self.n(), |s| self.has(root, s, 0)))
@@ -145,6 +152,7 @@ impl Words<'_> {
         Book::with(
             self.n(),
             self.rows(),
+            self.valid(),
             (0..REGISTERS).map(|r| self.register(r)).collect(),
             (0..RELATIONS).map(|t| self.relation(t)).collect(),
         )
