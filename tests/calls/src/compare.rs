@@ -180,7 +180,7 @@ pub fn compare_pairs(expected: &Expected) -> Result<(), Difference> {
 
 /// No call answers what V or a relation holds, so it is read from the words.
 pub fn compare_relations(words: Words, book: &Book) -> Result<(), Difference> {
-    same("V", &words.valid(), book.valid())?;
+    same("V", words.valid().as_ref(), Some(book.valid()))?;
     for (t, relation) in book.relations().iter().enumerate() {
         same("relation", words.relation(t).as_ref(), relation.as_ref())
             .map_err(|what| format!("{t}: {what}"))?;

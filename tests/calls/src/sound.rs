@@ -1,7 +1,8 @@
-//! "A table is sound when", decided slowly and plainly from document 01 and docs/LAYOUT.md.
+//! "A table is sound when", decided slowly and plainly from documents 01 and 02 and docs/LAYOUT.md.
 
 use crate::words::*;
 use reference::book::{MAX_ROWS, MAX_STATE_BITS};
+use std::collections::BTreeSet;
 
 /// Whether the words are a sound table; the error says what is amiss.
 pub fn sound(words: &[u32]) -> Result<(), String> {
@@ -20,7 +21,7 @@ pub fn sound(words: &[u32]) -> Result<(), String> {
         }
     }
     roots(words)?;
-    valid(words)
+    within(words)
 }
 
 fn demand(holds: bool, what: impl FnOnce() -> String) -> Result<(), String> {
@@ -118,8 +119,10 @@ pub fn bucket(rows: usize, level: u32, low: u32, high: u32) -> usize {
 }
 
 /// "each register is empty or an arrow whose rows all have even levels; each relation is empty or
-/// any arrow".
+/// any arrow"; "V's rows on even levels".
 fn roots(words: Words) -> Result<(), String> {
+    let valid = words.root(VALID).is_some();
+    demand(valid, || "no set of states that exist".to_string())?;
     for place in VALID..ROOTS_END {
         let leads = match words.root(place).map(arrow) {
             Some(Arrow::Row(row)) => words.is_used(row),
@@ -134,25 +137,34 @@ fn roots(words: Words) -> Result<(), String> {
     })
 }
 
-/// Slip 6: "registers within V, and relations within V and SHIFT of V". Of a wide table only what
-/// is no constant is looked at by enumeration.
-fn valid(words: Words) -> Result<(), String> {
-    let root = words.root(VALID).ok_or("no V".to_string())?;
-    if arrow(root) == Arrow::Constant(true) {
-        return Ok(());
-    }
-    let states = 0..1usize << words.n();
-    let exists: Vec<bool> = states.clone().map(|s| words.has(root, s, 0)).collect();
-    for place in FIRST_REGISTER..ROOTS_END {
-        let Some(root) = words.root(place) else {
-            continue;
-        };
-        let relation = place >= FIRST_RELATION;
-        let within = states.clone().all(|now| match relation {
-            false => exists[now] || !words.has(root, now, 0),
-            true => (states.clone()).all(|next| exists[now] && exists[next] || !words.has(root, now, next)),
-        });
-        demand(within, || format!("root {place} is not within V"))?;
+/// "registers within V, and relations within V and SHIFT of V".
+fn within(words: Words) -> Result<(), String> {
+    let valid = words.root(VALID).expect("checked before");
+    for shift in [0, 1] {
+        let first = [FIRST_REGISTER, FIRST_RELATION][shift as usize];
+        for place in first..ROOTS_END {
+            let inside = words.root(place).is_none_or(|root| lies_within(words, root, valid, shift));
+            demand(inside, || format!("root {place} not within V at shift {shift}"))?;
+        }
     }
     Ok(())
+}
+
+/// Whether every pair of one arrow is one of the other, whose levels count higher by the shift:
+/// level by level, the pairs of arrows that some bits before lead to.
+fn lies_within(words: Words, root: u32, valid: u32, shift: u32) -> bool {
+    let mut met = BTreeSet::from([(root, valid)]);
+    for level in 0..2 * words.n() + shift {
+        let mut below = BTreeSet::new();
+        for (a, v) in met {
+            let parts = words.cofactors(a, level);
+            let wholes = match level.checked_sub(shift) {
+                Some(own) => words.cofactors(v, own),
+                None => [v, v],
+            };
+            below.extend([0, 1].map(|bit| (parts[bit], wholes[bit])));
+        }
+        met = below;
+    }
+    met.iter().all(|&(a, v)| a == 0 || v == 1)
 }

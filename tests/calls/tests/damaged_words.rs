@@ -203,11 +203,11 @@ fn damage(random: &mut Random, words: &mut [u32]) {
         4 => swap_listed(random, words),
         5 => words[HEADER + 9 * rows + a] = b as u32 + 1,
         6 => {
-            let roots = (ROOTS_END - VALID) as u64;
-            let [to, from] = [(); 2].map(|()| VALID + random.below(roots) as usize);
+            let roots = (ROOTS_END - FIRST_REGISTER) as u64;
+            let [to, from] = [(); 2].map(|()| FIRST_REGISTER + random.below(roots) as usize);
             words[to] = words[from];
         }
-        7 => words[VALID + random.below(41) as usize] = a as u32 + 3,
+        7 => words[FIRST_REGISTER + random.below(40) as usize] = a as u32 + 3,
         _ => {
             for _ in 0..1 + random.below(3) {
                 let place = random.below(table_size(rows) as u64) as usize;
@@ -352,11 +352,9 @@ fn no_used_row() {
         words[ROWS] = rows as u32;
         words[USED] = 0;
         words[LAYOUT] = CURRENT;
-        // V is nothing or everything; what is filled lies within it.
-        words[VALID] = 1 + random.below(2) as u32;
-        let most = u64::from(words[VALID]) + 1;
+        words[VALID] = ALL_STATES;
         let roots = &mut words[FIRST_REGISTER..ROOTS_END];
-        roots.fill_with(|| random.below(most) as u32);
+        roots.fill_with(|| random.below(3) as u32);
         accepts(&words, &mut random);
     }
 }
