@@ -56,7 +56,8 @@ module _ (n s t : ℕ) (l : s < 2 ^ n) where
       go true = refl
       go false = refl
 
-  states-hold : (f : Form) → T (bitsOnly f) → mem (means (everything n) noEnv f) s ≡ holds f s t
+  -- a state is in V exactly where the formula holds in it
+  pub states-hold : (f : Form) → T (bitsOnly f) → mem (means (everything n) noEnv f) s ≡ holds f s t
   unfolding bitsOnly
   states-hold bot h = getD-table (2 ^ n) (λ u. false) s false l
   states-hold top h = here

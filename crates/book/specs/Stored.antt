@@ -198,6 +198,15 @@ relation-means b t bs =
     (λ p z. let w = relation-stored b t (formulaIn b Relation bs) z in record { range = l; passed = p; stored = w .0; peaks = w .1 }))
     (λ l z. absurd (omega arith))
 
+-- an answered valid: nothing was filled, its bytes were a formula, and the states in which it holds, over all 2^n, are V
+pub record Fixes (b : Book) (bs : List ℕ) (d : Done) : Type 0 where
+  pub free : T (unfilled b)
+  pub passed : Passed b Valid bs
+  pub stored : d .0 ≡ withValid b (statesOf (b .n) (formulaIn b Valid bs))
+
+pub valid-means : (b : Book) (bs : List ℕ) → does b (valid bs) .1 .number ≡ 0 → Fixes b bs (does b (valid bs))
+valid-means b bs = valid-cases (λ (d : Done). d .1 .number ≡ 0 → Fixes b bs d) b bs (λ k i j z. absurd (omega arith)) (λ t p z. record { free = t; passed = p; stored = refl })
+
 -- ---- every filled place has its full size and is within V, and none is filled past the registers and relations
 
 pub record Whole (b : Book) : Type 0 where

@@ -112,7 +112,7 @@ module _ (n : ℕ) (E : List Bool) where
     keep-good e N live b fs h A q z a =
         both-good N live (inter (2 ^ n)) (λ F D. length-table (2 ^ n) _) and-within (q .rounds) (fs live q) (λ F o. furtherSteps b n N (fnOf n F ∷ live) E R A o) (h live q) (λ F o y f. further-good e b N (fnOf n F ∷ live) A o z a)
 
-    until-good : Sized n E → (N : ℕ) (live : List Fn) (b : Bool) (fs gs : List Fn → Count → Outcome) → ((l : List Fn) (q : Count) → Good n E (q .rounds) (fs l q)) → ((l : List Fn) (q : Count) → Good n E (q .rounds) (gs l q))
+    pub until-good : Sized n E → (N : ℕ) (live : List Fn) (b : Bool) (fs gs : List Fn → Count → Outcome) → ((l : List Fn) (q : Count) → Good n E (q .rounds) (fs l q)) → ((l : List Fn) (q : Count) → Good n E (q .rounds) (gs l q))
         → GoodOn n E (λ A q. untilRound n N live b E R fs gs A q)
     until-good e N live b fs gs h i A q z a =
         let held = fnOf n A ∷ live in

@@ -4,24 +4,25 @@ use mathlib.Core.Path.{_≡_, refl, sym, ap, ap₂, _∙_, fun-ext}
 use mathlib.Core.Bool.{Bool, true, false, not, _&&_, cond}
 use mathlib.Core.List.{List, [], _∷_, _++_}
 use Prim.Native.Nat.{ℕ, zero, suc, _*_, _^_, _<_}
-use lib.Dec.{T, eqb}
-use Rattle.mucalculus.specs.Sets.{mem, same, and-in, and-out, or-right}
-use Rattle.mucalculus.specs.Order.{Below, start, start-in}
+use lib.Dec.{T, ltb, eqb}
+use Rattle.mucalculus.specs.Sets.{mem, same, and-out, length-table}
+use Rattle.mucalculus.specs.Order.{Below, start, start-in, length-start}
 use Rattle.mucalculus.specs.Fixpoint.{Into}
-use Rattle.mucalculus.specs.Form.{Form, bot, top, neg, conj, disj, now, next, var, reg, box, dia, mu, nu, until, Pairs, Model, Env, put, reads, steady}
+use Rattle.mucalculus.specs.Form.{Form, bot, top, neg, conj, disj, now, next, var, reg, box, dia, mu, nu, until, Pairs, Model, Env, put}
 use Rattle.mucalculus.specs.Means.{compl, inter, union, always, sometimes, size, exist, related, means}
 use Rattle.mucalculus.specs.Laws.{getD-table, table-ext}
 use Rattle.mucalculus.specs.Exist.{means-in, related-inside, always-same, inter-agrees, onward-into}
 use Rattle.mucalculus.specs.Until.{further, onward}
 use Rattle.mucalculus.specs.Polarity.{put-swap}
-use Rattle.mucalculus.specs.Written.{absent, goes, written, apart, means-absent, put-here, goes-means, written-round, until-written}
+use Rattle.mucalculus.specs.Written.{absent, goes, written, apart, var-apart, means-absent, put-here, goes-means, written-round}
 use Rattle.diagram.specs.Level.{Fn}
 use Rattle.diagram.specs.Need.{stepNeed}
 use Rattle.accounts.specs.declared.Count.{Count}
-use Rattle.book.specs.Bridge.{fnOf, fnOfPairs, fnOf-table}
-use Rattle.book.specs.Run.{run}
-use Rattle.book.specs.Ticks.{Tick, round, steps, roundTicks, ticks, notNeeds, twoNeed, diamondNeeds, diaNeeds, boxNeeds, furtherTicks, untilTicks, verdict}
-use Rattle.book.specs.Verdicts.{settle, run-ticks}
+use Rattle.accounts.specs.Count.{another}
+use Rattle.book.specs.Bridge.{fnOf, fnOfPairs, Sized, fnOf-table, fnOf-inj}
+use Rattle.book.specs.Run.{Outcome, value, full, spent, andThen, notStep, diaSteps, boxSteps, furtherSteps, bothSteps, untilRound, loop, run}
+use Rattle.book.specs.Ticks.{Tick, round, steps, roundTicks, ticks, notNeeds, twoNeed, diamondNeeds, diaNeeds, boxNeeds, furtherTicks, untilTicks}
+use Rattle.book.specs.Turns.{Good, GoodOn, until-good, run-good}
 use Rattle.book.specs.States.{nowOf}
 
 -- two parts and the step that joins them: the left one's ticks and value, the right one's ticks by what is live, and its value
@@ -146,44 +147,88 @@ module _ (m : Model) (e : Env) (t X : ℕ) where
 
 -- ---- the same of the run
 
--- a variable that stands nowhere is read neither even nor odd
-absent-reads : (X : ℕ) (f : Form) → T (absent X f) → (even : Bool) → T (reads even X f)
-unfolding reads
-absent-reads X bot h even = tt
-absent-reads X top h even = tt
-absent-reads X (neg f) h even = absent-reads X f h (not even)
-absent-reads X (conj f g) h even = let w = and-out (absent X f) (absent X g) h in and-in (reads even X f) (reads even X g) (absent-reads X f (w .0) even) (absent-reads X g (w .1) even)
-absent-reads X (disj f g) h even = let w = and-out (absent X f) (absent X g) h in and-in (reads even X f) (reads even X g) (absent-reads X f (w .0) even) (absent-reads X g (w .1) even)
-absent-reads X (now p) h even = tt
-absent-reads X (next p) h even = tt
-absent-reads X (var P) h even = or-right even (not (eqb P X)) h
-absent-reads X (reg r) h even = tt
-absent-reads X (box t f) h even = absent-reads X f h even
-absent-reads X (dia t f) h even = absent-reads X f h even
-absent-reads X (mu P f) h even = absent-reads X f (and-out (not (eqb P X)) (absent X f) h .1) even
-absent-reads X (nu P f) h even = absent-reads X f (and-out (not (eqb P X)) (absent X f) h .1) even
-absent-reads X (until b t f g) h even = let w = and-out (absent X f) (absent X g) h in and-in (reads even X f) (reads even X g) (absent-reads X f (w .0) even) (absent-reads X g (w .1) even)
+two-ext : {Y : Type 0} {h k : List Bool → Count → Y} → ((A : List Bool) (q : Count) → h A q ≡ k A q) → h ≡ k
+two-ext e = fun-ext (λ A. fun-ext (λ q. e A q))
 
--- the written formula passes check 6 where its parts do
-written-steady : (b : Bool) (t X : ℕ) (f g : Form) → T (absent X f) → T (absent X g) → T (steady f) → T (steady g) → T (steady (written b t X f g))
-unfolding steady reads
-written-steady b t X f g hf hg sf sg = go b
-  where
-    rf : T (reads true X f)
-    rf = absent-reads X f hf true
+live-ext : {Y : Type 0} {h k : List Fn → Count → Y} → ((l : List Fn) (q : Count) → h l q ≡ k l q) → h ≡ k
+live-ext e = fun-ext (λ l. fun-ext (λ q. e l q))
 
-    rg : T (reads true X g)
-    rg = absent-reads X g hg true
+module _ (m : Model) (N R X : ℕ) (A : List Bool) where
+  pub run-absent : (f : Form) → T (absent X f) → (e : Env) (live : List Fn) (r : Count) → run m N R (put e X A) live f r ≡ run m N R e live f r
+  run-absent bot h e live r = refl
+  run-absent top h e live r = refl
+  run-absent (neg f) h e live r = ap (λ (o : Outcome). andThen o (λ B q. notStep (m .n) N live (exist m) B q)) (run-absent f h e live r)
+  run-absent (conj f g) h e live r =
+      let w = and-out (absent X f) (absent X g) h in
+      ap₂ (bothSteps (m .n) N live (inter (size m))) (run-absent f (w .0) e live r) (two-ext (λ B q. run-absent g (w .1) e (fnOf (m .n) B ∷ live) q))
+  run-absent (disj f g) h e live r =
+      let w = and-out (absent X f) (absent X g) h in
+      ap₂ (bothSteps (m .n) N live (union (size m))) (run-absent f (w .0) e live r) (two-ext (λ B q. run-absent g (w .1) e (fnOf (m .n) B ∷ live) q))
+  run-absent (now p) h e live r = refl
+  run-absent (next p) h e live r = refl
+  run-absent (var P) h e live r = ap (λ (B : List Bool). value (inter (size m) B (exist m)) r) (var-apart (eqb P X) A (e P) h)
+  run-absent (reg x) h e live r = refl
+  run-absent (box t f) h e live r = ap (λ (o : Outcome). andThen o (λ B q. boxSteps (m .n) N live (exist m) (related m t) B q)) (run-absent f h e live r)
+  run-absent (dia t f) h e live r = ap (λ (o : Outcome). andThen o (λ B q. diaSteps (m .n) N live (related m t) B q)) (run-absent f h e live r)
+  run-absent (mu P f) h e live r =
+      let w = and-out (not (eqb P X)) (absent X f) h in
+      ap (λ (G : List Bool → Count → Outcome). loop R G R (start true (size m) (exist m)) r)
+      (two-ext (λ B q. ap (λ (d : Env). run m N R d (fnOf (m .n) B ∷ live) f q) (put-swap e X A P B (apart P X (w .0))) ∙ run-absent f (w .1) (put e P B) (fnOf (m .n) B ∷ live) q))
+  run-absent (nu P f) h e live r =
+      let w = and-out (not (eqb P X)) (absent X f) h in
+      ap (λ (G : List Bool → Count → Outcome). loop R G R (start false (size m) (exist m)) r)
+      (two-ext (λ B q. ap (λ (d : Env). run m N R d (fnOf (m .n) B ∷ live) f q) (put-swap e X A P B (apart P X (w .0))) ∙ run-absent f (w .1) (put e P B) (fnOf (m .n) B ∷ live) q))
+  run-absent (until b t f g) h e live r =
+      let w = and-out (absent X f) (absent X g) h in
+      ap₂ (λ (fs gs : List Fn → Count → Outcome). loop R (untilRound (m .n) N live b (exist m) (related m t) fs gs) R (start true (size m) (exist m)) r)
+      (live-ext (λ l q. run-absent f (w .0) e l q)) (live-ext (λ l q. run-absent g (w .1) e l q))
 
-    go : (b : Bool) → T ((reads true X g && (reads true X f && reads true X (goes b t X))) && (steady g && (steady f && steady (goes b t X))))
-    go true = and-in (reads true X g && (reads true X f && true)) (steady g && (steady f && true)) (and-in (reads true X g) (reads true X f && true) rg (and-in (reads true X f) true rf tt)) (and-in (steady g) (steady f && true) sg (and-in (steady f) true sf tt))
-    go false = and-in (reads true X g && (reads true X f && true)) (steady g && (steady f && true)) (and-in (reads true X g) (reads true X f && true) rg (and-in (reads true X f) true rf tt)) (and-in (steady g) (steady f && true) sg (and-in (steady f) true sf tt))
+-- what goes on alike from existing states goes on alike from what a run came to
+then-same : (n : ℕ) (E : List Bool) (r : ℕ) (o : Outcome) (F G : List Bool → Count → Outcome) → Good n E r o → ((B : List Bool) (q : Count) → Sized n B → Below B E → F B q ≡ G B q)
+    → andThen o F ≡ andThen o G
+then-same n E r (value B q) F G g h = h B q (g .0) (g .2)
+then-same n E r full F G g h = refl
+then-same n E r spent F G g h = refl
 
--- the run of until is that of the written formula, for parts that pass check 6
-pub run-written : (m : Model) (N R : ℕ) (e : Env) (b : Bool) (t X : ℕ) (f g : Form) → T (absent X f) → T (absent X g) → T (steady f) → T (steady g) → (live : List Fn) (r : Count)
-    → run m N R e live (until b t f g) r ≡ run m N R e live (written b t X f g) r
-unfolding steady
-run-written m N R e b t X f g hf hg sf sg live r =
-    run-ticks N R m e live (until b t f g) r (and-in (steady f) (steady g) sf sg)
-    ∙ ap₂ (λ (A : List Bool) (l : List Tick). settle A (verdict N R r l)) (until-written m e b t X f g hf hg) (ticks-written m e t X b f g hf hg live)
-    ∙ sym (run-ticks N R m e live (written b t X f g) r (written-steady b t X f g hf hg sf sg))
+-- rounds from a set of existing states that are alike on existing states
+loop-same : (n : ℕ) (E : List Bool) (R : ℕ) (G H : List Bool → Count → Outcome) → GoodOn n E G → ((A : List Bool) (q : Count) → Sized n A → Below A E → G A q ≡ H A q)
+    → (j : ℕ) (A : List Bool) (r : Count) → Sized n A → Below A E → loop R G j A r ≡ loop R H j A r
+loop-same n E R G H good alike zero A r z a = refl
+loop-same n E R G H good alike (suc j) A r z a =
+    ap (λ (o : Outcome). cond (ltb (r .rounds) R) o spent)
+    (then-same n E (suc (r .rounds)) (G A (another r)) (λ B q. cond (same B A) (value B q) (loop R G j B q)) (λ B q. cond (same B A) (value B q) (loop R H j B q)) (good A (another r) z a)
+    (λ B q y b. ap (λ (o : Outcome). cond (same B A) (value B q) o) (loop-same n E R G H good alike j B q y b))
+    ∙ ap (λ (o : Outcome). andThen o (λ B q. cond (same B A) (value B q) (loop R H j B q))) (alike A (another r) z a))
+
+-- a set of existing states is its states in E
+in-self : (n : ℕ) (E A : List Bool) → Sized n A → Below A E → inter (2 ^ n) A E ≡ A
+in-self n E A z a = fnOf-inj n (inter (2 ^ n) A E) A (length-table (2 ^ n) (λ s. mem A s && mem E s)) z (λ v. ap (λ (F : Fn). F v) (in-fn n E A a))
+
+module _ (m : Model) (N R : ℕ) (e : Env) (t X : ℕ) where
+  goes-run : (b : Bool) (A : List Bool) → Sized (m .n) A → Below A (exist m) → (live : List Fn) (q : Count)
+      → run m N R (put e X A) live (goes b t X) q ≡ furtherSteps b (m .n) N live (exist m) (related m t) A q
+  goes-run b A z a live q = go b
+    where
+      read : inter (size m) (put e X A X) (exist m) ≡ A
+      read = ap (λ (B : List Bool). inter (size m) B (exist m)) (put-here e X A) ∙ in-self (m .n) (exist m) A z a
+
+      go : (b : Bool) → run m N R (put e X A) live (goes b t X) q ≡ furtherSteps b (m .n) N live (exist m) (related m t) A q
+      go true = ap (λ (B : List Bool). diaSteps (m .n) N live (related m t) B q) read
+      go false =
+          ap (λ (B : List Bool). bothSteps (m .n) N live (inter (size m)) (boxSteps (m .n) N live (exist m) (related m t) B q) (λ C p. diaSteps (m .n) N (fnOf (m .n) C ∷ live) (related m t) (exist m) p)) read
+
+  -- the run of until is that of the written formula
+  pub run-written : (b : Bool) (f g : Form) → T (absent X f) → T (absent X g) → (live : List Fn) (r : Count) → run m N R e live (until b t f g) r ≡ run m N R e live (written b t X f g) r
+  run-written b f g hf hg live r =
+      let E = exist m in
+      loop-same (m .n) E R (untilRound (m .n) N live b E (related m t) (λ l q. run m N R e l f q) (λ l q. run m N R e l g q))
+      (λ A q. run m N R (put e X A) (fnOf (m .n) A ∷ live) (disj g (conj f (goes b t X))) q)
+      (until-good (m .n) E (related m t) (related-inside m t) (length-table (size m) (λ s. mem (m .valid) s)) N live b (λ l q. run m N R e l f q) (λ l q. run m N R e l g q) (λ l q. run-good m N R e l f q) (λ l q. run-good m N R e l g q))
+      (λ A q z a.
+      let held = fnOf (m .n) A ∷ live in
+      sym
+      (ap₂ (bothSteps (m .n) N held (union (size m))) (run-absent m N R X A g hg e held q)
+      (two-ext (λ G p.
+      ap₂ (bothSteps (m .n) N (fnOf (m .n) G ∷ held) (inter (size m))) (run-absent m N R X A f hf e (fnOf (m .n) G ∷ held) p)
+      (two-ext (λ F o. goes-run b A z a (fnOf (m .n) F ∷ fnOf (m .n) G ∷ held) o))))))
+      R (start true (size m) E) r (length-start true (size m) E) (start-in true (size m) E)

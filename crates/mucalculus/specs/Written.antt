@@ -1,20 +1,19 @@
 -- Until is the formula written with a binder: "The first form is read as mu X (g or (f and diamond X)), the second as mu X (g or (f and (box X
 -- and diamond true))), X a variable of its own"; the meaning and the rounds are the same. Assumes nothing.
 use mathlib.Core.Path.{_≡_, refl, sym, ap, ap₂, _∙_, subst, fun-ext}
-use mathlib.Core.Bool.{Bool, true, false, not, _&&_, _||_, cond}
+use mathlib.Core.Bool.{Bool, true, false, not, _&&_, cond}
 use mathlib.Core.List.{List}
 use Prim.Native.Nat.{ℕ, zero, suc, _+_}
 use native.Mathlib.Nat.{add-zero}
 use lib.Dec.{T, T-not, eqb, eqb-refl}
-use Rattle.mucalculus.specs.Sets.{mem, table, and-out, true-of}
+use Rattle.mucalculus.specs.Sets.{and-out, true-of}
 use Rattle.mucalculus.specs.Order.{start}
 use Rattle.mucalculus.specs.Fixpoint.{least, greatest}
 use Rattle.mucalculus.specs.Form.{Form, bot, top, neg, conj, disj, now, next, var, reg, box, dia, mu, nu, until, Pairs, Model, Env, put, lacks, mentioned}
-use Rattle.mucalculus.specs.Runs.{pair, untilSet}
-use Rattle.mucalculus.specs.Means.{clip, compl, inter, union, always, sometimes, size, exist, related, means}
+use Rattle.mucalculus.specs.Runs.{untilSet}
+use Rattle.mucalculus.specs.Means.{compl, inter, union, always, sometimes, size, exist, related, means}
 use Rattle.mucalculus.specs.Exist.{means-in, related-inside, inter-agrees, sometimes-same, always-same, further-in, onward-into}
-use Rattle.mucalculus.specs.Laws.{getD-table, table-ext, table-out}
-use Rattle.mucalculus.specs.Until.{further, onward, over-same, until-least}
+use Rattle.mucalculus.specs.Until.{further, onward, until-least}
 use Rattle.mucalculus.specs.Polarity.{put-swap}
 use Rattle.mucalculus.specs.Rounds.{runs, rounds}
 
@@ -104,16 +103,6 @@ module _ (m : Model) (X : ℕ) (A : List Bool) where
       (λ B. ap₂ _+_ (rounds-absent g (w .1) e) (rounds-absent f (w .0) e))
 
 -- ---- the translation
-
-pub sometimes-clip : (k : ℕ) (R : Pairs) (A : List Bool) → sometimes k R (clip k A) ≡ sometimes k R A
-sometimes-clip k R A = table-ext k _ _ (λ s l.
-    over-same true (λ t. pair R s t && mem (clip k A) t) (λ t. pair R s t && mem A t) (table k (λ t. t))
-    (table-out k (λ t. t) (λ t. (pair R s t && mem (clip k A) t) ≡ (pair R s t && mem A t)) (λ t i. ap (λ (c : Bool). pair R s t && c) (getD-table k (mem A) t false i))))
-
-pub always-clip : (k : ℕ) (R : Pairs) (A : List Bool) → always k R (clip k A) ≡ always k R A
-always-clip k R A = table-ext k _ _ (λ s l.
-    over-same false (λ t. not (pair R s t) || mem (clip k A) t) (λ t. not (pair R s t) || mem A t) (table k (λ t. t))
-    (table-out k (λ t. t) (λ t. (not (pair R s t) || mem (clip k A) t) ≡ (not (pair R s t) || mem A t)) (λ t i. ap (λ (c : Bool). not (pair R s t) || c) (getD-table k (mem A) t false i))))
 
 pub put-here : {Y : Type 0} (e : ℕ → Y) (X : ℕ) (x : Y) → put e X x X ≡ x
 put-here e X x = ap (λ (c : Bool). cond c x (e X)) (true-of (eqb X X) (eqb-refl X))
