@@ -4,7 +4,7 @@ use std::fmt;
 
 /// Why a call is refused, with document 01's numbers.
 ///
-/// `Full` and `Spent` keep registers, relations and the rows that they need; every other refusal
+/// `Full` and `Spent` keep V, registers, relations and the rows that they need; every other refusal
 /// keeps all words. No refusal changes an account. Later versions may have more of them.
 ///
 /// ```
@@ -38,6 +38,8 @@ pub enum Refusal {
     Spent = 9,
     /// 12: a binder's variable occurs nowhere free in its body. Checked directly after 5.
     Vacuous = 12,
+    /// 13: valid was called while a register or relation is filled. Checked directly after 2.
+    Occupied = 13,
     /// 14: the list is not 1 to 8 accounts long, or has no account at the place named. Checked
     /// directly after 3, in fresh after 1.
     Unlisted = 14,
@@ -56,10 +58,11 @@ impl Refusal {
         Refusal::Full,
         Refusal::Spent,
         Refusal::Vacuous,
+        Refusal::Occupied,
         Refusal::Unlisted,
     ];
 
-    /// The number, 1 to 9, 12 or 14.
+    /// The number, 1 to 9 or 12 to 14.
     #[must_use]
     pub const fn number(self) -> u32 {
         self as u32
@@ -97,6 +100,7 @@ impl fmt::Display for Refusal {
             Refusal::Full => "a step needs more rows than the table has or the account may use",
             Refusal::Spent => "the rounds are used up",
             Refusal::Vacuous => "a binder's variable occurs nowhere free in its body",
+            Refusal::Occupied => "a register or relation is filled",
             Refusal::Unlisted => {
                 "the list is not 1 to 8 accounts long, or has no account at that place"
             }
@@ -116,7 +120,7 @@ mod tests {
             .iter()
             .map(|refusal| refusal.number())
             .collect();
-        assert_eq!(numbers, [1, 2, 3, 4, 5, 6, 7, 8, 9, 12, 14]);
+        assert_eq!(numbers, [1, 2, 3, 4, 5, 6, 7, 8, 9, 12, 13, 14]);
         for number in 0..20 {
             let refusal = Refusal::from_number(number);
             assert_eq!(refusal.is_some(), numbers.contains(&number));

@@ -1,4 +1,4 @@
--- Version 2 reads every formula of version 1 as version 1 does; relation calls refuse it; and the 16 variables of the bytes are below 16. Assumes nothing.
+-- Version 2 reads every formula of version 1 as version 1 does; relation calls and valid refuse it; and the 16 variables of the bytes are below 16. Assumes nothing.
 use mathlib.Core.Path.{_≡_, refl, sym, ap, _∙_, subst}
 use mathlib.Core.Bool.{Bool, true, false, not, _&&_, cond}
 use mathlib.Core.List.{List}
@@ -10,8 +10,9 @@ use borrow.Author.Tests.{ltb-true}
 use Rattle.mucalculus.specs.Sets.{and-in}
 use Rattle.mucalculus.specs.Form.{Form, bot, top, neg, conj, disj, now, next, var, reg, box, dia, mu, nu, until}
 use Rattle.mucalculus.specs.Written.{absent}
-use Rattle.tokens.specs.Tokens.{grammarOf, allowed, leadAt}
-use Rattle.tokens.specs.declared.Kind.the-variants.{Relation}
+use Rattle.tokens.specs.Tokens.{secondOf, grammarOf, allowed, leadAt}
+use Rattle.tokens.specs.declared.Kind.{Kind}
+use Rattle.tokens.specs.declared.Kind.the-variants.{Relation, Valid}
 use Rattle.tokens.specs.declared.Reading.{Reading}
 use Rattle.tokens.specs.declared.Reading.the-variants.{Unknown}
 use Rattle.tokens.specs.declared.Grammar.{Grammar}
@@ -62,14 +63,20 @@ module _ (n : ℕ) (bs : List ℕ) where
   pub parse-runs : (d at : ℕ) {f : Form} {e : ℕ} → parse n States d bs at ≡ got f e → parse n Runs d bs at ≡ got f e
   parse-runs d at {f} {e} h = reads-runs (parse-reads n States bs d at f e h)
 
--- "Version 2 formulas, for set calls": a relation call refuses version 2 with 4
-pub relation-refused : (n : ℕ) (regs rels : ℕ → Bool) (bs : List ℕ) → getD bs 2 0 ≡ 2 → firstRefusal Relation n regs rels bs ≡ 4
+-- "Version 2 formulas, for set calls": a call of another kind refuses version 2 with 4
+version-refused : (k : Kind) → secondOf k ≡ Unknown → (n : ℕ) (regs rels : ℕ → Bool) (bs : List ℕ) → getD bs 2 0 ≡ 2 → firstRefusal k n regs rels bs ≡ 4
 unfolding firstRefusal formulaOf
-relation-refused n regs rels bs two = ap (λ (r : Reading). refusalOf regs rels (formulaBy n bs r)) (go (framed bs))
+version-refused k none n regs rels bs two = ap (λ (r : Reading). refusalOf regs rels (formulaBy n bs r)) (go (framed bs))
   where
-    go : (c : Bool) → cond c (grammarOf Relation (getD bs 2 0)) Unknown ≡ Unknown
-    go true = ap (grammarOf Relation) two
+    go : (c : Bool) → cond c (grammarOf k (getD bs 2 0)) Unknown ≡ Unknown
+    go true = ap (grammarOf k) two ∙ none
     go false = refl
+
+pub relation-refused : (n : ℕ) (regs rels : ℕ → Bool) (bs : List ℕ) → getD bs 2 0 ≡ 2 → firstRefusal Relation n regs rels bs ≡ 4
+relation-refused = version-refused Relation refl
+
+pub valid-refused : (n : ℕ) (regs rels : ℕ → Bool) (bs : List ℕ) → getD bs 2 0 ≡ 2 → firstRefusal Valid n regs rels bs ≡ 4
+valid-refused = version-refused Valid refl
 
 -- ---- variables
 

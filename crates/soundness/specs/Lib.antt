@@ -6,11 +6,16 @@ pub mod Roots
 pub mod Says
 pub mod Checks
 pub mod Framed
+pub mod Within
 pub mod Sound
 pub mod Filled
+pub mod Kept
 pub mod Alike
 pub mod Triples
 pub mod Heights
 pub mod Order
 pub mod Halves
 pub mod Chains
+pub mod Apart
+pub mod Pairs
+pub mod Contained
