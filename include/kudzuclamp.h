@@ -1,9 +1,9 @@
 /*
  * A table of decision-diagram rows and a mu-calculus evaluator over it, for switching rules of up to 16 state bits.
  *
- * Link target/staticlib/libexports.a, which `rt staticlib exports` makes in the repository's root (x86-64 Linux). Each function is proved to
- * answer as said here for any words, numbers and bytes; README.md says what the proofs assume. It uses its stack and what it is lent, and keeps
- * no state elsewhere.
+ * Link target/staticlib/libexports.a, which `rt staticlib exports` makes in the repository's root (x86-64 Linux), or libkudzuclamp.a, as
+ * ./install puts it beside this header. Each of its functions is proved to answer as said here for any words, numbers and bytes; README.md says
+ * what the proofs assume. It uses its stack and what it is lent, and keeps no state elsewhere. What is static inline here is not proved.
  *
  * STATES. A room has n state bits. A state is a number 0 to 2^n - 1; bit p has weight 2^p. A relation is a set of pairs of states (now, next).
  *
@@ -11,15 +11,19 @@
  * registers, each empty or holding a set of states, and 8 relations, each empty or holding a set of pairs. Its words may be copied, stored and
  * lent again. A call on words that are no sound table is refused with KUDZUCLAMP_UNSOUND.
  *
+ * VALID STATES. V is the set of states that exist; after fresh it is every state, and kudzuclamp_valid fixes another one while nothing is filled.
+ * In a set's formula true means V, NOT means V without the set, a bit its states in V; nu starts from V, and next states outside V do not exist. A
+ * relation holds pairs of states of V. V is kept by every refusal, and its rows count wherever rows are counted.
+ *
  * ACCOUNTS. Several callers may share a table under limits of their own. fresh and set are lent a list of 1 to 8 accounts; every set names its
  * account by its place in the list, counted from 0. An answered fresh sets all tallies to 0; an answered set adds its rounds to its own account's
  * tally and changes nothing else in the list. So, where each call gets the list as the one before left it, a tally counts the rounds of its
  * account's answered sets since fresh. Where nothing is to be limited, one account whose limits are UINT32_MAX is enough.
  *
  * REFUSALS. Each function returns 0 where it answers, else the number of its refusal. Checks 1 to 7 run in the order of their numbers, 4 to 7
- * each over the whole formula, and KUDZUCLAMP_VACUOUS (12) so directly after 5; KUDZUCLAMP_UNLISTED (14) is checked directly after 3, in fresh
- * after 1. Of 8 and 9 the one that evaluation meets first is returned. A refused call writes 0 into every answer, and no refusal changes an
- * account. KUDZUCLAMP_FULL and KUDZUCLAMP_SPENT keep registers, relations and the rows that these need; every other refusal keeps all words.
+ * each over the whole formula, and KUDZUCLAMP_VACUOUS (12) so directly after 5; KUDZUCLAMP_OCCUPIED (13) is checked directly after 2,
+ * KUDZUCLAMP_UNLISTED (14) directly after 3, in fresh after 1. Of 8 and 9 the one that evaluation meets first is returned. A refused call writes 0 into every answer, and no refusal changes an
+ * account. KUDZUCLAMP_FULL and KUDZUCLAMP_SPENT keep V, registers, relations and the rows that these need; every other refusal keeps all words.
  *
  * PEAK. Where relation and set are answered they also return their peak: the largest number of rows that a step of the call needed, of its
  * result and of all that was live at it, what registers and relations hold included; 0 where the formula takes no step. It does not depend on N.
@@ -32,7 +36,8 @@
  *
  * POINTERS. A slice is a pointer and its number of elements. No pointer may be null, not even with 0 elements. Words that are not const, the
  * accounts, and each answer must overlap nothing else that is lent to the call, and no other thread may use them meanwhile; nor may one write
- * the rest.
+ * the rest. Words, accounts and answers are aligned as their types are, to 4 bytes, and *count of kudzuclamp_play to 8; bytes stand anywhere. So
+ * words that come from a byte buffer or a file are copied into an array of uint32_t first.
  */
 #ifndef KUDZUCLAMP_H
 #define KUDZUCLAMP_H
@@ -42,6 +47,19 @@
 
 #ifdef __cplusplus
 extern "C" {
+#endif
+
+/* The version of this header, as a text and in parts. */
+#define KUDZUCLAMP_VERSION "0.1.0"
+#define KUDZUCLAMP_VERSION_MAJOR 0
+#define KUDZUCLAMP_VERSION_MINOR 1
+#define KUDZUCLAMP_VERSION_PATCH 0
+
+/* Before a function whose result says whether it answered: the compiler warns where that is not looked at. */
+#if defined(__GNUC__)
+#define KUDZUCLAMP_USE_RESULT __attribute__((warn_unused_result))
+#else
+#define KUDZUCLAMP_USE_RESULT
 #endif
 
 /* Sizes of a table, and the words that N rows take. */
@@ -80,8 +98,52 @@ enum kudzuclamp_number {
     KUDZUCLAMP_FULL = 8,      /* a step needs more rows than N, or than the account's row limit */
     KUDZUCLAMP_SPENT = 9,     /* the rounds are used up: R's, or the account's */
     KUDZUCLAMP_VACUOUS = 12,  /* a binder's variable occurs nowhere free in its body */
+    KUDZUCLAMP_OCCUPIED = 13, /* valid: a register or relation is filled */
     KUDZUCLAMP_UNLISTED = 14  /* the list is not 1 to 8 accounts long, or has no account at that place */
 };
+
+/* Refusals of kudzuclamp_play itself, before its first call: all words and the list are kept, and *count is 0. */
+#define KUDZUCLAMP_PLAY_SHORT 100u      /* the list has fewer than KUDZUCLAMP_PLAY_WORDS words for each record */
+#define KUDZUCLAMP_PLAY_UNREADABLE 101u /* a record cannot be read */
+
+/* What a number says, in words for a message. */
+static inline const char *kudzuclamp_text(uint32_t number)
+{
+    switch (number) {
+    case KUDZUCLAMP_ANSWERED:
+        return "answered";
+    case KUDZUCLAMP_SIZES:
+        return "the number of bits or rows is out of range, or there are too few words";
+    case KUDZUCLAMP_UNSOUND:
+        return "the words are no sound table";
+    case KUDZUCLAMP_RANGE:
+        return "a register, relation or state number is out of range";
+    case KUDZUCLAMP_SYNTAX:
+        return "the bytes are no formula for this call";
+    case KUDZUCLAMP_UNBOUND:
+        return "a variable is unbound, or bound inside itself";
+    case KUDZUCLAMP_ODD:
+        return "a variable is read below an odd number of NOTs";
+    case KUDZUCLAMP_EMPTY:
+        return "a register or relation named is empty";
+    case KUDZUCLAMP_FULL:
+        return "a step needs more rows than the table has or the account may use";
+    case KUDZUCLAMP_SPENT:
+        return "the rounds are used up";
+    case KUDZUCLAMP_VACUOUS:
+        return "a binder's variable occurs nowhere free in its body";
+    case KUDZUCLAMP_OCCUPIED:
+        return "a register or relation is filled";
+    case KUDZUCLAMP_UNLISTED:
+        return "the list is not 1 to 8 accounts long, or has no account at that place";
+    case KUDZUCLAMP_PLAY_SHORT:
+        return "the list is too short for the records";
+    case KUDZUCLAMP_PLAY_UNREADABLE:
+        return "a record cannot be read";
+    default:
+        return "a number that this library does not give";
+    }
+}
 
 /*
  * FORMULA BYTES. Two length bytes L, big-endian, from 2 to 1,024; then L bytes: the version, then one formula in prefix order, which fills
@@ -110,62 +172,128 @@ enum kudzuclamp_number {
  * those of mu X (g or (f and diamond X)), and for every run of mu X (g or (f and (box X and diamond true))); X is none of the 16 variables.
  */
 
+/* The bytes by name, for an array of them. A number that has no byte gives 0xFF, which every call refuses with KUDZUCLAMP_SYNTAX. */
+#define KUDZUCLAMP_TOKEN(first, count, k) ((uint8_t)((size_t)(k) < (size_t)(count) ? (size_t)(first) + (size_t)(k) : 0xFFu))
+#define KUDZUCLAMP_FALSE 0x00
+#define KUDZUCLAMP_TRUE 0x01
+#define KUDZUCLAMP_NOT 0x02
+#define KUDZUCLAMP_AND 0x03
+#define KUDZUCLAMP_OR 0x04
+#define KUDZUCLAMP_NOW(p) KUDZUCLAMP_TOKEN(0x10, 16, p)
+#define KUDZUCLAMP_NEXT(p) KUDZUCLAMP_TOKEN(0x20, 16, p)
+#define KUDZUCLAMP_VARIABLE(p) KUDZUCLAMP_TOKEN(0x30, 16, p)
+#define KUDZUCLAMP_REGISTER(r) KUDZUCLAMP_TOKEN(0x40, KUDZUCLAMP_REGISTERS, r)
+#define KUDZUCLAMP_BOX(t) KUDZUCLAMP_TOKEN(0x60, KUDZUCLAMP_RELATIONS, t)
+#define KUDZUCLAMP_DIAMOND(t) KUDZUCLAMP_TOKEN(0x68, KUDZUCLAMP_RELATIONS, t)
+#define KUDZUCLAMP_MU(p) KUDZUCLAMP_TOKEN(0x70, 16, p)
+#define KUDZUCLAMP_NU(p) KUDZUCLAMP_TOKEN(0x80, 16, p)
+#define KUDZUCLAMP_UNTIL_SOME(t) KUDZUCLAMP_TOKEN(0x90, KUDZUCLAMP_RELATIONS, t)
+#define KUDZUCLAMP_UNTIL_EVERY(t) KUDZUCLAMP_TOKEN(0x98, KUDZUCLAMP_RELATIONS, t)
+
+/* The nine bytes that say of a press: bit p keeps its value, or turns over. */
+#define KUDZUCLAMP_KEEPS(p)                                                                                                                  \
+    KUDZUCLAMP_OR, KUDZUCLAMP_AND, KUDZUCLAMP_NEXT(p), KUDZUCLAMP_NOW(p), KUDZUCLAMP_AND, KUDZUCLAMP_NOT, KUDZUCLAMP_NEXT(p), KUDZUCLAMP_NOT, \
+        KUDZUCLAMP_NOW(p)
+#define KUDZUCLAMP_TURNS(p)                                                                                                                  \
+    KUDZUCLAMP_OR, KUDZUCLAMP_AND, KUDZUCLAMP_NEXT(p), KUDZUCLAMP_NOT, KUDZUCLAMP_NOW(p), KUDZUCLAMP_AND, KUDZUCLAMP_NOT, KUDZUCLAMP_NEXT(p), \
+        KUDZUCLAMP_NOW(p)
+
+/* The most bytes of a formula, and the bytes that a formula of so many takes with its frame. */
+#define KUDZUCLAMP_MAX_FORMULA 1023
+#define KUDZUCLAMP_FRAMED(formula_len) (3 + (size_t)(formula_len))
+
+/*
+ * Puts a formula into its frame: writes its length, its version (2 where it has until, else 1) and its bytes. Returns how many bytes these are,
+ * KUDZUCLAMP_FRAMED(formula_len). Where the formula is empty or longer than KUDZUCLAMP_MAX_FORMULA, or they do not fit into bytes_len, it writes
+ * nothing and returns 0; a call with 0 bytes is refused with KUDZUCLAMP_SYNTAX. Only the length is looked at: kudzuclamp_check tells the rest.
+ */
+KUDZUCLAMP_USE_RESULT
+static inline size_t kudzuclamp_frame(uint8_t *bytes, size_t bytes_len, const uint8_t *formula, size_t formula_len)
+{
+    size_t i;
+    if (formula_len == 0 || formula_len > KUDZUCLAMP_MAX_FORMULA || bytes_len < KUDZUCLAMP_FRAMED(formula_len)) {
+        return 0;
+    }
+    bytes[0] = (uint8_t)((formula_len + 1) / 256);
+    bytes[1] = (uint8_t)((formula_len + 1) % 256);
+    bytes[2] = 1;
+    for (i = 0; i < formula_len; i++) {
+        bytes[3 + i] = formula[i];
+        if (formula[i] >= 0x90 && formula[i] <= 0x9F) {
+            bytes[2] = 2;
+        }
+    }
+    return KUDZUCLAMP_FRAMED(formula_len);
+}
+
 /*
  * Makes an empty table of n bits (1 to 16) and `rows` rows (1 to 60,000) of any words, at least KUDZUCLAMP_WORDS(rows), and sets the tallies of
  * all accounts lent to 0. It returns 0, KUDZUCLAMP_SIZES or KUDZUCLAMP_UNLISTED.
  */
+KUDZUCLAMP_USE_RESULT
 uint32_t kudzuclamp_fresh(uint32_t *words, size_t words_len, struct kudzuclamp_account *accounts, size_t accounts_len, uint32_t n,
                           uint32_t rows);
 
 /*
- * Relation t (0 to 7) then holds exactly the pairs of states in which the formula holds. *peak is the call's peak. It returns 0, 2, 3, 4 or 8.
+ * V, the states that exist, are then exactly those in which the formula holds, read over all states. The formula has version 1 and only the words
+ * 00 to 04 and 10 to 1F. It returns 0, 2, KUDZUCLAMP_OCCUPIED, 4 or 8.
  */
+KUDZUCLAMP_USE_RESULT
+uint32_t kudzuclamp_valid(uint32_t *words, size_t words_len, const uint8_t *bytes, size_t bytes_len);
+
+/*
+ * Relation t (0 to 7) then holds exactly the pairs of states of V in which the formula holds. *peak is the call's peak. It returns 0, 2, 3, 4 or 8.
+ */
+KUDZUCLAMP_USE_RESULT
 uint32_t kudzuclamp_relation(uint32_t *words, size_t words_len, uint32_t t, const uint8_t *bytes, size_t bytes_len, uint32_t *peak);
 
 /*
- * Register r (0 to 31) then holds exactly the states in which the formula holds, found under the limits of the account at `place` (0 to
+ * Register r (0 to 31) then holds exactly the states of V in which the formula holds, found under the limits of the account at `place` (0 to
  * accounts_len - 1), whose tally grows by the rounds made. Each evaluation of a binder's body is one round, and so is one of until's f and g; a
  * round beyond `most` (R) or beyond the account's round limit is refused. With one binder or until in the formula 2^n + 1 rounds are enough.
  * *node is the set's node number: two registers hold the same set exactly where their node numbers are equal; 0 is no state, 1 is every state.
  * *rounds is how many rounds were made, and *peak the call's peak. It returns 0, 2 to 9, KUDZUCLAMP_VACUOUS or KUDZUCLAMP_UNLISTED.
  */
+KUDZUCLAMP_USE_RESULT
 uint32_t kudzuclamp_set(uint32_t *words, size_t words_len, struct kudzuclamp_account *accounts, size_t accounts_len, uint32_t place, uint32_t r,
                         uint32_t most, const uint8_t *bytes, size_t bytes_len, uint32_t *node, uint32_t *rounds, uint32_t *peak);
 
 /*
  * Empties register r; an empty one stays so. It returns 0, 2 or 3.
  */
+KUDZUCLAMP_USE_RESULT
 uint32_t kudzuclamp_clear(uint32_t *words, size_t words_len, uint32_t r);
 
 /*
- * Frees the rows that no register and no relation needs. *rows is how many are needed. It returns 0 or 2.
+ * Frees the rows that V, registers and relations do not need. *rows is how many are needed. It returns 0 or 2.
  */
+KUDZUCLAMP_USE_RESULT
 uint32_t kudzuclamp_collect(uint32_t *words, size_t words_len, uint32_t *rows);
 
 /*
  * *node is the node number in register r, as the call that last set it gave it. It returns 0, 2, 3 or 7.
  */
+KUDZUCLAMP_USE_RESULT
 uint32_t kudzuclamp_node(const uint32_t *words, size_t words_len, uint32_t r, uint32_t *node);
 
 /*
  * *value is 1 where the set in register r has state s (0 to 2^n - 1), else 0. It returns 0, 2, 3 or 7.
  */
+KUDZUCLAMP_USE_RESULT
 uint32_t kudzuclamp_member(const uint32_t *words, size_t words_len, uint32_t r, uint32_t s, uint32_t *value);
 
 /*
  * *value is how many states the set in register r has, 0 to 2^n. It returns 0, 2, 3 or 7.
  */
+KUDZUCLAMP_USE_RESULT
 uint32_t kudzuclamp_count(const uint32_t *words, size_t words_len, uint32_t r, uint32_t *value);
 
 /*
  * Checks formula bytes for a set call, or for a relation call where `relation` is not 0, and takes no step. It returns 2, or the number of 4 to 7
  * or 12 that the call's own checks of the formula give, or 0.
  */
+KUDZUCLAMP_USE_RESULT
 uint32_t kudzuclamp_check(const uint32_t *words, size_t words_len, uint32_t relation, const uint8_t *bytes, size_t bytes_len);
-
-/* Refusals of kudzuclamp_play itself, before its first call: all words and the list are kept, and *count is 0. */
-#define KUDZUCLAMP_PLAY_SHORT 100u      /* the list has fewer than KUDZUCLAMP_PLAY_WORDS words for each record */
-#define KUDZUCLAMP_PLAY_UNREADABLE 101u /* a record cannot be read */
 
 /* The words of a record in kudzuclamp_play's list. */
 #define KUDZUCLAMP_PLAY_WORDS 5
@@ -177,6 +305,7 @@ uint32_t kudzuclamp_check(const uint32_t *words, size_t words_len, uint32_t rela
  * relation or set; what a record has not is 0. *count is how many records there were. It returns 0, also where calls among the records are refused, or
  * KUDZUCLAMP_PLAY_SHORT or KUDZUCLAMP_PLAY_UNREADABLE.
  */
+KUDZUCLAMP_USE_RESULT
 uint32_t kudzuclamp_play(uint32_t *words, size_t words_len, const uint8_t *bytes, size_t bytes_len, uint32_t *list, size_t list_len, size_t *count);
 
 #ifdef __cplusplus

@@ -15,21 +15,19 @@ enum { TABLET, PHONE, ACCOUNTS };
 enum { FIRST_RULES, MENDED_RULES };
 enum { HOWL, FIRST_DANGER, MENDED_DANGER, MENDED_SAFE, NOT_IN_DANGER };
 
-#define NOT 0x02
-#define AND 0x03
-#define OR 0x04
-#define NOW(p) (0x10 + (p))
-#define NEXT(p) (0x20 + (p))
-#define VARIABLE 0x30
-#define REGISTER(r) (0x40 + (r))
-#define BOX(t) (0x60 + (t))
-#define DIAMOND(t) (0x68 + (t))
-#define MU 0x70
-#define NU 0x80
-
-/* Bit p keeps its value, or turns over. */
-#define KEEPS(p) OR, AND, NEXT(p), NOW(p), AND, NOT, NEXT(p), NOT, NOW(p)
-#define TURNS(p) OR, AND, NEXT(p), NOT, NOW(p), AND, NOT, NEXT(p), NOW(p)
+/* The header's names for the bytes, in short. */
+#define NOT KUDZUCLAMP_NOT
+#define AND KUDZUCLAMP_AND
+#define OR KUDZUCLAMP_OR
+#define NOW KUDZUCLAMP_NOW
+#define KEEPS KUDZUCLAMP_KEEPS
+#define TURNS KUDZUCLAMP_TURNS
+#define VARIABLE KUDZUCLAMP_VARIABLE(0)
+#define REGISTER KUDZUCLAMP_REGISTER
+#define BOX KUDZUCLAMP_BOX
+#define DIAMOND KUDZUCLAMP_DIAMOND
+#define MU KUDZUCLAMP_MU(0)
+#define NU KUDZUCLAMP_NU(0)
 
 /* A press of p where the other two are q and r: always, or only where p is on or the others are not both on. */
 #define PRESS(p, q, r) AND, TURNS(p), AND, KEEPS(q), KEEPS(r)
@@ -70,27 +68,15 @@ static void note(uint32_t peak)
 static void must(const char *what, uint32_t number)
 {
     if (number != KUDZUCLAMP_ANSWERED) {
-        fprintf(stderr, "%s: refused with %u\n", what, (unsigned)number);
+        fprintf(stderr, "%s: refused with %u: %s\n", what, (unsigned)number, kudzuclamp_text(number));
         exit(EXIT_FAILURE);
     }
 }
 
-/* The formula with its length and version before it; gives how many bytes that are. */
-static size_t framed(uint8_t *bytes, const uint8_t *formula, size_t count)
-{
-    bytes[0] = (uint8_t)((count + 1) / 256);
-    bytes[1] = (uint8_t)((count + 1) % 256);
-    bytes[2] = 1;
-    for (size_t i = 0; i < count; i++) {
-        bytes[3 + i] = formula[i];
-    }
-    return 3 + count;
-}
-
 static void relation(const char *what, uint32_t t, const uint8_t *formula, size_t count)
 {
-    uint8_t bytes[1026];
-    size_t length = framed(bytes, formula, count);
+    uint8_t bytes[KUDZUCLAMP_FRAMED(KUDZUCLAMP_MAX_FORMULA)];
+    size_t length = kudzuclamp_frame(bytes, sizeof bytes, formula, count);
     uint32_t peak;
     must(what, kudzuclamp_relation(words, words_len, t, bytes, length, &peak));
     note(peak);
@@ -99,12 +85,12 @@ static void relation(const char *what, uint32_t t, const uint8_t *formula, size_
 
 static void set(const char *what, uint32_t place, uint32_t r, uint32_t most, const uint8_t *formula, size_t count)
 {
-    uint8_t bytes[1026];
-    size_t length = framed(bytes, formula, count);
+    uint8_t bytes[KUDZUCLAMP_FRAMED(KUDZUCLAMP_MAX_FORMULA)];
+    size_t length = kudzuclamp_frame(bytes, sizeof bytes, formula, count);
     uint32_t node, rounds, peak, states, all_off;
     uint32_t number = kudzuclamp_set(words, words_len, accounts, ACCOUNTS, place, r, most, bytes, length, &node, &rounds, &peak);
     if (number != KUDZUCLAMP_ANSWERED) {
-        printf("%s: refused with %u\n", what, (unsigned)number);
+        printf("%s: refused with %u: %s\n", what, (unsigned)number, kudzuclamp_text(number));
         return;
     }
     note(peak);

@@ -47,6 +47,7 @@ pub struct Account {
 
 impl Account {
     /// An account with these limits, its tally at 0.
+    #[must_use]
     pub const fn limited(rows: u32, rounds: u32) -> Account {
         Account {
             rows,
@@ -56,6 +57,7 @@ impl Account {
     }
 
     /// An account with the largest limits: those of the table and of each set alone hold.
+    #[must_use]
     pub const fn unlimited() -> Account {
         Account::limited(u32::MAX, u32::MAX)
     }

@@ -1,33 +1,11 @@
 //! Formulas as document 01's framed bytes.
-use std::ops::{BitAnd, BitOr, Not};
+use crate::token;
+use crate::{MAX_BITS, REGISTERS, RELATIONS};
+use std::borrow::Borrow;
+use std::ops::{BitAnd, BitAndAssign, BitOr, BitOrAssign, BitXor, BitXorAssign, Not};
 
-/// The bytes of document 01's table.
-mod token {
-    pub const FALSE: u8 = 0x00;
-    pub const TRUE: u8 = 0x01;
-    pub const NOT: u8 = 0x02;
-    pub const AND: u8 = 0x03;
-    pub const OR: u8 = 0x04;
-    pub const CURRENT: u8 = 0x10;
-    pub const NEXT: u8 = 0x20;
-    pub const VARIABLE: u8 = 0x30;
-    pub const REGISTER: u8 = 0x40;
-    pub const BOX: u8 = 0x60;
-    pub const DIAMOND: u8 = 0x68;
-    pub const MU: u8 = 0x70;
-    pub const NU: u8 = 0x80;
-    /// Version 2.
-    pub const SOME_RUN: u8 = 0x90;
-    pub const EVERY_RUN: u8 = 0x98;
-    /// No token of the table: every call refuses it with 4.
-    pub const NONE: u8 = 0xFF;
-}
-
-/// How many bits, variables, registers and relations have a byte.
-const BITS: u8 = 16;
-const VARIABLES: u8 = 16;
-const REGISTERS: u8 = 32;
-const RELATIONS: u8 = 8;
+/// How many variables have a byte.
+const VARIABLES: u32 = 16;
 
 /// Bytes before the formula: two of length and the version.
 const FRAME: usize = 3;
@@ -38,17 +16,34 @@ const RUNS_VERSION: u8 = 2;
 /// A formula, kept as the framed bytes that a call takes: two length bytes, the version and the
 /// formula in prefix order. The version is 1, or 2 where the formula speaks of runs.
 ///
-/// `!`, `&` and `|` are NOT, AND and OR. A bit, variable, register or relation number that has no
-/// byte gives a formula that every call refuses with [`Refusal::Syntax`](crate::Refusal::Syntax),
-/// and so does a formula of more than 1,023 bytes or more than 64 deep.
+/// `!`, `&` and `|` are NOT, AND and OR, and `^` is "one of the two, not both"; they and all
+/// builders take formulas or references to them. A bit, variable, register or relation number that
+/// has no byte gives a formula that every call refuses with
+/// [`Refusal::Syntax`](crate::Refusal::Syntax), and so does a formula of more than 1,023 bytes or
+/// more than 64 deep.
 ///
 /// ```
 /// use kudzuclamp::Formula;
 ///
-/// // The states from which bit 0 can become set: mu P0. bit 0 OR diamond 0 P0.
+/// // The states from which bit 0 can become set: bit 0, or some press leads into the set.
 /// let reach = Formula::mu(0, Formula::current(0) | Formula::diamond(0, Formula::var(0)));
 /// assert_eq!(reach.as_bytes(), [0x00, 0x06, 0x01, 0x70, 0x04, 0x10, 0x68, 0x30]);
+/// assert_eq!(reach.to_string(), "mu P0. bit0 | <0> P0");
+///
+/// // A formula may be used several times.
+/// let (mic, echo) = (Formula::current(0), Formula::current(1));
+/// assert_eq!((&mic & !&echo) | (!&mic & &echo), &mic ^ &echo);
 /// ```
+///
+/// # Text
+///
+/// `Display` writes a formula as it would be written in Rust: `!` binds tighter than `&`, and `&`
+/// tighter than `|`; operators of one kind are taken from the left, so different formulas have
+/// different texts. `bit3` is current bit 3, `bit3'` the next one, `P0` a variable, `set5` the set
+/// in register 5; `[2] f` is box and `<2> f` diamond of relation 2; `mu P0. f` and `nu P0. f` go as
+/// far right as they can; `some2(f until g)` and `every2(f until g)` speak of relation 2's runs.
+/// Bytes that no call takes are written in hexadecimal after `no formula:`.
+#[must_use]
 #[derive(Clone, Debug, PartialEq, Eq, Hash)]
 pub struct Formula {
     framed: Vec<u8>,
@@ -66,46 +61,46 @@ impl Formula {
     }
 
     /// Bit p of the current state, p from 0 to 15 and below the table's n.
-    pub fn current(p: u8) -> Formula {
-        Formula::leaf(numbered(token::CURRENT, BITS, p))
+    pub fn current(p: u32) -> Formula {
+        Formula::leaf(numbered(token::CURRENT, MAX_BITS, p))
     }
 
     /// Bit p of the next state, p from 0 to 15 and below the table's n. Only relation calls take
     /// it.
-    pub fn next(p: u8) -> Formula {
-        Formula::leaf(numbered(token::NEXT, BITS, p))
+    pub fn next(p: u32) -> Formula {
+        Formula::leaf(numbered(token::NEXT, MAX_BITS, p))
     }
 
     /// Variable P, from 0 to 15, bound by [`mu`](Formula::mu) or [`nu`](Formula::nu).
-    pub fn var(p: u8) -> Formula {
+    pub fn var(p: u32) -> Formula {
         Formula::leaf(numbered(token::VARIABLE, VARIABLES, p))
     }
 
     /// The set in a register, from 0 to 31.
-    pub fn register(r: u8) -> Formula {
+    pub fn register(r: u32) -> Formula {
         Formula::leaf(numbered(token::REGISTER, REGISTERS, r))
     }
 
     /// Box: the formula holds in every next state of relation t, from 0 to 7.
-    pub fn boxed(t: u8, f: Formula) -> Formula {
-        Formula::operator(numbered(token::BOX, RELATIONS, t), &[f])
+    pub fn boxed(t: u32, f: impl Borrow<Formula>) -> Formula {
+        Formula::operator(numbered(token::BOX, RELATIONS, t), &[f.borrow()])
     }
 
     /// Diamond: the formula holds in some next state of relation t, from 0 to 7.
-    pub fn diamond(t: u8, f: Formula) -> Formula {
-        Formula::operator(numbered(token::DIAMOND, RELATIONS, t), &[f])
+    pub fn diamond(t: u32, f: impl Borrow<Formula>) -> Formula {
+        Formula::operator(numbered(token::DIAMOND, RELATIONS, t), &[f.borrow()])
     }
 
     /// The least set A that equals the formula with A as variable P, which stands somewhere in it:
     /// else the call is refused with [`Refusal::Vacuous`](crate::Refusal::Vacuous).
-    pub fn mu(p: u8, f: Formula) -> Formula {
-        Formula::operator(numbered(token::MU, VARIABLES, p), &[f])
+    pub fn mu(p: u32, f: impl Borrow<Formula>) -> Formula {
+        Formula::operator(numbered(token::MU, VARIABLES, p), &[f.borrow()])
     }
 
     /// The greatest set A that equals the formula with A as variable P, as for
     /// [`mu`](Formula::mu).
-    pub fn nu(p: u8, f: Formula) -> Formula {
-        Formula::operator(numbered(token::NU, VARIABLES, p), &[f])
+    pub fn nu(p: u32, f: impl Borrow<Formula>) -> Formula {
+        Formula::operator(numbered(token::NU, VARIABLES, p), &[f.borrow()])
     }
 
     /// Some run of relation t, from 0 to 7, comes to a state of g, and f holds in every state
@@ -131,8 +126,11 @@ impl Formula {
     /// # Ok(())
     /// # }
     /// ```
-    pub fn until_some(t: u8, f: Formula, g: Formula) -> Formula {
-        Formula::operator(numbered(token::SOME_RUN, RELATIONS, t), &[f, g])
+    pub fn until_some(t: u32, f: impl Borrow<Formula>, g: impl Borrow<Formula>) -> Formula {
+        Formula::operator(
+            numbered(token::SOME_RUN, RELATIONS, t),
+            &[f.borrow(), g.borrow()],
+        )
     }
 
     /// Every run of relation t, from 0 to 7, comes to a state of g, and f holds in every state
@@ -158,17 +156,76 @@ impl Formula {
     /// # Ok(())
     /// # }
     /// ```
-    pub fn until_every(t: u8, f: Formula, g: Formula) -> Formula {
-        Formula::operator(numbered(token::EVERY_RUN, RELATIONS, t), &[f, g])
+    pub fn until_every(t: u32, f: impl Borrow<Formula>, g: impl Borrow<Formula>) -> Formula {
+        Formula::operator(
+            numbered(token::EVERY_RUN, RELATIONS, t),
+            &[f.borrow(), g.borrow()],
+        )
+    }
+
+    /// A press leaves bit p as it is: the next bit is the current one.
+    ///
+    /// ```
+    /// use kudzuclamp::Formula;
+    ///
+    /// assert_eq!(Formula::keeps(3).to_string(), "bit3' & bit3 | !bit3' & !bit3");
+    /// // The song starts, and the two microphones keep.
+    /// let press = Formula::next(2) & Formula::keeps(0) & Formula::keeps(1);
+    /// assert_eq!(press.as_bytes().len(), 3 + 21);
+    /// ```
+    pub fn keeps(p: u32) -> Formula {
+        Formula::next(p).iff(Formula::current(p))
+    }
+
+    /// A press turns bit p over: the next bit is not the current one.
+    ///
+    /// ```
+    /// use kudzuclamp::Formula;
+    ///
+    /// assert_eq!(Formula::turns(3).to_string(), "bit3' & !bit3 | !bit3' & bit3");
+    /// ```
+    pub fn turns(p: u32) -> Formula {
+        Formula::next(p) ^ Formula::current(p)
+    }
+
+    /// Both hold, or neither.
+    pub fn iff(&self, other: impl Borrow<Formula>) -> Formula {
+        let other = other.borrow();
+        (self & other) | (!self & !other)
+    }
+
+    /// Where this holds, the other does too.
+    pub fn implies(&self, other: impl Borrow<Formula>) -> Formula {
+        !self | other
+    }
+
+    /// All of the formulas hold; [`always`](Formula::always) where there are none. They keep their
+    /// order, and the ANDs are as few deep as they can be.
+    ///
+    /// ```
+    /// use kudzuclamp::Formula;
+    ///
+    /// let off = Formula::all((0..4).map(|p| !Formula::current(p)));
+    /// assert_eq!(off.to_string(), "!bit0 & !bit1 & (!bit2 & !bit3)");
+    /// ```
+    pub fn all<F: Borrow<Formula>>(parts: impl IntoIterator<Item = F>) -> Formula {
+        Formula::joined(token::AND, parts).unwrap_or_else(Formula::always)
+    }
+
+    /// One of the formulas holds, or more; [`never`](Formula::never) where there are none. As
+    /// [`all`](Formula::all).
+    pub fn any<F: Borrow<Formula>>(parts: impl IntoIterator<Item = F>) -> Formula {
+        Formula::joined(token::OR, parts).unwrap_or_else(Formula::never)
     }
 
     /// The framed bytes.
+    #[must_use]
     pub fn as_bytes(&self) -> &[u8] {
         &self.framed
     }
 
     /// The formula's own bytes, without length and version.
-    fn tokens(&self) -> &[u8] {
+    pub(crate) fn tokens(&self) -> &[u8] {
         &self.framed[FRAME..]
     }
 
@@ -176,16 +233,32 @@ impl Formula {
         self.framed[FRAME - 1]
     }
 
+    /// The formulas joined by a token of two parts, neighbours first.
+    fn joined<F: Borrow<Formula>>(
+        token: u8,
+        parts: impl IntoIterator<Item = F>,
+    ) -> Option<Formula> {
+        let mut row: Vec<Formula> = parts.into_iter().map(|f| f.borrow().clone()).collect();
+        while row.len() > 1 {
+            let pairs = row.chunks(2).map(|pair| match pair {
+                [f, g] => Formula::operator(token, &[f, g]),
+                _ => pair[0].clone(),
+            });
+            row = pairs.collect();
+        }
+        row.pop()
+    }
+
     fn leaf(token: u8) -> Formula {
         Formula::operator(token, &[])
     }
 
     /// A token and the formulas below it.
-    fn operator(token: u8, parts: &[Formula]) -> Formula {
+    fn operator(token: u8, parts: &[&Formula]) -> Formula {
         let size = 1 + parts.iter().map(|part| part.tokens().len()).sum::<usize>();
         let mut framed = Vec::with_capacity(FRAME + size);
         framed.extend(length_bytes(1 + size));
-        framed.push((parts.iter().map(Formula::version)).fold(version_of(token), u8::max));
+        framed.push((parts.iter().map(|part| part.version())).fold(version_of(token), u8::max));
         framed.push(token);
         for part in parts {
             framed.extend_from_slice(part.tokens());
@@ -195,17 +268,16 @@ impl Formula {
 }
 
 /// The byte of number k in a range of tokens, or no token's where the range is too short.
-fn numbered(first: u8, count: u8, k: u8) -> u8 {
-    if k < count {
-        first + k
-    } else {
-        token::NONE
+fn numbered(first: u8, count: u32, k: u32) -> u8 {
+    match u8::try_from(k) {
+        Ok(k) if u32::from(k) < count => first + k,
+        _ => token::NONE,
     }
 }
 
 /// The least version that has the token.
 fn version_of(token: u8) -> u8 {
-    if (token::SOME_RUN..token::EVERY_RUN + RELATIONS).contains(&token) {
+    if token::is_until(token) {
         RUNS_VERSION
     } else {
         VERSION
@@ -233,7 +305,7 @@ impl From<bool> for Formula {
     }
 }
 
-impl Not for Formula {
+impl Not for &Formula {
     type Output = Formula;
 
     fn not(self) -> Formula {
@@ -241,21 +313,51 @@ impl Not for Formula {
     }
 }
 
-impl BitAnd for Formula {
+impl Not for Formula {
     type Output = Formula;
 
-    fn bitand(self, other: Formula) -> Formula {
-        Formula::operator(token::AND, &[self, other])
+    fn not(self) -> Formula {
+        !&self
     }
 }
 
-impl BitOr for Formula {
-    type Output = Formula;
+/// An operator of two formulas or references to them, and its assignment.
+macro_rules! operator {
+    ($trait:ident, $method:ident, $assign:ident, $assigned:ident, $made:expr) => {
+        impl<F: Borrow<Formula>> $trait<F> for &Formula {
+            type Output = Formula;
 
-    fn bitor(self, other: Formula) -> Formula {
-        Formula::operator(token::OR, &[self, other])
-    }
+            fn $method(self, other: F) -> Formula {
+                let made: fn(&Formula, &Formula) -> Formula = $made;
+                made(self, other.borrow())
+            }
+        }
+
+        impl<F: Borrow<Formula>> $trait<F> for Formula {
+            type Output = Formula;
+
+            fn $method(self, other: F) -> Formula {
+                (&self).$method(other)
+            }
+        }
+
+        impl<F: Borrow<Formula>> $assign<F> for Formula {
+            fn $assigned(&mut self, other: F) {
+                *self = (&*self).$method(other);
+            }
+        }
+    };
 }
+
+operator!(BitAnd, bitand, BitAndAssign, bitand_assign, |f, g| {
+    Formula::operator(token::AND, &[f, g])
+});
+operator!(BitOr, bitor, BitOrAssign, bitor_assign, |f, g| {
+    Formula::operator(token::OR, &[f, g])
+});
+operator!(BitXor, bitxor, BitXorAssign, bitxor_assign, |f, g| {
+    (f & !g) | (!f & g)
+});
 
 #[cfg(test)]
 mod tests {
@@ -359,6 +461,8 @@ mod tests {
             Formula::diamond(8, x()),
             Formula::mu(16, x()),
             Formula::nu(255, x()),
+            Formula::current(256),
+            Formula::register(u32::MAX),
         ];
         for formula in past {
             assert_eq!(formula.as_bytes()[3], 0xFF);
@@ -377,5 +481,67 @@ mod tests {
             formula = formula.clone() & formula;
         }
         assert_eq!(formula.as_bytes()[..3], [0xFF, 0xFF, 0x01]);
+    }
+
+    /// The patterns of examples/README.md, "bit p keeps" and "turns over".
+    #[test]
+    fn keeps_and_turns() {
+        let keeps = [0x04, 0x03, 0x25, 0x15, 0x03, 0x02, 0x25, 0x02, 0x15];
+        assert_eq!(Formula::keeps(5).as_bytes(), framed(&keeps));
+        let turns = [0x04, 0x03, 0x25, 0x02, 0x15, 0x03, 0x02, 0x25, 0x15];
+        assert_eq!(Formula::turns(5).as_bytes(), framed(&turns));
+        assert_eq!(Formula::keeps(16).as_bytes()[5], 0xFF);
+    }
+
+    #[test]
+    fn operators_of_references() {
+        let (f, g) = (Formula::current(1), Formula::register(2));
+        let both = [0x03, 0x11, 0x42];
+        for and in [
+            &f & &g,
+            &f & g.clone(),
+            f.clone() & &g,
+            f.clone() & g.clone(),
+        ] {
+            assert_eq!(and.as_bytes(), framed(&both));
+        }
+        for or in [
+            &f | &g,
+            &f | g.clone(),
+            f.clone() | &g,
+            f.clone() | g.clone(),
+        ] {
+            assert_eq!(or.as_bytes(), framed(&[0x04, 0x11, 0x42]));
+        }
+        assert_eq!(!&f, !f.clone());
+        assert_eq!(&f ^ &g, (&f & !&g) | (!&f & &g));
+        assert_eq!(f.iff(&g), (&f & &g) | (!&f & !&g));
+        assert_eq!(f.implies(&g), !&f | &g);
+        let mut h = f.clone();
+        h &= &g;
+        h |= f.clone();
+        h ^= &g;
+        assert_eq!(h, ((&f & &g) | &f) ^ &g);
+        assert_eq!(Formula::mu(0, &f), Formula::mu(0, f.clone()));
+        assert_eq!(
+            Formula::until_some(1, &f, g.clone()),
+            Formula::until_some(1, f, &g)
+        );
+    }
+
+    #[test]
+    fn all_and_any() {
+        let bits = |n: u32| (0..n).map(Formula::current);
+        assert_eq!(Formula::all(bits(0)), Formula::always());
+        assert_eq!(Formula::any(bits(0)), Formula::never());
+        assert_eq!(Formula::all(bits(1)), Formula::current(0));
+        let three = [0x04, 0x04, 0x10, 0x11, 0x12];
+        assert_eq!(Formula::any(bits(3)).as_bytes(), framed(&three));
+        let list: Vec<Formula> = bits(5).collect();
+        assert_eq!(Formula::all(&list), Formula::all(list.clone()));
+        // 512 parts are 1,023 bytes, 10 deep.
+        let many = Formula::all((0..512).map(|_| Formula::always()));
+        assert_eq!(many.as_bytes().len(), 3 + 1_023);
+        assert_eq!(many.as_bytes()[3..14], [3, 3, 3, 3, 3, 3, 3, 3, 3, 1, 1]);
     }
 }

@@ -14,14 +14,14 @@
 //! let mut accounts = [Account::unlimited()];
 //! let mut room = Table::new(&mut accounts, 2, 100)?;
 //! // Next: the microphone is open, and the echo is on exactly if the microphone is open now.
-//! let same = (next_echo.clone() & open.clone()) | (!next_echo & !open.clone());
-//! room.relation(0, next_open & same)?;
+//! room.relation(0, next_open & next_echo.iff(&open))?;
 //!
 //! // Register 0: the states from which presses lead to both at once.
-//! let howl = open & echo;
+//! let howl = &open & &echo;
 //! let reach = Formula::mu(0, howl | Formula::diamond(0, Formula::var(0)));
 //! room.set(&mut accounts, 0, 0, 1_000, reach)?;
 //! assert_eq!(room.count(0)?, 4);
+//! assert_eq!(room.states(0)?, [0, 1, 2, 3]);
 //!
 //! // Register 1: the states from which they never do.
 //! room.set(&mut accounts, 0, 1, 1_000, !Formula::register(0))?;
@@ -34,19 +34,27 @@
 //! Callers may share a table under limits of their own: see [`Account`]. Relations and sets return
 //! how many rows they needed at most, to choose a table's size by: see [`Loaded`].
 //!
-//! The static library is made by `rt staticlib exports` in the repository's root.
+//! The static library is made by `rt staticlib exports` in the repository's root; [`PROVED`] tells
+//! whether the one that is linked was.
 #![deny(missing_docs, unsafe_code)]
 
 #[allow(unsafe_code)]
 mod abi;
 mod account;
+mod diagram;
+mod display;
 mod formula;
 mod play;
 mod refusal;
 mod table;
+mod token;
 
 pub use account::{Account, MAX_ACCOUNTS};
 pub use formula::Formula;
 pub use play::{play, Outcome, Unreadable};
 pub use refusal::Refusal;
 pub use table::{words_for, Loaded, Stored, Table, MAX_BITS, MAX_ROWS, REGISTERS, RELATIONS};
+
+/// Whether the linked library is one that `rt staticlib` made, which checks all proofs first. It is
+/// false for a quick build (`bench/unproved`), which looks at no proof.
+pub const PROVED: bool = cfg!(kudzuclamp_proved);

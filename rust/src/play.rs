@@ -44,6 +44,11 @@ impl std::error::Error for Unreadable {}
 /// Plays the calls of all records in order over the words: records as `roomrules` reads them, fresh and
 /// count among them.
 ///
+/// # Errors
+///
+/// [`Unreadable`], before the first call. Calls among the records that are refused are no error: their
+/// outcomes say so.
+///
 /// ```
 /// use kudzuclamp::{play, Unreadable};
 ///

@@ -4,8 +4,8 @@ use std::fmt;
 
 /// Why a call is refused, with document 01's numbers.
 ///
-/// `Full` and `Spent` keep registers, relations and the rows that they need; every other refusal
-/// keeps all words. No refusal changes an account.
+/// `Full` and `Spent` keep V, registers, relations and the rows that they need; every other refusal
+/// keeps all words. No refusal changes an account. Later versions may have more of them.
 ///
 /// ```
 /// use kudzuclamp::Refusal;
@@ -13,6 +13,8 @@ use std::fmt;
 /// assert_eq!(Refusal::Empty.number(), 7);
 /// assert_eq!(Refusal::Empty.to_string(), "a register or relation named is empty");
 /// ```
+#[must_use]
+#[non_exhaustive]
 #[derive(Clone, Copy, Debug, PartialEq, Eq, Hash, PartialOrd, Ord)]
 pub enum Refusal {
     /// 1: fresh was given a number of bits or rows out of range, or too few words.
@@ -35,6 +37,8 @@ pub enum Refusal {
     Spent = 9,
     /// 12: a binder's variable occurs nowhere free in its body. Checked directly after 5.
     Vacuous = 12,
+    /// 13: valid was called while a register or relation is filled. Checked directly after 2.
+    Occupied = 13,
     /// 14: the list is not 1 to 8 accounts long, or has no account at the place named. Checked
     /// directly after 3, in fresh after 1.
     Unlisted = 14,
@@ -42,7 +46,7 @@ pub enum Refusal {
 
 impl Refusal {
     /// All refusals, in the order of their numbers.
-    pub const ALL: [Refusal; 11] = [
+    pub const ALL: &'static [Refusal] = &[
         Refusal::Sizes,
         Refusal::Unsound,
         Refusal::Range,
@@ -53,10 +57,12 @@ impl Refusal {
         Refusal::Full,
         Refusal::Spent,
         Refusal::Vacuous,
+        Refusal::Occupied,
         Refusal::Unlisted,
     ];
 
-    /// The number, 1 to 9, 12 or 14.
+    /// The number, 1 to 9 or 12 to 14.
+    #[must_use]
     pub const fn number(self) -> u32 {
         self as u32
     }
@@ -69,9 +75,11 @@ impl Refusal {
     /// assert_eq!(Refusal::from_number(8), Some(Refusal::Full));
     /// assert_eq!(Refusal::from_number(0), None);
     /// ```
+    #[must_use]
     pub fn from_number(number: u32) -> Option<Refusal> {
         Refusal::ALL
-            .into_iter()
+            .iter()
+            .copied()
             .find(|refusal| refusal.number() == number)
     }
 }
@@ -91,6 +99,7 @@ impl fmt::Display for Refusal {
             Refusal::Full => "a step needs more rows than the table has or the account may use",
             Refusal::Spent => "the rounds are used up",
             Refusal::Vacuous => "a binder's variable occurs nowhere free in its body",
+            Refusal::Occupied => "a register or relation is filled",
             Refusal::Unlisted => {
                 "the list is not 1 to 8 accounts long, or has no account at that place"
             }
@@ -106,8 +115,11 @@ mod tests {
 
     #[test]
     fn numbers_are_those_of_the_header() {
-        let numbers = Refusal::ALL.map(Refusal::number);
-        assert_eq!(numbers, [1, 2, 3, 4, 5, 6, 7, 8, 9, 12, 14]);
+        let numbers: Vec<u32> = Refusal::ALL
+            .iter()
+            .map(|refusal| refusal.number())
+            .collect();
+        assert_eq!(numbers, [1, 2, 3, 4, 5, 6, 7, 8, 9, 12, 13, 14]);
         for number in 0..20 {
             let refusal = Refusal::from_number(number);
             assert_eq!(refusal.is_some(), numbers.contains(&number));

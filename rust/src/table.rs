@@ -1,5 +1,5 @@
 //! The table over lent or owned words.
-use crate::{abi, Account, Refusal};
+use crate::{abi, diagram, Account, Refusal};
 
 /// The greatest number of state bits of a table.
 pub const MAX_BITS: u32 = 16;
@@ -15,6 +15,7 @@ pub const RELATIONS: u32 = 8;
 /// ```
 /// assert_eq!(kudzuclamp::words_for(100), 1_456);
 /// ```
+#[must_use]
 pub const fn words_for(rows: u32) -> usize {
     256 + 12 * rows as usize
 }
@@ -60,8 +61,7 @@ pub struct Stored {
 /// // One bit, the echo switch; each press turns it over.
 /// let mut accounts = [Account::unlimited()];
 /// let mut table = Table::new(&mut accounts, 1, 100)?;
-/// let (before, after) = (Formula::current(0), Formula::next(0));
-/// table.relation(0, (after.clone() & !before.clone()) | (!after & before))?;
+/// table.relation(0, Formula::turns(0))?;
 ///
 /// // From which states can presses turn the echo on?
 /// let press = Formula::diamond(0, Formula::var(0));
@@ -81,8 +81,12 @@ pub struct Table<W> {
 
 impl Table<Vec<u32>> {
     /// An empty table of n bits (1 to 16) and so many rows (1 to 60,000) over words of its own; the
-    /// tallies of the accounts are then 0. Refused with [`Refusal::Sizes`], or with
-    /// [`Refusal::Unlisted`] where the list is not 1 to 8 accounts long.
+    /// tallies of the accounts are then 0.
+    ///
+    /// # Errors
+    ///
+    /// [`Refusal::Sizes`] where a number is out of range, [`Refusal::Unlisted`] where the list is not
+    /// 1 to 8 accounts long.
     ///
     /// ```
     /// use kudzuclamp::{Account, Refusal, Table};
@@ -100,8 +104,12 @@ impl Table<Vec<u32>> {
 
 impl<W: AsRef<[u32]> + AsMut<[u32]>> Table<W> {
     /// An empty table of n bits and so many rows in any words, at least [`words_for`] the rows;
-    /// later words are never changed. The tallies of the accounts are then 0. Refused with
-    /// [`Refusal::Sizes`] or [`Refusal::Unlisted`], all words and accounts kept.
+    /// later words are never changed. The tallies of the accounts are then 0.
+    ///
+    /// # Errors
+    ///
+    /// [`Refusal::Sizes`] or [`Refusal::Unlisted`], as for [`Table::new`]; all words and accounts are
+    /// kept.
     ///
     /// ```
     /// use kudzuclamp::{words_for, Account, Refusal, Table};
@@ -123,25 +131,64 @@ impl<W: AsRef<[u32]> + AsMut<[u32]>> Table<W> {
     }
 
     /// Makes an empty table of the same words anew, as [`Table::fresh`].
+    ///
+    /// # Errors
+    ///
+    /// As for [`Table::fresh`].
     pub fn restart(&mut self, accounts: &mut [Account], n: u32, rows: u32) -> Result<(), Refusal> {
         abi::fresh(self.words.as_mut(), accounts, n, rows)
     }
 
+    /// The states that exist, V, are then exactly those in which the formula holds; after fresh every
+    /// state exists. It is called while nothing is filled. From then on true means V, NOT means V
+    /// without the set, a bit its states in V, and next states outside V do not exist.
+    ///
+    /// Formulas of valid have constants, NOT, AND, OR and current bits only, and are read over all
+    /// states.
+    ///
+    /// ```
+    /// use kudzuclamp::{Account, Formula, Refusal, Table};
+    ///
+    /// # fn main() -> Result<(), Refusal> {
+    /// let mut accounts = [Account::unlimited()];
+    /// let mut table = Table::new(&mut accounts, 2, 100)?;
+    /// // A selector of three positions takes two bits, which are never both 1.
+    /// let (low, high) = (Formula::current(0), Formula::current(1));
+    /// table.valid(!(&low & &high))?;
+    /// table.set(&mut accounts, 0, 0, 0, !low)?;
+    /// assert_eq!(table.count(0)?, 2);
+    /// assert_eq!(table.valid(Formula::constant(true)), Err(Refusal::Occupied));
+    /// # Ok(())
+    /// # }
+    /// ```
+    ///
+    /// # Errors
+    ///
+    /// [`Refusal::Unsound`], [`Refusal::Occupied`], [`Refusal::Syntax`] or [`Refusal::Full`].
+    pub fn valid(&mut self, formula: impl AsRef<[u8]>) -> Result<(), Refusal> {
+        abi::valid(self.words.as_mut(), formula.as_ref())
+    }
+
     /// Relation t, from 0 to 7, then holds exactly the pairs of states in which the formula holds.
     /// Formulas of relations have constants, NOT, AND, OR and current and next bits only.
+    ///
+    /// # Errors
+    ///
+    /// [`Refusal::Unsound`], [`Refusal::Range`] (t is above 7), [`Refusal::Syntax`] or
+    /// [`Refusal::Full`].
     ///
     /// ```
     /// use kudzuclamp::{Account, Formula, Loaded, Refusal, Table};
     ///
     /// # fn main() -> Result<(), Refusal> {
     /// let mut accounts = [Account::unlimited()];
-    /// let same = (Formula::next(0) & Formula::current(0)) | !(Formula::next(0) | Formula::current(0));
+    /// let keeps = Formula::keeps(0);
     /// let mut table = Table::new(&mut accounts, 1, 100)?;
     /// // How many rows does it take? So many are enough, and one fewer is not.
-    /// let Loaded { peak } = table.relation(0, &same)?;
-    /// assert!(Table::new(&mut accounts, 1, peak)?.relation(0, &same).is_ok());
+    /// let Loaded { peak } = table.relation(0, &keeps)?;
+    /// assert!(Table::new(&mut accounts, 1, peak)?.relation(0, &keeps).is_ok());
     /// let mut small = Table::new(&mut accounts, 1, peak - 1)?;
-    /// assert_eq!(small.relation(0, &same), Err(Refusal::Full));
+    /// assert_eq!(small.relation(0, &keeps), Err(Refusal::Full));
     /// # Ok(())
     /// # }
     /// ```
@@ -155,6 +202,12 @@ impl<W: AsRef<[u32]> + AsMut<[u32]>> Table<W> {
     /// where the call is refused.
     ///
     /// The formula is a [`Formula`](crate::Formula), or framed bytes from elsewhere.
+    ///
+    /// # Errors
+    ///
+    /// [`Refusal::Unsound`], [`Refusal::Range`] (r is above 31), [`Refusal::Unlisted`],
+    /// [`Refusal::Syntax`], [`Refusal::Unbound`], [`Refusal::Vacuous`], [`Refusal::Odd`],
+    /// [`Refusal::Empty`], [`Refusal::Full`] or [`Refusal::Spent`].
     ///
     /// ```
     /// use kudzuclamp::{Account, Formula, Refusal, Table};
@@ -192,25 +245,37 @@ impl<W: AsRef<[u32]> + AsMut<[u32]>> Table<W> {
     }
 
     /// Empties register r; an empty one stays so.
+    ///
+    /// # Errors
+    ///
+    /// [`Refusal::Unsound`] or [`Refusal::Range`].
     pub fn clear(&mut self, r: u32) -> Result<(), Refusal> {
         abi::clear(self.words.as_mut(), r)
     }
 
-    /// Frees the rows that no register and no relation needs, and gives how many are needed.
+    /// Frees the rows that V, registers and relations do not need, and gives how many are needed.
+    ///
+    /// # Errors
+    ///
+    /// [`Refusal::Unsound`].
     pub fn collect(&mut self) -> Result<u32, Refusal> {
         abi::collect(self.words.as_mut())
     }
 
     /// The words, to change at will: the next call refuses with [`Refusal::Unsound`] where they are
     /// then no sound table.
+    #[must_use]
     pub fn words_mut(&mut self) -> &mut [u32] {
         self.words.as_mut()
     }
 }
 
 impl<W: AsRef<[u32]>> Table<W> {
-    /// The table that words hold, as an earlier one left them; refused with [`Refusal::Unsound`]
-    /// where they are no sound table.
+    /// The table that words hold, as an earlier one left them.
+    ///
+    /// # Errors
+    ///
+    /// [`Refusal::Unsound`] where they are no sound table.
     ///
     /// ```
     /// use kudzuclamp::{Account, Formula, Refusal, Table};
@@ -227,29 +292,102 @@ impl<W: AsRef<[u32]>> Table<W> {
     /// ```
     pub fn over(words: W) -> Result<Table<W>, Refusal> {
         let table = Table { words };
-        match table.node(0) {
+        table.sound()?;
+        Ok(table)
+    }
+
+    /// The words, once the library has found that they are a sound table.
+    fn sound(&self) -> Result<&[u32], Refusal> {
+        match self.node(0) {
             Err(Refusal::Unsound) => Err(Refusal::Unsound),
-            _ => Ok(table),
+            _ => Ok(self.words.as_ref()),
         }
     }
 
+    /// n: how many state bits the table has.
+    ///
+    /// # Errors
+    ///
+    /// [`Refusal::Unsound`].
+    ///
+    /// ```
+    /// use kudzuclamp::{Account, Table};
+    ///
+    /// let table = Table::new(&mut [Account::unlimited()], 6, 1_344).unwrap();
+    /// assert_eq!((table.bits(), table.rows()), (Ok(6), Ok(1_344)));
+    /// ```
+    pub fn bits(&self) -> Result<u32, Refusal> {
+        self.sound().map(diagram::bits)
+    }
+
+    /// N: how many rows the table has.
+    ///
+    /// # Errors
+    ///
+    /// [`Refusal::Unsound`].
+    pub fn rows(&self) -> Result<u32, Refusal> {
+        self.sound().map(diagram::rows)
+    }
+
+    /// All states of the set in register r, least first.
+    ///
+    /// The library finds that the words are sound and gives the register's node number; the states
+    /// are then read off the rows by this wrapper, which is not proved. [`Table::member`] asks the
+    /// library about a single state.
+    ///
+    /// # Errors
+    ///
+    /// [`Refusal::Unsound`], [`Refusal::Range`] or [`Refusal::Empty`].
+    ///
+    /// ```
+    /// use kudzuclamp::{Account, Formula, Refusal, Table};
+    ///
+    /// # fn main() -> Result<(), Refusal> {
+    /// let mut accounts = [Account::unlimited()];
+    /// let mut table = Table::new(&mut accounts, 3, 100)?;
+    /// table.set(&mut accounts, 0, 5, 0, Formula::current(0) ^ Formula::current(2))?;
+    /// assert_eq!(table.states(5)?, [0b001, 0b011, 0b100, 0b110]);
+    /// # Ok(())
+    /// # }
+    /// ```
+    pub fn states(&self, r: u32) -> Result<Vec<u32>, Refusal> {
+        let node = self.node(r)?;
+        Ok(diagram::states(self.words.as_ref(), node))
+    }
+
     /// The node number in register r, as the call that last set it gave it.
+    ///
+    /// # Errors
+    ///
+    /// [`Refusal::Unsound`], [`Refusal::Range`] or [`Refusal::Empty`].
     pub fn node(&self, r: u32) -> Result<u32, Refusal> {
         abi::node(self.words.as_ref(), r)
     }
 
     /// Whether the set in register r has a state, from 0 to 2^n − 1; its bit p has weight 2^p.
+    ///
+    /// # Errors
+    ///
+    /// [`Refusal::Unsound`], [`Refusal::Range`] (register or state) or [`Refusal::Empty`].
     pub fn member(&self, r: u32, state: u32) -> Result<bool, Refusal> {
         Ok(abi::member(self.words.as_ref(), r, state)? == 1)
     }
 
     /// How many states the set in register r has, from 0 to 2^n.
+    ///
+    /// # Errors
+    ///
+    /// [`Refusal::Unsound`], [`Refusal::Range`] or [`Refusal::Empty`].
     pub fn count(&self, r: u32) -> Result<u32, Refusal> {
         abi::count(self.words.as_ref(), r)
     }
 
-    /// The checks that a set call makes of its formula, [`Refusal::Syntax`] to [`Refusal::Empty`] and
-    /// [`Refusal::Vacuous`]; no step is taken.
+    /// The checks that a set call makes of its formula; no step is taken.
+    ///
+    /// # Errors
+    ///
+    /// [`Refusal::Unsound`], else the first of [`Refusal::Syntax`], [`Refusal::Unbound`],
+    /// [`Refusal::Vacuous`], [`Refusal::Odd`] and [`Refusal::Empty`] that the call would give.
     ///
     /// ```
     /// use kudzuclamp::{Account, Formula, Refusal, Table};
@@ -266,16 +404,22 @@ impl<W: AsRef<[u32]>> Table<W> {
     }
 
     /// The checks that a relation call makes of its formula, as [`Table::check_set`].
+    ///
+    /// # Errors
+    ///
+    /// [`Refusal::Unsound`] or [`Refusal::Syntax`].
     pub fn check_relation(&self, formula: impl AsRef<[u8]>) -> Result<(), Refusal> {
         abi::check(self.words.as_ref(), true, formula.as_ref())
     }
 
     /// The words.
+    #[must_use]
     pub fn words(&self) -> &[u32] {
         self.words.as_ref()
     }
 
     /// The words, to keep: [`Table::over`] takes them again.
+    #[must_use]
     pub fn into_words(self) -> W {
         self.words
     }

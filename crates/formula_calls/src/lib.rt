@@ -3,10 +3,12 @@ use accounts::Terms;
 use accounts::is_named;
 use formula::Checked;
 use formula::check_formula;
+use formula_steps::Confined;
 use formula_steps::Loaded;
 use formula_steps::Stored;
 use formula_steps::relation_steps;
 use formula_steps::set_steps;
+use formula_steps::valid_steps;
 use layout::Refusal;
 use layout::Table;
 use layout::header_word;
@@ -51,5 +53,37 @@ pub fn set(words: &mut [u32], terms: Terms, r: u32, most: u32, bytes: &[u8]) -> 
     match check_formula(bytes, Kind::Set, n, words) {
         Checked::Refused(x) => Stored::Refused(x),
         Checked::Fit => set_steps(words, terms, r, most, bytes),
+    }
+}
+
+// Whether every register and every relation is empty.
+fn unfilled(words: &[u32]) -> bool
+    requires { ⌜ HEADER ≤ length (now words) ⌝ }
+    ensures { λ r. ⌜ r ≡ unfilledWords (now (words .entry)) ⌝ }
+{
+    let mut k = Table::FIRST_REGISTER;
+    while k < Table::ROOTS_END {
+        if header_word(words, k) != 0 {
+            return false;
+        }
+        k += 1;
+    }
+    true
+}
+
+// V, the states that exist, are those of a formula; 2 on unsound words, 13 while a register or relation is filled, 4 by the formula, 8 where a step needs more rows than there are.
+pub fn valid(words: &mut [u32], bytes: &[u8]) -> Confined
+    ensures { λ x. ⌜ CallPost (book.valid (now (bytes .entry))) (now (words .entry)) (now (words .exit)) (confinedReply x) ⌝ }
+{
+    if !sound(words) {
+        return Confined::Refused(Refusal::Unsound);
+    }
+    if !unfilled(words) {
+        return Confined::Refused(Refusal::Occupied);
+    }
+    let n = header_word(words, Table::BITS);
+    match check_formula(bytes, Kind::Valid, n, words) {
+        Checked::Refused(x) => Confined::Refused(x),
+        Checked::Fit => valid_steps(words, bytes),
     }
 }

@@ -165,6 +165,7 @@ impl Words<'_> {
         Book::with(
             self.n(),
             self.rows(),
+            self.valid().expect("every sound table has a V"),
             (0..REGISTERS).map(|r| self.register(r)).collect(),
             (0..RELATIONS).map(|t| self.relation(t)).collect(),
         )

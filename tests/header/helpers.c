@@ -1,0 +1,126 @@
+/*
+ * What include/kudzuclamp.h has besides the calls: names of bytes, framing, texts, version. Compiled as C99 and as C++11. Prints what fails, and
+ * ends with status 1 then.
+ */
+#include <kudzuclamp.h>
+
+#include <stdio.h>
+#include <string.h>
+
+static int failed;
+
+static void holds(int truth, const char *what)
+{
+    if (!truth) {
+        printf("FAILED: %s\n", what);
+        failed = 1;
+    }
+}
+
+#define HOLDS(truth) holds(truth, #truth)
+
+/* The table of bytes in the header's comment. */
+static void tokens(void)
+{
+    static const uint8_t first[] = {
+        KUDZUCLAMP_FALSE,  KUDZUCLAMP_TRUE,        KUDZUCLAMP_NOT,         KUDZUCLAMP_AND,         KUDZUCLAMP_OR,
+        KUDZUCLAMP_NOW(0), KUDZUCLAMP_NEXT(0),     KUDZUCLAMP_VARIABLE(0), KUDZUCLAMP_REGISTER(0), KUDZUCLAMP_BOX(0),
+        KUDZUCLAMP_DIAMOND(0), KUDZUCLAMP_MU(0),   KUDZUCLAMP_NU(0),       KUDZUCLAMP_UNTIL_SOME(0), KUDZUCLAMP_UNTIL_EVERY(0),
+    };
+    static const uint8_t first_bytes[] = {0, 1, 2, 3, 4, 0x10, 0x20, 0x30, 0x40, 0x60, 0x68, 0x70, 0x80, 0x90, 0x98};
+    static const uint8_t last[] = {
+        KUDZUCLAMP_NOW(15), KUDZUCLAMP_NEXT(15), KUDZUCLAMP_VARIABLE(15), KUDZUCLAMP_REGISTER(31),  KUDZUCLAMP_BOX(7),
+        KUDZUCLAMP_DIAMOND(7), KUDZUCLAMP_MU(15), KUDZUCLAMP_NU(15),      KUDZUCLAMP_UNTIL_SOME(7), KUDZUCLAMP_UNTIL_EVERY(7),
+    };
+    static const uint8_t last_bytes[] = {0x1F, 0x2F, 0x3F, 0x5F, 0x67, 0x6F, 0x7F, 0x8F, 0x97, 0x9F};
+    static const uint8_t past[] = {
+        KUDZUCLAMP_NOW(16), KUDZUCLAMP_NEXT(16), KUDZUCLAMP_VARIABLE(16), KUDZUCLAMP_REGISTER(32),  KUDZUCLAMP_BOX(8),
+        KUDZUCLAMP_DIAMOND(8), KUDZUCLAMP_MU(16), KUDZUCLAMP_NU(256),     KUDZUCLAMP_UNTIL_SOME(8), KUDZUCLAMP_UNTIL_EVERY(-1),
+    };
+    static const uint8_t keeps[] = {KUDZUCLAMP_KEEPS(5)}, turns[] = {KUDZUCLAMP_TURNS(5)};
+    static const uint8_t keeps_bytes[] = {4, 3, 0x25, 0x15, 3, 2, 0x25, 2, 0x15}, turns_bytes[] = {4, 3, 0x25, 2, 0x15, 3, 2, 0x25, 0x15};
+    size_t i;
+    HOLDS(sizeof first == sizeof first_bytes && memcmp(first, first_bytes, sizeof first) == 0);
+    HOLDS(sizeof last == sizeof last_bytes && memcmp(last, last_bytes, sizeof last) == 0);
+    for (i = 0; i < sizeof past; i++) {
+        HOLDS(past[i] == 0xFF);
+    }
+    HOLDS(sizeof keeps == 9 && memcmp(keeps, keeps_bytes, 9) == 0);
+    HOLDS(sizeof turns == 9 && memcmp(turns, turns_bytes, 9) == 0);
+}
+
+static void frames(void)
+{
+    static const uint8_t until[] = {KUDZUCLAMP_UNTIL_EVERY(0), KUDZUCLAMP_NOT, KUDZUCLAMP_NOW(0), KUDZUCLAMP_NOW(1)};
+    static const uint8_t until_framed[] = {0, 5, 2, 0x98, 2, 0x10, 0x11};
+    static const uint8_t one[] = {KUDZUCLAMP_TRUE}, one_framed[] = {0, 2, 1, 1};
+    uint8_t nots[KUDZUCLAMP_MAX_FORMULA + 1], bytes[KUDZUCLAMP_FRAMED(KUDZUCLAMP_MAX_FORMULA) + 1];
+    size_t i;
+    HOLDS(kudzuclamp_frame(bytes, sizeof bytes, until, sizeof until) == 7 && memcmp(bytes, until_framed, 7) == 0);
+    HOLDS(kudzuclamp_frame(bytes, 4, one, 1) == 4 && memcmp(bytes, one_framed, 4) == 0);
+    HOLDS(KUDZUCLAMP_FRAMED(sizeof until) == 7);
+
+    memset(nots, KUDZUCLAMP_NOT, sizeof nots);
+    memset(bytes, 0xAA, sizeof bytes);
+    HOLDS(kudzuclamp_frame(bytes, sizeof bytes, nots, 1023) == 1026);
+    HOLDS(bytes[0] == 4 && bytes[1] == 0 && bytes[2] == 1 && bytes[3] == 2 && bytes[1025] == 2 && bytes[1026] == 0xAA);
+
+    memset(bytes, 0xAA, sizeof bytes);
+    HOLDS(kudzuclamp_frame(bytes, sizeof bytes, nots, 0) == 0);
+    HOLDS(kudzuclamp_frame(bytes, sizeof bytes, nots, 1024) == 0);
+    HOLDS(kudzuclamp_frame(bytes, sizeof bytes, nots, SIZE_MAX) == 0);
+    HOLDS(kudzuclamp_frame(bytes, 3, one, 1) == 0);
+    HOLDS(kudzuclamp_frame(bytes, 1025, nots, 1023) == 0);
+    for (i = 0; i < sizeof bytes; i++) {
+        HOLDS(bytes[i] == 0xAA);
+    }
+}
+
+/* Words and checks agree with the library. */
+static void calls(void)
+{
+    static uint32_t words[KUDZUCLAMP_WORDS(50)];
+    const size_t words_len = sizeof words / sizeof *words;
+    static const uint8_t turn[] = {KUDZUCLAMP_TURNS(0)}, past[] = {KUDZUCLAMP_NOW(16)};
+    struct kudzuclamp_account account = {UINT32_MAX, UINT32_MAX, 0};
+    uint8_t bytes[KUDZUCLAMP_FRAMED(sizeof turn)];
+    size_t length = kudzuclamp_frame(bytes, sizeof bytes, turn, sizeof turn);
+    HOLDS(kudzuclamp_fresh(words, words_len, &account, 1, 1, 50) == KUDZUCLAMP_ANSWERED);
+    HOLDS(kudzuclamp_check(words, words_len, 1, bytes, length) == KUDZUCLAMP_ANSWERED);
+    HOLDS(kudzuclamp_check(words, words_len, 0, bytes, length) == KUDZUCLAMP_SYNTAX);
+    length = kudzuclamp_frame(bytes, sizeof bytes, past, sizeof past);
+    HOLDS(kudzuclamp_check(words, words_len, 0, bytes, length) == KUDZUCLAMP_SYNTAX);
+    HOLDS(kudzuclamp_check(words, words_len, 0, bytes, 0) == KUDZUCLAMP_SYNTAX);
+}
+
+static void texts(void)
+{
+    static const uint32_t numbers[] = {0, 1, 2, 3, 4, 5, 6, 7, 8, 9, 12, 14, 100, 101};
+    const size_t count = sizeof numbers / sizeof *numbers;
+    size_t i, j;
+    HOLDS(strcmp(kudzuclamp_text(KUDZUCLAMP_SPENT), "the rounds are used up") == 0);
+    for (i = 0; i < count; i++) {
+        HOLDS(strcmp(kudzuclamp_text(numbers[i]), kudzuclamp_text(99)) != 0);
+        for (j = 0; j < i; j++) {
+            HOLDS(strcmp(kudzuclamp_text(numbers[i]), kudzuclamp_text(numbers[j])) != 0);
+        }
+    }
+    HOLDS(strcmp(kudzuclamp_text(UINT32_MAX), kudzuclamp_text(99)) == 0);
+}
+
+static void version(void)
+{
+    char parts[40];
+    sprintf(parts, "%d.%d.%d", KUDZUCLAMP_VERSION_MAJOR, KUDZUCLAMP_VERSION_MINOR, KUDZUCLAMP_VERSION_PATCH);
+    HOLDS(strcmp(parts, KUDZUCLAMP_VERSION) == 0);
+}
+
+int main(void)
+{
+    tokens();
+    frames();
+    calls();
+    texts();
+    version();
+    return failed;
+}
