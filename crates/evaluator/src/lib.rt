@@ -148,7 +148,7 @@ fn onward(here: Context, next: usize, count: Count) -> Context
 
 // The arrow where a body's rounds start: V for nu, no state for mu and until.
 fn start_of(body: Body, valid: u32) -> u32
-    ensures { λ r. ⌜ r ≡ startArrow valid (isLeast (fixOf body)) ⌝ }
+    ensures { λ r. ⌜ r ≡ startArrow (isLeast (fixOf body)) valid ⌝ }
 {
     match body {
         Body::Binder(x, _) => match x {
@@ -258,8 +258,8 @@ fn current_bit(
     p: u32,
     count: Count,
 ) -> Taken
-    requires { ⌜ CurrentPre limits (view (limits .rows) (now words)) (now stack) held p × CountsOf (view (limits .rows) (now words)) (now counts) ⌝ }
-    ensures { λ r. ⌜ CurrentPost limits (view (limits .rows) (now (words .entry))) (view (limits .rows) (now (words .exit))) (now (stack .entry)) held p count r × CountsOf (view (limits .rows) (now (words .exit))) (now (counts .exit)) ⌝ }
+    requires { ⌜ BitPre limits (view (limits .rows) (now words)) (now stack) held p × CountsOf (view (limits .rows) (now words)) (now counts) ⌝ }
+    ensures { λ r. ⌜ BitPost limits (view (limits .rows) (now (words .entry))) (view (limits .rows) (now (words .exit))) (now (stack .entry)) held p count r × CountsOf (view (limits .rows) (now (words .exit))) (now (counts .exit)) ⌝ }
 {
     let Taken::At {
         arrow: b,

@@ -7,7 +7,7 @@ use steps::Step;
 use table::Found;
 ghost use Rattle.layout.specs.View.{view};
 ghost use Rattle.counting.specs.Counts.{CountsOf};
-ghost use Rattle.modal.specs.Modal.{QuantifyPre, QuantifyPost, ModalPre, DiamondPost, BoxPost};
+ghost use Rattle.modal.specs.Modal.{QuantifyPre, QuantifyPost, ModalPre, DiamondPost, ComplementPre, ComplementPost, BoxPre, BoxPost};
 
 // The sizes of a table and what an evaluation may use of it: state bits, rows, the row limit and the rounds.
 pub struct Limits {
@@ -137,7 +137,7 @@ pub fn complement(
     a: u32,
     count: Count,
 ) -> Taken
-    requires { ⌜ ModalPre (limits .bits) (limits .rows) (limits .limit) (view (limits .rows) (now words)) (now roots) valid a × CountsOf (view (limits .rows) (now words)) (now counts) ⌝ }
+    requires { ⌜ ComplementPre (limits .bits) (limits .rows) (limits .limit) (view (limits .rows) (now words)) (now roots) valid a × CountsOf (view (limits .rows) (now words)) (now counts) ⌝ }
     ensures { λ r. ⌜ ComplementPost (limits .bits) (limits .rows) (limits .limit) (view (limits .rows) (now (words .entry))) (view (limits .rows) (now (words .exit))) (now (roots .entry)) valid a count r × CountsOf (view (limits .rows) (now (words .exit))) (now (counts .exit)) ⌝ }
 {
     let levels = 2 * limits.bits;
