@@ -19,3 +19,5 @@ pub mod Chains
 pub mod Apart
 pub mod Pairs
 pub mod Contained
+pub mod Masks
+pub mod Cells
