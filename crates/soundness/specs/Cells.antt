@@ -84,7 +84,7 @@ or-cases : (x y : Bool) → x || y ≡ true → (x ≡ true) ⊎ (y ≡ true)
 or-cases true y e = inl refl
 or-cases false y e = inr e
 
-and-true : (x y : Bool) → x && y ≡ true → (x ≡ true) × (y ≡ true)
+pub and-true : (x y : Bool) → x && y ≡ true → (x ≡ true) × (y ≡ true)
 and-true true y e = (refl, e)
 and-true false y e = absurd (true≢false (sym e))
 

@@ -21,3 +21,4 @@ pub mod Pairs
 pub mod Contained
 pub mod Masks
 pub mod Cells
+pub mod Tables

@@ -30,6 +30,20 @@ highMask (suc (suc zero)) = 4042322160
 highMask (suc (suc (suc zero))) = 4278255360
 highMask (suc (suc (suc (suc q)))) = 4294967295
 
+pub low-past : (q : ℕ) → q ≢ 0 → q ≢ 1 → q ≢ 2 → q ≢ 3 → 4294967295 ≡ lowMask q
+low-past zero a b c d = absurd (a refl)
+low-past (suc zero) a b c d = absurd (b refl)
+low-past (suc (suc zero)) a b c d = absurd (c refl)
+low-past (suc (suc (suc zero))) a b c d = absurd (d refl)
+low-past (suc (suc (suc (suc q)))) a b c d = refl
+
+pub high-past : (q : ℕ) → q ≢ 0 → q ≢ 1 → q ≢ 2 → q ≢ 3 → 4294967295 ≡ highMask q
+high-past zero a b c d = absurd (a refl)
+high-past (suc zero) a b c d = absurd (b refl)
+high-past (suc (suc zero)) a b c d = absurd (c refl)
+high-past (suc (suc (suc zero))) a b c d = absurd (d refl)
+high-past (suc (suc (suc (suc q)))) a b c d = refl
+
 -- the halves exchanged
 abbrev pub swapped : ℕ → ℕ
 swapped w = w % 65536 * 65536 + w / 65536 % 65536
