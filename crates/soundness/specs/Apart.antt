@@ -30,7 +30,7 @@ pub record Half (m : ℕ) (rows : Rows) (s l a lo hi : ℕ) : Type 0 where
 pub lift-none : (v : Val) → lift 0 v ≡ v
 lift-none v = fun-ext λ l. ap v (let e : l + 0 ≡ l = omega arith in e)
 
-upd-kept : (v : Val) (l : ℕ) (b : Bool) → v l ≡ b → upd v l b ≡ v
+pub upd-kept : (v : Val) (l : ℕ) (b : Bool) → v l ≡ b → upd v l b ≡ v
 upd-kept v l b e = fun-ext λ k. by-cases (ℕ-discrete k l)
     (λ q. subst (λ (x : ℕ). upd v l b x ≡ v x) (sym q) (upd-same v l b ∙ sym e))
     (λ n. upd-other v l b k n)

@@ -19,3 +19,6 @@ pub mod Chains
 pub mod Apart
 pub mod Pairs
 pub mod Contained
+pub mod Masks
+pub mod Cells
+pub mod Tables

@@ -1,6 +1,8 @@
 // Whether words are a sound table.
 pub mod chains;
 
+mod tables;
+
 mod within;
 
 use chains::Part;
