@@ -160,12 +160,12 @@ module _ {L : Limits} {W X : View} {stack after bs : List ℕ} {c : Context} {r 
     pub lent-within : EvalPre L W stack bs c → c .held ≤ length after
     lent-within P = let w = P .ready .within in let s = P .ready .size in omega arith
 
-    module _ {v : ℕ} (read : v + 1 ≡ X .header VALID) where
+    module _ (v : ℕ) (read : v + 1 ≡ X .header VALID) where
       pub complement-asked : EvalPre L W stack bs c → ComplementPre (L .bits) (L .rows) (L .limit) X (take (c .held) after) v a
-      complement-asked P = negate-asks (P .ready) (E .answers (P .scene) (P .form) (P .end) (P .ready) (P .part)) z is read
+      complement-asked P = negate-asks (P .ready) (E .answers (P .scene) (P .form) (P .end) (P .ready) (P .part)) z is v read
 
       pub negate-answered : {Y : View} {o : Taken} {r′ : Evaluated} → ComplementPost (L .bits) (L .rows) (L .limit) X Y (take (c .held) after) v a q o → r′ ≡ fromTaken k o → NegatePost L W Y stack after bs c r′
-      negate-answered s is-r = record { answers = λ σ f e R p. negate-ends R (E .answers σ f e R p) z is read s is-r }
+      negate-answered s is-r = record { answers = λ σ f e R p. negate-ends R (E .answers σ f e R p) z is v read s is-r }
 
 -- ---- AND and OR
 
@@ -260,14 +260,14 @@ pub record Looping (L : Limits) (words₀ words counts₀ counts stack₀ stack 
 pub start-asked : {L : Limits} {W : View} {stack bs : List ℕ} {c : Context} {b : Body} → BindPre L W stack bs c b → (VALID < HEADER) × (HEADER ≤ W .size) × (0 < W .header VALID)
 start-asked P = valid-asks (P .ready .base .sound)
 
-pub loop-starts : {L : Limits} {words counts stack bs : List ℕ} {c : Context} {body : Body} {a : ℕ} → CountsOf (view (L .rows) words) counts → {v : ℕ} → v + 1 ≡ view (L .rows) words .header VALID → a ≡ startArrow (isLeast (fixOf body)) v
+pub loop-starts : {L : Limits} {words counts stack bs : List ℕ} {c : Context} {body : Body} {a : ℕ} → CountsOf (view (L .rows) words) counts → (v : ℕ) → v + 1 ≡ view (L .rows) words .header VALID → a ≡ startArrow (isLeast (fixOf body)) v
     → Looping L words words counts counts stack stack bs c body a (c .count)
-loop-starts {L} {words} {body = body} C r e = record {
+loop-starts {L} {words} {body = body} C v r e = record {
   words-size = refl;
   counts-size = refl;
   stack-size = refl;
   counts-of = C;
-  turns = record { bound = λ σ f _ R p. bind-starts R (fixOf body) (variableOf body) f (e ∙ ap (startArrow (isLeast (fixOf body))) (valid-read r)) };
+  turns = record { bound = λ σ f _ R p. bind-starts R (fixOf body) (variableOf body) f (e ∙ ap (startArrow (isLeast (fixOf body))) (valid-read (view (L .rows) words) v r)) };
 }
 
 module _ {L : Limits} {words₀ words counts₀ counts stack after bs : List ℕ} {c : Context} {body : Body} {a : ℕ} {counted : Count} (P : BindPre L (view (L .rows) words₀) stack bs c body)

@@ -52,7 +52,7 @@ module _ {L : Limits} {W : View} {stack places : List ℕ} {held : ℕ} {σ : Sc
   leaf-none = still bot 0 _ refl (denotes-none (L .bits) (L .rows) (rowsOf W))
 
   pub leaf-all : {x : ℕ} {q : Count} → x + 1 ≡ W .header VALID → LeafAnswers L W W q σ top (taken.At x q)
-  leaf-all {x} e = still top x (existIn (L .bits) σ) refl (subst (λ (y : ℕ). Denotes (2 * L .bits) (rowsOf W) y (fnOf (L .bits) (existIn (L .bits) σ))) (sym (valid-read e)) (R .valid))
+  leaf-all {x} e = still top x (existIn (L .bits) σ) refl (subst (λ (y : ℕ). Denotes (2 * L .bits) (rowsOf W) y (fnOf (L .bits) (existIn (L .bits) σ))) (sym (valid-read W x e)) (R .valid))
 
   pub leaf-next : {q : Count} (p : ℕ) → LeafAnswers L W W q σ (next p) (taken.At 0 q)
   leaf-next p = still (next p) 0 _ refl (denotes-none (L .bits) (L .rows) (rowsOf W))
@@ -118,9 +118,9 @@ module _ {L : Limits} {W : View} {stack : List ℕ} {held p : ℕ} (l : p < L .b
       bit-arrow : {places : List ℕ} {σ : Scene} → Ready L W stack places held σ → Arrow (rowsOf X) b
       bit-arrow R = took-at e (first-took R) .post .result .0 .arrow
 
-      module _ {x : ℕ} (r : x + 1 ≡ X .header VALID) where
+      module _ (x : ℕ) (r : x + 1 ≡ X .header VALID) where
         read-arrow : {places : List ℕ} {σ : Scene} → Ready L W stack places held σ → Arrow (rowsOf X) x
-        read-arrow R = subst (Arrow (rowsOf X)) (sym (valid-read r)) (next-ready R .valid .arrow)
+        read-arrow R = subst (Arrow (rowsOf X)) (sym (valid-read X x r)) (next-ready R .valid .arrow)
 
         pub in-asked : {places : List ℕ} {σ : Scene} → Ready L W stack places held σ → LivePre L X stack held (step.And b x)
         in-asked R = live-pre (next-ready R) (bit-arrow R, read-arrow R)
@@ -131,10 +131,10 @@ module _ {L : Limits} {W : View} {stack : List ℕ} {held p : ℕ} (l : p < L .b
               let t1 = took-at e (first-took R) in
               let R1 = next-ready R in
               let t2 = took {q = q1} {o = u} (R1 .base) (in-asked R .asks) (w .stepped) (w .count) in
-              let t3 = took-within R1 (bit-arrow R) (read-arrow R) (valid-read r) t2 in
+              let t3 = took-within R1 (bit-arrow R) (read-arrow R) (valid-read X x r) t2 in
               record {
                 moved = moved-trans (t1 .moved) (t3 .moved);
-                evals = took-evals (valid-at t1 t3) (λ answer post k y.
+                evals = took-evals (valid-at σ t1 t3) (λ answer post k y.
                     subst (λ (c : Count). Evals (L .bits) (L .rows) (rowsOf W) (rowsOf Y) (σ .roots) (bitStep (L .bits) (L .limit) (σ .fns) (existIn (L .bits) σ) p q) (endedBy answer (needing c k))) (sym (t1 .count))
                     (evals-bit (L .bits) (L .rows) (R .lives) (existIn (L .bits) σ) (validOf W) (valid-mem R) (valid-live R) (R .valid) p q l (t1 .post)
                     (stepNeed (2 * L .bits) (map (den (2 * L .bits) (rowsOf W)) (σ .roots)) (bitF (2 * p))) refl answer post k y));
@@ -142,10 +142,10 @@ module _ {L : Limits} {W : View} {stack : List ℕ} {held p : ℕ} (l : p < L .b
         }
           where
             -- V's word is the same before and after the bit
-            valid-at : {σ : Scene} → Took (L .bits) (L .rows) (L .limit) W X (σ .roots) q (taken.At b q1) (bitF (2 * p))
+            valid-at : (σ : Scene) → Took (L .bits) (L .rows) (L .limit) W X (σ .roots) q (taken.At b q1) (bitF (2 * p))
                 → Took (L .bits) (L .rows) (L .limit) X Y (b ∷ σ .roots) q1 u (andF (den (2 * L .bits) (rowsOf X) b) (den (2 * L .bits) (rowsOf X) (validOf X)))
                 → Took (L .bits) (L .rows) (L .limit) X Y (b ∷ σ .roots) q1 u (andF (den (2 * L .bits) (rowsOf X) b) (den (2 * L .bits) (rowsOf X) (validOf W)))
-            valid-at {σ} t1 t3 =
+            valid-at σ t1 t3 =
                 let same : X .header VALID ≡ W .header VALID = t1 .moved .frame .header VALID (omega arith) (omega arith) (omega arith) (omega arith) in
                 let same-arrow : validOf X ≡ validOf W = omega arith in
                 subst (λ (y : ℕ). Took (L .bits) (L .rows) (L .limit) X Y (b ∷ σ .roots) q1 u (andF (den (2 * L .bits) (rowsOf X) b) (den (2 * L .bits) (rowsOf X) y))) same-arrow t3

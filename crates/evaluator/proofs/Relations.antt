@@ -1,7 +1,7 @@
 -- Box and diamond of a value, over a relation. Assumes nothing.
-use mathlib.Core.Path.{_≡_, sym, ap, _∙_, subst, fun-ext}
+use mathlib.Core.Path.{_≡_, refl, sym, ap, _∙_, subst, fun-ext}
 use mathlib.Core.Bool.{Bool, true}
-use mathlib.Core.List.{List}
+use mathlib.Core.List.{List, [], _∷_, List·Memᴰ as Mem, List·Memᴰ·head as here}
 use mathlib.Core.Option.{Option, some}
 use Prim.Native.Nat.{ℕ, suc, _+_, _*_, _^_, _<_}
 use native.Mathlib.Numerals.{add-one}
@@ -16,13 +16,17 @@ use Rattle.tokens.specs.declared.Mode.{Mode}
 use Rattle.tokens.specs.declared.Mode.the-variants.{All, Some}
 use Rattle.formula.specs.Parse.{modalForm}
 use Rattle.accounts.specs.declared.Count.{Count}
-use Rattle.layout.specs.Places.{FIRST-RELATION}
+use Rattle.layout.specs.Places.{VALID, FIRST-RELATION}
 use Rattle.layout.specs.View.{View}
 use Rattle.diagram.specs.Level.{Fn}
 use Rattle.diagram.specs.Rows.{den}
 use Rattle.diagram.specs.Post.{Denotes}
 use Rattle.diagram.specs.Keep.{keeps-within}
+use Rattle.diagram.specs.Reach.{reached-root}
+use Rattle.diagram.specs.Even.{even, reads-levels}
 use Rattle.soundness.specs.Used.{rowsOf}
+use Rattle.soundness.specs.Within.{validOf}
+use Rattle.collect.specs.Lent.{live}
 use Rattle.table.specs.Make.{result}
 use Rattle.counting.specs.Taken.{madeIn, countIn}
 use Rattle.counting.specs.declared.Taken.{Taken}
@@ -39,14 +43,25 @@ use Rattle.book.specs.Pairs.{PairEvals}
 use Rattle.contract.specs.Seen.{arrowIn}
 use Rattle.modal.specs.declared.Limits.{Limits}
 use Rattle.modal.specs.Chain.{alike-sym, held-alike, Moved, moved-trans}
-use Rattle.modal.specs.Modal.{boxedNeeds, boxedF, Chained, ModalPre}
-use Rattle.evaluator.specs.Scene.{Scene, modelIn, existIn, holdsRel, Ready, Answers, endedIn, fromTaken, OverPost}
+use Rattle.modal.specs.Modal.{boxedNeeds, boxedF, Chained, ModalPre, BoxPre}
+use Rattle.evaluator.specs.Scene.{Scene, modelIn, existIn, Boxes, holdsRel, Ready, Answers, endedIn, fromTaken, OverPost}
 use Rattle.evaluator.specs.declared.Evaluated.{Evaluated}
 use Rattle.evaluator.specs.declared.Evaluated.the-variants.{Value}
 use Rattle.evaluator.proofs.Parts.{and-first, and-second}
-use Rattle.evaluator.proofs.State.{lent-arrows, word-root, filled-place}
+use Rattle.evaluator.proofs.State.{valid-root, valid-read, lent-arrows, word-root, filled-place}
 use Rattle.evaluator.proofs.Outcomes.{overSteps, run-modal, diamond-evals, box-evals}
 use Rattle.evaluator.proofs.Steps.{runIn, answers-taken, value-evals, value-end, value-set, value-is, value-ready}
+
+-- box asks of V what a sound table has, and is within the V that was read
+pub box-asks : {n N limit : ℕ} {W : View} {lent : List ℕ} {t a : ℕ} (v : ℕ) → v + 1 ≡ W .header VALID → ModalPre n N limit W lent t a → BoxPre n N limit W lent v t a
+box-asks {n} {W = W} {lent} v read p = record {
+  valid = subst (λ (x : ℕ). Mem x (live W lent)) (sym (valid-read W v read)) (valid-root lent (p .base .sound));
+  states = reads-levels (rowsOf W) even (v ∷ []) (p .base .sound .even VALID (omega arith) (omega arith) v (sym read ∙ add-one v)) (2 * n) v (reached-root (rowsOf W) (v ∷ []) v (here refl));
+  modal = p;
+}
+
+pub box-read : {n N limit : ℕ} {W X : View} {lent : List ℕ} {t a : ℕ} {q : Count} {o : Taken} (v : ℕ) → v + 1 ≡ W .header VALID → Boxes n N limit W X lent v t a q o → Boxes n N limit W X lent (validOf W) t a q o
+box-read {n} {N} {limit} {W} {X} {lent} {t} {a} {q} {o} v read b = subst (λ (x : ℕ). Boxes n N limit W X lent x t a q o) (valid-read W v read) b
 
 module _ {L : Limits} {W X : View} {stack after places : List ℕ} {held : ℕ} {count : Count} {σ : Scene} {f : Form} {e : ℕ} {r : Evaluated} (R : Ready L W stack places held σ)
     (A : Answers L W X stack after held count σ f e r) (z : length after ≡ length stack) {a k : ℕ} {q : Count} (is : r ≡ Value a k q) (t : ℕ) (h : holdsRel σ t ≡ true) where
@@ -110,7 +125,7 @@ module _ {L : Limits} {W X : View} {stack after places : List ℕ} {held : ℕ} 
           → Evals (L .bits) (L .rows) (rowsOf X) (rowsOf Y) (σ .roots) (overSteps m (L .bits) (L .limit) (σ .fns) (existIn (L .bits) σ) Q C q) (endedIn o)
       over-evals All p C d =
           let E = fnOf (L .bits) (existIn (L .bits) σ) in
-          let w = p (σ .fns) (held-alike (alike-sym (R₁ .roots)) (R₁ .lives)) in
+          let w = p .box (σ .fns) (held-alike (alike-sym (R₁ .roots)) (R₁ .lives)) in
           let w1 = subst (λ (G : Fn). Chained (L .bits) (L .rows) (L .limit) X Y (take held after) (boxedNeeds (L .bits) (σ .fns) G (den (2 * L .bits) (rowsOf X) x) (den (2 * L .bits) (rowsOf X) a))
           (boxedF (L .bits) G (den (2 * L .bits) (rowsOf X) x) (den (2 * L .bits) (rowsOf X) a)) q o) (denoted (R₁ .valid)) w in
           box-evals (L .limit) (σ .fns) Q C o q (existIn (L .bits) σ) pairs-in (as-sets (λ S F. boxedNeeds (L .bits) (σ .fns) E S F) (boxedF (L .bits) E) C d w1)
@@ -119,7 +134,7 @@ module _ {L : Limits} {W X : View} {stack after places : List ℕ} {held : ℕ} 
           (as-sets (λ Q F. diamondNeeds (L .bits) (σ .fns) Q F) (diamondF (L .bits)) C d (p (σ .fns) (held-alike (alike-sym (R₁ .roots)) (R₁ .lives))))
 
       over-moved : (m : Mode) → OverPost m (L .bits) (L .rows) (L .limit) X Y (take held after) x a q o → Moved (L .bits) X Y
-      over-moved All p = p (σ .fns) (held-alike (alike-sym (R₁ .roots)) (R₁ .lives)) .moved
+      over-moved All p = p .box (σ .fns) (held-alike (alike-sym (R₁ .roots)) (R₁ .lives)) .moved
       over-moved Some p = p (σ .fns) (held-alike (alike-sym (R₁ .roots)) (R₁ .lives)) .moved
 
       pub over-ends : (m : Mode) {r′ : Evaluated} → OverPost m (L .bits) (L .rows) (L .limit) X Y (take held after) x a q o → r′ ≡ fromTaken k o

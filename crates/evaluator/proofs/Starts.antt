@@ -99,8 +99,8 @@ module _ (L : Limits) {W X : View} (s : Sound W) (bits : L .bits ≡ W .header B
       subst (λ (xs : List ℕ). Alike xs (rootsOf (seenIn W))) e (record { to = filled-root W; from = root-filled W (s .valid) })
 
   -- V, and that all is within it
-  whole : Whole (bookIn W)
-  whole = whole-bookOf (seenIn W) (sound-table W s)
+  whole-book : Whole (bookIn W)
+  whole-book = whole-bookOf (seenIn W) (sound-table W s)
 
   start-valid : Denotes (2 * L .bits) (rowsOf X) (validOf X) (fnOf (L .bits) (existIn (L .bits) (sceneIn W)))
   start-valid =
@@ -117,12 +117,12 @@ module _ (L : Limits) {W X : View} (s : Sound W) (bits : L .bits ≡ W .header B
 
   start-reg : (r : ℕ) (A : List Bool) → bookIn W .reg r ≡ some A → Below A (existIn (L .bits) (sceneIn W))
   start-reg r A e u p =
-      let w = whole .reg r A e in
+      let w = whole-book .reg r A e in
       subst (λ (n : ℕ). T (mem (existIn n (sceneIn W)) u)) (sym bits) (exists-in (W .header BITS) (bookIn W .valid) u (subst (λ (k : ℕ). u < k) (w .0) (mem-lt A u p)) (w .2 u p))
 
   start-rel : (t : ℕ) (Q : Pairs) → bookIn W .rel t ≡ some Q → Inside (2 ^ L .bits) (existIn (L .bits) (sceneIn W)) Q
   start-rel t Q e = subst (λ (n : ℕ). Inside (2 ^ n) (existIn n (sceneIn W)) Q) (sym bits) (λ u v i j p.
-      let w = whole .rel t Q e .2 u v i j p in
+      let w = whole-book .rel t Q e .2 u v i j p in
       (exists-in (W .header BITS) (bookIn W .valid) u i (w .0), exists-in (W .header BITS) (bookIn W .valid) v j (w .1)))
 
   pub start-scene : Ready L X (replicate stackSize 0) (replicate 16 0) 0 (sceneIn W)

@@ -68,8 +68,8 @@ pub valid-asks : {W : View} → Sound W → (VALID < HEADER) × (HEADER ≤ W .s
 valid-asks {W} s = (omega arith, let l = s .good .sizes .room in omega arith, let e = valid-word W (s .valid) in omega arith)
 
 -- the arrow that was read
-pub valid-read : {W : View} {x : ℕ} → x + 1 ≡ W .header VALID → x ≡ validOf W
-valid-read e = omega arith
+pub valid-read : (W : View) (x : ℕ) → x + 1 ≡ W .header VALID → x ≡ validOf W
+valid-read W x e = omega arith
 
 module _ {L : Limits} {W : View} {stack places : List ℕ} {held : ℕ} {σ : Scene} (R : Ready L W stack places held σ) where
   -- ---- roots

@@ -197,12 +197,12 @@ module _ {L : Limits} {W X : View} {stack after places : List ℕ} {held : ℕ} 
 
   -- ---- NOT
 
-  module _ {v : ℕ} (read : v + 1 ≡ X .header VALID) where
+  module _ (v : ℕ) (read : v + 1 ≡ X .header VALID) where
     pub negate-asks : ComplementPre (L .bits) (L .rows) (L .limit) X (take held after) v a
     negate-asks = record {
       base = value-ready .base;
       arrows = lent-arrows value-ready;
-      valid = subst (λ (x : ℕ). Mem x (live X (take held after))) (sym (valid-read read)) (valid-root (take held after) (value-ready .base .sound));
+      valid = subst (λ (x : ℕ). Mem x (live X (take held after))) (sym (valid-read X v read)) (valid-root (take held after) (value-ready .base .sound));
       operand = value-is .arrow;
     }
 
@@ -221,7 +221,7 @@ module _ {L : Limits} {W X : View} {stack after places : List ℕ} {held : ℕ} 
           let w = ran .evals in
           let w1 : Chain (complementNeeds (L .bits) (σ .fns) (den (2 * L .bits) (rowsOf X) v) (den (2 * L .bits) (rowsOf X) a)) (withinNot (den (2 * L .bits) (rowsOf X) v) (den (2 * L .bits) (rowsOf X) a)) =
           record { wf = w .wf; kept = keeps-within (value-ready .roots .from) (w .kept); result = w .result } in
-          let e-is = ap (den (2 * L .bits) (rowsOf X)) (valid-read read) ∙ denoted (value-ready .valid) in
+          let e-is = ap (den (2 * L .bits) (rowsOf X)) (valid-read X v read) ∙ denoted (value-ready .valid) in
           let w2 = subst (λ (G : Fn). Chain (complementNeeds (L .bits) (σ .fns) G (den (2 * L .bits) (rowsOf X) a)) (withinNot G (den (2 * L .bits) (rowsOf X) a))) e-is w1 in
           subst (λ (G : Fn). Chain (complementNeeds (L .bits) (σ .fns) (fnOf (L .bits) (existIn (L .bits) σ)) G) (withinNot (fnOf (L .bits) (existIn (L .bits) σ)) G)) (denoted d) w2
 

@@ -71,7 +71,7 @@ module _ (c : Context) {L : Limits} {W : View} {stack : List ℕ} {σ : Scene} (
   all-value {v} e r = record {
     moved = moved-refl (R .base);
     kept = refl;
-    evals = evals-leaf (L .bits) (L .rows) (c .count) (base-wf (R .base)) (R .lives) (subst (λ (y : ℕ). Denotes (2 * L .bits) (rowsOf W) y (fnOf (L .bits) (existIn (L .bits) σ))) (sym (valid-read r)) (R .valid));
+    evals = evals-leaf (L .bits) (L .rows) (c .count) (base-wf (R .base)) (R .lives) (subst (λ (y : ℕ). Denotes (2 * L .bits) (rowsOf W) y (fnOf (L .bits) (existIn (L .bits) σ))) (sym (valid-read W v r)) (R .valid));
     end = refl;
   }
 

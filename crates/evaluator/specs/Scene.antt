@@ -179,9 +179,13 @@ abbrev pub isLeast : Fix → Bool
 isLeast Mu = true
 isLeast Nu = false
 
--- box, within V, or diamond over functions of levels
+-- box within V, whose arrow is v
+pub record Boxes (n N limit : ℕ) (W X : View) (lent : List ℕ) (v t a : ℕ) (q : Count) (o : Taken) : Type 0 where
+  pub box : BoxPost n N limit W X lent v t a q o
+
+-- that, or diamond, over functions of levels
 abbrev pub OverPost : Mode → ℕ → ℕ → ℕ → View → View → List ℕ → ℕ → ℕ → Count → Taken → Type 0
-OverPost All n N limit W X lent t a q o = BoxPost n N limit W X lent (validOf W) t a q o
+OverPost All n N limit W X lent t a q o = Boxes n N limit W X lent (validOf W) t a q o
 OverPost Some n N limit W X lent t a q o = DiamondPost n N limit W X lent t a q o
 
 -- ---- what the functions ask, and what they promise in every scene that the words and the stack hold

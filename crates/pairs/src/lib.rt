@@ -23,7 +23,7 @@ use tokens::lead_at;
 ghost use mathlib.Core.Path.{_≡_};
 ghost use Rattle.layout.specs.View.{view};
 ghost use Rattle.counting.specs.Counts.{CountsOf};
-ghost use Rattle.pairs.specs.Pairing.{fromTaken, LeafPre, LeafPost, RelatePre, RelatePost, NegatePost, BothPre, BothPost, PairsPre, PairsPost};
+ghost use Rattle.pairs.specs.Pairing.{fromTaken, LeafPre, LeafPost, RelatePre, RelatePost, NegatePost, BothPre, BothPost, WithinPre, WithinPost, PairsPre, PairsPost, RelationPost};
 
 // What an evaluation answers: the arrow of the relation, the place after the formula and what is counted; or that rows ran out.
 pub enum Related {
@@ -209,7 +209,7 @@ fn within(
     count: Count,
 ) -> Taken
     requires { ⌜ WithinPre limits (view (limits .rows) (now words)) (now stack) a × CountsOf (view (limits .rows) (now words)) (now counts) ⌝ }
-    ensures { λ r. ⌜ WithinPost limits (view (limits .rows) (now (words .entry))) (view (limits .rows) (now (words .exit))) a count r × CountsOf (view (limits .rows) (now (words .exit))) (now (counts .exit)) ⌝ }
+    ensures { λ r. ⌜ WithinPost limits (view (limits .rows) (now (words .entry))) (view (limits .rows) (now (words .exit))) (now (stack .entry)) a count r × CountsOf (view (limits .rows) (now (words .exit))) (now (counts .exit)) ⌝ }
 {
     let valid = root_arrow(words, Table::VALID);
     let Taken::At {
