@@ -15,10 +15,15 @@ use layout::Table;
 use layout::header_word;
 use soundness::sound;
 use tokens::Kind;
+ghost use Prim.Native.Nat.{_≤_};
+ghost use lib.ListN.{length};
+ghost use Rattle.layout.specs.Places.{HEADER};
+ghost use Rattle.soundness.specs.Says.{Says};
 ghost use Rattle.book.specs.Book as book;
 ghost use Rattle.contract.specs.Seen.{SoundWords};
 ghost use Rattle.contract.specs.Posts.{CallPost};
-ghost use Rattle.formula_steps.specs.Replies.{storedReply, loadedReply};
+ghost use Rattle.formula_steps.specs.Replies.{storedReply, loadedReply, confinedReply};
+ghost use Rattle.formula_calls.specs.Vacant.{Vacant};
 
 // Relation t of a sound table holds the pairs of a formula; 3 where there is no such relation, 4 to 7 and 12 by the formula, 8 where a step needs more rows than there are.
 pub fn relation_unchecked(words: &mut [u32], t: u32, bytes: &[u8]) -> Loaded
@@ -77,7 +82,7 @@ pub fn set(words: &mut [u32], terms: Terms, r: u32, most: u32, bytes: &[u8]) -> 
 // Whether every register and every relation is empty.
 fn unfilled(words: &[u32]) -> bool
     requires { ⌜ HEADER ≤ length (now words) ⌝ }
-    ensures { λ r. ⌜ r ≡ unfilledWords (now (words .entry)) ⌝ }
+    ensures { λ r. ⌜ Says (Vacant (now (words .entry))) r ⌝ }
 {
     let mut k = Table::FIRST_REGISTER;
     while k < Table::ROOTS_END {
@@ -89,13 +94,12 @@ fn unfilled(words: &[u32]) -> bool
     true
 }
 
-// V, the states that exist, are those of a formula; 2 on unsound words, 13 while a register or relation is filled, 4 by the formula, 8 where a step needs more rows than there are.
-pub fn valid(words: &mut [u32], bytes: &[u8]) -> Confined
+// V, the states that exist, are those of a formula, in a sound table; 13 while a register or relation is filled, 4 by the formula, 8 where a step
+// needs more rows than there are.
+pub fn valid_unchecked(words: &mut [u32], bytes: &[u8]) -> Confined
+    requires { ⌜ SoundWords (now words) ⌝ }
     ensures { λ x. ⌜ CallPost (book.valid (now (bytes .entry))) (now (words .entry)) (now (words .exit)) (confinedReply x) ⌝ }
 {
-    if !sound(words) {
-        return Confined::Refused(Refusal::Unsound);
-    }
     if !unfilled(words) {
         return Confined::Refused(Refusal::Occupied);
     }
@@ -104,4 +108,14 @@ pub fn valid(words: &mut [u32], bytes: &[u8]) -> Confined
         Checked::Refused(x) => Confined::Refused(x),
         Checked::Fit => valid_steps(words, bytes),
     }
+}
+
+// V, the states that exist, are those of a formula; 2 on unsound words, and else as `valid_unchecked`.
+pub fn valid(words: &mut [u32], bytes: &[u8]) -> Confined
+    ensures { λ x. ⌜ CallPost (book.valid (now (bytes .entry))) (now (words .entry)) (now (words .exit)) (confinedReply x) ⌝ }
+{
+    if !sound(words) {
+        return Confined::Refused(Refusal::Unsound);
+    }
+    valid_unchecked(words, bytes)
 }
