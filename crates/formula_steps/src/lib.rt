@@ -22,9 +22,9 @@ ghost use Rattle.soundness.specs.Sound.{Sound};
 ghost use Rattle.book.specs.Book as book;
 ghost use Rattle.formula_steps.specs.Evaluated.{Tidied};
 ghost use Rattle.contract.specs.Posts.{CallPost};
-ghost use Rattle.formula_steps.specs.Load.{RelationReady};
-ghost use Rattle.formula_steps.specs.Replies.{storedReply, loadedReply};
-ghost use Rattle.formula_steps.specs.Store.{SetReady, Holds, storedOf, setStored, Carries, loadedOf, relationLoaded};
+ghost use Rattle.formula_steps.specs.Load.{RelationReady, ValidReady};
+ghost use Rattle.formula_steps.specs.Replies.{storedReply, loadedReply, confinedReply};
+ghost use Rattle.formula_steps.specs.Store.{SetReady, Holds, storedOf, setStored, Carries, loadedOf, relationLoaded, confinedOf, validConfined};
 
 // What set answers: the node number, the rounds and the peak.
 pub enum Stored {
@@ -137,7 +137,7 @@ pub fn relation_steps(words: &mut [u32], t: u32, bytes: &[u8]) -> Loaded
 // Stores what an evaluation gave as V.
 fn store_valid(words: &mut [u32], rows: u32, done: Taken) -> Confined
     requires { ⌜ (wordsFor rows ≤ length (now words)) × Carries done ⌝ }
-    ensures { λ x. ⌜ (x ≡ confinedOf done) × (view rows (now (words .exit)) ≡ validStored (view rows (now (words .entry))) done) ⌝ }
+    ensures { λ x. ⌜ (x ≡ confinedOf done) × (view rows (now (words .exit)) ≡ validConfined (view rows (now (words .entry))) done) ⌝ }
 {
     match done {
         Taken::Full => Confined::Refused(Refusal::Full),
