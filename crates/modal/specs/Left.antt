@@ -10,6 +10,7 @@ use lib.Dec.{T, leb, leb→le}
 use borrow.Author.Tests.{le-leb}
 use Rattle.accounts.specs.declared.Count.{Count}
 use Rattle.accounts.specs.Count.{needing}
+use Rattle.layout.specs.Places.{BITS}
 use Rattle.layout.specs.View.{View}
 use Rattle.diagram.specs.Level.{Fn}
 use Rattle.diagram.specs.Rows.{Rows, Arrow, den, WellFormed}
@@ -136,7 +137,7 @@ module _ {n N limit : ℕ} {W : View} {lent : List ℕ} {a : ℕ} (p : QuantifyP
     module _ {Y : View} (g : Grown (2 * n) X Y) where
       grown-moved : Moved n X Y
       grown-moved = record {
-        sound = sound-extends (quantify-base p i .sound) (g .good) (λ h x l. g .frame .header h (omega arith) (omega arith) (omega arith) (omega arith)) (g .kept);
+        sound = sound-extends (quantify-base p i .sound) (g .good) (g .frame .header BITS (omega arith) (omega arith) (omega arith) (omega arith)) (λ h x l. g .frame .header h (omega arith) (omega arith) (omega arith) (omega arith)) (g .kept);
         memory = g .memory;
         frame = g .frame;
       }
