@@ -7,7 +7,7 @@ use mathlib.Core.List.{List}
 use mathlib.Core.Option.{Option, none, some}
 use Prim.Native.Nat.{ℕ, zero, suc, _+_, _-_, _≤_, _<_}
 use native.Mathlib.Omega.{arith}
-use native.Mathlib.Decide.{decLt}
+use native.Mathlib.Decide.{ℕ-discrete, decLt}
 use lib.Dec.{T}
 use Rattle.mucalculus.specs.Sets.{and-in, and-out, false-of}
 use Rattle.mucalculus.specs.Form.{filled}
@@ -27,9 +27,19 @@ use Rattle.contract.specs.Posts.{CallPost}
 use Rattle.contract.specs.Checked.{call-refused}
 use Rattle.formula_calls.specs.Refused.{refused-by}
 
--- every register and every relation is empty
+-- every register and relation with a word before `end` is empty
+abbrev pub VacantTo : List ℕ → ℕ → Type 0
+VacantTo ws end = (k : ℕ) → FIRST-REGISTER ≤ k → k < end → headerOf ws k ≡ 0
+
+-- every one is
 abbrev pub Vacant : List ℕ → Type 0
-Vacant ws = (k : ℕ) → FIRST-REGISTER ≤ k → k < ROOTS-END → headerOf ws k ≡ 0
+Vacant ws = VacantTo ws ROOTS-END
+
+pub vacant-start : (ws : List ℕ) → VacantTo ws FIRST-REGISTER
+vacant-start ws k lo hi = absurd (omega arith)
+
+pub vacant-more : (ws : List ℕ) {k x : ℕ} → VacantTo ws k → x ≡ headerOf ws k → x ≡ 0 → VacantTo ws (k + 1)
+vacant-more ws {k} v e z j lo hi = by-cases (ℕ-discrete j k) (λ q. ap (headerOf ws) q ∙ sym e ∙ z) (λ n. v j lo (omega arith))
 
 -- ---- places and words
 
