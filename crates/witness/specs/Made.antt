@@ -4,14 +4,15 @@ use mathlib.Core.Bool.{Bool, true, false, _&&_}
 use mathlib.Core.List.{List, [], _∷_}
 use Prim.Native.Nat.{ℕ, _+_, _*_, _<_, _≤_}
 use native.Mathlib.Omega.{arith}
+use lib.Dec.{T}
 use lib.ListN.{set as write}
 use Rattle.accounts.specs.Terms.{alone, rowsUnder, roundsUnder}
 use Rattle.accounts.specs.declared.Count.{Count}
 use Rattle.accounts.specs.Count.{nothing, another}
-use Rattle.mucalculus.specs.Form.{Form, bot, var, bind, noEnv}
+use Rattle.mucalculus.specs.Form.{Form, bot, top, var, bind, noEnv}
 use Rattle.mucalculus.specs.Means.{exist}
-use Rattle.tokens.specs.declared.Kind.the-variants.{Relation, Set}
-use Rattle.layout.specs.Places.{REGISTERS, RELATIONS, ROWS, USED, FIRST-REGISTER, FIRST-RELATION}
+use Rattle.tokens.specs.declared.Kind.the-variants.{Relation, Set, Valid}
+use Rattle.layout.specs.Places.{REGISTERS, RELATIONS, ROWS, USED, VALID, ALL-STATES, FIRST-REGISTER, FIRST-RELATION}
 use Rattle.layout.specs.View.{headerOf, view-header}
 use Rattle.diagram.specs.Rows.{Rows}
 use Rattle.diagram.specs.Den.{den-zero}
@@ -26,7 +27,7 @@ use Rattle.table.specs.Add.{frame-refl}
 use Rattle.collect.specs.Freed.{Freed, freed-count}
 use Rattle.formula.specs.Parse.{formOf, formulaOf}
 use Rattle.formula.specs.Checks.{firstRefusal}
-use Rattle.book.specs.Book.{Book, relation, set, clear, collect, modelOf, liveOf, regFilled, relFilled, formulaIn}
+use Rattle.book.specs.Book.{Book, relation, set, valid, clear, collect, unfilled, modelOf, liveOf, regFilled, relFilled, formulaIn}
 use Rattle.book.specs.Compute.{computing}
 use Rattle.book.specs.Listed.{frame}
 use Rattle.book.specs.Table.{rootsOf}
@@ -35,9 +36,9 @@ use Rattle.book.specs.Held.{Held}
 use Rattle.book.specs.Roots.{shows-held}
 use Rattle.book.specs.Effects.{set-refused}
 use Rattle.book.specs.Bridge.{fnOf}
-use Rattle.book.specs.Run.{run, relationFits, relationCount}
+use Rattle.book.specs.Run.{run, pairF, pairsFit, pairsCount, relationFits, relationCount}
 use Rattle.book.specs.Follow.{Ended, ends, nine, Evals, denotes-clip}
-use Rattle.book.specs.Pairs.{PairMatches, PairEvals, pair-none}
+use Rattle.book.specs.Pairs.{PairMatches, PairEvals, pair-none, pair-all}
 use Rattle.book.specs.Turns.{startArrow}
 use Rattle.book.specs.BookOf.{bookOf}
 use Rattle.book.specs.Formulas.{setReply, relationF, relationReply}
@@ -48,7 +49,7 @@ use Rattle.operations.specs.Work.{op-refl}
 use Rattle.calls.specs.Fresh.{fresh-ready}
 use Rattle.calls.specs.Changes.{clear-done, collect-done}
 use Rattle.formula_steps.specs.Evaluated.{as-it-was}
-use Rattle.formula_steps.specs.Ends.{set-value, set-spent, relation-value, through-done}
+use Rattle.formula_steps.specs.Ends.{set-value, set-spent, relation-value, valid-value, through-done}
 use Rattle.witness.specs.Words.{zeros, freshOf, storedIn, length-zeros, view-fresh, view-stored}
 use Rattle.witness.specs.Rounds.{self-ends, self-spent}
 
@@ -89,6 +90,18 @@ noPairs-passes : (n : ℕ) (regs rels : ℕ → Bool) → firstRefusal Relation 
 unfolding computing
 noPairs-passes n regs rels = refl
 
+-- 01: true
+abbrev pub every : List ℕ
+every = frame (0x01 ∷ [])
+
+every-form : (n : ℕ) → top ≡ formOf (formulaOf Valid n every)
+unfolding computing
+every-form n = refl
+
+every-passes : (n : ℕ) (regs rels : ℕ → Bool) → firstRefusal Valid n regs rels every ≡ 0
+unfolding computing
+every-passes n regs rels = refl
+
 -- ---- fresh
 
 pub fresh-done : (n N k : ℕ) → Sizes n N k → FreshPost n N 1 (zeros k) (freshOf n N k) (plain 0)
@@ -102,6 +115,18 @@ module _ (old : List ℕ) (s : SoundWords old) where
 
   pub held : Held (2 * b .n) (rowsOf (tableOf old)) (rootsOf (seen old)) (liveOf b)
   held = shows-held b (seen old) (sound-shows-book old s)
+
+  -- valid of every state
+  abbrev Fixes : Form → Type 0
+  Fixes f = PairEvals (b .n) (b .N) (rowsOf (tableOf old)) (rowsOf (tableOf old)) (rootsOf (seen old)) (pairsFit (b .n) (b .N) (liveOf b) f) (pairF (b .n) f) (pairsCount (b .n) (liveOf b) f nothing) (at 1) nothing
+
+  pub every-done : T (unfilled b) → CallPost (valid every) old (write old VALID ALL-STATES) (plain 0)
+  every-done u =
+      through-done s tt (λ a. a)
+      (valid-value old s (tableOf old) (s .good) (op-refl (tableOf old)) every u (every-passes (b .n) (regFilled b) (relFilled b)) 1 nothing
+      (subst Fixes (every-form (b .n)) (pair-all (b .n) (b .N) held (b .N) nothing (s .good .rows))))
+      (as-it-was refl)
+      (view-header (headerOf old ROWS) old (s .good .sizes .room) VALID ALL-STATES (omega arith))
 
   -- relation t of no pairs, where its three steps within V fit and come to p
   module _ (t : ℕ) (l : t < RELATIONS) (p : Count) where
