@@ -39,9 +39,9 @@ use Rattle.counting.specs.declared.Taken.the-variants as taken
 use Rattle.stages.specs.Left.{LeftFits}
 use Rattle.stages.specs.Rest.{RestPre, RestPost}
 use Rattle.book.specs.Ticks.{existsNeeds, counted, full as fullVerdict}
-use Rattle.book.specs.Run.{Outcome, value, existsSteps}
+use Rattle.book.specs.Run.{Outcome, value, existsSteps, needingAll}
 use Rattle.book.specs.Diamond.{existsNext}
-use Rattle.book.specs.Verdicts.{fit, needingAll, settle}
+use Rattle.book.specs.Verdicts.{fit, settle}
 use Rattle.book.specs.Held.{Held, denoted}
 use Rattle.book.specs.Pairs.{PairMatches}
 use Rattle.book.specs.Modal.{Quantifies}
