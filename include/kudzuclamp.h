@@ -26,7 +26,7 @@
  * account. KUDZUCLAMP_FULL and KUDZUCLAMP_SPENT keep V, registers, relations and the rows that these need; every other refusal keeps all words.
  *
  * PEAK. Where relation and set are answered they also return their peak: the largest number of rows that a step of the call needed, of its
- * result and of all that was live at it, what registers and relations hold included; 0 where the formula takes no step. It does not depend on N.
+ * result and of all that was live at it, V and what registers and relations hold included; 0 where the formula takes no step. It does not depend on N.
  * Exactly where the peak would pass N, or for a set the lesser of N and its account's row limit, the call is refused with KUDZUCLAMP_FULL instead.
  * So to choose N, make the room's calls once on a table that is large enough: the greatest of their peaks is the least N with which the same calls
  * are all answered.
