@@ -1,7 +1,6 @@
 -- `within` meets its contract: AND with V, SHIFT of V and AND with that are one chain of steps. Assumes nothing.
 use Rattle.pairs.proofs.Steps.{first-asks, within-full, shift-asks, shift-full, last-asks, within-ends}
 use Rattle.evaluator.proofs.State.{valid-asks}
-use lib.ListN.{length-set}
 use native.Mathlib.Omega.{arith}
 use mathlib.Core.Path.{_∙_}
 use borrow.Author.Needs.{needs}
@@ -31,7 +30,7 @@ within-spec =
     (λ c. search needs)
     (λ c. (shift-full (c .before .before .before .before .before .before .before .before .before .before .before .before .before .before .before .before .before .before .before .before .before .root-arrow .result) (c .before .before .before .before .before .before .before .before .before .before .before .before .before .before .before .before .before .before .before .before .before .root-arrow .ensures) (c .before .before .before .before .before .before .before .before .before .before .before .before .before .before .before .before .before .before .before .before .before .before .before .before .before .before .pre .0 .operand) (c .before .before .before .before .before .before .before .before .before .before .before .before .before .before .before .before .before .live-step .ensures .0) (c .before .before .before .before .before .before .before .before .before .before .before .b .given .1) (c .before .before .before .before .before .before .live-step2 .ensures .0) (c .enum-told2 .given .1), c .before .before .before .before .before .before .live-step2 .ensures .1))
     (λ c κs. (last-asks (c .before .before .before .before .before .before .before .before .before .before .before .before .before .before .before .before .before .before .before .before .before .before .before .before .before .root-arrow .result) (c .before .before .before .before .before .before .before .before .before .before .before .before .before .before .before .before .before .before .before .before .before .before .before .before .before .root-arrow .ensures) (c .before .before .before .before .before .before .before .before .before .before .before .before .before .before .before .before .before .before .before .before .before .before .before .before .before .before .before .before .before .before .pre .0 .operand) (c .before .before .before .before .before .before .before .before .before .before .before .before .before .before .before .before .before .before .before .before .before .live-step .ensures .0) (c .before .before .before .before .before .before .before .before .before .before .before .before .before .before .before .b .given .1) (c .before .before .before .before .before .before .before .before .before .before .live-step2 .ensures .0) (c .before .before .before .before .c .given .1) (c .before .before .before .before .before .before .before .before .before .before .before .before .before .before .before .before .before .before .before .before .before .before .before .before .before .before .before .before .before .before .pre .0 .ready), c .before .before .before .before .before .before .before .before .before .before .live-step2 .ensures .1))
-    (λ c. search needs)
-    (λ c. search needs)
+    (λ c. c .before .before .before .before .live-step3 .kept .0 ∙ c .before .before .before .before .before .before .before .before .before .before .before .before .before .before .before .live-step2 .kept .0 ∙ c .before .before .before .before .before .before .before .before .before .before .before .before .before .before .before .before .before .before .before .before .before .before .before .before .before .before .live-step .kept .0)
+    (λ c. c .before .before .before .before .live-step3 .kept .1 .0 ∙ c .before .before .before .before .before .before .before .before .before .before .before .before .before .before .before .live-step2 .kept .1 .0 ∙ c .before .before .before .before .before .before .before .before .before .before .before .before .before .before .before .before .before .before .before .before .before .before .before .before .before .before .live-step .kept .1 .0)
     (λ c. search needs)
     (λ c. (within-ends (c .before .before .before .before .before .before .before .before .before .before .before .before .before .before .before .before .before .before .before .before .before .before .before .before .before .before .before .before .before .before .root-arrow .result) (c .before .before .before .before .before .before .before .before .before .before .before .before .before .before .before .before .before .before .before .before .before .before .before .before .before .before .before .before .before .before .root-arrow .ensures) (c .before .before .before .before .before .before .before .before .before .before .before .before .before .before .before .before .before .before .before .before .before .before .before .before .before .before .before .before .before .before .before .before .before .before .before .pre .0 .operand) (c .before .before .before .before .before .before .before .before .before .before .before .before .before .before .before .before .before .before .before .before .before .before .before .before .before .before .live-step .ensures .0) (c .before .before .before .before .before .before .before .before .before .before .before .before .before .before .before .before .before .before .before .before .b .given .1) (c .before .before .before .before .before .before .before .before .before .before .before .before .before .before .before .live-step2 .ensures .0) (c .before .before .before .before .before .before .before .before .before .c .given .1) (c .before .before .before .before .live-step3 .ensures .0), c .before .before .before .before .live-step3 .ensures .1)))
