@@ -183,7 +183,7 @@ validStored X a = putHeader X VALID (suc a)
 
 module _ (X : View) (a : ℕ) where
   here-put : putHeader X VALID (suc a) .header VALID ≡ suc a
-  here-put = rw (eq-eqb VALID VALID refl) refl
+  here-put = refl
 
   pub valid-seen : Alike (storeValid (seenIn X) a) (seenIn (validStored X a))
   valid-seen = record {
@@ -203,7 +203,7 @@ module _ (X : View) (a : ℕ) where
 
 -- ---- the call
 
--- what the collection afterwards leaves of a table: nothing was freed, or what V, no register and no relation needs
+-- what the collection afterwards leaves of a table: nothing was freed, or what V, the registers and the relations do not need
 pub data Tidied (Y Z : View) : Type 0 where
   as-it-was : Z ≡ Y → Tidied Y Z
   freed : Good Z → OpFrame Y Z → Collects (rowsOf Y) (rowsOf Z) (filled Y) → Tidied Y Z

@@ -12,7 +12,7 @@ enum-known-done : tie.Need-enum-known-done
 enum-known-done c = search needs
 
 add-put-header : tie.Need-add-put-header
-add-put-header c = let h = carries-fits (c .before .done .given .1) (c .before .before .before .before .pre .1) in omega arith
+add-put-header c = let h = carries-fits (c .before .before .done .given .1) (c .before .before .before .before .before .pre .1) in omega arith
 
 put-header-requires : tie.Need-put-header-requires
 put-header-requires c κs = search needs
@@ -24,7 +24,7 @@ same-length : tie.Need-same-length
 same-length c = search needs
 
 returns-2 : tie.Need-returns-2
-returns-2 c = confined-value _ (c .before .before .before .done .given .1) (c .put-header .ensures)
+returns-2 c = confined-value _ (c .before .before .before .before .before .done .given .1) (c .before .before .put-header .ensures)
 
 pub store-valid-spec : {M : Type 1} → statement M
 store-valid-spec =
