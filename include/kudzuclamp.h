@@ -11,19 +11,24 @@
  * registers, each empty or holding a set of states, and 8 relations, each empty or holding a set of pairs. Its words may be copied, stored and
  * lent again. A call on words that are no sound table is refused with KUDZUCLAMP_UNSOUND.
  *
+ * VALID STATES. V is the set of states that exist; after fresh it is every state, and kudzuclamp_valid fixes another one while nothing is filled.
+ * In a set's formula true means V, NOT means V without the set, a bit its states in V; nu starts from V, and next states outside V do not exist. A
+ * relation holds pairs of states of V. V is kept by every refusal, and its rows count wherever rows are counted.
+ *
  * ACCOUNTS. Several callers may share a table under limits of their own. fresh and set are lent a list of 1 to 8 accounts; every set names its
  * account by its place in the list, counted from 0. An answered fresh sets all tallies to 0; an answered set adds its rounds to its own account's
  * tally and changes nothing else in the list. So, where each call gets the list as the one before left it, a tally counts the rounds of its
  * account's answered sets since fresh. Where nothing is to be limited, one account whose limits are UINT32_MAX is enough.
  *
  * REFUSALS. Each function returns 0 where it answers, else the number of its refusal. Checks 1 to 7 run in the order of their numbers, 4 to 7
- * each over the whole formula, and KUDZUCLAMP_VACUOUS (12) so directly after 5; KUDZUCLAMP_UNLISTED (14) is checked directly after 3, in fresh
- * after 1. Of 8 and 9 the one that evaluation meets first is returned; KUDZUCLAMP_NO_RUN (10) and then KUDZUCLAMP_SHORT (11) come after 8. A refused
- * call writes 0 into every answer, and no refusal changes an account or a list of states. KUDZUCLAMP_FULL, KUDZUCLAMP_SPENT, KUDZUCLAMP_NO_RUN and
- * KUDZUCLAMP_SHORT keep registers, relations and the rows that these need; every other refusal keeps all words.
+ * each over the whole formula, and KUDZUCLAMP_VACUOUS (12) so directly after 5; KUDZUCLAMP_OCCUPIED (13) is checked directly after 2,
+ * KUDZUCLAMP_UNLISTED (14) directly after 3, in fresh after 1. Of 8 and 9 the one that evaluation meets first is returned; KUDZUCLAMP_NO_RUN (10)
+ * and then KUDZUCLAMP_SHORT (11) come after 8. A refused call writes 0 into every answer, and no refusal changes an account or a list of states.
+ * KUDZUCLAMP_FULL, KUDZUCLAMP_SPENT, KUDZUCLAMP_NO_RUN and KUDZUCLAMP_SHORT keep V, registers, relations and the rows that these need; every other
+ * refusal keeps all words.
  *
  * PEAK. Where relation and set are answered they also return their peak: the largest number of rows that a step of the call needed, of its
- * result and of all that was live at it, what registers and relations hold included; 0 where the formula takes no step. It does not depend on N.
+ * result and of all that was live at it, V and what registers and relations hold included; 0 where the formula takes no step. It does not depend on N.
  * Exactly where the peak would pass N, or for a set the lesser of N and its account's row limit, the call is refused with KUDZUCLAMP_FULL instead.
  * So to choose N, make the room's calls once on a table that is large enough: the greatest of their peaks is the least N with which the same calls
  * are all answered.
@@ -100,6 +105,7 @@ enum kudzuclamp_number {
     KUDZUCLAMP_NO_RUN = 10,   /* there is no run from the one set into the other */
     KUDZUCLAMP_SHORT = 11,    /* the list is too short for the run */
     KUDZUCLAMP_VACUOUS = 12,  /* a binder's variable occurs nowhere free in its body */
+    KUDZUCLAMP_OCCUPIED = 13, /* valid: a register or relation is filled */
     KUDZUCLAMP_UNLISTED = 14  /* the list is not 1 to 8 accounts long, or has no account at that place */
 };
 
@@ -137,6 +143,8 @@ static inline const char *kudzuclamp_text(uint32_t number)
         return "the list is too short for the run";
     case KUDZUCLAMP_VACUOUS:
         return "a binder's variable occurs nowhere free in its body";
+    case KUDZUCLAMP_OCCUPIED:
+        return "a register or relation is filled";
     case KUDZUCLAMP_UNLISTED:
         return "the list is not 1 to 8 accounts long, or has no account at that place";
     case KUDZUCLAMP_PLAY_SHORT:
@@ -238,13 +246,20 @@ uint32_t kudzuclamp_fresh(uint32_t *words, size_t words_len, struct kudzuclamp_a
                           uint32_t rows);
 
 /*
- * Relation t (0 to 7) then holds exactly the pairs of states in which the formula holds. *peak is the call's peak. It returns 0, 2, 3, 4 or 8.
+ * V, the states that exist, are then exactly those in which the formula holds, read over all states. The formula has version 1 and only the words
+ * 00 to 04 and 10 to 1F. It returns 0, 2, KUDZUCLAMP_OCCUPIED, 4 or 8.
+ */
+KUDZUCLAMP_USE_RESULT
+uint32_t kudzuclamp_valid(uint32_t *words, size_t words_len, const uint8_t *bytes, size_t bytes_len);
+
+/*
+ * Relation t (0 to 7) then holds exactly the pairs of states of V in which the formula holds. *peak is the call's peak. It returns 0, 2, 3, 4 or 8.
  */
 KUDZUCLAMP_USE_RESULT
 uint32_t kudzuclamp_relation(uint32_t *words, size_t words_len, uint32_t t, const uint8_t *bytes, size_t bytes_len, uint32_t *peak);
 
 /*
- * Register r (0 to 31) then holds exactly the states in which the formula holds, found under the limits of the account at `place` (0 to
+ * Register r (0 to 31) then holds exactly the states of V in which the formula holds, found under the limits of the account at `place` (0 to
  * accounts_len - 1), whose tally grows by the rounds made. Each evaluation of a binder's body is one round, and so is one of until's f and g; a
  * round beyond `most` (R) or beyond the account's round limit is refused. With one binder or until in the formula 2^n + 1 rounds are enough.
  * *node is the set's node number: two registers hold the same set exactly where their node numbers are equal; 0 is no state, 1 is every state.
@@ -261,7 +276,7 @@ KUDZUCLAMP_USE_RESULT
 uint32_t kudzuclamp_clear(uint32_t *words, size_t words_len, uint32_t r);
 
 /*
- * Frees the rows that no register and no relation needs. *rows is how many are needed. It returns 0 or 2.
+ * Frees the rows that V, registers and relations do not need. *rows is how many are needed. It returns 0 or 2.
  */
 KUDZUCLAMP_USE_RESULT
 uint32_t kudzuclamp_collect(uint32_t *words, size_t words_len, uint32_t *rows);

@@ -40,6 +40,12 @@ mod library {
             rounds: *mut u32,
             peak: *mut u32,
         ) -> u32;
+        pub fn kudzuclamp_valid(
+            words: *mut u32,
+            words_len: usize,
+            bytes: *const u8,
+            bytes_len: usize,
+        ) -> u32;
         pub fn kudzuclamp_clear(words: *mut u32, words_len: usize, r: u32) -> u32;
         pub fn kudzuclamp_collect(words: *mut u32, words_len: usize, rows: *mut u32) -> u32;
         pub fn kudzuclamp_node(words: *const u32, words_len: usize, r: u32, node: *mut u32) -> u32;
@@ -174,6 +180,19 @@ pub fn set(
     };
     let stored = Stored { node, rounds, peak };
     answered(number, stored)
+}
+
+pub fn valid(words: &mut [u32], bytes: &[u8]) -> Result<(), Refusal> {
+    // SAFETY: pointers and lengths are those of slices, the mutable one apart from the other.
+    let number = unsafe {
+        library::kudzuclamp_valid(
+            words.as_mut_ptr(),
+            words.len(),
+            bytes.as_ptr(),
+            bytes.len(),
+        )
+    };
+    answered(number, ())
 }
 
 pub fn clear(words: &mut [u32], r: u32) -> Result<(), Refusal> {

@@ -4,8 +4,8 @@ use std::fmt;
 
 /// Why a call is refused, with document 01's numbers.
 ///
-/// `Full`, `Spent`, `NoRun` and `Short` keep registers, relations and the rows that they need; every
-/// other refusal keeps all words. No refusal changes an account or a list of states. Later versions
+/// `Full`, `Spent`, `NoRun` and `Short` keep V, registers, relations and the rows that they need;
+/// every other refusal keeps all words. No refusal changes an account or a list of states. Later versions
 /// may have more of them.
 ///
 /// ```
@@ -43,6 +43,8 @@ pub enum Refusal {
     Short = 11,
     /// 12: a binder's variable occurs nowhere free in its body. Checked directly after 5.
     Vacuous = 12,
+    /// 13: valid was called while a register or relation is filled. Checked directly after 2.
+    Occupied = 13,
     /// 14: the list is not 1 to 8 accounts long, or has no account at the place named. Checked
     /// directly after 3, in fresh after 1.
     Unlisted = 14,
@@ -63,10 +65,11 @@ impl Refusal {
         Refusal::NoRun,
         Refusal::Short,
         Refusal::Vacuous,
+        Refusal::Occupied,
         Refusal::Unlisted,
     ];
 
-    /// The number, 1 to 12 or 14.
+    /// The number, 1 to 14.
     #[must_use]
     pub const fn number(self) -> u32 {
         self as u32
@@ -106,6 +109,7 @@ impl fmt::Display for Refusal {
             Refusal::NoRun => "there is no run from the one set into the other",
             Refusal::Short => "the list is too short for the run",
             Refusal::Vacuous => "a binder's variable occurs nowhere free in its body",
+            Refusal::Occupied => "a register or relation is filled",
             Refusal::Unlisted => {
                 "the list is not 1 to 8 accounts long, or has no account at that place"
             }
@@ -125,7 +129,7 @@ mod tests {
             .iter()
             .map(|refusal| refusal.number())
             .collect();
-        assert_eq!(numbers, [1, 2, 3, 4, 5, 6, 7, 8, 9, 10, 11, 12, 14]);
+        assert_eq!(numbers, (1..=14).collect::<Vec<u32>>());
         for number in 0..20 {
             let refusal = Refusal::from_number(number);
             assert_eq!(refusal.is_some(), numbers.contains(&number));

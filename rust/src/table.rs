@@ -143,6 +143,36 @@ impl<W: AsRef<[u32]> + AsMut<[u32]>> Table<W> {
         abi::fresh(self.words.as_mut(), accounts, n, rows)
     }
 
+    /// The states that exist, V, are then exactly those in which the formula holds; after fresh every
+    /// state exists. It is called while nothing is filled. From then on true means V, NOT means V
+    /// without the set, a bit its states in V, and next states outside V do not exist.
+    ///
+    /// Formulas of valid have constants, NOT, AND, OR and current bits only, and are read over all
+    /// states.
+    ///
+    /// ```
+    /// use kudzuclamp::{Account, Formula, Refusal, Table};
+    ///
+    /// # fn main() -> Result<(), Refusal> {
+    /// let mut accounts = [Account::unlimited()];
+    /// let mut table = Table::new(&mut accounts, 2, 100)?;
+    /// // A selector of three positions takes two bits, which are never both 1.
+    /// let (low, high) = (Formula::current(0), Formula::current(1));
+    /// table.valid(!(&low & &high))?;
+    /// table.set(&mut accounts, 0, 0, 0, !low)?;
+    /// assert_eq!(table.count(0)?, 2);
+    /// assert_eq!(table.valid(Formula::constant(true)), Err(Refusal::Occupied));
+    /// # Ok(())
+    /// # }
+    /// ```
+    ///
+    /// # Errors
+    ///
+    /// [`Refusal::Unsound`], [`Refusal::Occupied`], [`Refusal::Syntax`] or [`Refusal::Full`].
+    pub fn valid(&mut self, formula: impl AsRef<[u8]>) -> Result<(), Refusal> {
+        abi::valid(self.words.as_mut(), formula.as_ref())
+    }
+
     /// Relation t, from 0 to 7, then holds exactly the pairs of states in which the formula holds.
     /// Formulas of relations have constants, NOT, AND, OR and current and next bits only.
     ///
@@ -227,7 +257,7 @@ impl<W: AsRef<[u32]> + AsMut<[u32]>> Table<W> {
         abi::clear(self.words.as_mut(), r)
     }
 
-    /// Frees the rows that no register and no relation needs, and gives how many are needed.
+    /// Frees the rows that V, registers and relations do not need, and gives how many are needed.
     ///
     /// # Errors
     ///

@@ -17,7 +17,8 @@ use Rattle.book.specs.Table.{Reply}
 use Rattle.book.specs.BookOf.{bookOf, whole-bookOf, only-book}
 use Rattle.book.specs.Stored.{whole-does}
 use Rattle.book.specs.Truthful.{set-leaves}
-use Rattle.contract.specs.Seen.{seen, SoundWords, any-words}
+use Rattle.soundness.specs.Sound.{tableOf}
+use Rattle.contract.specs.Seen.{seen, SoundWords, sound-table, any-words}
 use Rattle.contract.specs.Posts.{CallPost}
 use Rattle.batch_calls.specs.Posts.{Fit, InRange, answersOf, BatchPost}
 
@@ -35,7 +36,7 @@ module _ (old mid : List ℕ) (acc : Terms) (r R : ℕ) (bs : List ℕ) (x : Rep
   held : SoundWords old → bookOf (seen mid) .reg r ≡ some M
   held s =
       let served = p .performs .served s .1 in
-      let same = only-book (does b (set acc r R bs) .0) (seen mid) (whole-does b (set acc r R bs) (whole-bookOf (seen old)))
+      let same = only-book (does b (set acc r R bs) .0) (seen mid) (whole-does b (set acc r R bs) (whole-bookOf (seen old) (sound-table (tableOf old) s)))
       (served .shows) in
       ap (λ (c : Book). c .reg r) (sym same) ∙ set-leaves b acc r R bs x (served .agrees) z
 

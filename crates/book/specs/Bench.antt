@@ -7,7 +7,7 @@ use lib.Dec.{T}
 use Rattle.mucalculus.specs.Sets.{all, all-out}
 use Rattle.accounts.specs.declared.Terms.{Terms}
 use Rattle.accounts.specs.Terms.{alone}
-use Rattle.book.specs.Book.{fresh, relation, set, clear, collect, member, count, refused, answered}
+use Rattle.book.specs.Book.{fresh, relation, set, valid, clear, collect, member, count, refused, answered}
 use Rattle.book.specs.Compute.{computing}
 use Rattle.book.specs.Listed.{frame, frame2, Line, did, told, holds, made, related, Gives, gives, testing, given}
 
@@ -144,6 +144,41 @@ wider = record {
       ∷ holds 0 (some (false ∷ false ∷ true ∷ true ∷ [])) ∷ [];
 }
 
+-- V: n = 2, of which state 3 does not exist
+abbrev pub valids : List Case
+valids =
+    record {
+      n = 2;
+      N = 100;
+      lines =
+          did (valid (frame (0x02 ∷ 0x03 ∷ 0x10 ∷ 0x11 ∷ []))) (answered (some 0))
+          ∷ did collect (answered (some 2))
+          ∷ did (set alone 0 100 (frame (0x01 ∷ []))) (made 0 0 none)
+          ∷ told (count 0) (answered (some 3))
+          ∷ did (set alone 1 100 (frame (0x02 ∷ 0x10 ∷ []))) (made 0 4 none)
+          ∷ holds 1 (some (true ∷ false ∷ true ∷ false ∷ []))
+          ∷ did (set alone 2 100 (frame (0x10 ∷ []))) (made 0 4 none)
+          ∷ holds 2 (some (false ∷ true ∷ false ∷ false ∷ []))
+          ∷ did (valid (frame (0x01 ∷ []))) (refused 13)
+          ∷ [];
+    }
+    -- full by the row rule of a relation, and 13 before 4
+    ∷ record { n = 2; N = 2; lines = did (valid (frame (0x02 ∷ 0x03 ∷ 0x10 ∷ 0x11 ∷ []))) (refused 8) ∷ did (set alone 0 100 (frame (0x01 ∷ []))) (made 0 0 (some 1)) ∷ did (valid []) (refused 13) ∷ did (clear 0) (answered (some 0)) ∷ did (valid []) (refused 4) ∷ [] }
+    ∷ record { n = 2; N = 3; lines = did (valid (frame (0x02 ∷ 0x03 ∷ 0x10 ∷ 0x11 ∷ []))) (answered (some 0)) ∷ [] }
+    -- no state exists: nu P P is empty, and true is node 0
+    ∷ record { n = 1; N = 100; lines = did (valid (frame (0x00 ∷ []))) (answered (some 0)) ∷ did (set alone 0 100 (frame (0x80 ∷ 0x30 ∷ []))) (made 1 0 (some 0)) ∷ did (set alone 1 100 (frame (0x01 ∷ []))) (made 0 0 (some 0)) ∷ did collect (answered (some 0)) ∷ [] }
+    ∷ []
+
+-- V and a relation, which leads to each existing state with bit 0: state 1 alone
+abbrev over : Line → Case
+over l = record { n = 2; N = 100; lines = did (valid (frame (0x02 ∷ 0x03 ∷ 0x10 ∷ 0x11 ∷ []))) (answered (some 0)) ∷ loaded (0x20 ∷ []) 11 ∷ l ∷ [] }
+
+abbrev pub boxed : Case
+boxed = over (did (set alone 0 100 (frame (0x60 ∷ 0x10 ∷ []))) (made 0 9 none))
+
+abbrev pub runs : Case
+runs = over (did (set alone 0 100 (frame (0x80 ∷ 0x68 ∷ 0x30 ∷ []))) (made 1 10 none))
+
 -- a case comes out as it should
 right : Case → Bool
 right c = gives (fresh (c .n) (c .N)) (c .lines)
@@ -163,6 +198,31 @@ nested-right = tt
 wider-right : T (right wider)
 unfolding right testing computing
 wider-right = tt
+
+valids-right : T (all right valids)
+unfolding right testing computing
+valids-right = tt
+
+boxed-right : T (right boxed)
+unfolding right testing computing
+boxed-right = tt
+
+runs-right : T (right runs)
+unfolding right testing computing
+runs-right = tt
+
+pub boxed-bench : Gives (fresh 2 100) (boxed .lines)
+unfolding right
+boxed-bench = given (fresh 2 100) (boxed .lines) boxed-right
+
+pub runs-bench : Gives (fresh 2 100) (runs .lines)
+unfolding right
+runs-bench = given (fresh 2 100) (runs .lines) runs-right
+
+-- V, the same
+pub valid-bench : (c : Case) → List·Memᴰ c valids → Gives (fresh (c .n) (c .N)) (c .lines)
+unfolding right
+valid-bench c i = given (fresh (c .n) (c .N)) (c .lines) (all-out right i valids-right)
 
 -- until, the same
 pub nested-bench : Gives (fresh (nested .n) (nested .N)) (nested .lines)

@@ -1,18 +1,18 @@
--- "The book": 8 relations and 32 registers, each empty or holding a set of pairs or of states; each call's effect and answer, a whole list of
+-- "The book": 8 relations and 32 registers, each empty or holding a set of pairs or of states, and V; each call's effect and answer, a whole list of
 -- calls, and the answer to each question. It stores the meaning; steps give the number and the rounds. Assumes nothing.
 use mathlib.Core.Bool.{Bool, true, false, not, cond, _&&_}
 use mathlib.Core.List.{List, [], _∷_, _++_}
 use mathlib.Core.Option.{Option, none, some}
 use Prim.Native.Nat.{ℕ, zero, suc, _+_, _*_, _^_}
 use lib.Dec.{leb, ltb}
-use Rattle.mucalculus.specs.Sets.{mem, all}
+use Rattle.mucalculus.specs.Sets.{mem, all, allStates}
 use Rattle.mucalculus.specs.Order.{weight}
 use Rattle.mucalculus.specs.Form.{Form, Pairs, Model, noEnv, put, filled}
-use Rattle.mucalculus.specs.Means.{means, meansPair}
+use Rattle.mucalculus.specs.Means.{means, meansPair, pairsWithin}
 use Rattle.tokens.specs.declared.Kind.{Kind}
 use Rattle.formula.specs.Parse.{formOf, formulaOf}
 use Rattle.formula.specs.Checks.{firstRefusal}
-use Rattle.tokens.specs.declared.Kind.the-variants.{Relation, Set}
+use Rattle.tokens.specs.declared.Kind.the-variants.{Relation, Set, Valid}
 use Rattle.diagram.specs.Level.{Fn}
 use Rattle.diagram.specs.Need.{need}
 use Rattle.accounts.specs.declared.Terms.{Terms}
@@ -20,7 +20,7 @@ use Rattle.accounts.specs.Terms.{lent, named, rowsUnder, roundsUnder}
 use Rattle.accounts.specs.declared.Count.{Count}
 use Rattle.accounts.specs.Count.{nothing}
 use Rattle.book.specs.Bridge.{fnOf, fnOfPairs}
-use Rattle.book.specs.Ticks.{contents, ticks, pairTicks, Verdict, counted, full, spent, verdict}
+use Rattle.book.specs.Ticks.{contents, ticks, pairTicks, relationTicks, Verdict, counted, full, spent, verdict}
 
 -- "The table has N rows, 32 registers, 8 relations"; tallies are the accounts'
 abbrev pub registers : ℕ
@@ -29,16 +29,17 @@ registers = 32
 abbrev pub relations : ℕ
 relations = 8
 
--- the book: n and N of the answered fresh, and what is filled and with what
+-- the book: n and N of the answered fresh, V, and what is filled and with what
 pub record Book : Type 0 where
   pub n : ℕ
   pub N : ℕ
+  pub valid : List Bool
   pub rel : ℕ → Option Pairs
   pub reg : ℕ → Option (List Bool)
 
--- "All start empty"
+-- "All start empty"; "after fresh, V is every state"
 abbrev pub fresh : ℕ → ℕ → Book
-fresh n N = record { n = n; N = N; rel = λ t. none; reg = λ r. none }
+fresh n N = record { n = n; N = N; valid = allStates (2 ^ n); rel = λ t. none; reg = λ r. none }
 
 -- "Fresh takes n, a row count N (1 to 60,000) and at least 256 + 12 × N words": n from 1 to 16, and so many words lent
 abbrev pub freshFits : ℕ → ℕ → ℕ → Bool
@@ -53,6 +54,7 @@ pub data Call : Type 0 where
   relation : ℕ → List ℕ → Call  -- relation t, bytes
   set : Terms → ℕ → ℕ → List ℕ → Call  -- set under an account, r, R, bytes
   clear : ℕ → Call  -- clear r
+  valid : List ℕ → Call  -- valid, bytes: "Valid may stand among the calls after fresh"
   collect : Call
 
 -- a question, which changes nothing
@@ -80,11 +82,11 @@ answered x = record { number = 0; rounds = 0; peak = 0; value = x }
 
 -- what its formula is read over
 abbrev pub modelOf : Book → Model
-modelOf b = record { n = b .n; rel = b .rel; reg = b .reg }
+modelOf b = record { n = b .n; valid = b .valid; rel = b .rel; reg = b .reg }
 
--- "all filled registers and relations" are live, the old content of the target too
+-- "V is live always", and "all filled registers and relations" are, the old content of the target too
 abbrev pub liveOf : Book → List Fn
-liveOf b = contents (fnOf (b .n)) registers (b .reg) ++ contents (fnOfPairs (b .n)) relations (b .rel)
+liveOf b = fnOf (b .n) (b .valid) ∷ (contents (fnOf (b .n)) registers (b .reg) ++ contents (fnOfPairs (b .n)) relations (b .rel))
 
 -- "where a check asks what is filled, as 7 does, the book's own registers and relations count"
 abbrev pub regFilled : Book → ℕ → Bool
@@ -113,11 +115,32 @@ refuse b k = (b, refused k)
 
 -- relation t holds Q
 abbrev pub withRel : Book → ℕ → Option Pairs → Book
-withRel b t Q = record { n = b .n; N = b .N; rel = put (b .rel) t Q; reg = b .reg }
+withRel b t Q = record { n = b .n; N = b .N; valid = b .valid; rel = put (b .rel) t Q; reg = b .reg }
 
 -- register r holds A
 abbrev pub withReg : Book → ℕ → Option (List Bool) → Book
-withReg b r A = record { n = b .n; N = b .N; rel = b .rel; reg = put (b .reg) r A }
+withReg b r A = record { n = b .n; N = b .N; valid = b .valid; rel = b .rel; reg = put (b .reg) r A }
+
+-- V is E
+abbrev pub withValid : Book → List Bool → Book
+withValid b E = record { n = b .n; N = b .N; valid = E; rel = b .rel; reg = b .reg }
+
+-- "the formula of valid itself is read over all 2^n": over n state bits, all states, and nothing filled
+abbrev pub everything : ℕ → Model
+everything n = record { n = n; valid = allStates (2 ^ n); rel = λ t. none; reg = λ r. none }
+
+-- the states in which valid's formula holds
+abbrev pub statesOf : ℕ → Form → List Bool
+statesOf n f = means (everything n) noEnv f
+
+-- no place below k is filled
+abbrev pub vacant : {X : Type 0} → ℕ → (ℕ → Option X) → Bool
+vacant zero h = true
+vacant (suc k) h = not (filled (h 0)) && vacant k (λ i. h (suc i))
+
+-- no register and no relation is filled; 13 where this fails
+abbrev pub unfilled : Book → Bool
+unfilled b = vacant registers (b .reg) && vacant relations (b .rel)
 
 -- the node number where it is settled: "An arrow is 0 (nothing), 1 (everything) or a used row"
 abbrev pub nodeOf : List Bool → Option ℕ
@@ -129,9 +152,9 @@ ended b (counted q) go = go q
 ended b full go = refuse b 8
 ended b spent go = refuse b 9
 
--- "relation t then holds exactly the pairs in which the formula holds"; "Each answered relation or set call also returns its peak"
+-- "relation t then holds exactly the pairs in which the formula holds", within V; "Each answered relation or set call also returns its peak"
 abbrev pub relationDone : Book → ℕ → Form → Count → Done
-relationDone b t f q = (withRel b t (some (meansPair (b .n) f)), record { number = 0; rounds = 0; peak = q .peak; value = some 0 })
+relationDone b t f q = (withRel b t (some (pairsWithin (b .n) (b .valid) (meansPair (b .n) f))), record { number = 0; rounds = 0; peak = q .peak; value = some 0 })
 
 -- "register r exactly the states": the set A, made with the count q; set "returns node number and rounds", and its peak
 abbrev pub setDone : Book → ℕ → List Bool → Count → Done
@@ -139,11 +162,18 @@ setDone b r A q = (withReg b r (some A), record { number = 0; rounds = q .rounds
 
 -- relation t, after its checks: "relation has no rounds"
 abbrev pub relationSteps : Book → ℕ → Form → Done
-relationSteps b t f = ended b (verdict (b .N) 0 nothing (pairTicks (b .n) (liveOf b) f)) (λ q. relationDone b t f q)
+relationSteps b t f = ended b (verdict (b .N) 0 nothing (relationTicks (b .n) (liveOf b) (b .valid) f)) (λ q. relationDone b t f q)
 
 -- set r, after its checks: the states "by the meaning above over the book as it stood before the call"; "Both limits hold"
 abbrev pub setSteps : Book → Terms → ℕ → ℕ → Form → Done
 setSteps b acc r R f = ended b (verdict (rowsUnder (b .N) acc) (roundsUnder R acc) nothing (ticks (modelOf b) noEnv (liveOf b) f)) (λ q. setDone b r (means (modelOf b) noEnv f) q)
+
+-- valid, after its checks: "an answered one puts V into the book, and it is full by the same row rule as a relation call"
+abbrev pub validDone : Book → Form → Done
+validDone b f = (withValid b (statesOf (b .n) f), answered (some 0))
+
+abbrev pub validSteps : Book → Form → Done
+validSteps b f = ended b (verdict (b .N) 0 nothing (pairTicks (b .n) (liveOf b) f)) (λ q. validDone b f)
 
 -- go on where the number is 0, else refuse with it
 abbrev pub passing : Book → ℕ → Done → Done
@@ -158,6 +188,8 @@ formulaCall b k bs go = let d = go (formulaIn b k bs) in passing b (checks b k b
 abbrev pub does : Book → Call → Done
 does b (relation t bs) = let d = formulaCall b Relation bs (relationSteps b t) in cond (ltb t relations) d (refuse b 3)
 does b (set acc r R bs) = let d = formulaCall b Set bs (setSteps b acc r R) in let e = cond (named acc) d (refuse b 14) in cond (ltb r registers) e (refuse b 3)
+-- "13, valid while a register or relation is filled, checked directly after 2"
+does b (valid bs) = let d = formulaCall b Valid bs (validSteps b) in cond (unfilled b) d (refuse b 13)
 does b (clear r) = cond (ltb r registers) (withReg b r none, answered (some 0)) (refuse b 3)
 does b collect = (b, answered (some (need (2 * b .n) (liveOf b))))
 

@@ -10,7 +10,7 @@ use Rattle.diagram.specs.Used.{usedCount}
 use Rattle.diagram.specs.Keep.{keeps-reach, keeps-trans, keeps-within}
 use Rattle.diagram.specs.Collect.{Collects, collects-keeps, collects-wellFormed, collects-count}
 use Rattle.book.specs.Run.{value}
-use Rattle.book.specs.Book.{Book, Call, relation, set, clear, collect, answered, registers, Done, refuse, withReg, does}
+use Rattle.book.specs.Book.{Book, Call, relation, set, valid, clear, collect, answered, registers, Done, refuse, withReg, does}
 use Rattle.book.specs.Table.{Table, Reply, Shows, Agrees, noted, rootsOf, Swept, Serves}
 use Rattle.book.specs.Held.{held-keeps, held-rows}
 use Rattle.book.specs.Roots.{shows-held, kept-before, kept-after}
@@ -26,6 +26,7 @@ clear-serves b t r s l = record {
   agrees = subst (λ (x : Done). Agrees (x .1) (plain 0)) (sym same) (record { number = refl; rounds = refl; peak = refl; value = refl });
   numbers = λ q h. refl;
   rels = λ q h z. refl;
+  valid = λ z. refl;
   kept = keeps-within (kept-before (clear r) (plain 0) t) (kept-all b t s);
   swept = tt;
 }
@@ -41,6 +42,7 @@ collect-serves b t rows s c = record {
   agrees = record { number = refl; rounds = refl; peak = refl; value = collects-count (s .wf) c ∙ held-rows (held-keeps (shows-held b t s) (collects-keeps c)) };
   numbers = λ q h. refl;
   rels = λ q h z. refl;
+  valid = λ z. refl;
   kept = keeps-within (kept-before collect (valued (usedCount rows (b .N))) t) (collects-keeps c);
   swept = λ i u. keeps-reach (collects-keeps c) (c .only i u);
 }
@@ -52,6 +54,7 @@ refusal-serves b t c k s e = record {
   agrees = subst (λ (x : Done). Agrees (x .1) (plain (suc k))) (sym e) (record { number = refl; rounds = refl; peak = refl; value = refl });
   numbers = λ q h. noting c q;
   rels = λ q h z. refl;
+  valid = λ z. refl;
   kept = keeps-within (kept-before c (plain (suc k)) t) (kept-all b t s);
   swept = sweeps c e;
 }
@@ -60,12 +63,14 @@ refusal-serves b t c k s e = record {
     sweeps : (c : Call) → does b c ≡ refuse b (suc k) → Swept c t
     sweeps (relation x bs) h = tt
     sweeps (set acc x R bs) h = tt
+    sweeps (valid bs) h = tt
     sweeps (clear x) h = tt
     sweeps collect h = let z : _≡_ {A = ℕ} 0 (suc k) = ap (λ (d : Done). d .1 .number) h in absurd (omega arith)
 
     noting : (c : Call) (q : ℕ) → t .reg q ≡ noted (t .reg q) c (plain (suc k)) q
     noting (relation x bs) q = refl
     noting (set acc x R bs) q = sym (ap (λ (x′ : Bool). cond (x′ && eqb q x) (some 0) (t .reg q)) (eqb·suc-zero k))
+    noting (valid bs) q = refl
     noting (clear x) q = sym (ap (λ (x′ : Bool). cond (x′ && eqb q x) none (t .reg q)) (eqb·suc-zero k))
     noting collect q = refl
 
@@ -80,12 +85,14 @@ tidied-serves b c t u y rows s k = record {
   agrees = s .agrees;
   numbers = s .numbers;
   rels = s .rels;
-  kept = keeps-trans (s .kept) (keeps-within (kept-after c y t u (s .numbers) (s .rels)) (collects-keeps k));
+  valid = s .valid;
+  kept = keeps-trans (s .kept) (keeps-within (kept-after c y t u (s .numbers) (s .rels) (s .valid)) (collects-keeps k));
   swept = sweeps c;
 }
   where
     sweeps : (c : Call) → Swept c (withRows u rows)
     sweeps (relation x bs) = tt
     sweeps (set acc x R bs) = tt
+    sweeps (valid bs) = tt
     sweeps (clear x) = tt
     sweeps collect = λ i h. keeps-reach (collects-keeps k) (k .only i h)

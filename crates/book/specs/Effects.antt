@@ -6,10 +6,10 @@ use Prim.Native.Nat.{ℕ, suc, _≤_, _<_}
 use native.Mathlib.Omega.{arith}
 use lib.Dec.{T, ltb, lt→ltb, ltb→lt}
 use Rattle.mucalculus.specs.Sets.{true-of, false-of}
-use Rattle.tokens.specs.declared.Kind.the-variants.{Relation, Set}
+use Rattle.tokens.specs.declared.Kind.the-variants.{Relation, Set, Valid}
 use Rattle.accounts.specs.declared.Terms.{Terms}
 use Rattle.accounts.specs.Terms.{named}
-use Rattle.book.specs.Book.{formulaIn, Book, relation, set, registers, relations, checks, Done, refuse, relationSteps, setSteps, passing, formulaCall, does}
+use Rattle.book.specs.Book.{formulaIn, Book, relation, set, valid, unfilled, validSteps, registers, relations, checks, Done, refuse, relationSteps, setSteps, passing, formulaCall, does}
 
 -- ---- a number in range, and out of it
 
@@ -55,3 +55,18 @@ module _ (b : Book) (t : ℕ) (bs : List ℕ) where
 
   pub relation-out-of-range : relations ≤ t → does b (relation t bs) ≡ refuse b 3
   relation-out-of-range l = out-of-range (formulaCall b Relation bs (relationSteps b t)) (refuse b 3) t relations l
+
+module _ (b : Book) (bs : List ℕ) where
+  pub does-valid : T (unfilled b) → checks b Valid bs ≡ 0 → does b (valid bs) ≡ validSteps b (formulaIn b Valid bs)
+  does-valid t z =
+      ap (λ (x : Bool). cond x (formulaCall b Valid bs (validSteps b)) (refuse b 13)) (true-of (unfilled b) t)
+      ∙ ap (λ (i : ℕ). passing b i (validSteps b (formulaIn b Valid bs))) z
+
+  pub valid-refused : (k : ℕ) → T (unfilled b) → checks b Valid bs ≡ suc k → does b (valid bs) ≡ refuse b (suc k)
+  valid-refused k t z =
+      ap (λ (x : Bool). cond x (formulaCall b Valid bs (validSteps b)) (refuse b 13)) (true-of (unfilled b) t)
+      ∙ ap (λ (i : ℕ). passing b i (validSteps b (formulaIn b Valid bs))) z
+
+  -- "checked directly after 2"
+  pub valid-occupied : unfilled b ≡ false → does b (valid bs) ≡ refuse b 13
+  valid-occupied e = ap (λ (x : Bool). cond x (formulaCall b Valid bs (validSteps b)) (refuse b 13)) e

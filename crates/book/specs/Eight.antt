@@ -11,15 +11,15 @@ use lib.Dec.{T, leb, leb→le, le→leb}
 use Rattle.mucalculus.specs.Sets.{all-out, false-of}
 use Rattle.mucalculus.specs.Form.{noEnv}
 use Rattle.mucalculus.specs.Means.{means}
-use Rattle.tokens.specs.declared.Kind.the-variants.{Relation, Set}
+use Rattle.tokens.specs.declared.Kind.the-variants.{Relation, Set, Valid}
 use Rattle.accounts.specs.Terms.{named, rowsUnder, roundsUnder}
 use Rattle.accounts.specs.declared.Count.{Count}
 use Rattle.accounts.specs.Count.{nothing}
-use Rattle.book.specs.Ticks.{Tick, ticks, pairTicks, Verdict, counted, full, spent, verdict, withinRounds, peak}
+use Rattle.book.specs.Ticks.{Tick, ticks, pairTicks, relationTicks, Verdict, counted, full, spent, verdict, withinRounds, peak}
 use Rattle.book.specs.Verdicts.{fit}
 use Rattle.book.specs.Larger.{fit-peak, full-peak}
-use Rattle.book.specs.Effects.{does-set, does-relation}
-use Rattle.book.specs.Book.{formulaIn, Book, Call, relation, set, clear, collect, registers, relations, modelOf, liveOf, checks, Done, ended, relationDone, setDone, does}
+use Rattle.book.specs.Effects.{does-set, does-relation, does-valid}
+use Rattle.book.specs.Book.{formulaIn, Book, Call, relation, set, valid, clear, collect, unfilled, validDone, registers, relations, modelOf, liveOf, checks, Done, ended, relationDone, setDone, does}
 
 -- a verdict's number is 8 exactly where it is full
 ended-eight : (b : Book) (w : Verdict) (go : Count → Done) → ((q : Count) → go q .1 .number ≡ 0) → (ended b w go .1 .number ≡ 8) ↔ (w ≡ full)
@@ -38,10 +38,12 @@ eight b N R l go z =
 -- claim for a call and the number k that it returned
 abbrev pub EightAt : Book → Call → ℕ → Type 0
 EightAt b (relation t bs) k =
-    t < relations → checks b Relation bs ≡ 0 → (k ≡ 8) ↔ (b .N < peak (withinRounds 0 0 (pairTicks (b .n) (liveOf b) (formulaIn b Relation bs))))
+    t < relations → checks b Relation bs ≡ 0 → (k ≡ 8) ↔ (b .N < peak (withinRounds 0 0 (relationTicks (b .n) (liveOf b) (b .valid) (formulaIn b Relation bs))))
 EightAt b (set acc r R bs) k =
     r < registers → T (named acc) → checks b Set bs ≡ 0
     → (k ≡ 8) ↔ (rowsUnder (b .N) acc < peak (withinRounds (roundsUnder R acc) 0 (ticks (modelOf b) noEnv (liveOf b) (formulaIn b Set bs))))
+-- "it is full by the same row rule as a relation call"
+EightAt b (valid bs) k = T (unfilled b) → checks b Valid bs ≡ 0 → (k ≡ 8) ↔ (b .N < peak (withinRounds 0 0 (pairTicks (b .n) (liveOf b) (formulaIn b Valid bs))))
 EightAt b (clear r) k = Unit {0}
 EightAt b collect k = Unit {0}
 
@@ -49,12 +51,16 @@ EightAt b collect k = Unit {0}
 pub eight-exact : (b : Book) (c : Call) → EightAt b c (does b c .1 .number)
 eight-exact b (relation t bs) = λ l z.
     let f = formulaIn b Relation bs in
-    subst (λ (d : Done). (d .1 .number ≡ 8) ↔ (b .N < peak (withinRounds 0 0 (pairTicks (b .n) (liveOf b) f)))) (sym (does-relation b t bs l z))
-    (eight b (b .N) 0 (pairTicks (b .n) (liveOf b) f) (λ q. relationDone b t f q) (λ q. refl))
+    subst (λ (d : Done). (d .1 .number ≡ 8) ↔ (b .N < peak (withinRounds 0 0 (relationTicks (b .n) (liveOf b) (b .valid) f)))) (sym (does-relation b t bs l z))
+    (eight b (b .N) 0 (relationTicks (b .n) (liveOf b) (b .valid) f) (λ q. relationDone b t f q) (λ q. refl))
 eight-exact b (set acc r R bs) = λ l t z.
     let f = formulaIn b Set bs in
     subst (λ (d : Done). (d .1 .number ≡ 8) ↔ (rowsUnder (b .N) acc < peak (withinRounds (roundsUnder R acc) 0 (ticks (modelOf b) noEnv (liveOf b) f)))) (sym (does-set b acc r R bs l t z))
     (eight b (rowsUnder (b .N) acc) (roundsUnder R acc) (ticks (modelOf b) noEnv (liveOf b) f) (λ q. setDone b r (means (modelOf b) noEnv f) q) (λ q. refl))
+eight-exact b (valid bs) = λ t z.
+    let f = formulaIn b Valid bs in
+    subst (λ (d : Done). (d .1 .number ≡ 8) ↔ (b .N < peak (withinRounds 0 0 (pairTicks (b .n) (liveOf b) f)))) (sym (does-valid b bs t z))
+    (eight b (b .N) 0 (pairTicks (b .n) (liveOf b) f) (λ q. validDone b f) (λ q. refl))
 eight-exact b (clear r) = tt
 eight-exact b collect = tt
 

@@ -1,11 +1,13 @@
 -- An evaluator over arrows follows the book's run: what it has after each part and each step gives what it has after the whole. A function's
 -- proof cites one lemma of here for each way through its code. Assumes nothing.
-use mathlib.Core.Path.{_≡_, refl, sym, ap, ap₂, _∙_, subst}
-use mathlib.Core.Bool.{Bool, true, false}
-use mathlib.Core.List.{List, _∷_, List·Memᴰ·head as here, List·Memᴰ·tail as there}
+use mathlib.Core.Path.{_≡_, refl, sym, ap, ap₂, _∙_, subst, fun-ext}
+use mathlib.Core.Bool.{Bool, true, false, _&&_}
+use lib.Dec.{T}
+use mathlib.Core.List.{List, _∷_, map, List·Memᴰ as Mem, List·Memᴰ·head as here, List·Memᴰ·tail as there}
 use Prim.Native.Nat.{ℕ, _*_, _^_, _<_}
-use Rattle.mucalculus.specs.Sets.{table}
-use Rattle.mucalculus.specs.Means.{clip, bit, compl}
+use Rattle.mucalculus.specs.Sets.{mem, table}
+use Rattle.mucalculus.specs.Order.{Below}
+use Rattle.mucalculus.specs.Means.{clip, inter, bitStates, compl}
 use Rattle.diagram.specs.Level.{Fn}
 use Rattle.diagram.specs.Rows.{Rows, den, WellFormed}
 use Rattle.diagram.specs.Den.{den-zero, den-one}
@@ -13,12 +15,14 @@ use Rattle.diagram.specs.Post.{Result, at, full as noRows, Denotes}
 use Rattle.diagram.specs.Count.{Within}
 use Rattle.diagram.specs.Keep.{Keeps, keeps-refl, keeps-trans, keeps-within, keeps-on, keeps-denotes}
 use Rattle.diagram.specs.Step.{StepPost}
-use Rattle.diagram.specs.Steps.{bitF, notF}
+use Rattle.diagram.specs.Steps.{bitF, notF, andF}
+use Rattle.diagram.specs.Need.{stepNeed}
+use Rattle.book.specs.States.{nowOf}
 use Rattle.accounts.specs.declared.Count.{Count}
 use Rattle.accounts.specs.Count.{needing}
-use Rattle.book.specs.Bridge.{fnOf, fnOf-none, fnOf-all, fnOf-bit, fnOf-not, fnOf-clip}
-use Rattle.book.specs.Run.{Outcome, value, full, spent, andThen, step, notStep, twoStep}
-use Rattle.book.specs.Held.{Held, denotes-same, denoted, held-arrow, held-push, held-keeps, goesOn, Needed, step-taken}
+use Rattle.book.specs.Bridge.{fnOf, fnOf-none, fnOf-all, fnOf-bit, fnOf-not, fnOf-clip, fnOf-table, fnOf-and}
+use Rattle.book.specs.Run.{Outcome, value, full, spent, andThen, step, bitStep, notStep, twoStep}
+use Rattle.book.specs.Held.{Held, denotes-same, denoted, held-arrow, held-push, held-operand, held-keeps, goesOn, Needed, step-taken}
 
 -- what the evaluator answers: an arrow and what it counted, 8, or 9
 pub data Ended : Type 0 where
@@ -70,7 +74,16 @@ module _ (n N : ℕ) where
   pub denotes-all : (rows : Rows) → Denotes (2 * n) rows 1 (fnOf n (table (2 ^ n) (λ s. true)))
   denotes-all rows = record { arrow = tt; same = λ v. den-one (2 * n) rows v ∙ sym (ap (λ (F : Fn). F v) (fnOf-all n)) }
 
-  -- a register or a variable: its set with exactly the states' places
+  -- a register or a variable, whose states exist: its set with exactly the states' places
+  pub denotes-in : {rows : Rows} {a : ℕ} (A E : List Bool) → Below A E → Denotes (2 * n) rows a (fnOf n A) → Denotes (2 * n) rows a (fnOf n (inter (2 ^ n) A E))
+  denotes-in A E h d = denotes-same (sym (fnOf-table n (λ s. mem A s && mem E s) ∙ fun-ext (λ v. go (mem A (nowOf n v)) (mem E (nowOf n v)) (h (nowOf n v))))) d
+    where
+      go : (a c : Bool) → (T a → T c) → (a && c) ≡ a
+      go true true i = refl
+      go true false i = absurd (i tt)
+      go false c i = refl
+
+  -- true, which is V
   pub denotes-clip : {rows : Rows} {a : ℕ} (A : List Bool) → Denotes (2 * n) rows a (fnOf n A) → Denotes (2 * n) rows a (fnOf n (clip (2 ^ n) A))
   denotes-clip A d = denotes-same (sym (fnOf-clip n A)) d
 
@@ -123,17 +136,49 @@ module _ (n N : ℕ) where
       go spent m = absurd m
 
   module _ {before : Rows} {roots : List ℕ} {live : List Fn} (h : Held (2 * n) before roots live) where
-    -- a bit: current bit p is level 2p
-    pub evals-bit : {limit : ℕ} {after : Rows} (p : ℕ) (q : Count) → p < n → (answer : Result) → StepPost (2 * n) N limit before after roots answer (bitF (2 * p)) → (k : ℕ) → Needed (2 * n) before roots (bitF (2 * p)) answer k
-        → Evals n N before after roots (let A = table (2 ^ n) (λ s. bit p s) in step n limit live (fnOf n A) q (λ c. value A c)) (endedBy answer (needing q k))
-    evals-bit p q l answer s k x = evals-step (table (2 ^ n) (λ s. bit p s)) q (λ k. k) h (sym (fnOf-bit n p l)) answer s k x
+    -- AND with V after a step whose answer is the arrow x of the set B; w is V's arrow, which is among the roots
+    module _ (E : List Bool) (w : ℕ) (wm : Mem w roots) (wl : Mem (fnOf n E) live) (wd : Denotes (2 * n) before w (fnOf n E)) where
+      and-valid : {limit : ℕ} {mid after : Rows} {x : ℕ} (B : List Bool) (q : Count) → Keeps before mid roots → Denotes (2 * n) mid x (fnOf n B)
+          → (answer : Result) → StepPost (2 * n) N limit mid after (x ∷ roots) answer (andF (den (2 * n) mid x) (den (2 * n) mid w)) → (k : ℕ) → Needed (2 * n) mid (x ∷ roots) (andF (den (2 * n) mid x) (den (2 * n) mid w)) answer k
+          → Evals n N before after roots (twoStep n limit live (inter (2 ^ n)) B E q) (endedBy answer (needing q k))
+      and-valid B q kp e answer s k y =
+          evals-step (inter (2 ^ n) B E) q (keeps-on kp) (held-operand (held-push (held-keeps h kp) e) (there wl))
+          (ap₂ andF (denoted e) (denoted (keeps-denotes kp wm wd)) ∙ sym (fnOf-and n B E)) answer s k y
 
-    -- NOT
-    pub evals-not : {limit : ℕ} {mid after : Rows} {a : ℕ} {p : Count} (o : Outcome) → Evals n N before mid roots o (ends a p)
-        → (answer : Result) → StepPost (2 * n) N limit mid after (a ∷ roots) answer (notF (den (2 * n) mid a)) → (k : ℕ) → Needed (2 * n) mid (a ∷ roots) (notF (den (2 * n) mid a)) answer k
-        → Evals n N before after roots (andThen o (λ A q. notStep n limit live A q)) (endedBy answer (needing p k))
-    evals-not {p = p} o d answer s k x = evals-then o _ d (λ A e.
-        evals-step (compl (2 ^ n) A) p (keeps-on (d .kept)) (held-push (held-keeps h (d .kept)) e) (ap notF (denoted e) ∙ sym (fnOf-not n A)) answer s k x)
+      -- a bit: current bit p is level 2p; the rows ran out at once, or the AND with V decides
+      pub evals-bit-out : {limit : ℕ} {after : Rows} (p : ℕ) (q : Count) → p < n → StepPost (2 * n) N limit before after roots noRows (bitF (2 * p)) → Evals n N before after roots (bitStep n limit live E p q) eight
+      evals-bit-out {limit} {after} p q l s′ =
+          let s = subst (λ (G : Fn). StepPost (2 * n) N limit before after roots noRows G) (sym (fnOf-bit n p l)) s′ in
+          evals-same (sym (step-taken n N h noRows s 0 tt q (λ c. twoStep n limit live (inter (2 ^ n)) (bitStates (2 ^ n) p) E c))) (record { wf = s .wf; kept = s .kept; result = tt })
+
+      pub evals-bit : {limit : ℕ} {mid after : Rows} {x : ℕ} (p : ℕ) (q : Count) → p < n → StepPost (2 * n) N limit before mid roots (at x) (bitF (2 * p)) → (j : ℕ) → Needed (2 * n) before roots (bitF (2 * p)) (at x) j
+          → (answer : Result) → StepPost (2 * n) N limit mid after (x ∷ roots) answer (andF (den (2 * n) mid x) (den (2 * n) mid w)) → (k : ℕ) → Needed (2 * n) mid (x ∷ roots) (andF (den (2 * n) mid x) (den (2 * n) mid w)) answer k
+          → Evals n N before after roots (bitStep n limit live E p q) (endedBy answer (needing (needing q j) k))
+      evals-bit {limit} {mid} {after} {x} p q l s′ j y′ answer u k z =
+          let same = sym (fnOf-bit n p l) in
+          let s = subst (λ (G : Fn). StepPost (2 * n) N limit before mid roots (at x) G) same s′ in
+          let y : j ≡ stepNeed (2 * n) (map (den (2 * n) before) roots) (fnOf n (bitStates (2 ^ n) p)) = subst (λ (G : Fn). j ≡ stepNeed (2 * n) (map (den (2 * n) before) roots) G) same y′ in
+          evals-same (sym (step-taken n N h (at x) s j y q (λ c. twoStep n limit live (inter (2 ^ n)) (bitStates (2 ^ n) p) E c)))
+          (and-valid (bitStates (2 ^ n) p) (needing q j) (s .kept) (s .result .0) answer u k z)
+
+      -- NOT, the same
+      pub evals-not-out : {limit : ℕ} {mid after : Rows} {a : ℕ} {p : Count} (o : Outcome) → Evals n N before mid roots o (ends a p) → StepPost (2 * n) N limit mid after (a ∷ roots) noRows (notF (den (2 * n) mid a))
+          → Evals n N before after roots (andThen o (λ A q. notStep n limit live E A q)) eight
+      evals-not-out {limit} {mid} {after} {a} {p} o d s′ = evals-then o _ d (λ A e.
+          let s = subst (λ (G : Fn). StepPost (2 * n) N limit mid after (a ∷ roots) noRows G) (ap notF (denoted e) ∙ sym (fnOf-not n A)) s′ in
+          evals-same (sym (step-taken n N (held-push (held-keeps h (d .kept)) e) noRows s 0 tt p (λ c. twoStep n limit live (inter (2 ^ n)) (compl (2 ^ n) A) E c)))
+          (record { wf = s .wf; kept = keeps-on (d .kept) (s .kept); result = tt }))
+
+      pub evals-not : {limit : ℕ} {mid late after : Rows} {a x : ℕ} {p : Count} (o : Outcome) → Evals n N before mid roots o (ends a p)
+          → StepPost (2 * n) N limit mid late (a ∷ roots) (at x) (notF (den (2 * n) mid a)) → (j : ℕ) → Needed (2 * n) mid (a ∷ roots) (notF (den (2 * n) mid a)) (at x) j
+          → (answer : Result) → StepPost (2 * n) N limit late after (x ∷ roots) answer (andF (den (2 * n) late x) (den (2 * n) late w)) → (k : ℕ) → Needed (2 * n) late (x ∷ roots) (andF (den (2 * n) late x) (den (2 * n) late w)) answer k
+          → Evals n N before after roots (andThen o (λ A q. notStep n limit live E A q)) (endedBy answer (needing (needing p j) k))
+      evals-not {limit} {mid} {late} {after} {a} {x} {p} o d s′ j y′ answer u k z = evals-then o _ d (λ A e.
+          let same = ap notF (denoted e) ∙ sym (fnOf-not n A) in
+          let s = subst (λ (G : Fn). StepPost (2 * n) N limit mid late (a ∷ roots) (at x) G) same s′ in
+          let y : j ≡ stepNeed (2 * n) (map (den (2 * n) mid) (a ∷ roots)) (fnOf n (compl (2 ^ n) A)) = subst (λ (G : Fn). j ≡ stepNeed (2 * n) (map (den (2 * n) mid) (a ∷ roots)) G) same y′ in
+          evals-same (sym (step-taken n N (held-push (held-keeps h (d .kept)) e) (at x) s j y p (λ c. twoStep n limit live (inter (2 ^ n)) (compl (2 ^ n) A) E c)))
+          (and-valid (compl (2 ^ n) A) (needing p j) (keeps-on (d .kept) (s .kept)) (s .result .0) answer u k z))
 
     -- AND and OR: the left part's value is live during the right part's steps
     pub evals-two : (op : List Bool → List Bool → List Bool) (opF : Fn → Fn → Fn) → ((A B : List Bool) → fnOf n (op A B) ≡ opF (fnOf n A) (fnOf n B))

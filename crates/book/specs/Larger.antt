@@ -12,7 +12,7 @@ use Rattle.mucalculus.specs.Sets.{same, true-of, false-of}
 use Rattle.mucalculus.specs.Order.{start}
 use Rattle.mucalculus.specs.Fixpoint.{iter}
 use Rattle.mucalculus.specs.Form.{Form, Model, Env, reads, steady}
-use Rattle.mucalculus.specs.Means.{size}
+use Rattle.mucalculus.specs.Means.{size, exist}
 use Rattle.mucalculus.specs.Binder.{body, round-ends}
 use Rattle.mucalculus.specs.Rounds.{iter-on, same-set}
 use Rattle.accounts.specs.declared.Count.{Count}
@@ -72,5 +72,5 @@ ticks-more h F (suc j) (suc k) l A e =
 
 -- after check 6 any bound from 2^n + 1 on gives the same ticks
 pub ticks-cap : (m : Model) (e : Env) (P : ℕ) (f : Form) → T (steady f) → T (reads true P f) → (b : Bool) (h : List Bool → List Tick) (k : ℕ) → size m ≤ k
-    → roundTicks h (body m e P f) (suc k) (start b (size m)) ≡ roundTicks h (body m e P f) (suc (size m)) (start b (size m))
-ticks-cap m e P f s t b h k l = ticks-more h (body m e P f) (size m) k l (start b (size m)) (round-ends m e P f s t b)
+    → roundTicks h (body m e P f) (suc k) (start b (size m) (exist m)) ≡ roundTicks h (body m e P f) (suc (size m)) (start b (size m) (exist m))
+ticks-cap m e P f s t b h k l = ticks-more h (body m e P f) (size m) k l (start b (size m) (exist m)) (round-ends m e P f s t b)

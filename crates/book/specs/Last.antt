@@ -13,13 +13,14 @@ use Rattle.mucalculus.specs.Means.{means}
 use Rattle.tokens.specs.declared.Kind.the-variants.{Set}
 use Rattle.accounts.specs.declared.Terms.{Terms}
 use Rattle.accounts.specs.declared.Count.{Count}
-use Rattle.book.specs.Book.{formulaIn, Book, Call, relation, set, clear, collect, Answer, answered, registers, modelOf, Done, withReg, setDone, does, play}
-use Rattle.book.specs.Stored.{range-cases, set-cases, relation-cases, some-inj, none-some, Passed, set-means}
+use Rattle.book.specs.Book.{formulaIn, Book, Call, relation, set, valid, clear, collect, Answer, answered, registers, modelOf, Done, withReg, setDone, does, play}
+use Rattle.book.specs.Stored.{range-cases, set-cases, relation-cases, valid-cases, some-inj, none-some, Passed, set-means}
 
 -- the call was an answered set or clear of register r
 abbrev pub touches : ℕ → Call → Answer → Bool
 touches r (relation t bs) a = false
 touches r (set acc q R bs) a = eqb (a .number) 0 && eqb r q
+touches r (valid bs) a = false
 touches r (clear q) a = eqb (a .number) 0 && eqb r q
 touches r collect a = false
 
@@ -69,6 +70,7 @@ comes b r A (set acc q R bs) =
     (λ l p k h. stored-comes b r A (means (modelOf b) noEnv (formulaIn b Set bs)) acc q R bs k h)
 comes b r A (clear q) =
     range-cases (λ (d : Done). d .0 .reg r ≡ some A → Comes b r A (clear q) d) q registers _ _ (λ l h. cleared-comes b r A q h) (λ l h. inl (refl, h))
+comes b r A (valid bs) = valid-cases (λ (d : Done). d .0 .reg r ≡ some A → Comes b r A (valid bs) d) b bs (λ k i j h. inl (refl, h)) (λ t p h. inl (refl, h))
 comes b r A collect = λ h. inl (refl, h)
 
 -- an answered set of register r leaves its formula's meaning there

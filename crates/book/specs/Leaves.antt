@@ -1,9 +1,9 @@
 -- Tables after a call: with other rows, with an arrow stored, or a register emptied, they show the book after it. Assumes nothing.
 use mathlib.Core.Path.{_≡_, refl, subst, sym, ap₂, fun-ext}
 use mathlib.Core.Bool.{Bool, true, false, cond, _&&_}
-use mathlib.Core.List.{List, List·Memᴰ as Mem, Memᴰ·append-left as mem-left, Memᴰ·append-right as mem-right}
+use mathlib.Core.List.{List, List·Memᴰ as Mem, List·Memᴰ·head as here, List·Memᴰ·tail as there, Memᴰ·append-left as mem-left, Memᴰ·append-right as mem-right}
 use mathlib.Core.Option.{Option, none, some}
-use Prim.Native.Nat.{ℕ, _*_, _<_}
+use Prim.Native.Nat.{ℕ, _*_, _^_, _<_}
 use lib.Dec.{T, eqb, ltb, ltb→lt}
 use Rattle.mucalculus.specs.Form.{Pairs, put, filled}
 use Rattle.tokens.specs.declared.Kind.{Kind}
@@ -15,21 +15,27 @@ use Rattle.diagram.specs.Keep.{Keeps, keeps-refl, keeps-denotes}
 use Rattle.diagram.specs.Grow.{empty-wellFormed}
 use Rattle.book.specs.Bridge.{fnOf, fnOfPairs}
 use Rattle.book.specs.Run.{value}
-use Rattle.book.specs.Book.{Book, registers, relations, withRel, withReg, fresh, checks}
+use Rattle.book.specs.Book.{Book, registers, relations, withRel, withReg, withValid, fresh, checks}
 use Rattle.book.specs.Table.{Table, Reply, Place, Shows, arrowsOf, rootsOf}
 use Rattle.book.specs.Held.{held-arrow}
+use Rattle.book.specs.Follow.{denotes-all}
+use Rattle.mucalculus.specs.Sets.{allStates}
 use Rattle.book.specs.Roots.{arrowsOf-mem, shows-held}
 
 -- the table with other rows
 abbrev pub withRows : Table → Rows → Table
-withRows t rows = record { n = t .n; N = t .N; rows = rows; reg = t .reg; rel = t .rel }
+withRows t rows = record { n = t .n; N = t .N; valid = t .valid; rows = rows; reg = t .reg; rel = t .rel }
 
 -- with the arrow in register r
 abbrev pub storeReg : Table → ℕ → Option ℕ → Table
-storeReg t r a = record { n = t .n; N = t .N; rows = t .rows; reg = put (t .reg) r a; rel = t .rel }
+storeReg t r a = record { n = t .n; N = t .N; valid = t .valid; rows = t .rows; reg = put (t .reg) r a; rel = t .rel }
 
 abbrev pub storeRel : Table → ℕ → Option ℕ → Table
-storeRel t q a = record { n = t .n; N = t .N; rows = t .rows; reg = t .reg; rel = put (t .rel) q a }
+storeRel t q a = record { n = t .n; N = t .N; valid = t .valid; rows = t .rows; reg = t .reg; rel = put (t .rel) q a }
+
+-- with another arrow for V
+abbrev pub storeValid : Table → ℕ → Table
+storeValid t a = record { n = t .n; N = t .N; valid = a; rows = t .rows; reg = t .reg; rel = t .rel }
 
 place-keeps : {X : Type 0} (m : ℕ) (before after : Rows) (roots : List ℕ) (f : X → Fn) (o : Option X) (u : Option ℕ) → Keeps before after roots → ((a : ℕ) → u ≡ some a → Mem a roots)
     → Place m before f o u → Place m after f o u
@@ -53,8 +59,9 @@ module _ (b : Book) (t : Table) (s : Shows b t) where
     n = s .n;
     N = s .N;
     wf = wf;
-    reg = λ r l. place-keeps (2 * b .n) (t .rows) rows (rootsOf t) (fnOf (b .n)) (b .reg r) (t .reg r) k (λ a e. mem-left {s = arrowsOf registers (t .reg)} (arrowsOf relations (t .rel)) (arrowsOf-mem registers (t .reg) r a l e)) (s .reg r l);
-    rel = λ r l. place-keeps (2 * b .n) (t .rows) rows (rootsOf t) (fnOfPairs (b .n)) (b .rel r) (t .rel r) k (λ a e. mem-right (arrowsOf registers (t .reg)) (arrowsOf-mem relations (t .rel) r a l e)) (s .rel r l);
+    valid = keeps-denotes k (here refl) (s .valid);
+    reg = λ r l. place-keeps (2 * b .n) (t .rows) rows (rootsOf t) (fnOf (b .n)) (b .reg r) (t .reg r) k (λ a e. there (mem-left {s = arrowsOf registers (t .reg)} (arrowsOf relations (t .rel)) (arrowsOf-mem registers (t .reg) r a l e))) (s .reg r l);
+    rel = λ r l. place-keeps (2 * b .n) (t .rows) rows (rootsOf t) (fnOfPairs (b .n)) (b .rel r) (t .rel r) k (λ a e. there (mem-right (arrowsOf registers (t .reg)) (arrowsOf-mem relations (t .rel) r a l e))) (s .rel r l);
   }
 
   -- an arrow stored in a register, or a register emptied
@@ -63,6 +70,7 @@ module _ (b : Book) (t : Table) (s : Shows b t) where
     n = s .n;
     N = s .N;
     wf = s .wf;
+    valid = s .valid;
     reg = λ q l. place-put (2 * b .n) (t .rows) (fnOf (b .n)) (b .reg) (t .reg) r o u p q (s .reg q l);
     rel = s .rel;
   }
@@ -73,9 +81,14 @@ module _ (b : Book) (t : Table) (s : Shows b t) where
     n = s .n;
     N = s .N;
     wf = s .wf;
+    valid = s .valid;
     reg = s .reg;
     rel = λ q l. place-put (2 * b .n) (t .rows) (fnOfPairs (b .n)) (b .rel) (t .rel) r o u p q (s .rel q l);
   }
+
+-- another V
+pub shows-valid : (b : Book) (t : Table) → Shows b t → (E : List Bool) (a : ℕ) → Denotes (2 * b .n) (t .rows) a (fnOf (b .n) E) → Shows (withValid b E) (storeValid t a)
+shows-valid b t s E a d = record { n = s .n; N = s .N; wf = s .wf; valid = d; reg = s .reg; rel = s .rel }
 
 -- a call that makes no row keeps all
 pub kept-all : (b : Book) (t : Table) → Shows b t → Keeps (t .rows) (t .rows) (rootsOf t)
@@ -144,10 +157,11 @@ module _ (b : Book) (t : Table) (s : Shows b t) where
 
 -- ---- fresh
 
--- a table just made: no row used, nothing filled
+-- a table just made: no row used, V every state, nothing filled
 pub record Empty (n N : ℕ) (t : Table) : Type 0 where
   pub bits : t .n ≡ n
   pub size : t .N ≡ N
+  pub every : t .valid ≡ 1
   pub unused : (i : ℕ) → t .rows .used i ≡ false
   pub reg : (r : ℕ) → r < registers → t .reg r ≡ none
   pub rel : (q : ℕ) → q < relations → t .rel q ≡ none
@@ -157,6 +171,7 @@ shows-fresh n N t e = record {
   n = e .bits;
   N = e .size;
   wf = empty-wellFormed (2 * n) N (t .rows) (e .unused);
+  valid = subst (λ (a : ℕ). Denotes (2 * n) (t .rows) a (fnOf n (allStates (2 ^ n)))) (sym (e .every)) (denotes-all n N (t .rows));
   reg = λ r l. subst (λ (o : Option ℕ). Place (2 * n) (t .rows) (fnOf n) none o) (sym (e .reg r l)) tt;
   rel = λ q l. subst (λ (o : Option ℕ). Place (2 * n) (t .rows) (fnOfPairs n) none o) (sym (e .rel q l)) tt;
 }

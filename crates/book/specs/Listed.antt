@@ -24,12 +24,13 @@ frame bs = framed 1 bs
 abbrev pub frame2 : List ℕ → List ℕ
 frame2 bs = framed 2 bs
 
--- a line: a call and its answer, a question and its answer, or what a register or a relation holds
+-- a line: a call and its answer, a question and its answer, what a register or a relation holds, or V
 pub data Line : Type 0 where
   did : Call → Answer → Line
   told : Question → Answer → Line
   holds : ℕ → Option (List Bool) → Line
   relates : ℕ → Option Pairs → Line
+  existing : List Bool → Line
 
 -- a set call that was answered after some rounds, with its peak, and the node number where it is settled
 abbrev pub made : ℕ → ℕ → Option ℕ → Answer
@@ -46,6 +47,7 @@ Gives b (did c a ∷ l) = (does b c .1 ≡ a) × Gives (does b c .0) l
 Gives b (told q a ∷ l) = (answer b q ≡ a) × Gives b l
 Gives b (holds r A ∷ l) = (b .reg r ≡ A) × Gives b l
 Gives b (relates t Q ∷ l) = (b .rel t ≡ Q) × Gives b l
+Gives b (existing E ∷ l) = (b .valid ≡ E) × Gives b l
 
 -- ---- the test
 
@@ -72,6 +74,7 @@ gives b (did c a ∷ l) = let d = doesByRun b c in let more = gives (d .0) l in 
 gives b (told q a ∷ l) = let more = gives b l in sameAnswer (answer b q) a && more
 gives b (holds r A ∷ l) = let more = gives b l in sameContent same (b .reg r) A && more
 gives b (relates t Q ∷ l) = let more = gives b l in sameContent sameRows (b .rel t) Q && more
+gives b (existing E ∷ l) = let more = gives b l in same (b .valid) E && more
 
 -- what a test computes through
 unfoldable pub testing : Unit {0}
@@ -120,3 +123,4 @@ given b (did c a ∷ l) t =
 given b (told q a ∷ l) t = let w = and-out (sameAnswer (answer b q) a) (gives b l) t in (same-answer (answer b q) a (w .0), given b l (w .1))
 given b (holds r A ∷ l) t = let w = and-out (sameContent same (b .reg r) A) (gives b l) t in (same-content same same-eq (b .reg r) A (w .0), given b l (w .1))
 given b (relates x Q ∷ l) t = let w = and-out (sameContent sameRows (b .rel x) Q) (gives b l) t in (same-content sameRows same-rows (b .rel x) Q (w .0), given b l (w .1))
+given b (existing E ∷ l) t = let w = and-out (same (b .valid) E) (gives b l) t in (same-eq (b .valid) E (w .0), given b l (w .1))

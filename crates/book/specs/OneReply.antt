@@ -19,8 +19,8 @@ use Rattle.diagram.specs.Den.{den-zero, den-one}
 use Rattle.diagram.specs.Canon.{canonical}
 use Rattle.diagram.specs.Keep.{keeps-reach-back, reach-within}
 use Rattle.book.specs.Bridge.{fnOf}
-use Rattle.book.specs.Book.{Book, Call, relation, set, clear, collect, Question, node, member, count, Done, registers, refused, nodeOf, asked, oneOf, does, answer}
-use Rattle.book.specs.Stored.{Whole, set-cases, relation-cases, range-cases, set-means, some-inj, none-some}
+use Rattle.book.specs.Book.{Book, Call, relation, set, valid, clear, collect, Question, node, member, count, Done, registers, refused, nodeOf, asked, oneOf, does, answer}
+use Rattle.book.specs.Stored.{Whole, set-cases, relation-cases, valid-cases, range-cases, set-means, some-inj, none-some}
 use Rattle.book.specs.Table.{Table, Reply, Shows, SettledTo, Agrees, Serves, Tells}
 use Rattle.book.specs.Roots.{roots-within}
 use Rattle.book.specs.Leaves.{shows-filled, shows-empty}
@@ -67,6 +67,7 @@ settled-number b t u s z r l x y h i j =
 abbrev pub settledIn : Call → ℕ → ℕ
 settledIn (relation t bs) v = v
 settledIn (set acc r R bs) v = min v 2
+settledIn (valid bs) v = v
 settledIn (clear r) v = v
 settledIn collect v = v
 
@@ -105,6 +106,7 @@ call-value (set acc r R bs) b {u = u} {v} {y} {z} p q = by-cases (ℕ-discrete (
     refusing n =
         let settled = set-cases (λ (d : Done). (d .1 .number ≡ 0 → ⊥) → T (filled (d .1 .value))) b acc r R bs (λ k i j m. tt) (λ l h k m. absurd (m refl)) (λ e. n (p .agrees .number ∙ e)) in
         ap (λ (k : ℕ). min k 2) (one-value (does b (set acc r R bs) .1 .value) settled (p .agrees .value) (q .agrees .value))
+call-value (valid bs) b p q = one-value (does b (valid bs) .1 .value) (valid-cases (λ (d : Done). T (filled (d .1 .value))) b bs (λ k i j. tt) (λ t h. tt)) (p .agrees .value) (q .agrees .value)
 call-value (clear r) b p q =
     one-value (does b (clear r) .1 .value) (range-cases (λ (d : Done). T (filled (d .1 .value))) r registers _ _ (λ l. tt) (λ l. tt)) (p .agrees .value) (q .agrees .value)
 call-value collect b p q = p .agrees .value ∙ sym (q .agrees .value)
@@ -130,7 +132,7 @@ collect-used b {t} {u} {v} p q i = same (u .rows .used i) (v .rows .used i) (use
   where
     uses : {u v : Table} {y z : Reply} → Serves b collect t u y → Serves b collect t v z → u .rows .used i ≡ true → v .rows .used i ≡ true
     uses {u} p q e =
-        let old = roots-within u t (u .reg) (u .rel) (λ r a l h. sym (p .numbers r l) ∙ h) (λ r a l h. sym (p .rels r l refl) ∙ h) in
+        let old = roots-within t (some (u .valid)) (u .reg) (u .rel) (λ a e. sym (p .valid refl) ∙ some-inj e) (λ r a l h. sym (p .numbers r l) ∙ h) (λ r a l h. sym (p .rels r l refl) ∙ h) in
         q .kept .used i (keeps-reach-back (p .kept) (reach-within (λ a j _. old a) (p .swept i e)))
 
     same : (x y : Bool) → (x ≡ true → y ≡ true) → (y ≡ true → x ≡ true) → x ≡ y

@@ -10,7 +10,7 @@ use lib.Dec.{T, leb, ltb, ltb→lt, lt→ltb, eqb}
 use lib.ListN.{length, getD, take, drop}
 use Rattle.mucalculus.specs.Order.{weight}
 use Rattle.accounts.specs.Terms.{alone}
-use Rattle.book.specs.Book.{Book, fresh, freshFits, Call, relation, set, clear, collect, count, Done, does, answer}
+use Rattle.book.specs.Book.{Book, fresh, freshFits, Call, relation, set, valid, clear, collect, count, Done, does, answer}
 use Rattle.book.specs.Compute.{computing}
 
 -- a line: four decimal fields, or the last one
@@ -60,6 +60,8 @@ valueOf (some x) = x
 abbrev pub opOf : Call → ℕ
 opOf (relation t bs) = 2
 opOf (set acc r R bs) = 3
+-- no record asks for it
+opOf (valid bs) = 0
 opOf (clear r) = 4
 opOf collect = 6
 
@@ -67,6 +69,7 @@ opOf collect = 6
 abbrev pub shown : Call → Done → ℕ
 shown (relation t bs) d = 0
 shown (set acc r R bs) d = statesIn (d .0 .reg r)
+shown (valid bs) d = 0
 shown (clear r) d = 0
 shown collect d = valueOf (d .1 .value)
 

@@ -12,9 +12,9 @@ use Rattle.diagram.specs.Count.{Within}
 use Rattle.diagram.specs.Rows.{Rows}
 use Rattle.book.specs.Bridge.{fnOf, fnOfPairs}
 use Rattle.book.specs.Run.{addFilled, contents}
-use Rattle.book.specs.Book.{Book, Call, relation, set, clear, collect, registers, relations, liveOf}
-use Rattle.book.specs.Stored.{none-some}
-use Rattle.book.specs.Table.{Table, Reply, Place, Shows, addRoot, arrowsOf, rootsOf, noted, storesRel, keptReg, keptRoots}
+use Rattle.book.specs.Book.{Book, Call, relation, set, valid, clear, collect, registers, relations, liveOf}
+use Rattle.book.specs.Stored.{none-some, some-inj}
+use Rattle.book.specs.Table.{Table, Reply, Place, Shows, addRoot, arrowsOf, rootsOf, noted, storesRel, storesValid, keptReg, keptRoots}
 use Rattle.book.specs.Held.{Held, held-push}
 
 pub arrowsOf-mem : (k : ℕ) (h : ℕ → Option ℕ) (i a : ℕ) → i < k → h i ≡ some a → Mem a (arrowsOf k h)
@@ -51,7 +51,7 @@ held-places {X} m rows f (suc k) h g p = go (h 0) (g 0) (p 0 (omega arith)) (hel
 -- a table's roots hold what is live in the book that it shows
 pub shows-held : (b : Book) (t : Table) → Shows b t → Held (2 * b .n) (t .rows) (rootsOf t) (liveOf b)
 shows-held b t s =
-    held-append (held-places (2 * b .n) (t .rows) (fnOf (b .n)) registers (b .reg) (t .reg) (s .reg)) (held-places (2 * b .n) (t .rows) (fnOfPairs (b .n)) relations (b .rel) (t .rel) (s .rel))
+    held-push (held-append (held-places (2 * b .n) (t .rows) (fnOf (b .n)) registers (b .reg) (t .reg) (s .reg)) (held-places (2 * b .n) (t .rows) (fnOfPairs (b .n)) relations (b .rel) (t .rel) (s .rel))) (s .valid)
 
 -- ---- fewer roots
 
@@ -71,12 +71,19 @@ of-arrowsOf (suc k) h a m = go (h 0) refl (of-arrowsOf k (λ i. h (suc i)) a) m
     go (some b) e below x = ⊎-elim (λ q. (0, omega arith, e ∙ ap some (sym q))) (λ y. up (below y)) (mem-cases x)
 
 -- roots that are filled in g too
-pub roots-within : (t u : Table) (h g : ℕ → Option ℕ) → ((i a : ℕ) → i < registers → h i ≡ some a → u .reg i ≡ some a) → ((i a : ℕ) → i < relations → g i ≡ some a → u .rel i ≡ some a)
-    → Within (arrowsOf registers h ++ arrowsOf relations g) (rootsOf u)
-roots-within t u h g p q a m =
-    ⊎-elim (λ x. let w = of-arrowsOf registers h a x in mem-left {s = arrowsOf registers (u .reg)} (arrowsOf relations (u .rel)) (arrowsOf-mem registers (u .reg) (w .0) a (w .1) (p (w .0) a (w .1) (w .2))))
-    (λ x. let w = of-arrowsOf relations g a x in mem-right (arrowsOf registers (u .reg)) (arrowsOf-mem relations (u .rel) (w .0) a (w .1) (q (w .0) a (w .1) (w .2))))
-    (append-cases (arrowsOf registers h) m)
+pub roots-within : (u : Table) (o : Option ℕ) (h g : ℕ → Option ℕ) → ((a : ℕ) → o ≡ some a → u .valid ≡ a) → ((i a : ℕ) → i < registers → h i ≡ some a → u .reg i ≡ some a)
+    → ((i a : ℕ) → i < relations → g i ≡ some a → u .rel i ≡ some a) → Within (addRoot o (arrowsOf registers h ++ arrowsOf relations g)) (rootsOf u)
+roots-within u o h g v p q a m = first o refl m
+  where
+    others : Mem a (arrowsOf registers h ++ arrowsOf relations g) → Mem a (rootsOf u)
+    others m =
+        there (⊎-elim (λ x. let w = of-arrowsOf registers h a x in mem-left {s = arrowsOf registers (u .reg)} (arrowsOf relations (u .rel)) (arrowsOf-mem registers (u .reg) (w .0) a (w .1) (p (w .0) a (w .1) (w .2))))
+        (λ x. let w = of-arrowsOf relations g a x in mem-right (arrowsOf registers (u .reg)) (arrowsOf-mem relations (u .rel) (w .0) a (w .1) (q (w .0) a (w .1) (w .2))))
+        (append-cases (arrowsOf registers h) m))
+
+    first : (x : Option ℕ) → o ≡ x → Mem a (addRoot x (arrowsOf registers h ++ arrowsOf relations g)) → Mem a (rootsOf u)
+    first none e m = others m
+    first (some b) e m = ⊎-elim (λ i. here (i ∙ sym (v b e))) others (mem-cases m)
 
 -- what is none where a test holds, and else is filled
 cond-filled : (t : Bool) (o : Option ℕ) (a : ℕ) → cond t none o ≡ some a → (t ≡ false) × (o ≡ some a)
@@ -85,19 +92,20 @@ cond-filled false o a e = (refl, e)
 
 -- what a call leaves of the roots are roots before it
 pub kept-before : (c : Call) (y : Reply) (t : Table) → Within (keptRoots c y t) (rootsOf t)
-kept-before c y t = roots-within t t (keptReg c y (t .reg)) (λ q. cond (storesRel c y q) none (t .rel q)) (λ i a l e. reg c i a e) (λ i a l e. cond-filled (storesRel c y i) (t .rel i) a e .1)
+kept-before c y t = roots-within t (cond (storesValid c y) none (some (t .valid))) (keptReg c y (t .reg)) (λ q. cond (storesRel c y q) none (t .rel q)) (λ a e. some-inj (cond-filled (storesValid c y) (some (t .valid)) a e .1)) (λ i a l e. reg c i a e) (λ i a l e. cond-filled (storesRel c y i) (t .rel i) a e .1)
   where
     reg : (c : Call) (i a : ℕ) → keptReg c y (t .reg) i ≡ some a → t .reg i ≡ some a
     reg (relation q bs) i a e = e
     reg (set acc q R bs) i a e = cond-filled (eqb (y .number) 0 && eqb i q) (t .reg i) a e .1
+    reg (valid bs) i a e = e
     reg (clear q) i a e = cond-filled (eqb (y .number) 0 && eqb i q) (t .reg i) a e .1
     reg collect i a e = e
 
 -- and after it
 pub kept-after : (c : Call) (y : Reply) (t u : Table) → ((r : ℕ) → r < registers → u .reg r ≡ noted (t .reg r) c y r) → ((q : ℕ) → q < relations → storesRel c y q ≡ false → u .rel q ≡ t .rel q)
-    → Within (keptRoots c y t) (rootsOf u)
-kept-after c y t u p q =
-    roots-within t u (keptReg c y (t .reg)) (λ x. cond (storesRel c y x) none (t .rel x)) (λ i a l e. p i l ∙ reg c i a e) (λ i a l e. let w = cond-filled (storesRel c y i) (t .rel i) a e in q i l (w .0) ∙ w .1)
+    → (storesValid c y ≡ false → u .valid ≡ t .valid) → Within (keptRoots c y t) (rootsOf u)
+kept-after c y t u p q v =
+    roots-within u (cond (storesValid c y) none (some (t .valid))) (keptReg c y (t .reg)) (λ x. cond (storesRel c y x) none (t .rel x)) (λ a e. let w = cond-filled (storesValid c y) (some (t .valid)) a e in v (w .0) ∙ some-inj (w .1)) (λ i a l e. p i l ∙ reg c i a e) (λ i a l e. let w = cond-filled (storesRel c y i) (t .rel i) a e in q i l (w .0) ∙ w .1)
   where
     -- no target
     other : (b : Bool) (new old : Option ℕ) (a : ℕ) → cond b none old ≡ some a → cond b new old ≡ some a
@@ -107,5 +115,6 @@ kept-after c y t u p q =
     reg : (c : Call) (i a : ℕ) → keptReg c y (t .reg) i ≡ some a → noted (t .reg i) c y i ≡ some a
     reg (relation x bs) i a e = e
     reg (set acc x R bs) i a e = other (eqb (y .number) 0 && eqb i x) (some (y .value)) (t .reg i) a e
+    reg (valid bs) i a e = e
     reg (clear x) i a e = other (eqb (y .number) 0 && eqb i x) none (t .reg i) a e
     reg collect i a e = e

@@ -1,29 +1,33 @@
 -- What the book's calls store: the meaning of the formula over the book as it stood before the call, with the formula's rounds; and every
 -- filled place of the book has its full size. Assumes nothing.
 use mathlib.Core.Path.{_≡_, refl, sym, ap, _∙_, subst}
-use mathlib.Core.Bool.{Bool, true, false, cond}
+use mathlib.Core.Bool.{Bool, true, false, not, _&&_, cond}
 use mathlib.Core.List.{List, [], _∷_}
 use mathlib.Core.Option.{Option, none, some}
-use Prim.Native.Nat.{ℕ, zero, suc, _+_, _≤_, _<_, max, zero-le}
+use Prim.Native.Nat.{ℕ, zero, suc, _^_, _+_, _≤_, _<_, max, zero-le}
 use native.Mathlib.Omega.{arith}
 use native.Mathlib.Nat.{lt-of-not-le}
 use lib.Dec.{T, ltb, ltb→lt, lt→ltb, eqb, eqb→eq}
 use lib.ListN.{length}
-use Rattle.mucalculus.specs.Form.{Form, bound, noneOpen, mentioned, steady, Pairs, noEnv, put}
-use Rattle.mucalculus.specs.Means.{means, meansPair, holds, length-means}
+use Rattle.mucalculus.specs.Form.{filled as filledPlace, Form, bound, noneOpen, mentioned, steady, Pairs, noEnv, put}
+use Rattle.mucalculus.specs.Means.{clip, means, meansPair, pair, pairsWithin, length-means}
+use Rattle.mucalculus.specs.Sets.{mem, table, mem-table, length-table, and-out}
+use Rattle.mucalculus.specs.Order.{Below}
+use Rattle.mucalculus.specs.Laws.{getD-table}
+use Rattle.mucalculus.specs.Exist.{Inside, means-in}
 use Rattle.mucalculus.specs.Rounds.{rounds}
 use Rattle.tokens.specs.declared.Kind.{Kind}
 use Rattle.formula.specs.Parse.{isFormula, formulaOf}
 use Rattle.formula.specs.Checks.{filled, firstOf, firstRefusal}
-use Rattle.tokens.specs.declared.Kind.the-variants.{Relation, Set}
+use Rattle.tokens.specs.declared.Kind.the-variants.{Relation, Set, Valid}
 use Rattle.accounts.specs.declared.Terms.{Terms}
 use Rattle.accounts.specs.Terms.{named, rowsUnder, roundsUnder}
 use Rattle.accounts.specs.declared.Count.{Count}
 use Rattle.accounts.specs.Count.{nothing}
 use Rattle.book.specs.Bridge.{Sized, SizedPairs, sized-table}
-use Rattle.book.specs.Ticks.{ticks, pairTicks, Verdict, counted, full, spent, verdict, peak, needsIn}
+use Rattle.book.specs.Ticks.{ticks, pairTicks, relationTicks, Verdict, counted, full, spent, verdict, peak, needsIn}
 use Rattle.book.specs.Verdicts.{roundsIn, verdict-counted, ticks-rounds}
-use Rattle.book.specs.Book.{formulaIn, Book, fresh, Call, relation, set, clear, collect, registers, relations, modelOf, liveOf, regFilled, relFilled, checks, Done, refuse, withRel, withReg, ended, relationDone, setDone, relationSteps, setSteps, passing, formulaCall, does}
+use Rattle.book.specs.Book.{formulaIn, Book, fresh, Call, relation, set, valid, clear, collect, withValid, everything, statesOf, vacant, unfilled, validDone, validSteps, registers, relations, modelOf, liveOf, regFilled, relFilled, checks, Done, refuse, withRel, withReg, ended, relationDone, setDone, relationSteps, setSteps, passing, formulaCall, does}
 
 -- ---- the checks
 
@@ -115,8 +119,16 @@ pub relation-cases : (P : Done → Type 0) (b : Book) (t : ℕ) (bs : List ℕ) 
 relation-cases P b t bs refuses goes =
     range-cases P t relations _ _
     (λ l. formula-cases b Relation bs P (relationSteps b t) (λ k i j. refuses k (omega arith) (omega arith))
-    (λ p. ended-cases P b (verdict (b .N) 0 nothing (pairTicks (b .n) (liveOf b) (formulaIn b Relation bs))) _ (goes l p) (refuses 7 (omega arith) (omega arith)) (refuses 8 (omega arith) (omega arith))))
+    (λ p. ended-cases P b (verdict (b .N) 0 nothing (relationTicks (b .n) (liveOf b) (b .valid) (formulaIn b Relation bs))) _ (goes l p) (refuses 7 (omega arith) (omega arith)) (refuses 8 (omega arith) (omega arith))))
     (λ l. refuses 2 (omega arith) (omega arith))
+
+pub valid-cases : (P : Done → Type 0) (b : Book) (bs : List ℕ) → ((k : ℕ) → 2 ≤ k → k ≤ 13 → P (refuse b (suc k)))
+    → (T (unfilled b) → Passed b Valid bs → P (validDone b (formulaIn b Valid bs))) → P (does b (valid bs))
+valid-cases P b bs refuses goes =
+    test-cases P (unfilled b) _ _
+    (λ t. formula-cases b Valid bs P (validSteps b) (λ k i j. refuses k (omega arith) (omega arith))
+    (λ p. ended-cases P b (verdict (b .N) 0 nothing (pairTicks (b .n) (liveOf b) (formulaIn b Valid bs))) _ (λ q. goes t p) (refuses 7 (omega arith) (omega arith)) (refuses 8 (omega arith) (omega arith))))
+    (λ e. refuses 12 (omega arith) (omega arith))
 
 -- ---- what is stored
 
@@ -159,22 +171,22 @@ set-means b acc r R bs =
     (λ e z. absurd (omega arith)))
     (λ l z. absurd (omega arith))
 
--- an answered relation call: its bytes were a formula, the pairs in which it holds are what relation t holds, and the peak is the largest need of its steps
+-- an answered relation call: its bytes were a formula, the pairs within V in which it holds are what relation t holds, and the peak is the largest need of its steps
 pub record Relates (b : Book) (t : ℕ) (bs : List ℕ) (d : Done) : Type 0 where
   pub range : t < relations
   pub passed : Passed b Relation bs
-  pub stored : d .0 ≡ withRel b t (some (meansPair (b .n) (formulaIn b Relation bs)))
-  pub peaks : d .1 .peak ≡ peak (needsIn (pairTicks (b .n) (liveOf b) (formulaIn b Relation bs)))
+  pub stored : d .0 ≡ withRel b t (some (pairsWithin (b .n) (b .valid) (meansPair (b .n) (formulaIn b Relation bs))))
+  pub peaks : d .1 .peak ≡ peak (needsIn (relationTicks (b .n) (liveOf b) (b .valid) (formulaIn b Relation bs)))
 
 relation-stored : (b : Book) (t : ℕ) (f : Form) → relationSteps b t f .1 .number ≡ 0
-    → (relationSteps b t f .0 ≡ withRel b t (some (meansPair (b .n) f))) × (relationSteps b t f .1 .peak ≡ peak (needsIn (pairTicks (b .n) (liveOf b) f)))
-relation-stored b t f h = go (verdict (b .N) 0 nothing (pairTicks (b .n) (liveOf b) f)) refl h
+    → (relationSteps b t f .0 ≡ withRel b t (some (pairsWithin (b .n) (b .valid) (meansPair (b .n) f)))) × (relationSteps b t f .1 .peak ≡ peak (needsIn (relationTicks (b .n) (liveOf b) (b .valid) f)))
+relation-stored b t f h = go (verdict (b .N) 0 nothing (relationTicks (b .n) (liveOf b) (b .valid) f)) refl h
   where
-    go : (w : Verdict) → verdict (b .N) 0 nothing (pairTicks (b .n) (liveOf b) f) ≡ w → ended b w (λ q. relationDone b t f q) .1 .number ≡ 0
-        → (ended b w (λ q. relationDone b t f q) .0 ≡ withRel b t (some (meansPair (b .n) f))) × (ended b w (λ q. relationDone b t f q) .1 .peak ≡ peak (needsIn (pairTicks (b .n) (liveOf b) f)))
+    go : (w : Verdict) → verdict (b .N) 0 nothing (relationTicks (b .n) (liveOf b) (b .valid) f) ≡ w → ended b w (λ q. relationDone b t f q) .1 .number ≡ 0
+        → (ended b w (λ q. relationDone b t f q) .0 ≡ withRel b t (some (pairsWithin (b .n) (b .valid) (meansPair (b .n) f)))) × (ended b w (λ q. relationDone b t f q) .1 .peak ≡ peak (needsIn (relationTicks (b .n) (liveOf b) (b .valid) f)))
     go (counted q) e z =
-        let d = verdict-counted (b .N) 0 nothing (pairTicks (b .n) (liveOf b) f) q zero-le e in
-        let k : max 0 (peak (needsIn (pairTicks (b .n) (liveOf b) f))) ≡ peak (needsIn (pairTicks (b .n) (liveOf b) f)) = omega arith in
+        let d = verdict-counted (b .N) 0 nothing (relationTicks (b .n) (liveOf b) (b .valid) f) q zero-le e in
+        let k : max 0 (peak (needsIn (relationTicks (b .n) (liveOf b) (b .valid) f))) ≡ peak (needsIn (relationTicks (b .n) (liveOf b) (b .valid) f)) = omega arith in
         (refl, ap (λ (c : Count). c .peak) (d .0) ∙ k)
     go full e z = absurd (omega arith)
     go spent e z = absurd (omega arith)
@@ -186,11 +198,21 @@ relation-means b t bs =
     (λ p z. let w = relation-stored b t (formulaIn b Relation bs) z in record { range = l; passed = p; stored = w .0; peaks = w .1 }))
     (λ l z. absurd (omega arith))
 
--- ---- every filled place has its full size, and none is filled past the registers and relations
+-- an answered valid: nothing was filled, its bytes were a formula, and the states in which it holds, over all 2^n, are V
+pub record Fixes (b : Book) (bs : List ℕ) (d : Done) : Type 0 where
+  pub free : T (unfilled b)
+  pub passed : Passed b Valid bs
+  pub stored : d .0 ≡ withValid b (statesOf (b .n) (formulaIn b Valid bs))
+
+pub valid-means : (b : Book) (bs : List ℕ) → does b (valid bs) .1 .number ≡ 0 → Fixes b bs (does b (valid bs))
+valid-means b bs = valid-cases (λ (d : Done). d .1 .number ≡ 0 → Fixes b bs d) b bs (λ k i j z. absurd (omega arith)) (λ t p z. record { free = t; passed = p; stored = refl })
+
+-- ---- every filled place has its full size and is within V, and none is filled past the registers and relations
 
 pub record Whole (b : Book) : Type 0 where
-  pub reg : (r : ℕ) (A : List Bool) → b .reg r ≡ some A → Sized (b .n) A × (r < registers)
-  pub rel : (t : ℕ) (Q : Pairs) → b .rel t ≡ some Q → SizedPairs (b .n) Q × (t < relations)
+  pub valid : Sized (b .n) (b .valid)
+  pub reg : (r : ℕ) (A : List Bool) → b .reg r ≡ some A → Sized (b .n) A × (r < registers) × Below A (b .valid)
+  pub rel : (t : ℕ) (Q : Pairs) → b .rel t ≡ some Q → SizedPairs (b .n) Q × (t < relations) × Inside (2 ^ b .n) (b .valid) Q
 
 -- a place of a filled or emptied function: the new one or an old one
 put-cases : {X : Type 0} (h : ℕ → Option X) (i : ℕ) (o : Option X) (P : ℕ → X → Type 0) → ((x : X) → o ≡ some x → P i x) → ((j : ℕ) (x : X) → h j ≡ some x → P j x)
@@ -208,16 +230,52 @@ pub none-some : {X : Type 0} {x : X} → none ≡ some x → ⊥
 none-some e = let z : _≡_ {A = ℕ} 0 1 = cc in absurd (omega arith)
 
 pub whole-fresh : (n N : ℕ) → Whole (fresh n N)
-whole-fresh n N = record { reg = λ r A e. absurd (none-some e); rel = λ t Q e. absurd (none-some e) }
+whole-fresh n N = record { valid = length-table (2 ^ n) (λ s. true); reg = λ r A e. absurd (none-some e); rel = λ t Q e. absurd (none-some e) }
 
-whole-reg : (b : Book) (r : ℕ) (o : Option (List Bool)) → Whole b → ((A : List Bool) → o ≡ some A → Sized (b .n) A × (r < registers)) → Whole (withReg b r o)
-whole-reg b r o w h = record { reg = put-cases (b .reg) r o (λ i A. Sized (b .n) A × (i < registers)) h (w .reg); rel = w .rel }
+whole-reg : (b : Book) (r : ℕ) (o : Option (List Bool)) → Whole b → ((A : List Bool) → o ≡ some A → Sized (b .n) A × (r < registers) × Below A (b .valid)) → Whole (withReg b r o)
+whole-reg b r o w h = record { valid = w .valid; reg = put-cases (b .reg) r o (λ i A. Sized (b .n) A × (i < registers) × Below A (b .valid)) h (w .reg); rel = w .rel }
 
-whole-rel : (b : Book) (t : ℕ) (f : Form) → t < relations → Whole b → Whole (withRel b t (some (meansPair (b .n) f)))
+-- pairs within V
+pub within-inside : (n : ℕ) (E : List Bool) (Q : Pairs) → Inside (2 ^ n) E (pairsWithin n E Q)
+within-inside n E Q s u l i p =
+    let e : pair (pairsWithin n E Q) s u ≡ ((pair Q s u && mem E s) && mem E u) =
+    ap (λ (A : List Bool). mem A u) (getD-table (2 ^ n) (λ s. table (2 ^ n) (λ t. (pair Q s t && mem E s) && mem E t)) s [] l) ∙ getD-table (2 ^ n) (λ t. (pair Q s t && mem E s) && mem E t) u false i
+    in
+    let w = and-out (pair Q s u && mem E s) (mem E u) (subst T e p) in
+    (and-out (pair Q s u) (mem E s) (w .0) .1, w .1)
+
+whole-rel : (b : Book) (t : ℕ) (f : Form) → t < relations → Whole b → Whole (withRel b t (some (pairsWithin (b .n) (b .valid) (meansPair (b .n) f))))
 whole-rel b t f l w = record {
+  valid = w .valid;
   reg = w .reg;
-  rel = put-cases (b .rel) t (some (meansPair (b .n) f)) (λ i Q. SizedPairs (b .n) Q × (i < relations)) (λ Q i. (subst (SizedPairs (b .n)) (some-inj i) (sized-table (b .n) (holds f)), l)) (w .rel);
+  rel = put-cases (b .rel) t (some (pairsWithin (b .n) (b .valid) (meansPair (b .n) f))) (λ i Q. SizedPairs (b .n) Q × (i < relations) × Inside (2 ^ b .n) (b .valid) Q)
+      (λ Q i. subst (λ (Z : Pairs). SizedPairs (b .n) Z × (t < relations) × Inside (2 ^ b .n) (b .valid) Z) (some-inj i)
+      (sized-table (b .n) (λ s u. (pair (meansPair (b .n) f) s u && mem (b .valid) s) && mem (b .valid) u), l, within-inside (b .n) (b .valid) (meansPair (b .n) f))) (w .rel);
 }
+
+-- a place of vacant ones is empty
+pub vacant-none : {X : Type 0} (k : ℕ) (h : ℕ → Option X) → T (vacant k h) → (i : ℕ) (x : X) → i < k → h i ≡ some x → ⊥
+vacant-none zero h t i x l e = absurd (omega arith)
+vacant-none {X} (suc k) h t zero x l e = go (h 0) e (and-out (not (filledPlace (h 0))) (vacant k (λ i. h (suc i))) t .0)
+  where
+    go : (o : Option X) → o ≡ some x → T (not (filledPlace o)) → ⊥
+    go none i y = none-some i
+    go (some z) i y = y
+vacant-none (suc k) h t (suc i) x l e = vacant-none k (λ j. h (suc j)) (and-out (not (filledPlace (h 0))) (vacant k (λ i. h (suc i))) t .1) i x (omega arith) e
+
+-- another V where nothing is filled
+whole-valid : (b : Book) (E : List Bool) → Sized (b .n) E → T (unfilled b) → Whole b → Whole (withValid b E)
+whole-valid b E z t w =
+    let u = and-out (vacant registers (b .reg)) (vacant relations (b .rel)) t in
+    record {
+      valid = z;
+      reg = λ r A e. absurd (vacant-none registers (b .reg) (u .0) r A (w .reg r A e .1) e);
+      rel = λ q Q e. absurd (vacant-none relations (b .rel) (u .1) q Q (w .rel q Q e .1) e);
+    }
+
+-- the states that exist are V's
+pub exist-below : (n : ℕ) (E : List Bool) → Below (clip (2 ^ n) E) E
+exist-below n E s p = and-out (ltb s (2 ^ n)) (mem E s) (subst T (mem-table (2 ^ n) (λ t. mem E t) s) p) .1
 
 -- a call keeps the book whole
 pub whole-does : (b : Book) (c : Call) → Whole b → Whole (does b c .0)
@@ -225,7 +283,10 @@ whole-does b (relation t bs) w = relation-cases (λ (d : Done). Whole (d .0)) b 
 whole-does b (set acc r R bs) w =
     set-cases (λ (d : Done). Whole (d .0)) b acc r R bs (λ k i j. w) (λ l p q.
     let f = formulaIn b Set bs in
-    whole-reg b r (some (means (modelOf b) noEnv f)) w (λ B i. (ap length (sym (some-inj i)) ∙ length-means (modelOf b) noEnv f, l)))
+    whole-reg b r (some (means (modelOf b) noEnv f)) w (λ B i.
+    (ap length (sym (some-inj i)) ∙ length-means (modelOf b) noEnv f, l, subst (λ (X : List Bool). Below X (b .valid)) (some-inj i) (λ s p. exist-below (b .n) (b .valid) s (means-in (modelOf b) noEnv f s p)))))
 whole-does b (clear r) w =
     range-cases (λ (d : Done). Whole (d .0)) r registers _ _ (λ l. whole-reg b r none w (λ A i. absurd (none-some i))) (λ l. w)
+whole-does b (valid bs) w =
+    valid-cases (λ (d : Done). Whole (d .0)) b bs (λ k i j. w) (λ t p. whole-valid b (statesOf (b .n) (formulaIn b Valid bs)) (length-means (everything (b .n)) noEnv (formulaIn b Valid bs)) t w)
 whole-does b collect w = w

@@ -11,12 +11,13 @@ use Rattle.diagram.specs.Post.{Denotes}
 use Rattle.diagram.specs.Reach.{Reach}
 use Rattle.diagram.specs.Keep.{Keeps}
 use Rattle.book.specs.Bridge.{fnOf, fnOfPairs}
-use Rattle.book.specs.Book.{Book, Call, relation, set, clear, collect, Question, node, member, count, Answer, registers, relations, does, answer}
+use Rattle.book.specs.Book.{Book, Call, relation, set, valid, clear, collect, Question, node, member, count, Answer, registers, relations, does, answer}
 
--- a table: its header, its rows, and the arrow in each register and relation
+-- a table: its header, its rows, the arrow of V, and the arrow in each register and relation
 pub record Table : Type 0 where
   pub n : ℕ
   pub N : ℕ
+  pub valid : ℕ
   pub rows : Rows
   pub reg : ℕ → Option ℕ
   pub rel : ℕ → Option ℕ
@@ -40,6 +41,7 @@ pub record Shows (b : Book) (t : Table) : Type 0 where
   pub n : t .n ≡ b .n
   pub N : t .N ≡ b .N
   pub wf : WellFormed (2 * b .n) (b .N) (t .rows)
+  pub valid : Denotes (2 * b .n) (t .rows) (t .valid) (fnOf (b .n) (b .valid))
   pub reg : (r : ℕ) → r < registers → Place (2 * b .n) (t .rows) (fnOf (b .n)) (b .reg r) (t .reg r)
   pub rel : (r : ℕ) → r < relations → Place (2 * b .n) (t .rows) (fnOfPairs (b .n)) (b .rel r) (t .rel r)
 
@@ -52,9 +54,9 @@ abbrev pub arrowsOf : ℕ → (ℕ → Option ℕ) → List ℕ
 arrowsOf zero h = []
 arrowsOf (suc k) h = addRoot (h 0) (arrowsOf k (λ i. h (suc i)))
 
--- the roots of a table: the arrows in its filled registers and relations
+-- the roots of a table: V's arrow, and the arrows in its filled registers and relations
 abbrev pub rootsOf : Table → List ℕ
-rootsOf t = arrowsOf registers (t .reg) ++ arrowsOf relations (t .rel)
+rootsOf t = t .valid ∷ (arrowsOf registers (t .reg) ++ arrowsOf relations (t .rel))
 
 -- ---- what a reply has to be
 
@@ -80,6 +82,7 @@ Refusal k y = (y .number ≡ k) × (y .rounds ≡ 0) × (y .peak ≡ 0) × (y .v
 abbrev pub noted : Option ℕ → Call → Reply → ℕ → Option ℕ
 noted x (relation t bs) y r = x
 noted x (set acc q R bs) y r = cond (eqb (y .number) 0 && eqb r q) (some (y .value)) x
+noted x (valid bs) y r = x
 noted x (clear q) y r = cond (eqb (y .number) 0 && eqb r q) none x
 noted x collect y r = x
 
@@ -87,23 +90,34 @@ noted x collect y r = x
 abbrev pub storesRel : Call → Reply → ℕ → Bool
 storesRel (relation t bs) y q = eqb (y .number) 0 && eqb q t
 storesRel (set acc r R bs) y q = false
+storesRel (valid bs) y q = false
 storesRel (clear r) y q = false
 storesRel collect y q = false
+
+-- the call was an answered valid
+abbrev pub storesValid : Call → Reply → Bool
+storesValid (relation t bs) y = false
+storesValid (set acc r R bs) y = false
+storesValid (valid bs) y = eqb (y .number) 0
+storesValid (clear r) y = false
+storesValid collect y = false
 
 -- the roots that a call leaves as they are: all but an answered call's target
 abbrev pub keptReg : Call → Reply → (ℕ → Option ℕ) → ℕ → Option ℕ
 keptReg (relation t bs) y h r = h r
 keptReg (set acc q R bs) y h r = cond (eqb (y .number) 0 && eqb r q) none (h r)
+keptReg (valid bs) y h r = h r
 keptReg (clear q) y h r = cond (eqb (y .number) 0 && eqb r q) none (h r)
 keptReg collect y h r = h r
 
 abbrev pub keptRoots : Call → Reply → Table → List ℕ
-keptRoots c y t = arrowsOf registers (keptReg c y (t .reg)) ++ arrowsOf relations (λ q. cond (storesRel c y q) none (t .rel q))
+keptRoots c y t = addRoot (cond (storesValid c y) none (some (t .valid))) (arrowsOf registers (keptReg c y (t .reg)) ++ arrowsOf relations (λ q. cond (storesRel c y q) none (t .rel q)))
 
--- "unneeded rows (none is left used by an answered collect)": each used row is reached from a register or relation
+-- "unneeded rows (none is left used by an answered collect)": each used row is reached from V, a register or a relation
 abbrev pub Swept : Call → Table → Type 0
 Swept (relation t bs) after = Unit {0}
 Swept (set acc r R bs) after = Unit {0}
+Swept (valid bs) after = Unit {0}
 Swept (clear r) after = Unit {0}
 Swept collect after = (i : ℕ) → after .rows .used i ≡ true → Reach (after .rows) (rootsOf after) i
 
@@ -113,6 +127,8 @@ pub record Serves (b : Book) (c : Call) (before after : Table) (y : Reply) : Typ
   pub agrees : Agrees (does b c .1) y
   pub numbers : (r : ℕ) → r < registers → after .reg r ≡ noted (before .reg r) c y r
   pub rels : (q : ℕ) → q < relations → storesRel c y q ≡ false → after .rel q ≡ before .rel q
+  -- "V … is kept by every refusal"
+  pub valid : storesValid c y ≡ false → after .valid ≡ before .valid
   -- "Kept: registers, relations, rows they need", row by row
   pub kept : Keeps (before .rows) (after .rows) (keptRoots c y before)
   pub swept : Swept c after

@@ -12,7 +12,7 @@ use Rattle.accounts.specs.declared.Account.{Account}
 use Rattle.accounts.specs.Account.{tallyTop, tallied, counted, emptied, counted-none}
 use Rattle.accounts.specs.Listed.{none, emptiedTo, length-emptied}
 use Rattle.accounts.specs.Terms.{termsOf}
-use Rattle.book.specs.Book.{Book, Call, relation, set, clear, collect, does, play}
+use Rattle.book.specs.Book.{Book, Call, relation, set, valid, clear, collect, does, play}
 use Rattle.book.specs.Table.{Reply}
 use Rattle.book.specs.Demand.{Event, calls, AllAgree}
 
@@ -22,6 +22,7 @@ use Rattle.book.specs.Demand.{Event, calls, AllAgree}
 abbrev pub charged : List Account → Call → Reply → List Account
 charged l (relation t bs) y = l
 charged l (set acc r R bs) y = cond (eqb (y .number) 0) (place l (acc .place) (counted (getD l (acc .place) none) (y .rounds))) l
+charged l (valid bs) y = l
 charged l (clear r) y = l
 charged l collect y = l
 
@@ -38,6 +39,7 @@ accountsAfter l (e ∷ es) = accountsAfter (charged l (e .0) (e .1)) es
 abbrev pub Fed : List Account → Call → Type 0
 Fed l (relation t bs) = Unit {0}
 Fed l (set acc r R bs) = acc ≡ termsOf l (acc .place)
+Fed l (valid bs) = Unit {0}
 Fed l (clear r) = Unit {0}
 Fed l collect = Unit {0}
 
@@ -47,6 +49,7 @@ Fed l collect = Unit {0}
 abbrev pub spentAt : ℕ → Call → ℕ → ℕ → ℕ
 spentAt p (relation t bs) number q = 0
 spentAt p (set acc r R bs) number q = cond (eqb number 0 && eqb p (acc .place)) q 0
+spentAt p (valid bs) number q = 0
 spentAt p (clear r) number q = 0
 spentAt p collect number q = 0
 
@@ -102,6 +105,7 @@ length-charged l (set acc r R bs) y = go (eqb (y .number) 0)
     go : (t : Bool) → length (cond t (place l (acc .place) (counted (getD l (acc .place) none) (y .rounds))) l) ≡ length l
     go true = length-set l (acc .place) (counted (getD l (acc .place) none) (y .rounds))
     go false = refl
+length-charged l (valid bs) y = refl
 length-charged l (clear r) y = refl
 length-charged l collect y = refl
 
@@ -120,6 +124,7 @@ charged-at l (set acc r R bs) y p i h = go (eqb (y .number) 0) (eqb p (acc .plac
         subst (λ (j : ℕ). getD (place l j (counted (getD l j none) (y .rounds))) p none ≡ counted (getD l p none) (y .rounds)) s (get-same l p (counted (getD l p none) (y .rounds)) i)
     go true false e = get-other l (acc .place) p next (λ s. subst T (ap (eqb p) s ∙ e) (eqb-refl p)) ∙ sym (counted-none (getD l p none) h)
     go false u e = sym (counted-none (getD l p none) h)
+charged-at l (valid bs) y p i h = sym (counted-none (getD l p none) h)
 charged-at l (clear r) y p i h = sym (counted-none (getD l p none) h)
 charged-at l collect y p i h = sym (counted-none (getD l p none) h)
 

@@ -5,10 +5,10 @@ use mathlib.Core.List.{List, [], _∷_, _++_}
 use mathlib.Core.Option.{Option, none, some}
 use Prim.Native.Nat.{ℕ, zero, suc, _*_, _^_, max}
 use lib.Dec.{leb, ltb}
-use Rattle.mucalculus.specs.Sets.{allStates, same}
+use Rattle.mucalculus.specs.Sets.{same}
 use Rattle.mucalculus.specs.Order.{start}
-use Rattle.mucalculus.specs.Form.{Form, bot, top, neg, conj, disj, now, next, var, reg, box, dia, mu, nu, until, Pairs, Model, Env, put, inside}
-use Rattle.mucalculus.specs.Means.{compl, inter, union, always, sometimes, size, means, meansPair}
+use Rattle.mucalculus.specs.Form.{Form, bot, top, neg, conj, disj, now, next, var, reg, box, dia, mu, nu, until, Pairs, Model, Env, put}
+use Rattle.mucalculus.specs.Means.{compl, inter, union, bitStates, always, sometimes, size, exist, related, means, meansPair}
 use Rattle.mucalculus.specs.Until.{further, onward}
 use Rattle.accounts.specs.declared.Count.{Count}
 use Rattle.accounts.specs.Count.{needing, another}
@@ -47,6 +47,13 @@ notNeed n live A = stepNeed (2 * n) (fnOf n A ∷ live) (fnOf n (compl (2 ^ n) A
 abbrev pub twoNeed : ℕ → List Fn → (List Bool → List Bool → List Bool) → List Bool → List Bool → ℕ
 twoNeed n live op A B = stepNeed (2 * n) (fnOf n B ∷ fnOf n A ∷ live) (fnOf n (op A B))
 
+-- "each such bit and NOT, the NOTs of a box included, is followed by AND with V as a step": E is V
+abbrev pub bitNeeds : ℕ → List Fn → List Bool → ℕ → List ℕ
+bitNeeds n live E p = let B = bitStates (2 ^ n) p in stepNeed (2 * n) live (fnOf n B) ∷ twoNeed n live (inter (2 ^ n)) B E ∷ []
+
+abbrev pub notNeeds : ℕ → List Fn → List Bool → List Bool → List ℕ
+notNeeds n live E A = notNeed n live A ∷ twoNeed n live (inter (2 ^ n)) (compl (2 ^ n) A) E ∷ []
+
 -- "Diamond of f: SHIFT f, AND with the relation, EXISTS at levels 2n − 1, 2n − 3, down to 1", of functions of levels
 abbrev pub diamondNeeds : ℕ → List Fn → Fn → Fn → List ℕ
 diamondNeeds n live R F =
@@ -59,10 +66,10 @@ abbrev pub diaNeeds : ℕ → List Fn → Pairs → List Bool → List ℕ
 diaNeeds n live R A = diamondNeeds n live (fnOfPairs n R) (fnOf n A)
 
 -- "Box: NOT f, diamond, NOT"
-abbrev pub boxNeeds : ℕ → List Fn → Pairs → List Bool → List ℕ
-boxNeeds n live R A =
-    let B = compl (2 ^ n) A in
-    notNeed n live A ∷ (diaNeeds n live R B ++ (notNeed n live (sometimes (2 ^ n) R B) ∷ []))
+abbrev pub boxNeeds : ℕ → List Fn → List Bool → Pairs → List Bool → List ℕ
+boxNeeds n live E R A =
+    let B = inter (2 ^ n) (compl (2 ^ n) A) E in
+    notNeeds n live E A ++ (diaNeeds n live R B ++ notNeeds n live E (sometimes (2 ^ n) R B))
 
 -- ---- ticks of a set's formula
 
@@ -77,51 +84,51 @@ abbrev pub roundTicks : (List Bool → List Tick) → (List Bool → List Bool) 
 roundTicks h F zero A = []
 roundTicks h F (suc j) A = let B = F A in let more = roundTicks h F j B in round ∷ (h A ++ cond (same B A) [] more)
 
--- the steps after f in a round of until at the set A: those of diamond X, with `false` those of box X and diamond true
-abbrev pub furtherTicks : Bool → ℕ → List Fn → Pairs → List Bool → List Tick
-furtherTicks true n live R A = steps (diaNeeds n live R A)
-furtherTicks false n live R A =
-    let B = always (2 ^ n) R A in
-    let D = sometimes (2 ^ n) R (allStates (2 ^ n)) in
-    steps (boxNeeds n live R A) ++ (steps (diaNeeds n (fnOf n B ∷ live) R (allStates (2 ^ n))) ++ steps (twoNeed n live (inter (2 ^ n)) B D ∷ []))
+-- the steps after f in a round of until at the set A: those of diamond X, with `false` those of box X and diamond true, which is V
+abbrev pub furtherTicks : Bool → ℕ → List Fn → List Bool → Pairs → List Bool → List Tick
+furtherTicks true n live E R A = steps (diaNeeds n live R A)
+furtherTicks false n live E R A =
+    let B = inter (2 ^ n) (always (2 ^ n) R A) E in
+    let D = sometimes (2 ^ n) R E in
+    steps (boxNeeds n live E R A) ++ (steps (diaNeeds n (fnOf n B ∷ live) R E) ++ steps (twoNeed n live (inter (2 ^ n)) B D ∷ []))
 
 -- f and what follows, in a round of until at the set A: f's ticks are fs and its value is F
-abbrev pub keepTicks : ℕ → List Fn → Bool → Pairs → List Bool → (List Fn → List Tick) → List Bool → List Tick
-keepTicks n live b R F fs A = fs live ++ (furtherTicks b n (fnOf n F ∷ live) R A ++ steps (twoNeed n live (inter (2 ^ n)) F (further b (2 ^ n) R A) ∷ []))
+abbrev pub keepTicks : ℕ → List Fn → Bool → List Bool → Pairs → List Bool → (List Fn → List Tick) → List Bool → List Tick
+keepTicks n live b E R F fs A = fs live ++ (furtherTicks b n (fnOf n F ∷ live) E R A ++ steps (twoNeed n live (inter (2 ^ n)) F (further b (2 ^ n) R A) ∷ []))
 
 -- a round of until at the set A: g's ticks are gs and its value is G
-abbrev pub untilTicks : ℕ → List Fn → Bool → Pairs → List Bool → List Bool → (List Fn → List Tick) → (List Fn → List Tick) → List Bool → List Tick
-untilTicks n live b R F G fs gs A =
+abbrev pub untilTicks : ℕ → List Fn → Bool → List Bool → Pairs → List Bool → List Bool → (List Fn → List Tick) → (List Fn → List Tick) → List Bool → List Tick
+untilTicks n live b E R F G fs gs A =
     let held = fnOf n A ∷ live in
-    gs held ++ (keepTicks n (fnOf n G ∷ held) b R F fs A ++ steps (twoNeed n held (union (2 ^ n)) G (inter (2 ^ n) F (further b (2 ^ n) R A)) ∷ []))
+    gs held ++ (keepTicks n (fnOf n G ∷ held) b E R F fs A ++ steps (twoNeed n held (union (2 ^ n)) G (inter (2 ^ n) F (further b (2 ^ n) R A)) ∷ []))
 
--- the ticks of f: "Left before right, parts before operator". `live` are the functions live throughout: filled registers and relations,
--- current sets of open binders, values made and not yet used. "Mu starts from the empty set, nu from all states"; a binder has ended after
--- 2^n + 1 rounds, a larger bound gives the same ticks: `ticks-cap` (Larger)
+-- the ticks of f: "Left before right, parts before operator". `live` are the functions live throughout: V, filled registers and
+-- relations, current sets of open binders, values made and not yet used. "True takes no step". "Mu starts from the empty set", "nu starts from V";
+-- a binder has ended after 2^n + 1 rounds, a larger bound gives the same ticks: `ticks-cap` (Larger)
 abbrev pub ticks : Model → Env → List Fn → Form → List Tick
 ticks m e live bot = []
 ticks m e live top = []
-ticks m e live (neg f) = ticks m e live f ++ steps (notNeed (m .n) live (means m e f) ∷ [])
+ticks m e live (neg f) = ticks m e live f ++ steps (notNeeds (m .n) live (exist m) (means m e f))
 ticks m e live (conj f g) =
     let A = means m e f in
     ticks m e live f ++ (ticks m e (fnOf (m .n) A ∷ live) g ++ steps (twoNeed (m .n) live (inter (size m)) A (means m e g) ∷ []))
 ticks m e live (disj f g) =
     let A = means m e f in
     ticks m e live f ++ (ticks m e (fnOf (m .n) A ∷ live) g ++ steps (twoNeed (m .n) live (union (size m)) A (means m e g) ∷ []))
-ticks m e live (now p) = steps (stepNeed (2 * m .n) live (fnOf (m .n) (means m e (now p))) ∷ [])
+ticks m e live (now p) = steps (bitNeeds (m .n) live (exist m) p)
 ticks m e live (next p) = []
 ticks m e live (var P) = []
 ticks m e live (reg x) = []
-ticks m e live (box t f) = ticks m e live f ++ steps (boxNeeds (m .n) live (inside (m .rel t)) (means m e f))
-ticks m e live (dia t f) = ticks m e live f ++ steps (diaNeeds (m .n) live (inside (m .rel t)) (means m e f))
-ticks m e live (mu P f) = roundTicks (λ A. ticks m (put e P A) (fnOf (m .n) A ∷ live) f) (λ A. means m (put e P A) f) (suc (size m)) (start true (size m))
-ticks m e live (nu P f) = roundTicks (λ A. ticks m (put e P A) (fnOf (m .n) A ∷ live) f) (λ A. means m (put e P A) f) (suc (size m)) (start false (size m))
+ticks m e live (box t f) = ticks m e live f ++ steps (boxNeeds (m .n) live (exist m) (related m t) (means m e f))
+ticks m e live (dia t f) = ticks m e live f ++ steps (diaNeeds (m .n) live (related m t) (means m e f))
+ticks m e live (mu P f) = roundTicks (λ A. ticks m (put e P A) (fnOf (m .n) A ∷ live) f) (λ A. means m (put e P A) f) (suc (size m)) (start true (size m) (exist m))
+ticks m e live (nu P f) = roundTicks (λ A. ticks m (put e P A) (fnOf (m .n) A ∷ live) f) (λ A. means m (put e P A) f) (suc (size m)) (start false (size m) (exist m))
 -- "Steps and rounds are those of the formula written so": mu X (g or (f and diamond X)), or mu X (g or (f and (box X and diamond true)))
 ticks m e live (until b t f g) =
     let F = means m e f in
     let G = means m e g in
-    let R = inside (m .rel t) in
-    roundTicks (untilTicks (m .n) live b R F G (λ l. ticks m e l f) (λ l. ticks m e l g)) (onward b (size m) R F G) (suc (size m)) (start true (size m))
+    let R = related m t in
+    roundTicks (untilTicks (m .n) live b (exist m) R F G (λ l. ticks m e l f) (λ l. ticks m e l g)) (onward b (size m) R F G) (suc (size m)) (start true (size m) (exist m))
 
 -- ---- ticks of a relation's formula
 
@@ -147,6 +154,16 @@ pairTicks n live (dia t f) = []
 pairTicks n live (mu P f) = []
 pairTicks n live (nu P f) = []
 pairTicks n live (until b t f g) = []
+
+-- "A relation's formula is read as before, then ANDed with V, then with SHIFT of V": the three steps after the value F, W being V
+abbrev pub withinNeeds : ℕ → List Fn → Fn → Fn → List ℕ
+withinNeeds n live W F =
+    let G = andF F W in
+    let S = shiftF W in
+    stepNeed (2 * n) (W ∷ F ∷ live) G ∷ stepNeed (2 * n) (W ∷ G ∷ live) S ∷ stepNeed (2 * n) (S ∷ G ∷ live) (andF G S) ∷ []
+
+abbrev pub relationTicks : ℕ → List Fn → List Bool → Form → List Tick
+relationTicks n live E f = pairTicks n live f ++ steps (withinNeeds n live (fnOf n E) (pairF n f))
 
 -- ---- the verdict
 

@@ -16,9 +16,9 @@ use Rattle.mucalculus.specs.Rounds.{rounds, binders, rounds-bound}
 use Rattle.tokens.specs.declared.Kind.the-variants.{Relation, Set}
 use Rattle.accounts.specs.declared.Terms.{Terms}
 use Rattle.accounts.specs.Terms.{roundsUnder}
-use Rattle.book.specs.Ticks.{ticks, pairTicks, peak, needsIn}
-use Rattle.book.specs.Book.{formulaIn, Book, Call, relation, set, clear, collect, member, count, refused, registers, modelOf, liveOf, Done, asked, oneOf, does, play, answer}
-use Rattle.book.specs.Stored.{range-cases, set-cases, relation-cases, some-inj, set-means, relation-means}
+use Rattle.book.specs.Ticks.{ticks, relationTicks, peak, needsIn}
+use Rattle.book.specs.Book.{formulaIn, Book, Call, relation, set, valid, clear, collect, member, count, refused, registers, modelOf, liveOf, Done, asked, oneOf, does, play, answer}
+use Rattle.book.specs.Stored.{range-cases, set-cases, relation-cases, valid-cases, some-inj, set-means, relation-means}
 use Rattle.book.specs.Table.{Reply, SettledTo, Agrees}
 use Rattle.book.specs.Demand.{Event, calls, AllAgree}
 
@@ -47,7 +47,7 @@ module _ (b : Book) (acc : Terms) (r R : ℕ) (bs : List ℕ) (y : Reply) (a : A
       ap (λ (x : Book). x .reg r) (set-means b acc r R bs (sym (a .number) ∙ z) .stored .book) ∙ ap (λ (t : Bool). cond t (some M) (b .reg r)) (true-of (eqb r r) (eqb-refl r))
 
 -- an answered relation's peak is the largest need of its steps
-pub relation-peak : (b : Book) (t : ℕ) (bs : List ℕ) (y : Reply) → Agrees (does b (relation t bs) .1) y → y .number ≡ 0 → y .peak ≡ peak (needsIn (pairTicks (b .n) (liveOf b) (formulaIn b Relation bs)))
+pub relation-peak : (b : Book) (t : ℕ) (bs : List ℕ) (y : Reply) → Agrees (does b (relation t bs) .1) y → y .number ≡ 0 → y .peak ≡ peak (needsIn (relationTicks (b .n) (liveOf b) (b .valid) (formulaIn b Relation bs)))
 relation-peak b t bs y a z = a .peak ∙ relation-means b t bs (sym (a .number) ∙ z) .peaks
 
 -- ---- an answered question
@@ -97,6 +97,7 @@ module _ (b : Book) (acc : Terms) (r R : ℕ) (bs : List ℕ) (y : Reply) (a : A
 pub never-two : (b : Book) (c : Call) → does b c .1 .number ≡ 2 → ⊥
 never-two b (relation t bs) = relation-cases (λ (d : Done). d .1 .number ≡ 2 → ⊥) b t bs (λ k i j z. absurd (omega arith)) (λ l p q z. absurd (omega arith))
 never-two b (set acc r R bs) = set-cases (λ (d : Done). d .1 .number ≡ 2 → ⊥) b acc r R bs (λ k i j z. absurd (omega arith)) (λ l p q z. absurd (omega arith))
+never-two b (valid bs) = valid-cases (λ (d : Done). d .1 .number ≡ 2 → ⊥) b bs (λ k i j z. absurd (omega arith)) (λ t p z. absurd (omega arith))
 never-two b (clear r) = range-cases (λ (d : Done). d .1 .number ≡ 2 → ⊥) r registers _ _ (λ l z. absurd (omega arith)) (λ l z. absurd (omega arith))
 never-two b collect = λ z. absurd (omega arith)
 

@@ -9,13 +9,13 @@ use native.Mathlib.Omega.{arith}
 use native.Mathlib.Nat.{add-zero, lt-of-not-le}
 use lib.Dec.{T, leb, ltb, ltb→lt, lt→ltb}
 use lib.ListN.{length}
-use Rattle.mucalculus.specs.Sets.{allStates, same, same-eq, same-refl, and-out, false-of, all}
+use Rattle.mucalculus.specs.Sets.{same, same-eq, same-refl, and-out, false-of, all}
 use Rattle.mucalculus.specs.Order.{start}
-use Rattle.mucalculus.specs.Fixpoint.{fix, iter, Mono, iter-found, stable}
-use Rattle.mucalculus.specs.Form.{Form, bot, top, neg, conj, disj, now, next, var, reg, box, dia, mu, nu, until, Pairs, Model, Env, put, inside, reads, steady}
-use Rattle.mucalculus.specs.Means.{compl, inter, union, always, sometimes, size, means}
-use Rattle.mucalculus.specs.Laws.{box-dual}
-use Rattle.mucalculus.specs.Binder.{body, body-length, body-mono}
+use Rattle.mucalculus.specs.Fixpoint.{fix, iter, Mono, Into, iter-found, stable}
+use Rattle.mucalculus.specs.Form.{Form, bot, top, neg, conj, disj, now, next, var, reg, box, dia, mu, nu, until, Pairs, Model, Env, put, reads, steady}
+use Rattle.mucalculus.specs.Means.{compl, inter, union, bitStates, always, sometimes, size, exist, related, means}
+use Rattle.mucalculus.specs.Exist.{Inside, related-inside, further-in, box-in, onward-into, means-in}
+use Rattle.mucalculus.specs.Binder.{body, body-length, body-in, body-mono}
 use Rattle.mucalculus.specs.Until.{further, onward, onward-length, onward-mono, until-least}
 use Rattle.mucalculus.specs.Rounds.{runs, rounds}
 use Rattle.diagram.specs.Level.{Fn}
@@ -24,8 +24,8 @@ use Rattle.diagram.specs.Steps.{andF, shiftF, existsF}
 use Rattle.accounts.specs.declared.Count.{Count}
 use Rattle.accounts.specs.Count.{needing, another}
 use Rattle.book.specs.Bridge.{fnOf, fnOfPairs}
-use Rattle.book.specs.Ticks.{Tick, step, round, steps, roundTicks, ticks, pairF, pairTicks, existsNeeds, notNeed, twoNeed, diaNeeds, boxNeeds, furtherTicks, keepTicks, untilTicks, Verdict, counted, full, spent, verdict, withinRounds, peak, needsIn}
-use Rattle.book.specs.Run.{Outcome, value, full as fullRun, spent as spentRun, andThen, existsSteps, notStep, twoStep, diaSteps, boxSteps, furtherSteps, bothSteps, keepRound, untilRound, loop, run, pairsFit, pairsCount}
+use Rattle.book.specs.Ticks.{Tick, step, round, steps, roundTicks, ticks, pairF, pairTicks, existsNeeds, notNeed, twoNeed, bitNeeds, notNeeds, withinNeeds, relationTicks, diaNeeds, boxNeeds, furtherTicks, keepTicks, untilTicks, Verdict, counted, full, spent, verdict, withinRounds, peak, needsIn}
+use Rattle.book.specs.Run.{Outcome, value, full as fullRun, spent as spentRun, andThen, existsSteps, notStep, twoStep, diaSteps, boxSteps, furtherSteps, bothSteps, keepRound, untilRound, loop, run, pairsFit, pairsCount, needingAll, relationFits, relationCount, bitStep}
 
 -- every need is at most N
 abbrev pub fit : ℕ → List ℕ → Bool
@@ -36,11 +36,6 @@ abbrev pub roundsIn : List Tick → ℕ
 roundsIn [] = zero
 roundsIn (step k ∷ l) = roundsIn l
 roundsIn (round ∷ l) = suc (roundsIn l)
-
--- what is counted after some steps
-abbrev pub needingAll : Count → List ℕ → Count
-needingAll c [] = c
-needingAll c (k ∷ ks) = needingAll (needing c k) ks
 
 -- steps after steps: all fit where both do, and they are counted one after the other
 pub fit-append : (N : ℕ) (xs ys : List ℕ) → fit N (xs ++ ys) ≡ (fit N xs && fit N ys)
@@ -165,15 +160,22 @@ module _ (N R : ℕ) where
       (ap (λ (o : Outcome). cond (leb l N) o fullRun) (exists-ticks n live B (needing (needing q k) l) n C) ∙ sym (settle-step B (needing q k) l (steps (existsNeeds n live n C))))
       ∙ sym (settle-step B q k (step l ∷ steps (existsNeeds n live n C)))
 
-  pub box-ticks : (n : ℕ) (live : List Fn) (Q : Pairs) (A : List Bool) (q : Count) → boxSteps n N live Q A q ≡ settle (always (2 ^ n) Q A) (verdict N R q (steps (boxNeeds n live Q A)))
-  box-ticks n live Q A q =
+  -- a bit and NOT, each with its AND
+  pub bit-ticks : (n : ℕ) (live : List Fn) (E : List Bool) (p : ℕ) (q : Count) → bitStep n N live E p q ≡ settle (inter (2 ^ n) (bitStates (2 ^ n) p) E) (verdict N R q (steps (bitNeeds n live E p)))
+  bit-ticks n live E p q =
+      let B = bitStates (2 ^ n) p in
+      let C = inter (2 ^ n) B E in
+      let k = stepNeed (2 * n) live (fnOf n B) in
+      let l = twoNeed n live (inter (2 ^ n)) B E in
+      ap (λ (o : Outcome). cond (leb k N) o fullRun) (last-step C (needing q k) l) ∙ sym (settle-step C q k (steps (l ∷ [])))
+
+  pub not-ticks : (n : ℕ) (live : List Fn) (E A : List Bool) (q : Count) → notStep n N live E A q ≡ settle (inter (2 ^ n) (compl (2 ^ n) A) E) (verdict N R q (steps (notNeeds n live E A)))
+  not-ticks n live E A q =
       let B = compl (2 ^ n) A in
-      let C = sometimes (2 ^ n) Q B in
-      let D = compl (2 ^ n) C in
-      let last = notNeed n live C ∷ [] in
-      settle-then (notStep n N live A q) B D q (steps (notNeed n live A ∷ [])) (steps (diaNeeds n live Q B) ++ steps last) _ (last-step B q (notNeed n live A))
-      (λ p h. settle-then (diaSteps n N live Q B p) C D p (steps (diaNeeds n live Q B)) (steps last) (λ X o. notStep n N live X o) (dia-ticks n live Q B p) (λ o i. last-step D o (notNeed n live C)))
-      ∙ ap₂ (λ (X : List Bool) (l : List Tick). settle X (verdict N R q (step (notNeed n live A) ∷ l))) (sym (box-dual (2 ^ n) Q A)) (sym (steps-append (diaNeeds n live Q B) last))
+      let C = inter (2 ^ n) B E in
+      let k = notNeed n live A in
+      let l = twoNeed n live (inter (2 ^ n)) B E in
+      ap (λ (o : Outcome). cond (leb k N) o fullRun) (last-step C (needing q k) l) ∙ sym (settle-step C q k (steps (l ∷ [])))
 
   -- two parts, left before right, the left one's value live during the right one's steps
   both-ticks : (n : ℕ) (live : List Fn) (op : List Bool → List Bool → List Bool) (x : Outcome) (y : List Bool → Count → Outcome) (A B : List Bool) (r : Count) (xs ys : List Tick)
@@ -184,49 +186,64 @@ module _ (N R : ℕ) where
       settle-then x A (op A B) r xs (ys ++ steps last) _ i
       (λ q h. settle-then (y A q) B (op A B) q ys (steps last) (λ X p. twoStep n N live op A X p) (j q) (λ p o. last-step (op A B) p (twoNeed n live op A B)))
 
-  pub further-ticks : (b : Bool) (n : ℕ) (live : List Fn) (Q : Pairs) (A : List Bool) (q : Count) → furtherSteps b n N live Q A q ≡ settle (further b (2 ^ n) Q A) (verdict N R q (furtherTicks b n live Q A))
-  further-ticks true n live Q A q = dia-ticks n live Q A q
-  further-ticks false n live Q A q =
-      let B = always (2 ^ n) Q A in
-      let all = allStates (2 ^ n) in
-      both-ticks n live (inter (2 ^ n)) (boxSteps n N live Q A q) (λ C p. diaSteps n N (fnOf n C ∷ live) Q all p) B (sometimes (2 ^ n) Q all) q (steps (boxNeeds n live Q A)) (steps (diaNeeds n (fnOf n B ∷ live) Q all))
-      (box-ticks n live Q A q) (λ p. dia-ticks n (fnOf n B ∷ live) Q all p)
+  -- over a relation whose pairs are within E
+  module _ (n : ℕ) (E : List Bool) (Q : Pairs) (in-e : Inside (2 ^ n) E Q) where
+    pub box-ticks : (live : List Fn) (A : List Bool) (q : Count) → boxSteps n N live E Q A q ≡ settle (inter (2 ^ n) (always (2 ^ n) Q A) E) (verdict N R q (steps (boxNeeds n live E Q A)))
+    box-ticks live A q =
+        let B = inter (2 ^ n) (compl (2 ^ n) A) E in
+        let C = sometimes (2 ^ n) Q B in
+        let D = inter (2 ^ n) (compl (2 ^ n) C) E in
+        let first = notNeeds n live E A in
+        let mid = diaNeeds n live Q B in
+        let last = notNeeds n live E C in
+        settle-then (notStep n N live E A q) B D q (steps first) (steps mid ++ steps last) _ (not-ticks n live E A q)
+        (λ p h. settle-then (diaSteps n N live Q B p) C D p (steps mid) (steps last) (λ X o. notStep n N live E X o) (dia-ticks n live Q B p) (λ o i. not-ticks n live E C o))
+        ∙ ap₂ (λ (X : List Bool) (l : List Tick). settle X (verdict N R q l)) (box-in (2 ^ n) E Q in-e A)
+        (ap (λ (l : List Tick). steps first ++ l) (sym (steps-append mid last)) ∙ sym (steps-append first (mid ++ last)))
 
-  -- a round of until, given its parts
-  until-ticks : (n : ℕ) (live : List Fn) (b : Bool) (Q : Pairs) (F G : List Bool) (fs gs : List Fn → List Tick) (xs ys : List Fn → Count → Outcome)
-      → ((l : List Fn) (q : Count) → xs l q ≡ settle F (verdict N R q (fs l))) → ((l : List Fn) (q : Count) → ys l q ≡ settle G (verdict N R q (gs l))) → (A : List Bool) (q : Count)
-      → untilRound n N live b Q xs ys A q ≡ settle (onward b (2 ^ n) Q F G A) (verdict N R q (untilTicks n live b Q F G fs gs A))
-  until-ticks n live b Q F G fs gs xs ys i j A q =
-      let held = fnOf n A ∷ live in
-      let l = fnOf n G ∷ held in
-      let D = further b (2 ^ n) Q A in
-      both-ticks n held (union (2 ^ n)) (ys held q) (λ B p. keepRound n N (fnOf n B ∷ held) b Q xs A p) G (inter (2 ^ n) F D) q (gs held) (keepTicks n l b Q F fs A) (j held q)
-      (λ p.
-      both-ticks n l (inter (2 ^ n)) (xs l p) (λ B o. furtherSteps b n N (fnOf n B ∷ l) Q A o) F D p (fs l) (furtherTicks b n (fnOf n F ∷ l) Q A) (i l p)
-      (λ o. further-ticks b n (fnOf n F ∷ l) Q A o))
+    pub further-ticks : (b : Bool) (live : List Fn) (A : List Bool) (q : Count) → furtherSteps b n N live E Q A q ≡ settle (further b (2 ^ n) Q A) (verdict N R q (furtherTicks b n live E Q A))
+    further-ticks true live A q = dia-ticks n live Q A q
+    further-ticks false live A q =
+        let B = inter (2 ^ n) (always (2 ^ n) Q A) E in
+        both-ticks n live (inter (2 ^ n)) (boxSteps n N live E Q A q) (λ C p. diaSteps n N (fnOf n C ∷ live) Q E p) B (sometimes (2 ^ n) Q E) q (steps (boxNeeds n live E Q A)) (steps (diaNeeds n (fnOf n B ∷ live) Q E))
+        (box-ticks live A q) (λ p. dia-ticks n (fnOf n B ∷ live) Q E p)
+        ∙ ap (λ (X : List Bool). settle X (verdict N R q (furtherTicks false n live E Q A))) (further-in (2 ^ n) E Q in-e A)
+
+    -- a round of until, given its parts
+    until-ticks : (live : List Fn) (b : Bool) (F G : List Bool) (fs gs : List Fn → List Tick) (xs ys : List Fn → Count → Outcome)
+        → ((l : List Fn) (q : Count) → xs l q ≡ settle F (verdict N R q (fs l))) → ((l : List Fn) (q : Count) → ys l q ≡ settle G (verdict N R q (gs l))) → (A : List Bool) (q : Count)
+        → untilRound n N live b E Q xs ys A q ≡ settle (onward b (2 ^ n) Q F G A) (verdict N R q (untilTicks n live b E Q F G fs gs A))
+    until-ticks live b F G fs gs xs ys i j A q =
+        let held = fnOf n A ∷ live in
+        let l = fnOf n G ∷ held in
+        let D = further b (2 ^ n) Q A in
+        both-ticks n held (union (2 ^ n)) (ys held q) (λ B p. keepRound n N (fnOf n B ∷ held) b E Q xs A p) G (inter (2 ^ n) F D) q (gs held) (keepTicks n l b E Q F fs A) (j held q)
+        (λ p.
+        both-ticks n l (inter (2 ^ n)) (xs l p) (λ B o. furtherSteps b n N (fnOf n B ∷ l) E Q A o) F D p (fs l) (furtherTicks b n (fnOf n F ∷ l) E Q A) (i l p)
+        (λ o. further-ticks b (fnOf n F ∷ l) A o))
 
   -- a binder's rounds, given those of its body
-  module _ (k : ℕ) (b : Bool) (F : List Bool → List Bool) (h : List Bool → List Tick) (g : List Bool → Count → Outcome)
-      (len : (A : List Bool) → length (F A) ≡ k) (mono : Mono F) (exact : (A : List Bool) (q : Count) → g A q ≡ settle (F A) (verdict N R q (h A))) where
+  module _ (k : ℕ) (E : List Bool) (b : Bool) (F : List Bool → List Bool) (h : List Bool → List Tick) (g : List Bool → Count → Outcome)
+      (len : (A : List Bool) → length (F A) ≡ k) (into : Into E F) (mono : Mono F) (exact : (A : List Bool) (q : Count) → g A q ≡ settle (F A) (verdict N R q (h A))) where
     abbrev nth : ℕ → List Bool
-    nth i = iter F i (start b k)
+    nth i = iter F i (start b k E)
 
     -- with fuel j the loop from the i-th set answers as the ticks of d + 1 rounds say
     abbrev Rounds : ℕ → Type 0
-    Rounds j = (d i : ℕ) (r : Count) → i + d ≡ k → R ≤ r .rounds + j → loop R g j (nth i) r ≡ settle (fix b k F) (verdict N R r (roundTicks h F (suc d) (nth i)))
+    Rounds j = (d i : ℕ) (r : Count) → i + d ≡ k → R ≤ r .rounds + j → loop R g j (nth i) r ≡ settle (fix b k E F) (verdict N R r (roundTicks h F (suc d) (nth i)))
 
     -- after a round: it left the set as it is, or the next one follows
     ends : (j : ℕ) → Rounds j → (d i : ℕ) (q : Count) → i + d ≡ k → R ≤ q .rounds + j → (t : Bool) → same (F (nth i)) (nth i) ≡ t
-        → cond t (value (F (nth i)) q) (loop R g j (F (nth i)) q) ≡ settle (fix b k F) (verdict N R q (cond t [] (roundTicks h F d (F (nth i)))))
+        → cond t (value (F (nth i)) q) (loop R g j (F (nth i)) q) ≡ settle (fix b k E F) (verdict N R q (cond t [] (roundTicks h F d (F (nth i)))))
     ends j below d i q s f true u =
         let e = same-eq (F (nth i)) (nth i) (subst T (sym u) tt) in
-        ap (λ (X : List Bool). value X q) (e ∙ iter-found k F len mono b i e)
-    ends j below zero i q s f false u = absurd (subst T (ap (λ (n : ℕ). same (F (nth n)) (nth n)) (sym s ∙ add-zero i) ∙ u) (subst (λ (X : List Bool). T (same X (nth k))) (sym (stable k F len mono b)) (same-refl (nth k))))
+        ap (λ (X : List Bool). value X q) (e ∙ iter-found k E F len into mono b i e)
+    ends j below zero i q s f false u = absurd (subst T (ap (λ (n : ℕ). same (F (nth n)) (nth n)) (sym s ∙ add-zero i) ∙ u) (subst (λ (X : List Bool). T (same X (nth k))) (sym (stable k E F len into mono b)) (same-refl (nth k))))
     ends j below (suc d) i q s f false u = below d (suc i) q (omega arith) f
 
     loop-ticks : (j : ℕ) → Rounds j
     loop-ticks zero d i r s f =
-        ap (λ (t : Bool). settle (fix b k F) (cond t (verdict N R (another r) (h (nth i) ++ cond (same (F (nth i)) (nth i)) [] (roundTicks h F d (F (nth i))))) spent))
+        ap (λ (t : Bool). settle (fix b k E F) (cond t (verdict N R (another r) (h (nth i) ++ cond (same (F (nth i)) (nth i)) [] (roundTicks h F d (F (nth i))))) spent))
         (sym (false-of (ltb (r .rounds) R) (λ t. let l = ltb→lt (r .rounds) R t in omega arith)))
     loop-ticks (suc j) d i r s f = go (loop-ticks j) (ltb (r .rounds) R)
       where
@@ -237,9 +254,9 @@ module _ (N R : ℕ) where
         follow : List Bool → Count → Outcome
         follow B p = cond (same B (nth i)) (value B p) (loop R g j B p)
 
-        go : Rounds j → (t : Bool) → cond t (andThen (g (nth i) (another r)) follow) spentRun ≡ settle (fix b k F) (cond t (verdict N R (another r) (h (nth i) ++ rest)) spent)
+        go : Rounds j → (t : Bool) → cond t (andThen (g (nth i) (another r)) follow) spentRun ≡ settle (fix b k E F) (cond t (verdict N R (another r) (h (nth i) ++ rest)) spent)
         go below true =
-            settle-then (g (nth i) (another r)) (F (nth i)) (fix b k F) (another r) (h (nth i)) rest follow (exact (nth i) (another r))
+            settle-then (g (nth i) (another r)) (F (nth i)) (fix b k E F) (another r) (h (nth i)) rest follow (exact (nth i) (another r))
             (λ q l. ends j below d i q s (omega arith) (same (F (nth i)) (nth i)) refl)
         go below false = refl
 
@@ -262,40 +279,41 @@ module _ (N R : ℕ) where
     run-ticks e live bot r t = refl
     run-ticks e live top r t = refl
     run-ticks e live (neg f) r t =
-        settle-then (run m N R e live f r) (means m e f) (means m e (neg f)) r (ticks m e live f) _ (λ A q. notStep (m .n) N live A q) (run-ticks e live f r t)
-        (λ q l. last-step (means m e (neg f)) q (notNeed (m .n) live (means m e f)))
+        settle-then (run m N R e live f r) (means m e f) (means m e (neg f)) r (ticks m e live f) _ (λ A q. notStep (m .n) N live (exist m) A q) (run-ticks e live f r t)
+        (λ q l. not-ticks (m .n) live (exist m) (means m e f) q)
     run-ticks e live (conj f g) r t =
         let w = and-out (steady f) (steady g) t in two-ticks e live f g r (inter (size m)) (run-ticks e live f r (w .0)) (λ l q. run-ticks e l g q (w .1))
     run-ticks e live (disj f g) r t =
         let w = and-out (steady f) (steady g) t in two-ticks e live f g r (union (size m)) (run-ticks e live f r (w .0)) (λ l q. run-ticks e l g q (w .1))
-    run-ticks e live (now p) r t = last-step (means m e (now p)) r (stepNeed (2 * m .n) live (fnOf (m .n) (means m e (now p))))
+    run-ticks e live (now p) r t = bit-ticks (m .n) live (exist m) p r
     run-ticks e live (next p) r t = refl
     run-ticks e live (var P) r t = refl
     run-ticks e live (reg x) r t = refl
     run-ticks e live (box x f) r t =
-        settle-then (run m N R e live f r) (means m e f) (means m e (box x f)) r (ticks m e live f) _ (λ A q. boxSteps (m .n) N live (inside (m .rel x)) A q) (run-ticks e live f r t)
-        (λ q l. box-ticks (m .n) live (inside (m .rel x)) (means m e f) q)
+        settle-then (run m N R e live f r) (means m e f) (means m e (box x f)) r (ticks m e live f) _ (λ A q. boxSteps (m .n) N live (exist m) (related m x) A q) (run-ticks e live f r t)
+        (λ q l. box-ticks (m .n) (exist m) (related m x) (related-inside m x) live (means m e f) q)
     run-ticks e live (dia x f) r t =
-        settle-then (run m N R e live f r) (means m e f) (means m e (dia x f)) r (ticks m e live f) _ (λ A q. diaSteps (m .n) N live (inside (m .rel x)) A q) (run-ticks e live f r t)
-        (λ q l. dia-ticks (m .n) live (inside (m .rel x)) (means m e f) q)
+        settle-then (run m N R e live f r) (means m e f) (means m e (dia x f)) r (ticks m e live f) _ (λ A q. diaSteps (m .n) N live (related m x) A q) (run-ticks e live f r t)
+        (λ q l. dia-ticks (m .n) live (related m x) (means m e f) q)
     run-ticks e live (mu P f) r t =
         let w = and-out (reads true P f) (steady f) t in
-        loop-ticks (size m) true (body m e P f) (λ A. ticks m (put e P A) (fnOf (m .n) A ∷ live) f) (λ A q. run m N R (put e P A) (fnOf (m .n) A ∷ live) f q)
-        (body-length m e P f) (body-mono m e P f (w .1) (w .0) true) (λ A q. run-ticks (put e P A) (fnOf (m .n) A ∷ live) f q (w .1)) R (size m) zero r (omega arith) (omega arith)
+        loop-ticks (size m) (exist m) true (body m e P f) (λ A. ticks m (put e P A) (fnOf (m .n) A ∷ live) f) (λ A q. run m N R (put e P A) (fnOf (m .n) A ∷ live) f q)
+        (body-length m e P f) (body-in m e P f) (body-mono m e P f (w .1) (w .0) true) (λ A q. run-ticks (put e P A) (fnOf (m .n) A ∷ live) f q (w .1)) R (size m) zero r (omega arith) (omega arith)
     run-ticks e live (nu P f) r t =
         let w = and-out (reads true P f) (steady f) t in
-        loop-ticks (size m) false (body m e P f) (λ A. ticks m (put e P A) (fnOf (m .n) A ∷ live) f) (λ A q. run m N R (put e P A) (fnOf (m .n) A ∷ live) f q)
-        (body-length m e P f) (body-mono m e P f (w .1) (w .0) false) (λ A q. run-ticks (put e P A) (fnOf (m .n) A ∷ live) f q (w .1)) R (size m) zero r (omega arith) (omega arith)
+        loop-ticks (size m) (exist m) false (body m e P f) (λ A. ticks m (put e P A) (fnOf (m .n) A ∷ live) f) (λ A q. run m N R (put e P A) (fnOf (m .n) A ∷ live) f q)
+        (body-length m e P f) (body-in m e P f) (body-mono m e P f (w .1) (w .0) false) (λ A q. run-ticks (put e P A) (fnOf (m .n) A ∷ live) f q (w .1)) R (size m) zero r (omega arith) (omega arith)
     run-ticks e live (until b t f g) r s =
         let w = and-out (steady f) (steady g) s in
         let F = means m e f in
         let G = means m e g in
-        let Q = inside (m .rel t) in
-        loop-ticks (size m) true (onward b (size m) Q F G) (untilTicks (m .n) live b Q F G (λ l. ticks m e l f) (λ l. ticks m e l g))
-        (untilRound (m .n) N live b Q (λ l q. run m N R e l f q) (λ l q. run m N R e l g q)) (onward-length (size m) Q b F G) (onward-mono (size m) Q b F G)
-        (until-ticks (m .n) live b Q F G (λ l. ticks m e l f) (λ l. ticks m e l g) (λ l q. run m N R e l f q) (λ l q. run m N R e l g q) (λ l q. run-ticks e l f q (w .0)) (λ l q. run-ticks e l g q (w .1)))
+        let Q = related m t in
+        let into = onward-into m t b F G (means-in m e f) (means-in m e g) in
+        loop-ticks (size m) (exist m) true (onward b (size m) Q F G) (untilTicks (m .n) live b (exist m) Q F G (λ l. ticks m e l f) (λ l. ticks m e l g))
+        (untilRound (m .n) N live b (exist m) Q (λ l q. run m N R e l f q) (λ l q. run m N R e l g q)) (onward-length (size m) Q b F G) into (onward-mono (size m) Q b F G)
+        (until-ticks (m .n) (exist m) Q (related-inside m t) live b F G (λ l. ticks m e l f) (λ l. ticks m e l g) (λ l q. run m N R e l f q) (λ l q. run m N R e l g q) (λ l q. run-ticks e l f q (w .0)) (λ l q. run-ticks e l g q (w .1)))
         R (size m) zero r (omega arith) (omega arith)
-        ∙ ap (λ (X : List Bool). settle X (verdict N R r (ticks m e live (until b t f g)))) (sym (until-least (size m) Q b F G))
+        ∙ ap (λ (X : List Bool). settle X (verdict N R r (ticks m e live (until b t f g)))) (sym (until-least (size m) Q b F G (exist m) into))
 
   -- ---- relations
 
@@ -328,6 +346,12 @@ module _ (N R : ℕ) where
   pairs-ticks n live (mu P f) r = refl
   pairs-ticks n live (nu P f) r = refl
   pairs-ticks n live (until b t f g) r = refl
+
+  -- with the three steps after it
+  pub relation-ticks : (n : ℕ) (live : List Fn) (E : List Bool) (f : Form) (r : Count) → verdict N R r (relationTicks n live E f) ≡ cond (relationFits n N live E f) (counted (relationCount n live E f r)) full
+  relation-ticks n live E f r =
+      fits-then r (pairsCount n live f r) (relationCount n live E f r) (pairsFit n N live f) (fit N (withinNeeds n live (fnOf n E) (pairF n f))) (pairTicks n live f) (steps (withinNeeds n live (fnOf n E) (pairF n f)))
+      (pairs-ticks n live f r) (steps-verdict (pairsCount n live f r) (withinNeeds n live (fnOf n E) (pairF n f)))
 
   -- ---- 8, exactly
 
@@ -439,17 +463,18 @@ rounds-loop h F c e (suc j) A = omega (arith, rounds-append (h A) (cond (same (F
     go true i = refl
     go false i = i
 
-rounds-further : (b : Bool) (n : ℕ) (live : List Fn) (Q : Pairs) (A : List Bool) → roundsIn (furtherTicks b n live Q A) ≡ zero
-rounds-further true n live Q A = rounds-steps (diaNeeds n live Q A)
-rounds-further false n live Q A =
-    rounds-two (steps (boxNeeds n live Q A)) (steps (diaNeeds n (fnOf n (always (2 ^ n) Q A) ∷ live) Q (allStates (2 ^ n))))
-    (twoNeed n live (inter (2 ^ n)) (always (2 ^ n) Q A) (sometimes (2 ^ n) Q (allStates (2 ^ n))) ∷ []) zero zero (rounds-steps (boxNeeds n live Q A)) (rounds-steps (diaNeeds n (fnOf n (always (2 ^ n) Q A) ∷ live) Q (allStates (2 ^ n))))
+rounds-further : (b : Bool) (n : ℕ) (live : List Fn) (E : List Bool) (Q : Pairs) (A : List Bool) → roundsIn (furtherTicks b n live E Q A) ≡ zero
+rounds-further true n live E Q A = rounds-steps (diaNeeds n live Q A)
+rounds-further false n live E Q A =
+    let B = inter (2 ^ n) (always (2 ^ n) Q A) E in
+    rounds-two (steps (boxNeeds n live E Q A)) (steps (diaNeeds n (fnOf n B ∷ live) Q E)) (twoNeed n live (inter (2 ^ n)) B (sometimes (2 ^ n) Q E) ∷ []) zero zero
+    (rounds-steps (boxNeeds n live E Q A)) (rounds-steps (diaNeeds n (fnOf n B ∷ live) Q E))
 
 -- "Every evaluated body, inner ones included, is one round"
 pub ticks-rounds : (m : Model) (e : Env) (live : List Fn) (f : Form) → roundsIn (ticks m e live f) ≡ rounds m e f
 ticks-rounds m e live bot = refl
 ticks-rounds m e live top = refl
-ticks-rounds m e live (neg f) = rounds-then (ticks m e live f) (notNeed (m .n) live (means m e f) ∷ []) (rounds m e f) (ticks-rounds m e live f)
+ticks-rounds m e live (neg f) = rounds-then (ticks m e live f) (notNeeds (m .n) live (exist m) (means m e f)) (rounds m e f) (ticks-rounds m e live f)
 ticks-rounds m e live (conj f g) =
     let l = fnOf (m .n) (means m e f) ∷ live in
     rounds-two (ticks m e live f) (ticks m e l g) (twoNeed (m .n) live (inter (size m)) (means m e f) (means m e g) ∷ []) (rounds m e f) (rounds m e g) (ticks-rounds m e live f) (ticks-rounds m e l g)
@@ -460,24 +485,24 @@ ticks-rounds m e live (now p) = refl
 ticks-rounds m e live (next p) = refl
 ticks-rounds m e live (var P) = refl
 ticks-rounds m e live (reg x) = refl
-ticks-rounds m e live (box t f) = rounds-then (ticks m e live f) (boxNeeds (m .n) live (inside (m .rel t)) (means m e f)) (rounds m e f) (ticks-rounds m e live f)
-ticks-rounds m e live (dia t f) = rounds-then (ticks m e live f) (diaNeeds (m .n) live (inside (m .rel t)) (means m e f)) (rounds m e f) (ticks-rounds m e live f)
+ticks-rounds m e live (box t f) = rounds-then (ticks m e live f) (boxNeeds (m .n) live (exist m) (related m t) (means m e f)) (rounds m e f) (ticks-rounds m e live f)
+ticks-rounds m e live (dia t f) = rounds-then (ticks m e live f) (diaNeeds (m .n) live (related m t) (means m e f)) (rounds m e f) (ticks-rounds m e live f)
 ticks-rounds m e live (mu P f) =
     rounds-loop (λ A. ticks m (put e P A) (fnOf (m .n) A ∷ live) f) (body m e P f) (λ A. rounds m (put e P A) f) (λ A. ticks-rounds m (put e P A) (fnOf (m .n) A ∷ live) f)
-    (suc (size m)) (start true (size m))
+    (suc (size m)) (start true (size m) (exist m))
 ticks-rounds m e live (nu P f) =
     rounds-loop (λ A. ticks m (put e P A) (fnOf (m .n) A ∷ live) f) (body m e P f) (λ A. rounds m (put e P A) f) (λ A. ticks-rounds m (put e P A) (fnOf (m .n) A ∷ live) f)
-    (suc (size m)) (start false (size m))
+    (suc (size m)) (start false (size m) (exist m))
 ticks-rounds m e live (until b t f g) =
     let F = means m e f in
     let G = means m e g in
-    let Q = inside (m .rel t) in
-    rounds-loop (untilTicks (m .n) live b Q F G (λ l. ticks m e l f) (λ l. ticks m e l g)) (onward b (size m) Q F G) (λ A. rounds m e g + rounds m e f)
+    let Q = related m t in
+    rounds-loop (untilTicks (m .n) live b (exist m) Q F G (λ l. ticks m e l f) (λ l. ticks m e l g)) (onward b (size m) Q F G) (λ A. rounds m e g + rounds m e f)
     (λ A.
     let held = fnOf (m .n) A ∷ live in
     let l = fnOf (m .n) G ∷ held in
     let D = further b (size m) Q A in
-    rounds-two (ticks m e held g) (keepTicks (m .n) l b Q F (λ l. ticks m e l f) A) (twoNeed (m .n) held (union (size m)) G (inter (size m) F D) ∷ []) (rounds m e g) (rounds m e f) (ticks-rounds m e held g)
-    (rounds-two (ticks m e l f) (furtherTicks b (m .n) (fnOf (m .n) F ∷ l) Q A) (twoNeed (m .n) l (inter (size m)) F D ∷ []) (rounds m e f) zero (ticks-rounds m e l f)
-    (rounds-further b (m .n) (fnOf (m .n) F ∷ l) Q A) ∙ add-zero (rounds m e f)))
-    (suc (size m)) (start true (size m))
+    rounds-two (ticks m e held g) (keepTicks (m .n) l b (exist m) Q F (λ l. ticks m e l f) A) (twoNeed (m .n) held (union (size m)) G (inter (size m) F D) ∷ []) (rounds m e g) (rounds m e f) (ticks-rounds m e held g)
+    (rounds-two (ticks m e l f) (furtherTicks b (m .n) (fnOf (m .n) F ∷ l) (exist m) Q A) (twoNeed (m .n) l (inter (size m)) F D ∷ []) (rounds m e f) zero (ticks-rounds m e l f)
+    (rounds-further b (m .n) (fnOf (m .n) F ∷ l) (exist m) Q A) ∙ add-zero (rounds m e f)))
+    (suc (size m)) (start true (size m) (exist m))

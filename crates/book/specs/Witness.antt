@@ -13,10 +13,11 @@ use Rattle.book.specs.Book.{Call, Question, set, clear, fresh}
 use Rattle.book.specs.Compute.{computing}
 use Rattle.book.specs.Listed.{frame}
 use Rattle.book.specs.Table.{Table, Reply, Shows}
-use Rattle.book.specs.Follow.{ends, evals-leaf, denotes-all}
+use Rattle.book.specs.Follow.{ends, evals-leaf, denotes-clip}
 use Rattle.book.specs.Roots.{shows-held}
 use Rattle.book.specs.Leaves.{plain, valued, storeReg, Empty, shows-fresh}
-use Rattle.book.specs.BookOf.{SoundTable, bookOf, shows-bookOf, sound-shows}
+use Rattle.book.specs.BookOf.{SoundTable, bookOf, whole-bookOf, shows-bookOf, sound-shows}
+use Rattle.book.specs.Stored.{whole-fresh, whole-does}
 use Rattle.book.specs.Contract.{Starts, Performs, Answers, Implements}
 use Rattle.book.specs.Formulas.{set-serves}
 use Rattle.book.specs.Calls.{clear-serves}
@@ -46,7 +47,7 @@ noRows = record { used = λ i. false; level = λ i. 0; low = λ i. 0; high = λ 
 
 -- nothing filled, n = 1 and N = 100
 abbrev blank : Table
-blank = record { n = 1; N = 100; rows = noRows; reg = λ r. none; rel = λ q. none }
+blank = record { n = 1; N = 100; valid = 1; rows = noRows; reg = λ r. none; rel = λ q. none }
 
 -- register 0 as all states
 abbrev stored : Table
@@ -59,17 +60,17 @@ abbrev pub events : List Event
 events = (set alone 0 100 (frame (0x01 ∷ [])), valued 1) ∷ (clear 0, plain 0) ∷ []
 
 empty : Empty 1 100 blank
-empty = record { bits = refl; size = refl; unused = λ i. refl; reg = λ r l. refl; rel = λ q l. refl }
+empty = record { bits = refl; size = refl; every = refl; unused = λ i. refl; reg = λ r l. refl; rel = λ q l. refl }
 
 blank-sound : SoundTable blank
-blank-sound = sound-shows (fresh 1 100) blank (shows-fresh 1 100 blank empty)
+blank-sound = sound-shows (fresh 1 100) blank (whole-fresh 1 100) (shows-fresh 1 100 blank empty)
 
 first : Performs SoundTable (λ x. x) (set alone 0 100 (frame (0x01 ∷ []))) blank stored (valued 1)
 unfolding computing
 first =
     let s : Shows (bookOf blank) blank = shows-bookOf blank blank-sound in
-    let d = set-serves (bookOf blank) blank alone 0 100 (frame (0x01 ∷ [])) noRows (ends 1 nothing) s (omega arith) tt refl (evals-leaf 1 100 nothing (s .wf) (shows-held (bookOf blank) blank s) (denotes-all 1 100 noRows)) in
-    record { unsound = λ n. absurd (n blank-sound); served = λ k. (sound-shows _ stored (d .shows), d) }
+    let d = set-serves (bookOf blank) blank alone 0 100 (frame (0x01 ∷ [])) noRows (ends 1 nothing) s (omega arith) tt refl (evals-leaf 1 100 nothing (s .wf) (shows-held (bookOf blank) blank s) (denotes-clip 1 100 (bookOf blank .valid) (s .valid))) in
+    record { unsound = λ n. absurd (n blank-sound); served = λ k. (sound-shows _ stored (whole-does (bookOf blank) (set alone 0 100 (frame (0x01 ∷ []))) (whole-bookOf blank blank-sound)) (d .shows), d) }
 
 stored-sound : SoundTable stored
 stored-sound = first .served blank-sound .0
@@ -77,7 +78,7 @@ stored-sound = first .served blank-sound .0
 second : Performs SoundTable (λ x. x) (clear 0) stored emptied (plain 0)
 second =
     let d = clear-serves (bookOf stored) stored 0 (shows-bookOf stored stored-sound) (omega arith) in
-    record { unsound = λ n. absurd (n stored-sound); served = λ k. (sound-shows _ emptied (d .shows), d) }
+    record { unsound = λ n. absurd (n stored-sound); served = λ k. (sound-shows _ emptied (whole-does (bookOf stored) (clear 0) (whole-bookOf stored stored-sound)) (d .shows), d) }
 
 pub played : Session Table makes performs 1 100 events emptied
 played = record {

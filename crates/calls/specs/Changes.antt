@@ -4,20 +4,20 @@ use mathlib.Core.Bool.{Bool, true, false, cond, _||_, true≢false}
 use mathlib.Core.Logic.{_≢_}
 use mathlib.Core.List.{List}
 use mathlib.Core.Option.{none}
-use Prim.Native.Nat.{ℕ, _+_, _≤_, _<_}
+use Prim.Native.Nat.{ℕ, _+_, _-_, _≤_, _<_}
 use native.Mathlib.Omega.{arith}
 use lib.Dec.{eqb}
 use lib.ListN.{set}
 use borrow.Author.Tests.{ne-eqb, eq-eqb, eqb-true, eqb-false}
 use Rattle.mucalculus.specs.Form.{put}
 use Rattle.diagram.specs.Used.{usedCount}
-use Rattle.layout.specs.Places.{REGISTERS, ROWS, SPARE, FIRST-REGISTER, FIRST-RELATION}
+use Rattle.layout.specs.Places.{REGISTERS, ROWS, SPARE, VALID, FIRST-REGISTER, FIRST-RELATION}
 use Rattle.layout.specs.View.{View, view, headerOf, putHeader, view-header}
 use Rattle.layout.specs.Same.{view-same, same-beyond}
 use Rattle.soundness.specs.Used.{rowsOf}
 use Rattle.soundness.specs.Sound.{Sound, tableOf}
 use Rattle.table.specs.Count.{count-used}
-use Rattle.table.specs.Store.{rows-kept, sound-store}
+use Rattle.table.specs.Store.{storable-empty, rows-kept, sound-store}
 use Rattle.collect.specs.Answers.{CollectPost}
 use Rattle.collect.specs.Freed.{freed-count}
 use Rattle.book.specs.Book.{clear, collect}
@@ -64,13 +64,14 @@ module _ (W : View) (r : ℕ) where
   cleared-seen l = λ i. record {
     n = other 0 (omega arith) i;
     N = W .rows;
+    valid = other VALID (omega arith) i - 1;
     rows = rows-kept W (FIRST-REGISTER + r) 0 (omega arith) (omega arith) (omega arith) (omega arith) i;
     reg = fun-ext emptied-reg i;
     rel = fun-ext (λ t. ap arrowIn (other (FIRST-RELATION + t) (omega arith))) i;
   }
 
   cleared-sound : r < REGISTERS → Sound W → Sound X
-  cleared-sound l s = sound-store W (FIRST-REGISTER + r) 0 (omega arith) (omega arith) (omega arith) (omega arith) s (λ _ _. tt) (λ _ _ a q. absurd (omega arith))
+  cleared-sound l s = sound-store W (FIRST-REGISTER + r) 0 (omega arith) (omega arith) (omega arith) (omega arith) (omega arith) s (storable-empty W (FIRST-REGISTER + r))
 
 module _ (old new : List ℕ) (r : ℕ) (s : SoundWords old) (l : r < REGISTERS) {rows : ℕ} (er : rows ≡ headerOf old ROWS)
     (e : view rows new ≡ putHeader (view rows old) (FIRST-REGISTER + r) 0) where
@@ -109,7 +110,7 @@ module _ (old new : List ℕ) (r : ℕ) (s : SoundWords old) (l : r < REGISTERS)
     kept = λ _. kept;
   }
 
--- COLLECT: the rows that are left are those that registers and relations reach
+-- COLLECT: the rows that are left are those that V, registers and relations reach
 module _ (old new : List ℕ) (s : SoundWords old) {rows k : ℕ} (er : rows ≡ headerOf old ROWS) (q : CollectPost (view rows old) (view rows new) k) where
   post : CollectPost (tableOf old) (view (headerOf old ROWS) new) k
   post = rw er at q
@@ -128,12 +129,13 @@ module _ (old new : List ℕ) (s : SoundWords old) {rows k : ℕ} (er : rows ≡
   collected-seen = let f = post .freed .frame in λ i. record {
     n = f .header 0 (omega arith) (omega arith) i;
     N = headerOf old ROWS;
+    valid = f .header VALID (omega arith) (omega arith) i - 1;
     rows = rowsOf Y;
     reg = λ r. arrowIn (f .header (FIRST-REGISTER + r) (omega arith) (omega arith) i);
     rel = λ t. arrowIn (f .header (FIRST-RELATION + t) (omega arith) (omega arith) i);
   }
 
-  -- "returns the rows still needed by registers and relations"
+  -- "returns the rows still needed by registers and relations", and by V
   left : k ≡ usedCount (rowsOf Y) (headerOf old ROWS)
   left = post .needs ∙ sym (freed-count W Y _ s (post .freed)) ∙ count-used Y (post .freed .sound .good .ranked)
 
@@ -157,7 +159,7 @@ module _ (old new : List ℕ) (s : SoundWords old) {rows k : ℕ} (er : rows ≡
         subst Sound (sym same-table) (post .freed .sound),
         subst (λ (t : Table). Serves (bookOf (seen old)) collect (seen old) t (valued k)) (sym (ap seenIn same-table ∙ collected-seen))
             (subst (λ (x : ℕ). Serves (bookOf (seen old)) collect (seen old) (withRows (seen old) (rowsOf Y)) (valued x)) (sym left)
-            (collect-serves (bookOf (seen old)) (seen old) (rowsOf Y) (sound-shows-book old s) (collects-roots W (post .freed .collects)))),
+            (collect-serves (bookOf (seen old)) (seen old) (rowsOf Y) (sound-shows-book old s) (collects-roots W (s .valid) (post .freed .collects)))),
       );
     };
     kept = λ _. kept-words;

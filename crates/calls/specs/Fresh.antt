@@ -16,7 +16,7 @@ use Rattle.layout.specs.Same.{view-same}
 use Rattle.soundness.specs.Used.{Sizes}
 use Rattle.soundness.specs.Sound.{Sound, tableOf}
 use Rattle.table.specs.Columns.{setHeader, setHeads}
-use Rattle.table.specs.Fresh.{emptied, emptied-sound, zero-at, bits-is, rows-is, none-used}
+use Rattle.table.specs.Fresh.{emptied, emptied-sound, zero-at, bits-is, rows-is, valid-is, none-used}
 use Rattle.book.specs.Book.{freshFits, freshNumber}
 use Rattle.book.specs.Leaves.{Empty, plain}
 use Rattle.contract.specs.Seen.{arrowIn, seenIn}
@@ -71,7 +71,7 @@ fresh-unlisted n N count ws z l =
     let more : freshNumber n N (length ws) count ≡ 14 = ap (λ (t : Bool). cond t (cond (lent count) 0 14) 1) (true-of (freshFits n N (length ws)) (sizes-fits z)) ∙ ap (λ (t : Bool). cond t 0 14) l in
     record { answers = λ e. absurd (omega (arith, more, e)); refuses = λ k e. let i : k ≡ 13 = omega (arith, more, e) in rw i ((refl, refl, refl, refl), refl) }
 
--- ANSWERED: "Fresh empties them all"
+-- ANSWERED: "Fresh empties them all", "after fresh, V is every state"
 module _ (n N count : ℕ) (old new : List ℕ) (z : Sizes n N (length old)) (l : lent count ≡ true) (w : view N new ≡ emptied (view N old) n N) where
   abbrev X : View
   X = emptied (view N old) n N
@@ -83,9 +83,10 @@ module _ (n N count : ℕ) (old new : List ℕ) (z : Sizes n N (length old)) (l 
   empty = record {
     bits = bits-is X n z (λ h. refl);
     size = refl;
+    every = let o = valid-is X n z (λ h. refl) in omega arith;
     unused = λ i. not-true _ (none-used X n z (λ h. refl) i);
-    reg = λ r l. ap arrowIn (zero-at X n z (λ h. refl) (FIRST-REGISTER + r) (omega arith) (omega arith) (omega arith) (omega arith));
-    rel = λ t l. ap arrowIn (zero-at X n z (λ h. refl) (FIRST-RELATION + t) (omega arith) (omega arith) (omega arith) (omega arith));
+    reg = λ r l. ap arrowIn (zero-at X n z (λ h. refl) (FIRST-REGISTER + r) (omega arith) (omega arith) (omega arith) (omega arith) (omega arith));
+    rel = λ t l. ap arrowIn (zero-at X n z (λ h. refl) (FIRST-RELATION + t) (omega arith) (omega arith) (omega arith) (omega arith) (omega arith));
   }
 
   zero : freshNumber n N (length old) count ≡ 0

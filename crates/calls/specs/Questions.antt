@@ -25,7 +25,7 @@ use Rattle.book.specs.Table.{Reply, Shows, Tells}
 use Rattle.book.specs.BookOf.{bookOf, whole-bookOf}
 use Rattle.book.specs.Leaves.{plain, valued}
 use Rattle.book.specs.Questions as book
-use Rattle.contract.specs.Seen.{arrowIn, seen, SoundWords, sound-shows-book}
+use Rattle.contract.specs.Seen.{arrowIn, seen, SoundWords, sound-table, sound-shows-book}
 use Rattle.contract.specs.Posts.{AskPost}
 use Rattle.contract.specs.Checked.{ask-refused}
 
@@ -86,7 +86,7 @@ module _ (ws : List ℕ) (s : SoundWords ws) where
 
         -- NODE
         pub node-told : AskPost (node r) ws (valued (x - 1))
-        node-told = told (node r) (valued (x - 1)) (book.node-tells (bookOf (seen ws)) (seen ws) r (x - 1) shows l holds (whole-bookOf (seen ws)))
+        node-told = told (node r) (valued (x - 1)) (book.node-tells (bookOf (seen ws)) (seen ws) r (x - 1) shows l holds (whole-bookOf (seen ws) (sound-table (tableOf ws) s)))
 
         -- what `walk` and `count_states` ask
         pub walk-pre : {rows : ℕ} → rows ≡ headerOf ws ROWS → WalkPre (view rows ws) (x - 1)
@@ -106,4 +106,4 @@ module _ (ws : List ℕ) (s : SoundWords ws) where
         -- COUNT
         pub count-told : {n rows k : ℕ} → n ≡ headerOf ws BITS → rows ≡ headerOf ws ROWS → k ≡ weight true (setOf n (den (2 * n) (rowsOf (view rows ws)) (x - 1))) → AskPost (count r) ws (valued k)
         count-told en er e =
-            rw (rw (en, er) at e) (told (count r) _ (book.count-tells (bookOf (seen ws)) (seen ws) r (x - 1) shows l holds (whole-bookOf (seen ws))))
+            rw (rw (en, er) at e) (told (count r) _ (book.count-tells (bookOf (seen ws)) (seen ws) r (x - 1) shows l holds (whole-bookOf (seen ws) (sound-table (tableOf ws) s))))

@@ -5,7 +5,7 @@ use mathlib.Core.List.{List, map, List·Memᴰ as Mem, List·Memᴰ·append-case
 use Prim.Native.Nat.{ℕ, _*_}
 use Rattle.diagram.specs.Rows.{Arrow, den}
 use Rattle.diagram.specs.Need.{need}
-use Rattle.layout.specs.Places.{BITS, USED, FIRST-REGISTER, ROOTS-END}
+use Rattle.layout.specs.Places.{BITS, USED, VALID, ROOTS-END}
 use Rattle.layout.specs.View.{View}
 use Rattle.soundness.specs.Used.{rowsOf}
 use Rattle.soundness.specs.Bits.{MARK-WORDS, On}
@@ -22,7 +22,7 @@ pub record FreePre (W : View) (xs : List ℕ) : Type 0 where
   pub sound : Sound W
   pub arrows : (a : ℕ) → Mem a xs → Arrow (rowsOf W) a
 
--- "collect: frees unneeded rows; returns the rows still needed by registers and relations"
+-- "collect: frees unneeded rows; returns the rows still needed by registers and relations"; V "counts in collect"
 pub record CollectPost (W X : View) (r : ℕ) : Type 0 where
   pub freed : Freed W X (filled W)
   pub needs : r ≡ need (2 * W .header BITS) (map (den (2 * W .header BITS) (rowsOf W)) (filled W))
@@ -44,8 +44,8 @@ module _ (W X : View) (z m : List ℕ) (none : (i : ℕ) → On z i → ⊥) (g 
   pub free-by : (xs : List ℕ) → FreePre W xs → MarksAll (rowsOf W) z m (λ a. Mem a (live W xs)) → Freed W X (live W xs)
   free-by xs p k = freed W (p .sound) (live W xs) (live-arrow p) (λ a h. append-left xs h) z m none k X g
 
-  pub filled-by : Sound W → MarksAll (rowsOf W) z m (Held W FIRST-REGISTER ROOTS-END) → Freed W X (filled W)
+  pub filled-by : Sound W → MarksAll (rowsOf W) z m (Held W VALID ROOTS-END) → Freed W X (filled W)
   filled-by s k = freed W s (filled W) (filled-arrow s) (λ a h. h) z m none (filled-marks k) X g
 
-  pub collect-by : Sound W → MarksAll (rowsOf W) z m (Held W FIRST-REGISTER ROOTS-END) → {r : ℕ} → r ≡ X .header USED → CollectPost W X r
+  pub collect-by : Sound W → MarksAll (rowsOf W) z m (Held W VALID ROOTS-END) → {r : ℕ} → r ≡ X .header USED → CollectPost W X r
   collect-by s k e = let f = filled-by s k in record { freed = f; needs = e ∙ freed-count W X (filled W) s f }

@@ -10,13 +10,14 @@ use Rattle.diagram.specs.Reach.{Reach, reach-used, one-root}
 use Rattle.diagram.specs.Keep.{Keeps, keeps-arrow, keeps-map, keeps-within, keeps-reach-back}
 use Rattle.diagram.specs.Collect.{Collects, collects-keeps, collects-wellFormed, collects-count}
 use Rattle.diagram.specs.Even.{even}
-use Rattle.layout.specs.Places.{BITS, ROWS, USED, LAYOUT, FIRST-REGISTER, ROOTS-END, LOW, HIGH, LEVEL}
+use Rattle.layout.specs.Places.{BITS, ROWS, USED, LAYOUT, VALID, ROOTS-END, LOW, HIGH, LEVEL}
 use Rattle.layout.specs.View.{View}
 use Rattle.soundness.specs.Used.{used, rowsOf}
 use Rattle.soundness.specs.Bits.{On}
 use Rattle.soundness.specs.Roots.{Ref, MarksAll}
-use Rattle.soundness.specs.Sound.{Good, Sound, EvenRegs}
-use Rattle.soundness.specs.Filled.{filled, filled-mem}
+use Rattle.soundness.specs.Sound.{Good, Sound, EvenSets}
+use Rattle.soundness.specs.Filled.{filled, root-filled}
+use Rattle.soundness.specs.Kept.{valid-kept, within-keeps}
 use Rattle.table.specs.Add.{Frame}
 use Rattle.table.specs.Count.{count-used}
 use Rattle.collect.specs.Lent.{marked-reach, reach-marked}
@@ -28,7 +29,7 @@ pub record Freed (W X : View) (roots : List ℕ) : Type 0 where
   pub frame : Frame W X
   pub collects : Collects (rowsOf W) (rowsOf X) roots
 
--- the roots are arrows, with all registers and relations among them
+-- the roots are arrows, with V and all registers and relations among them
 module _ (W : View) (s : Sound W) (roots : List ℕ) (arrows : (a : ℕ) → Mem a roots → Arrow (rowsOf W) a) (all : (a : ℕ) → Mem a (filled W) → Mem a roots)
     (z m : List ℕ) (none : (i : ℕ) → On z i → ⊥) (k : MarksAll (rowsOf W) z m (λ a. Mem a roots)) (X : View) (g : Gathered W X m) where
   cell : (j l : ℕ) → l < 3 → X .cell j l ≡ W .cell j l
@@ -60,14 +61,14 @@ module _ (W : View) (s : Sound W) (roots : List ℕ) (arrows : (a : ℕ) → Mem
     index = g .index;
   }
 
-  root : (b h : ℕ) → FIRST-REGISTER ≤ h → h < ROOTS-END → W .header h ≡ suc b → Mem b roots
-  root b h a l e = all b (filled-mem W b (record { at = h; from = a; below = l; holds = e }))
+  root : (b h : ℕ) → VALID ≤ h → h < ROOTS-END → W .header h ≡ suc b → Mem b roots
+  root b h a l e = all b (root-filled W h b a l e)
 
-  ref : (r h : ℕ) → FIRST-REGISTER ≤ h → h < ROOTS-END → W .header h ≡ r → Ref (rowsOf X) r
+  ref : (r h : ℕ) → VALID ≤ h → h < ROOTS-END → W .header h ≡ r → Ref (rowsOf X) r
   ref zero h a l e = tt
   ref (suc b) h a l e = keeps-arrow keeps b (root b h a l e)
 
-  evens : EvenRegs X
+  evens : EvenSets X
   evens h a l b e i r =
       let e′ : W .header h ≡ suc b = sym (g .header h (omega arith)) ∙ e in
       let one : Keeps (rowsOf W) (rowsOf X) (b ∷ []) = keeps-within (one-root (λ c. Mem c roots) (root b h a (omega arith) e′)) keeps in
@@ -76,7 +77,13 @@ module _ (W : View) (s : Sound W) (roots : List ℕ) (arrows : (a : ℕ) → Mem
 
   pub freed : Freed W X roots
   freed = record {
-    sound = record { good = good; refs = λ h a l. ref (X .header h) h a l (sym (g .header h (omega arith))); even = evens };
+    sound = record {
+      good = good;
+      refs = λ h a l. ref (X .header h) h a l (sym (g .header h (omega arith)));
+      valid = valid-kept W X (λ h a l. g .header h (omega arith)) (s .valid);
+      even = evens;
+      within = within-keeps W X (λ h a l. g .header h (omega arith)) (s .valid) (g .header BITS (omega arith)) all keeps (s .within);
+    };
     frame = record {
       rows = g .rows;
       size = g .size;

@@ -1,4 +1,4 @@
--- Marking from a lent list of roots, and from registers and relations with it. Assumes nothing.
+-- Marking from a lent list of roots, and from V, registers and relations with it. Assumes nothing.
 use mathlib.Core.Path.{_≡_, refl, subst}
 use mathlib.Core.Logic.{inl, inr, ⊎-elim}
 use mathlib.Core.List.{List, [], _∷_, _++_, append-assoc, List·Memᴰ as Mem, List·Memᴰ·head as first, List·Memᴰ·tail as later, List·Memᴰ·not-nil as mem-nil, List·Memᴰ·eq-of-singleton as mem-only, List·Memᴰ·append-cases as append-cases, Memᴰ·append-left as append-left, Memᴰ·append-right as append-right}
@@ -9,7 +9,7 @@ use lib.ListN.{length, getD, take}
 use lib.Seq.{take-suc, take-all}
 use Rattle.diagram.specs.Rows.{Rows, Arrow}
 use Rattle.diagram.specs.Reach.{Reach, reached-root, reach-on}
-use Rattle.layout.specs.Places.{FIRST-REGISTER, ROOTS-END}
+use Rattle.layout.specs.Places.{VALID, ROOTS-END}
 use Rattle.layout.specs.View.{View}
 use Rattle.soundness.specs.Used.{rowsOf}
 use Rattle.soundness.specs.Bits.{On}
@@ -47,11 +47,11 @@ lent-more {rows} {m₀} {m₁} {m₂} {xs} {k} l p q =
 pub lent-all : {rows : Rows} {m m′ : List ℕ} (xs : List ℕ) (k : ℕ) → length xs ≤ k → Lent rows m m′ xs k → MarksAll rows m m′ (λ a. Mem a xs)
 lent-all {rows} {m} {m′} xs k l p = subst (λ (ys : List ℕ). MarksAll rows m m′ (λ a. Mem a ys)) (take-all k xs l) (p .marks)
 
--- "Live at a step: all filled registers and relations", and what is lent
+-- "Live at a step: all filled registers and relations", "V is live always", and what is lent
 abbrev pub live : View → List ℕ → List ℕ
 live W xs = filled W ++ xs
 
-pub live-marks : {W : View} {m₀ m₁ m₂ xs : List ℕ} → MarksAll (rowsOf W) m₀ m₁ (Held W FIRST-REGISTER ROOTS-END) → MarksAll (rowsOf W) m₁ m₂ (λ a. Mem a xs)
+pub live-marks : {W : View} {m₀ m₁ m₂ xs : List ℕ} → MarksAll (rowsOf W) m₀ m₁ (Held W VALID ROOTS-END) → MarksAll (rowsOf W) m₁ m₂ (λ a. Mem a xs)
     → MarksAll (rowsOf W) m₀ m₂ (λ a. Mem a (live W xs))
 live-marks {W} {xs = xs} p q = marks-more p q
     (λ a x. append-left xs (filled-mem W a x))
@@ -64,7 +64,7 @@ pub more-marks : (W : View) {m₀ m₁ m₂ : List ℕ} (xs ys : List ℕ) → M
 more-marks W xs ys p q =
     rw (← append-assoc (filled W) xs ys) (marks-more p q (λ a h. append-left ys h) (λ a h. append-right (live W xs) h) (λ a h. append-cases (live W xs) h))
 
-pub filled-marks : {W : View} {m m′ : List ℕ} → MarksAll (rowsOf W) m m′ (Held W FIRST-REGISTER ROOTS-END) → MarksAll (rowsOf W) m m′ (λ a. Mem a (filled W))
+pub filled-marks : {W : View} {m m′ : List ℕ} → MarksAll (rowsOf W) m m′ (Held W VALID ROOTS-END) → MarksAll (rowsOf W) m m′ (λ a. Mem a (filled W))
 filled-marks {W} p = marks-same p (filled-mem W) (mem-filled W)
 
 -- where nothing was marked before, a row is marked exactly where the roots reach it

@@ -14,7 +14,7 @@ ghost use mathlib.Core.Path.{_≡_};
 ghost use mathlib.Core.List.{_++_, List·Memᴰ as Mem};
 ghost use Prim.Native.Nat.{ℕ, _*_, _<_, _≤_};
 ghost use lib.ListN.{length};
-ghost use Rattle.layout.specs.Places.{MAX-ROWS, USED, FIRST-REGISTER, ROOTS-END, wordsFor};
+ghost use Rattle.layout.specs.Places.{MAX-ROWS, USED, VALID, ROOTS-END, wordsFor};
 ghost use Rattle.layout.specs.View.{view, headerOf, listOf, putHeader};
 ghost use Rattle.soundness.specs.Used.{rowsOf, Ranked};
 ghost use Rattle.soundness.specs.Bits.{On};
@@ -38,17 +38,17 @@ fn mark_list(words: &[u32], rows: u32, marks: &mut [u32], roots: &[u32])
     }
 }
 
-// Marks the rows that registers and relations reach.
+// Marks the rows that V, registers and relations reach.
 pub fn mark_filled(words: &[u32], rows: u32, marks: &mut [u32])
-    requires { ⌜ RefsPre (view rows (now words)) (length (now marks)) FIRST-REGISTER ROOTS-END ⌝ }
-    ensures { λ _. ⌜ MarksAll (rowsOf (view rows (now (words .entry)))) (now (marks .entry)) (now (marks .exit)) (Held (view rows (now (words .entry))) FIRST-REGISTER ROOTS-END) ⌝ }
+    requires { ⌜ RefsPre (view rows (now words)) (length (now marks)) VALID ROOTS-END ⌝ }
+    ensures { λ _. ⌜ MarksAll (rowsOf (view rows (now (words .entry)))) (now (marks .entry)) (now (marks .exit)) (Held (view rows (now (words .entry))) VALID ROOTS-END) ⌝ }
 {
-    mark_refs(words, rows, marks, Table::FIRST_REGISTER, Table::ROOTS_END);
+    mark_refs(words, rows, marks, Table::VALID, Table::ROOTS_END);
 }
 
-// Marks the rows that registers, relations and further roots reach.
+// Marks the rows that V, registers, relations and further roots reach.
 fn mark_roots(words: &[u32], rows: u32, marks: &mut [u32], roots: &[u32])
-    requires { ⌜ RefsPre (view rows (now words)) (length (now marks)) FIRST-REGISTER ROOTS-END × LentPre (view rows (now words)) (length (now marks)) (now roots) ⌝ }
+    requires { ⌜ RefsPre (view rows (now words)) (length (now marks)) VALID ROOTS-END × LentPre (view rows (now words)) (length (now marks)) (now roots) ⌝ }
     ensures { λ _. ⌜ MarksAll (rowsOf (view rows (now (words .entry)))) (now (marks .entry)) (now (marks .exit)) (λ a. Mem a (live (view rows (now (words .entry))) (now (roots .entry)))) ⌝ }
 {
     mark_filled(words, rows, marks);
@@ -130,7 +130,7 @@ fn many_unmarked(words: &[u32], rows: u32, marks: &[u32]) -> bool
     4 * used > 5 * kept + 64
 }
 
-// Frees the rows that no register and no relation needs, where they are many.
+// Frees the rows that neither V nor a register or relation needs, where they are many.
 pub fn free_many(words: &mut [u32], rows: u32)
     requires { ⌜ Sound (view rows (now words)) ⌝ }
     ensures { λ _. ⌜ FreeManyPost (view rows (now (words .entry))) (view rows (now (words .exit))) ⌝ }
@@ -143,7 +143,7 @@ pub fn free_many(words: &mut [u32], rows: u32)
     gather(words, rows, &marks);
 }
 
-// Frees the rows that no register, no relation and none of two lists of further roots needs.
+// Frees the rows that neither V nor a register or relation nor one of two lists of further roots needs.
 pub fn free_rows(words: &mut [u32], rows: u32, roots: &[u32], more: &[u32])
     requires { ⌜ FreePre (view rows (now words)) (now roots ++ now more) ⌝ }
     ensures { λ _. ⌜ Freed (view rows (now (words .entry))) (view rows (now (words .exit))) (live (view rows (now (words .entry))) (now (roots .entry) ++ now (more .entry))) ⌝ }
@@ -154,7 +154,7 @@ pub fn free_rows(words: &mut [u32], rows: u32, roots: &[u32], more: &[u32])
     gather(words, rows, &marks);
 }
 
-// Frees the rows that no register and no relation needs, and returns how many are left.
+// Frees the rows that neither V nor a register or relation needs, and returns how many are left.
 pub fn collect_rows(words: &mut [u32], rows: u32) -> u32
     requires { ⌜ Sound (view rows (now words)) ⌝ }
     ensures { λ r. ⌜ CollectPost (view rows (now (words .entry))) (view rows (now (words .exit))) r ⌝ }

@@ -10,7 +10,7 @@ use lib.Dec.{eqb}
 use lib.ListN.{length}
 use borrow.Author.Tests.{ne-eqb, eq-eqb}
 use Rattle.soundness.specs.Says.{Says, holds, fails}
-use Rattle.book.specs.Book.{Call, relation, set, clear, collect, freshNumber}
+use Rattle.book.specs.Book.{Call, relation, set, valid, clear, collect, freshNumber}
 use Rattle.book.specs.Program.{Command, start, call, states}
 use Rattle.contract.specs.Seen.{SoundWords}
 use Rattle.records.specs.declared.Found.{Found}
@@ -61,6 +61,7 @@ refused-says {P} k l n = subst (Says P) (sym (ne-eqb k 0 (λ e. absurd (omega ar
 number-of : (c : Call) (x : Outcome) → replyOf c x .number ≡ x .number
 number-of (relation t bs) x = refl
 number-of (set acc r R bs) x = refl
+number-of (valid bs) x = refl
 number-of (clear r) x = refl
 number-of collect x = refl
 

@@ -3,7 +3,7 @@ use mathlib.Core.Path.{_≡_}
 use mathlib.Core.Bool.{Bool}
 use mathlib.Core.List.{List}
 use Prim.Native.Nat.{ℕ, _≤_}
-use Rattle.book.specs.Book.{Call, relation, set, clear, collect, count}
+use Rattle.book.specs.Book.{Call, relation, set, valid, clear, collect, count}
 use Rattle.book.specs.Program.{Command, start, call, states, opOf}
 use Rattle.book.specs.Table.{Reply}
 use Rattle.book.specs.Leaves.{valued}
@@ -41,6 +41,7 @@ nodeReply x = record { number = x .number; rounds = x .rounds; peak = x .peak; v
 abbrev pub replyOf : Call → Outcome → Reply
 replyOf (relation t bs) x = shownReply x
 replyOf (set acc r R bs) x = nodeReply x
+replyOf (valid bs) x = shownReply x
 replyOf (clear r) x = shownReply x
 replyOf collect x = shownReply x
 
@@ -48,6 +49,7 @@ replyOf collect x = shownReply x
 abbrev pub Beside : Call → List ℕ → Outcome → Type 0
 Beside (relation t bs) new x = x .node ≡ 0
 Beside (set acc r R bs) new x = (x .number ≡ 0 → AskPost (count r) new (valued (x .value))) × (1 ≤ x .number → x .value ≡ 0)
+Beside (valid bs) new x = x .node ≡ 0
 Beside (clear r) new x = x .node ≡ 0
 Beside collect new x = x .node ≡ 0
 

@@ -5,7 +5,7 @@ use mathlib.Core.List.{List}
 use Prim.Native.Nat.{ℕ, _≤_}
 use native.Mathlib.Omega.{arith}
 use Rattle.accounts.specs.declared.Terms.{Terms}
-use Rattle.book.specs.Book.{Call, relation, set, clear, collect, count}
+use Rattle.book.specs.Book.{Call, relation, set, valid, clear, collect, count}
 use Rattle.book.specs.Program.{Command, start, call, states, opOf}
 use Rattle.book.specs.Table.{Reply}
 use Rattle.book.specs.Leaves.{plain, valued}
@@ -58,6 +58,7 @@ relation-done t bs {old} {new} p d i = subst (Obeys (call (relation t bs)) old n
 abbrev Nodeless : Call → Type 0
 Nodeless (relation t bs) = Unit {0}
 Nodeless (set acc r R bs) = ⊥
+Nodeless (valid bs) = Unit {0}
 Nodeless (clear r) = Unit {0}
 Nodeless collect = Unit {0}
 
@@ -67,6 +68,7 @@ call-told c {old} {new} {k} {v} nodeless p j i = subst (Obeys (call c) old new) 
     go : (c : Call) → Nodeless c → CallPost c old new (reply k v) → Obeys (call c) old new (plainOutcome (opOf c) k v)
     go (relation t bs) u q = record { operation = refl; posted = (q, refl) }
     go (set acc r R bs) u q = absurd u
+    go (valid bs) u q = record { operation = refl; posted = (q, refl) }
     go (clear r) u q = record { operation = refl; posted = (q, refl) }
     go collect u q = record { operation = refl; posted = (q, refl) }
 
@@ -102,6 +104,7 @@ module _ {ws : List ℕ} {x : Outcome} (n : SoundWords ws → ⊥) where
   pub call-refused : (c : Call) → x ≡ plainOutcome (opOf c) 2 0 → Obeys (call c) ws ws x
   call-refused (relation t bs) i = call-told (relation t bs) tt (call-unsound ws n (relation t bs)) refl i
   call-refused (set acc r R bs) i = set-refused acc r R bs (omega arith) (call-unsound ws n (set acc r R bs)) i
+  call-refused (valid bs) i = call-told (valid bs) tt (call-unsound ws n (valid bs)) refl i
   call-refused (clear r) i = call-told (clear r) tt (call-unsound ws n (clear r)) refl i
   call-refused collect i = call-told collect tt (call-unsound ws n collect) refl i
 

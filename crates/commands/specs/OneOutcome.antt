@@ -6,7 +6,7 @@ use mathlib.Core.List.{List}
 use Prim.Native.Nat.{ℕ, min}
 use native.Mathlib.Decide.{ℕ-discrete}
 use native.Mathlib.Omega.{arith}
-use Rattle.book.specs.Book.{relation, set, clear, collect, count}
+use Rattle.book.specs.Book.{relation, set, valid, clear, collect, count}
 use Rattle.book.specs.Program.{Command, start, call, states}
 use Rattle.book.specs.Table.{Reply}
 use Rattle.book.specs.Leaves.{valued}
@@ -37,6 +37,9 @@ obey-one (start n N) a b = shown-one (a .operation ∙ sym (b .operation)) (fres
 obey-one (states r) a b = shown-one (a .operation ∙ sym (b .operation)) (ask-one (count r) (a .posted .1) (b .posted .1)) (a .posted .2) (b .posted .2)
 obey-one (call (relation t bs)) a b =
     let o = call-one (relation t bs) (a .posted .0) (b .posted .0) in
+    plain-one (a .operation ∙ sym (b .operation)) (o .number) (o .rounds) (o .value) (o .peak) (a .posted .1) (b .posted .1)
+obey-one (call (valid bs)) a b =
+    let o = call-one (valid bs) (a .posted .0) (b .posted .0) in
     plain-one (a .operation ∙ sym (b .operation)) (o .number) (o .rounds) (o .value) (o .peak) (a .posted .1) (b .posted .1)
 obey-one (call (clear r)) a b =
     let o = call-one (clear r) (a .posted .0) (b .posted .0) in

@@ -16,11 +16,12 @@ use Rattle.mucalculus.specs.Form.{noEnv}
 use Rattle.mucalculus.specs.Means.{means}
 use Rattle.tokens.specs.declared.Kind.the-variants.{Set}
 use Rattle.book.specs.Book.{Book, Question, set, member, count, registers, refused, modelOf, formulaIn, asked, oneOf, does, answer}
+use Rattle.soundness.specs.Sound.{tableOf}
 use Rattle.book.specs.Table.{Reply, Agrees, Serves}
 use Rattle.book.specs.BookOf.{bookOf, whole-bookOf, only-book}
 use Rattle.book.specs.Stored.{Sets, whole-does, set-means}
 use Rattle.book.specs.Truthful.{set-leaves, set-member, set-count}
-use Rattle.contract.specs.Seen.{seen, SoundWords, any-words}
+use Rattle.contract.specs.Seen.{seen, SoundWords, sound-table, any-words}
 use Rattle.contract.specs.Posts.{CallPost, AskPost}
 
 tested : (t : Bool) → Dec (T t)
@@ -48,7 +49,7 @@ module _ (old mid : List ℕ) (acc : Terms) (r R : ℕ) (bs : List ℕ) (y : Rep
 
     -- the book that the words stand for is the book after the call
     after-words : after ≡ bookOf (seen mid)
-    after-words = only-book after (seen mid) (whole-does b (set acc r R bs) (whole-bookOf (seen old))) (served .1 .shows)
+    after-words = only-book after (seen mid) (whole-does b (set acc r R bs) (whole-bookOf (seen old) (sound-table (tableOf old) s))) (served .1 .shows)
 
     agrees : (q : Question) (x : Reply) → AskPost q mid x → Agrees (answer after q) x
     agrees q x h = subst (λ (v : Book). Agrees (answer v q) x) (sym after-words) (h .told (served .0) .agrees)

@@ -1,10 +1,10 @@
--- Refusals by the checks before a call's steps meet its contract: 2 on words that are no sound table, 3 to 7, 12 and 14 on a sound one; all words are
+-- Refusals by the checks before a call's steps meet its contract: 2 on words that are no sound table, 3 to 7 and 12 to 14 on a sound one; all words are
 -- kept. Assumes nothing.
 use mathlib.Core.Path.{_≡_, refl}
 use mathlib.Core.List.{List}
 use Prim.Native.Nat.{ℕ, suc}
 use native.Mathlib.Omega.{arith}
-use Rattle.book.specs.Book.{Call, relation, set, clear, collect, Question, refused, refuse, does, answer}
+use Rattle.book.specs.Book.{Call, relation, set, valid, clear, collect, Question, refused, refuse, does, answer}
 use Rattle.book.specs.BookOf.{bookOf}
 use Rattle.book.specs.Leaves.{plain}
 use Rattle.book.specs.Calls.{refusal-serves}
@@ -31,11 +31,12 @@ kept-refused c k ws = record { all = λ _. refl; size = refl; header = λ h l e.
     exact : (c : Call) → Exact c (plain (suc k)) ws ws
     exact (relation t bs) = tt
     exact (set acc r R bs) = tt
+    exact (valid bs) = tt
     exact (clear r) = λ z. absurd (omega arith)
     exact collect = tt
 
 module _ (ws : List ℕ) (s : SoundWords ws) (k : ℕ) where
-  -- CHECKS 3 TO 7, 12 AND 14: the book refuses with the number
+  -- CHECKS 3 TO 7, 12, 13 AND 14: the book refuses with the number
   pub call-refused : (c : Call) → does (bookOf (seen ws)) c ≡ refuse (bookOf (seen ws)) (suc k) → CallPost c ws ws (plain (suc k))
   call-refused c e = record {
     performs = record { unsound = λ n. absurd (n s); served = λ _. (s, refusal-serves (bookOf (seen ws)) (seen ws) c k (sound-shows-book ws s) e) };

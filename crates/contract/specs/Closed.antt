@@ -30,6 +30,6 @@ words-implement = record {
   answers = λ w w′ q y p. subst (λ (x : List ℕ). Answers SoundWords seen q w x y) (sym (p .0)) (p .1);
 }
 
--- every list of relation, set, clear and collect calls after one answered fresh, refused calls included
+-- every list of relation, set, valid, clear and collect calls after one answered fresh, refused calls included
 pub words-demand : (n N : ℕ) {end : List ℕ} {l : List Event} → Session (List ℕ) makes performs n N l end → Demand SoundWords seen asks n N l end
 words-demand n N x = third-demand words-implement n N x

@@ -7,9 +7,9 @@ use Prim.Native.Nat.{ℕ, _+_, _≤_, _<_}
 use lib.Dec.{T, eqb}
 use lib.ListN.{length, getD, set}
 use Rattle.layout.specs.Refusals.{keepsAll}
-use Rattle.layout.specs.Places.{HEADER, ROWS, USED, CURSOR, SLOTS, STORED, SPARE, FIRST-REGISTER, FIRST-RELATION, wordsFor}
+use Rattle.layout.specs.Places.{VALID, HEADER, ROWS, USED, CURSOR, SLOTS, STORED, SPARE, FIRST-REGISTER, FIRST-RELATION, wordsFor}
 use Rattle.layout.specs.View.{headerOf, cellOf}
-use Rattle.book.specs.Book.{Call, relation, set as setCall, clear, collect}
+use Rattle.book.specs.Book.{Call, relation, set as setCall, valid, clear, collect}
 use Rattle.book.specs.Table.{Reply}
 
 -- header words of the index and of remembered results
@@ -20,6 +20,7 @@ freeWord h = (eqb h USED || eqb h CURSOR) || (eqb h SLOTS || eqb h STORED)
 abbrev pub target : Call → ℕ → Bool
 target (relation t bs) h = eqb h (FIRST-RELATION + t)
 target (setCall acc r R bs) h = eqb h (FIRST-REGISTER + r)
+target (valid bs) h = eqb h VALID
 target (clear r) h = eqb h (FIRST-REGISTER + r)
 target collect h = false
 
@@ -31,13 +32,14 @@ changes c y h = freeWord h || (eqb (y .number) 0 && target c h)
 abbrev pub Exact : Call → Reply → List ℕ → List ℕ → Type 0
 Exact (relation t bs) y old new = Unit {0}
 Exact (setCall acc r R bs) y old new = Unit {0}
+Exact (valid bs) y old new = Unit {0}
 Exact (clear r) y old new = y .number ≡ 0 → new ≡ set old (FIRST-REGISTER + r) 0
 Exact collect y old new = Unit {0}
 
 pub record Kept (c : Call) (y : Reply) (old new : List ℕ) : Type 0 where
   -- "all words"
   pub all : T (keepsAll (y .number)) → new ≡ old
-  -- 8, 9 and an answer: the slice is as long, and n, N, registers, relations and every unused header word are as they were, but for the target
+  -- 8, 9 and an answer: the slice is as long, and n, N, V, registers, relations and every unused header word are as they were, but for the target
   pub size : length new ≡ length old
   pub header : (h : ℕ) → h < HEADER → changes c y h ≡ false → headerOf new h ≡ headerOf old h
   -- the spare word of every row

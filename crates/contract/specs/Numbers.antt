@@ -6,12 +6,13 @@ use mathlib.Core.Bool.{Bool}
 use mathlib.Core.List.{List}
 use mathlib.Core.Option.{some}
 use Prim.Native.Nat.{ℕ, _<_}
+use Rattle.soundness.specs.Sound.{tableOf}
 use Rattle.book.specs.Book.{registers}
 use Rattle.book.specs.BookOf.{bookOf, whole-bookOf}
 use Rattle.book.specs.Demand.{same-number}
-use Rattle.contract.specs.Seen.{seen, SoundWords, sound-shows-book}
+use Rattle.contract.specs.Seen.{seen, SoundWords, sound-table, sound-shows-book}
 
 pub numbers-agree : (ws : List ℕ) → SoundWords ws → (r q : ℕ) → r < registers → q < registers → (A B : List Bool) (x y : ℕ)
     → bookOf (seen ws) .reg r ≡ some A → bookOf (seen ws) .reg q ≡ some B → seen ws .reg r ≡ some x → seen ws .reg q ≡ some y
     → (x ≡ y) ↔ (A ≡ B)
-numbers-agree ws s = same-number (bookOf (seen ws)) (seen ws) (whole-bookOf (seen ws)) (sound-shows-book ws s)
+numbers-agree ws s = same-number (bookOf (seen ws)) (seen ws) (whole-bookOf (seen ws) (sound-table (tableOf ws) s)) (sound-shows-book ws s)

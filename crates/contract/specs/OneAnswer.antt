@@ -18,14 +18,15 @@ use Rattle.layout.specs.Places.{HEADER, ROWS, SPARE, wordsFor}
 use Rattle.layout.specs.View.{headerOf, cellOf}
 use Rattle.diagram.specs.Rows.{Rows}
 use Rattle.diagram.specs.Reach.{Reach}
-use Rattle.book.specs.Book.{Book, fresh, freshNumber, Call, relation, set, clear, collect, Question, Done, registers, does}
+use Rattle.soundness.specs.Sound.{tableOf}
+use Rattle.book.specs.Book.{Book, fresh, freshNumber, Call, relation, set, valid, clear, collect, Question, Done, registers, does}
 use Rattle.book.specs.Stored.{Whole, whole-fresh, whole-does, range-cases}
 use Rattle.book.specs.Table.{Table, Reply, Refusal, keptRoots, Serves}
 use Rattle.book.specs.Leaves.{plain, shows-fresh}
 use Rattle.book.specs.BookOf.{bookOf, whole-bookOf, only-book}
 use Rattle.book.specs.Tallies.{charged, freshened}
 use Rattle.book.specs.OneReply.{settledIn, same-place, call-value, ask-value, collect-used}
-use Rattle.contract.specs.Seen.{seen, SoundWords, any-words}
+use Rattle.contract.specs.Seen.{seen, SoundWords, sound-table, any-words}
 use Rattle.contract.specs.Kept.{changes, freeWord, target}
 use Rattle.contract.specs.Posts.{FreshPost, CallPost, FreshAllPost, SetAllPost, AskPost}
 
@@ -45,11 +46,11 @@ pub record OneAnswer (c : Call) (old v w : List ℕ) (y z : Reply) : Type 0 wher
   pub rounds : y .rounds ≡ z .rounds
   pub peak : y .peak ≡ z .peak
   pub value : settledIn c (y .value) ≡ settledIn c (z .value)
-  -- n, N, and every register and relation: filled in both or in none, and with the same set
+  -- n, N, V, and every register and relation: filled in both or in none, and with the same set
   pub book : bookOf (seen v) ≡ bookOf (seen w)
   -- two registers have one node number at the one end exactly where they have at the other
   pub numbers : (r q : ℕ) → r < registers → q < registers → (seen v .reg r ≡ seen v .reg q) ↔ (seen w .reg r ≡ seen w .reg q)
-  -- the words of the header but those of the index, of remembered results and of an answered relation's or set's target
+  -- the words of the header but those of the index, of remembered results and of an answered call's target
   pub size : length v ≡ length w
   pub header : (h : ℕ) → h < HEADER → changes c y h ≡ false → headerOf v h ≡ headerOf w h
   -- rows that the other roots need; after collect the same rows are used
@@ -103,6 +104,7 @@ ask-one q {ws} {y} {z} a b = same-reply {y = y} {z = z}
 roots-by : (c : Call) (y : Reply) (t : Table) → keptRoots c y t ≡ keptRoots c (plain (y .number)) t
 roots-by (relation q bs) y t = refl
 roots-by (set acc r R bs) y t = refl
+roots-by (valid bs) y t = refl
 roots-by (clear r) y t = refl
 roots-by collect y t = refl
 
@@ -131,7 +133,7 @@ module _ (c : Call) {old v w : List ℕ} {y z : Reply} (p : CallPost c old v y) 
     second = q .performs .served s .1
 
     whole : Whole (does b c .0)
-    whole = whole-does b c (whole-bookOf (seen old))
+    whole = whole-does b c (whole-bookOf (seen old) (sound-table (tableOf old) s))
 
     one-number : y .number ≡ z .number
     one-number = first .agrees .number ∙ sym (second .agrees .number)
@@ -184,6 +186,7 @@ module _ (c : Call) {old v w : List ℕ} {y z : Reply} (p : CallPost c old v y) 
     book = λ i. record {
       n = agree ℕ-discrete (λ x u. seen u .n) (λ s. ap (λ (x : Book). x .n) (one-book s)) i;
       N = agree ℕ-discrete (λ x u. seen u .N) (λ s. ap (λ (x : Book). x .N) (one-book s)) i;
+      valid = agree (List-discrete Bool-discrete) (λ x u. bookOf (seen u) .valid) (λ s. ap (λ (x : Book). x .valid) (one-book s)) i;
       rel = fun-ext (λ t. agree (Option-discrete (List-discrete (List-discrete Bool-discrete))) (λ x u. bookOf (seen u) .rel t) (λ s. ap (λ (x : Book). x .rel t) (one-book s))) i;
       reg = fun-ext (λ r. agree (Option-discrete (List-discrete Bool-discrete)) (λ x u. bookOf (seen u) .reg r) (λ s. ap (λ (x : Book). x .reg r) (one-book s))) i;
     };

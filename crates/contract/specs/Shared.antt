@@ -8,7 +8,7 @@ use Rattle.accounts.specs.declared.Account.{Account}
 use Rattle.accounts.specs.Account.{tallyTop}
 use Rattle.accounts.specs.Listed.{none}
 use Rattle.accounts.specs.declared.Terms.{Terms}
-use Rattle.book.specs.Book.{fresh, Call, relation, set, clear, collect}
+use Rattle.book.specs.Book.{fresh, Call, relation, set, valid, clear, collect}
 use Rattle.book.specs.Table.{Reply}
 use Rattle.book.specs.Demand.{Event, calls, Trace, stop, go, Session, Demand}
 use Rattle.book.specs.Tallies.{charged, freshened, accountsAfter, Fed, roundsAt, bookRounds, rounds-agree, tally-since-fresh}
@@ -25,6 +25,7 @@ pub record Lent : Type 0 where
 abbrev pub Step : Lent → Call → Lent → Reply → Type 0
 Step a (relation t bs) b y = CallPost (relation t bs) (a .words) (b .words) y × (b .accounts ≡ a .accounts)
 Step a (set acc r R bs) b y = Fed (a .accounts) (set acc r R bs) × SetAllPost (acc .place) r R bs (a .words) (b .words) (a .accounts) (b .accounts) y
+Step a (valid bs) b y = CallPost (valid bs) (a .words) (b .words) y × (b .accounts ≡ a .accounts)
 Step a (clear r) b y = CallPost (clear r) (a .words) (b .words) y × (b .accounts ≡ a .accounts)
 Step a collect b y = CallPost collect (a .words) (b .words) y × (b .accounts ≡ a .accounts)
 
@@ -42,6 +43,7 @@ step-words : (a b : Lent) (c : Call) (y : Reply) → Step a c b y → CallPost c
 step-words a b (relation t bs) y (p, e) = (p, e)
 step-words a b (set acc r R bs) y (f, p) =
     subst (λ (t : Terms). CallPost (set t r R bs) (a .words) (b .words) y × (b .accounts ≡ charged (a .accounts) (set t r R bs) y)) (sym f) (p .table, p .list)
+step-words a b (valid bs) y (p, e) = (p, e)
 step-words a b (clear r) y (p, e) = (p, e)
 step-words a b collect y (p, e) = (p, e)
 

@@ -12,7 +12,7 @@ use lib.Seq.{take-at, take-set-le, getD-set-same, getD-set-other, getD-drop, get
 use Rattle.diagram.specs.Count.{NoDup}
 use Rattle.diagram.specs.Reach.{Reach, reach-used}
 use Rattle.diagram.specs.Sizes.{Reaches}
-use Rattle.layout.specs.Places.{USED, FIRST-REGISTER, ROOTS-END, RANK}
+use Rattle.layout.specs.Places.{USED, VALID, ROOTS-END, RANK}
 use Rattle.layout.specs.View.{View}
 use Rattle.soundness.specs.Used.{used, used-in, Ranked, rowsOf}
 use Rattle.soundness.specs.Bits.{MARK-WORDS, isOn, On, zeros, no-marks}
@@ -103,12 +103,12 @@ blank-size z = ap length z ∙ length-replicate {A = ℕ} COUNT-WORDS 0
 pub blank-marks : {c : List ℕ} → Blank c → MARK-WORDS ≡ length (take MARK-WORDS c)
 blank-marks {c} z = let e = blank-size z in sym (length-take-le MARK-WORDS c (omega arith))
 
-pub filled-pre : {W : View} {c : List ℕ} → Sound W → Blank c → RefsPre W (length (take MARK-WORDS c)) FIRST-REGISTER ROOTS-END
+pub filled-pre : {W : View} {c : List ℕ} → Sound W → Blank c → RefsPre W (length (take MARK-WORDS c)) VALID ROOTS-END
 filled-pre s z = rw (← blank-marks z) (record { base = sound-base s; order = omega arith; within = omega arith; ref = s .refs })
 
 -- and what it writes: the marks of registers and relations, then their number
 module _ {W : View} {c m : List ℕ} (s : Sound W) (z : Blank c) (l : length m ≡ length (take MARK-WORDS c))
-    (k : MarksAll (rowsOf W) (take MARK-WORDS c) m (Held W FIRST-REGISTER ROOTS-END)) where
+    (k : MarksAll (rowsOf W) (take MARK-WORDS c) m (Held W VALID ROOTS-END)) where
   none : (i : ℕ) → On (take MARK-WORDS c) i → ⊥
   none i o = no-marks MARK-WORDS i (subst (λ (xs : List ℕ). On xs i) (ap (take MARK-WORDS) z ∙ take-zeros MARK-WORDS COUNT-WORDS (omega arith)) o)
 

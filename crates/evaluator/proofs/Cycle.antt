@@ -22,15 +22,14 @@ use Rattle.tokens.specs.declared.Lead.the-variants.{Is}
 use Rattle.formula.proofs.Steps.{is-not, is-modal, is-binder}
 use Rattle.accounts.specs.declared.Count.{Count}
 use Rattle.accounts.specs.Count.{another}
-use Rattle.layout.specs.Places.{HEADER, FIRST-RELATION}
+use Rattle.layout.specs.Places.{VALID, HEADER, FIRST-RELATION}
 use Rattle.layout.specs.View.{View, view}
-use Rattle.steps.specs.declared.Step.the-variants as step
 use Rattle.counting.specs.Counts.{CountsOf}
 use Rattle.counting.specs.declared.Taken.{Taken}
 use Rattle.book.specs.Turns.{startArrow}
 use Rattle.modal.specs.declared.Limits.{Limits}
-use Rattle.modal.specs.Modal.{ModalPre}
-use Rattle.evaluator.specs.Scene.{stackSize, Scene, opened, Ready, holdsReg, holdsRel, Answers, fromTaken, bodyOf, roundOf, isLeast, OverPost, LivePre, LivePost, JoinedPre, JoinedPost, LeafPre, LeafPost, EvalPre, EvalPost, NegatePost, BothPre, BothPost, ModePre, ModePost, fixOf, variableOf, BodyPart, UntilPost, TurnPre, TurnPost, BindPre, BindPost}
+use Rattle.modal.specs.Modal.{ModalPre, ComplementPre, ComplementPost}
+use Rattle.evaluator.specs.Scene.{stackSize, Scene, opened, Ready, holdsReg, holdsRel, Answers, fromTaken, bodyOf, roundOf, isLeast, OverPost, JoinedPre, JoinedPost, LeafPre, LeafPost, EvalPre, EvalPost, NegatePost, BothPre, BothPost, ModePre, ModePost, fixOf, variableOf, BodyPart, UntilPost, TurnPre, TurnPost, BindPre, BindPost}
 use Rattle.evaluator.specs.declared.Body.{Body}
 use Rattle.evaluator.specs.declared.Body.the-variants as body
 use Rattle.evaluator.specs.declared.Context.{Context}
@@ -38,6 +37,7 @@ use Rattle.evaluator.specs.declared.Evaluated.{Evaluated}
 use Rattle.evaluator.specs.declared.Evaluated.the-variants.{Value, Spent}
 use Rattle.evaluator.proofs.Tokens.{read-depth, read-allowed, leaf-form, leaf-end, one-form, both-form}
 use Rattle.evaluator.proofs.Parts.{leaf-named, not-part, modal-part, modal-relation, binder-part, left-part, right-part, until-relation}
+use Rattle.evaluator.proofs.State.{valid-asks, valid-read}
 use Rattle.evaluator.proofs.Outcomes.{Halts}
 use Rattle.evaluator.proofs.Steps.{answers-same, eval-leaf, negate-stops, first-stops, mode-stops, value-set, value-is, negate-asks, negate-ends, both-part, both-ready, both-asks, both-joined}
 use Rattle.evaluator.proofs.Relations.{rel-range, rel-some, over-asks, over-ends}
@@ -153,11 +153,19 @@ module _ {L : Limits} {W X : View} {stack after bs : List ℕ} {c : Context} {r 
   negate-halts s = record { answers = λ σ f e R p. negate-stops (E .answers σ f e R p) s }
 
   module _ (z : length after ≡ length stack) {a k : ℕ} {q : Count} (is : r ≡ Value a k q) where
-    pub step-asked : EvalPre L W stack bs c → LivePre L X after (c .held) (step.Not a)
-    step-asked P = negate-asks (P .ready) (E .answers (P .scene) (P .form) (P .end) (P .ready) (P .part)) z is
+    -- V's word may be read, and the live words lent
+    pub valid-asked : EvalPre L W stack bs c → (VALID < HEADER) × (HEADER ≤ X .size) × (0 < X .header VALID)
+    valid-asked P = valid-asks (E .answers (P .scene) (P .form) (P .end) (P .ready) (P .part) .moved .sound)
 
-    pub negate-answered : {Y : View} {o : Taken} {r′ : Evaluated} → LivePost L X Y after (c .held) (step.Not a) q o → r′ ≡ fromTaken k o → NegatePost L W Y stack after bs c r′
-    negate-answered s is-r = record { answers = λ σ f e R p. negate-ends R (E .answers σ f e R p) z is s is-r }
+    pub lent-within : EvalPre L W stack bs c → c .held ≤ length after
+    lent-within P = let w = P .ready .within in let s = P .ready .size in omega arith
+
+    module _ (v : ℕ) (read : v + 1 ≡ X .header VALID) where
+      pub complement-asked : EvalPre L W stack bs c → ComplementPre (L .bits) (L .rows) (L .limit) X (take (c .held) after) v a
+      complement-asked P = negate-asks (P .ready) (E .answers (P .scene) (P .form) (P .end) (P .ready) (P .part)) z is v read
+
+      pub negate-answered : {Y : View} {o : Taken} {r′ : Evaluated} → ComplementPost (L .bits) (L .rows) (L .limit) X Y (take (c .held) after) v a q o → r′ ≡ fromTaken k o → NegatePost L W Y stack after bs c r′
+      negate-answered s is-r = record { answers = λ σ f e R p. negate-ends R (E .answers σ f e R p) z is v read s is-r }
 
 -- ---- AND and OR
 
@@ -248,14 +256,18 @@ pub record Looping (L : Limits) (words₀ words counts₀ counts stack₀ stack 
   pub counts-of : CountsOf (view (L .rows) words) counts
   pub turns : Turns L (view (L .rows) words₀) (view (L .rows) words) stack₀ stack bs c body a counted
 
-pub loop-starts : {L : Limits} {words counts stack bs : List ℕ} {c : Context} {body : Body} {a : ℕ} → CountsOf (view (L .rows) words) counts → a ≡ startArrow (isLeast (fixOf body))
+-- V's word may be read at a body's start
+pub start-asked : {L : Limits} {W : View} {stack bs : List ℕ} {c : Context} {b : Body} → BindPre L W stack bs c b → (VALID < HEADER) × (HEADER ≤ W .size) × (0 < W .header VALID)
+start-asked P = valid-asks (P .ready .base .sound)
+
+pub loop-starts : {L : Limits} {words counts stack bs : List ℕ} {c : Context} {body : Body} {a : ℕ} → CountsOf (view (L .rows) words) counts → (v : ℕ) → v + 1 ≡ view (L .rows) words .header VALID → a ≡ startArrow (isLeast (fixOf body)) v
     → Looping L words words counts counts stack stack bs c body a (c .count)
-loop-starts {body = body} C e = record {
+loop-starts {L} {words} {body = body} C v r e = record {
   words-size = refl;
   counts-size = refl;
   stack-size = refl;
   counts-of = C;
-  turns = record { bound = λ σ f _ R p. bind-starts R (fixOf body) (variableOf body) f e };
+  turns = record { bound = λ σ f _ R p. bind-starts R (fixOf body) (variableOf body) f (e ∙ ap (startArrow (isLeast (fixOf body))) (valid-read (view (L .rows) words) v r)) };
 }
 
 module _ {L : Limits} {words₀ words counts₀ counts stack after bs : List ℕ} {c : Context} {body : Body} {a : ℕ} {counted : Count} (P : BindPre L (view (L .rows) words₀) stack bs c body)
@@ -283,14 +295,14 @@ module _ {L : Limits} {words₀ words counts₀ counts stack after bs : List ℕ
     body-asked =
         let T = stands (P .ready) (P .part) in
         subst (λ (d : Context). TurnPre L (view (L .rows) words) (set after (c .held) a) bs d body a) (sym is-body)
-        (turn-asks {c = bodyOf c (variableOf body) (another counted)} (P .scene) (T .turning .A) (T .turning .denotes) body (inner (P .ready) (P .part)) (let l = P .room in omega arith) (P .part))
+        (turn-asks {c = bodyOf c (variableOf body) (another counted)} (P .scene) (T .turning .A) (T .turning .denotes) (T .turning .exists) body (inner (P .ready) (P .part)) (let l = P .room in omega arith) (P .part))
 
     module _ {Y : View} {last : List ℕ} {r : Evaluated} (E : TurnPost L (view (L .rows) words) Y (set after (c .held) a) last bs b body a r) (more : counted .rounds < L .rounds) where
       module _ {σ : Scene} {f : Form} {e : ℕ} (R : Ready L (view (L .rows) words₀) stack (c .places) (c .held) σ)
           (p : BodyPart (L .bits) bs (c .at) (c .depth) (set (σ .scope) (variableOf body) true) (holdsReg σ) (holdsRel σ) body f e) where
         answered : Answers L (view (L .rows) words) Y (set after (c .held) a) last (c .held + 1) (another counted) (opened (L .bits) σ (variableOf body) a (stands R p .turning .A)) f e r
         answered =
-            turn-answers {c = bodyOf c (variableOf body) (another counted)} σ (stands R p .turning .A) (stands R p .turning .denotes) body
+            turn-answers {c = bodyOf c (variableOf body) (another counted)} σ (stands R p .turning .A) (stands R p .turning .denotes) (stands R p .turning .exists) body
             (subst (λ (d : Context). TurnPost L (view (L .rows) words) Y (set after (c .held) a) last bs d body a r) is-body E) (inner R p) p
 
       pub body-halts : Halts r → BindPost L (view (L .rows) words₀) Y stack last bs c body r

@@ -1,13 +1,14 @@
 -- From what a part's evaluation and a chain of steps give to the book's outcome of the whole. Assumes nothing.
-use mathlib.Core.Path.{_≡_, refl, sym, ap, _∙_, subst}
+use mathlib.Core.Path.{_≡_, refl, sym, ap, ap₂, _∙_, subst}
 use mathlib.Core.Logic.{_⊎_, ⊎-elim}
 use mathlib.Core.Bool.{Bool, true, false, cond}
 use mathlib.Core.List.{List, [], _∷_, _++_}
 use Prim.Native.Nat.{ℕ, _*_, _^_}
 use native.Mathlib.Omega.{arith}
 use denote.Enum.Declared.{tagOf, declared}
-use Rattle.mucalculus.specs.Form.{Form, Pairs, Model, Env, put, inside}
-use Rattle.mucalculus.specs.Means.{inter, union, compl, sometimes, always, size}
+use Rattle.mucalculus.specs.Form.{Form, Pairs, Model, Env, put}
+use Rattle.mucalculus.specs.Means.{inter, union, compl, sometimes, always, size, exist, related}
+use Rattle.mucalculus.specs.Exist.{Inside, box-in}
 use Rattle.mucalculus.specs.Order.{start}
 use Rattle.tokens.specs.declared.Join.{Join}
 use Rattle.tokens.specs.declared.Join.the-variants.{And, Or}
@@ -25,15 +26,15 @@ use Rattle.counting.specs.declared.Taken.{Taken}
 use Rattle.counting.specs.declared.Taken.the-variants as taken
 use Rattle.accounts.specs.declared.Count.{Count}
 use Rattle.diagram.specs.Need.{stepNeed}
-use Rattle.diagram.specs.Steps.{notF, andF, orF}
+use Rattle.diagram.specs.Steps.{andF, orF}
 use Rattle.book.specs.Bridge.{fnOf, fnOfPairs, fnOf-not, fnOf-and, fnOf-or}
-use Rattle.book.specs.Diamond.{diamondF, boxF, diamond-exact, box-exact}
-use Rattle.book.specs.Ticks.{counted, full as fullVerdict, diamondNeeds, diaNeeds, boxNeeds}
-use Rattle.book.specs.Verdicts.{fit, needingAll, settle, steps-verdict, dia-ticks, box-ticks}
-use Rattle.book.specs.Run.{Outcome, value, full, spent, andThen, twoStep, diaSteps, boxSteps, loop, run}
+use Rattle.book.specs.Diamond.{diamondF, diamond-exact}
+use Rattle.book.specs.Ticks.{counted, full as fullVerdict, diamondNeeds, diaNeeds, notNeeds, boxNeeds}
+use Rattle.book.specs.Verdicts.{fit, settle, steps-verdict, not-ticks, dia-ticks, box-ticks}
+use Rattle.book.specs.Run.{needingAll, Outcome, value, full, spent, andThen, notStep, twoStep, diaSteps, boxSteps, loop, run}
 use Rattle.book.specs.Follow.{ends, Matches, Evals, Stops, evals-same}
 use Rattle.book.specs.Pairs.{PairEvals, PairMatches}
-use Rattle.modal.specs.Modal.{boxedNeeds}
+use Rattle.modal.specs.Modal.{withinNot, complementNeeds, boxedNeeds, boxedF}
 use Rattle.modal.specs.declared.Limits.{Limits}
 use Rattle.layout.specs.View.{View}
 use Rattle.steps.specs.declared.Step.{Step}
@@ -111,17 +112,18 @@ pub run-join : (m : Model) (N R : ℕ) (e : Env) (live : List Fn) (j : Join) (f 
 run-join m N R e live And f g r = refl
 run-join m N R e live Or f g r = refl
 
-abbrev pub overSteps : Mode → ℕ → ℕ → List Fn → Pairs → List Bool → Count → Outcome
-overSteps All = boxSteps
-overSteps Some = diaSteps
+-- E is V
+abbrev pub overSteps : Mode → ℕ → ℕ → List Fn → List Bool → Pairs → List Bool → Count → Outcome
+overSteps All n N live E R A q = boxSteps n N live E R A q
+overSteps Some n N live E R A q = diaSteps n N live R A q
 
 pub run-modal : (m : Model) (N R : ℕ) (e : Env) (live : List Fn) (o : Mode) (t : ℕ) (f : Form) (r : Count) → run m N R e live (modalForm o t f) r
-    ≡ andThen (run m N R e live f r) (λ A q. overSteps o (m .n) N live (inside (m .rel t)) A q)
+    ≡ andThen (run m N R e live f r) (λ A q. overSteps o (m .n) N live (exist m) (related m t) A q)
 run-modal m N R e live All t f r = refl
 run-modal m N R e live Some t f r = refl
 
 pub run-binder : (m : Model) (N R : ℕ) (e : Env) (live : List Fn) (x : Fix) (P : ℕ) (f : Form) (r : Count) → run m N R e live (binderForm x P f) r
-    ≡ loop R (λ A q. run m N R (put e P A) (fnOf (m .n) A ∷ live) f q) R (start (isLeast x) (size m)) r
+    ≡ loop R (λ A q. run m N R (put e P A) (fnOf (m .n) A ∷ live) f q) R (start (isLeast x) (size m) (exist m)) r
 run-binder m N R e live Mu P f r = refl
 run-binder m N R e live Nu P f r = refl
 
@@ -138,29 +140,56 @@ chain-evals {n} {after = after} {F = F} {c} fits o C e p = record { wf = p .wf; 
     go false (taken.At a q) m = absurd m
     go false taken.Full m = tt
 
+-- NOT within V, of the set's function and of the set
+within-not : (n : ℕ) (E A : List Bool) → withinNot (fnOf n E) (fnOf n A) ≡ fnOf n (inter (2 ^ n) (compl (2 ^ n) A) E)
+within-not n E A = ap (λ (G : Fn). andF G (fnOf n E)) (sym (fnOf-not n A)) ∙ sym (fnOf-and n (compl (2 ^ n) A) E)
+
+-- its needs
+not-needs : (n : ℕ) (fs : List Fn) (E A : List Bool) → complementNeeds n fs (fnOf n E) (fnOf n A) ≡ notNeeds n fs E A
+not-needs n fs E A =
+    ap (λ (G : Fn). stepNeed (2 * n) (fnOf n A ∷ fs) G ∷ stepNeed (2 * n) (fnOf n E ∷ G ∷ fs) (andF G (fnOf n E)) ∷ []) (sym (fnOf-not n A))
+    ∙ ap (λ (G : Fn). stepNeed (2 * n) (fnOf n A ∷ fs) (fnOf n (compl (2 ^ n) A)) ∷ stepNeed (2 * n) (fnOf n E ∷ fnOf n (compl (2 ^ n) A) ∷ fs) G ∷ []) (sym (fnOf-and n (compl (2 ^ n) A) E))
+
 -- the needs of box over the set's function and over the set
-box-needs : (n : ℕ) (fs : List Fn) (Q : Pairs) (A : List Bool) → boxedNeeds n fs (fnOfPairs n Q) (fnOf n A) ≡ boxNeeds n fs Q A
-box-needs n fs Q A =
-    ap (λ (G : Fn). stepNeed (2 * n) (fnOf n A ∷ fs) G ∷ (diamondNeeds n fs (fnOfPairs n Q) G ++ (stepNeed (2 * n) (diamondF n (fnOfPairs n Q) G ∷ fs) (notF (diamondF n (fnOfPairs n Q) G)) ∷ [])))
-    (sym (fnOf-not n A))
-    ∙ ap (λ (D : Fn). stepNeed (2 * n) (fnOf n A ∷ fs) (fnOf n B) ∷ (diaNeeds n fs Q B ++ (stepNeed (2 * n) (D ∷ fs) (notF D) ∷ []))) (sym (diamond-exact n Q B))
-    ∙ ap (λ (G : Fn). stepNeed (2 * n) (fnOf n A ∷ fs) (fnOf n B) ∷ (diaNeeds n fs Q B ++ (stepNeed (2 * n) (fnOf n (sometimes (2 ^ n) Q B) ∷ fs) G ∷ []))) (sym (fnOf-not n (sometimes (2 ^ n) Q B)))
-  where
-    B : List Bool
-    B = compl (2 ^ n) A
+box-needs : (n : ℕ) (fs : List Fn) (E : List Bool) (Q : Pairs) (A : List Bool) → boxedNeeds n fs (fnOf n E) (fnOfPairs n Q) (fnOf n A) ≡ boxNeeds n fs E Q A
+box-needs n fs E Q A =
+    let B = inter (2 ^ n) (compl (2 ^ n) A) E in
+    ap₂ _++_ (not-needs n fs E A)
+    (ap (λ (G : Fn). diamondNeeds n fs (fnOfPairs n Q) G ++ complementNeeds n fs (fnOf n E) (diamondF n (fnOfPairs n Q) G)) (within-not n E A)
+    ∙ ap (λ (D : Fn). diaNeeds n fs Q B ++ complementNeeds n fs (fnOf n E) D) (sym (diamond-exact n Q B))
+    ∙ ap (λ (ks : List ℕ). diaNeeds n fs Q B ++ ks) (not-needs n fs E (sometimes (2 ^ n) Q B)))
 
-module _ {n N : ℕ} (limit : ℕ) {before after : Rows} {roots : List ℕ} (fs : List Fn) (Q : Pairs) (A : List Bool) (o : Taken) (q : Count) where
-  pub diamond-evals : PairEvals n N before after roots (fit limit (diamondNeeds n fs (fnOfPairs n Q) (fnOf n A))) (diamondF n (fnOfPairs n Q) (fnOf n A))
-      (needingAll q (diamondNeeds n fs (fnOfPairs n Q) (fnOf n A))) (result (madeIn o)) (countIn o)
-      → Evals n N before after roots (diaSteps n limit fs Q A q) (endedIn o)
-  diamond-evals p =
-      evals-same (ap (settle (sometimes (2 ^ n) Q A)) (sym (steps-verdict limit 0 q (diaNeeds n fs Q A))) ∙ sym (dia-ticks limit 0 n fs Q A q))
-      (chain-evals (fit limit (diaNeeds n fs Q A)) o (sometimes (2 ^ n) Q A) (sym (diamond-exact n Q A)) p)
+-- box of functions is box of sets
+box-is : (n : ℕ) (E : List Bool) (Q : Pairs) (A : List Bool) → Inside (2 ^ n) E Q → boxedF n (fnOf n E) (fnOfPairs n Q) (fnOf n A) ≡ fnOf n (inter (2 ^ n) (always (2 ^ n) Q A) E)
+box-is n E Q A i =
+    let B = inter (2 ^ n) (compl (2 ^ n) A) E in
+    ap (λ (G : Fn). withinNot (fnOf n E) (diamondF n (fnOfPairs n Q) G)) (within-not n E A)
+    ∙ ap (withinNot (fnOf n E)) (sym (diamond-exact n Q B))
+    ∙ within-not n E (sometimes (2 ^ n) Q B)
+    ∙ ap (fnOf n) (box-in (2 ^ n) E Q i A)
 
-  pub box-evals : PairEvals n N before after roots (fit limit (boxedNeeds n fs (fnOfPairs n Q) (fnOf n A))) (boxF n (fnOfPairs n Q) (fnOf n A))
-      (needingAll q (boxedNeeds n fs (fnOfPairs n Q) (fnOf n A))) (result (madeIn o)) (countIn o)
-      → Evals n N before after roots (boxSteps n limit fs Q A q) (endedIn o)
-  box-evals p =
-      evals-same (ap (settle (always (2 ^ n) Q A)) (sym (steps-verdict limit 0 q (boxNeeds n fs Q A))) ∙ sym (box-ticks limit 0 n fs Q A q))
-      (chain-evals (fit limit (boxNeeds n fs Q A)) o (always (2 ^ n) Q A) (sym (box-exact n Q A))
-      (subst (λ (ks : List ℕ). PairEvals n N before after roots (fit limit ks) (boxF n (fnOfPairs n Q) (fnOf n A)) (needingAll q ks) (result (madeIn o)) (countIn o)) (box-needs n fs Q A) p))
+module _ {n N : ℕ} (limit : ℕ) {before after : Rows} {roots : List ℕ} (fs : List Fn) where
+  pub complement-evals : (E A : List Bool) (o : Taken) (q : Count) → PairEvals n N before after roots (fit limit (complementNeeds n fs (fnOf n E) (fnOf n A))) (withinNot (fnOf n E) (fnOf n A))
+      (needingAll q (complementNeeds n fs (fnOf n E) (fnOf n A))) (result (madeIn o)) (countIn o)
+      → Evals n N before after roots (notStep n limit fs E A q) (endedIn o)
+  complement-evals E A o q p =
+      evals-same (ap (settle (inter (2 ^ n) (compl (2 ^ n) A) E)) (sym (steps-verdict limit 0 q (notNeeds n fs E A))) ∙ sym (not-ticks limit 0 n fs E A q))
+      (chain-evals (fit limit (notNeeds n fs E A)) o (inter (2 ^ n) (compl (2 ^ n) A) E) (within-not n E A)
+      (subst (λ (ks : List ℕ). PairEvals n N before after roots (fit limit ks) (withinNot (fnOf n E) (fnOf n A)) (needingAll q ks) (result (madeIn o)) (countIn o)) (not-needs n fs E A) p))
+
+  module _ (Q : Pairs) (A : List Bool) (o : Taken) (q : Count) where
+    pub diamond-evals : PairEvals n N before after roots (fit limit (diamondNeeds n fs (fnOfPairs n Q) (fnOf n A))) (diamondF n (fnOfPairs n Q) (fnOf n A))
+        (needingAll q (diamondNeeds n fs (fnOfPairs n Q) (fnOf n A))) (result (madeIn o)) (countIn o)
+        → Evals n N before after roots (diaSteps n limit fs Q A q) (endedIn o)
+    diamond-evals p =
+        evals-same (ap (settle (sometimes (2 ^ n) Q A)) (sym (steps-verdict limit 0 q (diaNeeds n fs Q A))) ∙ sym (dia-ticks limit 0 n fs Q A q))
+        (chain-evals (fit limit (diaNeeds n fs Q A)) o (sometimes (2 ^ n) Q A) (sym (diamond-exact n Q A)) p)
+
+    pub box-evals : (E : List Bool) → Inside (2 ^ n) E Q → PairEvals n N before after roots (fit limit (boxedNeeds n fs (fnOf n E) (fnOfPairs n Q) (fnOf n A))) (boxedF n (fnOf n E) (fnOfPairs n Q) (fnOf n A))
+        (needingAll q (boxedNeeds n fs (fnOf n E) (fnOfPairs n Q) (fnOf n A))) (result (madeIn o)) (countIn o)
+        → Evals n N before after roots (boxSteps n limit fs E Q A q) (endedIn o)
+    box-evals E i p =
+        let C = inter (2 ^ n) (always (2 ^ n) Q A) E in
+        evals-same (ap (settle C) (sym (steps-verdict limit 0 q (boxNeeds n fs E Q A))) ∙ sym (box-ticks limit 0 n E Q i fs A q))
+        (chain-evals (fit limit (boxNeeds n fs E Q A)) o C (box-is n E Q A i)
+        (subst (λ (ks : List ℕ). PairEvals n N before after roots (fit limit ks) (boxedF n (fnOf n E) (fnOfPairs n Q) (fnOf n A)) (needingAll q ks) (result (madeIn o)) (countIn o)) (box-needs n fs E Q A) p))

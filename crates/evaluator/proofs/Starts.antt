@@ -2,12 +2,17 @@
 use mathlib.Core.Path.{_≡_, sym, ap, _∙_, subst}
 use mathlib.Core.Bool.{Bool, true, false, cond, true≢false}
 use mathlib.Core.List.{List, [], append-nil}
-use mathlib.Core.Option.{Option}
-use Prim.Native.Nat.{ℕ, _+_, _*_, _≤_, _<_}
+use mathlib.Core.Option.{Option, some}
+use Prim.Native.Nat.{ℕ, _+_, _*_, _^_, _≤_, _<_}
 use native.Mathlib.Omega.{arith}
-use lib.Dec.{eqb}
+use lib.Dec.{T, eqb}
 use lib.ListN.{length, getD, take, replicate, length-replicate, getD-replicate}
-use Rattle.mucalculus.specs.Form.{Form, noneOpen, noEnv}
+use Rattle.mucalculus.specs.Sets.{mem, mem-lt}
+use Rattle.mucalculus.specs.Order.{Below}
+use Rattle.mucalculus.specs.Laws.{getD-table}
+use Rattle.mucalculus.specs.Means.{clip}
+use Rattle.mucalculus.specs.Exist.{Inside}
+use Rattle.mucalculus.specs.Form.{Form, Pairs, noneOpen, noEnv}
 use Rattle.tokens.specs.Tokens.{grammarOf}
 use Rattle.tokens.specs.declared.Kind.the-variants.{Set}
 use Rattle.tokens.specs.declared.Grammar.{Grammar}
@@ -18,12 +23,14 @@ use Rattle.formula.proofs.Accepted.{found}
 use Rattle.formula.proofs.Fits.{Fitting, fitting}
 use Rattle.formula.proofs.Versions.{parse-runs}
 use Rattle.accounts.specs.Count.{nothing}
-use Rattle.layout.specs.Places.{BITS, FIRST-REGISTER, FIRST-RELATION}
+use Rattle.layout.specs.Places.{BITS, VALID, FIRST-REGISTER, FIRST-RELATION}
 use Rattle.layout.specs.View.{View}
 use Rattle.diagram.specs.Level.{Fn}
 use Rattle.diagram.specs.Rows.{Rows}
+use Rattle.diagram.specs.Post.{Denotes}
 use Rattle.soundness.specs.Used.{rowsOf}
 use Rattle.soundness.specs.Sound.{Sound}
+use Rattle.soundness.specs.Within.{validOf}
 use Rattle.soundness.specs.Filled.{filled}
 use Rattle.collect.specs.Lent.{live}
 use Rattle.memory.specs.Frame.{rows-same}
@@ -33,17 +40,18 @@ use Rattle.steps.specs.Steps.{live-same}
 use Rattle.steps.specs.Again.{start-ready}
 use Rattle.book.specs.Bridge.{fnOf, fnOfPairs}
 use Rattle.book.specs.Book.{regFilled, relFilled, liveOf, modelOf}
-use Rattle.book.specs.BookOf.{shows-bookOf}
+use Rattle.book.specs.Stored.{Whole}
+use Rattle.book.specs.BookOf.{whole-bookOf, shows-bookOf}
 use Rattle.book.specs.Table.{Place, Shows, rootsOf}
 use Rattle.book.specs.Roots.{shows-held}
 use Rattle.book.specs.Run.{run}
 use Rattle.book.specs.Held.{Held}
-use Rattle.book.specs.Follow.{Evals, evals-same}
+use Rattle.book.specs.Follow.{Evals, evals-same, denotes-clip}
 use Rattle.contract.specs.Seen.{arrowIn, seenIn, sound-table}
 use Rattle.contract.specs.Roots.{filled-root, root-filled}
 use Rattle.modal.specs.declared.Limits.{Limits}
 use Rattle.modal.specs.Chain.{Alike, Base}
-use Rattle.evaluator.specs.Scene.{stackSize, Scene, modelIn, holdsReg, holdsRel, Part, Ready, endedOf, EvalPre, EvalPost}
+use Rattle.evaluator.specs.Scene.{stackSize, Scene, modelIn, existIn, holdsReg, holdsRel, Part, Ready, endedOf, EvalPre, EvalPost}
 use Rattle.evaluator.specs.Whole.{bookIn, SetPre, SetPost}
 use Rattle.evaluator.specs.declared.Context.{Context}
 use Rattle.evaluator.specs.declared.Evaluated.{Evaluated}
@@ -51,7 +59,7 @@ use Rattle.evaluator.proofs.State.{in-scope}
 
 -- the scene that a table holds by itself
 abbrev pub sceneIn : View → Scene
-sceneIn W = record { reg = bookIn W .reg; rel = bookIn W .rel; scope = noneOpen; env = noEnv; roots = rootsOf (seenIn W); fns = liveOf (bookIn W) }
+sceneIn W = record { valid = bookIn W .valid; reg = bookIn W .reg; rel = bookIn W .rel; scope = noneOpen; env = noEnv; roots = rootsOf (seenIn W); fns = liveOf (bookIn W) }
 
 -- no variable is open
 none-open : (P : ℕ) → getD noneOpen P false ≡ true → ⊥
@@ -88,11 +96,42 @@ module _ (L : Limits) {W X : View} (s : Sound W) (bits : L .bits ≡ W .header B
   pub start-roots : (stack : List ℕ) → Alike (live X (take 0 stack)) (rootsOf (seenIn W))
   start-roots stack =
       let e : filled W ≡ live X (take 0 stack) = sym (append-nil (filled W)) ∙ sym (live-same frame []) in
-      subst (λ (xs : List ℕ). Alike xs (rootsOf (seenIn W))) e (record { to = filled-root W; from = root-filled W })
+      subst (λ (xs : List ℕ). Alike xs (rootsOf (seenIn W))) e (record { to = filled-root W; from = root-filled W (s .valid) })
+
+  -- V, and that all is within it
+  whole-book : Whole (bookIn W)
+  whole-book = whole-bookOf (seenIn W) (sound-table W s)
+
+  start-valid : Denotes (2 * L .bits) (rowsOf X) (validOf X) (fnOf (L .bits) (existIn (L .bits) (sceneIn W)))
+  start-valid =
+      let same : X .header VALID ≡ W .header VALID = frame .header VALID (omega arith) (omega arith) (omega arith) (omega arith) in
+      let arrow : validOf W ≡ validOf X = omega arith in
+      subst (λ (x : ℕ). Denotes (2 * L .bits) (rowsOf X) x (fnOf (L .bits) (existIn (L .bits) (sceneIn W)))) arrow
+      (subst (λ (n : ℕ). Denotes (2 * n) (rowsOf X) (validOf W) (fnOf n (existIn n (sceneIn W)))) (sym bits)
+      (subst (λ (t : Rows). Denotes (2 * W .header BITS) t (validOf W) (fnOf (W .header BITS) (existIn (W .header BITS) (sceneIn W)))) same-rows
+      (denotes-clip (W .header BITS) (W .rows) (bookIn W .valid) (shows .valid))))
+
+  -- a state of V below 2^n exists
+  exists-in : (n : ℕ) (E : List Bool) (u : ℕ) → u < 2 ^ n → T (mem E u) → T (mem (clip (2 ^ n) E) u)
+  exists-in n E u l p = subst T (sym (getD-table (2 ^ n) (λ x. mem E x) u false l)) p
+
+  start-reg : (r : ℕ) (A : List Bool) → bookIn W .reg r ≡ some A → Below A (existIn (L .bits) (sceneIn W))
+  start-reg r A e u p =
+      let w = whole-book .reg r A e in
+      subst (λ (n : ℕ). T (mem (existIn n (sceneIn W)) u)) (sym bits) (exists-in (W .header BITS) (bookIn W .valid) u (subst (λ (k : ℕ). u < k) (w .0) (mem-lt A u p)) (w .2 u p))
+
+  start-rel : (t : ℕ) (Q : Pairs) → bookIn W .rel t ≡ some Q → Inside (2 ^ L .bits) (existIn (L .bits) (sceneIn W)) Q
+  start-rel t Q e = subst (λ (n : ℕ). Inside (2 ^ n) (existIn n (sceneIn W)) Q) (sym bits) (λ u v i j p.
+      let w = whole-book .rel t Q e .2 u v i j p in
+      (exists-in (W .header BITS) (bookIn W .valid) u i (w .0), exists-in (W .header BITS) (bookIn W .valid) v j (w .1)))
 
   pub start-scene : Ready L X (replicate stackSize 0) (replicate 16 0) 0 (sceneIn W)
   start-scene = record {
     base = start-base;
+    valid = start-valid;
+    in-reg = start-reg;
+    in-rel = start-rel;
+    in-env = λ P o. absurd (none-open P o);
     reg = λ r l. place fnOf (bookIn W .reg r) (FIRST-REGISTER + r) (omega arith) (shows .reg r l);
     rel = λ t l. place fnOfPairs (bookIn W .rel t) (FIRST-RELATION + t) (omega arith) (shows .rel t l);
     roots = start-roots (replicate stackSize 0);

@@ -12,24 +12,28 @@ use borrow.Author.Tests.{eq-eqb, ne-eqb}
 use lib.ListN.{length, getD, set, take, length-set, List·getD-eq-default}
 use lib.Seq.{getD-set-same, getD-set-other, getD-take, length-take-le, take-suc-set, take-set-le, take-take}
 use Rattle.mucalculus.specs.Form.{put, filled as hasContent}
-use Rattle.layout.specs.Places.{FIRST-REGISTER, FIRST-RELATION, ROOTS-END}
+use Rattle.mucalculus.specs.Order.{Below}
+use Rattle.layout.specs.Places.{VALID, FIRST-REGISTER, FIRST-RELATION, ROOTS-END, HEADER}
 use Rattle.layout.specs.View.{View}
 use Rattle.diagram.specs.Level.{Fn}
 use Rattle.diagram.specs.Rows.{Rows, Arrow}
 use Rattle.diagram.specs.Post.{Denotes}
 use Rattle.diagram.specs.Keep.{Keeps, keeps-denotes}
 use Rattle.soundness.specs.Used.{rowsOf}
+use Rattle.soundness.specs.Sound.{Sound}
+use Rattle.soundness.specs.Within.{validOf}
 use Rattle.soundness.specs.Filled.{filled, filled-mem}
 use Rattle.collect.specs.Lent.{live, getD-mem}
 use Rattle.book.specs.Bridge.{fnOf, fnOfPairs}
 use Rattle.book.specs.Table.{Place}
-use Rattle.book.specs.Held.{held-arrow, held-push, held-keeps}
-use Rattle.contract.specs.Seen.{arrowIn, word-of}
+use Rattle.book.specs.Held.{denoted, held-arrow, held-push, held-keeps}
+use Rattle.contract.specs.Seen.{arrowIn, word-of, valid-word}
 use Rattle.steps.specs.Steps.{Fits, live-same}
 use Rattle.steps.specs.declared.Step.{Step}
 use Rattle.modal.specs.declared.Limits.{Limits}
 use Rattle.modal.specs.Chain.{Alike, alike-trans, alike-cons, operands-first, Moved, base-next, step-pre}
-use Rattle.evaluator.specs.Scene.{stackSize, Scene, pushed, opened, Open, Ready, LivePre}
+use Rattle.modal.specs.Laws.{held-mem}
+use Rattle.evaluator.specs.Scene.{stackSize, Scene, existIn, pushed, opened, Open, Ready, LivePre}
 
 -- a place's content is kept with its row
 place-kept : {X : Type 0} (m : ℕ) {before after : Rows} {roots : List ℕ} (f : X → Fn) (o : Option X) (u : Option ℕ) → Keeps before after roots → ((a : ℕ) → u ≡ some a → Mem a roots)
@@ -55,6 +59,18 @@ filled-place m rows f none w h p = absurd (true≢false (sym h))
 filled-place m rows f (some x) zero h p = absurd p
 filled-place m rows f (some x) (suc a) h p = (x, refl, a, refl, p)
 
+-- V's arrow is a root, whatever is lent
+pub valid-root : {W : View} (lent : List ℕ) → Sound W → Mem (validOf W) (live W lent)
+valid-root {W} lent s = append-left lent (filled-mem W (validOf W) (record { at = VALID; from = omega arith; below = omega arith; holds = valid-word W (s .valid) }))
+
+-- and V's word may be read as one
+pub valid-asks : {W : View} → Sound W → (VALID < HEADER) × (HEADER ≤ W .size) × (0 < W .header VALID)
+valid-asks {W} s = (omega arith, let l = s .good .sizes .room in omega arith, let e = valid-word W (s .valid) in omega arith)
+
+-- the arrow that was read
+pub valid-read : (W : View) (x : ℕ) → x + 1 ≡ W .header VALID → x ≡ validOf W
+valid-read W x e = omega arith
+
 module _ {L : Limits} {W : View} {stack places : List ℕ} {held : ℕ} {σ : Scene} (R : Ready L W stack places held σ) where
   -- ---- roots
 
@@ -65,9 +81,16 @@ module _ {L : Limits} {W : View} {stack places : List ℕ} {held : ℕ} {σ : Sc
       let m = getD-mem (take held stack) p (omega arith) in
       R .roots .to _ (append-right (filled W) (subst (λ (x : ℕ). Mem x (take held stack)) (getD-take held stack p 0 l) m))
 
-  -- so is one in a register or relation
-  pub word-root : (h a : ℕ) → FIRST-REGISTER ≤ h → h < ROOTS-END → arrowIn (W .header h) ≡ some a → Mem a (live W (take held stack))
+  -- so is one in V's word, a register or a relation
+  pub word-root : (h a : ℕ) → VALID ≤ h → h < ROOTS-END → arrowIn (W .header h) ≡ some a → Mem a (live W (take held stack))
   word-root h a f b e = append-left (take held stack) (filled-mem W a (record { at = h; from = f; below = b; holds = word-of (W .header h) a e }))
+
+  -- V is live
+  pub valid-mem : Mem (validOf W) (σ .roots)
+  valid-mem = R .roots .to (validOf W) (valid-root (take held stack) (R .base .sound))
+
+  pub valid-live : Mem (fnOf (L .bits) (existIn (L .bits) σ)) (σ .fns)
+  valid-live = subst (λ (F : Fn). Mem F (σ .fns)) (denoted (R .valid)) (held-mem (R .lives) valid-mem)
 
   pub lent-arrows : (a : ℕ) → Mem a (take held stack) → Arrow (rowsOf W) a
   lent-arrows a h = held-arrow (R .lives) a (R .roots .to a (append-right (filled W) h))
@@ -86,7 +109,13 @@ module _ {L : Limits} {W : View} {stack places : List ℕ} {held : ℕ} {σ : Sc
         → Place (2 * L .bits) (rowsOf X) f o (arrowIn (X .header h))
     place-next f o h a b p =
         subst (λ (u : Option ℕ). Place (2 * L .bits) (rowsOf X) f o u) (same-word h a)
-        (place-kept (2 * L .bits) f o (arrowIn (W .header h)) k (λ x q. R .roots .to x (word-root h x a b q)) p)
+        (place-kept (2 * L .bits) f o (arrowIn (W .header h)) k (λ x q. R .roots .to x (word-root h x (omega arith) b q)) p)
+
+    valid-next : Denotes (2 * L .bits) (rowsOf X) (validOf X) (fnOf (L .bits) (existIn (L .bits) σ))
+    valid-next =
+        let same : X .header VALID ≡ W .header VALID = m .frame .header VALID (omega arith) (omega arith) (omega arith) (omega arith) in
+        let e : validOf W ≡ validOf X = omega arith in
+        subst (λ (x : ℕ). Denotes (2 * L .bits) (rowsOf X) x (fnOf (L .bits) (existIn (L .bits) σ))) e (keeps-denotes k (R .roots .to (validOf W) (valid-root (take held stack) (R .base .sound))) (R .valid))
 
     module _ (after : List ℕ) (z : length after ≡ length stack) (e : take held after ≡ take held stack) where
       same-place : (p : ℕ) → p < held → getD stack p 0 ≡ getD after p 0
@@ -95,8 +124,12 @@ module _ {L : Limits} {W : View} {stack places : List ℕ} {held : ℕ} {σ : Sc
       pub ready-next : Ready L X after places held σ
       ready-next = record {
         base = base-next (R .base) m;
+        valid = valid-next;
         reg = λ r l. place-next (fnOf (L .bits)) (σ .reg r) (FIRST-REGISTER + r) (omega arith) (omega arith) (R .reg r l);
         rel = λ t l. place-next (fnOfPairs (L .bits)) (σ .rel t) (FIRST-RELATION + t) (omega arith) (omega arith) (R .rel t l);
+        in-reg = R .in-reg;
+        in-rel = R .in-rel;
+        in-env = R .in-env;
         roots = subst (λ (xs : List ℕ). Alike xs (σ .roots)) (sym (live-same (m .frame) (take held after) ∙ ap (live W) e)) (R .roots);
         lives = held-keeps (R .lives) k;
         size = z ∙ R .size;
@@ -131,8 +164,12 @@ module _ {L : Limits} {W : View} {stack places : List ℕ} {held : ℕ} {σ : Sc
     pub ready-push : Ready L W (set stack held a) places (held + 1) (pushed σ a F)
     ready-push = record {
       base = R .base;
+      valid = R .valid;
       reg = R .reg;
       rel = R .rel;
+      in-reg = R .in-reg;
+      in-rel = R .in-rel;
+      in-env = R .in-env;
       roots = more-roots;
       lives = held-push (R .lives) d;
       size = length-set stack held a ∙ R .size;
@@ -144,12 +181,17 @@ module _ {L : Limits} {W : View} {stack places : List ℕ} {held : ℕ} {σ : Sc
 
   -- ---- a variable opened
 
-  module _ (a : ℕ) (A : List Bool) (d : Denotes (2 * L .bits) (rowsOf W) a (fnOf (L .bits) A)) (room : held < stackSize) where
+  module _ (a : ℕ) (A : List Bool) (d : Denotes (2 * L .bits) (rowsOf W) a (fnOf (L .bits) A)) (i : Below A (existIn (L .bits) σ)) (room : held < stackSize) where
     pub ready-open : (P : ℕ) → Ready L W (set stack held a) (set places P held) (held + 1) (opened (L .bits) σ P a A)
     ready-open P = record {
       base = R .base;
+      valid = R .valid;
       reg = R .reg;
       rel = R .rel;
+      in-reg = R .in-reg;
+      in-rel = R .in-rel;
+      in-env = λ Q o. by-cases (ℕ-discrete Q P) (λ e. subst (λ (C : List Bool). Below C (existIn (L .bits) σ)) (sym (ap (λ (b : Bool). cond b A (σ .env Q)) (eq-eqb Q P e))) i)
+          (λ n. subst (λ (C : List Bool). Below C (existIn (L .bits) σ)) (sym (ap (λ (b : Bool). cond b A (σ .env Q)) (ne-eqb Q P n))) (R .in-env Q (sym (getD-set-other (σ .scope) P Q true false n) ∙ o)));
       roots = more-roots a (fnOf (L .bits) A) d room;
       lives = held-push (R .lives) d;
       size = length-set stack held a ∙ R .size;

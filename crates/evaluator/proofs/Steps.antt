@@ -5,7 +5,8 @@ use mathlib.Core.Bool.{Bool}
 use mathlib.Core.List.{List, [], _∷_, _++_, map, List·Memᴰ as Mem, List·Memᴰ·head as here, List·Memᴰ·tail as there, List·Memᴰ·cases-cons as mem-cases, List·Memᴰ·append-cases as append-cases, List·Memᴰ·not-nil as mem-nil}
 use Prim.Native.Nat.{ℕ, _+_, _-_, _*_, _^_, _<_}
 use lib.ListN.{length, set, take}
-use Rattle.mucalculus.specs.Form.{Form, neg, inside}
+use Rattle.mucalculus.specs.Form.{Form, neg}
+use Rattle.mucalculus.specs.Means.{related}
 use Rattle.tokens.specs.declared.Leaf.{Leaf}
 use Rattle.tokens.specs.declared.Mode.{Mode}
 use Rattle.tokens.specs.declared.Join.{Join}
@@ -13,6 +14,7 @@ use Rattle.tokens.specs.declared.Join.the-variants.{And, Or}
 use Rattle.formula.specs.Parse.{leafForm, joinForm, modalForm}
 use Rattle.accounts.specs.declared.Count.{Count}
 use Rattle.accounts.specs.Count.{needing}
+use Rattle.layout.specs.Places.{VALID}
 use Rattle.layout.specs.View.{View}
 use Rattle.diagram.specs.Level.{Fn}
 use Rattle.diagram.specs.Rows.{Rows, Arrow, den}
@@ -20,26 +22,31 @@ use Rattle.diagram.specs.Need.{stepNeed}
 use Rattle.diagram.specs.Post.{Result, Denotes}
 use Rattle.diagram.specs.Keep.{keeps-within, keeps-denotes}
 use Rattle.diagram.specs.Step.{StepPost}
+use Rattle.diagram.specs.Steps.{andF}
 use Rattle.soundness.specs.Used.{rowsOf}
+use Rattle.soundness.specs.Within.{validOf}
 use Rattle.table.specs.Make.{result}
 use Rattle.collect.specs.Lent.{live}
 use Rattle.steps.specs.declared.Step.{Step}
 use Rattle.steps.specs.declared.Step.the-variants as step
 use Rattle.steps.specs.Steps.{stepF, operandsOf, Fits}
-use Rattle.counting.specs.Taken.{madeIn, Counted}
+use Rattle.counting.specs.Taken.{madeIn, countIn, Counted}
 use Rattle.counting.specs.declared.Taken.{Taken}
 use Rattle.counting.specs.declared.Taken.the-variants as taken
 use Rattle.book.specs.Bridge.{fnOf}
-use Rattle.book.specs.Held.{held-arrow, Needed}
-use Rattle.book.specs.Run.{Outcome, value, andThen, notStep, twoStep, run}
-use Rattle.book.specs.Follow.{Ended, ends, Evals, endedBy, evals-same, evals-stop, evals-not, evals-two, evals-two-stop}
+use Rattle.book.specs.Held.{denoted, held-arrow, Needed}
+use Rattle.book.specs.Verdicts.{fit}
+use Rattle.book.specs.Pairs.{PairEvals}
+use Rattle.book.specs.Run.{needingAll, Outcome, value, andThen, notStep, twoStep, run}
+use Rattle.book.specs.Follow.{Ended, ends, Evals, endedBy, evals-same, evals-stop, evals-then, evals-from, evals-two, evals-two-stop}
 use Rattle.modal.specs.declared.Limits.{Limits}
-use Rattle.modal.specs.Chain.{Alike, alike-cons, step-roots, counted-roots, Moved, moved-trans, Took, took}
-use Rattle.evaluator.specs.Scene.{stackSize, Scene, modelIn, pushed, Ready, Part, endedOf, endedIn, EndsAt, Answers, fromTaken, joinStep, LeafAnswers, LivePre, LivePost, JoinedTo, JoinedPost}
+use Rattle.modal.specs.Chain.{Alike, alike-cons, alike-sym, alike-once, held-alike, step-roots, counted-roots, Moved, moved-trans, Took, took}
+use Rattle.modal.specs.Modal.{withinNot, complementNeeds, Chained, ComplementPre, ComplementPost}
+use Rattle.evaluator.specs.Scene.{stackSize, Scene, modelIn, existIn, pushed, Ready, Part, endedOf, endedIn, EndsAt, Answers, fromTaken, joinStep, LeafAnswers, LivePre, LivePost, JoinedTo, JoinedPost}
 use Rattle.evaluator.specs.declared.Evaluated.{Evaluated}
 use Rattle.evaluator.specs.declared.Evaluated.the-variants.{Value, Full, Spent}
-use Rattle.evaluator.proofs.State.{still-below, live-pre, ready-next, ready-push}
-use Rattle.evaluator.proofs.Outcomes.{Halts, halts-stops, halts-end, taken-ended, taken-end, evals-value, joinOp, joinF, join-exact, run-join, overSteps, run-modal}
+use Rattle.evaluator.proofs.State.{valid-root, valid-read, valid-mem, still-below, lent-arrows, live-pre, ready-next, ready-push}
+use Rattle.evaluator.proofs.Outcomes.{Halts, halts-stops, halts-end, taken-ended, taken-end, evals-value, joinOp, joinF, join-exact, run-join, overSteps, run-modal, complement-evals}
 
 -- the run of f in a scene
 abbrev pub runIn : Limits → Scene → Form → Count → Outcome
@@ -89,12 +96,16 @@ alike-swap x y zs = record { to = λ a h. go x y a h; from = λ a h. go y x a h 
 -- ---- one step
 
 -- a step over some roots is one over others with the same members
-took-alike : {n N limit : ℕ} {W X : View} {xs ys : List ℕ} {q : Count} {o : Taken} {F : Fn} → ((a : ℕ) → Mem a ys → Arrow (rowsOf W) a) → Alike xs ys → Took n N limit W X xs q o F → Took n N limit W X ys q o F
+pub took-alike : {n N limit : ℕ} {W X : View} {xs ys : List ℕ} {q : Count} {o : Taken} {F : Fn} → ((a : ℕ) → Mem a ys → Arrow (rowsOf W) a) → Alike xs ys → Took n N limit W X xs q o F → Took n N limit W X ys q o F
 took-alike {n} {W = W} {q = q} {o} {F} u s t = record {
   moved = t .moved;
   post = step-roots (result (madeIn o)) u s (t .post);
   count = counted-roots (2 * n) (rowsOf W) F q o u s (t .count);
 }
+
+-- a step whose answer is known
+pub took-at : {n N limit : ℕ} {W X : View} {roots : List ℕ} {q : Count} {o u : Taken} {F : Fn} → o ≡ u → Took n N limit W X roots q o F → Took n N limit W X roots q u F
+took-at {n} {N} {limit} {W} {X} {roots} {q} {F = F} e t = subst (λ (x : Taken). Took n N limit W X roots q x F) e t
 
 -- a step in a scene: its roots are its operands and the scene's
 pub took-roots : {L : Limits} {W X : View} {stack places : List ℕ} {held : ℕ} {σ : Scene} {q : Count} {o : Taken} {F : Fn} (ops : List ℕ) → Ready L W stack places held σ
@@ -117,6 +128,15 @@ one-arrow rows a u b h = ⊎-elim (λ e. subst (Arrow rows) (sym e) u) (λ i. ab
 
 two-arrows : (rows : Rows) (a c : ℕ) → Arrow rows a → Arrow rows c → (b : ℕ) → Mem b (a ∷ c ∷ []) → Arrow rows b
 two-arrows rows a c u v b h = ⊎-elim (λ e. subst (Arrow rows) (sym e) u) (one-arrow rows c v b) (mem-cases h)
+
+-- AND with V, whose arrow is a root
+pub took-within : {L : Limits} {W X : View} {stack places : List ℕ} {held : ℕ} {σ : Scene} {q : Count} {o : Taken} {b x : ℕ} → Ready L W stack places held σ → Arrow (rowsOf W) b → Arrow (rowsOf W) x → x ≡ validOf W
+    → Took (L .bits) (L .rows) (L .limit) W X (b ∷ x ∷ live W (take held stack)) q o (andF (den (2 * L .bits) (rowsOf W) b) (den (2 * L .bits) (rowsOf W) x))
+    → Took (L .bits) (L .rows) (L .limit) W X (b ∷ σ .roots) q o (andF (den (2 * L .bits) (rowsOf W) b) (den (2 * L .bits) (rowsOf W) (validOf W)))
+took-within {L} {W} {X} {stack} {places} {held} {σ} {q} {o} {b} {x} R u v e t =
+    let t1 = took-roots (b ∷ x ∷ []) R (two-arrows (rowsOf W) b x u v) t in
+    let t2 = subst (λ (y : ℕ). Took (L .bits) (L .rows) (L .limit) W X (b ∷ y ∷ σ .roots) q o (andF (den (2 * L .bits) (rowsOf W) b) (den (2 * L .bits) (rowsOf W) y))) e t1 in
+    took-alike (λ y h. ⊎-elim (one-arrow (rowsOf W) b u y) (held-arrow (R .lives) y) (append-cases (b ∷ []) h)) (alike-cons b (alike-sym (alike-once (valid-mem R)))) t2
 
 -- AND and OR ask for two arrows, and have them among their roots
 pub join-fits : (m : ℕ) (rows : Rows) (j : Join) (a b : ℕ) → Arrow rows a → Arrow rows b → Fits m rows (joinStep j a b)
@@ -141,13 +161,13 @@ took-join {L} {W} {X} {stack} {places} {held} {σ} {q} {o} {a} {b} R j e u v t =
 
 module _ {L : Limits} {W X : View} {stack after : List ℕ} {held : ℕ} {count : Count} {σ : Scene} {f : Form} {e : ℕ} {r : Evaluated} (A : Answers L W X stack after held count σ f e r) (s : Halts r) where
   pub negate-stops : Answers L W X stack after held count σ (neg f) e r
-  negate-stops = answers-stop A s (neg f) e (λ C p. notStep (L .bits) (L .limit) (σ .fns) C p) refl
+  negate-stops = answers-stop A s (neg f) e (λ C p. notStep (L .bits) (L .limit) (σ .fns) (existIn (L .bits) σ) C p) refl
 
   pub first-stops : (j : Join) (g : Form) (e′ : ℕ) → Answers L W X stack after held count σ (joinForm j f g) e′ r
   first-stops j g e′ = answers-stop A s (joinForm j f g) e′ _ (run-join (modelIn (L .bits) σ) (L .limit) (L .rounds) (σ .env) (σ .fns) j f g count)
 
   pub mode-stops : (m : Mode) (t : ℕ) → Answers L W X stack after held count σ (modalForm m t f) e r
-  mode-stops m t = answers-stop A s (modalForm m t f) e (λ C p. overSteps m (L .bits) (L .limit) (σ .fns) (inside (σ .rel t)) C p)
+  mode-stops m t = answers-stop A s (modalForm m t f) e (λ C p. overSteps m (L .bits) (L .limit) (σ .fns) (existIn (L .bits) σ) (related (modelIn (L .bits) σ) t) C p)
       (run-modal (modelIn (L .bits) σ) (L .limit) (L .rounds) (σ .env) (σ .fns) m t f count)
 
 -- ---- after a part's value
@@ -177,14 +197,38 @@ module _ {L : Limits} {W X : View} {stack after places : List ℕ} {held : ℕ} 
 
   -- ---- NOT
 
-  pub negate-asks : LivePre L X after held (step.Not a)
-  negate-asks = live-pre value-ready (value-is .arrow)
+  module _ (v : ℕ) (read : v + 1 ≡ X .header VALID) where
+    pub negate-asks : ComplementPre (L .bits) (L .rows) (L .limit) X (take held after) v a
+    negate-asks = record {
+      base = value-ready .base;
+      arrows = lent-arrows value-ready;
+      valid = subst (λ (x : ℕ). Mem x (live X (take held after))) (sym (valid-read X v read)) (valid-root (take held after) (value-ready .base .sound));
+      operand = value-is .arrow;
+    }
 
-  pub negate-ends : {Y : View} {o : Taken} {r′ : Evaluated} → LivePost L X Y after held (step.Not a) q o → r′ ≡ fromTaken k o → Answers L W Y stack after held count σ (neg f) e r′
-  negate-ends {Y} {o} s is-r =
-      let t = took {q = q} {o = o} (value-ready .base) (negate-asks .asks) (s .stepped) (s .count) in
-      answers-taken (neg f) k o value-end is-r (moved-trans (A .moved) (t .moved)) (A .kept)
-      (took-evals (took-roots (a ∷ []) value-ready (one-arrow (rowsOf X) a (value-is .arrow)) t) (evals-not (L .bits) (L .rows) (R .lives) (runIn L σ f count) value-evals))
+    module _ {Y : View} {o : Taken} (p : ComplementPost (L .bits) (L .rows) (L .limit) X Y (take held after) v a q o) where
+      -- a chain for F with these needs
+      abbrev Chain : List ℕ → Fn → Type 0
+      Chain needs F = PairEvals (L .bits) (L .rows) (rowsOf X) (rowsOf Y) (σ .roots) (fit (L .limit) needs) F (needingAll q needs) (result (madeIn o)) (countIn o)
+
+      ran : Chained (L .bits) (L .rows) (L .limit) X Y (take held after) (complementNeeds (L .bits) (σ .fns) (den (2 * L .bits) (rowsOf X) v) (den (2 * L .bits) (rowsOf X) a))
+          (withinNot (den (2 * L .bits) (rowsOf X) v) (den (2 * L .bits) (rowsOf X) a)) q o
+      ran = p (σ .fns) (held-alike (alike-sym (value-ready .roots)) (value-ready .lives))
+
+      complement-of : (C : List Bool) → Denotes (2 * L .bits) (rowsOf X) a (fnOf (L .bits) C)
+          → Chain (complementNeeds (L .bits) (σ .fns) (fnOf (L .bits) (existIn (L .bits) σ)) (fnOf (L .bits) C)) (withinNot (fnOf (L .bits) (existIn (L .bits) σ)) (fnOf (L .bits) C))
+      complement-of C d =
+          let w = ran .evals in
+          let w1 : Chain (complementNeeds (L .bits) (σ .fns) (den (2 * L .bits) (rowsOf X) v) (den (2 * L .bits) (rowsOf X) a)) (withinNot (den (2 * L .bits) (rowsOf X) v) (den (2 * L .bits) (rowsOf X) a)) =
+          record { wf = w .wf; kept = keeps-within (value-ready .roots .from) (w .kept); result = w .result } in
+          let e-is = ap (den (2 * L .bits) (rowsOf X)) (valid-read X v read) ∙ denoted (value-ready .valid) in
+          let w2 = subst (λ (G : Fn). Chain (complementNeeds (L .bits) (σ .fns) G (den (2 * L .bits) (rowsOf X) a)) (withinNot G (den (2 * L .bits) (rowsOf X) a))) e-is w1 in
+          subst (λ (G : Fn). Chain (complementNeeds (L .bits) (σ .fns) (fnOf (L .bits) (existIn (L .bits) σ)) G) (withinNot (fnOf (L .bits) (existIn (L .bits) σ)) G)) (denoted d) w2
+
+      pub negate-ends : {r′ : Evaluated} → r′ ≡ fromTaken k o → Answers L W Y stack after held count σ (neg f) e r′
+      negate-ends is-r = answers-taken (neg f) k o value-end is-r (moved-trans (A .moved) (ran .moved)) (A .kept)
+          (evals-then (L .bits) (L .rows) (runIn L σ f count) (λ C p. notStep (L .bits) (L .limit) (σ .fns) (existIn (L .bits) σ) C p) value-evals (λ C d.
+          evals-from (L .bits) (L .rows) (A .evals .kept) (λ b i. i) (complement-evals (L .limit) (σ .fns) (existIn (L .bits) σ) C o q (complement-of C d))))
 
   -- ---- AND and OR
 

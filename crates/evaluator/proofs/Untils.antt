@@ -8,9 +8,8 @@ use native.Mathlib.Omega.{arith}
 use lib.Dec.{T}
 use lib.ListN.{length, set, take, length-set}
 use lib.Seq.{set-out}
-use Rattle.mucalculus.specs.Sets.{allStates}
+use Rattle.mucalculus.specs.Order.{Below}
 use Rattle.mucalculus.specs.Form.{Form, var, top, conj, disj, box, dia, put}
-use Rattle.mucalculus.specs.Means.{clip}
 use Rattle.mucalculus.specs.Written.{absent, goes, written, put-here}
 use Rattle.tokens.specs.declared.Grammar.the-variants.{Runs}
 use Rattle.tokens.specs.declared.Mode.{Mode}
@@ -26,7 +25,7 @@ use Rattle.formula.proofs.Readings.{parse-reads}
 use Rattle.formula.proofs.Written.{read-taken}
 use Rattle.formula.proofs.Versions.{takes-absent}
 use Rattle.accounts.specs.declared.Count.{Count}
-use Rattle.layout.specs.Places.{HEADER, FIRST-RELATION}
+use Rattle.layout.specs.Places.{VALID, HEADER, FIRST-RELATION}
 use Rattle.layout.specs.View.{View}
 use Rattle.diagram.specs.Rows.{Rows}
 use Rattle.diagram.specs.Post.{Denotes}
@@ -35,17 +34,18 @@ use Rattle.soundness.specs.Used.{rowsOf}
 use Rattle.counting.specs.declared.Taken.{Taken}
 use Rattle.book.specs.Bridge.{fnOf}
 use Rattle.book.specs.Written.{run-written}
-use Rattle.book.specs.Follow.{evals-same, evals-leaf, denotes-clip, denotes-all}
+use Rattle.book.specs.Follow.{evals-same, evals-leaf, denotes-in}
 use Rattle.modal.specs.declared.Limits.{Limits}
 use Rattle.modal.specs.Modal.{ModalPre}
 use Rattle.modal.specs.Chain.{moved-refl, base-wf}
-use Rattle.evaluator.specs.Scene.{stackSize, Scene, modelIn, pushed, opened, Ready, Part, holdsReg, holdsRel, Answers, fromTaken, OverPost, JoinedPre, JoinedPost, EvalPre, EvalPost, roundOf, own, isSome, roundForm, Current, IsValue, ReachPre, ReachPost, FurtherPre, FurtherPost, KeepPre, KeepPost, RoundPre, RoundPost, variableOf, BodyPart, TurnPre, TurnPost, UntilPost}
+use Rattle.evaluator.specs.Scene.{stackSize, Scene, modelIn, existIn, pushed, opened, Ready, Part, holdsReg, holdsRel, Answers, fromTaken, OverPost, JoinedPre, JoinedPost, EvalPre, EvalPost, roundOf, own, isSome, roundForm, Current, IsValue, ReachPre, ReachPost, FurtherPre, FurtherPost, KeepPre, KeepPost, RoundPre, RoundPost, variableOf, BodyPart, TurnPre, TurnPost, UntilPost}
 use Rattle.evaluator.specs.declared.Body.{Body}
 use Rattle.evaluator.specs.declared.Body.the-variants.{Binder, Until}
 use Rattle.evaluator.specs.declared.Context.{Context}
 use Rattle.evaluator.specs.declared.Evaluated.{Evaluated}
 use Rattle.evaluator.specs.declared.Evaluated.the-variants.{Value, Full}
 use Rattle.evaluator.proofs.Outcomes.{Halts}
+use Rattle.evaluator.proofs.State.{valid-asks, valid-read}
 use Rattle.evaluator.proofs.Tokens.{read-depth}
 use Rattle.evaluator.proofs.Steps.{first-stops, value-set, value-is, value-end, both-ready, both-asks, both-joined}
 use Rattle.evaluator.proofs.Relations.{rel-range, rel-some, over-asks, over-ends}
@@ -55,20 +55,25 @@ use Rattle.evaluator.proofs.Relations.{rel-range, rel-some, over-asks, 
 module _ {L : Limits} {W : View} {σ : Scene} {x : ℕ} (c : Current L W σ x) where
   -- it is kept
   pub current-next : {X : View} → Keeps (rowsOf W) (rowsOf X) (σ .roots) → Current L X σ x
-  current-next k = record { root = c .root; denotes = keeps-denotes k (c .root) (c .denotes) }
+  current-next k = record { root = c .root; denotes = keeps-denotes k (c .root) (c .denotes); exists = c .exists }
 
   -- with a value more
   pub current-push : (a : ℕ) (C : List Bool) → Current L W (pushed σ a (fnOf (L .bits) C)) x
-  current-push a C = record { root = there (c .root); denotes = c .denotes }
+  current-push a C = record { root = there (c .root); denotes = c .denotes; exists = c .exists }
 
 module _ (c : Context) {L : Limits} {W : View} {stack : List ℕ} {σ : Scene} (R : Ready L W stack (c .places) (c .held) σ) where
   -- it is X's value
   pub own-value : {x : ℕ} (e : ℕ) → Current L W σ x → IsValue L W stack c σ (var own) x e
-  own-value e u = record { moved = moved-refl (R .base); kept = refl; evals = evals-leaf (L .bits) (L .rows) (c .count) (base-wf (R .base)) (R .lives) (denotes-clip (L .bits) (L .rows) (σ .env own) (u .denotes)); end = refl }
+  own-value e u = record { moved = moved-refl (R .base); kept = refl; evals = evals-leaf (L .bits) (L .rows) (c .count) (base-wf (R .base)) (R .lives) (denotes-in (L .bits) (L .rows) (σ .env own) (existIn (L .bits) σ) (u .exists) (u .denotes)); end = refl }
 
-  -- all states are the value of true
-  pub all-value : (e : ℕ) → IsValue L W stack c σ top 1 e
-  all-value e = record { moved = moved-refl (R .base); kept = refl; evals = evals-leaf (L .bits) (L .rows) (c .count) (base-wf (R .base)) (R .lives) (denotes-all (L .bits) (L .rows) (rowsOf W)); end = refl }
+  -- V is the value of true
+  pub all-value : {v : ℕ} (e : ℕ) → v + 1 ≡ W .header VALID → IsValue L W stack c σ top v e
+  all-value {v} e r = record {
+    moved = moved-refl (R .base);
+    kept = refl;
+    evals = evals-leaf (L .bits) (L .rows) (c .count) (base-wf (R .base)) (R .lives) (subst (λ (y : ℕ). Denotes (2 * L .bits) (rowsOf W) y (fnOf (L .bits) (existIn (L .bits) σ))) (sym (valid-read W v r)) (R .valid));
+    end = refl;
+  }
 
 -- ---- box and diamond of a value
 
@@ -104,22 +109,26 @@ module _ {L : Limits} {W : View} {stack : List ℕ} {c : Context} {t x : ℕ} (P
       boxed : (σ : Scene) → Ready L W stack (c .places) (c .held) σ → holdsRel σ t ≡ true → Current L W σ x → Answers L W X stack stack (c .held) (c .count) σ (box t (var own)) e r
       boxed σ R h u = E .answers σ (var own) R h (own-value c R e u)
 
-      pub all-asked : {b : Context} → b ≡ roundOf c (c .at) q → ReachPre L X (set stack (c .held) a) b t 1 e
-      all-asked i =
+      -- V's word may be read
+      pub true-asked : (VALID < HEADER) × (HEADER ≤ X .size) × (0 < X .header VALID)
+      true-asked = valid-asks (boxed (P .scene) (P .ready) (P .relation) (P .current) .moved .sound)
+
+      pub all-asked : {v : ℕ} → v + 1 ≡ X .header VALID → {b : Context} → b ≡ roundOf c (c .at) q → ReachPre L X (set stack (c .held) a) b t v e
+      all-asked {v} w i =
           let A = boxed (P .scene) (P .ready) (P .relation) (P .current) in
           let R = both-ready (P .ready) A refl is (P .room) (value-set (P .ready) A refl is) (value-is (P .ready) A refl is) in
-          subst (λ (d : Context). ReachPre L X (set stack (c .held) a) d t 1 e) (sym i) (record { scene = _; form = top; ready = R; relation = P .relation; is-value = all-value (roundOf c (c .at) q) R e })
+          subst (λ (d : Context). ReachPre L X (set stack (c .held) a) d t v e) (sym i) (record { scene = _; form = top; ready = R; relation = P .relation; is-value = all-value (roundOf c (c .at) q) R e w })
 
-      module _ {b : Context} (i : b ≡ roundOf c (c .at) q) {Y : View} {r′ : Evaluated} (E′ : ReachPost L X Y (set stack (c .held) a) b Some t 1 e r′) where
-        D : ReachPost L X Y (set stack (c .held) a) (roundOf c (c .at) q) Some t 1 e r′
-        D = subst (λ (d : Context). ReachPost L X Y (set stack (c .held) a) d Some t 1 e r′) i E′
+      module _ {v : ℕ} (w : v + 1 ≡ X .header VALID) {b : Context} (i : b ≡ roundOf c (c .at) q) {Y : View} {r′ : Evaluated} (E′ : ReachPost L X Y (set stack (c .held) a) b Some t v e r′) where
+        D : ReachPost L X Y (set stack (c .held) a) (roundOf c (c .at) q) Some t v e r′
+        D = subst (λ (d : Context). ReachPost L X Y (set stack (c .held) a) d Some t v e r′) i E′
 
         same : length (set stack (c .held) a) ≡ length stack
         same = length-set stack (c .held) a
 
         all-dia : (σ : Scene) (R : Ready L W stack (c .places) (c .held) σ) (h : holdsRel σ t ≡ true) (u : Current L W σ x) (C : List Bool) → Denotes (2 * L .bits) (rowsOf X) a (fnOf (L .bits) C)
             → Answers L X Y (set stack (c .held) a) (set stack (c .held) a) (c .held + 1) q (pushed σ a (fnOf (L .bits) C)) (dia t top) e r′
-        all-dia σ R h u C d = let S = both-ready R (boxed σ R h u) refl is (P .room) C d in D .answers _ top S h (all-value (roundOf c (c .at) q) S e)
+        all-dia σ R h u C d = let S = both-ready R (boxed σ R h u) refl is (P .room) C d in D .answers _ top S h (all-value (roundOf c (c .at) q) S e w)
 
         pub and-asked : JoinedPre L Y (set stack (c .held) a) (c .held) And a r′
         and-asked = record {
@@ -280,13 +289,14 @@ until-part m R p p′ h = record {
 
 -- ---- one round
 
-current-open : {L : Limits} {W : View} (σ : Scene) (a : ℕ) (A : List Bool) → Denotes (2 * L .bits) (rowsOf W) a (fnOf (L .bits) A) → Current L W (opened (L .bits) σ own a A) a
-current-open {L} {W} σ a A d = record {
+current-open : {L : Limits} {W : View} (σ : Scene) (a : ℕ) (A : List Bool) → Denotes (2 * L .bits) (rowsOf W) a (fnOf (L .bits) A) → Below A (existIn (L .bits) σ) → Current L W (opened (L .bits) σ own a A) a
+current-open {L} {W} σ a A d i = record {
   root = here refl;
   denotes = subst (λ (C : List Bool). Denotes (2 * L .bits) (rowsOf W) a (fnOf (L .bits) C)) (sym (put-here (σ .env) own A)) d;
+  exists = subst (λ (C : List Bool). Below C (existIn (L .bits) σ)) (sym (put-here (σ .env) own A)) i;
 }
 
-module _ {L : Limits} {W : View} {stack bs : List ℕ} {c : Context} {a : ℕ} (σ : Scene) (A : List Bool) (d : Denotes (2 * L .bits) (rowsOf W) a (fnOf (L .bits) A)) {f : Form} {e : ℕ} where
+module _ {L : Limits} {W : View} {stack bs : List ℕ} {c : Context} {a : ℕ} (σ : Scene) (A : List Bool) (d : Denotes (2 * L .bits) (rowsOf W) a (fnOf (L .bits) A)) (inV : Below A (existIn (L .bits) σ)) {f : Form} {e : ℕ} where
   pub turn-asks : (b : Body) → Ready L W stack (c .places) (c .held) (opened (L .bits) σ (variableOf b) a A) → c .held + 2 * c .depth < stackSize
       → BodyPart (L .bits) bs (c .at) (c .depth) (set (σ .scope) (variableOf b) true) (holdsReg σ) (holdsRel σ) b f e → TurnPre L W stack bs c b a
   turn-asks (Binder x P) R l p = record { asks = record { room = omega (arith, l); scene = _; form = f; end = e; ready = R; part = p .parts } }
@@ -301,7 +311,7 @@ module _ {L : Limits} {W : View} {stack bs : List ℕ} {c : Context} {a : ℕ} (
       first = p .parts .first;
       second = p .parts .second;
       relation = p .parts .relation;
-      current = current-open σ a A d;
+      current = current-open σ a A d inV;
     };
   }
 
@@ -312,7 +322,7 @@ module _ {L : Limits} {W : View} {stack bs : List ℕ} {c : Context} {a : ℕ} (
   turn-answers (Binder x P) T R p = T .says .answers _ f e R (p .parts)
   turn-answers (Until m t middle) {X} {after} {r} T R p =
       subst (λ (h : Form). Answers L W X stack after (c .held) (c .count) (opened (L .bits) σ own a A) h e r) (sym (p .parts .is-round))
-      (T .says .answers _ (p .parts .left) (p .parts .right) e R (p .parts .first) (p .parts .second) (p .parts .relation) (current-open σ a A d))
+      (T .says .answers _ (p .parts .left) (p .parts .right) e R (p .parts .first) (p .parts .second) (p .parts .relation) (current-open σ a A d inV))
 
 -- a binder's round is its formula, until's one is its own
 module _ {L : Limits} {W : View} {stack bs : List ℕ} {c : Context} {b : Body} {x : ℕ} where

@@ -2,11 +2,14 @@
 use mathlib.Core.Path.{_≡_}
 use mathlib.Core.Bool.{Bool, true, false, _&&_}
 use mathlib.Core.List.{List, _∷_, List·Memᴰ as Mem}
-use mathlib.Core.Option.{Option}
-use Prim.Native.Nat.{ℕ, _+_, _*_, _≤_, _<_}
+use mathlib.Core.Option.{Option, some}
+use Prim.Native.Nat.{ℕ, _+_, _*_, _^_, _≤_, _<_}
 use lib.Dec.{ltb}
 use lib.ListN.{length, getD, set, take}
-use Rattle.mucalculus.specs.Form.{Form, neg, conj, disj, Pairs, Model, Env, put, bound, filled as hasContent}
+use Rattle.mucalculus.specs.Order.{Below}
+use Rattle.mucalculus.specs.Means.{clip}
+use Rattle.mucalculus.specs.Exist.{Inside}
+use Rattle.mucalculus.specs.Form.{Form, now, neg, conj, disj, Pairs, Model, Env, put, bound, filled as hasContent}
 use Rattle.mucalculus.specs.Written.{goes}
 use Rattle.tokens.specs.declared.Grammar.{Grammar}
 use Rattle.tokens.specs.declared.Grammar.the-variants.{Runs}
@@ -26,6 +29,7 @@ use Rattle.layout.specs.View.{View}
 use Rattle.diagram.specs.Level.{Fn}
 use Rattle.diagram.specs.Post.{Denotes}
 use Rattle.soundness.specs.Used.{rowsOf}
+use Rattle.soundness.specs.Within.{validOf}
 use Rattle.collect.specs.Lent.{live}
 use Rattle.steps.specs.declared.Step.{Step}
 use Rattle.steps.specs.declared.Step.the-variants as step
@@ -49,9 +53,10 @@ use Rattle.evaluator.specs.declared.Context.{Context}
 use Rattle.evaluator.specs.declared.Evaluated.{Evaluated}
 use Rattle.evaluator.specs.declared.Evaluated.the-variants.{Value, Full, Spent}
 
--- what a formula is evaluated over: the book's registers and relations, the open variables and their sets, and what is live: the roots and
+-- what a formula is evaluated over: the book's V, registers and relations, the open variables and their sets, and what is live: the roots and
 -- the functions that they hold
 pub record Scene : Type 0 where
+  pub valid : List Bool
   pub reg : ℕ → Option (List Bool)
   pub rel : ℕ → Option Pairs
   pub scope : List Bool
@@ -64,15 +69,19 @@ abbrev pub stackSize : ℕ
 stackSize = 128
 
 abbrev pub modelIn : ℕ → Scene → Model
-modelIn n σ = record { n = n; rel = σ .rel; reg = σ .reg }
+modelIn n σ = record { n = n; valid = σ .valid; rel = σ .rel; reg = σ .reg }
+
+-- the states that exist
+abbrev pub existIn : ℕ → Scene → List Bool
+existIn n σ = clip (2 ^ n) (σ .valid)
 
 -- "each value made and not yet used": the function F at the arrow a is live too
 abbrev pub pushed : Scene → ℕ → Fn → Scene
-pushed σ a F = record { reg = σ .reg; rel = σ .rel; scope = σ .scope; env = σ .env; roots = a ∷ σ .roots; fns = F ∷ σ .fns }
+pushed σ a F = record { valid = σ .valid; reg = σ .reg; rel = σ .rel; scope = σ .scope; env = σ .env; roots = a ∷ σ .roots; fns = F ∷ σ .fns }
 
 -- "the current set of each open binder": A is the set of variable P
 abbrev pub opened : ℕ → Scene → ℕ → ℕ → List Bool → Scene
-opened n σ P a A = record { reg = σ .reg; rel = σ .rel; scope = set (σ .scope) P true; env = put (σ .env) P A; roots = a ∷ σ .roots; fns = fnOf n A ∷ σ .fns }
+opened n σ P a A = record { valid = σ .valid; reg = σ .reg; rel = σ .rel; scope = set (σ .scope) P true; env = put (σ .env) P A; roots = a ∷ σ .roots; fns = fnOf n A ∷ σ .fns }
 
 -- variable P's place on the stack is live, and holds its set
 pub record Open (n : ℕ) (W : View) (stack places : List ℕ) (held : ℕ) (A : List Bool) (P : ℕ) : Type 0 where
@@ -82,8 +91,13 @@ pub record Open (n : ℕ) (W : View) (stack places : List ℕ) (held : ℕ) (A :
 -- the words and the stack hold the scene
 pub record Ready (L : Limits) (W : View) (stack places : List ℕ) (held : ℕ) (σ : Scene) : Type 0 where
   pub base : Base (L .bits) (L .rows) (L .limit) W
+  pub valid : Denotes (2 * L .bits) (rowsOf W) (validOf W) (fnOf (L .bits) (existIn (L .bits) σ))
   pub reg : (r : ℕ) → r < registers → Place (2 * L .bits) (rowsOf W) (fnOf (L .bits)) (σ .reg r) (arrowIn (W .header (FIRST-REGISTER + r)))
   pub rel : (t : ℕ) → t < relations → Place (2 * L .bits) (rowsOf W) (fnOfPairs (L .bits)) (σ .rel t) (arrowIn (W .header (FIRST-RELATION + t)))
+  -- what registers, relations and variables hold are states that exist
+  pub in-reg : (r : ℕ) (A : List Bool) → σ .reg r ≡ some A → Below A (existIn (L .bits) σ)
+  pub in-rel : (t : ℕ) (Q : Pairs) → σ .rel t ≡ some Q → Inside (2 ^ L .bits) (existIn (L .bits) σ) Q
+  pub in-env : (P : ℕ) → getD (σ .scope) P false ≡ true → Below (σ .env P) (existIn (L .bits) σ)
   -- "Live at a step: all filled registers and relations, the current set of each open binder, each value made and not yet used"
   pub roots : Alike (live W (take held stack)) (σ .roots)
   pub lives : Held (2 * L .bits) (rowsOf W) (σ .roots) (σ .fns)
@@ -165,10 +179,14 @@ abbrev pub isLeast : Fix → Bool
 isLeast Mu = true
 isLeast Nu = false
 
--- box or diamond over functions of levels
+-- box within V, whose arrow is v
+pub record Boxes (n N limit : ℕ) (W X : View) (lent : List ℕ) (v t a : ℕ) (q : Count) (o : Taken) : Type 0 where
+  pub box : BoxPost n N limit W X lent v t a q o
+
+-- that, or diamond, over functions of levels
 abbrev pub OverPost : Mode → ℕ → ℕ → ℕ → View → View → List ℕ → ℕ → ℕ → Count → Taken → Type 0
-OverPost All = BoxPost
-OverPost Some = DiamondPost
+OverPost All n N limit W X lent t a q o = Boxes n N limit W X lent (validOf W) t a q o
+OverPost Some n N limit W X lent t a q o = DiamondPost n N limit W X lent t a q o
 
 -- ---- what the functions ask, and what they promise in every scene that the words and the stack hold
 
@@ -192,6 +210,16 @@ JoinedTo L W X stack held j a Spent r = (X ≡ W) × (r ≡ Spent)
 
 pub record JoinedPost (L : Limits) (W X : View) (stack : List ℕ) (held : ℕ) (j : Join) (a : ℕ) (second r : Evaluated) : Type 0 where
   pub joins : JoinedTo L W X stack held j a second r
+
+-- a current bit, and AND with V
+pub record BitPre (L : Limits) (W : View) (stack : List ℕ) (held p : ℕ) : Type 0 where
+  pub scene : Scene
+  pub places : List ℕ
+  pub ready : Ready L W stack places held scene
+  pub range : p < L .bits
+
+pub record BitPost (L : Limits) (W X : View) (stack : List ℕ) (held p : ℕ) (q : Count) (o : Taken) : Type 0 where
+  pub answers : (σ : Scene) (places : List ℕ) → Ready L W stack places held σ → LeafAnswers L W X q σ (now p) o
 
 -- a leaf
 pub record LeafPre (L : Limits) (W : View) (stack : List ℕ) (c : Context) (l : Leaf) : Type 0 where
@@ -269,6 +297,7 @@ roundForm m t f g = disj g (conj f (goes (isSome m) t own))
 pub record Current (L : Limits) (W : View) (σ : Scene) (x : ℕ) : Type 0 where
   pub root : Mem x (σ .roots)
   pub denotes : Denotes (2 * L .bits) (rowsOf W) x (fnOf (L .bits) (σ .env own))
+  pub exists : Below (σ .env own) (existIn (L .bits) σ)
 
 -- x is the value of f, which took no step
 abbrev pub IsValue : Limits → View → List ℕ → Context → Scene → Form → ℕ → ℕ → Type 0

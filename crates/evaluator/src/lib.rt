@@ -12,6 +12,7 @@ use layout::header_word;
 use memory::forget;
 use modal::Limits;
 use modal::boxed;
+use modal::complement;
 use modal::diamond;
 use steps::Step;
 use tokens::Fix;
@@ -34,7 +35,7 @@ ghost use Rattle.counting.specs.declared.Taken.the-variants.{At};
 ghost use Rattle.book.specs.Turns.{startArrow};
 ghost use Rattle.modal.specs.Modal.{ModalPre};
 ghost use Rattle.evaluator.specs.Whole.{SetPre, SetPost};
-ghost use Rattle.evaluator.specs.Scene.{stackSize, fromTaken, bodyOf, roundOf, isLeast, fixOf, variableOf, joinStep, OverPost, LivePre, LivePost, JoinedPre, JoinedPost, LeafPre, LeafPost, EvalPre, EvalPost, NegatePost, BothPre, BothPost, ModePre, ModePost, BindPre, BindPost, ReachPre, ReachPost, FurtherPre, FurtherPost, EveryPost, KeepPre, KeepPost, RoundPre, RoundPost, TurnPre, TurnPost, UntilPost};
+ghost use Rattle.evaluator.specs.Scene.{stackSize, fromTaken, bodyOf, roundOf, isLeast, fixOf, variableOf, joinStep, OverPost, LivePre, LivePost, JoinedPre, JoinedPost, BitPre, BitPost, LeafPre, LeafPost, EvalPre, EvalPost, NegatePost, BothPre, BothPost, ModePre, ModePost, BindPre, BindPost, ReachPre, ReachPost, FurtherPre, FurtherPost, EveryPost, KeepPre, KeepPost, RoundPre, RoundPost, TurnPre, TurnPost, UntilPost};
 
 // What an evaluation answers: the arrow of the set, the place after the formula and what is counted; or why there is none.
 pub enum Evaluated {
@@ -145,14 +146,14 @@ fn onward(here: Context, next: usize, count: Count) -> Context
     rest
 }
 
-// The arrow where a body's rounds start: every state for nu, no state for mu and until.
-fn start_of(body: Body) -> u32
-    ensures { λ r. ⌜ r ≡ startArrow (isLeast (fixOf body)) ⌝ }
+// The arrow where a body's rounds start: V for nu, no state for mu and until.
+fn start_of(body: Body, valid: u32) -> u32
+    ensures { λ r. ⌜ r ≡ startArrow (isLeast (fixOf body)) valid ⌝ }
 {
     match body {
         Body::Binder(x, _) => match x {
             Fix::Mu => Table::NOTHING,
-            Fix::Nu => Table::EVERYTHING,
+            Fix::Nu => valid,
         },
         Body::Until(_, _, _) => Table::NOTHING,
     }
@@ -178,8 +179,8 @@ pub fn join_of(j: Join, a: u32, b: u32) -> Step
     }
 }
 
-// The arrow in a filled register or relation.
-fn root_arrow(words: &[u32], h: usize) -> u32
+// The arrow in a filled root: V, a register or a relation.
+pub fn root_arrow(words: &[u32], h: usize) -> u32
     requires { ⌜ (h < HEADER) × (HEADER ≤ length (now words)) × (0 < headerOf (now words) h) ⌝ }
     ensures { λ r. ⌜ r + 1 ≡ headerOf (now (words .entry)) h ⌝ }
 {
@@ -247,6 +248,30 @@ fn joined(
     answer(taken, end)
 }
 
+// The states of V in which current bit p holds: the step of the bit, and AND with V.
+fn current_bit(
+    words: &mut [u32],
+    counts: &mut [u32],
+    stack: &[u32],
+    limits: Limits,
+    held: usize,
+    p: u32,
+    count: Count,
+) -> Taken
+    requires { ⌜ BitPre limits (view (limits .rows) (now words)) (now stack) held p × CountsOf (view (limits .rows) (now words)) (now counts) ⌝ }
+    ensures { λ r. ⌜ BitPost limits (view (limits .rows) (now (words .entry))) (view (limits .rows) (now (words .exit))) (now (stack .entry)) held p count r × CountsOf (view (limits .rows) (now (words .exit))) (now (counts .exit)) ⌝ }
+{
+    let Taken::At {
+        arrow: b,
+        count: first,
+    } = live_step(words, counts, stack, limits, held, Step::Bit(2 * p), count)
+    else {
+        return Taken::Full;
+    };
+    let valid = root_arrow(words, Table::VALID);
+    live_step(words, counts, stack, limits, held, Step::And(b, valid), first)
+}
+
 // An arrow that takes no step.
 pub fn unmoved(a: u32, count: Count) -> Taken
     ensures { λ r. ⌜ r ≡ At a count ⌝ }
@@ -257,7 +282,7 @@ pub fn unmoved(a: u32, count: Count) -> Taken
     }
 }
 
-// A leaf: constants, registers and variables take no step, a current bit is one. A set's formula has no next bit.
+// A leaf: constants, registers and variables take no step, true is V; a current bit is two. A set's formula has no next bit.
 fn leaf(
     words: &mut [u32],
     counts: &mut [u32],
@@ -272,10 +297,10 @@ fn leaf(
     let count = here.count;
     match l {
         Leaf::False => unmoved(Table::NOTHING, count),
-        Leaf::True => unmoved(Table::EVERYTHING, count),
+        Leaf::True => unmoved(root_arrow(words, Table::VALID), count),
         Leaf::Now(p) => {
             let held = here.held;
-            live_step(words, counts, stack, limits, held, Step::Bit(2 * p), count)
+            current_bit(words, counts, stack, limits, held, p, count)
         }
         Leaf::Next(_) => unmoved(Table::NOTHING, count),
         Leaf::Var(p) => {
@@ -304,7 +329,10 @@ fn over(
     ensures { λ r. ⌜ OverPost m (limits .bits) (limits .rows) (limits .limit) (view (limits .rows) (now (words .entry))) (view (limits .rows) (now (words .exit))) (now (roots .entry)) relation a count r × CountsOf (view (limits .rows) (now (words .exit))) (now (counts .exit)) ⌝ }
 {
     match m {
-        Mode::All => boxed(words, counts, limits, roots, relation, a, count),
+        Mode::All => {
+            let valid = root_arrow(words, Table::VALID);
+            boxed(words, counts, limits, roots, valid, relation, a, count)
+        }
         Mode::Some => diamond(words, counts, limits, roots, relation, a, count),
     }
 }
@@ -358,6 +386,7 @@ fn every(
     let held = here.held;
     stack[held] = a;
     let rest = onward(here, here.at, counted);
+    let valid = root_arrow(words, Table::VALID);
     let second = reach(
         words,
         counts,
@@ -366,7 +395,7 @@ fn every(
         rest,
         Mode::Some,
         t,
-        Table::EVERYTHING,
+        valid,
         end,
     );
     joined(words, counts, stack, limits, held, Join::And, a, second)
@@ -437,7 +466,7 @@ fn eval(
     bind(words, counts, stack, bytes, limits, part, body)
 }
 
-// Evaluates the formula at the context's place, and takes the step NOT.
+// Evaluates the formula at the context's place, and takes the steps of NOT within V.
 fn negate(
     words: &mut [u32],
     counts: &mut [u32],
@@ -458,13 +487,15 @@ fn negate(
     else {
         return part;
     };
-    let taken = live_step(
+    let held = here.held;
+    let valid = root_arrow(words, Table::VALID);
+    let taken = complement(
         words,
         counts,
-        stack,
         limits,
-        here.held,
-        Step::Not(a),
+        &stack[..held],
+        valid,
+        a,
         counted,
     );
     answer(taken, end)
@@ -552,7 +583,7 @@ fn bind(
     ensures { λ r. ⌜ BindPost limits (view (limits .rows) (now (words .entry))) (view (limits .rows) (now (words .exit))) (now (stack .entry)) (now (stack .exit)) (now (bytes .entry)) here body r × CountsOf (view (limits .rows) (now (words .exit))) (now (counts .exit)) ⌝ }
 {
     let held = here.held;
-    let mut current = start_of(body);
+    let mut current = start_of(body, root_arrow(words, Table::VALID));
     let mut counted = here.count;
     while counted.rounds < limits.rounds {
         stack[held] = current;

@@ -6,6 +6,7 @@ use calls::Collected;
 use calls::Started;
 use formula::Checked;
 use formula::check_formula;
+use formula_steps::Confined;
 use formula_steps::Loaded;
 use formula_steps::Stored;
 use layout::Refusal;
@@ -69,6 +70,18 @@ pub extern "C" fn kudzuclamp_relation(
             0
         }
         Loaded::Refused(e) => refusal_number(e),
+    }
+}
+
+// V, the states that exist, are those of a formula.
+#[no_mangle]
+pub extern "C" fn kudzuclamp_valid(words: &mut [u32], bytes: &[u8]) -> u32
+    ensures { λ k. ⌜ CallPost (book.valid (now (bytes .entry))) (now (words .entry)) (now (words .exit)) (given k 0 0 0) ⌝ }
+{
+    let x = formula_calls::valid(words, bytes);
+    match x {
+        Confined::Done => 0,
+        Confined::Refused(e) => refusal_number(e),
     }
 }
 

@@ -1,4 +1,4 @@
--- Version 2 reads every formula of version 1 as version 1 does; relation calls refuse it; and the 16 variables of the bytes are below 16. Assumes nothing.
+-- Version 2 reads every formula of version 1 as version 1 does; relation calls and valid refuse it; and the 16 variables of the bytes are below 16. Assumes nothing.
 use mathlib.Core.Path.{_≡_, refl, sym, ap, _∙_, subst}
 use mathlib.Core.Bool.{Bool, true, false, not, _&&_, cond}
 use mathlib.Core.List.{List}
@@ -10,12 +10,13 @@ use borrow.Author.Tests.{ltb-true}
 use Rattle.mucalculus.specs.Sets.{and-in}
 use Rattle.mucalculus.specs.Form.{Form, bot, top, neg, conj, disj, now, next, var, reg, box, dia, mu, nu, until}
 use Rattle.mucalculus.specs.Written.{absent}
-use Rattle.tokens.specs.Tokens.{grammarOf, allowed, leadAt}
-use Rattle.tokens.specs.declared.Kind.the-variants.{Relation}
+use Rattle.tokens.specs.Tokens.{secondOf, grammarOf, allowed, leadAt}
+use Rattle.tokens.specs.declared.Kind.{Kind}
+use Rattle.tokens.specs.declared.Kind.the-variants.{Relation, Valid}
 use Rattle.tokens.specs.declared.Reading.{Reading}
 use Rattle.tokens.specs.declared.Reading.the-variants.{Unknown}
 use Rattle.tokens.specs.declared.Grammar.{Grammar}
-use Rattle.tokens.specs.declared.Grammar.the-variants.{States, Runs}
+use Rattle.tokens.specs.declared.Grammar.the-variants.{Pairs, States, Runs, Bits}
 use Rattle.tokens.specs.declared.Leaf.the-variants.{False, True, Now, Next, Var, Reg}
 use Rattle.tokens.specs.declared.Mode.the-variants.{All, Some}
 use Rattle.tokens.specs.declared.Two.the-variants.{Join as Joins, Until}
@@ -46,30 +47,58 @@ allowed-runs n (Both (Until m t)) h = absurd (let z : _≡_ {A = ℕ} 0 1 = cc i
 allowed-runs n (Modal m t) h = h
 allowed-runs n (Binder x P) h = h
 
-module _ (n : ℕ) (bs : List ℕ) where
-  lead-runs : (at : ℕ) {t : Token} → leadAt n States bs at ≡ Is t → leadAt n Runs bs at ≡ Is t
-  lead-runs at {t} e = let r = lead-read n States bs at e in lead-is n Runs bs at t (r .inside) (r .token) (allowed-runs n t (r .taken-by))
+-- a relation's formula may have what valid's may
+allowed-bits : (n : ℕ) (t : Token) → allowed t n Bits ≡ true → allowed t n Pairs ≡ true
+allowed-bits n (LeafToken False) h = h
+allowed-bits n (LeafToken True) h = h
+allowed-bits n (LeafToken (Now p)) h = h
+allowed-bits n (LeafToken (Next p)) h = absurd (let z : _≡_ {A = ℕ} 0 1 = cc in omega arith)
+allowed-bits n (LeafToken (Var P)) h = h
+allowed-bits n (LeafToken (Reg r)) h = h
+allowed-bits n Not h = h
+allowed-bits n (Both (Joins j)) h = h
+allowed-bits n (Both (Until m t)) h = h
+allowed-bits n (Modal m t) h = h
+allowed-bits n (Binder x P) h = h
 
-  reads-runs : {d at : ℕ} {f : Form} {e : ℕ} → Reads n States bs d at f e → parse n Runs d bs at ≡ got f e
+-- a grammar with more tokens reads what one with fewer does
+module _ (n : ℕ) (g k : Grammar) (more : (t : Token) → allowed t n g ≡ true → allowed t n k ≡ true) (bs : List ℕ) where
+  lead-more : (at : ℕ) {t : Token} → leadAt n g bs at ≡ Is t → leadAt n k bs at ≡ Is t
+  lead-more at {t} e = let r = lead-read n g bs at e in lead-is n k bs at t (r .inside) (r .token) (more t (r .taken-by))
+
+  reads-more : {d at : ℕ} {f : Form} {e : ℕ} → Reads n g bs d at f e → parse n k d bs at ≡ got f e
   unfolding parse
-  reads-runs (leaf {d = d} {at = at} is) = ap (λ (x : Lead). grown x (at + 1) (parse n Runs d bs)) (lead-runs at is)
-  reads-runs (part {d = d} {at = at} {c = c} op is r) =
-      ap (λ (x : Lead). grown x (at + 1) (parse n Runs d bs)) (lead-runs at is) ∙ grown-unary op (at + 1) (parse n Runs d bs) ∙ ap (one c) (reads-runs r)
-  reads-runs (parts {d = d} {at = at} {j = j} {f = f} is r₁ r₂) =
-      ap (λ (x : Lead). grown x (at + 1) (parse n Runs d bs)) (lead-runs at is) ∙ ap (two (twoForm j) (parse n Runs d bs)) (reads-runs r₁) ∙ ap (one (twoForm j f)) (reads-runs r₂)
+  reads-more (leaf {d = d} {at = at} is) = ap (λ (x : Lead). grown x (at + 1) (parse n k d bs)) (lead-more at is)
+  reads-more (part {d = d} {at = at} {c = c} op is r) =
+      ap (λ (x : Lead). grown x (at + 1) (parse n k d bs)) (lead-more at is) ∙ grown-unary op (at + 1) (parse n k d bs) ∙ ap (one c) (reads-more r)
+  reads-more (parts {d = d} {at = at} {j = j} {f = f} is r₁ r₂) =
+      ap (λ (x : Lead). grown x (at + 1) (parse n k d bs)) (lead-more at is) ∙ ap (two (twoForm j) (parse n k d bs)) (reads-more r₁) ∙ ap (one (twoForm j f)) (reads-more r₂)
 
-  -- what version 1 reads, version 2 reads
-  pub parse-runs : (d at : ℕ) {f : Form} {e : ℕ} → parse n States d bs at ≡ got f e → parse n Runs d bs at ≡ got f e
-  parse-runs d at {f} {e} h = reads-runs (parse-reads n States bs d at f e h)
+  parse-more : (d at : ℕ) {f : Form} {e : ℕ} → parse n g d bs at ≡ got f e → parse n k d bs at ≡ got f e
+  parse-more d at {f} {e} h = reads-more (parse-reads n g bs d at f e h)
 
--- "Version 2 formulas, for set calls": a relation call refuses version 2 with 4
-pub relation-refused : (n : ℕ) (regs rels : ℕ → Bool) (bs : List ℕ) → getD bs 2 0 ≡ 2 → firstRefusal Relation n regs rels bs ≡ 4
+-- what version 1 reads, version 2 reads
+pub parse-runs : (n : ℕ) (bs : List ℕ) (d at : ℕ) {f : Form} {e : ℕ} → parse n States d bs at ≡ got f e → parse n Runs d bs at ≡ got f e
+parse-runs n bs = parse-more n States Runs (allowed-runs n) bs
+
+-- what valid reads, a relation call reads
+pub parse-bits : (n : ℕ) (bs : List ℕ) (d at : ℕ) {f : Form} {e : ℕ} → parse n Bits d bs at ≡ got f e → parse n Pairs d bs at ≡ got f e
+parse-bits n bs = parse-more n Bits Pairs (allowed-bits n) bs
+
+-- "Version 2 formulas, for set calls": a call of another kind refuses version 2 with 4
+version-refused : (k : Kind) → secondOf k ≡ Unknown → (n : ℕ) (regs rels : ℕ → Bool) (bs : List ℕ) → getD bs 2 0 ≡ 2 → firstRefusal k n regs rels bs ≡ 4
 unfolding firstRefusal formulaOf
-relation-refused n regs rels bs two = ap (λ (r : Reading). refusalOf regs rels (formulaBy n bs r)) (go (framed bs))
+version-refused k none n regs rels bs two = ap (λ (r : Reading). refusalOf regs rels (formulaBy n bs r)) (go (framed bs))
   where
-    go : (c : Bool) → cond c (grammarOf Relation (getD bs 2 0)) Unknown ≡ Unknown
-    go true = ap (grammarOf Relation) two
+    go : (c : Bool) → cond c (grammarOf k (getD bs 2 0)) Unknown ≡ Unknown
+    go true = ap (grammarOf k) two ∙ none
     go false = refl
+
+pub relation-refused : (n : ℕ) (regs rels : ℕ → Bool) (bs : List ℕ) → getD bs 2 0 ≡ 2 → firstRefusal Relation n regs rels bs ≡ 4
+relation-refused = version-refused Relation refl
+
+pub valid-refused : (n : ℕ) (regs rels : ℕ → Bool) (bs : List ℕ) → getD bs 2 0 ≡ 2 → firstRefusal Valid n regs rels bs ≡ 4
+valid-refused = version-refused Valid refl
 
 -- ---- variables
 

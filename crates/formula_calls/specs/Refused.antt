@@ -64,7 +64,7 @@ module _ (ws : List ℕ) (s : SoundWords ws) where
   checks-told k bs i e h = checks-read k bs i e ∙ ap numberOf h
 
   -- a call that the book refuses with the refusal's number
-  refused-by : (c : Call) (x : Refusal) → ((k : ℕ) → refusalNumber x ≡ suc k → does b c ≡ refuse b (suc k)) → CallPost c ws ws (plain (refusalNumber x))
+  pub refused-by : (c : Call) (x : Refusal) → ((k : ℕ) → refusalNumber x ≡ suc k → does b c ≡ refuse b (suc k)) → CallPost c ws ws (plain (refusalNumber x))
   refused-by c x h = go (refusalNumber x) refl
     where
       go : (k : ℕ) → refusalNumber x ≡ k → CallPost c ws ws (plain k)

@@ -1,31 +1,32 @@
--- SET and RELATION: from what the evaluators leave, a root stored, and a collection afterwards, to the calls' contracts. Assumes
+-- SET, RELATION and VALID: from what the evaluators leave, a root stored, and a collection afterwards, to the calls' contracts. Assumes
 -- nothing.
 use mathlib.Core.Path.{_≡_, refl, ap, sym, _∙_, subst}
 use mathlib.Core.Bool.{Bool, true, false, cond, _&&_, _||_, true≢false}
 use mathlib.Core.Logic.{_≢_}
 use mathlib.Core.List.{List}
 use mathlib.Core.Option.{some}
-use Prim.Native.Nat.{ℕ, suc, _+_, _<_}
+use Prim.Native.Nat.{ℕ, suc, _+_, _-_, _<_}
 use native.Mathlib.Omega.{arith}
 use lib.Dec.{T, eqb}
 use borrow.Author.Tests.{ne-eqb, eq-eqb, eqb-true, eqb-false}
 use Rattle.mucalculus.specs.Form.{put}
 use Rattle.diagram.specs.Collect.{Collects}
 use Rattle.layout.specs.Refusals.{keepsAll}
-use Rattle.layout.specs.Places.{REGISTERS, RELATIONS, BITS, ROWS, USED, CURSOR, SLOTS, STORED, SPARE, FIRST-REGISTER, FIRST-RELATION}
+use Rattle.layout.specs.Places.{REGISTERS, RELATIONS, BITS, ROWS, USED, CURSOR, SLOTS, STORED, SPARE, VALID, FIRST-REGISTER, FIRST-RELATION}
 use Rattle.layout.specs.View.{View, view, headerOf, putHeader}
 use Rattle.layout.specs.Same.{same-beyond}
 use Rattle.soundness.specs.Used.{rowsOf}
 use Rattle.soundness.specs.Sound.{Good, Sound, tableOf}
 use Rattle.soundness.specs.Filled.{filled}
 use Rattle.table.specs.Store.{rows-kept, good-store}
-use Rattle.book.specs.Book.{Book, Call, relation, set, clear, collect}
+use Rattle.book.specs.Book.{Book, Call, relation, set, valid, clear, collect}
+use Rattle.book.specs.Stored.{whole-does}
 use Rattle.book.specs.Table.{Table, Reply, Serves}
 use Rattle.book.specs.Alike.{Alike, alike-serves}
-use Rattle.book.specs.BookOf.{bookOf, sound-shows}
-use Rattle.book.specs.Leaves.{withRows, storeReg, storeRel}
+use Rattle.book.specs.BookOf.{bookOf, whole-bookOf, sound-shows}
+use Rattle.book.specs.Leaves.{withRows, storeReg, storeRel, storeValid}
 use Rattle.book.specs.Calls.{tidied-serves}
-use Rattle.contract.specs.Seen.{arrowIn, seenIn, seen, SoundWords, table-sound}
+use Rattle.contract.specs.Seen.{arrowIn, seenIn, seen, SoundWords, sound-table, table-sound}
 use Rattle.contract.specs.Kept.{Exact, freeWord, target, changes}
 use Rattle.contract.specs.Posts.{CallPost}
 use Rattle.contract.specs.Roots.{collects-roots}
@@ -107,6 +108,7 @@ and-no false = refl
 rows-stays : (c : Call) (y : Reply) → changes c y ROWS ≡ false
 rows-stays (relation t bs) y = let z : eqb ROWS (FIRST-RELATION + t) ≡ false = ne-eqb ROWS (FIRST-RELATION + t) (omega arith) in rw z (and-no (eqb (y .number) 0))
 rows-stays (set acc r R bs) y = let z : eqb ROWS (FIRST-REGISTER + r) ≡ false = ne-eqb ROWS (FIRST-REGISTER + r) (omega arith) in rw z (and-no (eqb (y .number) 0))
+rows-stays (valid bs) y = and-no (eqb (y .number) 0)
 rows-stays (clear r) y = let z : eqb ROWS (FIRST-REGISTER + r) ≡ false = ne-eqb ROWS (FIRST-REGISTER + r) (omega arith) in rw z (and-no (eqb (y .number) 0))
 rows-stays collect y = and-no (eqb (y .number) 0)
 
@@ -117,6 +119,7 @@ pub rows-seen : (W X : View) → OpFrame W X → Alike (withRows (seenIn W) (row
 rows-seen W X f = record {
   n = f .header BITS (omega arith) (omega arith) (omega arith) (omega arith);
   N = f .rows;
+  valid = ap (λ (w : ℕ). w - 1) (f .header VALID (omega arith) (omega arith) (omega arith) (omega arith));
   rows = refl;
   reg = λ r l. ap arrowIn (f .header (FIRST-REGISTER + r) (omega arith) (omega arith) (omega arith) (omega arith));
   rel = λ t l. ap arrowIn (f .header (FIRST-RELATION + t) (omega arith) (omega arith) (omega arith) (omega arith));
@@ -143,6 +146,7 @@ module _ (X : View) (r a : ℕ) (l : r < REGISTERS) where
   register-seen = record {
     n = other-put X (FIRST-REGISTER + r) (suc a) BITS (omega arith);
     N = refl;
+    valid = ap (λ (w : ℕ). w - 1) (other-put X (FIRST-REGISTER + r) (suc a) VALID (omega arith));
     rows = rows-kept X (FIRST-REGISTER + r) (suc a) (omega arith) (omega arith) (omega arith) (omega arith);
     reg = λ q _. root-put X FIRST-REGISTER r a q;
     rel = λ t _. ap arrowIn (other-put X (FIRST-REGISTER + r) (suc a) (FIRST-RELATION + t) (omega arith));
@@ -160,6 +164,7 @@ module _ (X : View) (t a : ℕ) (l : t < RELATIONS) where
   relation-seen = record {
     n = other-put X (FIRST-RELATION + t) (suc a) BITS (omega arith);
     N = refl;
+    valid = ap (λ (w : ℕ). w - 1) (other-put X (FIRST-RELATION + t) (suc a) VALID (omega arith));
     rows = rows-kept X (FIRST-RELATION + t) (suc a) (omega arith) (omega arith) (omega arith) (omega arith);
     reg = λ q k. ap arrowIn (other-put X (FIRST-RELATION + t) (suc a) (FIRST-REGISTER + q) (omega arith));
     rel = λ q k. root-put X FIRST-RELATION t a q;
@@ -168,9 +173,37 @@ module _ (X : View) (t a : ℕ) (l : t < RELATIONS) where
   pub relation-good : Good X → Good (relationStored X t a)
   relation-good g = good-store X (FIRST-RELATION + t) (suc a) (omega arith) (omega arith) (omega arith) (omega arith) g
 
+-- V's word stays where another root is written
+pub valid-other : (X : View) (h a : ℕ) → VALID ≢ h → X .header VALID ≢ 0 → putHeader X h (suc a) .header VALID ≢ 0
+valid-other X h a n v e = v (sym (other-put X h (suc a) VALID n) ∙ e)
+
+-- V is arrow a
+abbrev pub validStored : View → ℕ → View
+validStored X a = putHeader X VALID (suc a)
+
+module _ (X : View) (a : ℕ) where
+  here-put : putHeader X VALID (suc a) .header VALID ≡ suc a
+  here-put = refl
+
+  pub valid-seen : Alike (storeValid (seenIn X) a) (seenIn (validStored X a))
+  valid-seen = record {
+    n = other-put X VALID (suc a) BITS (omega arith);
+    N = refl;
+    valid = let e = here-put in omega arith;
+    rows = rows-kept X VALID (suc a) (omega arith) (omega arith) (omega arith) (omega arith);
+    reg = λ q k. ap arrowIn (other-put X VALID (suc a) (FIRST-REGISTER + q) (omega arith));
+    rel = λ q k. ap arrowIn (other-put X VALID (suc a) (FIRST-RELATION + q) (omega arith));
+  }
+
+  pub valid-good : Good X → Good (validStored X a)
+  valid-good g = good-store X VALID (suc a) (omega arith) (omega arith) (omega arith) (omega arith) g
+
+  pub valid-some : validStored X a .header VALID ≢ 0
+  valid-some e = let h = here-put in omega arith
+
 -- ---- the call
 
--- what the collection afterwards leaves of a table: nothing was freed, or what no register and no relation needs
+-- what the collection afterwards leaves of a table: nothing was freed, or what V, the registers and the relations do not need
 pub data Tidied (Y Z : View) : Type 0 where
   as-it-was : Z ≡ Y → Tidied Y Z
   freed : Good Z → OpFrame Y Z → Collects (rowsOf Y) (rowsOf Z) (filled Y) → Tidied Y Z
@@ -180,35 +213,42 @@ tidied-by (few e) = as-it-was e
 tidied-by (many p) = freed (p .sound .good) (op-made (p .frame)) (p .collects)
 
 -- a call that serves up to its collection serves with it
-pub tidied-served : (b : Book) (c : Call) (t : Table) (y : Reply) {Y Z : View} → Good Y → Tidied Y Z → Serves b c t (seenIn Y) y → Good Z × Serves b c t (seenIn Z) y
-tidied-served b c t y {Y} {Z} g (as-it-was e) s = (subst Good (sym e) g, subst (λ (x : View). Serves b c t (seenIn x) y) (sym e) s)
-tidied-served b c t y {Y} {Z} g (freed h f k) s = (h, alike-serves (rows-seen Y Z f) b c t y (tidied-serves b c t (seenIn Y) y (rowsOf Z) s (collects-roots Y k)))
+pub tidied-served : (b : Book) (c : Call) (t : Table) (y : Reply) {Y Z : View} → Good Y → Y .header VALID ≢ 0 → Tidied Y Z → Serves b c t (seenIn Y) y
+    → Good Z × (Z .header VALID ≢ 0) × Serves b c t (seenIn Z) y
+tidied-served b c t y {Y} {Z} g n (as-it-was e) s = (subst Good (sym e) g, subst (λ (x : View). x .header VALID ≢ 0) (sym e) n, subst (λ (x : View). Serves b c t (seenIn x) y) (sym e) s)
+tidied-served b c t y {Y} {Z} g n (freed h f k) s = (
+  h,
+  λ e. n (sym (f .header VALID (omega arith) (omega arith) (omega arith) (omega arith)) ∙ e),
+  alike-serves (rows-seen Y Z f) b c t y (tidied-serves b c t (seenIn Y) y (rowsOf Z) s (collects-roots Y n k)),
+)
 
 -- and what it leaves of the words
 pub tidied-left : (c : Call) (y : Reply) {W Y Z : View} → Tidied Y Z → Left c y W Y → Left c y W Z
 tidied-left c y {W} (as-it-was e) l = subst (Left c y W) (sym e) l
 tidied-left c y (freed g f k) l = left-op c y l f
 
--- neither set nor relation settles all words
+-- set, relation and valid do not settle all words
 abbrev pub takesFormula : Call → Type 0
 takesFormula (relation t bs) = Unit {0}
 takesFormula (set acc r R bs) = Unit {0}
+takesFormula (valid bs) = Unit {0}
 takesFormula (clear r) = ⊥
 takesFormula collect = ⊥
 
 exact-of : (c : Call) (y : Reply) (old new : List ℕ) → takesFormula c → Exact c y old new
 exact-of (relation t bs) y old new k = tt
 exact-of (set acc r R bs) y old new k = tt
+exact-of (valid bs) y old new k = tt
 exact-of (clear r) y old new k = absurd k
 exact-of collect y old new k = absurd k
 
--- SET OR RELATION after its checks: the words `new` hold a table that serves the book, and no word changed that must not
+-- SET, RELATION OR VALID after its checks: the words `new` hold a table that serves the book, and no word changed that must not
 pub formula-done : (c : Call) (y : Reply) (old new : List ℕ) → takesFormula c → (T (keepsAll (y .number)) → ⊥) → SoundWords old
-    → (Z : View) → view (headerOf old ROWS) new ≡ Z → Good Z → Left c y (tableOf old) Z → Serves (bookOf (seen old)) c (seen old) (seenIn Z) y → CallPost c old new y
-formula-done c y old new k late s Z is g l d = record {
+    → (Z : View) → view (headerOf old ROWS) new ≡ Z → Good Z → Z .header VALID ≢ 0 → Left c y (tableOf old) Z → Serves (bookOf (seen old)) c (seen old) (seenIn Z) y → CallPost c old new y
+formula-done c y old new k late s Z is g n l d = record {
   performs = record {
     unsound = λ n. absurd (n s);
-    served = λ _. (subst Sound (sym table) (table-sound Z g (sound-shows _ (seenIn Z) (d .shows))), subst (λ (v : View). Serves (bookOf (seen old)) c (seen old) (seenIn v) y) (sym table) d);
+    served = λ _. (subst Sound (sym table) (table-sound Z g n (sound-shows _ (seenIn Z) (whole-does (bookOf (seen old)) c (whole-bookOf (seen old) (sound-table (tableOf old) s))) (d .shows))), subst (λ (v : View). Serves (bookOf (seen old)) c (seen old) (seenIn v) y) (sym table) d);
   };
   kept = λ _. record {
     all = λ a. absurd (late a);

@@ -9,7 +9,7 @@ use Rattle.accounts.specs.declared.Terms.{Terms}
 use Rattle.accounts.specs.Terms.{named, rowsUnder, roundsUnder}
 use Rattle.accounts.specs.declared.Count.{Count}
 use Rattle.layout.specs.Refusals.{keepsAll}
-use Rattle.layout.specs.Places.{REGISTERS, MAX-ROWS, BITS, ROWS, wordsFor, FIRST-REGISTER, FIRST-RELATION}
+use Rattle.layout.specs.Places.{REGISTERS, MAX-ROWS, BITS, ROWS, wordsFor, VALID, FIRST-REGISTER, FIRST-RELATION}
 use Rattle.layout.specs.View.{View, view, headerOf, putHeader}
 use Rattle.layout.specs.declared.Refusal.the-variants as refusal
 use Rattle.tokens.specs.declared.Kind.the-variants as kind
@@ -28,13 +28,15 @@ use Rattle.evaluator.specs.Scene.{endedOf}
 use Rattle.evaluator.specs.Whole.{SetPre, SetPost}
 use Rattle.evaluator.specs.declared.Evaluated.{Evaluated}
 use Rattle.evaluator.specs.declared.Evaluated.the-variants.{Value, Full, Spent}
-use Rattle.formula_steps.specs.Evaluated.{registerStored, relationStored, Tidied}
+use Rattle.formula_steps.specs.Evaluated.{registerStored, relationStored, validStored, Tidied}
 use Rattle.formula_steps.specs.Ends.{Through, through-sound, through-done, SetEnds, set-value, set-full, set-spent}
-use Rattle.formula_steps.specs.Replies.{storedReply, loadedReply}
+use Rattle.formula_steps.specs.Replies.{storedReply, loadedReply, confinedReply}
 use Rattle.formula_steps.specs.declared.Stored.{Stored}
 use Rattle.formula_steps.specs.declared.Stored.the-variants as stored
 use Rattle.formula_steps.specs.declared.Loaded.{Loaded}
 use Rattle.formula_steps.specs.declared.Loaded.the-variants as loaded
+use Rattle.formula_steps.specs.declared.Confined.{Confined}
+use Rattle.formula_steps.specs.declared.Confined.the-variants as confined
 
 -- an arrow whose word fits
 abbrev pub Holds : Evaluated → Type 0
@@ -66,7 +68,16 @@ abbrev pub relationLoaded : View → ℕ → Taken → View
 relationLoaded X t (taken.At a q) = relationStored X t a
 relationLoaded X t taken.Full = X
 
--- neither ends in one of the checks' numbers
+-- valid's answer, and the words with V's arrow
+abbrev pub confinedOf : Taken → Confined
+confinedOf (taken.At a q) = confined.Done
+confinedOf taken.Full = confined.Refused refusal.Full
+
+abbrev pub validConfined : View → Taken → View
+validConfined X (taken.At a q) = validStored X a
+validConfined X taken.Full = X
+
+-- none ends in one of the checks' numbers
 stored-late : (y : Evaluated) → T (keepsAll (storedReply (storedOf y) .number)) → ⊥
 stored-late (Value a k q) h = h
 stored-late Full h = h
@@ -76,7 +87,11 @@ pub loaded-late : (y : Taken) → T (keepsAll (loadedReply (loadedOf y) .number)
 loaded-late (taken.At a q) h = h
 loaded-late taken.Full h = h
 
--- ---- the steps of `store_set` and `store_relation`
+pub confined-late : (y : Taken) → T (keepsAll (confinedReply (confinedOf y) .number)) → ⊥
+confined-late (taken.At a q) h = h
+confined-late taken.Full h = h
+
+-- ---- the steps of `store_set`, `store_relation` and `store_valid`
 
 pub holds-fits : {y : Evaluated} {a k : ℕ} {q : Count} → y ≡ Value a k q → Holds y → suc a < 4_294_967_296
 holds-fits e h = subst Holds e h
@@ -100,6 +115,13 @@ module _ (X : View) (r : ℕ) where
 
   pub loaded-value : {y : Taken} {a : ℕ} {q : Count} {Z : View} → y ≡ taken.At a q → Z ≡ putHeader X (FIRST-RELATION + r) (a + 1) → (loaded.Done (q .peak) ≡ loadedOf y) × (Z ≡ relationLoaded X r y)
   loaded-value {a = a} {q = q} {Z = Z} e n = subst (λ (y : Taken). (loaded.Done (q .peak) ≡ loadedOf y) × (Z ≡ relationLoaded X r y)) (sym e) (refl, n ∙ ap (λ (x : ℕ). putHeader X (FIRST-RELATION + r) x) (omega arith))
+
+module _ (X : View) where
+  pub confined-full : {y : Taken} → y ≡ taken.Full → (confined.Refused refusal.Full ≡ confinedOf y) × (X ≡ validConfined X y)
+  confined-full e = rw e (refl, refl)
+
+  pub confined-value : {y : Taken} {a : ℕ} {q : Count} {Z : View} → y ≡ taken.At a q → Z ≡ putHeader X VALID (a + 1) → (confined.Done ≡ confinedOf y) × (Z ≡ validConfined X y)
+  confined-value {a = a} {Z = Z} e n = subst (λ (y : Taken). (confined.Done ≡ confinedOf y) × (Z ≡ validConfined X y)) (sym e) (refl, n ∙ ap (λ (x : ℕ). putHeader X VALID x) (omega arith))
 
 -- an arrow's word fits
 fits-to : {m N : ℕ} {rows : Rows} → WellFormed m N rows → N ≤ MAX-ROWS → (a k : ℕ) → target a ≡ k → ArrowTo rows k → suc a < 4_294_967_296
@@ -157,7 +179,7 @@ module _ {old bs : List ℕ} {acc : Terms} {r rows n limit most : ℕ} (p : SetR
     module _ (after : List ℕ) (e : view rows after ≡ setStored (view rows mid) r y) where
       -- what `tidy` asks
       pub set-tidying : Sound (view rows after)
-      set-tidying = subst Sound (sym e) (rw er (through-sound through))
+      set-tidying = subst Sound (sym e) (rw er (through-sound (p .sound) through))
 
       -- the call
       pub set-done : {x : Stored} → x ≡ storedOf y → (new : List ℕ) → Tidied (view rows after) (view rows new) → CallPost (set acc r R bs) old new (storedReply x)

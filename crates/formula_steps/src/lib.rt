@@ -12,6 +12,7 @@ use layout::header_word;
 use layout::put_header;
 use modal::Limits;
 use pairs::evaluate_pairs;
+use pairs::evaluate_relation;
 ghost use mathlib.Core.Path.{_≡_};
 ghost use Prim.Native.Nat.{_<_, _≤_};
 ghost use lib.ListN.{length};
@@ -21,9 +22,9 @@ ghost use Rattle.soundness.specs.Sound.{Sound};
 ghost use Rattle.book.specs.Book as book;
 ghost use Rattle.formula_steps.specs.Evaluated.{Tidied};
 ghost use Rattle.contract.specs.Posts.{CallPost};
-ghost use Rattle.formula_steps.specs.Load.{RelationReady};
-ghost use Rattle.formula_steps.specs.Replies.{storedReply, loadedReply};
-ghost use Rattle.formula_steps.specs.Store.{SetReady, Holds, storedOf, setStored, Carries, loadedOf, relationLoaded};
+ghost use Rattle.formula_steps.specs.Load.{RelationReady, ValidReady};
+ghost use Rattle.formula_steps.specs.Replies.{storedReply, loadedReply, confinedReply};
+ghost use Rattle.formula_steps.specs.Store.{SetReady, Holds, storedOf, setStored, Carries, loadedOf, relationLoaded, confinedOf, validConfined};
 
 // What set answers: the node number, the rounds and the peak.
 pub enum Stored {
@@ -34,6 +35,12 @@ pub enum Stored {
 // What relation answers: the peak.
 pub enum Loaded {
     Done { peak: u32 },
+    Refused(Refusal),
+}
+
+// What valid answers.
+pub enum Confined {
+    Done,
     Refused(Refusal),
 }
 
@@ -121,8 +128,41 @@ pub fn relation_steps(words: &mut [u32], t: u32, bytes: &[u8]) -> Loaded
         rounds: 0,
     };
     let before = header_word(words, Table::USED);
-    let done = evaluate_pairs(words, limits, bytes);
+    let done = evaluate_relation(words, limits, bytes);
     let answer = store_relation(words, total, t, done);
+    tidy(words, total, before);
+    answer
+}
+
+// Stores what an evaluation gave as V.
+fn store_valid(words: &mut [u32], rows: u32, done: Taken) -> Confined
+    requires { ⌜ (wordsFor rows ≤ length (now words)) × Carries done ⌝ }
+    ensures { λ x. ⌜ (x ≡ confinedOf done) × (view rows (now (words .exit)) ≡ validConfined (view rows (now (words .entry))) done) ⌝ }
+{
+    match done {
+        Taken::Full => Confined::Refused(Refusal::Full),
+        Taken::At { arrow: a, count: _ } => {
+            put_header(words, rows, Table::VALID, a + 1);
+            Confined::Done
+        }
+    }
+}
+
+// Evaluates valid's checked formula, makes its states V, and frees rows where many are not needed any more.
+pub fn valid_steps(words: &mut [u32], bytes: &[u8]) -> Confined
+    requires { ⌜ ValidReady (now words) (now bytes) ⌝ }
+    ensures { λ x. ⌜ CallPost (book.valid (now (bytes .entry))) (now (words .entry)) (now (words .exit)) (confinedReply x) ⌝ }
+{
+    let total = header_word(words, Table::ROWS);
+    let limits = Limits {
+        bits: header_word(words, Table::BITS),
+        rows: total,
+        limit: total,
+        rounds: 0,
+    };
+    let before = header_word(words, Table::USED);
+    let done = evaluate_pairs(words, limits, bytes);
+    let answer = store_valid(words, total, done);
     tidy(words, total, before);
     answer
 }

@@ -49,14 +49,17 @@ SLOTS = 5
 abbrev pub STORED : ℕ
 STORED = 6
 
--- which layout the words have, and the number of this one, in which arrows may carry a NOT
+-- which layout the words have, and the number of this one, in which arrows may carry a NOT and V is a root
 abbrev pub LAYOUT : ℕ
 LAYOUT = 7
 
-abbrev pub MARKED : ℕ
-MARKED = 2
+abbrev pub CURRENT : ℕ
+CURRENT = 3
 
--- the roots: registers, then relations
+-- the roots: V, the set of states that exist, then registers, then relations
+abbrev pub VALID : ℕ
+VALID = 15
+
 abbrev pub FIRST-REGISTER : ℕ
 FIRST-REGISTER = 16
 
@@ -68,7 +71,11 @@ ROOTS-END = 56
 
 -- how many roots there are
 abbrev pub ROOTS : ℕ
-ROOTS = 40
+ROOTS = 41
+
+-- V's root where V is every state: one more than arrow 1, everything
+abbrev pub ALL-STATES : ℕ
+ALL-STATES = 2
 
 -- a row's words: low arrow, high arrow, level
 abbrev pub LOW : ℕ

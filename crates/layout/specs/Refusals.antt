@@ -4,13 +4,15 @@ use native.Mathlib.Omega.{arith}
 use mathlib.Core.Bool.{Bool, _&&_, _||_}
 use lib.Dec.{leb}
 use Rattle.layout.specs.declared.Refusal.{Refusal}
-use Rattle.layout.specs.declared.Refusal.the-variants.{Sizes, Unsound, Range, Syntax, Unbound, Vacuous, Odd, Empty, Full, Spent, NoRun, Short, Unlisted}
+use Rattle.layout.specs.declared.Refusal.the-variants.{Sizes, Unsound, Occupied, Range, Syntax, Unbound, Vacuous, Odd, Empty, Full, Spent, NoRun, Short, Unlisted}
 
 abbrev pub refusalNumber : Refusal → ℕ
 -- "fresh: n, N or slice length"
 refusalNumber Sizes = 1
 -- "table unsound"
 refusalNumber Unsound = 2
+-- "valid while a register or relation is filled"
+refusalNumber Occupied = 13
 -- "register, relation or state number out of range"
 refusalNumber Range = 3
 -- "bytes not a formula for this call"
@@ -42,6 +44,7 @@ keepsAll k = (leb 1 k && leb k 7) || (leb 12 k && leb k 14)
 pub refusal-some : (x : Refusal) → 1 ≤ refusalNumber x
 refusal-some Sizes = omega arith
 refusal-some Unsound = omega arith
+refusal-some Occupied = omega arith
 refusal-some Range = omega arith
 refusal-some Syntax = omega arith
 refusal-some Unbound = omega arith

@@ -56,14 +56,20 @@ impl Table {
 
     pub const LAYOUT: usize = 7;
 
+    // The roots: V's, the registers', the relations'.
+    pub const VALID: usize = 15;
+
     pub const FIRST_REGISTER: usize = 16;
 
     pub const FIRST_RELATION: usize = 48;
 
     pub const ROOTS_END: usize = 56;
 
-    // What the layout's word has: arrows carry a NOT. Words of the first layout have 0 there.
-    pub const MARKED: u32 = 2;
+    // What the layout's word has: arrows carry a NOT, and V is a root. Words of the layouts before have 0 or 2 there.
+    pub const CURRENT: u32 = 3;
+
+    // V's root where V is every state.
+    pub const ALL_STATES: u32 = 2;
 
     // Words of a row.
     pub const LOW: usize = 0;
@@ -94,7 +100,8 @@ impl Table {
         let mut words = [0u32; Table::HEADER];
         words[Table::BITS] = bits;
         words[Table::ROWS] = rows;
-        words[Table::LAYOUT] = Table::MARKED;
+        words[Table::LAYOUT] = Table::CURRENT;
+        words[Table::VALID] = Table::ALL_STATES;
         words
     }
 }
@@ -116,6 +123,7 @@ impl Hash {
 pub enum Refusal {
     Sizes,
     Unsound,
+    Occupied,
     Range,
     Syntax,
     Unbound,
@@ -136,6 +144,7 @@ pub fn refusal_number(r: Refusal) -> u32
     match r {
         Refusal::Sizes => 1,
         Refusal::Unsound => 2,
+        Refusal::Occupied => 13,
         Refusal::Range => 3,
         Refusal::Syntax => 4,
         Refusal::Unbound => 5,

@@ -1,3 +1,4 @@
 pub mod Lists
 pub mod Howls
 pub mod Untils
+pub mod Valids

@@ -4,7 +4,7 @@ use mathlib.Core.Bool.{Bool, true, false}
 use mathlib.Core.List.{List, [], _∷_}
 use mathlib.Core.Option.{none, some}
 use Rattle.mucalculus.specs.Sets.{bitLists}
-use Rattle.mucalculus.specs.Form.{Form, top, now, conj, until, Pairs, Model, noEnv}
+use Rattle.mucalculus.specs.Form.{Form, bot, top, now, conj, box, until, Pairs, Model, noEnv}
 use Rattle.mucalculus.specs.Runs.{counts, walks, untilSet}
 use Rattle.mucalculus.specs.Means.{means}
 use Rattle.mucalculus.specs.Written.{written}
@@ -65,7 +65,7 @@ whole-some = refl
 -- ---- as formulas: true until bit 0 and bit 1
 
 abbrev room : Model
-room = record { n = 2; rel = λ t. some fork; reg = λ r. none }
+room = record { n = 2; valid = everybody; rel = λ t. some fork; reg = λ r. none }
 
 abbrev goal : Form
 goal = conj (now 0) (now 1)
@@ -76,3 +76,21 @@ room-every = refl
 pub room-written : means room noEnv (written false 0 5 top goal) ≡ false ∷ true ∷ false ∷ true ∷ []
 unfolding bitLists
 room-written = refl
+
+-- ---- where state 3 does not exist: state 1, which led to it alone, leads nowhere
+
+abbrev selector : Model
+selector = record { n = 2; valid = true ∷ true ∷ true ∷ false ∷ []; rel = λ t. some fork; reg = λ r. none }
+
+pub selector-dead : means selector noEnv (box 0 bot) ≡ false ∷ true ∷ true ∷ false ∷ []
+selector-dead = refl
+
+pub selector-some : means selector noEnv (until true 0 top (now 0)) ≡ true ∷ true ∷ false ∷ false ∷ []
+selector-some = refl
+
+pub selector-every : means selector noEnv (until false 0 top (now 0)) ≡ false ∷ true ∷ false ∷ false ∷ []
+selector-every = refl
+
+pub selector-written : means selector noEnv (written false 0 5 top (now 0)) ≡ false ∷ true ∷ false ∷ false ∷ []
+unfolding bitLists
+selector-written = refl

@@ -26,14 +26,14 @@ use Rattle.counting.specs.Taken.{madeIn, countIn, Counted}
 use Rattle.counting.specs.declared.Taken.{Taken}
 use Rattle.counting.specs.declared.Taken.the-variants as taken
 use Rattle.book.specs.Ticks.{existsNeeds, diamondNeeds, counted, full as fullVerdict}
-use Rattle.book.specs.Run.{value, full as fullRun, existsSteps}
-use Rattle.book.specs.Diamond.{existsNext, diamondF, boxF}
-use Rattle.book.specs.Verdicts.{fit, needingAll, fit-append, count-append, settle, steps-verdict, exists-ticks}
+use Rattle.book.specs.Run.{needingAll, value, full as fullRun, existsSteps}
+use Rattle.book.specs.Diamond.{existsNext, diamondF}
+use Rattle.book.specs.Verdicts.{fit, fit-append, count-append, settle, steps-verdict, exists-ticks}
 use Rattle.book.specs.Held.{Held, denoted, held-arrow, held-push, held-operand, held-keeps}
 use Rattle.book.specs.Pairs.{PairMatches}
 use Rattle.book.specs.Modal.{Quantifies, quantify-start, quantify-on, quantify-out, quantify-end}
 use Rattle.modal.specs.Chain.{alike-cons, alike-once, held-alike, denotes-own, held-own, Base, Moved, moved-refl, moved-trans, base-next, base-wf, step-pre, Took, Ran, ran-step, ran-stop, ran-kept, ran-value, ran-then}
-use Rattle.modal.specs.Modal.{boxedNeeds, Chained, QuantifyPre, ModalPre, QuantifyPost, DiamondPost, BoxPost}
+use Rattle.modal.specs.Modal.{withinNot, complementNeeds, boxedF, Chained, QuantifyPre, ModalPre, ComplementPre, BoxPre, QuantifyPost, DiamondPost, ComplementPost, BoxPost}
 
 -- ---- the loop of EXISTS
 
@@ -152,18 +152,21 @@ and-true : (b : Bool) → (b && true) ≡ b
 and-true true = refl
 and-true false = refl
 
--- the needs of box fit where those of its three parts do, and are counted one after the other
-box-chain : {n N : ℕ} (limit : ℕ) {W X : View} {roots : List ℕ} (R F : Fn) {G : Fn} (q : Count) {o : Taken} (fs : List Fn)
-    → Ran n N W X roots (leb (stepNeed (2 * n) (F ∷ fs) (notF F)) limit && (fit limit (diamondNeeds n fs R (notF F)) && leb (stepNeed (2 * n) (diamondF n R (notF F) ∷ fs) (notF (diamondF n R (notF F)))) limit)) G
-    (needing (needingAll (needing q (stepNeed (2 * n) (F ∷ fs) (notF F))) (diamondNeeds n fs R (notF F))) (stepNeed (2 * n) (diamondF n R (notF F) ∷ fs) (notF (diamondF n R (notF F))))) o
-    → Ran n N W X roots (fit limit (boxedNeeds n fs R F)) G (needingAll q (boxedNeeds n fs R F)) o
-box-chain {n} {N} limit {W} {X} {roots} R F {G} q {o} fs r =
-    let k = stepNeed (2 * n) (diamondF n R (notF F) ∷ fs) (notF (diamondF n R (notF F))) in
-    let first = stepNeed (2 * n) (F ∷ fs) (notF F) in
-    let e = ap (λ (b : Bool). fit limit (diamondNeeds n fs R (notF F)) && b) (sym (and-true (leb k limit))) ∙ sym (fit-append limit (diamondNeeds n fs R (notF F)) (k ∷ [])) in
-    subst (λ (b : Bool). Ran n N W X roots (leb first limit && b) G (needingAll q (boxedNeeds n fs R F)) o) e
-    (subst (λ (c : Count). Ran n N W X roots (leb first limit && (fit limit (diamondNeeds n fs R (notF F)) && leb k limit)) G c o)
-    (sym (count-append (needing q first) (diamondNeeds n fs R (notF F)) (k ∷ []))) r)
+appended : {n N : ℕ} (limit : ℕ) {W X : View} {roots : List ℕ} {G : Fn} (q : Count) {o : Taken} (xs ys : List ℕ)
+    → Ran n N W X roots (fit limit xs && fit limit ys) G (needingAll (needingAll q xs) ys) o → Ran n N W X roots (fit limit (xs ++ ys)) G (needingAll q (xs ++ ys)) o
+appended {n} {N} limit {W} {X} {roots} {G} q {o} xs ys r =
+    subst (λ (b : Bool). Ran n N W X roots b G (needingAll q (xs ++ ys)) o) (sym (fit-append limit xs ys))
+    (subst (λ (c : Count). Ran n N W X roots (fit limit xs && fit limit ys) G c o) (sym (count-append q xs ys)) r)
+
+-- a chain of steps after another
+chain-then : {n N : ℕ} (limit : ℕ) {W X Y : View} {roots : List ℕ} {F G : Fn} (q : Count) {o u : Taken} (xs ys : List ℕ) {a : ℕ} {p : Count} → o ≡ taken.At a p
+    → Ran n N W X roots (fit limit xs) F (needingAll q xs) o → Ran n N X Y roots (fit limit ys) G (needingAll p ys) u → Ran n N W Y roots (fit limit (xs ++ ys)) G (needingAll q (xs ++ ys)) u
+chain-then limit q xs ys e r s = appended limit q xs ys (ran-then e r (λ c. needingAll c ys) s)
+
+-- the first chain stopped
+chain-stop : {n N : ℕ} (limit : ℕ) {W X : View} {roots : List ℕ} {F : Fn} (G : Fn) (q : Count) {o : Taken} (xs ys : List ℕ) → o ≡ taken.Full
+    → Ran n N W X roots (fit limit xs) F (needingAll q xs) o → Ran n N W X roots (fit limit (xs ++ ys)) G (needingAll q (xs ++ ys)) taken.Full
+chain-stop limit G q xs ys e r = appended limit q xs ys (ran-stop (fit limit ys) G (needingAll (needingAll q xs) ys) e r)
 
 module _ {n N limit : ℕ} {W : View} {lent : List ℕ} {t a : ℕ} (q : Count) (p : ModalPre n N limit W lent t a) where
   -- the operand and the relation as functions
@@ -181,9 +184,6 @@ module _ {n N limit : ℕ} {W : View} {lent : List ℕ} {t a : ℕ} (q : Count) 
 
   pub shift-asks : StepPre (2 * n) N limit W lent (Shift a)
   shift-asks = step-pre (p .base) (p .arrows) (p .operand, p .even)
-
-  pub not-asks : StepPre (2 * n) N limit W lent (Not a)
-  not-asks = step-pre (p .base) (p .arrows) (p .operand)
 
   -- a first step from the operand
   first-step : {X : View} {o : Taken} {G : Fn} → Took n N limit W X (a ∷ live W lent) q o G → (fs : List Fn) → Held (2 * n) (rowsOf W) (live W lent) fs
@@ -254,72 +254,158 @@ module _ {n N limit : ℕ} {W : View} {lent : List ℕ} {t a : ℕ} (q : Count) 
               ran-then e (shifted fs h) (λ d. needingAll (needing d (andNeed fs)) (existsNeeds n fs n (andF (shiftF F) R)))
               (ran-then f (joined fs h) (λ d. needingAll d (existsNeeds n fs n (andF (shiftF F) R))) (ran-from lent m2 l1))
 
-  -- ---- box
+-- ---- NOT within V
 
-  module _ {X : View} {o : Taken} (s : Took n N limit W X (a ∷ live W lent) q o (notF F)) where
-    abbrev notNeed : List Fn → ℕ
-    notNeed fs = stepNeed (2 * n) (F ∷ fs) (notF F)
+module _ {n N limit : ℕ} {W : View} {lent : List ℕ} {v a : ℕ} (q : Count) (p : ComplementPre n N limit W lent v a) where
+  pub not-asks : StepPre (2 * n) N limit W lent (Not a)
+  not-asks = step-pre (p .base) (p .arrows) (p .operand)
 
-    abbrev lastNeed : List Fn → ℕ
-    lastNeed fs = stepNeed (2 * n) (diamondF n R (notF F) ∷ fs) (notF (diamondF n R (notF F)))
+  module _ {X : View} {o : Taken} (s : Took n N limit W X (a ∷ live W lent) q o (notF (den (2 * n) (rowsOf W) a))) where
+    -- the operand and V as functions
+    abbrev G : Fn
+    G = den (2 * n) (rowsOf W) a
 
-    pub not-full : o ≡ taken.Full → BoxPost n N limit W X lent t a q taken.Full
-    not-full e fs h = ran-stop _ (boxF n R F) _ e (first-step s fs h)
+    abbrev E : Fn
+    E = den (2 * n) (rowsOf W) v
+
+    abbrev roots-all : List Fn
+    roots-all = map (den (2 * n) (rowsOf W)) (live W lent)
+
+    roots-held : Held (2 * n) (rowsOf W) (live W lent) (map (den (2 * n) (rowsOf W)) (live W lent))
+    roots-held = held-own (live-arrows lent (p .base .sound) (p .arrows))
+
+    negated : (fs : List Fn) → Held (2 * n) (rowsOf W) (live W lent) fs
+        → Ran n N W X (live W lent) (leb (stepNeed (2 * n) (G ∷ fs) (notF G)) limit) (notF G) (needing q (stepNeed (2 * n) (G ∷ fs) (notF G))) o
+    negated fs h = ran-step (held-push h (denotes-own (p .operand))) (λ b i. there i) s
+
+    pub not-full : o ≡ taken.Full → ComplementPost n N limit W X lent v a q taken.Full
+    not-full e fs h = ran-stop _ (withinNot E G) _ e (negated fs h)
+
+    module _ {b : ℕ} {q1 : Count} (e : o ≡ taken.At b q1) where
+      not-kept : Keeps (rowsOf W) (rowsOf X) (live W lent)
+      not-kept = ran-kept e (negated roots-all roots-held)
+
+      not-is : Denotes (2 * n) (rowsOf X) b (notF G)
+      not-is = ran-value e (negated roots-all roots-held)
+
+      valid-is : Denotes (2 * n) (rowsOf X) v E
+      valid-is = keeps-denotes not-kept (p .valid) (denotes-own (live-arrows lent (p .base .sound) (p .arrows) v (p .valid)))
+
+      pub in-base : Base n N limit X
+      in-base = base-next (p .base) (s .moved)
+
+      pub in-asks : StepPre (2 * n) N limit X lent (And b v)
+      in-asks = step-pre in-base (kept-lent W lent not-kept) (not-is .arrow, valid-is .arrow)
+
+      module _ {Y : View} {u : Taken} (w : Took n N limit X Y (b ∷ v ∷ live X lent) q1 u (andF (den (2 * n) (rowsOf X) b) (den (2 * n) (rowsOf X) v))) where
+        w1 : Took n N limit X Y (b ∷ v ∷ live W lent) q1 u (withinNot E G)
+        w1 =
+            subst (λ (H : Fn). Took n N limit X Y (b ∷ v ∷ live W lent) q1 u H) (ap₂ andF (denoted not-is) (denoted valid-is))
+            (subst (λ (xs : List ℕ). Took n N limit X Y (b ∷ v ∷ xs) q1 u (andF (den (2 * n) (rowsOf X) b) (den (2 * n) (rowsOf X) v))) (live-same (s .moved .frame) lent) w)
+
+        abbrev inNeed : List Fn → ℕ
+        inNeed fs = stepNeed (2 * n) (E ∷ notF G ∷ fs) (withinNot E G)
+
+        pub complement-ends : ComplementPost n N limit W Y lent v a q u
+        complement-ends fs h =
+            let g : Held (2 * n) (rowsOf X) (b ∷ live W lent) (E ∷ notF G ∷ fs) = held-operand (held-push (held-keeps h not-kept) not-is) (there (held-mem h (p .valid))) in
+            let l = ran-step (held-alike (alike-cons b (alike-once (p .valid))) g) (λ b i. there (there i)) w1 in
+            subst (λ (x : Bool). Ran n N W Y (live W lent) (leb (stepNeed (2 * n) (G ∷ fs) (notF G)) limit && x) (withinNot E G) (needing (needing q (stepNeed (2 * n) (G ∷ fs) (notF G))) (inNeed fs)) u)
+            (sym (and-true (leb (inNeed fs) limit))) (ran-then e (negated fs h) (λ c. needing c (inNeed fs)) l)
+
+-- ---- box
+
+module _ {n N limit : ℕ} {W : View} {lent : List ℕ} {v t a : ℕ} (q : Count) (p : BoxPre n N limit W lent v t a) where
+  pub complement-asks : ComplementPre n N limit W lent v a
+  complement-asks = record { base = p .modal .base; arrows = p .modal .arrows; valid = p .valid; operand = p .modal .operand }
+
+  module _ {X : View} {o : Taken} (d : ComplementPost n N limit W X lent v a q o) where
+    -- the operand, the relation and V as functions, and NOT of the operand within V
+    abbrev H : Fn
+    H = den (2 * n) (rowsOf W) a
+
+    abbrev Q : Fn
+    Q = den (2 * n) (rowsOf W) t
+
+    abbrev U : Fn
+    U = den (2 * n) (rowsOf W) v
+
+    abbrev B : Fn
+    B = withinNot (den (2 * n) (rowsOf W) v) (den (2 * n) (rowsOf W) a)
+
+    abbrev box-all : List Fn
+    box-all = map (den (2 * n) (rowsOf W)) (live W lent)
+
+    box-held : Held (2 * n) (rowsOf W) (live W lent) (map (den (2 * n) (rowsOf W)) (live W lent))
+    box-held = held-own (live-arrows lent (p .modal .base .sound) (p .modal .arrows))
+
+    -- what follows the first NOT
+    abbrev later : List Fn → List ℕ
+    later fs = diamondNeeds n fs Q B ++ complementNeeds n fs U (diamondF n Q B)
+
+    pub first-full : o ≡ taken.Full → BoxPost n N limit W X lent v t a q taken.Full
+    first-full e fs h = chain-stop limit (boxedF n U Q H) q (complementNeeds n fs U H) (later fs) e (d fs h)
 
     module _ {b : ℕ} {q1 : Count} (e : o ≡ taken.At b q1) where
       b-kept : Keeps (rowsOf W) (rowsOf X) (live W lent)
-      b-kept = ran-kept e (first-step s all all-held)
+      b-kept = ran-kept e (d box-all box-held)
 
-      b-is : Denotes (2 * n) (rowsOf X) b (notF F)
-      b-is = ran-value e (first-step s all all-held)
+      b-moved : Moved n W X
+      b-moved = d box-all box-held .moved
 
-      r-is : Denotes (2 * n) (rowsOf X) t R
-      r-is = keeps-denotes b-kept (p .relation) (denotes-own (live-arrows lent (p .base .sound) (p .arrows) t (p .relation)))
+      b-is : Denotes (2 * n) (rowsOf X) b B
+      b-is = ran-value e (d box-all box-held)
+
+      r-is : Denotes (2 * n) (rowsOf X) t Q
+      r-is = keeps-denotes b-kept (p .modal .relation) (denotes-own (live-arrows lent (p .modal .base .sound) (p .modal .arrows) t (p .modal .relation)))
 
       pub diamond-asks : ModalPre n N limit X lent t b
       diamond-asks = record {
-        base = base-next (p .base) (s .moved);
+        base = base-next (p .modal .base) b-moved;
         arrows = kept-lent W lent b-kept;
-        relation = subst (λ (xs : List ℕ). Mem t xs) (sym (live-same (s .moved .frame) lent)) (p .relation);
+        relation = subst (λ (xs : List ℕ). Mem t xs) (sym (live-same (b-moved .frame) lent)) (p .modal .relation);
         operand = b-is .arrow;
-        even = λ v w g. b-is .same v ∙ ap not (p .even v w g) ∙ sym (b-is .same w);
+        even = λ x y g. b-is .same x ∙ ap₂ (λ (c e : Bool). not c && e) (p .modal .even x y g) (p .states x y g) ∙ sym (b-is .same y);
       }
 
-      module _ {Y : View} {u : Taken} (d : DiamondPost n N limit X Y lent t b q1 u) where
-        inner : (fs : List Fn) → Held (2 * n) (rowsOf W) (live W lent) fs
-            → Ran n N X Y (live W lent) (fit limit (diamondNeeds n fs R (notF F))) (diamondF n R (notF F)) (needingAll q1 (diamondNeeds n fs R (notF F))) u
+      module _ {Y : View} {u : Taken} (m : DiamondPost n N limit X Y lent t b q1 u) where
+        inner : (fs : List Fn) → Held (2 * n) (rowsOf W) (live W lent) fs → Ran n N X Y (live W lent) (fit limit (diamondNeeds n fs Q B)) (diamondF n Q B) (needingAll q1 (diamondNeeds n fs Q B)) u
         inner fs h =
-            let l = d fs (held-moved lent (s .moved) b-kept h) in
+            let l = m fs (held-moved lent b-moved b-kept h) in
             let l1 = subst (λ (G : Fn). Chained n N limit X Y lent (diamondNeeds n fs (den (2 * n) (rowsOf X) t) G) (diamondF n (den (2 * n) (rowsOf X) t) G) q1 u) (denoted b-is) l in
-            let l2 = subst (λ (G : Fn). Chained n N limit X Y lent (diamondNeeds n fs G (notF F)) (diamondF n G (notF F)) q1 u) (denoted r-is) l1 in
-            ran-from lent (s .moved) l2
+            let l2 = subst (λ (G : Fn). Chained n N limit X Y lent (diamondNeeds n fs G B) (diamondF n G B) q1 u) (denoted r-is) l1 in
+            ran-from lent b-moved l2
 
-        pub inner-full : u ≡ taken.Full → BoxPost n N limit W Y lent t a q taken.Full
-        inner-full f fs h = box-chain limit R F q fs
-            (ran-then e (first-step s fs h) (λ c. needing (needingAll c (diamondNeeds n fs R (notF F))) (lastNeed fs)) (ran-stop _ (boxF n R F) _ f (inner fs h)))
+        pub inner-full : u ≡ taken.Full → BoxPost n N limit W Y lent v t a q taken.Full
+        inner-full f fs h = chain-then limit q (complementNeeds n fs U H) (later fs) e (d fs h)
+            (chain-stop limit (boxedF n U Q H) q1 (diamondNeeds n fs Q B) (complementNeeds n fs U (diamondF n Q B)) f (inner fs h))
 
         module _ {c : ℕ} {q2 : Count} (f : u ≡ taken.At c q2) where
-          c-kept : Keeps (rowsOf X) (rowsOf Y) (live W lent)
-          c-kept = ran-kept f (inner all all-held)
+          c-kept : Keeps (rowsOf W) (rowsOf Y) (live W lent)
+          c-kept = keeps-trans b-kept (ran-kept f (inner box-all box-held))
 
-          d-is : Denotes (2 * n) (rowsOf Y) c (diamondF n R (notF F))
-          d-is = ran-value f (inner all all-held)
+          d-is : Denotes (2 * n) (rowsOf Y) c (diamondF n Q B)
+          d-is = ran-value f (inner box-all box-held)
 
           c-moved : Moved n W Y
-          c-moved = moved-trans (s .moved) (inner all all-held .moved)
+          c-moved = moved-trans b-moved (inner box-all box-held .moved)
 
-          pub last-base : Base n N limit Y
-          last-base = base-next (p .base) c-moved
+          v-is : Denotes (2 * n) (rowsOf Y) v U
+          v-is = keeps-denotes c-kept (p .valid) (denotes-own (live-arrows lent (p .modal .base .sound) (p .modal .arrows) v (p .valid)))
 
-          pub last-asks : StepPre (2 * n) N limit Y lent (Not c)
-          last-asks = step-pre last-base (kept-lent W lent (keeps-trans b-kept c-kept)) (d-is .arrow)
+          pub last-asks : ComplementPre n N limit Y lent v c
+          last-asks = record {
+            base = base-next (p .modal .base) c-moved;
+            arrows = kept-lent W lent c-kept;
+            valid = subst (λ (xs : List ℕ). Mem v xs) (sym (live-same (c-moved .frame) lent)) (p .valid);
+            operand = d-is .arrow;
+          }
 
-          pub box-ends : {Z : View} {r : Taken} → Took n N limit Y Z (c ∷ live Y lent) q2 r (notF (den (2 * n) (rowsOf Y) c)) → BoxPost n N limit W Z lent t a q r
-          box-ends {Z} {r} v fs h =
-              let D : Fn = diamondF n R (notF F) in
-              let v1 = subst (λ (G : Fn). Took n N limit Y Z (c ∷ live Y lent) q2 r (notF G)) (denoted d-is) v in
-              let g : Held (2 * n) (rowsOf Y) (c ∷ live Y lent) (D ∷ fs) = held-push (held-moved lent c-moved (keeps-trans b-kept c-kept) h) d-is in
-              let l : Ran n N Y Z (live Y lent) (leb (stepNeed (2 * n) (D ∷ fs) (notF D)) limit) (notF D) (needing q2 (lastNeed fs)) r = ran-step g (λ b i. there i) v1 in
-              box-chain limit R F q fs
-              (ran-then e (first-step s fs h) (λ x. needing (needingAll x (diamondNeeds n fs R (notF F))) (lastNeed fs))
-              (ran-then f (inner fs h) (λ x. needing x (lastNeed fs)) (ran-from lent c-moved l)))
+          pub box-ends : {Z : View} {r : Taken} → ComplementPost n N limit Y Z lent v c q2 r → BoxPost n N limit W Z lent v t a q r
+          box-ends {Z} {r} w fs h =
+              let D : Fn = diamondF n Q B in
+              let l = w fs (held-moved lent c-moved c-kept h) in
+              let l1 = subst (λ (G : Fn). Chained n N limit Y Z lent (complementNeeds n fs (den (2 * n) (rowsOf Y) v) G) (withinNot (den (2 * n) (rowsOf Y) v) G) q2 r) (denoted d-is) l in
+              let l2 = subst (λ (G : Fn). Chained n N limit Y Z lent (complementNeeds n fs G D) (withinNot G D) q2 r) (denoted v-is) l1 in
+              chain-then limit q (complementNeeds n fs U H) (later fs) e (d fs h)
+              (chain-then limit q1 (diamondNeeds n fs Q B) (complementNeeds n fs U D) f (inner fs h) (ran-from lent c-moved l2))

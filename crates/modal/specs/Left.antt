@@ -10,6 +10,7 @@ use lib.Dec.{T, leb, leb→le}
 use borrow.Author.Tests.{le-leb}
 use Rattle.accounts.specs.declared.Count.{Count}
 use Rattle.accounts.specs.Count.{needing}
+use Rattle.layout.specs.Places.{BITS}
 use Rattle.layout.specs.View.{View}
 use Rattle.diagram.specs.Level.{Fn}
 use Rattle.diagram.specs.Rows.{Rows, Arrow, den, WellFormed}
@@ -38,9 +39,9 @@ use Rattle.counting.specs.declared.Taken.the-variants as taken
 use Rattle.stages.specs.Left.{LeftFits}
 use Rattle.stages.specs.Rest.{RestPre, RestPost}
 use Rattle.book.specs.Ticks.{existsNeeds, counted, full as fullVerdict}
-use Rattle.book.specs.Run.{value, existsSteps}
+use Rattle.book.specs.Run.{value, existsSteps, needingAll}
 use Rattle.book.specs.Diamond.{existsNext}
-use Rattle.book.specs.Verdicts.{fit, needingAll, settle}
+use Rattle.book.specs.Verdicts.{fit, settle}
 use Rattle.book.specs.Held.{Held, denoted}
 use Rattle.book.specs.Pairs.{PairMatches}
 use Rattle.book.specs.Modal.{Quantifies}
@@ -136,7 +137,7 @@ module _ {n N limit : ℕ} {W : View} {lent : List ℕ} {a : ℕ} (p : QuantifyP
     module _ {Y : View} (g : Grown (2 * n) X Y) where
       grown-moved : Moved n X Y
       grown-moved = record {
-        sound = sound-extends (quantify-base p i .sound) (g .good) (λ h x l. g .frame .header h (omega arith) (omega arith) (omega arith) (omega arith)) (g .kept);
+        sound = sound-extends (quantify-base p i .sound) (g .good) (g .frame .header BITS (omega arith) (omega arith) (omega arith) (omega arith)) (λ h x l. g .frame .header h (omega arith) (omega arith) (omega arith) (omega arith)) (g .kept);
         memory = g .memory;
         frame = g .frame;
       }

@@ -7,7 +7,7 @@ use steps::Step;
 use table::Found;
 ghost use Rattle.layout.specs.View.{view};
 ghost use Rattle.counting.specs.Counts.{CountsOf};
-ghost use Rattle.modal.specs.Modal.{QuantifyPre, QuantifyPost, ModalPre, DiamondPost, BoxPost};
+ghost use Rattle.modal.specs.Modal.{QuantifyPre, QuantifyPost, ModalPre, DiamondPost, ComplementPre, ComplementPost, BoxPre, BoxPost};
 
 // The sizes of a table and what an evaluation may use of it: state bits, rows, the row limit and the rounds.
 pub struct Limits {
@@ -127,18 +127,18 @@ pub fn diamond(
     quantify(words, counts, limits, roots, c, second)
 }
 
-// Box: NOT, diamond, NOT.
-pub fn boxed(
+// NOT of an arrow within V, the states that exist: the step NOT, and AND with V.
+pub fn complement(
     words: &mut [u32],
     counts: &mut [u32],
     limits: Limits,
     roots: &[u32],
-    relation: u32,
+    valid: u32,
     a: u32,
     count: Count,
 ) -> Taken
-    requires { ⌜ ModalPre (limits .bits) (limits .rows) (limits .limit) (view (limits .rows) (now words)) (now roots) relation a × CountsOf (view (limits .rows) (now words)) (now counts) ⌝ }
-    ensures { λ r. ⌜ BoxPost (limits .bits) (limits .rows) (limits .limit) (view (limits .rows) (now (words .entry))) (view (limits .rows) (now (words .exit))) (now (roots .entry)) relation a count r × CountsOf (view (limits .rows) (now (words .exit))) (now (counts .exit)) ⌝ }
+    requires { ⌜ ComplementPre (limits .bits) (limits .rows) (limits .limit) (view (limits .rows) (now words)) (now roots) valid a × CountsOf (view (limits .rows) (now words)) (now counts) ⌝ }
+    ensures { λ r. ⌜ ComplementPost (limits .bits) (limits .rows) (limits .limit) (view (limits .rows) (now (words .entry))) (view (limits .rows) (now (words .exit))) (now (roots .entry)) valid a count r × CountsOf (view (limits .rows) (now (words .exit))) (now (counts .exit)) ⌝ }
 {
     let levels = 2 * limits.bits;
     let Taken::At {
@@ -157,13 +157,6 @@ pub fn boxed(
     else {
         return Taken::Full;
     };
-    let Taken::At {
-        arrow: c,
-        count: second,
-    } = diamond(words, counts, limits, roots, relation, b, first)
-    else {
-        return Taken::Full;
-    };
     take(
         words,
         counts,
@@ -171,7 +164,38 @@ pub fn boxed(
         levels,
         limits.limit,
         roots,
-        Step::Not(c),
-        second,
+        Step::And(b, valid),
+        first,
     )
+}
+
+// Box: NOT, diamond, NOT, each NOT within V.
+pub fn boxed(
+    words: &mut [u32],
+    counts: &mut [u32],
+    limits: Limits,
+    roots: &[u32],
+    valid: u32,
+    relation: u32,
+    a: u32,
+    count: Count,
+) -> Taken
+    requires { ⌜ BoxPre (limits .bits) (limits .rows) (limits .limit) (view (limits .rows) (now words)) (now roots) valid relation a × CountsOf (view (limits .rows) (now words)) (now counts) ⌝ }
+    ensures { λ r. ⌜ BoxPost (limits .bits) (limits .rows) (limits .limit) (view (limits .rows) (now (words .entry))) (view (limits .rows) (now (words .exit))) (now (roots .entry)) valid relation a count r × CountsOf (view (limits .rows) (now (words .exit))) (now (counts .exit)) ⌝ }
+{
+    let Taken::At {
+        arrow: b,
+        count: first,
+    } = complement(words, counts, limits, roots, valid, a, count)
+    else {
+        return Taken::Full;
+    };
+    let Taken::At {
+        arrow: c,
+        count: second,
+    } = diamond(words, counts, limits, roots, relation, b, first)
+    else {
+        return Taken::Full;
+    };
+    complement(words, counts, limits, roots, valid, c, second)
 }

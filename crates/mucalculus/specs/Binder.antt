@@ -8,9 +8,10 @@ use lib.Dec.{T}
 use lib.ListN.{length}
 use Rattle.mucalculus.specs.Sets.{and-out}
 use Rattle.mucalculus.specs.Order.{Below, Dir, start}
-use Rattle.mucalculus.specs.Fixpoint.{fix, iter, Mono, fix-bound, fix-fixed, stable}
+use Rattle.mucalculus.specs.Fixpoint.{Into, fix, iter, Mono, fix-bound, fix-fixed, stable}
 use Rattle.mucalculus.specs.Form.{Form, mu, nu, Model, Env, put, reads, steady, bind}
-use Rattle.mucalculus.specs.Means.{size, means, length-means}
+use Rattle.mucalculus.specs.Means.{size, exist, means, length-means}
+use Rattle.mucalculus.specs.Exist.{means-in}
 use Rattle.mucalculus.specs.Polarity.{means-turns}
 
 -- the body as a function of the bound variable's set
@@ -20,13 +21,16 @@ body m e P f A = means m (put e P A) f
 pub body-length : (m : Model) (e : Env) (P : ℕ) (f : Form) (A : List Bool) → length (body m e P f A) ≡ size m
 body-length m e P f A = length-means m (put e P A) f
 
-pub means-bind : (m : Model) (e : Env) (P : ℕ) (f : Form) (b : Bool) → fix b (size m) (body m e P f) ≡ means m e (bind b P f)
+pub body-in : (m : Model) (e : Env) (P : ℕ) (f : Form) → Into (exist m) (body m e P f)
+body-in m e P f A = means-in m (put e P A) f
+
+pub means-bind : (m : Model) (e : Env) (P : ℕ) (f : Form) (b : Bool) → fix b (size m) (exist m) (body m e P f) ≡ means m e (bind b P f)
 means-bind m e P f true = refl
 means-bind m e P f false = refl
 
 -- the least set is below each set A with f(A) = A, the greatest above
 pub binder-bound : (m : Model) (e : Env) (P : ℕ) (f : Form) (b : Bool) (A : List Bool) → means m (put e P A) f ≡ A → Dir b (means m e (bind b P f)) A
-binder-bound m e P f b A h = subst (λ (X : List Bool). Dir b X A) (means-bind m e P f b) (fix-bound (size m) (body m e P f) (body-length m e P f) b A h)
+binder-bound m e P f b A h = subst (λ (X : List Bool). Dir b X A) (means-bind m e P f b) (fix-bound (size m) (exist m) (body m e P f) (body-length m e P f) (body-in m e P f) b A h)
 
 module _ (m : Model) (e : Env) (P : ℕ) (f : Form) (s : T (steady f)) (t : T (reads true P f)) (b : Bool) where
   pub body-mono : Mono (body m e P f)
@@ -34,15 +38,15 @@ module _ (m : Model) (e : Env) (P : ℕ) (f : Form) (s : T (steady f)) (t : T (r
 
   -- it is a set A with f(A) = A
   pub binder-fixed : means m (put e P (means m e (bind b P f))) f ≡ means m e (bind b P f)
-  binder-fixed = subst (λ (X : List Bool). body m e P f X ≡ X) (means-bind m e P f b) (fix-fixed (size m) (body m e P f) (body-length m e P f) body-mono b)
+  binder-fixed = subst (λ (X : List Bool). body m e P f X ≡ X) (means-bind m e P f b) (fix-fixed (size m) (exist m) (body m e P f) (body-length m e P f) (body-in m e P f) body-mono b)
 
-  -- the j-th set of the iteration: from no state for mu, from all for nu, each the body's value at the one before
+  -- the j-th set of the iteration: from no state for mu, from V for nu, each the body's value at the one before
   abbrev pub round : ℕ → List Bool
-  round j = iter (body m e P f) j (start b (size m))
+  round j = iter (body m e P f) j (start b (size m) (exist m))
 
   -- that comes to pass in round 2^n + 1 at the latest
   pub round-ends : round (suc (size m)) ≡ round (size m)
-  round-ends = stable (size m) (body m e P f) (body-length m e P f) body-mono b
+  round-ends = stable (size m) (exist m) (body m e P f) (body-length m e P f) (body-in m e P f) body-mono b
 
 -- ---- the same in plain words
 

@@ -26,9 +26,10 @@ bind false P f = nu P f
 abbrev pub Pairs : Type 0
 Pairs = List (List Bool)
 
--- what a formula is read over: n state bits, relations and registers, each empty or filled
+-- what a formula is read over: n state bits, V, "the set V of states that exist", and relations and registers, each empty or filled
 pub record Model : Type 0 where
   pub n : ℕ
+  pub valid : List Bool
   pub rel : ℕ → Option Pairs
   pub reg : ℕ → Option (List Bool)
 

@@ -6,7 +6,7 @@ use Prim.Native.Nat.{ℕ, suc, _^_, _/_, _%_}
 use native.Mathlib.Nat.{pow-succ', div-div-eq-div-mul}
 use lib.Dec.{eqb}
 use lib.ListN.{length}
-use Rattle.mucalculus.specs.Sets.{mem, table, length-table, noStates, allStates, all, any}
+use Rattle.mucalculus.specs.Sets.{mem, table, length-table, noStates, all, any}
 use Rattle.mucalculus.specs.Fixpoint.{least, greatest, length-fix}
 pub use Rattle.mucalculus.specs.Runs.{pair, untilSet}
 use Rattle.mucalculus.specs.Form.{Form, bot, top, neg, conj, disj, now, next, var, reg, box, dia, mu, nu, until, Pairs, Model, Env, put, inside}
@@ -55,22 +55,31 @@ sometimes k R A = table k (λ s. any (λ t. pair R s t && mem A t) (table k (λ 
 abbrev pub size : Model → ℕ
 size m = 2 ^ (m .n)
 
--- the states in which f holds (a next bit is of relation calls only, and holds nowhere)
+-- the states that exist
+abbrev pub exist : Model → List Bool
+exist m = clip (size m) (m .valid)
+
+-- "next states outside V do not exist": the pairs of relation t within V
+abbrev pub related : Model → ℕ → Pairs
+related m t = let E = exist m in table (size m) (λ s. table (size m) (λ u. (mem E s && mem E u) && pair (inside (m .rel t)) s u))
+
+-- the states in which f holds (a next bit is of relation calls only, and holds nowhere): "true means V, NOT V without the set, a bit its states in
+-- V"; a variable and a register are read with their states in V
 abbrev pub means : Model → Env → Form → List Bool
 means m e bot = noStates (size m)
-means m e top = allStates (size m)
-means m e (neg f) = compl (size m) (means m e f)
+means m e top = exist m
+means m e (neg f) = inter (size m) (compl (size m) (means m e f)) (exist m)
 means m e (conj f g) = inter (size m) (means m e f) (means m e g)
 means m e (disj f g) = union (size m) (means m e f) (means m e g)
-means m e (now p) = bitStates (size m) p
+means m e (now p) = inter (size m) (bitStates (size m) p) (exist m)
 means m e (next p) = noStates (size m)
-means m e (var P) = clip (size m) (e P)
-means m e (reg r) = clip (size m) (inside (m .reg r))
-means m e (box t f) = always (size m) (inside (m .rel t)) (means m e f)
-means m e (dia t f) = sometimes (size m) (inside (m .rel t)) (means m e f)
-means m e (mu P f) = least (size m) (λ A. means m (put e P A) f)
-means m e (nu P f) = greatest (size m) (λ A. means m (put e P A) f)
-means m e (until b t f g) = untilSet b (size m) (inside (m .rel t)) (means m e f) (means m e g)
+means m e (var P) = inter (size m) (e P) (exist m)
+means m e (reg r) = inter (size m) (inside (m .reg r)) (exist m)
+means m e (box t f) = inter (size m) (always (size m) (related m t) (means m e f)) (exist m)
+means m e (dia t f) = sometimes (size m) (related m t) (means m e f)
+means m e (mu P f) = least (size m) (exist m) (λ A. means m (put e P A) f)
+means m e (nu P f) = greatest (size m) (exist m) (λ A. means m (put e P A) f)
+means m e (until b t f g) = untilSet b (size m) (related m t) (means m e f) (means m e g)
 
 -- a relation's formula holds in the pair (s, t); the other tokens are of set calls only, and hold nowhere
 abbrev pub holds : Form → ℕ → ℕ → Bool
@@ -93,19 +102,23 @@ holds (until b r f g) s t = false
 abbrev pub meansPair : ℕ → Form → Pairs
 meansPair n f = table (2 ^ n) (λ s. table (2 ^ n) (λ t. holds f s t))
 
+-- "then ANDed with V, then with SHIFT of V": the pairs of Q within the set E
+abbrev pub pairsWithin : ℕ → List Bool → Pairs → Pairs
+pairsWithin n E Q = table (2 ^ n) (λ s. table (2 ^ n) (λ t. (pair Q s t && mem E s) && mem E t))
+
 -- a meaning has a place for each state
 pub length-means : (m : Model) (e : Env) (f : Form) → length (means m e f) ≡ size m
 length-means m e bot = length-table (size m) (λ s. false)
-length-means m e top = length-table (size m) (λ s. true)
+length-means m e top = length-table (size m) _
 length-means m e (neg f) = length-table (size m) _
 length-means m e (conj f g) = length-table (size m) _
 length-means m e (disj f g) = length-table (size m) _
-length-means m e (now p) = length-table (size m) (λ s. bit p s)
+length-means m e (now p) = length-table (size m) _
 length-means m e (next p) = length-table (size m) (λ s. false)
-length-means m e (var P) = length-table (size m) (λ s. mem (e P) s)
-length-means m e (reg r) = length-table (size m) (λ s. mem (inside (m .reg r)) s)
+length-means m e (var P) = length-table (size m) _
+length-means m e (reg r) = length-table (size m) _
 length-means m e (box t f) = length-table (size m) _
 length-means m e (dia t f) = length-table (size m) _
-length-means m e (mu P f) = length-fix true (size m) (λ A. means m (put e P A) f)
-length-means m e (nu P f) = length-fix false (size m) (λ A. means m (put e P A) f)
+length-means m e (mu P f) = length-fix true (size m) (exist m) (λ A. means m (put e P A) f)
+length-means m e (nu P f) = length-fix false (size m) (exist m) (λ A. means m (put e P A) f)
 length-means m e (until b t f g) = length-table (size m) _

@@ -7,9 +7,9 @@ use mathlib.Core.List.{List, [], _∷_}
 use Prim.Native.Nat.{ℕ, zero, suc, _≤_, _<_, zero-le, suc-le-suc}
 use native.Mathlib.Nat.{suc-inj, suc-ne-zero, le-of-eq, le-of-lt, le-suc, le-trans}
 use native.Mathlib.Omega.{arith}
-use lib.Dec.{T}
+use lib.Dec.{T, ltb, lt→ltb}
 use lib.ListN.{length}
-use Rattle.mucalculus.specs.Sets.{mem, length-table, noStates, allStates, mem-noStates, mem-allStates, mem-lt}
+use Rattle.mucalculus.specs.Sets.{mem, table, mem-table, length-table, noStates, mem-noStates, mem-lt, and-in, and-out}
 
 -- every member of A is one of B
 abbrev pub Below : List Bool → List Bool → Type 0
@@ -35,18 +35,23 @@ dir-flip false A B h = h
 pub dir-eq : (b : Bool) {A B : List Bool} → A ≡ B → Dir b A B
 dir-eq b {A} {B} e = subst (λ (C : List Bool). Dir b A C) e (dir-refl b A)
 
--- "Mu starts from the empty set, nu from all states": where the iteration in direction b starts
-abbrev pub start : Bool → ℕ → List Bool
-start true k = noStates k
-start false k = allStates k
+-- "Mu starts from the empty set", "nu starts from V": where the iteration in direction b starts, E being the states that exist
+abbrev pub start : Bool → ℕ → List Bool → List Bool
+start true k E = noStates k
+start false k E = table k (λ s. mem E s)
 
-pub length-start : (b : Bool) (k : ℕ) → length (start b k) ≡ k
-length-start true k = length-table k _
-length-start false k = length-table k _
+pub length-start : (b : Bool) (k : ℕ) (E : List Bool) → length (start b k E) ≡ k
+length-start true k E = length-table k _
+length-start false k E = length-table k _
 
-pub start-dir : (b : Bool) (k : ℕ) (A : List Bool) → length A ≡ k → Dir b (start b k) A
-start-dir true k A e = λ s p. absurd (mem-noStates k s p)
-start-dir false k A e = λ s p. mem-allStates k s (subst (λ (n : ℕ). s < n) e (mem-lt A s p))
+pub start-dir : (b : Bool) (k : ℕ) (E A : List Bool) → length A ≡ k → Below A E → Dir b (start b k E) A
+start-dir true k E A e i = λ s p. absurd (mem-noStates k s p)
+start-dir false k E A e i = λ s p. subst T (sym (mem-table k (λ t. mem E t) s)) (and-in (ltb s k) (mem E s) (lt→ltb s k (subst (λ (n : ℕ). s < n) e (mem-lt A s p))) (i s p))
+
+-- no start leaves E
+pub start-in : (b : Bool) (k : ℕ) (E : List Bool) → Below (start b k E) E
+start-in true k E = λ s p. absurd (mem-noStates k s p)
+start-in false k E = λ s p. and-out (ltb s k) (mem E s) (subst T (mem-table k (λ t. mem E t) s) p) .1
 
 -- ---- weight
 

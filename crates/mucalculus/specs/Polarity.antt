@@ -10,10 +10,11 @@ use lib.Dec.{T, eqb, eqb→eq}
 use Rattle.mucalculus.specs.Sets.{and-out}
 use Rattle.mucalculus.specs.Order.{Below, Dir, dir-flip}
 use Rattle.mucalculus.specs.Fixpoint.{fix, fix-mono}
-use Rattle.mucalculus.specs.Form.{Form, bot, top, neg, conj, disj, now, next, var, reg, box, dia, mu, nu, until, Model, Env, put, inside, reads, steady}
-use Rattle.mucalculus.specs.Growth.{clip-mono, compl-anti, inter-mono, union-mono, sometimes-mono, always-mono}
+use Rattle.mucalculus.specs.Form.{Form, bot, top, neg, conj, disj, now, next, var, reg, box, dia, mu, nu, until, Model, Env, put, reads, steady}
+use Rattle.mucalculus.specs.Growth.{compl-anti, inter-mono, union-mono, sometimes-mono, always-mono}
 use Rattle.mucalculus.specs.Until.{until-mono}
-use Rattle.mucalculus.specs.Means.{size, means, length-means}
+use Rattle.mucalculus.specs.Means.{compl, always, size, exist, related, means, length-means}
+use Rattle.mucalculus.specs.Exist.{means-in}
 
 -- ---- two variables
 
@@ -51,10 +52,11 @@ module _ (m : Model) (f : Form) (P Q : ℕ) (b : Bool) (inQ : Turns m f Q true) 
       (subst (λ (d : Env). Below (means m (put (put e Q Y) P A) f) (means m d f)) (sym (put-swap e P B Q Y ne)) (inP (put e Q Y) A B h)))
 
   binder-turns : (c : Bool) (e : Env) (A B : List Bool) → Dir b A B
-      → Below (fix c (size m) (λ X. means m (put (put e P A) Q X) f)) (fix c (size m) (λ X. means m (put (put e P B) Q X) f))
+      → Below (fix c (size m) (exist m) (λ X. means m (put (put e P A) Q X) f)) (fix c (size m) (exist m) (λ X. means m (put (put e P B) Q X) f))
   binder-turns c e A B h =
-      fix-mono (size m) (λ X. means m (put (put e P A) Q X) f) (λ X. means m (put (put e P B) Q X) f)
+      fix-mono (size m) (exist m) (λ X. means m (put (put e P A) Q X) f) (λ X. means m (put (put e P B) Q X) f)
       (λ X. length-means m (put (put e P A) Q X) f) (λ X. length-means m (put (put e P B) Q X) f)
+      (λ X. means-in m (put (put e P A) Q X) f) (λ X. means-in m (put (put e P B) Q X) f)
       (inQ (put e P A)) (inQ (put e P B))
       (λ X Y i s p. body-turns e A B h Y s (inQ (put e P A) X Y i s p)) c
 
@@ -69,7 +71,8 @@ unfolding reads steady
 means-turns m bot s P b r e A B h = λ s p. p
 means-turns m top s P b r e A B h = λ s p. p
 means-turns m (neg f) s P b r e A B h =
-    compl-anti (size m) (means m (put e P B) f) (means m (put e P A) f) (means-turns m f s P (not b) r e B A (dir-flip b A B h))
+    inter-mono (size m) (compl (size m) (means m (put e P A) f)) (compl (size m) (means m (put e P B) f))
+    (compl-anti (size m) (means m (put e P B) f) (means m (put e P A) f) (means-turns m f s P (not b) r e B A (dir-flip b A B h))) (exist m) (exist m) (λ s p. p)
 means-turns m (conj f g) s P b r e A B h =
     let u = and-out (steady f) (steady g) s in
     let w = and-out (reads b P f) (reads b P g) r in
@@ -82,12 +85,13 @@ means-turns m (disj f g) s P b r e A B h =
     (means m (put e P A) g) (means m (put e P B) g) (means-turns m g (u .1) P b (w .1) e A B h)
 means-turns m (now p) s P b r e A B h = λ s p. p
 means-turns m (next p) s P b r e A B h = λ s p. p
-means-turns m (var Q) s P b r e A B h = clip-mono (size m) (put e P A Q) (put e P B Q) (var-turns (eqb Q P) b A B (e Q) r h)
+means-turns m (var Q) s P b r e A B h = inter-mono (size m) (put e P A Q) (put e P B Q) (var-turns (eqb Q P) b A B (e Q) r h) (exist m) (exist m) (λ s p. p)
 means-turns m (reg x) s P b r e A B h = λ s p. p
 means-turns m (box t f) s P b r e A B h =
-    always-mono (size m) (inside (m .rel t)) (means m (put e P A) f) (means m (put e P B) f) (means-turns m f s P b r e A B h)
+    inter-mono (size m) (always (size m) (related m t) (means m (put e P A) f)) (always (size m) (related m t) (means m (put e P B) f))
+    (always-mono (size m) (related m t) (means m (put e P A) f) (means m (put e P B) f) (means-turns m f s P b r e A B h)) (exist m) (exist m) (λ s p. p)
 means-turns m (dia t f) s P b r e A B h =
-    sometimes-mono (size m) (inside (m .rel t)) (means m (put e P A) f) (means m (put e P B) f) (means-turns m f s P b r e A B h)
+    sometimes-mono (size m) (related m t) (means m (put e P A) f) (means m (put e P B) f) (means-turns m f s P b r e A B h)
 means-turns m (mu Q f) s P b r e A B h =
     let u = and-out (reads true Q f) (steady f) s in
     binder-turns m f P Q b (means-turns m f (u .1) Q true (u .0)) (means-turns m f (u .1) P b r) true e A B h
@@ -97,5 +101,5 @@ means-turns m (nu Q f) s P b r e A B h =
 means-turns m (until q t f g) s P b r e A B h =
     let u = and-out (steady f) (steady g) s in
     let w = and-out (reads b P f) (reads b P g) r in
-    until-mono (size m) (inside (m .rel t)) q (means m (put e P A) f) (means m (put e P B) f) (means-turns m f (u .0) P b (w .0) e A B h)
+    until-mono (size m) (related m t) q (means m (put e P A) f) (means m (put e P B) f) (means-turns m f (u .0) P b (w .0) e A B h)
     (means m (put e P A) g) (means m (put e P B) g) (means-turns m g (u .1) P b (w .1) e A B h)

@@ -11,8 +11,8 @@ use lib.Dec.{T}
 use Rattle.mucalculus.specs.Sets.{same, same-refl, true-of}
 use Rattle.mucalculus.specs.Order.{start}
 use Rattle.mucalculus.specs.Fixpoint.{iter}
-use Rattle.mucalculus.specs.Form.{Form, bot, top, neg, conj, disj, now, next, var, reg, box, dia, mu, nu, until, Model, Env, put, inside, reads, steady}
-use Rattle.mucalculus.specs.Means.{size, means}
+use Rattle.mucalculus.specs.Form.{Form, bot, top, neg, conj, disj, now, next, var, reg, box, dia, mu, nu, until, Model, Env, put, reads, steady}
+use Rattle.mucalculus.specs.Means.{size, exist, related, means}
 use Rattle.mucalculus.specs.Until.{onward}
 use Rattle.mucalculus.specs.Binder.{body, round-ends}
 
@@ -34,9 +34,9 @@ rounds m e (var P) = zero
 rounds m e (reg r) = zero
 rounds m e (box t f) = rounds m e f
 rounds m e (dia t f) = rounds m e f
-rounds m e (mu P f) = runs (body m e P f) (λ A. rounds m (put e P A) f) (suc (size m)) (start true (size m))
-rounds m e (nu P f) = runs (body m e P f) (λ A. rounds m (put e P A) f) (suc (size m)) (start false (size m))
-rounds m e (until b t f g) = runs (onward b (size m) (inside (m .rel t)) (means m e f) (means m e g)) (λ A. rounds m e g + rounds m e f) (suc (size m)) (start true (size m))
+rounds m e (mu P f) = runs (body m e P f) (λ A. rounds m (put e P A) f) (suc (size m)) (start true (size m) (exist m))
+rounds m e (nu P f) = runs (body m e P f) (λ A. rounds m (put e P A) f) (suc (size m)) (start false (size m) (exist m))
+rounds m e (until b t f g) = runs (onward b (size m) (related m t) (means m e f) (means m e g)) (λ A. rounds m e g + rounds m e f) (suc (size m)) (start true (size m) (exist m))
 
 -- how many binders the formula has; until is one
 abbrev pub binders : Form → ℕ
@@ -104,11 +104,11 @@ rounds-bound m e (var P) h = zero-le
 rounds-bound m e (reg r) h = zero-le
 rounds-bound m e (box t f) h = rounds-bound m e f h
 rounds-bound m e (dia t f) h = rounds-bound m e f h
-rounds-bound m e (mu P f) h = runs-bound (body m e P f) (λ A. rounds m (put e P A) f) (λ A. rounds-none m (put e P A) f (omega arith)) (suc (size m)) (start true (size m))
-rounds-bound m e (nu P f) h = runs-bound (body m e P f) (λ A. rounds m (put e P A) f) (λ A. rounds-none m (put e P A) f (omega arith)) (suc (size m)) (start false (size m))
+rounds-bound m e (mu P f) h = runs-bound (body m e P f) (λ A. rounds m (put e P A) f) (λ A. rounds-none m (put e P A) f (omega arith)) (suc (size m)) (start true (size m) (exist m))
+rounds-bound m e (nu P f) h = runs-bound (body m e P f) (λ A. rounds m (put e P A) f) (λ A. rounds-none m (put e P A) f (omega arith)) (suc (size m)) (start false (size m) (exist m))
 rounds-bound m e (until b t f g) h =
-    runs-bound (onward b (size m) (inside (m .rel t)) (means m e f) (means m e g)) (λ A. rounds m e g + rounds m e f)
-    (λ A. omega (arith, rounds-none m e g (omega arith), rounds-none m e f (omega arith))) (suc (size m)) (start true (size m))
+    runs-bound (onward b (size m) (related m t) (means m e f) (means m e g)) (λ A. rounds m e g + rounds m e f)
+    (λ A. omega (arith, rounds-none m e g (omega arith), rounds-none m e f (omega arith))) (suc (size m)) (start true (size m) (exist m))
 
 -- ---- the bound on a binder's own rounds
 
@@ -132,5 +132,5 @@ runs-more F c (suc j) (suc k) l A e =
 
 -- after check 6 any bound from 2^n + 1 on gives the same rounds
 pub rounds-cap : (m : Model) (e : Env) (P : ℕ) (f : Form) → T (steady f) → T (reads true P f) → (b : Bool) (c : List Bool → ℕ) (k : ℕ) → size m ≤ k
-    → runs (body m e P f) c (suc k) (start b (size m)) ≡ runs (body m e P f) c (suc (size m)) (start b (size m))
-rounds-cap m e P f s t b c k l = runs-more (body m e P f) c (size m) k l (start b (size m)) (round-ends m e P f s t b)
+    → runs (body m e P f) c (suc k) (start b (size m) (exist m)) ≡ runs (body m e P f) c (suc (size m)) (start b (size m) (exist m))
+rounds-cap m e P f s t b c k l = runs-more (body m e P f) c (size m) k l (start b (size m) (exist m)) (round-ends m e P f s t b)

@@ -7,7 +7,7 @@ use lib.Dec.{T, T-not}
 use lib.ListN.{length}
 use Rattle.mucalculus.specs.Sets.{mem, table, length-table, noStates, allStates, and-out, all, all-out, any, any-in, any-out, keep, true-of, false-of}
 use Rattle.mucalculus.specs.Order.{Below}
-use Rattle.mucalculus.specs.Fixpoint.{least, iter, Mono, fix-iter, stable, fix-mono}
+use Rattle.mucalculus.specs.Fixpoint.{least, iter, Mono, Into, into-all, fix-iter, stable, fix-mono}
 use Rattle.mucalculus.specs.Form.{Pairs}
 use Rattle.mucalculus.specs.Runs.{pair, stuck, passes, before, nexts, gather, walks, over, untilSet}
 use Rattle.mucalculus.specs.Means.{inter, union, always, sometimes}
@@ -251,14 +251,16 @@ module _ (k : ℕ) (R : Pairs) where
   pub onward-mono : (b : Bool) (F G : List Bool) → Mono (onward b k R F G)
   onward-mono b F G = onward-grows b F F (λ s p. p) G G (λ s p. p)
 
-  -- UNTIL BY RUNS IS THE LEAST FIXPOINT of a round
-  pub until-least : (b : Bool) (F G : List Bool) → untilSet b k R F G ≡ least k (onward b k R F G)
-  until-least b F G =
+  -- UNTIL BY RUNS IS THE LEAST FIXPOINT of a round, over any states that the rounds do not leave
+  pub until-least : (b : Bool) (F G E : List Bool) → Into E (onward b k R F G) → untilSet b k R F G ≡ least k E (onward b k R F G)
+  until-least b F G E i =
       within-iter b F G k
-      ∙ stable k (onward b k R F G) (onward-length b F G) (onward-mono b F G) true
-      ∙ fix-iter k (onward b k R F G) (onward-length b F G) (onward-mono b F G) true
+      ∙ stable k E (onward b k R F G) (onward-length b F G) i (onward-mono b F G) true
+      ∙ fix-iter k E (onward b k R F G) (onward-length b F G) i (onward-mono b F G) true
 
   pub until-mono : (b : Bool) (F F′ : List Bool) → Below F F′ → (G G′ : List Bool) → Below G G′ → Below (untilSet b k R F G) (untilSet b k R F′ G′)
   until-mono b F F′ f G G′ g =
-      subst₂ Below (sym (until-least b F G)) (sym (until-least b F′ G′))
-      (fix-mono k (onward b k R F G) (onward b k R F′ G′) (onward-length b F G) (onward-length b F′ G′) (onward-mono b F G) (onward-mono b F′ G′) (onward-grows b F F′ f G G′ g) true)
+      let i = into-all k (onward b k R F G) (onward-length b F G) in
+      let j = into-all k (onward b k R F′ G′) (onward-length b F′ G′) in
+      subst₂ Below (sym (until-least b F G (allStates k) i)) (sym (until-least b F′ G′ (allStates k) j))
+      (fix-mono k (allStates k) (onward b k R F G) (onward b k R F′ G′) (onward-length b F G) (onward-length b F′ G′) i j (onward-mono b F G) (onward-mono b F′ G′) (onward-grows b F F′ f G G′ g) true)

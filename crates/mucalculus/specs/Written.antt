@@ -1,19 +1,19 @@
 -- Until is the formula written with a binder: "The first form is read as mu X (g or (f and diamond X)), the second as mu X (g or (f and (box X
 -- and diamond true))), X a variable of its own"; the meaning and the rounds are the same. Assumes nothing.
 use mathlib.Core.Path.{_≡_, refl, sym, ap, ap₂, _∙_, subst, fun-ext}
-use mathlib.Core.Bool.{Bool, true, false, not, _&&_, _||_, cond}
+use mathlib.Core.Bool.{Bool, true, false, not, _&&_, cond}
 use mathlib.Core.List.{List}
 use Prim.Native.Nat.{ℕ, zero, suc, _+_}
 use native.Mathlib.Nat.{add-zero}
 use lib.Dec.{T, T-not, eqb, eqb-refl}
-use Rattle.mucalculus.specs.Sets.{mem, table, and-out, true-of}
+use Rattle.mucalculus.specs.Sets.{and-out, true-of}
 use Rattle.mucalculus.specs.Order.{start}
 use Rattle.mucalculus.specs.Fixpoint.{least, greatest}
-use Rattle.mucalculus.specs.Form.{Form, bot, top, neg, conj, disj, now, next, var, reg, box, dia, mu, nu, until, Pairs, Model, Env, put, inside, lacks, mentioned}
-use Rattle.mucalculus.specs.Runs.{pair, untilSet}
-use Rattle.mucalculus.specs.Means.{clip, compl, inter, union, always, sometimes, size, means}
-use Rattle.mucalculus.specs.Laws.{getD-table, table-ext, table-out}
-use Rattle.mucalculus.specs.Until.{further, onward, over-same, until-least}
+use Rattle.mucalculus.specs.Form.{Form, bot, top, neg, conj, disj, now, next, var, reg, box, dia, mu, nu, until, Pairs, Model, Env, put, lacks, mentioned}
+use Rattle.mucalculus.specs.Runs.{untilSet}
+use Rattle.mucalculus.specs.Means.{compl, inter, union, always, sometimes, size, exist, related, means}
+use Rattle.mucalculus.specs.Exist.{means-in, related-inside, inter-agrees, sometimes-same, always-same, further-in, onward-into}
+use Rattle.mucalculus.specs.Until.{further, onward, until-least}
 use Rattle.mucalculus.specs.Polarity.{put-swap}
 use Rattle.mucalculus.specs.Rounds.{runs, rounds}
 
@@ -59,20 +59,20 @@ module _ (m : Model) (X : ℕ) (A : List Bool) where
   pub means-absent : (f : Form) → T (absent X f) → (e : Env) → means m (put e X A) f ≡ means m e f
   means-absent bot h e = refl
   means-absent top h e = refl
-  means-absent (neg f) h e = ap (compl (size m)) (means-absent f h e)
+  means-absent (neg f) h e = ap (λ (B : List Bool). inter (size m) (compl (size m) B) (exist m)) (means-absent f h e)
   means-absent (conj f g) h e = let w = and-out (absent X f) (absent X g) h in ap₂ (inter (size m)) (means-absent f (w .0) e) (means-absent g (w .1) e)
   means-absent (disj f g) h e = let w = and-out (absent X f) (absent X g) h in ap₂ (union (size m)) (means-absent f (w .0) e) (means-absent g (w .1) e)
   means-absent (now p) h e = refl
   means-absent (next p) h e = refl
-  means-absent (var P) h e = ap (clip (size m)) (var-apart (eqb P X) A (e P) h)
+  means-absent (var P) h e = ap (λ (B : List Bool). inter (size m) B (exist m)) (var-apart (eqb P X) A (e P) h)
   means-absent (reg r) h e = refl
-  means-absent (box t f) h e = ap (always (size m) (inside (m .rel t))) (means-absent f h e)
-  means-absent (dia t f) h e = ap (sometimes (size m) (inside (m .rel t))) (means-absent f h e)
-  means-absent (mu P f) h e = let w = and-out (not (eqb P X)) (absent X f) h in ap (least (size m)) (fun-ext (λ B.
+  means-absent (box t f) h e = ap (λ (B : List Bool). inter (size m) (always (size m) (related m t) B) (exist m)) (means-absent f h e)
+  means-absent (dia t f) h e = ap (sometimes (size m) (related m t)) (means-absent f h e)
+  means-absent (mu P f) h e = let w = and-out (not (eqb P X)) (absent X f) h in ap (least (size m) (exist m)) (fun-ext (λ B.
       ap (λ (d : Env). means m d f) (put-swap e X A P B (apart P X (w .0))) ∙ means-absent f (w .1) (put e P B)))
-  means-absent (nu P f) h e = let w = and-out (not (eqb P X)) (absent X f) h in ap (greatest (size m)) (fun-ext (λ B.
+  means-absent (nu P f) h e = let w = and-out (not (eqb P X)) (absent X f) h in ap (greatest (size m) (exist m)) (fun-ext (λ B.
       ap (λ (d : Env). means m d f) (put-swap e X A P B (apart P X (w .0))) ∙ means-absent f (w .1) (put e P B)))
-  means-absent (until b t f g) h e = let w = and-out (absent X f) (absent X g) h in ap₂ (λ (F G : List Bool). untilSet b (size m) (inside (m .rel t)) F G) (means-absent f (w .0) e) (means-absent g (w .1) e)
+  means-absent (until b t f g) h e = let w = and-out (absent X f) (absent X g) h in ap₂ (λ (F G : List Bool). untilSet b (size m) (related m t) F G) (means-absent f (w .0) e) (means-absent g (w .1) e)
 
   pub rounds-absent : (f : Form) → T (absent X f) → (e : Env) → rounds m (put e X A) f ≡ rounds m e f
   rounds-absent bot h e = refl
@@ -88,58 +88,59 @@ module _ (m : Model) (X : ℕ) (A : List Bool) where
   rounds-absent (dia t f) h e = rounds-absent f h e
   rounds-absent (mu P f) h e =
       let w = and-out (not (eqb P X)) (absent X f) h in
-      runs-same _ _ _ _ (suc (size m)) (start true (size m))
+      runs-same _ _ _ _ (suc (size m)) (start true (size m) (exist m))
       (λ B. ap (λ (d : Env). means m d f) (put-swap e X A P B (apart P X (w .0))) ∙ means-absent f (w .1) (put e P B))
       (λ B. ap (λ (d : Env). rounds m d f) (put-swap e X A P B (apart P X (w .0))) ∙ rounds-absent f (w .1) (put e P B))
   rounds-absent (nu P f) h e =
       let w = and-out (not (eqb P X)) (absent X f) h in
-      runs-same _ _ _ _ (suc (size m)) (start false (size m))
+      runs-same _ _ _ _ (suc (size m)) (start false (size m) (exist m))
       (λ B. ap (λ (d : Env). means m d f) (put-swap e X A P B (apart P X (w .0))) ∙ means-absent f (w .1) (put e P B))
       (λ B. ap (λ (d : Env). rounds m d f) (put-swap e X A P B (apart P X (w .0))) ∙ rounds-absent f (w .1) (put e P B))
   rounds-absent (until b t f g) h e =
       let w = and-out (absent X f) (absent X g) h in
-      runs-same _ _ _ _ (suc (size m)) (start true (size m))
-      (λ B. ap₂ (λ (F G : List Bool). onward b (size m) (inside (m .rel t)) F G B) (means-absent f (w .0) e) (means-absent g (w .1) e))
+      runs-same _ _ _ _ (suc (size m)) (start true (size m) (exist m))
+      (λ B. ap₂ (λ (F G : List Bool). onward b (size m) (related m t) F G B) (means-absent f (w .0) e) (means-absent g (w .1) e))
       (λ B. ap₂ _+_ (rounds-absent g (w .1) e) (rounds-absent f (w .0) e))
 
 -- ---- the translation
-
-pub sometimes-clip : (k : ℕ) (R : Pairs) (A : List Bool) → sometimes k R (clip k A) ≡ sometimes k R A
-sometimes-clip k R A = table-ext k _ _ (λ s l.
-    over-same true (λ t. pair R s t && mem (clip k A) t) (λ t. pair R s t && mem A t) (table k (λ t. t))
-    (table-out k (λ t. t) (λ t. (pair R s t && mem (clip k A) t) ≡ (pair R s t && mem A t)) (λ t i. ap (λ (c : Bool). pair R s t && c) (getD-table k (mem A) t false i))))
-
-pub always-clip : (k : ℕ) (R : Pairs) (A : List Bool) → always k R (clip k A) ≡ always k R A
-always-clip k R A = table-ext k _ _ (λ s l.
-    over-same false (λ t. not (pair R s t) || mem (clip k A) t) (λ t. not (pair R s t) || mem A t) (table k (λ t. t))
-    (table-out k (λ t. t) (λ t. (not (pair R s t) || mem (clip k A) t) ≡ (not (pair R s t) || mem A t)) (λ t i. ap (λ (c : Bool). not (pair R s t) || c) (getD-table k (mem A) t false i))))
 
 pub put-here : {Y : Type 0} (e : ℕ → Y) (X : ℕ) (x : Y) → put e X x X ≡ x
 put-here e X x = ap (λ (c : Bool). cond c x (e X)) (true-of (eqb X X) (eqb-refl X))
 
 module _ (m : Model) (e : Env) (b : Bool) (t X : ℕ) where
-  pub goes-means : (A : List Bool) → means m (put e X A) (goes b t X) ≡ further b (size m) (inside (m .rel t)) A
+  pub goes-means : (A : List Bool) → means m (put e X A) (goes b t X) ≡ further b (size m) (related m t) A
   goes-means A = go b
     where
-      go : (b : Bool) → means m (put e X A) (goes b t X) ≡ further b (size m) (inside (m .rel t)) A
-      go true = ap (λ (B : List Bool). sometimes (size m) (inside (m .rel t)) (clip (size m) B)) (put-here e X A) ∙ sometimes-clip (size m) (inside (m .rel t)) A
+      k : ℕ
+      k = size m
+
+      Q : Pairs
+      Q = related m t
+
+      -- X is read as A's existing states
+      read : means m (put e X A) (var X) ≡ inter k A (exist m)
+      read = ap (λ (B : List Bool). inter k B (exist m)) (put-here e X A)
+
+      go : (b : Bool) → means m (put e X A) (goes b t X) ≡ further b (size m) (related m t) A
+      go true = ap (sometimes k Q) read ∙ sometimes-same k (exist m) Q (related-inside m t) (inter k A (exist m)) A (inter-agrees k (exist m) A)
       go false =
-          ap (λ (B : List Bool). inter (size m) B (means m (put e X A) (dia t top)))
-          (ap (λ (B : List Bool). always (size m) (inside (m .rel t)) (clip (size m) B)) (put-here e X A) ∙ always-clip (size m) (inside (m .rel t)) A)
+          ap (λ (B : List Bool). inter k (inter k B (exist m)) (sometimes k Q (exist m)))
+          (ap (always k Q) read ∙ always-same k (exist m) Q (related-inside m t) (inter k A (exist m)) A (inter-agrees k (exist m) A))
+          ∙ further-in k (exist m) Q (related-inside m t) A
 
   module _ (f g : Form) (hf : T (absent X f)) (hg : T (absent X g)) where
     -- a round of the written formula is one of until
-    pub written-round : (A : List Bool) → means m (put e X A) (disj g (conj f (goes b t X))) ≡ onward b (size m) (inside (m .rel t)) (means m e f) (means m e g) A
+    pub written-round : (A : List Bool) → means m (put e X A) (disj g (conj f (goes b t X))) ≡ onward b (size m) (related m t) (means m e f) (means m e g) A
     written-round A =
         ap₂ (union (size m)) (means-absent m X A g hg e) (ap₂ (inter (size m)) (means-absent m X A f hf e) (goes-means A))
 
     -- UNTIL IS THE WRITTEN FORMULA, in meaning
     pub until-written : means m e (until b t f g) ≡ means m e (written b t X f g)
-    until-written = until-least (size m) (inside (m .rel t)) b (means m e f) (means m e g) ∙ ap (least (size m)) (fun-ext (λ A. sym (written-round A)))
+    until-written = until-least (size m) (related m t) b (means m e f) (means m e g) (exist m) (onward-into m t b (means m e f) (means m e g) (means-in m e f) (means-in m e g)) ∙ ap (least (size m) (exist m)) (fun-ext (λ A. sym (written-round A)))
 
     -- and in rounds
     pub rounds-written : rounds m e (until b t f g) ≡ rounds m e (written b t X f g)
-    rounds-written = sym (runs-same _ _ _ _ (suc (size m)) (start true (size m)) written-round
+    rounds-written = sym (runs-same _ _ _ _ (suc (size m)) (start true (size m) (exist m)) written-round
         (λ A. ap₂ _+_ (rounds-absent m X A g hg e) (ap₂ _+_ (rounds-absent m X A f hf e) (none b A) ∙ add-zero (rounds m e f))))
       where
         none : (b : Bool) (A : List Bool) → rounds m (put e X A) (goes b t X) ≡ zero

@@ -6,6 +6,7 @@ use counting::begin;
 use evaluator::Stack;
 use evaluator::join_of;
 use evaluator::live_step;
+use evaluator::root_arrow;
 use evaluator::unmoved;
 use formula::Frame;
 use layout::Table;
@@ -22,7 +23,7 @@ use tokens::lead_at;
 ghost use mathlib.Core.Path.{_≡_};
 ghost use Rattle.layout.specs.View.{view};
 ghost use Rattle.counting.specs.Counts.{CountsOf};
-ghost use Rattle.pairs.specs.Pairing.{fromTaken, LeafPre, LeafPost, RelatePre, RelatePost, NegatePost, BothPre, BothPost, PairsPre, PairsPost};
+ghost use Rattle.pairs.specs.Pairing.{fromTaken, LeafPre, LeafPost, RelatePre, RelatePost, NegatePost, BothPre, BothPost, WithinPre, WithinPost, PairsPre, PairsPost, RelationPost};
 
 // What an evaluation answers: the arrow of the relation, the place after the formula and what is counted; or that rows ran out.
 pub enum Related {
@@ -198,7 +199,38 @@ fn both(
     answer(taken, end)
 }
 
-// Evaluates the relation's formula in `bytes`, which has passed the checks, with nothing remembered before.
+// The pairs of an arrow within V: AND with V, SHIFT of V, AND with that.
+fn within(
+    words: &mut [u32],
+    counts: &mut [u32],
+    stack: &mut [u32],
+    limits: Limits,
+    a: u32,
+    count: Count,
+) -> Taken
+    requires { ⌜ WithinPre limits (view (limits .rows) (now words)) (now stack) a × CountsOf (view (limits .rows) (now words)) (now counts) ⌝ }
+    ensures { λ r. ⌜ WithinPost limits (view (limits .rows) (now (words .entry))) (view (limits .rows) (now (words .exit))) (now (stack .entry)) a count r × CountsOf (view (limits .rows) (now (words .exit))) (now (counts .exit)) ⌝ }
+{
+    let valid = root_arrow(words, Table::VALID);
+    let Taken::At {
+        arrow: b,
+        count: first,
+    } = live_step(words, counts, stack, limits, 0, Step::And(a, valid), count)
+    else {
+        return Taken::Full;
+    };
+    stack[0] = b;
+    let Taken::At {
+        arrow: c,
+        count: second,
+    } = live_step(words, counts, stack, limits, 1, Step::Shift(valid), first)
+    else {
+        return Taken::Full;
+    };
+    live_step(words, counts, stack, limits, 0, Step::And(b, c), second)
+}
+
+// Evaluates the formula of a relation or of valid in `bytes`, which has passed the checks, over all states, with nothing remembered before.
 pub fn evaluate_pairs(words: &mut [u32], limits: Limits, bytes: &[u8]) -> Taken
     requires { ⌜ PairsPre limits (view (limits .rows) (now words)) (now bytes) ⌝ }
     ensures { λ r. ⌜ PairsPost limits (view (limits .rows) (now (words .entry))) (view (limits .rows) (now (words .exit))) (now (bytes .entry)) r ⌝ }
@@ -226,4 +258,34 @@ pub fn evaluate_pairs(words: &mut [u32], limits: Limits, bytes: &[u8]) -> Taken
         return Taken::Full;
     };
     unmoved(a, c)
+}
+
+// Evaluates a relation's formula in `bytes`, which has passed the checks, within V, with nothing remembered before.
+pub fn evaluate_relation(words: &mut [u32], limits: Limits, bytes: &[u8]) -> Taken
+    requires { ⌜ PairsPre limits (view (limits .rows) (now words)) (now bytes) ⌝ }
+    ensures { λ r. ⌜ RelationPost limits (view (limits .rows) (now (words .entry))) (view (limits .rows) (now (words .exit))) (now (bytes .entry)) r ⌝ }
+{
+    forget(words, limits.rows);
+    let mut counts = [0u32; Counts::WORDS];
+    begin(words, limits.rows, &mut counts);
+    let mut stack = [0u32; Stack::WORDS];
+    let Related::Value {
+        arrow: a,
+        next: _,
+        count: c,
+    } = relate(
+        words,
+        &mut counts,
+        &mut stack,
+        bytes,
+        limits,
+        Frame::START,
+        Table::DEPTH,
+        0,
+        Count { rounds: 0, peak: 0 },
+    )
+    else {
+        return Taken::Full;
+    };
+    within(words, &mut counts, &mut stack, limits, a, c)
 }

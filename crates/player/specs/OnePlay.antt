@@ -15,14 +15,15 @@ use Rattle.mucalculus.specs.Form.{noEnv}
 use Rattle.mucalculus.specs.Means.{means}
 use Rattle.mucalculus.specs.Order.{weight}
 use Rattle.tokens.specs.declared.Kind.the-variants.{Set}
-use Rattle.book.specs.Book.{Book, Call, relation, set, clear, collect, count, fresh, freshNumber, modelOf, formulaIn, does, answer}
+use Rattle.book.specs.Book.{Book, Call, relation, set, valid, clear, collect, count, fresh, freshNumber, modelOf, formulaIn, does, answer}
 use Rattle.book.specs.Program.{Command, start, call, states}
 use Rattle.book.specs.Stored.{Whole, whole-fresh, whole-does, some-inj, none-some}
 use Rattle.book.specs.Table.{Reply, Agrees, Serves, Tells}
 use Rattle.book.specs.Leaves.{valued, shows-fresh}
 use Rattle.book.specs.BookOf.{bookOf, whole-bookOf, only-book}
 use Rattle.book.specs.OneReply.{settledIn, call-value, ask-value}
-use Rattle.contract.specs.Seen.{seen, SoundWords, any-words}
+use Rattle.soundness.specs.Sound.{tableOf}
+use Rattle.contract.specs.Seen.{seen, SoundWords, sound-table, any-words}
 use Rattle.contract.specs.Posts.{CallPost}
 use Rattle.contract.specs.Answered.{count-means}
 use Rattle.contract.specs.OneAnswer.{fresh-one}
@@ -79,7 +80,7 @@ call-steps c {a} {b} {v} {w} {y} {z} h p q = record {
 }
   where
     whole : Whole (does (bookOf (seen a)) c .0)
-    whole = whole-does (bookOf (seen a)) c (whole-bookOf (seen a))
+    whole = whole-does (bookOf (seen a)) c (whole-bookOf (seen a) (sound-table (tableOf a) (h .first)))
 
     s : SoundWords v × Serves (bookOf (seen a)) c (seen a) (seen v) y
     s = p .performs .served (h .first)
@@ -136,6 +137,9 @@ step-one (start n N) {a} {b} {v} {w} {x} {z} h p q = fresh-steps n N a b v w x z
 step-one (states r) {a} {b} {v} {w} {x} {z} h p q = count-steps r a b v w x z h (p .operation ∙ sym (q .operation)) (p .posted) (q .posted)
 step-one (call (relation t bs)) h p q =
     let s = call-steps (relation t bs) h (p .posted .0) (q .posted .0) in
+    (plain-one (p .operation ∙ sym (q .operation)) (s .number) (s .rounds) (s .value) (s .peak) (p .posted .1) (q .posted .1), s .ends)
+step-one (call (valid bs)) h p q =
+    let s = call-steps (valid bs) h (p .posted .0) (q .posted .0) in
     (plain-one (p .operation ∙ sym (q .operation)) (s .number) (s .rounds) (s .value) (s .peak) (p .posted .1) (q .posted .1), s .ends)
 step-one (call (clear r)) h p q =
     let s = call-steps (clear r) h (p .posted .0) (q .posted .0) in

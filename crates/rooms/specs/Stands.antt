@@ -13,14 +13,15 @@ use borrow.Author.Tests.{eqb-true, eqb-false}
 use Rattle.mucalculus.specs.Order.{weight}
 use Rattle.layout.specs.View.{View}
 use Rattle.soundness.specs.Says.{Says, holds, fails}
-use Rattle.book.specs.Book.{Book, fresh, freshFits, Call, relation, set, clear, collect, count, registers, refused, asked, Done, does, answer}
+use Rattle.book.specs.Book.{Book, fresh, freshFits, Call, relation, set, valid, clear, collect, count, registers, refused, asked, Done, does, answer}
 use Rattle.book.specs.Program.{Line, fields, Command, start, call, states, wordsLent, statesIn, valueOf, opOf, shown, obey}
 use Rattle.book.specs.Table.{Agrees, SettledTo}
 use Rattle.book.specs.Leaves.{shows-fresh, valued}
 use Rattle.book.specs.BookOf.{bookOf, only-book, whole-bookOf}
-use Rattle.book.specs.Stored.{whole-fresh, whole-does, relation-cases, range-cases}
+use Rattle.book.specs.Stored.{whole-fresh, whole-does, relation-cases, valid-cases, range-cases}
 use Rattle.book.specs.Truthful.{set-leaves}
-use Rattle.contract.specs.Seen.{seen, SoundWords}
+use Rattle.soundness.specs.Sound.{tableOf}
+use Rattle.contract.specs.Seen.{seen, SoundWords, sound-table}
 use Rattle.contract.specs.Posts.{CallPost}
 use Rattle.contract.specs.Answered.{count-means}
 use Rattle.commands.specs.declared.Outcome.{Outcome}
@@ -77,6 +78,7 @@ module _ (o : Option Book) (n N : ℕ) (old new : List ℕ) (x : Outcome) (z : l
 refused-value : (c : Call) (new : List ℕ) (x : Outcome) → Beside c new x → 1 ≤ x .number → replyOf c x .value ≡ 0 → x .value ≡ 0
 refused-value (relation t bs) new x b l v = v
 refused-value (set acc r R bs) new x b l v = b .1 l
+refused-value (valid bs) new x b l v = v
 refused-value (clear r) new x b l v = v
 refused-value collect new x b l v = v
 
@@ -84,12 +86,14 @@ refused-value collect new x b l v = v
 reply-number : (c : Call) (x : Outcome) → replyOf c x .number ≡ x .number
 reply-number (relation t bs) x = refl
 reply-number (set acc r R bs) x = refl
+reply-number (valid bs) x = refl
 reply-number (clear r) x = refl
 reply-number collect x = refl
 
 reply-rounds : (c : Call) (x : Outcome) → replyOf c x .rounds ≡ x .rounds
 reply-rounds (relation t bs) x = refl
 reply-rounds (set acc r R bs) x = refl
+reply-rounds (valid bs) x = refl
 reply-rounds (clear r) x = refl
 reply-rounds collect x = refl
 
@@ -112,9 +116,12 @@ value-shown k v w a r = go (eqb k 0) refl
     go true e = a (eqb-true k 0 e)
     go false e = sym (r (lt-of-not-le (λ l. eqb-false k 0 e (omega arith))))
 
--- relation and clear always settle their value at 0
+-- relation, valid and clear always settle their value at 0
 relation-value : (b : Book) (t : ℕ) (bs : List ℕ) → does b (relation t bs) .1 .value ≡ some 0
 relation-value b t bs = relation-cases (λ (d : Done). d .1 .value ≡ some 0) b t bs (λ k i j. refl) (λ l p q. refl)
+
+valid-value : (b : Book) (bs : List ℕ) → does b (valid bs) .1 .value ≡ some 0
+valid-value b bs = valid-cases (λ (d : Done). d .1 .value ≡ some 0) b bs (λ k i j. refl) (λ t p. refl)
 
 clear-value : (b : Book) (r : ℕ) → does b (clear r) .1 .value ≡ some 0
 clear-value b r = range-cases (λ (d : Done). d .1 .value ≡ some 0) r registers _ _ (λ l. refl) (λ l. refl)
@@ -134,6 +141,9 @@ call-value (set acc r R bs) old new x p b g =
     let z : x .number ≡ 0 = g .number ∙ e in
     ap statesIn (set-leaves (bookOf (seen old)) acc r R bs (nodeReply x) g z) ∙ sym (count-means old new acc r R bs (nodeReply x) p z (valued (x .value)) (b .0 z)))
     (λ l. b .1 (omega (arith, g .number)))
+call-value (valid bs) old new x p b g =
+    let e = settled _ 0 (x .value) (valid-value (bookOf (seen old)) bs) (g .value) in
+    value-shown (does (bookOf (seen old)) (valid bs) .1 .number) 0 (x .value) (λ k. sym e) (λ k. e)
 call-value (clear r) old new x p b g =
     let e = settled _ 0 (x .value) (clear-value (bookOf (seen old)) r) (g .value) in
     value-shown (does (bookOf (seen old)) (clear r) .1 .number) 0 (x .value) (λ k. sym e) (λ k. e)
@@ -150,7 +160,7 @@ some-obeyed c old new x z s e p =
     let j = reply-rounds c x in
     record {
       line = cc;
-      stands = (p .0 .kept s .size ∙ z, w, only-book (does (bookOf (seen old)) c .0) (seen new) (whole-does (bookOf (seen old)) c (whole-bookOf (seen old))) (g .shows));
+      stands = (p .0 .kept s .size ∙ z, w, only-book (does (bookOf (seen old)) c .0) (seen new) (whole-does (bookOf (seen old)) c (whole-bookOf (seen old) (sound-table (tableOf old) s))) (g .shows));
     }
 
 -- ---- a count

@@ -11,13 +11,14 @@ use Rattle.diagram.specs.Grow.{arrow-extends, same-wellFormed}
 use Rattle.diagram.specs.Reach.{Reach, one-root}
 use Rattle.diagram.specs.Keep.{Keeps, extends-keeps, keeps-reach-back}
 use Rattle.diagram.specs.Even.{even}
-use Rattle.layout.specs.Places.{BITS, ROWS, USED, LAYOUT, FIRST-REGISTER, ROOTS-END, LOW, HIGH, LEVEL, NEXT, RANK}
+use Rattle.layout.specs.Places.{BITS, ROWS, USED, LAYOUT, CURRENT, VALID, ROOTS-END, LOW, HIGH, LEVEL, NEXT, RANK}
 use Rattle.layout.specs.View.{View, header-is}
 use Rattle.soundness.specs.Used.{used, used-yes, used-in, InList, rowsOf}
 use Rattle.soundness.specs.Index.{keyOf, live, live-link, Hit, Down, Index}
 use Rattle.soundness.specs.Framed.{hit-frame, live-more}
 use Rattle.soundness.specs.Roots.{Ref}
 use Rattle.soundness.specs.Sound.{Good, Sound, tableOf}
+use Rattle.soundness.specs.Kept.{valid-kept, within-extends}
 
 -- the two agree in sizes, layout and roots, in the list of used rows, and in the listed rows' level, arrows, link, rank and bucket
 pub record Alike (W X : View) : Type 0 where
@@ -27,7 +28,7 @@ pub record Alike (W X : View) : Type 0 where
   pub count : X .header ROWS ≡ W .header ROWS
   pub used : X .header USED ≡ W .header USED
   pub layout : X .header LAYOUT ≡ W .header LAYOUT
-  pub roots : (h : ℕ) → FIRST-REGISTER ≤ h → h < ROOTS-END → X .header h ≡ W .header h
+  pub roots : (h : ℕ) → VALID ≤ h → h < ROOTS-END → X .header h ≡ W .header h
   pub list : (k : ℕ) → k < W .header USED → X .list k ≡ W .list k
   pub cell : (k : ℕ) → k < W .header USED → (l : ℕ) → l ≤ RANK → X .cell (W .list k) l ≡ W .cell (W .list k) l
   pub head : (k : ℕ) → k < W .header USED → X .head (keyOf W (W .list k)) ≡ W .head (keyOf W (W .list k))
@@ -126,12 +127,14 @@ module _ {W X : View} (e : Alike W X) where
         let k : Keeps (rowsOf W) (rowsOf X) (b ∷ []) = extends-keeps (s .good .rows) (one-root (Arrow (rowsOf W)) u) (same .forth) in
         let t : Reach (rowsOf W) (b ∷ []) i = keeps-reach-back k r in
         ap even (k .level i t) ∙ s .even h a l b q′ i t;
+    valid = valid-kept W X (e .roots) (s .valid);
+    within = within-extends W X (e .roots) (s .valid) (e .bits) (s .good .rows) (s .refs) (same .forth) (s .within);
   }
 
 -- "All zero words are unsound."
 pub zeros-unsound : (ws : List ℕ) → ((k : ℕ) → getD ws k 0 ≡ 0) → Sound (tableOf ws) → ⊥
 zeros-unsound ws z s = let e = header-is ws BITS (omega arith) ∙ z BITS in let p = s .good .sizes .n-pos in omega arith
 
--- "Old lent words are refused by 2": they have 0 for the layout, as nothing wrote that word.
-pub old-unsound : (ws : List ℕ) → getD ws LAYOUT 0 ≡ 0 → Sound (tableOf ws) → ⊥
-old-unsound ws z s = let e = header-is ws LAYOUT (omega arith) ∙ z in let p = s .good .layout-is in omega (arith, e, p)
+-- "Old lent words are refused by 2": the words of the first layout have 0 for it, as nothing wrote that word, and those without V have 2.
+pub old-unsound : (ws : List ℕ) → getD ws LAYOUT 0 < CURRENT → Sound (tableOf ws) → ⊥
+old-unsound ws z s = let e = header-is ws LAYOUT (omega arith) in let p = s .good .layout-is in omega (arith, e, p, z)

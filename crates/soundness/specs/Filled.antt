@@ -1,12 +1,12 @@
--- The arrows that registers and relations hold, as a list. Assumes nothing.
+-- The arrows that V, registers and relations hold, as a list. Assumes nothing.
 use mathlib.Core.Path.{_≡_, ap, sym, _∙_, subst}
 use mathlib.Core.Logic.{_⊎_, inl, inr, ⊎-elim, by-cases}
 use mathlib.Core.List.{List, [], _∷_, List·Memᴰ as Mem, List·Memᴰ·head as first, List·Memᴰ·tail as later, List·Memᴰ·cases-cons as mem-cases, List·Memᴰ·not-nil as mem-nil}
-use Prim.Native.Nat.{ℕ, zero, suc, _+_}
+use Prim.Native.Nat.{ℕ, zero, suc, _+_, _≤_, _<_}
 use native.Mathlib.Omega.{arith}
 use native.Mathlib.Decide.{ℕ-discrete}
 use Rattle.diagram.specs.Rows.{Arrow}
-use Rattle.layout.specs.Places.{FIRST-REGISTER, ROOTS-END, ROOTS}
+use Rattle.layout.specs.Places.{VALID, ROOTS-END, ROOTS}
 use Rattle.layout.specs.View.{View}
 use Rattle.soundness.specs.Used.{rowsOf}
 use Rattle.soundness.specs.Roots.{Ref, Held}
@@ -22,9 +22,9 @@ unfoldable pub held : View → ℕ → ℕ → List ℕ
 held W start zero = []
 held W start (suc k) = push (W .header (start + k)) (held W start k)
 
--- "all filled registers and relations"
+-- "all filled registers and relations"; "V is live always"
 abbrev pub filled : View → List ℕ
-filled W = held W FIRST-REGISTER ROOTS
+filled W = held W VALID ROOTS
 
 mem-push : (a w : ℕ) (xs : List ℕ) → Mem a (push w xs) → (w ≡ suc a) ⊎ Mem a xs
 mem-push a zero xs h = inr h
@@ -55,12 +55,16 @@ held-mem W start (suc k) a x = by-cases (ℕ-discrete (x .at) (start + k))
     (held-mem W start k a (record { at = x .at; from = x .from; below = let l = x .below in omega arith; holds = x .holds })))
 
 -- the same as words of the header
-pub mem-filled : (W : View) (a : ℕ) → Mem a (filled W) → Held W FIRST-REGISTER ROOTS-END a
-mem-filled W a h = mem-held W FIRST-REGISTER ROOTS a h
+pub mem-filled : (W : View) (a : ℕ) → Mem a (filled W) → Held W VALID ROOTS-END a
+mem-filled W a h = mem-held W VALID ROOTS a h
 
-pub filled-mem : (W : View) (a : ℕ) → Held W FIRST-REGISTER ROOTS-END a → Mem a (filled W)
-filled-mem W a x = held-mem W FIRST-REGISTER ROOTS a x
+pub filled-mem : (W : View) (a : ℕ) → Held W VALID ROOTS-END a → Mem a (filled W)
+filled-mem W a x = held-mem W VALID ROOTS a x
 
--- a sound table's registers and relations hold arrows
+-- what a root holds is among them
+pub root-filled : (W : View) (h a : ℕ) → VALID ≤ h → h < ROOTS-END → W .header h ≡ suc a → Mem a (filled W)
+root-filled W h a lo hi e = filled-mem W a (record { at = h; from = lo; below = hi; holds = e })
+
+-- a sound table's roots hold arrows
 pub filled-arrow : {W : View} → Sound W → (a : ℕ) → Mem a (filled W) → Arrow (rowsOf W) a
 filled-arrow {W} s a h = let x = mem-filled W a h in subst (Ref (rowsOf W)) (x .holds) (s .refs (x .at) (x .from) (x .below))

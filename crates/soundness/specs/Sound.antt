@@ -1,12 +1,12 @@
 -- When a table is sound, and that the parts of the check decide it. Assumes nothing.
-use mathlib.Core.Path.{_≡_, subst}
-use mathlib.Core.Bool.{true}
-use mathlib.Core.Logic.{⊎-elim}
+use mathlib.Core.Path.{_≡_, sym, _∙_, subst}
+use mathlib.Core.Bool.{Bool, true}
+use mathlib.Core.Logic.{⊎-elim, _≢_}
 use mathlib.Core.List.{List, [], _∷_}
-use Prim.Native.Nat.{ℕ, zero, suc, _*_, _%_, _≤_, _<_}
+use Prim.Native.Nat.{ℕ, zero, suc, _-_, _*_, _%_, _≤_, _<_}
 use native.Mathlib.Omega.{arith}
 use borrow.Author.Tests.{eq-eqb, eqb-true}
-use Rattle.layout.specs.Places.{BITS, ROWS, USED, LAYOUT, MARKED, FIRST-REGISTER, FIRST-RELATION, ROOTS-END, LOW, HIGH, LEVEL, RANK}
+use Rattle.layout.specs.Places.{BITS, ROWS, USED, LAYOUT, CURRENT, VALID, FIRST-RELATION, ROOTS-END, LOW, HIGH, LEVEL, RANK}
 use Rattle.diagram.specs.Rows.{target, ArrowTo, levelTo, RowOk, WellFormed}
 use Rattle.diagram.specs.Reach.{Reach, one-root}
 use Rattle.diagram.specs.Even.{even}
@@ -18,18 +18,20 @@ use Rattle.soundness.specs.Mark.{OnArrow, Closed, closed-reach, reaches-
 use Rattle.soundness.specs.Roots.{Ref, Held, MarksAll}
 use Rattle.soundness.specs.Checks.{Room, Placed, LeadsTo, RowGood, Finds, Links, EvenMarked}
 use Rattle.soundness.specs.Triples.{Ready, small-of}
+use Rattle.soundness.specs.Says.{Says, holds, fails}
+use Rattle.soundness.specs.Within.{Within, validOf}
 
--- "each register is empty or an arrow whose rows all have even levels"
-abbrev pub EvenRegs : View → Type 0
-EvenRegs W = (h : ℕ) → FIRST-REGISTER ≤ h → h < FIRST-RELATION → (a : ℕ) → W .header h ≡ suc a → (i : ℕ) → Reach (rowsOf W) (a ∷ []) i → even (rowsOf W .level i) ≡ true
+-- "each register is empty or an arrow whose rows all have even levels", "V's rows on even levels"
+abbrev pub EvenSets : View → Type 0
+EvenSets W = (h : ℕ) → VALID ≤ h → h < FIRST-RELATION → (a : ℕ) → W .header h ≡ suc a → (i : ℕ) → Reach (rowsOf W) (a ∷ []) i → even (rowsOf W .level i) ≡ true
 
 -- the rows are sound
 pub record Good (W : View) : Type 0 where
   -- "n and N are in range and the slice is long enough"
   pub sizes : Sizes (W .header BITS) (W .rows) (W .size)
   pub rows-is : W .header ROWS ≡ W .rows
-  -- "old lent words are refused by 2": the words have the layout in which arrows may carry a NOT
-  pub layout-is : W .header LAYOUT ≡ MARKED
+  -- "old lent words are refused by 2": the words have the layout in which arrows may carry a NOT and V is a root
+  pub layout-is : W .header LAYOUT ≡ CURRENT
   -- "a list of unused rows, if one is kept, holds those and only those, each once": ours is that of the used rows
   pub ranked : Ranked W
   -- "row levels are under 2n, and each arrow to a row leads to a greater level", "low and high differ, and no two used rows agree in all three",
@@ -41,9 +43,12 @@ pub record Good (W : View) : Type 0 where
 -- "A table is sound when": its rows are, and
 pub record Sound (W : View) : Type 0 where
   pub good : Good W
-  -- "each register is empty or an arrow"; "each relation is empty or any arrow"
-  pub refs : (h : ℕ) → FIRST-REGISTER ≤ h → h < ROOTS-END → Ref (rowsOf W) (W .header h)
-  pub even : EvenRegs W
+  -- "each register is empty or an arrow"; "each relation is empty or any arrow"; V is an arrow
+  pub refs : (h : ℕ) → VALID ≤ h → h < ROOTS-END → Ref (rowsOf W) (W .header h)
+  pub valid : W .header VALID ≢ 0
+  pub even : EvenSets W
+  -- "registers within V, and relations within V and SHIFT of V"
+  pub within : Within W (validOf W)
 
 -- the table that words hold
 abbrev pub tableOf : List ℕ → View
@@ -53,7 +58,7 @@ tableOf ws = view (headerOf ws ROWS) ws
 pub record Parts (W : View) : Type 0 where
   pub sizes : Sizes (W .header BITS) (W .rows) (W .size)
   pub rows-is : W .header ROWS ≡ W .rows
-  pub layout-is : W .header LAYOUT ≡ MARKED
+  pub layout-is : W .header LAYOUT ≡ CURRENT
   pub count-le : W .header USED ≤ W .rows
   pub list : (k : ℕ) → k < W .header USED → Placed W k
   pub rows : (k : ℕ) → k < W .header USED → RowGood W (2 * W .header BITS) (W .list k)
@@ -153,18 +158,38 @@ module _ (W : View) where
       index = λ k h. g .index .found (W .list k) (listed-used W (g .ranked) k h);
     }
 
--- the registers' rows are those that were marked from them
+-- where the other parts hold, the index decides
+pub index-tells : {n : ℕ} {r : Bool} (W : View) → Sizes (W .header BITS) (W .rows) (W .size) → W .header ROWS ≡ W .rows → W .header LAYOUT ≡ CURRENT → n ≡ W .header USED → n ≤ W .rows
+    → ((k : ℕ) → k < n → Placed W k) → ((k : ℕ) → k < n → RowGood W (2 * W .header BITS) (W .list k)) → Says ((k : ℕ) → k < n → Finds W (W .list k)) r → Says (Good W) r
+index-tells W z e l q c p g (holds f) = holds (good-of W (record {
+  sizes = z;
+  rows-is = e;
+  layout-is = l;
+  count-le = omega arith;
+  list = λ k h. p k (omega arith);
+  rows = λ k h. g k (omega arith);
+  index = λ k h. f k (omega arith);
+}))
+index-tells W z e l q c p g (fails f) = fails (λ x. f (λ k h. of-good W x .index k (omega arith)))
+
+-- where the rows are sound and the roots arrows, what lies within V decides
+pub within-tells : {k : ℕ} {r : Bool} {W : View} → Good W → ((h : ℕ) → VALID ≤ h → h < ROOTS-END → Ref (rowsOf W) (W .header h)) → k ≡ W .header VALID → k ≢ 0 → EvenSets W
+    → Says (Within W (k - 1)) r → Says (Sound W) r
+within-tells {W = W} g u e n v (holds w) = holds (record { good = g; refs = u; valid = λ z. n (e ∙ z); even = v; within = subst (λ (k : ℕ). Within W (k - 1)) e w })
+within-tells {W = W} g u e n v (fails f) = fails (λ s. f (subst (λ (k : ℕ). Within W (k - 1)) (sym e) (s .within)))
+
+-- the rows of V and of the registers are those that were marked from them
 module _ (W : View) (ranked : Ranked W) (wf : WellFormed (2 * W .header BITS) (W .rows) (rowsOf W)) (z z′ : List ℕ) (none : (i : ℕ) → On z i → ⊥)
-    (k : MarksAll (rowsOf W) z z′ (Held W FIRST-REGISTER FIRST-RELATION)) (refs : (h : ℕ) → FIRST-REGISTER ≤ h → h < FIRST-RELATION → Ref (rowsOf W) (W .header h)) where
-  pub marked-even : EvenMarked W z′ → EvenRegs W
+    (k : MarksAll (rowsOf W) z z′ (Held W VALID FIRST-RELATION)) (refs : (h : ℕ) → VALID ≤ h → h < FIRST-RELATION → Ref (rowsOf W) (W .header h)) where
+  pub marked-even : EvenMarked W z′ → EvenSets W
   marked-even e h a b x q i r =
-      let d : Held W FIRST-REGISTER FIRST-RELATION x = record { at = h; from = a; below = b; holds = q } in
+      let d : Held W VALID FIRST-RELATION x = record { at = h; from = a; below = b; holds = q } in
       let c : Closed (rowsOf W) z′ = k .closed (record { low = λ j o. absurd (none j o); high = λ j o. absurd (none j o) }) in
       let o : On z′ i = closed-reach c (one-root (OnArrow z′) (k .has x d)) r in
       let u : used W i ≡ true = reaches-used wf (subst (Ref (rowsOf W)) q (refs h a b)) r in
       eq-eqb _ _ (along W (λ j. On z′ j → W .cell j LEVEL % 2 ≡ 0) e i u o)
 
-  pub even-marked : EvenRegs W → EvenMarked W z′
+  pub even-marked : EvenSets W → EvenMarked W z′
   even-marked e p l o =
       ⊎-elim (λ n. absurd (none (W .list p) n))
       (λ t. let d = t .1 in eqb-true _ _ (e (d .at) (d .from) (d .below) (t .0) (d .holds) (W .list p) (t .2)))

@@ -1,6 +1,10 @@
 // Whether words are a sound table.
 pub mod chains;
 
+mod tables;
+
+mod within;
+
 use chains::Part;
 use chains::part_ok;
 use layout::Hash;
@@ -12,11 +16,12 @@ use layout::is_marked;
 use layout::is_row;
 use layout::listed;
 use layout::row_of;
+use within::all_within;
 ghost use mathlib.Core.Path.{_≡_};
 ghost use mathlib.Core.Bool.{true, false};
 ghost use Prim.Native.Nat.{ℕ, suc, _*_, _<_, _≤_};
 ghost use lib.ListN.{length};
-ghost use Rattle.layout.specs.Places.{MAX-ROWS, HEADER, wordsFor, BITS, ROWS, LAYOUT, MARKED, FIRST-REGISTER, FIRST-RELATION};
+ghost use Rattle.layout.specs.Places.{MAX-ROWS, HEADER, wordsFor, BITS, ROWS, LAYOUT, CURRENT, VALID, FIRST-RELATION};
 ghost use Rattle.layout.specs.View.{view, headerOf, listOf, headOf};
 ghost use Rattle.layout.specs.Arrows.{isRow, isMarked};
 ghost use Rattle.soundness.specs.Used.{Sizes, used, rowsOf, Ranked};
@@ -27,7 +32,7 @@ ghost use Rattle.soundness.specs.Roots.{Ref, MarksAll, RefPre, RefsPre, 
 ghost use Rattle.soundness.specs.Says.{Says, WalkSays};
 ghost use Rattle.soundness.specs.Triples.{Ready};
 ghost use Rattle.soundness.specs.Checks.{Room, Placed, Leads, RowGood, Finds, Links, EvenMarked};
-ghost use Rattle.soundness.specs.Sound.{EvenRegs, Sound, tableOf};
+ghost use Rattle.soundness.specs.Sound.{Good, EvenSets, Sound, tableOf};
 
 // A bitmap with a mark of each row.
 pub struct Bitmap;
@@ -291,7 +296,7 @@ fn index_ok(words: &[u32], rows: u32, used: u32) -> bool
     true
 }
 
-// Whether a register or relation is empty or an arrow.
+// Whether a root is empty or an arrow.
 fn ref_ok(words: &[u32], rows: u32, r: u32) -> bool
     requires { ⌜ Room (view rows (now words)) ⌝ }
     ensures { λ b. ⌜ Says (Ref (rowsOf (view rows (now (words .entry)))) r) b ⌝ }
@@ -379,7 +384,7 @@ fn mark_row(words: &[u32], rows: u32, marks: &mut [u32], a: u32)
     set_mark(marks, i);
 }
 
-// Marks the rows that a register or relation reaches.
+// Marks the rows that a root reaches.
 fn mark_ref(words: &[u32], rows: u32, marks: &mut [u32], r: u32)
     requires { ⌜ RefPre (view rows (now words)) (length (now marks)) r ⌝ }
     ensures { λ _. ⌜ MarksAll (rowsOf (view rows (now (words .entry)))) (now (marks .entry)) (now (marks .exit)) (λ a. r ≡ suc a) ⌝ }
@@ -421,17 +426,17 @@ fn evens(words: &[u32], rows: u32, marks: &[u32]) -> bool
     true
 }
 
-// Whether the registers' rows have even levels.
-fn even_registers(words: &[u32], rows: u32) -> bool
-    requires { ⌜ Ranked (view rows (now words)) × RefsPre (view rows (now words)) MARK-WORDS FIRST-REGISTER FIRST-RELATION ⌝ }
-    ensures { λ r. ⌜ Says (EvenRegs (view rows (now (words .entry)))) r ⌝ }
+// Whether the rows of V and of the registers have even levels.
+fn even_sets(words: &[u32], rows: u32) -> bool
+    requires { ⌜ Ranked (view rows (now words)) × RefsPre (view rows (now words)) MARK-WORDS VALID FIRST-RELATION ⌝ }
+    ensures { λ r. ⌜ Says (EvenSets (view rows (now (words .entry)))) r ⌝ }
 {
     let mut marks = [0u32; Bitmap::WORDS];
     mark_refs(
         words,
         rows,
         &mut marks,
-        Table::FIRST_REGISTER,
+        Table::VALID,
         Table::FIRST_RELATION,
     );
     evens(words, rows, &marks)
@@ -473,10 +478,10 @@ fn sizes_ok(words: &[u32]) -> bool
     )
 }
 
-// Whether a table of the right size and layout is sound.
+// Whether the rows of a table of the right size and layout are sound.
 fn table_ok(words: &[u32], rows: u32) -> bool
-    requires { ⌜ Sizes (headerOf (now words) BITS) rows (length (now words)) × (headerOf (now words) ROWS ≡ rows) × (headerOf (now words) LAYOUT ≡ MARKED) ⌝ }
-    ensures { λ r. ⌜ Says (Sound (view rows (now (words .entry)))) r ⌝ }
+    requires { ⌜ Sizes (headerOf (now words) BITS) rows (length (now words)) × (headerOf (now words) ROWS ≡ rows) × (headerOf (now words) LAYOUT ≡ CURRENT) ⌝ }
+    ensures { λ r. ⌜ Says (Good (view rows (now (words .entry)))) r ⌝ }
 {
     let used = header_word(words, Table::USED);
     if used > rows {
@@ -489,13 +494,25 @@ fn table_ok(words: &[u32], rows: u32) -> bool
     if !rows_ok(words, rows, used, 2 * bits) {
         return false;
     }
-    if !index_ok(words, rows, used) {
+    index_ok(words, rows, used)
+}
+
+// Whether a table with sound rows is sound: its roots.
+fn roots_ok(words: &[u32], rows: u32) -> bool
+    requires { ⌜ Good (view rows (now words)) ⌝ }
+    ensures { λ r. ⌜ Says (Sound (view rows (now (words .entry)))) r ⌝ }
+{
+    if !refs_ok(words, rows, Table::VALID, Table::ROOTS_END) {
         return false;
     }
-    if !refs_ok(words, rows, Table::FIRST_REGISTER, Table::ROOTS_END) {
+    let valid = header_word(words, Table::VALID);
+    if valid == 0 {
         return false;
     }
-    even_registers(words, rows)
+    if !even_sets(words, rows) {
+        return false;
+    }
+    all_within(words, rows, valid - 1)
 }
 
 // Whether the table is sound.
@@ -505,8 +522,12 @@ pub fn sound(words: &[u32]) -> bool
     if !sizes_ok(words) {
         return false;
     }
-    if header_word(words, Table::LAYOUT) != Table::MARKED {
+    if header_word(words, Table::LAYOUT) != Table::CURRENT {
         return false;
     }
-    table_ok(words, header_word(words, Table::ROWS))
+    let rows = header_word(words, Table::ROWS);
+    if !table_ok(words, rows) {
+        return false;
+    }
+    roots_ok(words, rows)
 }

@@ -5,6 +5,7 @@ use mathlib.Core.Bool.{Bool, true, false, true≢false}
 use mathlib.Core.List.{List, [], _∷_, _++_, List·Memᴰ as Mem, List·Memᴰ·cases-cons as mem-cases, List·Memᴰ·not-nil as mem-nil, List·Memᴰ·append-cases as append-cases}
 use Prim.Native.Nat.{ℕ, _*_, _≤_}
 use native.Mathlib.Omega.{arith}
+use Rattle.layout.specs.Places.{BITS}
 use Rattle.layout.specs.View.{View}
 use Rattle.diagram.specs.Rows.{Arrow, den}
 use Rattle.diagram.specs.Odd.{oddF}
@@ -52,7 +53,7 @@ module _ {n N limit : ℕ} {W : View} {roots : List ℕ} {a left : ℕ} (p : Res
   -- ---- a table to which rows were added
   module _ {X : View} (g : Grown (2 * n) W X) where
     pub sound-grown : Sound X
-    sound-grown = sound-extends (p .sound) (g .good) (λ h b l. g .frame .header h (omega arith) (omega arith) (omega arith) (omega arith)) (g .kept)
+    sound-grown = sound-extends (p .sound) (g .good) (g .frame .header BITS (omega arith) (omega arith) (omega arith) (omega arith)) (λ h b l. g .frame .header h (omega arith) (omega arith) (omega arith) (omega arith)) (g .kept)
 
     pub pre-grown : RestPre n N limit X roots a left
     pre-grown = record {

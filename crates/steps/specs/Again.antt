@@ -54,7 +54,7 @@ module _ {m N limit : ℕ} {W : View} {roots : List ℕ} {s : Step} (p : StepPre
 
   module _ {X : View} {o : Made} (w : Worked m N limit W X o (stepF m (rowsOf W) s)) where
     tried-sound : Sound X
-    tried-sound = sound-extends (p .sound) (w .good) (λ h a l. w .frame .header h (omega arith) (omega arith) (omega arith) (omega arith)) (w .post .kept)
+    tried-sound = sound-extends (p .sound) (w .good) (w .frame .header BITS (omega arith) (omega arith) (omega arith) (omega arith)) (λ h a l. w .frame .header h (omega arith) (omega arith) (omega arith) (omega arith)) (w .post .kept)
 
     tried-arrows : (a : ℕ) → Mem a roots → Arrow (rowsOf X) a
     tried-arrows a h = arrow-extends (w .post .kept) a (p .arrows a h)

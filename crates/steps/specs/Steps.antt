@@ -14,7 +14,7 @@ use Rattle.diagram.specs.Steps.{bitF, notF, andF, orF, shiftF, existsF, not-rea
 use Rattle.diagram.specs.Recur.{shift-reads-all}
 use Rattle.diagram.specs.Post.{denotes-flip}
 use Rattle.diagram.specs.Step.{StepPost}
-use Rattle.layout.specs.Places.{FIRST-REGISTER, ROOTS}
+use Rattle.layout.specs.Places.{VALID, ROOTS}
 use Rattle.layout.specs.View.{View}
 use Rattle.soundness.specs.Used.{rowsOf}
 use Rattle.soundness.specs.Sound.{Sound}
@@ -157,7 +157,7 @@ held-same W X start zero e = refl
 held-same W X start (suc k) e = ap₂ push (e (start + k) (omega arith) (omega arith)) (held-same W X start k (λ h a b. e h a (omega arith)))
 
 pub filled-same : {W X : View} → OpFrame W X → filled X ≡ filled W
-filled-same {W} {X} f = held-same W X FIRST-REGISTER ROOTS (λ h a b. f .header h (omega arith) (omega arith) (omega arith) (omega arith))
+filled-same {W} {X} f = held-same W X VALID ROOTS (λ h a b. f .header h (omega arith) (omega arith) (omega arith) (omega arith))
 
 pub live-same : {W X : View} → OpFrame W X → (lent : List ℕ) → live X lent ≡ live W lent
 live-same f lent = ap (λ (xs : List ℕ). xs ++ lent) (filled-same f)

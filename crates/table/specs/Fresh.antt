@@ -1,19 +1,24 @@
 -- A fresh table: its header is the header maker's and its heads are 0; it is sound whatever stands in the other words. Assumes nothing.
-use mathlib.Core.Path.{_≡_, refl, ap, sym, _∙_}
+use mathlib.Core.Path.{_≡_, refl, ap, sym, _∙_, subst}
 use mathlib.Core.Bool.{true}
-use mathlib.Core.Logic.{_≢_}
+use mathlib.Core.Logic.{_≢_, by-cases}
 use mathlib.Core.List.{List}
-use Prim.Native.Nat.{ℕ, _+_, _<_}
+use Prim.Native.Nat.{ℕ, _+_, _≤_, _<_}
 use native.Mathlib.Omega.{arith}
+use native.Mathlib.Decide.{ℕ-discrete}
 use lib.ListN.{getD}
-use Rattle.layout.specs.Places.{HEADER, BITS, ROWS, USED, LAYOUT, MARKED, RANK}
+use Rattle.layout.specs.Places.{HEADER, BITS, ROWS, USED, LAYOUT, CURRENT, VALID, ROOTS-END, ALL-STATES, RANK}
 use Rattle.layout.specs.View.{View, view, headerOf, header-is, putHeader, putHead, header-past, head-past}
-use Rattle.layout.specs.Header.{headerWords, header-bits, header-rows, header-layout, header-zero}
-use Rattle.soundness.specs.Used.{Sizes, used, used-in}
-use Rattle.soundness.specs.Sound.{Sound}
+use Rattle.layout.specs.Header.{headerWords, header-bits, header-rows, header-layout, header-valid, header-zero}
+use Rattle.layout.specs.Arrows.{row-no}
+use Rattle.soundness.specs.Used.{Sizes, used, used-in, rowsOf, arrow-constant}
+use Rattle.soundness.specs.Mark.{reaches-used}
+use Rattle.soundness.specs.Roots.{Ref}
+use Rattle.soundness.specs.Within.{validOf, within-all}
+use Rattle.soundness.specs.Sound.{Good, Sound}
 use Rattle.table.specs.Columns.{over, over-none, over-more, over-all, setHeader, setHeads}
 
--- "Fresh empties them all, the tally at 0": nothing but the header and the heads is written
+-- "Fresh empties them all": nothing but the header and the heads is written
 abbrev pub emptied : View → ℕ → ℕ → View
 emptied W n N = setHeader (setHeads W (λ b. 0)) (headerOf (headerWords n N))
 
@@ -48,8 +53,8 @@ header-all N old new xs h =
 
 -- a table with a fresh header is sound
 module _ (W : View) (n : ℕ) (z : Sizes n (W .rows) (W .size)) (e : (h : ℕ) → W .header h ≡ headerOf (headerWords n (W .rows)) h) where
-  pub zero-at : (h : ℕ) → h < HEADER → h ≢ BITS → h ≢ ROWS → h ≢ LAYOUT → W .header h ≡ 0
-  zero-at h l a b c = e h ∙ header-is (headerWords n (W .rows)) h l ∙ header-zero n (W .rows) h l a b c
+  pub zero-at : (h : ℕ) → h < HEADER → h ≢ BITS → h ≢ ROWS → h ≢ LAYOUT → h ≢ VALID → W .header h ≡ 0
+  zero-at h l a b c d = e h ∙ header-is (headerWords n (W .rows)) h l ∙ header-zero n (W .rows) h l a b c d
 
   pub bits-is : W .header BITS ≡ n
   bits-is = e BITS ∙ header-is (headerWords n (W .rows)) BITS (omega arith) ∙ header-bits n (W .rows)
@@ -57,27 +62,41 @@ module _ (W : View) (n : ℕ) (z : Sizes n (W .rows) (W .size)) (e : (h : ℕ) �
   pub rows-is : W .header ROWS ≡ W .rows
   rows-is = e ROWS ∙ header-is (headerWords n (W .rows)) ROWS (omega arith) ∙ header-rows n (W .rows)
 
-  pub layout-is : W .header LAYOUT ≡ MARKED
+  pub layout-is : W .header LAYOUT ≡ CURRENT
   layout-is = e LAYOUT ∙ header-is (headerWords n (W .rows)) LAYOUT (omega arith) ∙ header-layout n (W .rows)
 
+  -- "after fresh, V is every state"
+  pub valid-is : W .header VALID ≡ ALL-STATES
+  valid-is = e VALID ∙ header-is (headerWords n (W .rows)) VALID (omega arith) ∙ header-valid n (W .rows)
+
   none : W .header USED ≡ 0
-  none = zero-at USED (omega arith) (omega arith) (omega arith) (omega arith)
+  none = zero-at USED (omega arith) (omega arith) (omega arith) (omega arith) (omega arith)
 
   pub none-used : (i : ℕ) → used W i ≡ true → ⊥
   none-used i u = let q = used-in (W .rows) (W .header USED) (λ x. W .cell x RANK) (W .list) i u .place in let r = none in omega arith
 
+  fresh-good : Good W
+  fresh-good = record {
+    sizes = rw bits-is z;
+    rows-is = rows-is;
+    layout-is = layout-is;
+    ranked = let r = none in record { count-le = omega arith; within = λ k h. absurd (omega arith); back = λ k h. absurd (omega arith) };
+    rows = record { bounded = λ i u. absurd (none-used i u); ok = λ i u. absurd (none-used i u); shared = λ i j u. absurd (none-used i u) };
+    index = record { nexts = λ j u. absurd (none-used j u); found = λ i u. absurd (none-used i u) };
+  }
+
+  fresh-refs : (h : ℕ) → VALID ≤ h → h < ROOTS-END → Ref (rowsOf W) (W .header h)
+  fresh-refs h a l = by-cases (ℕ-discrete h VALID)
+      (λ q. subst (Ref (rowsOf W)) (sym (ap (W .header) q ∙ valid-is)) (arrow-constant (rowsOf W) 1 (row-no 1 (omega arith))))
+      (λ n. subst (Ref (rowsOf W)) (sym (zero-at h (omega arith) (omega arith) (omega arith) (omega arith) n)) tt)
+
   pub fresh-sound : Sound W
   fresh-sound = record {
-    good = record {
-      sizes = rw bits-is z;
-      rows-is = rows-is;
-      layout-is = layout-is;
-      ranked = let r = none in record { count-le = omega arith; within = λ k h. absurd (omega arith); back = λ k h. absurd (omega arith) };
-      rows = record { bounded = λ i u. absurd (none-used i u); ok = λ i u. absurd (none-used i u); shared = λ i j u. absurd (none-used i u) };
-      index = record { nexts = λ j u. absurd (none-used j u); found = λ i u. absurd (none-used i u) };
-    };
-    refs = λ h a l. rw (zero-at h (omega arith) (omega arith) (omega arith) (omega arith)) tt;
-    even = λ h a l b q i r. let o = zero-at h (omega arith) (omega arith) (omega arith) (omega arith) in absurd (omega arith);
+    good = fresh-good;
+    refs = fresh-refs;
+    valid = λ q. let o = valid-is in absurd (omega arith);
+    even = λ h a l b q i r. absurd (none-used i (reaches-used (fresh-good .rows) (subst (Ref (rowsOf W)) q (fresh-refs h a (omega arith))) r));
+    within = within-all W (validOf W) (let o = valid-is in omega arith);
   }
 
 -- the steps of `make_empty`: mid has its heads emptied

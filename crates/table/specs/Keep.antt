@@ -9,20 +9,21 @@ use Rattle.diagram.specs.Even.{even}
 use Rattle.diagram.specs.Reach.{Reach, one-root}
 use Rattle.diagram.specs.Keep.{extends-keeps, keeps-reach-back}
 use Rattle.diagram.specs.Post.{Result, Plain, equal-arrows, found-row, added-row, no-row, Making, as-is, turned}
-use Rattle.layout.specs.Places.{FIRST-REGISTER, ROOTS-END}
+use Rattle.layout.specs.Places.{BITS, VALID, ROOTS-END}
 use Rattle.layout.specs.View.{View}
 use Rattle.soundness.specs.Used.{rowsOf}
 use Rattle.soundness.specs.Mark.{reaches-used}
 use Rattle.soundness.specs.Roots.{Ref}
 use Rattle.soundness.specs.Sound.{Good, Sound}
+use Rattle.soundness.specs.Kept.{RootsKept, valid-kept, within-extends}
 
 -- what an old arrow reaches in the larger table it reaches in the old one
 pub reach-back : {m N : ℕ} {old new : Rows} → Extends old new → WellFormed m N old → {a i : ℕ} → Arrow old a → Reach new (a ∷ []) i → Reach old (a ∷ []) i
 reach-back {old = old} e wf u = keeps-reach-back (extends-keeps wf (one-root (Arrow old) u) e)
 
--- a good table with more rows and the same registers and relations is sound
-pub sound-extends : {W X : View} → Sound W → Good X → ((h : ℕ) → FIRST-REGISTER ≤ h → h < ROOTS-END → X .header h ≡ W .header h) → Extends (rowsOf W) (rowsOf X) → Sound X
-sound-extends {W} {X} s g f e = record {
+-- a good table with more rows and the same roots is sound
+pub sound-extends : {W X : View} → Sound W → Good X → X .header BITS ≡ W .header BITS → RootsKept W X → Extends (rowsOf W) (rowsOf X) → Sound X
+sound-extends {W} {X} s g z f e = record {
   good = g;
   refs = λ h a l. subst (λ (v : ℕ). Ref (rowsOf X) v) (sym (f h a l)) (ref (W .header h) (s .refs h a l));
   even = λ h a l b q i r.
@@ -30,6 +31,8 @@ sound-extends {W} {X} s g f e = record {
       let u : Arrow (rowsOf W) b = subst (λ (v : ℕ). Ref (rowsOf W) v) q′ (s .refs h a (omega arith)) in
       let t = reach-back e (s .good .rows) u r in
       ap even (e .level i (reaches-used (s .good .rows) u t)) ∙ s .even h a l b q′ i t;
+  valid = valid-kept W X f (s .valid);
+  within = within-extends W X f (s .valid) z (s .good .rows) (s .refs) e (s .within);
 }
   where
     ref : (v : ℕ) → Ref (rowsOf W) v → Ref (rowsOf X) v

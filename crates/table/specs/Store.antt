@@ -3,11 +3,14 @@ use mathlib.Core.Path.{_≡_, refl, ap, sym, _∙_, subst}
 use mathlib.Core.Bool.{true}
 use mathlib.Core.List.{[], _∷_}
 use mathlib.Core.Logic.{_≢_, by-cases}
-use Prim.Native.Nat.{ℕ, zero, suc, _*_, _≤_, _<_}
+use Prim.Native.Nat.{ℕ, zero, suc, _-_, _*_, _≤_, _<_}
+use native.Mathlib.Omega.{arith}
 use native.Mathlib.Decide.{ℕ-discrete}
 use borrow.Author.Tests.{eq-eqb, ne-eqb}
-use Rattle.layout.specs.Places.{BITS, ROWS, USED, LAYOUT, FIRST-REGISTER, FIRST-RELATION, ROOTS-END, LOW, HIGH, LEVEL, NEXT, RANK}
-use Rattle.diagram.specs.Rows.{Rows, WellFormed}
+use Rattle.layout.specs.Places.{BITS, ROWS, USED, LAYOUT, VALID, FIRST-REGISTER, FIRST-RELATION, ROOTS-END, LOW, HIGH, LEVEL, NEXT, RANK}
+use Rattle.diagram.specs.Level.{Val}
+use Rattle.diagram.specs.Rows.{Rows, Arrow, den, WellFormed}
+use Rattle.diagram.specs.Steps.{shiftF}
 use Rattle.layout.specs.View.{View, putHeader}
 use Rattle.soundness.specs.Used.{used, usedAt, rowsOf, Sizes}
 use Rattle.soundness.specs.Index.{keyOf, live, live-link, Hit, Down}
@@ -15,7 +18,19 @@ use Rattle.soundness.specs.Framed.{hit-frame}
 use Rattle.diagram.specs.Reach.{Reach}
 use Rattle.diagram.specs.Even.{even}
 use Rattle.soundness.specs.Roots.{Ref}
+use Rattle.soundness.specs.Within.{denOf, validOf}
 use Rattle.soundness.specs.Sound.{Good, Sound}
+
+-- what may be stored in word h of the header: where it is a register or relation, nothing or an arrow, of even levels in a register, within V, and in a relation within SHIFT of V
+pub record Storable (W : View) (h v : ℕ) : Type 0 where
+  pub ref : FIRST-REGISTER ≤ h → h < ROOTS-END → Ref (rowsOf W) v
+  pub even : FIRST-REGISTER ≤ h → h < FIRST-RELATION → (a : ℕ) → v ≡ suc a → (i : ℕ) → Reach (rowsOf W) (a ∷ []) i → even (W .cell i LEVEL) ≡ true
+  pub within : FIRST-REGISTER ≤ h → h < ROOTS-END → (a : ℕ) → v ≡ suc a → (x : Val) → denOf W a x ≡ true → denOf W (validOf W) x ≡ true
+  pub shifted : FIRST-RELATION ≤ h → h < ROOTS-END → (a : ℕ) → v ≡ suc a → (x : Val) → denOf W a x ≡ true → shiftF (denOf W (validOf W)) x ≡ true
+
+-- nothing may be stored anywhere
+pub storable-empty : (W : View) (h : ℕ) → Storable W h 0
+storable-empty W h = record { ref = λ _ _. tt; even = λ _ _ a e. absurd (omega arith); within = λ _ _ a e. absurd (omega arith); shifted = λ _ _ a e. absurd (omega arith) }
 
 -- the rows, if c of them are used
 abbrev rowsAt : View → ℕ → Rows
@@ -71,14 +86,58 @@ module _ (W : View) (h v : ℕ) (n0 : h ≢ BITS) (n1 : h ≢ ROWS) (n3 : h ≢ 
     };
   }
 
-  -- the table stays sound if the word is no register or relation, or empty, or an arrow, whose rows have even levels in a register
-  pub sound-store : Sound W → (FIRST-REGISTER ≤ h → h < ROOTS-END → Ref (rowsOf W) v) → (FIRST-REGISTER ≤ h → h < FIRST-RELATION → (a : ℕ) → v ≡ suc a → (i : ℕ) → Reach (rowsOf W) (a ∷ []) i → even (W .cell i LEVEL) ≡ true) → Sound X
-  sound-store s r e = record {
-    good = good-store (s .good);
-    refs = λ k a l. subst (λ (z : Rows). Ref z (X .header k)) (sym rows-kept) (by-cases (ℕ-discrete k h)
-        (λ q. rw (q, eq-eqb h h refl) (r (rw q at a) (rw q at l)))
-        (λ n. rw (ne-eqb k h n) (s .refs k a l)));
-    even = λ k a l b q i c. let d = subst (λ (z : Rows). Reach z (b ∷ []) i) rows-kept c in by-cases (ℕ-discrete k h)
-        (λ z. e (rw z at a) (rw z at l) b (sym (rw (eq-eqb k h z)) ∙ q) i d)
-        (λ n. s .even k a l b (sym (kept k n) ∙ q) i d);
-  }
+  -- an arrow denotes what it did
+  den-kept : (a : ℕ) (x : Val) → denOf X a x ≡ denOf W a x
+  den-kept a x = ap (λ (m : ℕ). den (2 * m) (rowsOf X) a x) bits-kept ∙ ap (λ (r : Rows). den (2 * W .header BITS) r a x) rows-kept
+
+  ref-kept : (r : ℕ) → Ref (rowsOf W) r → Ref (rowsOf X) r
+  ref-kept r u = subst (λ (z : Rows). Ref z r) (sym rows-kept) u
+
+  -- what word k has is kept or new
+  word : (k : ℕ) (P : ℕ → Type 0) → (k ≡ h → P v) → (k ≢ h → P (W .header k)) → P (X .header k)
+  word k P f g = by-cases (ℕ-discrete k h) (λ q. subst P (sym (rw (eq-eqb k h q))) (f q)) (λ n. subst P (sym (kept k n)) (g n))
+
+  -- the table stays sound if the word is not V's and may stand there
+  module _ (nv : h ≢ VALID) where
+    valid-stays : X .header VALID ≡ W .header VALID
+    valid-stays = kept VALID (λ e. nv (sym e))
+
+    valid-same : (x : Val) → denOf X (validOf X) x ≡ denOf W (validOf W) x
+    valid-same x = den-kept (validOf X) x ∙ ap (λ (r : ℕ). denOf W (r - 1) x) valid-stays
+
+    pub sound-store : Sound W → Storable W h v → Sound X
+    sound-store s t = record {
+      good = good-store (s .good);
+      refs = λ k a l. word k (Ref (rowsOf X)) (λ q. ref-kept v (t .ref (omega arith) (omega arith))) (λ n. ref-kept (W .header k) (s .refs k a l));
+      valid = λ e. s .valid (sym valid-stays ∙ e);
+      even = λ k a l b q i c.
+          let d = subst (λ (z : Rows). Reach z (b ∷ []) i) rows-kept c in
+          word k (λ r. r ≡ suc b → even (W .cell i LEVEL) ≡ true) (λ z e. t .even (omega arith) (omega arith) b e i d) (λ n e. s .even k a l b e i d) q;
+      within = record {
+        roots = λ k a l b q x g.
+            let f : denOf W b x ≡ true = sym (den-kept b x) ∙ g in
+            valid-same x ∙ word k (λ r. r ≡ suc b → denOf W (validOf W) x ≡ true)
+            (λ z e. t .within (omega arith) (omega arith) b e x f) (λ n e. s .within .roots k a l b e x f) q;
+        shifted = λ k a l b q x g.
+            let f : denOf W b x ≡ true = sym (den-kept b x) ∙ g in
+            valid-same (λ n. x (suc n)) ∙ word k (λ r. r ≡ suc b → shiftF (denOf W (validOf W)) x ≡ true)
+            (λ z e. t .shifted (omega arith) (omega arith) b e x f) (λ n e. s .within .shifted k a l b e x f) q;
+      };
+    }
+
+  -- and if it is V's, an arrow with even levels, while every register and relation is empty
+  module _ (hv : h ≡ VALID) (none : (k : ℕ) → FIRST-REGISTER ≤ k → k < ROOTS-END → W .header k ≡ 0) where
+    empty : (k b : ℕ) → FIRST-REGISTER ≤ k → k < ROOTS-END → X .header k ≡ suc b → ⊥
+    empty k b a l q = let z : X .header k ≡ 0 = kept k (omega arith) ∙ none k a l in omega arith
+
+    pub sound-valid : (b : ℕ) → v ≡ suc b → Sound W → Arrow (rowsOf W) b → ((i : ℕ) → Reach (rowsOf W) (b ∷ []) i → even (W .cell i LEVEL) ≡ true) → Sound X
+    sound-valid b vb s u e = record {
+      good = good-store (s .good);
+      refs = λ k a l. word k (Ref (rowsOf X)) (λ q. ref-kept v (subst (Ref (rowsOf W)) (sym vb) u)) (λ n. ref-kept (W .header k) (s .refs k a l));
+      valid = λ q. word VALID (λ r. r ≡ 0 → ⊥) (λ z y. omega arith) (λ n y. n (sym hv)) q;
+      even = λ k a l c q i r.
+          let d = subst (λ (z : Rows). Reach z (c ∷ []) i) rows-kept r in
+          word k (λ x. x ≡ suc c → even (W .cell i LEVEL) ≡ true)
+          (λ z y. let p : c ≡ b = omega arith in e i (subst (λ (x : ℕ). Reach (rowsOf W) (x ∷ []) i) p d)) (λ n y. s .even k a l c y i d) q;
+      within = record { roots = λ k a l c q. absurd (empty k c a l q); shifted = λ k a l c q. absurd (empty k c (omega arith) l q) };
+    }

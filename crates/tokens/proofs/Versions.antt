@@ -7,9 +7,9 @@ use lib.Dec.{ltb, leb}
 use lib.ListN.{length, getD}
 use Rattle.tokens.specs.Tokens.{Line, firstWords, addedWords, lookup, tokenOf, grammarOf, hasRuns, taken, leadAt}
 use Rattle.tokens.specs.declared.Kind.{Kind}
-use Rattle.tokens.specs.declared.Kind.the-variants.{Relation, Set}
+use Rattle.tokens.specs.declared.Kind.the-variants.{Relation, Set, Valid}
 use Rattle.tokens.specs.declared.Grammar.{Grammar}
-use Rattle.tokens.specs.declared.Grammar.the-variants.{Pairs, States}
+use Rattle.tokens.specs.declared.Grammar.the-variants.{Pairs, States, Bits}
 use Rattle.tokens.specs.declared.Reading.the-variants.{Is as Reads}
 use Rattle.tokens.specs.declared.Mode.{Mode}
 use Rattle.tokens.specs.declared.Mode.the-variants.{All, Some}
@@ -62,6 +62,7 @@ module _ (n : ℕ) (g : Grammar) (h : hasRuns g ≡ false) where
 no-runs : (k : Kind) (g : Grammar) → grammarOf k 1 ≡ Reads g → hasRuns g ≡ false
 no-runs Relation g e = let same : Pairs ≡ g = cc in subst (λ (x : Grammar). hasRuns x ≡ false) same refl
 no-runs Set g e = let same : States ≡ g = cc in subst (λ (x : Grammar). hasRuns x ≡ false) same refl
+no-runs Valid g e = let same : Bits ≡ g = cc in subst (λ (x : Grammar). hasRuns x ≡ false) same refl
 
 -- VERSION 1 KEEPS ITS WORDS: in every call the token at a place is looked up in document 01's table alone
 pub version-1-kept : (k : Kind) (g : Grammar) → grammarOf k 1 ≡ Reads g

@@ -5,9 +5,9 @@ use mathlib.Core.List.{List, [], _∷_, _++_}
 use lib.Dec.{ltb, leb, eqb}
 use lib.ListN.{length, getD}
 use Rattle.tokens.specs.declared.Kind.{Kind}
-use Rattle.tokens.specs.declared.Kind.the-variants.{Relation, Set}
+use Rattle.tokens.specs.declared.Kind.the-variants.{Relation, Set, Valid}
 use Rattle.tokens.specs.declared.Grammar.{Grammar}
-use Rattle.tokens.specs.declared.Grammar.the-variants.{Pairs, States, Runs}
+use Rattle.tokens.specs.declared.Grammar.the-variants.{Pairs, States, Runs, Bits}
 use Rattle.tokens.specs.declared.Reading.{Reading}
 use Rattle.tokens.specs.declared.Reading.the-variants.{Is as Reads, Unknown}
 use Rattle.tokens.specs.declared.Leaf.{Leaf}
@@ -74,34 +74,46 @@ tokenOf b = lookup table b
 abbrev pub firstOf : Kind → Reading
 firstOf Relation = Reads Pairs
 firstOf Set = Reads States
+-- "A new call valid takes a formula of 00 to 04 and 10 to 1F"
+firstOf Valid = Reads Bits
 
 -- "Version 2 formulas, for set calls"
 abbrev pub secondOf : Kind → Reading
 secondOf Relation = Unknown
 secondOf Set = Reads Runs
+secondOf Valid = Unknown
 
 -- the grammar of a call's formula, by the version byte
 abbrev pub grammarOf : Kind → ℕ → Reading
 grammarOf k v = cond (eqb v 1) (firstOf k) (cond (eqb v 2) (secondOf k) Unknown)
 
--- formulas speak of states
+-- formulas speak of states, by variables, registers, relations and binders too
 abbrev pub isStates : Grammar → Bool
 isStates Pairs = false
 isStates States = true
 isStates Runs = true
+isStates Bits = false
+
+-- formulas speak of one state alone, and of no next one
+abbrev pub onlyNow : Grammar → Bool
+onlyNow Pairs = false
+onlyNow States = true
+onlyNow Runs = true
+onlyNow Bits = true
 
 -- formulas speak of runs
 abbrev pub hasRuns : Grammar → Bool
 hasRuns Pairs = false
 hasRuns States = false
 hasRuns Runs = true
+hasRuns Bits = false
 
 -- "p < n", "relation calls only"; "Relation calls take only 00 to 04 and 10 to 2F"
 abbrev pub leafAllowed : Leaf → ℕ → Grammar → Bool
 leafAllowed False n g = true
 leafAllowed True n g = true
 leafAllowed (Now p) n g = ltb p n
-leafAllowed (Next p) n g = cond (isStates g) false (ltb p n)
+leafAllowed (Next p) n g = cond (onlyNow g) false (ltb p n)
 leafAllowed (Var P) n g = isStates g
 leafAllowed (Reg r) n g = isStates g
 

@@ -1,20 +1,22 @@
 // The tokens of document 01: what each formula byte means, and which tokens a call takes.
 ghost use mathlib.Core.Path.{_≡_};
 ghost use Prim.Native.Nat.{_≤_};
-ghost use Rattle.tokens.specs.Tokens.{tokenOf, firstOf, secondOf, grammarOf, isStates, hasRuns, leafAllowed, twoAllowed, allowed, leadAt};
+ghost use Rattle.tokens.specs.Tokens.{tokenOf, firstOf, secondOf, grammarOf, isStates, onlyNow, hasRuns, leafAllowed, twoAllowed, allowed, leadAt};
 ghost use Rattle.tokens.specs.declared.Lead.the-variants.{Is};
 
 // The call that a formula is for.
 pub enum Kind {
     Relation,
     Set,
+    Valid,
 }
 
-// What a formula speaks of: pairs of states, states, or states and runs.
+// What a formula speaks of: pairs of states, states, states and runs, or the bits of a state alone.
 pub enum Grammar {
     Pairs,
     States,
     Runs,
+    Bits,
 }
 
 impl Grammar {
@@ -87,6 +89,7 @@ fn first_of(kind: Kind) -> Reading
     match kind {
         Kind::Relation => Reading::Is(Grammar::Pairs),
         Kind::Set => Reading::Is(Grammar::States),
+        Kind::Valid => Reading::Is(Grammar::Bits),
     }
 }
 
@@ -97,6 +100,7 @@ fn second_of(kind: Kind) -> Reading
     match kind {
         Kind::Relation => Reading::Unknown,
         Kind::Set => Reading::Is(Grammar::Runs),
+        Kind::Valid => Reading::Unknown,
     }
 }
 
@@ -173,6 +177,19 @@ fn is_states(grammar: Grammar) -> bool
         Grammar::Pairs => false,
         Grammar::States => true,
         Grammar::Runs => true,
+        Grammar::Bits => false,
+    }
+}
+
+// Whether formulas speak of one state alone, and of no next one.
+pub fn only_now(grammar: Grammar) -> bool
+    ensures { λ r. ⌜ r ≡ onlyNow grammar ⌝ }
+{
+    match grammar {
+        Grammar::Pairs => false,
+        Grammar::States => true,
+        Grammar::Runs => true,
+        Grammar::Bits => true,
     }
 }
 
@@ -184,6 +201,7 @@ fn has_runs(grammar: Grammar) -> bool
         Grammar::Pairs => false,
         Grammar::States => false,
         Grammar::Runs => true,
+        Grammar::Bits => false,
     }
 }
 
@@ -196,7 +214,7 @@ fn leaf_allowed(l: Leaf, n: u32, grammar: Grammar) -> bool
         Leaf::True => true,
         Leaf::Now(p) => p < n,
         Leaf::Next(p) => {
-            if is_states(grammar) {
+            if only_now(grammar) {
                 return false;
             }
             p < n

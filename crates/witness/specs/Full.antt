@@ -13,7 +13,7 @@ use borrow.Author.Tests.{eq-eqb, ne-eqb}
 use Rattle.accounts.specs.Terms.{alone}
 use Rattle.mucalculus.specs.Form.{now}
 use Rattle.tokens.specs.declared.Kind.the-variants.{Set}
-use Rattle.layout.specs.Places.{REGISTERS, BITS, ROWS, USED, CURSOR, FIRST-REGISTER, ROOTS-END, wordsFor}
+use Rattle.layout.specs.Places.{REGISTERS, BITS, ROWS, USED, CURSOR, VALID, ALL-STATES, FIRST-REGISTER, ROOTS-END, wordsFor}
 use Rattle.layout.specs.View.{View, view, headerOf, view-header}
 use Rattle.diagram.specs.Need.{stepNeed}
 use Rattle.diagram.specs.Rows.{target}
@@ -34,7 +34,7 @@ use Rattle.contract.specs.Seen.{seen, SoundWords}
 use Rattle.contract.specs.Posts.{FreshPost, CallPost}
 use Rattle.contract.specs.Checked.{call-refused}
 use Rattle.contract.specs.Closed.{makes, performs, asks, words-demand}
-use Rattle.witness.specs.Words.{Viewed, zeros, freshOf, fresh-zero}
+use Rattle.witness.specs.Words.{Viewed, zeros, freshOf, fresh-zero, fresh-valid}
 use Rattle.witness.specs.Made.{fresh-done, collected-done, empty-done}
 use Rattle.witness.specs.Row.{bitIn, freedIn, bitStored, view-bit, view-freed, bit-done, freed-done}
 
@@ -111,31 +111,35 @@ module _ {l : List Event} {ws : List ℕ} (t : Trace (List ℕ) performs made l 
     room = subst (λ (k : ℕ). wordsFor k ≤ length ws) one (sound .good .sizes .room)
 
     -- a set that makes the row, in the one bucket that there is
-    module _ (none : headerOf ws USED ≡ 0) (r p : ℕ) (i : r < REGISTERS) where
+    module _ (none : headerOf ws USED ≡ 0) (every : headerOf ws VALID ≡ ALL-STATES) (r p : ℕ) (i : r < REGISTERS) where
       bit-seen : Viewed 1 (bitIn 1 ws 0 r p) (bitStored (view 1 ws) r p)
       bit-seen = view-bit 1 0 r p ws room none (omega arith) (let h = bucket-lt 1 (2 * p) 1 0 (omega arith) in omega arith) i
 
       bit-set : p < 2 → checks (bookAfter 2 1 l) Set (bit p) ≡ 0 → now p ≡ formulaIn (bookAfter 2 1 l) Set (bit p)
-          → 1 ≡ stepNeed (2 * bookAfter 2 1 l .n) (liveOf (bookAfter 2 1 l)) (bitF (2 * p))
+          → 1 ≡ stepNeed (2 * bookAfter 2 1 l .n) (liveOf (bookAfter 2 1 l)) (bitF (2 * p)) → 1 ≡ stepNeed (2 * bookAfter 2 1 l .n) (bitF (2 * p) ∷ liveOf (bookAfter 2 1 l)) (bitF (2 * p))
           → CallPost (set alone r 100 (bit p)) ws (bitIn 1 ws 0 r p) node
-      bit-set j passes is needs =
+      bit-set j passes is needs again =
           let e = two in
           let o = one in
           let h = bucket-lt (headerOf ws ROWS) (2 * p) 1 0 (omega arith) in
           subst (λ (k : ℕ). CallPost (set alone r 100 (bit p)) ws (bitIn k ws 0 r p) node) one
-          (bit-done ws sound none p (omega arith) r 100 0 1 (bit p) i (omega arith) (omega arith)
+          (bit-done ws sound none every p (omega arith) r 100 0 1 1 (bit p) i (omega arith) (omega arith)
           (subst (λ (b : Book). checks b Set (bit p) ≡ 0) (sym holds) passes)
           (subst (λ (b : Book). now p ≡ formulaIn b Set (bit p)) (sym holds) is)
-          (subst (λ (b : Book). 1 ≡ stepNeed (2 * b .n) (liveOf b) (bitF (2 * p))) (sym holds) needs))
+          (subst (λ (b : Book). 1 ≡ stepNeed (2 * b .n) (liveOf b) (bitF (2 * p))) (sym holds) needs)
+          (subst (λ (b : Book). 1 ≡ stepNeed (2 * b .n) (bitF (2 * p) ∷ liveOf b) (bitF (2 * p))) (sym holds) again))
 
 -- ---- up to the 8
 
 none-made : headerOf made USED ≡ 0
-none-made = fresh-zero 2 1 268 USED (omega arith) (omega arith) (omega arith) (omega arith) (omega arith)
+none-made = fresh-zero 2 1 268 USED (omega arith) (omega arith) (omega arith) (omega arith) (omega arith) (omega arith)
+
+every-made : headerOf made VALID ≡ ALL-STATES
+every-made = fresh-valid 2 1 268 (omega arith)
 
 set-first : CallPost first made once node
 unfolding computing
-set-first = bit-set stop refl refl none-made 0 0 (omega arith) (omega arith) refl refl refl
+set-first = bit-set stop refl refl none-made every-made 0 0 (omega arith) (omega arith) refl refl refl refl
 
 to-once : Trace (List ℕ) performs made ((first, node) ∷ []) once
 to-once = go set-first stop
@@ -150,9 +154,9 @@ set-refused = call-refused once (sound to-once) 7 second (subst (λ (b : Book). 
 -- the header after the first set
 header-once : (h : ℕ) → headerOf once h ≡ bitStored (view 1 made) 0 0 .header h
 unfolding computing
-header-once h = ap (λ (v : View). v .header h) (bit-seen stop refl refl none-made 0 0 (omega arith) .is)
+header-once h = ap (λ (v : View). v .header h) (bit-seen stop refl refl none-made every-made 0 0 (omega arith) .is)
 
--- the table's one row is the one that register 0 leads to
+-- the table's one row is the one that register 0 leads to; V has none
 collect-first : CallPost collect once once (valued 1)
 unfolding computing
 collect-first = collected-done once (sound to-once) needed 1 (header-once USED ∙ ap (λ (k : ℕ). k + 1) none-made)
@@ -177,15 +181,24 @@ bare h a l =
     ap (λ (v : View). v .header h) (view-header 1 once (room to-once refl refl) FIRST-REGISTER 0 (omega arith))
     ∙ by-cases (ℕ-discrete h FIRST-REGISTER) (λ e. rw (eq-eqb h FIRST-REGISTER e))
     (λ n. rw (ne-eqb h FIRST-REGISTER n) (header-once h ∙ rw (ne-eqb h FIRST-REGISTER n, ne-eqb h USED (omega arith), ne-eqb h CURSOR (omega arith))
-    (fresh-zero 2 1 268 h (omega arith) (omega arith) (omega arith) (omega arith) (omega arith))))
+    (fresh-zero 2 1 268 h (omega arith) (omega arith) (omega arith) (omega arith) (omega arith) (omega arith))))
+
+-- V is every state, as fresh left it
+every-cleared : headerOf cleared VALID ≡ ALL-STATES
+unfolding computing
+every-cleared = ap (λ (v : View). v .header VALID) (view-header 1 once (room to-once refl refl) FIRST-REGISTER 0 (omega arith)) ∙ header-once VALID ∙ every-made
 
 collect-second : CallPost collect cleared freed (valued 0)
 unfolding computing
-collect-second = subst (λ (k : ℕ). CallPost collect cleared (freedIn k cleared) (valued 0)) (one to-cleared refl refl) (freed-done cleared (sound to-cleared) bare)
+collect-second = subst (λ (k : ℕ). CallPost collect cleared (freedIn k cleared) (valued 0)) (one to-cleared refl refl) (freed-done cleared (sound to-cleared) every-cleared bare)
 
 none-freed : headerOf freed USED ≡ 0
 unfolding computing
 none-freed = ap (λ (v : View). v .header USED) (view-freed 1 cleared (room to-cleared refl refl) (omega arith) .is)
+
+every-freed : headerOf freed VALID ≡ ALL-STATES
+unfolding computing
+every-freed = ap (λ (v : View). v .header VALID) (view-freed 1 cleared (room to-cleared refl refl) (omega arith) .is) ∙ every-cleared
 
 -- ---- the row is free again
 
@@ -194,7 +207,7 @@ to-freed = go set-first (go clear-first (go collect-second stop))
 
 set-second : CallPost second freed end node
 unfolding computing
-set-second = bit-set to-freed refl refl none-freed 1 1 (omega arith) (omega arith) refl refl refl
+set-second = bit-set to-freed refl refl none-freed every-freed 1 1 (omega arith) (omega arith) refl refl refl refl
 
 -- ---- the whole list under the calls' contracts, and what the closed list theorem says of it
 

@@ -1,18 +1,23 @@
 -- Calls whose formulas take no step, on any words: each with the words that it leaves meets its contract. Assumes nothing.
-use mathlib.Core.Path.{_≡_, refl, sym, _∙_, subst, subst₂}
-use mathlib.Core.Bool.{Bool, true, false}
+use mathlib.Core.Path.{_≡_, refl, sym, ap, _∙_, subst, subst₂}
+use mathlib.Core.Bool.{Bool, true, false, _&&_}
 use mathlib.Core.List.{List, [], _∷_}
 use Prim.Native.Nat.{ℕ, _+_, _*_, _<_, _≤_}
 use native.Mathlib.Omega.{arith}
+use lib.Dec.{T}
 use lib.ListN.{set as write}
 use Rattle.accounts.specs.Terms.{alone, rowsUnder, roundsUnder}
+use Rattle.accounts.specs.declared.Count.{Count}
 use Rattle.accounts.specs.Count.{nothing, another}
-use Rattle.mucalculus.specs.Form.{Form, bot, var, bind, noEnv}
-use Rattle.tokens.specs.declared.Kind.the-variants.{Relation, Set}
-use Rattle.layout.specs.Places.{REGISTERS, RELATIONS, ROWS, USED, FIRST-REGISTER, FIRST-RELATION}
+use Rattle.mucalculus.specs.Form.{Form, bot, top, var, bind, noEnv}
+use Rattle.mucalculus.specs.Means.{exist}
+use Rattle.tokens.specs.declared.Kind.the-variants.{Relation, Set, Valid}
+use Rattle.layout.specs.Places.{REGISTERS, RELATIONS, ROWS, USED, VALID, ALL-STATES, FIRST-REGISTER, FIRST-RELATION}
 use Rattle.layout.specs.View.{headerOf, view-header}
 use Rattle.diagram.specs.Rows.{Rows}
-use Rattle.diagram.specs.Post.{at}
+use Rattle.diagram.specs.Den.{den-zero}
+use Rattle.diagram.specs.Steps.{shiftF}
+use Rattle.diagram.specs.Post.{at, Denotes}
 use Rattle.diagram.specs.Grow.{extends-refl}
 use Rattle.diagram.specs.Reach.{Reach, reach-used}
 use Rattle.soundness.specs.Used.{Sizes, used, used-in, rowsOf}
@@ -22,7 +27,7 @@ use Rattle.table.specs.Add.{frame-refl}
 use Rattle.collect.specs.Freed.{Freed, freed-count}
 use Rattle.formula.specs.Parse.{formOf, formulaOf}
 use Rattle.formula.specs.Checks.{firstRefusal}
-use Rattle.book.specs.Book.{Book, relation, set, clear, collect, modelOf, liveOf, regFilled, relFilled, formulaIn}
+use Rattle.book.specs.Book.{Book, relation, set, valid, clear, collect, unfilled, modelOf, liveOf, regFilled, relFilled, formulaIn}
 use Rattle.book.specs.Compute.{computing}
 use Rattle.book.specs.Listed.{frame}
 use Rattle.book.specs.Table.{rootsOf}
@@ -30,12 +35,13 @@ use Rattle.book.specs.Leaves.{plain, valued}
 use Rattle.book.specs.Held.{Held}
 use Rattle.book.specs.Roots.{shows-held}
 use Rattle.book.specs.Effects.{set-refused}
-use Rattle.book.specs.Run.{run, pairF, pairsFit, pairsCount}
-use Rattle.book.specs.Follow.{Ended, ends, nine, Evals}
-use Rattle.book.specs.Pairs.{PairEvals, pair-none}
+use Rattle.book.specs.Bridge.{fnOf}
+use Rattle.book.specs.Run.{run, pairF, pairsFit, pairsCount, relationFits, relationCount}
+use Rattle.book.specs.Follow.{Ended, ends, nine, Evals, denotes-clip}
+use Rattle.book.specs.Pairs.{PairMatches, PairEvals, pair-none, pair-all}
 use Rattle.book.specs.Turns.{startArrow}
 use Rattle.book.specs.BookOf.{bookOf}
-use Rattle.book.specs.Formulas.{setReply}
+use Rattle.book.specs.Formulas.{setReply, relationF, relationReply}
 use Rattle.contract.specs.Seen.{seen, SoundWords, sound-shows-book}
 use Rattle.contract.specs.Posts.{FreshPost, CallPost}
 use Rattle.contract.specs.Checked.{call-refused}
@@ -43,7 +49,7 @@ use Rattle.operations.specs.Work.{op-refl}
 use Rattle.calls.specs.Fresh.{fresh-ready}
 use Rattle.calls.specs.Changes.{clear-done, collect-done}
 use Rattle.formula_steps.specs.Evaluated.{as-it-was}
-use Rattle.formula_steps.specs.Ends.{set-value, set-spent, relation-value, through-done}
+use Rattle.formula_steps.specs.Ends.{set-value, set-spent, relation-value, valid-value, through-done}
 use Rattle.witness.specs.Words.{zeros, freshOf, storedIn, length-zeros, view-fresh, view-stored}
 use Rattle.witness.specs.Rounds.{self-ends, self-spent}
 
@@ -84,6 +90,18 @@ noPairs-passes : (n : ℕ) (regs rels : ℕ → Bool) → firstRefusal Relation 
 unfolding computing
 noPairs-passes n regs rels = refl
 
+-- 01: true
+abbrev pub every : List ℕ
+every = frame (0x01 ∷ [])
+
+every-form : (n : ℕ) → top ≡ formOf (formulaOf Valid n every)
+unfolding computing
+every-form n = refl
+
+every-passes : (n : ℕ) (regs rels : ℕ → Bool) → firstRefusal Valid n regs rels every ≡ 0
+unfolding computing
+every-passes n regs rels = refl
+
 -- ---- fresh
 
 pub fresh-done : (n N k : ℕ) → Sizes n N k → FreshPost n N 1 (zeros k) (freshOf n N k) (plain 0)
@@ -98,16 +116,49 @@ module _ (old : List ℕ) (s : SoundWords old) where
   pub held : Held (2 * b .n) (rowsOf (tableOf old)) (rootsOf (seen old)) (liveOf b)
   held = shows-held b (seen old) (sound-shows-book old s)
 
-  -- relation t of no pairs
-  module _ (t : ℕ) (l : t < RELATIONS) where
-    abbrev Loads : Form → Type 0
-    Loads f = PairEvals (b .n) (b .N) (rowsOf (tableOf old)) (rowsOf (tableOf old)) (rootsOf (seen old)) (pairsFit (b .n) (b .N) (liveOf b) f) (pairF (b .n) f) (pairsCount (b .n) (liveOf b) f nothing) (at 0) nothing
+  -- valid of every state
+  abbrev Fixes : Form → Type 0
+  Fixes f = PairEvals (b .n) (b .N) (rowsOf (tableOf old)) (rowsOf (tableOf old)) (rootsOf (seen old)) (pairsFit (b .n) (b .N) (liveOf b) f) (pairF (b .n) f) (pairsCount (b .n) (liveOf b) f nothing) (at 1) nothing
 
-    pub noPairs-done : CallPost (relation t noPairs) old (write old (FIRST-RELATION + t) 1) (plain 0)
-    noPairs-done =
+  pub every-done : T (unfilled b) → CallPost (valid every) old (write old VALID ALL-STATES) (plain 0)
+  every-done u =
+      through-done s tt (λ a. a)
+      (valid-value old s (tableOf old) (s .good) (op-refl (tableOf old)) every u (every-passes (b .n) (regFilled b) (relFilled b)) 1 nothing
+      (subst Fixes (every-form (b .n)) (pair-all (b .n) (b .N) held (b .N) nothing (s .good .rows))))
+      (as-it-was refl)
+      (view-header (headerOf old ROWS) old (s .good .sizes .room) VALID ALL-STATES (omega arith))
+
+  -- relation t of no pairs, where its three steps within V fit and come to p
+  module _ (t : ℕ) (l : t < RELATIONS) (p : Count) where
+    abbrev counted : Form → Count
+    counted f = relationCount (b .n) (liveOf b) (b .valid) f nothing
+
+    abbrev Loads : Form → Type 0
+    Loads f = PairEvals (b .n) (b .N) (rowsOf (tableOf old)) (rowsOf (tableOf old)) (rootsOf (seen old)) (relationFits (b .n) (b .N) (liveOf b) (b .valid) f) (relationF (b .n) (b .valid) f) (counted f) (at 0) p
+
+    loads : relationFits (b .n) (b .N) (liveOf b) (b .valid) bot ≡ true → p ≡ counted bot → Loads bot
+    loads fits e =
+        let d = pair-none (b .n) (b .N) held (b .N) nothing (s .good .rows) in
+        record {
+          wf = d .wf;
+          kept = d .kept;
+          result = subst (λ (x : Bool). PairMatches (b .n) (rowsOf (tableOf old)) x (relationF (b .n) (b .valid) bot) (counted bot) (at 0) p) (sym fits) (
+            record {
+              arrow = tt;
+              same = λ v.
+                  let none = den-zero (2 * b .n) (rowsOf (tableOf old)) v in
+                  none ∙ sym (ap (λ (x : Bool). (x && fnOf (b .n) (b .valid) v) && shiftF (fnOf (b .n) (b .valid)) v) (sym (d .result .0 .same v) ∙ none));
+            },
+            e,
+          );
+        }
+
+    pub noPairs-done : relationFits (b .n) (b .N) (liveOf b) (b .valid) bot ≡ true → p ≡ counted bot
+        → CallPost (relation t noPairs) old (write old (FIRST-RELATION + t) 1) (relationReply (at 0) p)
+    noPairs-done fits e =
         through-done s tt (λ a. a)
-        (relation-value old s (tableOf old) (s .good) (op-refl (tableOf old)) t noPairs l (noPairs-passes (b .n) (regFilled b) (relFilled b)) 0 nothing
-        (subst Loads (noPairs-form (b .n)) (pair-none (b .n) (b .N) held (b .N) nothing (s .good .rows))))
+        (relation-value old s (tableOf old) (s .good) (op-refl (tableOf old)) t noPairs l (noPairs-passes (b .n) (regFilled b) (relFilled b)) 0 p
+        (subst Loads (noPairs-form (b .n)) (loads fits e)))
         (as-it-was refl)
         (view-header (headerOf old ROWS) old (s .good .sizes .room) (FIRST-RELATION + t) 1 (omega arith))
 
@@ -124,30 +175,35 @@ module _ (old : List ℕ) (s : SoundWords old) where
       let i : R ≡ roundsUnder R alone = omega arith in
       subst₂ (λ (N R : ℕ). Ends after N R f y) e i d
 
+  -- V's arrow
+  pub has-valid : (w : ℕ) → seen old .valid ≡ w → Denotes (2 * b .n) (rowsOf (tableOf old)) w (fnOf (b .n) (exist (modelOf b)))
+  has-valid w e = subst (λ (x : ℕ). Denotes (2 * b .n) (rowsOf (tableOf old)) x (fnOf (b .n) (exist (modelOf b)))) e
+      (denotes-clip (b .n) (b .N) (b .valid) (sound-shows-book old s .valid))
+
   module _ (r : ℕ) (l : r < REGISTERS) where
-    -- set r to mu P. P or nu P. P
-    module _ (d : Bool) (R : ℕ) (small : R ≤ 4_294_967_295) where
+    -- set r to mu P. P or nu P. P, w being V's arrow
+    module _ (d : Bool) (R : ℕ) (small : R ≤ 4_294_967_295) (w : ℕ) (is : seen old .valid ≡ w) where
       abbrev Alone : Ended → Form → Type 0
       Alone y f = Ends (rowsOf (tableOf old)) (rowsUnder (b .N) alone) (roundsUnder R alone) f y
 
       self-alone : (y : Ended) → Ends (rowsOf (tableOf old)) (b .N) R (bind d 0 (var 0)) y → Alone y (formulaIn b Set (self d))
       self-alone y e = subst (Alone y) (self-form d (b .n)) (unlimited R (bind d 0 (var 0)) y small e)
 
-      -- one round and no step: node number 0 or 1
-      pub self-done : 0 < R → CallPost (set alone r R (self d)) old (storedIn old r (startArrow d)) (setReply (ends (startArrow d) (another nothing)))
+      -- one round and no step: node number 0 or V's
+      pub self-done : 0 < R → CallPost (set alone r R (self d)) old (storedIn old r (startArrow d w)) (setReply (ends (startArrow d w) (another nothing)))
       self-done i =
           through-done s tt (λ a. a)
-          (set-value old s (tableOf old) (s .good) (op-refl (tableOf old)) alone r R (self d) l tt (self-passes d (b .n) (regFilled b) (relFilled b)) (startArrow d) (another nothing)
-          (self-alone (ends (startArrow d) (another nothing)) (self-ends (modelOf b) (b .N) R noEnv (liveOf b) 0 (s .good .rows) held d i)))
+          (set-value old s (tableOf old) (s .good) (op-refl (tableOf old)) alone r R (self d) l tt (self-passes d (b .n) (regFilled b) (relFilled b)) (startArrow d w) (another nothing)
+          (self-alone (ends (startArrow d w) (another nothing)) (self-ends (modelOf b) (b .N) R noEnv (liveOf b) 0 (s .good .rows) held w (has-valid w is) d i)))
           (as-it-was refl)
-          (view-stored (headerOf old ROWS) r (startArrow d) old (s .good .sizes .room) l)
+          (view-stored (headerOf old ROWS) r (startArrow d w) old (s .good .sizes .room) l)
 
       -- no round is allowed
       pub self-refused : R ≡ 0 → CallPost (set alone r R (self d)) old old (plain 9)
       self-refused z =
           through-done s tt (λ a. a)
           (set-spent old s (tableOf old) (s .good) (op-refl (tableOf old)) alone r R (self d) l tt (self-passes d (b .n) (regFilled b) (relFilled b))
-          (self-alone nine (self-spent (modelOf b) (b .N) R noEnv (liveOf b) 0 (s .good .rows) held d z)))
+          (self-alone nine (self-spent (modelOf b) (b .N) R noEnv (liveOf b) 0 (s .good .rows) held w (has-valid w is) d z)))
           (as-it-was refl) refl
 
     -- set r to mu P. NOT P
@@ -157,7 +213,7 @@ module _ (old : List ℕ) (s : SoundWords old) where
     pub empty-done : CallPost (clear r) old (write old (FIRST-REGISTER + r) 0) (plain 0)
     empty-done = clear-done old (write old (FIRST-REGISTER + r) 0) r s l refl (view-header (headerOf old ROWS) old (s .good .sizes .room) (FIRST-REGISTER + r) 0 (omega arith))
 
-  -- collect where registers and relations reach every used row
+  -- collect where V, registers and relations reach every used row
   module _ (needed : (i : ℕ) → used (tableOf old) i ≡ true → Reach (rowsOf (tableOf old)) (filled (tableOf old)) i) where
     same : Freed (tableOf old) (tableOf old) (filled (tableOf old))
     same = record {

@@ -1,26 +1,37 @@
--- A row made in a table where none is used, and a collection that frees all rows: each with the words that it leaves meets its contract. Assumes
+-- A row made in a table where none is used, and a collection that frees all rows, V being every state: each with the words that it leaves meets its contract. Assumes
 -- nothing.
-use mathlib.Core.Path.{_≡_, refl, sym, _∙_, subst}
-use mathlib.Core.Bool.{Bool, true, false}
-use mathlib.Core.List.{List}
-use Prim.Native.Nat.{ℕ, zero, suc, _+_, _*_, _≤_, _<_}
+use mathlib.Core.Path.{_≡_, refl, sym, ap, _∙_, subst, fun-ext}
+use mathlib.Core.Logic.{by-cases}
+use mathlib.Core.Bool.{Bool, true, false, _&&_, true≢false}
+use mathlib.Core.List.{List, _∷_, List·Memᴰ·head as here}
+use Prim.Native.Nat.{ℕ, zero, suc, _+_, _-_, _*_, _≤_, _<_}
 use native.Mathlib.Omega.{arith}
+use native.Mathlib.Decide.{ℕ-discrete}
 use lib.ListN.{length, set as write}
 use borrow.Author.Tests.{ne-eqb}
 use Rattle.accounts.specs.Terms.{alone, rowsUnder, roundsUnder}
 use Rattle.accounts.specs.Count.{nothing, needing}
 use Rattle.mucalculus.specs.Form.{Form, now}
 use Rattle.tokens.specs.declared.Kind.the-variants.{Set}
-use Rattle.layout.specs.Places.{REGISTERS, BITS, ROWS, USED, CURSOR, FIRST-REGISTER, ROOTS-END, LOW, HIGH, LEVEL, NEXT, RANK, MEMO-KEY, wordsFor, cellsAt, listAt, headsAt}
+use Rattle.layout.specs.Places.{REGISTERS, BITS, ROWS, USED, CURSOR, VALID, ALL-STATES, FIRST-REGISTER, ROOTS-END, LOW, HIGH, LEVEL, NEXT, RANK, MEMO-KEY, wordsFor, cellsAt, listAt, headsAt}
 use Rattle.layout.specs.View.{View, view, headerOf, putHeader, putCell, putList, putHead}
+use Rattle.layout.specs.Arrows.{row-no}
+use Rattle.mucalculus.specs.Means.{exist}
+use Rattle.diagram.specs.Level.{Fn, Val}
+use Rattle.diagram.specs.Used.{usedCount}
+use Rattle.diagram.specs.Rows.{target, den, WellFormed}
+use Rattle.diagram.specs.Den.{den-one}
 use Rattle.diagram.specs.Need.{stepNeed}
 use Rattle.diagram.specs.Post.{at, added-row, Making, turned}
-use Rattle.diagram.specs.Grow.{same-refl}
+use Rattle.diagram.specs.Grow.{extends-refl, same-refl}
 use Rattle.diagram.specs.Reach.{Reach, root, by-low, by-high}
 use Rattle.diagram.specs.Recur.{bit-made}
 use Rattle.diagram.specs.Step.{StepPost, step-first, few-used}
-use Rattle.diagram.specs.Steps.{bitF}
-use Rattle.soundness.specs.Used.{used, used-in, used-no, rowsOf}
+use Rattle.diagram.specs.Steps.{bitF, andF}
+use Rattle.soundness.specs.Used.{used, used-in, used-no, rowsOf, arrow-constant}
+use Rattle.soundness.specs.Mark.{reaches-used}
+use Rattle.soundness.specs.Roots.{Ref, Held as RootHeld}
+use Rattle.soundness.specs.Within.{validOf, within-all}
 use Rattle.soundness.specs.Index.{bucket, bucket-lt, live, live-not, live-zero}
 use Rattle.soundness.specs.Sound.{Good, Sound, tableOf}
 use Rattle.soundness.specs.Filled.{filled, mem-filled}
@@ -30,10 +41,11 @@ use Rattle.table.specs.Count.{count-used}
 use Rattle.table.specs.Find.{Absent}
 use Rattle.collect.specs.Answers.{CollectPost}
 use Rattle.collect.specs.Freed.{Freed, freed-count}
-use Rattle.book.specs.Book.{Book, set, collect, liveOf, checks, formulaIn}
+use Rattle.book.specs.Bridge.{fnOf-clip}
+use Rattle.book.specs.Book.{Book, set, collect, modelOf, liveOf, checks, formulaIn}
 use Rattle.book.specs.Table.{rootsOf}
 use Rattle.book.specs.Leaves.{valued}
-use Rattle.book.specs.Held.{held-arrow, held-need}
+use Rattle.book.specs.Held.{denotes-same, Held, held-arrow, held-push, held-keeps, held-need}
 use Rattle.book.specs.Follow.{ends, evals-bit}
 use Rattle.book.specs.BookOf.{bookOf}
 use Rattle.book.specs.Formulas.{setReply}
@@ -44,7 +56,7 @@ use Rattle.calls.specs.Changes.{collect-done}
 use Rattle.formula_steps.specs.Evaluated.{registerStored, as-it-was}
 use Rattle.formula_steps.specs.Ends.{set-value, through-done}
 use Rattle.witness.specs.Words.{Viewed, viewed, put-header, put-cell, put-list, put-head, storedIn}
-use Rattle.witness.specs.Made.{held, Ends, unlimited, unused}
+use Rattle.witness.specs.Made.{held, Ends, unlimited, has-valid, unused}
 
 -- ---- the words
 
@@ -115,7 +127,7 @@ view-freed N ws room some = put-head (put-header (viewed room) USED 0 (omega ari
 
 -- ---- set r to bit p where no row is used
 
-module _ (old : List ℕ) (s : SoundWords old) (none : headerOf old USED ≡ 0) (p : ℕ) (low : p < headerOf old BITS) where
+module _ (old : List ℕ) (s : SoundWords old) (none : headerOf old USED ≡ 0) (every : headerOf old VALID ≡ ALL-STATES) (p : ℕ) (low : p < headerOf old BITS) where
   abbrev W : View
   W = tableOf old
 
@@ -138,28 +150,67 @@ module _ (old : List ℕ) (s : SoundWords old) (none : headerOf old USED ≡ 0) 
   made : Making (2 * W .header BITS) (W .rows) (W .rows) (rowsOf W) (rowsOf X) (2 * p) 0 1 (at 3)
   made = turned refl (added-row 0 room (omega arith) (added-adds W 0 (2 * p) 1 0 (s .good) room (no-row W none 0) absent) (λ j u _ _ _. unused old none j u)) refl
 
+  few : usedCount (rowsOf X) (W .rows) ≤ W .rows
+  few = let c = count-used X (grown .ranked) in let l = grown .ranked .count-le in omega (arith, c, l)
+
   step : StepPost (2 * W .header BITS) (W .rows) (W .rows) (rowsOf W) (rowsOf X) (rootsOf (seen old)) (at 3) (bitF (2 * p))
   step = step-first (rootsOf (seen old)) (s .good .rows) (held-arrow (held old s)) (bit-made (s .good .rows) (omega arith) made)
-      (few-used (let c = count-used X (grown .ranked) in let l = grown .ranked .count-le in omega (arith, c, l)) (same-refl (rowsOf X)))
+      (few-used few (same-refl (rowsOf X)))
 
   abbrev b : Book
   b = bookOf (seen old)
 
-  -- q is what its one step needs
-  pub bit-done : (r R k q : ℕ) (bs : List ℕ) → r < REGISTERS → R ≤ 4_294_967_295 → k ≡ bucket (W .rows) (2 * p) 1 0
-      → checks b Set bs ≡ 0 → now p ≡ formulaIn b Set bs → q ≡ stepNeed (2 * b .n) (liveOf b) (bitF (2 * p))
-      → CallPost (set alone r R bs) old (bitIn (W .rows) old k r p) (setReply (ends 3 (needing nothing q)))
-  bit-done r R k q bs l small e passes is i =
+  -- its AND with V, which is every state, makes no row
+  abbrev m : ℕ
+  m = 2 * W .header BITS
+
+  abbrev w : ℕ
+  w = seen old .valid
+
+  abbrev both : Fn
+  both = andF (den m (rowsOf X) 3) (den m (rowsOf X) w)
+
+  and-true : (x y : Bool) → y ≡ true → x ≡ (x && y)
+  and-true true y e = sym e
+  and-true false y e = refl
+
+  both-bit : both ≡ bitF (2 * p)
+  both-bit = fun-ext (λ v. sym (and-true (den m (rowsOf X) 3 v) (den m (rowsOf X) w v) (all-true v)) ∙ step .result .0 .same v)
+    where
+      all-true : (v : Val) → den m (rowsOf X) w v ≡ true
+      all-true v = let e : w ≡ 1 = omega arith in ap (λ (a : ℕ). den m (rowsOf X) a v) e ∙ den-one m (rowsOf X) v
+
+  held-bit : Held m (rowsOf X) (3 ∷ rootsOf (seen old)) (bitF (2 * p) ∷ liveOf b)
+  held-bit = held-push (held-keeps (held old s) (step .kept)) (step .result .0)
+
+  again : StepPost m (W .rows) (W .rows) (rowsOf X) (rowsOf X) (3 ∷ rootsOf (seen old)) (at 3) both
+  again = step-first (3 ∷ rootsOf (seen old)) (grown .rows) (held-arrow held-bit)
+      (record {
+        wf = grown .rows;
+        kept = extends-refl (rowsOf X);
+        fresh = λ i u n. absurd (true≢false (sym u ∙ n));
+        result = denotes-same (sym both-bit) (step .result .0);
+      })
+      (few-used few (same-refl (rowsOf X)))
+
+  -- q and j are what its two steps need
+  pub bit-done : (r R k q j : ℕ) (bs : List ℕ) → r < REGISTERS → R ≤ 4_294_967_295 → k ≡ bucket (W .rows) (2 * p) 1 0
+      → checks b Set bs ≡ 0 → now p ≡ formulaIn b Set bs → q ≡ stepNeed (2 * b .n) (liveOf b) (bitF (2 * p)) → j ≡ stepNeed (2 * b .n) (bitF (2 * p) ∷ liveOf b) (bitF (2 * p))
+      → CallPost (set alone r R bs) old (bitIn (W .rows) old k r p) (setReply (ends 3 (needing (needing nothing q) j)))
+  bit-done r R k q j bs l small e passes is i h =
       through-done s tt (λ a. a)
-      (set-value old s X grown frame alone r R bs l tt passes 3 (needing nothing q)
-      (subst (λ (f : Form). Ends old s (rowsOf X) (rowsUnder (b .N) alone) (roundsUnder R alone) f (ends 3 (needing nothing q))) is
-      (unlimited old s R (now p) (ends 3 (needing nothing q)) small (evals-bit (b .n) (b .N) (held old s) p nothing low (at 3) step q (i ∙ sym (held-need (held old s) (bitF (2 * p))))))))
+      (set-value old s X grown frame alone r R bs l tt passes 3 (needing (needing nothing q) j)
+      (subst (λ (f : Form). Ends old s (rowsOf X) (rowsUnder (b .N) alone) (roundsUnder R alone) f (ends 3 (needing (needing nothing q) j))) is
+      (unlimited old s R (now p) (ends 3 (needing (needing nothing q) j)) small
+      (evals-bit (b .n) (b .N) (held old s) (exist (modelOf b)) w (here refl) (here (fnOf-clip (b .n) (b .valid))) (has-valid old s w refl) p nothing low
+      step q (i ∙ sym (held-need (held old s) (bitF (2 * p))))
+      (at 3) again j (h ∙ sym (ap (stepNeed (2 * b .n) (bitF (2 * p) ∷ liveOf b)) both-bit) ∙ sym (held-need held-bit both))))))
       (as-it-was refl)
       (view-bit (W .rows) k r p old (s .good .sizes .room) none room e l .is)
 
--- ---- collect where registers and relations are all empty
+-- ---- collect where registers and relations are all empty, V being every state
 
-module _ (old : List ℕ) (s : SoundWords old) (bare : (h : ℕ) → FIRST-REGISTER ≤ h → h < ROOTS-END → headerOf old h ≡ 0) where
+module _ (old : List ℕ) (s : SoundWords old) (every : headerOf old VALID ≡ ALL-STATES) (bare : (h : ℕ) → FIRST-REGISTER ≤ h → h < ROOTS-END → headerOf old h ≡ 0) where
   abbrev U : View
   U = tableOf old
 
@@ -169,13 +220,31 @@ module _ (old : List ℕ) (s : SoundWords old) (bare : (h : ℕ) → FIRST-REGIS
   no-used : (i : ℕ) → used Z i ≡ true → ⊥
   no-used i u = let p = used-in _ _ _ _ i u .place in omega arith
 
+  -- V's arrow is a constant, and no other root is filled
+  no-root : {a i : ℕ} → RootHeld U VALID ROOTS-END a → target a ≡ suc i → ⊥
+  no-root {a} {i} x e = by-cases (ℕ-discrete (x .at) VALID)
+      (λ q.
+      let y : headerOf old VALID ≡ suc a = ap (headerOf old) (sym q) ∙ x .holds in
+      let o : a ≡ 1 = omega arith in
+      let z : _≡_ {A = ℕ} 0 (suc i) = sym (ap target o) ∙ e in
+      omega arith)
+      (λ n. let f = x .from in let z = bare (x .at) (omega arith) (x .below) in let y = x .holds in omega arith)
+
   unreached : {i : ℕ} → Reach (rowsOf U) (filled U) i → ⊥
-  unreached (root m e) = let x = mem-filled U _ m in let z = bare (x .at) (x .from) (x .below) in let y = x .holds in omega arith
+  unreached (root m e) = no-root (mem-filled U _ m) e
   unreached (by-low r e) = unreached r
   unreached (by-high r e) = unreached r
 
   empty : (h : ℕ) → FIRST-REGISTER ≤ h → h < ROOTS-END → Z .header h ≡ 0
   empty h a l = rw (ne-eqb h USED (omega arith)) (bare h a l)
+
+  rows : WellFormed (2 * Z .header BITS) (Z .rows) (rowsOf Z)
+  rows = record { bounded = λ i u. absurd (no-used i u); ok = λ i u. absurd (no-used i u); shared = λ i j u. absurd (no-used i u) }
+
+  refs : (h : ℕ) → VALID ≤ h → h < ROOTS-END → Ref (rowsOf Z) (Z .header h)
+  refs h a l = by-cases (ℕ-discrete h VALID)
+      (λ q. subst (Ref (rowsOf Z)) (sym (ap (Z .header) q ∙ every)) (arrow-constant (rowsOf Z) 1 (row-no 1 (omega arith))))
+      (λ n. subst (Ref (rowsOf Z)) (sym (empty h (omega arith) l)) tt)
 
   emptied : Sound Z
   emptied = record {
@@ -184,11 +253,13 @@ module _ (old : List ℕ) (s : SoundWords old) (bare : (h : ℕ) → FIRST-REGIS
       rows-is = s .good .rows-is;
       layout-is = s .good .layout-is;
       ranked = record { count-le = omega arith; within = λ k h. absurd (omega arith); back = λ k h. absurd (omega arith) };
-      rows = record { bounded = λ i u. absurd (no-used i u); ok = λ i u. absurd (no-used i u); shared = λ i j u. absurd (no-used i u) };
+      rows = rows;
       index = record { nexts = λ i u. absurd (no-used i u); found = λ i u. absurd (no-used i u) };
     };
-    refs = λ h a l. rw (empty h a l) tt;
-    even = λ h a l b q i r. let z = empty h a (omega arith) in absurd (omega arith);
+    refs = refs;
+    valid = λ e. let z : Z .header VALID ≡ ALL-STATES = every in omega arith;
+    even = λ h a l b q i r. absurd (no-used i (reaches-used rows (subst (Ref (rowsOf Z)) q (refs h a (omega arith))) r));
+    within = within-all Z (validOf Z) (let z : Z .header VALID ≡ ALL-STATES = every in omega arith);
   }
 
   freed : Freed U Z (filled U)

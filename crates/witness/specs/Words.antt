@@ -6,9 +6,9 @@ use Prim.Native.Nat.{ℕ, suc, _+_, _≤_, _<_}
 use native.Mathlib.Omega.{arith}
 use native.Mathlib.Decide.{decLt}
 use lib.ListN.{length, replicate, set, length-set, length-replicate, getD-replicate}
-use Rattle.layout.specs.Places.{REGISTERS, HEADER, CELLS, BITS, ROWS, LAYOUT, MARKED, FIRST-REGISTER, wordsFor, cellsAt, listAt, headsAt}
+use Rattle.layout.specs.Places.{REGISTERS, HEADER, CELLS, BITS, ROWS, LAYOUT, CURRENT, VALID, ALL-STATES, FIRST-REGISTER, wordsFor, cellsAt, listAt, headsAt}
 use Rattle.layout.specs.View.{View, view, headerOf, headOf, upd, putHeader, putCell, putList, putHead, view-header, view-cell, view-list, view-head, header-is, header-past, head-is, head-past}
-use Rattle.layout.specs.Header.{headerWords, header-zero}
+use Rattle.layout.specs.Header.{headerWords, header-valid, header-zero}
 use Rattle.table.specs.Fresh.{emptied}
 use Rattle.formula_steps.specs.Evaluated.{registerStored}
 
@@ -20,9 +20,9 @@ pub length-zeros : (k : ℕ) → length (zeros k) ≡ k
 unfolding zeros
 length-zeros k = length-replicate {A = ℕ} k 0
 
--- what fresh leaves of k zeros: n, N and the layout
+-- what fresh leaves of k zeros: n, N, the layout, and V, which is every state
 unfoldable pub freshOf : ℕ → ℕ → ℕ → List ℕ
-freshOf n N k = set (set (set (zeros k) BITS n) ROWS N) LAYOUT MARKED
+freshOf n N k = set (set (set (set (zeros k) BITS n) ROWS N) LAYOUT CURRENT) VALID ALL-STATES
 
 -- what set leaves of words in which it makes no row: register r holds arrow a
 unfoldable pub storedIn : List ℕ → ℕ → ℕ → List ℕ
@@ -69,17 +69,19 @@ module _ {N : ℕ} {ws : List ℕ} {W : View} (p : Viewed N ws W) where
   pub put-head : (b v : ℕ) → b < N → Viewed N (set ws (headsAt N + b) v) (putHead W b v)
   put-head b v l = record { room = roomy (headsAt N + b) v; is = view-head N ws (p .room) b v l ∙ ap (λ (x : View). putHead x b v) (p .is) }
 
--- n, N and the layout
+-- n, N, the layout and V
 sizes-put : (n N rows : ℕ) (ws : List ℕ) → wordsFor rows ≤ length ws
-    → Viewed rows (set (set (set ws BITS n) ROWS N) LAYOUT MARKED) (putHeader (putHeader (putHeader (view rows ws) BITS n) ROWS N) LAYOUT MARKED)
-sizes-put n N rows ws room = put-header (put-header (put-header (viewed room) BITS n (omega arith)) ROWS N (omega arith)) LAYOUT MARKED (omega arith)
+    → Viewed rows (set (set (set (set ws BITS n) ROWS N) LAYOUT CURRENT) VALID ALL-STATES)
+    (putHeader (putHeader (putHeader (putHeader (view rows ws) BITS n) ROWS N) LAYOUT CURRENT) VALID ALL-STATES)
+sizes-put n N rows ws room =
+    put-header (put-header (put-header (put-header (viewed room) BITS n (omega arith)) ROWS N (omega arith)) LAYOUT CURRENT (omega arith)) VALID ALL-STATES (omega arith)
 
--- the header that fresh writes is zeros but for n, N and the layout
-header-fresh : (n N k : ℕ) → HEADER ≤ k → upd (upd (upd (headerOf (zeros k)) BITS n) ROWS N) LAYOUT MARKED ≡ headerOf (headerWords n N)
+-- the header that fresh writes is zeros but for these
+header-fresh : (n N k : ℕ) → HEADER ≤ k → upd (upd (upd (upd (headerOf (zeros k)) BITS n) ROWS N) LAYOUT CURRENT) VALID ALL-STATES ≡ headerOf (headerWords n N)
 unfolding headerWords zeros
 header-fresh n N k l =
     let same = length-replicate {A = ℕ} HEADER 0 in
-    ap (λ (f : ℕ → ℕ). upd (upd (upd f BITS n) ROWS N) LAYOUT MARKED) (fun-ext (λ h. header-zeros k l h ∙ sym (header-zeros HEADER (omega arith) h)))
+    ap (λ (f : ℕ → ℕ). upd (upd (upd (upd f BITS n) ROWS N) LAYOUT CURRENT) VALID ALL-STATES) (fun-ext (λ h. header-zeros k l h ∙ sym (header-zeros HEADER (omega arith) h)))
     ∙ sym (ap (λ (x : View). x .header) (sizes-put n N 0 (replicate HEADER 0) (omega arith) .is))
 
 -- "Fresh empties them all"
@@ -99,8 +101,12 @@ view-fresh n N k room =
       beyond = view N (zeros k) .beyond;
     })
 
-pub fresh-zero : (n N k h : ℕ) → wordsFor N ≤ k → h < HEADER → h ≢ BITS → h ≢ ROWS → h ≢ LAYOUT → headerOf (freshOf n N k) h ≡ 0
-fresh-zero n N k h room l a b c = ap (λ (v : View). v .header h) (view-fresh n N k room) ∙ header-is (headerWords n N) h l ∙ header-zero n N h l a b c
+pub fresh-zero : (n N k h : ℕ) → wordsFor N ≤ k → h < HEADER → h ≢ BITS → h ≢ ROWS → h ≢ LAYOUT → h ≢ VALID → headerOf (freshOf n N k) h ≡ 0
+fresh-zero n N k h room l a b c d = ap (λ (v : View). v .header h) (view-fresh n N k room) ∙ header-is (headerWords n N) h l ∙ header-zero n N h l a b c d
+
+-- "after fresh, V is every state"
+pub fresh-valid : (n N k : ℕ) → wordsFor N ≤ k → headerOf (freshOf n N k) VALID ≡ ALL-STATES
+fresh-valid n N k room = ap (λ (v : View). v .header VALID) (view-fresh n N k room) ∙ header-is (headerWords n N) VALID (omega arith) ∙ header-valid n N
 
 -- ---- stored
 

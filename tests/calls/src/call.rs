@@ -18,6 +18,11 @@ pub struct Cost {
 /// A call for a book, which is asked what is filled and how many rounds a set takes, and for a list
 /// of accounts; and its cost.
 pub fn draw_call(random: &mut Random, book: &Book, accounts: &[Account]) -> (Call, Option<Cost>) {
+    let filled = |some: bool| some || book.registers().iter().any(Option::is_some);
+    let unfilled = !filled(book.relations().iter().any(Option::is_some));
+    if random.chance(if unfilled { 40 } else { 2 }) {
+        return valid_call(random, book);
+    }
     let few = book.relations().iter().flatten().count() < 2;
     let call = match random.below(100) {
         0..=39 if few => return relation_call(random, book),
@@ -36,6 +41,28 @@ pub fn draw_call(random: &mut Random, book: &Book, accounts: &[Account]) -> (Cal
         },
     };
     (call, None)
+}
+
+/// V: nothing, everything, one state, a selector of three positions, any set; where that may be.
+fn valid_call(random: &mut Random, book: &Book) -> (Call, Option<Cost>) {
+    let n = book.n() as u8;
+    let body = match random.below(10) {
+        0 => vec![0x00],
+        1 => vec![0x01],
+        2..=3 => writer::one_state(random, n),
+        4..=5 if n > 1 => vec![0x02, 0x03, 0x10, 0x11],
+        6 => special(random, book, Kind::Valid),
+        _ => plain(random, book, Kind::Valid),
+    };
+    let formula = framed(random, body);
+    let done = checked(book, Kind::Valid, &formula)
+        .and_then(|f| evaluate::valid(book.held(), MAX_ROWS as usize, &f).ok());
+    let empty = filled(book.registers()).is_empty() && filled(book.relations()).is_empty();
+    let cost = done.filter(|_| empty).map(|done| Cost {
+        peak: done.peak,
+        rounds: 0,
+    });
+    (Call::Valid { formula }, cost)
 }
 
 fn relation_call(random: &mut Random, book: &Book) -> (Call, Option<Cost>) {
@@ -164,8 +191,8 @@ fn filled<T>(places: &[Option<T>]) -> Vec<u8> {
 
 fn plain(random: &mut Random, book: &Book, kind: Kind) -> Vec<u8> {
     let largest = match (kind, book.n()) {
-        (Kind::Relation, 1..=3) => 14,
-        (Kind::Relation, _) => 9,
+        (Kind::Relation | Kind::Valid, 1..=3) => 14,
+        (Kind::Relation | Kind::Valid, _) => 9,
         (Kind::Set, 1..=2) => 40,
         (Kind::Set, 3) => 24,
         (Kind::Set, _) => 12,
@@ -178,7 +205,7 @@ fn plain(random: &mut Random, book: &Book, kind: Kind) -> Vec<u8> {
         relations: filled(book.relations()),
         size: 1 + random.below(largest),
         binders: match kind {
-            Kind::Relation => 0,
+            Kind::Relation | Kind::Valid => 0,
             Kind::Set => u32::from(slip) + random.below(4) as u32,
         },
         slip,

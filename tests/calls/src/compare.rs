@@ -2,7 +2,7 @@
 
 use crate::kept;
 use crate::sound::sound;
-use crate::words::{Words, FIRST_REGISTER, FIRST_RELATION};
+use crate::words::{Words, FIRST_REGISTER, FIRST_RELATION, VALID};
 use kudzuclamp::{Loaded, Refusal, Stored, Table};
 use reference::accounts::Account;
 use reference::book::{Answer, Book, Call, REGISTERS};
@@ -61,6 +61,7 @@ pub fn make(
             answer.map(stored)
         }
         Call::Clear { r } => table.clear(*r as u32).map(none),
+        Call::Valid { formula } => table.valid(formula).map(none),
         Call::Collect => table.collect().map(plain),
         Call::Node { r } => table.node(*r as u32).map(plain),
         Call::Member { r, state } => {
@@ -151,6 +152,7 @@ pub fn compare_words(
         Call::Set { r, .. } => answered.then(|| register(*r)),
         Call::Relation { t, .. } => answered.then(|| FIRST_RELATION + *t as usize),
         Call::Clear { r } => Some(register(*r)),
+        Call::Valid { .. } => answered.then_some(VALID),
         Call::Collect => None,
         _ => return kept::all(before, after),
     };
@@ -176,8 +178,9 @@ pub fn compare_pairs(expected: &Expected) -> Result<(), Difference> {
     Ok(())
 }
 
-/// No call answers what a relation holds, so it is read from the words.
+/// No call answers what V or a relation holds, so it is read from the words.
 pub fn compare_relations(words: Words, book: &Book) -> Result<(), Difference> {
+    same("V", words.valid().as_ref(), Some(book.valid()))?;
     for (t, relation) in book.relations().iter().enumerate() {
         same("relation", words.relation(t).as_ref(), relation.as_ref())
             .map_err(|what| format!("{t}: {what}"))?;

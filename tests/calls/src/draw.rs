@@ -5,7 +5,7 @@ use crate::compare::Difference;
 use crate::limits::{draw_accounts, draw_sizes, Sizes};
 use crate::list::{List, Step};
 use crate::run::{Runner, MAX_BITS};
-use crate::words::{table_size, BITS, FIRST_REGISTER, HEADER, ROW, UNUSED};
+use crate::words::{table_size, BITS, HEADER, ROW, UNUSED, VALID};
 use reference::accounts::Account;
 use reference::book::{words_for, Book, Call};
 use reference::random::Random;
@@ -229,7 +229,7 @@ impl Session {
         let rows = self.sizes.rows as usize;
         let place = match self.random.below(10) {
             0..=1 => self.random.below(8) as usize,
-            2..=3 => FIRST_REGISTER + self.random.below(40) as usize,
+            2..=3 => VALID + self.random.below(41) as usize,
             4..=7 => HEADER + self.random.below((ROW * rows) as u64) as usize,
             _ => HEADER + self.random.below((12 * rows) as u64) as usize,
         };

@@ -21,7 +21,7 @@ pub fn all(before: &[u32], after: &[u32]) -> Result<(), String> {
 /// on a sound table.
 pub fn needed(before: &[u32], after: &[u32], target: Option<usize>) -> Result<(), String> {
     let words = Words(before);
-    let roots = (FIRST_REGISTER..ROOTS_END).filter(|&place| Some(place) != target);
+    let roots = (VALID..ROOTS_END).filter(|&place| Some(place) != target);
     let rows = words.reached(roots);
     let may_change = |place| Some(place) == target || free(words.rows(), &rows, place);
     let places = before.iter().zip(after).enumerate();
@@ -36,7 +36,7 @@ pub fn needed(before: &[u32], after: &[u32], target: Option<usize>) -> Result<()
 /// collect".
 pub fn swept(after: &[u32]) -> Result<(), String> {
     let words = Words(after);
-    let needed = words.reached(FIRST_REGISTER..ROOTS_END);
+    let needed = words.reached(VALID..ROOTS_END);
     let used: BTreeSet<usize> = (0..words.used()).map(|k| words.listed(k)).collect();
     match used == needed {
         true => Ok(()),

@@ -121,6 +121,9 @@ fn read_call(fields: &[&str]) -> Option<Call> {
             rounds: rounds.parse().ok()?,
             formula: unhex(bytes)?,
         },
+        ["valid", bytes] => Call::Valid {
+            formula: unhex(bytes)?,
+        },
         ["clear", r] => Call::Clear { r: r.parse().ok()? },
         ["collect"] => Call::Collect,
         ["node", r] => Call::Node { r: r.parse().ok()? },
@@ -171,6 +174,7 @@ fn write_call(f: &mut fmt::Formatter<'_>, call: &Call) -> fmt::Result {
             formula,
         } => write!(f, "set {place} {r} {rounds} {}", hex(formula)),
         Call::Clear { r } => write!(f, "clear {r}"),
+        Call::Valid { formula } => write!(f, "valid {}", hex(formula)),
         Call::Collect => write!(f, "collect"),
         Call::Node { r } => write!(f, "node {r}"),
         Call::Member { r, state } => write!(f, "member {r} {state}"),

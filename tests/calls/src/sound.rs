@@ -1,7 +1,8 @@
-//! "A table is sound when", decided slowly and plainly from document 01 and docs/LAYOUT.md.
+//! "A table is sound when", decided slowly and plainly from documents 01 and 02 and docs/LAYOUT.md.
 
 use crate::words::*;
 use reference::book::{MAX_ROWS, MAX_STATE_BITS};
+use std::collections::BTreeSet;
 
 /// Whether the words are a sound table; the error says what is amiss.
 pub fn sound(words: &[u32]) -> Result<(), String> {
@@ -19,7 +20,8 @@ pub fn sound(words: &[u32]) -> Result<(), String> {
             return Err(format!("the index does not find row {row}"));
         }
     }
-    roots(words)
+    roots(words)?;
+    within(words)
 }
 
 fn demand(holds: bool, what: impl FnOnce() -> String) -> Result<(), String> {
@@ -37,7 +39,7 @@ fn sizes(words: &[u32]) -> Result<(), String> {
     demand(n_fits && rows_fit, || "n or N out of range".to_string())?;
     let size = table_size(words[ROWS] as usize);
     demand(words.len() >= size, || "too few words".to_string())?;
-    demand(words[LAYOUT] == MARKED, || "another layout".to_string())
+    demand(words[LAYOUT] == CURRENT, || "another layout".to_string())
 }
 
 /// "the k-th used row, k < USED: below N, and its RANK is k"; so each is listed once.
@@ -117,18 +119,52 @@ pub fn bucket(rows: usize, level: u32, low: u32, high: u32) -> usize {
 }
 
 /// "each register is empty or an arrow whose rows all have even levels; each relation is empty or
-/// any arrow".
+/// any arrow"; "V's rows on even levels".
 fn roots(words: Words) -> Result<(), String> {
-    for place in FIRST_REGISTER..ROOTS_END {
+    let valid = words.root(VALID).is_some();
+    demand(valid, || "no set of states that exist".to_string())?;
+    for place in VALID..ROOTS_END {
         let leads = match words.root(place).map(arrow) {
             Some(Arrow::Row(row)) => words.is_used(row),
             _ => true,
         };
         demand(leads, || format!("root {place} leads to no used row"))?;
     }
-    let below = words.reached(FIRST_REGISTER..FIRST_RELATION);
+    let below = words.reached(VALID..FIRST_RELATION);
     let mut levels = below.iter().map(|&row| words.field(row, LEVEL));
     demand(levels.all(|level| level % 2 == 0), || {
-        "a register has an odd level".to_string()
+        "V or a register has an odd level".to_string()
     })
+}
+
+/// "registers within V, and relations within V and SHIFT of V".
+fn within(words: Words) -> Result<(), String> {
+    let valid = words.root(VALID).expect("checked before");
+    for shift in [0, 1] {
+        let first = [FIRST_REGISTER, FIRST_RELATION][shift as usize];
+        for place in first..ROOTS_END {
+            let inside = words.root(place).is_none_or(|root| lies_within(words, root, valid, shift));
+            demand(inside, || format!("root {place} not within V at shift {shift}"))?;
+        }
+    }
+    Ok(())
+}
+
+/// Whether every pair of one arrow is one of the other, whose levels count higher by the shift:
+/// level by level, the pairs of arrows that some bits before lead to.
+fn lies_within(words: Words, root: u32, valid: u32, shift: u32) -> bool {
+    let mut met = BTreeSet::from([(root, valid)]);
+    for level in 0..2 * words.n() + shift {
+        let mut below = BTreeSet::new();
+        for (a, v) in met {
+            let parts = words.cofactors(a, level);
+            let wholes = match level.checked_sub(shift) {
+                Some(own) => words.cofactors(v, own),
+                None => [v, v],
+            };
+            below.extend([0, 1].map(|bit| (parts[bit], wholes[bit])));
+        }
+        met = below;
+    }
+    met.iter().all(|&(a, v)| a == 0 || v == 1)
 }

@@ -11,8 +11,12 @@ pub const UNUSED: usize = 2;
 pub const USED: usize = 3;
 pub const STORED: usize = 6;
 pub const LAYOUT: usize = 7;
-/// The layout in which arrows may carry a NOT.
-pub const MARKED: u32 = 2;
+/// The layout in which arrows may carry a NOT and V is a root.
+pub const CURRENT: u32 = 3;
+/// The first root: V, "the set V of states that exist".
+pub const VALID: usize = 15;
+/// V's root where V is every state.
+pub const ALL_STATES: u32 = 2;
 pub const FIRST_REGISTER: usize = 16;
 pub const FIRST_RELATION: usize = 48;
 /// Where the roots end and where the rows begin.
@@ -92,7 +96,7 @@ impl Words<'_> {
         rank < self.used() && self.listed(rank) == row
     }
 
-    /// The arrow in a register or relation word: "0 empty, else arrow + 1".
+    /// The arrow in a root's word: "0 empty, else arrow + 1".
     pub fn root(self, place: usize) -> Option<u32> {
         self.0[place].checked_sub(1)
     }
@@ -114,6 +118,16 @@ impl Words<'_> {
         }
     }
 
+    /// What an arrow is where a level's bit is 0 and where it is 1: itself, if it is past the level.
+    pub fn cofactors(self, at: u32, level: u32) -> [u32; 2] {
+        match arrow(at) {
+            Arrow::Row(row) if self.field(row, LEVEL) == level => {
+                [LOW, HIGH].map(|place| self.field(row, place) ^ at & 1)
+            }
+            _ => [at, at],
+        }
+    }
+
     /// The used rows that the roots in some places of a sound table reach.
     pub fn reached(self, places: impl Iterator<Item = usize>) -> BTreeSet<usize> {
         let mut rows = BTreeSet::new();
@@ -126,6 +140,12 @@ impl Words<'_> {
             }
         }
         rows
+    }
+
+    /// "the set V of states that exist".
+    pub fn valid(self) -> Option<StateSet> {
+        let root = self.root(VALID)?;
+        Some(StateSet::from_fn(self.n(), |s| self.has(root, s, 0)))
     }
 
     pub fn register(self, r: usize) -> Option<StateSet> {
@@ -145,6 +165,7 @@ impl Words<'_> {
         Book::with(
             self.n(),
             self.rows(),
+            self.valid().expect("every sound table has a V"),
             (0..REGISTERS).map(|r| self.register(r)).collect(),
             (0..RELATIONS).map(|t| self.relation(t)).collect(),
         )

@@ -201,6 +201,9 @@ impl Writer<'_> {
             (0..self.plan.n).for_each(|p| tokens.extend([0x20 + p; 8]));
             return tokens;
         }
+        if self.plan.kind == Kind::Valid {
+            return tokens;
+        }
         for r in &self.plan.registers {
             tokens.extend([0x40 + r; 3]);
         }
@@ -223,6 +226,19 @@ impl Writer<'_> {
         }
         tokens
     }
+}
+
+/// One state: every bit has its value.
+pub fn one_state(random: &mut Random, n: u8) -> Vec<u8> {
+    let mut body = vec![0x01];
+    for p in 0..n {
+        let bit = match random.chance(50) {
+            true => vec![0x10 + p],
+            false => vec![0x02, 0x10 + p],
+        };
+        body = [vec![0x03], bit, body].concat();
+    }
+    body
 }
 
 /// AND of "next bit p is f" over some of the bits, f over the current bits: a rule for each switch.

@@ -59,7 +59,7 @@ fn draw(random: &mut Random, kind: Kind, n: u32) -> Vec<u8> {
         size: 2 + random.below(9),
         binders: match kind {
             Kind::Set => random.below(3) as u32,
-            Kind::Relation => 0,
+            Kind::Relation | Kind::Valid => 0,
         },
         slip: false,
     };

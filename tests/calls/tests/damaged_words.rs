@@ -258,7 +258,7 @@ fn fill_free_words(random: &mut Random, words: &mut [u32]) {
     let rows = words[ROWS] as usize;
     let mut places: Vec<usize> = (USED + 1..=STORED).collect();
     places.push(UNUSED);
-    places.extend(LAYOUT + 1..FIRST_REGISTER);
+    places.extend(LAYOUT + 1..VALID);
     places.extend(ROOTS_END..HEADER);
     for row in 0..rows {
         let at = HEADER + ROW * row;
@@ -351,7 +351,8 @@ fn no_used_row() {
         words[BITS] = 1 + random.below(3) as u32;
         words[ROWS] = rows as u32;
         words[USED] = 0;
-        words[LAYOUT] = MARKED;
+        words[LAYOUT] = CURRENT;
+        words[VALID] = ALL_STATES;
         let roots = &mut words[FIRST_REGISTER..ROOTS_END];
         roots.fill_with(|| random.below(3) as u32);
         accepts(&words, &mut random);

@@ -120,8 +120,11 @@ fn drawn_lists() {
         let mut calls = Vec::new();
         for _ in 0..15 {
             let (call, _) = draw_call(&mut random, &book, &accounts);
-            book.call(&mut accounts, &call);
-            calls.push(call);
+            // Valid returns no peak, so that a table chosen by peaks may be too small for it.
+            if !matches!(call, Call::Valid { .. }) {
+                book.call(&mut accounts, &call);
+                calls.push(call);
+            }
         }
         let (more_tables, more_limits) = compare(n as u32, calls);
         tables += more_tables;

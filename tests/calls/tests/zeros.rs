@@ -191,7 +191,8 @@ fn refused_relations() {
     let full = [0x03, 0x20, 0x03, 0x11, 0x21];
     assert_eq!(relation(room(), 0, &full), [8, 0]);
     assert_eq!(relation(room(), 0, &[0x20]), [0, 2]);
-    assert_eq!(relation(room(), 0, &[0x01]), [0, 0]);
+    // The steps with V count what is live, also of a constant.
+    assert_eq!(relation(room(), 0, &[0x01]), [0, 1]);
 }
 
 #[test]

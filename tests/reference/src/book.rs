@@ -34,6 +34,10 @@ pub enum Call {
     Clear {
         r: u64,
     },
+    /// Slip 6: "A new call valid".
+    Valid {
+        formula: Vec<u8>,
+    },
     Collect,
     Node {
         r: u64,
@@ -78,6 +82,7 @@ pub struct SetAnswer {
 pub struct Book {
     n: u32,
     rows: usize,
+    valid: StateSet,
     registers: Vec<Option<StateSet>>,
     relations: Vec<Option<PairSet>>,
 }
@@ -97,6 +102,8 @@ impl Book {
         Ok(Book {
             n: n as u32,
             rows: rows as usize,
+            // Slip 6: "after fresh, V is every state".
+            valid: StateSet::constant(n as u32, true),
             registers: vec![None; REGISTERS],
             relations: vec![None; RELATIONS],
         })
@@ -106,6 +113,7 @@ impl Book {
     pub fn with(
         n: u32,
         rows: usize,
+        valid: StateSet,
         registers: Vec<Option<StateSet>>,
         relations: Vec<Option<PairSet>>,
     ) -> Book {
@@ -113,6 +121,7 @@ impl Book {
         Book {
             n,
             rows,
+            valid,
             registers,
             relations,
         }
@@ -126,6 +135,10 @@ impl Book {
         self.rows
     }
 
+    pub fn valid(&self) -> &StateSet {
+        &self.valid
+    }
+
     pub fn registers(&self) -> &[Option<StateSet>] {
         &self.registers
     }
@@ -137,6 +150,7 @@ impl Book {
     pub fn held(&self) -> Held<'_> {
         Held {
             n: self.n,
+            valid: &self.valid,
             registers: &self.registers,
             relations: &self.relations,
         }
@@ -171,6 +185,23 @@ impl Book {
             rounds: done.rounds,
             peak: done.peak,
         })
+    }
+
+    /// Slip 6: valid "fixes the set V of states that exist".
+    pub fn make_valid(&mut self, bytes: &[u8]) -> Result<(), Refusal> {
+        self.valid = self.evaluate_valid(bytes)?.value;
+        Ok(())
+    }
+
+    /// The checks and steps of valid, without its change. Slip 6: "13, valid
+    /// while a register or relation is filled, checked directly after 2".
+    pub fn evaluate_valid(&self, bytes: &[u8]) -> Result<Evaluated<StateSet>, Refusal> {
+        let registers = self.registers.iter().any(Option::is_some);
+        if registers || self.relations.iter().any(Option::is_some) {
+            return Err(Refusal::Occupied);
+        }
+        let formula = self.check(Kind::Valid, bytes)?;
+        evaluate::valid(self.held(), self.rows, &formula)
     }
 
     /// The checks and steps of relation, without its change.
@@ -298,6 +329,7 @@ impl Book {
                 answer.map(|set| Answer::counted(set.rounds, set.peak, set.node))
             }
             Call::Clear { r } => self.clear(*r).map(|()| Answer::plain(0)),
+            Call::Valid { formula } => self.make_valid(formula).map(|()| Answer::plain(0)),
             Call::Collect => Ok(Answer::plain(self.collect())),
             Call::Node { r } => self.node(*r).map(|node| Answer::counted(0, 0, node)),
             Call::Member { r, state } => {

@@ -6,20 +6,24 @@ use crate::rows::Rows;
 use crate::runs;
 use crate::states::{PairSet, StateSet};
 
-/// What the registers and relations hold at the start of the call. The call
-/// changes none of them before its end: "The old content of the target is live
-/// throughout the call."
+/// What the registers and relations hold at the start of the call, and V. The
+/// call changes none of them before its end: "The old content of the target is
+/// live throughout the call."
 #[derive(Clone, Copy)]
 pub struct Held<'a> {
     pub n: u32,
+    /// Slip 6: "the set V of states that exist".
+    pub valid: &'a StateSet,
     pub registers: &'a [Option<StateSet>],
     pub relations: &'a [Option<PairSet>],
 }
 
 impl Held<'_> {
-    /// Rows needed by all filled registers and relations.
+    /// Rows needed by all filled registers and relations. Slip 6: "V is live
+    /// always, counts in collect".
     pub fn rows(&self) -> Rows {
         let mut rows = Rows::new();
+        rows.add_set(self.valid);
         self.registers
             .iter()
             .flatten()
@@ -50,17 +54,31 @@ pub struct Evaluated<T> {
     pub peak: usize,
 }
 
-/// Takes the steps of a relation call, which "has no rounds".
+/// Takes the steps of a relation call, which "has no rounds". Slip 6: "A
+/// relation's formula is read as before, then ANDed with V, then with SHIFT of
+/// V."
 pub fn relation(held: Held, rows: usize, formula: &Formula) -> Result<Evaluated<PairSet>, Refusal> {
     let limits = Limits { rows, rounds: 0 };
-    let done = Evaluator::new(held, limits, Kind::Relation).run(formula)?;
-    Ok(done.map(Value::into_pairs))
+    let mut evaluator = Evaluator::new(held, limits, Kind::Relation);
+    let pairs = evaluator.value(formula)?;
+    let value = evaluator.within(pairs)?;
+    Ok(evaluator.done(value).map(Value::into_pairs))
+}
+
+/// Takes the steps of valid. Slip 6: "the formula of valid itself is read over
+/// all 2^n"; "it is full by the same row rule as a relation call".
+pub fn valid(held: Held, rows: usize, formula: &Formula) -> Result<Evaluated<StateSet>, Refusal> {
+    let limits = Limits { rows, rounds: 0 };
+    let mut evaluator = Evaluator::new(held, limits, Kind::Valid);
+    let value = evaluator.value(formula)?;
+    Ok(evaluator.done(value).map(Value::into_states))
 }
 
 /// Takes the steps of a set call.
 pub fn set(held: Held, limits: Limits, formula: &Formula) -> Result<Evaluated<StateSet>, Refusal> {
-    let done = Evaluator::new(held, limits, Kind::Set).run(formula)?;
-    Ok(done.map(Value::into_states))
+    let mut evaluator = Evaluator::new(held, limits, Kind::Set);
+    let value = evaluator.value(formula)?;
+    Ok(evaluator.done(value).map(Value::into_states))
 }
 
 /// Slip 2: the peak of a set call "over the steps reached within its rounds",
@@ -204,13 +222,12 @@ impl<'a> Evaluator<'a> {
         }
     }
 
-    fn run(mut self, formula: &Formula) -> Result<Evaluated<Value>, Refusal> {
-        let value = self.value(formula)?;
-        Ok(Evaluated {
+    fn done(self, value: Value) -> Evaluated<Value> {
+        Evaluated {
             value,
             rounds: self.rounds,
             peak: self.peak,
-        })
+        }
     }
 
     /// "Left before right, parts before operator." "Constants, registers and
@@ -220,7 +237,10 @@ impl<'a> Evaluator<'a> {
             Formula::Constant(value) => Ok(self.constant(*value)),
             Formula::Variable(p) => Ok(Value::States(self.current(*p).clone())),
             Formula::Register(r) => Ok(Value::States(self.register(*r).clone())),
-            Formula::NowBit(p) => self.step(&[], self.now_bit(*p)),
+            Formula::NowBit(p) => {
+                let bit = self.step(&[], self.now_bit(*p))?;
+                self.existing(bit)
+            }
             Formula::NextBit(p) => self.step(&[], Value::Pairs(PairSet::next_bit(self.held.n, *p))),
             Formula::Not(f) => {
                 let operand = self.value(f)?;
@@ -234,17 +254,47 @@ impl<'a> Evaluator<'a> {
         }
     }
 
+    /// Slip 6: "In a state formula true means V".
     fn constant(&self, value: bool) -> Value {
         match self.kind {
             Kind::Relation => Value::Pairs(PairSet::constant(self.held.n, value)),
-            Kind::Set => Value::States(StateSet::constant(self.held.n, value)),
+            Kind::Set if value => self.valid(),
+            Kind::Set | Kind::Valid => Value::States(StateSet::constant(self.held.n, value)),
         }
+    }
+
+    fn valid(&self) -> Value {
+        Value::States(self.held.valid.clone())
+    }
+
+    /// Slip 6: "each such bit and NOT, the NOTs of a box included, is followed by
+    /// AND with V as a step."
+    fn existing(&mut self, value: Value) -> Result<Value, Refusal> {
+        if self.kind != Kind::Set {
+            return Ok(value);
+        }
+        let valid = self.valid();
+        let result = value.and(&valid);
+        self.step(&[&value, &valid], result)
+    }
+
+    /// "then ANDed with V, then with SHIFT of V".
+    fn within(&mut self, pairs: Value) -> Result<Value, Refusal> {
+        let valid = self.valid();
+        let from = Value::Pairs(PairSet::of_now(self.held.valid));
+        let first = pairs.and(&from);
+        let first = self.step(&[&pairs, &valid], first)?;
+        self.waiting.push(first);
+        let shifted = self.step(&[&valid], valid.shift())?;
+        let first = self.waiting.pop().expect("pushed above");
+        let result = first.and(&shifted);
+        self.step(&[&first, &shifted], result)
     }
 
     fn now_bit(&self, p: u32) -> Value {
         match self.kind {
             Kind::Relation => Value::Pairs(PairSet::now_bit(self.held.n, p)),
-            Kind::Set => Value::States(StateSet::bit(self.held.n, p)),
+            Kind::Set | Kind::Valid => Value::States(StateSet::bit(self.held.n, p)),
         }
     }
 
@@ -259,7 +309,8 @@ impl<'a> Evaluator<'a> {
 
     fn not(&mut self, operand: Value) -> Result<Value, Refusal> {
         let result = operand.not();
-        self.step(&[&operand], result)
+        let result = self.step(&[&operand], result)?;
+        self.existing(result)
     }
 
     fn binary(
@@ -302,10 +353,13 @@ impl<'a> Evaluator<'a> {
         Ok(Value::States(pairs.into_pairs().as_state_set()))
     }
 
-    /// "Mu starts from the empty set, nu from all states." "An inner binder
-    /// starts anew at each evaluation."
+    /// "Mu starts from the empty set"; Slip 6: "nu starts from V". "An inner
+    /// binder starts anew at each evaluation."
     fn binder(&mut self, fixpoint: Fixpoint, p: u8, body: &Formula) -> Result<Value, Refusal> {
-        let mut current = StateSet::constant(self.held.n, fixpoint == Fixpoint::Nu);
+        let mut current = match fixpoint {
+            Fixpoint::Mu => StateSet::constant(self.held.n, false),
+            Fixpoint::Nu => self.held.valid.clone(),
+        };
         loop {
             let value = self.round(p, &current, body)?;
             // "If the value is the same set the binder ends with it, otherwise
@@ -346,6 +400,7 @@ impl<'a> Evaluator<'a> {
             if round.value == current {
                 let relation = self.held.relations[t].as_ref().expect("filled by check 7");
                 let value = runs::until(modality, relation, &round.keep, &round.goal);
+                let value = value.and(self.held.valid);
                 assert_eq!(value, current, "the rounds end at another set");
                 return Ok(Value::States(value));
             }

@@ -44,6 +44,8 @@ pub enum Formula {
 pub enum Kind {
     Relation,
     Set,
+    /// Slip 6: "A new call valid".
+    Valid,
 }
 
 /// Puts the length bytes and version 1 in front of formula bytes.
@@ -157,6 +159,8 @@ impl Reader<'_> {
         match self.kind {
             Kind::Relation => matches!(byte, 0x00..=0x04 | 0x10..=0x2F),
             Kind::Set => !matches!(byte, 0x20..=0x2F),
+            // Slip 6: "a formula of 00 to 04 and 10 to 1F".
+            Kind::Valid => matches!(byte, 0x00..=0x04 | 0x10..=0x1F),
         }
     }
 

@@ -91,6 +91,7 @@ fn call_text(call: &Call) -> String {
             formula,
         } => format!("set {place} {r} {rounds} {}", hex(formula)),
         Call::Clear { r } => format!("clear {r}"),
+        Call::Valid { formula } => format!("valid {}", hex(formula)),
         Call::Collect => "collect".to_string(),
         Call::Node { r } => format!("node {r}"),
         Call::Member { r, state } => format!("member {r} {state}"),
@@ -170,8 +171,10 @@ struct Drawer<'a> {
 impl Drawer<'_> {
     fn call(&mut self, index: u64) -> Call {
         let call = match self.random.below(100) {
-            0..=59 if index == 0 => self.relation_call(),
-            0..=19 => self.relation_call(),
+            0..=39 if index == 0 => self.valid_call(),
+            0..=59 if index <= 1 => self.relation_call(),
+            0..=1 => self.valid_call(),
+            2..=19 => self.relation_call(),
             20..=64 => self.set_call(),
             65..=71 => Call::Clear { r: self.register() },
             72..=77 => Call::Collect,
@@ -181,6 +184,14 @@ impl Drawer<'_> {
         };
         self.scratch.call(&mut self.plenty, &call);
         call
+    }
+
+    fn valid_call(&mut self) -> Call {
+        let formula = self.formula(Kind::Valid);
+        if let Ok(done) = self.scratch.evaluate_valid(&formula) {
+            self.needs.push(done.peak);
+        }
+        Call::Valid { formula }
     }
 
     fn relation_call(&mut self) -> Call {
@@ -318,7 +329,7 @@ impl Drawer<'_> {
     /// Tokens wanted; few at n = 2, where each step is dearer.
     fn size(&mut self, kind: Kind) -> u64 {
         match (kind, self.n) {
-            (Kind::Relation, _) => self.random.pick(&[1, 3, 4, 5, 6, 7]),
+            (Kind::Relation | Kind::Valid, _) => self.random.pick(&[1, 3, 4, 5, 6, 7]),
             (Kind::Set, 1) => 1 + self.random.below(9),
             (Kind::Set, _) => 1 + self.random.below(6),
         }
@@ -476,6 +487,7 @@ impl Writer<'_> {
             tokens.extend([0x10 + p; 2]);
         }
         match self.kind {
+            Kind::Valid => {}
             Kind::Relation => (0..self.n).for_each(|p| tokens.extend([0x20 + p; 3])),
             Kind::Set => {
                 tokens.extend(self.registers.iter().map(|r| 0x40 + r));

@@ -24,19 +24,20 @@ fn meaning(held: Held, formula: &Formula, environment: &Environment) -> StateSet
                 inner.push((*p, set.clone()));
                 meaning(held, body, &inner)
             };
-            extreme_fixpoint(held.n, *fixpoint, transform)
+            extreme_fixpoint(held.valid, *fixpoint, transform)
         }
         Formula::Until(modality, t, f, g) => {
             let relation = held.relations[*t].as_ref().expect("filled by check 7");
             let (f, g) = (meaning(held, f, environment), meaning(held, g, environment));
-            runs::until(*modality, relation, &f, &g)
+            runs::until(*modality, relation, &f, &g).and(held.valid)
         }
         _ => {
             let parts: Vec<StateSet> = (formula.parts().into_iter())
                 .map(|part| meaning(held, part, environment))
                 .collect();
+            // Slip 6: states outside V do not exist.
             StateSet::from_fn(held.n, |state| {
-                holds(held, formula, &parts, environment, state)
+                held.valid.contains(state) && holds(held, formula, &parts, environment, state)
             })
         }
     }
@@ -67,7 +68,8 @@ fn holds(
         // "box: f in every next state"; "diamond: f in some next state".
         Formula::Modal(modality, t, _) => {
             let relation = held.relations[*t].as_ref().expect("filled by check 7");
-            let mut following = (0..state_count(held.n)).filter(|&s| relation.contains(state, s));
+            let exists = |s: &usize| held.valid.contains(*s) && relation.contains(state, *s);
+            let mut following = (0..state_count(held.n)).filter(exists);
             match modality {
                 Modality::Box => following.all(|s| parts[0].contains(s)),
                 Modality::Diamond => following.any(|s| parts[0].contains(s)),
@@ -77,15 +79,18 @@ fn holds(
     }
 }
 
-/// "least set A with f(A) = A"; "greatest such set".
+/// "least set A with f(A) = A"; "greatest such set": over the sets of states
+/// that exist.
 fn extreme_fixpoint(
-    n: u32,
+    valid: &StateSet,
     fixpoint: Fixpoint,
     transform: impl Fn(&StateSet) -> StateSet,
 ) -> StateSet {
+    let n = valid.n();
     assert!(n <= 3, "too many sets of states to enumerate");
-    let sets =
-        (0..1usize << state_count(n)).map(|code| StateSet::from_fn(n, |s| code >> s & 1 == 1));
+    let sets = (0..1usize << state_count(n))
+        .map(|code| StateSet::from_fn(n, |s| code >> s & 1 == 1))
+        .filter(|set| is_part(set, valid));
     let fixed: Vec<StateSet> = sets.filter(|set| transform(set) == *set).collect();
     let extreme = fixed.iter().find(|candidate| {
         fixed.iter().all(|other| match fixpoint {

@@ -28,6 +28,8 @@ pub enum Refusal {
     ListTooShort = 11,
     /// Slip 5: "a binder's variable occurs nowhere free in its body"
     BindsNothing = 12,
+    /// Slip 6: "valid while a register or relation is filled"
+    Occupied = 13,
     /// Slip 7: "the list is not 1 to 8 long or has no account at that place"
     NoAccount = 14,
 }

@@ -47,6 +47,7 @@ fn rounds_find_the_states_of_passing_runs() {
         let registers = [0, 1].map(|_| Some(draw_set(&mut random, n)));
         let held = Held {
             n,
+            valid: &StateSet::constant(n, true),
             registers: &registers,
             relations: &[Some(relation)],
         };
@@ -118,6 +119,7 @@ fn runs_counted_by_hand() {
 fn rounds_of_the_inner_binder_count_in_every_round() {
     let held = Held {
         n: 1,
+        valid: &StateSet::constant(1, true),
         registers: &[],
         relations: &[None, None, None, Some(PairSet::constant(1, false))],
     };

@@ -10,7 +10,7 @@ use mathlib.Core.Logic.{⊎-elim}
 use Rattle.tokens.specs.declared.Token.the-variants.{Both}
 use Rattle.evaluator.proofs.Tokens.{read-depth, read-token, read-inside}
 use Rattle.evaluator.proofs.Untils.{kept-asked, keep-halts, keep-room, further-asked, keep-asked, keep-answered, goal-asked, goal-halts, round-free, kept-part, or-asked, or-answered, formula-asked, round-asked, formula-answered, round-answered}
-use Rattle.evaluator.proofs.Cycle.{leaf-asked, leaf-answered, not-asked, not-answered, both-asked, both-answered, until-asked, until-answered, mode-asked, mode-answered, bind-asked, bind-answered, negate-halts, step-asked, negate-answered, first-asked, first-halts, second-asked, joined-asked, joined-answered, part-asked, mode-halts, relation-asked, live-within, over-asked, over-answered, same-depth, Looping, loop-starts, rounds-out, body-asked, body-halts, body-same, body-less, loop-turns}
+use Rattle.evaluator.proofs.Cycle.{leaf-asked, leaf-answered, not-asked, not-answered, both-asked, both-answered, until-asked, until-answered, mode-asked, mode-answered, bind-asked, bind-answered, negate-halts, valid-asked, lent-within, complement-asked, start-asked, negate-answered, first-asked, first-halts, second-asked, joined-asked, joined-answered, part-asked, mode-halts, relation-asked, live-within, over-asked, over-answered, same-depth, Looping, loop-starts, rounds-out, body-asked, body-halts, body-same, body-less, loop-turns}
 use borrow.Fn.PlainCycle.{Measures}
 use Rattle.evaluator.proofs.+bind+both+eval+keep+modal+negate+round+turn.{statement}
 use Rattle.evaluator.proofs.+bind+both+eval+keep+modal+negate+round+turn.Tie.{close}
@@ -43,7 +43,7 @@ use Rattle.evaluator.proofs.answer.Reads as answer-reads
 use Rattle.evaluator.proofs.further.Reads as further-reads
 use Rattle.evaluator.proofs.joined.Reads as joined-reads
 use Rattle.evaluator.proofs.leaf.Reads as leaf-reads
-use Rattle.evaluator.proofs.live_step.Reads as live-step-reads
+use Rattle.modal.proofs.complement.Reads as complement-reads
 use Rattle.evaluator.proofs.onward.Reads as onward-reads
 use Rattle.evaluator.proofs.opened.Reads as opened-reads
 use Rattle.evaluator.proofs.over.Reads as over-reads
@@ -87,6 +87,8 @@ bind-μ-loop words₀ counts₀ stack₀ bytes limits here body held current₀ 
 pub +bind+both+eval+keep+modal+negate+round+turn-spec : {M : Type 1} → statement M
 +bind+both+eval+keep+modal+negate+round+turn-spec =
     close μ-bind μ-both μ-eval μ-keep μ-modal μ-negate μ-round μ-turn (λ t. bind-lts.spec (
+      root-arrow-reads.Asked,
+      root-arrow-reads.Learnt,
       start-of-reads.Asked,
       start-of-reads.Learnt,
       variable-of-reads.Asked,
@@ -102,29 +104,30 @@ pub +bind+both+eval+keep+modal+negate+round+turn-spec : {M : Type 1} → stateme
     bind.Post
     bind-Inv-loop
     bind-μ-loop
+    (λ c κs. start-asked (c .before .before .before .before .before .pre .1 .0))
     (λ c κs. search needs)
-    (λ c. loop-starts (c .before .before .before .before .before .before .pre .1 .1) (c .before .start-of .ensures))
+    (λ c. loop-starts (c .before .before .before .before .before .before .before .before .pre .1 .1) (c .before .before .root-arrow .result) (c .before .before .root-arrow .ensures) (c .before .start-of .ensures))
     (λ c. search needs)
-    (λ c. omega (arith, c .before .before .before .before .before .before .before .before .before .before .pre .1 .0 .room, c .before .before .before .before .before .before .before .before .before .before .pre .1 .0 .ready .size, c .before .before .before .loop .inv .stack-size))
+    (λ c. omega (arith, c .before .before .before .before .before .before .before .before .before .before .before .before .pre .1 .0 .room, c .before .before .before .before .before .before .before .before .before .before .before .before .pre .1 .0 .ready .size, c .before .before .before .loop .inv .stack-size))
     (λ c κs. search needs)
     (λ c κs. search needs)
-    (λ c κs. omega (arith, c .before .before .before .before .before .before .before .before .before .before .before .before .pre .1 .0 .room))
-    (λ c κs. (omega (arith, same-depth (c .before .before .before .opened .ensures), c .before .before .before .before .before .before .before .before .before .before .before .before .before .before .before .before .pre .0), (body-asked (c .before .before .before .before .before .before .before .before .before .before .before .before .before .before .before .before .pre .1 .0) (c .before .before .before .before .before .before .before .before .before .loop .inv) (c .before .before .before .opened .ensures) (c .before .before .before .before .before .variable-of .ensures) (c .before .before .before .before .another-round .ensures), c .before .before .before .before .before .before .before .before .before .loop .inv .counts-of)))
+    (λ c κs. omega (arith, c .before .before .before .before .before .before .before .before .before .before .before .before .before .before .pre .1 .0 .room))
+    (λ c κs. (omega (arith, same-depth (c .before .before .before .opened .ensures), c .before .before .before .before .before .before .before .before .before .before .before .before .before .before .before .before .before .before .pre .0), (body-asked (c .before .before .before .before .before .before .before .before .before .before .before .before .before .before .before .before .before .before .pre .1 .0) (c .before .before .before .before .before .before .before .before .before .loop .inv) (c .before .before .before .opened .ensures) (c .before .before .before .before .before .variable-of .ensures) (c .before .before .before .before .another-round .ensures), c .before .before .before .before .before .before .before .before .before .loop .inv .counts-of)))
     (λ c. search needs)
     (λ c. c .before .before .before .before .before .before .before .turn .kept .0 ∙ c .before .before .before .before .before .before .before .before .before .before .before .before .before .before .before .before .before .loop .inv .words-size)
     (λ c. c .before .before .before .before .before .before .before .turn .kept .1 .0 ∙ c .before .before .before .before .before .before .before .before .before .before .before .before .before .before .before .before .before .loop .inv .counts-size)
     (λ c. (simp length-set at (c .before .before .before .before .before .before .before .turn .kept .1 .1 .0)) ∙ c .before .before .before .before .before .before .before .before .before .before .before .before .before .before .before .before .before .loop .inv .stack-size)
-    (λ c. (body-halts (c .before .before .before .before .before .before .before .before .before .before .before .before .before .before .before .before .before .before .before .before .before .before .before .before .pre .1 .0) (c .before .before .before .before .before .before .before .before .before .before .before .before .before .before .before .before .before .loop .inv) (c .before .before .before .before .before .before .before .before .before .before .before .opened .ensures) (c .before .before .before .before .before .before .before .before .before .before .before .before .before .variable-of .ensures) (c .before .before .before .before .before .before .before .before .before .before .before .before .another-round .ensures) (c .before .before .before .before .before .before .before .turn .ensures .0) (c .before .before .before .before .before .before .before .before .before .before .before .before .before .before .if1 .taken) (c .match .keys2), c .before .before .before .before .before .before .before .turn .ensures .1))
+    (λ c. (body-halts (c .before .before .before .before .before .before .before .before .before .before .before .before .before .before .before .before .before .before .before .before .before .before .before .before .before .before .pre .1 .0) (c .before .before .before .before .before .before .before .before .before .before .before .before .before .before .before .before .before .loop .inv) (c .before .before .before .before .before .before .before .before .before .before .before .opened .ensures) (c .before .before .before .before .before .before .before .before .before .before .before .before .before .variable-of .ensures) (c .before .before .before .before .before .before .before .before .before .before .before .before .another-round .ensures) (c .before .before .before .before .before .before .before .turn .ensures .0) (c .before .before .before .before .before .before .before .before .before .before .before .before .before .before .if1 .taken) (c .match .keys2), c .before .before .before .before .before .before .before .turn .ensures .1))
     (λ c. c .before .before .before .before .before .before .before .before .before .before .turn .kept .0 ∙ c .before .before .before .before .before .before .before .before .before .before .before .before .before .before .before .before .before .before .before .before .loop .inv .words-size)
     (λ c. c .before .before .before .before .before .before .before .before .before .before .turn .kept .1 .0 ∙ c .before .before .before .before .before .before .before .before .before .before .before .before .before .before .before .before .before .before .before .before .loop .inv .counts-size)
     (λ c. (simp length-set at (c .before .before .before .before .before .before .before .before .before .before .turn .kept .1 .1 .0)) ∙ c .before .before .before .before .before .before .before .before .before .before .before .before .before .before .before .before .before .before .before .before .loop .inv .stack-size)
-    (λ c. (body-same (c .before .before .before .before .before .before .before .before .before .before .before .before .before .before .before .before .before .before .before .before .before .before .before .before .before .before .before .pre .1 .0) (c .before .before .before .before .before .before .before .before .before .before .before .before .before .before .before .before .before .before .before .before .loop .inv) (c .before .before .before .before .before .before .before .before .before .before .before .before .before .before .opened .ensures) (c .before .before .before .before .before .before .before .before .before .before .before .before .before .before .before .before .variable-of .ensures) (c .before .before .before .before .before .before .before .before .before .before .before .before .before .before .before .another-round .ensures) (c .before .before .before .before .before .before .before .before .before .before .turn .ensures .0) (c .before .before .before .before .before .before .before .before .before .before .before .before .before .before .before .before .before .if1 .taken) (c .before .before .value .given .1) (c .if2 .taken), c .before .before .before .before .before .before .before .before .before .before .turn .ensures .1))
-    (λ c. omega (arith, body-less (c .before .before .before .before .before .before .before .before .before .before .before .before .before .before .before .before .before .before .before .before .before .before .before .before .before .before .before .pre .1 .0) (c .before .before .before .before .before .before .before .before .before .before .before .before .before .before .before .before .before .before .before .before .loop .inv) (c .before .before .before .before .before .before .before .before .before .before .before .before .before .before .opened .ensures) (c .before .before .before .before .before .before .before .before .before .before .before .before .before .before .before .before .variable-of .ensures) (c .before .before .before .before .before .before .before .before .before .before .before .before .before .before .before .another-round .ensures) (c .before .before .before .before .before .before .before .before .before .before .turn .ensures .0) (c .before .before .before .before .before .before .before .before .before .before .before .before .before .before .before .before .before .if1 .taken) (c .before .before .value .given .1), c .before .before .before .before .before .before .before .before .before .before .before .before .before .before .before .before .before .if1 .taken))
-    (λ c. loop-turns (c .before .before .before .before .before .before .before .before .before .before .before .before .before .before .before .before .before .before .before .before .before .before .before .before .before .before .before .pre .1 .0) (c .before .before .before .before .before .before .before .before .before .before .before .before .before .before .before .before .before .before .before .before .loop .inv) (c .before .before .before .before .before .before .before .before .before .before .before .before .before .before .opened .ensures) (c .before .before .before .before .before .before .before .before .before .before .before .before .before .before .before .before .variable-of .ensures) (c .before .before .before .before .before .before .before .before .before .before .before .before .before .before .before .another-round .ensures) (c .before .before .before .before .before .before .before .before .before .before .turn .ensures .0) (c .before .before .before .before .before .before .before .before .before .before .before .before .before .before .before .before .before .if1 .taken) (c .before .before .value .given .1) (c .if2 .left) _ refl (c .before .before .before .before .before .before .before .before .before .before .turn .ensures .1) (c .before .before .before .before .before .before .before .before .before .before .turn .kept .0) (c .before .before .before .before .before .before .before .before .before .before .turn .kept .1 .0) (c .before .before .before .before .before .before .before .before .before .before .turn .kept .1 .1 .0))
+    (λ c. (body-same (c .before .before .before .before .before .before .before .before .before .before .before .before .before .before .before .before .before .before .before .before .before .before .before .before .before .before .before .before .before .pre .1 .0) (c .before .before .before .before .before .before .before .before .before .before .before .before .before .before .before .before .before .before .before .before .loop .inv) (c .before .before .before .before .before .before .before .before .before .before .before .before .before .before .opened .ensures) (c .before .before .before .before .before .before .before .before .before .before .before .before .before .before .before .before .variable-of .ensures) (c .before .before .before .before .before .before .before .before .before .before .before .before .before .before .before .another-round .ensures) (c .before .before .before .before .before .before .before .before .before .before .turn .ensures .0) (c .before .before .before .before .before .before .before .before .before .before .before .before .before .before .before .before .before .if1 .taken) (c .before .before .value .given .1) (c .if2 .taken), c .before .before .before .before .before .before .before .before .before .before .turn .ensures .1))
+    (λ c. omega (arith, body-less (c .before .before .before .before .before .before .before .before .before .before .before .before .before .before .before .before .before .before .before .before .before .before .before .before .before .before .before .before .before .pre .1 .0) (c .before .before .before .before .before .before .before .before .before .before .before .before .before .before .before .before .before .before .before .before .loop .inv) (c .before .before .before .before .before .before .before .before .before .before .before .before .before .before .opened .ensures) (c .before .before .before .before .before .before .before .before .before .before .before .before .before .before .before .before .variable-of .ensures) (c .before .before .before .before .before .before .before .before .before .before .before .before .before .before .before .another-round .ensures) (c .before .before .before .before .before .before .before .before .before .before .turn .ensures .0) (c .before .before .before .before .before .before .before .before .before .before .before .before .before .before .before .before .before .if1 .taken) (c .before .before .value .given .1), c .before .before .before .before .before .before .before .before .before .before .before .before .before .before .before .before .before .if1 .taken))
+    (λ c. loop-turns (c .before .before .before .before .before .before .before .before .before .before .before .before .before .before .before .before .before .before .before .before .before .before .before .before .before .before .before .before .before .pre .1 .0) (c .before .before .before .before .before .before .before .before .before .before .before .before .before .before .before .before .before .before .before .before .loop .inv) (c .before .before .before .before .before .before .before .before .before .before .before .before .before .before .opened .ensures) (c .before .before .before .before .before .before .before .before .before .before .before .before .before .before .before .before .variable-of .ensures) (c .before .before .before .before .before .before .before .before .before .before .before .before .before .before .before .another-round .ensures) (c .before .before .before .before .before .before .before .before .before .before .turn .ensures .0) (c .before .before .before .before .before .before .before .before .before .before .before .before .before .before .before .before .before .if1 .taken) (c .before .before .value .given .1) (c .if2 .left) _ refl (c .before .before .before .before .before .before .before .before .before .before .turn .ensures .1) (c .before .before .before .before .before .before .before .before .before .before .turn .kept .0) (c .before .before .before .before .before .before .before .before .before .before .turn .kept .1 .0) (c .before .before .before .before .before .before .before .before .before .before .turn .kept .1 .1 .0))
     (λ c. c .before .before .before .loop .inv .words-size)
     (λ c. c .before .before .before .loop .inv .counts-size)
     (λ c. c .before .before .before .loop .inv .stack-size)
-    (λ c. (rounds-out (c .before .before .before .before .before .before .before .before .before .before .pre .1 .0) (c .before .before .before .loop .inv) (c .if1 .left), c .before .before .before .loop .inv .counts-of)))
+    (λ c. (rounds-out (c .before .before .before .before .before .before .before .before .before .before .before .before .pre .1 .0) (c .before .before .before .loop .inv) (c .if1 .left), c .before .before .before .loop .inv .counts-of)))
     (λ t. both-lts.spec (
       below eval-kinds.ps μ-eval eval.Pre t,
       eval.Post,
@@ -268,8 +271,10 @@ pub +bind+both+eval+keep+modal+negate+round+turn-spec : {M : Type 1} → stateme
     (λ t. negate-lts.spec (
       below eval-kinds.ps μ-eval eval.Pre t,
       eval.Post,
-      live-step-reads.Asked,
-      live-step-reads.Learnt,
+      root-arrow-reads.Asked,
+      root-arrow-reads.Learnt,
+      complement-reads.Asked,
+      complement-reads.Learnt,
       answer-reads.Asked,
       answer-reads.Learnt,
     )
@@ -281,12 +286,15 @@ pub +bind+both+eval+keep+modal+negate+round+turn-spec : {M : Type 1} → stateme
     (λ c. search needs)
     (λ c. search needs)
     (λ c. (negate-halts (c .before .before .before .before .before .before .before .eval .ensures .0) (c .match .keys2), c .before .before .before .before .before .before .before .eval .ensures .1))
-    (λ c κs. (step-asked (c .before .before .before .before .before .before .before .before .before .before .before .before .eval .ensures .0) (c .before .before .before .before .before .before .before .before .before .before .before .before .eval .kept .1 .1 .0) (c .before .before .before .before .part .given .1) (c .before .before .before .before .before .before .before .before .before .before .before .before .before .before .before .before .before .before .before .before .pre .1 .0), c .before .before .before .before .before .before .before .before .before .before .before .before .eval .ensures .1))
+    (λ c κs. valid-asked (c .before .before .before .before .before .before .before .before .before .before .eval .ensures .0) (c .before .before .before .before .before .before .before .before .before .before .eval .kept .1 .1 .0) (c .before .before .part .given .1) (c .before .before .before .before .before .before .before .before .before .before .before .before .before .before .before .before .before .before .pre .1 .0))
+    (λ c. lent-within (c .before .before .before .before .before .before .before .before .before .before .before .before .before .eval .ensures .0) (c .before .before .before .before .before .before .before .before .before .before .before .before .before .eval .kept .1 .1 .0) (c .before .before .before .before .before .part .given .1) (c .before .before .before .before .before .before .before .before .before .before .before .before .before .before .before .before .before .before .before .before .before .pre .1 .0))
+    (λ c. sym (length-take-le _ _ (lent-within (c .before .before .before .before .before .before .before .before .before .before .before .before .before .before .eval .ensures .0) (c .before .before .before .before .before .before .before .before .before .before .before .before .before .before .eval .kept .1 .1 .0) (c .before .before .before .before .before .before .part .given .1) (c .before .before .before .before .before .before .before .before .before .before .before .before .before .before .before .before .before .before .before .before .before .before .pre .1 .0))))
+    (λ c κs. (complement-asked (c .before .before .before .before .before .before .before .before .before .before .before .before .before .before .eval .ensures .0) (c .before .before .before .before .before .before .before .before .before .before .before .before .before .before .eval .kept .1 .1 .0) (c .before .before .before .before .before .before .part .given .1) (c .before .before .before .root-arrow .result) (c .before .before .before .root-arrow .ensures) (c .before .before .before .before .before .before .before .before .before .before .before .before .before .before .before .before .before .before .before .before .before .before .pre .1 .0), c .before .before .before .before .before .before .before .before .before .before .before .before .before .before .eval .ensures .1))
     (λ c κs. search needs)
-    (λ c. c .before .before .before .before .before .live-step .kept .0 ∙ c .before .before .before .before .before .before .before .before .before .before .before .before .before .before .before .before .before .before .eval .kept .0)
-    (λ c. c .before .before .before .before .before .live-step .kept .1 .0 ∙ c .before .before .before .before .before .before .before .before .before .before .before .before .before .before .before .before .before .before .eval .kept .1 .0)
+    (λ c. c .before .before .before .before .before .complement .kept .0 ∙ c .before .before .before .before .before .before .before .before .before .before .before .before .before .before .before .before .before .before .before .before .eval .kept .0)
+    (λ c. c .before .before .before .before .before .complement .kept .1 .0 ∙ c .before .before .before .before .before .before .before .before .before .before .before .before .before .before .before .before .before .before .before .before .eval .kept .1 .0)
     (λ c. search needs)
-    (λ c. (negate-answered (c .before .before .before .before .before .before .before .before .before .before .before .before .before .before .before .before .before .before .eval .ensures .0) (c .before .before .before .before .before .before .before .before .before .before .before .before .before .before .before .before .before .before .eval .kept .1 .1 .0) (c .before .before .before .before .before .before .before .before .before .before .part .given .1) (c .before .before .before .before .before .live-step .ensures .0) (c .answer .ensures), c .before .before .before .before .before .live-step .ensures .1)))
+    (λ c. (negate-answered (c .before .before .before .before .before .before .before .before .before .before .before .before .before .before .before .before .before .before .before .before .eval .ensures .0) (c .before .before .before .before .before .before .before .before .before .before .before .before .before .before .before .before .before .before .before .before .eval .kept .1 .1 .0) (c .before .before .before .before .before .before .before .before .before .before .before .before .part .given .1) (c .before .before .before .before .before .before .before .before .before .root-arrow .result) (c .before .before .before .before .before .before .before .before .before .root-arrow .ensures) (c .before .before .before .before .before .complement .ensures .0) (c .answer .ensures), c .before .before .before .before .before .complement .ensures .1)))
     (λ t. round-lts.spec (
       below eval-kinds.ps μ-eval eval.Pre t,
       eval.Post,

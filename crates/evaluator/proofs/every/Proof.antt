@@ -1,10 +1,7 @@
--- `every` meets its contract: box of the current set, diamond of true, and AND. Assumes nothing.
-use mathlib.Core.Path.{_∙_}
+-- `every` meets its contract: box of the current set, diamond of true, which is V, and AND. Assumes nothing.
+use Rattle.evaluator.proofs.Untils.{own-asked, box-halts, true-asked, all-asked, and-asked, and-answered}
 use native.Mathlib.Omega.{arith}
-use Rattle.evaluator.proofs.Untils.{own-asked, box-halts, all-asked, and-asked, and-answered}
-use Rattle.evaluator.proofs.joined.Reads as joined-reads
-use Rattle.evaluator.proofs.onward.Reads as onward-reads
-use Rattle.evaluator.proofs.reach.Reads as reach-reads
+use mathlib.Core.Path.{_∙_}
 use borrow.Author.Needs.{needs}
 use Rattle.evaluator.proofs.every.Statement.{statement}
 use Rattle.evaluator.proofs.every.Tie as tie
@@ -24,9 +21,10 @@ every-spec =
     (λ c. search needs)
     (λ c. omega (arith, c .before .before .before .before .before .before .before .before .before .before .before .before .before .before .pre .0 .room, c .before .before .before .before .before .before .before .before .before .before .before .before .before .before .pre .0 .ready .size))
     (λ c κs. c .before .before .before .before .before .before .before .before .before .before .before .before .before .before .pre .0 .room)
-    (λ c κs. (all-asked (c .before .before .before .before .before .before .before .before .before .before .before .before .before .before .before .before .before .before .pre .0) (c .before .before .before .before .before .before .before .before .before .before .before .reach .ensures .0) (c .before .before .before .before .before .first .given .1) (c .before .before .before .onward .ensures), c .before .before .before .before .before .before .before .before .before .before .before .reach .ensures .1))
-    (λ c κs. (and-asked (c .before .before .before .before .before .before .before .before .before .before .before .before .before .before .before .before .before .before .before .before .before .before .before .before .before .before .pre .0) (c .before .before .before .before .before .before .before .before .before .before .before .before .before .before .before .before .before .before .before .reach .ensures .0) (c .before .before .before .before .before .before .before .before .before .before .before .before .before .first .given .1) (c .before .before .before .before .before .before .before .before .before .before .before .onward .ensures) (c .before .before .before .before .before .before .before .reach2 .ensures .0), c .before .before .before .before .before .before .before .reach2 .ensures .1))
-    (λ c. c .before .before .before .before .joined .kept .0 ∙ c .before .before .before .before .before .before .before .before .before .before .before .before .reach2 .kept .0 ∙ c .before .before .before .before .before .before .before .before .before .before .before .before .before .before .before .before .before .before .before .before .before .before .before .before .reach .kept .0)
-    (λ c. c .before .before .before .before .joined .kept .1 .0 ∙ c .before .before .before .before .before .before .before .before .before .before .before .before .reach2 .kept .1 .0 ∙ c .before .before .before .before .before .before .before .before .before .before .before .before .before .before .before .before .before .before .before .before .before .before .before .before .reach .kept .1 .0)
+    (λ c κs. true-asked (c .before .before .before .before .before .before .before .before .before .before .before .before .before .before .before .before .pre .0) (c .before .before .before .before .before .before .before .before .before .reach .ensures .0) (c .before .before .before .first .given .1))
+    (λ c κs. (all-asked (c .before .before .before .before .before .before .before .before .before .before .before .before .before .before .before .before .before .before .before .before .pre .0) (c .before .before .before .before .before .before .before .before .before .before .before .before .before .reach .ensures .0) (c .before .before .before .before .before .before .before .first .given .1) (c .before .before .before .root-arrow .ensures) (c .before .before .before .before .before .onward .ensures), c .before .before .before .before .before .before .before .before .before .before .before .before .before .reach .ensures .1))
+    (λ c κs. (and-asked (c .before .before .before .before .before .before .before .before .before .before .before .before .before .before .before .before .before .before .before .before .before .before .before .before .before .before .before .before .pre .0) (c .before .before .before .before .before .before .before .before .before .before .before .before .before .before .before .before .before .before .before .before .before .reach .ensures .0) (c .before .before .before .before .before .before .before .before .before .before .before .before .before .before .before .first .given .1) (c .before .before .before .before .before .before .before .before .before .before .before .root-arrow .ensures) (c .before .before .before .before .before .before .before .before .before .before .before .before .before .onward .ensures) (c .before .before .before .before .before .before .before .reach2 .ensures .0), c .before .before .before .before .before .before .before .reach2 .ensures .1))
+    (λ c. c .before .before .before .before .joined .kept .0 ∙ c .before .before .before .before .before .before .before .before .before .before .before .before .reach2 .kept .0 ∙ c .before .before .before .before .before .before .before .before .before .before .before .before .before .before .before .before .before .before .before .before .before .before .before .before .before .before .reach .kept .0)
+    (λ c. c .before .before .before .before .joined .kept .1 .0 ∙ c .before .before .before .before .before .before .before .before .before .before .before .before .reach2 .kept .1 .0 ∙ c .before .before .before .before .before .before .before .before .before .before .before .before .before .before .before .before .before .before .before .before .before .before .before .before .before .before .reach .kept .1 .0)
     (λ c. search needs)
-    (λ c. (and-answered (c .before .before .before .before .before .before .before .before .before .before .before .before .before .before .before .before .before .before .before .before .before .before .before .before .before .before .before .before .before .before .before .pre .0) (c .before .before .before .before .before .before .before .before .before .before .before .before .before .before .before .before .before .before .before .before .before .before .before .before .reach .ensures .0) (c .before .before .before .before .before .before .before .before .before .before .before .before .before .before .before .before .before .before .first .given .1) (c .before .before .before .before .before .before .before .before .before .before .before .before .before .before .before .before .onward .ensures) (c .before .before .before .before .before .before .before .before .before .before .before .before .reach2 .ensures .0) (c .before .before .before .before .joined .ensures .0), c .before .before .before .before .joined .ensures .1)))
+    (λ c. (and-answered (c .before .before .before .before .before .before .before .before .before .before .before .before .before .before .before .before .before .before .before .before .before .before .before .before .before .before .before .before .before .before .before .before .before .pre .0) (c .before .before .before .before .before .before .before .before .before .before .before .before .before .before .before .before .before .before .before .before .before .before .before .before .before .before .reach .ensures .0) (c .before .before .before .before .before .before .before .before .before .before .before .before .before .before .before .before .before .before .before .before .first .given .1) (c .before .before .before .before .before .before .before .before .before .before .before .before .before .before .before .before .root-arrow .ensures) (c .before .before .before .before .before .before .before .before .before .before .before .before .before .before .before .before .before .before .onward .ensures) (c .before .before .before .before .before .before .before .before .before .before .before .before .reach2 .ensures .0) (c .before .before .before .before .joined .ensures .0), c .before .before .before .before .joined .ensures .1)))

@@ -1,7 +1,7 @@
 -- `leaf_allowed`: The definition computes at each leaf. Assumes nothing.
 use mathlib.Core.Path.{_≡_}
 use mathlib.Core.Bool.{false}
-use Rattle.tokens.specs.Tokens.{isStates}
+use Rattle.tokens.specs.Tokens.{onlyNow}
 use borrow.Author.Needs.{needs}
 use Rattle.tokens.proofs.leaf_allowed.Statement.{statement}
 use Rattle.tokens.proofs.leaf_allowed.Tie as tie
@@ -23,6 +23,6 @@ leaf-allowed-spec =
     (λ c. search needs)
     (λ c. search needs)
     (λ c. rw (c .before .l .given .1))
-    (λ c. let e : isStates (c .before .before .before .before .before .args .grammar) ≡ false = cc in rw (c .before .before .before .l2 .given .1, e))
+    (λ c. let e : onlyNow (c .before .before .before .before .before .args .grammar) ≡ false = cc in rw (c .before .before .before .l2 .given .1, e))
     (λ c. search needs)
     (λ c. search needs))

@@ -1,4 +1,4 @@
--- `Table::header` meets its contract: three stores into zeros are the definition itself. Assumes nothing.
+-- `Table::header` meets its contract: four stores into zeros are the definition itself. Assumes nothing.
 use mathlib.Core.Path.{refl}
 use Rattle.layout.specs.Header.{headerWords}
 use borrow.Author.Needs.{needs}
@@ -10,6 +10,7 @@ unfolding headerWords
 header-spec =
     tie.close
     (tie.spec
+    (λ c. search needs)
     (λ c. search needs)
     (λ c. search needs)
     (λ c. search needs)

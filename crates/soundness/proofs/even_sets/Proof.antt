@@ -1,15 +1,15 @@
--- `even_registers` meets its contract: the rows that the registers reach are those that were marked from them. Assumes nothing.
+-- `even_sets` meets its contract: the rows that V and the registers reach are those that were marked from them. Assumes nothing.
 use native.Mathlib.Omega.{arith}
 use borrow.Author.Needs.{needs}
 use Rattle.soundness.specs.Bits.{MARK-WORDS, no-marks}
 use Rattle.layout.specs.View.{view}
 use Rattle.soundness.specs.Says.{says-map}
 use Rattle.soundness.specs.Sound.{marked-even, even-marked}
-use Rattle.soundness.proofs.even_registers.Statement.{statement}
-use Rattle.soundness.proofs.even_registers.Tie as tie
+use Rattle.soundness.proofs.even_sets.Statement.{statement}
+use Rattle.soundness.proofs.even_sets.Tie as tie
 
-pub even-registers-spec : {M : Type 1} → statement M
-even-registers-spec =
+pub even-sets-spec : {M : Type 1} → statement M
+even-sets-spec =
     tie.close
     (tie.spec
     (λ c. search needs)

@@ -1,0 +1,225 @@
+-- What the check of registers and relations against V asks and tells: to lie within V is to be apart from NOT V. Assumes nothing.
+use mathlib.Core.Path.{_≡_, refl, sym, ap, _∙_, subst, fun-ext}
+use mathlib.Core.Logic.{_≢_, by-cases}
+use mathlib.Core.List.{List}
+use mathlib.Core.Bool.{Bool, true, false, not, true≢false}
+use Prim.Native.Nat.{ℕ, suc, _+_, _-_, _*_, _≤_, _<_, min}
+use native.Mathlib.Omega.{arith}
+use native.Mathlib.Decide.{decLt}
+use lib.ListN.{length}
+use Rattle.diagram.specs.Level.{Val}
+use Rattle.diagram.specs.Rows.{Rows, marked, Leads, flip, carry, Arrow, levelOf, follow, den, WellFormed, leads-used, leads-level}
+use Rattle.diagram.specs.Den.{den-one, den-flip}
+use Rattle.diagram.specs.Canon.{not-false}
+use Rattle.diagram.specs.Steps.{shiftF}
+use Rattle.layout.specs.Places.{BITS, FIRST-REGISTER, FIRST-RELATION, ROOTS-END, LOW, HIGH, LEVEL}
+use Rattle.layout.specs.View.{View}
+use Rattle.layout.specs.Arrows.{isRow, rowOf, row-is, row-yes}
+use Rattle.soundness.specs.Used.{rowsOf}
+use Rattle.soundness.specs.Says.{Says, holds, fails, says-map, says-pass, says-fail}
+use Rattle.soundness.specs.Within.{denOf, Within}
+use Rattle.soundness.specs.Sound.{Good}
+use Rattle.soundness.specs.Apart.{lift, lift-none, Apart, Half, half-past, half-here, apart-low, apart-high, apart-both}
+use Rattle.soundness.specs.declared.within.Pass.{Pass}
+use Rattle.soundness.specs.declared.within.Pass.the-variants.{Now, Next, Both}
+use Rattle.soundness.specs.Pairs.{PAIR-WORDS, Right, Puts, right-puts}
+
+-- the roots from a word of the header up to, and not with, another are apart from arrow b
+abbrev pub AllApart : View → ℕ → ℕ → ℕ → ℕ → Type 0
+AllApart W s start stop b = (h : ℕ) → start ≤ h → h < stop → (a : ℕ) → W .header h ≡ suc a → Apart (2 * W .header BITS) (rowsOf W) s a b
+
+-- what a part of the check tells
+abbrev pub Clear : View → ℕ → Pass → Type 0
+Clear W b Now = AllApart W 0 FIRST-REGISTER ROOTS-END b
+Clear W b Next = AllApart W 1 FIRST-RELATION ROOTS-END b
+Clear W b Both = AllApart W 0 FIRST-REGISTER ROOTS-END b × AllApart W 1 FIRST-RELATION ROOTS-END b
+
+-- how many parts a part is made of, beside itself
+abbrev pub among : Pass → ℕ
+among Now = 0
+among Next = 0
+among Both = 1
+
+-- a root is empty or apart from arrow b
+abbrev pub RefApart : View → ℕ → ℕ → ℕ → Type 0
+RefApart W s r b = (a : ℕ) → r ≡ suc a → Apart (2 * W .header BITS) (rowsOf W) s a b
+
+-- what the check asks: a good table, a shift of 0 or 1 levels, and right pairs
+pub record Asks (W : View) (s : ℕ) (memo : List ℕ) : Type 0 where
+  pub good : Good W
+  pub shift : s ≤ 1
+  pub size : length memo ≡ PAIR-WORDS
+  pub right : Right (2 * W .header BITS) (rowsOf W) s memo
+
+pub record ApartPre (W : View) (s a b : ℕ) (memo : List ℕ) : Type 0 where
+  pub asks : Asks W s memo
+  pub left : Arrow (rowsOf W) a
+  pub second : Arrow (rowsOf W) b
+
+-- what it tells of P, with the pairs that it leaves
+pub record Tells (W : View) (s : ℕ) (memo : List ℕ) (P : Type 0) (r : Bool) : Type 0 where
+  pub says : Says P r
+  pub right : Right (2 * W .header BITS) (rowsOf W) s memo
+
+-- the halves of an arrow to a row at `own`, with the other arrow at `other`
+pub record Halved (rows : Rows) (a own other lo hi : ℕ) : Type 0 where
+  pub here : own ≤ other → (lo ≡ follow rows a (rowOf a) false) × (hi ≡ follow rows a (rowOf a) true)
+  pub past : other < own → (lo ≡ a) × (hi ≡ a)
+
+-- the halves of both, at the lesser level
+pub record Split (W : View) (s a b a0 b0 a1 b1 : ℕ) : Type 0 where
+  pub level : ℕ
+  pub lesser : level ≡ min (levelOf (2 * W .header BITS) (rowsOf W) a) (levelOf (2 * W .header BITS) (rowsOf W) b + s)
+  pub shallow : level < 2 * W .header BITS
+  pub of-left : Half (2 * W .header BITS) (rowsOf W) 0 level a a0 a1
+  pub of-second : Half (2 * W .header BITS) (rowsOf W) s level b b0 b1
+
+-- how far the lesser level is from the last
+abbrev pub far : View → ℕ → ℕ → ℕ → ℕ
+far W s a b = 2 * W .header BITS - min (levelOf (2 * W .header BITS) (rowsOf W) a) (levelOf (2 * W .header BITS) (rowsOf W) b + s)
+
+-- a row that an arrow leads to
+pub record RowAt (W : View) (a : ℕ) : Type 0 where
+  pub leads : Leads a (rowOf a)
+  pub used : rowsOf W .used (rowOf a) ≡ true
+  pub row : rowOf a < W .rows
+  pub level : levelOf (2 * W .header BITS) (rowsOf W) a ≡ W .cell (rowOf a) LEVEL
+  pub shallow : W .cell (rowOf a) LEVEL < 2 * W .header BITS
+
+pub row-at : (W : View) (a : ℕ) → Good W → Arrow (rowsOf W) a → isRow a ≡ true → RowAt W a
+row-at W a f u t =
+    let l = row-is a t in
+    let o = leads-used (rowsOf W) a (rowOf a) l u in
+    record {
+      leads = l;
+      used = o;
+      row = f .rows .bounded (rowOf a) o;
+      level = leads-level (2 * W .header BITS) (rowsOf W) a (rowOf a) l;
+      shallow = f .rows .ok (rowOf a) o .shallow;
+    }
+
+pub is-row : (a : ℕ) → a ≢ 0 → a ≢ 1 → isRow a ≡ true
+is-row a n k = row-yes a (omega arith)
+
+-- halves as `halve` gives them
+module _ {W : View} (f : Good W) {s l a own other lo hi : ℕ} (r : RowAt W a) (u : Arrow (rowsOf W) a) (e : own ≡ W .cell (rowOf a) LEVEL + s)
+    (h : Halved (rowsOf W) a own other lo hi) (q : l ≡ min own other) where
+  pub half-of : Half (2 * W .header BITS) (rowsOf W) s l a lo hi
+  half-of = by-cases (decLt other own)
+      (λ g. let p = h .past g in let z = r .level in rw (p .0, p .1) (half-past (f .rows) s l a u (omega arith)))
+      (λ g. let p = h .here (omega arith) in rw (p .0, p .1) (half-here (f .rows) s l a (rowOf a) (r .leads) (r .used) (omega arith)))
+
+-- as `split` gives them
+pub split-of : {W : View} {s a b la lb a0 a1 b0 b1 : ℕ} → Good W → RowAt W a → Arrow (rowsOf W) a → RowAt W b → Arrow (rowsOf W) b
+    → la ≡ W .cell (rowOf a) LEVEL → lb ≡ W .cell (rowOf b) LEVEL + s → Halved (rowsOf W) a la lb a0 a1 → Halved (rowsOf W) b lb la b0 b1
+    → Split W s a b a0 b0 a1 b1
+split-of {W} {s} {a} {b} {la} {lb} f ra ua rb ub ea eb ha hb =
+    let x = ra .level in
+    let y = rb .level in
+    let z = ra .shallow in
+    record {
+      level = min la lb;
+      lesser = omega arith;
+      shallow = omega arith;
+      of-left = half-of f ra ua (omega arith) ha refl;
+      of-second = half-of f rb ub eb hb (omega arith);
+    }
+
+-- the halves' lesser level is nearer to the last
+pub split-less : {W : View} {s a b a0 b0 a1 b1 : ℕ} → Split W s a b a0 b0 a1 b1 → (far W s a0 b0 < far W s a b) × (far W s a1 b1 < far W s a b)
+split-less p =
+    let e = p .lesser in
+    let z = p .shallow in
+    let x = p .of-left .low-deeper in
+    let y = p .of-second .low-deeper in
+    let x1 = p .of-left .high-deeper in
+    let y1 = p .of-second .high-deeper in
+    (omega arith, omega arith)
+
+module _ {W : View} {s a b a0 b0 a1 b1 : ℕ} (p : Split W s a b a0 b0 a1 b1) where
+  pub tells-low : {r : Bool} {k : List ℕ} → not r ≡ true → Tells W s k (Apart (2 * W .header BITS) (rowsOf W) s a0 b0) r → Tells W s k (Apart (2 * W .header BITS) (rowsOf W) s a b) false
+  tells-low e t = record { says = fails (λ x. says-fail e (t .says) (apart-low (p .of-left) (p .of-second) x)); right = t .right }
+
+  pub tells-high : {r : Bool} {k : List ℕ} → not r ≡ true → Tells W s k (Apart (2 * W .header BITS) (rowsOf W) s a1 b1) r → Tells W s k (Apart (2 * W .header BITS) (rowsOf W) s a b) false
+  tells-high e t = record { says = fails (λ x. says-fail e (t .says) (apart-high (p .of-left) (p .of-second) x)); right = t .right }
+
+  pub tells-both : {r r1 : Bool} {k k1 k2 : List ℕ} → not r ≡ false → not r1 ≡ false → Tells W s k (Apart (2 * W .header BITS) (rowsOf W) s a0 b0) r
+      → Tells W s k1 (Apart (2 * W .header BITS) (rowsOf W) s a1 b1) r1 → Puts k1 k2 a b → Tells W s k2 (Apart (2 * W .header BITS) (rowsOf W) s a b) true
+  tells-both e e1 t t1 u =
+      let x : Apart (2 * W .header BITS) (rowsOf W) s a b = apart-both (p .of-left) (p .of-second) (says-pass e (t .says)) (says-pass e1 (t1 .says)) in
+      record { says = holds x; right = right-puts (t1 .right) x u }
+
+-- the calls for the halves
+pub called-low : {W : View} {s a b a0 b0 a1 b1 t : ℕ} {memo : List ℕ} → Split W s a b a0 b0 a1 b1 → Asks W s memo → far W s a b ≡ t → (far W s a0 b0 < t) × ApartPre W s a0 b0 memo
+called-low p k e = let l = split-less p in (rw (← e) (l .0), record { asks = k; left = p .of-left .low-arrow; second = p .of-second .low-arrow })
+
+pub called-high : {W : View} {s a b a0 b0 a1 b1 t : ℕ} {memo : List ℕ} → Split W s a b a0 b0 a1 b1 → Asks W s memo → far W s a b ≡ t → (far W s a1 b1 < t) × ApartPre W s a1 b1 memo
+called-high p k e = let l = split-less p in (rw (← e) (l .1), record { asks = k; left = p .of-left .high-arrow; second = p .of-second .high-arrow })
+
+pub asks-on : {W : View} {s : ℕ} {memo memo′ : List ℕ} {P : Type 0} {r : Bool} → Asks W s memo → length memo′ ≡ length memo → Tells W s memo′ P r → Asks W s memo′
+asks-on k e t = record { good = k .good; shift = k .shift; size = e ∙ k .size; right = t .right }
+
+-- an answer with the pairs as they were
+pub told : {W : View} {s : ℕ} {memo : List ℕ} {P : Type 0} {r : Bool} → Asks W s memo → Says P r → Tells W s memo P r
+told k p = record { says = p; right = k .right }
+
+-- as `halve` gives them
+pub halved-here : {own other i x y lo hi : ℕ} (W : View) (a : ℕ) → own ≤ other → i ≡ rowOf a → x ≡ W .cell i LOW → y ≡ W .cell i HIGH
+    → lo ≡ carry (marked a) x → hi ≡ carry (marked a) y → Halved (rowsOf W) a own other lo hi
+halved-here W a h e ex ey el eh = record {
+  here = λ _. (el ∙ ap (carry (marked a)) (ex ∙ ap (λ (k : ℕ). W .cell k LOW) e), eh ∙ ap (carry (marked a)) (ey ∙ ap (λ (k : ℕ). W .cell k HIGH) e));
+  past = λ g. absurd (omega arith);
+}
+
+-- one root
+pub ref-none : {s r b : ℕ} (W : View) → r ≡ 0 → RefApart W s r b
+ref-none W z a e = absurd (omega arith)
+
+pub ref-tells : {W : View} {s b : ℕ} {memo : List ℕ} {k : Bool} (r : ℕ) → r ≢ 0 → Tells W s memo (Apart (2 * W .header BITS) (rowsOf W) s (r - 1) b) k → Tells W s memo (RefApart W s r b) k
+ref-tells {W} {s} {b} r n t = record {
+  says = says-map
+      (λ p a e. let q : r - 1 ≡ a = omega arith in subst (λ (x : ℕ). Apart (2 * W .header BITS) (rowsOf W) s x b) q p)
+      (λ f. f (r - 1) (omega arith))
+      (t .says);
+  right = t .right;
+}
+
+-- no root, and one more
+pub all-none : {s k b : ℕ} (W : View) → AllApart W s k k b
+all-none W h lo hi a e = absurd (omega arith)
+
+pub all-more : {s start k r b : ℕ} (W : View) → AllApart W s start k b → r ≡ W .header k → RefApart W s r b → AllApart W s start (k + 1) b
+all-more {s} {start} {k} {r} {b} W p e q h lo hi a g = by-cases (decLt h k)
+    (λ l. p h lo l a g)
+    (λ n. let z : h ≡ k = omega arith in q a (e ∙ ap (W .header) (sym z) ∙ g))
+
+-- within V is apart from NOT V
+module _ (W : View) (v a : ℕ) where
+  pub apart-within : Apart (2 * W .header BITS) (rowsOf W) 0 a (flip v) → (x : Val) → denOf W a x ≡ true → denOf W v x ≡ true
+  apart-within p x g = not-false _ (λ e. p .none x g (ap (denOf W (flip v)) (lift-none x) ∙ den-flip (2 * W .header BITS) (rowsOf W) v x ∙ ap not e))
+
+  pub within-apart : ((x : Val) → denOf W a x ≡ true → denOf W v x ≡ true) → Apart (2 * W .header BITS) (rowsOf W) 0 a (flip v)
+  within-apart f = record { none = λ x g h. true≢false (sym h ∙ ap (denOf W (flip v)) (lift-none x) ∙ den-flip (2 * W .header BITS) (rowsOf W) v x ∙ ap not (f x g)) }
+
+  one-up : (x : Val) → lift 1 x ≡ (λ l. x (suc l))
+  one-up x = fun-ext λ l. ap x (let e : l + 1 ≡ suc l = omega arith in e)
+
+  pub apart-shifted : Apart (2 * W .header BITS) (rowsOf W) 1 a (flip v) → (x : Val) → denOf W a x ≡ true → shiftF (denOf W v) x ≡ true
+  apart-shifted p x g = not-false _ (λ e. p .none x g (ap (denOf W (flip v)) (one-up x) ∙ den-flip (2 * W .header BITS) (rowsOf W) v (λ l. x (suc l)) ∙ ap not e))
+
+  pub shifted-apart : ((x : Val) → denOf W a x ≡ true → shiftF (denOf W v) x ≡ true) → Apart (2 * W .header BITS) (rowsOf W) 1 a (flip v)
+  shifted-apart f = record { none = λ x g h. true≢false (sym h ∙ ap (denOf W (flip v)) (one-up x) ∙ den-flip (2 * W .header BITS) (rowsOf W) v (λ l. x (suc l)) ∙ ap not (f x g)) }
+
+-- the two passes decide it
+module _ (W : View) (v : ℕ) where
+  pub within-of : AllApart W 0 FIRST-REGISTER ROOTS-END (flip v) → AllApart W 1 FIRST-RELATION ROOTS-END (flip v) → Within W v
+  within-of p q = record { roots = λ h lo hi a e. apart-within W v a (p h lo hi a e); shifted = λ h lo hi a e. apart-shifted W v a (q h lo hi a e) }
+
+  pub of-roots : Within W v → AllApart W 0 FIRST-REGISTER ROOTS-END (flip v)
+  of-roots w h lo hi a e = within-apart W v a (w .roots h lo hi a e)
+
+  pub of-shifted : Within W v → AllApart W 1 FIRST-RELATION ROOTS-END (flip v)
+  of-shifted w h lo hi a e = shifted-apart W v a (w .shifted h lo hi a e)
+
+  pub both-tell : {r : Bool} → Says (Clear W (flip v) Both) r → Says (Within W v) r
+  both-tell = says-map (λ q. within-of (q .0) (q .1)) (λ q. (of-roots q, of-shifted q))

@@ -1,0 +1,220 @@
+// Whether registers lie within the set V of states that exist, and relations within V and SHIFT of V. Nothing is written but a local list of pairs.
+use layout::Table;
+use layout::carry;
+use layout::flip;
+use layout::get;
+use layout::header_word;
+use layout::row_of;
+ghost use mathlib.Core.Path.{_≡_};
+ghost use mathlib.Core.Bool.{true};
+ghost use Prim.Native.Nat.{ℕ, _*_, _+_, _≤_, _<_};
+ghost use lib.ListN.{length};
+ghost use Rattle.layout.specs.Places.{HEADER, CELLS, wordsFor, BITS, LEVEL, FIRST-REGISTER, FIRST-RELATION, ROOTS-END};
+ghost use Rattle.layout.specs.View.{view};
+ghost use Rattle.layout.specs.Arrows.{isRow, rowOf, flipArrow};
+ghost use Rattle.diagram.specs.Rows.{Arrow};
+ghost use Rattle.soundness.specs.Used.{rowsOf};
+ghost use Rattle.soundness.specs.Roots.{Ref};
+ghost use Rattle.soundness.specs.Says.{Says};
+ghost use Rattle.soundness.specs.Apart.{Apart};
+ghost use Rattle.soundness.specs.Pairs.{PAIR-WORDS, Seen, Puts};
+ghost use Rattle.soundness.specs.Within.{Within};
+ghost use Rattle.soundness.specs.Sound.{Good};
+ghost use Rattle.soundness.specs.Contained.{AllApart, Clear, RefApart, Asks, ApartPre, Tells, Halved, Split};
+
+// The remembered pairs: how many words they have, two for each of 4,096.
+struct Pairs;
+
+impl Pairs {
+    const WORDS: usize = 8192;
+}
+
+// The place of a pair of arrows.
+fn place(a: u32, b: u32) -> u32
+    ensures { λ r. ⌜ 2 * r + 1 < PAIR-WORDS ⌝ }
+{
+    let x = 2654435761 * (a as u64) % 4294967296;
+    let y = 2246822519 * (b as u64) % 4294967296;
+    let h = (x + y) % 4294967296;
+    (h / 1048576) as u32
+}
+
+// Whether a pair is remembered.
+fn seen(memo: &[u32], a: u32, b: u32) -> bool
+    requires { ⌜ length (now memo) ≡ PAIR-WORDS ⌝ }
+    ensures { λ r. ⌜ (r ≡ true → Seen (now (memo .entry)) a b) ⌝ }
+{
+    let at = 2 * (place(a, b) as usize);
+    if memo[at] != a {
+        return false;
+    }
+    if memo[at + 1] != b {
+        return false;
+    }
+    true
+}
+
+// Remembers a pair.
+fn remember(memo: &mut [u32], a: u32, b: u32)
+    requires { ⌜ length (now memo) ≡ PAIR-WORDS ⌝ }
+    ensures { λ _. ⌜ Puts (now (memo .entry)) (now (memo .exit)) a b ⌝ }
+{
+    let at = 2 * (place(a, b) as usize);
+    memo[at] = a;
+    memo[at + 1] = b;
+}
+
+// Two arrows.
+struct Cofactors {
+    low: u32,
+    high: u32,
+}
+
+// The halves of an arrow to a row at a level, where another one is at another level: the arrow itself twice, if that is the lesser.
+fn halve(words: &[u32], rows: u32, a: u32, own: u32, other: u32) -> Cofactors
+    requires { ⌜ (isRow a ≡ true) × (rowOf a < rows) × (wordsFor rows ≤ length (now words)) ⌝ }
+    ensures { λ r. ⌜ Halved (rowsOf (view rows (now (words .entry)))) a own other (r .low) (r .high) ⌝ }
+{
+    if own > other {
+        return Cofactors { low: a, high: a };
+    }
+    let i = row_of(a);
+    Cofactors {
+        low: carry(a, get(words, rows, i, Table::LOW)),
+        high: carry(a, get(words, rows, i, Table::HIGH)),
+    }
+}
+
+// Two pairs of arrows.
+struct Quarters {
+    a0: u32,
+    b0: u32,
+    a1: u32,
+    b1: u32,
+}
+
+// The halves of two arrows to rows at the lesser of their levels, where the second's count higher by the shift.
+fn split(words: &[u32], rows: u32, shift: u32, a: u32, b: u32) -> Quarters
+    requires { ⌜ Good (view rows (now words)) × (shift ≤ 1) × Arrow (rowsOf (view rows (now words))) a × Arrow (rowsOf (view rows (now words))) b × (isRow a ≡ true) × (isRow b ≡ true) ⌝ }
+    ensures { λ r. ⌜ Split (view rows (now (words .entry))) shift a b (r .a0) (r .b0) (r .a1) (r .b1) ⌝ }
+{
+    let la = get(words, rows, row_of(a), Table::LEVEL);
+    let lb = get(words, rows, row_of(b), Table::LEVEL) + shift;
+    let x = halve(words, rows, a, la, lb);
+    let y = halve(words, rows, b, lb, la);
+    Quarters {
+        a0: x.low,
+        b0: y.low,
+        a1: x.high,
+        b1: y.high,
+    }
+}
+
+// Whether one arrow is NOT of the other, with no shift.
+fn opposite(shift: u32, a: u32, b: u32) -> bool
+    ensures { λ r. ⌜ (r ≡ true → ((shift ≡ 0) × (a ≡ flipArrow b))) ⌝ }
+{
+    if shift != 0 {
+        return false;
+    }
+    if a != flip(b) {
+        return false;
+    }
+    true
+}
+
+// Whether two arrows have no valuation in common, where the second's levels count higher by the shift. It ends at the first one in common.
+fn apart(words: &[u32], rows: u32, shift: u32, a: u32, b: u32, memo: &mut [u32]) -> bool
+    requires { ⌜ ApartPre (view rows (now words)) shift a b (now memo) ⌝ }
+    ensures { λ r. ⌜ Tells (view rows (now (words .entry))) shift (now (memo .exit)) (Apart (2 * view rows (now (words .entry)) .header BITS) (rowsOf (view rows (now (words .entry)))) shift a b) r ⌝ }
+{
+    if a == Table::NOTHING {
+        return true;
+    }
+    if b == Table::NOTHING {
+        return true;
+    }
+    if a == Table::EVERYTHING {
+        return false;
+    }
+    if b == Table::EVERYTHING {
+        return false;
+    }
+    if opposite(shift, a, b) {
+        return true;
+    }
+    if seen(memo, a, b) {
+        return true;
+    }
+    let q = split(words, rows, shift, a, b);
+    if !apart(words, rows, shift, q.a0, q.b0, memo) {
+        return false;
+    }
+    if !apart(words, rows, shift, q.a1, q.b1, memo) {
+        return false;
+    }
+    remember(memo, a, b);
+    true
+}
+
+// Whether a root is empty or its arrow has no valuation in common with another.
+fn ref_apart(words: &[u32], rows: u32, shift: u32, r: u32, b: u32, memo: &mut [u32]) -> bool
+    requires { ⌜ Asks (view rows (now words)) shift (now memo) × Ref (rowsOf (view rows (now words))) r × Arrow (rowsOf (view rows (now words))) b ⌝ }
+    ensures { λ k. ⌜ Tells (view rows (now (words .entry))) shift (now (memo .exit)) (RefApart (view rows (now (words .entry))) shift r b) k ⌝ }
+{
+    if r == 0 {
+        return true;
+    }
+    apart(words, rows, shift, r - 1, b, memo)
+}
+
+// Whether the roots in the header's words from `from` up to `to` have no valuation in common with an arrow.
+fn refs_apart(words: &[u32], rows: u32, shift: u32, from: usize, to: usize, b: u32) -> bool
+    requires { ⌜ Good (view rows (now words)) × (shift ≤ 1) × Arrow (rowsOf (view rows (now words))) b × (from ≤ to) × (to ≤ HEADER) × ((h : ℕ) → from ≤ h → h < to → Ref (rowsOf (view rows (now words))) (view rows (now words) .header h)) ⌝ }
+    ensures { λ r. ⌜ Says (AllApart (view rows (now (words .entry))) shift from to b) r ⌝ }
+{
+    let mut memo = [0u32; Pairs::WORDS];
+    let mut k = from;
+    while k < to {
+        if !ref_apart(words, rows, shift, header_word(words, k), b, &mut memo) {
+            return false;
+        }
+        k += 1;
+    }
+    true
+}
+
+// The parts of the check: roots against V, relations against SHIFT of V.
+pub enum Pass {
+    Now,
+    Next,
+    Both,
+}
+
+// Whether a part of the check holds, for NOT of V. As it calls itself it is never inlined, and no caller's frame has the pairs.
+fn pass_ok(words: &[u32], rows: u32, b: u32, pass: Pass) -> bool
+    requires { ⌜ Good (view rows (now words)) × Arrow (rowsOf (view rows (now words))) b × ((h : ℕ) → FIRST-REGISTER ≤ h → h < ROOTS-END → Ref (rowsOf (view rows (now words))) (view rows (now words) .header h)) ⌝ }
+    ensures { λ r. ⌜ Says (Clear (view rows (now (words .entry))) b pass) r ⌝ }
+{
+    match pass {
+        Pass::Now => refs_apart(words, rows, 0, Table::FIRST_REGISTER, Table::ROOTS_END, b),
+        Pass::Next => refs_apart(words, rows, 1, Table::FIRST_RELATION, Table::ROOTS_END, b),
+        Pass::Both => {
+            if !pass_ok(words, rows, b, Pass::Now) {
+                return false;
+            }
+            pass_ok(words, rows, b, Pass::Next)
+        }
+    }
+}
+
+// Whether every register lies within V, and every relation within V and SHIFT of V, for the set V of arrow v.
+pub fn all_within(words: &[u32], rows: u32, v: u32) -> bool
+    requires { ⌜ Good (view rows (now words)) × Arrow (rowsOf (view rows (now words))) v × ((h : ℕ) → FIRST-REGISTER ≤ h → h < ROOTS-END → Ref (rowsOf (view rows (now words))) (view rows (now words) .header h)) ⌝ }
+    ensures { λ r. ⌜ Says (Within (view rows (now (words .entry))) v) r ⌝ }
+{
+    if v == Table::EVERYTHING {
+        return true;
+    }
+    pass_ok(words, rows, flip(v), Pass::Both)
+}
