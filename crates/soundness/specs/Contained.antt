@@ -6,7 +6,7 @@ use mathlib.Core.Bool.{Bool, true, false, not, true≢false}
 use Prim.Native.Nat.{ℕ, suc, _+_, _-_, _*_, _%_, _≤_, _<_, min}
 use native.Mathlib.Omega.{arith}
 use native.Mathlib.Decide.{decLt, ℕ-discrete}
-use lib.ListN.{length}
+use lib.ListN.{length, replicate, length-replicate}
 use Rattle.diagram.specs.Level.{Val, upd, upd-same, upd-other}
 use Rattle.diagram.specs.Rows.{Rows, marked, Leads, flip, carry, Arrow, levelOf, follow, den, WellFormed, leads-used, leads-level, carry-arrow}
 use Rattle.diagram.specs.Den.{den-one, den-flip}
@@ -14,17 +14,17 @@ use Rattle.diagram.specs.Canon.{not-false}
 use Rattle.diagram.specs.Steps.{shiftF}
 use Rattle.diagram.specs.Even.{ReadsOn, even, reads-levels}
 use Rattle.diagram.specs.Reach.{Reach, reached-root}
-use Rattle.layout.specs.Places.{HEADER, BITS, FIRST-REGISTER, FIRST-RELATION, ROOTS-END, LOW, HIGH, LEVEL}
+use Rattle.layout.specs.Places.{HEADER, BITS, VALID, FIRST-REGISTER, FIRST-RELATION, ROOTS-END, LOW, HIGH, LEVEL}
 use Rattle.layout.specs.View.{View}
 use Rattle.layout.specs.Arrows.{isRow, rowOf, row-is, row-yes}
 use Rattle.soundness.specs.Used.{rowsOf}
 use Rattle.soundness.specs.Says.{Says, holds, fails, says-map, says-pass, says-fail}
-use Rattle.soundness.specs.Within.{denOf, Within}
-use Rattle.soundness.specs.Sound.{Good}
+use Rattle.soundness.specs.Within.{denOf, validOf, Within}
+use Rattle.soundness.specs.Sound.{Good, EvenSets}
 use Rattle.soundness.specs.Apart.{lift, lift-none, Apart, Half, half-past, half-here, apart-low, apart-high, apart-both}
 use Rattle.soundness.specs.declared.within.Pass.{Pass}
 use Rattle.soundness.specs.declared.within.Pass.the-variants.{Now, Next, Both}
-use Rattle.soundness.specs.Roots.{Ref}
+use Rattle.soundness.specs.Roots.{Ref, ref-arrow}
 use Rattle.soundness.specs.Cells.{Disjoint, tables-tell}
 use Rattle.soundness.specs.Tables.{PLACES, Known, TablePre, TablePost, known-none}
 use Rattle.soundness.specs.Pairs.{PAIR-WORDS, Right, Puts, right-puts}
@@ -310,9 +310,35 @@ by-tables {W} {s} {base} {a} {b} p f g d = record {
   second = g .known;
 }
 
+-- lists of zeros: none where the base is past all levels, and all for the last eight levels
+pub lists-none : {W : View} {s base : ℕ} → base ≡ 2 * W .header BITS → Lists W s base (replicate 1 0) (replicate 1 0)
+lists-none {W} e = record {
+  even-base = omega arith;
+  fit = omega arith;
+  bound = omega arith;
+  room = λ h. absurd (omega arith);
+  first = known-none 1 (2 * W .header BITS) (rowsOf W);
+  second = known-none 1 (2 * W .header BITS) (rowsOf W);
+}
+
+pub lists-new : {W : View} {s base : ℕ} → base ≡ 2 * W .header BITS - 8 → Lists W s base (replicate PLACES 0) (replicate PLACES 0)
+lists-new {W} e = record {
+  even-base = omega arith;
+  fit = omega arith;
+  bound = omega arith;
+  room = λ h. (length-replicate {A = ℕ} PLACES 0, length-replicate {A = ℕ} PLACES 0);
+  first = known-none PLACES (2 * W .header BITS) (rowsOf W);
+  second = known-none PLACES (2 * W .header BITS) (rowsOf W);
+}
+
 -- an arrow with even levels only, and NOT of it
 pub against-of : (W : View) (v : ℕ) → Arrow (rowsOf W) v → ((i : ℕ) → Reach (rowsOf W) (v ∷ []) i → even (rowsOf W .level i) ≡ true) → Against W v
 against-of W v u e = record { arrow = u; reads = reads-levels (rowsOf W) even (v ∷ []) e (2 * W .header BITS) v (reached-root (rowsOf W) (v ∷ []) v (here refl)) }
+
+-- V's, where its root is no 0
+pub against-root : (W : View) → W .header VALID ≢ 0 → ((h : ℕ) → VALID ≤ h → h < ROOTS-END → Ref (rowsOf W) (W .header h)) → EvenSets W → Against W (validOf W)
+against-root W n u e = against-of W (validOf W) (ref-arrow (rowsOf W) (W .header VALID) n (u VALID (omega arith) (omega arith)))
+    (e VALID (omega arith) (omega arith) (validOf W) (let z : W .header VALID ≡ suc (validOf W) = omega arith in z))
 
 pub against-not : (W : View) (v : ℕ) → Against W v → Against W (flip v)
 against-not W v g = record {
