@@ -149,8 +149,24 @@ fn table_of(
     if known != 0 {
         return carried(a, known);
     }
-    let low = table_of(words, rows, base, shift, up, get(words, rows, i, Table::LOW), memo);
-    let high = table_of(words, rows, base, shift, up, get(words, rows, i, Table::HIGH), memo);
+    let low = table_of(
+        words,
+        rows,
+        base,
+        shift,
+        up,
+        get(words, rows, i, Table::LOW),
+        memo,
+    );
+    let high = table_of(
+        words,
+        rows,
+        base,
+        shift,
+        up,
+        get(words, rows, i, Table::HIGH),
+        memo,
+    );
     let table = row_table(words, rows, base, shift, up, i, low, high);
     keep(memo, i, table);
     carried(a, table)

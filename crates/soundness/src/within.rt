@@ -1,12 +1,12 @@
 // Whether registers lie within the set V of states that exist, and relations within V and SHIFT of V. Nothing is written but local lists of pairs and tables.
+use super::tables::disjoint;
+use super::tables::row_cells;
 use layout::Table;
 use layout::carry;
 use layout::flip;
 use layout::get;
 use layout::header_word;
 use layout::row_of;
-use super::tables::disjoint;
-use super::tables::row_cells;
 ghost use mathlib.Core.Path.{_≡_};
 ghost use mathlib.Core.Bool.{true};
 ghost use Prim.Native.Nat.{ℕ, _*_, _+_, _-_, _≤_, _<_};
@@ -260,7 +260,17 @@ fn refs_apart(
     let mut memo = [0u32; Pairs::WORDS];
     let mut k = from;
     while k < to {
-        if !ref_apart(words, rows, shift, base, header_word(words, k), b, &mut memo, first, second) {
+        if !ref_apart(
+            words,
+            rows,
+            shift,
+            base,
+            header_word(words, k),
+            b,
+            &mut memo,
+            first,
+            second,
+        ) {
             return false;
         }
         k += 1;
@@ -276,7 +286,17 @@ fn wide_apart(words: &[u32], rows: u32, shift: u32, from: usize, to: usize, b: u
     let levels = 2 * header_word(words, Table::BITS);
     let mut first = [0u32; Pairs::PLACES];
     let mut second = [0u32; Pairs::PLACES];
-    refs_apart(words, rows, shift, base_of(levels), from, to, b, &mut first, &mut second)
+    refs_apart(
+        words,
+        rows,
+        shift,
+        base_of(levels),
+        from,
+        to,
+        b,
+        &mut first,
+        &mut second,
+    )
 }
 
 // The same with none, for few rows.
@@ -287,7 +307,17 @@ fn narrow_apart(words: &[u32], rows: u32, shift: u32, from: usize, to: usize, b:
     let levels = 2 * header_word(words, Table::BITS);
     let mut first = [0u32; 1];
     let mut second = [0u32; 1];
-    refs_apart(words, rows, shift, levels, from, to, b, &mut first, &mut second)
+    refs_apart(
+        words,
+        rows,
+        shift,
+        levels,
+        from,
+        to,
+        b,
+        &mut first,
+        &mut second,
+    )
 }
 
 // The parts of the check: roots against V, relations against SHIFT of V.

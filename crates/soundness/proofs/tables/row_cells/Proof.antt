@@ -1,3 +1,4 @@
+-- `row_cells` meets its contract: what is remembered, or what `table_of` makes. Assumes nothing.
 use Rattle.soundness.specs.Tables.{row-led, recalled}
 use native.Mathlib.Omega.{arith}
 use borrow.Author.Needs.{needs}
@@ -9,7 +10,6 @@ use Rattle.layout.proofs.row_of.Reads as row-of-reads
 use Rattle.soundness.proofs.tables.carried.Reads as carried-reads
 use Rattle.soundness.proofs.tables.recall.Reads as recall-reads
 use Rattle.soundness.proofs.tables.table_of.Reads as table-of-reads
-
 
 pub row-cells-spec : {M : Type 1} → statement M
 row-cells-spec =

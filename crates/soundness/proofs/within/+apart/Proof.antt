@@ -1,3 +1,4 @@
+-- `apart` meets its contract: tables decide past the base, else the halves at the lesser level, and 2n minus that level falls. Assumes nothing.
 use borrow.Author.Needs.{needs}
 use Rattle.layout.specs.View.{view}
 use Rattle.soundness.specs.Says.{holds, fails}

@@ -1,3 +1,4 @@
+-- `all_within` meets its contract: to lie within V is to be apart from NOT V. Assumes nothing.
 use native.Mathlib.Omega.{arith}
 use Rattle.layout.specs.View.{view}
 use Rattle.soundness.specs.Says.{holds}
@@ -12,7 +13,6 @@ use Rattle.layout.proofs.flip.Reads as flip-reads
 use Rattle.layout.proofs.header_word.Reads as header-word-reads
 use Rattle.soundness.proofs.within.narrow_ok.Reads as narrow-ok-reads
 use Rattle.soundness.proofs.within.wide_ok.Reads as wide-ok-reads
-
 
 pub all-within-spec : {M : Type 1} → statement M
 all-within-spec =

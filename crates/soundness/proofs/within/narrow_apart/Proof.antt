@@ -1,3 +1,4 @@
+-- `narrow_apart` meets its contract: with a base past all levels no table is asked for. Assumes nothing.
 use Rattle.soundness.specs.Contained.{lists-none}
 use Prim.Native.Nat.{ℕ, _*_}
 use mathlib.Core.Path.{ap}
@@ -9,7 +10,6 @@ use Rattle.soundness.proofs.within.narrow_apart.Reads as reads
 use Rattle.soundness.proofs.within.narrow_apart.Lts as lts
 use Rattle.layout.proofs.header_word.Reads as header-word-reads
 use Rattle.soundness.proofs.within.refs_apart.Reads as refs-apart-reads
-
 
 pub narrow-apart-spec : {M : Type 1} → statement M
 narrow-apart-spec =

@@ -1,3 +1,4 @@
+-- `ref_apart` meets its contract: an empty root has no valuation. Assumes nothing.
 use Rattle.layout.specs.View.{view}
 use Rattle.soundness.specs.Says.{holds}
 use Rattle.soundness.specs.Roots.{ref-arrow}
@@ -8,7 +9,6 @@ use Rattle.soundness.proofs.within.ref_apart.Tie as tie
 use Rattle.soundness.proofs.within.ref_apart.Reads as reads
 use Rattle.soundness.proofs.within.ref_apart.Lts as lts
 use Rattle.soundness.proofs.within.apart.Reads as apart-reads
-
 
 pub ref-apart-spec : {M : Type 1} → statement M
 ref-apart-spec =

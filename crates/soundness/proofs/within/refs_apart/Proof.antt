@@ -1,3 +1,4 @@
+-- `refs_apart` meets its contract: the invariant is that every root passed is apart, with right pairs and tables. Assumes nothing.
 use borrow.Author.Needs.{needs}
 use native.Mathlib.Omega.{arith}
 use mathlib.Core.Path.{_≡_, sym, _∙_, refl}

@@ -1,3 +1,4 @@
+-- `tables_apart` meets its contract: an arrow of even levels past the base is told by the cell. Assumes nothing.
 use Rattle.soundness.specs.Contained.{table-first, table-second, by-tables}
 use borrow.Author.Needs.{needs}
 use Rattle.soundness.proofs.within.tables_apart.Statement.{statement}
@@ -6,7 +7,6 @@ use Rattle.soundness.proofs.within.tables_apart.Reads as reads
 use Rattle.soundness.proofs.within.tables_apart.Lts as lts
 use Rattle.soundness.proofs.tables.disjoint.Reads as disjoint-reads
 use Rattle.soundness.proofs.tables.row_cells.Reads as row-cells-reads
-
 
 pub tables-apart-spec : {M : Type 1} → statement M
 tables-apart-spec =

@@ -1,3 +1,4 @@
+-- `wide_apart` meets its contract: lists of zeros have no wrong table. Assumes nothing.
 use Rattle.soundness.specs.Contained.{lists-new}
 use Prim.Native.Nat.{ℕ, _*_, _-_}
 use mathlib.Core.Path.{ap, _∙_}
@@ -10,7 +11,6 @@ use Rattle.soundness.proofs.within.wide_apart.Lts as lts
 use Rattle.layout.proofs.header_word.Reads as header-word-reads
 use Rattle.soundness.proofs.within.base_of.Reads as base-of-reads
 use Rattle.soundness.proofs.within.refs_apart.Reads as refs-apart-reads
-
 
 pub wide-apart-spec : {M : Type 1} → statement M
 wide-apart-spec =
