@@ -112,7 +112,7 @@ fn draw_table(random: &mut Random, n: u32) -> (Table<Vec<u32>>, Book) {
     table.set(&mut accounts, 0, 3, 0, formula).unwrap();
     let mut registers = vec![None; REGISTERS];
     registers[3] = Some(set);
-    let book = Book::with(n, 20_000, registers, vec![None; RELATIONS]);
+    let book = Book::with(n, 20_000, StateSet::constant(n, true), registers, vec![None; RELATIONS]);
     (table, book)
 }
 

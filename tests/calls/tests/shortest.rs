@@ -92,6 +92,7 @@ impl Room {
         Book::with(
             self.book.n(),
             rows,
+            self.book.valid().clone(),
             registers,
             self.book.relations().to_vec(),
         )

@@ -13,7 +13,7 @@ fn book(n: u32, rows: usize, sets: &[&[usize]], pairs: &[(usize, usize)]) -> Boo
     }
     let mut relations = vec![None; RELATIONS];
     relations[0] = Some(PairSet::from_fn(n, |s, t| pairs.contains(&(s, t))));
-    Book::with(n, rows, registers, relations)
+    Book::with(n, rows, StateSet::constant(n, true), registers, relations)
 }
 
 /// 0 leads to 1 and 2, both lead to 3.
