@@ -22,7 +22,7 @@ unfilled-spec =
     Inv-loop
     μ-loop
     (λ c. (omega arith, vacant-start _))
-    (λ c κs. let t = c .loop-test .taken in let w = c .before .before .pre in (omega arith, w))
+    (λ c κs. let t = c .loop-test .taken in let w = c .before .before .before .pre in (omega arith, w))
     (λ c. fails (λ v. c .if1 .taken (c .before .header-word .ensures ∙ v _ (c .before .before .before .loop .inv .0) (c .before .before .loop-test .taken))))
     (λ c. let t = c .before .before .loop-test .taken in omega arith)
     (λ c. let t = c .before .before .loop-test .taken in omega arith)
