@@ -253,8 +253,8 @@ module _ {L : Limits} {W X : View} {stack after : List ℕ} {held : ℕ} {count 
 -- ---- within V
 
 -- three steps fit where each does
-fit-last : {n N : ℕ} {W X : View} {roots : List ℕ} {a b c : Bool} {F : Fn} {d : Count} {o : Taken} → Ran n N W X roots (a && (b && c)) F d o → Ran n N W X roots (a && (b && (c && true))) F d o
-fit-last {n} {N} {W} {X} {roots} {a} {b} {c} {F} {d} {o} r = subst (λ (x : Bool). Ran n N W X roots (a && (b && x)) F d o) (go c) r
+fit-last : {n N : ℕ} {W X : View} {roots : List ℕ} {F : Fn} {d : Count} {o : Taken} (a b c : Bool) → Ran n N W X roots (a && (b && c)) F d o → Ran n N W X roots (a && (b && (c && true))) F d o
+fit-last {n} {N} {W} {X} {roots} {F} {d} {o} a b c r = subst (λ (x : Bool). Ran n N W X roots (a && (b && x)) F d o) (go c) r
   where
     go : (c : Bool) → c ≡ (c && true)
     go true = refl
@@ -272,12 +272,8 @@ valid-even : {L : Limits} {W : View} {stack : List ℕ} {held : ℕ} {σ : Scene
 valid-even {L} {σ = σ} R = subst (ReadsOn even) (sym (valid-fn R)) (fnOf-even (L .bits) (σ .valid))
 
 module _ {L : Limits} {W : View} {stack : List ℕ} {a : ℕ} (v : ℕ) (read : v + 1 ≡ W .header VALID) (u : Arrow (rowsOf W) a) where
-  -- the arrow that was read
-  v-is : v ≡ validOf W
-  v-is = valid-read W v read
-
   pub first-asks : {σ : Scene} → Ready L W stack noPlaces 0 σ → LivePre L W stack 0 (step.And a v)
-  first-asks R = live-pre R (u, subst (Arrow (rowsOf W)) (sym v-is) (R .valid .arrow))
+  first-asks R = live-pre R (u, subst (Arrow (rowsOf W)) (sym (valid-read W v read)) (R .valid .arrow))
 
   module _ {X : View} {q : Count} {o : Taken} (s : LivePost L W X stack 0 (step.And a v) q o) where
     module _ {σ : Scene} (R : Ready L W stack noPlaces 0 σ) where
@@ -292,7 +288,7 @@ module _ {L : Limits} {W : View} {stack : List ℕ} {a : ℕ} (v : ℕ) (read : 
       G = andF (den (2 * L .bits) (rowsOf W) a) (fnOf (L .bits) (σ .valid))
 
       one-took : Took (L .bits) (L .rows) (L .limit) W X (a ∷ σ .roots) q o (andF (den (2 * L .bits) (rowsOf W) a) (den (2 * L .bits) (rowsOf W) (validOf W)))
-      one-took = took-within R u (subst (Arrow (rowsOf W)) (sym v-is) (R .valid .arrow)) v-is (took {q = q} {o = o} (R .base) (first-asks R .asks) (s .stepped) (s .count))
+      one-took = took-within R u (subst (Arrow (rowsOf W)) (sym (valid-read W v read)) (R .valid .arrow)) (valid-read W v read) (took {q = q} {o = o} (R .base) (first-asks R .asks) (s .stepped) (s .count))
 
       one-ran : Ran (L .bits) (L .rows) W X (σ .roots) (leb (stepNeed (2 * L .bits) (E ∷ F ∷ σ .fns) G) (L .limit)) G (needing q (stepNeed (2 * L .bits) (E ∷ F ∷ σ .fns) G)) o
       one-ran = step-ran G (held-operand (held-push (R .lives) (denotes-own u)) (there (valid-held R))) (λ x i. there i) (ap (andF F) (valid-fn R)) one-took
@@ -315,7 +311,7 @@ module _ {L : Limits} {W : View} {stack : List ℕ} {a : ℕ} (v : ℕ) (read : 
         same-valid : v ≡ validOf X
         same-valid =
             let same : X .header VALID ≡ W .header VALID = one-ran R .moved .frame .header VALID (omega arith) (omega arith) (omega arith) (omega arith) in
-            let z = v-is in
+            let z = valid-read W v read in
             omega arith
 
       pub shift-asks : {σ : Scene} → Ready L W stack noPlaces 0 σ → LivePre L X (set stack 0 b) 1 (step.Shift v)
@@ -367,7 +363,7 @@ module _ {L : Limits} {W : View} {stack : List ℕ} {a : ℕ} (v : ℕ) (read : 
                 let k3 = stepNeed (2 * L .bits) (shiftF (E R) ∷ G R ∷ σ .fns) (andF (G R) (shiftF (E R))) in
                 let k2 = stepNeed (2 * L .bits) (E R ∷ G R ∷ σ .fns) (shiftF (E R)) in
                 let l = step-ran (andF (G R) (shiftF (E R))) (held-push (held-push (three-ready R .lives) (b-still R)) (c-is R)) (λ x i. there (there i)) (ap₂ andF (denoted (b-still R)) (denoted (c-is R))) t1 in
-                fit-last (ran-then e (one-ran R) (λ d. needing (needing d k2) k3) (ran-then f (ran-within (λ x i. there i) (two-ran R)) (λ d. needing d k3) l));
+                fit-last (leb (stepNeed (2 * L .bits) (E R ∷ F R ∷ σ .fns) (G R)) (L .limit)) (leb k2 (L .limit)) (leb k3 (L .limit)) (ran-then e (one-ran R) (λ d. needing (needing d k2) k3) (ran-then f (ran-within (λ x i. there i) (two-ran R)) (λ d. needing d k3) l));
           }
 
 -- ---- the whole formula
@@ -392,7 +388,7 @@ pairs-read n bs k is v g {f} {e} known h = go k is (eqb v 1) (eqb v 2) known
 abbrev Evaluated : View → ℕ → ℕ → Rows → Rows → Bool → Fn → Count → Taken → Type 0
 Evaluated W n N before after fits F c o = PairEvals n N before after (rootsOf (seenIn W)) fits F c (result (madeIn o)) (countIn o)
 
-module _ {L : Limits} {W : View} {bs : List ℕ} (bits : L .bits ≡ W .header BITS) (k : Kind) (is : ofPairs k ≡ true) (passed : checks (bookIn W) k bs ≡ 0) where
+module _ (L : Limits) (W : View) (bs : List ℕ) (bits : L .bits ≡ W .header BITS) (k : Kind) (is : ofPairs k ≡ true) (passed : checks (bookIn W) k bs ≡ 0) where
   fits : Fitting k (W .header BITS) (regFilled (bookIn W)) (relFilled (bookIn W)) bs
   fits = fitting k (W .header BITS) (regFilled (bookIn W)) (relFilled (bookIn W)) bs passed
 
@@ -420,30 +416,30 @@ module _ {L : Limits} {W : View} {bs : List ℕ} (p : PairsPre L W bs) {X : View
   pairs-asks = record {
     room = omega arith;
     scene = sceneIn W;
-    form = whole (p .bits) (p .kind) (p .is-pairs) (p .passed);
+    form = whole L W bs (p .bits) (p .kind) (p .is-pairs) (p .passed);
     end = length bs;
     ready = ready₀;
-    stands = whole-stands (p .bits) (p .kind) (p .is-pairs) (p .passed);
+    stands = whole-stands L W bs (p .bits) (p .kind) (p .is-pairs) (p .passed);
   }
 
   module _ {Y : View} {after : List ℕ} {r : Related} (E : RelatePost L X Y (replicate stackSize 0) after bs 3 depthLimit 0 nothing r) where
     answered : (k : Kind) (is : ofPairs k ≡ true) (passed : checks (bookIn W) k bs ≡ 0)
-        → Relates L X Y (replicate stackSize 0) after 0 nothing (sceneIn W) (whole {L = L} (p .bits) k is passed) (length bs) r
-    answered k is passed = E .answers (sceneIn W) (whole (p .bits) k is passed) (length bs) ready₀ (whole-stands (p .bits) k is passed)
+        → Relates L X Y (replicate stackSize 0) after 0 nothing (sceneIn W) (whole L W bs (p .bits) k is passed) (length bs) r
+    answered k is passed = E .answers (sceneIn W) (whole L W bs (p .bits) k is passed) (length bs) ready₀ (whole-stands L W bs (p .bits) k is passed)
 
-    any : Relates L X Y (replicate stackSize 0) after 0 nothing (sceneIn W) (whole {L = L} (p .bits) (p .kind) (p .is-pairs) (p .passed)) (length bs) r
+    any : Relates L X Y (replicate stackSize 0) after 0 nothing (sceneIn W) (whole L W bs (p .bits) (p .kind) (p .is-pairs) (p .passed)) (length bs) r
     any = answered (p .kind) (p .is-pairs) (p .passed)
 
     -- from the limits' sizes and the words after forgetting to the table's own
     own : (Z : View) (o : Taken) (fits : ℕ → Form → Bool) (F : ℕ → Form → Fn) (c : ℕ → Form → Count) (k : Kind) (is : ofPairs k ≡ true) (passed : checks (bookIn W) k bs ≡ 0)
-        → Evaluated W (L .bits) (L .rows) (rowsOf X) (rowsOf Z) (fits (L .bits) (whole {L = L} (p .bits) k is passed)) (F (L .bits) (whole {L = L} (p .bits) k is passed)) (c (L .bits) (whole {L = L} (p .bits) k is passed)) o
+        → Evaluated W (L .bits) (L .rows) (rowsOf X) (rowsOf Z) (fits (L .bits) (whole L W bs (p .bits) k is passed)) (F (L .bits) (whole L W bs (p .bits) k is passed)) (c (L .bits) (whole L W bs (p .bits) k is passed)) o
         → Evaluated W (bookIn W .n) (bookIn W .N) (rowsOf W) (rowsOf Z) (fits (bookIn W .n) (formulaIn (bookIn W) k bs)) (F (bookIn W .n) (formulaIn (bookIn W) k bs)) (c (bookIn W .n) (formulaIn (bookIn W) k bs)) o
     own Z o fits F c k is passed v0 =
-        let g = whole {L = L} (p .bits) k is passed in
+        let g = whole L W bs (p .bits) k is passed in
         let v1 = subst (λ (t : Rows). Evaluated W (L .bits) (L .rows) t (rowsOf Z) (fits (L .bits) g) (F (L .bits) g) (c (L .bits) g) o) (rows-same (f .frame)) v0 in
         let v2 = subst (λ (N : ℕ). Evaluated W (L .bits) N (rowsOf W) (rowsOf Z) (fits (L .bits) g) (F (L .bits) g) (c (L .bits) g) o) (p .rows) v1 in
         let v3 = subst (λ (n : ℕ). Evaluated W n (W .rows) (rowsOf W) (rowsOf Z) (fits n g) (F n g) (c n g) o) (p .bits) v2 in
-        subst (λ (h : Form). Evaluated W (W .header BITS) (W .rows) (rowsOf W) (rowsOf Z) (fits (W .header BITS) h) (F (W .header BITS) h) (c (W .header BITS) h) o) (whole-is {L = L} (p .bits) k is passed) v3
+        subst (λ (h : Form). Evaluated W (W .header BITS) (W .rows) (rowsOf W) (rowsOf Z) (fits (W .header BITS) h) (F (W .header BITS) h) (c (W .header BITS) h) o) (whole-is L W bs (p .bits) k is passed) v3
 
     pub pairs-ends : {o : Taken} → takenOf r ≡ o → PairsPost L W Y bs o
     pairs-ends {o} is = record {
@@ -451,15 +447,15 @@ module _ {L : Limits} {W : View} {bs : List ℕ} (p : PairsPre L W bs) {X : View
       frame = op-trans (op-memo (f .frame)) (any .ran .moved .frame);
       evals = λ k i passed.
           own Y o (λ n h. pairsFit n (L .limit) (liveOf (bookIn W)) h) (λ n h. pairF n h) (λ n h. pairsCount n (liveOf (bookIn W)) h nothing) k i passed
-          (subst (λ (y : Taken). Evaluated W (L .bits) (L .rows) (rowsOf X) (rowsOf Y) (pairsFit (L .bits) (L .limit) (liveOf (bookIn W)) (whole {L = L} (p .bits) k i passed)) (pairF (L .bits) (whole {L = L} (p .bits) k i passed))
-          (pairsCount (L .bits) (liveOf (bookIn W)) (whole {L = L} (p .bits) k i passed) nothing) y) is (answered k i passed .ran .evals));
+          (subst (λ (y : Taken). Evaluated W (L .bits) (L .rows) (rowsOf X) (rowsOf Y) (pairsFit (L .bits) (L .limit) (liveOf (bookIn W)) (whole L W bs (p .bits) k i passed)) (pairF (L .bits) (whole L W bs (p .bits) k i passed))
+          (pairsCount (L .bits) (liveOf (bookIn W)) (whole L W bs (p .bits) k i passed) nothing) y) is (answered k i passed .ran .evals));
     }
 
     -- ---- a relation's formula, and then the steps within V
 
     -- a chain for the whole
     related : (Z : View) (o : Taken) → Moved (L .bits) X Z
-        → ((passed : checks (bookIn W) Relation bs ≡ 0) → let g = whole {L = L} (p .bits) Relation refl passed in
+        → ((passed : checks (bookIn W) Relation bs ≡ 0) → let g = whole L W bs (p .bits) Relation refl passed in
         Ran (L .bits) (L .rows) X Z (rootsOf (seenIn W)) (relationFits (L .bits) (L .limit) (liveOf (bookIn W)) (bookIn W .valid) g) (relationF (L .bits) (bookIn W .valid) g)
         (relationCount (L .bits) (liveOf (bookIn W)) (bookIn W .valid) g nothing) o)
         → RelationPost L W Z bs o
@@ -483,7 +479,7 @@ module _ {L : Limits} {W : View} {bs : List ℕ} (p : PairsPre L W bs) {X : View
 
       pub relation-ends : {Z : View} {o : Taken} → WithinPost L Y Z after a q o → RelationPost L W Z bs o
       relation-ends {Z} {o} w = related Z o (moved-trans (any .ran .moved) (w .answers (sceneIn W) ended .moved)) (λ passed.
-          let g = whole {L = L} (p .bits) Relation refl passed in
+          let g = whole L W bs (p .bits) Relation refl passed in
           let S = fnOf (L .bits) (bookIn W .valid) in
           let B = answered Relation refl passed in
           let t = w .answers (sceneIn W) ended in

@@ -1,0 +1,28 @@
+-- `evaluate_relation` meets its contract: after forgetting, the table holds the scene of its own book; then the steps within V. Assumes nothing.
+use Rattle.pairs.proofs.Steps.{pairs-begins, pairs-asks, relation-stops, within-asks, relation-ends}
+use mathlib.Core.Path.{refl}
+use borrow.Author.Needs.{needs}
+use Rattle.pairs.proofs.evaluate_relation.Statement.{statement}
+use Rattle.pairs.proofs.evaluate_relation.Tie as tie
+use Rattle.pairs.proofs.evaluate_relation.Reads as reads
+use Rattle.pairs.proofs.evaluate_relation.Lts as lts
+
+pub evaluate-relation-spec : {M : Type 1} → statement M
+evaluate-relation-spec =
+    tie.close
+    (tie.spec
+    (λ c κs. search needs)
+    (λ c. search needs)
+    (λ c κs. (pairs-begins (c .before .before .before .before .before .before .before .before .pre) (c .before .before .before .before .forget .ensures), refl))
+    (λ c. search needs)
+    (λ c. search needs)
+    (λ c κs. (pairs-asks (c .before .before .before .before .before .before .before .before .before .before .before .before .before .pre) (c .before .before .before .before .before .before .before .before .before .forget .ensures), c .before .before .before .before .begin .ensures))
+    (λ c. search needs)
+    (λ c. search needs)
+    (λ c. search needs)
+    (λ c. relation-stops (c .before .before .before .before .before .before .before .before .before .before .before .before .before .before .before .before .before .before .before .before .pre) (c .before .before .before .before .before .before .before .before .before .before .before .before .before .before .before .before .forget .ensures) (c .before .before .before .before .before .before .relate .ensures .0) (c .enum-told .given .1))
+    (λ c. search needs)
+    (λ c. search needs)
+    (λ c κs. (within-asks (c .before .before .before .before .before .before .before .before .before .before .before .before .before .before .before .before .before .before .before .before .before .before .before .before .pre) (c .before .before .before .before .before .before .before .before .before .before .before .before .before .before .before .before .before .before .before .before .forget .ensures) (c .before .before .before .before .before .before .before .before .before .before .relate .ensures .0) (c .before .before .before .before .a .given .1) (c .before .before .before .before .before .before .before .before .before .before .relate .kept .1 .1 .0), c .before .before .before .before .before .before .before .before .before .before .relate .ensures .1))
+    (λ c. search needs)
+    (λ c. relation-ends (c .before .before .before .before .before .before .before .before .before .before .before .before .before .before .before .before .before .before .before .before .before .before .before .before .before .before .before .before .before .pre) (c .before .before .before .before .before .before .before .before .before .before .before .before .before .before .before .before .before .before .before .before .before .before .before .before .before .forget .ensures) (c .before .before .before .before .before .before .before .before .before .before .before .before .before .before .before .relate .ensures .0) (c .before .before .before .before .before .before .before .before .before .a .given .1) (c .before .before .before .before .before .before .before .before .before .before .before .before .before .before .before .relate .kept .1 .1 .0) (c .before .before .before .before .within .ensures .0)))
