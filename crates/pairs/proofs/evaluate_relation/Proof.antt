@@ -1,6 +1,6 @@
 -- `evaluate_relation` meets its contract: after forgetting, the table holds the scene of its own book; then the steps within V. Assumes nothing.
 use Rattle.pairs.proofs.Steps.{pairs-begins, pairs-asks, relation-stops, within-asks, relation-ends}
-use mathlib.Core.Path.{refl}
+use mathlib.Core.Path.{refl, _∙_}
 use borrow.Author.Needs.{needs}
 use Rattle.pairs.proofs.evaluate_relation.Statement.{statement}
 use Rattle.pairs.proofs.evaluate_relation.Tie as tie
@@ -24,5 +24,5 @@ evaluate-relation-spec =
     (λ c. search needs)
     (λ c. search needs)
     (λ c κs. (within-asks (c .before .before .before .before .before .before .before .before .before .before .before .before .before .before .before .before .before .before .before .before .before .before .before .before .pre) (c .before .before .before .before .before .before .before .before .before .before .before .before .before .before .before .before .before .before .before .before .forget .ensures) (c .before .before .before .before .before .before .before .before .before .before .relate .ensures .0) (c .before .before .before .before .a .given .1) (c .before .before .before .before .before .before .before .before .before .before .relate .kept .1 .1 .0), c .before .before .before .before .before .before .before .before .before .before .relate .ensures .1))
-    (λ c. search needs)
+    (λ c. c .before .before .before .before .within .kept .0 ∙ c .before .before .before .before .before .before .before .before .before .before .before .before .before .before .before .relate .kept .0 ∙ c .before .before .before .before .before .before .before .before .before .before .before .before .before .before .before .before .before .before .before .before .before .before .before .before .before .forget .kept .0)
     (λ c. relation-ends (c .before .before .before .before .before .before .before .before .before .before .before .before .before .before .before .before .before .before .before .before .before .before .before .before .before .before .before .before .before .pre) (c .before .before .before .before .before .before .before .before .before .before .before .before .before .before .before .before .before .before .before .before .before .before .before .before .before .forget .ensures) (c .before .before .before .before .before .before .before .before .before .before .before .before .before .before .before .relate .ensures .0) (c .before .before .before .before .before .before .before .before .before .a .given .1) (c .before .before .before .before .before .before .before .before .before .before .before .before .before .before .before .relate .kept .1 .1 .0) (c .before .before .before .before .within .ensures .0)))
