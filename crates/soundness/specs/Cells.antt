@@ -167,16 +167,22 @@ module _ {m : ℕ} {rows : Rows} {base s : ℕ} where
     meets-split {c} side h p = by (p .val l) refl
       where
         by : (b : Bool) → p .val l ≡ b → ((has (lowMask k) (bitOf side c) ≡ true) × Meets m rows base s t lo c) ⊎ ((has (highMask k) (bitOf side c) ≡ true) × Meets m rows base s t hi c)
-        by false e = inl (mask-low-at side h (p .cell) e, record {
-          val = p .val;
-          cell = p .cell;
-          on = sym (x .low-is (p .val)) ∙ ap (λ (u : Val). den m rows a (lift t u)) (upd-kept (p .val) l false e) ∙ p .on;
-        })
-        by true e = inr (mask-high-at side h (p .cell) e, record {
-          val = p .val;
-          cell = p .cell;
-          on = sym (x .high-is (p .val)) ∙ ap (λ (u : Val). den m rows a (lift t u)) (upd-kept (p .val) l true e) ∙ p .on;
-        })
+        by false e = inl (
+          mask-low-at side h (p .cell) e,
+          record {
+            val = p .val;
+            cell = p .cell;
+            on = sym (x .low-is (p .val)) ∙ ap (λ (u : Val). den m rows a (lift t u)) (upd-kept (p .val) l false e) ∙ p .on;
+          },
+        )
+        by true e = inr (
+          mask-high-at side h (p .cell) e,
+          record {
+            val = p .val;
+            cell = p .cell;
+            on = sym (x .high-is (p .val)) ∙ ap (λ (u : Val). den m rows a (lift t u)) (upd-kept (p .val) l true e) ∙ p .on;
+          },
+        )
 
     shown-join : {w0 w1 : ℕ} (side : Bool) → Shown m rows base s t lo w0 side → Shown m rows base s t hi w1 side → Shown m rows base s t a (joined k w0 w1) side
     shown-join {w0} {w1} side p q = record {

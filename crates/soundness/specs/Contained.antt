@@ -1,27 +1,32 @@
 -- What the check of registers and relations against V asks and tells: to lie within V is to be apart from NOT V. Assumes nothing.
 use mathlib.Core.Path.{_≡_, refl, sym, ap, _∙_, subst, fun-ext}
 use mathlib.Core.Logic.{_≢_, by-cases}
-use mathlib.Core.List.{List}
+use mathlib.Core.List.{List, [], _∷_, List·Memᴰ·head as here}
 use mathlib.Core.Bool.{Bool, true, false, not, true≢false}
-use Prim.Native.Nat.{ℕ, suc, _+_, _-_, _*_, _≤_, _<_, min}
+use Prim.Native.Nat.{ℕ, suc, _+_, _-_, _*_, _%_, _≤_, _<_, min}
 use native.Mathlib.Omega.{arith}
-use native.Mathlib.Decide.{decLt}
-use lib.ListN.{length}
-use Rattle.diagram.specs.Level.{Val}
-use Rattle.diagram.specs.Rows.{Rows, marked, Leads, flip, carry, Arrow, levelOf, follow, den, WellFormed, leads-used, leads-level}
+use native.Mathlib.Decide.{decLt, ℕ-discrete}
+use lib.ListN.{length, replicate, length-replicate}
+use Rattle.diagram.specs.Level.{Val, upd, upd-same, upd-other}
+use Rattle.diagram.specs.Rows.{Rows, marked, Leads, flip, carry, Arrow, levelOf, follow, den, WellFormed, leads-used, leads-level, carry-arrow}
 use Rattle.diagram.specs.Den.{den-one, den-flip}
 use Rattle.diagram.specs.Canon.{not-false}
 use Rattle.diagram.specs.Steps.{shiftF}
-use Rattle.layout.specs.Places.{BITS, FIRST-REGISTER, FIRST-RELATION, ROOTS-END, LOW, HIGH, LEVEL}
+use Rattle.diagram.specs.Even.{ReadsOn, even, reads-levels}
+use Rattle.diagram.specs.Reach.{Reach, reached-root}
+use Rattle.layout.specs.Places.{HEADER, BITS, VALID, FIRST-REGISTER, FIRST-RELATION, ROOTS-END, LOW, HIGH, LEVEL}
 use Rattle.layout.specs.View.{View}
 use Rattle.layout.specs.Arrows.{isRow, rowOf, row-is, row-yes}
 use Rattle.soundness.specs.Used.{rowsOf}
 use Rattle.soundness.specs.Says.{Says, holds, fails, says-map, says-pass, says-fail}
-use Rattle.soundness.specs.Within.{denOf, Within}
-use Rattle.soundness.specs.Sound.{Good}
+use Rattle.soundness.specs.Within.{denOf, validOf, Within}
+use Rattle.soundness.specs.Sound.{Good, EvenSets}
 use Rattle.soundness.specs.Apart.{lift, lift-none, Apart, Half, half-past, half-here, apart-low, apart-high, apart-both}
 use Rattle.soundness.specs.declared.within.Pass.{Pass}
 use Rattle.soundness.specs.declared.within.Pass.the-variants.{Now, Next, Both}
+use Rattle.soundness.specs.Roots.{Ref, ref-arrow}
+use Rattle.soundness.specs.Cells.{Disjoint, tables-tell}
+use Rattle.soundness.specs.Tables.{PLACES, Known, TablePre, TablePost, known-none}
 use Rattle.soundness.specs.Pairs.{PAIR-WORDS, Right, Puts, right-puts}
 
 -- the roots from a word of the header up to, and not with, another are apart from arrow b
@@ -44,22 +49,75 @@ among Both = 1
 abbrev pub RefApart : View → ℕ → ℕ → ℕ → Type 0
 RefApart W s r b = (a : ℕ) → r ≡ suc a → Apart (2 * W .header BITS) (rowsOf W) s a b
 
--- what the check asks: a good table, a shift of 0 or 1 levels, and right pairs
-pub record Asks (W : View) (s : ℕ) (memo : List ℕ) : Type 0 where
+-- the base from which tables decide, and the lists of tables of both arrows' rows: there where the base is below the levels, and right
+pub record Lists (W : View) (s base : ℕ) (xs ys : List ℕ) : Type 0 where
+  pub even-base : base % 2 ≡ 0
+  pub fit : 2 * W .header BITS ≤ base + 8
+  pub bound : base ≤ 2 * W .header BITS
+  pub room : base < 2 * W .header BITS → (length xs ≡ PLACES) × (length ys ≡ PLACES)
+  pub first : Known (2 * W .header BITS) (rowsOf W) base s 0 xs
+  pub second : Known (2 * W .header BITS) (rowsOf W) base s s ys
+
+-- what the check asks: a good table, a shift of 0 or 1 levels, right pairs and tables
+pub record Asks (W : View) (s base : ℕ) (memo xs ys : List ℕ) : Type 0 where
   pub good : Good W
   pub shift : s ≤ 1
   pub size : length memo ≡ PAIR-WORDS
   pub right : Right (2 * W .header BITS) (rowsOf W) s memo
+  pub lists : Lists W s base xs ys
 
-pub record ApartPre (W : View) (s a b : ℕ) (memo : List ℕ) : Type 0 where
-  pub asks : Asks W s memo
+-- the arrow of a set of states
+pub record Against (W : View) (b : ℕ) : Type 0 where
+  pub arrow : Arrow (rowsOf W) b
+  pub reads : ReadsOn even (denOf W b)
+
+pub record ApartPre (W : View) (s base a b : ℕ) (memo xs ys : List ℕ) : Type 0 where
+  pub asks : Asks W s base memo xs ys
   pub left : Arrow (rowsOf W) a
-  pub second : Arrow (rowsOf W) b
+  pub against : Against W b
 
--- what it tells of P, with the pairs that it leaves
-pub record Tells (W : View) (s : ℕ) (memo : List ℕ) (P : Type 0) (r : Bool) : Type 0 where
+-- what it tells of P, with the pairs and tables that it leaves
+pub record Tells (W : View) (s base : ℕ) (memo xs ys : List ℕ) (P : Type 0) (r : Bool) : Type 0 where
   pub says : Says P r
   pub right : Right (2 * W .header BITS) (rowsOf W) s memo
+  pub first : Known (2 * W .header BITS) (rowsOf W) base s 0 xs
+  pub second : Known (2 * W .header BITS) (rowsOf W) base s s ys
+
+-- an arrow leads to a level from the base on
+pub record Deep (W : View) (base b : ℕ) : Type 0 where
+  pub level : base ≤ levelOf (2 * W .header BITS) (rowsOf W) b
+
+pub record TablesPre (W : View) (s base a b : ℕ) (xs ys : List ℕ) : Type 0 where
+  pub good : Good W
+  pub shift : s ≤ 1
+  pub lists : Lists W s base xs ys
+  pub left : Arrow (rowsOf W) a
+  pub against : Against W b
+  pub rows : (isRow a ≡ true) × (isRow b ≡ true)
+  pub deep : Deep W base b
+
+pub record TablesPost (W : View) (s base a b : ℕ) (xs ys : List ℕ) (r : Bool) : Type 0 where
+  pub says : Says (Apart (2 * W .header BITS) (rowsOf W) s a b) r
+  pub first : Known (2 * W .header BITS) (rowsOf W) base s 0 xs
+  pub second : Known (2 * W .header BITS) (rowsOf W) base s s ys
+
+-- what the roots in some words of the header ask
+pub record RootsPre (W : View) (s start stop b : ℕ) : Type 0 where
+  pub good : Good W
+  pub shift : s ≤ 1
+  pub against : Against W b
+  pub order : start ≤ stop
+  pub within : stop ≤ HEADER
+  pub refs : (h : ℕ) → start ≤ h → h < stop → Ref (rowsOf W) (W .header h)
+
+pub record RefsAsked (W : View) (s base start stop b : ℕ) (xs ys : List ℕ) : Type 0 where
+  pub roots : RootsPre W s start stop b
+  pub lists : Lists W s base xs ys
+
+pub record PassPre (W : View) (b : ℕ) : Type 0 where
+  pub good : Good W
+  pub against : Against W b
+  pub refs : (h : ℕ) → FIRST-REGISTER ≤ h → h < ROOTS-END → Ref (rowsOf W) (W .header h)
 
 -- the halves of an arrow to a row at `own`, with the other arrow at `other`
 pub record Halved (rows : Rows) (a own other lo hi : ℕ) : Type 0 where
@@ -136,32 +194,157 @@ split-less p =
     let y1 = p .of-second .high-deeper in
     (omega arith, omega arith)
 
-module _ {W : View} {s a b a0 b0 a1 b1 : ℕ} (p : Split W s a b a0 b0 a1 b1) where
-  pub tells-low : {r : Bool} {k : List ℕ} → not r ≡ true → Tells W s k (Apart (2 * W .header BITS) (rowsOf W) s a0 b0) r → Tells W s k (Apart (2 * W .header BITS) (rowsOf W) s a b) false
-  tells-low e t = record { says = fails (λ x. says-fail e (t .says) (apart-low (p .of-left) (p .of-second) x)); right = t .right }
+module _ {W : View} {s base a b a0 b0 a1 b1 : ℕ} (p : Split W s a b a0 b0 a1 b1) where
+  pub tells-low : {r : Bool} {k xs ys : List ℕ} → not r ≡ true → Tells W s base k xs ys (Apart (2 * W .header BITS) (rowsOf W) s a0 b0) r
+      → Tells W s base k xs ys (Apart (2 * W .header BITS) (rowsOf W) s a b) false
+  tells-low e t = record { says = fails (λ x. says-fail e (t .says) (apart-low (p .of-left) (p .of-second) x)); right = t .right; first = t .first; second = t .second }
 
-  pub tells-high : {r : Bool} {k : List ℕ} → not r ≡ true → Tells W s k (Apart (2 * W .header BITS) (rowsOf W) s a1 b1) r → Tells W s k (Apart (2 * W .header BITS) (rowsOf W) s a b) false
-  tells-high e t = record { says = fails (λ x. says-fail e (t .says) (apart-high (p .of-left) (p .of-second) x)); right = t .right }
+  pub tells-high : {r : Bool} {k xs ys : List ℕ} → not r ≡ true → Tells W s base k xs ys (Apart (2 * W .header BITS) (rowsOf W) s a1 b1) r
+      → Tells W s base k xs ys (Apart (2 * W .header BITS) (rowsOf W) s a b) false
+  tells-high e t = record { says = fails (λ x. says-fail e (t .says) (apart-high (p .of-left) (p .of-second) x)); right = t .right; first = t .first; second = t .second }
 
-  pub tells-both : {r r1 : Bool} {k k1 k2 : List ℕ} → not r ≡ false → not r1 ≡ false → Tells W s k (Apart (2 * W .header BITS) (rowsOf W) s a0 b0) r
-      → Tells W s k1 (Apart (2 * W .header BITS) (rowsOf W) s a1 b1) r1 → Puts k1 k2 a b → Tells W s k2 (Apart (2 * W .header BITS) (rowsOf W) s a b) true
+  pub tells-both : {r r1 : Bool} {k k1 k2 xs ys xs1 ys1 : List ℕ} → not r ≡ false → not r1 ≡ false → Tells W s base k xs ys (Apart (2 * W .header BITS) (rowsOf W) s a0 b0) r
+      → Tells W s base k1 xs1 ys1 (Apart (2 * W .header BITS) (rowsOf W) s a1 b1) r1 → Puts k1 k2 a b → Tells W s base k2 xs1 ys1 (Apart (2 * W .header BITS) (rowsOf W) s a b) true
   tells-both e e1 t t1 u =
       let x : Apart (2 * W .header BITS) (rowsOf W) s a b = apart-both (p .of-left) (p .of-second) (says-pass e (t .says)) (says-pass e1 (t1 .says)) in
-      record { says = holds x; right = right-puts (t1 .right) x u }
+      record { says = holds x; right = right-puts (t1 .right) x u; first = t1 .first; second = t1 .second }
+
+-- a half of a set of states reads even levels too
+module _ {m s l b b0 b1 : ℕ} {rows : Rows} (x : Half m rows s l b b0 b1) (r : ReadsOn even (den m rows b)) where
+  abbrev put : Bool → Val → Val
+  put c v = lift s (upd (λ k. v (k - s)) l c)
+
+  back : (v : Val) → lift s (λ k. v (k - s)) ≡ v
+  back v = fun-ext (λ k. ap v (let z : (k + s) - s ≡ k = omega arith in z))
+
+  put-same : (c : Bool) (v w : Val) → ((k : ℕ) → even k ≡ true → v k ≡ w k) → (k : ℕ) → even k ≡ true → put c v k ≡ put c w k
+  put-same c v w h k e = by-cases (ℕ-discrete (k + s) l)
+      (λ q. subst (λ (j : ℕ). upd (λ i. v (i - s)) l c j ≡ upd (λ i. w (i - s)) l c j) (sym q) (upd-same (λ i. v (i - s)) l c ∙ sym (upd-same (λ i. w (i - s)) l c)))
+      (λ n. let z : (k + s) - s ≡ k = omega arith in
+      upd-other (λ i. v (i - s)) l c (k + s) n ∙ ap v z ∙ h k e ∙ ap w (sym z) ∙ sym (upd-other (λ i. w (i - s)) l c (k + s) n))
+
+  low-reads : ReadsOn even (den m rows b0)
+  low-reads v w h =
+      ap (den m rows b0) (sym (back v)) ∙ sym (x .low-is (λ k. v (k - s))) ∙ r (put false v) (put false w) (put-same false v w h) ∙ x .low-is (λ k. w (k - s)) ∙ ap (den m rows b0) (back w)
+
+  high-reads : ReadsOn even (den m rows b1)
+  high-reads v w h =
+      ap (den m rows b1) (sym (back v)) ∙ sym (x .high-is (λ k. v (k - s))) ∙ r (put true v) (put true w) (put-same true v w h) ∙ x .high-is (λ k. w (k - s)) ∙ ap (den m rows b1) (back w)
 
 -- the calls for the halves
-pub called-low : {W : View} {s a b a0 b0 a1 b1 t : ℕ} {memo : List ℕ} → Split W s a b a0 b0 a1 b1 → Asks W s memo → far W s a b ≡ t → (far W s a0 b0 < t) × ApartPre W s a0 b0 memo
-called-low p k e = let l = split-less p in (rw (← e) (l .0), record { asks = k; left = p .of-left .low-arrow; second = p .of-second .low-arrow })
+pub called-low : {W : View} {s base a b a0 b0 a1 b1 t : ℕ} {memo xs ys : List ℕ} → Split W s a b a0 b0 a1 b1 → Against W b → Asks W s base memo xs ys → far W s a b ≡ t
+    → (far W s a0 b0 < t) × ApartPre W s base a0 b0 memo xs ys
+called-low p g k e =
+    let l = split-less p in
+    (rw (← e) (l .0), record { asks = k; left = p .of-left .low-arrow; against = record { arrow = p .of-second .low-arrow; reads = low-reads (p .of-second) (g .reads) } })
 
-pub called-high : {W : View} {s a b a0 b0 a1 b1 t : ℕ} {memo : List ℕ} → Split W s a b a0 b0 a1 b1 → Asks W s memo → far W s a b ≡ t → (far W s a1 b1 < t) × ApartPre W s a1 b1 memo
-called-high p k e = let l = split-less p in (rw (← e) (l .1), record { asks = k; left = p .of-left .high-arrow; second = p .of-second .high-arrow })
+pub called-high : {W : View} {s base a b a0 b0 a1 b1 t : ℕ} {memo xs ys : List ℕ} → Split W s a b a0 b0 a1 b1 → Against W b → Asks W s base memo xs ys → far W s a b ≡ t
+    → (far W s a1 b1 < t) × ApartPre W s base a1 b1 memo xs ys
+called-high p g k e =
+    let l = split-less p in
+    (rw (← e) (l .1), record { asks = k; left = p .of-left .high-arrow; against = record { arrow = p .of-second .high-arrow; reads = high-reads (p .of-second) (g .reads) } })
 
-pub asks-on : {W : View} {s : ℕ} {memo memo′ : List ℕ} {P : Type 0} {r : Bool} → Asks W s memo → length memo′ ≡ length memo → Tells W s memo′ P r → Asks W s memo′
-asks-on k e t = record { good = k .good; shift = k .shift; size = e ∙ k .size; right = t .right }
+-- lists of the same lengths with right tables
+pub lists-on : {W : View} {s base : ℕ} {xs ys xs′ ys′ : List ℕ} → Lists W s base xs ys → length xs′ ≡ length xs → length ys′ ≡ length ys
+    → Known (2 * W .header BITS) (rowsOf W) base s 0 xs′ → Known (2 * W .header BITS) (rowsOf W) base s s ys′ → Lists W s base xs′ ys′
+lists-on l ex ey f g = record {
+  even-base = l .even-base;
+  fit = l .fit;
+  bound = l .bound;
+  room = λ h. let r = l .room h in (ex ∙ r .0, ey ∙ r .1);
+  first = f;
+  second = g;
+}
 
--- an answer with the pairs as they were
-pub told : {W : View} {s : ℕ} {memo : List ℕ} {P : Type 0} {r : Bool} → Asks W s memo → Says P r → Tells W s memo P r
-told k p = record { says = p; right = k .right }
+pub asks-on : {W : View} {s base : ℕ} {memo memo′ xs ys xs′ ys′ : List ℕ} {P : Type 0} {r : Bool} → Asks W s base memo xs ys → length memo′ ≡ length memo → length xs′ ≡ length xs
+    → length ys′ ≡ length ys → Tells W s base memo′ xs′ ys′ P r → Asks W s base memo′ xs′ ys′
+asks-on k e ex ey t = record { good = k .good; shift = k .shift; size = e ∙ k .size; right = t .right; lists = lists-on (k .lists) ex ey (t .first) (t .second) }
+
+-- an answer with the pairs and tables as they were, and one by tables
+pub told : {W : View} {s base : ℕ} {memo xs ys : List ℕ} {P : Type 0} {r : Bool} → Asks W s base memo xs ys → Says P r → Tells W s base memo xs ys P r
+told k p = record { says = p; right = k .right; first = k .lists .first; second = k .lists .second }
+
+pub told-tables : {W : View} {s base a b : ℕ} {memo xs ys xs′ ys′ : List ℕ} {r : Bool} → Asks W s base memo xs ys → TablesPost W s base a b xs′ ys′ r
+    → Tells W s base memo xs′ ys′ (Apart (2 * W .header BITS) (rowsOf W) s a b) r
+told-tables k p = record { says = p .says; right = k .right; first = p .first; second = p .second }
+
+-- as `deep` finds it
+pub deep-at : {base i l : ℕ} (W : View) (b : ℕ) → Good W → Arrow (rowsOf W) b → isRow b ≡ true → i ≡ rowOf b → l ≡ W .cell i LEVEL → base ≤ l → Deep W base b
+deep-at W b g u t e f n =
+    let r = row-at W b g u t in
+    let z = r .level in
+    let q : W .cell (rowOf b) LEVEL ≡ _ = ap (λ (k : ℕ). W .cell k LEVEL) (sym e) ∙ sym f in
+    record { level = omega arith }
+
+-- a row from the base on is there only where the base is below the levels
+pub deep-room : {W : View} {s base a b : ℕ} {xs ys : List ℕ} → TablesPre W s base a b xs ys → (length xs ≡ PLACES) × (length ys ≡ PLACES)
+deep-room {W} {b = b} p = let r = row-at W b (p .good) (p .against .arrow) (p .rows .1) in let e = r .level in let h = r .shallow in let d = p .deep .level in p .lists .room (omega arith)
+
+pub table-first : {W : View} {s base a b : ℕ} {xs ys : List ℕ} → TablesPre W s base a b xs ys → TablePre W base s 0 a xs
+table-first p = let n = p .good .sizes .n-max in let h = p .lists .bound in record {
+  good = p .good;
+  low-base = omega arith;
+  shift = p .shift;
+  up = omega arith;
+  size = deep-room p .0;
+  known = p .lists .first;
+  arrow = p .left;
+}
+
+pub table-second : {W : View} {s base a b : ℕ} {xs ys : List ℕ} → TablesPre W s base a b xs ys → TablePre W base s s b ys
+table-second p = let n = p .good .sizes .n-max in let h = p .lists .bound in record {
+  good = p .good;
+  low-base = omega arith;
+  shift = p .shift;
+  up = p .shift;
+  size = deep-room p .1;
+  known = p .lists .second;
+  arrow = p .against .arrow;
+}
+
+pub by-tables : {W : View} {s base a b x y : ℕ} {xs ys xs′ ys′ : List ℕ} {r : Bool} → TablesPre W s base a b xs ys → TablePost W base s 0 a x xs′ → TablePost W base s s b y ys′
+    → Says (Disjoint x y) r → TablesPost W s base a b xs′ ys′ r
+by-tables {W} {s} {base} {a} {b} p f g d = record {
+  says = tables-tell (p .good .rows) base s (p .lists .even-base) (omega arith) (p .lists .fit) b (p .against .arrow) (p .deep .level) (p .against .reads) (f .tabled) (g .tabled) d;
+  first = f .known;
+  second = g .known;
+}
+
+-- lists of zeros: none where the base is past all levels, and all for the last eight levels
+pub lists-none : {W : View} {s base : ℕ} → base ≡ 2 * W .header BITS → Lists W s base (replicate 1 0) (replicate 1 0)
+lists-none {W} e = record {
+  even-base = omega arith;
+  fit = omega arith;
+  bound = omega arith;
+  room = λ h. absurd (omega arith);
+  first = known-none 1 (2 * W .header BITS) (rowsOf W);
+  second = known-none 1 (2 * W .header BITS) (rowsOf W);
+}
+
+pub lists-new : {W : View} {s base : ℕ} → base ≡ 2 * W .header BITS - 8 → Lists W s base (replicate PLACES 0) (replicate PLACES 0)
+lists-new {W} e = record {
+  even-base = omega arith;
+  fit = omega arith;
+  bound = omega arith;
+  room = λ h. (length-replicate {A = ℕ} PLACES 0, length-replicate {A = ℕ} PLACES 0);
+  first = known-none PLACES (2 * W .header BITS) (rowsOf W);
+  second = known-none PLACES (2 * W .header BITS) (rowsOf W);
+}
+
+-- an arrow with even levels only, and NOT of it
+pub against-of : (W : View) (v : ℕ) → Arrow (rowsOf W) v → ((i : ℕ) → Reach (rowsOf W) (v ∷ []) i → even (rowsOf W .level i) ≡ true) → Against W v
+against-of W v u e = record { arrow = u; reads = reads-levels (rowsOf W) even (v ∷ []) e (2 * W .header BITS) v (reached-root (rowsOf W) (v ∷ []) v (here refl)) }
+
+-- V's, where its root is no 0
+pub against-root : (W : View) → W .header VALID ≢ 0 → ((h : ℕ) → VALID ≤ h → h < ROOTS-END → Ref (rowsOf W) (W .header h)) → EvenSets W → Against W (validOf W)
+against-root W n u e = against-of W (validOf W) (ref-arrow (rowsOf W) (W .header VALID) n (u VALID (omega arith) (omega arith)))
+    (e VALID (omega arith) (omega arith) (validOf W) (let z : W .header VALID ≡ suc (validOf W) = omega arith in z))
+
+pub against-not : (W : View) (v : ℕ) → Against W v → Against W (flip v)
+against-not W v g = record {
+  arrow = carry-arrow (rowsOf W) true v (g .arrow);
+  reads = λ x y h. den-flip (2 * W .header BITS) (rowsOf W) v x ∙ ap not (g .reads x y h) ∙ sym (den-flip (2 * W .header BITS) (rowsOf W) v y);
+}
 
 -- as `halve` gives them
 pub halved-here : {own other i x y lo hi : ℕ} (W : View) (a : ℕ) → own ≤ other → i ≡ rowOf a → x ≡ W .cell i LOW → y ≡ W .cell i HIGH
@@ -175,13 +358,16 @@ halved-here W a h e ex ey el eh = record {
 pub ref-none : {s r b : ℕ} (W : View) → r ≡ 0 → RefApart W s r b
 ref-none W z a e = absurd (omega arith)
 
-pub ref-tells : {W : View} {s b : ℕ} {memo : List ℕ} {k : Bool} (r : ℕ) → r ≢ 0 → Tells W s memo (Apart (2 * W .header BITS) (rowsOf W) s (r - 1) b) k → Tells W s memo (RefApart W s r b) k
-ref-tells {W} {s} {b} r n t = record {
+pub ref-tells : {W : View} {s base b : ℕ} {memo xs ys : List ℕ} {k : Bool} (r : ℕ) → r ≢ 0 → Tells W s base memo xs ys (Apart (2 * W .header BITS) (rowsOf W) s (r - 1) b) k
+    → Tells W s base memo xs ys (RefApart W s r b) k
+ref-tells {W} {s} {base} {b} r n t = record {
   says = says-map
       (λ p a e. let q : r - 1 ≡ a = omega arith in subst (λ (x : ℕ). Apart (2 * W .header BITS) (rowsOf W) s x b) q p)
       (λ f. f (r - 1) (omega arith))
       (t .says);
   right = t .right;
+  first = t .first;
+  second = t .second;
 }
 
 -- no root, and one more

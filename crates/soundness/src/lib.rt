@@ -1,8 +1,6 @@
 // Whether words are a sound table.
 pub mod chains;
-
 mod tables;
-
 mod within;
 
 use chains::Part;
@@ -432,13 +430,7 @@ fn even_sets(words: &[u32], rows: u32) -> bool
     ensures { λ r. ⌜ Says (EvenSets (view rows (now (words .entry)))) r ⌝ }
 {
     let mut marks = [0u32; Bitmap::WORDS];
-    mark_refs(
-        words,
-        rows,
-        &mut marks,
-        Table::VALID,
-        Table::FIRST_RELATION,
-    );
+    mark_refs(words, rows, &mut marks, Table::VALID, Table::FIRST_RELATION);
     evens(words, rows, &marks)
 }
 

@@ -5,12 +5,13 @@ use layout::get;
 use layout::is_marked;
 use layout::row_of;
 ghost use mathlib.Core.Path.{_≡_};
+ghost use mathlib.Core.Bool.{true};
 ghost use Prim.Native.Nat.{ℕ, _*_, _+_, _≤_, _<_};
 ghost use lib.ListN.{length, getD, set};
 ghost use Rattle.diagram.specs.Rows.{row};
 ghost use Rattle.layout.specs.Places.{BITS};
 ghost use Rattle.layout.specs.View.{view};
-ghost use Rattle.layout.specs.Arrows.{isMarked};
+ghost use Rattle.layout.specs.Arrows.{isRow, isMarked};
 ghost use Rattle.soundness.specs.Used.{rowsOf};
 ghost use Rattle.soundness.specs.Says.{Says};
 ghost use Rattle.soundness.specs.Masks.{lowMask, highMask, swapped};
@@ -125,7 +126,7 @@ fn row_table(
 }
 
 // The table of an arrow whose levels count higher by `up`. Tables of rows are remembered.
-pub fn table_of(
+fn table_of(
     words: &[u32],
     rows: u32,
     base: u32,
@@ -148,11 +149,47 @@ pub fn table_of(
     if known != 0 {
         return carried(a, known);
     }
-    let low = table_of(words, rows, base, shift, up, get(words, rows, i, Table::LOW), memo);
-    let high = table_of(words, rows, base, shift, up, get(words, rows, i, Table::HIGH), memo);
+    let low = table_of(
+        words,
+        rows,
+        base,
+        shift,
+        up,
+        get(words, rows, i, Table::LOW),
+        memo,
+    );
+    let high = table_of(
+        words,
+        rows,
+        base,
+        shift,
+        up,
+        get(words, rows, i, Table::HIGH),
+        memo,
+    );
     let table = row_table(words, rows, base, shift, up, i, low, high);
     keep(memo, i, table);
     carried(a, table)
+}
+
+// The table of an arrow to a row. It is apart, so that it is inlined: a remembered table costs no call.
+pub fn row_cells(
+    words: &[u32],
+    rows: u32,
+    base: u32,
+    shift: u32,
+    up: u32,
+    a: u32,
+    memo: &mut [u32],
+) -> u32
+    requires { ⌜ TablePre (view rows (now words)) base shift up a (now memo) × (isRow a ≡ true) ⌝ }
+    ensures { λ r. ⌜ TablePost (view rows (now (words .entry))) base shift up a r (now (memo .exit)) ⌝ }
+{
+    let known = recall(memo, row_of(a));
+    if known != 0 {
+        return carried(a, known);
+    }
+    table_of(words, rows, base, shift, up, a, memo)
 }
 
 // Whether no cell is in both tables.

@@ -1,4 +1,6 @@
-// Whether registers lie within the set V of states that exist, and relations within V and SHIFT of V. Nothing is written but a local list of pairs.
+// Whether registers lie within the set V of states that exist, and relations within V and SHIFT of V. Nothing is written but local lists of pairs and tables.
+use super::tables::disjoint;
+use super::tables::row_cells;
 use layout::Table;
 use layout::carry;
 use layout::flip;
@@ -7,7 +9,7 @@ use layout::header_word;
 use layout::row_of;
 ghost use mathlib.Core.Path.{_≡_};
 ghost use mathlib.Core.Bool.{true};
-ghost use Prim.Native.Nat.{ℕ, _*_, _+_, _≤_, _<_};
+ghost use Prim.Native.Nat.{ℕ, _*_, _+_, _-_, _≤_, _<_};
 ghost use lib.ListN.{length};
 ghost use Rattle.layout.specs.Places.{HEADER, CELLS, wordsFor, BITS, LEVEL, FIRST-REGISTER, FIRST-RELATION, ROOTS-END};
 ghost use Rattle.layout.specs.View.{view};
@@ -20,13 +22,31 @@ ghost use Rattle.soundness.specs.Apart.{Apart};
 ghost use Rattle.soundness.specs.Pairs.{PAIR-WORDS, Seen, Puts};
 ghost use Rattle.soundness.specs.Within.{Within};
 ghost use Rattle.soundness.specs.Sound.{Good};
-ghost use Rattle.soundness.specs.Contained.{AllApart, Clear, RefApart, Asks, ApartPre, Tells, Halved, Split};
+ghost use Rattle.soundness.specs.Contained.{AllApart, Clear, RefApart, Asks, Against, ApartPre, Tells, Deep, TablesPre, TablesPost, RefsAsked, RootsPre, PassPre, Halved, Split};
 
 // The remembered pairs: how many words they have, two for each of 4,096.
 struct Pairs;
 
 impl Pairs {
     const WORDS: usize = 8192;
+
+    // A place for the table of each row, and how many rows go without.
+    const PLACES: usize = 60000;
+
+    const FEW: u32 = 4096;
+
+    // How many levels the tables tell apart, with those between.
+    const LAST: u32 = 8;
+}
+
+// The level from which tables decide: the last eight of an even number of levels, or all.
+fn base_of(levels: u32) -> u32
+    ensures { λ r. ⌜ r ≡ levels - 8 ⌝ }
+{
+    if levels < Pairs::LAST {
+        return 0;
+    }
+    levels - Pairs::LAST
 }
 
 // The place of a pair of arrows.
@@ -123,10 +143,51 @@ fn opposite(shift: u32, a: u32, b: u32) -> bool
     true
 }
 
-// Whether two arrows have no valuation in common, where the second's levels count higher by the shift. It ends at the first one in common.
-fn apart(words: &[u32], rows: u32, shift: u32, a: u32, b: u32, memo: &mut [u32]) -> bool
-    requires { ⌜ ApartPre (view rows (now words)) shift a b (now memo) ⌝ }
-    ensures { λ r. ⌜ Tells (view rows (now (words .entry))) shift (now (memo .exit)) (Apart (2 * view rows (now (words .entry)) .header BITS) (rowsOf (view rows (now (words .entry)))) shift a b) r ⌝ }
+// Whether the row that an arrow leads to is at a level from the base on.
+fn deep(words: &[u32], rows: u32, base: u32, b: u32) -> bool
+    requires { ⌜ Good (view rows (now words)) × Arrow (rowsOf (view rows (now words))) b × (isRow b ≡ true) ⌝ }
+    ensures { λ r. ⌜ (r ≡ true → Deep (view rows (now (words .entry))) base b) ⌝ }
+{
+    if get(words, rows, row_of(b), Table::LEVEL) < base {
+        return false;
+    }
+    true
+}
+
+// Whether two arrows have no valuation in common, the second of even levels from the base on, which count higher by the shift: by their tables.
+fn tables_apart(
+    words: &[u32],
+    rows: u32,
+    shift: u32,
+    base: u32,
+    a: u32,
+    b: u32,
+    first: &mut [u32],
+    second: &mut [u32],
+) -> bool
+    requires { ⌜ TablesPre (view rows (now words)) shift base a b (now first) (now second) ⌝ }
+    ensures { λ r. ⌜ TablesPost (view rows (now (words .entry))) shift base a b (now (first .exit)) (now (second .exit)) r ⌝ }
+{
+    let x = row_cells(words, rows, base, shift, 0, a, first);
+    let y = row_cells(words, rows, base, shift, shift, b, second);
+    disjoint(x, y)
+}
+
+// Whether two arrows have no valuation in common, where the second's levels count higher by the shift. It ends at the first one in common, and where the
+// second comes to the base its tables decide.
+fn apart(
+    words: &[u32],
+    rows: u32,
+    shift: u32,
+    base: u32,
+    a: u32,
+    b: u32,
+    memo: &mut [u32],
+    first: &mut [u32],
+    second: &mut [u32],
+) -> bool
+    requires { ⌜ ApartPre (view rows (now words)) shift base a b (now memo) (now first) (now second) ⌝ }
+    ensures { λ r. ⌜ Tells (view rows (now (words .entry))) shift base (now (memo .exit)) (now (first .exit)) (now (second .exit)) (Apart (2 * view rows (now (words .entry)) .header BITS) (rowsOf (view rows (now (words .entry)))) shift a b) r ⌝ }
 {
     if a == Table::NOTHING {
         return true;
@@ -143,14 +204,17 @@ fn apart(words: &[u32], rows: u32, shift: u32, a: u32, b: u32, memo: &mut [u32])
     if opposite(shift, a, b) {
         return true;
     }
+    if deep(words, rows, base, b) {
+        return tables_apart(words, rows, shift, base, a, b, first, second);
+    }
     if seen(memo, a, b) {
         return true;
     }
     let q = split(words, rows, shift, a, b);
-    if !apart(words, rows, shift, q.a0, q.b0, memo) {
+    if !apart(words, rows, shift, base, q.a0, q.b0, memo, first, second) {
         return false;
     }
-    if !apart(words, rows, shift, q.a1, q.b1, memo) {
+    if !apart(words, rows, shift, base, q.a1, q.b1, memo, first, second) {
         return false;
     }
     remember(memo, a, b);
@@ -158,30 +222,102 @@ fn apart(words: &[u32], rows: u32, shift: u32, a: u32, b: u32, memo: &mut [u32])
 }
 
 // Whether a root is empty or its arrow has no valuation in common with another.
-fn ref_apart(words: &[u32], rows: u32, shift: u32, r: u32, b: u32, memo: &mut [u32]) -> bool
-    requires { ⌜ Asks (view rows (now words)) shift (now memo) × Ref (rowsOf (view rows (now words))) r × Arrow (rowsOf (view rows (now words))) b ⌝ }
-    ensures { λ k. ⌜ Tells (view rows (now (words .entry))) shift (now (memo .exit)) (RefApart (view rows (now (words .entry))) shift r b) k ⌝ }
+fn ref_apart(
+    words: &[u32],
+    rows: u32,
+    shift: u32,
+    base: u32,
+    r: u32,
+    b: u32,
+    memo: &mut [u32],
+    first: &mut [u32],
+    second: &mut [u32],
+) -> bool
+    requires { ⌜ Asks (view rows (now words)) shift base (now memo) (now first) (now second) × Ref (rowsOf (view rows (now words))) r × Against (view rows (now words)) b ⌝ }
+    ensures { λ k. ⌜ Tells (view rows (now (words .entry))) shift base (now (memo .exit)) (now (first .exit)) (now (second .exit)) (RefApart (view rows (now (words .entry))) shift r b) k ⌝ }
 {
     if r == 0 {
         return true;
     }
-    apart(words, rows, shift, r - 1, b, memo)
+    apart(words, rows, shift, base, r - 1, b, memo, first, second)
 }
 
 // Whether the roots in the header's words from `from` up to `to` have no valuation in common with an arrow.
-fn refs_apart(words: &[u32], rows: u32, shift: u32, from: usize, to: usize, b: u32) -> bool
-    requires { ⌜ Good (view rows (now words)) × (shift ≤ 1) × Arrow (rowsOf (view rows (now words))) b × (from ≤ to) × (to ≤ HEADER) × ((h : ℕ) → from ≤ h → h < to → Ref (rowsOf (view rows (now words))) (view rows (now words) .header h)) ⌝ }
+fn refs_apart(
+    words: &[u32],
+    rows: u32,
+    shift: u32,
+    base: u32,
+    from: usize,
+    to: usize,
+    b: u32,
+    first: &mut [u32],
+    second: &mut [u32],
+) -> bool
+    requires { ⌜ RefsAsked (view rows (now words)) shift base from to b (now first) (now second) ⌝ }
     ensures { λ r. ⌜ Says (AllApart (view rows (now (words .entry))) shift from to b) r ⌝ }
 {
     let mut memo = [0u32; Pairs::WORDS];
     let mut k = from;
     while k < to {
-        if !ref_apart(words, rows, shift, header_word(words, k), b, &mut memo) {
+        if !ref_apart(
+            words,
+            rows,
+            shift,
+            base,
+            header_word(words, k),
+            b,
+            &mut memo,
+            first,
+            second,
+        ) {
             return false;
         }
         k += 1;
     }
     true
+}
+
+// The same with tables, for many rows.
+fn wide_apart(words: &[u32], rows: u32, shift: u32, from: usize, to: usize, b: u32) -> bool
+    requires { ⌜ RootsPre (view rows (now words)) shift from to b ⌝ }
+    ensures { λ r. ⌜ Says (AllApart (view rows (now (words .entry))) shift from to b) r ⌝ }
+{
+    let levels = 2 * header_word(words, Table::BITS);
+    let mut first = [0u32; Pairs::PLACES];
+    let mut second = [0u32; Pairs::PLACES];
+    refs_apart(
+        words,
+        rows,
+        shift,
+        base_of(levels),
+        from,
+        to,
+        b,
+        &mut first,
+        &mut second,
+    )
+}
+
+// The same with none, for few rows.
+fn narrow_apart(words: &[u32], rows: u32, shift: u32, from: usize, to: usize, b: u32) -> bool
+    requires { ⌜ RootsPre (view rows (now words)) shift from to b ⌝ }
+    ensures { λ r. ⌜ Says (AllApart (view rows (now (words .entry))) shift from to b) r ⌝ }
+{
+    let levels = 2 * header_word(words, Table::BITS);
+    let mut first = [0u32; 1];
+    let mut second = [0u32; 1];
+    refs_apart(
+        words,
+        rows,
+        shift,
+        levels,
+        from,
+        to,
+        b,
+        &mut first,
+        &mut second,
+    )
 }
 
 // The parts of the check: roots against V, relations against SHIFT of V.
@@ -191,30 +327,51 @@ pub enum Pass {
     Both,
 }
 
-// Whether a part of the check holds, for NOT of V. As it calls itself it is never inlined, and no caller's frame has the pairs.
-fn pass_ok(words: &[u32], rows: u32, b: u32, pass: Pass) -> bool
-    requires { ⌜ Good (view rows (now words)) × Arrow (rowsOf (view rows (now words))) b × ((h : ℕ) → FIRST-REGISTER ≤ h → h < ROOTS-END → Ref (rowsOf (view rows (now words))) (view rows (now words) .header h)) ⌝ }
+// Whether a part of the check holds, for NOT of V: with tables. As it calls itself it is never inlined, and no caller's frame has the lists.
+fn wide_ok(words: &[u32], rows: u32, b: u32, pass: Pass) -> bool
+    requires { ⌜ PassPre (view rows (now words)) b ⌝ }
     ensures { λ r. ⌜ Says (Clear (view rows (now (words .entry))) b pass) r ⌝ }
 {
     match pass {
-        Pass::Now => refs_apart(words, rows, 0, Table::FIRST_REGISTER, Table::ROOTS_END, b),
-        Pass::Next => refs_apart(words, rows, 1, Table::FIRST_RELATION, Table::ROOTS_END, b),
+        Pass::Now => wide_apart(words, rows, 0, Table::FIRST_REGISTER, Table::ROOTS_END, b),
+        Pass::Next => wide_apart(words, rows, 1, Table::FIRST_RELATION, Table::ROOTS_END, b),
         Pass::Both => {
-            if !pass_ok(words, rows, b, Pass::Now) {
+            if !wide_ok(words, rows, b, Pass::Now) {
                 return false;
             }
-            pass_ok(words, rows, b, Pass::Next)
+            wide_ok(words, rows, b, Pass::Next)
+        }
+    }
+}
+
+// Whether a part of the check holds, for NOT of V: without. As it calls itself it is never inlined, and no caller's frame has the lists.
+fn narrow_ok(words: &[u32], rows: u32, b: u32, pass: Pass) -> bool
+    requires { ⌜ PassPre (view rows (now words)) b ⌝ }
+    ensures { λ r. ⌜ Says (Clear (view rows (now (words .entry))) b pass) r ⌝ }
+{
+    match pass {
+        Pass::Now => narrow_apart(words, rows, 0, Table::FIRST_REGISTER, Table::ROOTS_END, b),
+        Pass::Next => narrow_apart(words, rows, 1, Table::FIRST_RELATION, Table::ROOTS_END, b),
+        Pass::Both => {
+            if !narrow_ok(words, rows, b, Pass::Now) {
+                return false;
+            }
+            narrow_ok(words, rows, b, Pass::Next)
         }
     }
 }
 
 // Whether every register lies within V, and every relation within V and SHIFT of V, for the set V of arrow v.
 pub fn all_within(words: &[u32], rows: u32, v: u32) -> bool
-    requires { ⌜ Good (view rows (now words)) × Arrow (rowsOf (view rows (now words))) v × ((h : ℕ) → FIRST-REGISTER ≤ h → h < ROOTS-END → Ref (rowsOf (view rows (now words))) (view rows (now words) .header h)) ⌝ }
+    requires { ⌜ PassPre (view rows (now words)) v ⌝ }
     ensures { λ r. ⌜ Says (Within (view rows (now (words .entry))) v) r ⌝ }
 {
     if v == Table::EVERYTHING {
         return true;
     }
-    pass_ok(words, rows, flip(v), Pass::Both)
+    let b = flip(v);
+    if header_word(words, Table::USED) > Pairs::FEW {
+        return wide_ok(words, rows, b, Pass::Both);
+    }
+    narrow_ok(words, rows, b, Pass::Both)
 }

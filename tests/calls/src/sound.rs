@@ -143,8 +143,12 @@ fn within(words: Words) -> Result<(), String> {
     for shift in [0, 1] {
         let first = [FIRST_REGISTER, FIRST_RELATION][shift as usize];
         for place in first..ROOTS_END {
-            let inside = words.root(place).is_none_or(|root| lies_within(words, root, valid, shift));
-            demand(inside, || format!("root {place} not within V at shift {shift}"))?;
+            let inside = words
+                .root(place)
+                .is_none_or(|root| lies_within(words, root, valid, shift));
+            demand(inside, || {
+                format!("root {place} not within V at shift {shift}")
+            })?;
         }
     }
     Ok(())

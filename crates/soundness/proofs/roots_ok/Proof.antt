@@ -3,8 +3,7 @@ use mathlib.Core.Path.{sym, _∙_}
 use native.Mathlib.Omega.{arith}
 use borrow.Author.Needs.{needs}
 use Rattle.layout.specs.View.{view}
-use Rattle.soundness.specs.Used.{rowsOf}
-use Rattle.soundness.specs.Roots.{ref-arrow}
+use Rattle.soundness.specs.Contained.{against-root}
 use Rattle.soundness.specs.Says.{fails, says-pass, says-fail}
 use Rattle.soundness.specs.Sound.{room-of, within-tells}
 use Rattle.soundness.proofs.roots_ok.Statement.{statement}
@@ -21,5 +20,9 @@ roots-ok-spec =
     (λ c κs. let g = c .before .before .before .before .before .pre in (g .ranked, record { base = record { words = g .sizes .room; rows = g .rows; room = g .sizes .N-max }; order = omega arith; within = omega arith; ref = λ h a l. says-pass (c .before .before .if1 .left) (c .before .before .before .refs-ok .ensures) h a (omega arith) }))
     (λ c. fails (λ q. says-fail (c .if3 .taken) (c .before .even-sets .ensures) (q .even)))
     (λ c. search needs)
-    (λ c κs. let u = says-pass (c .before .before .before .before .if1 .left) (c .before .before .before .before .before .refs-ok .ensures) in (c .before .before .before .before .before .before .before .pre, rw (c .before .before .before .header-word .ensures) (ref-arrow (rowsOf (view (c .before .before .before .before .before .before .before .args .rows) (c .before .before .before .before .before .before .before .args .words .now))) _ (rw (c .before .before .before .header-word .ensures) at (c .before .before .if2 .left)) (u _ (omega arith) (omega arith))), λ h lo hi. u h (omega arith) hi))
+    (λ c κs. let u = says-pass (c .before .before .before .before .if1 .left) (c .before .before .before .before .before .refs-ok .ensures) in let e = says-pass (c .if3 .left) (c .before .even-sets .ensures) in record {
+      good = c .before .before .before .before .before .before .before .pre;
+      against = rw (c .before .before .before .header-word .ensures) (against-root (view (c .before .before .before .before .before .before .before .args .rows) (c .before .before .before .before .before .before .before .args .words .now)) (rw (c .before .before .before .header-word .ensures) at (c .before .before .if2 .left)) u e);
+      refs = λ h lo hi. u h (omega arith) hi;
+    })
     (λ c. within-tells (c .before .before .before .before .before .before .before .before .pre) (says-pass (c .before .before .before .before .before .if1 .left) (c .before .before .before .before .before .before .refs-ok .ensures)) (c .before .before .before .before .header-word .ensures) (c .before .before .before .if2 .left) (says-pass (c .before .if3 .left) (c .before .before .even-sets .ensures)) (c .all-within .ensures)))

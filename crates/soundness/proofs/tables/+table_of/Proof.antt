@@ -1,3 +1,4 @@
+-- `table_of` meets its contract: a remembered table is right, and a row's table is joined from those of its arrows, which lead to greater levels. Assumes nothing.
 use borrow.Author.Needs.{needs}
 use Rattle.soundness.specs.Cells.{tabled-nothing, tabled-everything}
 use Rattle.soundness.specs.Tables.{farTo, led, recalled, asked-arrow, row-asked, made-table}

@@ -1,3 +1,4 @@
+-- `row_table` meets its contract: the tables of a row's arrows are joined by the level's class. Assumes nothing.
 use Rattle.soundness.specs.Tables.{row-fits, row-tabled}
 use native.Mathlib.Omega.{arith}
 use borrow.Author.Needs.{needs}
@@ -8,7 +9,6 @@ use Rattle.soundness.proofs.tables.row_table.Lts as lts
 use Rattle.layout.proofs.get.Reads as get-reads
 use Rattle.soundness.proofs.tables.class_of.Reads as class-of-reads
 use Rattle.soundness.proofs.tables.join.Reads as join-reads
-
 
 pub row-table-spec : {M : Type 1} → statement M
 row-table-spec =

@@ -1,7 +1,7 @@
--- `ref_apart` meets its contract: a root is empty, or one more than its arrow. Assumes nothing.
+-- `ref_apart` meets its contract: an empty root has no valuation. Assumes nothing.
 use Rattle.layout.specs.View.{view}
-use Rattle.soundness.specs.Roots.{ref-arrow}
 use Rattle.soundness.specs.Says.{holds}
+use Rattle.soundness.specs.Roots.{ref-arrow}
 use Rattle.soundness.specs.Contained.{told, ref-none, ref-tells}
 use borrow.Author.Needs.{needs}
 use Rattle.soundness.proofs.within.ref_apart.Statement.{statement}
@@ -11,4 +11,6 @@ use Rattle.soundness.proofs.within.ref_apart.Lts as lts
 use Rattle.soundness.proofs.within.apart.Reads as apart-reads
 
 pub ref-apart-spec : {M : Type 1} → statement M
-ref-apart-spec = tie.close (tie.spec (λ c. told (c .before .before .before .pre .0) (holds (ref-none (view (c .before .before .before .args .rows) (c .before .before .before .args .words .now)) (c .if1 .taken)))) (λ c. search needs) (λ c κs. record { asks = c .before .before .before .before .pre .0; left = ref-arrow _ _ (c .before .if1 .left) (c .before .before .before .before .pre .1); second = c .before .before .before .before .pre .2 }) (λ c. search needs) (λ c. ref-tells _ (c .before .before .before .before .if1 .left) (c .before .before .apart .ensures)))
+ref-apart-spec =
+    tie.close
+    (tie.spec (λ c. told (c .before .before .before .before .before .pre .0) (holds (ref-none (view (c .before .before .before .before .before .args .rows) (c .before .before .before .before .before .args .words .now)) (c .if1 .taken)))) (λ c. search needs) (λ c κs. record { asks = c .before .before .before .before .before .before .before .before .pre .0; left = ref-arrow _ _ (c .before .before .before .if1 .left) (c .before .before .before .before .before .before .before .before .pre .1); against = c .before .before .before .before .before .before .before .before .pre .2 }) (λ c. search needs) (λ c. search needs) (λ c. search needs) (λ c. ref-tells _ (c .before .before .before .before .before .before .before .before .before .before .if1 .left) (c .before .before .before .before .before .before .apart .ensures)))
