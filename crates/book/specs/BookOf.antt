@@ -128,25 +128,28 @@ module _ (t : Table) (s : SoundTable t) where
       → Sized (t .n) A × Below A E
   sets-whole none h A e = absurd (none-some e)
   sets-whole (some a) h A e =
-      subst (λ (X : List Bool). Sized (t .n) X × Below X E) (some-inj e)
-      (length-table (2 ^ t .n) (λ s. denIn t a (pairVal s 0)), λ u p.
-      let w = and-out (ltb u (2 ^ t .n)) (denIn t a (pairVal u 0)) (subst T (mem-table (2 ^ t .n) (λ s. denIn t a (pairVal s 0)) u) p) in
-      subst (λ (x : ℕ). T (mem E x)) (nowOf-pairVal (t .n) u 0 (ltb→lt u (2 ^ t .n) (w .0))) (valid-at (pairVal u 0) (h a refl (pairVal u 0) (true-of _ (w .1)))))
+      subst (λ (X : List Bool). Sized (t .n) X × Below X E) (some-inj e) (
+        length-table (2 ^ t .n) (λ s. denIn t a (pairVal s 0)),
+        λ u p.
+            let w = and-out (ltb u (2 ^ t .n)) (denIn t a (pairVal u 0)) (subst T (mem-table (2 ^ t .n) (λ s. denIn t a (pairVal s 0)) u) p) in
+            subst (λ (x : ℕ). T (mem E x)) (nowOf-pairVal (t .n) u 0 (ltb→lt u (2 ^ t .n) (w .0))) (valid-at (pairVal u 0) (h a refl (pairVal u 0) (true-of _ (w .1)))),
+      )
 
   pairs-whole : (o : Option ℕ) → ((a : ℕ) → o ≡ some a → Under (denIn t a) (denIn t (t .valid))) → ((a : ℕ) → o ≡ some a → Under (denIn t a) (shiftF (denIn t (t .valid)))) → (Q : Pairs)
       → standsFor (pairsOf (t .n)) (denIn t) o ≡ some Q → SizedPairs (t .n) Q × Inside (2 ^ t .n) E Q
   pairs-whole none h k Q e = absurd (none-some e)
   pairs-whole (some a) h k Q e =
-      subst (λ (X : Pairs). SizedPairs (t .n) X × Inside (2 ^ t .n) E X) (some-inj e)
-      (sized-table (t .n) (λ s u. denIn t a (pairVal s u)), λ x u l i p.
-      let at : pair (pairsOf (t .n) (denIn t a)) x u ≡ denIn t a (pairVal x u) =
-      ap (λ (A : List Bool). mem A u) (getD-table (2 ^ t .n) (λ s. table (2 ^ t .n) (λ w. denIn t a (pairVal s w))) x [] l) ∙ getD-table (2 ^ t .n) (λ w. denIn t a (pairVal x w)) u false i
-      in
-      let q = true-of _ (subst T at p) in
-      (
-        subst (λ (z : ℕ). T (mem E z)) (nowOf-pairVal (t .n) x u l) (valid-at (pairVal x u) (h a refl (pairVal x u) q)),
-        subst (λ (z : ℕ). T (mem E z)) (nextOf-pairVal (t .n) x u i) (valid-at (λ j. pairVal x u (suc j)) (k a refl (pairVal x u) q)),
-      ))
+      subst (λ (X : Pairs). SizedPairs (t .n) X × Inside (2 ^ t .n) E X) (some-inj e) (
+        sized-table (t .n) (λ s u. denIn t a (pairVal s u)),
+        λ x u l i p.
+            let at : pair (pairsOf (t .n) (denIn t a)) x u ≡ denIn t a (pairVal x u) =
+            ap (λ (A : List Bool). mem A u) (getD-table (2 ^ t .n) (λ s. table (2 ^ t .n) (λ w. denIn t a (pairVal s w))) x [] l) ∙ getD-table (2 ^ t .n) (λ w. denIn t a (pairVal x w)) u false i
+            in
+            let q = true-of _ (subst T at p) in (
+              subst (λ (z : ℕ). T (mem E z)) (nowOf-pairVal (t .n) x u l) (valid-at (pairVal x u) (h a refl (pairVal x u) q)),
+              subst (λ (z : ℕ). T (mem E z)) (nextOf-pairVal (t .n) x u i) (valid-at (λ j. pairVal x u (suc j)) (k a refl (pairVal x u) q)),
+            ),
+      )
 
 -- the book that a sound table stands for is whole
 pub whole-bookOf : (t : Table) → SoundTable t → Whole (bookOf t)

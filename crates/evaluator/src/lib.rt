@@ -269,7 +269,15 @@ fn current_bit(
         return Taken::Full;
     };
     let valid = root_arrow(words, Table::VALID);
-    live_step(words, counts, stack, limits, held, Step::And(b, valid), first)
+    live_step(
+        words,
+        counts,
+        stack,
+        limits,
+        held,
+        Step::And(b, valid),
+        first,
+    )
 }
 
 // An arrow that takes no step.
@@ -489,15 +497,7 @@ fn negate(
     };
     let held = here.held;
     let valid = root_arrow(words, Table::VALID);
-    let taken = complement(
-        words,
-        counts,
-        limits,
-        &stack[..held],
-        valid,
-        a,
-        counted,
-    );
+    let taken = complement(words, counts, limits, &stack[..held], valid, a, counted);
     answer(taken, end)
 }
 
