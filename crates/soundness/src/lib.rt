@@ -1,6 +1,5 @@
 // Whether words are a sound table.
 pub mod chains;
-
 mod tables;
 mod within;
 
