@@ -161,7 +161,7 @@ impl<W: AsRef<[u32]> + AsMut<[u32]>> Table<W> {
     /// table.valid(!(&low & &high))?;
     /// table.set(&mut accounts, 0, 0, 0, !low)?;
     /// assert_eq!(table.count(0)?, 2);
-    /// assert_eq!(table.valid(Formula::constant(true)), Err(Refusal::Occupied));
+    /// assert_eq!(table.valid(Formula::always()), Err(Refusal::Occupied));
     /// # Ok(())
     /// # }
     /// ```
