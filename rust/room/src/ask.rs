@@ -96,6 +96,7 @@ impl<'a> Asker<'a> {
     }
 
     fn load(&mut self) -> Result<(), Halt> {
+        self.table.valid(valid::states(self.room))?;
         for relation in &self.plan.relations {
             let loaded = self.table.relation(relation.place, &relation.formula)?;
             self.peak = self.peak.max(loaded.peak);

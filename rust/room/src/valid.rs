@@ -1,8 +1,7 @@
 //! Switch positions that cannot be. A selector of three positions takes two bits and never shows the
-//! fourth pattern. This is the one place that keeps such patterns out: it puts the condition that all
-//! patterns are positions into relations, the start and the sets that questions name. Once the library has
-//! a call that fixes which states exist (request 6, `valid`), `states` is its formula, and `pairs` and
-//! `within` give back what they get.
+//! fourth pattern. The table is told which states exist (`Table::valid` of `states`). Records for `roomrules`
+//! have no operation for that, so the condition that all patterns are positions also stands in relations, the
+//! start and the sets that questions name: this is the one place that writes it.
 use crate::room::{Part, Room};
 use kudzuclamp::Formula;
 
