@@ -27,7 +27,7 @@ use Rattle.book.specs.Table.{Reply, Shows, rootsOf}
 use Rattle.book.specs.BookOf.{bookOf, standsFor, whole-bookOf, only-book}
 use Rattle.book.specs.Alike.{alike-shows}
 use Rattle.book.specs.Leaves.{plain, shows-rows}
-use Rattle.contract.specs.Seen.{arrowIn, seenIn, seen, SoundWords, sound-shows-book}
+use Rattle.contract.specs.Seen.{arrowIn, seenIn, seen, SoundWords, sound-shows-book, sound-table}
 use Rattle.contract.specs.Kept.{Kept, changes}
 use Rattle.contract.specs.Checked.{kept-refused}
 use Rattle.contract.specs.Roots.{root-filled}
@@ -122,7 +122,7 @@ module _ (a b t : ℕ) (ws list : List ℕ) where
       reply = sym (ap (λ (x : Ended). x .reply) e);
       list = sym (ap (λ (x : Ended). x .list) e);
       sound = s;
-      rows = keeps-refl (s .good .rows) (λ r m. filled-arrow s r (root-filled (tableOf ws) r m));
+      rows = keeps-refl (s .good .rows) (λ r m. filled-arrow s r (root-filled (tableOf ws) (s .valid) r m));
     };
     book = refl;
     kept = kept-refused collect k ws;
@@ -167,7 +167,7 @@ module _ (old new : List ℕ) (y : Reply) (s : SoundWords old) (ok : Sound (view
   same-table = ap (λ (k : ℕ). view k new) (left .header ROWS (and-no (eqb (y .number) 0)))
 
   pub rows-kept : Keeps (seen old .rows) (rowsOf Z) (rootsOf (seen old))
-  rows-kept = keeps-within (root-filled (tableOf old)) k
+  rows-kept = keeps-within (root-filled (tableOf old) (s .valid)) k
 
   pub words-kept : (T (keepsAll (y .number)) → ⊥) → Kept collect y old new
   words-kept n = record {
@@ -186,7 +186,7 @@ module _ (old new : List ℕ) (y : Reply) (s : SoundWords old) (ok : Sound (view
 
   -- the words stand for the same book
   pub same-book : bookOf (seen new) ≡ bookOf (seen old)
-  same-book = ap (λ (v : View). bookOf (seenIn v)) same-table ∙ sym (only-book (bookOf (seen old)) (seenIn Z) (whole-bookOf (seen old)) shown)
+  same-book = ap (λ (v : View). bookOf (seenIn v)) same-table ∙ sym (only-book (bookOf (seen old)) (seenIn Z) (whole-bookOf (seen old) (sound-table (tableOf old) s)) shown)
 
 module _ {a b t : ℕ} (old : List ℕ) (s : SoundWords old) (r : InRange a b t) {rows bits x y z : ℕ} (er : rows ≡ headerOf old ROWS) (eb : bits ≡ headerOf old BITS)
     (ex : x ≡ headerOf old (FIRST-REGISTER + a)) (ey : y ≡ headerOf old (FIRST-REGISTER + b)) (ez : z ≡ headerOf old (FIRST-RELATION + t)) (fx : x ≢ 0) (fy : y ≢ 0) (fz : z ≢ 0) where

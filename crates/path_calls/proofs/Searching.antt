@@ -83,7 +83,7 @@ module _ {n N limit : ℕ} {W : View} {t a b : ℕ} (p : SearchPre n N limit W t
   start-held =
       let h = subst (λ (k : ℕ). Held (2 * k) (rowsOf W) (rootsOf (seenIn W)) (liveOf (bookIn W))) (sym (p .bits)) (shows-held (bookIn W) (seenIn W) shows) in
       let g = subst (λ (u : Rows). Held (2 * n) u (rootsOf (seenIn W)) (liveOf (bookIn W))) same-rows h in
-      subst (λ (xs : List ℕ). Held (2 * n) (rowsOf X) xs (liveOf (bookIn W))) (sym (filled-same frame)) (held-alike (record { to = root-filled W; from = filled-root W }) g)
+      subst (λ (xs : List ℕ). Held (2 * n) (rowsOf X) xs (liveOf (bookIn W))) (sym (filled-same frame)) (held-alike (record { to = root-filled W (p .sound .valid); from = filled-root W }) g)
 
   module _ {ra rb rt : ℕ} (m : Named W ra rb rt a b t) where
     pub set-is : {c r : ℕ} → r < registers → W .header (FIRST-REGISTER + r) ≡ suc c → Place (2 * n) (rowsOf X) (fnOf n) (bookIn W .reg r) (some c)
@@ -97,7 +97,7 @@ module _ {n N limit : ℕ} {W : View} {t a b : ℕ} (p : SearchPre n N limit W t
       held = start-held;
       relation = place-some (fnOfPairs n) (bookIn W .rel rt) (place fnOfPairs (bookIn W .rel rt) (FIRST-RELATION + rt) (m .t-is) (shows .rel rt (m .t-in)));
       goal = place-some (fnOf n) (bookIn W .reg rb) (set-is (m .b-in) (m .b-is));
-      sized = place-sized n (2 * n) (rowsOf X) b (fnOf n) (bookIn W .reg rb) (set-is (m .b-in) (m .b-is)) (λ x e. subst (λ (k : ℕ). Sized k x) (sym (p .bits)) (whole-bookOf (seenIn W) .reg rb x e .0));
+      sized = place-sized n (2 * n) (rowsOf X) b (fnOf n) (bookIn W .reg rb) (set-is (m .b-in) (m .b-is)) (λ x e. subst (λ (k : ℕ). Sized k x) (sym (p .bits)) (whole-bookOf (seenIn W) (sound-table W (p .sound)) .reg rb x e .0));
     }
 
     pub from : Denotes (2 * n) (rowsOf X) a (fnOf n (inside (bookIn W .reg ra)))

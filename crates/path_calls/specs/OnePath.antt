@@ -16,7 +16,8 @@ use Rattle.diagram.specs.Reach.{Reach}
 use Rattle.book.specs.Book.{collect}
 use Rattle.book.specs.Table.{Reply, rootsOf}
 use Rattle.book.specs.BookOf.{bookOf, whole-bookOf}
-use Rattle.contract.specs.Seen.{seen, SoundWords, any-words}
+use Rattle.soundness.specs.Sound.{tableOf}
+use Rattle.contract.specs.Seen.{seen, SoundWords, any-words, sound-table}
 use Rattle.contract.specs.Kept.{freeWord, changes}
 use Rattle.contract.specs.OneAnswer.{SameRow}
 use Rattle.paths.specs.Call.{Ended, shortest}
@@ -88,4 +89,4 @@ pub path-means : (a b t : ℕ) {old new lent left : List ℕ} {y : Reply} → Pa
 path-means a b t {old} {new} {lent} {left} {y} p s =
     let q : Ended → Type 0 = Meant (2 ^ bookOf (seen old) .n) (inside (bookOf (seen old) .rel t)) (inside (bookOf (seen old) .reg a)) (inside (bookOf (seen old) .reg b)) lent in
     let is : shortest (bookOf (seen old)) a b t lent ≡ record { reply = y; list = left } = λ i. record { reply = sym (p .told s .reply) i; list = sym (p .told s .list) i } in
-    subst q is (shortest-means (bookOf (seen old)) lent (whole-bookOf (seen old)) a b t)
+    subst q is (shortest-means (bookOf (seen old)) lent (whole-bookOf (seen old) (sound-table (tableOf old) s)) a b t)
