@@ -104,7 +104,7 @@ module _ {n N limit : ℕ} {W : View} {t a b : ℕ} (p : SearchPre n N limit W t
     from = place-some (fnOf n) (bookIn W .reg ra) (set-is (m .a-in) (m .a-is))
 
     live-at : {c : ℕ} (h : ℕ) → FIRST-REGISTER ≤ h → h < FIRST-RELATION + relations → W .header h ≡ suc c → Mem c (filled X)
-    live-at {c} h l k e = filled-mem X c (record { at = h; from = l; below = omega arith; holds = frame .header h (omega arith) (omega arith) (omega arith) (omega arith) ∙ e })
+    live-at {c} h l k e = filled-mem X c (record { at = h; from = omega arith; below = omega arith; holds = frame .header h (omega arith) (omega arith) (omega arith) (omega arith) ∙ e })
 
     asks-named : PassPre n N limit X t a b
     asks-named = record {
