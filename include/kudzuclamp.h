@@ -33,9 +33,9 @@
  * So to choose N, make the room's calls once on a table that is large enough: the greatest of their peaks is the least N with which the same calls
  * are all answered.
  *
- * STACK. A call takes less than 160 KB of it, and more than 80 KB only on words whose lookup chains are longer than 32 rows; where V is not every
- * state about 32 KB more, and in a table of more than 4,096 used rows about 512 KB more (counted on the
- * compiled code, not proved; what V adds by the sizes of its lists).
+ * STACK. A call takes less than 160 KB of it, and more than 120 KB only on words whose lookup chains are longer than 32 rows (seen: 111 KB, a formula
+ * of the greatest depth at n = 16). Where V is not every state about 32 KB more, and then in a table of more than 4,096 used rows about 512 KB more. Measured
+ * on the compiled code and, for V, by the sizes of its lists; not proved.
  *
  * POINTERS. A slice is a pointer and its number of elements. No pointer may be null, not even with 0 elements. Words and lists that are not const,
  * the accounts, and each answer must overlap nothing else that is lent to the call, and no other thread may use them meanwhile; nor may one write
