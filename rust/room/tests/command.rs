@@ -1,7 +1,6 @@
 //! The command itself: what it prints, and its exit status.
 use std::io::Write;
 use std::process::{Command, Output, Stdio};
-use std::time::{Duration, Instant};
 
 const EXAMPLES: &str = concat!(env!("CARGO_MANIFEST_DIR"), "/../../examples");
 
@@ -99,7 +98,7 @@ fn as_documented() {
 }
 
 #[test]
-fn sixteen_bits_in_under_a_second() {
+fn sixteen_bits() {
     let chain: String = {
         let things: Vec<String> = (0..16).map(|k| format!("t{k}")).collect();
         let mut text = format!(
@@ -114,22 +113,15 @@ fn sixteen_bits_in_under_a_second() {
             things.join(" and ")
         )
     };
-    let mut took = Duration::MAX;
-    // The least of three, since others may use the machine.
-    for _ in 0..3 {
-        let start = Instant::now();
-        let (printed, _, status) = given(&["-"], chain.as_bytes());
-        took = took.min(start.elapsed());
-        assert!(
-            printed.starts_with("65,536 states, 16 presses.") && status == 1,
-            "{printed}"
-        );
-        assert!(
-            printed.contains("16 presses do it, and no fewer:"),
-            "{printed}"
-        );
-    }
-    assert!(took < Duration::from_secs(1), "{took:?}");
+    let (printed, _, status) = given(&["-"], chain.as_bytes());
+    assert!(
+        printed.starts_with("65,536 states, 16 presses.") && status == 1,
+        "{printed}"
+    );
+    assert!(
+        printed.contains("16 presses do it, and no fewer:"),
+        "{printed}"
+    );
 }
 
 #[test]

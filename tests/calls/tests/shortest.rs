@@ -5,9 +5,10 @@ use calls::compare::{compare_relations, number_of};
 use calls::kept;
 use calls::sound::sound;
 use calls::words::Words;
-use calls::writer::{counter, frame, rules};
+use calls::writer::{counter, frame, rules, write, Plan};
 use kudzuclamp::{words_for, Account, Refusal, Table};
 use reference::book::Book;
+use reference::formula::Kind;
 use reference::random::Random;
 use reference::refusal::Refusal as BookRefusal;
 
@@ -23,6 +24,22 @@ struct Seen {
     edges: u64,
     single: u64,
     longest: usize,
+    /// Rooms in which some states do not exist.
+    partial: u64,
+}
+
+/// A formula of valid.
+fn plain(random: &mut Random, n: u32) -> Vec<u8> {
+    let plan = Plan {
+        kind: Kind::Valid,
+        n: n as u8,
+        registers: Vec::new(),
+        relations: Vec::new(),
+        size: 1 + random.below(7),
+        binders: 0,
+        slip: false,
+    };
+    write(random, plan)
 }
 
 /// A table and a book with registers 0 and 1 and relation 0 filled, where the rows are enough.
@@ -32,12 +49,26 @@ struct Room {
 }
 
 impl Room {
+    /// Every state exists.
     fn new(n: u32, rows: u64, relation: &[u8], sets: [&[u8]; 2]) -> Option<Room> {
+        Room::within(n, rows, &frame(&[0x01]), relation, sets)
+    }
+
+    /// The states that exist are those of a formula (Slip 6).
+    fn within(
+        n: u32,
+        rows: u64,
+        valid: &[u8],
+        relation: &[u8],
+        sets: [&[u8]; 2],
+    ) -> Option<Room> {
         let mut accounts = [Account::unlimited()];
         let mut table = Table::new(&mut accounts, n, rows as u32).expect("sizes fit");
         let mut plenty = [reference::accounts::Account::LARGEST];
         let words = words_for(rows as u32) as u64;
         let mut book = Book::fresh(n.into(), rows, words, &mut plenty).expect("sizes fit");
+        table.valid(valid).ok()?;
+        book.make_valid(valid).expect("as the table");
         table.relation(0, relation).ok()?;
         book.relation(0, relation).expect("as the table");
         for (r, set) in sets.into_iter().enumerate() {
@@ -118,8 +149,16 @@ impl Room {
 
 /// All of the room's questions, with lists as long as the run, one shorter, and longer; then the same on
 /// tables of as many rows as the call needs, and of one fewer, where these can be filled.
-fn compare_room(random: &mut Random, seen: &mut Seen, n: u32, relation: &[u8], sets: [&[u8]; 2]) {
-    let mut room = Room::new(n, 3_000, relation, sets).expect("rows in plenty");
+fn compare_room(
+    random: &mut Random,
+    seen: &mut Seen,
+    n: u32,
+    valid: &[u8],
+    relation: &[u8],
+    sets: [&[u8]; 2],
+) {
+    let mut room = Room::within(n, 3_000, valid, relation, sets).expect("rows in plenty");
+    seen.partial += u64::from(!room.book.valid().is_full());
     let mut ways = vec![(0, 1), (1, 0)];
     ways.extend(random.chance(10).then_some((0, 0)));
     for (a, b) in ways {
@@ -134,7 +173,7 @@ fn compare_room(random: &mut Random, seen: &mut Seen, n: u32, relation: &[u8], s
             if rows == 0 {
                 continue;
             }
-            if let Some(mut small) = Room::new(n, rows as u64, relation, sets) {
+            if let Some(mut small) = Room::within(n, rows as u64, valid, relation, sets) {
                 let number = small.compare(seen, a, b, 0, 1 << n);
                 assert_eq!(number == 8, rows < edge, "N = {rows}, edge {edge}");
                 seen.edges += u64::from(rows < edge);
@@ -186,7 +225,7 @@ fn some_states(random: &mut Random, n: u32) -> Vec<u8> {
 #[test]
 fn drawn_rooms() {
     let (mut random, mut seen) = (Random::new(31), Seen::default());
-    for round in 0..240 {
+    for round in 0..400 {
         let n = [1, 2, 3, 3, 4, 4, 4, 5][round % 8];
         let relation = match random.below(10) {
             0..=5 => some_pairs(&mut random, n),
@@ -196,11 +235,17 @@ fn drawn_rooms() {
         let sets = [some_states(&mut random, n), some_states(&mut random, n)];
         let sets = sets.map(|set| frame(&set));
         let sets = [&sets[0][..], &sets[1][..]];
-        compare_room(&mut random, &mut seen, n, &frame(&relation), sets);
+        // In half of the rooms V is drawn.
+        let valid = match round % 2 == 0 {
+            true => frame(&[0x01]),
+            false => frame(&plain(&mut random, n)),
+        };
+        compare_room(&mut random, &mut seen, n, &valid, &frame(&relation), sets);
     }
     let enough = |number: usize, least: u64| seen.numbers[number] > least;
     assert!(enough(0, 300) && enough(8, 60) && enough(10, 300) && enough(11, 200));
-    assert!(seen.edges > 60 && seen.single > 20 && seen.longest > 8);
+    assert!(seen.edges > 60 && seen.single > 20 && seen.longest > 8 && seen.partial > 100);
+    eprintln!("{seen:?}");
 }
 
 /// The longest run at n = 4: all 16 states of the counter, each of them once.
@@ -209,7 +254,8 @@ fn longest() {
     let (mut random, mut seen) = (Random::new(32), Seen::default());
     let relation = frame(&counter(4, true));
     let sets = [frame(&state(4, 0x10, 0)), frame(&state(4, 0x10, 15))];
-    compare_room(&mut random, &mut seen, 4, &relation, [&sets[0], &sets[1]]);
+    let all = frame(&[0x01]);
+    compare_room(&mut random, &mut seen, 4, &all, &relation, [&sets[0], &sets[1]]);
     assert_eq!(seen.longest, 16);
     let mut room = Room::new(4, 100, &relation, [&sets[0], &sets[1]]).unwrap();
     let all: Vec<u16> = (0..16).collect();
