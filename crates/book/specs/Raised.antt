@@ -10,7 +10,7 @@ use native.Mathlib.Omega.{arith}
 use lib.Dec.{T, leb, leb→le, le→leb, ltb, eqb}
 use lib.ListN.{length, getD}
 use Rattle.mucalculus.specs.Sets.{and-in, and-out, true-of}
-use Rattle.mucalculus.specs.Form.{noEnv}
+use Rattle.mucalculus.specs.Form.{noEnv, filled}
 use Rattle.mucalculus.specs.Means.{means}
 use Rattle.tokens.specs.declared.Kind.the-variants.{Relation, Set, Valid}
 use Rattle.accounts.specs.declared.Terms.{Terms}
@@ -25,10 +25,10 @@ use Rattle.book.specs.Larger.{verdict-more}
 use Rattle.book.specs.Book.{formulaIn, Book, fresh, freshFits, freshNumber, Call, relation, set, valid, clear, collect, Question, node, member, count, Answer, registers, relations, modelOf, liveOf, unfilled, checks, Done, refuse, ended, relationDone, setDone, validDone, relationSteps, setSteps, validSteps, passing, does, play, answer}
 use Rattle.book.specs.Stored.{none-some, range-cases, set-cases, relation-cases, valid-cases}
 use Rattle.book.specs.Leaves.{shows-filled}
-use Rattle.book.specs.Table.{Table, Reply, SettledTo}
+use Rattle.book.specs.Table.{Table, Reply, SettledTo, Agrees}
 use Rattle.book.specs.BookOf.{bookOf}
 use Rattle.book.specs.Contract.{Implements}
-use Rattle.book.specs.Demand.{Event, calls, bookAfter, Trace, stop, go, Session, lastNumber, AllAgree, Demand, third-demand}
+use Rattle.book.specs.Demand.{Event, calls, bookAfter, Trace, stop, go, Session, AllAgree, Demand, third-demand}
 use Rattle.book.specs.Tallies.{spentAt, roundsAt}
 
 -- ---- raised limits
@@ -168,9 +168,9 @@ abbrev pub AllZero : List Event → Type 0
 AllZero [] = Unit {0}
 AllZero (x ∷ l) = (x .1 .number ≡ 0) × AllZero l
 
--- two replies are both answers, with the same rounds and peaks, and the same value where the book settles it (a node number above 1 is free)
+-- two replies where the book answers a: the same but for a value that the book leaves free (a node number above 1)
 pub record SameReply (a : Answer) (y y′ : Reply) : Type 0 where
-  pub answered : y′ .number ≡ 0
+  pub number : y′ .number ≡ y .number
   pub rounds : y′ .rounds ≡ y .rounds
   pub peak : y′ .peak ≡ y .peak
   pub value : (x : ℕ) → a .value ≡ some x → y′ .value ≡ y .value
@@ -190,25 +190,33 @@ answered-book [] (x ∷ l) d z = absurd d
 answered-book (a ∷ as′) [] d z = absurd d
 answered-book (a ∷ as′) (x ∷ l) d z = (sym (d .0 .number) ∙ z .0, answered-book as′ l (d .1) (z .1))
 
+zero-same : (as′ : List Answer) (l l′ : List Event) → AllSame as′ l l′ → AllZero l → AllZero l′
+zero-same [] [] [] d z = tt
+zero-same [] [] (x ∷ l) d z = absurd d
+zero-same [] (x ∷ l) l′ d z = absurd d
+zero-same (a ∷ as′) [] l′ d z = absurd d
+zero-same (a ∷ as′) (x ∷ l) [] d z = absurd d
+zero-same (a ∷ as′) (x ∷ l) (x′ ∷ l′) d z = (d .0 .number ∙ z .0, zero-same as′ l l′ (d .1) (z .1))
+
 settled-same : (o : Option ℕ) (y y′ : ℕ) → SettledTo o y → SettledTo o y′ → (x : ℕ) → o ≡ some x → y′ ≡ y
 settled-same none y y′ h i x e = absurd (none-some e)
 settled-same (some z) y y′ h i x e = i ∙ sym h
 
-all-same : (as′ : List Answer) (l l′ : List Event) → AllAnswered as′ → AllAgree as′ l → AllAgree as′ l′ → AllSame as′ l l′
-all-same [] [] [] z d e = tt
-all-same [] [] (x ∷ l) z d e = absurd e
-all-same [] (x ∷ l) l′ z d e = absurd d
-all-same (a ∷ as′) [] l′ z d e = absurd d
-all-same (a ∷ as′) (x ∷ l) [] z d e = absurd e
-all-same (a ∷ as′) (x ∷ l) (x′ ∷ l′) z d e = (
-  record {
-    answered = e .0 .number ∙ z .0;
-    rounds = e .0 .rounds ∙ sym (d .0 .rounds);
-    peak = e .0 .peak ∙ sym (d .0 .peak);
-    value = settled-same (a .value) (x .1 .value) (x′ .1 .value) (d .0 .value) (e .0 .value);
-  },
-  all-same as′ l l′ (z .1) (d .1) (e .1),
-)
+same-reply : (a : Answer) (y y′ : Reply) → Agrees a y → Agrees a y′ → SameReply a y y′
+same-reply a y y′ d e = record {
+  number = e .number ∙ sym (d .number);
+  rounds = e .rounds ∙ sym (d .rounds);
+  peak = e .peak ∙ sym (d .peak);
+  value = settled-same (a .value) (y .value) (y′ .value) (d .value) (e .value);
+}
+
+all-same : (as′ : List Answer) (l l′ : List Event) → AllAgree as′ l → AllAgree as′ l′ → AllSame as′ l l′
+all-same [] [] [] d e = tt
+all-same [] [] (x ∷ l) d e = absurd e
+all-same [] (x ∷ l) l′ d e = absurd d
+all-same (a ∷ as′) [] l′ d e = absurd d
+all-same (a ∷ as′) (x ∷ l) [] d e = absurd e
+all-same (a ∷ as′) (x ∷ l) (x′ ∷ l′) d e = (same-reply a (x .1) (x′ .1) (d .0) (e .0), all-same as′ l l′ (d .1) (e .1))
 
 -- the list again, on other words and with a larger row count: fresh, whether it is answered or not, and the calls
 pub record Upgrade (W : Type 0) (words : W → ℕ) (makes : W → ℕ → ℕ → ℕ → W → Reply → Type 0) (contract : W → Call → W → Reply → Type 0) (n M count : ℕ) (l : List Event) (end : W) : Type 0 where
@@ -219,17 +227,20 @@ pub record Upgrade (W : Type 0) (words : W → ℕ) (makes : W → ℕ → ℕ �
   pub start : makes lent n M count made reply
   pub rest : Trace W contract made l end
 
--- the claim after the two lists
-pub record SameVerdicts {W : Type 0} (view : W → Table) (n N M : ℕ) (reply : Reply) (l l′ : List Event) (w w′ : W) : Type 0 where
-  -- "the same list is answered throughout", fresh too, "with the same … rounds and peaks"
+-- the claim after the two lists, which left the words w and w′
+pub record SameVerdicts {W : Type 0} (view : W → Table) (asks : W → Question → W → Reply → Type 0) (n N M : ℕ) (reply : Reply) (l l′ : List Event) (w w′ : W) : Type 0 where
+  -- "the same list is answered throughout", fresh too
   pub started : reply .number ≡ 0
+  pub answered : AllZero l′
+  -- "with the same … rounds and peaks", and the rows that collect returns
   pub replies : AllSame (play (fresh n N) (calls l) .1) l l′
-  -- "the same sets": the books differ in their rows alone
+  -- "the same sets": the books that the words stand for differ in their rows alone
   pub sets : bookOf (view w′) ≡ withRowCount (bookOf (view w)) M
-  -- "counts", and every other question: the same answer is due
-  pub questions : (q : Question) → answer (bookOf (view w′)) q ≡ answer (bookOf (view w)) q
-  -- "two filled registers have one number in both or in neither"
-  pub numbers : (r q : ℕ) → r < registers → q < registers → (x y x′ y′ : ℕ) → lastNumber none l r ≡ some x → lastNumber none l q ≡ some y → lastNumber none l′ r ≡ some x′ → lastNumber none l′ q ≡ some y′
+  -- "counts": a question asked now gets the same answer on both
+  pub asked : (q : Question) (v v′ : W) (y y′ : Reply) → asks w q v y → asks w′ q v′ y′ → SameReply (answer (bookOf (view w)) q) y y′
+  -- the same registers are filled, and "two filled registers have one number in both or in neither"
+  pub same-filled : (r : ℕ) → r < registers → filled (view w′ .reg r) ≡ filled (view w .reg r)
+  pub numbers : (r q : ℕ) → r < registers → q < registers → (x y x′ y′ : ℕ) → view w .reg r ≡ some x → view w .reg q ≡ some y → view w′ .reg r ≡ some x′ → view w′ .reg q ≡ some y′
       → (x ≡ y) ↔ (x′ ≡ y′)
 
 module _ {W : Type 0} {words : W → ℕ} {sound : W → Type 0} {view : W → Table} {makes : W → ℕ → ℕ → ℕ → W → Reply → Type 0} {contract : W → Call → W → Reply → Type 0} {asks : W → Question → W → Reply → Type 0}
@@ -270,22 +281,35 @@ module _ {W : Type 0} {words : W → ℕ} {sound : W → Type 0} {view : W → T
     same-sets : bookOf (view w′) ≡ withRowCount (bookOf (view w)) M
     same-sets = second .holds ∙ larger-book ∙ ap (λ (x : Book). withRowCount x M) (sym (first .holds))
 
-    -- a register with a last number is filled
-    filled-set : (r x : ℕ) → r < registers → lastNumber none l r ≡ some x → (A : List Bool) × (bookAfter n N l .reg r ≡ some A)
-    filled-set r x i e = let d = shows-filled (bookAfter n N l) (view w) r x (first .shows) i (first .current r i ∙ e) in (d .0, d .1)
+    same-replies : AllSame (play (fresh n N) (calls l) .1) l l′
+    same-replies = all-same (play (fresh n N) (calls l) .1) l l′ (first .agree) (subst (λ (x : List Answer). AllAgree x l′) (ap (λ (x : Book × List Answer). x .1) larger) (second .agree))
+
+    -- the same answer is due
+    same-answer : (q : Question) → answer (bookAfter n M l′) q ≡ answer (bookAfter n N l) q
+    same-answer q = ap (λ (x : Book). answer x q) larger-book ∙ answer-more (bookAfter n N l) M q
+
+    same-asked : (q : Question) (v v′ : W) (y y′ : Reply) → asks w q v y → asks w′ q v′ y′ → SameReply (answer (bookOf (view w)) q) y y′
+    same-asked q v v′ y y′ p p′ = subst (λ (x : Book). SameReply (answer x q) y y′) (sym (first .holds))
+        (same-reply (answer (bookAfter n N l) q) y y′ (first .questions v q y p .1 .agrees) (subst (λ (a : Answer). Agrees a y′) (same-answer q) (second .questions v′ q y′ p′ .1 .agrees)))
+
+    -- a register with a number is filled
+    filled-set : (r x : ℕ) → r < registers → view w .reg r ≡ some x → (A : List Bool) × (bookAfter n N l .reg r ≡ some A)
+    filled-set r x i e = let d = shows-filled (bookAfter n N l) (view w) r x (first .shows) i e in (d .0, d .1)
 
     -- BIGGER TABLES, SAME VERDICTS
-    pub bigger-tables : SameVerdicts view n N M (u .reply) l l′ w w′
+    pub bigger-tables : SameVerdicts view asks n N M (u .reply) l l′ w w′
     bigger-tables = record {
       started = fresh-answered;
-      replies = all-same (play (fresh n N) (calls l) .1) l l′ answers (first .agree) (subst (λ (x : List Answer). AllAgree x l′) (ap (λ (x : Book × List Answer). x .1) larger) (second .agree));
+      answered = zero-same (play (fresh n N) (calls l) .1) l l′ same-replies zero-all;
+      replies = same-replies;
       sets = same-sets;
-      questions = λ q. ap (λ (x : Book). answer x q) same-sets ∙ answer-more (bookOf (view w)) M q;
+      asked = same-asked;
+      same-filled = λ r i. sym (second .reg-filled r i) ∙ ap filled (same-register r) ∙ first .reg-filled r i;
       numbers = λ r q i j x y x′ y′ a b c d.
           let (A, f) = filled-set r x i a in
           let (B, g) = filled-set q y j b in
-          let one = first .numbers r q i j A B x y f g a b in
-          let two = second .numbers r q i j A B x′ y′ (same-register r ∙ f) (same-register q ∙ g) c d in
+          let one = first .numbers r q i j A B x y f g (sym (first .current r i) ∙ a) (sym (first .current q j) ∙ b) in
+          let two = second .numbers r q i j A B x′ y′ (same-register r ∙ f) (same-register q ∙ g) (sym (second .current r i) ∙ c) (sym (second .current q j) ∙ d) in
           ((λ e. two .1 (one .0 e)), (λ e. one .1 (two .0 e)));
     }
 
@@ -305,7 +329,7 @@ trace-cut (x ∷ l) k (go p t) = let c = trace-cut l k t in record { mid = c .mi
 -- BIGGER TABLES, SAME VERDICTS, AFTER EACH CALL: after the first calls l and l′ of the two lists, wherever they are cut
 pub after-each : {W : Type 0} {words : W → ℕ} {sound : W → Type 0} {view : W → Table} {makes : W → ℕ → ℕ → ℕ → W → Reply → Type 0} {contract : W → Call → W → Reply → Type 0} {asks : W → Question → W → Reply → Type 0}
     → Implements W words sound view makes contract asks → (n N M : ℕ) → N ≤ M → M ≤ 60_000 → (l k l′ k′ : List Event) {w w′ : W} (s : Session W makes contract n N (l ++ k) w) (u : Upgrade W words makes contract n M (s .count) (l′ ++ k′) w′)
-    → AllRaised (calls l) (calls l′) → AllZero l → (x : Cut W contract (s .made) l k w) (x′ : Cut W contract (u .made) l′ k′ w′) → SameVerdicts view n N M (u .reply) l l′ (x .mid) (x′ .mid)
+    → AllRaised (calls l) (calls l′) → AllZero l → (x : Cut W contract (s .made) l k w) (x′ : Cut W contract (u .made) l′ k′ w′) → SameVerdicts view asks n N M (u .reply) l l′ (x .mid) (x′ .mid)
 after-each I n N M more most l k l′ k′ s u r z x x′ =
     bigger-tables I n N M more most (record { lent = s .lent; count = s .count; made = s .made; reply = s .reply; start = s .start; answered = s .answered; rest = x .first })
     (record { lent = u .lent; enough = u .enough; made = u .made; reply = u .reply; start = u .start; rest = x′ .first }) r z
@@ -323,20 +347,20 @@ pub eased-list : {l l′ : List Account} → Looser l l′ → (p : ℕ) → Eas
 eased-list e p = record { count = e .length; place = refl; rows = e .rows p; rounds = e .rounds p }
 
 -- the rounds of an account's answered sets are the same, and so are the tallies (`tally-since-fresh`)
-pub rounds-same : (p : ℕ) (as′ : List Answer) (l l′ : List Event) → AllRaised (calls l) (calls l′) → AllZero l → AllSame as′ l l′ → roundsAt p l′ ≡ roundsAt p l
-rounds-same p [] [] [] r z d = refl
-rounds-same p [] [] (x ∷ l) r z d = absurd d
-rounds-same p [] (x ∷ l) l′ r z d = absurd d
-rounds-same p (a ∷ as′) [] l′ r z d = absurd d
-rounds-same p (a ∷ as′) (x ∷ l) [] r z d = absurd d
-rounds-same p (a ∷ as′) (x ∷ l) (x′ ∷ l′) r z d =
-    ap (λ (k : ℕ). k + roundsAt p l′) (one (r .0) (x .1) (x′ .1) (z .0) (d .0)) ∙ ap (λ (k : ℕ). spentAt p (x .0) (x .1 .number) (x .1 .rounds) + k) (rounds-same p as′ l l′ (r .1) (z .1) (d .1))
+pub rounds-same : (p : ℕ) (as′ : List Answer) (l l′ : List Event) → AllRaised (calls l) (calls l′) → AllSame as′ l l′ → roundsAt p l′ ≡ roundsAt p l
+rounds-same p [] [] [] r d = refl
+rounds-same p [] [] (x ∷ l) r d = absurd d
+rounds-same p [] (x ∷ l) l′ r d = absurd d
+rounds-same p (a ∷ as′) [] l′ r d = absurd d
+rounds-same p (a ∷ as′) (x ∷ l) [] r d = absurd d
+rounds-same p (a ∷ as′) (x ∷ l) (x′ ∷ l′) r d =
+    ap (λ (k : ℕ). k + roundsAt p l′) (one (r .0) (x .1) (x′ .1) (d .0)) ∙ ap (λ (k : ℕ). spentAt p (x .0) (x .1 .number) (x .1 .rounds) + k) (rounds-same p as′ l l′ (r .1) (d .1))
   where
-    one : {c c′ : Call} → Raised c c′ → (y y′ : Reply) → y .number ≡ 0 → SameReply a y y′ → spentAt p c′ (y′ .number) (y′ .rounds) ≡ spentAt p c (y .number) (y .rounds)
-    one (a-relation t bs) y y′ n h = refl
-    one (a-set acc acc′ i R R′ bs e j) y y′ n h =
-        ap (λ (k : ℕ). cond (eqb k 0 && eqb p (acc′ .place)) (y′ .rounds) 0) (h .answered ∙ sym n)
+    one : {c c′ : Call} → Raised c c′ → (y y′ : Reply) → SameReply a y y′ → spentAt p c′ (y′ .number) (y′ .rounds) ≡ spentAt p c (y .number) (y .rounds)
+    one (a-relation t bs) y y′ h = refl
+    one (a-set acc acc′ i R R′ bs e j) y y′ h =
+        ap (λ (k : ℕ). cond (eqb k 0 && eqb p (acc′ .place)) (y′ .rounds) 0) (h .number)
         ∙ ap (λ (k : ℕ). cond (eqb (y .number) 0 && eqb p k) (y′ .rounds) 0) (e .place) ∙ ap (λ (k : ℕ). cond (eqb (y .number) 0 && eqb p (acc .place)) k 0) (h .rounds)
-    one (a-valid bs) y y′ n h = refl
-    one (a-clear i) y y′ n h = refl
-    one a-collect y y′ n h = refl
+    one (a-valid bs) y y′ h = refl
+    one (a-clear i) y y′ h = refl
+    one a-collect y y′ h = refl

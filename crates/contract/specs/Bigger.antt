@@ -18,7 +18,7 @@ use Rattle.book.specs.Tallies.{charged, freshened, length-after}
 use Rattle.book.specs.Raised.{Eased, Raised, a-relation, a-set, a-valid, a-clear, a-collect, AllRaised, AllZero, Looser, eased-list, Upgrade, SameVerdicts, Cut, bigger-tables, rounds-same}
 use Rattle.contract.specs.Seen.{seen}
 use Rattle.contract.specs.Posts.{FreshPost, FreshAllPost}
-use Rattle.contract.specs.Closed.{makes, performs, words-implement}
+use Rattle.contract.specs.Closed.{makes, performs, asks, words-implement}
 use Rattle.contract.specs.Shared.{Lent, Step, SharedSession, step-words, trace-words, shared-tally}
 
 -- ---- the claim
@@ -50,7 +50,7 @@ pub record SharedUpgrade (n M : ℕ) (l : List Event) (end : Lent) : Type 0 wher
 
 -- the claim: of the words, and the tallies of the accounts, k in number
 pub record SharedVerdicts (n N M k : ℕ) (reply : Reply) (l l′ : List Event) (end end′ : Lent) : Type 0 where
-  pub table : SameVerdicts seen n N M reply l l′ (end .words) (end′ .words)
+  pub table : SameVerdicts seen asks n N M reply l l′ (end .words) (end′ .words)
   pub tallies : (p : ℕ) → p < k → getD (end′ .accounts) p none .tally ≡ getD (end .accounts) p none .tally
 
 -- ---- no call changes a limit
@@ -165,7 +165,7 @@ module _ (n N M : ℕ) (more : N ≤ M) (most : M ≤ 60_000) {l l′ : List Eve
     rest = trace-words (u .rest) .0;
   }
 
-  same : SameVerdicts seen n N M (u .reply) l l′ (end .words) (end′ .words)
+  same : SameVerdicts seen asks n N M (u .reply) l l′ (end .words) (end′ .words)
   same = bigger-tables words-implement n N M more most session upgrade raised zeros
 
   -- the larger list is a session too
@@ -178,7 +178,7 @@ module _ (n N M : ℕ) (more : N ≤ M) (most : M ≤ 60_000) {l l′ : List Eve
     table = same;
     tallies = λ p h.
         ap (λ (a : Account). a .tally) (shared-tally n M second p (subst (λ (k : ℕ). p < k) (sym (loose .length)) h))
-        ∙ ap (λ (k : ℕ). min k tallyTop) (rounds-same p (play (fresh n N) (calls l) .1) l l′ raised zeros (same .replies))
+        ∙ ap (λ (k : ℕ). min k tallyTop) (rounds-same p (play (fresh n N) (calls l) .1) l l′ raised (same .replies))
         ∙ sym (ap (λ (a : Account). a .tally) (shared-tally n N x p h));
   }
 

@@ -35,7 +35,7 @@ use Rattle.contract.specs.Posts.{FreshPost, CallPost}
 use Rattle.contract.specs.Checked.{call-refused}
 use Rattle.contract.specs.Closed.{makes, performs, asks, words-demand}
 use Rattle.witness.specs.Words.{Viewed, zeros, freshOf, fresh-zero, fresh-valid}
-use Rattle.witness.specs.Made.{fresh-done, collected-done, empty-done}
+use Rattle.witness.specs.Made.{alone-roomy, fresh-done, collected-done, empty-done}
 use Rattle.witness.specs.Row.{bitIn, freedIn, bitStored, view-bit, view-freed, bit-done, freed-done}
 
 -- ---- the list: n = 2, N = 1
@@ -123,7 +123,7 @@ module _ {l : List Event} {ws : List ℕ} (t : Trace (List ℕ) performs made l 
           let o = one in
           let h = bucket-lt (headerOf ws ROWS) (2 * p) 1 0 (omega arith) in
           subst (λ (k : ℕ). CallPost (set alone r 100 (bit p)) ws (bitIn k ws 0 r p) node) one
-          (bit-done ws sound none every p (omega arith) r 100 0 1 1 (bit p) i (omega arith) (omega arith)
+          (bit-done ws sound none every p (omega arith) alone r 100 0 1 1 (bit p) i (alone-roomy ws sound 100 (omega arith)) (omega arith)
           (subst (λ (b : Book). checks b Set (bit p) ≡ 0) (sym holds) passes)
           (subst (λ (b : Book). now p ≡ formulaIn b Set (bit p)) (sym holds) is)
           (subst (λ (b : Book). 1 ≡ stepNeed (2 * b .n) (liveOf b) (bitF (2 * p))) (sym holds) needs)

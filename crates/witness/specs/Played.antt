@@ -30,7 +30,7 @@ use Rattle.contract.specs.Seen.{seen, SoundWords, sound-table}
 use Rattle.contract.specs.Posts.{FreshPost, CallPost}
 use Rattle.contract.specs.Closed.{makes, performs, asks, words-demand}
 use Rattle.witness.specs.Words.{zeros, freshOf, storedIn, length-zeros, fresh-zero, fresh-valid, view-stored}
-use Rattle.witness.specs.Made.{every, noPairs, self, odd, fresh-done, every-done, noPairs-done, self-done, self-refused, odd-done, collected-done, unused, empty-done}
+use Rattle.witness.specs.Made.{alone-roomy, every, noPairs, self, odd, fresh-done, every-done, noPairs-done, self-done, self-refused, odd-done, collected-done, unused, empty-done}
 
 -- ---- the list: n = 1, N = 100, every kind of call, and refusals 6 and 9
 
@@ -147,13 +147,13 @@ stored-stands {ws} r R a l s p =
     }
 
 set-first : CallPost (set alone 0 100 (self false)) loaded once (node 1)
-set-first = self-done loaded (loaded-stands .sound) 0 (omega arith) false 100 (omega arith) 1 (all-one loaded-stands) (omega arith)
+set-first = self-done loaded (loaded-stands .sound) 0 (omega arith) false 100 alone (alone-roomy loaded (loaded-stands .sound) 100 (omega arith)) 1 (all-one loaded-stands) (omega arith)
 
 once-stands : Stands once
 once-stands = stored-stands 0 100 1 (omega arith) loaded-stands set-first
 
 set-second : CallPost (set alone 1 100 (self true)) once twice (node 0)
-set-second = self-done once (once-stands .sound) 1 (omega arith) true 100 (omega arith) 1 (all-one once-stands) (omega arith)
+set-second = self-done once (once-stands .sound) 1 (omega arith) true 100 alone (alone-roomy once (once-stands .sound) 100 (omega arith)) 1 (all-one once-stands) (omega arith)
 
 twice-stands : Stands twice
 twice-stands = stored-stands 1 100 0 (omega arith) once-stands set-second
@@ -171,8 +171,8 @@ played =
       answered = refl;
       rest =
           go valid-fixed (go relation-loaded (go set-first (go set-second
-          (go (odd-done twice s 1 (omega arith) 100)
-          (go (self-refused twice s 1 (omega arith) false 0 (omega arith) 1 (all-one twice-stands) refl)
+          (go (odd-done twice s 1 (omega arith) 100 alone tt)
+          (go (self-refused twice s 1 (omega arith) false 0 alone (alone-roomy twice s 0 (omega arith)) 1 (all-one twice-stands) refl)
           (go (collected-done twice s (λ i u. absurd (unused twice (twice-stands .used) i u)) 0 (twice-stands .used))
           (go (empty-done twice s 0 (omega arith)) stop)))))));
     }
