@@ -117,8 +117,8 @@ pub record Roomy (N R : ℕ) (acc : Terms) : Type 0 where
   pub rounds : R ≤ acc .rounds
 
 -- one account with the largest limits
-pub alone-roomy : (ws : List ℕ) → SoundWords ws → (R : ℕ) → R ≤ 4_294_967_295 → Roomy (headerOf ws ROWS) R alone
-alone-roomy ws s R l = let N-max = s .good .sizes .N-max in record { place = tt; rows = omega arith; rounds = l }
+pub alone-roomy : (N R : ℕ) → N ≤ 60_000 → R ≤ 4_294_967_295 → Roomy N R alone
+alone-roomy N R l i = record { place = tt; rows = omega arith; rounds = i }
 
 module _ (old : List ℕ) (s : SoundWords old) where
   abbrev b : Book
