@@ -34,7 +34,7 @@ use Rattle.contract.specs.Seen.{seen, SoundWords}
 use Rattle.contract.specs.Posts.{CallPost}
 use Rattle.contract.specs.Closed.{performs}
 use Rattle.contract.specs.Shared.{Lent, Step, SharedSession, shared-demand}
-use Rattle.contract.specs.Bigger.{same-relation, same-set, same-valid, same-clear, same-collect, AllAgain, SharedUpgrade, SharedVerdicts, shared-bigger, shared-each}
+use Rattle.contract.specs.Bigger.{Again, same-relation, same-set, same-valid, same-clear, same-collect, AllAgain, SharedUpgrade, SharedVerdicts, shared-bigger, shared-each}
 use Rattle.witness.specs.Words.{zeros, freshOf, storedIn, length-zeros}
 use Rattle.witness.specs.Made.{Roomy, every, noPairs, self, fresh-done, every-done, noPairs-done, self-done, collected-done, unused, empty-done}
 use Rattle.witness.specs.Row.{bitIn, bit-done}
@@ -69,12 +69,18 @@ before a c R =
     ∷ (collect, valued 0)
     ∷ (set (under a c) 2 R (self false), node 1) ∷ []
 
--- that set, with its reply; then a register is emptied
+-- that set, with its reply, and a register emptied
+abbrev bitSet : ℕ → ℕ → ℕ → Reply → Event
+bitSet a c R y = (set (under a c) 3 R bit, y)
+
+abbrev emptied : Event
+emptied = (clear 1, plain 0)
+
 abbrev pub sofar : ℕ → ℕ → ℕ → Reply → List Event
-sofar a c R y = before a c R ++ ((set (under a c) 3 R bit, y) ∷ [])
+sofar a c R y = before a c R ++ (bitSet a c R y ∷ [])
 
 abbrev pub told : ℕ → ℕ → ℕ → Reply → List Event
-told a c R y = sofar a c R y ++ ((clear 1, plain 0) ∷ [])
+told a c R y = before a c R ++ (bitSet a c R y ∷ emptied ∷ [])
 
 -- registers 0 and 2 have one number, 3 has another, and 1 is empty
 abbrev pub events : ℕ → ℕ → ℕ → List Event
@@ -267,61 +273,25 @@ raised t t′ = record { length = refl; rows = rows; rounds = rounds }
     rounds zero = omega arith
     rounds (suc p) = omega arith
 
-again-sofar : (y : Reply) → AllAgain (calls (sofar 1 1 1 row)) (calls (sofar 5 7 3 y))
-again-sofar y = (
-  same-valid every,
-  (
-    same-relation 0 noPairs,
-    (
-      same-set (under 1 1) (under 5 7) 0 1 3 (self false) refl (omega arith),
-      (
-        same-set (under 1 1) (under 5 7) 1 1 3 (self true) refl (omega arith),
-        (
-          same-collect,
-          (
-            same-set (under 1 1) (under 5 7) 2 1 3 (self false) refl (omega arith),
-            (same-set (under 1 1) (under 5 7) 3 1 3 bit refl (omega arith), tt),
-          ),
-        ),
-      ),
-    ),
-  ),
-)
+-- the first calls are the same, and answered
+again : (l l′ : List Event) → AllAgain (calls l) (calls l′) → AllAgain (calls (before 1 1 1 ++ l)) (calls (before 5 7 3 ++ l′))
+again l l′ rest =
+    let first = same-set (under 1 1) (under 5 7) 0 1 3 (self false) refl (omega arith) in
+    let second = same-set (under 1 1) (under 5 7) 1 1 3 (self true) refl (omega arith) in
+    let third = same-set (under 1 1) (under 5 7) 2 1 3 (self false) refl (omega arith) in
+    (same-valid every, (same-relation 0 noPairs, (first, (second, (same-collect, (third, rest))))))
 
-again : (y : Reply) → AllAgain (calls (events 1 1 1)) (calls (told 5 7 3 y))
-again y = (
-  same-valid every,
-  (
-    same-relation 0 noPairs,
-    (
-      same-set (under 1 1) (under 5 7) 0 1 3 (self false) refl (omega arith),
-      (
-        same-set (under 1 1) (under 5 7) 1 1 3 (self true) refl (omega arith),
-        (
-          same-collect,
-          (
-            same-set (under 1 1) (under 5 7) 2 1 3 (self false) refl (omega arith),
-            (
-              same-set (under 1 1) (under 5 7) 3 1 3 bit refl (omega arith),
-              (same-clear 1, tt),
-            ),
-          ),
-        ),
-      ),
-    ),
-  ),
-)
+answered : (l : List Event) → AllZero l → AllZero (before 1 1 1 ++ l)
+answered l rest = (refl, (refl, (refl, (refl, (refl, (refl, rest))))))
 
-answered-sofar : AllZero (sofar 1 1 1 row)
-answered-sofar = (refl, (refl, (refl, (refl, (refl, (refl, (refl, tt)))))))
-
-answered : AllZero (events 1 1 1)
-answered = (refl, (refl, (refl, (refl, (refl, (refl, (refl, (refl, tt))))))))
+again-bit : Again (set (under 1 1) 3 1 bit) (set (under 5 7) 3 3 bit)
+again-bit = same-set (under 1 1) (under 5 7) 3 1 3 bit refl (omega arith)
 
 -- and what the theorem says of them
 pub shown : SharedVerdicts 1 1 2 1 (plain 0) (events 1 1 1) (events 5 7 3) small large
 unfolding first second
-shown = shared-bigger 1 1 2 (omega arith) (omega arith) first second (raised 8 9) (again row) answered
+shown = shared-bigger 1 1 2 (omega arith) (omega arith) first second (raised 8 9)
+    (again (bitSet 1 1 1 row ∷ emptied ∷ []) (bitSet 5 7 3 row ∷ emptied ∷ []) (again-bit, (same-clear 1, tt))) (answered (bitSet 1 1 1 row ∷ emptied ∷ []) (refl, (refl, tt)))
 
 -- so register 3 of the larger table holds the states with bit 0, as that of the smaller one does
 pub left : bookOf (seen (large .words)) .reg 3 ≡ some (false ∷ true ∷ [])
@@ -329,18 +299,19 @@ unfolding computing
 left = ap (λ (b : Book). b .reg 3) (shown .table .sets ∙ ap (λ (b : Book). withRowCount b 2) (shared-demand 1 1 first .holds))
 
 -- and before the last call, wherever the two lists stood then
-pub each : (c : Cut Lent Step (first .made) (sofar 1 1 1 row) ((clear 1, plain 0) ∷ []) small) (c′ : Cut Lent Step (second .made) (sofar 5 7 3 row) ((clear 1, plain 0) ∷ []) large)
+pub each : (c : Cut Lent Step (first .made) (sofar 1 1 1 row) (emptied ∷ []) small) (c′ : Cut Lent Step (second .made) (sofar 5 7 3 row) (emptied ∷ []) large)
     → SharedVerdicts 1 1 2 1 (plain 0) (sofar 1 1 1 row) (sofar 5 7 3 row) (c .mid) (c′ .mid)
 unfolding first second
-each c c′ = shared-each 1 1 2 (omega arith) (omega arith) (sofar 1 1 1 row) ((clear 1, plain 0) ∷ []) (sofar 5 7 3 row) ((clear 1, plain 0) ∷ []) first second (raised 8 9)
-    (again-sofar row) answered-sofar c c′
+each c c′ = shared-each 1 1 2 (omega arith) (omega arith) (sofar 1 1 1 row) (emptied ∷ []) (sofar 5 7 3 row) (emptied ∷ []) first second (raised 8 9)
+    (again (bitSet 1 1 1 row ∷ []) (bitSet 5 7 3 row ∷ []) (again-bit, tt)) (answered (bitSet 1 1 1 row ∷ []) (refl, tt)) c c′
 
 -- ---- impostors: a larger table that replies y to the set of bit 0
 
 module _ (y : Reply) (end′ : Lent) (u : SharedUpgrade 1 2 (told 5 7 3 y) end′) (loose : Looser (lender 1 1 8) (u .lent .accounts)) where
   same : SharedVerdicts 1 1 2 1 (u .reply) (events 1 1 1) (told 5 7 3 y) small end′
   unfolding first
-  same = shared-bigger 1 1 2 (omega arith) (omega arith) first u loose (again y) answered
+  same = shared-bigger 1 1 2 (omega arith) (omega arith) first u loose
+      (again (bitSet 1 1 1 row ∷ emptied ∷ []) (bitSet 5 7 3 y ∷ emptied ∷ []) (again-bit, (same-clear 1, tt))) (answered (bitSet 1 1 1 row ∷ emptied ∷ []) (refl, (refl, tt)))
 
   -- one that is full, or counts another round or row
   pub same-reply : (y .number ≡ 0) × (y .rounds ≡ 0) × (y .peak ≡ 1)
