@@ -100,14 +100,15 @@ module _ (M : ℕ) where
       let B = withRowCount b M in
       let rows = e .rows in
       let rounds = e .rounds in
-      let step : named acc ≡ named acc → Same (does b (set acc r R bs)) (cond (ltb r registers) (cond (named acc) (passing B (checks B Set bs) (setSteps B acc′ r R′ f)) (refuse B 14)) (refuse B 3)) =
-      λ _. same-test (ltb r registers) _ _ (refuse b 3) (refuse B 3) 2
+      let due : Bool → Done = λ t. cond (ltb r registers) (cond t (passing B (checks B Set bs) (setSteps B acc′ r R′ f)) (refuse B 14)) (refuse B 3) in
+      let fed : Same (does b (set acc r R bs)) (due (named acc)) =
+      same-test (ltb r registers) _ _ (refuse b 3) (refuse B 3) 2
       (same-test (named acc) _ _ (refuse b 14) (refuse B 14) 13
       (same-passing b B (checks b Set bs) (setSteps b acc r R f) (setSteps B acc′ r R′ f)
       (same-ended b B _ _ (λ q. setDone b r (means (modelOf b) noEnv f) q) (λ q. setDone B r (means (modelOf b) noEnv f) q)
       (λ q e. verdict-more (rowsUnder (b .N) acc) (rowsUnder M acc′) (roundsUnder R acc) (roundsUnder R′ acc′) (omega arith) (omega arith) nothing (ticks (modelOf b) noEnv (liveOf b) f) q e) (λ q. refl))) refl) refl z
       in
-      subst (λ (t : Bool). Same (does b (set acc r R bs)) (cond (ltb r registers) (cond t (passing B (checks B Set bs) (setSteps B acc′ r R′ f)) (refuse B 14)) (refuse B 3))) (sym (named-same acc acc′ e)) (step refl)
+      subst (λ (t : Bool). Same (does b (set acc r R bs)) (due t)) (sym (named-same acc acc′ e)) fed
   does-more b l (a-valid bs) z =
       let f = formulaIn b Valid bs in
       let B = withRowCount b M in
@@ -249,9 +250,6 @@ module _ {W : Type 0} {words : W → ℕ} {sound : W → Type 0} {view : W → T
       (raised : AllRaised (calls l) (calls l′)) (zero-all : AllZero l) where
     first : Demand sound view asks n N l w
     first = third-demand I n N s
-
-    book-answers : List Answer
-    book-answers = play (fresh n N) (calls l) .1
 
     answers : AllAnswered (play (fresh n N) (calls l) .1)
     answers = answered-book (play (fresh n N) (calls l) .1) l (first .agree) zero-all

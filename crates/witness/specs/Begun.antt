@@ -1,7 +1,7 @@
 -- A list from fresh on over words of zeros, and what calls leave of a table in which no row is used and V is every state. Assumes nothing.
 use mathlib.Core.Path.{_≡_, refl, ap, _∙_}
 use mathlib.Core.List.{List}
-use Prim.Native.Nat.{ℕ, _+_, _-_, _<_}
+use Prim.Native.Nat.{ℕ, _+_, _<_}
 use native.Mathlib.Omega.{arith}
 use lib.ListN.{set as write}
 use borrow.Author.Tests.{ne-eqb}
@@ -9,7 +9,7 @@ use Rattle.accounts.specs.declared.Terms.{Terms}
 use Rattle.layout.specs.Places.{REGISTERS, RELATIONS, ROWS, USED, VALID, ALL-STATES, FIRST-REGISTER, FIRST-RELATION}
 use Rattle.layout.specs.View.{View, headerOf, view-header}
 use Rattle.soundness.specs.Used.{Sizes}
-use Rattle.book.specs.Book.{Book, Call, relation, set, valid, clear}
+use Rattle.book.specs.Book.{Book, relation, set, valid}
 use Rattle.book.specs.BookOf.{bookOf}
 use Rattle.book.specs.Table.{Reply}
 use Rattle.book.specs.Leaves.{plain}
