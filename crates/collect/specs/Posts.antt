@@ -1,5 +1,5 @@
--- What collecting asks of the words and promises of them, by name: a name with `In` says of words what the name without it says of their view.
--- Assumes nothing.
+-- What collecting asks of the words and promises of them, by name: a name with `In` says of words what the name without it says of their
+-- view. Assumes nothing.
 use mathlib.Core.List.{List, _++_, List·Memᴰ as Mem}
 use Prim.Native.Nat.{ℕ, _≤_, _<_}
 use lib.ListN.{length}

@@ -1,5 +1,5 @@
--- What the counted steps ask of the words and promise of them, by name: a name with `In` says of words what the name without it says of their
--- view. Assumes nothing.
+-- What the counted steps ask of the words and promise of them, by name: a name with `In` says of words what the name without it says of
+-- their view. Assumes nothing.
 use mathlib.Core.Path.{_≡_}
 use mathlib.Core.List.{List, _++_}
 use Prim.Native.Nat.{ℕ}
@@ -28,7 +28,8 @@ LiveReaches rows words roots more number = Reaches (rowsOf (view rows words)) (l
 
 -- a step can be taken, and the counts are of the table
 abbrev pub TakePre : (levels rows limit : ℕ) (words counts roots : List ℕ) (step : Step) → Type 0
-TakePre levels rows limit words counts roots step = StepPre levels rows limit (view rows words) roots step × CountsOf (view rows words) counts
+TakePre levels rows limit words counts roots step =
+    StepPre levels rows limit (view rows words) roots step × CountsOf (view rows words) counts
 
 -- the answer of a step, and the counts are of the table after it
 abbrev pub StepCountedIn : (levels rows limit : ℕ) (before after roots counts : List ℕ) (step : Step) (made : Made) → Type 0

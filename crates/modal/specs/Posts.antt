@@ -1,5 +1,5 @@
--- What diamond and box ask of the words and promise of them, by name. Each is a record or a promise over the view, and that the counts are right.
--- Assumes nothing.
+-- What diamond and box ask of the words and promise of them, by name. Each is a record or a promise over the view, and that the counts are
+-- right. Assumes nothing.
 use mathlib.Core.List.{List}
 use Prim.Native.Nat.{ℕ}
 use Rattle.accounts.specs.declared.Count.{Count}

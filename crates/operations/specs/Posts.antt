@@ -1,5 +1,5 @@
--- What the operations ask of the words and promise of them, by name. `before` and `after` are the lists of words at a call and at its return.
--- Assumes nothing.
+-- What the operations ask of the words and promise of them, by name. `before` and `after` are the lists of words at a call and at its
+-- return. Assumes nothing.
 use mathlib.Core.Path.{_≡_}
 use mathlib.Core.Bool.{true, false}
 use Prim.Native.Nat.{ℕ, _<_, min}
@@ -51,7 +51,8 @@ ShiftPre levels rows limit words a =
 -- on such an arrow to a row, without a NOT
 abbrev pub ShiftRowPre : (levels rows limit : ℕ) (words : List ℕ) (a : ℕ) → Type 0
 ShiftRowPre levels rows limit words a =
-    Ready levels rows limit (view rows words) × Arrow (rowsIn rows words) a × ReadsOn even (denIn levels rows words a) × (isRow a ≡ true) × (isMarked a ≡ false)
+    Ready levels rows limit (view rows words) × Arrow (rowsIn rows words) a × ReadsOn even (denIn levels rows words a) × (isRow a ≡ true)
+    × (isMarked a ≡ false)
 
 -- EXISTS: on an arrow, at one level x
 abbrev pub LevelPre : (levels rows limit : ℕ) (words : List ℕ) (x a : ℕ) → Type 0
@@ -66,7 +67,8 @@ LevelRowPre levels rows limit words x a =
 abbrev pub KnownOf : (op : Fn → Fn) (levels rows : ℕ) (words : List ℕ) (a : ℕ) (found : Found) (R : Type 0) → Type 0
 KnownOf op levels rows words a found R = Known levels (view rows words) found (op (denIn levels rows words a)) R
 
--- the answer r is an arrow for F within the limit, or FULL; rows were only added
+-- `Worked` of the words: r is an arrow for F, or FULL where the rows within the limit ran out; rows were only added, and nothing else is
+-- touched
 abbrev pub FnPost : (levels rows limit : ℕ) (before after : List ℕ) (r : ℕ) (F : Fn) → Type 0
 FnPost levels rows limit before after r F = Worked levels rows limit (view rows before) (view rows after) (madeOf r) F
 
@@ -81,7 +83,8 @@ TwoPost op levels rows limit before after a b r =
 
 -- the parts of a row are joined: by OR at an odd level, by a row at an even one
 abbrev pub JoinedPost : (levels rows limit : ℕ) (before after : List ℕ) (level low high r : ℕ) → Type 0
-JoinedPost levels rows limit before after level low high r = JoinPost levels rows limit (view rows before) (view rows after) level low high (madeOf r)
+JoinedPost levels rows limit before after level low high r =
+    JoinPost levels rows limit (view rows before) (view rows after) level low high (madeOf r)
 
 -- the lesser level of two arrows to rows
 abbrev pub topLevel : (rows : ℕ) (words : List ℕ) (lo hi : ℕ) → ℕ

@@ -1,5 +1,5 @@
--- What the checks ask of the words and promise of them, by name: a name with `In` says of words what the name without it says of their view.
--- Assumes nothing.
+-- What the checks ask of the words and promise of them, by name: a name with `In` says of words what the name without it says of their
+-- view. Assumes nothing.
 use mathlib.Core.Path.{_≡_}
 use mathlib.Core.List.{List}
 use mathlib.Core.Bool.{Bool, true}
@@ -43,12 +43,14 @@ TabledIn rows words base shift up i cells = Tabled (2 * view rows words .header 
 -- two arrows to rows of a good table
 abbrev pub SplitPre : (rows : ℕ) (words : List ℕ) (shift a b : ℕ) → Type 0
 SplitPre rows words shift a b =
-    Good (view rows words) × (shift ≤ 1) × Arrow (rowsOf (view rows words)) a × Arrow (rowsOf (view rows words)) b × (isRow a ≡ true) × (isRow b ≡ true)
+    Good (view rows words) × (shift ≤ 1) × Arrow (rowsOf (view rows words)) a × Arrow (rowsOf (view rows words)) b × (isRow a ≡ true)
+    × (isRow b ≡ true)
 
 -- whether two arrows have no valuation in common, and what is remembered stays right
 abbrev pub ApartTold : (rows : ℕ) (words : List ℕ) (shift base a b : ℕ) (memo first second : List ℕ) (said : Bool) → Type 0
 ApartTold rows words shift base a b memo first second said =
-    Tells (view rows words) shift base memo first second (Apart (2 * view rows words .header BITS) (rowsOf (view rows words)) shift a b) said
+    Tells (view rows words) shift base memo first second (Apart (2 * view rows words .header BITS) (rowsOf (view rows words)) shift a b)
+    said
 
 -- a root and an arrow can be held against each other
 abbrev pub RefApartPre : (rows : ℕ) (words : List ℕ) (shift base r b : ℕ) (memo first second : List ℕ) → Type 0
