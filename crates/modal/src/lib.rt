@@ -5,7 +5,8 @@ use counting::take;
 use stages::rest;
 use steps::Step;
 use table::Found;
-ghost use Rattle.modal.specs.Posts.{QuantifyAsks, QuantifyGives, DiamondAsks, DiamondGives, ComplementAsks, ComplementGives, BoxAsks, BoxGives};
+ghost use Rattle.modal.specs.Posts.{QuantifyAsks, QuantifyGives, DiamondAsks, DiamondGives, ComplementAsks, ComplementGives, BoxAsks};
+ghost use Rattle.modal.specs.Posts.{BoxGives};
 
 // The sizes of a table and what an evaluation may use of it: state bits, rows, the row limit and the rounds.
 pub struct Limits {

@@ -29,7 +29,8 @@ ghost use Rattle.operations.specs.Open.{RowIs, ReachesLevel};
 ghost use Rattle.operations.specs.Odd.{OddKnown, OddPost, JoinPre};
 ghost use Rattle.operations.specs.Carried.{CarriedMade, carriedFound};
 ghost use Rattle.operations.specs.Pairs.{shortOf, KnownPost, BothRows};
-ghost use Rattle.operations.specs.Posts.{rowsIn, ArrowPre, RowPre, PairPre, PairRowsPre, ShiftPre, ShiftRowPre, LevelPre, LevelRowPre, KnownOf, FnPost, OnePost, TwoPost, JoinedPost, topLevel, HalvesAt};
+ghost use Rattle.operations.specs.Posts.{rowsIn, ArrowPre, RowPre, PairPre, PairRowsPre, ShiftPre, ShiftRowPre, LevelPre};
+ghost use Rattle.operations.specs.Posts.{LevelRowPre, KnownOf, FnPost, OnePost, TwoPost, JoinedPost, topLevel, HalvesAt};
 
 // A row's level, and the arrows that are followed from an arrow to it.
 pub struct Node {
