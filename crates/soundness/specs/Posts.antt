@@ -10,7 +10,7 @@ use Rattle.layout.specs.Places.{BITS, ROWS, LAYOUT, CURRENT}
 use Rattle.layout.specs.View.{view, headerOf}
 use Rattle.layout.specs.Arrows.{isRow}
 use Rattle.soundness.specs.Used.{Sizes, rowsOf}
-use Rattle.soundness.specs.Roots.{Ref, MarksAll, Held}
+use Rattle.soundness.specs.Roots.{Ref}
 use Rattle.soundness.specs.Sound.{Good}
 use Rattle.soundness.specs.Apart.{Apart}
 use Rattle.soundness.specs.Cells.{Tabled}
@@ -19,14 +19,6 @@ use Rattle.soundness.specs.Contained.{RefApart, Asks, Against, Tells}
 -- every root word of a range is empty or an arrow
 abbrev pub RefsIn : (rows : ℕ) (words : List ℕ) (start end : ℕ) → Type 0
 RefsIn rows words start end = (h : ℕ) → start ≤ h → h < end → Ref (rowsOf (view rows words)) (headerOf words h)
-
--- what is reached from the arrows of S is marked beside what was marked before
-abbrev pub MarksIn : (rows : ℕ) (words before after : List ℕ) (S : ℕ → Type 0) → Type 0
-MarksIn rows words before after S = MarksAll (rowsOf (view rows words)) before after S
-
--- from the root words of a range
-abbrev pub MarksHeld : (rows : ℕ) (words before after : List ℕ) (start end : ℕ) → Type 0
-MarksHeld rows words before after start end = MarksIn rows words before after (Held (view rows words) start end)
 
 -- the sizes in the header are those of a table, and the words have room for it
 abbrev pub SizesIn : (words : List ℕ) → Type 0

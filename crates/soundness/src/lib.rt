@@ -26,12 +26,12 @@ ghost use Rattle.soundness.specs.Used.{Sizes, used, rowsOf, Ranked};
 ghost use Rattle.soundness.specs.Index.{bucket, keyOf, live, Has, Hit, Down, Link};
 ghost use Rattle.soundness.specs.Bits.{MARK-WORDS, isOn, Sets};
 ghost use Rattle.soundness.specs.Mark.{Marks, MarkPre};
-ghost use Rattle.soundness.specs.Roots.{Ref, MarksAll, RefPre, RefsPre};
+ghost use Rattle.soundness.specs.Roots.{Ref, MarksAll, RefPre, RefsPre, MarksHeld};
 ghost use Rattle.soundness.specs.Says.{Says, WalkSays};
 ghost use Rattle.soundness.specs.Triples.{Ready};
 ghost use Rattle.soundness.specs.Checks.{Room, Placed, Leads, RowGood, Finds, Links, EvenMarked};
 ghost use Rattle.soundness.specs.Sound.{Good, EvenSets, Sound, tableOf};
-ghost use Rattle.soundness.specs.Posts.{RefsIn, MarksHeld, SizesIn, LaidPre};
+ghost use Rattle.soundness.specs.Posts.{RefsIn, SizesIn, LaidPre};
 
 // A bitmap with a mark of each row.
 pub struct Bitmap;
