@@ -29,6 +29,10 @@ use Rattle.calls.specs.declared.Started.the-variants as started
 
 -- ---- set
 
+-- `set` under these terms: the words and the reply are those of the call
+abbrev pub SetPost : (terms : Terms) (r R : ℕ) (bs old new : List ℕ) (reply : Reply) → Type 0
+SetPost terms r R bs old new reply = CallPost (set terms r R bs) old new reply
+
 -- the rounds of an answered set, 0 of a refused one
 abbrev pub roundsOf : Stored → ℕ
 roundsOf (stored.Node a q p) = q
