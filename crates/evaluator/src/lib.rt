@@ -1,4 +1,4 @@
-// The evaluation of a set's formula from its bytes, over the words of a table.
+// The evaluation of a call's formula from its bytes, over the words of a table: of a set's, a relation's or that of valid.
 use accounts::Count;
 use counting::Counts;
 use counting::Taken;
@@ -12,7 +12,6 @@ use layout::header_word;
 use memory::forget;
 use modal::Limits;
 use modal::boxed;
-use modal::complement;
 use modal::diamond;
 use steps::Step;
 use tokens::Fix;
@@ -24,18 +23,19 @@ use tokens::Mode;
 use tokens::Token;
 use tokens::Two;
 use tokens::lead_at;
+use tokens::only_now;
 ghost use mathlib.Core.Path.{_≡_};
 ghost use Prim.Native.Nat.{_+_, _<_, _≤_};
 ghost use lib.ListN.{length, getD, set};
-ghost use Rattle.layout.specs.Places.{HEADER};
+ghost use Rattle.layout.specs.Places.{HEADER, VALID};
 ghost use Rattle.layout.specs.View.{view, headerOf};
 ghost use Rattle.accounts.specs.Count.{another};
 ghost use Rattle.counting.specs.Counts.{CountsOf};
 ghost use Rattle.counting.specs.declared.Taken.the-variants.{At};
 ghost use Rattle.book.specs.Turns.{startArrow};
 ghost use Rattle.modal.specs.Modal.{ModalPre};
-ghost use Rattle.evaluator.specs.Whole.{SetPre, SetPost};
-ghost use Rattle.evaluator.specs.Scene.{stackSize, fromTaken, bodyOf, roundOf, isLeast, fixOf, variableOf, joinStep, OverPost, LivePre, LivePost, JoinedPre, JoinedPost, BitPre, BitPost, LeafPre, LeafPost, EvalPre, EvalPost, NegatePost, BothPre, BothPost, ModePre, ModePost, BindPre, BindPost, ReachPre, ReachPost, FurtherPre, FurtherPost, EveryPost, KeepPre, KeepPost, RoundPre, RoundPost, TurnPre, TurnPost, UntilPost};
+ghost use Rattle.evaluator.specs.Whole.{start, SetPre, SetPost, WithinPre, WithinPost, PairsPre, PairsPost, RelationPost};
+ghost use Rattle.evaluator.specs.Scene.{stackSize, fromTaken, bodyOf, roundOf, isLeast, fixOf, variableOf, joinStep, OverPost, LivePre, LivePost, JoinedPre, JoinedPost, ConfinedPre, ConfinedPost, TrueIs, LeafPre, LeafPost, EvalPre, EvalPost, NegatePost, BothPre, BothPost, ModePre, ModePost, BindPre, BindPost, ReachPre, ReachPost, FurtherPre, FurtherPost, EveryPost, KeepPre, KeepPost, RoundPre, RoundPost, TurnPre, TurnPost, UntilPost};
 
 // What an evaluation answers: the arrow of the set, the place after the formula and what is counted; or why there is none.
 pub enum Evaluated {
@@ -248,36 +248,42 @@ fn joined(
     answer(taken, end)
 }
 
-// The states of V in which current bit p holds: the step of the bit, and AND with V.
-fn current_bit(
+// A step's result, and for a formula of states AND with V. Pairs are of all states.
+fn confined(
     words: &mut [u32],
     counts: &mut [u32],
     stack: &[u32],
     limits: Limits,
+    grammar: Grammar,
     held: usize,
-    p: u32,
-    count: Count,
+    first: Taken,
 ) -> Taken
-    requires { ⌜ BitPre limits (view (limits .rows) (now words)) (now stack) held p × CountsOf (view (limits .rows) (now words)) (now counts) ⌝ }
-    ensures { λ r. ⌜ BitPost limits (view (limits .rows) (now (words .entry))) (view (limits .rows) (now (words .exit))) (now (stack .entry)) held p count r × CountsOf (view (limits .rows) (now (words .exit))) (now (counts .exit)) ⌝ }
+    requires { ⌜ ConfinedPre limits (view (limits .rows) (now words)) (now stack) held first × CountsOf (view (limits .rows) (now words)) (now counts) ⌝ }
+    ensures { λ r. ⌜ ConfinedPost grammar limits (view (limits .rows) (now (words .entry))) (view (limits .rows) (now (words .exit))) (now (stack .entry)) held first r × CountsOf (view (limits .rows) (now (words .exit))) (now (counts .exit)) ⌝ }
 {
     let Taken::At {
         arrow: b,
-        count: first,
-    } = live_step(words, counts, stack, limits, held, Step::Bit(2 * p), count)
+        count: counted,
+    } = first
     else {
-        return Taken::Full;
+        return first;
     };
-    let valid = root_arrow(words, Table::VALID);
-    live_step(
-        words,
-        counts,
-        stack,
-        limits,
-        held,
-        Step::And(b, valid),
-        first,
-    )
+    if only_now(grammar) {
+        let valid = root_arrow(words, Table::VALID);
+        return live_step(words, counts, stack, limits, held, Step::And(b, valid), counted);
+    }
+    first
+}
+
+// True: V for a formula of states, all pairs for one of pairs.
+fn truth(words: &[u32], grammar: Grammar) -> u32
+    requires { ⌜ (VALID < HEADER) × (HEADER ≤ length (now words)) × (0 < headerOf (now words) VALID) ⌝ }
+    ensures { λ r. ⌜ TrueIs grammar (headerOf (now (words .entry)) VALID) r ⌝ }
+{
+    if only_now(grammar) {
+        return root_arrow(words, Table::VALID);
+    }
+    Table::EVERYTHING
 }
 
 // An arrow that takes no step.
@@ -290,27 +296,31 @@ pub fn unmoved(a: u32, count: Count) -> Taken
     }
 }
 
-// A leaf: constants, registers and variables take no step, true is V; a current bit is two. A set's formula has no next bit.
+// A leaf: constants, registers and variables take no step; a bit is one, and for a formula of states AND with V another.
 fn leaf(
     words: &mut [u32],
     counts: &mut [u32],
     stack: &[u32],
     limits: Limits,
     here: Context,
+    grammar: Grammar,
     l: Leaf,
 ) -> Taken
-    requires { ⌜ LeafPre limits (view (limits .rows) (now words)) (now stack) here l × CountsOf (view (limits .rows) (now words)) (now counts) ⌝ }
-    ensures { λ r. ⌜ LeafPost limits (view (limits .rows) (now (words .entry))) (view (limits .rows) (now (words .exit))) (now (stack .entry)) here l r × CountsOf (view (limits .rows) (now (words .exit))) (now (counts .exit)) ⌝ }
+    requires { ⌜ LeafPre grammar limits (view (limits .rows) (now words)) (now stack) here l × CountsOf (view (limits .rows) (now words)) (now counts) ⌝ }
+    ensures { λ r. ⌜ LeafPost grammar limits (view (limits .rows) (now (words .entry))) (view (limits .rows) (now (words .exit))) (now (stack .entry)) here l r × CountsOf (view (limits .rows) (now (words .exit))) (now (counts .exit)) ⌝ }
 {
     let count = here.count;
+    let held = here.held;
     match l {
         Leaf::False => unmoved(Table::NOTHING, count),
-        Leaf::True => unmoved(root_arrow(words, Table::VALID), count),
+        Leaf::True => unmoved(truth(words, grammar), count),
         Leaf::Now(p) => {
-            let held = here.held;
-            current_bit(words, counts, stack, limits, held, p, count)
+            let bit = live_step(words, counts, stack, limits, held, Step::Bit(2 * p), count);
+            confined(words, counts, stack, limits, grammar, held, bit)
         }
-        Leaf::Next(_) => unmoved(Table::NOTHING, count),
+        Leaf::Next(p) => {
+            live_step(words, counts, stack, limits, held, Step::Bit(2 * p + 1), count)
+        }
         Leaf::Var(p) => {
             let places = here.places;
             unmoved(variable(stack, places, p), count)
@@ -441,7 +451,7 @@ fn until_body(bytes: &[u8], limits: Limits, here: Context, m: Mode, t: u32) -> B
     Body::Until(m, t, middle)
 }
 
-// Evaluates the formula at the context's place, of depth at most its depth.
+// Evaluates the formula at the context's place, of depth at most its depth: one of pairs, or of states and runs.
 fn eval(
     words: &mut [u32],
     counts: &mut [u32],
@@ -449,11 +459,12 @@ fn eval(
     bytes: &[u8],
     limits: Limits,
     here: Context,
+    grammar: Grammar,
 ) -> Evaluated
-    requires { ⌜ EvalPre limits (view (limits .rows) (now words)) (now stack) (now bytes) here × CountsOf (view (limits .rows) (now words)) (now counts) ⌝ }
-    ensures { λ r. ⌜ EvalPost limits (view (limits .rows) (now (words .entry))) (view (limits .rows) (now (words .exit))) (now (stack .entry)) (now (stack .exit)) (now (bytes .entry)) here r × CountsOf (view (limits .rows) (now (words .exit))) (now (counts .exit)) ⌝ }
+    requires { ⌜ EvalPre grammar limits (view (limits .rows) (now words)) (now stack) (now bytes) here × CountsOf (view (limits .rows) (now words)) (now counts) ⌝ }
+    ensures { λ r. ⌜ EvalPost grammar limits (view (limits .rows) (now (words .entry))) (view (limits .rows) (now (words .exit))) (now (stack .entry)) (now (stack .exit)) (now (bytes .entry)) here r × CountsOf (view (limits .rows) (now (words .exit))) (now (counts .exit)) ⌝ }
 {
-    let Lead::Is(t) = lead_at(bytes, limits.bits, Grammar::Runs, here.at) else {
+    let Lead::Is(t) = lead_at(bytes, limits.bits, grammar, here.at) else {
         return Evaluated::Full;
     };
     let mut part = here;
@@ -461,11 +472,14 @@ fn eval(
     part.depth = here.depth - 1;
     let body = match t {
         Token::Leaf(l) => {
-            return answer(leaf(words, counts, stack, limits, here, l), part.at);
+            return answer(
+                leaf(words, counts, stack, limits, here, grammar, l),
+                part.at,
+            );
         }
-        Token::Not => return negate(words, counts, stack, bytes, limits, part),
+        Token::Not => return negate(words, counts, stack, bytes, limits, part, grammar),
         Token::Both(w) => match w {
-            Two::Join(j) => return both(words, counts, stack, bytes, limits, part, j),
+            Two::Join(j) => return both(words, counts, stack, bytes, limits, part, grammar, j),
             Two::Until(m, t) => until_body(bytes, limits, part, m, t),
         },
         Token::Modal(m, t) => return modal(words, counts, stack, bytes, limits, part, m, t),
@@ -474,7 +488,7 @@ fn eval(
     bind(words, counts, stack, bytes, limits, part, body)
 }
 
-// Evaluates the formula at the context's place, and takes the steps of NOT within V.
+// Evaluates the formula at the context's place, and takes the step NOT, for a formula of states within V.
 fn negate(
     words: &mut [u32],
     counts: &mut [u32],
@@ -482,11 +496,12 @@ fn negate(
     bytes: &[u8],
     limits: Limits,
     here: Context,
+    grammar: Grammar,
 ) -> Evaluated
-    requires { ⌜ EvalPre limits (view (limits .rows) (now words)) (now stack) (now bytes) here × CountsOf (view (limits .rows) (now words)) (now counts) ⌝ }
-    ensures { λ r. ⌜ NegatePost limits (view (limits .rows) (now (words .entry))) (view (limits .rows) (now (words .exit))) (now (stack .entry)) (now (stack .exit)) (now (bytes .entry)) here r × CountsOf (view (limits .rows) (now (words .exit))) (now (counts .exit)) ⌝ }
+    requires { ⌜ EvalPre grammar limits (view (limits .rows) (now words)) (now stack) (now bytes) here × CountsOf (view (limits .rows) (now words)) (now counts) ⌝ }
+    ensures { λ r. ⌜ NegatePost grammar limits (view (limits .rows) (now (words .entry))) (view (limits .rows) (now (words .exit))) (now (stack .entry)) (now (stack .exit)) (now (bytes .entry)) here r × CountsOf (view (limits .rows) (now (words .exit))) (now (counts .exit)) ⌝ }
 {
-    let part = eval(words, counts, stack, bytes, limits, here);
+    let part = eval(words, counts, stack, bytes, limits, here, grammar);
     let Evaluated::Value {
         arrow: a,
         next: end,
@@ -496,8 +511,8 @@ fn negate(
         return part;
     };
     let held = here.held;
-    let valid = root_arrow(words, Table::VALID);
-    let taken = complement(words, counts, limits, &stack[..held], valid, a, counted);
+    let inverse = live_step(words, counts, stack, limits, held, Step::Not(a), counted);
+    let taken = confined(words, counts, stack, limits, grammar, held, inverse);
     answer(taken, end)
 }
 
@@ -509,12 +524,13 @@ fn both(
     bytes: &[u8],
     limits: Limits,
     here: Context,
+    grammar: Grammar,
     j: Join,
 ) -> Evaluated
-    requires { ⌜ BothPre limits (view (limits .rows) (now words)) (now stack) (now bytes) here × CountsOf (view (limits .rows) (now words)) (now counts) ⌝ }
-    ensures { λ r. ⌜ BothPost limits (view (limits .rows) (now (words .entry))) (view (limits .rows) (now (words .exit))) (now (stack .entry)) (now (stack .exit)) (now (bytes .entry)) here j r × CountsOf (view (limits .rows) (now (words .exit))) (now (counts .exit)) ⌝ }
+    requires { ⌜ BothPre grammar limits (view (limits .rows) (now words)) (now stack) (now bytes) here × CountsOf (view (limits .rows) (now words)) (now counts) ⌝ }
+    ensures { λ r. ⌜ BothPost grammar limits (view (limits .rows) (now (words .entry))) (view (limits .rows) (now (words .exit))) (now (stack .entry)) (now (stack .exit)) (now (bytes .entry)) here j r × CountsOf (view (limits .rows) (now (words .exit))) (now (counts .exit)) ⌝ }
 {
-    let first = eval(words, counts, stack, bytes, limits, here);
+    let first = eval(words, counts, stack, bytes, limits, here, grammar);
     let Evaluated::Value {
         arrow: a,
         next: middle,
@@ -526,7 +542,7 @@ fn both(
     let held = here.held;
     stack[held] = a;
     let rest = onward(here, middle, counted);
-    let second = eval(words, counts, stack, bytes, limits, rest);
+    let second = eval(words, counts, stack, bytes, limits, rest, grammar);
     joined(words, counts, stack, limits, held, j, a, second)
 }
 
@@ -544,7 +560,7 @@ fn modal(
     requires { ⌜ ModePre limits (view (limits .rows) (now words)) (now stack) (now bytes) here t × CountsOf (view (limits .rows) (now words)) (now counts) ⌝ }
     ensures { λ r. ⌜ ModePost limits (view (limits .rows) (now (words .entry))) (view (limits .rows) (now (words .exit))) (now (stack .entry)) (now (stack .exit)) (now (bytes .entry)) here m t r × CountsOf (view (limits .rows) (now (words .exit))) (now (counts .exit)) ⌝ }
 {
-    let part = eval(words, counts, stack, bytes, limits, here);
+    let part = eval(words, counts, stack, bytes, limits, here, Grammar::Runs);
     let Evaluated::Value {
         arrow: a,
         next: end,
@@ -621,7 +637,9 @@ fn turn(
     ensures { λ r. ⌜ TurnPost limits (view (limits .rows) (now (words .entry))) (view (limits .rows) (now (words .exit))) (now (stack .entry)) (now (stack .exit)) (now (bytes .entry)) here body x r × CountsOf (view (limits .rows) (now (words .exit))) (now (counts .exit)) ⌝ }
 {
     match body {
-        Body::Binder(_, _) => eval(words, counts, stack, bytes, limits, here),
+        Body::Binder(_, _) => {
+            eval(words, counts, stack, bytes, limits, here, Grammar::Runs)
+        }
         Body::Until(m, t, middle) => round(
             words,
             counts,
@@ -654,7 +672,7 @@ fn keep(
     requires { ⌜ KeepPre limits (view (limits .rows) (now words)) (now stack) (now bytes) here t x × CountsOf (view (limits .rows) (now words)) (now counts) ⌝ }
     ensures { λ r. ⌜ KeepPost limits (view (limits .rows) (now (words .entry))) (view (limits .rows) (now (words .exit))) (now (stack .entry)) (now (stack .exit)) (now (bytes .entry)) here m t x end r × CountsOf (view (limits .rows) (now (words .exit))) (now (counts .exit)) ⌝ }
 {
-    let first = eval(words, counts, stack, bytes, limits, here);
+    let first = eval(words, counts, stack, bytes, limits, here, Grammar::Runs);
     let Evaluated::Value {
         arrow: a,
         next: _,
@@ -689,7 +707,7 @@ fn round(
 {
     let mut goal = here;
     goal.at = middle;
-    let first = eval(words, counts, stack, bytes, limits, goal);
+    let first = eval(words, counts, stack, bytes, limits, goal, Grammar::Runs);
     let Evaluated::Value {
         arrow: a,
         next: end,
@@ -705,6 +723,51 @@ fn round(
     joined(words, counts, stack, limits, held, Join::Or, a, second)
 }
 
+// The pairs of an arrow within V: AND with V, SHIFT of V, AND with that.
+fn within(
+    words: &mut [u32],
+    counts: &mut [u32],
+    stack: &mut [u32],
+    limits: Limits,
+    a: u32,
+    count: Count,
+) -> Taken
+    requires { ⌜ WithinPre limits (view (limits .rows) (now words)) (now stack) a × CountsOf (view (limits .rows) (now words)) (now counts) ⌝ }
+    ensures { λ r. ⌜ WithinPost limits (view (limits .rows) (now (words .entry))) (view (limits .rows) (now (words .exit))) (now (stack .entry)) a count r × CountsOf (view (limits .rows) (now (words .exit))) (now (counts .exit)) ⌝ }
+{
+    let valid = root_arrow(words, Table::VALID);
+    let Taken::At {
+        arrow: b,
+        count: first,
+    } = live_step(words, counts, stack, limits, 0, Step::And(a, valid), count)
+    else {
+        return Taken::Full;
+    };
+    stack[0] = b;
+    let Taken::At {
+        arrow: c,
+        count: second,
+    } = live_step(words, counts, stack, limits, 1, Step::Shift(valid), first)
+    else {
+        return Taken::Full;
+    };
+    live_step(words, counts, stack, limits, 0, Step::And(b, c), second)
+}
+
+// The context at a formula's start.
+fn starting() -> Context
+    ensures { λ r. ⌜ r ≡ start ⌝ }
+{
+    let places = [0u8; Grammar::VARIABLES];
+    Context {
+        at: Frame::START,
+        depth: Table::DEPTH,
+        held: 0,
+        places: places,
+        count: Count { rounds: 0, peak: 0 },
+    }
+}
+
 // Evaluates the set's formula in `bytes`, which has passed the checks, with nothing remembered before.
 pub fn evaluate_set(words: &mut [u32], limits: Limits, bytes: &[u8]) -> Evaluated
     requires { ⌜ SetPre limits (view (limits .rows) (now words)) (now bytes) ⌝ }
@@ -714,13 +777,48 @@ pub fn evaluate_set(words: &mut [u32], limits: Limits, bytes: &[u8]) -> Evaluate
     let mut counts = [0u32; Counts::WORDS];
     begin(words, limits.rows, &mut counts);
     let mut stack = [0u32; Stack::WORDS];
-    let places = [0u8; Grammar::VARIABLES];
-    let start = Context {
-        at: Frame::START,
-        depth: Table::DEPTH,
-        held: 0,
-        places: places,
-        count: Count { rounds: 0, peak: 0 },
+    let start = starting();
+    eval(words, &mut counts, &mut stack, bytes, limits, start, Grammar::Runs)
+}
+
+// Evaluates the formula of a relation or of valid in `bytes`, which has passed the checks, over all states, with nothing remembered before.
+pub fn evaluate_pairs(words: &mut [u32], limits: Limits, bytes: &[u8]) -> Taken
+    requires { ⌜ PairsPre limits (view (limits .rows) (now words)) (now bytes) ⌝ }
+    ensures { λ r. ⌜ PairsPost limits (view (limits .rows) (now (words .entry))) (view (limits .rows) (now (words .exit))) (now (bytes .entry)) r ⌝ }
+{
+    forget(words, limits.rows);
+    let mut counts = [0u32; Counts::WORDS];
+    begin(words, limits.rows, &mut counts);
+    let mut stack = [0u32; Stack::WORDS];
+    let start = starting();
+    let Evaluated::Value {
+        arrow: a,
+        next: _,
+        count: c,
+    } = eval(words, &mut counts, &mut stack, bytes, limits, start, Grammar::Pairs)
+    else {
+        return Taken::Full;
     };
-    eval(words, &mut counts, &mut stack, bytes, limits, start)
+    unmoved(a, c)
+}
+
+// Evaluates a relation's formula in `bytes`, which has passed the checks, within V, with nothing remembered before.
+pub fn evaluate_relation(words: &mut [u32], limits: Limits, bytes: &[u8]) -> Taken
+    requires { ⌜ PairsPre limits (view (limits .rows) (now words)) (now bytes) ⌝ }
+    ensures { λ r. ⌜ RelationPost limits (view (limits .rows) (now (words .entry))) (view (limits .rows) (now (words .exit))) (now (bytes .entry)) r ⌝ }
+{
+    forget(words, limits.rows);
+    let mut counts = [0u32; Counts::WORDS];
+    begin(words, limits.rows, &mut counts);
+    let mut stack = [0u32; Stack::WORDS];
+    let start = starting();
+    let Evaluated::Value {
+        arrow: a,
+        next: _,
+        count: c,
+    } = eval(words, &mut counts, &mut stack, bytes, limits, start, Grammar::Pairs)
+    else {
+        return Taken::Full;
+    };
+    within(words, &mut counts, &mut stack, limits, a, c)
 }
