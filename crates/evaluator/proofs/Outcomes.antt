@@ -107,8 +107,8 @@ pub join-exact : (n : ℕ) (j : Join) (A B : List Bool) → fnOf n (joinOp j (2 
 join-exact n And A B = fnOf-and n A B
 join-exact n Or A B = fnOf-or n A B
 
-pub run-join : (m : Model) (N R : ℕ) (e : Env) (live : List Fn) (j : Join) (f g : Form) (r : Count) → run m N R e live (joinForm j f g) r
-    ≡ andThen (run m N R e live f r) (λ A q. andThen (run m N R e (fnOf (m .n) A ∷ live) g q) (λ B p. twoStep (m .n) N live (joinOp j (size m)) A B p))
+pub run-join : (m : Model) (N R : ℕ) (e : Env) (live : List Fn) (j : Join) (f g : Form) (r : Count) → run (states m e) N R live (joinForm j f g) r
+    ≡ andThen (run (states m e) N R live f r) (λ A q. andThen (run (states m e) N R (fnOf (m .n) A ∷ live) g q) (λ B p. twoStep (m .n) N live (joinOp j (size m)) A B p))
 run-join m N R e live And f g r = refl
 run-join m N R e live Or f g r = refl
 
@@ -117,13 +117,13 @@ abbrev pub overSteps : Mode → ℕ → ℕ → List Fn → List Bool → Pairs 
 overSteps All n N live E R A q = boxSteps n N live E R A q
 overSteps Some n N live E R A q = diaSteps n N live R A q
 
-pub run-modal : (m : Model) (N R : ℕ) (e : Env) (live : List Fn) (o : Mode) (t : ℕ) (f : Form) (r : Count) → run m N R e live (modalForm o t f) r
-    ≡ andThen (run m N R e live f r) (λ A q. overSteps o (m .n) N live (exist m) (related m t) A q)
+pub run-modal : (m : Model) (N R : ℕ) (e : Env) (live : List Fn) (o : Mode) (t : ℕ) (f : Form) (r : Count) → run (states m e) N R live (modalForm o t f) r
+    ≡ andThen (run (states m e) N R live f r) (λ A q. overSteps o (m .n) N live (exist m) (related m t) A q)
 run-modal m N R e live All t f r = refl
 run-modal m N R e live Some t f r = refl
 
-pub run-binder : (m : Model) (N R : ℕ) (e : Env) (live : List Fn) (x : Fix) (P : ℕ) (f : Form) (r : Count) → run m N R e live (binderForm x P f) r
-    ≡ loop R (λ A q. run m N R (put e P A) (fnOf (m .n) A ∷ live) f q) R (start (isLeast x) (size m) (exist m)) r
+pub run-binder : (m : Model) (N R : ℕ) (e : Env) (live : List Fn) (x : Fix) (P : ℕ) (f : Form) (r : Count) → run (states m e) N R live (binderForm x P f) r
+    ≡ loop R (λ A q. run (states m (put e P A)) N R (fnOf (m .n) A ∷ live) f q) R (start (isLeast x) (size m) (exist m)) r
 run-binder m N R e live Mu P f r = refl
 run-binder m N R e live Nu P f r = refl
 

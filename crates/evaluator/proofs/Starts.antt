@@ -196,11 +196,11 @@ module _ {L : Limits} {W : View} {bs : List ℕ} (p : SetPre L W bs) where
     set-ends {Y} {after} {r} E =
         let A = E .answers (sceneIn W) whole (length bs) (start-scene L (p .sound) (p .bits) (p .rows) (p .limit) f) whole-part in
         let v0 = A .evals in
-        let v1 = subst (λ (t : Rows). Evals (L .bits) (L .rows) t (rowsOf Y) (rootsOf (seenIn W)) (run (modelIn (L .bits) (sceneIn W)) (L .limit) (L .rounds) noEnv (liveOf (bookIn W)) whole nothing) (endedOf r)) (rows-same (f .frame)) v0 in
-        let v2 = subst (λ (N : ℕ). Evals (L .bits) N (rowsOf W) (rowsOf Y) (rootsOf (seenIn W)) (run (modelIn (L .bits) (sceneIn W)) (L .limit) (L .rounds) noEnv (liveOf (bookIn W)) whole nothing) (endedOf r)) (p .rows) v1 in
-        let v3 = subst (λ (n : ℕ). Evals n (W .rows) (rowsOf W) (rowsOf Y) (rootsOf (seenIn W)) (run (modelIn n (sceneIn W)) (L .limit) (L .rounds) noEnv (liveOf (bookIn W)) whole nothing) (endedOf r)) (p .bits) v2 in
+        let v1 = subst (λ (t : Rows). Evals (L .bits) (L .rows) t (rowsOf Y) (rootsOf (seenIn W)) (run (states (modelIn (L .bits) (sceneIn W)) noEnv) (L .limit) (L .rounds) (liveOf (bookIn W)) whole nothing) (endedOf r)) (rows-same (f .frame)) v0 in
+        let v2 = subst (λ (N : ℕ). Evals (L .bits) N (rowsOf W) (rowsOf Y) (rootsOf (seenIn W)) (run (states (modelIn (L .bits) (sceneIn W)) noEnv) (L .limit) (L .rounds) (liveOf (bookIn W)) whole nothing) (endedOf r)) (p .rows) v1 in
+        let v3 = subst (λ (n : ℕ). Evals n (W .rows) (rowsOf W) (rowsOf Y) (rootsOf (seenIn W)) (run (states (modelIn n (sceneIn W)) noEnv) (L .limit) (L .rounds) (liveOf (bookIn W)) whole nothing) (endedOf r)) (p .bits) v2 in
         record {
           sound = A .moved .sound;
           frame = op-trans (op-memo (f .frame)) (A .moved .frame);
-          evals = evals-same (ap (λ (g : Form). run (modelOf (bookIn W)) (L .limit) (L .rounds) noEnv (liveOf (bookIn W)) g nothing) (sym (ap formOf (fits .read)))) v3;
+          evals = evals-same (ap (λ (g : Form). run (states (modelOf (bookIn W)) noEnv) (L .limit) (L .rounds) (liveOf (bookIn W)) g nothing) (sym (ap formOf (fits .read)))) v3;
         }

@@ -50,7 +50,7 @@ use Rattle.evaluator.proofs.Outcomes.{Halts, halts-stops, halts-end, ta
 
 -- the run of f in a scene
 abbrev pub runIn : Limits → Scene → Form → Count → Outcome
-runIn L σ f r = run (modelIn (L .bits) σ) (L .limit) (L .rounds) (σ .env) (σ .fns) f r
+runIn L σ f r = run (states (modelIn (L .bits) σ) (σ .env)) (L .limit) (L .rounds) (σ .fns) f r
 
 -- a part's answer that is no value is the answer of what goes on with its value
 pub answers-stop : {L : Limits} {W X : View} {stack after : List ℕ} {held : ℕ} {count : Count} {σ : Scene} {f : Form} {e : ℕ} {r : Evaluated} → Answers L W X stack after held count σ f e r → Halts r

@@ -143,7 +143,7 @@ EndsAt e Spent = Unit {0}
 pub record Answers (L : Limits) (W X : View) (stack after : List ℕ) (held : ℕ) (count : Count) (σ : Scene) (f : Form) (e : ℕ) (r : Evaluated) : Type 0 where
   pub moved : Moved (L .bits) W X
   pub kept : take held after ≡ take held stack
-  pub evals : Evals (L .bits) (L .rows) (rowsOf W) (rowsOf X) (σ .roots) (run (modelIn (L .bits) σ) (L .limit) (L .rounds) (σ .env) (σ .fns) f count) (endedOf r)
+  pub evals : Evals (L .bits) (L .rows) (rowsOf W) (rowsOf X) (σ .roots) (run (states (modelIn (L .bits) σ) (σ .env)) (L .limit) (L .rounds) (σ .fns) f count) (endedOf r)
   pub end : EndsAt e r
 
 -- a step's answer as the book has it
@@ -154,7 +154,7 @@ endedIn taken.Full = eight
 -- the value of a leaf, or its step
 pub record LeafAnswers (L : Limits) (W X : View) (count : Count) (σ : Scene) (f : Form) (o : Taken) : Type 0 where
   pub moved : Moved (L .bits) W X
-  pub evals : Evals (L .bits) (L .rows) (rowsOf W) (rowsOf X) (σ .roots) (run (modelIn (L .bits) σ) (L .limit) (L .rounds) (σ .env) (σ .fns) f count) (endedIn o)
+  pub evals : Evals (L .bits) (L .rows) (rowsOf W) (rowsOf X) (σ .roots) (run (states (modelIn (L .bits) σ) (σ .env)) (L .limit) (L .rounds) (σ .fns) f count) (endedIn o)
 
 -- a step's result as an answer
 abbrev pub fromTaken : ℕ → Taken → Evaluated

@@ -37,4 +37,4 @@ pub record SetPost (L : Limits) (W X : View) (bs : List ℕ) (r : Evaluated) : T
   pub sound : Sound X
   pub frame : OpFrame W X
   pub evals : Evals (bookIn W .n) (bookIn W .N) (rowsOf W) (rowsOf X) (rootsOf (seenIn W))
-      (run (modelOf (bookIn W)) (L .limit) (L .rounds) noEnv (liveOf (bookIn W)) (formulaIn (bookIn W) Set bs) nothing) (endedOf r)
+      (run (states (modelOf (bookIn W)) noEnv) (L .limit) (L .rounds) (liveOf (bookIn W)) (formulaIn (bookIn W) Set bs) nothing) (endedOf r)

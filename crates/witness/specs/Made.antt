@@ -164,7 +164,7 @@ module _ (old : List ℕ) (s : SoundWords old) where
 
   -- the evaluation of f under limits N and R ended so
   abbrev pub Ends : Rows → ℕ → ℕ → Form → Ended → Type 0
-  Ends after N R f y = Evals (b .n) (b .N) (rowsOf (tableOf old)) after (rootsOf (seen old)) (run (modelOf b) N R noEnv (liveOf b) f nothing) y
+  Ends after N R f y = Evals (b .n) (b .N) (rowsOf (tableOf old)) after (rootsOf (seen old)) (run (states (modelOf b) noEnv) N R (liveOf b) f nothing) y
 
   -- one account with the largest limits is no limit
   pub unlimited : {after : Rows} (R : ℕ) (f : Form) (y : Ended) → R ≤ 4_294_967_295 → Ends after (b .N) R f y
