@@ -30,6 +30,7 @@ ghost use lib.ListN.{length, getD, set};
 ghost use Rattle.layout.specs.Places.{HEADER, VALID};
 ghost use Rattle.layout.specs.View.{view, headerOf};
 ghost use Rattle.accounts.specs.Count.{another};
+ghost use Rattle.tokens.specs.Tokens.{onlyNow};
 ghost use Rattle.counting.specs.Counts.{CountsOf};
 ghost use Rattle.counting.specs.declared.Taken.the-variants.{At};
 ghost use Rattle.book.specs.Turns.{startArrow};
@@ -259,14 +260,14 @@ fn confined(
     first: Taken,
 ) -> Taken
     requires { ⌜ ConfinedPre limits (view (limits .rows) (now words)) (now stack) held first × CountsOf (view (limits .rows) (now words)) (now counts) ⌝ }
-    ensures { λ r. ⌜ ConfinedPost grammar limits (view (limits .rows) (now (words .entry))) (view (limits .rows) (now (words .exit))) (now (stack .entry)) held first r × CountsOf (view (limits .rows) (now (words .exit))) (now (counts .exit)) ⌝ }
+    ensures { λ r. ⌜ ConfinedPost (onlyNow grammar) limits (view (limits .rows) (now (words .entry))) (view (limits .rows) (now (words .exit))) (now (stack .entry)) held first r × CountsOf (view (limits .rows) (now (words .exit))) (now (counts .exit)) ⌝ }
 {
     let Taken::At {
         arrow: b,
         count: counted,
     } = first
     else {
-        return first;
+        return Taken::Full;
     };
     if only_now(grammar) {
         let valid = root_arrow(words, Table::VALID);
@@ -278,7 +279,7 @@ fn confined(
 // True: V for a formula of states, all pairs for one of pairs.
 fn truth(words: &[u32], grammar: Grammar) -> u32
     requires { ⌜ (VALID < HEADER) × (HEADER ≤ length (now words)) × (0 < headerOf (now words) VALID) ⌝ }
-    ensures { λ r. ⌜ TrueIs grammar (headerOf (now (words .entry)) VALID) r ⌝ }
+    ensures { λ r. ⌜ TrueIs (onlyNow grammar) (headerOf (now (words .entry)) VALID) r ⌝ }
 {
     if only_now(grammar) {
         return root_arrow(words, Table::VALID);
