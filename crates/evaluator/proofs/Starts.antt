@@ -251,7 +251,7 @@ takenOf (Value a k c) = taken.At a c
 takenOf Full = taken.Full
 takenOf Spent = taken.Full
 
-pub halts-taken : (r : Evaluated) → Halts r → takenOf r ≡ taken.Full
+halts-taken : (r : Evaluated) → Halts r → takenOf r ≡ taken.Full
 halts-taken (Value a k c) h = absurd (⊎-elim (λ x. omega arith) (λ x. omega arith) h)
 halts-taken Full h = refl
 halts-taken Spent h = refl
@@ -336,6 +336,9 @@ module _ {L : Limits} {W : View} {bs : List ℕ} (p : PairsPre L W bs) {X : View
           (subst (λ (y : Taken). Chained W (L .bits) (L .rows) (rowsOf X) (rowsOf Y) (pairsFit (L .bits) (L .limit) (liveOf (bookIn W)) g) (pairF (L .bits) g) (pairsCount (L .bits) (liveOf (bookIn W)) g nothing) y) is (ran k i passed .evals));
     }
 
+    pub pairs-halts : Halts r → PairsPost L W Y bs taken.Full
+    pairs-halts h = pairs-ends (halts-taken r h)
+
     -- ---- a relation's formula, and then the steps within V
 
     -- a chain for the whole
@@ -356,8 +359,8 @@ module _ {L : Limits} {W : View} {bs : List ℕ} (p : PairsPre L W bs) {X : View
           own Z o (λ n h. relationFits n (L .limit) (liveOf (bookIn W)) (bookIn W .valid) h) (λ n h. relationF n (bookIn W .valid) h) (λ n h. relationCount n (liveOf (bookIn W)) (bookIn W .valid) h nothing) Relation passed v2;
     }
 
-    pub relation-stops : takenOf r ≡ taken.Full → RelationPost L W Y bs taken.Full
-    relation-stops is = related Y taken.Full (any .moved) (λ passed. ran-stop _ _ _ is (ran Relation refl passed))
+    pub relation-halts : Halts r → RelationPost L W Y bs taken.Full
+    relation-halts h = related Y taken.Full (any .moved) (λ passed. ran-stop _ _ _ (halts-taken r h) (ran Relation refl passed))
 
     module _ {a j : ℕ} {q : Count} (is : r ≡ Value a j q) (z : length after ≡ length (replicate {A = ℕ} stackSize 0)) where
       ended : Ready L Y after noPlaces 0 (sceneIn W)
