@@ -23,6 +23,7 @@ use Rattle.soundness.specs.Sound.{Good, Sound, tableOf}
 use Rattle.book.specs.Book.{Book, Call, relation, set, valid, unfilled, modelOf, liveOf, checks, formulaIn}
 use Rattle.book.specs.Stored.{whole-does}
 use Rattle.book.specs.Table.{Table, Reply, rootsOf, Serves}
+use Rattle.book.specs.Over.{states}
 use Rattle.book.specs.Run.{run, pairF, pairsFit, pairsCount, relationFits, relationCount}
 use Rattle.book.specs.Follow.{Ended, ends, eight, nine, Evals}
 use Rattle.book.specs.Pairs.{PairEvals}

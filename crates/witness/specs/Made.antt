@@ -36,6 +36,7 @@ use Rattle.book.specs.Held.{Held}
 use Rattle.book.specs.Roots.{shows-held}
 use Rattle.book.specs.Effects.{set-refused}
 use Rattle.book.specs.Bridge.{fnOf}
+use Rattle.book.specs.Over.{states}
 use Rattle.book.specs.Run.{run, pairF, pairsFit, pairsCount, relationFits, relationCount}
 use Rattle.book.specs.Follow.{Ended, ends, nine, Evals, denotes-clip}
 use Rattle.book.specs.Pairs.{PairMatches, PairEvals, pair-none, pair-all}

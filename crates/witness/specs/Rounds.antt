@@ -14,6 +14,7 @@ use Rattle.diagram.specs.Post.{Denotes}
 use Rattle.accounts.specs.declared.Count.{Count}
 use Rattle.accounts.specs.Count.{nothing, another}
 use Rattle.book.specs.Bridge.{fnOf}
+use Rattle.book.specs.Over.{states}
 use Rattle.book.specs.Run.{Outcome, loop, run}
 use Rattle.book.specs.Held.{Held, held-push}
 use Rattle.book.specs.Follow.{ends, nine, Evals, evals-leaf, denotes-in}
