@@ -366,9 +366,6 @@ pub record FurtherPost (L : Limits) (W X : View) (stack after : List ℕ) (c : C
   pub answers : (σ : Scene) → Ready L W stack (c .places) (c .held) σ → holdsRel σ t ≡ true → Current L W σ x
       → Answers true L W X stack after (c .held) (c .count) σ (goes (isSome m) t own) e r
 
-abbrev pub EveryPost : Limits → View → View → List ℕ → List ℕ → Context → ℕ → ℕ → ℕ → Evaluated → Type 0
-EveryPost L W X stack after c t x e r = FurtherPost L W X stack after c All t x e r
-
 -- f and that
 pub record KeepPre (L : Limits) (W : View) (stack bs : List ℕ) (c : Context) (t x : ℕ) : Type 0 where
   pub room : c .held + 2 * c .depth ≤ stackSize
@@ -435,19 +432,19 @@ pub record UntilPost (L : Limits) (bs : List ℕ) (c : Context) (m : Mode) (t : 
   pub says : (f : Form) (k : ℕ) → Stands (L .bits) Runs bs (c .at) (c .depth) f k → b ≡ Until m t k
 
 -- one round, x being the current set
-abbrev pub TurnAsks : Limits → View → List ℕ → List ℕ → Context → Body → ℕ → Type 0
-TurnAsks L W stack bs c (Binder y P) x = EvalPre Runs L W stack bs c
-TurnAsks L W stack bs c (Until m t middle) x = RoundPre L W stack bs c middle t x
+abbrev pub BodyAsks : Limits → View → List ℕ → List ℕ → Context → Body → ℕ → Type 0
+BodyAsks L W stack bs c (Binder y P) x = EvalPre Runs L W stack bs c
+BodyAsks L W stack bs c (Until m t middle) x = RoundPre L W stack bs c middle t x
 
 pub record TurnPre (L : Limits) (W : View) (stack bs : List ℕ) (c : Context) (b : Body) (x : ℕ) : Type 0 where
-  pub asks : TurnAsks L W stack bs c b x
+  pub asks : BodyAsks L W stack bs c b x
 
-abbrev pub TurnSays : Limits → View → View → List ℕ → List ℕ → List ℕ → Context → Body → ℕ → Evaluated → Type 0
-TurnSays L W X stack after bs c (Binder y P) x r = EvalPost Runs L W X stack after bs c r
-TurnSays L W X stack after bs c (Until m t middle) x r = RoundPost L W X stack after bs c middle m t x r
+abbrev pub BodySays : Limits → View → View → List ℕ → List ℕ → List ℕ → Context → Body → ℕ → Evaluated → Type 0
+BodySays L W X stack after bs c (Binder y P) x r = EvalPost Runs L W X stack after bs c r
+BodySays L W X stack after bs c (Until m t middle) x r = RoundPost L W X stack after bs c middle m t x r
 
 pub record TurnPost (L : Limits) (W X : View) (stack after bs : List ℕ) (c : Context) (b : Body) (x : ℕ) (r : Evaluated) : Type 0 where
-  pub says : TurnSays L W X stack after bs c b x r
+  pub says : BodySays L W X stack after bs c b x r
 
 -- all rounds: mu or nu of f
 pub record BindPre (L : Limits) (W : View) (stack bs : List ℕ) (c : Context) (b : Body) : Type 0 where

@@ -28,15 +28,21 @@ ghost use mathlib.Core.Path.{_≡_};
 ghost use Prim.Native.Nat.{_+_, _<_, _≤_};
 ghost use lib.ListN.{length, getD, set};
 ghost use Rattle.layout.specs.Places.{HEADER, VALID};
-ghost use Rattle.layout.specs.View.{view, headerOf};
+ghost use Rattle.layout.specs.View.{headerOf};
 ghost use Rattle.accounts.specs.Count.{another};
 ghost use Rattle.tokens.specs.Tokens.{onlyNow};
-ghost use Rattle.counting.specs.Counts.{CountsOf};
 ghost use Rattle.counting.specs.declared.Taken.the-variants.{At};
 ghost use Rattle.book.specs.Turns.{startArrow};
-ghost use Rattle.modal.specs.Modal.{ModalPre};
-ghost use Rattle.evaluator.specs.Whole.{start, SetPre, SetPost, WithinPre, WithinPost, PairsPre, PairsPost, RelationPost};
-ghost use Rattle.evaluator.specs.Scene.{stackSize, fromTaken, bodyOf, roundOf, isLeast, fixOf, variableOf, joinStep, OverPost, LivePre, LivePost, JoinedPre, JoinedPost, ConfinedPre, ConfinedPost, TrueIs, LeafPre, LeafPost, EvalPre, EvalPost, NegatePost, BothPre, BothPost, ModePre, ModePost, BindPre, BindPost, ReachPre, ReachPost, FurtherPre, FurtherPost, EveryPost, KeepPre, KeepPost, RoundPre, RoundPost, TurnPre, TurnPost, UntilPost};
+ghost use Rattle.tokens.specs.declared.Mode.the-variants.{All};
+ghost use Rattle.evaluator.specs.Whole.{start};
+ghost use Rattle.evaluator.specs.Scene.{stackSize, fromTaken, bodyOf, roundOf, isLeast, fixOf, variableOf, joinStep};
+ghost use Rattle.evaluator.specs.Scene.{TrueIs, UntilPost};
+ghost use Rattle.evaluator.specs.Posts.{LiveAsks, LiveGives, JoinedAsks, JoinedGives, ConfinedAsks, ConfinedGives};
+ghost use Rattle.evaluator.specs.Posts.{LeafAsks, LeafGives, OverAsks, OverGives, ReachAsks, ReachGives, FurtherAsks, FurtherGives};
+ghost use Rattle.evaluator.specs.Posts.{EvalAsks, EvalGives, NegateGives, BothAsks, BothGives, ModeAsks, ModeGives};
+ghost use Rattle.evaluator.specs.Posts.{BindAsks, BindGives, TurnAsks, TurnGives};
+ghost use Rattle.evaluator.specs.Posts.{KeepAsks, KeepGives, RoundAsks, RoundGives, WithinAsks, WithinGives};
+ghost use Rattle.evaluator.specs.Posts.{SetAsks, SetGives, PairsAsks, PairsGives, RelationGives};
 
 // What an evaluation answers: the arrow of the set, the place after the formula and what is counted; or why there is none.
 pub enum Evaluated {
@@ -208,8 +214,9 @@ pub fn live_step(
     s: Step,
     count: Count,
 ) -> Taken
-    requires { ⌜ LivePre limits (view (limits .rows) (now words)) (now stack) held s × CountsOf (view (limits .rows) (now words)) (now counts) ⌝ }
-    ensures { λ r. ⌜ LivePost limits (view (limits .rows) (now (words .entry))) (view (limits .rows) (now (words .exit))) (now (stack .entry)) held s count r × CountsOf (view (limits .rows) (now (words .exit))) (now (counts .exit)) ⌝ }
+    requires { ⌜ LiveAsks limits (now words) (now counts) (now stack) held s ⌝ }
+    ensures { λ r. ⌜ LiveGives limits (now (words .entry)) (now (words .exit)) (now (counts .exit)) (now (stack .entry))
+        held s count r ⌝ }
 {
     take(
         words,
@@ -223,7 +230,8 @@ pub fn live_step(
     )
 }
 
-// The answer of two parts, of which the first has the value `a`: the second one's, where that has no value, else the step AND or OR of both values.
+// The answer of two parts, of which the first has the value `a`: the second one's, where that has no value, else the step AND or OR of both
+// values.
 fn joined(
     words: &mut [u32],
     counts: &mut [u32],
@@ -234,8 +242,9 @@ fn joined(
     a: u32,
     second: Evaluated,
 ) -> Evaluated
-    requires { ⌜ JoinedPre limits (view (limits .rows) (now words)) (now stack) held j a second × CountsOf (view (limits .rows) (now words)) (now counts) ⌝ }
-    ensures { λ r. ⌜ JoinedPost limits (view (limits .rows) (now (words .entry))) (view (limits .rows) (now (words .exit))) (now (stack .entry)) held j a second r × CountsOf (view (limits .rows) (now (words .exit))) (now (counts .exit)) ⌝ }
+    requires { ⌜ JoinedAsks limits (now words) (now counts) (now stack) held j a second ⌝ }
+    ensures { λ r. ⌜ JoinedGives limits (now (words .entry)) (now (words .exit)) (now (counts .exit)) (now (stack .entry))
+        held j a second r ⌝ }
 {
     let Evaluated::Value {
         arrow: b,
@@ -259,8 +268,9 @@ fn confined(
     held: usize,
     first: Taken,
 ) -> Taken
-    requires { ⌜ ConfinedPre limits (view (limits .rows) (now words)) (now stack) held first × CountsOf (view (limits .rows) (now words)) (now counts) ⌝ }
-    ensures { λ r. ⌜ ConfinedPost (onlyNow grammar) limits (view (limits .rows) (now (words .entry))) (view (limits .rows) (now (words .exit))) (now (stack .entry)) held first r × CountsOf (view (limits .rows) (now (words .exit))) (now (counts .exit)) ⌝ }
+    requires { ⌜ ConfinedAsks limits (now words) (now counts) (now stack) held first ⌝ }
+    ensures { λ r. ⌜ ConfinedGives limits (now (words .entry)) (now (words .exit)) (now (counts .exit)) (now (stack .entry))
+        held grammar first r ⌝ }
 {
     let Taken::At {
         arrow: b,
@@ -271,7 +281,15 @@ fn confined(
     };
     if only_now(grammar) {
         let valid = root_arrow(words, Table::VALID);
-        return live_step(words, counts, stack, limits, held, Step::And(b, valid), counted);
+        return live_step(
+            words,
+            counts,
+            stack,
+            limits,
+            held,
+            Step::And(b, valid),
+            counted,
+        );
     }
     first
 }
@@ -307,8 +325,9 @@ fn leaf(
     grammar: Grammar,
     l: Leaf,
 ) -> Taken
-    requires { ⌜ LeafPre grammar limits (view (limits .rows) (now words)) (now stack) here l × CountsOf (view (limits .rows) (now words)) (now counts) ⌝ }
-    ensures { λ r. ⌜ LeafPost grammar limits (view (limits .rows) (now (words .entry))) (view (limits .rows) (now (words .exit))) (now (stack .entry)) here l r × CountsOf (view (limits .rows) (now (words .exit))) (now (counts .exit)) ⌝ }
+    requires { ⌜ LeafAsks limits (now words) (now counts) (now stack) here grammar l ⌝ }
+    ensures { λ r. ⌜ LeafGives limits (now (words .entry)) (now (words .exit)) (now (counts .exit)) (now (stack .entry))
+        here grammar l r ⌝ }
 {
     let count = here.count;
     let held = here.held;
@@ -320,7 +339,15 @@ fn leaf(
             confined(words, counts, stack, limits, grammar, held, bit)
         }
         Leaf::Next(p) => {
-            live_step(words, counts, stack, limits, held, Step::Bit(2 * p + 1), count)
+            live_step(
+                words,
+                counts,
+                stack,
+                limits,
+                held,
+                Step::Bit(2 * p + 1),
+                count,
+            )
         }
         Leaf::Var(p) => {
             let places = here.places;
@@ -344,8 +371,9 @@ fn over(
     a: u32,
     count: Count,
 ) -> Taken
-    requires { ⌜ ModalPre (limits .bits) (limits .rows) (limits .limit) (view (limits .rows) (now words)) (now roots) relation a × CountsOf (view (limits .rows) (now words)) (now counts) ⌝ }
-    ensures { λ r. ⌜ OverPost m (limits .bits) (limits .rows) (limits .limit) (view (limits .rows) (now (words .entry))) (view (limits .rows) (now (words .exit))) (now (roots .entry)) relation a count r × CountsOf (view (limits .rows) (now (words .exit))) (now (counts .exit)) ⌝ }
+    requires { ⌜ OverAsks limits (now words) (now counts) (now roots) relation a ⌝ }
+    ensures { λ r. ⌜ OverGives limits (now (words .entry)) (now (words .exit)) (now (counts .exit)) (now (roots .entry))
+        m relation a count r ⌝ }
 {
     match m {
         Mode::All => {
@@ -368,8 +396,9 @@ fn reach(
     x: u32,
     end: usize,
 ) -> Evaluated
-    requires { ⌜ ReachPre limits (view (limits .rows) (now words)) (now stack) here t x end × CountsOf (view (limits .rows) (now words)) (now counts) ⌝ }
-    ensures { λ r. ⌜ ReachPost limits (view (limits .rows) (now (words .entry))) (view (limits .rows) (now (words .exit))) (now (stack .entry)) here m t x end r × CountsOf (view (limits .rows) (now (words .exit))) (now (counts .exit)) ⌝ }
+    requires { ⌜ ReachAsks limits (now words) (now counts) (now stack) here t x end ⌝ }
+    ensures { λ r. ⌜ ReachGives limits (now (words .entry)) (now (words .exit)) (now (counts .exit)) (now (stack .entry))
+        here m t x end r ⌝ }
 {
     let h = Table::FIRST_RELATION + (t as usize);
     let relation = root_arrow(words, h);
@@ -390,8 +419,9 @@ fn every(
     x: u32,
     end: usize,
 ) -> Evaluated
-    requires { ⌜ FurtherPre limits (view (limits .rows) (now words)) (now stack) here t x × CountsOf (view (limits .rows) (now words)) (now counts) ⌝ }
-    ensures { λ r. ⌜ EveryPost limits (view (limits .rows) (now (words .entry))) (view (limits .rows) (now (words .exit))) (now (stack .entry)) (now (stack .exit)) here t x end r × CountsOf (view (limits .rows) (now (words .exit))) (now (counts .exit)) ⌝ }
+    requires { ⌜ FurtherAsks limits (now words) (now counts) (now stack) here t x ⌝ }
+    ensures { λ r. ⌜ FurtherGives limits (now (words .entry)) (now (words .exit)) (now (counts .exit)) (now (stack .entry))
+        (now (stack .exit)) here All t x end r ⌝ }
 {
     let first = reach(words, counts, stack, limits, here, Mode::All, t, x, end);
     let Evaluated::Value {
@@ -432,8 +462,9 @@ fn further(
     x: u32,
     end: usize,
 ) -> Evaluated
-    requires { ⌜ FurtherPre limits (view (limits .rows) (now words)) (now stack) here t x × CountsOf (view (limits .rows) (now words)) (now counts) ⌝ }
-    ensures { λ r. ⌜ FurtherPost limits (view (limits .rows) (now (words .entry))) (view (limits .rows) (now (words .exit))) (now (stack .entry)) (now (stack .exit)) here m t x end r × CountsOf (view (limits .rows) (now (words .exit))) (now (counts .exit)) ⌝ }
+    requires { ⌜ FurtherAsks limits (now words) (now counts) (now stack) here t x ⌝ }
+    ensures { λ r. ⌜ FurtherGives limits (now (words .entry)) (now (words .exit)) (now (counts .exit)) (now (stack .entry))
+        (now (stack .exit)) here m t x end r ⌝ }
 {
     match m {
         Mode::All => every(words, counts, stack, limits, here, t, x, end),
@@ -462,8 +493,9 @@ fn eval(
     here: Context,
     grammar: Grammar,
 ) -> Evaluated
-    requires { ⌜ EvalPre grammar limits (view (limits .rows) (now words)) (now stack) (now bytes) here × CountsOf (view (limits .rows) (now words)) (now counts) ⌝ }
-    ensures { λ r. ⌜ EvalPost grammar limits (view (limits .rows) (now (words .entry))) (view (limits .rows) (now (words .exit))) (now (stack .entry)) (now (stack .exit)) (now (bytes .entry)) here r × CountsOf (view (limits .rows) (now (words .exit))) (now (counts .exit)) ⌝ }
+    requires { ⌜ EvalAsks limits (now words) (now counts) (now stack) (now bytes) here grammar ⌝ }
+    ensures { λ r. ⌜ EvalGives limits (now (words .entry)) (now (words .exit)) (now (counts .exit)) (now (stack .entry))
+        (now (stack .exit)) (now (bytes .entry)) here grammar r ⌝ }
 {
     let Lead::Is(t) = lead_at(bytes, limits.bits, grammar, here.at) else {
         return Evaluated::Full;
@@ -499,8 +531,9 @@ fn negate(
     here: Context,
     grammar: Grammar,
 ) -> Evaluated
-    requires { ⌜ EvalPre grammar limits (view (limits .rows) (now words)) (now stack) (now bytes) here × CountsOf (view (limits .rows) (now words)) (now counts) ⌝ }
-    ensures { λ r. ⌜ NegatePost grammar limits (view (limits .rows) (now (words .entry))) (view (limits .rows) (now (words .exit))) (now (stack .entry)) (now (stack .exit)) (now (bytes .entry)) here r × CountsOf (view (limits .rows) (now (words .exit))) (now (counts .exit)) ⌝ }
+    requires { ⌜ EvalAsks limits (now words) (now counts) (now stack) (now bytes) here grammar ⌝ }
+    ensures { λ r. ⌜ NegateGives limits (now (words .entry)) (now (words .exit)) (now (counts .exit)) (now (stack .entry))
+        (now (stack .exit)) (now (bytes .entry)) here grammar r ⌝ }
 {
     let part = eval(words, counts, stack, bytes, limits, here, grammar);
     let Evaluated::Value {
@@ -528,8 +561,9 @@ fn both(
     grammar: Grammar,
     j: Join,
 ) -> Evaluated
-    requires { ⌜ BothPre grammar limits (view (limits .rows) (now words)) (now stack) (now bytes) here × CountsOf (view (limits .rows) (now words)) (now counts) ⌝ }
-    ensures { λ r. ⌜ BothPost grammar limits (view (limits .rows) (now (words .entry))) (view (limits .rows) (now (words .exit))) (now (stack .entry)) (now (stack .exit)) (now (bytes .entry)) here j r × CountsOf (view (limits .rows) (now (words .exit))) (now (counts .exit)) ⌝ }
+    requires { ⌜ BothAsks limits (now words) (now counts) (now stack) (now bytes) here grammar ⌝ }
+    ensures { λ r. ⌜ BothGives limits (now (words .entry)) (now (words .exit)) (now (counts .exit)) (now (stack .entry))
+        (now (stack .exit)) (now (bytes .entry)) here grammar j r ⌝ }
 {
     let first = eval(words, counts, stack, bytes, limits, here, grammar);
     let Evaluated::Value {
@@ -558,8 +592,9 @@ fn modal(
     m: Mode,
     t: u32,
 ) -> Evaluated
-    requires { ⌜ ModePre limits (view (limits .rows) (now words)) (now stack) (now bytes) here t × CountsOf (view (limits .rows) (now words)) (now counts) ⌝ }
-    ensures { λ r. ⌜ ModePost limits (view (limits .rows) (now (words .entry))) (view (limits .rows) (now (words .exit))) (now (stack .entry)) (now (stack .exit)) (now (bytes .entry)) here m t r × CountsOf (view (limits .rows) (now (words .exit))) (now (counts .exit)) ⌝ }
+    requires { ⌜ ModeAsks limits (now words) (now counts) (now stack) (now bytes) here t ⌝ }
+    ensures { λ r. ⌜ ModeGives limits (now (words .entry)) (now (words .exit)) (now (counts .exit)) (now (stack .entry))
+        (now (stack .exit)) (now (bytes .entry)) here m t r ⌝ }
 {
     let part = eval(words, counts, stack, bytes, limits, here, Grammar::Runs);
     let Evaluated::Value {
@@ -596,8 +631,9 @@ fn bind(
     here: Context,
     body: Body,
 ) -> Evaluated
-    requires { ⌜ BindPre limits (view (limits .rows) (now words)) (now stack) (now bytes) here body × CountsOf (view (limits .rows) (now words)) (now counts) ⌝ }
-    ensures { λ r. ⌜ BindPost limits (view (limits .rows) (now (words .entry))) (view (limits .rows) (now (words .exit))) (now (stack .entry)) (now (stack .exit)) (now (bytes .entry)) here body r × CountsOf (view (limits .rows) (now (words .exit))) (now (counts .exit)) ⌝ }
+    requires { ⌜ BindAsks limits (now words) (now counts) (now stack) (now bytes) here body ⌝ }
+    ensures { λ r. ⌜ BindGives limits (now (words .entry)) (now (words .exit)) (now (counts .exit)) (now (stack .entry))
+        (now (stack .exit)) (now (bytes .entry)) here body r ⌝ }
 {
     let held = here.held;
     let mut current = start_of(body, root_arrow(words, Table::VALID));
@@ -634,13 +670,12 @@ fn turn(
     body: Body,
     x: u32,
 ) -> Evaluated
-    requires { ⌜ TurnPre limits (view (limits .rows) (now words)) (now stack) (now bytes) here body x × CountsOf (view (limits .rows) (now words)) (now counts) ⌝ }
-    ensures { λ r. ⌜ TurnPost limits (view (limits .rows) (now (words .entry))) (view (limits .rows) (now (words .exit))) (now (stack .entry)) (now (stack .exit)) (now (bytes .entry)) here body x r × CountsOf (view (limits .rows) (now (words .exit))) (now (counts .exit)) ⌝ }
+    requires { ⌜ TurnAsks limits (now words) (now counts) (now stack) (now bytes) here body x ⌝ }
+    ensures { λ r. ⌜ TurnGives limits (now (words .entry)) (now (words .exit)) (now (counts .exit)) (now (stack .entry))
+        (now (stack .exit)) (now (bytes .entry)) here body x r ⌝ }
 {
     match body {
-        Body::Binder(_, _) => {
-            eval(words, counts, stack, bytes, limits, here, Grammar::Runs)
-        }
+        Body::Binder(_, _) => { eval(words, counts, stack, bytes, limits, here, Grammar::Runs) }
         Body::Until(m, t, middle) => round(
             words,
             counts,
@@ -670,8 +705,9 @@ fn keep(
     x: u32,
     end: usize,
 ) -> Evaluated
-    requires { ⌜ KeepPre limits (view (limits .rows) (now words)) (now stack) (now bytes) here t x × CountsOf (view (limits .rows) (now words)) (now counts) ⌝ }
-    ensures { λ r. ⌜ KeepPost limits (view (limits .rows) (now (words .entry))) (view (limits .rows) (now (words .exit))) (now (stack .entry)) (now (stack .exit)) (now (bytes .entry)) here m t x end r × CountsOf (view (limits .rows) (now (words .exit))) (now (counts .exit)) ⌝ }
+    requires { ⌜ KeepAsks limits (now words) (now counts) (now stack) (now bytes) here t x ⌝ }
+    ensures { λ r. ⌜ KeepGives limits (now (words .entry)) (now (words .exit)) (now (counts .exit)) (now (stack .entry))
+        (now (stack .exit)) (now (bytes .entry)) here m t x end r ⌝ }
 {
     let first = eval(words, counts, stack, bytes, limits, here, Grammar::Runs);
     let Evaluated::Value {
@@ -703,8 +739,9 @@ fn round(
     t: u32,
     x: u32,
 ) -> Evaluated
-    requires { ⌜ RoundPre limits (view (limits .rows) (now words)) (now stack) (now bytes) here middle t x × CountsOf (view (limits .rows) (now words)) (now counts) ⌝ }
-    ensures { λ r. ⌜ RoundPost limits (view (limits .rows) (now (words .entry))) (view (limits .rows) (now (words .exit))) (now (stack .entry)) (now (stack .exit)) (now (bytes .entry)) here middle m t x r × CountsOf (view (limits .rows) (now (words .exit))) (now (counts .exit)) ⌝ }
+    requires { ⌜ RoundAsks limits (now words) (now counts) (now stack) (now bytes) here middle t x ⌝ }
+    ensures { λ r. ⌜ RoundGives limits (now (words .entry)) (now (words .exit)) (now (counts .exit)) (now (stack .entry))
+        (now (stack .exit)) (now (bytes .entry)) here middle m t x r ⌝ }
 {
     let mut goal = here;
     goal.at = middle;
@@ -733,8 +770,9 @@ fn within(
     a: u32,
     count: Count,
 ) -> Taken
-    requires { ⌜ WithinPre limits (view (limits .rows) (now words)) (now stack) a × CountsOf (view (limits .rows) (now words)) (now counts) ⌝ }
-    ensures { λ r. ⌜ WithinPost limits (view (limits .rows) (now (words .entry))) (view (limits .rows) (now (words .exit))) (now (stack .entry)) a count r × CountsOf (view (limits .rows) (now (words .exit))) (now (counts .exit)) ⌝ }
+    requires { ⌜ WithinAsks limits (now words) (now counts) (now stack) a ⌝ }
+    ensures { λ r. ⌜ WithinGives limits (now (words .entry)) (now (words .exit)) (now (counts .exit)) (now (stack .entry))
+        a count r ⌝ }
 {
     let valid = root_arrow(words, Table::VALID);
     let Taken::At {
@@ -771,21 +809,29 @@ fn starting() -> Context
 
 // Evaluates the set's formula in `bytes`, which has passed the checks, with nothing remembered before.
 pub fn evaluate_set(words: &mut [u32], limits: Limits, bytes: &[u8]) -> Evaluated
-    requires { ⌜ SetPre limits (view (limits .rows) (now words)) (now bytes) ⌝ }
-    ensures { λ r. ⌜ SetPost limits (view (limits .rows) (now (words .entry))) (view (limits .rows) (now (words .exit))) (now (bytes .entry)) r ⌝ }
+    requires { ⌜ SetAsks limits (now words) (now bytes) ⌝ }
+    ensures { λ r. ⌜ SetGives limits (now (words .entry)) (now (words .exit)) (now (bytes .entry)) r ⌝ }
 {
     forget(words, limits.rows);
     let mut counts = [0u32; Counts::WORDS];
     begin(words, limits.rows, &mut counts);
     let mut stack = [0u32; Stack::WORDS];
     let start = starting();
-    eval(words, &mut counts, &mut stack, bytes, limits, start, Grammar::Runs)
+    eval(
+        words,
+        &mut counts,
+        &mut stack,
+        bytes,
+        limits,
+        start,
+        Grammar::Runs,
+    )
 }
 
 // Evaluates the formula of a relation or of valid in `bytes`, which has passed the checks, over all states, with nothing remembered before.
 pub fn evaluate_pairs(words: &mut [u32], limits: Limits, bytes: &[u8]) -> Taken
-    requires { ⌜ PairsPre limits (view (limits .rows) (now words)) (now bytes) ⌝ }
-    ensures { λ r. ⌜ PairsPost limits (view (limits .rows) (now (words .entry))) (view (limits .rows) (now (words .exit))) (now (bytes .entry)) r ⌝ }
+    requires { ⌜ PairsAsks limits (now words) (now bytes) ⌝ }
+    ensures { λ r. ⌜ PairsGives limits (now (words .entry)) (now (words .exit)) (now (bytes .entry)) r ⌝ }
 {
     forget(words, limits.rows);
     let mut counts = [0u32; Counts::WORDS];
@@ -796,7 +842,15 @@ pub fn evaluate_pairs(words: &mut [u32], limits: Limits, bytes: &[u8]) -> Taken
         arrow: a,
         next: _,
         count: c,
-    } = eval(words, &mut counts, &mut stack, bytes, limits, start, Grammar::Pairs)
+    } = eval(
+        words,
+        &mut counts,
+        &mut stack,
+        bytes,
+        limits,
+        start,
+        Grammar::Pairs,
+    )
     else {
         return Taken::Full;
     };
@@ -805,8 +859,8 @@ pub fn evaluate_pairs(words: &mut [u32], limits: Limits, bytes: &[u8]) -> Taken
 
 // Evaluates a relation's formula in `bytes`, which has passed the checks, within V, with nothing remembered before.
 pub fn evaluate_relation(words: &mut [u32], limits: Limits, bytes: &[u8]) -> Taken
-    requires { ⌜ PairsPre limits (view (limits .rows) (now words)) (now bytes) ⌝ }
-    ensures { λ r. ⌜ RelationPost limits (view (limits .rows) (now (words .entry))) (view (limits .rows) (now (words .exit))) (now (bytes .entry)) r ⌝ }
+    requires { ⌜ PairsAsks limits (now words) (now bytes) ⌝ }
+    ensures { λ r. ⌜ RelationGives limits (now (words .entry)) (now (words .exit)) (now (bytes .entry)) r ⌝ }
 {
     forget(words, limits.rows);
     let mut counts = [0u32; Counts::WORDS];
@@ -817,7 +871,15 @@ pub fn evaluate_relation(words: &mut [u32], limits: Limits, bytes: &[u8]) -> Tak
         arrow: a,
         next: _,
         count: c,
-    } = eval(words, &mut counts, &mut stack, bytes, limits, start, Grammar::Pairs)
+    } = eval(
+        words,
+        &mut counts,
+        &mut stack,
+        bytes,
+        limits,
+        start,
+        Grammar::Pairs,
+    )
     else {
         return Taken::Full;
     };
