@@ -7,7 +7,7 @@ use mathlib.Core.List.{List, _∷_, map, List·Memᴰ as Mem, List·Memᴰ·head
 use Prim.Native.Nat.{ℕ, _*_, _^_, _<_}
 use Rattle.mucalculus.specs.Sets.{mem, table}
 use Rattle.mucalculus.specs.Order.{Below}
-use Rattle.mucalculus.specs.Means.{clip, inter, bitStates, compl}
+use Rattle.mucalculus.specs.Means.{clip, inter, bitStates}
 use Rattle.diagram.specs.Level.{Fn}
 use Rattle.diagram.specs.Rows.{Rows, den, WellFormed}
 use Rattle.diagram.specs.Den.{den-zero, den-one}
@@ -15,12 +15,12 @@ use Rattle.diagram.specs.Post.{Result, at, full as noRows, Denotes}
 use Rattle.diagram.specs.Count.{Within}
 use Rattle.diagram.specs.Keep.{Keeps, keeps-refl, keeps-trans, keeps-within, keeps-on, keeps-denotes}
 use Rattle.diagram.specs.Step.{StepPost}
-use Rattle.diagram.specs.Steps.{bitF, notF, andF}
+use Rattle.diagram.specs.Steps.{bitF, andF}
 use Rattle.diagram.specs.Need.{stepNeed}
 use Rattle.book.specs.States.{nowOf}
 use Rattle.accounts.specs.declared.Count.{Count}
 use Rattle.accounts.specs.Count.{needing}
-use Rattle.book.specs.Bridge.{fnOf, fnOf-none, fnOf-all, fnOf-bit, fnOf-not, fnOf-clip, fnOf-table, fnOf-and}
+use Rattle.book.specs.Bridge.{fnOf, fnOf-none, fnOf-all, fnOf-bit, fnOf-clip, fnOf-table, fnOf-and}
 use Rattle.book.specs.Run.{Outcome, value, full, spent, andThen, step, bitStep, twoBy, twoStep}
 use Rattle.book.specs.Held.{Held, denotes-same, denoted, held-arrow, held-push, held-operand, held-keeps, goesOn, Needed, step-taken}
 

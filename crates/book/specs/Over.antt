@@ -1,6 +1,6 @@
 -- What a formula is read over: the states of a model, or the pairs of all states; and its values, sets of the one or the other, as functions of
 -- levels. Assumes nothing.
-use mathlib.Core.Path.{_≡_, refl, sym, ap, ap₂, _∙_, fun-ext}
+use mathlib.Core.Path.{_≡_, sym, ap, ap₂, _∙_, fun-ext}
 use mathlib.Core.Bool.{Bool, true, false, not, _&&_, _||_}
 use mathlib.Core.List.{List}
 use Prim.Native.Nat.{ℕ, suc, _+_, _*_, _^_, _/_, _%_, _≤_, _<_}
@@ -8,7 +8,7 @@ use native.Mathlib.Omega.{arith}
 use native.Mathlib.Nat.{add-zero, suc-mul, mul-le-mul-right, mul-add-div-right, mul-add-mod-self-right, div-eq-of-lt, mod-eq-of-lt}
 use Rattle.mucalculus.specs.Sets.{mem, table, noStates, allStates}
 use Rattle.mucalculus.specs.Form.{Form, bot, top, neg, conj, disj, now, next, var, reg, box, dia, mu, nu, until, Model, Env}
-use Rattle.mucalculus.specs.Means.{compl, inter, union, bit, bitStates, size, exist, means, holds, meansPair}
+use Rattle.mucalculus.specs.Means.{compl, inter, union, bit, bitStates, size, exist, means, meansPair}
 use Rattle.mucalculus.specs.Laws.{getD-table}
 use Rattle.diagram.specs.Level.{Val, Fn}
 use Rattle.diagram.specs.Steps.{notF, andF, orF}

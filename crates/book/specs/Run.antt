@@ -1,11 +1,11 @@
 -- "Steps of evaluation" with their needs: the value and what is counted, or 8 or 9, whichever comes first in step order. Assumes nothing.
-use mathlib.Core.Bool.{Bool, true, false, _&&_, cond}
+use mathlib.Core.Bool.{Bool, true, false, cond}
 use mathlib.Core.List.{List, [], _∷_, _++_}
 use Prim.Native.Nat.{ℕ, zero, suc, _*_, _^_}
 use lib.Dec.{leb, ltb}
 use Rattle.mucalculus.specs.Sets.{noStates, same, all}
 use Rattle.mucalculus.specs.Order.{start}
-use Rattle.mucalculus.specs.Form.{Form, bot, top, neg, conj, disj, now, next, var, reg, box, dia, mu, nu, until, Pairs, Model, Env, put, inside}
+use Rattle.mucalculus.specs.Form.{Form, bot, top, neg, conj, disj, now, next, var, reg, box, dia, mu, nu, until, Pairs, put, inside}
 use Rattle.mucalculus.specs.Means.{compl, inter, union, bitStates, sometimes, size, exist, related}
 use Rattle.diagram.specs.Level.{Fn}
 use Rattle.diagram.specs.Need.{stepNeed}

@@ -14,7 +14,6 @@ use Rattle.tokens.specs.declared.Leaf.{Leaf}
 use Rattle.tokens.specs.declared.Join.{Join}
 use Rattle.tokens.specs.declared.Mode.{Mode}
 use Rattle.tokens.specs.declared.Fix.{Fix}
-use Rattle.tokens.specs.declared.Two.{Two}
 use Rattle.tokens.specs.declared.Two.the-variants.{Join as Joins, Until}
 use Rattle.tokens.specs.declared.Token.{Token}
 use Rattle.tokens.specs.declared.Token.the-variants.{Leaf as LeafToken, Not, Both, Modal, Binder}

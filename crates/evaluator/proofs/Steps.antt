@@ -3,7 +3,7 @@ use mathlib.Core.Path.{_≡_, refl, sym, ap, _∙_, subst}
 use mathlib.Core.Logic.{⊎-elim, inl, inr}
 use mathlib.Core.Bool.{Bool, true, false}
 use mathlib.Core.List.{List, [], _∷_, _++_, map, List·Memᴰ as Mem, List·Memᴰ·head as here, List·Memᴰ·tail as there, List·Memᴰ·cases-cons as mem-cases, List·Memᴰ·append-cases as append-cases, List·Memᴰ·not-nil as mem-nil}
-use Prim.Native.Nat.{ℕ, _+_, _-_, _*_, _<_}
+use Prim.Native.Nat.{ℕ, _+_, _*_, _<_}
 use native.Mathlib.Omega.{arith}
 use lib.ListN.{length, set, take}
 use Rattle.mucalculus.specs.Form.{Form, neg}
@@ -33,14 +33,14 @@ use Rattle.collect.specs.Lent.{live}
 use Rattle.steps.specs.declared.Step.{Step}
 use Rattle.steps.specs.declared.Step.the-variants as step
 use Rattle.steps.specs.Steps.{stepF, operandsOf, Fits}
-use Rattle.counting.specs.Taken.{madeIn, countIn, Counted}
+use Rattle.counting.specs.Taken.{madeIn, Counted}
 use Rattle.counting.specs.declared.Taken.{Taken}
 use Rattle.counting.specs.declared.Taken.the-variants as taken
 use Rattle.book.specs.Bridge.{fnOf}
 use Rattle.book.specs.Held.{Held, denoted, held-arrow, held-push, Needed}
 use Rattle.book.specs.Over.{sizeOf, levels-not}
 use Rattle.book.specs.Run.{Outcome, value, andThen, twoBy, confine}
-use Rattle.book.specs.Follow.{Ended, ends, EvalsBy, endedBy, evals-same, evals-stop, evals-then, evals-from, evals-two, evals-two-stop, evals-out, evals-on, evals-valid}
+use Rattle.book.specs.Follow.{ends, EvalsBy, endedBy, evals-same, evals-stop, evals-then, evals-from, evals-two, evals-two-stop, evals-out, evals-on, evals-valid}
 use Rattle.modal.specs.declared.Limits.{Limits}
 use Rattle.modal.specs.Chain.{Alike, alike-cons, alike-sym, alike-once, step-roots, counted-roots, Moved, moved-trans, Took, took}
 use Rattle.evaluator.specs.Scene.{stackSize, Scene, modelIn, overIn, valueIn, runIn, existIn, pushed, Ready, Part, endedOf, endedIn, EndsAt, Answers, fromTaken, joinStep, LeafAnswers, LivePre, LivePost, JoinedTo, JoinedPost, ConfinedPre, ConfinedTo, ConfinedPost}

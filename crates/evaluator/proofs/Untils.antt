@@ -3,21 +3,21 @@
 use mathlib.Core.Path.{_≡_, refl, sym, ap, _∙_, subst}
 use mathlib.Core.Logic.{inr}
 use mathlib.Core.Bool.{Bool, true, false}
-use mathlib.Core.List.{List, _∷_, List·Memᴰ as Mem, List·Memᴰ·head as here, List·Memᴰ·tail as there}
-use Prim.Native.Nat.{ℕ, suc, _+_, _*_, _^_, _≤_, _<_}
+use mathlib.Core.List.{List, List·Memᴰ·head as here, List·Memᴰ·tail as there}
+use Prim.Native.Nat.{ℕ, _+_, _*_, _≤_, _<_}
 use native.Mathlib.Omega.{arith}
 use lib.Dec.{T}
 use lib.ListN.{length, set, take, length-set}
 use lib.Seq.{set-out}
 use Rattle.mucalculus.specs.Order.{Below}
-use Rattle.mucalculus.specs.Form.{Form, var, top, conj, disj, box, dia, put}
+use Rattle.mucalculus.specs.Form.{Form, var, top, conj, box, dia}
 use Rattle.mucalculus.specs.Written.{absent, goes, written, put-here}
 use Rattle.tokens.specs.declared.Grammar.the-variants.{Runs}
 use Rattle.tokens.specs.declared.Mode.{Mode}
 use Rattle.tokens.specs.declared.Mode.the-variants.{All, Some}
 use Rattle.tokens.specs.declared.Join.the-variants.{And, Or}
 use Rattle.tokens.specs.declared.Fix.{Fix}
-use Rattle.formula.specs.Parse.{untilForm, modalForm, parse}
+use Rattle.formula.specs.Parse.{untilForm, parse}
 use Rattle.formula.specs.Checks.{passOf}
 use Rattle.formula.specs.declared.Pass.{Pass}
 use Rattle.formula.specs.declared.Pass.the-variants.{Past, Refused4}
@@ -28,7 +28,6 @@ use Rattle.formula.proofs.Versions.{takes-absent}
 use Rattle.accounts.specs.declared.Count.{Count}
 use Rattle.layout.specs.Places.{VALID, HEADER, FIRST-RELATION}
 use Rattle.layout.specs.View.{View}
-use Rattle.diagram.specs.Rows.{Rows}
 use Rattle.diagram.specs.Post.{Denotes}
 use Rattle.diagram.specs.Keep.{Keeps, keeps-denotes}
 use Rattle.soundness.specs.Used.{rowsOf}
@@ -44,7 +43,7 @@ use Rattle.evaluator.specs.declared.Body.{Body}
 use Rattle.evaluator.specs.declared.Body.the-variants.{Binder, Until}
 use Rattle.evaluator.specs.declared.Context.{Context}
 use Rattle.evaluator.specs.declared.Evaluated.{Evaluated}
-use Rattle.evaluator.specs.declared.Evaluated.the-variants.{Value, Full}
+use Rattle.evaluator.specs.declared.Evaluated.the-variants.{Value}
 use Rattle.evaluator.proofs.Outcomes.{Halts}
 use Rattle.evaluator.proofs.State.{valid-asks, valid-read}
 use Rattle.evaluator.proofs.Tokens.{read-depth}

@@ -10,7 +10,7 @@ use lib.ListN.{length, getD, set, take}
 use Rattle.mucalculus.specs.Order.{Below}
 use Rattle.mucalculus.specs.Means.{clip}
 use Rattle.mucalculus.specs.Exist.{Inside}
-use Rattle.mucalculus.specs.Form.{Form, now, neg, conj, disj, Pairs, Model, Env, put, bound, filled as hasContent}
+use Rattle.mucalculus.specs.Form.{Form, neg, conj, disj, Pairs, Model, Env, put, bound, filled as hasContent}
 use Rattle.mucalculus.specs.Written.{goes}
 use Rattle.tokens.specs.declared.Grammar.{Grammar}
 use Rattle.tokens.specs.declared.Grammar.the-variants.{Pairs as PairsGrammar, Runs}
