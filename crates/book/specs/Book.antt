@@ -19,8 +19,9 @@ use Rattle.accounts.specs.declared.Terms.{Terms}
 use Rattle.accounts.specs.Terms.{lent, named, rowsUnder, roundsUnder}
 use Rattle.accounts.specs.declared.Count.{Count}
 use Rattle.accounts.specs.Count.{nothing}
+use Rattle.book.specs.Over.{states, pairs}
 use Rattle.book.specs.Bridge.{fnOf, fnOfPairs}
-use Rattle.book.specs.Ticks.{contents, ticks, pairTicks, relationTicks, Verdict, counted, full, spent, verdict}
+use Rattle.book.specs.Ticks.{contents, ticks, relationTicks, Verdict, counted, full, spent, verdict}
 
 -- "The table has N rows, 32 registers, 8 relations"; tallies are the accounts'
 abbrev pub registers : ℕ
@@ -166,14 +167,14 @@ relationSteps b t f = ended b (verdict (b .N) 0 nothing (relationTicks (b .n) (l
 
 -- set r, after its checks: the states "by the meaning above over the book as it stood before the call"; "Both limits hold"
 abbrev pub setSteps : Book → Terms → ℕ → ℕ → Form → Done
-setSteps b acc r R f = ended b (verdict (rowsUnder (b .N) acc) (roundsUnder R acc) nothing (ticks (modelOf b) noEnv (liveOf b) f)) (λ q. setDone b r (means (modelOf b) noEnv f) q)
+setSteps b acc r R f = ended b (verdict (rowsUnder (b .N) acc) (roundsUnder R acc) nothing (ticks (states (modelOf b) noEnv) (liveOf b) f)) (λ q. setDone b r (means (modelOf b) noEnv f) q)
 
 -- valid, after its checks: "an answered one puts V into the book, and it is full by the same row rule as a relation call"
 abbrev pub validDone : Book → Form → Done
 validDone b f = (withValid b (statesOf (b .n) f), answered (some 0))
 
 abbrev pub validSteps : Book → Form → Done
-validSteps b f = ended b (verdict (b .N) 0 nothing (pairTicks (b .n) (liveOf b) f)) (λ q. validDone b f)
+validSteps b f = ended b (verdict (b .N) 0 nothing (ticks (pairs (b .n)) (liveOf b) f)) (λ q. validDone b f)
 
 -- go on where the number is 0, else refuse with it
 abbrev pub passing : Book → ℕ → Done → Done

@@ -12,6 +12,7 @@ use Rattle.accounts.specs.declared.Terms.{Terms}
 use Rattle.accounts.specs.Terms.{named, rowsUnder, roundsUnder}
 use Rattle.accounts.specs.declared.Count.{Count}
 use Rattle.accounts.specs.Count.{nothing}
+use Rattle.book.specs.Over.{states}
 use Rattle.book.specs.Ticks.{ticks, Verdict, counted, full, spent, verdict}
 use Rattle.book.specs.Run.{Outcome, value, full as fullRun, spent as spentRun, run, pairsFit, pairsCount, relationFits, relationCount}
 use Rattle.book.specs.Verdicts.{settle, run-ticks, pairs-ticks, relation-ticks}
@@ -33,7 +34,7 @@ setEnds b r fullRun = refuse b 8
 setEnds b r spentRun = refuse b 9
 
 abbrev pub setByRun : Book → Terms → ℕ → ℕ → Form → Done
-setByRun b acc r R f = setEnds b r (run (modelOf b) (rowsUnder (b .N) acc) (roundsUnder R acc) noEnv (liveOf b) f nothing)
+setByRun b acc r R f = setEnds b r (run (states (modelOf b) noEnv) (rowsUnder (b .N) acc) (roundsUnder R acc) (liveOf b) f nothing)
 
 abbrev pub doesByRun : Book → Call → Done
 doesByRun b (relation t bs) = let d = formulaCall b Relation bs (relationByRun b t) in cond (ltb t relations) d (refuse b 3)
@@ -70,7 +71,7 @@ ends-by-run b r A spent = refl
 pub set-by-run : (b : Book) (acc : Terms) (r R : ℕ) (f : Form) → T (steady f) → setByRun b acc r R f ≡ setSteps b acc r R f
 set-by-run b acc r R f t =
     ap (setEnds b r) (run-ticks (rowsUnder (b .N) acc) (roundsUnder R acc) (modelOf b) noEnv (liveOf b) f nothing t)
-    ∙ ends-by-run b r (means (modelOf b) noEnv f) (verdict (rowsUnder (b .N) acc) (roundsUnder R acc) nothing (ticks (modelOf b) noEnv (liveOf b) f))
+    ∙ ends-by-run b r (means (modelOf b) noEnv f) (verdict (rowsUnder (b .N) acc) (roundsUnder R acc) nothing (ticks (states (modelOf b) noEnv) (liveOf b) f))
 
 -- two ways to go on that agree on the formulas that pass
 formula-same : (b : Book) (c : Kind) (bs : List ℕ) (x y : Form → Done) → (Passed b c bs → x (formulaIn b c bs) ≡ y (formulaIn b c bs)) → formulaCall b c bs x ≡ formulaCall b c bs y

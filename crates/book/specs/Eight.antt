@@ -15,7 +15,8 @@ use Rattle.tokens.specs.declared.Kind.the-variants.{Relation, Set, Valid}
 use Rattle.accounts.specs.Terms.{named, rowsUnder, roundsUnder}
 use Rattle.accounts.specs.declared.Count.{Count}
 use Rattle.accounts.specs.Count.{nothing}
-use Rattle.book.specs.Ticks.{Tick, ticks, pairTicks, relationTicks, Verdict, counted, full, spent, verdict, withinRounds, peak}
+use Rattle.book.specs.Over.{states, pairs}
+use Rattle.book.specs.Ticks.{Tick, ticks, relationTicks, Verdict, counted, full, spent, verdict, withinRounds, peak}
 use Rattle.book.specs.Verdicts.{fit}
 use Rattle.book.specs.Larger.{fit-peak, full-peak}
 use Rattle.book.specs.Effects.{does-set, does-relation, does-valid}
@@ -41,9 +42,9 @@ EightAt b (relation t bs) k =
     t < relations → checks b Relation bs ≡ 0 → (k ≡ 8) ↔ (b .N < peak (withinRounds 0 0 (relationTicks (b .n) (liveOf b) (b .valid) (formulaIn b Relation bs))))
 EightAt b (set acc r R bs) k =
     r < registers → T (named acc) → checks b Set bs ≡ 0
-    → (k ≡ 8) ↔ (rowsUnder (b .N) acc < peak (withinRounds (roundsUnder R acc) 0 (ticks (modelOf b) noEnv (liveOf b) (formulaIn b Set bs))))
+    → (k ≡ 8) ↔ (rowsUnder (b .N) acc < peak (withinRounds (roundsUnder R acc) 0 (ticks (states (modelOf b) noEnv) (liveOf b) (formulaIn b Set bs))))
 -- "it is full by the same row rule as a relation call"
-EightAt b (valid bs) k = T (unfilled b) → checks b Valid bs ≡ 0 → (k ≡ 8) ↔ (b .N < peak (withinRounds 0 0 (pairTicks (b .n) (liveOf b) (formulaIn b Valid bs))))
+EightAt b (valid bs) k = T (unfilled b) → checks b Valid bs ≡ 0 → (k ≡ 8) ↔ (b .N < peak (withinRounds 0 0 (ticks (pairs (b .n)) (liveOf b) (formulaIn b Valid bs))))
 EightAt b (clear r) k = Unit {0}
 EightAt b collect k = Unit {0}
 
@@ -55,12 +56,12 @@ eight-exact b (relation t bs) = λ l z.
     (eight b (b .N) 0 (relationTicks (b .n) (liveOf b) (b .valid) f) (λ q. relationDone b t f q) (λ q. refl))
 eight-exact b (set acc r R bs) = λ l t z.
     let f = formulaIn b Set bs in
-    subst (λ (d : Done). (d .1 .number ≡ 8) ↔ (rowsUnder (b .N) acc < peak (withinRounds (roundsUnder R acc) 0 (ticks (modelOf b) noEnv (liveOf b) f)))) (sym (does-set b acc r R bs l t z))
-    (eight b (rowsUnder (b .N) acc) (roundsUnder R acc) (ticks (modelOf b) noEnv (liveOf b) f) (λ q. setDone b r (means (modelOf b) noEnv f) q) (λ q. refl))
+    subst (λ (d : Done). (d .1 .number ≡ 8) ↔ (rowsUnder (b .N) acc < peak (withinRounds (roundsUnder R acc) 0 (ticks (states (modelOf b) noEnv) (liveOf b) f)))) (sym (does-set b acc r R bs l t z))
+    (eight b (rowsUnder (b .N) acc) (roundsUnder R acc) (ticks (states (modelOf b) noEnv) (liveOf b) f) (λ q. setDone b r (means (modelOf b) noEnv f) q) (λ q. refl))
 eight-exact b (valid bs) = λ t z.
     let f = formulaIn b Valid bs in
-    subst (λ (d : Done). (d .1 .number ≡ 8) ↔ (b .N < peak (withinRounds 0 0 (pairTicks (b .n) (liveOf b) f)))) (sym (does-valid b bs t z))
-    (eight b (b .N) 0 (pairTicks (b .n) (liveOf b) f) (λ q. validDone b f) (λ q. refl))
+    subst (λ (d : Done). (d .1 .number ≡ 8) ↔ (b .N < peak (withinRounds 0 0 (ticks (pairs (b .n)) (liveOf b) f)))) (sym (does-valid b bs t z))
+    (eight b (b .N) 0 (ticks (pairs (b .n)) (liveOf b) f) (λ q. validDone b f) (λ q. refl))
 eight-exact b (clear r) = tt
 eight-exact b collect = tt
 

@@ -16,6 +16,7 @@ use Rattle.accounts.specs.declared.Terms.{Terms}
 use Rattle.accounts.specs.Terms.{named, rowsUnder, roundsUnder}
 use Rattle.accounts.specs.declared.Count.{Count}
 use Rattle.accounts.specs.Count.{nothing}
+use Rattle.book.specs.Over.{states}
 use Rattle.book.specs.Ticks.{ticks, Verdict, counted, full, spent, verdict}
 use Rattle.book.specs.Run.{Outcome, run, pairF, pairsFit, pairsCount, relationFits, relationCount}
 use Rattle.diagram.specs.Level.{Fn}
@@ -51,10 +52,10 @@ setReply nine = record { number = 9; rounds = 0; peak = 0; value = 0 }
 
 -- from the evaluator's promise to the call's: the table shows the book after its steps, and the reply agrees with its answer
 pub set-served : (b : Book) (t : Table) (acc : Terms) (r R : ℕ) (f : Form) (rows : Rows) (y : Ended) → Shows b t → T (steady f)
-    → Evals (b .n) (b .N) (t .rows) rows (rootsOf t) (run (modelOf b) (rowsUnder (b .N) acc) (roundsUnder R acc) noEnv (liveOf b) f nothing) y
+    → Evals (b .n) (b .N) (t .rows) rows (rootsOf t) (run (states (modelOf b) noEnv) (rowsUnder (b .N) acc) (roundsUnder R acc) (liveOf b) f nothing) y
     → Shows (setSteps b acc r R f .0) (setLeaves t r rows y) × Agrees (setSteps b acc r R f .1) (setReply y)
 set-served b t acc r R f rows y s i d =
-    go (verdict (rowsUnder (b .N) acc) (roundsUnder R acc) nothing (ticks (modelOf b) noEnv (liveOf b) f)) y (subst (λ (o : Outcome). Matches (b .n) rows o y) (run-ticks (rowsUnder (b .N) acc) (roundsUnder R acc) (modelOf b) noEnv (liveOf b) f nothing i) (d .result))
+    go (verdict (rowsUnder (b .N) acc) (roundsUnder R acc) nothing (ticks (states (modelOf b) noEnv) (liveOf b) f)) y (subst (λ (o : Outcome). Matches (b .n) rows o y) (run-ticks (rowsUnder (b .N) acc) (roundsUnder R acc) (modelOf b) noEnv (liveOf b) f nothing i) (d .result))
   where
     after : Shows b (withRows t rows)
     after = shows-rows b t s rows (d .wf) (d .kept)
@@ -79,7 +80,7 @@ set-served b t acc r R f rows y s i d =
 
 -- SET, after its checks
 pub set-serves : (b : Book) (t : Table) (acc : Terms) (r R : ℕ) (bs : List ℕ) (rows : Rows) (y : Ended) → Shows b t → r < registers → T (named acc)
-    → checks b Set bs ≡ 0 → Evals (b .n) (b .N) (t .rows) rows (rootsOf t) (run (modelOf b) (rowsUnder (b .N) acc) (roundsUnder R acc) noEnv (liveOf b) (formulaIn b Set bs) nothing) y
+    → checks b Set bs ≡ 0 → Evals (b .n) (b .N) (t .rows) rows (rootsOf t) (run (states (modelOf b) noEnv) (rowsUnder (b .N) acc) (roundsUnder R acc) (liveOf b) (formulaIn b Set bs) nothing) y
     → Serves b (set acc r R bs) t (setLeaves t r rows y) (setReply y)
 set-serves b t acc r R bs rows y s l h z d = record {
   shows = subst (λ (x : Done). Shows (x .0) (setLeaves t r rows y)) (sym same) (p .0);

@@ -1,23 +1,22 @@
--- An evaluator of relation formulas over arrows follows the book: no rounds, and each part's value is its meaning. Assumes nothing.
-use mathlib.Core.Path.{_≡_, refl, sym, ap, ap₂, _∙_, subst}
+-- A chain of steps over arrows follows the book: no rounds, a function as its value, and all that is counted are the needs. Assumes nothing.
+use mathlib.Core.Path.{_≡_, refl, sym, ap₂, _∙_, subst}
 use mathlib.Core.Bool.{Bool, true, false, _&&_}
-use mathlib.Core.List.{List, _∷_, List·Memᴰ·head as here, List·Memᴰ·tail as there}
-use Prim.Native.Nat.{ℕ, suc, _*_, _<_}
+use mathlib.Core.List.{List}
+use Prim.Native.Nat.{ℕ, _*_}
 use lib.Dec.{leb}
-use Rattle.mucalculus.specs.Form.{Form, bot, top, neg, now, next}
+use Rattle.mucalculus.specs.Form.{bot, top}
 use Rattle.diagram.specs.Level.{Fn}
 use Rattle.diagram.specs.Need.{stepNeed}
-use Rattle.diagram.specs.Rows.{Rows, den, WellFormed}
+use Rattle.diagram.specs.Rows.{Rows, WellFormed}
 use Rattle.diagram.specs.Den.{den-zero, den-one}
 use Rattle.diagram.specs.Post.{Result, at, full as noRows, Denotes}
-use Rattle.diagram.specs.Keep.{Keeps, keeps-refl, keeps-trans, keeps-within, keeps-on, keeps-denotes}
+use Rattle.diagram.specs.Keep.{Keeps, keeps-refl}
 use Rattle.diagram.specs.Step.{StepPost}
-use Rattle.diagram.specs.Steps.{bitF, notF}
 use Rattle.accounts.specs.declared.Count.{Count}
 use Rattle.accounts.specs.Count.{needing}
-use Rattle.book.specs.Bridge.{fnOf-holds, pairs-now, pairs-next, pairs-not}
+use Rattle.book.specs.Bridge.{fnOf-holds}
 use Rattle.book.specs.Run.{pairF, pairsFit, pairsCount}
-use Rattle.book.specs.Held.{Held, denotes-same, denoted, held-arrow, held-push, held-keeps, Needed, answered, held-need, step-fits}
+use Rattle.book.specs.Held.{Held, denotes-same, held-arrow, Needed, answered, held-need, step-fits}
 
 -- the answer is the book's: an arrow of F and what the book counts, where every step so far fits, and otherwise none
 abbrev pub PairMatches : ℕ → Rows → Bool → Fn → Count → Result → Count → Type 0
@@ -87,45 +86,3 @@ module _ (n N : ℕ) where
             → PairMatches n after (answered answer) G (needing c (stepNeed (2 * n) live′ G)) answer (needing p k)
         go (at a) q i = (q .result .0, ap₂ needing pc (i ∙ held-need g G))
         go noRows q i = tt
-
-    -- a bit: current bit p is level 2p, next bit p level 2p + 1
-    pub pair-now : {limit : ℕ} {after : Rows} (p : ℕ) (q : Count) → p < n → (answer : Result) → StepPost (2 * n) N limit before after roots answer (bitF (2 * p)) → (k : ℕ) → Needed (2 * n) before roots (bitF (2 * p)) answer k
-        → PairEvals n N before after roots (pairsFit n limit live (now p)) (pairF n (now p)) (pairsCount n live (now p) q) answer (needing q k)
-    pair-now p q l answer s k x = pair-step (pairF n (now p)) q q refl (λ k. k) h (sym (pairs-now n p l)) answer s k x
-
-    pub pair-next : {limit : ℕ} {after : Rows} (p : ℕ) (q : Count) → p < n → (answer : Result) → StepPost (2 * n) N limit before after roots answer (bitF (suc (2 * p))) → (k : ℕ) → Needed (2 * n) before roots (bitF (suc (2 * p))) answer k
-        → PairEvals n N before after roots (pairsFit n limit live (next p)) (pairF n (next p)) (pairsCount n live (next p) q) answer (needing q k)
-    pair-next p q l answer s k x = pair-step (pairF n (next p)) q q refl (λ k. k) h (sym (pairs-next n p l)) answer s k x
-
-    -- NOT
-    pub pair-not : {limit : ℕ} {mid after : Rows} {a : ℕ} {p : Count} (q : Count) (f : Form) → PairEvals n N before mid roots (pairsFit n limit live f) (pairF n f) (pairsCount n live f q) (at a) p
-        → (answer : Result) → StepPost (2 * n) N limit mid after (a ∷ roots) answer (notF (den (2 * n) mid a)) → (k : ℕ) → Needed (2 * n) mid (a ∷ roots) (notF (den (2 * n) mid a)) answer k
-        → PairEvals n N before after roots (pairsFit n limit live (neg f)) (pairF n (neg f)) (pairsCount n live (neg f) q) answer (needing p k)
-    pair-not {limit} {p = p} q f d answer s k x = pair-then (pairsFit n limit live f) _ d (λ e i.
-        pair-step (pairF n (neg f)) p (pairsCount n live f q) i (keeps-on (d .kept)) (held-push (held-keeps h (d .kept)) e) (ap notF (denoted e) ∙ sym (pairs-not n f)) answer s k x)
-
-    -- AND and OR: `whole` is the formula over f and g
-    pub pair-two : (whole f g : Form) (opF : Fn → Fn → Fn) → pairF n whole ≡ opF (pairF n f) (pairF n g)
-        → {limit : ℕ} {mid late after : Rows} {a b : ℕ} {p q : Count} (r : Count) → PairEvals n N before mid roots (pairsFit n limit live f) (pairF n f) (pairsCount n live f r) (at a) p
-        → (Denotes (2 * n) mid a (pairF n f) → PairEvals n N mid late (a ∷ roots) (pairsFit n limit (pairF n f ∷ live) g) (pairF n g) (pairsCount n (pairF n f ∷ live) g p) (at b) q)
-        → (answer : Result) → StepPost (2 * n) N limit late after (b ∷ a ∷ roots) answer (opF (den (2 * n) late a) (den (2 * n) late b))
-        → (k : ℕ) → Needed (2 * n) late (b ∷ a ∷ roots) (opF (den (2 * n) late a) (den (2 * n) late b)) answer k
-        → PairEvals n N before after roots
-        (pairsFit n limit live f && (pairsFit n limit (pairF n f ∷ live) g && leb (stepNeed (2 * n) (pairF n g ∷ pairF n f ∷ live) (pairF n whole)) limit)) (pairF n whole)
-        (needing (pairsCount n (pairF n f ∷ live) g (pairsCount n live f r)) (stepNeed (2 * n) (pairF n g ∷ pairF n f ∷ live) (pairF n whole))) answer (needing q k)
-    pair-two whole f g opF same {limit} {late = late} {a = a} {p = p} {q} r d f′ answer s k x = pair-then (pairsFit n limit live f) _ d (λ e i.
-        let c = f′ e in
-        let e′ = keeps-denotes (c .kept) (here refl) e in
-        let w : Keeps before late roots = keeps-on (d .kept) (c .kept) in
-        pair-then (pairsFit n limit (pairF n f ∷ live) g) _ (record { wf = c .wf; kept = w; result = c .result }) (λ e2 j.
-        pair-step (pairF n whole) q (pairsCount n (pairF n f ∷ live) g (pairsCount n live f r)) (j ∙ ap (pairsCount n (pairF n f ∷ live) g) i) (λ l. keeps-trans w (keeps-within (λ x i. there (there i)) l))
-        (held-push (held-push (held-keeps h w) e′) e2) (ap₂ opF (denoted e′) (denoted e2) ∙ sym same) answer s k x))
-
-    -- the right part stopped
-    pub pair-two-stop : (limit : ℕ) (whole f g : Form) (whole-count r : Count) {mid late : Rows} {a : ℕ} {p q : Count} → PairEvals n N before mid roots (pairsFit n limit live f) (pairF n f) (pairsCount n live f r) (at a) p
-        → (Denotes (2 * n) mid a (pairF n f) → PairEvals n N mid late (a ∷ roots) (pairsFit n limit (pairF n f ∷ live) g) (pairF n g) (pairsCount n (pairF n f ∷ live) g p) noRows q)
-        → PairEvals n N before late roots
-        (pairsFit n limit live f && (pairsFit n limit (pairF n f ∷ live) g && leb (stepNeed (2 * n) (pairF n g ∷ pairF n f ∷ live) (pairF n whole)) limit)) (pairF n whole) whole-count noRows q
-    pair-two-stop limit whole f g whole-count r d k = pair-then (pairsFit n limit live f) _ d (λ e i.
-        let c = k e in
-        pair-stop (pairsFit n limit (pairF n f ∷ live) g) _ (pairF n whole) whole-count (record { wf = c .wf; kept = keeps-on (d .kept) (c .kept); result = c .result }))

@@ -24,8 +24,9 @@ use Rattle.accounts.specs.declared.Terms.{Terms}
 use Rattle.accounts.specs.Terms.{named, rowsUnder, roundsUnder}
 use Rattle.accounts.specs.declared.Count.{Count}
 use Rattle.accounts.specs.Count.{nothing}
+use Rattle.book.specs.Over.{states, pairs}
 use Rattle.book.specs.Bridge.{Sized, SizedPairs, sized-table}
-use Rattle.book.specs.Ticks.{ticks, pairTicks, relationTicks, Verdict, counted, full, spent, verdict, peak, needsIn}
+use Rattle.book.specs.Ticks.{ticks, relationTicks, Verdict, counted, full, spent, verdict, peak, needsIn}
 use Rattle.book.specs.Verdicts.{roundsIn, verdict-counted, ticks-rounds}
 use Rattle.book.specs.Book.{formulaIn, Book, fresh, Call, relation, set, valid, clear, collect, withValid, everything, statesOf, vacant, unfilled, validDone, validSteps, registers, relations, modelOf, liveOf, regFilled, relFilled, checks, Done, refuse, withRel, withReg, ended, relationDone, setDone, relationSteps, setSteps, passing, formulaCall, does}
 
@@ -110,7 +111,7 @@ set-cases P b acc r R bs refuses goes =
     range-cases P r registers _ _
     (λ l. test-cases P (named acc) _ _
     (λ t. formula-cases b Set bs P (setSteps b acc r R) (λ k i j. refuses k (omega arith) (omega arith))
-    (λ p. ended-cases P b (verdict (rowsUnder (b .N) acc) (roundsUnder R acc) nothing (ticks (modelOf b) noEnv (liveOf b) (formulaIn b Set bs))) _ (goes l p) (refuses 7 (omega arith) (omega arith)) (refuses 8 (omega arith) (omega arith))))
+    (λ p. ended-cases P b (verdict (rowsUnder (b .N) acc) (roundsUnder R acc) nothing (ticks (states (modelOf b) noEnv) (liveOf b) (formulaIn b Set bs))) _ (goes l p) (refuses 7 (omega arith) (omega arith)) (refuses 8 (omega arith) (omega arith))))
     (λ e. refuses 13 (omega arith) (omega arith)))
     (λ l. refuses 2 (omega arith) (omega arith))
 
@@ -127,7 +128,7 @@ pub valid-cases : (P : Done → Type 0) (b : Book) (bs : List ℕ) → ((k : ℕ
 valid-cases P b bs refuses goes =
     test-cases P (unfilled b) _ _
     (λ t. formula-cases b Valid bs P (validSteps b) (λ k i j. refuses k (omega arith) (omega arith))
-    (λ p. ended-cases P b (verdict (b .N) 0 nothing (pairTicks (b .n) (liveOf b) (formulaIn b Valid bs))) _ (λ q. goes t p) (refuses 7 (omega arith) (omega arith)) (refuses 8 (omega arith) (omega arith))))
+    (λ p. ended-cases P b (verdict (b .N) 0 nothing (ticks (pairs (b .n)) (liveOf b) (formulaIn b Valid bs))) _ (λ q. goes t p) (refuses 7 (omega arith) (omega arith)) (refuses 8 (omega arith) (omega arith))))
     (λ e. refuses 12 (omega arith) (omega arith))
 
 -- ---- what is stored
@@ -137,20 +138,20 @@ pub record SetStored (b : Book) (acc : Terms) (r R : ℕ) (f : Form) (d : Done) 
   pub book : d .0 ≡ withReg b r (some (means (modelOf b) noEnv f))
   pub count : d .1 .rounds ≡ rounds (modelOf b) noEnv f
   pub within : rounds (modelOf b) noEnv f ≤ roundsUnder R acc
-  pub peaks : d .1 .peak ≡ peak (needsIn (ticks (modelOf b) noEnv (liveOf b) f))
+  pub peaks : d .1 .peak ≡ peak (needsIn (ticks (states (modelOf b) noEnv) (liveOf b) f))
 
 pub set-stored : (b : Book) (acc : Terms) (r R : ℕ) (f : Form) → setSteps b acc r R f .1 .number ≡ 0 → SetStored b acc r R f (setSteps b acc r R f)
-set-stored b acc r R f h = go (verdict (rowsUnder (b .N) acc) (roundsUnder R acc) nothing (ticks (modelOf b) noEnv (liveOf b) f)) refl h
+set-stored b acc r R f h = go (verdict (rowsUnder (b .N) acc) (roundsUnder R acc) nothing (ticks (states (modelOf b) noEnv) (liveOf b) f)) refl h
   where
     A : List Bool
     A = means (modelOf b) noEnv f
 
-    go : (w : Verdict) → verdict (rowsUnder (b .N) acc) (roundsUnder R acc) nothing (ticks (modelOf b) noEnv (liveOf b) f) ≡ w → ended b w (λ q. setDone b r A q) .1 .number ≡ 0 → SetStored b acc r R f (ended b w (λ q. setDone b r A q))
+    go : (w : Verdict) → verdict (rowsUnder (b .N) acc) (roundsUnder R acc) nothing (ticks (states (modelOf b) noEnv) (liveOf b) f) ≡ w → ended b w (λ q. setDone b r A q) .1 .number ≡ 0 → SetStored b acc r R f (ended b w (λ q. setDone b r A q))
     go (counted q) e z =
-        let d = verdict-counted (rowsUnder (b .N) acc) (roundsUnder R acc) nothing (ticks (modelOf b) noEnv (liveOf b) f) q zero-le e in
-        let j : q .rounds ≡ 0 + roundsIn (ticks (modelOf b) noEnv (liveOf b) f) = ap (λ (c : Count). c .rounds) (d .0) in
+        let d = verdict-counted (rowsUnder (b .N) acc) (roundsUnder R acc) nothing (ticks (states (modelOf b) noEnv) (liveOf b) f) q zero-le e in
+        let j : q .rounds ≡ 0 + roundsIn (ticks (states (modelOf b) noEnv) (liveOf b) f) = ap (λ (c : Count). c .rounds) (d .0) in
         let i : q .rounds ≡ rounds (modelOf b) noEnv f = omega (arith, j, ticks-rounds (modelOf b) noEnv (liveOf b) f) in
-        let k : max 0 (peak (needsIn (ticks (modelOf b) noEnv (liveOf b) f))) ≡ peak (needsIn (ticks (modelOf b) noEnv (liveOf b) f)) = omega arith in
+        let k : max 0 (peak (needsIn (ticks (states (modelOf b) noEnv) (liveOf b) f))) ≡ peak (needsIn (ticks (states (modelOf b) noEnv) (liveOf b) f)) = omega arith in
         record { book = refl; count = i; within = omega (arith, d .1); peaks = ap (λ (c : Count). c .peak) (d .0) ∙ k }
     go full e z = absurd (omega arith)
     go spent e z = absurd (omega arith)

@@ -8,7 +8,7 @@ use lib.Dec.{leb, ltb}
 use Rattle.mucalculus.specs.Sets.{same}
 use Rattle.mucalculus.specs.Order.{start}
 use Rattle.mucalculus.specs.Form.{Form, bot, top, neg, conj, disj, now, next, var, reg, box, dia, mu, nu, until, Pairs, Model, Env, put}
-use Rattle.mucalculus.specs.Means.{compl, inter, union, bitStates, always, sometimes, size, exist, related, means, meansPair}
+use Rattle.mucalculus.specs.Means.{compl, inter, union, bitStates, always, sometimes, size, exist, related, means}
 use Rattle.mucalculus.specs.Until.{further, onward}
 use Rattle.accounts.specs.declared.Count.{Count}
 use Rattle.accounts.specs.Count.{needing, another}
@@ -16,6 +16,7 @@ use Rattle.diagram.specs.Level.{Fn}
 use Rattle.diagram.specs.Need.{stepNeed}
 use Rattle.diagram.specs.Steps.{andF, shiftF, existsF}
 use Rattle.book.specs.Bridge.{fnOf, fnOfPairs}
+use Rattle.book.specs.Over.{Over, states, pairs, bitsOf, pairF, valueF}
 
 -- what an evaluation does, in order
 pub data Tick : Type 0 where
@@ -71,7 +72,7 @@ boxNeeds n live E R A =
     let B = inter (2 ^ n) (compl (2 ^ n) A) E in
     notNeeds n live E A ++ (diaNeeds n live R B ++ notNeeds n live E (sometimes (2 ^ n) R B))
 
--- ---- ticks of a set's formula
+-- ---- rounds and until, over states
 
 -- steps and no round
 abbrev pub steps : List ℕ → List Tick
@@ -102,58 +103,58 @@ untilTicks n live b E R F G fs gs A =
     let held = fnOf n A ∷ live in
     gs held ++ (keepTicks n (fnOf n G ∷ held) b E R F fs A ++ steps (twoNeed n held (union (2 ^ n)) G (inter (2 ^ n) F (further b (2 ^ n) R A)) ∷ []))
 
+-- ---- ticks of a formula
+
+-- NOT of f, over states within V
+abbrev pub negNeeds : Over → List Fn → Form → List ℕ
+negNeeds (states m e) live f = notNeeds (m .n) live (exist m) (means m e f)
+negNeeds (pairs n) live f = stepNeed (2 * n) (pairF n f ∷ live) (pairF n (neg f)) ∷ []
+
+-- a current bit, over states within V, and a next bit
+abbrev pub nowNeeds : Over → List Fn → ℕ → List ℕ
+nowNeeds (states m e) live p = bitNeeds (m .n) live (exist m) p
+nowNeeds (pairs n) live p = stepNeed (2 * n) live (pairF n (now p)) ∷ []
+
+abbrev pub nextNeeds : Over → List Fn → ℕ → List ℕ
+nextNeeds (states m e) live p = []
+nextNeeds (pairs n) live p = stepNeed (2 * n) live (pairF n (next p)) ∷ []
+
+-- AND or OR of f and g, which is h
+abbrev pub joinNeed : Over → List Fn → Form → Form → Form → ℕ
+joinNeed o live f g h = stepNeed (2 * bitsOf o) (valueF o g ∷ valueF o f ∷ live) (valueF o h)
+
+-- what the formulas of states alone have takes no step over pairs
+abbrev pub ofStates : {X : Type 0} → Over → X → (Model → Env → X) → X
+ofStates (states m e) x h = h m e
+ofStates (pairs n) x h = x
+
 -- the ticks of f: "Left before right, parts before operator". `live` are the functions live throughout: V, filled registers and
 -- relations, current sets of open binders, values made and not yet used. "True takes no step". "Mu starts from the empty set", "nu starts from V";
--- a binder has ended after 2^n + 1 rounds, a larger bound gives the same ticks: `ticks-cap` (Larger)
-abbrev pub ticks : Model → Env → List Fn → Form → List Tick
-ticks m e live bot = []
-ticks m e live top = []
-ticks m e live (neg f) = ticks m e live f ++ steps (notNeeds (m .n) live (exist m) (means m e f))
-ticks m e live (conj f g) =
-    let A = means m e f in
-    ticks m e live f ++ (ticks m e (fnOf (m .n) A ∷ live) g ++ steps (twoNeed (m .n) live (inter (size m)) A (means m e g) ∷ []))
-ticks m e live (disj f g) =
-    let A = means m e f in
-    ticks m e live f ++ (ticks m e (fnOf (m .n) A ∷ live) g ++ steps (twoNeed (m .n) live (union (size m)) A (means m e g) ∷ []))
-ticks m e live (now p) = steps (bitNeeds (m .n) live (exist m) p)
-ticks m e live (next p) = []
-ticks m e live (var P) = []
-ticks m e live (reg x) = []
-ticks m e live (box t f) = ticks m e live f ++ steps (boxNeeds (m .n) live (exist m) (related m t) (means m e f))
-ticks m e live (dia t f) = ticks m e live f ++ steps (diaNeeds (m .n) live (related m t) (means m e f))
-ticks m e live (mu P f) = roundTicks (λ A. ticks m (put e P A) (fnOf (m .n) A ∷ live) f) (λ A. means m (put e P A) f) (suc (size m)) (start true (size m) (exist m))
-ticks m e live (nu P f) = roundTicks (λ A. ticks m (put e P A) (fnOf (m .n) A ∷ live) f) (λ A. means m (put e P A) f) (suc (size m)) (start false (size m) (exist m))
+-- a binder has ended after 2^n + 1 rounds, a larger bound gives the same ticks: `ticks-cap` (Larger). "relation has no rounds"
+abbrev pub ticks : Over → List Fn → Form → List Tick
+ticks o live bot = []
+ticks o live top = []
+ticks o live (neg f) = ticks o live f ++ steps (negNeeds o live f)
+ticks o live (conj f g) = ticks o live f ++ (ticks o (valueF o f ∷ live) g ++ steps (joinNeed o live f g (conj f g) ∷ []))
+ticks o live (disj f g) = ticks o live f ++ (ticks o (valueF o f ∷ live) g ++ steps (joinNeed o live f g (disj f g) ∷ []))
+ticks o live (now p) = steps (nowNeeds o live p)
+ticks o live (next p) = steps (nextNeeds o live p)
+ticks o live (var P) = []
+ticks o live (reg x) = []
+ticks o live (box t f) = ofStates o [] (λ m e. ticks o live f ++ steps (boxNeeds (m .n) live (exist m) (related m t) (means m e f)))
+ticks o live (dia t f) = ofStates o [] (λ m e. ticks o live f ++ steps (diaNeeds (m .n) live (related m t) (means m e f)))
+ticks o live (mu P f) = ofStates o [] (λ m e.
+    roundTicks (λ A. ticks (states m (put e P A)) (fnOf (m .n) A ∷ live) f) (λ A. means m (put e P A) f) (suc (size m)) (start true (size m) (exist m)))
+ticks o live (nu P f) = ofStates o [] (λ m e.
+    roundTicks (λ A. ticks (states m (put e P A)) (fnOf (m .n) A ∷ live) f) (λ A. means m (put e P A) f) (suc (size m)) (start false (size m) (exist m)))
 -- "Steps and rounds are those of the formula written so": mu X (g or (f and diamond X)), or mu X (g or (f and (box X and diamond true)))
-ticks m e live (until b t f g) =
+ticks o live (until b t f g) = ofStates o [] (λ m e.
     let F = means m e f in
     let G = means m e g in
     let R = related m t in
-    roundTicks (untilTicks (m .n) live b (exist m) R F G (λ l. ticks m e l f) (λ l. ticks m e l g)) (onward b (size m) R F G) (suc (size m)) (start true (size m) (exist m))
+    roundTicks (untilTicks (m .n) live b (exist m) R F G (λ l. ticks o l f) (λ l. ticks o l g)) (onward b (size m) R F G) (suc (size m)) (start true (size m) (exist m)))
 
--- ---- ticks of a relation's formula
-
--- a relation formula's value as a function of levels
-abbrev pub pairF : ℕ → Form → Fn
-pairF n f = fnOfPairs n (meansPair n f)
-
--- "relation has no rounds"; the tokens of set calls alone take no step here
-abbrev pub pairTicks : ℕ → List Fn → Form → List Tick
-pairTicks n live bot = []
-pairTicks n live top = []
-pairTicks n live (neg f) = pairTicks n live f ++ steps (stepNeed (2 * n) (pairF n f ∷ live) (pairF n (neg f)) ∷ [])
-pairTicks n live (conj f g) =
-    pairTicks n live f ++ (pairTicks n (pairF n f ∷ live) g ++ steps (stepNeed (2 * n) (pairF n g ∷ pairF n f ∷ live) (pairF n (conj f g)) ∷ []))
-pairTicks n live (disj f g) =
-    pairTicks n live f ++ (pairTicks n (pairF n f ∷ live) g ++ steps (stepNeed (2 * n) (pairF n g ∷ pairF n f ∷ live) (pairF n (disj f g)) ∷ []))
-pairTicks n live (now p) = steps (stepNeed (2 * n) live (pairF n (now p)) ∷ [])
-pairTicks n live (next p) = steps (stepNeed (2 * n) live (pairF n (next p)) ∷ [])
-pairTicks n live (var P) = []
-pairTicks n live (reg x) = []
-pairTicks n live (box t f) = []
-pairTicks n live (dia t f) = []
-pairTicks n live (mu P f) = []
-pairTicks n live (nu P f) = []
-pairTicks n live (until b t f g) = []
+-- ---- a relation's steps
 
 -- "A relation's formula is read as before, then ANDed with V, then with SHIFT of V": the three steps after the value F, W being V
 abbrev pub withinNeeds : ℕ → List Fn → Fn → Fn → List ℕ
@@ -163,7 +164,7 @@ withinNeeds n live W F =
     stepNeed (2 * n) (W ∷ F ∷ live) G ∷ stepNeed (2 * n) (W ∷ G ∷ live) S ∷ stepNeed (2 * n) (S ∷ G ∷ live) (andF G S) ∷ []
 
 abbrev pub relationTicks : ℕ → List Fn → List Bool → Form → List Tick
-relationTicks n live E f = pairTicks n live f ++ steps (withinNeeds n live (fnOf n E) (pairF n f))
+relationTicks n live E f = ticks (pairs n) live f ++ steps (withinNeeds n live (fnOf n E) (pairF n f))
 
 -- ---- the verdict
 

@@ -16,6 +16,7 @@ use Rattle.mucalculus.specs.Rounds.{rounds, binders, rounds-bound}
 use Rattle.tokens.specs.declared.Kind.the-variants.{Relation, Set}
 use Rattle.accounts.specs.declared.Terms.{Terms}
 use Rattle.accounts.specs.Terms.{roundsUnder}
+use Rattle.book.specs.Over.{states}
 use Rattle.book.specs.Ticks.{ticks, relationTicks, peak, needsIn}
 use Rattle.book.specs.Book.{formulaIn, Book, Call, relation, set, valid, clear, collect, member, count, refused, registers, modelOf, liveOf, Done, asked, oneOf, does, play, answer}
 use Rattle.book.specs.Stored.{range-cases, set-cases, relation-cases, valid-cases, some-inj, set-means, relation-means}
@@ -33,7 +34,7 @@ module _ (b : Book) (acc : Terms) (r R : ℕ) (bs : List ℕ) (y : Reply) (a : A
       (q, subst (λ (k : ℕ). k ≤ roundsUnder R acc) (sym q) (w .within))
 
   -- its peak is the largest need of its steps
-  pub peak-told : y .peak ≡ peak (needsIn (ticks (modelOf b) noEnv (liveOf b) (formulaIn b Set bs)))
+  pub peak-told : y .peak ≡ peak (needsIn (ticks (states (modelOf b) noEnv) (liveOf b) (formulaIn b Set bs)))
   peak-told = a .peak ∙ set-means b acc r R bs (sym (a .number) ∙ z) .stored .peaks
 
   -- "With one binder in the formula the rounds are at most 2^n + 1"

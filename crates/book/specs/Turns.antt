@@ -20,6 +20,7 @@ use Rattle.diagram.specs.Keep.{Keeps, keeps-refl, keeps-on, keeps-denotes}
 use Rattle.diagram.specs.Steps.{andF, shiftF, existsF}
 use Rattle.accounts.specs.declared.Count.{Count}
 use Rattle.accounts.specs.Count.{needing, another}
+use Rattle.book.specs.Over.{states}
 use Rattle.book.specs.Bridge.{fnOf, fnOfPairs, Sized, fnOf-inj}
 use Rattle.book.specs.Run.{Outcome, value, full, spent, andThen, step, existsSteps, bitStep, notStep, twoStep, diaSteps, boxSteps, furtherSteps, bothSteps, keepRound, untilRound, loop, run}
 use Rattle.book.specs.Held.{Held, held-arrow}
@@ -138,28 +139,28 @@ module _ (m : Model) (N R : ℕ) where
   sized : Sized (m .n) (exist m)
   sized = length-table (size m) (λ s. mem (m .valid) s)
 
-  pub run-good : (e : Env) (live : List Fn) (f : Form) (r : Count) → Good (m .n) (exist m) (r .rounds) (run m N R e live f r)
+  pub run-good : (e : Env) (live : List Fn) (f : Form) (r : Count) → Good (m .n) (exist m) (r .rounds) (run (states m e) N R live f r)
   run-good e live bot r = made-good (means m e bot) (length-means m e bot) (means-in m e bot) r
   run-good e live top r = made-good (means m e top) (length-means m e top) (means-in m e top) r
-  run-good e live (neg f) r = then-good (m .n) (exist m) (r .rounds) (run m N R e live f r) _ (run-good e live f r) (not-good (m .n) (exist m) N live)
+  run-good e live (neg f) r = then-good (m .n) (exist m) (r .rounds) (run (states m e) N R live f r) _ (run-good e live f r) (not-good (m .n) (exist m) N live)
   run-good e live (conj f g) r =
-      both-good (m .n) (exist m) N live (inter (size m)) (λ A B. length-table (size m) _) (and-within (m .n) (exist m)) (r .rounds) (run m N R e live f r) (λ A q. run m N R e (fnOf (m .n) A ∷ live) g q) (run-good e live f r)
+      both-good (m .n) (exist m) N live (inter (size m)) (λ A B. length-table (size m) _) (and-within (m .n) (exist m)) (r .rounds) (run (states m e) N R live f r) (λ A q. run (states m e) N R (fnOf (m .n) A ∷ live) g q) (run-good e live f r)
       (λ A q z a. run-good e (fnOf (m .n) A ∷ live) g q)
   run-good e live (disj f g) r =
-      both-good (m .n) (exist m) N live (union (size m)) (λ A B. length-table (size m) _) (or-within (m .n) (exist m)) (r .rounds) (run m N R e live f r) (λ A q. run m N R e (fnOf (m .n) A ∷ live) g q) (run-good e live f r)
+      both-good (m .n) (exist m) N live (union (size m)) (λ A B. length-table (size m) _) (or-within (m .n) (exist m)) (r .rounds) (run (states m e) N R live f r) (λ A q. run (states m e) N R (fnOf (m .n) A ∷ live) g q) (run-good e live f r)
       (λ A q z a. run-good e (fnOf (m .n) A ∷ live) g q)
   run-good e live (now p) r = bit-good (m .n) (exist m) N live p r
   run-good e live (next p) r = made-good (means m e (next p)) (length-means m e (next p)) (means-in m e (next p)) r
   run-good e live (var P) r = made-good (means m e (var P)) (length-means m e (var P)) (means-in m e (var P)) r
   run-good e live (reg x) r = made-good (means m e (reg x)) (length-means m e (reg x)) (means-in m e (reg x)) r
-  run-good e live (box t f) r = then-good (m .n) (exist m) (r .rounds) (run m N R e live f r) _ (run-good e live f r) (box-good (m .n) (exist m) (related m t) (related-inside m t) N live)
-  run-good e live (dia t f) r = then-good (m .n) (exist m) (r .rounds) (run m N R e live f r) _ (run-good e live f r) (dia-good (m .n) (exist m) (related m t) (related-inside m t) N live)
+  run-good e live (box t f) r = then-good (m .n) (exist m) (r .rounds) (run (states m e) N R live f r) _ (run-good e live f r) (box-good (m .n) (exist m) (related m t) (related-inside m t) N live)
+  run-good e live (dia t f) r = then-good (m .n) (exist m) (r .rounds) (run (states m e) N R live f r) _ (run-good e live f r) (dia-good (m .n) (exist m) (related m t) (related-inside m t) N live)
   run-good e live (mu P f) r =
       loop-good (m .n) (exist m) R _ (λ A q z a. run-good (put e P A) (fnOf (m .n) A ∷ live) f q) R (start true (size m) (exist m)) r (length-start true (size m) (exist m)) (start-in true (size m) (exist m))
   run-good e live (nu P f) r =
       loop-good (m .n) (exist m) R _ (λ A q z a. run-good (put e P A) (fnOf (m .n) A ∷ live) f q) R (start false (size m) (exist m)) r (length-start false (size m) (exist m)) (start-in false (size m) (exist m))
   run-good e live (until b t f g) r =
-      loop-good (m .n) (exist m) R _ (until-good (m .n) (exist m) (related m t) (related-inside m t) sized N live b (λ l q. run m N R e l f q) (λ l q. run m N R e l g q) (λ l q. run-good e l f q) (λ l q. run-good e l g q))
+      loop-good (m .n) (exist m) R _ (until-good (m .n) (exist m) (related m t) (related-inside m t) sized N live b (λ l q. run (states m e) N R l f q) (λ l q. run (states m e) N R l g q) (λ l q. run-good e l f q) (λ l q. run-good e l g q))
       R (start true (size m) (exist m)) r (length-start true (size m) (exist m)) (start-in true (size m) (exist m))
 
 -- ---- one arrow exactly where one set

@@ -1,4 +1,4 @@
--- The verdict on the ticks is what the computing runs answer: `run` for sets, `pairsFit` for relations. Its count is the formula's rounds and the largest need of its steps; 8
+-- The verdict on the ticks is what the computing run answers, over states and over pairs. Its count is the formula's rounds and the largest need of its steps; 8
 -- and 9 come exactly by their causes. Assumes nothing.
 use mathlib.Core.Path.{_≡_, refl, sym, ap, ap₂, _∙_, subst}
 use mathlib.Core.Logic.{_↔_}
@@ -9,7 +9,7 @@ use native.Mathlib.Omega.{arith}
 use native.Mathlib.Nat.{add-zero, lt-of-not-le}
 use lib.Dec.{T, leb, ltb, ltb→lt, lt→ltb}
 use lib.ListN.{length}
-use Rattle.mucalculus.specs.Sets.{same, same-eq, same-refl, and-out, false-of, all}
+use Rattle.mucalculus.specs.Sets.{same, same-eq, same-refl, and-out, false-of}
 use Rattle.mucalculus.specs.Order.{start}
 use Rattle.mucalculus.specs.Fixpoint.{fix, iter, Mono, Into, iter-found, stable}
 use Rattle.mucalculus.specs.Form.{Form, bot, top, neg, conj, disj, now, next, var, reg, box, dia, mu, nu, until, Pairs, Model, Env, put, reads, steady}
@@ -24,12 +24,10 @@ use Rattle.diagram.specs.Steps.{andF, shiftF, existsF}
 use Rattle.accounts.specs.declared.Count.{Count}
 use Rattle.accounts.specs.Count.{needing, another}
 use Rattle.book.specs.Bridge.{fnOf, fnOfPairs}
-use Rattle.book.specs.Ticks.{Tick, step, round, steps, roundTicks, ticks, pairF, pairTicks, existsNeeds, notNeed, twoNeed, bitNeeds, notNeeds, withinNeeds, relationTicks, diaNeeds, boxNeeds, furtherTicks, keepTicks, untilTicks, Verdict, counted, full, spent, verdict, withinRounds, peak, needsIn}
-use Rattle.book.specs.Run.{Outcome, value, full as fullRun, spent as spentRun, andThen, existsSteps, notStep, twoStep, diaSteps, boxSteps, furtherSteps, bothSteps, keepRound, untilRound, loop, run, pairsFit, pairsCount, needingAll, relationFits, relationCount, bitStep}
-
--- every need is at most N
-abbrev pub fit : ℕ → List ℕ → Bool
-fit N ks = all (λ k. leb k N) ks
+use Rattle.book.specs.Over.{states, pairs, pairF, levels, allPairs, pointsOf, points-value}
+use Rattle.book.specs.Ticks.{Tick, step, round, steps, roundTicks, ticks, existsNeeds, notNeed, twoNeed, bitNeeds, notNeeds, withinNeeds, relationTicks, diaNeeds, boxNeeds, furtherTicks, keepTicks, untilTicks, Verdict, counted, full, spent, verdict, withinRounds, peak, needsIn}
+pub use Rattle.book.specs.Run.{fit}
+use Rattle.book.specs.Run.{Outcome, value, full as fullRun, spent as spentRun, andThen, existsSteps, notStep, twoStep, twoBy, diaSteps, boxSteps, furtherSteps, bothBy, keepRound, untilRound, loop, negStep, run, pairNeeds, relationNeeds, pairsFit, pairsCount, needingAll, relationFits, relationCount, bitStep}
 
 -- how many rounds a list of ticks has
 abbrev pub roundsIn : List Tick → ℕ
@@ -65,6 +63,15 @@ verdictThen spent h = spent
 steps-append : (xs ys : List ℕ) → steps (xs ++ ys) ≡ steps xs ++ steps ys
 steps-append [] ys = refl
 steps-append (x ∷ xs) ys = ap (λ (l : List Tick). step x ∷ l) (steps-append xs ys)
+
+needs-append : (xs ys : List Tick) → needsIn (xs ++ ys) ≡ needsIn xs ++ needsIn ys
+needs-append [] ys = refl
+needs-append (step k ∷ xs) ys = ap (λ (ks : List ℕ). k ∷ ks) (needs-append xs ys)
+needs-append (round ∷ xs) ys = needs-append xs ys
+
+-- steps after steps are steps
+steps-then : (xs ys : List Tick) → xs ≡ steps (needsIn xs) → ys ≡ steps (needsIn ys) → xs ++ ys ≡ steps (needsIn (xs ++ ys))
+steps-then xs ys i j = ap₂ (λ (k l : List Tick). k ++ l) i j ∙ sym (steps-append (needsIn xs) (needsIn ys)) ∙ ap steps (sym (needs-append xs ys))
 
 module _ (N R : ℕ) where
   -- one list after the other
@@ -178,13 +185,13 @@ module _ (N R : ℕ) where
       ap (λ (o : Outcome). cond (leb k N) o fullRun) (last-step C (needing q k) l) ∙ sym (settle-step C q k (steps (l ∷ [])))
 
   -- two parts, left before right, the left one's value live during the right one's steps
-  both-ticks : (n : ℕ) (live : List Fn) (op : List Bool → List Bool → List Bool) (x : Outcome) (y : List Bool → Count → Outcome) (A B : List Bool) (r : Count) (xs ys : List Tick)
+  both-ticks : (lv : List Bool → Fn) (n : ℕ) (live : List Fn) (op : List Bool → List Bool → List Bool) (x : Outcome) (y : List Bool → Count → Outcome) (A B : List Bool) (r : Count) (xs ys : List Tick)
       → x ≡ settle A (verdict N R r xs) → ((q : Count) → y A q ≡ settle B (verdict N R q ys))
-      → bothSteps n N live op x y ≡ settle (op A B) (verdict N R r (xs ++ (ys ++ steps (twoNeed n live op A B ∷ []))))
-  both-ticks n live op x y A B r xs ys i j =
-      let last = twoNeed n live op A B ∷ [] in
+      → bothBy lv n N live op x y ≡ settle (op A B) (verdict N R r (xs ++ (ys ++ steps (stepNeed (2 * n) (lv B ∷ lv A ∷ live) (lv (op A B)) ∷ []))))
+  both-ticks lv n live op x y A B r xs ys i j =
+      let last = stepNeed (2 * n) (lv B ∷ lv A ∷ live) (lv (op A B)) ∷ [] in
       settle-then x A (op A B) r xs (ys ++ steps last) _ i
-      (λ q h. settle-then (y A q) B (op A B) q ys (steps last) (λ X p. twoStep n N live op A X p) (j q) (λ p o. last-step (op A B) p (twoNeed n live op A B)))
+      (λ q h. settle-then (y A q) B (op A B) q ys (steps last) (λ X p. twoBy lv n N live op A X p) (j q) (λ p o. last-step (op A B) p (stepNeed (2 * n) (lv B ∷ lv A ∷ live) (lv (op A B)))))
 
   -- over a relation whose pairs are within E
   module _ (n : ℕ) (E : List Bool) (Q : Pairs) (in-e : Inside (2 ^ n) E Q) where
@@ -205,7 +212,7 @@ module _ (N R : ℕ) where
     further-ticks true live A q = dia-ticks n live Q A q
     further-ticks false live A q =
         let B = inter (2 ^ n) (always (2 ^ n) Q A) E in
-        both-ticks n live (inter (2 ^ n)) (boxSteps n N live E Q A q) (λ C p. diaSteps n N (fnOf n C ∷ live) Q E p) B (sometimes (2 ^ n) Q E) q (steps (boxNeeds n live E Q A)) (steps (diaNeeds n (fnOf n B ∷ live) Q E))
+        both-ticks (fnOf n) n live (inter (2 ^ n)) (boxSteps n N live E Q A q) (λ C p. diaSteps n N (fnOf n C ∷ live) Q E p) B (sometimes (2 ^ n) Q E) q (steps (boxNeeds n live E Q A)) (steps (diaNeeds n (fnOf n B ∷ live) Q E))
         (box-ticks live A q) (λ p. dia-ticks n (fnOf n B ∷ live) Q E p)
         ∙ ap (λ (X : List Bool). settle X (verdict N R q (furtherTicks false n live E Q A))) (further-in (2 ^ n) E Q in-e A)
 
@@ -217,9 +224,9 @@ module _ (N R : ℕ) where
         let held = fnOf n A ∷ live in
         let l = fnOf n G ∷ held in
         let D = further b (2 ^ n) Q A in
-        both-ticks n held (union (2 ^ n)) (ys held q) (λ B p. keepRound n N (fnOf n B ∷ held) b E Q xs A p) G (inter (2 ^ n) F D) q (gs held) (keepTicks n l b E Q F fs A) (j held q)
+        both-ticks (fnOf n) n held (union (2 ^ n)) (ys held q) (λ B p. keepRound n N (fnOf n B ∷ held) b E Q xs A p) G (inter (2 ^ n) F D) q (gs held) (keepTicks n l b E Q F fs A) (j held q)
         (λ p.
-        both-ticks n l (inter (2 ^ n)) (xs l p) (λ B o. furtherSteps b n N (fnOf n B ∷ l) E Q A o) F D p (fs l) (furtherTicks b n (fnOf n F ∷ l) E Q A) (i l p)
+        both-ticks (fnOf n) n l (inter (2 ^ n)) (xs l p) (λ B o. furtherSteps b n N (fnOf n B ∷ l) E Q A o) F D p (fs l) (furtherTicks b n (fnOf n F ∷ l) E Q A) (i l p)
         (λ o. further-ticks b (fnOf n F ∷ l) A o))
 
   -- a binder's rounds, given those of its body
@@ -265,21 +272,21 @@ module _ (N R : ℕ) where
   module _ (m : Model) where
     -- two parts, left before right, the left one's value live during the right one's steps
     two-ticks : (e : Env) (live : List Fn) (f g : Form) (r : Count) (op : List Bool → List Bool → List Bool)
-        → run m N R e live f r ≡ settle (means m e f) (verdict N R r (ticks m e live f))
-        → ((l : List Fn) (q : Count) → run m N R e l g q ≡ settle (means m e g) (verdict N R q (ticks m e l g)))
-        → andThen (run m N R e live f r) (λ A q. andThen (run m N R e (fnOf (m .n) A ∷ live) g q) (λ B p. twoStep (m .n) N live op A B p))
-        ≡ settle (op (means m e f) (means m e g)) (verdict N R r (ticks m e live f ++ (ticks m e (fnOf (m .n) (means m e f) ∷ live) g ++ steps (twoNeed (m .n) live op (means m e f) (means m e g) ∷ []))))
+        → run (states m e) N R live f r ≡ settle (means m e f) (verdict N R r (ticks (states m e) live f))
+        → ((l : List Fn) (q : Count) → run (states m e) N R l g q ≡ settle (means m e g) (verdict N R q (ticks (states m e) l g)))
+        → andThen (run (states m e) N R live f r) (λ A q. andThen (run (states m e) N R (fnOf (m .n) A ∷ live) g q) (λ B p. twoStep (m .n) N live op A B p))
+        ≡ settle (op (means m e f) (means m e g)) (verdict N R r (ticks (states m e) live f ++ (ticks (states m e) (fnOf (m .n) (means m e f) ∷ live) g ++ steps (twoNeed (m .n) live op (means m e f) (means m e g) ∷ []))))
     two-ticks e live f g r op i j =
         let l = fnOf (m .n) (means m e f) ∷ live in
-        both-ticks (m .n) live op (run m N R e live f r) (λ A q. run m N R e (fnOf (m .n) A ∷ live) g q) (means m e f) (means m e g) r (ticks m e live f) (ticks m e l g) i (j l)
+        both-ticks (fnOf (m .n)) (m .n) live op (run (states m e) N R live f r) (λ A q. run (states m e) N R (fnOf (m .n) A ∷ live) g q) (means m e f) (means m e g) r (ticks (states m e) live f) (ticks (states m e) l g) i (j l)
 
     -- THE VERDICT IS THE RUN'S ANSWER: the value is the meaning, and its rounds, 8 and 9 are the verdict's
-    pub run-ticks : (e : Env) (live : List Fn) (f : Form) (r : Count) → T (steady f) → run m N R e live f r ≡ settle (means m e f) (verdict N R r (ticks m e live f))
+    pub run-ticks : (e : Env) (live : List Fn) (f : Form) (r : Count) → T (steady f) → run (states m e) N R live f r ≡ settle (means m e f) (verdict N R r (ticks (states m e) live f))
     unfolding steady
     run-ticks e live bot r t = refl
     run-ticks e live top r t = refl
     run-ticks e live (neg f) r t =
-        settle-then (run m N R e live f r) (means m e f) (means m e (neg f)) r (ticks m e live f) _ (λ A q. notStep (m .n) N live (exist m) A q) (run-ticks e live f r t)
+        settle-then (run (states m e) N R live f r) (means m e f) (means m e (neg f)) r (ticks (states m e) live f) _ (λ A q. notStep (m .n) N live (exist m) A q) (run-ticks e live f r t)
         (λ q l. not-ticks (m .n) live (exist m) (means m e f) q)
     run-ticks e live (conj f g) r t =
         let w = and-out (steady f) (steady g) t in two-ticks e live f g r (inter (size m)) (run-ticks e live f r (w .0)) (λ l q. run-ticks e l g q (w .1))
@@ -290,18 +297,18 @@ module _ (N R : ℕ) where
     run-ticks e live (var P) r t = refl
     run-ticks e live (reg x) r t = refl
     run-ticks e live (box x f) r t =
-        settle-then (run m N R e live f r) (means m e f) (means m e (box x f)) r (ticks m e live f) _ (λ A q. boxSteps (m .n) N live (exist m) (related m x) A q) (run-ticks e live f r t)
+        settle-then (run (states m e) N R live f r) (means m e f) (means m e (box x f)) r (ticks (states m e) live f) _ (λ A q. boxSteps (m .n) N live (exist m) (related m x) A q) (run-ticks e live f r t)
         (λ q l. box-ticks (m .n) (exist m) (related m x) (related-inside m x) live (means m e f) q)
     run-ticks e live (dia x f) r t =
-        settle-then (run m N R e live f r) (means m e f) (means m e (dia x f)) r (ticks m e live f) _ (λ A q. diaSteps (m .n) N live (related m x) A q) (run-ticks e live f r t)
+        settle-then (run (states m e) N R live f r) (means m e f) (means m e (dia x f)) r (ticks (states m e) live f) _ (λ A q. diaSteps (m .n) N live (related m x) A q) (run-ticks e live f r t)
         (λ q l. dia-ticks (m .n) live (related m x) (means m e f) q)
     run-ticks e live (mu P f) r t =
         let w = and-out (reads true P f) (steady f) t in
-        loop-ticks (size m) (exist m) true (body m e P f) (λ A. ticks m (put e P A) (fnOf (m .n) A ∷ live) f) (λ A q. run m N R (put e P A) (fnOf (m .n) A ∷ live) f q)
+        loop-ticks (size m) (exist m) true (body m e P f) (λ A. ticks (states m (put e P A)) (fnOf (m .n) A ∷ live) f) (λ A q. run (states m (put e P A)) N R (fnOf (m .n) A ∷ live) f q)
         (body-length m e P f) (body-in m e P f) (body-mono m e P f (w .1) (w .0) true) (λ A q. run-ticks (put e P A) (fnOf (m .n) A ∷ live) f q (w .1)) R (size m) zero r (omega arith) (omega arith)
     run-ticks e live (nu P f) r t =
         let w = and-out (reads true P f) (steady f) t in
-        loop-ticks (size m) (exist m) false (body m e P f) (λ A. ticks m (put e P A) (fnOf (m .n) A ∷ live) f) (λ A q. run m N R (put e P A) (fnOf (m .n) A ∷ live) f q)
+        loop-ticks (size m) (exist m) false (body m e P f) (λ A. ticks (states m (put e P A)) (fnOf (m .n) A ∷ live) f) (λ A q. run (states m (put e P A)) N R (fnOf (m .n) A ∷ live) f q)
         (body-length m e P f) (body-in m e P f) (body-mono m e P f (w .1) (w .0) false) (λ A q. run-ticks (put e P A) (fnOf (m .n) A ∷ live) f q (w .1)) R (size m) zero r (omega arith) (omega arith)
     run-ticks e live (until b t f g) r s =
         let w = and-out (steady f) (steady g) s in
@@ -309,49 +316,82 @@ module _ (N R : ℕ) where
         let G = means m e g in
         let Q = related m t in
         let into = onward-into m t b F G (means-in m e f) (means-in m e g) in
-        loop-ticks (size m) (exist m) true (onward b (size m) Q F G) (untilTicks (m .n) live b (exist m) Q F G (λ l. ticks m e l f) (λ l. ticks m e l g))
-        (untilRound (m .n) N live b (exist m) Q (λ l q. run m N R e l f q) (λ l q. run m N R e l g q)) (onward-length (size m) Q b F G) into (onward-mono (size m) Q b F G)
-        (until-ticks (m .n) (exist m) Q (related-inside m t) live b F G (λ l. ticks m e l f) (λ l. ticks m e l g) (λ l q. run m N R e l f q) (λ l q. run m N R e l g q) (λ l q. run-ticks e l f q (w .0)) (λ l q. run-ticks e l g q (w .1)))
+        loop-ticks (size m) (exist m) true (onward b (size m) Q F G) (untilTicks (m .n) live b (exist m) Q F G (λ l. ticks (states m e) l f) (λ l. ticks (states m e) l g))
+        (untilRound (m .n) N live b (exist m) Q (λ l q. run (states m e) N R l f q) (λ l q. run (states m e) N R l g q)) (onward-length (size m) Q b F G) into (onward-mono (size m) Q b F G)
+        (until-ticks (m .n) (exist m) Q (related-inside m t) live b F G (λ l. ticks (states m e) l f) (λ l. ticks (states m e) l g) (λ l q. run (states m e) N R l f q) (λ l q. run (states m e) N R l g q) (λ l q. run-ticks e l f q (w .0)) (λ l q. run-ticks e l g q (w .1)))
         R (size m) zero r (omega arith) (omega arith)
-        ∙ ap (λ (X : List Bool). settle X (verdict N R r (ticks m e live (until b t f g)))) (sym (until-least (size m) Q b F G (exist m) into))
+        ∙ ap (λ (X : List Bool). settle X (verdict N R r (ticks (states m e) live (until b t f g)))) (sym (until-least (size m) Q b F G (exist m) into))
 
-  -- ---- relations
+  -- ---- pairs
 
-  -- a part, and what follows it
-  fits-then : (r q p : Count) (a b : Bool) (xs ys : List Tick) → verdict N R r xs ≡ cond a (counted q) full → verdict N R q ys ≡ cond b (counted p) full → verdict N R r (xs ++ ys) ≡ cond (a && b) (counted p) full
-  fits-then r q p a b xs ys d e = verdict-append r xs ys ∙ ap (λ (w : Verdict). verdictThen w (λ q. verdict N R q ys)) d ∙ go a
-    where
-      go : (a : Bool) → verdictThen (cond a (counted q) full) (λ q. verdict N R q ys) ≡ cond (a && b) (counted p) full
-      go true = e
-      go false = refl
+  -- one step alone, whose need is k
+  one-ticks : (B : List Bool) (q : Count) (k j : ℕ) → k ≡ j → cond (leb k N) (value B (needing q k)) fullRun ≡ settle B (verdict N R q (steps (j ∷ [])))
+  one-ticks B q k j e = last-step B q k ∙ ap (λ (x : ℕ). settle B (verdict N R q (steps (x ∷ [])))) e
 
-  pub pairs-ticks : (n : ℕ) (live : List Fn) (f : Form) (r : Count) → verdict N R r (pairTicks n live f) ≡ cond (pairsFit n N live f) (counted (pairsCount n live f r)) full
-  pairs-ticks n live bot r = refl
-  pairs-ticks n live top r = refl
-  pairs-ticks n live (neg f) r = fits-then r (pairsCount n live f r) _ (pairsFit n N live f) _ (pairTicks n live f) _ (pairs-ticks n live f r) refl
-  pairs-ticks n live (conj f g) r =
-      let q = pairsCount n live f r in
-      fits-then r q _ (pairsFit n N live f) _ (pairTicks n live f) _ (pairs-ticks n live f r)
-      (fits-then q (pairsCount n (pairF n f ∷ live) g q) _ (pairsFit n N (pairF n f ∷ live) g) _ (pairTicks n (pairF n f ∷ live) g) _ (pairs-ticks n (pairF n f ∷ live) g q) refl)
-  pairs-ticks n live (disj f g) r =
-      let q = pairsCount n live f r in
-      fits-then r q _ (pairsFit n N live f) _ (pairTicks n live f) _ (pairs-ticks n live f r)
-      (fits-then q (pairsCount n (pairF n f ∷ live) g q) _ (pairsFit n N (pairF n f ∷ live) g) _ (pairTicks n (pairF n f ∷ live) g) _ (pairs-ticks n (pairF n f ∷ live) g q) refl)
-  pairs-ticks n live (now p) r = refl
-  pairs-ticks n live (next p) r = refl
-  pairs-ticks n live (var P) r = refl
-  pairs-ticks n live (reg x) r = refl
-  pairs-ticks n live (box x f) r = refl
-  pairs-ticks n live (dia x f) r = refl
-  pairs-ticks n live (mu P f) r = refl
-  pairs-ticks n live (nu P f) r = refl
-  pairs-ticks n live (until b t f g) r = refl
+  module _ (n : ℕ) where
+    -- two parts, whose values' functions are F, G and H
+    pairs-two : (live : List Fn) (f g h : Form) (op : List Bool → List Bool → List Bool) (r : Count) → pointsOf n h ≡ op (pointsOf n f) (pointsOf n g)
+        → run (pairs n) N R live f r ≡ settle (pointsOf n f) (verdict N R r (ticks (pairs n) live f))
+        → ((l : List Fn) (q : Count) → run (pairs n) N R l g q ≡ settle (pointsOf n g) (verdict N R q (ticks (pairs n) l g)))
+        → bothBy (levels (pairs n)) n N live op (run (pairs n) N R live f r) (λ A q. run (pairs n) N R (levels (pairs n) A ∷ live) g q)
+        ≡ settle (pointsOf n h) (verdict N R r (ticks (pairs n) live f ++ (ticks (pairs n) (pairF n f ∷ live) g ++ steps (stepNeed (2 * n) (pairF n g ∷ pairF n f ∷ live) (pairF n h) ∷ []))))
+    pairs-two live f g h op r e i j =
+        let xs = ticks (pairs n) live f in
+        let rest : Fn → Fn → Fn → List Tick = λ F G H. ticks (pairs n) (F ∷ live) g ++ steps (stepNeed (2 * n) (G ∷ F ∷ live) H ∷ []) in
+        let A = pointsOf n f in
+        let B = pointsOf n g in
+        let l = levels (pairs n) A ∷ live in
+        both-ticks (levels (pairs n)) n live op (run (pairs n) N R live f r) (λ X q. run (pairs n) N R (levels (pairs n) X ∷ live) g q) A B r xs (ticks (pairs n) l g) i (j l)
+        ∙ ap (λ (X : List Bool). settle X (verdict N R r (xs ++ rest (levels (pairs n) A) (levels (pairs n) B) (levels (pairs n) X)))) (sym e)
+        ∙ ap (λ (F : Fn). settle (pointsOf n h) (verdict N R r (xs ++ rest F (levels (pairs n) B) (levels (pairs n) (pointsOf n h))))) (points-value n f)
+        ∙ ap₂ (λ (G H : Fn). settle (pointsOf n h) (verdict N R r (xs ++ rest (pairF n f) G H))) (points-value n g) (points-value n h)
 
-  -- with the three steps after it
-  pub relation-ticks : (n : ℕ) (live : List Fn) (E : List Bool) (f : Form) (r : Count) → verdict N R r (relationTicks n live E f) ≡ cond (relationFits n N live E f) (counted (relationCount n live E f r)) full
-  relation-ticks n live E f r =
-      fits-then r (pairsCount n live f r) (relationCount n live E f r) (pairsFit n N live f) (fit N (withinNeeds n live (fnOf n E) (pairF n f))) (pairTicks n live f) (steps (withinNeeds n live (fnOf n E) (pairF n f)))
-      (pairs-ticks n live f r) (steps-verdict (pairsCount n live f r) (withinNeeds n live (fnOf n E) (pairF n f)))
+    -- the same of a relation's formula, whose value is the list of its pairs
+    pub run-pairs : (live : List Fn) (f : Form) (r : Count) → run (pairs n) N R live f r ≡ settle (pointsOf n f) (verdict N R r (ticks (pairs n) live f))
+    run-pairs live bot r = refl
+    run-pairs live top r = refl
+    run-pairs live (neg f) r =
+        settle-then (run (pairs n) N R live f r) (pointsOf n f) (pointsOf n (neg f)) r (ticks (pairs n) live f) _ (λ A q. negStep (pairs n) N live A q) (run-pairs live f r)
+        (λ q l. one-ticks (pointsOf n (neg f)) q _ _ (ap₂ (λ (F G : Fn). stepNeed (2 * n) (F ∷ live) G) (points-value n f) (points-value n (neg f))))
+    run-pairs live (conj f g) r = pairs-two live f g (conj f g) (inter (allPairs n)) r refl (run-pairs live f r) (λ l q. run-pairs l g q)
+    run-pairs live (disj f g) r = pairs-two live f g (disj f g) (union (allPairs n)) r refl (run-pairs live f r) (λ l q. run-pairs l g q)
+    run-pairs live (now p) r = one-ticks (pointsOf n (now p)) r _ _ (ap (stepNeed (2 * n) live) (points-value n (now p)))
+    run-pairs live (next p) r = one-ticks (pointsOf n (next p)) r _ _ (ap (stepNeed (2 * n) live) (points-value n (next p)))
+    run-pairs live (var P) r = refl
+    run-pairs live (reg x) r = refl
+    run-pairs live (box x f) r = refl
+    run-pairs live (dia x f) r = refl
+    run-pairs live (mu P f) r = refl
+    run-pairs live (nu P f) r = refl
+    run-pairs live (until b t f g) r = refl
+
+    -- "relation has no rounds"
+    pub pairs-steps : (live : List Fn) (f : Form) → ticks (pairs n) live f ≡ steps (pairNeeds n live f)
+    pairs-steps live bot = refl
+    pairs-steps live top = refl
+    pairs-steps live (neg f) = steps-then (ticks (pairs n) live f) _ (pairs-steps live f) refl
+    pairs-steps live (conj f g) = steps-then (ticks (pairs n) live f) _ (pairs-steps live f) (steps-then (ticks (pairs n) (pairF n f ∷ live) g) _ (pairs-steps (pairF n f ∷ live) g) refl)
+    pairs-steps live (disj f g) = steps-then (ticks (pairs n) live f) _ (pairs-steps live f) (steps-then (ticks (pairs n) (pairF n f ∷ live) g) _ (pairs-steps (pairF n f ∷ live) g) refl)
+    pairs-steps live (now p) = refl
+    pairs-steps live (next p) = refl
+    pairs-steps live (var P) = refl
+    pairs-steps live (reg x) = refl
+    pairs-steps live (box x f) = refl
+    pairs-steps live (dia x f) = refl
+    pairs-steps live (mu P f) = refl
+    pairs-steps live (nu P f) = refl
+    pairs-steps live (until b t f g) = refl
+
+    -- so what is told of them is their needs
+    pub pairs-ticks : (live : List Fn) (f : Form) (r : Count) → verdict N R r (ticks (pairs n) live f) ≡ cond (pairsFit n N live f) (counted (pairsCount n live f r)) full
+    pairs-ticks live f r = ap (verdict N R r) (pairs-steps live f) ∙ steps-verdict r (pairNeeds n live f)
+
+    -- with the three steps after it
+    pub relation-ticks : (live : List Fn) (E : List Bool) (f : Form) (r : Count) → verdict N R r (relationTicks n live E f) ≡ cond (relationFits n N live E f) (counted (relationCount n live E f r)) full
+    relation-ticks live E f r =
+        let w = withinNeeds n live (fnOf n E) (pairF n f) in
+        ap (verdict N R r) (ap (λ (l : List Tick). l ++ steps w) (pairs-steps live f) ∙ sym (steps-append (pairNeeds n live f) w))
+        ∙ steps-verdict r (relationNeeds n live E f)
 
   -- ---- 8, exactly
 
@@ -471,38 +511,38 @@ rounds-further false n live E Q A =
     (rounds-steps (boxNeeds n live E Q A)) (rounds-steps (diaNeeds n (fnOf n B ∷ live) Q E))
 
 -- "Every evaluated body, inner ones included, is one round"
-pub ticks-rounds : (m : Model) (e : Env) (live : List Fn) (f : Form) → roundsIn (ticks m e live f) ≡ rounds m e f
+pub ticks-rounds : (m : Model) (e : Env) (live : List Fn) (f : Form) → roundsIn (ticks (states m e) live f) ≡ rounds m e f
 ticks-rounds m e live bot = refl
 ticks-rounds m e live top = refl
-ticks-rounds m e live (neg f) = rounds-then (ticks m e live f) (notNeeds (m .n) live (exist m) (means m e f)) (rounds m e f) (ticks-rounds m e live f)
+ticks-rounds m e live (neg f) = rounds-then (ticks (states m e) live f) (notNeeds (m .n) live (exist m) (means m e f)) (rounds m e f) (ticks-rounds m e live f)
 ticks-rounds m e live (conj f g) =
     let l = fnOf (m .n) (means m e f) ∷ live in
-    rounds-two (ticks m e live f) (ticks m e l g) (twoNeed (m .n) live (inter (size m)) (means m e f) (means m e g) ∷ []) (rounds m e f) (rounds m e g) (ticks-rounds m e live f) (ticks-rounds m e l g)
+    rounds-two (ticks (states m e) live f) (ticks (states m e) l g) (twoNeed (m .n) live (inter (size m)) (means m e f) (means m e g) ∷ []) (rounds m e f) (rounds m e g) (ticks-rounds m e live f) (ticks-rounds m e l g)
 ticks-rounds m e live (disj f g) =
     let l = fnOf (m .n) (means m e f) ∷ live in
-    rounds-two (ticks m e live f) (ticks m e l g) (twoNeed (m .n) live (union (size m)) (means m e f) (means m e g) ∷ []) (rounds m e f) (rounds m e g) (ticks-rounds m e live f) (ticks-rounds m e l g)
+    rounds-two (ticks (states m e) live f) (ticks (states m e) l g) (twoNeed (m .n) live (union (size m)) (means m e f) (means m e g) ∷ []) (rounds m e f) (rounds m e g) (ticks-rounds m e live f) (ticks-rounds m e l g)
 ticks-rounds m e live (now p) = refl
 ticks-rounds m e live (next p) = refl
 ticks-rounds m e live (var P) = refl
 ticks-rounds m e live (reg x) = refl
-ticks-rounds m e live (box t f) = rounds-then (ticks m e live f) (boxNeeds (m .n) live (exist m) (related m t) (means m e f)) (rounds m e f) (ticks-rounds m e live f)
-ticks-rounds m e live (dia t f) = rounds-then (ticks m e live f) (diaNeeds (m .n) live (related m t) (means m e f)) (rounds m e f) (ticks-rounds m e live f)
+ticks-rounds m e live (box t f) = rounds-then (ticks (states m e) live f) (boxNeeds (m .n) live (exist m) (related m t) (means m e f)) (rounds m e f) (ticks-rounds m e live f)
+ticks-rounds m e live (dia t f) = rounds-then (ticks (states m e) live f) (diaNeeds (m .n) live (related m t) (means m e f)) (rounds m e f) (ticks-rounds m e live f)
 ticks-rounds m e live (mu P f) =
-    rounds-loop (λ A. ticks m (put e P A) (fnOf (m .n) A ∷ live) f) (body m e P f) (λ A. rounds m (put e P A) f) (λ A. ticks-rounds m (put e P A) (fnOf (m .n) A ∷ live) f)
+    rounds-loop (λ A. ticks (states m (put e P A)) (fnOf (m .n) A ∷ live) f) (body m e P f) (λ A. rounds m (put e P A) f) (λ A. ticks-rounds m (put e P A) (fnOf (m .n) A ∷ live) f)
     (suc (size m)) (start true (size m) (exist m))
 ticks-rounds m e live (nu P f) =
-    rounds-loop (λ A. ticks m (put e P A) (fnOf (m .n) A ∷ live) f) (body m e P f) (λ A. rounds m (put e P A) f) (λ A. ticks-rounds m (put e P A) (fnOf (m .n) A ∷ live) f)
+    rounds-loop (λ A. ticks (states m (put e P A)) (fnOf (m .n) A ∷ live) f) (body m e P f) (λ A. rounds m (put e P A) f) (λ A. ticks-rounds m (put e P A) (fnOf (m .n) A ∷ live) f)
     (suc (size m)) (start false (size m) (exist m))
 ticks-rounds m e live (until b t f g) =
     let F = means m e f in
     let G = means m e g in
     let Q = related m t in
-    rounds-loop (untilTicks (m .n) live b (exist m) Q F G (λ l. ticks m e l f) (λ l. ticks m e l g)) (onward b (size m) Q F G) (λ A. rounds m e g + rounds m e f)
+    rounds-loop (untilTicks (m .n) live b (exist m) Q F G (λ l. ticks (states m e) l f) (λ l. ticks (states m e) l g)) (onward b (size m) Q F G) (λ A. rounds m e g + rounds m e f)
     (λ A.
     let held = fnOf (m .n) A ∷ live in
     let l = fnOf (m .n) G ∷ held in
     let D = further b (size m) Q A in
-    rounds-two (ticks m e held g) (keepTicks (m .n) l b (exist m) Q F (λ l. ticks m e l f) A) (twoNeed (m .n) held (union (size m)) G (inter (size m) F D) ∷ []) (rounds m e g) (rounds m e f) (ticks-rounds m e held g)
-    (rounds-two (ticks m e l f) (furtherTicks b (m .n) (fnOf (m .n) F ∷ l) (exist m) Q A) (twoNeed (m .n) l (inter (size m)) F D ∷ []) (rounds m e f) zero (ticks-rounds m e l f)
+    rounds-two (ticks (states m e) held g) (keepTicks (m .n) l b (exist m) Q F (λ l. ticks (states m e) l f) A) (twoNeed (m .n) held (union (size m)) G (inter (size m) F D) ∷ []) (rounds m e g) (rounds m e f) (ticks-rounds m e held g)
+    (rounds-two (ticks (states m e) l f) (furtherTicks b (m .n) (fnOf (m .n) F ∷ l) (exist m) Q A) (twoNeed (m .n) l (inter (size m)) F D ∷ []) (rounds m e f) zero (ticks-rounds m e l f)
     (rounds-further b (m .n) (fnOf (m .n) F ∷ l) (exist m) Q A) ∙ add-zero (rounds m e f)))
     (suc (size m)) (start true (size m) (exist m))

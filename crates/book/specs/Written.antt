@@ -19,6 +19,7 @@ use Rattle.diagram.specs.Level.{Fn}
 use Rattle.diagram.specs.Need.{stepNeed}
 use Rattle.accounts.specs.declared.Count.{Count}
 use Rattle.accounts.specs.Count.{another}
+use Rattle.book.specs.Over.{states}
 use Rattle.book.specs.Bridge.{fnOf, fnOfPairs, Sized, fnOf-table, fnOf-inj}
 use Rattle.book.specs.Run.{Outcome, value, full, spent, andThen, notStep, diaSteps, boxSteps, furtherSteps, bothSteps, untilRound, loop, run}
 use Rattle.book.specs.Ticks.{Tick, round, steps, roundTicks, ticks, notNeeds, twoNeed, diamondNeeds, diaNeeds, boxNeeds, furtherTicks, untilTicks}
@@ -49,16 +50,16 @@ rounds-within E h h′ F F′ d e i (suc j) A a =
 -- ---- a variable that stands nowhere
 
 module _ (m : Model) (X : ℕ) (A : List Bool) where
-  pub ticks-absent : (f : Form) → T (absent X f) → (e : Env) (live : List Fn) → ticks m (put e X A) live f ≡ ticks m e live f
+  pub ticks-absent : (f : Form) → T (absent X f) → (e : Env) (live : List Fn) → ticks (states m (put e X A)) live f ≡ ticks (states m e) live f
   ticks-absent bot h e live = refl
   ticks-absent top h e live = refl
   ticks-absent (neg f) h e live = ap₂ (λ (x : List Tick) (B : List Bool). x ++ steps (notNeeds (m .n) live (exist m) B)) (ticks-absent f h e live) (means-absent m X A f h e)
   ticks-absent (conj f g) h e live =
       let w = and-out (absent X f) (absent X g) h in
-      both-same (m .n) live (inter (size m)) _ _ _ _ (λ l. ticks m (put e X A) l g) (λ l. ticks m e l g) _ _ (ticks-absent f (w .0) e live) (means-absent m X A f (w .0) e) (λ l. ticks-absent g (w .1) e l) (means-absent m X A g (w .1) e)
+      both-same (m .n) live (inter (size m)) _ _ _ _ (λ l. ticks (states m (put e X A)) l g) (λ l. ticks (states m e) l g) _ _ (ticks-absent f (w .0) e live) (means-absent m X A f (w .0) e) (λ l. ticks-absent g (w .1) e l) (means-absent m X A g (w .1) e)
   ticks-absent (disj f g) h e live =
       let w = and-out (absent X f) (absent X g) h in
-      both-same (m .n) live (union (size m)) _ _ _ _ (λ l. ticks m (put e X A) l g) (λ l. ticks m e l g) _ _ (ticks-absent f (w .0) e live) (means-absent m X A f (w .0) e) (λ l. ticks-absent g (w .1) e l) (means-absent m X A g (w .1) e)
+      both-same (m .n) live (union (size m)) _ _ _ _ (λ l. ticks (states m (put e X A)) l g) (λ l. ticks (states m e) l g) _ _ (ticks-absent f (w .0) e live) (means-absent m X A f (w .0) e) (λ l. ticks-absent g (w .1) e l) (means-absent m X A g (w .1) e)
   ticks-absent (now p) h e live = refl
   ticks-absent (next p) h e live = refl
   ticks-absent (var P) h e live = refl
@@ -67,19 +68,19 @@ module _ (m : Model) (X : ℕ) (A : List Bool) where
   ticks-absent (dia t f) h e live = ap₂ (λ (x : List Tick) (B : List Bool). x ++ steps (diaNeeds (m .n) live (related m t) B)) (ticks-absent f h e live) (means-absent m X A f h e)
   ticks-absent (mu P f) h e live =
       let w = and-out (not (eqb P X)) (absent X f) h in
-      rounds-same _ (λ B. ticks m (put e P B) (fnOf (m .n) B ∷ live) f) _ (λ B. means m (put e P B) f) (suc (size m)) (start true (size m) (exist m))
-      (λ B. ap (λ (d : Env). ticks m d (fnOf (m .n) B ∷ live) f) (put-swap e X A P B (apart P X (w .0))) ∙ ticks-absent f (w .1) (put e P B) (fnOf (m .n) B ∷ live))
+      rounds-same _ (λ B. ticks (states m (put e P B)) (fnOf (m .n) B ∷ live) f) _ (λ B. means m (put e P B) f) (suc (size m)) (start true (size m) (exist m))
+      (λ B. ap (λ (d : Env). ticks (states m d) (fnOf (m .n) B ∷ live) f) (put-swap e X A P B (apart P X (w .0))) ∙ ticks-absent f (w .1) (put e P B) (fnOf (m .n) B ∷ live))
       (λ B. ap (λ (d : Env). means m d f) (put-swap e X A P B (apart P X (w .0))) ∙ means-absent m X A f (w .1) (put e P B))
   ticks-absent (nu P f) h e live =
       let w = and-out (not (eqb P X)) (absent X f) h in
-      rounds-same _ (λ B. ticks m (put e P B) (fnOf (m .n) B ∷ live) f) _ (λ B. means m (put e P B) f) (suc (size m)) (start false (size m) (exist m))
-      (λ B. ap (λ (d : Env). ticks m d (fnOf (m .n) B ∷ live) f) (put-swap e X A P B (apart P X (w .0))) ∙ ticks-absent f (w .1) (put e P B) (fnOf (m .n) B ∷ live))
+      rounds-same _ (λ B. ticks (states m (put e P B)) (fnOf (m .n) B ∷ live) f) _ (λ B. means m (put e P B) f) (suc (size m)) (start false (size m) (exist m))
+      (λ B. ap (λ (d : Env). ticks (states m d) (fnOf (m .n) B ∷ live) f) (put-swap e X A P B (apart P X (w .0))) ∙ ticks-absent f (w .1) (put e P B) (fnOf (m .n) B ∷ live))
       (λ B. ap (λ (d : Env). means m d f) (put-swap e X A P B (apart P X (w .0))) ∙ means-absent m X A f (w .1) (put e P B))
   ticks-absent (until b t f g) h e live =
       let w = and-out (absent X f) (absent X g) h in
       let R = related m t in
       let all : (F G : List Bool) (fs gs : List Fn → List Tick) → List Tick = λ F G fs gs. roundTicks (untilTicks (m .n) live b (exist m) R F G fs gs) (onward b (size m) R F G) (suc (size m)) (start true (size m) (exist m)) in
-      ap₂ (λ (F G : List Bool). all F G (λ l. ticks m (put e X A) l f) (λ l. ticks m (put e X A) l g)) (means-absent m X A f (w .0) e) (means-absent m X A g (w .1) e)
+      ap₂ (λ (F G : List Bool). all F G (λ l. ticks (states m (put e X A)) l f) (λ l. ticks (states m (put e X A)) l g)) (means-absent m X A f (w .0) e) (means-absent m X A g (w .1) e)
       ∙ ap₂ (λ (x y : List Fn → List Tick). all (means m e f) (means m e g) x y) (fun-ext (λ l. ticks-absent f (w .0) e l)) (fun-ext (λ l. ticks-absent g (w .1) e l))
 
 -- ---- the translation
@@ -117,7 +118,7 @@ boxes-in n live E R A h = ap₂ needs (in-fn n E A h) (not-same (2 ^ n) E A h)
         (stepNeed (2 * n) (F ∷ live) (fnOf n B) ∷ twoNeed n live (inter (2 ^ n)) B E ∷ []) ++ (diaNeeds n live R C ++ notNeeds n live E (sometimes (2 ^ n) R C))
 
 module _ (m : Model) (e : Env) (t X : ℕ) where
-  goes-ticks : (b : Bool) (A : List Bool) → Below A (exist m) → (live : List Fn) → ticks m (put e X A) live (goes b t X) ≡ furtherTicks b (m .n) live (exist m) (related m t) A
+  goes-ticks : (b : Bool) (A : List Bool) → Below A (exist m) → (live : List Fn) → ticks (states m (put e X A)) live (goes b t X) ≡ furtherTicks b (m .n) live (exist m) (related m t) A
   goes-ticks true A h live =
       ap (λ (B : List Bool). steps (diaNeeds (m .n) live (related m t) (inter (size m) B (exist m)))) (put-here e X A) ∙ ap steps (dia-in (m .n) live (exist m) (related m t) A h)
   goes-ticks false A h live =
@@ -129,18 +130,18 @@ module _ (m : Model) (e : Env) (t X : ℕ) where
       ∙ ap (λ (B : List Bool). inter (size m) B E) (always-same (size m) E R (related-inside m t) (inter (size m) A E) A (inter-agrees (size m) E A))) (λ l. refl) refl
 
   -- UNTIL IS THE WRITTEN FORMULA, in steps, needs and rounds
-  pub ticks-written : (b : Bool) (f g : Form) → T (absent X f) → T (absent X g) → (live : List Fn) → ticks m e live (until b t f g) ≡ ticks m e live (written b t X f g)
+  pub ticks-written : (b : Bool) (f g : Form) → T (absent X f) → T (absent X g) → (live : List Fn) → ticks (states m e) live (until b t f g) ≡ ticks (states m e) live (written b t X f g)
   ticks-written b f g hf hg live =
       let R = related m t in
       let E = exist m in
-      sym (rounds-within E _ (untilTicks (m .n) live b E R (means m e f) (means m e g) (λ l. ticks m e l f) (λ l. ticks m e l g)) _ (onward b (size m) R (means m e f) (means m e g))
+      sym (rounds-within E _ (untilTicks (m .n) live b E R (means m e f) (means m e g) (λ l. ticks (states m e) l f) (λ l. ticks (states m e) l g)) _ (onward b (size m) R (means m e f) (means m e g))
       (λ A a.
       let held = fnOf (m .n) A ∷ live in
-      both-same (m .n) held (union (size m)) _ (ticks m e held g) _ (means m e g) (λ l. ticks m (put e X A) l (conj f (goes b t X)))
-      (λ l. bothTicks (m .n) l (inter (size m)) (ticks m e l f) (means m e f) (λ k. furtherTicks b (m .n) k E R A) (further b (size m) R A)) _ (inter (size m) (means m e f) (further b (size m) R A))
+      both-same (m .n) held (union (size m)) _ (ticks (states m e) held g) _ (means m e g) (λ l. ticks (states m (put e X A)) l (conj f (goes b t X)))
+      (λ l. bothTicks (m .n) l (inter (size m)) (ticks (states m e) l f) (means m e f) (λ k. furtherTicks b (m .n) k E R A) (further b (size m) R A)) _ (inter (size m) (means m e f) (further b (size m) R A))
       (ticks-absent m X A g hg e held) (means-absent m X A g hg e)
       (λ l.
-      both-same (m .n) l (inter (size m)) _ (ticks m e l f) _ (means m e f) (λ k. ticks m (put e X A) k (goes b t X)) (λ k. furtherTicks b (m .n) k E R A) _ (further b (size m) R A)
+      both-same (m .n) l (inter (size m)) _ (ticks (states m e) l f) _ (means m e f) (λ k. ticks (states m (put e X A)) k (goes b t X)) (λ k. furtherTicks b (m .n) k E R A) _ (further b (size m) R A)
       (ticks-absent m X A f hf e l) (means-absent m X A f hf e) (λ k. goes-ticks b A a k) (goes-means m e b t X A))
       (ap₂ (inter (size m)) (means-absent m X A f hf e) (goes-means m e b t X A)))
       (written-round m e b t X f g hf hg) (onward-into m t b (means m e f) (means m e g) (means-in m e f) (means-in m e g)) (suc (size m)) (start true (size m) E) (start-in true (size m) E))
@@ -154,7 +155,7 @@ live-ext : {Y : Type 0} {h k : List Fn → Count → Y} → ((l : List Fn) (q : 
 live-ext e = fun-ext (λ l. fun-ext (λ q. e l q))
 
 module _ (m : Model) (N R X : ℕ) (A : List Bool) where
-  pub run-absent : (f : Form) → T (absent X f) → (e : Env) (live : List Fn) (r : Count) → run m N R (put e X A) live f r ≡ run m N R e live f r
+  pub run-absent : (f : Form) → T (absent X f) → (e : Env) (live : List Fn) (r : Count) → run (states m (put e X A)) N R live f r ≡ run (states m e) N R live f r
   run-absent bot h e live r = refl
   run-absent top h e live r = refl
   run-absent (neg f) h e live r = ap (λ (o : Outcome). andThen o (λ B q. notStep (m .n) N live (exist m) B q)) (run-absent f h e live r)
@@ -173,11 +174,11 @@ module _ (m : Model) (N R X : ℕ) (A : List Bool) where
   run-absent (mu P f) h e live r =
       let w = and-out (not (eqb P X)) (absent X f) h in
       ap (λ (G : List Bool → Count → Outcome). loop R G R (start true (size m) (exist m)) r)
-      (two-ext (λ B q. ap (λ (d : Env). run m N R d (fnOf (m .n) B ∷ live) f q) (put-swap e X A P B (apart P X (w .0))) ∙ run-absent f (w .1) (put e P B) (fnOf (m .n) B ∷ live) q))
+      (two-ext (λ B q. ap (λ (d : Env). run (states m d) N R (fnOf (m .n) B ∷ live) f q) (put-swap e X A P B (apart P X (w .0))) ∙ run-absent f (w .1) (put e P B) (fnOf (m .n) B ∷ live) q))
   run-absent (nu P f) h e live r =
       let w = and-out (not (eqb P X)) (absent X f) h in
       ap (λ (G : List Bool → Count → Outcome). loop R G R (start false (size m) (exist m)) r)
-      (two-ext (λ B q. ap (λ (d : Env). run m N R d (fnOf (m .n) B ∷ live) f q) (put-swap e X A P B (apart P X (w .0))) ∙ run-absent f (w .1) (put e P B) (fnOf (m .n) B ∷ live) q))
+      (two-ext (λ B q. ap (λ (d : Env). run (states m d) N R (fnOf (m .n) B ∷ live) f q) (put-swap e X A P B (apart P X (w .0))) ∙ run-absent f (w .1) (put e P B) (fnOf (m .n) B ∷ live) q))
   run-absent (until b t f g) h e live r =
       let w = and-out (absent X f) (absent X g) h in
       ap₂ (λ (fs gs : List Fn → Count → Outcome). loop R (untilRound (m .n) N live b (exist m) (related m t) fs gs) R (start true (size m) (exist m)) r)
@@ -206,24 +207,24 @@ in-self n E A z a = fnOf-inj n (inter (2 ^ n) A E) A (length-table (2 ^ n) (λ s
 
 module _ (m : Model) (N R : ℕ) (e : Env) (t X : ℕ) where
   goes-run : (b : Bool) (A : List Bool) → Sized (m .n) A → Below A (exist m) → (live : List Fn) (q : Count)
-      → run m N R (put e X A) live (goes b t X) q ≡ furtherSteps b (m .n) N live (exist m) (related m t) A q
+      → run (states m (put e X A)) N R live (goes b t X) q ≡ furtherSteps b (m .n) N live (exist m) (related m t) A q
   goes-run b A z a live q = go b
     where
       read : inter (size m) (put e X A X) (exist m) ≡ A
       read = ap (λ (B : List Bool). inter (size m) B (exist m)) (put-here e X A) ∙ in-self (m .n) (exist m) A z a
 
-      go : (b : Bool) → run m N R (put e X A) live (goes b t X) q ≡ furtherSteps b (m .n) N live (exist m) (related m t) A q
+      go : (b : Bool) → run (states m (put e X A)) N R live (goes b t X) q ≡ furtherSteps b (m .n) N live (exist m) (related m t) A q
       go true = ap (λ (B : List Bool). diaSteps (m .n) N live (related m t) B q) read
       go false =
           ap (λ (B : List Bool). bothSteps (m .n) N live (inter (size m)) (boxSteps (m .n) N live (exist m) (related m t) B q) (λ C p. diaSteps (m .n) N (fnOf (m .n) C ∷ live) (related m t) (exist m) p)) read
 
   -- the run of until is that of the written formula
-  pub run-written : (b : Bool) (f g : Form) → T (absent X f) → T (absent X g) → (live : List Fn) (r : Count) → run m N R e live (until b t f g) r ≡ run m N R e live (written b t X f g) r
+  pub run-written : (b : Bool) (f g : Form) → T (absent X f) → T (absent X g) → (live : List Fn) (r : Count) → run (states m e) N R live (until b t f g) r ≡ run (states m e) N R live (written b t X f g) r
   run-written b f g hf hg live r =
       let E = exist m in
-      loop-same (m .n) E R (untilRound (m .n) N live b E (related m t) (λ l q. run m N R e l f q) (λ l q. run m N R e l g q))
-      (λ A q. run m N R (put e X A) (fnOf (m .n) A ∷ live) (disj g (conj f (goes b t X))) q)
-      (until-good (m .n) E (related m t) (related-inside m t) (length-table (size m) (λ s. mem (m .valid) s)) N live b (λ l q. run m N R e l f q) (λ l q. run m N R e l g q) (λ l q. run-good m N R e l f q) (λ l q. run-good m N R e l g q))
+      loop-same (m .n) E R (untilRound (m .n) N live b E (related m t) (λ l q. run (states m e) N R l f q) (λ l q. run (states m e) N R l g q))
+      (λ A q. run (states m (put e X A)) N R (fnOf (m .n) A ∷ live) (disj g (conj f (goes b t X))) q)
+      (until-good (m .n) E (related m t) (related-inside m t) (length-table (size m) (λ s. mem (m .valid) s)) N live b (λ l q. run (states m e) N R l f q) (λ l q. run (states m e) N R l g q) (λ l q. run-good m N R e l f q) (λ l q. run-good m N R e l g q))
       (λ A q z a.
       let held = fnOf (m .n) A ∷ live in
       sym

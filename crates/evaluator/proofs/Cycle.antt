@@ -1,19 +1,19 @@
 -- What each function of the cycle asks of those that it calls, and what its answers are made of theirs: a law for each call and return. Assumes nothing.
 use mathlib.Core.Path.{_≡_, refl, sym, ap, _∙_, subst}
-use mathlib.Core.Logic.{_≢_}
-use mathlib.Core.Bool.{true}
+use mathlib.Core.Logic.{_≢_, ⊎-elim, inr}
+use mathlib.Core.Bool.{true, false, true≢false}
 use mathlib.Core.List.{List}
 use Prim.Native.Nat.{ℕ, _+_, _*_, _-_, _≤_, _<_}
 use native.Mathlib.Omega.{arith}
 use lib.ListN.{length, set, take, length-set}
 use Rattle.mucalculus.specs.Form.{Form}
-use Rattle.tokens.specs.Tokens.{leadAt}
-use Rattle.tokens.specs.declared.Grammar.the-variants.{Runs}
+use Rattle.tokens.specs.Tokens.{onlyNow, allowed, leadAt}
+use Rattle.tokens.specs.declared.Grammar.{Grammar}
+use Rattle.tokens.specs.declared.Grammar.the-variants.{Pairs, Runs}
 use Rattle.tokens.specs.declared.Leaf.{Leaf}
 use Rattle.tokens.specs.declared.Join.{Join}
 use Rattle.tokens.specs.declared.Mode.{Mode}
 use Rattle.tokens.specs.declared.Fix.{Fix}
-use Rattle.tokens.specs.declared.Two.{Two}
 use Rattle.tokens.specs.declared.Two.the-variants.{Join as Joins, Until}
 use Rattle.tokens.specs.declared.Token.{Token}
 use Rattle.tokens.specs.declared.Token.the-variants.{Leaf as LeafToken, Not, Both, Modal, Binder}
@@ -25,11 +25,12 @@ use Rattle.accounts.specs.Count.{another}
 use Rattle.layout.specs.Places.{VALID, HEADER, FIRST-RELATION}
 use Rattle.layout.specs.View.{View, view}
 use Rattle.counting.specs.Counts.{CountsOf}
+use Rattle.steps.specs.declared.Step.the-variants as step
 use Rattle.counting.specs.declared.Taken.{Taken}
 use Rattle.book.specs.Turns.{startArrow}
 use Rattle.modal.specs.declared.Limits.{Limits}
-use Rattle.modal.specs.Modal.{ModalPre, ComplementPre, ComplementPost}
-use Rattle.evaluator.specs.Scene.{stackSize, Scene, opened, Ready, holdsReg, holdsRel, Answers, fromTaken, bodyOf, roundOf, isLeast, OverPost, JoinedPre, JoinedPost, LeafPre, LeafPost, EvalPre, EvalPost, NegatePost, BothPre, BothPost, ModePre, ModePost, fixOf, variableOf, BodyPart, UntilPost, TurnPre, TurnPost, BindPre, BindPost}
+use Rattle.modal.specs.Modal.{ModalPre}
+use Rattle.evaluator.specs.Scene.{stackSize, Scene, opened, Ready, holdsReg, holdsRel, Answers, fromTaken, bodyOf, roundOf, isLeast, OverPost, LivePre, LivePost, JoinedPre, JoinedPost, ConfinedPre, ConfinedPost, LeafPre, LeafPost, Evaluates, EvalPre, EvalPost, NegatePost, BothPre, BothPost, ModePre, ModePost, fixOf, variableOf, BodyPart, UntilPost, TurnPre, TurnPost, BindPre, BindPost}
 use Rattle.evaluator.specs.declared.Body.{Body}
 use Rattle.evaluator.specs.declared.Body.the-variants as body
 use Rattle.evaluator.specs.declared.Context.{Context}
@@ -39,7 +40,7 @@ use Rattle.evaluator.proofs.Tokens.{read-depth, read-allowed, leaf-form
 use Rattle.evaluator.proofs.Parts.{leaf-named, not-part, modal-part, modal-relation, binder-part, left-part, right-part, until-relation}
 use Rattle.evaluator.proofs.State.{valid-asks, valid-read}
 use Rattle.evaluator.proofs.Outcomes.{Halts}
-use Rattle.evaluator.proofs.Steps.{answers-same, eval-leaf, negate-stops, first-stops, mode-stops, value-set, value-is, negate-asks, negate-ends, both-part, both-ready, both-asks, both-joined}
+use Rattle.evaluator.proofs.Steps.{answers-same, eval-leaf, negate-stops, first-stops, mode-stops, value-set, value-is, negate-asks, negate-confined, negate-ends, both-part, both-ready, both-asks, both-joined}
 use Rattle.evaluator.proofs.Relations.{rel-range, rel-some, over-asks, over-ends}
 use Rattle.evaluator.proofs.Rounds.{Bound, bind-starts, bind-out, bind-ready, bind-stops, bind-ends, bind-turns, bind-less}
 use Rattle.evaluator.proofs.Untils.{absent-of, until-as, until-part, turn-asks, turn-answers}
@@ -50,29 +51,30 @@ inward c = record { at = c .at + 1; depth = c .depth - 1; held = c .held; places
 
 -- ---- by the token
 
-module _ {L : Limits} {W : View} {stack bs : List ℕ} {c : Context} (P : EvalPre L W stack bs c) {ld : Lead} (found : ld ≡ leadAt (L .bits) Runs bs (c .at)) {t : Token} (is : ld ≡ Is t) where
+module _ {g : Grammar} {L : Limits} {W : View} {stack bs : List ℕ} {c : Context} (P : EvalPre g L W stack bs c) {ld : Lead} (found : ld ≡ leadAt (L .bits) g bs (c .at)) {t : Token} (is : ld ≡ Is t) where
   room : c .held + 2 * (c .depth - 1) + 1 < stackSize
   room = let l = P .room in let d = read-depth (P .part .stands) in omega arith
 
   module _ {l : Leaf} (leaf : t ≡ LeafToken l) where
-    pub leaf-asked : LeafPre L W stack c l
+    pub leaf-asked : LeafPre g L W stack c l
     leaf-asked = record { scene = P .scene; ready = P .ready; named = leaf-named (P .part) found is leaf; taken = read-allowed (P .part .stands) found is leaf }
 
-    pub leaf-answered : {X : View} {o : Taken} {r : Evaluated} → LeafPost L W X stack c l o → r ≡ fromTaken (c .at + 1) o → EvalPost L W X stack stack bs c r
+    pub leaf-answered : {X : View} {o : Taken} {r : Evaluated} → LeafPost g L W X stack c l o → r ≡ fromTaken (c .at + 1) o → EvalPost g L W X stack stack bs c r
     leaf-answered A is-r = record {
       answers = λ σ f e R p. eval-leaf l (leaf-form (p .stands) found is leaf) (leaf-end (p .stands) found is leaf) (A .answers σ R (leaf-named p found is leaf)) is-r;
     }
 
   module _ (one : t ≡ Not) where
-    pub not-asked : EvalPre L W stack bs (inward c)
-    not-asked = record { room = let l = room in omega arith; scene = P .scene; form = _; end = P .end; ready = P .ready; part = not-part (P .part) found is one }
+    pub not-asked : EvalPre g L W stack bs (inward c)
+    not-asked = record { takes = P .takes; room = let l = room in omega arith; scene = P .scene; form = _; end = P .end; ready = P .ready; part = not-part (P .part) found is one }
 
-    pub not-answered : {X : View} {after : List ℕ} {r : Evaluated} → NegatePost L W X stack after bs (inward c) r → EvalPost L W X stack after bs c r
+    pub not-answered : {X : View} {after : List ℕ} {r : Evaluated} → NegatePost g L W X stack after bs (inward c) r → EvalPost g L W X stack after bs c r
     not-answered A = record { answers = λ σ f e R p. answers-same (one-form (p .stands) found is one is-not) (A .answers σ _ e R (not-part p found is one)) }
 
   module _ {j : Join} (two : t ≡ Both (Joins j)) where
-    pub both-asked : BothPre L W stack bs (inward c)
+    pub both-asked : BothPre g L W stack bs (inward c)
     both-asked = record {
+      takes = P .takes;
       room = room;
       scene = P .scene;
       left = _;
@@ -84,17 +86,19 @@ module _ {L : Limits} {W : View} {stack bs : List ℕ} {c : Context} (P : EvalPr
       second = right-part (P .part) found is two;
     }
 
-    pub both-answered : {X : View} {after : List ℕ} {r : Evaluated} → BothPost L W X stack after bs (inward c) j r → EvalPost L W X stack after bs c r
+    pub both-answered : {X : View} {after : List ℕ} {r : Evaluated} → BothPost g L W X stack after bs (inward c) j r → EvalPost g L W X stack after bs c r
     both-answered A = record {
       answers = λ σ f e R p. answers-same (both-form (p .stands) found is two) (A .answers σ _ _ _ e R (left-part p found is two) (right-part p found is two));
     }
 
+-- the same of a formula of runs
+module _ {L : Limits} {W : View} {stack bs : List ℕ} {c : Context} (P : EvalPre Runs L W stack bs c) {ld : Lead} (found : ld ≡ leadAt (L .bits) Runs bs (c .at)) {t : Token} (is : ld ≡ Is t) where
   module _ {m : Mode} {u : ℕ} (two : t ≡ Both (Until m u)) {b b′ : Body} (same : b ≡ b′) (body : UntilPost L bs (inward c) m u b′) where
-    pub until-asked : BindPre L W stack bs (inward c) b
-    until-asked =
+    run-until-asked : BindPre L W stack bs (inward c) b
+    run-until-asked =
         let p = left-part (P .part) found is two in
         subst (BindPre L W stack bs (inward c)) (sym (same ∙ body .says _ _ (p .stands))) (record {
-          room = room;
+          room = room P found is;
           scene = P .scene;
           form = _;
           end = P .end;
@@ -102,8 +106,8 @@ module _ {L : Limits} {W : View} {stack bs : List ℕ} {c : Context} (P : EvalPr
           part = until-part m (P .ready) p (right-part (P .part) found is two) (until-relation (P .part) found is two);
         })
 
-    pub until-answered : {X : View} {after : List ℕ} {r : Evaluated} → BindPost L W X stack after bs (inward c) b r → EvalPost L W X stack after bs c r
-    until-answered {X} {after} {r} A = record {
+    run-until-answered : {X : View} {after : List ℕ} {r : Evaluated} → BindPost L W X stack after bs (inward c) b r → EvalPost Runs L W X stack after bs c r
+    run-until-answered {X} {after} {r} A = record {
       answers = λ σ f e R p.
           let q = left-part p found is two in
           let q′ = right-part p found is two in
@@ -112,9 +116,9 @@ module _ {L : Limits} {W : View} {stack bs : List ℕ} {c : Context} (P : EvalPr
     }
 
   module _ {m : Mode} {u : ℕ} (one : t ≡ Modal m u) where
-    pub mode-asked : ModePre L W stack bs (inward c) u
-    mode-asked = record {
-      room = room;
+    run-mode-asked : ModePre L W stack bs (inward c) u
+    run-mode-asked = record {
+      room = room P found is;
       scene = P .scene;
       form = _;
       end = P .end;
@@ -123,15 +127,15 @@ module _ {L : Limits} {W : View} {stack bs : List ℕ} {c : Context} (P : EvalPr
       relation = modal-relation (P .part) found is one;
     }
 
-    pub mode-answered : {X : View} {after : List ℕ} {r : Evaluated} → ModePost L W X stack after bs (inward c) m u r → EvalPost L W X stack after bs c r
-    mode-answered A = record {
+    run-mode-answered : {X : View} {after : List ℕ} {r : Evaluated} → ModePost L W X stack after bs (inward c) m u r → EvalPost Runs L W X stack after bs c r
+    run-mode-answered A = record {
       answers = λ σ f e R p. answers-same (one-form (p .stands) found is one (is-modal m u)) (A .answers σ _ e R (modal-part p found is one) (modal-relation p found is one));
     }
 
   module _ {x : Fix} {v : ℕ} (one : t ≡ Binder x v) {b : Body} (same : b ≡ body.Binder x v) where
-    pub bind-asked : BindPre L W stack bs (inward c) b
-    bind-asked = subst (BindPre L W stack bs (inward c)) (sym same) (record {
-      room = room;
+    run-bind-asked : BindPre L W stack bs (inward c) b
+    run-bind-asked = subst (BindPre L W stack bs (inward c)) (sym same) (record {
+      room = room P found is;
       scene = P .scene;
       form = _;
       end = P .end;
@@ -139,52 +143,95 @@ module _ {L : Limits} {W : View} {stack bs : List ℕ} {c : Context} (P : EvalPr
       part = record { parts = binder-part (P .part) found is one };
     })
 
-    pub bind-answered : {X : View} {after : List ℕ} {r : Evaluated} → BindPost L W X stack after bs (inward c) b r → EvalPost L W X stack after bs c r
-    bind-answered {X} {after} {r} A = record {
+    run-bind-answered : {X : View} {after : List ℕ} {r : Evaluated} → BindPost L W X stack after bs (inward c) b r → EvalPost Runs L W X stack after bs c r
+    run-bind-answered {X} {after} {r} A = record {
       answers = λ σ f e R p.
           let B = subst (λ (d : Body). BindPost L W X stack after bs (inward c) d r) same A in
           answers-same (one-form (p .stands) found is one (is-binder x v)) (B .answers σ _ e R (record { parts = binder-part p found is one }));
     }
 
+-- only formulas of states have what is not of pairs
+runs-only : {g : Grammar} → Evaluates g → (t : Token) (n : ℕ) → allowed t n g ≡ true → (allowed t n Pairs ≡ false) → g ≡ Runs
+runs-only takes t n a none = ⊎-elim (λ e. absurd (true≢false (sym a ∙ ap (allowed t n) e ∙ none))) (λ e. e) takes
+
+module _ {g : Grammar} {L : Limits} {W : View} {stack bs : List ℕ} {c : Context} (P : EvalPre g L W stack bs c) {ld : Lead} (found : ld ≡ leadAt (L .bits) g bs (c .at)) {t : Token} (is : ld ≡ Is t) where
+  -- read as a formula of runs
+  module _ (e : g ≡ Runs) where
+    run-pre : EvalPre Runs L W stack bs c
+    run-pre = subst (λ (h : Grammar). EvalPre h L W stack bs c) e P
+
+    run-found : ld ≡ leadAt (L .bits) Runs bs (c .at)
+    run-found = subst (λ (h : Grammar). ld ≡ leadAt (L .bits) h bs (c .at)) e found
+
+    run-post : {X : View} {after : List ℕ} {r : Evaluated} → EvalPost Runs L W X stack after bs c r → EvalPost g L W X stack after bs c r
+    run-post {X} {after} {r} A = subst (λ (h : Grammar). EvalPost h L W X stack after bs c r) (sym e) A
+
+  module _ {m : Mode} {u : ℕ} (two : t ≡ Both (Until m u)) {b b′ : Body} (same : b ≡ b′) (body : UntilPost L bs (inward c) m u b′) where
+    is-until : g ≡ Runs
+    is-until = runs-only (P .takes) (Both (Until m u)) (L .bits) (read-allowed (P .part .stands) found is two) refl
+
+    pub until-asked : BindPre L W stack bs (inward c) b
+    until-asked = run-until-asked (run-pre is-until) (run-found is-until) is two same body
+
+    pub until-answered : {X : View} {after : List ℕ} {r : Evaluated} → BindPost L W X stack after bs (inward c) b r → EvalPost g L W X stack after bs c r
+    until-answered A = run-post is-until (run-until-answered (run-pre is-until) (run-found is-until) is two same body A)
+
+  module _ {m : Mode} {u : ℕ} (one : t ≡ Modal m u) where
+    is-modal-runs : g ≡ Runs
+    is-modal-runs = runs-only (P .takes) (Modal m u) (L .bits) (read-allowed (P .part .stands) found is one) refl
+
+    pub mode-asked : ModePre L W stack bs (inward c) u
+    mode-asked = run-mode-asked (run-pre is-modal-runs) (run-found is-modal-runs) is one
+
+    pub mode-answered : {X : View} {after : List ℕ} {r : Evaluated} → ModePost L W X stack after bs (inward c) m u r → EvalPost g L W X stack after bs c r
+    mode-answered A = run-post is-modal-runs (run-mode-answered (run-pre is-modal-runs) (run-found is-modal-runs) is one A)
+
+  module _ {x : Fix} {v : ℕ} (one : t ≡ Binder x v) {b : Body} (same : b ≡ body.Binder x v) where
+    is-binder-runs : g ≡ Runs
+    is-binder-runs = runs-only (P .takes) (Binder x v) (L .bits) (read-allowed (P .part .stands) found is one) refl
+
+    pub bind-asked : BindPre L W stack bs (inward c) b
+    bind-asked = run-bind-asked (run-pre is-binder-runs) (run-found is-binder-runs) is one same
+
+    pub bind-answered : {X : View} {after : List ℕ} {r : Evaluated} → BindPost L W X stack after bs (inward c) b r → EvalPost g L W X stack after bs c r
+    bind-answered A = run-post is-binder-runs (run-bind-answered (run-pre is-binder-runs) (run-found is-binder-runs) is one same A)
+
 -- ---- NOT
 
-module _ {L : Limits} {W X : View} {stack after bs : List ℕ} {c : Context} {r : Evaluated} (E : EvalPost L W X stack after bs c r) where
-  pub negate-halts : Halts r → NegatePost L W X stack after bs c r
+module _ {g : Grammar} {L : Limits} {W X : View} {stack after bs : List ℕ} {c : Context} {r : Evaluated} (E : EvalPost g L W X stack after bs c r) where
+  pub negate-halts : Halts r → NegatePost g L W X stack after bs c r
   negate-halts s = record { answers = λ σ f e R p. negate-stops (E .answers σ f e R p) s }
 
   module _ (z : length after ≡ length stack) {a k : ℕ} {q : Count} (is : r ≡ Value a k q) where
-    -- V's word may be read, and the live words lent
-    pub valid-asked : EvalPre L W stack bs c → (VALID < HEADER) × (HEADER ≤ X .size) × (0 < X .header VALID)
-    valid-asked P = valid-asks (E .answers (P .scene) (P .form) (P .end) (P .ready) (P .part) .moved .sound)
+    pub negate-asked : EvalPre g L W stack bs c → LivePre L X after (c .held) (step.Not a)
+    negate-asked P = negate-asks (P .ready) (E .answers (P .scene) (P .form) (P .end) (P .ready) (P .part)) z is
 
-    pub lent-within : EvalPre L W stack bs c → c .held ≤ length after
-    lent-within P = let w = P .ready .within in let s = P .ready .size in omega arith
+    module _ {Y : View} {o : Taken} (s : LivePost L X Y after (c .held) (step.Not a) q o) where
+      pub confined-asked : EvalPre g L W stack bs c → ConfinedPre L Y after (c .held) o
+      confined-asked P = negate-confined (P .ready) (E .answers (P .scene) (P .form) (P .end) (P .ready) (P .part)) z is s
 
-    module _ (v : ℕ) (read : v + 1 ≡ X .header VALID) where
-      pub complement-asked : EvalPre L W stack bs c → ComplementPre (L .bits) (L .rows) (L .limit) X (take (c .held) after) v a
-      complement-asked P = negate-asks (P .ready) (E .answers (P .scene) (P .form) (P .end) (P .ready) (P .part)) z is v read
-
-      pub negate-answered : {Y : View} {o : Taken} {r′ : Evaluated} → ComplementPost (L .bits) (L .rows) (L .limit) X Y (take (c .held) after) v a q o → r′ ≡ fromTaken k o → NegatePost L W Y stack after bs c r′
-      negate-answered s is-r = record { answers = λ σ f e R p. negate-ends R (E .answers σ f e R p) z is v read s is-r }
+      pub negate-answered : {Z : View} {u : Taken} {r′ : Evaluated} → ConfinedPost (onlyNow g) L Y Z after (c .held) o u → r′ ≡ fromTaken k u → NegatePost g L W Z stack after bs c r′
+      negate-answered w is-r = record { answers = λ σ f e R p. negate-ends R (E .answers σ f e R p) z is s w is-r }
 
 -- ---- AND and OR
 
-pub first-asked : {L : Limits} {W : View} {stack bs : List ℕ} {c : Context} → BothPre L W stack bs c → EvalPre L W stack bs c
-first-asked P = record { room = let l = P .room in omega arith; scene = P .scene; form = P .left; end = P .middle; ready = P .ready; part = P .first }
+pub first-asked : {g : Grammar} {L : Limits} {W : View} {stack bs : List ℕ} {c : Context} → BothPre g L W stack bs c → EvalPre g L W stack bs c
+first-asked P = record { takes = P .takes; room = let l = P .room in omega arith; scene = P .scene; form = P .left; end = P .middle; ready = P .ready; part = P .first }
 
-module _ {L : Limits} {W X : View} {stack after bs : List ℕ} {c : Context} {r : Evaluated} (P : BothPre L W stack bs c) (E : EvalPost L W X stack after bs c r) where
-  pub first-halts : Halts r → (j : Join) → BothPost L W X stack after bs c j r
-  first-halts s j = record { answers = λ σ f g m e R p q. first-stops (E .answers σ f m R p) s j g e }
+module _ {g : Grammar} {L : Limits} {W X : View} {stack after bs : List ℕ} {c : Context} {r : Evaluated} (P : BothPre g L W stack bs c) (E : EvalPost g L W X stack after bs c r) where
+  pub first-halts : Halts r → (j : Join) → BothPost g L W X stack after bs c j r
+  first-halts s j = record { answers = λ σ f h m e R p q. first-stops (E .answers σ f m R p) s j h e }
 
   module _ (z : length after ≡ length stack) {a k : ℕ} {q : Count} (is : r ≡ Value a k q) where
     free : c .held < stackSize
     free = let l = P .room in omega arith
 
-    first : Answers L W X stack after (c .held) (c .count) (P .scene) (P .left) (P .middle) r
+    first : Answers (onlyNow g) L W X stack after (c .held) (c .count) (P .scene) (P .left) (P .middle) r
     first = E .answers (P .scene) (P .left) (P .middle) (P .ready) (P .first)
 
-    pub second-asked : {b : Context} → b ≡ roundOf c k q → EvalPre L X (set after (c .held) a) bs b
-    second-asked i = subst (λ (d : Context). EvalPre L X (set after (c .held) a) bs d) (sym i) (record {
+    pub second-asked : {b : Context} → b ≡ roundOf c k q → EvalPre g L X (set after (c .held) a) bs b
+    second-asked i = subst (λ (d : Context). EvalPre g L X (set after (c .held) a) bs d) (sym i) (record {
+      takes = P .takes;
       room = let l = P .room in omega arith;
       scene = _;
       form = P .right;
@@ -193,9 +240,9 @@ module _ {L : Limits} {W X : View} {stack after bs : List ℕ} {c : Context} {r 
       part = both-part (P .ready) first z is (P .second);
     })
 
-    module _ {b : Context} (i : b ≡ roundOf c k q) {Y : View} {last : List ℕ} {r′ : Evaluated} (F′ : EvalPost L X Y (set after (c .held) a) last bs b r′) (z′ : length last ≡ length (set after (c .held) a)) where
-      F : EvalPost L X Y (set after (c .held) a) last bs (roundOf c k q) r′
-      F = subst (λ (d : Context). EvalPost L X Y (set after (c .held) a) last bs d r′) i F′
+    module _ {b : Context} (i : b ≡ roundOf c k q) {Y : View} {last : List ℕ} {r′ : Evaluated} (F′ : EvalPost g L X Y (set after (c .held) a) last bs b r′) (z′ : length last ≡ length (set after (c .held) a)) where
+      F : EvalPost g L X Y (set after (c .held) a) last bs (roundOf c k q) r′
+      F = subst (λ (d : Context). EvalPost g L X Y (set after (c .held) a) last bs d r′) i F′
 
       same : length last ≡ length after
       same = simp length-set at z′
@@ -205,23 +252,23 @@ module _ {L : Limits} {W X : View} {stack after bs : List ℕ} {c : Context} {r 
         asks = λ b k′ q′ is′. both-asks (P .ready) first z is free same (λ C d. F .answers _ (P .right) (P .end) (both-ready (P .ready) first z is free C d) (both-part (P .ready) first z is (P .second))) is′ j refl;
       }
 
-      pub joined-answered : {j : Join} {Z : View} {r″ : Evaluated} → JoinedPost L Y Z last (c .held) j a r′ r″ → BothPost L W Z stack last bs c j r″
+      pub joined-answered : {j : Join} {Z : View} {r″ : Evaluated} → JoinedPost L Y Z last (c .held) j a r′ r″ → BothPost g L W Z stack last bs c j r″
       joined-answered {j} J = record {
-        answers = λ σ f g m e R p q. let A = E .answers σ f m R p in
-            both-joined R A z is free same (λ C d. F .answers _ g e (both-ready R A z is free C d) (both-part R A z is q)) j J;
+        answers = λ σ f h m e R p q. let A = E .answers σ f m R p in
+            both-joined R A z is free same (λ C d. F .answers _ h e (both-ready R A z is free C d) (both-part R A z is q)) j J;
       }
 
 -- ---- box and diamond
 
-pub part-asked : {L : Limits} {W : View} {stack bs : List ℕ} {c : Context} {t : ℕ} → ModePre L W stack bs c t → EvalPre L W stack bs c
-part-asked P = record { room = let l = P .room in omega arith; scene = P .scene; form = P .form; end = P .end; ready = P .ready; part = P .part }
+pub part-asked : {L : Limits} {W : View} {stack bs : List ℕ} {c : Context} {t : ℕ} → ModePre L W stack bs c t → EvalPre Runs L W stack bs c
+part-asked P = record { takes = inr refl; room = let l = P .room in omega arith; scene = P .scene; form = P .form; end = P .end; ready = P .ready; part = P .part }
 
-module _ {L : Limits} {W X : View} {stack after bs : List ℕ} {c : Context} {r : Evaluated} {t : ℕ} (P : ModePre L W stack bs c t) (E : EvalPost L W X stack after bs c r) where
+module _ {L : Limits} {W X : View} {stack after bs : List ℕ} {c : Context} {r : Evaluated} {t : ℕ} (P : ModePre L W stack bs c t) (E : EvalPost Runs L W X stack after bs c r) where
   pub mode-halts : Halts r → (m : Mode) → ModePost L W X stack after bs c m t r
   mode-halts s m = record { answers = λ σ f e R p h. mode-stops (E .answers σ f e R p) s m t }
 
   module _ (z : length after ≡ length stack) {a k : ℕ} {q : Count} (is : r ≡ Value a k q) where
-    whole : Answers L W X stack after (c .held) (c .count) (P .scene) (P .form) (P .end) r
+    whole : Answers true L W X stack after (c .held) (c .count) (P .scene) (P .form) (P .end) r
     whole = E .answers (P .scene) (P .form) (P .end) (P .ready) (P .part)
 
     pub relation-asked : (FIRST-RELATION + t < HEADER) × (HEADER ≤ X .size) × (0 < X .header (FIRST-RELATION + t))
@@ -300,7 +347,7 @@ module _ {L : Limits} {words₀ words counts₀ counts stack after bs : List ℕ
     module _ {Y : View} {last : List ℕ} {r : Evaluated} (E : TurnPost L (view (L .rows) words) Y (set after (c .held) a) last bs b body a r) (more : counted .rounds < L .rounds) where
       module _ {σ : Scene} {f : Form} {e : ℕ} (R : Ready L (view (L .rows) words₀) stack (c .places) (c .held) σ)
           (p : BodyPart (L .bits) bs (c .at) (c .depth) (set (σ .scope) (variableOf body) true) (holdsReg σ) (holdsRel σ) body f e) where
-        answered : Answers L (view (L .rows) words) Y (set after (c .held) a) last (c .held + 1) (another counted) (opened (L .bits) σ (variableOf body) a (stands R p .turning .A)) f e r
+        answered : Answers true L (view (L .rows) words) Y (set after (c .held) a) last (c .held + 1) (another counted) (opened (L .bits) σ (variableOf body) a (stands R p .turning .A)) f e r
         answered =
             turn-answers {c = bodyOf c (variableOf body) (another counted)} σ (stands R p .turning .A) (stands R p .turning .denotes) (stands R p .turning .exists) body
             (subst (λ (d : Context). TurnPost L (view (L .rows) words) Y (set after (c .held) a) last bs d body a r) is-body E) (inner R p) p

@@ -10,4 +10,5 @@ pub mod Relations
 pub mod Rounds
 pub mod Untils
 pub mod Cycle
+pub mod Inside
 pub mod Starts

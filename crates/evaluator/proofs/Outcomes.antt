@@ -6,7 +6,7 @@ use mathlib.Core.List.{List, [], _∷_, _++_}
 use Prim.Native.Nat.{ℕ, _*_, _^_}
 use native.Mathlib.Omega.{arith}
 use denote.Enum.Declared.{tagOf, declared}
-use Rattle.mucalculus.specs.Form.{Form, Pairs, Model, Env, put}
+use Rattle.mucalculus.specs.Form.{Form, neg, now, Pairs, Model, Env, put}
 use Rattle.mucalculus.specs.Means.{inter, union, compl, sometimes, always, size, exist, related}
 use Rattle.mucalculus.specs.Exist.{Inside, box-in}
 use Rattle.mucalculus.specs.Order.{start}
@@ -27,18 +27,19 @@ use Rattle.counting.specs.declared.Taken.the-variants as taken
 use Rattle.accounts.specs.declared.Count.{Count}
 use Rattle.diagram.specs.Need.{stepNeed}
 use Rattle.diagram.specs.Steps.{andF, orF}
-use Rattle.book.specs.Bridge.{fnOf, fnOfPairs, fnOf-not, fnOf-and, fnOf-or}
+use Rattle.book.specs.Bridge.{fnOf, fnOfPairs, fnOf-not, fnOf-and}
+use Rattle.book.specs.Over.{Over, states, levels, sizeOf, nowBit, levels-and, levels-or}
 use Rattle.book.specs.Diamond.{diamondF, diamond-exact}
 use Rattle.book.specs.Ticks.{counted, full as fullVerdict, diamondNeeds, diaNeeds, notNeeds, boxNeeds}
-use Rattle.book.specs.Verdicts.{fit, settle, steps-verdict, not-ticks, dia-ticks, box-ticks}
-use Rattle.book.specs.Run.{needingAll, Outcome, value, full, spent, andThen, notStep, twoStep, diaSteps, boxSteps, loop, run}
-use Rattle.book.specs.Follow.{ends, Matches, Evals, Stops, evals-same}
+use Rattle.book.specs.Verdicts.{fit, settle, steps-verdict, dia-ticks, box-ticks}
+use Rattle.book.specs.Run.{needingAll, Outcome, value, full, spent, andThen, step, confine, bothBy, diaSteps, boxSteps, loop, run}
+use Rattle.book.specs.Follow.{ends, MatchesBy, Matches, EvalsBy, Evals, Stops, evals-same}
 use Rattle.book.specs.Pairs.{PairEvals, PairMatches}
 use Rattle.modal.specs.Modal.{withinNot, complementNeeds, boxedNeeds, boxedF}
 use Rattle.modal.specs.declared.Limits.{Limits}
 use Rattle.layout.specs.View.{View}
 use Rattle.steps.specs.declared.Step.{Step}
-use Rattle.evaluator.specs.Scene.{endedOf, endedIn, EndsAt, fromTaken, joinStep, isLeast, LivePre, LivePost, JoinedPre, JoinedPost}
+use Rattle.evaluator.specs.Scene.{overOf, endedOf, endedIn, EndsAt, fromTaken, joinStep, isLeast, LivePre, LivePost, JoinedPre, JoinedPost}
 use Rattle.evaluator.specs.declared.Evaluated.{Evaluated}
 use Rattle.evaluator.specs.declared.Evaluated.the-variants.{Value, Full, Spent}
 use Rattle.evaluator.proofs.Evaluated.{enum}
@@ -84,11 +85,11 @@ taken-end e (taken.At a c) = refl
 taken-end e taken.Full = tt
 
 -- a value stands for a set that its arrow denotes
-pub evals-value : {n N : ℕ} {before after : Rows} {roots : List ℕ} {a : ℕ} {p : Count} (o : Outcome) → Evals n N before after roots o (ends a p)
-    → (A : List Bool) × (o ≡ value A p) × Denotes (2 * n) after a (fnOf n A)
-evals-value {n} {after = after} {a = a} {p = p} o d = go o (d .result)
+pub evals-value : {lv : List Bool → Fn} {n N : ℕ} {before after : Rows} {roots : List ℕ} {a : ℕ} {p : Count} (o : Outcome) → EvalsBy lv n N before after roots o (ends a p)
+    → (A : List Bool) × (o ≡ value A p) × Denotes (2 * n) after a (lv A)
+evals-value {lv} {n} {after = after} {a = a} {p = p} o d = go o (d .result)
   where
-    go : (o : Outcome) → Matches n after o (ends a p) → (A : List Bool) × (o ≡ value A p) × Denotes (2 * n) after a (fnOf n A)
+    go : (o : Outcome) → MatchesBy lv n after o (ends a p) → (A : List Bool) × (o ≡ value A p) × Denotes (2 * n) after a (lv A)
     go (value A q) m = (A, ap (value A) (sym (m .1)), m .0)
     go full m = absurd m
     go spent m = absurd m
@@ -103,27 +104,56 @@ abbrev pub joinF : Join → Fn → Fn → Fn
 joinF And = andF
 joinF Or = orF
 
-pub join-exact : (n : ℕ) (j : Join) (A B : List Bool) → fnOf n (joinOp j (2 ^ n) A B) ≡ joinF j (fnOf n A) (fnOf n B)
-join-exact n And A B = fnOf-and n A B
-join-exact n Or A B = fnOf-or n A B
+pub join-exact : (o : Over) (j : Join) (A B : List Bool) → levels o (joinOp j (sizeOf o) A B) ≡ joinF j (levels o A) (levels o B)
+join-exact o And A B = levels-and o A B
+join-exact o Or A B = levels-or o A B
 
-pub run-join : (m : Model) (N R : ℕ) (e : Env) (live : List Fn) (j : Join) (f g : Form) (r : Count) → run m N R e live (joinForm j f g) r
-    ≡ andThen (run m N R e live f r) (λ A q. andThen (run m N R e (fnOf (m .n) A ∷ live) g q) (λ B p. twoStep (m .n) N live (joinOp j (size m)) A B p))
-run-join m N R e live And f g r = refl
-run-join m N R e live Or f g r = refl
+-- a step for the set B, `operands` being live, and over states AND with V
+abbrev pub stepBy : Bool → Model → Env → ℕ → List Fn → List Fn → List Bool → Count → Outcome
+stepBy b m e N live operands B q = step (m .n) N operands (levels (overOf b m e) B) q (λ c. confine (overOf b m e) N live B c)
+
+abbrev pub notBy : Bool → Model → Env → ℕ → List Fn → List Bool → Count → Outcome
+notBy b m e N live A q = stepBy b m e N live (levels (overOf b m e) A ∷ live) (compl (sizeOf (overOf b m e)) A) q
+
+-- over states with `true`, over pairs with `false`
+module _ (b : Bool) (m : Model) (e : Env) (N R : ℕ) (live : List Fn) where
+  pub run-join : (j : Join) (f g : Form) (r : Count) → run (overOf b m e) N R live (joinForm j f g) r
+      ≡ bothBy (levels (overOf b m e)) (m .n) N live (joinOp j (sizeOf (overOf b m e))) (run (overOf b m e) N R live f r) (λ A q. run (overOf b m e) N R (levels (overOf b m e) A ∷ live) g q)
+  run-join j f g r = go b j
+    where
+      go : (b : Bool) (j : Join) → run (overOf b m e) N R live (joinForm j f g) r
+          ≡ bothBy (levels (overOf b m e)) (m .n) N live (joinOp j (sizeOf (overOf b m e))) (run (overOf b m e) N R live f r) (λ A q. run (overOf b m e) N R (levels (overOf b m e) A ∷ live) g q)
+      go true And = refl
+      go true Or = refl
+      go false And = refl
+      go false Or = refl
+
+  pub run-neg : (f : Form) (r : Count) → run (overOf b m e) N R live (neg f) r ≡ andThen (run (overOf b m e) N R live f r) (λ A q. notBy b m e N live A q)
+  run-neg f r = go b
+    where
+      go : (b : Bool) → run (overOf b m e) N R live (neg f) r ≡ andThen (run (overOf b m e) N R live f r) (λ A q. notBy b m e N live A q)
+      go true = refl
+      go false = refl
+
+  pub run-now : (p : ℕ) (r : Count) → run (overOf b m e) N R live (now p) r ≡ stepBy b m e N live live (nowBit (overOf b m e) p) r
+  run-now p r = go b
+    where
+      go : (b : Bool) → run (overOf b m e) N R live (now p) r ≡ stepBy b m e N live live (nowBit (overOf b m e) p) r
+      go true = refl
+      go false = refl
 
 -- E is V
 abbrev pub overSteps : Mode → ℕ → ℕ → List Fn → List Bool → Pairs → List Bool → Count → Outcome
 overSteps All n N live E R A q = boxSteps n N live E R A q
 overSteps Some n N live E R A q = diaSteps n N live R A q
 
-pub run-modal : (m : Model) (N R : ℕ) (e : Env) (live : List Fn) (o : Mode) (t : ℕ) (f : Form) (r : Count) → run m N R e live (modalForm o t f) r
-    ≡ andThen (run m N R e live f r) (λ A q. overSteps o (m .n) N live (exist m) (related m t) A q)
+pub run-modal : (m : Model) (N R : ℕ) (e : Env) (live : List Fn) (o : Mode) (t : ℕ) (f : Form) (r : Count) → run (states m e) N R live (modalForm o t f) r
+    ≡ andThen (run (states m e) N R live f r) (λ A q. overSteps o (m .n) N live (exist m) (related m t) A q)
 run-modal m N R e live All t f r = refl
 run-modal m N R e live Some t f r = refl
 
-pub run-binder : (m : Model) (N R : ℕ) (e : Env) (live : List Fn) (x : Fix) (P : ℕ) (f : Form) (r : Count) → run m N R e live (binderForm x P f) r
-    ≡ loop R (λ A q. run m N R (put e P A) (fnOf (m .n) A ∷ live) f q) R (start (isLeast x) (size m) (exist m)) r
+pub run-binder : (m : Model) (N R : ℕ) (e : Env) (live : List Fn) (x : Fix) (P : ℕ) (f : Form) (r : Count) → run (states m e) N R live (binderForm x P f) r
+    ≡ loop R (λ A q. run (states m (put e P A)) N R (fnOf (m .n) A ∷ live) f q) R (start (isLeast x) (size m) (exist m)) r
 run-binder m N R e live Mu P f r = refl
 run-binder m N R e live Nu P f r = refl
 
@@ -169,14 +199,6 @@ box-is n E Q A i =
     ∙ ap (fnOf n) (box-in (2 ^ n) E Q i A)
 
 module _ {n N : ℕ} (limit : ℕ) {before after : Rows} {roots : List ℕ} (fs : List Fn) where
-  pub complement-evals : (E A : List Bool) (o : Taken) (q : Count) → PairEvals n N before after roots (fit limit (complementNeeds n fs (fnOf n E) (fnOf n A))) (withinNot (fnOf n E) (fnOf n A))
-      (needingAll q (complementNeeds n fs (fnOf n E) (fnOf n A))) (result (madeIn o)) (countIn o)
-      → Evals n N before after roots (notStep n limit fs E A q) (endedIn o)
-  complement-evals E A o q p =
-      evals-same (ap (settle (inter (2 ^ n) (compl (2 ^ n) A) E)) (sym (steps-verdict limit 0 q (notNeeds n fs E A))) ∙ sym (not-ticks limit 0 n fs E A q))
-      (chain-evals (fit limit (notNeeds n fs E A)) o (inter (2 ^ n) (compl (2 ^ n) A) E) (within-not n E A)
-      (subst (λ (ks : List ℕ). PairEvals n N before after roots (fit limit ks) (withinNot (fnOf n E) (fnOf n A)) (needingAll q ks) (result (madeIn o)) (countIn o)) (not-needs n fs E A) p))
-
   module _ (Q : Pairs) (A : List Bool) (o : Taken) (q : Count) where
     pub diamond-evals : PairEvals n N before after roots (fit limit (diamondNeeds n fs (fnOfPairs n Q) (fnOf n A))) (diamondF n (fnOfPairs n Q) (fnOf n A))
         (needingAll q (diamondNeeds n fs (fnOfPairs n Q) (fnOf n A))) (result (madeIn o)) (countIn o)

@@ -6,7 +6,7 @@ use Prim.Native.Nat.{ℕ, _+_, _-_}
 use lib.ListN.{getD, set}
 use Rattle.mucalculus.specs.Form.{Form, neg, bound}
 use Rattle.tokens.specs.Tokens.{leadAt}
-use Rattle.tokens.specs.declared.Grammar.the-variants.{Runs}
+use Rattle.tokens.specs.declared.Grammar.{Grammar}
 use Rattle.tokens.specs.declared.Leaf.{Leaf}
 use Rattle.tokens.specs.declared.Two.{Two}
 use Rattle.tokens.specs.declared.Two.the-variants.{Until}
@@ -74,28 +74,28 @@ module _ {scope : List Bool} {regs rels : ℕ → Bool} where
 
 -- ---- by the token
 
-module _ {n : ℕ} {bs : List ℕ} {at depth : ℕ} {scope : List Bool} {regs rels : ℕ → Bool} {f : Form} {e : ℕ} (p : Part n bs at depth scope regs rels f e)
-    {ld : Lead} (found : ld ≡ leadAt n Runs bs at) {t : Token} (is : ld ≡ Is t) where
+module _ {g : Grammar} {n : ℕ} {bs : List ℕ} {at depth : ℕ} {scope : List Bool} {regs rels : ℕ → Bool} {f : Form} {e : ℕ} (p : Part g n bs at depth scope regs rels f e)
+    {ld : Lead} (found : ld ≡ leadAt n g bs at) {t : Token} (is : ld ≡ Is t) where
   pub leaf-named : {l : Leaf} → t ≡ LeafToken l → Named scope regs rels (leafForm l)
   leaf-named leaf = subst (Named scope regs rels) (leaf-form (p .stands) found is leaf) (p .named)
 
-  pub not-part : (one : t ≡ Not) → Part n bs (at + 1) (depth - 1) scope regs rels (inner (p .stands) found is one is-not) e
+  pub not-part : (one : t ≡ Not) → Part g n bs (at + 1) (depth - 1) scope regs rels (inner (p .stands) found is one is-not) e
   not-part one = record { stands = one-stands (p .stands) found is one is-not; named = named-neg (one-form (p .stands) found is one is-not) (p .named) }
 
-  pub modal-part : {m : Mode} {r : ℕ} (one : t ≡ Modal m r) → Part n bs (at + 1) (depth - 1) scope regs rels (inner (p .stands) found is one (is-modal m r)) e
+  pub modal-part : {m : Mode} {r : ℕ} (one : t ≡ Modal m r) → Part g n bs (at + 1) (depth - 1) scope regs rels (inner (p .stands) found is one (is-modal m r)) e
   modal-part {m} {r} one = record { stands = one-stands (p .stands) found is one (is-modal m r); named = named-modal m r _ (one-form (p .stands) found is one (is-modal m r)) (p .named) }
 
   pub modal-relation : {m : Mode} {r : ℕ} (one : t ≡ Modal m r) → rels r ≡ true
   modal-relation {m} {r} one = named-relation m r _ (one-form (p .stands) found is one (is-modal m r)) (p .named)
 
-  pub binder-part : {x : Fix} {P : ℕ} (one : t ≡ Binder x P) → Part n bs (at + 1) (depth - 1) (set scope P true) regs rels (inner (p .stands) found is one (is-binder x P)) e
+  pub binder-part : {x : Fix} {P : ℕ} (one : t ≡ Binder x P) → Part g n bs (at + 1) (depth - 1) (set scope P true) regs rels (inner (p .stands) found is one (is-binder x P)) e
   binder-part {x} {P} one = record { stands = one-stands (p .stands) found is one (is-binder x P); named = named-binder x P _ (one-form (p .stands) found is one (is-binder x P)) (p .named) }
 
   module _ {j : Two} (two : t ≡ Both j) where
-    pub left-part : Part n bs (at + 1) (depth - 1) scope regs rels (left (p .stands) found is two) (middle (p .stands) found is two)
+    pub left-part : Part g n bs (at + 1) (depth - 1) scope regs rels (left (p .stands) found is two) (middle (p .stands) found is two)
     left-part = record { stands = left-stands (p .stands) found is two; named = named-left j _ _ (both-form (p .stands) found is two) (p .named) }
 
-    pub right-part : Part n bs (middle (p .stands) found is two) (depth - 1) scope regs rels (right (p .stands) found is two) e
+    pub right-part : Part g n bs (middle (p .stands) found is two) (depth - 1) scope regs rels (right (p .stands) found is two) e
     right-part = record { stands = right-stands (p .stands) found is two; named = named-right j _ _ (both-form (p .stands) found is two) (p .named) }
 
   pub until-relation : {m : Mode} {r : ℕ} (two : t ≡ Both (Until m r)) → rels r ≡ true

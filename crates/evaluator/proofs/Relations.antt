@@ -44,13 +44,13 @@ use Rattle.contract.specs.Seen.{arrowIn}
 use Rattle.modal.specs.declared.Limits.{Limits}
 use Rattle.modal.specs.Chain.{alike-sym, held-alike, Moved, moved-trans}
 use Rattle.modal.specs.Modal.{boxedNeeds, boxedF, Chained, ModalPre, BoxPre}
-use Rattle.evaluator.specs.Scene.{Scene, modelIn, existIn, Boxes, holdsRel, Ready, Answers, endedIn, fromTaken, OverPost}
+use Rattle.evaluator.specs.Scene.{Scene, runIn, modelIn, existIn, Boxes, holdsRel, Ready, Answers, endedIn, fromTaken, OverPost}
 use Rattle.evaluator.specs.declared.Evaluated.{Evaluated}
 use Rattle.evaluator.specs.declared.Evaluated.the-variants.{Value}
 use Rattle.evaluator.proofs.Parts.{and-first, and-second}
 use Rattle.evaluator.proofs.State.{valid-root, valid-read, lent-arrows, word-root, filled-place}
 use Rattle.evaluator.proofs.Outcomes.{overSteps, run-modal, diamond-evals, box-evals}
-use Rattle.evaluator.proofs.Steps.{runIn, answers-taken, value-evals, value-end, value-set, value-is, value-ready}
+use Rattle.evaluator.proofs.Steps.{answers-taken, value-evals, value-end, value-set, value-is, value-ready}
 
 -- box asks of V what a sound table has, and is within the V that was read
 pub box-asks : {n N limit : ℕ} {W : View} {lent : List ℕ} {t a : ℕ} (v : ℕ) → v + 1 ≡ W .header VALID → ModalPre n N limit W lent t a → BoxPre n N limit W lent v t a
@@ -64,7 +64,7 @@ pub box-read : {n N limit : ℕ} {W X : View} {lent : List ℕ} {t a : ℕ} {q :
 box-read {n} {N} {limit} {W} {X} {lent} {t} {a} {q} {o} v read b = subst (λ (x : ℕ). Boxes n N limit W X lent x t a q o) (valid-read W v read) b
 
 module _ {L : Limits} {W X : View} {stack after places : List ℕ} {held : ℕ} {count : Count} {σ : Scene} {f : Form} {e : ℕ} {r : Evaluated} (R : Ready L W stack places held σ)
-    (A : Answers L W X stack after held count σ f e r) (z : length after ≡ length stack) {a k : ℕ} {q : Count} (is : r ≡ Value a k q) (t : ℕ) (h : holdsRel σ t ≡ true) where
+    (A : Answers true L W X stack after held count σ f e r) (z : length after ≡ length stack) {a k : ℕ} {q : Count} (is : r ≡ Value a k q) (t : ℕ) (h : holdsRel σ t ≡ true) where
   R₁ : Ready L X after places held σ
   R₁ = value-ready R A z is
 
@@ -138,8 +138,8 @@ module _ {L : Limits} {W X : View} {stack after places : List ℕ} {held : ℕ} 
       over-moved Some p = p (σ .fns) (held-alike (alike-sym (R₁ .roots)) (R₁ .lives)) .moved
 
       pub over-ends : (m : Mode) {r′ : Evaluated} → OverPost m (L .bits) (L .rows) (L .limit) X Y (take held after) x a q o → r′ ≡ fromTaken k o
-          → Answers L W Y stack after held count σ (modalForm m t f) e r′
+          → Answers true L W Y stack after held count σ (modalForm m t f) e r′
       over-ends m p is-r = answers-taken (modalForm m t f) k o (value-end R A z is) is-r (moved-trans (A .moved) (over-moved m p)) (A .kept)
           (evals-same (sym (run-modal (modelIn (L .bits) σ) (L .limit) (L .rounds) (σ .env) (σ .fns) m t f count))
-          (evals-then (L .bits) (L .rows) (runIn L σ f count) (λ C p. overSteps m (L .bits) (L .limit) (σ .fns) (existIn (L .bits) σ) (related (modelIn (L .bits) σ) t) C p) (value-evals R A z is) (λ C d.
+          (evals-then (L .bits) (L .rows) (runIn true L σ f count) (λ C p. overSteps m (L .bits) (L .limit) (σ .fns) (existIn (L .bits) σ) (related (modelIn (L .bits) σ) t) C p) (value-evals R A z is) (λ C d.
           evals-from (L .bits) (L .rows) (A .evals .kept) (λ b i. i) (over-evals m p C d))))

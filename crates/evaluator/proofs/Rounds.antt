@@ -1,7 +1,7 @@
 -- A binder's rounds. Assumes nothing.
-use mathlib.Core.Path.{_≡_, refl, sym, ap, _∙_, subst}
+use mathlib.Core.Path.{_≡_, refl, sym, _∙_, subst}
 use mathlib.Core.Logic.{_≢_}
-use mathlib.Core.Bool.{Bool}
+use mathlib.Core.Bool.{Bool, true}
 use mathlib.Core.List.{List, _∷_}
 use Prim.Native.Nat.{ℕ, suc, _+_, _^_, _≤_, _<_}
 use native.Mathlib.Omega.{arith}
@@ -16,6 +16,7 @@ use Rattle.layout.specs.View.{View}
 use Rattle.soundness.specs.Used.{rowsOf}
 use Rattle.soundness.specs.Within.{validOf}
 use Rattle.book.specs.Bridge.{fnOf}
+use Rattle.book.specs.Over.{states}
 use Rattle.book.specs.Run.{Outcome, value, loop, run}
 use Rattle.book.specs.Follow.{ends, Evals, evals-same}
 use Rattle.book.specs.Turns.{Good, GoodOn, run-good, Turning, startArrow, turn-start, turn-out, turn-stop, turn-end, turn-on}
@@ -29,7 +30,7 @@ use Rattle.evaluator.proofs.Outcomes.{Halts, halts-stops, halts-end, ev
 
 -- the body's run with the set A as variable P
 abbrev pub body : Limits → Scene → ℕ → Form → List Bool → Count → Outcome
-body L σ P f A q = run (modelIn (L .bits) σ) (L .limit) (L .rounds) (put (σ .env) P A) (fnOf (L .bits) A ∷ σ .fns) f q
+body L σ P f A q = run (states (modelIn (L .bits) σ) (put (σ .env) P A)) (L .limit) (L .rounds) (fnOf (L .bits) A ∷ σ .fns) f q
 
 -- where a binder's loop stands: the current set's arrow and what is counted
 pub record Bound (L : Limits) (W X : View) (stack after : List ℕ) (held : ℕ) (count : Count) (σ : Scene) (x : Fix) (P : ℕ) (f : Form) (a : ℕ) (counted : Count) : Type 0 where
@@ -50,7 +51,7 @@ module _ {L : Limits} {W : View} {stack places : List ℕ} {held : ℕ} {σ : Sc
 
   module _ {X : View} {after : List ℕ} {count : Count} {x : Fix} {P : ℕ} {f : Form} {a : ℕ} {counted : Count} (T : Bound L W X stack after held count σ x P f a counted) where
     -- a round is wanted when R are counted
-    pub bind-out : (e : ℕ) → L .rounds ≤ counted .rounds → Answers L W X stack after held count σ (binderForm x P f) e Spent
+    pub bind-out : (e : ℕ) → L .rounds ≤ counted .rounds → Answers true L W X stack after held count σ (binderForm x P f) e Spent
     bind-out e l = record {
       moved = T .moved;
       kept = T .kept;
@@ -64,13 +65,13 @@ module _ {L : Limits} {W : View} {stack places : List ℕ} {held : ℕ} {σ : Sc
       pub bind-ready : Ready L X (set after held a) (set places P held) (held + 1) (opened (L .bits) σ P a (T .turning .A))
       bind-ready = ready-open (ready-next R (T .moved) (T .turning .kept) after z (T .kept)) a (T .turning .A) (T .turning .denotes) (T .turning .exists) room P
 
-      module _ {Y : View} {last : List ℕ} {e : ℕ} {r : Evaluated} (B : Answers L X Y (set after held a) last (held + 1) (another counted) (opened (L .bits) σ P a (T .turning .A)) f e r)
+      module _ {Y : View} {last : List ℕ} {e : ℕ} {r : Evaluated} (B : Answers true L X Y (set after held a) last (held + 1) (another counted) (opened (L .bits) σ P a (T .turning .A)) f e r)
           (more : counted .rounds < L .rounds) where
         below : take held last ≡ take held stack
         below = still-below held last after a (B .kept) ∙ T .kept
 
         whole : {y : Evaluated} → EndsAt e y → Evals (L .bits) (L .rows) (rowsOf W) (rowsOf Y) (σ .roots) (loop (L .rounds) (body L σ P f) (L .rounds) (start (isLeast x) (2 ^ L .bits) (existIn (L .bits) σ)) count) (endedOf y)
-            → Answers L W Y stack last held count σ (binderForm x P f) e y
+            → Answers true L W Y stack last held count σ (binderForm x P f) e y
         whole h v = record {
           moved = moved-trans (T .moved) (B .moved);
           kept = below;
@@ -79,7 +80,7 @@ module _ {L : Limits} {W : View} {stack places : List ℕ} {held : ℕ} {σ : Sc
         }
 
         -- the body stopped
-        pub bind-stops : Halts r → Answers L W Y stack last held count σ (binderForm x P f) e r
+        pub bind-stops : Halts r → Answers true L W Y stack last held count σ (binderForm x P f) e r
         bind-stops s = whole (halts-end e r s) (turn-stop (L .bits) (L .rows) (L .rounds) (existIn (L .bits) σ) (body L σ P f) (body-good L σ P f) (T .turning) more (endedOf r) (B .evals) (halts-stops r s))
 
         module _ {b k : ℕ} {q : Count} (is : r ≡ Value b k q) where
@@ -87,7 +88,7 @@ module _ {L : Limits} {W : View} {stack places : List ℕ} {held : ℕ} {σ : Sc
           value-round = subst (λ (y : Evaluated). Evals (L .bits) (L .rows) (rowsOf X) (rowsOf Y) (a ∷ σ .roots) (body L σ P f (T .turning .A) (another counted)) (endedOf y)) is (B .evals)
 
           -- the same set: the binder ends with it
-          pub bind-ends : b ≡ a → Answers L W Y stack last held count σ (binderForm x P f) e (Value b k q)
+          pub bind-ends : b ≡ a → Answers true L W Y stack last held count σ (binderForm x P f) e (Value b k q)
           bind-ends same = whole {y = Value b k q} (subst (EndsAt e) is (B .end)) (turn-end (L .bits) (L .rows) (L .rounds) (existIn (L .bits) σ) (body L σ P f) (body-good L σ P f) (T .turning) more value-round same)
 
           -- otherwise it becomes the current set

@@ -1,22 +1,23 @@
 -- Until, round by round: what each of its functions asks, and what its answers are made of; a round is one of the formula written with a
 -- binder, whose laws are those of AND, OR, box, diamond and mu. Assumes nothing.
 use mathlib.Core.Path.{_≡_, refl, sym, ap, _∙_, subst}
+use mathlib.Core.Logic.{inr}
 use mathlib.Core.Bool.{Bool, true, false}
-use mathlib.Core.List.{List, _∷_, List·Memᴰ as Mem, List·Memᴰ·head as here, List·Memᴰ·tail as there}
-use Prim.Native.Nat.{ℕ, suc, _+_, _*_, _^_, _≤_, _<_}
+use mathlib.Core.List.{List, List·Memᴰ·head as here, List·Memᴰ·tail as there}
+use Prim.Native.Nat.{ℕ, _+_, _*_, _≤_, _<_}
 use native.Mathlib.Omega.{arith}
 use lib.Dec.{T}
 use lib.ListN.{length, set, take, length-set}
 use lib.Seq.{set-out}
 use Rattle.mucalculus.specs.Order.{Below}
-use Rattle.mucalculus.specs.Form.{Form, var, top, conj, disj, box, dia, put}
+use Rattle.mucalculus.specs.Form.{Form, var, top, conj, box, dia}
 use Rattle.mucalculus.specs.Written.{absent, goes, written, put-here}
 use Rattle.tokens.specs.declared.Grammar.the-variants.{Runs}
 use Rattle.tokens.specs.declared.Mode.{Mode}
 use Rattle.tokens.specs.declared.Mode.the-variants.{All, Some}
 use Rattle.tokens.specs.declared.Join.the-variants.{And, Or}
 use Rattle.tokens.specs.declared.Fix.{Fix}
-use Rattle.formula.specs.Parse.{untilForm, modalForm, parse}
+use Rattle.formula.specs.Parse.{untilForm, parse}
 use Rattle.formula.specs.Checks.{passOf}
 use Rattle.formula.specs.declared.Pass.{Pass}
 use Rattle.formula.specs.declared.Pass.the-variants.{Past, Refused4}
@@ -27,7 +28,6 @@ use Rattle.formula.proofs.Versions.{takes-absent}
 use Rattle.accounts.specs.declared.Count.{Count}
 use Rattle.layout.specs.Places.{VALID, HEADER, FIRST-RELATION}
 use Rattle.layout.specs.View.{View}
-use Rattle.diagram.specs.Rows.{Rows}
 use Rattle.diagram.specs.Post.{Denotes}
 use Rattle.diagram.specs.Keep.{Keeps, keeps-denotes}
 use Rattle.soundness.specs.Used.{rowsOf}
@@ -43,7 +43,7 @@ use Rattle.evaluator.specs.declared.Body.{Body}
 use Rattle.evaluator.specs.declared.Body.the-variants.{Binder, Until}
 use Rattle.evaluator.specs.declared.Context.{Context}
 use Rattle.evaluator.specs.declared.Evaluated.{Evaluated}
-use Rattle.evaluator.specs.declared.Evaluated.the-variants.{Value, Full}
+use Rattle.evaluator.specs.declared.Evaluated.the-variants.{Value}
 use Rattle.evaluator.proofs.Outcomes.{Halts}
 use Rattle.evaluator.proofs.State.{valid-asks, valid-read}
 use Rattle.evaluator.proofs.Tokens.{read-depth}
@@ -106,7 +106,7 @@ module _ {L : Limits} {W : View} {stack : List ℕ} {c : Context} {t x : ℕ} (P
     box-halts s = record { answers = λ σ R h u. first-stops (E .answers σ (var own) R h (own-value c R e u)) s And (dia t top) e }
 
     module _ {a k : ℕ} {q : Count} (is : r ≡ Value a k q) where
-      boxed : (σ : Scene) → Ready L W stack (c .places) (c .held) σ → holdsRel σ t ≡ true → Current L W σ x → Answers L W X stack stack (c .held) (c .count) σ (box t (var own)) e r
+      boxed : (σ : Scene) → Ready L W stack (c .places) (c .held) σ → holdsRel σ t ≡ true → Current L W σ x → Answers true L W X stack stack (c .held) (c .count) σ (box t (var own)) e r
       boxed σ R h u = E .answers σ (var own) R h (own-value c R e u)
 
       -- V's word may be read
@@ -127,7 +127,7 @@ module _ {L : Limits} {W : View} {stack : List ℕ} {c : Context} {t x : ℕ} (P
         same = length-set stack (c .held) a
 
         all-dia : (σ : Scene) (R : Ready L W stack (c .places) (c .held) σ) (h : holdsRel σ t ≡ true) (u : Current L W σ x) (C : List Bool) → Denotes (2 * L .bits) (rowsOf X) a (fnOf (L .bits) C)
-            → Answers L X Y (set stack (c .held) a) (set stack (c .held) a) (c .held + 1) q (pushed σ a (fnOf (L .bits) C)) (dia t top) e r′
+            → Answers true L X Y (set stack (c .held) a) (set stack (c .held) a) (c .held + 1) q (pushed σ a (fnOf (L .bits) C)) (dia t top) e r′
         all-dia σ R h u C d = let S = both-ready R (boxed σ R h u) refl is (P .room) C d in D .answers _ top S h (all-value (roundOf c (c .at) q) S e w)
 
         pub and-asked : JoinedPre L Y (set stack (c .held) a) (c .held) And a r′
@@ -147,10 +147,10 @@ further-as {L} {W} {X} {stack} {after} {c} {t} {x} {e} {r} q E = subst (λ (m : 
 
 -- ---- f and that
 
-pub kept-asked : {L : Limits} {W : View} {stack bs : List ℕ} {c : Context} {t x : ℕ} → KeepPre L W stack bs c t x → EvalPre L W stack bs c
-kept-asked P = record { room = P .room; scene = P .scene; form = P .form; end = P .end; ready = P .ready; part = P .part }
+pub kept-asked : {L : Limits} {W : View} {stack bs : List ℕ} {c : Context} {t x : ℕ} → KeepPre L W stack bs c t x → EvalPre Runs L W stack bs c
+kept-asked P = record { takes = inr refl; room = P .room; scene = P .scene; form = P .form; end = P .end; ready = P .ready; part = P .part }
 
-module _ {L : Limits} {W X : View} {stack after bs : List ℕ} {c : Context} {t x : ℕ} {r : Evaluated} (P : KeepPre L W stack bs c t x) (E : EvalPost L W X stack after bs c r) where
+module _ {L : Limits} {W X : View} {stack after bs : List ℕ} {c : Context} {t x : ℕ} {r : Evaluated} (P : KeepPre L W stack bs c t x) (E : EvalPost Runs L W X stack after bs c r) where
   pub keep-halts : Halts r → (m : Mode) (e : ℕ) → KeepPost L W X stack after bs c m t x e r
   keep-halts s m e = record { answers = λ σ f k R p h u. first-stops (E .answers σ f k R p) s And (goes (isSome m) t own) e }
 
@@ -180,11 +180,11 @@ module _ {L : Limits} {W X : View} {stack after bs : List ℕ} {c : Context} {t 
       same₂ : length last ≡ length after
       same₂ = simp length-set at z′
 
-      module _ {σ : Scene} {f : Form} {k₁ : ℕ} (R : Ready L W stack (c .places) (c .held) σ) (p : Part (L .bits) bs (c .at) (c .depth) (σ .scope) (holdsReg σ) (holdsRel σ) f k₁) (h : holdsRel σ t ≡ true) (u : Current L W σ x) where
-        part-answers : Answers L W X stack after (c .held) (c .count) σ f k₁ r
+      module _ {σ : Scene} {f : Form} {k₁ : ℕ} (R : Ready L W stack (c .places) (c .held) σ) (p : Part Runs (L .bits) bs (c .at) (c .depth) (σ .scope) (holdsReg σ) (holdsRel σ) f k₁) (h : holdsRel σ t ≡ true) (u : Current L W σ x) where
+        part-answers : Answers true L W X stack after (c .held) (c .count) σ f k₁ r
         part-answers = E .answers σ f k₁ R p
 
-        rest-answers : (C : List Bool) → Denotes (2 * L .bits) (rowsOf X) a (fnOf (L .bits) C) → Answers L X Y (set after (c .held) a) last (c .held + 1) q (pushed σ a (fnOf (L .bits) C)) (goes (isSome m) t own) e r′
+        rest-answers : (C : List Bool) → Denotes (2 * L .bits) (rowsOf X) a (fnOf (L .bits) C) → Answers true L X Y (set after (c .held) a) last (c .held + 1) q (pushed σ a (fnOf (L .bits) C)) (goes (isSome m) t own) e r′
         rest-answers C d = F .answers _ (both-ready R part-answers z is free C d) h (current-push (current-next u (part-answers .evals .kept)) a C)
 
       pub keep-asked : JoinedPre L Y last (c .held) And a r′
@@ -201,10 +201,10 @@ module _ {L : Limits} {W X : View} {stack after bs : List ℕ} {c : Context} {t 
 abbrev pub goalOf : Context → ℕ → Context
 goalOf c k = record { at = k; depth = c .depth; held = c .held; places = c .places; count = c .count }
 
-pub goal-asked : {L : Limits} {W : View} {stack bs : List ℕ} {c : Context} {middle t x : ℕ} → RoundPre L W stack bs c middle t x → EvalPre L W stack bs (goalOf c middle)
-goal-asked P = record { room = let l = P .room in omega arith; scene = P .scene; form = P .right; end = P .end; ready = P .ready; part = P .second }
+pub goal-asked : {L : Limits} {W : View} {stack bs : List ℕ} {c : Context} {middle t x : ℕ} → RoundPre L W stack bs c middle t x → EvalPre Runs L W stack bs (goalOf c middle)
+goal-asked P = record { takes = inr refl; room = let l = P .room in omega arith; scene = P .scene; form = P .right; end = P .end; ready = P .ready; part = P .second }
 
-module _ {L : Limits} {W X : View} {stack after bs : List ℕ} {c : Context} {middle t x : ℕ} {r : Evaluated} (P : RoundPre L W stack bs c middle t x) (E : EvalPost L W X stack after bs (goalOf c middle) r) where
+module _ {L : Limits} {W X : View} {stack after bs : List ℕ} {c : Context} {middle t x : ℕ} {r : Evaluated} (P : RoundPre L W stack bs c middle t x) (E : EvalPost Runs L W X stack after bs (goalOf c middle) r) where
   pub goal-halts : Halts r → (m : Mode) → RoundPost L W X stack after bs c middle m t x r
   goal-halts s m = record { answers = λ σ f g e R p g′ h u. first-stops (E .answers σ g e R g′) s Or (conj f (goes (isSome m) t own)) e }
 
@@ -234,14 +234,14 @@ module _ {L : Limits} {W X : View} {stack after bs : List ℕ} {c : Context} {mi
       same₃ : length last ≡ length after
       same₃ = simp length-set at z′
 
-      module _ {σ : Scene} {f g : Form} {e : ℕ} (R : Ready L W stack (c .places) (c .held) σ) (p : Part (L .bits) bs (c .at) (c .depth) (σ .scope) (holdsReg σ) (holdsRel σ) f middle)
-          (p′ : Part (L .bits) bs middle (c .depth) (σ .scope) (holdsReg σ) (holdsRel σ) g e) (h : holdsRel σ t ≡ true) (u : Current L W σ x) where
-        goal-answers : Answers L W X stack after (c .held) (c .count) σ g e r
+      module _ {σ : Scene} {f g : Form} {e : ℕ} (R : Ready L W stack (c .places) (c .held) σ) (p : Part Runs (L .bits) bs (c .at) (c .depth) (σ .scope) (holdsReg σ) (holdsRel σ) f middle)
+          (p′ : Part Runs (L .bits) bs middle (c .depth) (σ .scope) (holdsReg σ) (holdsRel σ) g e) (h : holdsRel σ t ≡ true) (u : Current L W σ x) where
+        goal-answers : Answers true L W X stack after (c .held) (c .count) σ g e r
         goal-answers = E .answers σ g e R p′
 
-        keep-answers : (C : List Bool) → Denotes (2 * L .bits) (rowsOf X) a (fnOf (L .bits) C) → Answers L X Y (set after (c .held) a) last (c .held + 1) q (pushed σ a (fnOf (L .bits) C)) (conj f (goes (isSome m) t own)) e r′
+        keep-answers : (C : List Bool) → Denotes (2 * L .bits) (rowsOf X) a (fnOf (L .bits) C) → Answers true L X Y (set after (c .held) a) last (c .held + 1) q (pushed σ a (fnOf (L .bits) C)) (conj f (goes (isSome m) t own)) e r′
         keep-answers C d =
-            subst (λ (y : ℕ). Answers L X Y (set after (c .held) a) last (c .held + 1) q (pushed σ a (fnOf (L .bits) C)) (conj f (goes (isSome m) t own)) y r′) (value-end R goal-answers z is)
+            subst (λ (y : ℕ). Answers true L X Y (set after (c .held) a) last (c .held + 1) q (pushed σ a (fnOf (L .bits) C)) (conj f (goes (isSome m) t own)) y r′) (value-end R goal-answers z is)
             (K .answers _ f middle (both-ready R goal-answers z is round-free C d) p h (current-push (current-next u (goal-answers .evals .kept)) a C))
 
       pub or-asked : JoinedPre L Y last (c .held) Or a r′
@@ -266,22 +266,22 @@ pub body-unread : {L : Limits} {bs : List ℕ} {c : Context} {y : Pass} → y �
 body-unread h z = record { says = λ f k p. absurd (not-past (sym z ∙ h ∙ ap (passOf (λ (g : Form). true)) (p .reads))) }
 
 -- X stands nowhere in a formula of the bytes
-pub absent-of : {n : ℕ} {bs : List ℕ} {at depth : ℕ} {scope : List Bool} {regs rels : ℕ → Bool} {f : Form} {k : ℕ} → Part n bs at depth scope regs rels f k → T (absent own f)
+pub absent-of : {n : ℕ} {bs : List ℕ} {at depth : ℕ} {scope : List Bool} {regs rels : ℕ → Bool} {f : Form} {k : ℕ} → Part Runs n bs at depth scope regs rels f k → T (absent own f)
 absent-of {n} {bs} {at} {depth} {f = f} {k = k} p = takes-absent n Runs f (read-taken n Runs bs (parse-reads n Runs bs depth at f k (p .stands .reads)))
 
 -- the formula written with the binder of X is until
 pub until-as : {L : Limits} {W X : View} {stack after : List ℕ} {held : ℕ} {count : Count} {σ : Scene} {f g : Form} {e : ℕ} {r : Evaluated} (m : Mode) (t : ℕ) → T (absent own f) → T (absent own g)
-    → Answers L W X stack after held count σ (written (isSome m) t own f g) e r → Answers L W X stack after held count σ (untilForm m t f g) e r
+    → Answers true L W X stack after held count σ (written (isSome m) t own f g) e r → Answers true L W X stack after held count σ (untilForm m t f g) e r
 until-as {L} {count = count} {σ = σ} {f = f} {g = g} All t hf hg A = record { moved = A .moved; kept = A .kept; evals = evals-same (sym (run-written (modelIn (L .bits) σ) (L .limit) (L .rounds) (σ .env) t own false f g hf hg (σ .fns) count)) (A .evals); end = A .end }
 until-as {L} {count = count} {σ = σ} {f = f} {g = g} Some t hf hg A = record { moved = A .moved; kept = A .kept; evals = evals-same (sym (run-written (modelIn (L .bits) σ) (L .limit) (L .rounds) (σ .env) t own true f g hf hg (σ .fns) count)) (A .evals); end = A .end }
 
 -- X is none of a formula's variables
-own-open : {n : ℕ} {bs : List ℕ} {at depth : ℕ} {scope : List Bool} {regs rels : ℕ → Bool} {f : Form} {e : ℕ} → length scope ≡ 16 → Part n bs at depth scope regs rels f e
-    → Part n bs at depth (set scope own true) regs rels f e
-own-open {n} {bs} {at} {depth} {scope} {regs} {rels} {f} {e} z p = subst (λ (s : List Bool). Part n bs at depth s regs rels f e) (sym (set-out scope own true (omega (arith, z)))) p
+own-open : {n : ℕ} {bs : List ℕ} {at depth : ℕ} {scope : List Bool} {regs rels : ℕ → Bool} {f : Form} {e : ℕ} → length scope ≡ 16 → Part Runs n bs at depth scope regs rels f e
+    → Part Runs n bs at depth (set scope own true) regs rels f e
+own-open {n} {bs} {at} {depth} {scope} {regs} {rels} {f} {e} z p = subst (λ (s : List Bool). Part Runs n bs at depth s regs rels f e) (sym (set-out scope own true (omega (arith, z)))) p
 
 pub until-part : {L : Limits} {W : View} {stack places bs : List ℕ} {held at depth : ℕ} {σ : Scene} {f g : Form} {e t middle : ℕ} (m : Mode) → Ready L W stack places held σ
-    → Part (L .bits) bs at depth (σ .scope) (holdsReg σ) (holdsRel σ) f middle → Part (L .bits) bs middle depth (σ .scope) (holdsReg σ) (holdsRel σ) g e → holdsRel σ t ≡ true
+    → Part Runs (L .bits) bs at depth (σ .scope) (holdsReg σ) (holdsRel σ) f middle → Part Runs (L .bits) bs middle depth (σ .scope) (holdsReg σ) (holdsRel σ) g e → holdsRel σ t ≡ true
     → BodyPart (L .bits) bs at depth (set (σ .scope) own true) (holdsReg σ) (holdsRel σ) (Until m t middle) (roundForm m t f g) e
 until-part m R p p′ h = record {
   parts = record { left = _; right = _; is-round = refl; first = own-open (R .vars) p; second = own-open (R .vars) p′; relation = h };
@@ -299,7 +299,7 @@ current-open {L} {W} σ a A d i = record {
 module _ {L : Limits} {W : View} {stack bs : List ℕ} {c : Context} {a : ℕ} (σ : Scene) (A : List Bool) (d : Denotes (2 * L .bits) (rowsOf W) a (fnOf (L .bits) A)) (inV : Below A (existIn (L .bits) σ)) {f : Form} {e : ℕ} where
   pub turn-asks : (b : Body) → Ready L W stack (c .places) (c .held) (opened (L .bits) σ (variableOf b) a A) → c .held + 2 * c .depth < stackSize
       → BodyPart (L .bits) bs (c .at) (c .depth) (set (σ .scope) (variableOf b) true) (holdsReg σ) (holdsRel σ) b f e → TurnPre L W stack bs c b a
-  turn-asks (Binder x P) R l p = record { asks = record { room = omega (arith, l); scene = _; form = f; end = e; ready = R; part = p .parts } }
+  turn-asks (Binder x P) R l p = record { asks = record { takes = inr refl; room = omega (arith, l); scene = _; form = f; end = e; ready = R; part = p .parts } }
   turn-asks (Until m t middle) R l p = record {
     asks = record {
       room = l;
@@ -318,21 +318,21 @@ module _ {L : Limits} {W : View} {stack bs : List ℕ} {c : Context} {a : ℕ} (
   pub turn-answers : (b : Body) {X : View} {after : List ℕ} {r : Evaluated} → TurnPost L W X stack after bs c b a r
       → Ready L W stack (c .places) (c .held) (opened (L .bits) σ (variableOf b) a A)
       → BodyPart (L .bits) bs (c .at) (c .depth) (set (σ .scope) (variableOf b) true) (holdsReg σ) (holdsRel σ) b f e
-      → Answers L W X stack after (c .held) (c .count) (opened (L .bits) σ (variableOf b) a A) f e r
+      → Answers true L W X stack after (c .held) (c .count) (opened (L .bits) σ (variableOf b) a A) f e r
   turn-answers (Binder x P) T R p = T .says .answers _ f e R (p .parts)
   turn-answers (Until m t middle) {X} {after} {r} T R p =
-      subst (λ (h : Form). Answers L W X stack after (c .held) (c .count) (opened (L .bits) σ own a A) h e r) (sym (p .parts .is-round))
+      subst (λ (h : Form). Answers true L W X stack after (c .held) (c .count) (opened (L .bits) σ own a A) h e r) (sym (p .parts .is-round))
       (T .says .answers _ (p .parts .left) (p .parts .right) e R (p .parts .first) (p .parts .second) (p .parts .relation) (current-open σ a A d inV))
 
 -- a binder's round is its formula, until's one is its own
 module _ {L : Limits} {W : View} {stack bs : List ℕ} {c : Context} {b : Body} {x : ℕ} where
-  pub formula-asked : {y : Fix} {P : ℕ} → b ≡ Binder y P → TurnPre L W stack bs c b x → EvalPre L W stack bs c
+  pub formula-asked : {y : Fix} {P : ℕ} → b ≡ Binder y P → TurnPre L W stack bs c b x → EvalPre Runs L W stack bs c
   formula-asked e T = subst (λ (d : Body). TurnPre L W stack bs c d x) e T .asks
 
   pub round-asked : {m : Mode} {t middle : ℕ} → b ≡ Until m t middle → TurnPre L W stack bs c b x → RoundPre L W stack bs c middle t x
   round-asked e T = subst (λ (d : Body). TurnPre L W stack bs c d x) e T .asks
 
-  pub formula-answered : {y : Fix} {P : ℕ} → b ≡ Binder y P → {X : View} {after : List ℕ} {r : Evaluated} → EvalPost L W X stack after bs c r → TurnPost L W X stack after bs c b x r
+  pub formula-answered : {y : Fix} {P : ℕ} → b ≡ Binder y P → {X : View} {after : List ℕ} {r : Evaluated} → EvalPost Runs L W X stack after bs c r → TurnPost L W X stack after bs c b x r
   formula-answered e {X} {after} {r} E = subst (λ (d : Body). TurnPost L W X stack after bs c d x r) (sym e) (record { says = E })
 
   pub round-answered : {m : Mode} {t middle : ℕ} → b ≡ Until m t middle → {X : View} {after : List ℕ} {r : Evaluated} → RoundPost L W X stack after bs c middle m t x r

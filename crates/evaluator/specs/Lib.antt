@@ -1,2 +1,3 @@
 pub mod Scene
 pub mod Whole
+pub mod Posts

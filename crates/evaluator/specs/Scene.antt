@@ -1,5 +1,6 @@
--- What an evaluation of a set's formula stands in, what it asks, and what it answers. Assumes nothing.
+-- What an evaluation of a formula stands in, what it asks, and what it answers. Assumes nothing.
 use mathlib.Core.Path.{_≡_}
+use mathlib.Core.Logic.{_⊎_}
 use mathlib.Core.Bool.{Bool, true, false, _&&_}
 use mathlib.Core.List.{List, _∷_, List·Memᴰ as Mem}
 use mathlib.Core.Option.{Option, some}
@@ -9,11 +10,11 @@ use lib.ListN.{length, getD, set, take}
 use Rattle.mucalculus.specs.Order.{Below}
 use Rattle.mucalculus.specs.Means.{clip}
 use Rattle.mucalculus.specs.Exist.{Inside}
-use Rattle.mucalculus.specs.Form.{Form, now, neg, conj, disj, Pairs, Model, Env, put, bound, filled as hasContent}
+use Rattle.mucalculus.specs.Form.{Form, neg, conj, disj, Pairs, Model, Env, put, bound, filled as hasContent}
 use Rattle.mucalculus.specs.Written.{goes}
 use Rattle.tokens.specs.declared.Grammar.{Grammar}
-use Rattle.tokens.specs.declared.Grammar.the-variants.{Runs}
-use Rattle.tokens.specs.Tokens.{leafAllowed}
+use Rattle.tokens.specs.declared.Grammar.the-variants.{Pairs as PairsGrammar, Runs}
+use Rattle.tokens.specs.Tokens.{onlyNow, leafAllowed}
 use Rattle.tokens.specs.declared.Leaf.{Leaf}
 use Rattle.tokens.specs.declared.Fix.{Fix}
 use Rattle.tokens.specs.declared.Fix.the-variants.{Mu, Nu}
@@ -27,6 +28,7 @@ use Rattle.accounts.specs.declared.Count.{Count}
 use Rattle.layout.specs.Places.{FIRST-REGISTER, FIRST-RELATION}
 use Rattle.layout.specs.View.{View}
 use Rattle.diagram.specs.Level.{Fn}
+use Rattle.diagram.specs.Rows.{Arrow}
 use Rattle.diagram.specs.Post.{Denotes}
 use Rattle.soundness.specs.Used.{rowsOf}
 use Rattle.soundness.specs.Within.{validOf}
@@ -40,9 +42,10 @@ use Rattle.counting.specs.declared.Taken.the-variants as taken
 use Rattle.book.specs.Bridge.{fnOf, fnOfPairs}
 use Rattle.book.specs.Book.{registers, relations}
 use Rattle.book.specs.Table.{Place}
-use Rattle.book.specs.Run.{run}
+use Rattle.book.specs.Over.{Over, states, pairs, levels}
+use Rattle.book.specs.Run.{Outcome, run}
 use Rattle.book.specs.Held.{Held}
-use Rattle.book.specs.Follow.{Ended, ends, eight, nine, Evals}
+use Rattle.book.specs.Follow.{Ended, ends, eight, nine, EvalsBy}
 use Rattle.contract.specs.Seen.{arrowIn}
 use Rattle.modal.specs.declared.Limits.{Limits}
 use Rattle.modal.specs.Chain.{Alike, Base, Moved}
@@ -70,6 +73,18 @@ stackSize = 128
 
 abbrev pub modelIn : ℕ → Scene → Model
 modelIn n σ = record { n = n; valid = σ .valid; rel = σ .rel; reg = σ .reg }
+
+-- what a formula in the scene is read over: states with `true`, which are those of the model, or all pairs
+abbrev pub overOf : Bool → Model → Env → Over
+overOf true m e = states m e
+overOf false m e = pairs (m .n)
+
+abbrev pub overIn : Bool → ℕ → Scene → Over
+overIn b n σ = overOf b (modelIn n σ) (σ .env)
+
+-- a value's function of levels
+abbrev pub valueIn : Bool → ℕ → Scene → List Bool → Fn
+valueIn b n σ A = levels (overIn b n σ) A
 
 -- the states that exist
 abbrev pub existIn : ℕ → Scene → List Bool
@@ -123,9 +138,9 @@ pub record Named (scope : List Bool) (regs rels : ℕ → Bool) (f : Form) : Typ
 pub record Stands (n : ℕ) (g : Grammar) (bs : List ℕ) (at depth : ℕ) (f : Form) (e : ℕ) : Type 0 where
   pub reads : parse n g depth bs at ≡ got f e
 
--- a formula of states, or a part of one, that has passed the checks
-pub record Part (n : ℕ) (bs : List ℕ) (at depth : ℕ) (scope : List Bool) (regs rels : ℕ → Bool) (f : Form) (e : ℕ) : Type 0 where
-  pub stands : Stands n Runs bs at depth f e
+-- a formula of the grammar g, or a part of one, that has passed the checks
+pub record Part (g : Grammar) (n : ℕ) (bs : List ℕ) (at depth : ℕ) (scope : List Bool) (regs rels : ℕ → Bool) (f : Form) (e : ℕ) : Type 0 where
+  pub stands : Stands n g bs at depth f e
   pub named : Named scope regs rels f
 
 -- the answer as the book has it, and the place after the formula
@@ -139,11 +154,15 @@ EndsAt e (Value a k q) = k ≡ e
 EndsAt e Full = Unit {0}
 EndsAt e Spent = Unit {0}
 
--- the evaluation of f with so much counted before: what it leaves of the words, the live part of the stack as it was, and the book's outcome
-pub record Answers (L : Limits) (W X : View) (stack after : List ℕ) (held : ℕ) (count : Count) (σ : Scene) (f : Form) (e : ℕ) (r : Evaluated) : Type 0 where
+-- the run of f in a scene, so much being counted before
+abbrev pub runIn : Bool → Limits → Scene → Form → Count → Outcome
+runIn b L σ f r = run (overIn b (L .bits) σ) (L .limit) (L .rounds) (σ .fns) f r
+
+-- the evaluation of f, with `true` over states, with `false` over pairs: what it leaves of the words, the live part of the stack as it was, and the book's outcome
+pub record Answers (b : Bool) (L : Limits) (W X : View) (stack after : List ℕ) (held : ℕ) (count : Count) (σ : Scene) (f : Form) (e : ℕ) (r : Evaluated) : Type 0 where
   pub moved : Moved (L .bits) W X
   pub kept : take held after ≡ take held stack
-  pub evals : Evals (L .bits) (L .rows) (rowsOf W) (rowsOf X) (σ .roots) (run (modelIn (L .bits) σ) (L .limit) (L .rounds) (σ .env) (σ .fns) f count) (endedOf r)
+  pub evals : EvalsBy (valueIn b (L .bits) σ) (L .bits) (L .rows) (rowsOf W) (rowsOf X) (σ .roots) (runIn b L σ f count) (endedOf r)
   pub end : EndsAt e r
 
 -- a step's answer as the book has it
@@ -152,9 +171,9 @@ endedIn (taken.At a c) = ends a c
 endedIn taken.Full = eight
 
 -- the value of a leaf, or its step
-pub record LeafAnswers (L : Limits) (W X : View) (count : Count) (σ : Scene) (f : Form) (o : Taken) : Type 0 where
+pub record LeafAnswers (b : Bool) (L : Limits) (W X : View) (count : Count) (σ : Scene) (f : Form) (o : Taken) : Type 0 where
   pub moved : Moved (L .bits) W X
-  pub evals : Evals (L .bits) (L .rows) (rowsOf W) (rowsOf X) (σ .roots) (run (modelIn (L .bits) σ) (L .limit) (L .rounds) (σ .env) (σ .fns) f count) (endedIn o)
+  pub evals : EvalsBy (valueIn b (L .bits) σ) (L .bits) (L .rows) (rowsOf W) (rowsOf X) (σ .roots) (runIn b L σ f count) (endedIn o)
 
 -- a step's result as an answer
 abbrev pub fromTaken : ℕ → Taken → Evaluated
@@ -211,45 +230,65 @@ JoinedTo L W X stack held j a Spent r = (X ≡ W) × (r ≡ Spent)
 pub record JoinedPost (L : Limits) (W X : View) (stack : List ℕ) (held : ℕ) (j : Join) (a : ℕ) (second r : Evaluated) : Type 0 where
   pub joins : JoinedTo L W X stack held j a second r
 
--- a current bit, and AND with V
-pub record BitPre (L : Limits) (W : View) (stack : List ℕ) (held p : ℕ) : Type 0 where
+-- a step's result, and over states AND with V
+pub record ConfinedPre (L : Limits) (W : View) (stack : List ℕ) (held : ℕ) (first : Taken) : Type 0 where
   pub scene : Scene
   pub places : List ℕ
   pub ready : Ready L W stack places held scene
-  pub range : p < L .bits
+  pub arrow : (x : ℕ) (q : Count) → first ≡ taken.At x q → Arrow (rowsOf W) x
 
-pub record BitPost (L : Limits) (W X : View) (stack : List ℕ) (held p : ℕ) (q : Count) (o : Taken) : Type 0 where
-  pub answers : (σ : Scene) (places : List ℕ) → Ready L W stack places held σ → LeafAnswers L W X q σ (now p) o
+abbrev pub ConfinedTo : Bool → Limits → View → View → List ℕ → ℕ → Taken → Taken → Type 0
+ConfinedTo true L W X stack held (taken.At x q) r = LivePost L W X stack held (step.And x (validOf W)) q r
+ConfinedTo false L W X stack held (taken.At x q) r = (X ≡ W) × (r ≡ taken.At x q)
+ConfinedTo true L W X stack held taken.Full r = (X ≡ W) × (r ≡ taken.Full)
+ConfinedTo false L W X stack held taken.Full r = (X ≡ W) × (r ≡ taken.Full)
+
+pub record ConfinedPost (b : Bool) (L : Limits) (W X : View) (stack : List ℕ) (held : ℕ) (first r : Taken) : Type 0 where
+  pub to : ConfinedTo b L W X stack held first r
+
+-- true, V's word being w: V over states, else all pairs
+abbrev pub TrueBy : Bool → ℕ → ℕ → Type 0
+TrueBy true w x = x + 1 ≡ w
+TrueBy false w x = x ≡ 1
+
+pub record TrueIs (b : Bool) (w x : ℕ) : Type 0 where
+  pub says : TrueBy b w x
 
 -- a leaf
-pub record LeafPre (L : Limits) (W : View) (stack : List ℕ) (c : Context) (l : Leaf) : Type 0 where
+pub record LeafPre (g : Grammar) (L : Limits) (W : View) (stack : List ℕ) (c : Context) (l : Leaf) : Type 0 where
   pub scene : Scene
   pub ready : Ready L W stack (c .places) (c .held) scene
   pub named : Named (scene .scope) (holdsReg scene) (holdsRel scene) (leafForm l)
-  pub taken : leafAllowed l (L .bits) Runs ≡ true
+  pub taken : leafAllowed l (L .bits) g ≡ true
 
-pub record LeafPost (L : Limits) (W X : View) (stack : List ℕ) (c : Context) (l : Leaf) (o : Taken) : Type 0 where
-  pub answers : (σ : Scene) → Ready L W stack (c .places) (c .held) σ → Named (σ .scope) (holdsReg σ) (holdsRel σ) (leafForm l) → LeafAnswers L W X (c .count) σ (leafForm l) o
+pub record LeafPost (g : Grammar) (L : Limits) (W X : View) (stack : List ℕ) (c : Context) (l : Leaf) (o : Taken) : Type 0 where
+  pub answers : (σ : Scene) → Ready L W stack (c .places) (c .held) σ → Named (σ .scope) (holdsReg σ) (holdsRel σ) (leafForm l) → LeafAnswers (onlyNow g) L W X (c .count) σ (leafForm l) o
 
-pub record EvalPre (L : Limits) (W : View) (stack bs : List ℕ) (c : Context) : Type 0 where
+-- formulas of pairs, or of states and runs
+abbrev pub Evaluates : Grammar → Type 0
+Evaluates g = (g ≡ PairsGrammar) ⊎ (g ≡ Runs)
+
+pub record EvalPre (g : Grammar) (L : Limits) (W : View) (stack bs : List ℕ) (c : Context) : Type 0 where
+  pub takes : Evaluates g
   pub room : c .held + 2 * c .depth ≤ stackSize
   pub scene : Scene
   pub form : Form
   pub end : ℕ
   pub ready : Ready L W stack (c .places) (c .held) scene
-  pub part : Part (L .bits) bs (c .at) (c .depth) (scene .scope) (holdsReg scene) (holdsRel scene) form end
+  pub part : Part g (L .bits) bs (c .at) (c .depth) (scene .scope) (holdsReg scene) (holdsRel scene) form end
 
-pub record EvalPost (L : Limits) (W X : View) (stack after bs : List ℕ) (c : Context) (r : Evaluated) : Type 0 where
-  pub answers : (σ : Scene) (f : Form) (e : ℕ) → Ready L W stack (c .places) (c .held) σ → Part (L .bits) bs (c .at) (c .depth) (σ .scope) (holdsReg σ) (holdsRel σ) f e
-      → Answers L W X stack after (c .held) (c .count) σ f e r
+pub record EvalPost (g : Grammar) (L : Limits) (W X : View) (stack after bs : List ℕ) (c : Context) (r : Evaluated) : Type 0 where
+  pub answers : (σ : Scene) (f : Form) (e : ℕ) → Ready L W stack (c .places) (c .held) σ → Part g (L .bits) bs (c .at) (c .depth) (σ .scope) (holdsReg σ) (holdsRel σ) f e
+      → Answers (onlyNow g) L W X stack after (c .held) (c .count) σ f e r
 
 -- NOT: f is its part, of which it asks what evaluating it does
-pub record NegatePost (L : Limits) (W X : View) (stack after bs : List ℕ) (c : Context) (r : Evaluated) : Type 0 where
-  pub answers : (σ : Scene) (f : Form) (e : ℕ) → Ready L W stack (c .places) (c .held) σ → Part (L .bits) bs (c .at) (c .depth) (σ .scope) (holdsReg σ) (holdsRel σ) f e
-      → Answers L W X stack after (c .held) (c .count) σ (neg f) e r
+pub record NegatePost (g : Grammar) (L : Limits) (W X : View) (stack after bs : List ℕ) (c : Context) (r : Evaluated) : Type 0 where
+  pub answers : (σ : Scene) (f : Form) (e : ℕ) → Ready L W stack (c .places) (c .held) σ → Part g (L .bits) bs (c .at) (c .depth) (σ .scope) (holdsReg σ) (holdsRel σ) f e
+      → Answers (onlyNow g) L W X stack after (c .held) (c .count) σ (neg f) e r
 
 -- AND and OR: f and, after it, g are the parts
-pub record BothPre (L : Limits) (W : View) (stack bs : List ℕ) (c : Context) : Type 0 where
+pub record BothPre (g : Grammar) (L : Limits) (W : View) (stack bs : List ℕ) (c : Context) : Type 0 where
+  pub takes : Evaluates g
   pub room : c .held + 2 * c .depth + 1 < stackSize
   pub scene : Scene
   pub left : Form
@@ -257,12 +296,12 @@ pub record BothPre (L : Limits) (W : View) (stack bs : List ℕ) (c : Context) :
   pub middle : ℕ
   pub end : ℕ
   pub ready : Ready L W stack (c .places) (c .held) scene
-  pub first : Part (L .bits) bs (c .at) (c .depth) (scene .scope) (holdsReg scene) (holdsRel scene) left middle
-  pub second : Part (L .bits) bs middle (c .depth) (scene .scope) (holdsReg scene) (holdsRel scene) right end
+  pub first : Part g (L .bits) bs (c .at) (c .depth) (scene .scope) (holdsReg scene) (holdsRel scene) left middle
+  pub second : Part g (L .bits) bs middle (c .depth) (scene .scope) (holdsReg scene) (holdsRel scene) right end
 
-pub record BothPost (L : Limits) (W X : View) (stack after bs : List ℕ) (c : Context) (j : Join) (r : Evaluated) : Type 0 where
-  pub answers : (σ : Scene) (f g : Form) (m e : ℕ) → Ready L W stack (c .places) (c .held) σ → Part (L .bits) bs (c .at) (c .depth) (σ .scope) (holdsReg σ) (holdsRel σ) f m
-      → Part (L .bits) bs m (c .depth) (σ .scope) (holdsReg σ) (holdsRel σ) g e → Answers L W X stack after (c .held) (c .count) σ (joinForm j f g) e r
+pub record BothPost (g : Grammar) (L : Limits) (W X : View) (stack after bs : List ℕ) (c : Context) (j : Join) (r : Evaluated) : Type 0 where
+  pub answers : (σ : Scene) (f h : Form) (m e : ℕ) → Ready L W stack (c .places) (c .held) σ → Part g (L .bits) bs (c .at) (c .depth) (σ .scope) (holdsReg σ) (holdsRel σ) f m
+      → Part g (L .bits) bs m (c .depth) (σ .scope) (holdsReg σ) (holdsRel σ) h e → Answers (onlyNow g) L W X stack after (c .held) (c .count) σ (joinForm j f h) e r
 
 -- box and diamond over relation t: f is the part
 pub record ModePre (L : Limits) (W : View) (stack bs : List ℕ) (c : Context) (t : ℕ) : Type 0 where
@@ -271,12 +310,12 @@ pub record ModePre (L : Limits) (W : View) (stack bs : List ℕ) (c : Context) (
   pub form : Form
   pub end : ℕ
   pub ready : Ready L W stack (c .places) (c .held) scene
-  pub part : Part (L .bits) bs (c .at) (c .depth) (scene .scope) (holdsReg scene) (holdsRel scene) form end
+  pub part : Part Runs (L .bits) bs (c .at) (c .depth) (scene .scope) (holdsReg scene) (holdsRel scene) form end
   pub relation : holdsRel scene t ≡ true
 
 pub record ModePost (L : Limits) (W X : View) (stack after bs : List ℕ) (c : Context) (m : Mode) (t : ℕ) (r : Evaluated) : Type 0 where
-  pub answers : (σ : Scene) (f : Form) (e : ℕ) → Ready L W stack (c .places) (c .held) σ → Part (L .bits) bs (c .at) (c .depth) (σ .scope) (holdsReg σ) (holdsRel σ) f e
-      → holdsRel σ t ≡ true → Answers L W X stack after (c .held) (c .count) σ (modalForm m t f) e r
+  pub answers : (σ : Scene) (f : Form) (e : ℕ) → Ready L W stack (c .places) (c .held) σ → Part Runs (L .bits) bs (c .at) (c .depth) (σ .scope) (holdsReg σ) (holdsRel σ) f e
+      → holdsRel σ t ≡ true → Answers true L W X stack after (c .held) (c .count) σ (modalForm m t f) e r
 
 -- ---- until: "mu X (g or (f and diamond X))", "mu X (g or (f and (box X and diamond true)))", "X a variable of its own"
 
@@ -301,7 +340,7 @@ pub record Current (L : Limits) (W : View) (σ : Scene) (x : ℕ) : Type 0 where
 
 -- x is the value of f, which took no step
 abbrev pub IsValue : Limits → View → List ℕ → Context → Scene → Form → ℕ → ℕ → Type 0
-IsValue L W stack c σ f x e = Answers L W W stack stack (c .held) (c .count) σ f e (Value x e (c .count))
+IsValue L W stack c σ f x e = Answers true L W W stack stack (c .held) (c .count) σ f e (Value x e (c .count))
 
 -- box and diamond of a value
 pub record ReachPre (L : Limits) (W : View) (stack : List ℕ) (c : Context) (t x e : ℕ) : Type 0 where
@@ -313,7 +352,7 @@ pub record ReachPre (L : Limits) (W : View) (stack : List ℕ) (c : Context) (t 
 
 pub record ReachPost (L : Limits) (W X : View) (stack : List ℕ) (c : Context) (m : Mode) (t x e : ℕ) (r : Evaluated) : Type 0 where
   pub answers : (σ : Scene) (f : Form) → Ready L W stack (c .places) (c .held) σ → holdsRel σ t ≡ true → IsValue L W stack c σ f x e
-      → Answers L W X stack stack (c .held) (c .count) σ (modalForm m t f) e r
+      → Answers true L W X stack stack (c .held) (c .count) σ (modalForm m t f) e r
 
 -- what is wanted of the next states
 pub record FurtherPre (L : Limits) (W : View) (stack : List ℕ) (c : Context) (t x : ℕ) : Type 0 where
@@ -325,10 +364,7 @@ pub record FurtherPre (L : Limits) (W : View) (stack : List ℕ) (c : Context) (
 
 pub record FurtherPost (L : Limits) (W X : View) (stack after : List ℕ) (c : Context) (m : Mode) (t x e : ℕ) (r : Evaluated) : Type 0 where
   pub answers : (σ : Scene) → Ready L W stack (c .places) (c .held) σ → holdsRel σ t ≡ true → Current L W σ x
-      → Answers L W X stack after (c .held) (c .count) σ (goes (isSome m) t own) e r
-
-abbrev pub EveryPost : Limits → View → View → List ℕ → List ℕ → Context → ℕ → ℕ → ℕ → Evaluated → Type 0
-EveryPost L W X stack after c t x e r = FurtherPost L W X stack after c All t x e r
+      → Answers true L W X stack after (c .held) (c .count) σ (goes (isSome m) t own) e r
 
 -- f and that
 pub record KeepPre (L : Limits) (W : View) (stack bs : List ℕ) (c : Context) (t x : ℕ) : Type 0 where
@@ -337,13 +373,13 @@ pub record KeepPre (L : Limits) (W : View) (stack bs : List ℕ) (c : Context) (
   pub form : Form
   pub end : ℕ
   pub ready : Ready L W stack (c .places) (c .held) scene
-  pub part : Part (L .bits) bs (c .at) (c .depth) (scene .scope) (holdsReg scene) (holdsRel scene) form end
+  pub part : Part Runs (L .bits) bs (c .at) (c .depth) (scene .scope) (holdsReg scene) (holdsRel scene) form end
   pub relation : holdsRel scene t ≡ true
   pub current : Current L W scene x
 
 pub record KeepPost (L : Limits) (W X : View) (stack after bs : List ℕ) (c : Context) (m : Mode) (t x e : ℕ) (r : Evaluated) : Type 0 where
-  pub answers : (σ : Scene) (f : Form) (k : ℕ) → Ready L W stack (c .places) (c .held) σ → Part (L .bits) bs (c .at) (c .depth) (σ .scope) (holdsReg σ) (holdsRel σ) f k
-      → holdsRel σ t ≡ true → Current L W σ x → Answers L W X stack after (c .held) (c .count) σ (conj f (goes (isSome m) t own)) e r
+  pub answers : (σ : Scene) (f : Form) (k : ℕ) → Ready L W stack (c .places) (c .held) σ → Part Runs (L .bits) bs (c .at) (c .depth) (σ .scope) (holdsReg σ) (holdsRel σ) f k
+      → holdsRel σ t ≡ true → Current L W σ x → Answers true L W X stack after (c .held) (c .count) σ (conj f (goes (isSome m) t own)) e r
 
 -- a round: g, or f and that
 pub record RoundPre (L : Limits) (W : View) (stack bs : List ℕ) (c : Context) (middle t x : ℕ) : Type 0 where
@@ -353,15 +389,15 @@ pub record RoundPre (L : Limits) (W : View) (stack bs : List ℕ) (c : Context) 
   pub right : Form
   pub end : ℕ
   pub ready : Ready L W stack (c .places) (c .held) scene
-  pub first : Part (L .bits) bs (c .at) (c .depth) (scene .scope) (holdsReg scene) (holdsRel scene) left middle
-  pub second : Part (L .bits) bs middle (c .depth) (scene .scope) (holdsReg scene) (holdsRel scene) right end
+  pub first : Part Runs (L .bits) bs (c .at) (c .depth) (scene .scope) (holdsReg scene) (holdsRel scene) left middle
+  pub second : Part Runs (L .bits) bs middle (c .depth) (scene .scope) (holdsReg scene) (holdsRel scene) right end
   pub relation : holdsRel scene t ≡ true
   pub current : Current L W scene x
 
 pub record RoundPost (L : Limits) (W X : View) (stack after bs : List ℕ) (c : Context) (middle : ℕ) (m : Mode) (t x : ℕ) (r : Evaluated) : Type 0 where
-  pub answers : (σ : Scene) (f g : Form) (e : ℕ) → Ready L W stack (c .places) (c .held) σ → Part (L .bits) bs (c .at) (c .depth) (σ .scope) (holdsReg σ) (holdsRel σ) f middle
-      → Part (L .bits) bs middle (c .depth) (σ .scope) (holdsReg σ) (holdsRel σ) g e → holdsRel σ t ≡ true → Current L W σ x
-      → Answers L W X stack after (c .held) (c .count) σ (roundForm m t f g) e r
+  pub answers : (σ : Scene) (f g : Form) (e : ℕ) → Ready L W stack (c .places) (c .held) σ → Part Runs (L .bits) bs (c .at) (c .depth) (σ .scope) (holdsReg σ) (holdsRel σ) f middle
+      → Part Runs (L .bits) bs middle (c .depth) (σ .scope) (holdsReg σ) (holdsRel σ) g e → holdsRel σ t ≡ true → Current L W σ x
+      → Answers true L W X stack after (c .held) (c .count) σ (roundForm m t f g) e r
 
 -- ---- the rounds of a body: of a binder's formula, or of until
 
@@ -379,12 +415,12 @@ pub record UntilParts (n : ℕ) (bs : List ℕ) (at depth : ℕ) (scope : List B
   pub left : Form
   pub right : Form
   pub is-round : f ≡ roundForm m t left right
-  pub first : Part n bs at depth scope regs rels left middle
-  pub second : Part n bs middle depth scope regs rels right e
+  pub first : Part Runs n bs at depth scope regs rels left middle
+  pub second : Part Runs n bs middle depth scope regs rels right e
   pub relation : rels t ≡ true
 
 abbrev pub PartsOf : ℕ → List ℕ → ℕ → ℕ → List Bool → (ℕ → Bool) → (ℕ → Bool) → Body → Form → ℕ → Type 0
-PartsOf n bs at depth scope regs rels (Binder x P) f e = Part n bs at depth scope regs rels f e
+PartsOf n bs at depth scope regs rels (Binder x P) f e = Part Runs n bs at depth scope regs rels f e
 PartsOf n bs at depth scope regs rels (Until m t middle) f e = UntilParts n bs at depth scope regs rels m t middle f e
 
 -- f is what a round evaluates
@@ -396,19 +432,19 @@ pub record UntilPost (L : Limits) (bs : List ℕ) (c : Context) (m : Mode) (t : 
   pub says : (f : Form) (k : ℕ) → Stands (L .bits) Runs bs (c .at) (c .depth) f k → b ≡ Until m t k
 
 -- one round, x being the current set
-abbrev pub TurnAsks : Limits → View → List ℕ → List ℕ → Context → Body → ℕ → Type 0
-TurnAsks L W stack bs c (Binder y P) x = EvalPre L W stack bs c
-TurnAsks L W stack bs c (Until m t middle) x = RoundPre L W stack bs c middle t x
+abbrev pub BodyAsks : Limits → View → List ℕ → List ℕ → Context → Body → ℕ → Type 0
+BodyAsks L W stack bs c (Binder y P) x = EvalPre Runs L W stack bs c
+BodyAsks L W stack bs c (Until m t middle) x = RoundPre L W stack bs c middle t x
 
 pub record TurnPre (L : Limits) (W : View) (stack bs : List ℕ) (c : Context) (b : Body) (x : ℕ) : Type 0 where
-  pub asks : TurnAsks L W stack bs c b x
+  pub asks : BodyAsks L W stack bs c b x
 
-abbrev pub TurnSays : Limits → View → View → List ℕ → List ℕ → List ℕ → Context → Body → ℕ → Evaluated → Type 0
-TurnSays L W X stack after bs c (Binder y P) x r = EvalPost L W X stack after bs c r
-TurnSays L W X stack after bs c (Until m t middle) x r = RoundPost L W X stack after bs c middle m t x r
+abbrev pub BodySays : Limits → View → View → List ℕ → List ℕ → List ℕ → Context → Body → ℕ → Evaluated → Type 0
+BodySays L W X stack after bs c (Binder y P) x r = EvalPost Runs L W X stack after bs c r
+BodySays L W X stack after bs c (Until m t middle) x r = RoundPost L W X stack after bs c middle m t x r
 
 pub record TurnPost (L : Limits) (W X : View) (stack after bs : List ℕ) (c : Context) (b : Body) (x : ℕ) (r : Evaluated) : Type 0 where
-  pub says : TurnSays L W X stack after bs c b x r
+  pub says : BodySays L W X stack after bs c b x r
 
 -- all rounds: mu or nu of f
 pub record BindPre (L : Limits) (W : View) (stack bs : List ℕ) (c : Context) (b : Body) : Type 0 where
@@ -422,4 +458,4 @@ pub record BindPre (L : Limits) (W : View) (stack bs : List ℕ) (c : Context) (
 pub record BindPost (L : Limits) (W X : View) (stack after bs : List ℕ) (c : Context) (b : Body) (r : Evaluated) : Type 0 where
   pub answers : (σ : Scene) (f : Form) (e : ℕ) → Ready L W stack (c .places) (c .held) σ
       → BodyPart (L .bits) bs (c .at) (c .depth) (set (σ .scope) (variableOf b) true) (holdsReg σ) (holdsRel σ) b f e
-      → Answers L W X stack after (c .held) (c .count) σ (binderForm (fixOf b) (variableOf b) f) e r
+      → Answers true L W X stack after (c .held) (c .count) σ (binderForm (fixOf b) (variableOf b) f) e r

@@ -1,4 +1,4 @@
-// The evaluation of a set's formula from its bytes, over the words of a table.
+// The evaluation of a call's formula from its bytes, over the words of a table: of a set's, a relation's or that of valid.
 use accounts::Count;
 use counting::Counts;
 use counting::Taken;
@@ -12,7 +12,6 @@ use layout::header_word;
 use memory::forget;
 use modal::Limits;
 use modal::boxed;
-use modal::complement;
 use modal::diamond;
 use steps::Step;
 use tokens::Fix;
@@ -24,18 +23,26 @@ use tokens::Mode;
 use tokens::Token;
 use tokens::Two;
 use tokens::lead_at;
+use tokens::only_now;
 ghost use mathlib.Core.Path.{_≡_};
 ghost use Prim.Native.Nat.{_+_, _<_, _≤_};
 ghost use lib.ListN.{length, getD, set};
-ghost use Rattle.layout.specs.Places.{HEADER};
-ghost use Rattle.layout.specs.View.{view, headerOf};
+ghost use Rattle.layout.specs.Places.{HEADER, VALID};
+ghost use Rattle.layout.specs.View.{headerOf};
 ghost use Rattle.accounts.specs.Count.{another};
-ghost use Rattle.counting.specs.Counts.{CountsOf};
+ghost use Rattle.tokens.specs.Tokens.{onlyNow};
 ghost use Rattle.counting.specs.declared.Taken.the-variants.{At};
 ghost use Rattle.book.specs.Turns.{startArrow};
-ghost use Rattle.modal.specs.Modal.{ModalPre};
-ghost use Rattle.evaluator.specs.Whole.{SetPre, SetPost};
-ghost use Rattle.evaluator.specs.Scene.{stackSize, fromTaken, bodyOf, roundOf, isLeast, fixOf, variableOf, joinStep, OverPost, LivePre, LivePost, JoinedPre, JoinedPost, BitPre, BitPost, LeafPre, LeafPost, EvalPre, EvalPost, NegatePost, BothPre, BothPost, ModePre, ModePost, BindPre, BindPost, ReachPre, ReachPost, FurtherPre, FurtherPost, EveryPost, KeepPre, KeepPost, RoundPre, RoundPost, TurnPre, TurnPost, UntilPost};
+ghost use Rattle.tokens.specs.declared.Mode.the-variants.{All};
+ghost use Rattle.evaluator.specs.Whole.{start};
+ghost use Rattle.evaluator.specs.Scene.{stackSize, fromTaken, bodyOf, roundOf, isLeast, fixOf, variableOf, joinStep};
+ghost use Rattle.evaluator.specs.Scene.{TrueIs, UntilPost};
+ghost use Rattle.evaluator.specs.Posts.{LiveAsks, LiveGives, JoinedAsks, JoinedGives, ConfinedAsks, ConfinedGives};
+ghost use Rattle.evaluator.specs.Posts.{LeafAsks, LeafGives, OverAsks, OverGives, ReachAsks, ReachGives, FurtherAsks, FurtherGives};
+ghost use Rattle.evaluator.specs.Posts.{EvalAsks, EvalGives, NegateGives, BothAsks, BothGives, ModeAsks, ModeGives};
+ghost use Rattle.evaluator.specs.Posts.{BindAsks, BindGives, TurnAsks, TurnGives};
+ghost use Rattle.evaluator.specs.Posts.{KeepAsks, KeepGives, RoundAsks, RoundGives, WithinAsks, WithinGives};
+ghost use Rattle.evaluator.specs.Posts.{SetAsks, SetGives, PairsAsks, PairsGives, RelationGives};
 
 // What an evaluation answers: the arrow of the set, the place after the formula and what is counted; or why there is none.
 pub enum Evaluated {
@@ -207,8 +214,9 @@ pub fn live_step(
     s: Step,
     count: Count,
 ) -> Taken
-    requires { ⌜ LivePre limits (view (limits .rows) (now words)) (now stack) held s × CountsOf (view (limits .rows) (now words)) (now counts) ⌝ }
-    ensures { λ r. ⌜ LivePost limits (view (limits .rows) (now (words .entry))) (view (limits .rows) (now (words .exit))) (now (stack .entry)) held s count r × CountsOf (view (limits .rows) (now (words .exit))) (now (counts .exit)) ⌝ }
+    requires { ⌜ LiveAsks limits (now words) (now counts) (now stack) held s ⌝ }
+    ensures { λ r. ⌜ LiveGives limits (now (words .entry)) (now (words .exit)) (now (counts .exit)) (now (stack .entry))
+        held s count r ⌝ }
 {
     take(
         words,
@@ -222,7 +230,8 @@ pub fn live_step(
     )
 }
 
-// The answer of two parts, of which the first has the value `a`: the second one's, where that has no value, else the step AND or OR of both values.
+// The answer of two parts, of which the first has the value `a`: the second one's, where that has no value, else the step AND or OR of both
+// values.
 fn joined(
     words: &mut [u32],
     counts: &mut [u32],
@@ -233,8 +242,9 @@ fn joined(
     a: u32,
     second: Evaluated,
 ) -> Evaluated
-    requires { ⌜ JoinedPre limits (view (limits .rows) (now words)) (now stack) held j a second × CountsOf (view (limits .rows) (now words)) (now counts) ⌝ }
-    ensures { λ r. ⌜ JoinedPost limits (view (limits .rows) (now (words .entry))) (view (limits .rows) (now (words .exit))) (now (stack .entry)) held j a second r × CountsOf (view (limits .rows) (now (words .exit))) (now (counts .exit)) ⌝ }
+    requires { ⌜ JoinedAsks limits (now words) (now counts) (now stack) held j a second ⌝ }
+    ensures { λ r. ⌜ JoinedGives limits (now (words .entry)) (now (words .exit)) (now (counts .exit)) (now (stack .entry))
+        held j a second r ⌝ }
 {
     let Evaluated::Value {
         arrow: b,
@@ -248,36 +258,51 @@ fn joined(
     answer(taken, end)
 }
 
-// The states of V in which current bit p holds: the step of the bit, and AND with V.
-fn current_bit(
+// A step's result, and for a formula of states AND with V. Pairs are of all states.
+fn confined(
     words: &mut [u32],
     counts: &mut [u32],
     stack: &[u32],
     limits: Limits,
+    grammar: Grammar,
     held: usize,
-    p: u32,
-    count: Count,
+    first: Taken,
 ) -> Taken
-    requires { ⌜ BitPre limits (view (limits .rows) (now words)) (now stack) held p × CountsOf (view (limits .rows) (now words)) (now counts) ⌝ }
-    ensures { λ r. ⌜ BitPost limits (view (limits .rows) (now (words .entry))) (view (limits .rows) (now (words .exit))) (now (stack .entry)) held p count r × CountsOf (view (limits .rows) (now (words .exit))) (now (counts .exit)) ⌝ }
+    requires { ⌜ ConfinedAsks limits (now words) (now counts) (now stack) held first ⌝ }
+    ensures { λ r. ⌜ ConfinedGives limits (now (words .entry)) (now (words .exit)) (now (counts .exit)) (now (stack .entry))
+        held grammar first r ⌝ }
 {
     let Taken::At {
         arrow: b,
-        count: first,
-    } = live_step(words, counts, stack, limits, held, Step::Bit(2 * p), count)
+        count: counted,
+    } = first
     else {
         return Taken::Full;
     };
-    let valid = root_arrow(words, Table::VALID);
-    live_step(
-        words,
-        counts,
-        stack,
-        limits,
-        held,
-        Step::And(b, valid),
-        first,
-    )
+    if only_now(grammar) {
+        let valid = root_arrow(words, Table::VALID);
+        return live_step(
+            words,
+            counts,
+            stack,
+            limits,
+            held,
+            Step::And(b, valid),
+            counted,
+        );
+    }
+    first
+}
+
+// True: V for a formula of states, all pairs for one of pairs.
+fn truth(words: &[u32], grammar: Grammar) -> u32
+    requires { ⌜ (VALID < HEADER) × (HEADER ≤ length (now words)) × (0 < headerOf (now words) VALID) ⌝ }
+    ensures { λ r. ⌜ TrueIs (onlyNow grammar) (headerOf (now (words .entry)) VALID) r ⌝ }
+{
+    if only_now(grammar) {
+        return root_arrow(words, Table::VALID);
+    }
+    Table::EVERYTHING
 }
 
 // An arrow that takes no step.
@@ -290,27 +315,40 @@ pub fn unmoved(a: u32, count: Count) -> Taken
     }
 }
 
-// A leaf: constants, registers and variables take no step, true is V; a current bit is two. A set's formula has no next bit.
+// A leaf: constants, registers and variables take no step; a bit is one, and for a formula of states AND with V another.
 fn leaf(
     words: &mut [u32],
     counts: &mut [u32],
     stack: &[u32],
     limits: Limits,
     here: Context,
+    grammar: Grammar,
     l: Leaf,
 ) -> Taken
-    requires { ⌜ LeafPre limits (view (limits .rows) (now words)) (now stack) here l × CountsOf (view (limits .rows) (now words)) (now counts) ⌝ }
-    ensures { λ r. ⌜ LeafPost limits (view (limits .rows) (now (words .entry))) (view (limits .rows) (now (words .exit))) (now (stack .entry)) here l r × CountsOf (view (limits .rows) (now (words .exit))) (now (counts .exit)) ⌝ }
+    requires { ⌜ LeafAsks limits (now words) (now counts) (now stack) here grammar l ⌝ }
+    ensures { λ r. ⌜ LeafGives limits (now (words .entry)) (now (words .exit)) (now (counts .exit)) (now (stack .entry))
+        here grammar l r ⌝ }
 {
     let count = here.count;
+    let held = here.held;
     match l {
         Leaf::False => unmoved(Table::NOTHING, count),
-        Leaf::True => unmoved(root_arrow(words, Table::VALID), count),
+        Leaf::True => unmoved(truth(words, grammar), count),
         Leaf::Now(p) => {
-            let held = here.held;
-            current_bit(words, counts, stack, limits, held, p, count)
+            let bit = live_step(words, counts, stack, limits, held, Step::Bit(2 * p), count);
+            confined(words, counts, stack, limits, grammar, held, bit)
         }
-        Leaf::Next(_) => unmoved(Table::NOTHING, count),
+        Leaf::Next(p) => {
+            live_step(
+                words,
+                counts,
+                stack,
+                limits,
+                held,
+                Step::Bit(2 * p + 1),
+                count,
+            )
+        }
         Leaf::Var(p) => {
             let places = here.places;
             unmoved(variable(stack, places, p), count)
@@ -333,8 +371,9 @@ fn over(
     a: u32,
     count: Count,
 ) -> Taken
-    requires { ⌜ ModalPre (limits .bits) (limits .rows) (limits .limit) (view (limits .rows) (now words)) (now roots) relation a × CountsOf (view (limits .rows) (now words)) (now counts) ⌝ }
-    ensures { λ r. ⌜ OverPost m (limits .bits) (limits .rows) (limits .limit) (view (limits .rows) (now (words .entry))) (view (limits .rows) (now (words .exit))) (now (roots .entry)) relation a count r × CountsOf (view (limits .rows) (now (words .exit))) (now (counts .exit)) ⌝ }
+    requires { ⌜ OverAsks limits (now words) (now counts) (now roots) relation a ⌝ }
+    ensures { λ r. ⌜ OverGives limits (now (words .entry)) (now (words .exit)) (now (counts .exit)) (now (roots .entry))
+        m relation a count r ⌝ }
 {
     match m {
         Mode::All => {
@@ -357,8 +396,9 @@ fn reach(
     x: u32,
     end: usize,
 ) -> Evaluated
-    requires { ⌜ ReachPre limits (view (limits .rows) (now words)) (now stack) here t x end × CountsOf (view (limits .rows) (now words)) (now counts) ⌝ }
-    ensures { λ r. ⌜ ReachPost limits (view (limits .rows) (now (words .entry))) (view (limits .rows) (now (words .exit))) (now (stack .entry)) here m t x end r × CountsOf (view (limits .rows) (now (words .exit))) (now (counts .exit)) ⌝ }
+    requires { ⌜ ReachAsks limits (now words) (now counts) (now stack) here t x end ⌝ }
+    ensures { λ r. ⌜ ReachGives limits (now (words .entry)) (now (words .exit)) (now (counts .exit)) (now (stack .entry))
+        here m t x end r ⌝ }
 {
     let h = Table::FIRST_RELATION + (t as usize);
     let relation = root_arrow(words, h);
@@ -379,8 +419,9 @@ fn every(
     x: u32,
     end: usize,
 ) -> Evaluated
-    requires { ⌜ FurtherPre limits (view (limits .rows) (now words)) (now stack) here t x × CountsOf (view (limits .rows) (now words)) (now counts) ⌝ }
-    ensures { λ r. ⌜ EveryPost limits (view (limits .rows) (now (words .entry))) (view (limits .rows) (now (words .exit))) (now (stack .entry)) (now (stack .exit)) here t x end r × CountsOf (view (limits .rows) (now (words .exit))) (now (counts .exit)) ⌝ }
+    requires { ⌜ FurtherAsks limits (now words) (now counts) (now stack) here t x ⌝ }
+    ensures { λ r. ⌜ FurtherGives limits (now (words .entry)) (now (words .exit)) (now (counts .exit)) (now (stack .entry))
+        (now (stack .exit)) here All t x end r ⌝ }
 {
     let first = reach(words, counts, stack, limits, here, Mode::All, t, x, end);
     let Evaluated::Value {
@@ -421,8 +462,9 @@ fn further(
     x: u32,
     end: usize,
 ) -> Evaluated
-    requires { ⌜ FurtherPre limits (view (limits .rows) (now words)) (now stack) here t x × CountsOf (view (limits .rows) (now words)) (now counts) ⌝ }
-    ensures { λ r. ⌜ FurtherPost limits (view (limits .rows) (now (words .entry))) (view (limits .rows) (now (words .exit))) (now (stack .entry)) (now (stack .exit)) here m t x end r × CountsOf (view (limits .rows) (now (words .exit))) (now (counts .exit)) ⌝ }
+    requires { ⌜ FurtherAsks limits (now words) (now counts) (now stack) here t x ⌝ }
+    ensures { λ r. ⌜ FurtherGives limits (now (words .entry)) (now (words .exit)) (now (counts .exit)) (now (stack .entry))
+        (now (stack .exit)) here m t x end r ⌝ }
 {
     match m {
         Mode::All => every(words, counts, stack, limits, here, t, x, end),
@@ -441,7 +483,7 @@ fn until_body(bytes: &[u8], limits: Limits, here: Context, m: Mode, t: u32) -> B
     Body::Until(m, t, middle)
 }
 
-// Evaluates the formula at the context's place, of depth at most its depth.
+// Evaluates the formula at the context's place, of depth at most its depth: one of pairs, or of states and runs.
 fn eval(
     words: &mut [u32],
     counts: &mut [u32],
@@ -449,11 +491,13 @@ fn eval(
     bytes: &[u8],
     limits: Limits,
     here: Context,
+    grammar: Grammar,
 ) -> Evaluated
-    requires { ⌜ EvalPre limits (view (limits .rows) (now words)) (now stack) (now bytes) here × CountsOf (view (limits .rows) (now words)) (now counts) ⌝ }
-    ensures { λ r. ⌜ EvalPost limits (view (limits .rows) (now (words .entry))) (view (limits .rows) (now (words .exit))) (now (stack .entry)) (now (stack .exit)) (now (bytes .entry)) here r × CountsOf (view (limits .rows) (now (words .exit))) (now (counts .exit)) ⌝ }
+    requires { ⌜ EvalAsks limits (now words) (now counts) (now stack) (now bytes) here grammar ⌝ }
+    ensures { λ r. ⌜ EvalGives limits (now (words .entry)) (now (words .exit)) (now (counts .exit)) (now (stack .entry))
+        (now (stack .exit)) (now (bytes .entry)) here grammar r ⌝ }
 {
-    let Lead::Is(t) = lead_at(bytes, limits.bits, Grammar::Runs, here.at) else {
+    let Lead::Is(t) = lead_at(bytes, limits.bits, grammar, here.at) else {
         return Evaluated::Full;
     };
     let mut part = here;
@@ -461,11 +505,14 @@ fn eval(
     part.depth = here.depth - 1;
     let body = match t {
         Token::Leaf(l) => {
-            return answer(leaf(words, counts, stack, limits, here, l), part.at);
+            return answer(
+                leaf(words, counts, stack, limits, here, grammar, l),
+                part.at,
+            );
         }
-        Token::Not => return negate(words, counts, stack, bytes, limits, part),
+        Token::Not => return negate(words, counts, stack, bytes, limits, part, grammar),
         Token::Both(w) => match w {
-            Two::Join(j) => return both(words, counts, stack, bytes, limits, part, j),
+            Two::Join(j) => return both(words, counts, stack, bytes, limits, part, grammar, j),
             Two::Until(m, t) => until_body(bytes, limits, part, m, t),
         },
         Token::Modal(m, t) => return modal(words, counts, stack, bytes, limits, part, m, t),
@@ -474,7 +521,7 @@ fn eval(
     bind(words, counts, stack, bytes, limits, part, body)
 }
 
-// Evaluates the formula at the context's place, and takes the steps of NOT within V.
+// Evaluates the formula at the context's place, and takes the step NOT, for a formula of states within V.
 fn negate(
     words: &mut [u32],
     counts: &mut [u32],
@@ -482,11 +529,13 @@ fn negate(
     bytes: &[u8],
     limits: Limits,
     here: Context,
+    grammar: Grammar,
 ) -> Evaluated
-    requires { ⌜ EvalPre limits (view (limits .rows) (now words)) (now stack) (now bytes) here × CountsOf (view (limits .rows) (now words)) (now counts) ⌝ }
-    ensures { λ r. ⌜ NegatePost limits (view (limits .rows) (now (words .entry))) (view (limits .rows) (now (words .exit))) (now (stack .entry)) (now (stack .exit)) (now (bytes .entry)) here r × CountsOf (view (limits .rows) (now (words .exit))) (now (counts .exit)) ⌝ }
+    requires { ⌜ EvalAsks limits (now words) (now counts) (now stack) (now bytes) here grammar ⌝ }
+    ensures { λ r. ⌜ NegateGives limits (now (words .entry)) (now (words .exit)) (now (counts .exit)) (now (stack .entry))
+        (now (stack .exit)) (now (bytes .entry)) here grammar r ⌝ }
 {
-    let part = eval(words, counts, stack, bytes, limits, here);
+    let part = eval(words, counts, stack, bytes, limits, here, grammar);
     let Evaluated::Value {
         arrow: a,
         next: end,
@@ -496,8 +545,8 @@ fn negate(
         return part;
     };
     let held = here.held;
-    let valid = root_arrow(words, Table::VALID);
-    let taken = complement(words, counts, limits, &stack[..held], valid, a, counted);
+    let inverse = live_step(words, counts, stack, limits, held, Step::Not(a), counted);
+    let taken = confined(words, counts, stack, limits, grammar, held, inverse);
     answer(taken, end)
 }
 
@@ -509,12 +558,14 @@ fn both(
     bytes: &[u8],
     limits: Limits,
     here: Context,
+    grammar: Grammar,
     j: Join,
 ) -> Evaluated
-    requires { ⌜ BothPre limits (view (limits .rows) (now words)) (now stack) (now bytes) here × CountsOf (view (limits .rows) (now words)) (now counts) ⌝ }
-    ensures { λ r. ⌜ BothPost limits (view (limits .rows) (now (words .entry))) (view (limits .rows) (now (words .exit))) (now (stack .entry)) (now (stack .exit)) (now (bytes .entry)) here j r × CountsOf (view (limits .rows) (now (words .exit))) (now (counts .exit)) ⌝ }
+    requires { ⌜ BothAsks limits (now words) (now counts) (now stack) (now bytes) here grammar ⌝ }
+    ensures { λ r. ⌜ BothGives limits (now (words .entry)) (now (words .exit)) (now (counts .exit)) (now (stack .entry))
+        (now (stack .exit)) (now (bytes .entry)) here grammar j r ⌝ }
 {
-    let first = eval(words, counts, stack, bytes, limits, here);
+    let first = eval(words, counts, stack, bytes, limits, here, grammar);
     let Evaluated::Value {
         arrow: a,
         next: middle,
@@ -526,7 +577,7 @@ fn both(
     let held = here.held;
     stack[held] = a;
     let rest = onward(here, middle, counted);
-    let second = eval(words, counts, stack, bytes, limits, rest);
+    let second = eval(words, counts, stack, bytes, limits, rest, grammar);
     joined(words, counts, stack, limits, held, j, a, second)
 }
 
@@ -541,10 +592,11 @@ fn modal(
     m: Mode,
     t: u32,
 ) -> Evaluated
-    requires { ⌜ ModePre limits (view (limits .rows) (now words)) (now stack) (now bytes) here t × CountsOf (view (limits .rows) (now words)) (now counts) ⌝ }
-    ensures { λ r. ⌜ ModePost limits (view (limits .rows) (now (words .entry))) (view (limits .rows) (now (words .exit))) (now (stack .entry)) (now (stack .exit)) (now (bytes .entry)) here m t r × CountsOf (view (limits .rows) (now (words .exit))) (now (counts .exit)) ⌝ }
+    requires { ⌜ ModeAsks limits (now words) (now counts) (now stack) (now bytes) here t ⌝ }
+    ensures { λ r. ⌜ ModeGives limits (now (words .entry)) (now (words .exit)) (now (counts .exit)) (now (stack .entry))
+        (now (stack .exit)) (now (bytes .entry)) here m t r ⌝ }
 {
-    let part = eval(words, counts, stack, bytes, limits, here);
+    let part = eval(words, counts, stack, bytes, limits, here, Grammar::Runs);
     let Evaluated::Value {
         arrow: a,
         next: end,
@@ -579,8 +631,9 @@ fn bind(
     here: Context,
     body: Body,
 ) -> Evaluated
-    requires { ⌜ BindPre limits (view (limits .rows) (now words)) (now stack) (now bytes) here body × CountsOf (view (limits .rows) (now words)) (now counts) ⌝ }
-    ensures { λ r. ⌜ BindPost limits (view (limits .rows) (now (words .entry))) (view (limits .rows) (now (words .exit))) (now (stack .entry)) (now (stack .exit)) (now (bytes .entry)) here body r × CountsOf (view (limits .rows) (now (words .exit))) (now (counts .exit)) ⌝ }
+    requires { ⌜ BindAsks limits (now words) (now counts) (now stack) (now bytes) here body ⌝ }
+    ensures { λ r. ⌜ BindGives limits (now (words .entry)) (now (words .exit)) (now (counts .exit)) (now (stack .entry))
+        (now (stack .exit)) (now (bytes .entry)) here body r ⌝ }
 {
     let held = here.held;
     let mut current = start_of(body, root_arrow(words, Table::VALID));
@@ -617,11 +670,12 @@ fn turn(
     body: Body,
     x: u32,
 ) -> Evaluated
-    requires { ⌜ TurnPre limits (view (limits .rows) (now words)) (now stack) (now bytes) here body x × CountsOf (view (limits .rows) (now words)) (now counts) ⌝ }
-    ensures { λ r. ⌜ TurnPost limits (view (limits .rows) (now (words .entry))) (view (limits .rows) (now (words .exit))) (now (stack .entry)) (now (stack .exit)) (now (bytes .entry)) here body x r × CountsOf (view (limits .rows) (now (words .exit))) (now (counts .exit)) ⌝ }
+    requires { ⌜ TurnAsks limits (now words) (now counts) (now stack) (now bytes) here body x ⌝ }
+    ensures { λ r. ⌜ TurnGives limits (now (words .entry)) (now (words .exit)) (now (counts .exit)) (now (stack .entry))
+        (now (stack .exit)) (now (bytes .entry)) here body x r ⌝ }
 {
     match body {
-        Body::Binder(_, _) => eval(words, counts, stack, bytes, limits, here),
+        Body::Binder(_, _) => { eval(words, counts, stack, bytes, limits, here, Grammar::Runs) }
         Body::Until(m, t, middle) => round(
             words,
             counts,
@@ -651,10 +705,11 @@ fn keep(
     x: u32,
     end: usize,
 ) -> Evaluated
-    requires { ⌜ KeepPre limits (view (limits .rows) (now words)) (now stack) (now bytes) here t x × CountsOf (view (limits .rows) (now words)) (now counts) ⌝ }
-    ensures { λ r. ⌜ KeepPost limits (view (limits .rows) (now (words .entry))) (view (limits .rows) (now (words .exit))) (now (stack .entry)) (now (stack .exit)) (now (bytes .entry)) here m t x end r × CountsOf (view (limits .rows) (now (words .exit))) (now (counts .exit)) ⌝ }
+    requires { ⌜ KeepAsks limits (now words) (now counts) (now stack) (now bytes) here t x ⌝ }
+    ensures { λ r. ⌜ KeepGives limits (now (words .entry)) (now (words .exit)) (now (counts .exit)) (now (stack .entry))
+        (now (stack .exit)) (now (bytes .entry)) here m t x end r ⌝ }
 {
-    let first = eval(words, counts, stack, bytes, limits, here);
+    let first = eval(words, counts, stack, bytes, limits, here, Grammar::Runs);
     let Evaluated::Value {
         arrow: a,
         next: _,
@@ -684,12 +739,13 @@ fn round(
     t: u32,
     x: u32,
 ) -> Evaluated
-    requires { ⌜ RoundPre limits (view (limits .rows) (now words)) (now stack) (now bytes) here middle t x × CountsOf (view (limits .rows) (now words)) (now counts) ⌝ }
-    ensures { λ r. ⌜ RoundPost limits (view (limits .rows) (now (words .entry))) (view (limits .rows) (now (words .exit))) (now (stack .entry)) (now (stack .exit)) (now (bytes .entry)) here middle m t x r × CountsOf (view (limits .rows) (now (words .exit))) (now (counts .exit)) ⌝ }
+    requires { ⌜ RoundAsks limits (now words) (now counts) (now stack) (now bytes) here middle t x ⌝ }
+    ensures { λ r. ⌜ RoundGives limits (now (words .entry)) (now (words .exit)) (now (counts .exit)) (now (stack .entry))
+        (now (stack .exit)) (now (bytes .entry)) here middle m t x r ⌝ }
 {
     let mut goal = here;
     goal.at = middle;
-    let first = eval(words, counts, stack, bytes, limits, goal);
+    let first = eval(words, counts, stack, bytes, limits, goal, Grammar::Runs);
     let Evaluated::Value {
         arrow: a,
         next: end,
@@ -705,22 +761,127 @@ fn round(
     joined(words, counts, stack, limits, held, Join::Or, a, second)
 }
 
-// Evaluates the set's formula in `bytes`, which has passed the checks, with nothing remembered before.
-pub fn evaluate_set(words: &mut [u32], limits: Limits, bytes: &[u8]) -> Evaluated
-    requires { ⌜ SetPre limits (view (limits .rows) (now words)) (now bytes) ⌝ }
-    ensures { λ r. ⌜ SetPost limits (view (limits .rows) (now (words .entry))) (view (limits .rows) (now (words .exit))) (now (bytes .entry)) r ⌝ }
+// The pairs of an arrow within V: AND with V, SHIFT of V, AND with that.
+fn within(
+    words: &mut [u32],
+    counts: &mut [u32],
+    stack: &mut [u32],
+    limits: Limits,
+    a: u32,
+    count: Count,
+) -> Taken
+    requires { ⌜ WithinAsks limits (now words) (now counts) (now stack) a ⌝ }
+    ensures { λ r. ⌜ WithinGives limits (now (words .entry)) (now (words .exit)) (now (counts .exit)) (now (stack .entry))
+        a count r ⌝ }
 {
-    forget(words, limits.rows);
-    let mut counts = [0u32; Counts::WORDS];
-    begin(words, limits.rows, &mut counts);
-    let mut stack = [0u32; Stack::WORDS];
+    let valid = root_arrow(words, Table::VALID);
+    let Taken::At {
+        arrow: b,
+        count: first,
+    } = live_step(words, counts, stack, limits, 0, Step::And(a, valid), count)
+    else {
+        return Taken::Full;
+    };
+    stack[0] = b;
+    let Taken::At {
+        arrow: c,
+        count: second,
+    } = live_step(words, counts, stack, limits, 1, Step::Shift(valid), first)
+    else {
+        return Taken::Full;
+    };
+    live_step(words, counts, stack, limits, 0, Step::And(b, c), second)
+}
+
+// The context at a formula's start.
+fn starting() -> Context
+    ensures { λ r. ⌜ r ≡ start ⌝ }
+{
     let places = [0u8; Grammar::VARIABLES];
-    let start = Context {
+    Context {
         at: Frame::START,
         depth: Table::DEPTH,
         held: 0,
         places: places,
         count: Count { rounds: 0, peak: 0 },
+    }
+}
+
+// Evaluates the set's formula in `bytes`, which has passed the checks, with nothing remembered before.
+pub fn evaluate_set(words: &mut [u32], limits: Limits, bytes: &[u8]) -> Evaluated
+    requires { ⌜ SetAsks limits (now words) (now bytes) ⌝ }
+    ensures { λ r. ⌜ SetGives limits (now (words .entry)) (now (words .exit)) (now (bytes .entry)) r ⌝ }
+{
+    forget(words, limits.rows);
+    let mut counts = [0u32; Counts::WORDS];
+    begin(words, limits.rows, &mut counts);
+    let mut stack = [0u32; Stack::WORDS];
+    let start = starting();
+    eval(
+        words,
+        &mut counts,
+        &mut stack,
+        bytes,
+        limits,
+        start,
+        Grammar::Runs,
+    )
+}
+
+// Evaluates the formula of a relation or of valid in `bytes`, which has passed the checks, over all states, with nothing remembered before.
+pub fn evaluate_pairs(words: &mut [u32], limits: Limits, bytes: &[u8]) -> Taken
+    requires { ⌜ PairsAsks limits (now words) (now bytes) ⌝ }
+    ensures { λ r. ⌜ PairsGives limits (now (words .entry)) (now (words .exit)) (now (bytes .entry)) r ⌝ }
+{
+    forget(words, limits.rows);
+    let mut counts = [0u32; Counts::WORDS];
+    begin(words, limits.rows, &mut counts);
+    let mut stack = [0u32; Stack::WORDS];
+    let start = starting();
+    let Evaluated::Value {
+        arrow: a,
+        next: _,
+        count: c,
+    } = eval(
+        words,
+        &mut counts,
+        &mut stack,
+        bytes,
+        limits,
+        start,
+        Grammar::Pairs,
+    )
+    else {
+        return Taken::Full;
     };
-    eval(words, &mut counts, &mut stack, bytes, limits, start)
+    unmoved(a, c)
+}
+
+// Evaluates a relation's formula in `bytes`, which has passed the checks, within V, with nothing remembered before.
+pub fn evaluate_relation(words: &mut [u32], limits: Limits, bytes: &[u8]) -> Taken
+    requires { ⌜ PairsAsks limits (now words) (now bytes) ⌝ }
+    ensures { λ r. ⌜ RelationGives limits (now (words .entry)) (now (words .exit)) (now (bytes .entry)) r ⌝ }
+{
+    forget(words, limits.rows);
+    let mut counts = [0u32; Counts::WORDS];
+    begin(words, limits.rows, &mut counts);
+    let mut stack = [0u32; Stack::WORDS];
+    let start = starting();
+    let Evaluated::Value {
+        arrow: a,
+        next: _,
+        count: c,
+    } = eval(
+        words,
+        &mut counts,
+        &mut stack,
+        bytes,
+        limits,
+        start,
+        Grammar::Pairs,
+    )
+    else {
+        return Taken::Full;
+    };
+    within(words, &mut counts, &mut stack, limits, a, c)
 }

@@ -23,6 +23,7 @@ use Rattle.soundness.specs.Sound.{Good, Sound, tableOf}
 use Rattle.book.specs.Book.{Book, Call, relation, set, valid, unfilled, modelOf, liveOf, checks, formulaIn}
 use Rattle.book.specs.Stored.{whole-does}
 use Rattle.book.specs.Table.{Table, Reply, rootsOf, Serves}
+use Rattle.book.specs.Over.{states}
 use Rattle.book.specs.Run.{run, pairF, pairsFit, pairsCount, relationFits, relationCount}
 use Rattle.book.specs.Follow.{Ended, ends, eight, nine, Evals}
 use Rattle.book.specs.Pairs.{PairEvals}
@@ -101,7 +102,7 @@ module _ (old : List ℕ) (s : SoundWords old) (X : View) (g : Good X) (f : OpFr
 
     -- the evaluation of the call's formula ended so
     abbrev pub SetEnds : Ended → Type 0
-    SetEnds y = Evals (b .n) (b .N) (rowsOf W) (rowsOf X) (rootsOf (seen old)) (run (modelOf b) (rowsUnder (b .N) acc) (roundsUnder R acc) noEnv (liveOf b) (formulaIn b Set bs) nothing) y
+    SetEnds y = Evals (b .n) (b .N) (rowsOf W) (rowsOf X) (rootsOf (seen old)) (run (states (modelOf b) noEnv) (rowsUnder (b .N) acc) (roundsUnder R acc) (liveOf b) (formulaIn b Set bs) nothing) y
 
     serves : (y : Ended) → SetEnds y → Serves b c (seen old) (setLeaves (seen old) r (rowsOf X) y) (setReply y)
     serves y d = set-serves b (seen old) acc r R bs (rowsOf X) y (sound-shows-book old s) l m z d

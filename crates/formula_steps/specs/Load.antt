@@ -22,7 +22,7 @@ use Rattle.book.specs.BookOf.{bookOf}
 use Rattle.book.specs.Pairs.{PairEvals}
 use Rattle.contract.specs.Seen.{seen, SoundWords}
 use Rattle.contract.specs.Posts.{CallPost}
-use Rattle.pairs.specs.Pairing.{PairsPre, PairsPost, RelationPost}
+use Rattle.evaluator.specs.Whole.{PairsPre, PairsPost, RelationPost}
 use Rattle.formula_steps.specs.Evaluated.{Tidied}
 use Rattle.formula_steps.specs.Ends.{Through, through-sound, through-done, RelationEnds, relation-value, relation-full, ValidEnds, valid-value, valid-full}
 use Rattle.formula_steps.specs.Replies.{loadedReply, confinedReply}

@@ -37,6 +37,7 @@ use Rattle.book.specs.Held.{Held}
 use Rattle.book.specs.Roots.{shows-held}
 use Rattle.book.specs.Effects.{set-refused}
 use Rattle.book.specs.Bridge.{fnOf}
+use Rattle.book.specs.Over.{states}
 use Rattle.book.specs.Run.{run, pairF, pairsFit, pairsCount, relationFits, relationCount}
 use Rattle.book.specs.Follow.{Ended, ends, nine, Evals, denotes-clip}
 use Rattle.book.specs.Pairs.{PairMatches, PairEvals, pair-none, pair-all}
@@ -175,7 +176,7 @@ module _ (old : List ℕ) (s : SoundWords old) where
 
   -- the evaluation of f under limits N and R ended so
   abbrev pub Ends : Rows → ℕ → ℕ → Form → Ended → Type 0
-  Ends after N R f y = Evals (b .n) (b .N) (rowsOf (tableOf old)) after (rootsOf (seen old)) (run (modelOf b) N R noEnv (liveOf b) f nothing) y
+  Ends after N R f y = Evals (b .n) (b .N) (rowsOf (tableOf old)) after (rootsOf (seen old)) (run (states (modelOf b) noEnv) N R (liveOf b) f nothing) y
 
   -- an account that limits neither rows nor rounds further
   pub unlimited : {after : Rows} (R : ℕ) (f : Form) (y : Ended) (acc : Terms) → Roomy (b .N) R acc → Ends after (b .N) R f y

@@ -14,6 +14,7 @@ use Rattle.diagram.specs.Post.{Denotes}
 use Rattle.accounts.specs.declared.Count.{Count}
 use Rattle.accounts.specs.Count.{nothing, another}
 use Rattle.book.specs.Bridge.{fnOf}
+use Rattle.book.specs.Over.{states}
 use Rattle.book.specs.Run.{Outcome, loop, run}
 use Rattle.book.specs.Held.{Held, held-push}
 use Rattle.book.specs.Follow.{ends, nine, Evals, evals-leaf, denotes-in}
@@ -24,7 +25,7 @@ module _ (m : Model) (N R : ℕ) (e : Env) (live : List Fn) (P : ℕ) {rows : Ro
     (w : ℕ) (v : Denotes (2 * m .n) rows w (fnOf (m .n) (exist m))) where
   -- a round
   abbrev round : List Bool → Count → Outcome
-  round A q = run m N R (put e P A) (fnOf (m .n) A ∷ live) (var P) q
+  round A q = run (states m (put e P A)) N R (fnOf (m .n) A ∷ live) (var P) q
 
   good : GoodOn (m .n) (exist m) round
   good A q z a = run-good m N R (put e P A) (fnOf (m .n) A ∷ live) (var P) q
@@ -49,10 +50,10 @@ module _ (m : Model) (N R : ℕ) (e : Env) (live : List Fn) (P : ℕ) {rows : Ro
   spent b z = turn-out (m .n) N R (exist m) round good (begun b) (omega arith)
 
   -- mu P. P has no state, nu P. P has those of V
-  pub self-ends : (b : Bool) → 0 < R → Evals (m .n) N rows rows roots (run m N R e live (bind b P (var P)) nothing) (ends (startArrow b w) (another nothing))
+  pub self-ends : (b : Bool) → 0 < R → Evals (m .n) N rows rows roots (run (states m e) N R live (bind b P (var P)) nothing) (ends (startArrow b w) (another nothing))
   self-ends true = ended true
   self-ends false = ended false
 
-  pub self-spent : (b : Bool) → R ≡ 0 → Evals (m .n) N rows rows roots (run m N R e live (bind b P (var P)) nothing) nine
+  pub self-spent : (b : Bool) → R ≡ 0 → Evals (m .n) N rows rows roots (run (states m e) N R live (bind b P (var P)) nothing) nine
   self-spent true = spent true
   self-spent false = spent false

@@ -10,7 +10,7 @@ use mathlib.Core.Logic.{⊎-elim}
 use Rattle.tokens.specs.declared.Token.the-variants.{Both}
 use Rattle.evaluator.proofs.Tokens.{read-depth, read-token, read-inside}
 use Rattle.evaluator.proofs.Untils.{kept-asked, keep-halts, keep-room, further-asked, keep-asked, keep-answered, goal-asked, goal-halts, round-free, kept-part, or-asked, or-answered, formula-asked, round-asked, formula-answered, round-answered}
-use Rattle.evaluator.proofs.Cycle.{leaf-asked, leaf-answered, not-asked, not-answered, both-asked, both-answered, until-asked, until-answered, mode-asked, mode-answered, bind-asked, bind-answered, negate-halts, valid-asked, lent-within, complement-asked, start-asked, negate-answered, first-asked, first-halts, second-asked, joined-asked, joined-answered, part-asked, mode-halts, relation-asked, live-within, over-asked, over-answered, same-depth, Looping, loop-starts, rounds-out, body-asked, body-halts, body-same, body-less, loop-turns}
+use Rattle.evaluator.proofs.Cycle.{leaf-asked, leaf-answered, not-asked, not-answered, both-asked, both-answered, until-asked, until-answered, mode-asked, mode-answered, bind-asked, bind-answered, negate-halts, negate-asked, confined-asked, start-asked, negate-answered, first-asked, first-halts, second-asked, joined-asked, joined-answered, part-asked, mode-halts, relation-asked, live-within, over-asked, over-answered, same-depth, Looping, loop-starts, rounds-out, body-asked, body-halts, body-same, body-less, loop-turns}
 use borrow.Fn.PlainCycle.{Measures}
 use Rattle.evaluator.proofs.+bind+both+eval+keep+modal+negate+round+turn.{statement}
 use Rattle.evaluator.proofs.+bind+both+eval+keep+modal+negate+round+turn.Tie.{close}
@@ -43,7 +43,8 @@ use Rattle.evaluator.proofs.answer.Reads as answer-reads
 use Rattle.evaluator.proofs.further.Reads as further-reads
 use Rattle.evaluator.proofs.joined.Reads as joined-reads
 use Rattle.evaluator.proofs.leaf.Reads as leaf-reads
-use Rattle.modal.proofs.complement.Reads as complement-reads
+use Rattle.evaluator.proofs.confined.Reads as confined-reads
+use Rattle.evaluator.proofs.live_step.Reads as live-step-reads
 use Rattle.evaluator.proofs.onward.Reads as onward-reads
 use Rattle.evaluator.proofs.opened.Reads as opened-reads
 use Rattle.evaluator.proofs.over.Reads as over-reads
@@ -271,10 +272,10 @@ pub +bind+both+eval+keep+modal+negate+round+turn-spec : {M : Type 1} → stateme
     (λ t. negate-lts.spec (
       below eval-kinds.ps μ-eval eval.Pre t,
       eval.Post,
-      root-arrow-reads.Asked,
-      root-arrow-reads.Learnt,
-      complement-reads.Asked,
-      complement-reads.Learnt,
+      live-step-reads.Asked,
+      live-step-reads.Learnt,
+      confined-reads.Asked,
+      confined-reads.Learnt,
       answer-reads.Asked,
       answer-reads.Learnt,
     )
@@ -286,15 +287,13 @@ pub +bind+both+eval+keep+modal+negate+round+turn-spec : {M : Type 1} → stateme
     (λ c. search needs)
     (λ c. search needs)
     (λ c. (negate-halts (c .before .before .before .before .before .before .before .eval .ensures .0) (c .match .keys2), c .before .before .before .before .before .before .before .eval .ensures .1))
-    (λ c κs. valid-asked (c .before .before .before .before .before .before .before .before .before .before .eval .ensures .0) (c .before .before .before .before .before .before .before .before .before .before .eval .kept .1 .1 .0) (c .before .before .part .given .1) (c .before .before .before .before .before .before .before .before .before .before .before .before .before .before .before .before .before .before .pre .1 .0))
-    (λ c. lent-within (c .before .before .before .before .before .before .before .before .before .before .before .before .before .eval .ensures .0) (c .before .before .before .before .before .before .before .before .before .before .before .before .before .eval .kept .1 .1 .0) (c .before .before .before .before .before .part .given .1) (c .before .before .before .before .before .before .before .before .before .before .before .before .before .before .before .before .before .before .before .before .before .pre .1 .0))
-    (λ c. sym (length-take-le _ _ (lent-within (c .before .before .before .before .before .before .before .before .before .before .before .before .before .before .eval .ensures .0) (c .before .before .before .before .before .before .before .before .before .before .before .before .before .before .eval .kept .1 .1 .0) (c .before .before .before .before .before .before .part .given .1) (c .before .before .before .before .before .before .before .before .before .before .before .before .before .before .before .before .before .before .before .before .before .before .pre .1 .0))))
-    (λ c κs. (complement-asked (c .before .before .before .before .before .before .before .before .before .before .before .before .before .before .eval .ensures .0) (c .before .before .before .before .before .before .before .before .before .before .before .before .before .before .eval .kept .1 .1 .0) (c .before .before .before .before .before .before .part .given .1) (c .before .before .before .root-arrow .result) (c .before .before .before .root-arrow .ensures) (c .before .before .before .before .before .before .before .before .before .before .before .before .before .before .before .before .before .before .before .before .before .before .pre .1 .0), c .before .before .before .before .before .before .before .before .before .before .before .before .before .before .eval .ensures .1))
+    (λ c κs. (negate-asked (c .before .before .before .before .before .before .before .before .before .before .before .before .eval .ensures .0) (c .before .before .before .before .before .before .before .before .before .before .before .before .eval .kept .1 .1 .0) (c .before .before .before .before .part .given .1) (c .before .before .before .before .before .before .before .before .before .before .before .before .before .before .before .before .before .before .before .before .pre .1 .0), c .before .before .before .before .before .before .before .before .before .before .before .before .eval .ensures .1))
+    (λ c κs. (confined-asked (c .before .before .before .before .before .before .before .before .before .before .before .before .before .before .before .before .before .before .before .before .eval .ensures .0) (c .before .before .before .before .before .before .before .before .before .before .before .before .before .before .before .before .before .before .before .before .eval .kept .1 .1 .0) (c .before .before .before .before .before .before .before .before .before .before .before .before .part .given .1) (c .before .before .before .before .before .before .before .live-step .ensures .0) (c .before .before .before .before .before .before .before .before .before .before .before .before .before .before .before .before .before .before .before .before .before .before .before .before .before .before .before .before .pre .1 .0), c .before .before .before .before .before .before .before .live-step .ensures .1))
     (λ c κs. search needs)
-    (λ c. c .before .before .before .before .before .complement .kept .0 ∙ c .before .before .before .before .before .before .before .before .before .before .before .before .before .before .before .before .before .before .before .before .eval .kept .0)
-    (λ c. c .before .before .before .before .before .complement .kept .1 .0 ∙ c .before .before .before .before .before .before .before .before .before .before .before .before .before .before .before .before .before .before .before .before .eval .kept .1 .0)
+    (λ c. c .before .before .before .before .before .confined .kept .0 ∙ c .before .before .before .before .before .before .before .before .before .before .before .before .before .live-step .kept .0 ∙ c .before .before .before .before .before .before .before .before .before .before .before .before .before .before .before .before .before .before .before .before .before .before .before .before .before .before .eval .kept .0)
+    (λ c. c .before .before .before .before .before .confined .kept .1 .0 ∙ c .before .before .before .before .before .before .before .before .before .before .before .before .before .live-step .kept .1 .0 ∙ c .before .before .before .before .before .before .before .before .before .before .before .before .before .before .before .before .before .before .before .before .before .before .before .before .before .before .eval .kept .1 .0)
     (λ c. search needs)
-    (λ c. (negate-answered (c .before .before .before .before .before .before .before .before .before .before .before .before .before .before .before .before .before .before .before .before .eval .ensures .0) (c .before .before .before .before .before .before .before .before .before .before .before .before .before .before .before .before .before .before .before .before .eval .kept .1 .1 .0) (c .before .before .before .before .before .before .before .before .before .before .before .before .part .given .1) (c .before .before .before .before .before .before .before .before .before .root-arrow .result) (c .before .before .before .before .before .before .before .before .before .root-arrow .ensures) (c .before .before .before .before .before .complement .ensures .0) (c .answer .ensures), c .before .before .before .before .before .complement .ensures .1)))
+    (λ c. (negate-answered (c .before .before .before .before .before .before .before .before .before .before .before .before .before .before .before .before .before .before .before .before .before .before .before .before .before .before .eval .ensures .0) (c .before .before .before .before .before .before .before .before .before .before .before .before .before .before .before .before .before .before .before .before .before .before .before .before .before .before .eval .kept .1 .1 .0) (c .before .before .before .before .before .before .before .before .before .before .before .before .before .before .before .before .before .before .part .given .1) (c .before .before .before .before .before .before .before .before .before .before .before .before .before .live-step .ensures .0) (c .before .before .before .before .before .confined .ensures .0) (c .answer .ensures), c .before .before .before .before .before .confined .ensures .1)))
     (λ t. round-lts.spec (
       below eval-kinds.ps μ-eval eval.Pre t,
       eval.Post,

@@ -1,9 +1,6 @@
 -- `evaluate_set` meets its contract: after forgetting, the table holds the scene of its own book. Assumes nothing.
 use mathlib.Core.Path.{refl}
-use Rattle.evaluator.proofs.Starts.{set-begins, set-asks, set-ends}
-use Rattle.evaluator.proofs.eval.Reads as eval-reads
-use Rattle.counting.proofs.begin.Reads as begin-reads
-use Rattle.memory.proofs.forget.Reads as forget-reads
+use Rattle.evaluator.proofs.Starts.{asks-at, ends-at, set-begins, set-asks, set-ends}
 use borrow.Author.Needs.{needs}
 use Rattle.evaluator.proofs.evaluate_set.Statement.{statement}
 use Rattle.evaluator.proofs.evaluate_set.Tie as tie
@@ -17,8 +14,9 @@ evaluate-set-spec =
     (λ c κs. search needs)
     (λ c. search needs)
     (λ c κs. (set-begins (c .before .before .before .before .before .before .before .before .pre) (c .before .before .before .before .forget .ensures), refl))
+    (λ c κs. search needs)
     (λ c. search needs)
     (λ c. search needs)
-    (λ c κs. (set-asks (c .before .before .before .before .before .before .before .before .before .before .before .before .before .pre) (c .before .before .before .before .before .before .before .before .before .forget .ensures), c .before .before .before .before .begin .ensures))
+    (λ c κs. (asks-at (c .before .before .before .starting .ensures) (set-asks (c .before .before .before .before .before .before .before .before .before .before .before .before .before .before .pre) (c .before .before .before .before .before .before .before .before .before .before .forget .ensures)), c .before .before .before .before .before .begin .ensures))
     (λ c. search needs)
-    (λ c. set-ends (c .before .before .before .before .before .before .before .before .before .before .before .before .before .before .before .before .before .before .pre) (c .before .before .before .before .before .before .before .before .before .before .before .before .before .before .forget .ensures) (c .before .before .before .before .eval .ensures .0)))
+    (λ c. set-ends (c .before .before .before .before .before .before .before .before .before .before .before .before .before .before .before .before .before .before .before .pre) (c .before .before .before .before .before .before .before .before .before .before .before .before .before .before .before .forget .ensures) (ends-at (c .before .before .before .before .before .before .before .before .starting .ensures) (c .before .before .before .before .eval .ensures .0))))

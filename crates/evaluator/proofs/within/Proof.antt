@@ -1,13 +1,13 @@
 -- `within` meets its contract: AND with V, SHIFT of V and AND with that are one chain of steps. Assumes nothing.
-use Rattle.pairs.proofs.Steps.{first-asks, within-full, shift-asks, shift-full, last-asks, within-ends}
+use Rattle.evaluator.proofs.Inside.{first-asks, within-full, shift-asks, shift-full, last-asks, within-ends}
 use Rattle.evaluator.proofs.State.{valid-asks}
 use native.Mathlib.Omega.{arith}
 use mathlib.Core.Path.{_∙_}
 use borrow.Author.Needs.{needs}
-use Rattle.pairs.proofs.within.Statement.{statement}
-use Rattle.pairs.proofs.within.Tie as tie
-use Rattle.pairs.proofs.within.Reads as reads
-use Rattle.pairs.proofs.within.Lts as lts
+use Rattle.evaluator.proofs.within.Statement.{statement}
+use Rattle.evaluator.proofs.within.Tie as tie
+use Rattle.evaluator.proofs.within.Reads as reads
+use Rattle.evaluator.proofs.within.Lts as lts
 
 pub within-spec : {M : Type 1} → statement M
 within-spec =

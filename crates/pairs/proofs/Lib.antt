@@ -1,3 +1,0 @@
--- Modules that belong to no one function.
-pub mod Steps
-pub mod Cycle
