@@ -20,7 +20,8 @@ use Rattle.accounts.specs.Listed.{none as noAccount}
 use Rattle.accounts.specs.Terms.{termsOf, lent, named, rowsUnder, roundsUnder}
 use Rattle.accounts.specs.declared.Count.{Count}
 use Rattle.accounts.specs.Count.{nothing}
-use Rattle.book.specs.Ticks.{ticks, pairTicks, relationTicks, Verdict, counted, full, spent}
+use Rattle.book.specs.Ticks.{ticks, relationTicks, Verdict, counted, full, spent}
+use Rattle.book.specs.Over.{states, pairs}
 use Rattle.book.specs.Larger.{verdict-more}
 use Rattle.book.specs.Book.{formulaIn, Book, fresh, freshFits, freshNumber, Call, relation, set, valid, clear, collect, Question, node, member, count, Answer, registers, relations, modelOf, liveOf, unfilled, checks, Done, refuse, ended, relationDone, setDone, validDone, relationSteps, setSteps, validSteps, passing, does, play, answer}
 use Rattle.book.specs.Stored.{none-some, range-cases, set-cases, relation-cases, valid-cases}
@@ -106,7 +107,7 @@ module _ (M : ℕ) where
       (same-test (named acc) _ _ (refuse b 14) (refuse B 14) 13
       (same-passing b B (checks b Set bs) (setSteps b acc r R f) (setSteps B acc′ r R′ f)
       (same-ended b B _ _ (λ q. setDone b r (means (modelOf b) noEnv f) q) (λ q. setDone B r (means (modelOf b) noEnv f) q)
-      (λ q e. verdict-more (rowsUnder (b .N) acc) (rowsUnder M acc′) (roundsUnder R acc) (roundsUnder R′ acc′) (omega arith) (omega arith) nothing (ticks (modelOf b) noEnv (liveOf b) f) q e) (λ q. refl))) refl) refl z
+      (λ q e. verdict-more (rowsUnder (b .N) acc) (rowsUnder M acc′) (roundsUnder R acc) (roundsUnder R′ acc′) (omega arith) (omega arith) nothing (ticks (states (modelOf b) noEnv) (liveOf b) f) q e) (λ q. refl))) refl) refl z
       in
       subst (λ (t : Bool). Same (does b (set acc r R bs)) (due t)) (sym (named-same acc acc′ e)) fed
   does-more b l (a-valid bs) z =
@@ -114,7 +115,7 @@ module _ (M : ℕ) where
       let B = withRowCount b M in
       same-test (unfilled b) _ _ (refuse b 13) (refuse B 13) 12
       (same-passing b B (checks b Valid bs) (validSteps b f) (validSteps B f)
-      (same-ended b B _ _ (λ q. validDone b f) (λ q. validDone B f) (λ q e. verdict-more (b .N) M 0 0 l (omega arith) nothing (pairTicks (b .n) (liveOf b) f) q e) (λ q. refl))) refl z
+      (same-ended b B _ _ (λ q. validDone b f) (λ q. validDone B f) (λ q e. verdict-more (b .N) M 0 0 l (omega arith) nothing (ticks (pairs (b .n)) (liveOf b) f) q e) (λ q. refl))) refl z
   does-more b l (a-clear r) z = same-test (ltb r registers) _ _ (refuse b 3) (refuse (withRowCount b M) 3) 2 (λ _. refl) refl z
   does-more b l a-collect z = refl
 
