@@ -14,7 +14,6 @@ use Rattle.layout.proofs.row_of.Reads as row-of-reads
 use Rattle.soundness.proofs.marked.Reads as marked-reads
 use Rattle.stages.proofs.shade_row.Reads as shade-row-reads
 
-
 pub shade-spec : {M : Type 1} → statement M
 shade-spec =
     tie.close
