@@ -1,16 +1,16 @@
 -- A look at the EXISTS left: the counts of a survey that began with no bit bound their needs. Assumes nothing.
-use mathlib.Core.Path.{_≡_, refl, sym, ap, _∙_, subst}
+use mathlib.Core.Path.{_≡_, refl, sym, subst}
 use mathlib.Core.Logic.{_⊎_, inl, inr, ⊎-elim}
 use mathlib.Core.List.{List, [], _++_, map, List·Memᴰ as Mem, List·Memᴰ·not-nil as mem-nil, List·Memᴰ·append-cases as append-cases, Memᴰ·append-left as append-left, Memᴰ·append-right as append-right, Memᴰ·map as mem-map, Memᴰ·of-map as mem-of-map}
-use Prim.Native.Nat.{ℕ, zero, suc, _+_, _*_, _≤_, _<_}
+use Prim.Native.Nat.{ℕ, zero, suc, _+_, _*_, _≤_}
 use native.Mathlib.Omega.{arith}
 use lib.ListN.{length, replicate, length-replicate}
-use Rattle.diagram.specs.Rows.{Rows, target, Leads, row, Arrow, den, WellFormed, row-leads}
+use Rattle.diagram.specs.Rows.{Rows, target, Leads, row, den, row-leads}
 use Rattle.diagram.specs.Count.{pigeonhole}
 use Rattle.diagram.specs.Reach.{Reach, root, by-low, by-high, Reached, ReachedTo}
 use Rattle.diagram.specs.Keep.{reach-within}
 use Rattle.diagram.specs.Post.{Denotes}
-use Rattle.diagram.specs.Odd.{oddF, Follows}
+use Rattle.diagram.specs.Odd.{oddF}
 use Rattle.diagram.specs.OddLaws.{odd-constant}
 use Rattle.diagram.specs.Tally.{Surveyed, Shadowed, CoveredBy}
 use Rattle.diagram.specs.Bounds.{Evens}
@@ -25,7 +25,7 @@ use Rattle.collect.specs.Lent.{live}
 use Rattle.steps.specs.Steps.{live-arrows}
 use Rattle.operations.specs.Work.{ready-wf}
 use Rattle.counting.specs.Counts.{LiveMarked}
-use Rattle.stages.specs.Left.{LeftFits, LookPre, LookPost}
+use Rattle.stages.specs.Left.{LeftFits, LookPre}
 use Rattle.stages.specs.Levels.{LEVELS, MOST, countOf, Levels, AllWithin}
 use Rattle.stages.specs.Shades.{Shades, shades-none}
 use Rattle.stages.specs.Surveys.{ARROW-WORDS, Surveys, SurveyPre, SurveyPost, surveys-none, arrow-most}

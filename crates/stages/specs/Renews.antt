@@ -1,11 +1,10 @@
 -- What `renew` asks, and its steps: rows are only added. Assumes nothing.
-use mathlib.Core.Path.{_≡_, refl, ap, subst, _∙_}
+use mathlib.Core.Path.{_≡_, subst, _∙_}
 use mathlib.Core.Bool.{true}
 use mathlib.Core.List.{List}
-use Prim.Native.Nat.{ℕ, _+_, _*_, _≤_, _<_}
-use native.Mathlib.Omega.{arith}
+use Prim.Native.Nat.{ℕ, _*_, _≤_, _<_}
 use lib.ListN.{length}
-use Rattle.diagram.specs.Rows.{target, Arrow}
+use Rattle.diagram.specs.Rows.{Arrow}
 use Rattle.diagram.specs.Grow.{arrow-extends}
 use Rattle.layout.specs.Places.{wordsFor}
 use Rattle.layout.specs.View.{View}

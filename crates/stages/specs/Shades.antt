@@ -1,14 +1,14 @@
 -- The shadow in a bitmap, counted by level: the rows that are marked beside those that the roots reach. What `shade` asks and leaves.
 -- Assumes nothing.
-use mathlib.Core.Path.{_≡_, refl, sym, ap, _∙_, subst}
+use mathlib.Core.Path.{_≡_, sym, ap, _∙_, subst}
 use mathlib.Core.Logic.{_⊎_, inl, inr, ⊎-elim, by-cases}
-use mathlib.Core.Bool.{Bool, true, false, true≢false}
+use mathlib.Core.Bool.{true, false, true≢false}
 use mathlib.Core.List.{List, [], _∷_, List·Memᴰ as Mem, List·Memᴰ·head as here, List·Memᴰ·tail as there, List·Memᴰ·cases-cons as mem-cases, List·Memᴰ·not-nil as mem-nil}
-use Prim.Native.Nat.{ℕ, zero, suc, _+_, _*_, _≤_, _<_}
+use Prim.Native.Nat.{ℕ, suc, _+_, _*_, _≤_, _<_}
 use native.Mathlib.Decide.{ℕ-discrete}
 use native.Mathlib.Omega.{arith}
 use lib.ListN.{length}
-use Rattle.diagram.specs.Rows.{Rows, target, Leads, Arrow, WellFormed, leads-used}
+use Rattle.diagram.specs.Rows.{Rows, Arrow, WellFormed, leads-used}
 use Rattle.diagram.specs.Count.{NoDup, pigeonhole}
 use Rattle.diagram.specs.Reach.{Reach, low-apart, high-apart}
 use Rattle.diagram.specs.Survey.{Shade, Dim, bump, shade-none, shade-add}
@@ -94,16 +94,19 @@ module _ {W : View} {dark deep : List ℕ} {b : ℕ} (p : ShadePre W dark deep b
   pub shade-in : i < 32 * MARK-WORDS
   shade-in = let r = at-row .row in let z = p .good .sizes .N-max in omega (arith, r, z)
 
-  pub shade-low : {t x : ℕ} → depth W b ≡ t → x ≡ rowsOf W .low i → (depth W x < t) × ShadePre W dark deep x
+  -- the measures are 2 d for the work on a row and 2 d + 1 for any arrow
+  pub shade-low : {t x : ℕ} → 2 * depth W b ≡ t → x ≡ rowsOf W .low i → (2 * depth W x + 1 < t) × ShadePre W dark deep x
   shade-low {t} q z =
-      subst (λ (y : ℕ). (depth W y < t) × ShadePre W dark deep y) (sym z)
-      (subst (λ (k : ℕ). depth W (rowsOf W .low i) < k) q (at-row .low-less), shade-at p (at-row .low .arrow))
+      let l = at-row .low-less in
+      subst (λ (y : ℕ). (2 * depth W y + 1 < t) × ShadePre W dark deep y) (sym z)
+      (subst (λ (k : ℕ). 2 * depth W (rowsOf W .low i) + 1 < k) q (omega (arith, l)), shade-at p (at-row .low .arrow))
 
-  pub shade-high : {dark′ deep′ : List ℕ} {t x y : ℕ} → depth W b ≡ t → ShadePost (rowsOf W) dark dark′ deep deep′ x → length dark′ ≡ length dark → length deep′ ≡ length deep
-      → y ≡ rowsOf W .high i → (depth W y < t) × ShadePre W dark′ deep′ y
+  pub shade-high : {dark′ deep′ : List ℕ} {t x y : ℕ} → 2 * depth W b ≡ t → ShadePost (rowsOf W) dark dark′ deep deep′ x → length dark′ ≡ length dark → length deep′ ≡ length deep
+      → y ≡ rowsOf W .high i → (2 * depth W y + 1 < t) × ShadePre W dark′ deep′ y
   shade-high {dark′} {deep′} {t} q lo em ed z =
-      subst (λ (y : ℕ). (depth W y < t) × ShadePre W dark′ deep′ y) (sym z)
-      (subst (λ (k : ℕ). depth W (rowsOf W .high i) < k) q (at-row .high-less), shade-next p em ed lo (at-row .high .arrow))
+      let l = at-row .high-less in
+      subst (λ (y : ℕ). (2 * depth W y + 1 < t) × ShadePre W dark′ deep′ y) (sym z)
+      (subst (λ (k : ℕ). 2 * depth W (rowsOf W .high i) + 1 < k) q (omega (arith, l)), shade-next p em ed lo (at-row .high .arrow))
 
 -- arrows 0 and 1, and rows that are marked, add nothing
 pub shade-constant : (rows : Rows) (dark deep : List ℕ) (b : ℕ) → isRow b ≡ false → ShadePost rows dark dark deep deep b

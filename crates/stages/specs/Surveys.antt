@@ -1,5 +1,5 @@
 -- The arrows that are followed from one, in a bitmap with a bit for each arrow, counted by level. What `survey` asks and leaves. Assumes nothing.
-use mathlib.Core.Path.{_≡_, refl, sym, ap, _∙_, subst}
+use mathlib.Core.Path.{_≡_, refl, sym, _∙_, subst}
 use mathlib.Core.Logic.{_⊎_, inl, inr, ⊎-elim, by-cases}
 use mathlib.Core.Bool.{Bool, true, false, true≢false}
 use mathlib.Core.List.{List, [], _∷_, List·Memᴰ as Mem, List·Memᴰ·head as here, List·Memᴰ·tail as there, List·Memᴰ·cases-cons as mem-cases, List·Memᴰ·not-nil as mem-nil}
@@ -24,7 +24,7 @@ use Rattle.soundness.specs.Sound.{Good}
 use Rattle.table.specs.declared.Found.{Found}
 use Rattle.table.specs.declared.Found.the-variants as find
 use Rattle.operations.specs.Work.{Ready, ready-wf}
-use Rattle.operations.specs.Open.{RowIs, RowAt, Opened, depth, row-at, opened, low-falls, high-falls}
+use Rattle.operations.specs.Open.{RowIs, RowAt, Opened, depth, row-at, opened, part-falls, low-falls, high-falls}
 use Rattle.operations.specs.Odd.{OddKnown}
 use Rattle.stages.specs.Levels.{LEVELS, MOST, countOf, OneMore, one-more-le}
 use Rattle.stages.specs.Shades.{Shades, ShadePre, ShadePost, shade-at, shade-next}
@@ -151,10 +151,11 @@ module _ {m N : ℕ} {W : View} {s₀ a₀ k₀ d₀ : List ℕ} {a i : ℕ} (p 
     open-at : Opened m (rowsOf W) a i l lo hi
     open-at = opened (ready-wf (p .ready)) at-row n
 
-    -- then the two arrows that are followed from it, first the low one
-    pub low-asks : {t : ℕ} → depth m (rowsOf W) a ≡ t → length k₁ ≡ length k₀ → length d₁ ≡ length d₀ → (depth m (rowsOf W) lo < t) × SurveyPre m N W s₀ a₀ k₁ d₁ lo
+    -- then the two arrows that are followed from it, first the low one: the measures are 2 d for the work on a row and 2 d + 1 for any arrow
+    pub low-asks : {t : ℕ} → 2 * depth m (rowsOf W) a ≡ t → length k₁ ≡ length k₀ → length d₁ ≡ length d₀
+        → (2 * depth m (rowsOf W) lo + 1 < t) × SurveyPre m N W s₀ a₀ k₁ d₁ lo
     low-asks q ek ed = (
-      subst (λ (k : ℕ). depth m (rowsOf W) lo < k) q (low-falls open-at),
+      subst (λ (k : ℕ). 2 * depth m (rowsOf W) lo + 1 < k) q (part-falls (depth m (rowsOf W) lo) (depth m (rowsOf W) a) (low-falls open-at)),
       record {
         ready = p .ready;
         seen-size = p .seen-size;
@@ -165,10 +166,10 @@ module _ {m N : ℕ} {W : View} {s₀ a₀ k₀ d₀ : List ℕ} {a i : ℕ} (p 
     )
 
     module _ {s₁ a₁ k₂ d₂ : List ℕ} (low : SurveyPost m (rowsOf W) s₀ s₁ a₀ a₁ k₁ k₂ d₁ d₂ lo) where
-      pub high-asks : {t : ℕ} → depth m (rowsOf W) a ≡ t → length s₁ ≡ length s₀ → length a₁ ≡ length a₀ → length k₂ ≡ length k₀ → length d₂ ≡ length d₀
-          → (depth m (rowsOf W) hi < t) × SurveyPre m N W s₁ a₁ k₂ d₂ hi
+      pub high-asks : {t : ℕ} → 2 * depth m (rowsOf W) a ≡ t → length s₁ ≡ length s₀ → length a₁ ≡ length a₀ → length k₂ ≡ length k₀ → length d₂ ≡ length d₀
+          → (2 * depth m (rowsOf W) hi + 1 < t) × SurveyPre m N W s₁ a₁ k₂ d₂ hi
       high-asks q es ea ek ed = (
-        subst (λ (k : ℕ). depth m (rowsOf W) hi < k) q (high-falls open-at (extends-refl (rowsOf W))),
+        subst (λ (k : ℕ). 2 * depth m (rowsOf W) hi + 1 < k) q (part-falls (depth m (rowsOf W) hi) (depth m (rowsOf W) a) (high-falls open-at (extends-refl (rowsOf W)))),
         record {
           ready = p .ready;
           seen-size = es ∙ p .seen-size;

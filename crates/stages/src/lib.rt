@@ -14,11 +14,13 @@ use soundness::set_mark;
 use table::Code;
 use table::Found;
 ghost use mathlib.Core.Path.{_≡_};
-ghost use mathlib.Core.Bool.{true};
+ghost use mathlib.Core.Bool.{true, false};
 ghost use Prim.Native.Nat.{_*_, _≤_, _<_, min};
 ghost use lib.ListN.{length};
 ghost use Rattle.diagram.specs.Rows.{Arrow};
 ghost use Rattle.layout.specs.View.{view};
+ghost use Rattle.layout.specs.Arrows.{isRow, rowOf};
+ghost use Rattle.soundness.specs.Bits.{isOn};
 ghost use Rattle.layout.specs.Places.{MAX-BITS};
 ghost use Rattle.soundness.specs.Used.{rowsOf};
 ghost use Rattle.soundness.specs.Says.{Says};
@@ -67,12 +69,34 @@ fn shade(words: &[u32], rows: u32, dark: &mut [u32], deep: &mut [u32], b: u32)
     if !is_row(b) {
         return;
     }
-    let i = row_of(b);
-    if marked(dark, i) {
+    if marked(dark, row_of(b)) {
         return;
     }
-    shade(words, rows, dark, deep, get(words, rows, i, Table::LOW));
-    shade(words, rows, dark, deep, get(words, rows, i, Table::HIGH));
+    shade_row(words, rows, dark, deep, b)
+}
+
+// `shade` of an arrow of a row. It is apart, so that it is inlined in `shade_row`: an arrow with nothing to mark costs no call.
+fn shade_part(words: &[u32], rows: u32, dark: &mut [u32], deep: &mut [u32], b: u32)
+    requires { ⌜ ShadePre (view rows (now words)) (now dark) (now deep) b ⌝ }
+    ensures { λ _. ⌜ ShadePost (rowsOf (view rows (now (words .entry)))) (now (dark .entry)) (now (dark .exit)) (now (deep .entry)) (now (deep .exit)) b ⌝ }
+{
+    if !is_row(b) {
+        return;
+    }
+    if marked(dark, row_of(b)) {
+        return;
+    }
+    shade_row(words, rows, dark, deep, b)
+}
+
+// `shade` of an arrow to a row that is not marked.
+fn shade_row(words: &[u32], rows: u32, dark: &mut [u32], deep: &mut [u32], b: u32)
+    requires { ⌜ ShadePre (view rows (now words)) (now dark) (now deep) b × (isRow b ≡ true) × (isOn (now dark) (rowOf b) ≡ false) ⌝ }
+    ensures { λ _. ⌜ ShadePost (rowsOf (view rows (now (words .entry)))) (now (dark .entry)) (now (dark .exit)) (now (deep .entry)) (now (deep .exit)) b ⌝ }
+{
+    let i = row_of(b);
+    shade_part(words, rows, dark, deep, get(words, rows, i, Table::LOW));
+    shade_part(words, rows, dark, deep, get(words, rows, i, Table::HIGH));
     set_mark(dark, i);
     count_one(deep, get(words, rows, i, Table::LEVEL));
 }
@@ -98,16 +122,56 @@ fn survey(
     if marked(seen, a) {
         return true;
     }
+    survey_row(words, rows, levels, seen, above, dark, deep, a)
+}
+
+// `survey` of an arrow that is followed. It is apart, so that it is inlined in `survey_row`: an arrow that is done with costs no call.
+fn survey_part(
+    words: &[u32],
+    rows: u32,
+    levels: u32,
+    seen: &mut [u32],
+    above: &mut [u32],
+    dark: &mut [u32],
+    deep: &mut [u32],
+    a: u32,
+) -> bool
+    requires { ⌜ SurveyPre levels rows (view rows (now words)) (now seen) (now above) (now dark) (now deep) a ⌝ }
+    ensures { λ r. ⌜ (r ≡ true → SurveyPost levels (rowsOf (view rows (now (words .entry)))) (now (seen .entry)) (now (seen .exit)) (now (above .entry)) (now (above .exit)) (now (dark .entry)) (now (dark .exit)) (now (deep .entry)) (now (deep .exit)) a) ⌝ }
+{
+    if !is_row(a) {
+        return true;
+    }
+    if marked(seen, a) {
+        return true;
+    }
+    survey_row(words, rows, levels, seen, above, dark, deep, a)
+}
+
+// `survey` of an arrow to a row that is not done with.
+fn survey_row(
+    words: &[u32],
+    rows: u32,
+    levels: u32,
+    seen: &mut [u32],
+    above: &mut [u32],
+    dark: &mut [u32],
+    deep: &mut [u32],
+    a: u32,
+) -> bool
+    requires { ⌜ SurveyPre levels rows (view rows (now words)) (now seen) (now above) (now dark) (now deep) a × (isRow a ≡ true) × (isOn (now seen) a ≡ false) ⌝ }
+    ensures { λ r. ⌜ (r ≡ true → SurveyPost levels (rowsOf (view rows (now (words .entry)))) (now (seen .entry)) (now (seen .exit)) (now (above .entry)) (now (above .exit)) (now (dark .entry)) (now (dark .exit)) (now (deep .entry)) (now (deep .exit)) a) ⌝ }
+{
     let known = odd_known(words, rows, levels, a);
     let Found::At(b) = known else {
         return false;
     };
     shade(words, rows, dark, deep, b);
     let n = node_at(words, rows, a, row_of(a));
-    if !survey(words, rows, levels, seen, above, dark, deep, n.low) {
+    if !survey_part(words, rows, levels, seen, above, dark, deep, n.low) {
         return false;
     }
-    if !survey(words, rows, levels, seen, above, dark, deep, n.high) {
+    if !survey_part(words, rows, levels, seen, above, dark, deep, n.high) {
         return false;
     }
     set_mark(seen, a);

@@ -1,11 +1,11 @@
 -- `renew` meets its contract: rows are only added, and 2n minus the level falls. Assumes nothing.
 use borrow.Author.Needs.{needs}
-use mathlib.Core.Path.{refl, sym, _∙_}
+use mathlib.Core.Path.{_∙_}
 use native.Mathlib.Omega.{arith}
 use Rattle.layout.specs.View.{view}
 use Rattle.soundness.specs.Used.{rowsOf}
 use Rattle.operations.specs.Open.{depth}
-use Rattle.soundness.specs.Says.{test-yes, test-no}
+use Rattle.soundness.specs.Says.{test-yes}
 use Rattle.stages.specs.Renews.{renew-in, renew-none, renew-row, renew-low, renew-high, renew-asks, renew-last}
 use Prim.Native.Nat.{ℕ, _<_}
 use borrow.Fn.Kinds.{In}
