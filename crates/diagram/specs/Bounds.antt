@@ -171,6 +171,23 @@ module _ {m N : ℕ} {rows : Rows} (wf : WellFormed m N rows) where
         ⊎-elim (λ q. inl q) (λ q. inr (inr q))
         (told-deep (x .arrow) j k z ek ez (x .follows) (x .is-arrow) (x .reads) g (record { upto = c .upto; fixed = c .fixed; same = x .same }) y))
 
+    -- One stage beside functions that are needed already.
+    pub stage-more : (d j k z : ℕ) → d + j ≡ i → k ≤ 2 * suc j → m ≤ k + z
+        → need m (existsFrom d j (den m rows a) ∷ fs) ≤ need m fs + (sumTo above (suc (2 * j)) + sumFrom deep k z)
+    stage-more d j k z ed ek ez =
+        let hs = existsFrom d j (den m rows a) ∷ fs in
+        let xs = classes m fs in
+        let ys = aboveTabs d j in
+        let zs = deepTabs k z in
+        let all = need-within m hs (xs ++ (ys ++ zs)) (λ h g mh c y.
+        ⊎-elim (λ e. ⊎-elim (λ x. mem-left {s = xs} (ys ++ zs) x)
+        (λ q. mem-right xs (⊎-elim (λ x. mem-left {s = ys} zs x) (λ x. mem-right ys x) q))
+        (told d j k z ed ek ez g (subst (λ f. CofactorOf f g) e c) y))
+        (λ mf. mem-left {s = xs} (ys ++ zs) (mem-needed fs mf (rooted .reads h mf) (part-cofactor c) y))
+        (mem-cases mh))
+        in
+        omega (arith, all, need-length m fs, length-append xs (ys ++ zs), length-append ys zs, length-map (listTo (s .arrows) (suc (2 * j))) (stageOf d j), length-map (listFrom (t .shadow) k z) (tab wf), length-listTo (s .arrows) above (s .counted) (suc (2 * j)), length-listFrom (t .shadow) deep (t .counted) k z)
+
     -- B1: two neighbouring stages beside functions that are needed already.
     pub stage-two : (d j z : ℕ) → suc d + j ≡ i → m ≤ 2 * suc j + z
         → need m (existsFrom (suc d) j (den m rows a) ∷ existsFrom d (suc j) (den m rows a) ∷ fs)

@@ -34,6 +34,23 @@ fn quantify(
     let mut total = count;
     let mut left = limits.bits;
     while 0 < left {
+        let found = rest(
+            words,
+            counts,
+            limits.rows,
+            limits.bits,
+            limits.limit,
+            roots,
+            c,
+            left,
+            total.peak,
+        );
+        if let Found::At(r) = found {
+            return Taken::At {
+                arrow: r,
+                count: total,
+            };
+        }
         left -= 1;
         let step = Step::Exists(2 * left + 1, c);
         let Taken::At {
@@ -54,23 +71,6 @@ fn quantify(
         };
         c = d;
         total = more;
-        let found = rest(
-            words,
-            counts,
-            limits.rows,
-            limits.bits,
-            limits.limit,
-            roots,
-            c,
-            left,
-            total.peak,
-        );
-        if let Found::At(r) = found {
-            return Taken::At {
-                arrow: r,
-                count: total,
-            };
-        }
     }
     Taken::At {
         arrow: c,
