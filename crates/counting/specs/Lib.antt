@@ -5,3 +5,4 @@ pub mod Taken
 pub mod Begin
 pub mod Bound
 pub mod Peak
+pub mod After

@@ -248,7 +248,7 @@ fn joined(
     answer(taken, end)
 }
 
-// The states of V in which current bit p holds: the step of the bit, and AND with V.
+// The states of V in which current bit p holds: the step of the bit, and AND with V. Where V is every state, that answers and needs the same.
 fn current_bit(
     words: &mut [u32],
     counts: &mut [u32],
@@ -269,6 +269,12 @@ fn current_bit(
         return Taken::Full;
     };
     let valid = root_arrow(words, Table::VALID);
+    if valid == Table::EVERYTHING {
+        return Taken::At {
+            arrow: b,
+            count: first,
+        };
+    }
     live_step(
         words,
         counts,

@@ -2,6 +2,7 @@
 use accounts::Count;
 use counting::Taken;
 use counting::take;
+use layout::Table;
 use stages::rest;
 use steps::Step;
 use table::Found;
@@ -127,7 +128,7 @@ pub fn diamond(
     quantify(words, counts, limits, roots, c, second)
 }
 
-// NOT of an arrow within V, the states that exist: the step NOT, and AND with V.
+// NOT of an arrow within V, the states that exist: the step NOT, and AND with V. Where V is every state, that answers and needs the same.
 pub fn complement(
     words: &mut [u32],
     counts: &mut [u32],
@@ -157,6 +158,12 @@ pub fn complement(
     else {
         return Taken::Full;
     };
+    if valid == Table::EVERYTHING {
+        return Taken::At {
+            arrow: b,
+            count: first,
+        };
+    }
     take(
         words,
         counts,
