@@ -22,13 +22,13 @@ ghost use Rattle.diagram.specs.Rows.{Rows, Arrow};
 ghost use Rattle.layout.specs.View.{view};
 ghost use Rattle.layout.specs.Arrows.{isRow, rowOf};
 ghost use Rattle.soundness.specs.Bits.{isOn};
-ghost use Rattle.layout.specs.Places.{MAX-BITS};
+ghost use Rattle.layout.specs.Places.{MAX-BITS, MAX-ROWS};
 ghost use Rattle.soundness.specs.Used.{rowsOf};
 ghost use Rattle.soundness.specs.Says.{Says};
 ghost use Rattle.diagram.specs.Tally.{sumTo};
 ghost use Rattle.operations.specs.Work.{Ready};
 ghost use Rattle.operations.specs.Odd.{Grown};
-ghost use Rattle.counting.specs.Counts.{BaseOf, CountsOf, MarkRoom};
+ghost use Rattle.counting.specs.Counts.{COUNT-WORDS, BaseOf, CountsOf, MarkRoom};
 ghost use Rattle.stages.specs.Left.{SeenBlank, LookPre, LookPost};
 ghost use Rattle.stages.specs.Rest.{RestPre, SurePost, RestPost};
 ghost use Rattle.stages.specs.Levels.{LEVELS, MOST, countOf, OneMore, Levels, AllWithin};
@@ -368,6 +368,19 @@ fn lesser(a: u32, b: u32) -> u32
     b
 }
 
+// Whether the size of arrow a says nothing: before the first EXISTS, of a product that registers and relations reach.
+fn no_size(counts: &[u32], a: u32, left: u32, bits: u32) -> bool
+    requires { ⌜ (length (now counts) ≡ COUNT-WORDS) × (isRow a ≡ true → rowOf a < MAX-ROWS) ⌝ }
+{
+    if left < bits {
+        return false;
+    }
+    if !is_row(a) {
+        return false;
+    }
+    marked(counts, row_of(a))
+}
+
 // The arrow to count a third time: before the first EXISTS, whose results are often larger, arrow a, else none.
 fn third_of(a: u32, left: u32, bits: u32) -> u32
     ensures { λ r. ⌜ ((rs : Rows) → Arrow rs a → Arrow rs r) ⌝ }
@@ -394,7 +407,10 @@ pub fn rest(
     ensures { λ r. ⌜ RestPost bits (view rows (now (words .entry))) (view rows (now (words .exit))) (now (roots .entry)) a left (min peak limit) r × CountsOf (view rows (now (words .exit))) (now (counts .exit)) ⌝ }
 {
     let most = lesser(peak, limit);
-    // a guess, that spares the work where the answer is likely to be none
+    // two guesses, that spare the work where the answer is likely to be none
+    if no_size(counts, a, left, bits) {
+        return Found::Nothing;
+    }
     let likely = [a, a, third_of(a, left, bits)];
     if !sizes_within(words, rows, counts, roots, &likely, most) {
         return Found::Nothing;
