@@ -11,7 +11,7 @@ use lib.ListN.{length}
 use Rattle.diagram.specs.Rows.{Rows, Arrow, WellFormed, leads-used}
 use Rattle.diagram.specs.Count.{NoDup, pigeonhole}
 use Rattle.diagram.specs.Reach.{Reach, low-apart, high-apart}
-use Rattle.diagram.specs.Survey.{Shade as AddedSoFar, Dim as Accounted, bump, shade-none as added-none, shade-add as added-more}
+use Rattle.diagram.specs.Survey.{AddedSoFar, Accounted, bump, added-none, added-more}
 use Rattle.layout.specs.Places.{wordsFor, CELLS}
 use Rattle.layout.specs.View.{View}
 use Rattle.layout.specs.Arrows.{isRow, rowOf, row-is}

@@ -12,9 +12,9 @@ use Rattle.diagram.specs.Keep.{reach-within}
 use Rattle.diagram.specs.Post.{Denotes}
 use Rattle.diagram.specs.Odd.{oddF}
 use Rattle.diagram.specs.OddLaws.{odd-constant}
-use Rattle.diagram.specs.Tally.{Surveyed, Shadowed as AddedRows, CoveredBy}
+use Rattle.diagram.specs.Tally.{Surveyed, AddedRows, CoveredBy}
 use Rattle.diagram.specs.Bounds.{Evens}
-use Rattle.diagram.specs.Survey.{Passed, Dim as Accounted, survey-all, survey-done, shade-done as added-done}
+use Rattle.diagram.specs.Survey.{Passed, Accounted, survey-all, survey-done, added-done}
 use Rattle.diagram.specs.Left.{left-counted}
 use Rattle.layout.specs.View.{View}
 use Rattle.soundness.specs.Used.{rowsOf}
