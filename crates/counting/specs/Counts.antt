@@ -7,9 +7,11 @@ use Prim.Native.Nat.{ℕ, zero, suc, _+_, _*_, _/_, _%_, _^_, _≤_, _<_}
 use native.Mathlib.Decide.{ℕ-discrete, decLt}
 use native.Mathlib.Numerals.{add-one}
 use native.Mathlib.Omega.{arith}
+use native.Mathlib.Nat.{zero-div}
+use borrow.Author.Tests.{eqb-true}
 use lib.ListN.{length, getD, set, take, replicate, length-set, List·getD-eq-default}
 use lib.Dec.{eqb}
-use lib.Seq.{take-suc, take-suc-set, take-length, take-set-le, take-take, getD-set-same, getD-set-other, getD-take}
+use lib.Seq.{take-suc, take-suc-set, take-length, length-take-le, take-set-le, take-take, getD-set-same, getD-set-other, getD-take}
 use Rattle.diagram.specs.Rows.{target, Arrow, den, Extends}
 use Rattle.diagram.specs.Count.{pigeonhole}
 use Rattle.diagram.specs.Need.{need}
@@ -20,7 +22,7 @@ use Rattle.layout.specs.Places.{MAX-ROWS, BITS}
 use Rattle.layout.specs.View.{View}
 use Rattle.soundness.specs.Used.{rowsOf}
 use Rattle.soundness.specs.Bits.{MARK-WORDS, isOn, On}
-use Rattle.soundness.specs.Mark.{OnTo, OnArrow, onArrow-le, Closed, closed-reach}
+use Rattle.soundness.specs.Mark.{Base, OnTo, OnArrow, onArrow-le, Closed, closed-reach}
 use Rattle.soundness.specs.Sound.{Sound}
 use Rattle.soundness.specs.Filled.{filled, filled-arrow}
 use Rattle.collect.specs.Lent.{live}
@@ -160,72 +162,106 @@ emptied-counts {W} {c} {d} z p =
       sizes = remembered-none (λ k l. by-cases (decLt k COUNT-WORDS) (z .zeros k l) (λ n. List·getD-eq-default d 0 (let e = b .size in omega (arith, e))));
     }
 
+-- words for marks of a table of N rows, and no more than there are
+pub record MarkRoom (N k : ℕ) : Type 0 where
+  pub enough : N ≤ 32 * k
+  pub most : k ≤ MARK-WORDS
+
+-- few words are enough for few rows, all of them for any table; and what marking asks then
+pub few-room : {N : ℕ} → N ≤ 4096 → MarkRoom N 128
+few-room l = record { enough = l; most = omega arith }
+
+pub all-room : {W : View} → Sound W → MarkRoom (W .rows) MARK-WORDS
+all-room s = record { enough = s .good .sizes .N-max; most = omega arith }
+
+pub room-base : {W : View} {k : ℕ} → Sound W → MarkRoom (W .rows) k → Base W k
+room-base s r = record { words = s .good .sizes .room; rows = s .good .rows; room = r .enough }
+
 -- copying the marks: the first k words
-pub record Copied (c m : List ℕ) (k : ℕ) : Type 0 where
-  pub size : length m ≡ MARK-WORDS
+pub record Copied (c m : List ℕ) (n k : ℕ) : Type 0 where
+  pub size : length m ≡ n
   pub same : take k m ≡ take k c
 
-pub copied-none : {c m : List ℕ} → length m ≡ MARK-WORDS → Copied c m 0
-copied-none e = record { size = e; same = refl }
+pub copied-none : {c m : List ℕ} → Copied c m (length m) 0
+copied-none = record { size = refl; same = refl }
 
-pub copied-more : {c m : List ℕ} {k : ℕ} → k < MARK-WORDS → length c ≡ COUNT-WORDS → Copied c m k → Copied c (set m k (getD c k 0)) (k + 1)
-copied-more {c} {m} {k} l e p = record {
+pub copied-more : {c m : List ℕ} {n k : ℕ} → k < n → n ≤ MARK-WORDS → length c ≡ COUNT-WORDS → Copied c m n k → Copied c (set m k (getD c k 0)) n (k + 1)
+copied-more {c} {m} {n} {k} l h e p = record {
   size = length-set m k (getD c k 0) ∙ p .size;
   same = rw (add-one k) (take-suc-set m k (getD c k 0) (omega (arith, p .size)) ∙ ap (λ (xs : List ℕ). xs ++ getD c k 0 ∷ []) (p .same) ∙ sym (take-suc c k 0 (omega arith)));
 }
 
-pub copied-all : {c m : List ℕ} {k : ℕ} → k ≡ MARK-WORDS → Copied c m k → m ≡ marksOf c
-unfolding marksOf
-copied-all {c} {m} {k} e p = sym (take-length m) ∙ ap (λ (n : ℕ). take n m) (p .size ∙ sym e) ∙ p .same ∙ ap (λ (n : ℕ). take n c) e
+pub copied-all : {c m : List ℕ} {n k : ℕ} → k ≡ n → Copied c m n k → m ≡ take n c
+copied-all {c} {m} {n} {k} e p = sym (take-length m) ∙ ap (λ (x : ℕ). take x m) (p .size ∙ sym e) ∙ p .same ∙ ap (λ (x : ℕ). take x c) e
 
--- the base's marks are closed: what they reach is marked
-module _ {W : View} {c : List ℕ} (p : BaseOf W c) where
-  on-reached : (k : ℕ) → ReachedTo (rowsOf W) (filled W) k → OnTo (marksOf c) k
+-- marks of exactly the rows that registers and relations reach
+pub record BaseMarked (W : View) (m : List ℕ) : Type 0 where
+  pub only : (i : ℕ) → On m i → Reach (rowsOf W) (filled W) i
+  pub all : (i : ℕ) → Reach (rowsOf W) (filled W) i → On m i
+
+-- a mark within the words that were copied, and one beyond them
+mark-copied : (c : List ℕ) (k i : ℕ) → k ≤ MARK-WORDS → i < 32 * k → isOn (take k c) i ≡ isOn (marksOf c) i
+unfolding marksOf isOn
+mark-copied c k i h l = ap (λ (w : ℕ). eqb (w / 2 ^ (i % 32) % 2) 1) (getD-take k c (i / 32) 0 (omega arith) ∙ sym (getD-take MARK-WORDS c (i / 32) 0 (omega arith)))
+
+mark-beyond : (m : List ℕ) (i : ℕ) → 32 * length m ≤ i → On m i → ⊥
+unfolding isOn
+mark-beyond m i l o =
+    let e : getD m (i / 32) 0 / 2 ^ (i % 32) % 2 ≡ 0 = ap (λ (x : ℕ). x / 2 ^ (i % 32) % 2) (List·getD-eq-default m 0 (omega arith)) ∙ ap (λ (x : ℕ). x % 2) (zero-div (2 ^ (i % 32))) in
+    let f : getD m (i / 32) 0 / 2 ^ (i % 32) % 2 ≡ 1 = eqb-true _ _ o in
+    absurd (omega (arith, e, f))
+
+-- the words that are copied have a mark of each row
+pub base-copied : {W : View} {c m : List ℕ} {k : ℕ} → Sound W → BaseOf W c → MarkRoom (W .rows) k → m ≡ take k c → BaseMarked W m
+base-copied {W} {c} {m} {k} s p r e = rw e (record {
+  only = λ i o. by-cases (decLt i (32 * k))
+      (λ l. p .only i (sym (mark-copied c k i (r .most) l) ∙ o))
+      (λ n. absurd (mark-beyond (take k c) i (let e = p .size in let h = r .most in let z = length-take-le k c (omega (arith, e, h)) in omega (arith, n, z)) o));
+  all = λ i q.
+      let l = s .good .rows .bounded i (reach-used (s .good .rows) (filled-arrow s) q) in
+      mark-copied c k i (r .most) (let n = r .enough in omega (arith, l, n)) ∙ p .all i q;
+})
+
+-- such marks are closed: what they reach is marked
+module _ {W : View} {m₀ : List ℕ} (p : BaseMarked W m₀) where
+  on-reached : (k : ℕ) → ReachedTo (rowsOf W) (filled W) k → OnTo m₀ k
   on-reached zero r = tt
   on-reached (suc i) r = p .all i r
 
-  base-closed : Closed (rowsOf W) (marksOf c)
+  base-closed : Closed (rowsOf W) m₀
   base-closed = record {
     low = λ i o. on-reached (target (rowsOf W .low i)) (reached-low (rowsOf W) (filled W) (p .only i o) (rowsOf W .low i) refl);
     high = λ i o. on-reached (target (rowsOf W .high i)) (reached-high (rowsOf W) (filled W) (p .only i o) (rowsOf W .high i) refl);
   }
 
-  base-on : (a : ℕ) → Mem a (filled W) → OnArrow (marksOf c) a
+  base-on : (a : ℕ) → Mem a (filled W) → OnArrow m₀ a
   base-on a h = on-reached (target a) (reached-root (rowsOf W) (filled W) a h)
 
   -- marking from further arrows marks and counts what they and the base reach
-  pub live-marked : {m : List ℕ} {xs : List ℕ} {n : ℕ} → ListNew (rowsOf W) (marksOf c) m xs n → LiveMarked W xs m (getD c NUMBER 0 + n)
-  live-marked {m} {xs} {n} q =
+  pub live-marked : {m : List ℕ} {xs : List ℕ} {b n : ℕ} → Reaches (rowsOf W) (filled W) b → ListNew (rowsOf W) m₀ m xs n → LiveMarked W xs m (b + n)
+  live-marked {m} {xs} {b} {n} c q =
       let rows = rowsOf W in
       let reached : (i : ℕ) → On m i → Reach rows (live W xs) i = λ i o.
       ⊎-elim (λ b. reach-within (λ a j e h. append-left xs h) (p .only i b)) (λ t. reach-on (reached-root rows (live W xs) (t .0) (append-right (filled W) (t .1))) (t .2)) (q .marks .only i o)
       in
       let marked : (i : ℕ) → Reach rows (live W xs) i → On m i = λ i r.
-      closed-reach (q .marks .closed base-closed) (λ a h. ⊎-elim (λ f. onArrow-le (marksOf c) m (q .marks .kept) a (base-on a f)) (λ t. q .marks .has a t) (append-cases (filled W) h)) r
+      closed-reach (q .marks .closed base-closed) (λ a h. ⊎-elim (λ f. onArrow-le m₀ m (q .marks .kept) a (base-on a f)) (λ t. q .marks .has a t) (append-cases (filled W) h)) r
       in
-      let number = subst (λ (k : ℕ). Reaches rows (live W xs) (getD c NUMBER 0 + k)) (q .news .count)
+      let number = subst (λ (k : ℕ). Reaches rows (live W xs) (b + k)) (q .news .count)
       (reaches-more (q .news .rows) (λ a h. append-left xs h) (q .news .once)
       (λ i h. reached i (q .news .marked i h))
       (λ i h r. q .news .unmarked i h (p .all i r))
       (λ i r. ⊎-elim (λ o. inl (p .only i o)) (λ h. inr h) (q .news .all i (marked i r)))
-      (p .number))
+      c)
       in
       record { number = number; only = reached; all = marked }
 
-  pub live-marks : {m₀ m : List ℕ} {xs : List ℕ} {n : ℕ} → m₀ ≡ marksOf c → ListNew (rowsOf W) m₀ m xs n → LiveMarked W xs m (getD c NUMBER 0 + n)
-  live-marks e q = live-marked (rw e at q)
-
-  pub live-reaches : {m : List ℕ} {xs : List ℕ} {n : ℕ} → ListNew (rowsOf W) (marksOf c) m xs n → Reaches (rowsOf W) (live W xs) (getD c NUMBER 0 + n)
-  live-reaches q = live-marked q .number
-
   -- and marking from one arrow, what it reaches beside the base
-  pub outside-counted : {m₀ m : List ℕ} {a n : ℕ} → m₀ ≡ marksOf c → MarksNew (rowsOf W) m₀ m a n → Outside (rowsOf W) (filled W) a n
-  outside-counted {a = a} {n} e k =
-      let q = rw e at k in
-      record {
-        rest = q .news .rows;
-        all = λ i r.
-            ⊎-elim (λ o. inl (p .only i o)) (λ h. inr h)
-            (q .news .all i (closed-reach (q .marks .closed base-closed) (one-root (OnArrow _) (q .marks .has)) r));
-        counted = let l = q .news .count in omega (arith, l);
-      }
+  pub outside-counted : {m : List ℕ} {a n : ℕ} → MarksNew (rowsOf W) m₀ m a n → Outside (rowsOf W) (filled W) a n
+  outside-counted {a = a} {n} q = record {
+    rest = q .news .rows;
+    all = λ i r.
+        ⊎-elim (λ o. inl (p .only i o)) (λ h. inr h)
+        (q .news .all i (closed-reach (q .marks .closed base-closed) (one-root (OnArrow _) (q .marks .has)) r));
+    counted = let l = q .news .count in omega (arith, l);
+  }

@@ -19,6 +19,7 @@ use Rattle.diagram.specs.Step.{same-need}
 use Rattle.layout.specs.Places.{MAX-ROWS, BITS, USED}
 use Rattle.layout.specs.View.{View}
 use Rattle.soundness.specs.Used.{rowsOf}
+use Rattle.soundness.specs.Filled.{filled}
 use Rattle.table.specs.Count.{count-used}
 use Rattle.table.specs.declared.Made.{Made}
 use Rattle.table.specs.declared.Made.the-variants as made
@@ -30,7 +31,7 @@ use Rattle.steps.specs.Clean.{CleanPre, lent, to-live, to-lent}
 use Rattle.steps.specs.Again.{stepped-few}
 use Rattle.steps.specs.declared.Step.{Step}
 use Rattle.counting.specs.News.{ListNew, list-more}
-use Rattle.counting.specs.Counts.{COUNT-WORDS, NUMBER, marksOf, needOf, reaches-le, BaseOf, CountsOf, base-keeps, counts-extends, Emptied, emptied-counts, live-reaches}
+use Rattle.counting.specs.Counts.{COUNT-WORDS, BaseMarked, needOf, reaches-le, BaseOf, CountsOf, base-keeps, counts-extends, Emptied, emptied-counts, live-marked}
 use Rattle.counting.specs.Bound.{WithinPost, need-fewer}
 use Rattle.counting.specs.Taken.{madeIn, Counted}
 use Rattle.counting.specs.declared.Taken.{Taken}
@@ -41,11 +42,11 @@ abbrev pub TakenPost : ℕ → ℕ → ℕ → View → View → List ℕ → Li
 TakenPost m N limit W X roots c s q r = Stepped m N limit W X roots s (madeIn r) × CountsOf X c × Counted m (rowsOf W) (liveAt W roots s) (stepF m (rowsOf W) s) q r
 
 -- the count of what is live, as `count_live` makes it
-pub live-counted : {W : View} {c m₀ m₁ m₂ : List ℕ} {j k : ℕ} (xs ys : List ℕ) → BaseOf W c → m₀ ≡ marksOf c
-    → ListNew (rowsOf W) m₀ m₁ xs j → ListNew (rowsOf W) m₁ m₂ ys k → Reaches (rowsOf W) (live W (xs ++ ys)) (getD c NUMBER 0 + j + k)
-live-counted {W} {c} {j = j} {k} xs ys p e f g =
-    let q : getD c NUMBER 0 + (j + k) ≡ getD c NUMBER 0 + j + k = omega arith in
-    subst (λ (n : ℕ). Reaches (rowsOf W) (live W (xs ++ ys)) n) q (live-reaches p (list-more xs ys (rw e at f) g))
+pub live-counted : {W : View} {m₀ m₁ m₂ : List ℕ} {b j k : ℕ} (xs ys : List ℕ) → BaseMarked W m₀ → Reaches (rowsOf W) (filled W) b
+    → ListNew (rowsOf W) m₀ m₁ xs j → ListNew (rowsOf W) m₁ m₂ ys k → Reaches (rowsOf W) (live W (xs ++ ys)) (b + j + k)
+live-counted {W} {b = b} {j} {k} xs ys p c f g =
+    let q : b + (j + k) ≡ b + j + k = omega arith in
+    subst (λ (n : ℕ). Reaches (rowsOf W) (live W (xs ++ ys)) n) q (live-marked p c (list-more xs ys f g) .number)
 
 pub live-le : {W : View} {xs : List ℕ} {n : ℕ} → FreePre W xs → Reaches (rowsOf W) (live W xs) n → n ≤ MAX-ROWS
 live-le {W} {xs} p r = reaches-le (p .sound) (live-arrows xs (p .sound) (p .arrows)) r

@@ -19,8 +19,8 @@ use table::Made;
 ghost use mathlib.Core.Path.{_≡_};
 ghost use mathlib.Core.Bool.{true, false};
 ghost use mathlib.Core.List.{_++_};
-ghost use Prim.Native.Nat.{max};
-ghost use lib.ListN.{length};
+ghost use Prim.Native.Nat.{_≤_, max};
+ghost use lib.ListN.{length, take};
 ghost use Rattle.layout.specs.View.{view};
 ghost use Rattle.layout.specs.Arrows.{isRow, rowOf};
 ghost use Rattle.soundness.specs.Used.{rowsOf};
@@ -34,7 +34,7 @@ ghost use Rattle.collect.specs.Answers.{FreePre};
 ghost use Rattle.steps.specs.Clean.{CleanPre};
 ghost use Rattle.counting.specs.News.{MarksNew, ListNew};
 ghost use Rattle.counting.specs.Sizes.{placeOf, putSize};
-ghost use Rattle.counting.specs.Counts.{COUNT-WORDS, Blank, marksOf, BaseOf, CountsOf, Emptied, LiveMarked};
+ghost use Rattle.counting.specs.Counts.{COUNT-WORDS, Blank, BaseOf, CountsOf, Emptied, MarkRoom, LiveMarked};
 ghost use Rattle.counting.specs.Bound.{SizePre, SizePost, SumPost, WithinPost};
 ghost use Rattle.counting.specs.Peak.{NotePost};
 ghost use Rattle.counting.specs.Posts.{LivePre, LiveReaches, TakePre, StepCountedIn, TakenIn};
@@ -53,6 +53,14 @@ impl Counts {
     const PAIRS: u32 = 256;
 }
 
+// A table of few rows, whose marks need few words: to clear as many as the largest table needs would cost more than most of the work on it.
+pub struct Few;
+
+impl Few {
+    pub const ROWS: u32 = 4096;
+    pub const MARKS: usize = 128;
+}
+
 // What a step answers: the arrow of its result and the count with its need, or that the rows ran out.
 pub enum Taken {
     At { arrow: u32, count: Count },
@@ -69,13 +77,13 @@ pub fn begin(words: &[u32], rows: u32, counts: &mut [u32])
     counts[Counts::NUMBER] = number;
 }
 
-// Copies the marks of the base.
+// Copies as many words of the base's marks as `marks` has.
 fn copy_marks(counts: &[u32], marks: &mut [u32])
-    requires { ⌜ (length (now counts) ≡ COUNT-WORDS) × (length (now marks) ≡ MARK-WORDS) ⌝ }
-    ensures { λ _. ⌜ now (marks .exit) ≡ marksOf (now (counts .entry)) ⌝ }
+    requires { ⌜ (length (now counts) ≡ COUNT-WORDS) × (length (now marks) ≤ MARK-WORDS) ⌝ }
+    ensures { λ _. ⌜ now (marks .exit) ≡ take (length (now (marks .entry))) (now (counts .entry)) ⌝ }
 {
     let mut k = 0;
-    while k < Bitmap::WORDS {
+    while k < marks.len() {
         marks[k] = counts[k];
         k += 1;
     }
@@ -145,17 +153,38 @@ pub fn mark_live(words: &[u32], rows: u32, counts: &[u32], roots: &[u32], marks:
     base + list_new(words, rows, marks, roots)
 }
 
+// How many rows registers, relations and two lists of further arrows reach, with words for the marks.
+fn count_marking(words: &[u32], rows: u32, counts: &[u32], marks: &mut [u32], roots: &[u32], more: &[u32]) -> u32
+    requires { ⌜ FreePre (view rows (now words)) (now roots ++ now more) × BaseOf (view rows (now words)) (now counts) × MarkRoom rows (length (now marks)) ⌝ }
+    ensures { λ r. ⌜ Reaches (rowsOf (view rows (now (words .entry)))) (live (view rows (now (words .entry))) (now (roots .entry) ++ now (more .entry))) r ⌝ }
+{
+    copy_marks(counts, marks);
+    let base = counts[Counts::NUMBER];
+    let first = list_new(words, rows, marks, roots);
+    let second = list_new(words, rows, marks, more);
+    base + first + second
+}
+
 // How many rows registers, relations and two lists of further arrows reach.
 fn count_live(words: &[u32], rows: u32, counts: &[u32], roots: &[u32], more: &[u32]) -> u32
     requires { ⌜ FreePre (view rows (now words)) (now roots ++ now more) × BaseOf (view rows (now words)) (now counts) ⌝ }
     ensures { λ r. ⌜ LiveReaches rows (now (words .entry)) (now (roots .entry)) (now (more .entry)) r ⌝ }
 {
+    if rows <= Few::ROWS {
+        let mut few = [0u32; Few::MARKS];
+        return count_marking(words, rows, counts, &mut few, roots, more);
+    }
     let mut marks = [0u32; Bitmap::WORDS];
-    copy_marks(counts, &mut marks);
-    let base = counts[Counts::NUMBER];
-    let first = list_new(words, rows, &mut marks, roots);
-    let second = list_new(words, rows, &mut marks, more);
-    base + first + second
+    count_marking(words, rows, counts, &mut marks, roots, more)
+}
+
+// How many rows arrow a reaches beside the base, with words for the marks.
+fn outside_marking(words: &[u32], rows: u32, counts: &[u32], marks: &mut [u32], a: u32) -> u32
+    requires { ⌜ SizePre (view rows (now words)) (now counts) a × MarkRoom rows (length (now marks)) ⌝ }
+    ensures { λ r. ⌜ Outside (rowsOf (view rows (now (words .entry)))) (filled (view rows (now (words .entry)))) a r ⌝ }
+{
+    copy_marks(counts, marks);
+    mark_new(words, rows, marks, a)
 }
 
 // How many rows arrow a reaches beside the base.
@@ -163,9 +192,12 @@ fn count_outside(words: &[u32], rows: u32, counts: &[u32], a: u32) -> u32
     requires { ⌜ SizePre (view rows (now words)) (now counts) a ⌝ }
     ensures { λ r. ⌜ Outside (rowsOf (view rows (now (words .entry)))) (filled (view rows (now (words .entry)))) a r ⌝ }
 {
+    if rows <= Few::ROWS {
+        let mut few = [0u32; Few::MARKS];
+        return outside_marking(words, rows, counts, &mut few, a);
+    }
     let mut marks = [0u32; Bitmap::WORDS];
-    copy_marks(counts, &mut marks);
-    mark_new(words, rows, &mut marks, a)
+    outside_marking(words, rows, counts, &mut marks, a)
 }
 
 // The place of an arrow's size.
@@ -296,7 +328,8 @@ fn note(
     greater(peak, count_live(words, rows, counts, roots, &more))
 }
 
-// Takes a step as `take_step` does. Where rows may have been freed, no size is remembered afterwards.
+// Takes a step: refused exactly where its result and all that is live need more than `limit` rows. Where rows may have been freed, no size is
+// remembered afterwards.
 fn take_counted(
     words: &mut [u32],
     counts: &mut [u32],
@@ -326,7 +359,7 @@ fn take_counted(
     }
 }
 
-// Takes a step as `take_step` does, and counts what it needs.
+// Takes a step, and counts what it needs.
 pub fn take(
     words: &mut [u32],
     counts: &mut [u32],

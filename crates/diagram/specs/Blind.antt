@@ -102,31 +102,12 @@ pub from-even : (f : Fn) (d j : ℕ) → Blind 0 f → existsFrom d j f ≡ f
 unfolding existsFrom
 from-even f d j r = from-unread {f = f} 0 d j (omega arith) (blind-more {f = f} 0 (0 + j) (omega arith) r)
 
--- EXISTS at d + e levels is that at the last e, and then at the first d.
-pub from-join : (d e j k z : ℕ) (f : Fn) → d + j ≡ k → d + e ≡ z → existsFrom z j f ≡ existsFrom d j (existsFrom e k f)
-unfolding existsFrom
-from-join zero e j k z f h g =
-    let p : z ≡ e = omega arith in
-    let q : j ≡ k = omega arith in
-    ap (λ x. existsFrom x j f) p ∙ ap (λ x. existsFrom e x f) q
-from-join (suc d) e j k zero f h g = absurd (omega arith)
-from-join (suc d) e j k (suc z) f h g = ap (existsF (suc (2 * j))) (from-join d e (suc j) k z f (omega arith) (omega arith))
-
 module _ {m : ℕ} (f : Fn) (i : ℕ) (small : i ≤ 16) (blind : Blind i f) where
   -- A stage of what reads only levels of the stage is `oddF`.
   pub blind-odd : (d j : ℕ) → d + j ≡ i → Reads (suc (2 * j)) m f → existsFrom d j f ≡ oddF f
   blind-odd d j e r =
       sym (from-unread {f = f} d (16 - j) j (omega arith) (blind-more {f = f} i (d + j) (omega arith) blind))
       ∙ sym (from-last {lo = suc (2 * j)} {hi = m} f r j (16 - j) 0 j 16 (omega arith) (omega arith) (omega arith))
-
--- `oddF` of a stage is `oddF` of the function.
-pub odd-stage : (f : Fn) (i d j : ℕ) → i ≤ 16 → d + j ≡ i → Blind i f → oddF (existsFrom d j f) ≡ oddF f
-odd-stage f i d j small e blind =
-    let h = existsFrom d j f in
-    let bh : Blind j h = from-blind {f = f} d j (blind-more {f = f} i (d + j) (omega arith) blind) in
-    from-unread {f = h} j 16 0 (omega arith) (blind-more {f = h} j (j + 0) (omega arith) bh)
-    ∙ sym (from-join j d 0 j i f (omega arith) (omega arith))
-    ∙ sym (from-unread {f = f} i 16 0 small (blind-more {f = f} i (i + 0) (omega arith) blind))
 
 -- `oddF` of a function of at most 32 levels is a set of states.
 pub odd-blind : {hi : ℕ} {f : Fn} → hi ≤ 32 → Reads 0 hi f → Blind 0 (oddF f)

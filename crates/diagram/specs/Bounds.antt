@@ -24,7 +24,7 @@ use Rattle.diagram.specs.Odd.{existsFrom, oddF, Follows, self, on}
 use Rattle.diagram.specs.OddLaws.{from-reads}
 use Rattle.diagram.specs.Stages.{splice-again, from-splice, splice-reads, stage-row}
 use Rattle.diagram.specs.Blind.{Blind, blind-cut, blind-cofactor, blind-part, cofactor-reads-from, from-even, blind-odd, odd-blind}
-use Rattle.diagram.specs.Tally.{sumTo, sumFrom, Surveyed, Shadowed, CoveredBy, listTo, listFrom, mem-listTo, mem-listFrom, length-listTo, length-listFrom}
+use Rattle.diagram.specs.Tally.{sumTo, sumFrom, Surveyed, AddedRows, CoveredBy, listTo, listFrom, mem-listTo, mem-listFrom, length-listTo, length-listFrom}
 
 -- Some of the roots denote sets of states: they read no odd level.
 pub record Evens (m : ℕ) (rows : Rows) (roots evens : List ℕ) : Type 0 where
@@ -102,24 +102,24 @@ module _ {m N : ℕ} {rows : Rows} (wf : WellFormed m N rows) where
               ∙ ap (λ (q : Fn). existsFrom d j q (splice (c .upto) (c .fixed) v)) ec ∙ ap (λ (q : Fn). q (splice (c .upto) (c .fixed) v)) o;
         }
 
-  module _ {fs : List Fn} {roots evens bs : List ℕ} {above deep : ℕ → ℕ} {a n i : ℕ}
+  module _ {fs : List Fn} {roots evens bs : List ℕ} {above added : ℕ → ℕ} {a n i : ℕ}
       (em : m ≡ 2 * n) (small : n ≤ 16) (le : i ≤ n) (rooted : Rooted m rows fs roots) (even : Evens m rows roots evens)
       (wa : Arrow rows a) (blind : Blind i (den m rows a)) (covered : CoveredBy m rows bs a)
-      (s : Surveyed rows evens a above) (t : Shadowed rows roots bs deep) where
-    -- The classes of a stage of the surveyed arrows that lead above its levels, and of the shadow's rows from its levels on.
+      (s : Surveyed rows evens a above) (t : AddedRows rows roots bs added) where
+    -- The classes of a stage of the surveyed arrows that lead above its levels, and of the rows added from its levels on.
     abbrev pub stageOf : ℕ → ℕ → ℕ → List Bool
     stageOf d j c = class m (existsFrom d j (den m rows c))
 
     abbrev pub aboveTabs : ℕ → ℕ → List (List Bool)
     aboveTabs d j = map (stageOf d j) (listTo (s .arrows) (suc (2 * j)))
 
-    abbrev pub deepTabs : ℕ → ℕ → List (List Bool)
-    deepTabs k z = map (tab wf) (listFrom (t .shadow) k z)
+    abbrev pub addedTabs : ℕ → ℕ → List (List Bool)
+    addedTabs k z = map (tab wf) (listFrom (t .listed) k z)
 
-    -- A cofactor of the `oddF` of a followed arrow that reads only the stage's levels is needed already, or of the shadow.
-    told-deep : (c j k z : ℕ) → k ≤ 2 * suc j → m ≤ k + z → Follows rows a c → Arrow rows c → Reads (suc (2 * j)) m (den m rows c)
-        → (g : Fn) → CofactorOf (oddF (den m rows c)) g → Varies g → Mem (class m g) (classes m fs) ⊎ Mem (class m g) (deepTabs k z)
-    told-deep c j k z ek ez f wc rd g co y =
+    -- A cofactor of the `oddF` of a followed arrow that reads only the stage's levels is needed already, or of the rows added.
+    told-added : (c j k z : ℕ) → k ≤ 2 * suc j → m ≤ k + z → Follows rows a c → Arrow rows c → Reads (suc (2 * j)) m (den m rows c)
+        → (g : Fn) → CofactorOf (oddF (den m rows c)) g → Varies g → Mem (class m g) (classes m fs) ⊎ Mem (class m g) (addedTabs k z)
+    told-added c j k z ek ez f wc rd g co y =
         let (x, rx, p) = covered c f in
         let co′ : CofactorOf (den m rows x) g = record { upto = co .upto; fixed = co .fixed; same = λ v. co .same v ∙ sym (p .same _) } in
         let (r, t1, w, q) = cofactor-row wf (x ∷ []) x g (here refl) (p .arrow) co′ y in
@@ -129,7 +129,7 @@ module _ {m N : ℕ} {rows : Rows} (wf : WellFormed m N rows) where
         let lo = level-even r j g w (reads-from 0 (omega arith) rg) rg bg q in
         let hi = wf .ok r w .shallow in
         ⊎-elim (λ h. inl (mem-cast (sym q) (row-needed wf rooted r h)))
-        (λ h. inr (mem-cast (sym q) (mem-map (tab wf) (mem-listFrom (t .shadow) (rows .level r) k z (omega arith) (omega arith) h))))
+        (λ h. inr (mem-cast (sym q) (mem-map (tab wf) (mem-listFrom (t .listed) (rows .level r) k z (omega arith) (omega arith) h))))
         (t .all r (reach-on rx t1))
 
     -- B3: a row that is reached from a set of states is its own stage.
@@ -143,9 +143,9 @@ module _ {m N : ℕ} {rows : Rows} (wf : WellFormed m N rows) where
         let q : class m g ≡ tab wf r = class-turn m (marked c) (den m rows (row r)) (λ v. e v ∙ ap (λ (f : Fn). f v) own ∙ den-leads m rows c r l v) in
         mem-cast q (row-needed wf rooted r (reach-within (λ b j e. even .within b) re))
 
-    -- B0: each non-constant cofactor of a stage is needed already, the same stage of a surveyed arrow above its levels, or of the shadow.
+    -- B0: each non-constant cofactor of a stage is needed already, the same stage of a surveyed arrow above its levels, or of the rows added.
     pub told : (d j k z : ℕ) → d + j ≡ i → k ≤ 2 * suc j → m ≤ k + z → (g : Fn) → CofactorOf (existsFrom d j (den m rows a)) g → Varies g
-        → Mem (class m g) (classes m fs) ⊎ (Mem (class m g) (aboveTabs d j) ⊎ Mem (class m g) (deepTabs k z))
+        → Mem (class m g) (classes m fs) ⊎ (Mem (class m g) (aboveTabs d j) ⊎ Mem (class m g) (addedTabs k z))
     told d j k z ed ek ez g c y =
         by-cases (decLe (c .upto) (suc (2 * j)))
         (λ h.
@@ -165,33 +165,16 @@ module _ {m N : ℕ} {rows : Rows} (wf : WellFormed m N rows) where
           fixed = c .fixed;
           same = λ v. x .same v ∙ ap (λ (q : Fn). q v) o ∙ ap (oddF f) (fun-ext λ p. sym (splice-above 0 (c .fixed) v p (omega arith)));
         } in
-        ⊎-elim (λ q. inl q) (λ q. inr (inr q)) (told-deep (x .arrow) j k z ek ez (x .follows) (x .is-arrow) rd g co y)))
+        ⊎-elim (λ q. inl q) (λ q. inr (inr q)) (told-added (x .arrow) j k z ek ez (x .follows) (x .is-arrow) rd g co y)))
         (λ h.
         let x = far a em small le wa blind d j ed g c (omega arith) in
         ⊎-elim (λ q. inl q) (λ q. inr (inr q))
-        (told-deep (x .arrow) j k z ek ez (x .follows) (x .is-arrow) (x .reads) g (record { upto = c .upto; fixed = c .fixed; same = x .same }) y))
-
-    -- One stage beside functions that are needed already.
-    pub stage-more : (d j k z : ℕ) → d + j ≡ i → k ≤ 2 * suc j → m ≤ k + z
-        → need m (existsFrom d j (den m rows a) ∷ fs) ≤ need m fs + (sumTo above (suc (2 * j)) + sumFrom deep k z)
-    stage-more d j k z ed ek ez =
-        let hs = existsFrom d j (den m rows a) ∷ fs in
-        let xs = classes m fs in
-        let ys = aboveTabs d j in
-        let zs = deepTabs k z in
-        let all = need-within m hs (xs ++ (ys ++ zs)) (λ h g mh c y.
-        ⊎-elim (λ e. ⊎-elim (λ x. mem-left {s = xs} (ys ++ zs) x)
-        (λ q. mem-right xs (⊎-elim (λ x. mem-left {s = ys} zs x) (λ x. mem-right ys x) q))
-        (told d j k z ed ek ez g (subst (λ f. CofactorOf f g) e c) y))
-        (λ mf. mem-left {s = xs} (ys ++ zs) (mem-needed fs mf (rooted .reads h mf) (part-cofactor c) y))
-        (mem-cases mh))
-        in
-        omega (arith, all, need-length m fs, length-append xs (ys ++ zs), length-append ys zs, length-map (listTo (s .arrows) (suc (2 * j))) (stageOf d j), length-map (listFrom (t .shadow) k z) (tab wf), length-listTo (s .arrows) above (s .counted) (suc (2 * j)), length-listFrom (t .shadow) deep (t .counted) k z)
+        (told-added (x .arrow) j k z ek ez (x .follows) (x .is-arrow) (x .reads) g (record { upto = c .upto; fixed = c .fixed; same = x .same }) y))
 
     -- B1: two neighbouring stages beside functions that are needed already.
     pub stage-two : (d j z : ℕ) → suc d + j ≡ i → m ≤ 2 * suc j + z
         → need m (existsFrom (suc d) j (den m rows a) ∷ existsFrom d (suc j) (den m rows a) ∷ fs)
-        ≤ need m fs + (sumTo above (suc (2 * j)) + sumTo above (suc (2 * suc j)) + sumFrom deep (2 * suc j) z)
+        ≤ need m fs + (sumTo above (suc (2 * j)) + sumTo above (suc (2 * suc j)) + sumFrom added (2 * suc j) z)
     stage-two d j z ed ez =
         let f = existsFrom (suc d) j (den m rows a) in
         let f′ = existsFrom d (suc j) (den m rows a) in
@@ -199,7 +182,7 @@ module _ {m N : ℕ} {rows : Rows} (wf : WellFormed m N rows) where
         let xs = classes m fs in
         let ys = aboveTabs (suc d) j in
         let ys′ = aboveTabs d (suc j) in
-        let zs = deepTabs k z in
+        let zs = addedTabs k z in
         let rest = ys ++ (ys′ ++ zs) in
         let all = need-within m (f ∷ f′ ∷ fs) (xs ++ rest) (λ h g mh c y.
         ⊎-elim (λ e. ⊎-elim (λ x. mem-left {s = xs} rest x)
@@ -212,4 +195,4 @@ module _ {m N : ℕ} {rows : Rows} (wf : WellFormed m N rows) where
         (mem-cases more))
         (mem-cases mh))
         in
-        omega (arith, all, need-length m fs, length-append xs rest, length-append ys (ys′ ++ zs), length-append ys′ zs, length-map (listTo (s .arrows) (suc (2 * j))) (stageOf (suc d) j), length-map (listTo (s .arrows) (suc (2 * suc j))) (stageOf d (suc j)), length-map (listFrom (t .shadow) k z) (tab wf), length-listTo (s .arrows) above (s .counted) (suc (2 * j)), length-listTo (s .arrows) above (s .counted) (suc (2 * suc j)), length-listFrom (t .shadow) deep (t .counted) k z)
+        omega (arith, all, need-length m fs, length-append xs rest, length-append ys (ys′ ++ zs), length-append ys′ zs, length-map (listTo (s .arrows) (suc (2 * j))) (stageOf (suc d) j), length-map (listTo (s .arrows) (suc (2 * suc j))) (stageOf d (suc j)), length-map (listFrom (t .listed) k z) (tab wf), length-listTo (s .arrows) above (s .counted) (suc (2 * j)), length-listTo (s .arrows) above (s .counted) (suc (2 * suc j)), length-listFrom (t .listed) added (t .counted) k z)

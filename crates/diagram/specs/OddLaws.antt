@@ -132,7 +132,7 @@ child-extends : {old new : Rows} → Extends old new → (i : ℕ) (b : Bool) �
 child-extends e i false u = e .low i u
 child-extends e i true u = e .high i u
 
-pub follows-back : {m N : ℕ} {old new : Rows} {a c : ℕ} → WellFormed m N old → Extends old new → Arrow old a → Follows new a c → Follows old a c × Arrow old c
+follows-back : {m N : ℕ} {old new : Rows} {a c : ℕ} → WellFormed m N old → Extends old new → Arrow old a → Follows new a c → Follows old a c × Arrow old c
 follows-back wf e u self = (self, u)
 follows-back {old = old} {new = new} {a = a} wf e u (on {c = c} {i = i} b t l) =
     let (s, w) = follows-back wf e u t in

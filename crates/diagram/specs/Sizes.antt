@@ -1,10 +1,10 @@
 -- How many rows some roots reach, which is what they need, and how many more an arrow reaches, which bounds what it needs beside them.
--- Needs of lists of functions: of two together, and of the steps before a product. Assumes nothing.
+-- Assumes nothing.
 use mathlib.Core.Path.{_≡_, refl, sym, ap, _∙_, subst}
 use mathlib.Core.Logic.{_⊎_, inl, inr, ⊎-elim}
 use mathlib.Core.Bool.{Bool}
 use mathlib.Core.List.{List, [], _∷_, _++_, map}
-use mathlib.Core.List.{List·Memᴰ as Mem, List·Memᴰ·head as here, List·Memᴰ·tail as there, List·Memᴰ·cases-cons as mem-cases, List·Memᴰ·append-cases as append-cases}
+use mathlib.Core.List.{List·Memᴰ as Mem, List·Memᴰ·head as here, List·Memᴰ·cases-cons as mem-cases, List·Memᴰ·append-cases as append-cases}
 use mathlib.Core.List.{Memᴰ·cast as mem-cast, Memᴰ·map as mem-map, Memᴰ·of-map as mem-of-map, Memᴰ·append-left as append-left, Memᴰ·append-right as append-right}
 use Prim.Native.Nat.{ℕ, _+_, _≤_}
 use native.Mathlib.Omega.{arith}
@@ -14,7 +14,7 @@ use Rattle.diagram.specs.Rows.{Rows, Leads, Arrow, den, WellFormed}
 use Rattle.diagram.specs.Canon.{row-varies}
 use Rattle.diagram.specs.Count.{NoDup, Within, nodup-length, nodup-append}
 use Rattle.diagram.specs.Need.{need}
-use Rattle.diagram.specs.Needed.{class, classes, need-length, needed-source, mem-needed, nodup-needed, need-mono}
+use Rattle.diagram.specs.Needed.{class, classes, need-length, needed-source, mem-needed, nodup-needed}
 use Rattle.diagram.specs.Reach.{Reach, den-reads-all, reach-used, reach-part, tab, cofactor-row, reach-count}
 use Rattle.diagram.specs.Keep.{Keeps, keeps-reach, keeps-reach-back, reach-within}
 
@@ -100,13 +100,6 @@ module _ {m N : ℕ} {rows : Rows} (wf : WellFormed m N rows) where
     listed = λ b mb. (arrows b mb, mem-map (den m rows) mb);
   }
 
-  -- One more arrow, with its function.
-  pub rooted-arrow : {fs : List Fn} {roots : List ℕ} (a : ℕ) → Arrow rows a → Rooted m rows fs roots → Rooted m rows (den m rows a ∷ fs) (a ∷ roots)
-  rooted-arrow a wa p = record {
-    reads = λ g mg. ⊎-elim (λ e. subst (Reads 0 m) (sym e) (den-reads-all wf a wa)) (λ h. p .reads g h) (mem-cases mg);
-    listed = λ b mb. ⊎-elim (λ e. (subst (Arrow rows) (sym e) wa, here (ap (den m rows) e))) (λ h. (p .listed b h .0, there (p .listed b h .1))) (mem-cases mb);
-  }
-
   -- A row that is reached from the roots is among what their functions need.
   pub row-needed : {fs : List Fn} {roots : List ℕ} → Rooted m rows fs roots → (i : ℕ) → Reach rows roots i → Mem (tab wf i) (classes m fs)
   row-needed {fs} {roots} p i r =
@@ -130,19 +123,3 @@ need-outside {m} {rows = rows} wf roots arrows w x k u o =
     (mem-cases mf))
     in
     omega (arith, all, need-length m fs, length-append xs ys, length-map (o .rest) (tab wf), o .counted)
-
--- B5: two lists of functions together need at most what each needs.
-pub need-append : (m : ℕ) (fs gs : List Fn) → ((f : Fn) → Mem f (fs ++ gs) → Reads 0 m f) → need m (fs ++ gs) ≤ need m fs + need m gs
-need-append m fs gs reads =
-    let xs = classes m fs in
-    let ys = classes m gs in
-    let all = need-within m (fs ++ gs) (xs ++ ys) (λ h g mh c y.
-    ⊎-elim (λ a. append-left {s = xs} ys (mem-needed fs a (reads h mh) (part-cofactor c) y)) (λ b. append-right xs (mem-needed gs b (reads h mh) (part-cofactor c) y)) (append-cases fs mh))
-    in
-    omega (arith, all, need-length m fs, need-length m gs, length-append xs ys)
-
--- B6: where the operand of SHIFT is live, its step needs no more than the AND that follows.
-pub shift-under : (m : ℕ) (live : List Fn) (f s r c : Fn) → Mem f live → need m (s ∷ f ∷ live) ≤ need m (c ∷ s ∷ r ∷ live)
-shift-under m live f s r c mf =
-    need-mono m (s ∷ f ∷ live) (c ∷ s ∷ r ∷ live) (λ h mh.
-    ⊎-elim (λ e. there (here e)) (λ q. ⊎-elim (λ e. there (there (there (mem-cast e mf)))) (λ l. there (there (there l))) (mem-cases q)) (mem-cases mh))

@@ -49,11 +49,11 @@ pub record Surveyed (rows : Rows) (evens : List ℕ) (a : ℕ) (above : ℕ → 
   pub all : (c i : ℕ) → Follows rows a c → Leads c i → Reach rows evens i ⊎ Mem c (arrows (rows .level i))
   pub counted : (l : ℕ) → length (arrows l) ≤ above l
 
--- What a survey of the shadow leaves: of every level at least as many as there are rows reached from arrows bs and not from the roots.
-pub record Shadowed (rows : Rows) (roots bs : List ℕ) (deep : ℕ → ℕ) : Type 0 where
-  pub shadow : ℕ → List ℕ
-  pub all : (i : ℕ) → Reach rows bs i → Reach rows roots i ⊎ Mem i (shadow (rows .level i))
-  pub counted : (l : ℕ) → length (shadow l) ≤ deep l
+-- What a count of the rows added leaves: of every level at least as many as there are rows reached from arrows bs and not from the roots.
+pub record AddedRows (rows : Rows) (roots bs : List ℕ) (added : ℕ → ℕ) : Type 0 where
+  pub listed : ℕ → List ℕ
+  pub all : (i : ℕ) → Reach rows bs i → Reach rows roots i ⊎ Mem i (listed (rows .level i))
+  pub counted : (l : ℕ) → length (listed l) ≤ added l
 
 -- Every arrow that is followed from arrow a has its `oddF` among what is reached from arrows bs.
 abbrev pub CoveredBy : ℕ → Rows → List ℕ → ℕ → Type 0
@@ -78,10 +78,10 @@ surveyed m rows evens a cs above all counted = record {
   counted = counted;
 }
 
-pub shadowed : (rows : Rows) (roots bs is : List ℕ) (deep : ℕ → ℕ)
-    → ((i : ℕ) → Reach rows bs i → Reach rows roots i ⊎ Mem i is) → ((l : ℕ) → length (rowsAt rows is l) ≤ deep l) → Shadowed rows roots bs deep
-shadowed rows roots bs is deep all counted = record {
-  shadow = rowsAt rows is;
+pub added-rows : (rows : Rows) (roots bs is : List ℕ) (added : ℕ → ℕ)
+    → ((i : ℕ) → Reach rows bs i → Reach rows roots i ⊎ Mem i is) → ((l : ℕ) → length (rowsAt rows is l) ≤ added l) → AddedRows rows roots bs added
+added-rows rows roots bs is added all counted = record {
+  listed = rowsAt rows is;
   all = λ i t. ⊎-elim (λ h. inl h) (λ h. inr (mem-those (λ x. eqb (rows .level x) (rows .level i)) is (T-true _ (eqb-refl (rows .level i))) h)) (all i t);
   counted = counted;
 }

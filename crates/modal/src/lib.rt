@@ -2,6 +2,7 @@
 use accounts::Count;
 use counting::Taken;
 use counting::take;
+use layout::Table;
 use stages::rest;
 use steps::Step;
 use table::Found;
@@ -33,6 +34,23 @@ fn quantify(
     let mut total = count;
     let mut left = limits.bits;
     while 0 < left {
+        let found = rest(
+            words,
+            counts,
+            limits.rows,
+            limits.bits,
+            limits.limit,
+            roots,
+            c,
+            left,
+            total.peak,
+        );
+        if let Found::At(r) = found {
+            return Taken::At {
+                arrow: r,
+                count: total,
+            };
+        }
         left -= 1;
         let step = Step::Exists(2 * left + 1, c);
         let Taken::At {
@@ -53,23 +71,6 @@ fn quantify(
         };
         c = d;
         total = more;
-        let found = rest(
-            words,
-            counts,
-            limits.rows,
-            limits.bits,
-            limits.limit,
-            roots,
-            c,
-            left,
-            total.peak,
-        );
-        if let Found::At(r) = found {
-            return Taken::At {
-                arrow: r,
-                count: total,
-            };
-        }
     }
     Taken::At {
         arrow: c,
@@ -127,7 +128,7 @@ pub fn diamond(
     quantify(words, counts, limits, roots, c, second)
 }
 
-// NOT of an arrow within V, the states that exist: the step NOT, and AND with V.
+// NOT of an arrow within V, the states that exist: the step NOT, and AND with V. Where V is every state, that answers and needs the same.
 pub fn complement(
     words: &mut [u32],
     counts: &mut [u32],
@@ -158,6 +159,12 @@ pub fn complement(
     else {
         return Taken::Full;
     };
+    if valid == Table::EVERYTHING {
+        return Taken::At {
+            arrow: b,
+            count: first,
+        };
+    }
     take(
         words,
         counts,

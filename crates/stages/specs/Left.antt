@@ -2,12 +2,15 @@
 use mathlib.Core.Path.{_≡_}
 use mathlib.Core.List.{List, _∷_, map, List·Memᴰ as Mem}
 use Prim.Native.Nat.{ℕ, suc, _+_, _*_, _≤_}
+use native.Mathlib.Omega.{arith}
+use lib.ListN.{length, replicate, length-replicate}
 use Rattle.layout.specs.View.{View}
 use Rattle.diagram.specs.Rows.{Rows, Arrow, den}
 use Rattle.diagram.specs.Need.{stepNeed}
 use Rattle.diagram.specs.Odd.{existsFrom}
 use Rattle.diagram.specs.Blind.{Blind}
 use Rattle.soundness.specs.Used.{rowsOf}
+use Rattle.soundness.specs.Bits.{On, no-marks}
 use Rattle.soundness.specs.Sound.{Sound}
 use Rattle.collect.specs.Lent.{live}
 use Rattle.operations.specs.Work.{Ready}
@@ -20,6 +23,14 @@ abbrev pub LeftFits : ℕ → Rows → List ℕ → ℕ → ℕ → ℕ → Type
 LeftFits m rows roots a left most =
     (d j : ℕ) → suc d + j ≡ left
     → stepNeed m (existsFrom d (suc j) (den m rows a) ∷ map (den m rows) roots) (existsFrom (suc d) j (den m rows a)) ≤ most
+
+-- A bit for each arrow of a table of N rows, all of them clear.
+pub record SeenBlank (N : ℕ) (seen : List ℕ) : Type 0 where
+  pub enough : 2 * N + 2 ≤ 32 * length seen
+  pub blank : (c : ℕ) → On seen c → ⊥
+
+pub seen-blank : {N : ℕ} (k : ℕ) → 2 * N + 2 ≤ 32 * k → SeenBlank N (replicate k 0)
+seen-blank k l = record { enough = let e = length-replicate {A = ℕ} k 0 in omega (arith, e, l); blank = no-marks k }
 
 -- What a look at them asks: a table between steps, marks of what registers and relations reach, and an arrow that does not read the odd levels done.
 pub record LookPre (n N : ℕ) (W : View) (c roots : List ℕ) (a left : ℕ) : Type 0 where

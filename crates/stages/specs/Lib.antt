@@ -1,6 +1,6 @@
 pub mod Left
 pub mod Levels
-pub mod Shades
+pub mod AddedCounts
 pub mod Surveys
 pub mod Renews
 pub mod Looks

@@ -1,19 +1,20 @@
 -- All EXISTS left of an arrow at once: what is asked, what is promised, and what each call and each return gives. Assumes nothing.
-use mathlib.Core.Path.{_≡_, sym, subst, fun-ext}
+use mathlib.Core.Path.{_≡_, refl, sym, subst, fun-ext}
 use mathlib.Core.Logic.{_≢_, ⊎-elim}
 use mathlib.Core.Bool.{Bool, true, false, true≢false}
 use mathlib.Core.List.{List, [], _∷_, _++_, List·Memᴰ as Mem, List·Memᴰ·cases-cons as mem-cases, List·Memᴰ·not-nil as mem-nil, List·Memᴰ·append-cases as append-cases}
-use Prim.Native.Nat.{ℕ, _*_, _≤_}
+use Prim.Native.Nat.{ℕ, _*_, _≤_, _<_}
 use native.Mathlib.Omega.{arith}
-use Rattle.layout.specs.Places.{BITS}
+use Rattle.layout.specs.Places.{BITS, MAX-ROWS}
 use Rattle.layout.specs.View.{View}
-use Rattle.diagram.specs.Rows.{Arrow, den}
+use Rattle.diagram.specs.Rows.{Rows, Arrow, den}
 use Rattle.diagram.specs.Odd.{oddF}
 use Rattle.diagram.specs.Blind.{Blind}
 use Rattle.diagram.specs.Grow.{arrow-extends, den-extends}
 use Rattle.diagram.specs.Keep.{extends-keeps}
 use Rattle.diagram.specs.Post.{Denotes, denotes-extends}
-use Rattle.soundness.specs.Used.{rowsOf}
+use Rattle.layout.specs.Arrows.{isRow, rowOf}
+use Rattle.soundness.specs.Used.{rowsOf, of-arrow}
 use Rattle.soundness.specs.Sound.{Sound}
 use Rattle.soundness.specs.Filled.{filled-arrow}
 use Rattle.table.specs.Code.{FULL}
@@ -85,11 +86,22 @@ module _ {n N limit : ℕ} {W : View} {roots : List ℕ} {a left : ℕ} (p : Res
   sure-no = record { grown = grown-none (p .ready); fits = λ t. absurd (true≢false (sym t)) }
 
   -- ---- all at once
-  pub sizes-ask : FreePre W (roots ++ (a ∷ a ∷ []))
-  sizes-ask = record { sound = p .sound; arrows = λ b h. ⊎-elim (p .arrows b) (λ t. one b t) (append-cases roots h) }
+  -- a row that the arrow leads to is one of the table
+  pub row-within : isRow a ≡ true → rowOf a < MAX-ROWS
+  row-within h =
+      let l = p .sound .good .rows .bounded (rowOf a) (of-arrow (rowsOf W) a h refl (p .arrow)) in
+      let n = p .sound .good .sizes .N-max in
+      omega (arith, l, n)
+
+  pub sizes-ask : (x : ℕ) → ((rows : Rows) → Arrow rows a → Arrow rows x) → FreePre W (roots ++ (a ∷ a ∷ x ∷ []))
+  sizes-ask x u = record { sound = p .sound; arrows = λ b h. ⊎-elim (p .arrows b) (λ t. one b t) (append-cases roots h) }
     where
-      one : (b : ℕ) → Mem b (a ∷ a ∷ []) → Arrow (rowsOf W) b
-      one b h = ⊎-elim (λ e. subst (Arrow (rowsOf W)) (sym e) (p .arrow)) (λ t. ⊎-elim (λ e. subst (Arrow (rowsOf W)) (sym e) (p .arrow)) (λ z. absurd (mem-nil z)) (mem-cases t)) (mem-cases h)
+      is : {b c : ℕ} → b ≡ c → Arrow (rowsOf W) c → Arrow (rowsOf W) b
+      is e w = subst (Arrow (rowsOf W)) (sym e) w
+
+      one : (b : ℕ) → Mem b (a ∷ a ∷ x ∷ []) → Arrow (rowsOf W) b
+      one b h = ⊎-elim (λ e. is e (p .arrow))
+          (λ t. ⊎-elim (λ e. is e (p .arrow)) (λ t. ⊎-elim (λ e. is e (u (rowsOf W) (p .arrow))) (λ z. absurd (mem-nil z)) (mem-cases t)) (mem-cases t)) (mem-cases h)
 
   pub rest-none : {X : View} {most : ℕ} → Grown (2 * n) W X → RestPost n W X roots a left most find.Nothing
   rest-none g = record { grown = g; value = λ v e. absurd (nothing v e); fits = λ v e. absurd (nothing v e) }

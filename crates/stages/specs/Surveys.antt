@@ -1,5 +1,5 @@
 -- The arrows that are followed from one, in a bitmap with a bit for each arrow, counted by level. What `survey` asks and leaves. Assumes nothing.
-use mathlib.Core.Path.{_≡_, refl, sym, ap, _∙_, subst}
+use mathlib.Core.Path.{_≡_, refl, sym, _∙_, subst}
 use mathlib.Core.Logic.{_⊎_, inl, inr, ⊎-elim, by-cases}
 use mathlib.Core.Bool.{Bool, true, false, true≢false}
 use mathlib.Core.List.{List, [], _∷_, List·Memᴰ as Mem, List·Memᴰ·head as here, List·Memᴰ·tail as there, List·Memᴰ·cases-cons as mem-cases, List·Memᴰ·not-nil as mem-nil}
@@ -24,52 +24,48 @@ use Rattle.soundness.specs.Sound.{Good}
 use Rattle.table.specs.declared.Found.{Found}
 use Rattle.table.specs.declared.Found.the-variants as find
 use Rattle.operations.specs.Work.{Ready, ready-wf}
-use Rattle.operations.specs.Open.{RowIs, RowAt, Opened, depth, row-at, opened, low-falls, high-falls}
+use Rattle.operations.specs.Open.{RowIs, RowAt, Opened, depth, row-at, opened, part-falls, low-falls, high-falls}
 use Rattle.operations.specs.Odd.{OddKnown}
 use Rattle.stages.specs.Levels.{LEVELS, MOST, countOf, OneMore, one-more-le}
-use Rattle.stages.specs.Shades.{Shades, ShadePre, ShadePost, shade-at, shade-next}
-
--- how many words hold a bit of each arrow
-abbrev pub ARROW-WORDS : ℕ
-ARROW-WORDS = 3751
+use Rattle.stages.specs.AddedCounts.{AddedCounts, MarkAddedPre, MarkAddedPost, added-at, added-next}
 
 -- EXISTS at every odd level of arrow c is an arrow to a marked row, or a constant
-pub record Cover (m : ℕ) (rows : Rows) (dark : List ℕ) (c : ℕ) : Type 0 where
+pub record Cover (m : ℕ) (rows : Rows) (reached : List ℕ) (c : ℕ) : Type 0 where
   pub by : ℕ
   pub denotes : Denotes m rows by (oddF (den m rows c))
-  pub marked : OnArrow dark by
+  pub marked : OnArrow reached by
 
 -- the arrows with a bit are closed under what is followed, counted by level, and covered by marked rows
-pub record Surveys (m : ℕ) (rows : Rows) (seen above dark : List ℕ) : Type 0 where
+pub record Surveys (m : ℕ) (rows : Rows) (seen above reached : List ℕ) : Type 0 where
   pub list : List ℕ
   pub once : NoDup list
   pub arrow : (c : ℕ) → Mem c list → Arrow rows c
   pub marked : (c : ℕ) → Mem c list → On seen c
   pub all : (c : ℕ) → On seen c → Mem c list
   pub survey : Survey m rows [] list (countOf above)
-  pub covers : (c : ℕ) → Mem c list → Cover m rows dark c
+  pub covers : (c : ℕ) → Mem c list → Cover m rows reached c
   pub few : (l : ℕ) → countOf above l ≤ length list
 
 -- what `survey` asks
-pub record SurveyPre (m N : ℕ) (W : View) (seen above dark deep : List ℕ) (a : ℕ) : Type 0 where
+pub record SurveyPre (m N : ℕ) (W : View) (seen above reached added : List ℕ) (a : ℕ) : Type 0 where
   pub ready : Ready m N 0 W
-  pub seen-size : length seen ≡ ARROW-WORDS
+  pub seen-room : 2 * N + 2 ≤ 32 * length seen
   pub above-size : length above ≡ LEVELS
-  pub surveys : Surveys m (rowsOf W) seen above dark
-  pub shade : ShadePre W dark deep a
+  pub surveys : Surveys m (rowsOf W) seen above reached
+  pub marking : MarkAddedPre W reached added a
 
 -- what it leaves where it answers true: the arrows that are followed from a have a bit too, and the rows that cover them are marked
-pub record SurveyPost (m : ℕ) (rows : Rows) (seen seen′ above above′ dark dark′ deep deep′ : List ℕ) (a : ℕ) : Type 0 where
+pub record SurveyPost (m : ℕ) (rows : Rows) (seen seen′ above above′ reached reached′ added added′ : List ℕ) (a : ℕ) : Type 0 where
   pub kept : (c : ℕ) → On seen c → On seen′ c
   pub has : (i : ℕ) → Leads a i → On seen′ a
   pub only : (c : ℕ) → On seen′ c → On seen c ⊎ Follows rows a c
-  pub surveys : Surveys m rows seen′ above′ dark′
-  pub darker : (i : ℕ) → On dark i → On dark′ i
-  pub shades : (roots : List ℕ) → Shades rows roots dark deep → Shades rows roots dark′ deep′
+  pub surveys : Surveys m rows seen′ above′ reached′
+  pub marked-more : (i : ℕ) → On reached i → On reached′ i
+  pub added-counts : (roots : List ℕ) → AddedCounts rows roots reached added → AddedCounts rows roots reached′ added′
 
 -- no bit, and nothing counted
-pub surveys-none : {m : ℕ} {rows : Rows} {seen above : List ℕ} (dark : List ℕ) → ((c : ℕ) → On seen c → ⊥) → ((l : ℕ) → countOf above l ≡ 0) → Surveys m rows seen above dark
-surveys-none {m} {rows} dark off none = record {
+pub surveys-none : {m : ℕ} {rows : Rows} {seen above : List ℕ} (reached : List ℕ) → ((c : ℕ) → On seen c → ⊥) → ((l : ℕ) → countOf above l ≡ 0) → Surveys m rows seen above reached
+surveys-none {m} {rows} reached off none = record {
   list = [];
   once = tt;
   arrow = λ c h. absurd (mem-nil h);
@@ -81,15 +77,15 @@ surveys-none {m} {rows} dark off none = record {
 }
 
 -- more rows marked
-surveys-darker : {m : ℕ} {rows : Rows} {seen above dark dark′ : List ℕ} → ((i : ℕ) → On dark i → On dark′ i) → Surveys m rows seen above dark → Surveys m rows seen above dark′
-surveys-darker {dark = dark} {dark′} f s = record {
+surveys-marked-more : {m : ℕ} {rows : Rows} {seen above reached reached′ : List ℕ} → ((i : ℕ) → On reached i → On reached′ i) → Surveys m rows seen above reached → Surveys m rows seen above reached′
+surveys-marked-more {reached = reached} {reached′} f s = record {
   list = s .list;
   once = s .once;
   arrow = s .arrow;
   marked = s .marked;
   all = s .all;
   survey = s .survey;
-  covers = λ c h. let v = s .covers c h in record { by = v .by; denotes = v .denotes; marked = onArrow-le dark dark′ f (v .by) (v .marked) };
+  covers = λ c h. let v = s .covers c h in record { by = v .by; denotes = v .denotes; marked = onArrow-le reached reached′ f (v .by) (v .marked) };
   few = s .few;
 }
 
@@ -102,8 +98,8 @@ arrow-below a (suc i) e wf u = let l = wf .bounded i u in omega (arith, e, l)
 pub arrow-most : {W : View} → Good W → (a : ℕ) → Arrow (rowsOf W) a → a < MOST
 arrow-most g a u = let l = arrow-below a (target a) refl (g .rows) u in let n = g .sizes .N-max in omega (arith, l, n)
 
-pub arrow-in : {W : View} → Good W → (a : ℕ) → Arrow (rowsOf W) a → a < 32 * ARROW-WORDS
-arrow-in g a u = let l = arrow-most g a u in omega (arith, l)
+pub arrow-in : {m N limit : ℕ} {W : View} (k : ℕ) → Ready m N limit W → 2 * N + 2 ≤ 32 * k → (a : ℕ) → Arrow (rowsOf W) a → a < 32 * k
+arrow-in k r h a u = let l = arrow-below a (target a) refl (r .good .rows) u in let e = r .rows-is in omega (arith, l, e, h)
 
 -- what is followed from a part is followed from the arrow, and lies no higher
 follows-part : {rows : Rows} {a i c : ℕ} (b : Bool) → Leads a i → Follows rows (follow rows a i b) c → Follows rows a c
@@ -119,68 +115,69 @@ follows-level {m} {rows = rows} wf u (on {c = c} {i = i} b t l) =
     let e = leads-level m rows c i l in
     (follow-arrow wf c i l b r, omega (arith, h, d, e))
 
-module _ {m N : ℕ} {W : View} {seen above dark deep : List ℕ} {a : ℕ} (p : SurveyPre m N W seen above dark deep a) where
+module _ {m N : ℕ} {W : View} {seen above reached added : List ℕ} {a : ℕ} (p : SurveyPre m N W seen above reached added a) where
   -- the arrow has a bit
-  pub survey-in : a < 32 * ARROW-WORDS
-  survey-in = arrow-in (p .shade .good) a (p .shade .arrow)
+  pub survey-in : a < 32 * length seen
+  survey-in = arrow-in (length seen) (p .ready) (p .seen-room) a (p .marking .arrow)
 
   -- arrows 0 and 1, and arrows with a bit, add nothing
-  survey-same : ((i : ℕ) → Leads a i → On seen a) → SurveyPost m (rowsOf W) seen seen above above dark dark deep deep a
-  survey-same h = record { kept = λ c o. o; has = h; only = λ c o. inl o; surveys = p .surveys; darker = λ i o. o; shades = λ roots s. s }
+  survey-same : ((i : ℕ) → Leads a i → On seen a) → SurveyPost m (rowsOf W) seen seen above above reached reached added added a
+  survey-same h = record { kept = λ c o. o; has = h; only = λ c o. inl o; surveys = p .surveys; marked-more = λ i o. o; added-counts = λ roots s. s }
 
-  pub survey-constant : isRow a ≡ false → SurveyPost m (rowsOf W) seen seen above above dark dark deep deep a
+  pub survey-constant : isRow a ≡ false → SurveyPost m (rowsOf W) seen seen above above reached reached added added a
   survey-constant h = survey-same (λ i l. let z = no-row-leads a h in absurd (omega (arith, z, l)))
 
-  pub survey-again : On seen a → SurveyPost m (rowsOf W) seen seen above above dark dark deep deep a
+  pub survey-again : On seen a → SurveyPost m (rowsOf W) seen seen above above reached reached added added a
   survey-again o = survey-same (λ i l. o)
 
   -- what covers the arrow is marked first
-  pub cover-asks : {f : Found} {b : ℕ} → f ≡ find.At b → OddKnown m W a f → ShadePre W dark deep b
-  cover-asks {b = b} e k = shade-at (p .shade) (k .at b e .arrow)
+  pub cover-asks : {f : Found} {b : ℕ} → f ≡ find.At b → OddKnown m W a f → MarkAddedPre W reached added b
+  cover-asks {b = b} e k = added-at (p .marking) (k .at b e .arrow)
 
 -- the walk from an arrow to row i that has no bit
 module _ {m N : ℕ} {W : View} {s₀ a₀ k₀ d₀ : List ℕ} {a i : ℕ} (p : SurveyPre m N W s₀ a₀ k₀ d₀ a) (h : isRow a ≡ true) (ei : i ≡ rowOf a) where
   at-row : RowAt (rowsOf W) a i
-  at-row = row-at a (p .shade .arrow) h ei
+  at-row = row-at a (p .marking .arrow) h ei
 
   -- the row is in the table
   pub survey-row-at : (i < W .rows) × (wordsFor (W .rows) ≤ W .size)
-  survey-row-at = (p .shade .good .rows .bounded i (at-row .used), p .shade .good .sizes .room)
+  survey-row-at = (p .marking .good .rows .bounded i (at-row .used), p .marking .good .sizes .room)
 
-  module _ {k₁ d₁ : List ℕ} {f : Found} {b l lo hi : ℕ} (ef : f ≡ find.At b) (known : OddKnown m W a f) (sh : ShadePost (rowsOf W) k₀ k₁ d₀ d₁ b) (n : RowIs (rowsOf W) a i l lo hi) where
+  module _ {k₁ d₁ : List ℕ} {f : Found} {b l lo hi : ℕ} (ef : f ≡ find.At b) (known : OddKnown m W a f) (sh : MarkAddedPost (rowsOf W) k₀ k₁ d₀ d₁ b) (n : RowIs (rowsOf W) a i l lo hi) where
     open-at : Opened m (rowsOf W) a i l lo hi
     open-at = opened (ready-wf (p .ready)) at-row n
 
-    -- then the two arrows that are followed from it, first the low one
-    pub low-asks : {t : ℕ} → depth m (rowsOf W) a ≡ t → length k₁ ≡ length k₀ → length d₁ ≡ length d₀ → (depth m (rowsOf W) lo < t) × SurveyPre m N W s₀ a₀ k₁ d₁ lo
+    -- then the two arrows that are followed from it, first the low one: the measures are 2 d for the work on a row and 2 d + 1 for any arrow
+    pub low-asks : {t : ℕ} → 2 * depth m (rowsOf W) a ≡ t → length k₁ ≡ length k₀ → length d₁ ≡ length d₀
+        → (2 * depth m (rowsOf W) lo + 1 < t) × SurveyPre m N W s₀ a₀ k₁ d₁ lo
     low-asks q ek ed = (
-      subst (λ (k : ℕ). depth m (rowsOf W) lo < k) q (low-falls open-at),
+      subst (λ (k : ℕ). 2 * depth m (rowsOf W) lo + 1 < k) q (part-falls (depth m (rowsOf W) lo) (depth m (rowsOf W) a) (low-falls open-at)),
       record {
         ready = p .ready;
-        seen-size = p .seen-size;
+        seen-room = p .seen-room;
         above-size = p .above-size;
-        surveys = surveys-darker (sh .marks .kept) (p .surveys);
-        shade = shade-next (p .shade) ek ed sh (open-at .parts .low-arrow);
+        surveys = surveys-marked-more (sh .marks .kept) (p .surveys);
+        marking = added-next (p .marking) ek ed sh (open-at .parts .low-arrow);
       },
     )
 
     module _ {s₁ a₁ k₂ d₂ : List ℕ} (low : SurveyPost m (rowsOf W) s₀ s₁ a₀ a₁ k₁ k₂ d₁ d₂ lo) where
-      pub high-asks : {t : ℕ} → depth m (rowsOf W) a ≡ t → length s₁ ≡ length s₀ → length a₁ ≡ length a₀ → length k₂ ≡ length k₀ → length d₂ ≡ length d₀
-          → (depth m (rowsOf W) hi < t) × SurveyPre m N W s₁ a₁ k₂ d₂ hi
+      pub high-asks : {t : ℕ} → 2 * depth m (rowsOf W) a ≡ t → length s₁ ≡ length s₀ → length a₁ ≡ length a₀ → length k₂ ≡ length k₀ → length d₂ ≡ length d₀
+          → (2 * depth m (rowsOf W) hi + 1 < t) × SurveyPre m N W s₁ a₁ k₂ d₂ hi
       high-asks q es ea ek ed = (
-        subst (λ (k : ℕ). depth m (rowsOf W) hi < k) q (high-falls open-at (extends-refl (rowsOf W))),
+        subst (λ (k : ℕ). 2 * depth m (rowsOf W) hi + 1 < k) q (part-falls (depth m (rowsOf W) hi) (depth m (rowsOf W) a) (high-falls open-at (extends-refl (rowsOf W)))),
         record {
           ready = p .ready;
-          seen-size = es ∙ p .seen-size;
+          seen-room = let r = p .seen-room in omega (arith, es, r);
           above-size = ea ∙ p .above-size;
           surveys = low .surveys;
-          shade = record {
-            good = p .shade .good;
+          marking = record {
+            good = p .marking .good;
             arrow = open-at .parts .high-arrow;
-            marks-size = ek ∙ p .shade .marks-size;
-            counts-size = ed ∙ p .shade .counts-size;
-            roots = p .shade .roots;
-            shades = low .shades (p .shade .roots) (sh .shades (p .shade .roots) (p .shade .shades));
+            room = let r = p .marking .room in omega (arith, ek, r);
+            counts-size = ed ∙ p .marking .counts-size;
+            roots = p .marking .roots;
+            added-counts = low .added-counts (p .marking .roots) (sh .added-counts (p .marking .roots) (p .marking .added-counts));
           };
         },
       )
@@ -188,10 +185,10 @@ module _ {m N : ℕ} {W : View} {s₀ a₀ k₀ d₀ : List ℕ} {a i : ℕ} (p 
       module _ {s₂ a₂ k₃ d₃ : List ℕ} (off : isOn s₀ a ≡ false) (high : SurveyPost m (rowsOf W) s₁ s₂ a₁ a₂ k₂ k₃ d₂ d₃ hi) where
         -- it has no bit still: what is followed from the parts lies deeper
         apart : (x : ℕ) → Arrow (rowsOf W) x → l < levelOf m (rowsOf W) x → Follows (rowsOf W) x a → ⊥
-        apart x u deep t =
+        apart x u lower t =
             let (w, d) = follows-level (ready-wf (p .ready)) u t in
             let e = open-at .level in
-            omega (arith, d, e, deep)
+            omega (arith, d, e, lower)
 
         still-off : On s₂ a → ⊥
         still-off o =
@@ -202,9 +199,9 @@ module _ {m N : ℕ} {W : View} {s₀ a₀ k₀ d₀ : List ℕ} {a i : ℕ} (p 
         pub survey-counts : length a₂ ≡ length a₀ → (l < length a₂) × (countOf a₂ l < MOST)
         survey-counts e =
             let s = high .surveys in
-            let g = p .shade .good in
+            let g = p .marking .good in
             let below : (c : ℕ) → Arrow (rowsOf W) c → c < 2 * W .rows + 2 = λ c u. arrow-below c (target c) refl (g .rows) u in
-            let n = pigeonhole (2 * W .rows + 2) (a ∷ s .list) ((λ x. still-off (s .marked a x)), s .once) (λ c x. ⊎-elim (λ q. rw q (below a (p .shade .arrow))) (λ y. below c (s .arrow c y)) (mem-cases x)) in
+            let n = pigeonhole (2 * W .rows + 2) (a ∷ s .list) ((λ x. still-off (s .marked a x)), s .once) (λ c x. ⊎-elim (λ q. rw q (below a (p .marking .arrow))) (λ y. below c (s .arrow c y)) (mem-cases x)) in
             let w = s .few l in
             let r = g .sizes .N-max in
             let t = g .sizes .n-max in
@@ -222,15 +219,15 @@ module _ {m N : ℕ} {W : View} {s₀ a₀ k₀ d₀ : List ℕ} {a i : ℕ} (p 
           surveys = record {
             list = a ∷ s .list;
             once = ((λ x. still-off (s .marked a x)), s .once);
-            arrow = λ c x. ⊎-elim (λ q. subst (Arrow (rowsOf W)) (sym q) (p .shade .arrow)) (λ y. s .arrow c y) (mem-cases x);
+            arrow = λ c x. ⊎-elim (λ q. subst (Arrow (rowsOf W)) (sym q) (p .marking .arrow)) (λ y. s .arrow c y) (mem-cases x);
             marked = λ c x. ⊎-elim (λ q. subst (On s₃) (sym q) (new .has)) (λ y. on-bit c (s .marked c y)) (mem-cases x);
             all = λ c o. by-cases (ℕ-discrete c a) (λ e. here e) (λ d. there (s .all c (sym (new .other c d) ∙ o)));
-            survey = record { closed = added .closed; counted = λ j. let e = more .each j in let x = added .counted j in omega (arith, e, x) };
+            survey = record { closed = more-so-far .closed; counted = λ j. let e = more .each j in let x = more-so-far .counted j in omega (arith, e, x) };
             covers = λ c x. ⊎-elim (λ q. subst (Cover m (rowsOf W) k₃) (sym q) own) (λ y. s .covers c y) (mem-cases x);
             few = one-more-le more (s .few);
           };
-          darker = λ j o. high .darker j (low .darker j (sh .marks .kept j o));
-          shades = λ roots x. high .shades roots (low .shades roots (sh .shades roots x));
+          marked-more = λ j o. high .marked-more j (low .marked-more j (sh .marks .kept j o));
+          added-counts = λ roots x. high .added-counts roots (low .added-counts roots (sh .added-counts roots x));
         }
           where
             s : Surveys m (rowsOf W) s₂ a₂ k₃
@@ -247,8 +244,8 @@ module _ {m N : ℕ} {W : View} {s₀ a₀ k₀ d₀ : List ℕ} {a i : ℕ} (p 
             passed : (x : ℕ) → ((j : ℕ) → Leads x j → On s₂ x) → Passed (rowsOf W) [] (s .list) x
             passed x has j q = inr (s .all x (has j q))
 
-            added : Survey m (rowsOf W) [] (a ∷ s .list) (bump (countOf a₂) l)
-            added = rw (n .level) (survey-add (s .list) (countOf a₂) a i (s .survey) (at-row .leads)
+            more-so-far : Survey m (rowsOf W) [] (a ∷ s .list) (bump (countOf a₂) l)
+            more-so-far = rw (n .level) (survey-add (s .list) (countOf a₂) a i (s .survey) (at-row .leads)
                 (subst (Passed (rowsOf W) [] (s .list)) (n .low) (passed lo (λ j q. high .kept lo (low .has j q))))
                 (subst (Passed (rowsOf W) [] (s .list)) (n .high) (passed hi (high .has))))
 
@@ -256,5 +253,5 @@ module _ {m N : ℕ} {W : View} {s₀ a₀ k₀ d₀ : List ℕ} {a i : ℕ} (p 
             own = record {
               by = b;
               denotes = known .at b ef;
-              marked = onArrow-le k₁ k₃ (λ j o. high .darker j (low .darker j o)) b (sh .marks .has);
+              marked = onArrow-le k₁ k₃ (λ j o. high .marked-more j (low .marked-more j o)) b (sh .marks .has);
             }

@@ -1,7 +1,5 @@
--- `count_outside` meets its contract: what is marked beside the base is what the arrow reaches beside it. Assumes nothing.
-use mathlib.Core.Path.{refl}
-use Rattle.collect.specs.Answers.{sound-base}
-use Rattle.counting.specs.Counts.{outside-counted}
+-- `count_outside` meets its contract: there are words enough for the marks. Assumes nothing.
+use Rattle.counting.specs.Counts.{few-room, all-room}
 use borrow.Author.Needs.{needs}
 use Rattle.counting.proofs.count_outside.Statement.{statement}
 use Rattle.counting.proofs.count_outside.Tie as tie
@@ -11,7 +9,8 @@ count-outside-spec =
     tie.close
     (tie.spec
     (λ c. search needs)
-    (λ c κs. (c .before .before .before .pre .counts .base .size, refl))
+    (λ c κs. (c .before .before .before .before .pre, few-room (c .before .if1 .taken)))
     (λ c. search needs)
-    (λ c κs. record { base = rw (c .before .before .copy-marks .kept .1 .0) (sound-base (c .before .before .before .before .before .before .pre .sound)); arrow = c .before .before .before .before .before .before .pre .arrow })
-    (λ c. outside-counted (c .before .before .before .before .before .before .before .before .pre .counts .base) (c .before .before .before .before .copy-marks .ensures) (c .before .mark-new .ensures)))
+    (λ c. search needs)
+    (λ c κs. (c .before .before .before .before .pre, all-room (c .before .before .before .before .pre .sound)))
+    (λ c. search needs))

@@ -1,13 +1,13 @@
--- `complement` meets its contract: NOT and AND with V are one chain of steps. Assumes nothing.
+-- `complement` meets its contract: NOT and AND with V are one chain of steps; where V is every state, the second answers and needs what the first
+-- does. Assumes nothing.
 use mathlib.Core.Path.{_∙_}
 use native.Mathlib.Omega.{arith}
+use Rattle.counting.specs.After.{and-all}
 use Rattle.modal.specs.Chain.{base-bits, took}
 use Rattle.modal.specs.Laws.{not-asks, not-full, in-base, in-asks, complement-ends}
 use borrow.Author.Needs.{needs}
 use Rattle.modal.proofs.complement.Statement.{statement}
 use Rattle.modal.proofs.complement.Tie as tie
-use Rattle.modal.proofs.complement.Reads as reads
-use Rattle.modal.proofs.complement.Lts as lts
 
 pub complement-spec : {M : Type 1} → statement M
 complement-spec =
@@ -20,7 +20,10 @@ complement-spec =
     (λ c. c .before .before .before .before .before .before .take .kept .0)
     (λ c. c .before .before .before .before .before .before .take .kept .1 .0)
     (λ c. (not-full (c .before .before .before .before .before .before .before .before .before .before .before .before .before .args .count) (c .before .before .before .before .before .before .before .before .before .before .before .before .before .pre .0) (took (c .before .before .before .before .before .before .before .before .before .before .before .before .before .pre .0 .base) (not-asks (c .before .before .before .before .before .before .before .before .before .before .before .before .before .args .count) (c .before .before .before .before .before .before .before .before .before .before .before .before .before .pre .0)) (c .before .before .before .before .before .before .take .ensures .0) (c .before .before .before .before .before .before .take .ensures .2)) (c .enum-told .given .1), c .before .before .before .before .before .before .take .ensures .1))
-    (λ c κs. let s = took (c .before .before .before .before .before .before .before .before .before .before .before .before .before .before .before .before .pre .0 .base) (not-asks (c .before .before .before .before .before .before .before .before .before .before .before .before .before .before .before .before .args .count) (c .before .before .before .before .before .before .before .before .before .before .before .before .before .before .before .before .pre .0)) (c .before .before .before .before .before .before .before .before .before .take .ensures .0) (c .before .before .before .before .before .before .before .before .before .take .ensures .2) in (in-asks (c .before .before .before .before .before .before .before .before .before .before .before .before .before .before .before .before .args .count) (c .before .before .before .before .before .before .before .before .before .before .before .before .before .before .before .before .pre .0) s (c .before .before .before .b .given .1), c .before .before .before .before .before .before .before .before .before .take .ensures .1))
-    (λ c. c .before .before .before .before .take2 .kept .0 ∙ c .before .before .before .before .before .before .before .before .before .before .before .before .before .before .take .kept .0)
-    (λ c. c .before .before .before .before .take2 .kept .1 .0 ∙ c .before .before .before .before .before .before .before .before .before .before .before .before .before .before .take .kept .1 .0)
-    (λ c. let s = took (c .before .before .before .before .before .before .before .before .before .before .before .before .before .before .before .before .before .before .before .before .before .pre .0 .base) (not-asks (c .before .before .before .before .before .before .before .before .before .before .before .before .before .before .before .before .before .before .before .before .before .args .count) (c .before .before .before .before .before .before .before .before .before .before .before .before .before .before .before .before .before .before .before .before .before .pre .0)) (c .before .before .before .before .before .before .before .before .before .before .before .before .before .before .take .ensures .0) (c .before .before .before .before .before .before .before .before .before .before .before .before .before .before .take .ensures .2) in (complement-ends (c .before .before .before .before .before .before .before .before .before .before .before .before .before .before .before .before .before .before .before .before .before .args .count) (c .before .before .before .before .before .before .before .before .before .before .before .before .before .before .before .before .before .before .before .before .before .pre .0) s (c .before .before .before .before .before .before .before .before .b .given .1) (took (in-base (c .before .before .before .before .before .before .before .before .before .before .before .before .before .before .before .before .before .before .before .before .before .args .count) (c .before .before .before .before .before .before .before .before .before .before .before .before .before .before .before .before .before .before .before .before .before .pre .0) s (c .before .before .before .before .before .before .before .before .b .given .1)) (in-asks (c .before .before .before .before .before .before .before .before .before .before .before .before .before .before .before .before .before .before .before .before .before .args .count) (c .before .before .before .before .before .before .before .before .before .before .before .before .before .before .before .before .before .before .before .before .before .pre .0) s (c .before .before .before .before .before .before .before .before .b .given .1)) (c .before .before .before .before .take2 .ensures .0) (c .before .before .before .before .take2 .ensures .2)), c .before .before .before .before .take2 .ensures .1)))
+    (λ c. c .before .before .before .before .before .before .before .before .take .kept .0)
+    (λ c. c .before .before .before .before .before .before .before .before .take .kept .1 .0)
+    (λ c. let s = took (c .before .before .before .before .before .before .before .before .before .before .before .before .before .before .before .pre .0 .base) (not-asks (c .before .before .before .before .before .before .before .before .before .before .before .before .before .before .before .args .count) (c .before .before .before .before .before .before .before .before .before .before .before .before .before .before .before .pre .0)) (c .before .before .before .before .before .before .before .before .take .ensures .0) (c .before .before .before .before .before .before .before .before .take .ensures .2) in let z = and-all (c .before .before .before .before .before .before .before .before .before .before .before .before .before .before .before .args .count) _ (c .before .before .b .given .1) (c .before .before .before .before .before .before .before .before .take .ensures) (in-asks (c .before .before .before .before .before .before .before .before .before .before .before .before .before .before .before .args .count) (c .before .before .before .before .before .before .before .before .before .before .before .before .before .before .before .pre .0) s (c .before .before .b .given .1)) (c .if1 .taken) in (complement-ends (c .before .before .before .before .before .before .before .before .before .before .before .before .before .before .before .args .count) (c .before .before .before .before .before .before .before .before .before .before .before .before .before .before .before .pre .0) s (c .before .before .b .given .1) (took (in-base (c .before .before .before .before .before .before .before .before .before .before .before .before .before .before .before .args .count) (c .before .before .before .before .before .before .before .before .before .before .before .before .before .before .before .pre .0) s (c .before .before .b .given .1)) (in-asks (c .before .before .before .before .before .before .before .before .before .before .before .before .before .before .before .args .count) (c .before .before .before .before .before .before .before .before .before .before .before .before .before .before .before .pre .0) s (c .before .before .b .given .1)) (z .0) (z .2)), c .before .before .before .before .before .before .before .before .take .ensures .1))
+    (λ c κs. let s = took (c .before .before .before .before .before .before .before .before .before .before .before .before .before .before .before .before .before .pre .0 .base) (not-asks (c .before .before .before .before .before .before .before .before .before .before .before .before .before .before .before .before .before .args .count) (c .before .before .before .before .before .before .before .before .before .before .before .before .before .before .before .before .before .pre .0)) (c .before .before .before .before .before .before .before .before .before .before .take .ensures .0) (c .before .before .before .before .before .before .before .before .before .before .take .ensures .2) in (in-asks (c .before .before .before .before .before .before .before .before .before .before .before .before .before .before .before .before .before .args .count) (c .before .before .before .before .before .before .before .before .before .before .before .before .before .before .before .before .before .pre .0) s (c .before .before .before .before .b .given .1), c .before .before .before .before .before .before .before .before .before .before .take .ensures .1))
+    (λ c. c .before .before .before .before .take2 .kept .0 ∙ c .before .before .before .before .before .before .before .before .before .before .before .before .before .before .before .take .kept .0)
+    (λ c. c .before .before .before .before .take2 .kept .1 .0 ∙ c .before .before .before .before .before .before .before .before .before .before .before .before .before .before .before .take .kept .1 .0)
+    (λ c. let s = took (c .before .before .before .before .before .before .before .before .before .before .before .before .before .before .before .before .before .before .before .before .before .before .pre .0 .base) (not-asks (c .before .before .before .before .before .before .before .before .before .before .before .before .before .before .before .before .before .before .before .before .before .before .args .count) (c .before .before .before .before .before .before .before .before .before .before .before .before .before .before .before .before .before .before .before .before .before .before .pre .0)) (c .before .before .before .before .before .before .before .before .before .before .before .before .before .before .before .take .ensures .0) (c .before .before .before .before .before .before .before .before .before .before .before .before .before .before .before .take .ensures .2) in (complement-ends (c .before .before .before .before .before .before .before .before .before .before .before .before .before .before .before .before .before .before .before .before .before .before .args .count) (c .before .before .before .before .before .before .before .before .before .before .before .before .before .before .before .before .before .before .before .before .before .before .pre .0) s (c .before .before .before .before .before .before .before .before .before .b .given .1) (took (in-base (c .before .before .before .before .before .before .before .before .before .before .before .before .before .before .before .before .before .before .before .before .before .before .args .count) (c .before .before .before .before .before .before .before .before .before .before .before .before .before .before .before .before .before .before .before .before .before .before .pre .0) s (c .before .before .before .before .before .before .before .before .before .b .given .1)) (in-asks (c .before .before .before .before .before .before .before .before .before .before .before .before .before .before .before .before .before .before .before .before .before .before .args .count) (c .before .before .before .before .before .before .before .before .before .before .before .before .before .before .before .before .before .before .before .before .before .before .pre .0) s (c .before .before .before .before .before .before .before .before .before .b .given .1)) (c .before .before .before .before .take2 .ensures .0) (c .before .before .before .before .take2 .ensures .2)), c .before .before .before .before .take2 .ensures .1)))

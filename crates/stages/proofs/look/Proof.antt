@@ -1,35 +1,20 @@
--- `look` meets its contract: the live rows are marked, the arrows followed are surveyed, and the bounds are compared. Assumes nothing.
-use mathlib.Core.Path.{_≡_, _∙_}
+-- `look` meets its contract: there are words enough for the marks. Assumes nothing.
 use native.Mathlib.Omega.{arith}
-use Prim.Native.Nat.{ℕ}
-use lib.ListN.{length-replicate}
-use borrow.Author.Tests.{not-false}
-use Rattle.soundness.specs.Says.{says-yes}
-use Rattle.stages.specs.Looks.{look-asks, look-levels, look-fits}
+use Rattle.counting.specs.Counts.{few-room, all-room}
+use Rattle.stages.specs.Left.{seen-blank}
 use borrow.Author.Needs.{needs}
 use Rattle.stages.proofs.look.Statement.{statement}
 use Rattle.stages.proofs.look.Tie as tie
-use Rattle.stages.proofs.look.Reads as reads
-use Rattle.stages.proofs.look.Lts as lts
-use Rattle.counting.proofs.mark_live.Reads as mark-live-reads
-use Rattle.stages.proofs.survey.Reads as survey-reads
-use Rattle.stages.proofs.within.Reads as within-reads
 
 pub look-spec : {M : Type 1} → statement M
 look-spec =
     tie.close
     (tie.spec
     (λ c. search needs)
-    (λ c κs. (record { sound = c .before .before .before .before .pre .sound; arrows = c .before .before .before .before .pre .arrows }, c .before .before .before .before .pre .base, length-replicate {A = ℕ} 1875 0))
+    (λ c. search needs)
+    (λ c κs. (c .before .before .before .before .before .before .pre, few-room (c .before .before .if1 .taken), seen-blank 257 (let l = c .before .before .if1 .taken in omega (arith, l))))
     (λ c. search needs)
     (λ c. search needs)
     (λ c. search needs)
-    (λ c. search needs)
-    (λ c. search needs)
-    (λ c κs. look-asks (c .before .before .before .before .before .before .before .before .before .before .pre) (c .before .before .before .before .before .mark-live .ensures) (c .before .before .before .before .before .mark-live .kept .1 .1 .1 .1 .0 ∙ length-replicate {A = ℕ} 1875 0))
-    (λ c. record { fits = λ e. let z : _≡_ {A = ℕ} 0 1 = cc in absurd (omega arith) })
-    (λ c. search needs)
-    (λ c. search needs)
-    (λ c κs. look-levels (c .before .before .before .before .before .before .before .before .before .before .before .before .before .before .before .before .before .before .pre) (c .before .before .before .before .before .before .before .before .before .before .before .before .before .mark-live .ensures) (c .before .before .before .before .before .before .before .survey .ensures (not-false _ (c .before .before .if1 .left))) (c .before .before .before .before .before .before .before .survey .kept .1 .1 .1 .1 .0 ∙ length-replicate {A = ℕ} 34 0) (c .before .before .before .before .before .before .before .survey .kept .1 .1 .1 .1 .1 .1 .0 ∙ length-replicate {A = ℕ} 34 0))
-    (λ c. record { fits = λ e. look-fits (c .before .before .before .before .before .before .before .before .before .before .before .before .before .before .before .before .before .before .before .before .pre) (c .before .before .before .before .before .before .before .before .before .before .before .before .before .before .before .mark-live .ensures) (c .before .before .before .before .before .before .before .before .before .survey .ensures (not-false _ (c .before .before .before .before .if1 .left))) (says-yes (c .if2 .taken) (c .before .within .ensures)) })
-    (λ c. record { fits = λ e. let z : _≡_ {A = ℕ} 0 1 = cc in absurd (omega arith) }))
+    (λ c κs. (c .before .before .before .before .before .before .pre, all-room (c .before .before .before .before .before .before .pre .sound), seen-blank 3751 (let l = c .before .before .before .before .before .before .pre .sound .good .sizes .N-max in omega (arith, l))))
+    (λ c. search needs))
