@@ -17,7 +17,7 @@ use Rattle.accounts.specs.declared.Count.{Count}
 use Rattle.accounts.specs.Count.{nothing}
 use Rattle.book.specs.Over.{states, pairs}
 use Rattle.book.specs.Ticks.{Tick, ticks, relationTicks, Verdict, counted, full, spent, verdict, withinRounds, peak}
-use Rattle.book.specs.Verdicts.{fit}
+use Rattle.book.specs.Run.{fit}
 use Rattle.book.specs.Larger.{fit-peak, full-peak}
 use Rattle.book.specs.Effects.{does-set, does-relation, does-valid}
 use Rattle.book.specs.Book.{formulaIn, Book, Call, relation, set, valid, clear, collect, unfilled, validDone, registers, relations, modelOf, liveOf, checks, Done, ended, relationDone, setDone, does}

@@ -18,7 +18,8 @@ use Rattle.mucalculus.specs.Rounds.{iter-on, same-set}
 use Rattle.accounts.specs.declared.Count.{Count}
 use Rattle.accounts.specs.Count.{needing, another}
 use Rattle.book.specs.Ticks.{Tick, step, round, roundTicks, counted, full, spent, verdict, withinRounds, peak}
-use Rattle.book.specs.Verdicts.{fit, verdict-full, not-full, not-spent}
+use Rattle.book.specs.Run.{fit}
+use Rattle.book.specs.Verdicts.{verdict-full, not-full, not-spent}
 
 -- what is answered with some N and R is answered alike with more
 pub verdict-more : (N M R S : ℕ) → N ≤ M → R ≤ S → (r : Count) (l : List Tick) (q : Count) → verdict N R r l ≡ counted q → verdict M S r l ≡ counted q

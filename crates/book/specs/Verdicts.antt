@@ -26,7 +26,7 @@ use Rattle.accounts.specs.Count.{needing, another}
 use Rattle.book.specs.Bridge.{fnOf, fnOfPairs}
 use Rattle.book.specs.Over.{states, pairs, pairF, levels, allPairs, pointsOf, points-value}
 use Rattle.book.specs.Ticks.{Tick, step, round, steps, roundTicks, ticks, existsNeeds, notNeed, twoNeed, bitNeeds, notNeeds, withinNeeds, relationTicks, diaNeeds, boxNeeds, furtherTicks, keepTicks, untilTicks, Verdict, counted, full, spent, verdict, withinRounds, peak, needsIn}
-pub use Rattle.book.specs.Run.{fit}
+use Rattle.book.specs.Run.{fit}
 use Rattle.book.specs.Run.{Outcome, value, full as fullRun, spent as spentRun, andThen, existsSteps, notStep, twoStep, twoBy, diaSteps, boxSteps, furtherSteps, bothBy, keepRound, untilRound, loop, negStep, run, pairNeeds, relationNeeds, pairsFit, pairsCount, needingAll, relationFits, relationCount, bitStep}
 
 -- how many rounds a list of ticks has

@@ -31,7 +31,8 @@ use Rattle.book.specs.Bridge.{fnOf, fnOfPairs, fnOf-not, fnOf-and}
 use Rattle.book.specs.Over.{Over, states, levels, sizeOf, nowBit, levels-and, levels-or}
 use Rattle.book.specs.Diamond.{diamondF, diamond-exact}
 use Rattle.book.specs.Ticks.{counted, full as fullVerdict, diamondNeeds, diaNeeds, notNeeds, boxNeeds}
-use Rattle.book.specs.Verdicts.{fit, settle, steps-verdict, dia-ticks, box-ticks}
+use Rattle.book.specs.Run.{fit}
+use Rattle.book.specs.Verdicts.{settle, steps-verdict, dia-ticks, box-ticks}
 use Rattle.book.specs.Run.{needingAll, Outcome, value, full, spent, andThen, step, confine, bothBy, diaSteps, boxSteps, loop, run}
 use Rattle.book.specs.Follow.{ends, MatchesBy, Matches, EvalsBy, Evals, Stops, evals-same}
 use Rattle.book.specs.Pairs.{PairEvals, PairMatches}

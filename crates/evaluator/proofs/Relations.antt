@@ -36,7 +36,7 @@ use Rattle.book.specs.Book.{relations}
 use Rattle.book.specs.Ticks.{diamondNeeds}
 use Rattle.book.specs.Diamond.{diamondF}
 use Rattle.book.specs.Run.{needingAll}
-use Rattle.book.specs.Verdicts.{fit}
+use Rattle.book.specs.Run.{fit}
 use Rattle.book.specs.Held.{denoted}
 use Rattle.book.specs.Follow.{Evals, evals-same, evals-then, evals-from}
 use Rattle.book.specs.Pairs.{PairEvals}

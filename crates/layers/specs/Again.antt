@@ -9,7 +9,7 @@ use Rattle.accounts.specs.declared.Count.{Count}
 use Rattle.layout.specs.View.{View}
 use Rattle.counting.specs.declared.Taken.{Taken}
 use Rattle.counting.specs.declared.Taken.the-variants as taken
-use Rattle.book.specs.Verdicts.{fit}
+use Rattle.book.specs.Run.{fit}
 use Rattle.layers.specs.Next.{NextPost}
 use Rattle.layers.specs.Scene.{Scene, Start, Layered, needsOf, layered-next, layered-full, full-after}
 

@@ -28,7 +28,8 @@ use Rattle.book.specs.Ticks.{diamondNeeds, diaNeeds, twoNeed}
 use Rattle.book.specs.Bridge.{fnOf, fnOfPairs, fnOf-or}
 use Rattle.book.specs.Diamond.{diamondF, diamond-exact}
 use Rattle.book.specs.Run.{needingAll}
-use Rattle.book.specs.Verdicts.{fit, fit-append, count-append}
+use Rattle.book.specs.Run.{fit}
+use Rattle.book.specs.Verdicts.{fit-append, count-append}
 use Rattle.book.specs.Held.{Held, denoted, held-push, held-operand, held-keeps}
 use Rattle.modal.specs.Chain.{Alike, alike-once, held-alike, held-own, Base, Moved, base-next, step-pre, Took, Ran, ran-step, ran-stop, ran-kept, ran-value, ran-then}
 use Rattle.modal.specs.Modal.{ModalPre, DiamondPost}

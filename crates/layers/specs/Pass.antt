@@ -23,7 +23,7 @@ use Rattle.collect.specs.Answers.{sound-base}
 use Rattle.book.specs.States.{pairVal, nowOf-pairVal}
 use Rattle.book.specs.Bridge.{fnOf}
 use Rattle.book.specs.Turns.{arrow-same, arrow-apart}
-use Rattle.book.specs.Verdicts.{fit}
+use Rattle.book.specs.Run.{fit}
 use Rattle.modal.specs.Chain.{Base, Moved, base-bits}
 use Rattle.paths.specs.Runs.{layer, firstOf, common, meets, still, lastLayer, layerNeeds}
 use Rattle.paths.specs.First.{first-found, first-is, first-same}

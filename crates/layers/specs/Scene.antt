@@ -26,7 +26,8 @@ use Rattle.operations.specs.Work.{OpFrame}
 use Rattle.steps.specs.Steps.{live-same}
 use Rattle.book.specs.Bridge.{fnOf, fnOfPairs, fnOf-even, Sized}
 use Rattle.book.specs.Run.{needingAll}
-use Rattle.book.specs.Verdicts.{fit, fit-append}
+use Rattle.book.specs.Run.{fit}
+use Rattle.book.specs.Verdicts.{fit-append}
 use Rattle.book.specs.Held.{Held, held-keeps}
 use Rattle.book.specs.Pairs.{PairMatches}
 use Rattle.modal.specs.Chain.{Base, Moved, moved-refl, moved-trans, base-next, base-wf, Ran}

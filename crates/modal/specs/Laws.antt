@@ -28,7 +28,8 @@ use Rattle.counting.specs.declared.Taken.the-variants as taken
 use Rattle.book.specs.Ticks.{existsNeeds, diamondNeeds, counted, full as fullVerdict}
 use Rattle.book.specs.Run.{needingAll, value, full as fullRun, existsSteps}
 use Rattle.book.specs.Diamond.{existsNext, diamondF}
-use Rattle.book.specs.Verdicts.{fit, fit-append, count-append, settle, steps-verdict, exists-ticks}
+use Rattle.book.specs.Run.{fit}
+use Rattle.book.specs.Verdicts.{fit-append, count-append, settle, steps-verdict, exists-ticks}
 use Rattle.book.specs.Held.{Held, denoted, held-arrow, held-push, held-operand, held-keeps}
 use Rattle.book.specs.Pairs.{PairMatches}
 use Rattle.book.specs.Modal.{Quantifies, quantify-start, quantify-on, quantify-out, quantify-end}

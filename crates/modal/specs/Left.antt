@@ -41,7 +41,8 @@ use Rattle.stages.specs.Rest.{RestPre, RestPost}
 use Rattle.book.specs.Ticks.{existsNeeds, counted, full as fullVerdict}
 use Rattle.book.specs.Run.{value, existsSteps, needingAll}
 use Rattle.book.specs.Diamond.{existsNext}
-use Rattle.book.specs.Verdicts.{fit, settle}
+use Rattle.book.specs.Run.{fit}
+use Rattle.book.specs.Verdicts.{settle}
 use Rattle.book.specs.Held.{Held, denoted}
 use Rattle.book.specs.Pairs.{PairMatches}
 use Rattle.book.specs.Modal.{Quantifies}

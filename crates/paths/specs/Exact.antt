@@ -12,7 +12,8 @@ use Rattle.mucalculus.specs.Sets.{and-in, and-out}
 use Rattle.mucalculus.specs.Form.{Pairs}
 use Rattle.diagram.specs.Level.{Fn}
 use Rattle.book.specs.Bridge.{Sized}
-use Rattle.book.specs.Verdicts.{fit, fit-append}
+use Rattle.book.specs.Run.{fit}
+use Rattle.book.specs.Verdicts.{fit-append}
 use Rattle.paths.specs.Runs.{isRun, Shortest, layer, meets, lastLayer, route, layerNeeds, madeNeeds, againNeeds, pathNeeds, Outcome, full, none, short, found, outcome}
 use Rattle.paths.specs.Layers.{run-meets}
 use Rattle.paths.specs.Written.{route-shortest, shortest-only}

@@ -6,7 +6,7 @@ use Prim.Native.Nat.{ℕ}
 use Rattle.mucalculus.specs.Form.{Pairs}
 use Rattle.diagram.specs.Level.{Fn}
 use Rattle.book.specs.Bridge.{fnOf, fnOfPairs}
-use Rattle.book.specs.Verdicts.{fit}
+use Rattle.book.specs.Run.{fit}
 use Rattle.book.specs.Compute.{computing}
 use Rattle.paths.specs.Runs.{layer, layerNeeds, madeNeeds, pathNeeds, outcome, full, none, short, found}
 

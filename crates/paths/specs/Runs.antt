@@ -12,7 +12,7 @@ use Rattle.mucalculus.specs.Means.{pair, union, sometimes}
 use Rattle.diagram.specs.Level.{Fn}
 use Rattle.book.specs.Bridge.{fnOf}
 use Rattle.book.specs.Ticks.{diaNeeds, twoNeed}
-use Rattle.book.specs.Verdicts.{fit}
+use Rattle.book.specs.Run.{fit}
 
 -- ---- runs over k states
 

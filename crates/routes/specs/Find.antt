@@ -16,7 +16,7 @@ use Rattle.diagram.specs.Keep.{Keeps, keeps-trans}
 use Rattle.soundness.specs.Used.{rowsOf}
 use Rattle.soundness.specs.Filled.{filled}
 use Rattle.book.specs.Bridge.{fnOf}
-use Rattle.book.specs.Verdicts.{fit}
+use Rattle.book.specs.Run.{fit}
 use Rattle.book.specs.Table.{Reply}
 use Rattle.book.specs.Leaves.{plain}
 use Rattle.modal.specs.Chain.{moved-trans, base-bits}

@@ -19,7 +19,7 @@ use Rattle.soundness.specs.Used.{rowsOf}
 use Rattle.soundness.specs.Filled.{filled, filled-arrow}
 use Rattle.book.specs.States.{pairVal, nowOf-pairVal, nextOf-pairVal}
 use Rattle.book.specs.Bridge.{fnOf, fnOfPairs}
-use Rattle.book.specs.Verdicts.{fit}
+use Rattle.book.specs.Run.{fit}
 use Rattle.book.specs.Held.{Held, held-keeps}
 use Rattle.modal.specs.Chain.{Base, Moved, moved-refl, moved-trans, base-next, base-bits, base-wf}
 use Rattle.paths.specs.Runs.{runsInto, layer, firstOf, onward, written}

@@ -7,7 +7,7 @@ use Rattle.soundness.specs.Used.{rowsOf}
 use Rattle.table.specs.declared.Made.{Made}
 use Rattle.operations.specs.Work.{Ready, Worked}
 use Rattle.steps.specs.declared.Step.{Step}
-use Rattle.steps.specs.Steps.{stepF, Fits, Stepped}
+use Rattle.steps.specs.Steps.{stepF, Fits}
 use Rattle.steps.specs.Again.{Retried}
 
 -- a step can be tried: the table is ready, and the operands are arrows of it
@@ -22,7 +22,3 @@ TryPost levels rows limit before after step made =
 -- the answer of a step that is tried once more, after collecting
 abbrev pub RetriedIn : (levels rows limit : ℕ) (before after roots : List ℕ) (step : Step) (made : Made) → Type 0
 RetriedIn levels rows limit before after roots step made = Retried levels rows limit (view rows before) (view rows after) roots step made
-
--- the answer of a step: FULL exactly where what is live and the result need more rows than the limit
-abbrev pub SteppedIn : (levels rows limit : ℕ) (before after roots : List ℕ) (step : Step) (made : Made) → Type 0
-SteppedIn levels rows limit before after roots step made = Stepped levels rows limit (view rows before) (view rows after) roots step made

@@ -18,7 +18,7 @@ ghost use Rattle.table.specs.Code.{madeOf};
 ghost use Rattle.steps.specs.Steps.{firstOperand, secondOperand, StepPre};
 ghost use Rattle.steps.specs.Clean.{CleanPre, Cleaned};
 ghost use Rattle.steps.specs.Settle.{SettlePre, SettlePost};
-ghost use Rattle.steps.specs.Posts.{TryPre, TryPost, RetriedIn, SteppedIn};
+ghost use Rattle.steps.specs.Posts.{TryPre, TryPost, RetriedIn};
 
 // A step and its operands: bits and EXISTS have a level first.
 pub enum Step {
