@@ -155,8 +155,8 @@ pub fn mark_live(words: &[u32], rows: u32, counts: &[u32], roots: &[u32], marks:
 
 // How many rows registers, relations and two lists of further arrows reach, with words for the marks.
 fn count_marking(words: &[u32], rows: u32, counts: &[u32], marks: &mut [u32], roots: &[u32], more: &[u32]) -> u32
-    requires { ⌜ FreePre (view rows (now words)) (now roots ++ now more) × BaseOf (view rows (now words)) (now counts) × MarkRoom rows (length (now marks)) ⌝ }
-    ensures { λ r. ⌜ Reaches (rowsOf (view rows (now (words .entry)))) (live (view rows (now (words .entry))) (now (roots .entry) ++ now (more .entry))) r ⌝ }
+    requires { ⌜ LivePre rows (now words) (now counts) (now roots ++ now more) (now marks) ⌝ }
+    ensures { λ r. ⌜ LiveReaches rows (now (words .entry)) (now (roots .entry)) (now (more .entry)) r ⌝ }
 {
     copy_marks(counts, marks);
     let base = counts[Counts::NUMBER];
