@@ -18,7 +18,7 @@ use Rattle.accounts.specs.Terms.{termsWith, termsOf}
 use Rattle.book.specs.Book.{Call, set}
 use Rattle.book.specs.Table.{Reply}
 use Rattle.book.specs.Tallies.{charged, freshened}
-use Rattle.contract.specs.Posts.{FreshPost, CallPost, SetAllPost}
+use Rattle.contract.specs.Posts.{FreshPost, CallPost, FreshAllPost, SetAllPost}
 use Rattle.formula_steps.specs.Replies.{storedReply}
 use Rattle.formula_steps.specs.declared.Stored.{Stored}
 use Rattle.formula_steps.specs.declared.Stored.the-variants as stored
@@ -28,6 +28,10 @@ use Rattle.calls.specs.declared.Started.{Started}
 use Rattle.calls.specs.declared.Started.the-variants as started
 
 -- ---- set
+
+-- `set` under these terms: the words and the reply are those of the call
+abbrev pub SetPost : (terms : Terms) (r R : ℕ) (bs old new : List ℕ) (reply : Reply) → Type 0
+SetPost terms r R bs old new reply = CallPost (set terms r R bs) old new reply
 
 -- the rounds of an answered set, 0 of a refused one
 abbrev pub roundsOf : Stored → ℕ
@@ -89,6 +93,10 @@ made-within (started.Refused e) k = zero-le
 pub record FreshListPost (n N : ℕ) (old new : List ℕ) (before after : List Account) (x : Started) : Type 0 where
   pub table : FreshBoth n N (length before) old new x
   pub list : after ≡ freshened before (startedReply x)
+
+-- so a list over words and accounts may begin with it (contract, Shared and Bigger)
+pub fresh-all : (n N : ℕ) (old new : List ℕ) (before after : List Account) (x : Started) → FreshListPost n N old new before after x → FreshAllPost n N old new before after (startedReply x)
+fresh-all n N old new before after x p = record { table = p .table .post; list = p .list }
 
 pub made-list : (l : List Account) (x : Started) → emptiedTo (madeCount x (length l)) l ≡ freshened l (startedReply x)
 made-list l started.Ready = refl

@@ -10,9 +10,9 @@ ghost use mathlib.Core.Path.{_≡_};
 ghost use Rattle.accounts.specs.Listed.{none};
 ghost use Rattle.accounts.specs.Terms.{termsWith};
 ghost use Rattle.book.specs.Book as book;
-ghost use Rattle.contract.specs.Posts.{CallPost, SetAllPost};
+ghost use Rattle.contract.specs.Posts.{SetAllPost};
 ghost use Rattle.formula_steps.specs.Replies.{storedReply};
-ghost use Rattle.account_calls.specs.Lists.{roundsOf, FreshBoth, madeCount, FreshListPost};
+ghost use Rattle.account_calls.specs.Lists.{roundsOf, FreshBoth, madeCount, FreshListPost, SetPost};
 
 // A set call under the limits of an account that was read at a place.
 pub fn set_named(
@@ -24,7 +24,8 @@ pub fn set_named(
     most: u32,
     bytes: &[u8],
 ) -> Stored
-    ensures { λ x. ⌜ CallPost (book.set (termsWith count place a) r most (now (bytes .entry))) (now (words .entry)) (now (words .exit)) (storedReply x) ⌝ }
+    ensures { λ x. ⌜ SetPost (termsWith count place a) r most (now (bytes .entry)) (now (words .entry)) (now (words .exit))
+        (storedReply x) ⌝ }
 {
     formula_calls::set(words, terms_of(count, place, a), r, most, bytes)
 }
@@ -38,7 +39,8 @@ pub fn set_unnamed(
     most: u32,
     bytes: &[u8],
 ) -> Stored
-    ensures { λ x. ⌜ CallPost (book.set (termsWith count place none) r most (now (bytes .entry))) (now (words .entry)) (now (words .exit)) (storedReply x) ⌝ }
+    ensures { λ x. ⌜ SetPost (termsWith count place none) r most (now (bytes .entry)) (now (words .entry)) (now (words .exit))
+        (storedReply x) ⌝ }
 {
     formula_calls::set(words, unnamed(count, place), r, most, bytes)
 }
@@ -66,7 +68,8 @@ pub fn set(
     most: u32,
     bytes: &[u8],
 ) -> Stored
-    ensures { λ x. ⌜ SetAllPost place r most (now (bytes .entry)) (now (words .entry)) (now (words .exit)) (now (accounts .entry)) (now (accounts .exit)) (storedReply x) ⌝ }
+    ensures { λ x. ⌜ SetAllPost place r most (now (bytes .entry)) (now (words .entry)) (now (words .exit))
+        (now (accounts .entry)) (now (accounts .exit)) (storedReply x) ⌝ }
 {
     let at = place as usize;
     let count = accounts.len();

@@ -3,3 +3,4 @@ pub mod Lent
 pub mod Counted
 pub mod Freed
 pub mod Answers
+pub mod Posts

@@ -11,25 +11,24 @@ use soundness::marked;
 use soundness::row_bucket;
 use table::append;
 ghost use mathlib.Core.Path.{_≡_};
-ghost use mathlib.Core.List.{_++_, List·Memᴰ as Mem};
-ghost use Prim.Native.Nat.{ℕ, _*_, _<_, _≤_};
+ghost use mathlib.Core.List.{_++_};
+ghost use Prim.Native.Nat.{_*_, _<_, _≤_};
 ghost use lib.ListN.{length};
-ghost use Rattle.layout.specs.Places.{MAX-ROWS, USED, VALID, ROOTS-END, wordsFor};
-ghost use Rattle.layout.specs.View.{view, headerOf, listOf, putHeader};
-ghost use Rattle.soundness.specs.Used.{rowsOf, Ranked};
-ghost use Rattle.soundness.specs.Bits.{On};
-ghost use Rattle.soundness.specs.Roots.{Held, MarksAll, RefsPre};
+ghost use Rattle.layout.specs.Places.{USED, VALID, ROOTS-END, wordsFor};
+ghost use Rattle.layout.specs.View.{view, headerOf};
+ghost use Rattle.soundness.specs.Used.{Ranked};
+ghost use Rattle.soundness.specs.Roots.{RefsPre};
 ghost use Rattle.soundness.specs.Sound.{Good, Sound};
-ghost use Rattle.collect.specs.Lent.{LentPre, live};
-ghost use Rattle.collect.specs.Gather.{Headed, Part, GatherPre, Gathered};
+ghost use Rattle.collect.specs.Lent.{LentPre};
+ghost use Rattle.collect.specs.Gather.{Headed, GatherPre, Gathered};
 ghost use Rattle.collect.specs.Counted.{markOf, markCount};
-ghost use Rattle.collect.specs.Freed.{Freed};
 ghost use Rattle.collect.specs.Answers.{FreePre, CollectPost, FreeManyPost};
+ghost use Rattle.collect.specs.Posts.{MarksLent, MarksFilled, MarksLive, MarkLivePre, HeadsPre, RegatheredIn, FreedIn};
 
 // Marks the rows that a list of arrows reaches.
 fn mark_list(words: &[u32], rows: u32, marks: &mut [u32], roots: &[u32])
     requires { ⌜ LentPre (view rows (now words)) (length (now marks)) (now roots) ⌝ }
-    ensures { λ _. ⌜ MarksAll (rowsOf (view rows (now (words .entry)))) (now (marks .entry)) (now (marks .exit)) (λ a. Mem a (now (roots .entry))) ⌝ }
+    ensures { λ _. ⌜ MarksLent rows (now (words .entry)) (now (marks .entry)) (now (marks .exit)) (now (roots .entry)) ⌝ }
 {
     let mut k = 0;
     while k < roots.len() {
@@ -41,15 +40,15 @@ fn mark_list(words: &[u32], rows: u32, marks: &mut [u32], roots: &[u32])
 // Marks the rows that V, registers and relations reach.
 pub fn mark_filled(words: &[u32], rows: u32, marks: &mut [u32])
     requires { ⌜ RefsPre (view rows (now words)) (length (now marks)) VALID ROOTS-END ⌝ }
-    ensures { λ _. ⌜ MarksAll (rowsOf (view rows (now (words .entry)))) (now (marks .entry)) (now (marks .exit)) (Held (view rows (now (words .entry))) VALID ROOTS-END) ⌝ }
+    ensures { λ _. ⌜ MarksFilled rows (now (words .entry)) (now (marks .entry)) (now (marks .exit)) ⌝ }
 {
     mark_refs(words, rows, marks, Table::VALID, Table::ROOTS_END);
 }
 
 // Marks the rows that V, registers, relations and further roots reach.
 fn mark_roots(words: &[u32], rows: u32, marks: &mut [u32], roots: &[u32])
-    requires { ⌜ RefsPre (view rows (now words)) (length (now marks)) VALID ROOTS-END × LentPre (view rows (now words)) (length (now marks)) (now roots) ⌝ }
-    ensures { λ _. ⌜ MarksAll (rowsOf (view rows (now (words .entry)))) (now (marks .entry)) (now (marks .exit)) (λ a. Mem a (live (view rows (now (words .entry))) (now (roots .entry)))) ⌝ }
+    requires { ⌜ MarkLivePre rows (now words) (now marks) (now roots) ⌝ }
+    ensures { λ _. ⌜ MarksLive rows (now (words .entry)) (now (marks .entry)) (now (marks .exit)) (now (roots .entry)) ⌝ }
 {
     mark_filled(words, rows, marks);
     mark_list(words, rows, marks, roots);
@@ -83,7 +82,7 @@ pub fn count_marks(words: &[u32], rows: u32, marks: &[u32]) -> u32
 
 // The heads of the buckets of the first `total` listed rows become empty.
 fn clear_heads(words: &mut [u32], rows: u32, total: u32)
-    requires { ⌜ (total ≤ rows) × (rows ≤ MAX-ROWS) × (wordsFor rows ≤ length (now words)) × ((k : ℕ) → k < total → listOf rows (now words) k < rows) ⌝ }
+    requires { ⌜ HeadsPre rows (now words) total ⌝ }
     ensures { λ _. ⌜ Headed (view rows (now (words .entry))) (view rows (now (words .exit))) ⌝ }
 {
     let mut k = 0;
@@ -98,7 +97,7 @@ fn clear_heads(words: &mut [u32], rows: u32, total: u32)
 // The marked rows of the first `total` listed rows become used, in their order.
 fn regather(words: &mut [u32], rows: u32, total: u32, marks: &[u32])
     requires { ⌜ GatherPre (view rows (now words)) total (length (now marks)) ⌝ }
-    ensures { λ _. ⌜ Part (putHeader (view rows (now (words .entry))) 3 total) (λ j. On (now (marks .entry)) j) total (view rows (now (words .exit))) ⌝ }
+    ensures { λ _. ⌜ RegatheredIn rows (now (words .entry)) (now (words .exit)) (now (marks .entry)) total ⌝ }
 {
     let mut k = 0;
     while k < total {
@@ -146,7 +145,7 @@ pub fn free_many(words: &mut [u32], rows: u32)
 // Frees the rows that neither V nor a register or relation nor one of two lists of further roots needs.
 pub fn free_rows(words: &mut [u32], rows: u32, roots: &[u32], more: &[u32])
     requires { ⌜ FreePre (view rows (now words)) (now roots ++ now more) ⌝ }
-    ensures { λ _. ⌜ Freed (view rows (now (words .entry))) (view rows (now (words .exit))) (live (view rows (now (words .entry))) (now (roots .entry) ++ now (more .entry))) ⌝ }
+    ensures { λ _. ⌜ FreedIn rows (now (words .entry)) (now (words .exit)) (now (roots .entry)) (now (more .entry)) ⌝ }
 {
     let mut marks = [0u32; Bitmap::WORDS];
     mark_roots(words, rows, &mut marks, roots);

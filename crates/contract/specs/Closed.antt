@@ -1,14 +1,15 @@
 -- THE THIRD DEMAND over the lent words: the predicates that stand in the functions' `ensures` implement the book, so the whole claim holds after
 -- every list of calls from an answered fresh. Assumes nothing.
 use mathlib.Core.Path.{_≡_, sym, subst}
-use mathlib.Core.List.{List}
-use Prim.Native.Nat.{ℕ}
+use mathlib.Core.List.{List, _++_}
+use Prim.Native.Nat.{ℕ, _≤_}
 use lib.ListN.{length}
 use Rattle.soundness.specs.Sound.{tableOf}
 use Rattle.book.specs.Book.{Call, Question}
 use Rattle.book.specs.Table.{Reply}
 use Rattle.book.specs.Contract.{Answers, Implements}
-use Rattle.book.specs.Demand.{Event, Session, Demand, third-demand}
+use Rattle.book.specs.Demand.{Event, calls, Session, Demand, third-demand}
+use Rattle.book.specs.Raised.{AllRaised, AllZero, Upgrade, SameVerdicts, Cut, after-each}
 use Rattle.contract.specs.Seen.{seen, SoundWords, sound-table}
 use Rattle.contract.specs.Posts.{FreshPost, CallPost, AskPost}
 
@@ -33,3 +34,9 @@ words-implement = record {
 -- every list of relation, set, valid, clear and collect calls after one answered fresh, refused calls included
 pub words-demand : (n N : ℕ) {end : List ℕ} {l : List Event} → Session (List ℕ) makes performs n N l end → Demand SoundWords seen asks n N l end
 words-demand n N x = third-demand words-implement n N x
+
+-- "BIGGER TABLES, SAME VERDICTS" over the lent words: the same list with every limit raised or equal, after its first calls l and l′, wherever it is cut
+pub words-bigger : (n N M : ℕ) → N ≤ M → M ≤ 60_000 → (l k l′ k′ : List Event) {end end′ : List ℕ} (s : Session (List ℕ) makes performs n N (l ++ k) end)
+    (u : Upgrade (List ℕ) length makes performs n M (s .count) (l′ ++ k′) end′) → AllRaised (calls l) (calls l′) → AllZero l
+    → (x : Cut (List ℕ) performs (s .made) l k end) (x′ : Cut (List ℕ) performs (u .made) l′ k′ end′) → SameVerdicts seen asks n N M (u .reply) l l′ (x .mid) (x′ .mid)
+words-bigger n N M more most l k l′ k′ s u r z x x′ = after-each words-implement n N M more most l k l′ k′ s u r z x x′

@@ -8,3 +8,4 @@ pub mod Checked
 pub mod Answered
 pub mod OneAnswer
 pub mod Shared
+pub mod Bigger

@@ -39,7 +39,7 @@ pub record SharedSession (n N : ℕ) (l : List Event) (end : Lent) : Type 0 wher
   pub rest : Trace Lent Step made l end
 
 -- a call on both is a call on the words, and the list is charged
-step-words : (a b : Lent) (c : Call) (y : Reply) → Step a c b y → CallPost c (a .words) (b .words) y × (b .accounts ≡ charged (a .accounts) c y)
+pub step-words : (a b : Lent) (c : Call) (y : Reply) → Step a c b y → CallPost c (a .words) (b .words) y × (b .accounts ≡ charged (a .accounts) c y)
 step-words a b (relation t bs) y (p, e) = (p, e)
 step-words a b (set acc r R bs) y (f, p) =
     subst (λ (t : Terms). CallPost (set t r R bs) (a .words) (b .words) y × (b .accounts ≡ charged (a .accounts) (set t r R bs) y)) (sym f) (p .table, p .list)
@@ -48,7 +48,7 @@ step-words a b (clear r) y (p, e) = (p, e)
 step-words a b collect y (p, e) = (p, e)
 
 -- so a list on both is one on the words, and the accounts are charged by each call
-trace-words : {a b : Lent} {l : List Event} → Trace Lent Step a l b → Trace (List ℕ) performs (a .words) l (b .words) × (b .accounts ≡ accountsAfter (a .accounts) l)
+pub trace-words : {a b : Lent} {l : List Event} → Trace Lent Step a l b → Trace (List ℕ) performs (a .words) l (b .words) × (b .accounts ≡ accountsAfter (a .accounts) l)
 trace-words stop = (stop, refl)
 trace-words (go {w = a} {v = m} {c = c} {y = y} {l = l} p t) =
     let (q, e) = step-words a m c y p in

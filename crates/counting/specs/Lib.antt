@@ -6,3 +6,4 @@ pub mod Begin
 pub mod Bound
 pub mod Peak
 pub mod After
+pub mod Posts

@@ -28,16 +28,16 @@ ghost use Rattle.soundness.specs.Bits.{MARK-WORDS, isOn};
 ghost use Rattle.soundness.specs.Mark.{MarkPre};
 ghost use Rattle.soundness.specs.Sound.{Sound};
 ghost use Rattle.soundness.specs.Filled.{filled};
-ghost use Rattle.diagram.specs.Sizes.{Reaches, Outside};
-ghost use Rattle.collect.specs.Lent.{LentPre, live};
+ghost use Rattle.diagram.specs.Sizes.{Outside};
+ghost use Rattle.collect.specs.Lent.{LentPre};
 ghost use Rattle.collect.specs.Answers.{FreePre};
-ghost use Rattle.steps.specs.Steps.{StepPre};
 ghost use Rattle.steps.specs.Clean.{CleanPre};
 ghost use Rattle.counting.specs.News.{MarksNew, ListNew};
 ghost use Rattle.counting.specs.Sizes.{placeOf, putSize};
 ghost use Rattle.counting.specs.Counts.{COUNT-WORDS, Blank, BaseOf, CountsOf, Emptied, MarkRoom, LiveMarked};
 ghost use Rattle.counting.specs.Bound.{SizePre, SizePost, SumPost, WithinPost};
-ghost use Rattle.counting.specs.Peak.{NotePost, StepCounted, TakenPost};
+ghost use Rattle.counting.specs.Peak.{NotePost};
+ghost use Rattle.counting.specs.Posts.{LivePre, LiveReaches, TakePre, StepCountedIn, TakenIn};
 
 // What an evaluation counts rows with: marks of the rows that registers and relations reach, the base; how many these are; and sizes, which
 // are remembered: of an arrow, how many rows it reaches beside the base.
@@ -58,6 +58,7 @@ pub struct Few;
 
 impl Few {
     pub const ROWS: u32 = 4096;
+
     pub const MARKS: usize = 128;
 }
 
@@ -145,7 +146,7 @@ fn list_new(words: &[u32], rows: u32, marks: &mut [u32], roots: &[u32]) -> u32
 
 // Marks the rows that registers, relations and a list of arrows reach, and counts them.
 pub fn mark_live(words: &[u32], rows: u32, counts: &[u32], roots: &[u32], marks: &mut [u32]) -> u32
-    requires { ⌜ FreePre (view rows (now words)) (now roots) × BaseOf (view rows (now words)) (now counts) × MarkRoom rows (length (now marks)) ⌝ }
+    requires { ⌜ LivePre rows (now words) (now counts) (now roots) (now marks) ⌝ }
     ensures { λ r. ⌜ LiveMarked (view rows (now (words .entry))) (now (roots .entry)) (now (marks .exit)) r ⌝ }
 {
     copy_marks(counts, marks);
@@ -154,9 +155,16 @@ pub fn mark_live(words: &[u32], rows: u32, counts: &[u32], roots: &[u32], marks:
 }
 
 // How many rows registers, relations and two lists of further arrows reach, with words for the marks.
-fn count_marking(words: &[u32], rows: u32, counts: &[u32], marks: &mut [u32], roots: &[u32], more: &[u32]) -> u32
+fn count_marking(
+    words: &[u32],
+    rows: u32,
+    counts: &[u32],
+    marks: &mut [u32],
+    roots: &[u32],
+    more: &[u32],
+) -> u32
     requires { ⌜ FreePre (view rows (now words)) (now roots ++ now more) × BaseOf (view rows (now words)) (now counts) × MarkRoom rows (length (now marks)) ⌝ }
-    ensures { λ r. ⌜ Reaches (rowsOf (view rows (now (words .entry)))) (live (view rows (now (words .entry))) (now (roots .entry) ++ now (more .entry))) r ⌝ }
+    ensures { λ r. ⌜ LiveReaches rows (now (words .entry)) (now (roots .entry)) (now (more .entry)) r ⌝ }
 {
     copy_marks(counts, marks);
     let base = counts[Counts::NUMBER];
@@ -168,7 +176,7 @@ fn count_marking(words: &[u32], rows: u32, counts: &[u32], marks: &mut [u32], ro
 // How many rows registers, relations and two lists of further arrows reach.
 fn count_live(words: &[u32], rows: u32, counts: &[u32], roots: &[u32], more: &[u32]) -> u32
     requires { ⌜ FreePre (view rows (now words)) (now roots ++ now more) × BaseOf (view rows (now words)) (now counts) ⌝ }
-    ensures { λ r. ⌜ Reaches (rowsOf (view rows (now (words .entry)))) (live (view rows (now (words .entry))) (now (roots .entry) ++ now (more .entry))) r ⌝ }
+    ensures { λ r. ⌜ LiveReaches rows (now (words .entry)) (now (roots .entry)) (now (more .entry)) r ⌝ }
 {
     if rows <= Few::ROWS {
         let mut few = [0u32; Few::MARKS];
@@ -339,8 +347,9 @@ fn take_counted(
     roots: &[u32],
     step: Step,
 ) -> Made
-    requires { ⌜ StepPre levels rows limit (view rows (now words)) (now roots) step × CountsOf (view rows (now words)) (now counts) ⌝ }
-    ensures { λ r. ⌜ StepCounted levels rows limit (view rows (now (words .entry))) (view rows (now (words .exit))) (now (roots .entry)) (now (counts .exit)) step r ⌝ }
+    requires { ⌜ TakePre levels rows limit (now words) (now counts) (now roots) step ⌝ }
+    ensures { λ r. ⌜ StepCountedIn levels rows limit (now (words .entry)) (now (words .exit)) (now (roots .entry)) (now (counts .exit))
+        step r ⌝ }
 {
     let made = try_step(words, rows, levels, limit, step);
     match made {
@@ -369,8 +378,9 @@ pub fn take(
     step: Step,
     count: Count,
 ) -> Taken
-    requires { ⌜ StepPre levels rows limit (view rows (now words)) (now roots) step × CountsOf (view rows (now words)) (now counts) ⌝ }
-    ensures { λ r. ⌜ TakenPost levels rows limit (view rows (now (words .entry))) (view rows (now (words .exit))) (now (roots .entry)) (now (counts .exit)) step count r ⌝ }
+    requires { ⌜ TakePre levels rows limit (now words) (now counts) (now roots) step ⌝ }
+    ensures { λ r. ⌜ TakenIn levels rows limit (now (words .entry)) (now (words .exit)) (now (roots .entry)) (now (counts .exit))
+        step count r ⌝ }
 {
     let Made::At(a) = take_counted(words, counts, rows, levels, limit, roots, step) else {
         return Taken::Full;

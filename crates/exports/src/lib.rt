@@ -60,7 +60,8 @@ pub extern "C" fn kudzuclamp_relation(
     bytes: &[u8],
     peak: &mut u32,
 ) -> u32
-    ensures { λ k. ⌜ CallPost (book.relation t (now (bytes .entry))) (now (words .entry)) (now (words .exit)) (given k 0 (now (peak .exit)) 0) ⌝ }
+    ensures { λ k. ⌜ CallPost (book.relation t (now (bytes .entry))) (now (words .entry)) (now (words .exit))
+        (given k 0 (now (peak .exit)) 0) ⌝ }
 {
     let x = formula_calls::relation(words, t, bytes);
     *peak = 0;
@@ -123,7 +124,9 @@ pub extern "C" fn kudzuclamp_set(
     rounds: &mut u32,
     peak: &mut u32,
 ) -> u32
-    ensures { λ k. ⌜ SetAllPost place r most (now (bytes .entry)) (now (words .entry)) (now (words .exit)) (now (accounts .entry)) (now (accounts .exit)) (given k (now (rounds .exit)) (now (peak .exit)) (now (node .exit))) ⌝ }
+    ensures { λ k. ⌜ SetAllPost place r most (now (bytes .entry)) (now (words .entry)) (now (words .exit))
+        (now (accounts .entry)) (now (accounts .exit))
+        (given k (now (rounds .exit)) (now (peak .exit)) (now (node .exit))) ⌝ }
 {
     let x = account_calls::set(words, accounts, place, r, most, bytes);
     give_stored(x, node, rounds, peak)
@@ -201,7 +204,8 @@ pub extern "C" fn kudzuclamp_members(
     answers: &mut [u8],
     reads: &mut u32,
 ) -> u32
-    ensures { λ k. ⌜ BatchPost r (now (words .entry)) (now (states .entry)) (now (order .entry)) (now (order .exit)) (now (answers .entry)) (now (answers .exit)) (given k 0 0 (now (reads .exit))) ⌝ }
+    ensures { λ k. ⌜ BatchPost r (now (words .entry)) (now (states .entry)) (now (order .entry)) (now (order .exit))
+        (now (answers .entry)) (now (answers .exit)) (given k 0 0 (now (reads .exit))) ⌝ }
 {
     give(
         batch_calls::members(words, r, states, order, answers),
@@ -227,7 +231,8 @@ pub extern "C" fn kudzuclamp_shortest(
     t: u32,
     states: &mut u32,
 ) -> u32
-    ensures { λ k. ⌜ PathPost a b t (now (words .entry)) (now (words .exit)) (now (list .entry)) (now (list .exit)) (given k 0 0 (now (states .exit))) ⌝ }
+    ensures { λ k. ⌜ PathPost a b t (now (words .entry)) (now (words .exit)) (now (list .entry)) (now (list .exit))
+        (given k 0 0 (now (states .exit))) ⌝ }
 {
     let x = path_calls::shortest(words, list, a, b, t);
     match x {
@@ -284,7 +289,8 @@ pub extern "C" fn kudzuclamp_play(
     list: &mut [u32],
     count: &mut usize,
 ) -> u32
-    ensures { λ k. ⌜ PlayGiven (now (bytes .entry)) (now (words .entry)) (now (words .exit)) (now (list .entry)) (now (list .exit)) k (now (count .exit)) ⌝ }
+    ensures { λ k. ⌜ PlayGiven (now (bytes .entry)) (now (words .entry)) (now (words .exit)) (now (list .entry)) (now (list .exit))
+        k (now (count .exit)) ⌝ }
 {
     let x = player::play(words, bytes, list);
     match x {

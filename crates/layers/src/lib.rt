@@ -6,11 +6,7 @@ use modal::Limits;
 use modal::diamond;
 use seek::least_common;
 use steps::Step;
-ghost use Rattle.layout.specs.View.{view};
-ghost use Rattle.counting.specs.Counts.{CountsOf};
-ghost use Rattle.layers.specs.Next.{NextPre, NextPost};
-ghost use Rattle.layers.specs.Again.{AgainPre, AgainPost};
-ghost use Rattle.layers.specs.Pass.{PassPre, PassPost};
+ghost use Rattle.layers.specs.Posts.{NextAsks, NextGives, AgainAsks, AgainGives, PassAsks, PassGives};
 
 // What the first pass ends with: the last layer's number and the least state that it shares with the start; or none.
 pub enum Reached {
@@ -29,8 +25,8 @@ fn next_layer(
     b: u32,
     last: u32,
 ) -> Taken
-    requires { ⌜ NextPre (limits .bits) (limits .rows) (limits .limit) (view (limits .rows) (now words)) relation b last × CountsOf (view (limits .rows) (now words)) (now counts) ⌝ }
-    ensures { λ r. ⌜ NextPost (limits .bits) (limits .rows) (limits .limit) (view (limits .rows) (now (words .entry))) (view (limits .rows) (now (words .exit))) relation b last r × CountsOf (view (limits .rows) (now (words .exit))) (now (counts .exit)) ⌝ }
+    requires { ⌜ NextAsks limits (now words) (now counts) relation b last ⌝ }
+    ensures { λ r. ⌜ NextGives limits (now (words .entry)) (now (words .exit)) (now (counts .exit)) relation b last r ⌝ }
 {
     let levels = 2 * limits.bits;
     let uncounted = Count {
@@ -70,8 +66,8 @@ pub fn make_layer(
     b: u32,
     j: u32,
 ) -> u32
-    requires { ⌜ AgainPre (limits .bits) (limits .rows) (limits .limit) (view (limits .rows) (now words)) relation b j × CountsOf (view (limits .rows) (now words)) (now counts) ⌝ }
-    ensures { λ r. ⌜ AgainPost (limits .bits) (view (limits .rows) (now (words .entry))) (view (limits .rows) (now (words .exit))) relation b j r × CountsOf (view (limits .rows) (now (words .exit))) (now (counts .exit)) ⌝ }
+    requires { ⌜ AgainAsks limits (now words) (now counts) relation b j ⌝ }
+    ensures { λ r. ⌜ AgainGives limits (now (words .entry)) (now (words .exit)) (now (counts .exit)) relation b j r ⌝ }
 {
     let mut x = b;
     let mut i = 0;
@@ -95,8 +91,8 @@ pub fn reach(
     a: u32,
     b: u32,
 ) -> Reached
-    requires { ⌜ PassPre (limits .bits) (limits .rows) (limits .limit) (view (limits .rows) (now words)) relation a b × CountsOf (view (limits .rows) (now words)) (now counts) ⌝ }
-    ensures { λ r. ⌜ PassPost (limits .bits) (limits .limit) (view (limits .rows) (now (words .entry))) (view (limits .rows) (now (words .exit))) relation a b r × CountsOf (view (limits .rows) (now (words .exit))) (now (counts .exit)) ⌝ }
+    requires { ⌜ PassAsks limits (now words) (now counts) relation a b ⌝ }
+    ensures { λ r. ⌜ PassGives limits (now (words .entry)) (now (words .exit)) (now (counts .exit)) relation a b r ⌝ }
 {
     let states = 1u32 << limits.bits;
     let mut x = b;

@@ -6,9 +6,8 @@ use layout::Table;
 use stages::rest;
 use steps::Step;
 use table::Found;
-ghost use Rattle.layout.specs.View.{view};
-ghost use Rattle.counting.specs.Counts.{CountsOf};
-ghost use Rattle.modal.specs.Modal.{QuantifyPre, QuantifyPost, ModalPre, DiamondPost, ComplementPre, ComplementPost, BoxPre, BoxPost};
+ghost use Rattle.modal.specs.Posts.{QuantifyAsks, QuantifyGives, DiamondAsks, DiamondGives, ComplementAsks, ComplementGives, BoxAsks};
+ghost use Rattle.modal.specs.Posts.{BoxGives};
 
 // The sizes of a table and what an evaluation may use of it: state bits, rows, the row limit and the rounds.
 pub struct Limits {
@@ -27,8 +26,8 @@ fn quantify(
     a: u32,
     count: Count,
 ) -> Taken
-    requires { ⌜ QuantifyPre (limits .bits) (limits .rows) (limits .limit) (view (limits .rows) (now words)) (now roots) a × CountsOf (view (limits .rows) (now words)) (now counts) ⌝ }
-    ensures { λ r. ⌜ QuantifyPost (limits .bits) (limits .rows) (limits .limit) (view (limits .rows) (now (words .entry))) (view (limits .rows) (now (words .exit))) (now (roots .entry)) a count r × CountsOf (view (limits .rows) (now (words .exit))) (now (counts .exit)) ⌝ }
+    requires { ⌜ QuantifyAsks limits (now words) (now counts) (now roots) a ⌝ }
+    ensures { λ r. ⌜ QuantifyGives limits (now (words .entry)) (now (words .exit)) (now (counts .exit)) (now (roots .entry)) a count r ⌝ }
 {
     let levels = 2 * limits.bits;
     let mut c = a;
@@ -89,8 +88,9 @@ pub fn diamond(
     a: u32,
     count: Count,
 ) -> Taken
-    requires { ⌜ ModalPre (limits .bits) (limits .rows) (limits .limit) (view (limits .rows) (now words)) (now roots) relation a × CountsOf (view (limits .rows) (now words)) (now counts) ⌝ }
-    ensures { λ r. ⌜ DiamondPost (limits .bits) (limits .rows) (limits .limit) (view (limits .rows) (now (words .entry))) (view (limits .rows) (now (words .exit))) (now (roots .entry)) relation a count r × CountsOf (view (limits .rows) (now (words .exit))) (now (counts .exit)) ⌝ }
+    requires { ⌜ DiamondAsks limits (now words) (now counts) (now roots) relation a ⌝ }
+    ensures { λ r. ⌜ DiamondGives limits (now (words .entry)) (now (words .exit)) (now (counts .exit)) (now (roots .entry))
+        relation a count r ⌝ }
 {
     let levels = 2 * limits.bits;
     let Taken::At {
@@ -138,8 +138,9 @@ pub fn complement(
     a: u32,
     count: Count,
 ) -> Taken
-    requires { ⌜ ComplementPre (limits .bits) (limits .rows) (limits .limit) (view (limits .rows) (now words)) (now roots) valid a × CountsOf (view (limits .rows) (now words)) (now counts) ⌝ }
-    ensures { λ r. ⌜ ComplementPost (limits .bits) (limits .rows) (limits .limit) (view (limits .rows) (now (words .entry))) (view (limits .rows) (now (words .exit))) (now (roots .entry)) valid a count r × CountsOf (view (limits .rows) (now (words .exit))) (now (counts .exit)) ⌝ }
+    requires { ⌜ ComplementAsks limits (now words) (now counts) (now roots) valid a ⌝ }
+    ensures { λ r. ⌜ ComplementGives limits (now (words .entry)) (now (words .exit)) (now (counts .exit)) (now (roots .entry))
+        valid a count r ⌝ }
 {
     let levels = 2 * limits.bits;
     let Taken::At {
@@ -187,8 +188,9 @@ pub fn boxed(
     a: u32,
     count: Count,
 ) -> Taken
-    requires { ⌜ BoxPre (limits .bits) (limits .rows) (limits .limit) (view (limits .rows) (now words)) (now roots) valid relation a × CountsOf (view (limits .rows) (now words)) (now counts) ⌝ }
-    ensures { λ r. ⌜ BoxPost (limits .bits) (limits .rows) (limits .limit) (view (limits .rows) (now (words .entry))) (view (limits .rows) (now (words .exit))) (now (roots .entry)) valid relation a count r × CountsOf (view (limits .rows) (now (words .exit))) (now (counts .exit)) ⌝ }
+    requires { ⌜ BoxAsks limits (now words) (now counts) (now roots) valid relation a ⌝ }
+    ensures { λ r. ⌜ BoxGives limits (now (words .entry)) (now (words .exit)) (now (counts .exit)) (now (roots .entry))
+        valid relation a count r ⌝ }
 {
     let Taken::At {
         arrow: b,

@@ -4,3 +4,4 @@ pub mod Rows
 pub mod Carried
 pub mod Odd
 pub mod Pairs
+pub mod Posts

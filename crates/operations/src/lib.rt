@@ -15,24 +15,22 @@ use table::Code;
 use table::Found;
 use table::make;
 ghost use mathlib.Core.Path.{_≡_};
-ghost use mathlib.Core.Bool.{true, false};
+ghost use mathlib.Core.Bool.{true};
 ghost use Prim.Native.Nat.{_<_, _≤_, min, max};
 ghost use lib.ListN.{length};
-ghost use Rattle.diagram.specs.Rows.{Arrow, den};
-ghost use Rattle.diagram.specs.Even.{ReadsOn, even};
-ghost use Rattle.diagram.specs.Steps.{bitF, andF, orF, shiftF, existsF, lowAt, highAt};
+ghost use Rattle.diagram.specs.Steps.{bitF, andF, orF, shiftF, existsF};
 ghost use Rattle.layout.specs.Places.{wordsFor};
 ghost use Rattle.layout.specs.View.{view};
 ghost use Rattle.layout.specs.Arrows.{isRow, rowOf, isMarked};
-ghost use Rattle.soundness.specs.Used.{rowsOf};
 ghost use Rattle.soundness.specs.Checks.{Room};
-ghost use Rattle.table.specs.Code.{madeOf};
 ghost use Rattle.memory.specs.Memo.{Slots};
-ghost use Rattle.operations.specs.Work.{Ready, Known, Worked};
+ghost use Rattle.operations.specs.Work.{Ready};
 ghost use Rattle.operations.specs.Open.{RowIs, ReachesLevel};
-ghost use Rattle.operations.specs.Odd.{OddKnown, OddPost, JoinPre, JoinPost};
+ghost use Rattle.operations.specs.Odd.{OddKnown, OddPost, JoinPre};
 ghost use Rattle.operations.specs.Carried.{CarriedMade, carriedFound};
 ghost use Rattle.operations.specs.Pairs.{shortOf, KnownPost, BothRows};
+ghost use Rattle.operations.specs.Posts.{rowsIn, ArrowPre, RowPre, PairPre, PairRowsPre, ShiftPre, ShiftRowPre, LevelPre};
+ghost use Rattle.operations.specs.Posts.{LevelRowPre, KnownOf, FnPost, OnePost, TwoPost, JoinedPost, topLevel, HalvesAt};
 
 // A row's level, and the arrows that are followed from an arrow to it.
 pub struct Node {
@@ -44,7 +42,7 @@ pub struct Node {
 // The level of row i, and the arrows that are followed from a, an arrow to it: they carry its NOT.
 pub fn node_at(words: &[u32], rows: u32, a: u32, i: u32) -> Node
     requires { ⌜ (i < rows) × (wordsFor rows ≤ length (now words)) ⌝ }
-    ensures { λ r. ⌜ RowIs (rowsOf (view rows (now (words .entry)))) a i (r .level) (r .low) (r .high) ⌝ }
+    ensures { λ r. ⌜ RowIs (rowsIn rows (now (words .entry))) a i (r .level) (r .low) (r .high) ⌝ }
 {
     Node {
         level: get(words, rows, i, Table::LEVEL),
@@ -56,7 +54,7 @@ pub fn node_at(words: &[u32], rows: u32, a: u32, i: u32) -> Node
 // The function of one level.
 pub fn bit(words: &mut [u32], rows: u32, levels: u32, limit: u32, level: u32) -> u32
     requires { ⌜ Ready levels rows limit (view rows (now words)) × (level < levels) ⌝ }
-    ensures { λ r. ⌜ Worked levels rows limit (view rows (now (words .entry))) (view rows (now (words .exit))) (madeOf r) (bitF level) ⌝ }
+    ensures { λ r. ⌜ FnPost levels rows limit (now (words .entry)) (now (words .exit)) r (bitF level) ⌝ }
 {
     make(words, rows, limit, level, Table::NOTHING, Table::EVERYTHING)
 }
@@ -83,8 +81,8 @@ fn carry_found(by: u32, found: Found) -> Found
 
 // What is known of SHIFT of an arrow: of a constant, or remembered by its row for the arrow without a NOT.
 fn shift_known(words: &[u32], rows: u32, levels: u32, a: u32) -> Found
-    requires { ⌜ Ready levels rows 0 (view rows (now words)) × Arrow (rowsOf (view rows (now words))) a ⌝ }
-    ensures { λ r. ⌜ Known levels (view rows (now (words .entry))) r (shiftF (den levels (rowsOf (view rows (now (words .entry)))) a)) (isRow a ≡ true) ⌝ }
+    requires { ⌜ ArrowPre levels rows 0 (now words) a ⌝ }
+    ensures { λ r. ⌜ KnownOf shiftF levels rows (now (words .entry)) a r (isRow a ≡ true) ⌝ }
 {
     if !is_row(a) {
         return Found::At(a);
@@ -95,8 +93,8 @@ fn shift_known(words: &[u32], rows: u32, levels: u32, a: u32) -> Found
 
 // SHIFT of an arrow whose rows all have even levels: every level becomes the next one. It is worked out for the arrow without a NOT, once for both.
 pub fn shift(words: &mut [u32], rows: u32, levels: u32, limit: u32, a: u32) -> u32
-    requires { ⌜ Ready levels rows limit (view rows (now words)) × Arrow (rowsOf (view rows (now words))) a × ReadsOn even (den levels (rowsOf (view rows (now words))) a) ⌝ }
-    ensures { λ r. ⌜ Worked levels rows limit (view rows (now (words .entry))) (view rows (now (words .exit))) (madeOf r) (shiftF (den levels (rowsOf (view rows (now (words .entry)))) a)) ⌝ }
+    requires { ⌜ ShiftPre levels rows limit (now words) a ⌝ }
+    ensures { λ r. ⌜ OnePost shiftF levels rows limit (now (words .entry)) (now (words .exit)) a r ⌝ }
 {
     let known = shift_known(words, rows, levels, a);
     if let Found::At(r) = known {
@@ -108,8 +106,8 @@ pub fn shift(words: &mut [u32], rows: u32, levels: u32, limit: u32, a: u32) -> u
 
 // `shift` of a part of a row. It is apart, so that it is inlined in `shift_row`: a part whose result is known costs no call.
 fn shift_part(words: &mut [u32], rows: u32, levels: u32, limit: u32, a: u32) -> u32
-    requires { ⌜ Ready levels rows limit (view rows (now words)) × Arrow (rowsOf (view rows (now words))) a × ReadsOn even (den levels (rowsOf (view rows (now words))) a) ⌝ }
-    ensures { λ r. ⌜ Worked levels rows limit (view rows (now (words .entry))) (view rows (now (words .exit))) (madeOf r) (shiftF (den levels (rowsOf (view rows (now (words .entry)))) a)) ⌝ }
+    requires { ⌜ ShiftPre levels rows limit (now words) a ⌝ }
+    ensures { λ r. ⌜ OnePost shiftF levels rows limit (now (words .entry)) (now (words .exit)) a r ⌝ }
 {
     let known = shift_known(words, rows, levels, a);
     if let Found::At(r) = known {
@@ -121,8 +119,8 @@ fn shift_part(words: &mut [u32], rows: u32, levels: u32, limit: u32, a: u32) -> 
 
 // SHIFT of an arrow without a NOT to a row.
 fn shift_row(words: &mut [u32], rows: u32, levels: u32, limit: u32, a: u32) -> u32
-    requires { ⌜ Ready levels rows limit (view rows (now words)) × Arrow (rowsOf (view rows (now words))) a × ReadsOn even (den levels (rowsOf (view rows (now words))) a) × (isRow a ≡ true) × (isMarked a ≡ false) ⌝ }
-    ensures { λ r. ⌜ Worked levels rows limit (view rows (now (words .entry))) (view rows (now (words .exit))) (madeOf r) (shiftF (den levels (rowsOf (view rows (now (words .entry)))) a)) ⌝ }
+    requires { ⌜ ShiftRowPre levels rows limit (now words) a ⌝ }
+    ensures { λ r. ⌜ OnePost shiftF levels rows limit (now (words .entry)) (now (words .exit)) a r ⌝ }
 {
     let i = row_of(a);
     let n = node_at(words, rows, Table::NOTHING, i);
@@ -189,7 +187,7 @@ fn known(words: &[u32], rows: u32, lo: u32, hi: u32) -> Found
 // The lesser level of two arrows to rows.
 fn top(words: &[u32], rows: u32, lo: u32, hi: u32) -> u32
     requires { ⌜ BothRows lo hi × (rowOf lo < rows) × (rowOf hi < rows) × (wordsFor rows ≤ length (now words)) ⌝ }
-    ensures { λ r. ⌜ r ≡ min (rowsOf (view rows (now (words .entry))) .level (rowOf lo)) (rowsOf (view rows (now (words .entry))) .level (rowOf hi)) ⌝ }
+    ensures { λ r. ⌜ r ≡ topLevel rows (now (words .entry)) lo hi ⌝ }
 {
     let k = get(words, rows, row_of(lo), Table::LEVEL);
     let l = get(words, rows, row_of(hi), Table::LEVEL);
@@ -208,7 +206,7 @@ pub struct Halves {
 // The halves of an arrow to a row at a level.
 fn halve(words: &[u32], rows: u32, level: u32, a: u32) -> Halves
     requires { ⌜ (isRow a ≡ true) × (rowOf a < rows) × (wordsFor rows ≤ length (now words)) ⌝ }
-    ensures { λ r. ⌜ (r .low ≡ lowAt (rowsOf (view rows (now (words .entry)))) level a) × (r .high ≡ highAt (rowsOf (view rows (now (words .entry)))) level a) ⌝ }
+    ensures { λ r. ⌜ HalvesAt rows (now (words .entry)) level a (r .low) (r .high) ⌝ }
 {
     let n = node_at(words, rows, a, row_of(a));
     if n.level != level {
@@ -222,8 +220,8 @@ fn halve(words: &[u32], rows: u32, level: u32, a: u32) -> Halves
 
 // AND of two arrows.
 pub fn and_of(words: &mut [u32], rows: u32, levels: u32, limit: u32, a: u32, b: u32) -> u32
-    requires { ⌜ Ready levels rows limit (view rows (now words)) × Arrow (rowsOf (view rows (now words))) a × Arrow (rowsOf (view rows (now words))) b ⌝ }
-    ensures { λ r. ⌜ Worked levels rows limit (view rows (now (words .entry))) (view rows (now (words .exit))) (madeOf r) (andF (den levels (rowsOf (view rows (now (words .entry)))) a) (den levels (rowsOf (view rows (now (words .entry)))) b)) ⌝ }
+    requires { ⌜ PairPre levels rows limit (now words) a b ⌝ }
+    ensures { λ r. ⌜ TwoPost andF levels rows limit (now (words .entry)) (now (words .exit)) a b r ⌝ }
 {
     let p = sort(a, b);
     let found = known(words, rows, p.lo, p.hi);
@@ -235,8 +233,8 @@ pub fn and_of(words: &mut [u32], rows: u32, levels: u32, limit: u32, a: u32, b: 
 
 // `and_of` of parts of two rows. It is apart, so that it is inlined in `and_rows`: a pair whose result is known costs no call.
 fn and_part(words: &mut [u32], rows: u32, levels: u32, limit: u32, a: u32, b: u32) -> u32
-    requires { ⌜ Ready levels rows limit (view rows (now words)) × Arrow (rowsOf (view rows (now words))) a × Arrow (rowsOf (view rows (now words))) b ⌝ }
-    ensures { λ r. ⌜ Worked levels rows limit (view rows (now (words .entry))) (view rows (now (words .exit))) (madeOf r) (andF (den levels (rowsOf (view rows (now (words .entry)))) a) (den levels (rowsOf (view rows (now (words .entry)))) b)) ⌝ }
+    requires { ⌜ PairPre levels rows limit (now words) a b ⌝ }
+    ensures { λ r. ⌜ TwoPost andF levels rows limit (now (words .entry)) (now (words .exit)) a b r ⌝ }
 {
     let p = sort(a, b);
     let found = known(words, rows, p.lo, p.hi);
@@ -248,8 +246,8 @@ fn and_part(words: &mut [u32], rows: u32, levels: u32, limit: u32, a: u32, b: u3
 
 // AND of a lesser and a greater arrow to rows.
 fn and_rows(words: &mut [u32], rows: u32, levels: u32, limit: u32, lo: u32, hi: u32) -> u32
-    requires { ⌜ Ready levels rows limit (view rows (now words)) × Arrow (rowsOf (view rows (now words))) lo × Arrow (rowsOf (view rows (now words))) hi × BothRows lo hi ⌝ }
-    ensures { λ r. ⌜ Worked levels rows limit (view rows (now (words .entry))) (view rows (now (words .exit))) (madeOf r) (andF (den levels (rowsOf (view rows (now (words .entry)))) lo) (den levels (rowsOf (view rows (now (words .entry)))) hi)) ⌝ }
+    requires { ⌜ PairRowsPre levels rows limit (now words) lo hi ⌝ }
+    ensures { λ r. ⌜ TwoPost andF levels rows limit (now (words .entry)) (now (words .exit)) lo hi r ⌝ }
 {
     let level = top(words, rows, lo, hi);
     let x = halve(words, rows, level, lo);
@@ -269,8 +267,8 @@ fn and_rows(words: &mut [u32], rows: u32, levels: u32, limit: u32, lo: u32, hi: 
 
 // OR of two arrows: NOT of AND of the two with the other mark.
 pub fn or_of(words: &mut [u32], rows: u32, levels: u32, limit: u32, a: u32, b: u32) -> u32
-    requires { ⌜ Ready levels rows limit (view rows (now words)) × Arrow (rowsOf (view rows (now words))) a × Arrow (rowsOf (view rows (now words))) b ⌝ }
-    ensures { λ r. ⌜ Worked levels rows limit (view rows (now (words .entry))) (view rows (now (words .exit))) (madeOf r) (orF (den levels (rowsOf (view rows (now (words .entry)))) a) (den levels (rowsOf (view rows (now (words .entry)))) b)) ⌝ }
+    requires { ⌜ PairPre levels rows limit (now words) a b ⌝ }
+    ensures { λ r. ⌜ TwoPost orF levels rows limit (now (words .entry)) (now (words .exit)) a b r ⌝ }
 {
     let made = and_of(words, rows, levels, limit, flip(a), flip(b));
     if made == Code::FULL {
@@ -281,8 +279,8 @@ pub fn or_of(words: &mut [u32], rows: u32, levels: u32, limit: u32, a: u32, b: u
 
 // What is known of EXISTS at level x of an arrow: of a function that does not read x, or remembered.
 fn exists_known(words: &[u32], rows: u32, levels: u32, x: u32, a: u32) -> Found
-    requires { ⌜ Ready levels rows 0 (view rows (now words)) × Arrow (rowsOf (view rows (now words))) a × (x < levels) ⌝ }
-    ensures { λ r. ⌜ Known levels (view rows (now (words .entry))) r (existsF x (den levels (rowsOf (view rows (now (words .entry)))) a)) (ReachesLevel (rowsOf (view rows (now (words .entry)))) x a) ⌝ }
+    requires { ⌜ LevelPre levels rows 0 (now words) x a ⌝ }
+    ensures { λ r. ⌜ KnownOf (existsF x) levels rows (now (words .entry)) a r (ReachesLevel (rowsIn rows (now (words .entry))) x a) ⌝ }
 {
     if !is_row(a) {
         return Found::At(a);
@@ -297,8 +295,8 @@ fn exists_known(words: &[u32], rows: u32, levels: u32, x: u32, a: u32) -> Found
 
 // EXISTS at level x of an arrow.
 pub fn exists(words: &mut [u32], rows: u32, levels: u32, limit: u32, x: u32, a: u32) -> u32
-    requires { ⌜ Ready levels rows limit (view rows (now words)) × Arrow (rowsOf (view rows (now words))) a × (x < levels) ⌝ }
-    ensures { λ r. ⌜ Worked levels rows limit (view rows (now (words .entry))) (view rows (now (words .exit))) (madeOf r) (existsF x (den levels (rowsOf (view rows (now (words .entry)))) a)) ⌝ }
+    requires { ⌜ LevelPre levels rows limit (now words) x a ⌝ }
+    ensures { λ r. ⌜ OnePost (existsF x) levels rows limit (now (words .entry)) (now (words .exit)) a r ⌝ }
 {
     let known = exists_known(words, rows, levels, x, a);
     if let Found::At(r) = known {
@@ -309,8 +307,8 @@ pub fn exists(words: &mut [u32], rows: u32, levels: u32, limit: u32, x: u32, a: 
 
 // `exists` of a part of a row. It is apart, so that it is inlined in `exists_row`: a part whose result is known costs no call.
 fn exists_part(words: &mut [u32], rows: u32, levels: u32, limit: u32, x: u32, a: u32) -> u32
-    requires { ⌜ Ready levels rows limit (view rows (now words)) × Arrow (rowsOf (view rows (now words))) a × (x < levels) ⌝ }
-    ensures { λ r. ⌜ Worked levels rows limit (view rows (now (words .entry))) (view rows (now (words .exit))) (madeOf r) (existsF x (den levels (rowsOf (view rows (now (words .entry)))) a)) ⌝ }
+    requires { ⌜ LevelPre levels rows limit (now words) x a ⌝ }
+    ensures { λ r. ⌜ OnePost (existsF x) levels rows limit (now (words .entry)) (now (words .exit)) a r ⌝ }
 {
     let known = exists_known(words, rows, levels, x, a);
     if let Found::At(r) = known {
@@ -321,8 +319,8 @@ fn exists_part(words: &mut [u32], rows: u32, levels: u32, limit: u32, x: u32, a:
 
 // EXISTS at level x of an arrow to a row at level x or above it.
 fn exists_row(words: &mut [u32], rows: u32, levels: u32, limit: u32, x: u32, a: u32) -> u32
-    requires { ⌜ Ready levels rows limit (view rows (now words)) × Arrow (rowsOf (view rows (now words))) a × (x < levels) × ReachesLevel (rowsOf (view rows (now words))) x a ⌝ }
-    ensures { λ r. ⌜ Worked levels rows limit (view rows (now (words .entry))) (view rows (now (words .exit))) (madeOf r) (existsF x (den levels (rowsOf (view rows (now (words .entry)))) a)) ⌝ }
+    requires { ⌜ LevelRowPre levels rows limit (now words) x a ⌝ }
+    ensures { λ r. ⌜ OnePost (existsF x) levels rows limit (now (words .entry)) (now (words .exit)) a r ⌝ }
 {
     let i = row_of(a);
     let n = node_at(words, rows, a, i);
@@ -347,7 +345,7 @@ fn exists_row(words: &mut [u32], rows: u32, levels: u32, limit: u32, x: u32, a: 
 
 // What is known of EXISTS at every odd level of an arrow: of a constant, or remembered.
 pub fn odd_known(words: &[u32], rows: u32, levels: u32, a: u32) -> Found
-    requires { ⌜ Ready levels rows 0 (view rows (now words)) × Arrow (rowsOf (view rows (now words))) a ⌝ }
+    requires { ⌜ ArrowPre levels rows 0 (now words) a ⌝ }
     ensures { λ r. ⌜ OddKnown levels (view rows (now (words .entry))) a r ⌝ }
 {
     if !is_row(a) {
@@ -358,7 +356,7 @@ pub fn odd_known(words: &[u32], rows: u32, levels: u32, a: u32) -> Found
 
 // EXISTS at every odd level of an arrow. Rows are added for parts of the result too, so that FULL says nothing of its need.
 pub fn exists_odd(words: &mut [u32], rows: u32, levels: u32, limit: u32, a: u32) -> u32
-    requires { ⌜ Ready levels rows limit (view rows (now words)) × Arrow (rowsOf (view rows (now words))) a ⌝ }
+    requires { ⌜ ArrowPre levels rows limit (now words) a ⌝ }
     ensures { λ r. ⌜ OddPost levels (view rows (now (words .entry))) (view rows (now (words .exit))) a r ⌝ }
 {
     let known = odd_known(words, rows, levels, a);
@@ -370,7 +368,7 @@ pub fn exists_odd(words: &mut [u32], rows: u32, levels: u32, limit: u32, a: u32)
 
 // `exists_odd` of a part of a row. It is apart, so that it is inlined in `odd_row`: a part whose result is known costs no call.
 fn odd_part(words: &mut [u32], rows: u32, levels: u32, limit: u32, a: u32) -> u32
-    requires { ⌜ Ready levels rows limit (view rows (now words)) × Arrow (rowsOf (view rows (now words))) a ⌝ }
+    requires { ⌜ ArrowPre levels rows limit (now words) a ⌝ }
     ensures { λ r. ⌜ OddPost levels (view rows (now (words .entry))) (view rows (now (words .exit))) a r ⌝ }
 {
     let known = odd_known(words, rows, levels, a);
@@ -391,7 +389,7 @@ fn odd_join(
     high: u32,
 ) -> u32
     requires { ⌜ JoinPre levels rows limit (view rows (now words)) level low high ⌝ }
-    ensures { λ r. ⌜ JoinPost levels rows limit (view rows (now (words .entry))) (view rows (now (words .exit))) level low high (madeOf r) ⌝ }
+    ensures { λ r. ⌜ JoinedPost levels rows limit (now (words .entry)) (now (words .exit)) level low high r ⌝ }
 {
     if level % 2 == 1 {
         return or_of(words, rows, levels, limit, low, high);
@@ -401,7 +399,7 @@ fn odd_join(
 
 // EXISTS at every odd level of an arrow to a row.
 fn odd_row(words: &mut [u32], rows: u32, levels: u32, limit: u32, a: u32) -> u32
-    requires { ⌜ Ready levels rows limit (view rows (now words)) × Arrow (rowsOf (view rows (now words))) a × (isRow a ≡ true) ⌝ }
+    requires { ⌜ RowPre levels rows limit (now words) a ⌝ }
     ensures { λ r. ⌜ OddPost levels (view rows (now (words .entry))) (view rows (now (words .exit))) a r ⌝ }
 {
     let i = row_of(a);

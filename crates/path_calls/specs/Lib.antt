@@ -1,3 +1,4 @@
 pub mod Search
 pub mod Post
 pub mod OnePath
+pub mod Asks

@@ -10,10 +10,9 @@ use modal::Limits;
 use routes::Found;
 use routes::find_run;
 use soundness::sound;
-ghost use Rattle.layout.specs.View.{view};
 ghost use Rattle.routes.specs.Find.{foundReply};
-ghost use Rattle.path_calls.specs.Search.{SearchPre, SearchPost};
 ghost use Rattle.path_calls.specs.Post.{PathPost};
+ghost use Rattle.path_calls.specs.Asks.{SearchAsks, SearchGives};
 
 // The search, with nothing remembered before; then rows are freed where many are not needed any more.
 fn search(
@@ -24,8 +23,8 @@ fn search(
     a: u32,
     b: u32,
 ) -> Found
-    requires { ⌜ SearchPre (limits .bits) (limits .rows) (limits .limit) (view (limits .rows) (now words)) relation a b ⌝ }
-    ensures { λ r. ⌜ SearchPost (limits .bits) (limits .limit) (view (limits .rows) (now (words .entry))) (view (limits .rows) (now (words .exit))) relation a b (now (list .entry)) (now (list .exit)) r ⌝ }
+    requires { ⌜ SearchAsks limits (now words) relation a b ⌝ }
+    ensures { λ r. ⌜ SearchGives limits (now (words .entry)) (now (words .exit)) (now (list .entry)) (now (list .exit)) relation a b r ⌝ }
 {
     forget(words, limits.rows);
     let mut counts = [0u32; Counts::WORDS];

@@ -1,6 +1,6 @@
 -- A whole list of calls given as records: which calls there are, what each leaves and returns, and the third demand's claim for them. Definitions alone.
 use mathlib.Core.Path.{_≡_}
-use mathlib.Core.Bool.{cond}
+use mathlib.Core.Bool.{Bool, cond}
 use mathlib.Core.List.{List, [], _∷_, _++_}
 use mathlib.Core.Option.{Option, none, some}
 use Prim.Native.Nat.{ℕ, zero, suc, _+_, _*_, _≤_, _<_}
@@ -9,6 +9,7 @@ use lib.ListN.{length, drop}
 use lib.Seq.{sets}
 use Rattle.book.specs.Program.{Command, start, call, states, recordLength, commandAt}
 use Rattle.book.specs.Demand.{Event, Session, Demand}
+use Rattle.soundness.specs.Says.{Says}
 use Rattle.contract.specs.Seen.{seen, SoundWords}
 use Rattle.contract.specs.Closed.{makes, performs, asks}
 use Rattle.commands.specs.declared.Outcome.{Outcome}
@@ -108,6 +109,11 @@ CountPost bs counted.Unreadable = commands bs ≡ none
 -- every record can be read
 abbrev pub Readable : List ℕ → Type 0
 Readable bs = (cs : List Command) × (commands bs ≡ some cs)
+
+-- one command more can be obeyed: there are bytes, every record can be read, there is room for its outcome, and `sound` says whether the words are a
+-- sound table
+abbrev pub NextPre : (bs w l : List ℕ) (at : ℕ) (sound : Bool) → Type 0
+NextPre bs w l at sound = (1 ≤ length bs) × Readable bs × (at + entryWords ≤ length l) × Says (SoundWords w) sound
 
 -- one record
 pub record NextPost (bs w w′ l l′ : List ℕ) (at r : ℕ) : Type 0 where

@@ -7,12 +7,12 @@ use records::Found;
 use records::read_record;
 use soundness::sound;
 ghost use mathlib.Core.Path.{_≡_};
-ghost use Prim.Native.Nat.{_+_, _*_, _≤_, _<_};
-ghost use lib.ListN.{length, drop};
+ghost use Prim.Native.Nat.{_+_, _≤_, _<_};
+ghost use lib.ListN.{length};
 ghost use lib.Seq.{sets};
 ghost use Rattle.soundness.specs.Says.{Says};
 ghost use Rattle.contract.specs.Seen.{SoundWords};
-ghost use Rattle.player.specs.Play.{SizePost, CountPost, entryWords, outcomeWords, Readable, NextPost, AllPre, AllPost, PlayPost};
+ghost use Rattle.player.specs.Play.{SizePost, CountPost, entryWords, outcomeWords, NextPost, AllPre, AllPost, PlayPost, NextPre};
 
 // What a list of calls came to: so many records were obeyed; or, with nothing changed, there was no room for their outcomes or a record could not be read.
 pub enum Played {
@@ -86,8 +86,9 @@ fn put_outcome(list: &mut [u32], at: usize, x: Outcome)
 
 // Obeys the record at the front of the bytes, and writes its outcome to the list; `sound` says whether the words are a sound table.
 fn obey_next(words: &mut [u32], sound: bool, bytes: &[u8], list: &mut [u32], at: usize) -> Step
-    requires { ⌜ (1 ≤ length (now bytes)) × Readable (now bytes) × (at + entryWords ≤ length (now list)) × Says (SoundWords (now words)) sound ⌝ }
-    ensures { λ r. ⌜ NextPost (now (bytes .entry)) (now (words .entry)) (now (words .exit)) (now (list .entry)) (now (list .exit)) at (r .size) ⌝ }
+    requires { ⌜ NextPre (now bytes) (now words) (now list) at sound ⌝ }
+    ensures { λ r. ⌜ NextPost (now (bytes .entry)) (now (words .entry)) (now (words .exit)) (now (list .entry)) (now (list .exit))
+        at (r .size) ⌝ }
     ensures { λ r. ⌜ Says (SoundWords (now (words .exit))) (r .sound) ⌝ }
 {
     match take_record(words, sound, bytes, true) {

@@ -28,6 +28,10 @@ takes op k =
     (cond (eqb op 6) (eqb k 0)
     false)))))
 
+-- the number of four bytes from a place on, big-endian
+abbrev pub quadAt : List ℕ → ℕ → ℕ
+quadAt bs i = ((getD bs i 0 * 256 + getD bs (i + 1) 0) * 256 + getD bs (i + 2) 0) * 256 + getD bs (i + 3) 0
+
 -- "Operations: 1 fresh n, N (two bytes); 2 relation t, formula; 3 set r, R (four bytes), formula; 4 clear r; 5 count r; 6 collect", by the
 -- operation and its arguments, which stand from byte 4 of the record on; a formula begins after the fixed ones
 abbrev pub commandIn : ℕ → List ℕ → Command

@@ -5,7 +5,7 @@ ghost use mathlib.Core.List.{[]};
 ghost use Prim.Native.Nat.{_+_, _*_, _≤_};
 ghost use lib.ListN.{length, getD};
 ghost use Rattle.book.specs.Program.{decimal, textOf, fields};
-ghost use Rattle.records.specs.Record.{takes, doomed, commandIn, partial, readRecord};
+ghost use Rattle.records.specs.Record.{takes, doomed, commandIn, partial, readRecord, quadAt};
 ghost use Rattle.records.specs.Text.{Wrote, WroteWithin, fieldText, endLine};
 
 // What a record asks; `start` is where the formula begins in the record.
@@ -91,7 +91,7 @@ fn pair(bytes: &[u8], at: usize) -> u16
 // The number of four bytes, big-endian.
 fn quad(bytes: &[u8], at: usize) -> u32
     requires { ⌜ at + 4 ≤ length (now bytes) ⌝ }
-    ensures { λ r. ⌜ r ≡ ((getD (now (bytes .entry)) at 0 * 256 + getD (now (bytes .entry)) (at + 1) 0) * 256 + getD (now (bytes .entry)) (at + 2) 0) * 256 + getD (now (bytes .entry)) (at + 3) 0 ⌝ }
+    ensures { λ r. ⌜ r ≡ quadAt (now (bytes .entry)) at ⌝ }
 {
     (pair(bytes, at) as u32) * 65536 + pair(bytes, at + 2) as u32
 }

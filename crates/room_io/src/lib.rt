@@ -116,7 +116,8 @@ fn flush(output: &[u8], p: Progress) -> Progress
 // One answer, and the read or the write that it asks for.
 fn turn(words: &mut [u32], input: &mut [u8], output: &mut [u8], p: Progress) -> Progress
     requires { ⌜ Placed p (length (now input)) (length (now output)) × Says (SoundWords (now words)) (p .sound) ⌝ }
-    ensures { λ r. ⌜ Turned p r (now (words .entry)) (now (words .exit)) (now (input .entry)) (now (input .exit)) (now (output .entry)) (now (output .exit)) ⌝ }
+    ensures { λ r. ⌜ Turned p r (now (words .entry)) (now (words .exit)) (now (input .entry)) (now (input .exit))
+        (now (output .entry)) (now (output .exit)) ⌝ }
     ensures { λ r. ⌜ Says (SoundWords (now (words .exit))) (r .sound) ⌝ }
 {
     let start = p.start;
@@ -155,7 +156,8 @@ fn turn(words: &mut [u32], input: &mut [u8], output: &mut [u8], p: Progress) -> 
 // Answers records until the last line is written, on the program's words, which are no sound table yet, and through buffers that are lent.
 fn serve(words: &mut [u32], input: &mut [u8], output: &mut [u8])
     requires { ⌜ (now words ≡ zeros) × (longest ≤ length (now input)) × (lineRoom ≤ length (now output)) ⌝ }
-    ensures { λ _. ⌜ Served (now (words .entry)) (now (words .exit)) (now (input .entry)) (now (input .exit)) (now (output .entry)) (now (output .exit)) ⌝ }
+    ensures { λ _. ⌜ Served (now (words .entry)) (now (words .exit)) (now (input .entry)) (now (input .exit))
+        (now (output .entry)) (now (output .exit)) ⌝ }
 {
     let mut p = Progress {
         start: 0,

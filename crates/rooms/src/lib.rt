@@ -28,7 +28,8 @@ pub struct Reply {
 // will come.
 pub fn answer(words: &mut [u32], sound: bool, bytes: &[u8], ended: bool, out: &mut [u8]) -> Reply
     requires { ⌜ Says (SoundWords (now words)) sound ⌝ }
-    ensures { λ r. ⌜ Replies (now (bytes .entry)) ended (now (words .entry)) (now (words .exit)) (now (out .entry)) (now (out .exit)) (r .said) ⌝ }
+    ensures { λ r. ⌜ Replies (now (bytes .entry)) ended (now (words .entry)) (now (words .exit)) (now (out .entry)) (now (out .exit))
+        (r .said) ⌝ }
     ensures { λ r. ⌜ Says (SoundWords (now (words .exit))) (r .sound) ⌝ }
 {
     if out.len() < Text::LINE {

@@ -5,11 +5,8 @@ use layers::reach;
 use layout::Refusal;
 use modal::Limits;
 use seek::least_next;
-ghost use Rattle.layout.specs.View.{view};
-ghost use Rattle.counting.specs.Counts.{CountsOf};
-ghost use Rattle.layers.specs.Pass.{PassPre};
-ghost use Rattle.routes.specs.Write.{WritePre, WritePost};
-ghost use Rattle.routes.specs.Find.{RunPre, RunPost, FindPost};
+ghost use Rattle.routes.specs.Posts.{WriteAsks, WriteGives, RunAsks, RunGives, FindGives};
+ghost use Rattle.layers.specs.Posts.{PassAsks};
 
 // What the call for a run answers: how many states it has.
 pub enum Found {
@@ -28,8 +25,9 @@ fn write_on(
     d: u32,
     first: u32,
 )
-    requires { ⌜ WritePre (limits .bits) (limits .rows) (limits .limit) (view (limits .rows) (now words)) relation b d first (now list) × CountsOf (view (limits .rows) (now words)) (now counts) ⌝ }
-    ensures { λ _. ⌜ WritePost (limits .bits) (limits .limit) (view (limits .rows) (now (words .entry))) (view (limits .rows) (now (words .exit))) relation b d first (now (list .entry)) (now (list .exit)) ⌝ }
+    requires { ⌜ WriteAsks limits (now words) (now counts) relation b d first (now list) ⌝ }
+    ensures { λ _. ⌜ WriteGives limits (now (words .entry)) (now (words .exit)) (now (list .entry)) (now (list .exit))
+        relation b d first ⌝ }
 {
     let mut s = first;
     let mut left = d;
@@ -54,8 +52,9 @@ fn write_run(
     d: u32,
     first: u32,
 ) -> Found
-    requires { ⌜ RunPre (limits .bits) (limits .rows) (limits .limit) (view (limits .rows) (now words)) relation b d first × CountsOf (view (limits .rows) (now words)) (now counts) ⌝ }
-    ensures { λ r. ⌜ RunPost (limits .bits) (limits .limit) (view (limits .rows) (now (words .entry))) (view (limits .rows) (now (words .exit))) relation b d first (now (list .entry)) (now (list .exit)) r ⌝ }
+    requires { ⌜ RunAsks limits (now words) (now counts) relation b d first ⌝ }
+    ensures { λ r. ⌜ RunGives limits (now (words .entry)) (now (words .exit)) (now (list .entry)) (now (list .exit))
+        relation b d first r ⌝ }
 {
     if list.len() <= d as usize {
         return Found::Refused(Refusal::Short);
@@ -75,8 +74,8 @@ pub fn find_run(
     a: u32,
     b: u32,
 ) -> Found
-    requires { ⌜ PassPre (limits .bits) (limits .rows) (limits .limit) (view (limits .rows) (now words)) relation a b × CountsOf (view (limits .rows) (now words)) (now counts) ⌝ }
-    ensures { λ r. ⌜ FindPost (limits .bits) (limits .limit) (view (limits .rows) (now (words .entry))) (view (limits .rows) (now (words .exit))) relation a b (now (list .entry)) (now (list .exit)) r ⌝ }
+    requires { ⌜ PassAsks limits (now words) (now counts) relation a b ⌝ }
+    ensures { λ r. ⌜ FindGives limits (now (words .entry)) (now (words .exit)) (now (list .entry)) (now (list .exit)) relation a b r ⌝ }
 {
     let reached = reach(words, counts, limits, relation, a, b);
     match reached {

@@ -22,3 +22,4 @@ pub mod Contained
 pub mod Masks
 pub mod Cells
 pub mod Tables
+pub mod Posts

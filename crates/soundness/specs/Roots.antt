@@ -8,7 +8,7 @@ use native.Mathlib.Decide.{decLt}
 use Rattle.diagram.specs.Rows.{Rows, Arrow}
 use Rattle.diagram.specs.Reach.{Reach}
 use Rattle.layout.specs.Places.{HEADER}
-use Rattle.layout.specs.View.{View}
+use Rattle.layout.specs.View.{View, view}
 use Rattle.soundness.specs.Used.{rowsOf}
 use Rattle.soundness.specs.Bits.{On}
 use Rattle.soundness.specs.Mark.{OnArrow, onArrow-le, Closed, Marks, Base}
@@ -31,6 +31,14 @@ pub record Held (w : View) (start k a : ℕ) : Type 0 where
   pub from : start ≤ at
   pub below : at < k
   pub holds : w .header at ≡ suc a
+
+-- what is reached from the arrows of S is marked beside what was marked before
+abbrev pub MarksIn : (rows : ℕ) (words before after : List ℕ) (S : ℕ → Type 0) → Type 0
+MarksIn rows words before after S = MarksAll (rowsOf (view rows words)) before after S
+
+-- from the root words of a range
+abbrev pub MarksHeld : (rows : ℕ) (words before after : List ℕ) (start end : ℕ) → Type 0
+MarksHeld rows words before after start end = MarksIn rows words before after (Held (view rows words) start end)
 
 pub record RefPre (w : View) (size r : ℕ) : Type 0 where
   pub base : Base w size

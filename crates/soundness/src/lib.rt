@@ -19,18 +19,19 @@ ghost use mathlib.Core.Path.{_≡_};
 ghost use mathlib.Core.Bool.{true, false};
 ghost use Prim.Native.Nat.{ℕ, suc, _*_, _<_, _≤_};
 ghost use lib.ListN.{length};
-ghost use Rattle.layout.specs.Places.{MAX-ROWS, HEADER, wordsFor, BITS, ROWS, LAYOUT, CURRENT, VALID, FIRST-RELATION};
-ghost use Rattle.layout.specs.View.{view, headerOf, listOf, headOf};
+ghost use Rattle.layout.specs.Places.{MAX-ROWS, HEADER, wordsFor, VALID, FIRST-RELATION};
+ghost use Rattle.layout.specs.View.{view, listOf, headOf};
 ghost use Rattle.layout.specs.Arrows.{isRow, isMarked};
 ghost use Rattle.soundness.specs.Used.{Sizes, used, rowsOf, Ranked};
 ghost use Rattle.soundness.specs.Index.{bucket, keyOf, live, Has, Hit, Down, Link};
 ghost use Rattle.soundness.specs.Bits.{MARK-WORDS, isOn, Sets};
 ghost use Rattle.soundness.specs.Mark.{Marks, MarkPre};
-ghost use Rattle.soundness.specs.Roots.{Ref, MarksAll, RefPre, RefsPre, Held};
+ghost use Rattle.soundness.specs.Roots.{Ref, MarksAll, RefPre, RefsPre, MarksHeld};
 ghost use Rattle.soundness.specs.Says.{Says, WalkSays};
 ghost use Rattle.soundness.specs.Triples.{Ready};
 ghost use Rattle.soundness.specs.Checks.{Room, Placed, Leads, RowGood, Finds, Links, EvenMarked};
 ghost use Rattle.soundness.specs.Sound.{Good, EvenSets, Sound, tableOf};
+ghost use Rattle.soundness.specs.Posts.{RefsIn, SizesIn, LaidPre};
 
 // A bitmap with a mark of each row.
 pub struct Bitmap;
@@ -312,7 +313,7 @@ fn ref_ok(words: &[u32], rows: u32, r: u32) -> bool
 // Whether the header's words from `from` up to `to` are empty or arrows.
 fn refs_ok(words: &[u32], rows: u32, from: usize, to: usize) -> bool
     requires { ⌜ (to ≤ HEADER) × Room (view rows (now words)) ⌝ }
-    ensures { λ r. ⌜ Says ((h : ℕ) → from ≤ h → h < to → Ref (rowsOf (view rows (now (words .entry)))) (headerOf (now (words .entry)) h)) r ⌝ }
+    ensures { λ r. ⌜ Says (RefsIn rows (now (words .entry)) from to) r ⌝ }
 {
     let mut k = from;
     while k < to {
@@ -396,7 +397,7 @@ fn mark_ref(words: &[u32], rows: u32, marks: &mut [u32], r: u32)
 // Marks the rows that the header's words from `from` up to `to` reach.
 pub fn mark_refs(words: &[u32], rows: u32, marks: &mut [u32], from: usize, to: usize)
     requires { ⌜ RefsPre (view rows (now words)) (length (now marks)) from to ⌝ }
-    ensures { λ _. ⌜ MarksAll (rowsOf (view rows (now (words .entry)))) (now (marks .entry)) (now (marks .exit)) (Held (view rows (now (words .entry))) from to) ⌝ }
+    ensures { λ _. ⌜ MarksHeld rows (now (words .entry)) (now (marks .entry)) (now (marks .exit)) from to ⌝ }
 {
     let mut k = from;
     while k < to {
@@ -458,7 +459,7 @@ pub fn sizes_fit(n: u32, rows: u32, size: usize) -> bool
 
 // Whether n, N and the number of words are in range, as the header has them.
 fn sizes_ok(words: &[u32]) -> bool
-    ensures { λ r. ⌜ Says (Sizes (headerOf (now (words .entry)) BITS) (headerOf (now (words .entry)) ROWS) (length (now (words .entry)))) r ⌝ }
+    ensures { λ r. ⌜ Says (SizesIn (now (words .entry))) r ⌝ }
 {
     if words.len() < Table::HEADER {
         return false;
@@ -472,7 +473,7 @@ fn sizes_ok(words: &[u32]) -> bool
 
 // Whether the rows of a table of the right size and layout are sound.
 fn table_ok(words: &[u32], rows: u32) -> bool
-    requires { ⌜ Sizes (headerOf (now words) BITS) rows (length (now words)) × (headerOf (now words) ROWS ≡ rows) × (headerOf (now words) LAYOUT ≡ CURRENT) ⌝ }
+    requires { ⌜ LaidPre rows (now words) ⌝ }
     ensures { λ r. ⌜ Says (Good (view rows (now (words .entry)))) r ⌝ }
 {
     let used = header_word(words, Table::USED);

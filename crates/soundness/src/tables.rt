@@ -6,17 +6,15 @@ use layout::is_marked;
 use layout::row_of;
 ghost use mathlib.Core.Path.{_≡_};
 ghost use mathlib.Core.Bool.{true};
-ghost use Prim.Native.Nat.{ℕ, _*_, _+_, _≤_, _<_};
+ghost use Prim.Native.Nat.{_*_, _+_, _≤_, _<_};
 ghost use lib.ListN.{length, getD, set};
-ghost use Rattle.diagram.specs.Rows.{row};
-ghost use Rattle.layout.specs.Places.{BITS};
 ghost use Rattle.layout.specs.View.{view};
 ghost use Rattle.layout.specs.Arrows.{isRow, isMarked};
-ghost use Rattle.soundness.specs.Used.{rowsOf};
 ghost use Rattle.soundness.specs.Says.{Says};
-ghost use Rattle.soundness.specs.Masks.{lowMask, highMask, swapped};
-ghost use Rattle.soundness.specs.Cells.{Classed, Tabled, Disjoint, joined};
+ghost use Rattle.soundness.specs.Masks.{lowMask, highMask};
+ghost use Rattle.soundness.specs.Cells.{Classed, Disjoint, joined};
 ghost use Rattle.soundness.specs.Tables.{RowPre, TablePre, TablePost, carriedCells};
+ghost use Rattle.soundness.specs.Posts.{TabledIn};
 
 // The words of nothing and of everything, and what half of a word has.
 struct Cells;
@@ -119,7 +117,7 @@ fn row_table(
     high: u32,
 ) -> u32
     requires { ⌜ RowPre (view rows (now words)) base shift up i low high ⌝ }
-    ensures { λ r. ⌜ Tabled (2 * view rows (now (words .entry)) .header BITS) (rowsOf (view rows (now (words .entry)))) base shift up (row i) r ⌝ }
+    ensures { λ r. ⌜ TabledIn rows (now (words .entry)) base shift up i r ⌝ }
 {
     let level = get(words, rows, i, Table::LEVEL) + up;
     join(class_of(base, shift, level), low, high)

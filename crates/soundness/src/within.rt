@@ -9,20 +9,19 @@ use layout::header_word;
 use layout::row_of;
 ghost use mathlib.Core.Path.{_≡_};
 ghost use mathlib.Core.Bool.{true};
-ghost use Prim.Native.Nat.{ℕ, _*_, _+_, _-_, _≤_, _<_};
+ghost use Prim.Native.Nat.{_*_, _+_, _-_, _≤_, _<_};
 ghost use lib.ListN.{length};
-ghost use Rattle.layout.specs.Places.{HEADER, CELLS, wordsFor, BITS, LEVEL, FIRST-REGISTER, FIRST-RELATION, ROOTS-END};
+ghost use Rattle.layout.specs.Places.{wordsFor};
 ghost use Rattle.layout.specs.View.{view};
 ghost use Rattle.layout.specs.Arrows.{isRow, rowOf, flipArrow};
 ghost use Rattle.diagram.specs.Rows.{Arrow};
 ghost use Rattle.soundness.specs.Used.{rowsOf};
-ghost use Rattle.soundness.specs.Roots.{Ref};
 ghost use Rattle.soundness.specs.Says.{Says};
-ghost use Rattle.soundness.specs.Apart.{Apart};
 ghost use Rattle.soundness.specs.Pairs.{PAIR-WORDS, Seen, Puts};
 ghost use Rattle.soundness.specs.Within.{Within};
 ghost use Rattle.soundness.specs.Sound.{Good};
-ghost use Rattle.soundness.specs.Contained.{AllApart, Clear, RefApart, Asks, Against, ApartPre, Tells, Deep, TablesPre, TablesPost, RefsAsked, RootsPre, PassPre, Halved, Split};
+ghost use Rattle.soundness.specs.Contained.{AllApart, Clear, ApartPre, Deep, TablesPre, TablesPost, RefsAsked, RootsPre, PassPre, Halved, Split};
+ghost use Rattle.soundness.specs.Posts.{SplitPre, ApartTold, RefApartPre, RefApartTold};
 
 // The remembered pairs: how many words they have, two for each of 4,096.
 struct Pairs;
@@ -115,7 +114,7 @@ struct Quarters {
 
 // The halves of two arrows to rows at the lesser of their levels, where the second's count higher by the shift.
 fn split(words: &[u32], rows: u32, shift: u32, a: u32, b: u32) -> Quarters
-    requires { ⌜ Good (view rows (now words)) × (shift ≤ 1) × Arrow (rowsOf (view rows (now words))) a × Arrow (rowsOf (view rows (now words))) b × (isRow a ≡ true) × (isRow b ≡ true) ⌝ }
+    requires { ⌜ SplitPre rows (now words) shift a b ⌝ }
     ensures { λ r. ⌜ Split (view rows (now (words .entry))) shift a b (r .a0) (r .b0) (r .a1) (r .b1) ⌝ }
 {
     let la = get(words, rows, row_of(a), Table::LEVEL);
@@ -187,7 +186,7 @@ fn apart(
     second: &mut [u32],
 ) -> bool
     requires { ⌜ ApartPre (view rows (now words)) shift base a b (now memo) (now first) (now second) ⌝ }
-    ensures { λ r. ⌜ Tells (view rows (now (words .entry))) shift base (now (memo .exit)) (now (first .exit)) (now (second .exit)) (Apart (2 * view rows (now (words .entry)) .header BITS) (rowsOf (view rows (now (words .entry)))) shift a b) r ⌝ }
+    ensures { λ r. ⌜ ApartTold rows (now (words .entry)) shift base a b (now (memo .exit)) (now (first .exit)) (now (second .exit)) r ⌝ }
 {
     if a == Table::NOTHING {
         return true;
@@ -233,8 +232,8 @@ fn ref_apart(
     first: &mut [u32],
     second: &mut [u32],
 ) -> bool
-    requires { ⌜ Asks (view rows (now words)) shift base (now memo) (now first) (now second) × Ref (rowsOf (view rows (now words))) r × Against (view rows (now words)) b ⌝ }
-    ensures { λ k. ⌜ Tells (view rows (now (words .entry))) shift base (now (memo .exit)) (now (first .exit)) (now (second .exit)) (RefApart (view rows (now (words .entry))) shift r b) k ⌝ }
+    requires { ⌜ RefApartPre rows (now words) shift base r b (now memo) (now first) (now second) ⌝ }
+    ensures { λ k. ⌜ RefApartTold rows (now (words .entry)) shift base r b (now (memo .exit)) (now (first .exit)) (now (second .exit)) k ⌝ }
 {
     if r == 0 {
         return true;

@@ -14,13 +14,11 @@ use table::Made;
 use table::made_of;
 ghost use mathlib.Core.Path.{_≡_};
 ghost use Rattle.layout.specs.View.{view};
-ghost use Rattle.soundness.specs.Used.{rowsOf};
 ghost use Rattle.table.specs.Code.{madeOf};
-ghost use Rattle.operations.specs.Work.{Ready, Worked};
-ghost use Rattle.steps.specs.Steps.{stepF, firstOperand, secondOperand, Fits, StepPre, Stepped};
+ghost use Rattle.steps.specs.Steps.{firstOperand, secondOperand, StepPre};
 ghost use Rattle.steps.specs.Clean.{CleanPre, Cleaned};
 ghost use Rattle.steps.specs.Settle.{SettlePre, SettlePost};
-ghost use Rattle.steps.specs.Again.{Retried};
+ghost use Rattle.steps.specs.Posts.{TryPre, TryPost, RetriedIn};
 
 // A step and its operands: bits and EXISTS have a level first.
 pub enum Step {
@@ -72,8 +70,8 @@ pub fn operands_of(step: Step) -> Operands
 
 // Runs a step's operation: an arrow, or `Code::FULL` where the rows ran out.
 fn run_step(words: &mut [u32], rows: u32, levels: u32, limit: u32, step: Step) -> u32
-    requires { ⌜ Ready levels rows limit (view rows (now words)) × Fits levels (rowsOf (view rows (now words))) step ⌝ }
-    ensures { λ r. ⌜ Worked levels rows limit (view rows (now (words .entry))) (view rows (now (words .exit))) (madeOf r) (stepF levels (rowsOf (view rows (now (words .entry)))) step) ⌝ }
+    requires { ⌜ TryPre levels rows limit (now words) step ⌝ }
+    ensures { λ r. ⌜ TryPost levels rows limit (now (words .entry)) (now (words .exit)) step (madeOf r) ⌝ }
 {
     match step {
         Step::Bit(l) => bit(words, rows, levels, limit, l),
@@ -87,8 +85,8 @@ fn run_step(words: &mut [u32], rows: u32, levels: u32, limit: u32, step: Step) -
 
 // Tries a step.
 pub fn try_step(words: &mut [u32], rows: u32, levels: u32, limit: u32, step: Step) -> Made
-    requires { ⌜ Ready levels rows limit (view rows (now words)) × Fits levels (rowsOf (view rows (now words))) step ⌝ }
-    ensures { λ r. ⌜ Worked levels rows limit (view rows (now (words .entry))) (view rows (now (words .exit))) r (stepF levels (rowsOf (view rows (now (words .entry)))) step) ⌝ }
+    requires { ⌜ TryPre levels rows limit (now words) step ⌝ }
+    ensures { λ r. ⌜ TryPost levels rows limit (now (words .entry)) (now (words .exit)) step r ⌝ }
 {
     made_of(run_step(words, rows, levels, limit, step))
 }
@@ -139,7 +137,7 @@ pub fn retry(
     step: Step,
 ) -> Made
     requires { ⌜ StepPre levels rows limit (view rows (now words)) (now roots) step ⌝ }
-    ensures { λ r. ⌜ Retried levels rows limit (view rows (now (words .entry))) (view rows (now (words .exit))) (now (roots .entry)) step r ⌝ }
+    ensures { λ r. ⌜ RetriedIn levels rows limit (now (words .entry)) (now (words .exit)) (now (roots .entry)) step r ⌝ }
 {
     clean(words, rows, roots, step, Table::NOTHING);
     let made = try_step(words, rows, levels, limit, step);

@@ -19,7 +19,7 @@ use Rattle.diagram.specs.Need.{stepNeed}
 use Rattle.diagram.specs.Rows.{target}
 use Rattle.diagram.specs.Reach.{Reach, root}
 use Rattle.diagram.specs.Steps.{bitF}
-use Rattle.soundness.specs.Used.{used, used-in, rowsOf}
+use Rattle.soundness.specs.Used.{Sizes, used, used-in, rowsOf}
 use Rattle.soundness.specs.Index.{bucket-lt}
 use Rattle.soundness.specs.Sound.{tableOf}
 use Rattle.soundness.specs.Filled.{filled, filled-mem}
@@ -31,11 +31,12 @@ use Rattle.book.specs.Table.{Reply}
 use Rattle.book.specs.Leaves.{plain, valued}
 use Rattle.book.specs.Demand.{Event, bookAfter, Trace, stop, go, Session, Demand}
 use Rattle.contract.specs.Seen.{seen, SoundWords}
-use Rattle.contract.specs.Posts.{FreshPost, CallPost}
+use Rattle.contract.specs.Posts.{CallPost}
 use Rattle.contract.specs.Checked.{call-refused}
 use Rattle.contract.specs.Closed.{makes, performs, asks, words-demand}
-use Rattle.witness.specs.Words.{Viewed, zeros, freshOf, fresh-zero, fresh-valid}
-use Rattle.witness.specs.Made.{fresh-done, collected-done, empty-done}
+use Rattle.witness.specs.Words.{Viewed, freshOf, fresh-zero, fresh-valid}
+use Rattle.witness.specs.Made.{alone-roomy, collected-done, empty-done}
+use Rattle.witness.specs.Begun.{session, sound as sound-after, holds as holds-after}
 use Rattle.witness.specs.Row.{bitIn, freedIn, bitStored, view-bit, view-freed, bit-done, freed-done}
 
 -- ---- the list: n = 2, N = 1
@@ -65,9 +66,6 @@ events =
 
 -- ---- the words: the fewest for one row, and what fresh, set 0, clear 0, the second collect and the last set leave of them
 
-abbrev lent : List ℕ
-lent = zeros 268
-
 abbrev made : List ℕ
 made = freshOf 2 1 268
 
@@ -85,19 +83,15 @@ end = bitIn 1 freed 0 1 1
 
 -- ---- a list from fresh on
 
-start : FreshPost 2 1 1 lent made (plain 0)
-start = fresh-done 2 1 268 (record { n-pos = omega arith; n-max = omega arith; N-pos = omega arith; N-max = omega arith; room = omega arith })
-
-session : {l : List Event} {ws : List ℕ} → Trace (List ℕ) performs made l ws → Session (List ℕ) makes performs 2 1 l ws
-session t = record { lent = lent; count = 1; made = made; reply = plain 0; start = start; answered = refl; rest = t }
+sizes : Sizes 2 1 268
+sizes = record { n-pos = omega arith; n-max = omega arith; N-pos = omega arith; N-max = omega arith; room = omega arith }
 
 module _ {l : List Event} {ws : List ℕ} (t : Trace (List ℕ) performs made l ws) where
-  -- the words after it are sound, and hold what the book does
-  sound : SoundWords ws
-  sound = words-demand 2 1 (session t) .good
+  abbrev sound : SoundWords ws
+  sound = sound-after 2 1 268 sizes t
 
-  holds : bookOf (seen ws) ≡ bookAfter 2 1 l
-  holds = words-demand 2 1 (session t) .holds
+  abbrev holds : bookOf (seen ws) ≡ bookAfter 2 1 l
+  holds = holds-after 2 1 268 sizes t
 
   -- n and N are as fresh got them
   module _ (n : bookAfter 2 1 l .n ≡ 2) (N : bookAfter 2 1 l .N ≡ 1) where
@@ -123,7 +117,7 @@ module _ {l : List Event} {ws : List ℕ} (t : Trace (List ℕ) performs made l 
           let o = one in
           let h = bucket-lt (headerOf ws ROWS) (2 * p) 1 0 (omega arith) in
           subst (λ (k : ℕ). CallPost (set alone r 100 (bit p)) ws (bitIn k ws 0 r p) node) one
-          (bit-done ws sound none every p (omega arith) r 100 0 1 1 (bit p) i (omega arith) (omega arith)
+          (bit-done ws sound none every p (omega arith) alone r 100 0 1 1 (bit p) i (alone-roomy (headerOf ws ROWS) 100 (omega arith) (omega arith)) (omega arith)
           (subst (λ (b : Book). checks b Set (bit p) ≡ 0) (sym holds) passes)
           (subst (λ (b : Book). now p ≡ formulaIn b Set (bit p)) (sym holds) is)
           (subst (λ (b : Book). 1 ≡ stepNeed (2 * b .n) (liveOf b) (bitF (2 * p))) (sym holds) needs)
@@ -212,7 +206,7 @@ set-second = bit-set to-freed refl refl none-freed every-freed 1 1 (omega arith)
 -- ---- the whole list under the calls' contracts, and what the closed list theorem says of it
 
 pub played : Session (List ℕ) makes performs 2 1 events end
-played = session (go set-first (go set-refused (go collect-first (go clear-first (go collect-second (go set-second stop))))))
+played = session 2 1 268 sizes (go set-first (go set-refused (go collect-first (go clear-first (go collect-second (go set-second stop))))))
 
 pub shown : Demand SoundWords seen asks 2 1 events end
 shown = words-demand 2 1 played

@@ -6,7 +6,8 @@ use Prim.Native.Nat.{ℕ, _+_, _*_, _<_, _≤_}
 use native.Mathlib.Omega.{arith}
 use lib.Dec.{T}
 use lib.ListN.{set as write}
-use Rattle.accounts.specs.Terms.{alone, rowsUnder, roundsUnder}
+use Rattle.accounts.specs.declared.Terms.{Terms}
+use Rattle.accounts.specs.Terms.{named, alone, rowsUnder, roundsUnder}
 use Rattle.accounts.specs.declared.Count.{Count}
 use Rattle.accounts.specs.Count.{nothing, another}
 use Rattle.mucalculus.specs.Form.{Form, bot, top, var, bind, noEnv}
@@ -109,6 +110,16 @@ fresh-done n N k z = fresh-ready n N 1 (zeros k) (freshOf n N k) (subst (Sizes n
 
 -- ---- the calls on a sound table
 
+-- an account that limits neither N rows nor R rounds further
+pub record Roomy (N R : ℕ) (acc : Terms) : Type 0 where
+  pub place : T (named acc)
+  pub rows : N ≤ acc .rows
+  pub rounds : R ≤ acc .rounds
+
+-- one account with the largest limits
+pub alone-roomy : (N R : ℕ) → N ≤ 60_000 → R ≤ 4_294_967_295 → Roomy N R alone
+alone-roomy N R l i = record { place = tt; rows = omega arith; rounds = i }
+
 module _ (old : List ℕ) (s : SoundWords old) where
   abbrev b : Book
   b = bookOf (seen old)
@@ -166,13 +177,14 @@ module _ (old : List ℕ) (s : SoundWords old) where
   abbrev pub Ends : Rows → ℕ → ℕ → Form → Ended → Type 0
   Ends after N R f y = Evals (b .n) (b .N) (rowsOf (tableOf old)) after (rootsOf (seen old)) (run (modelOf b) N R noEnv (liveOf b) f nothing) y
 
-  -- one account with the largest limits is no limit
-  pub unlimited : {after : Rows} (R : ℕ) (f : Form) (y : Ended) → R ≤ 4_294_967_295 → Ends after (b .N) R f y
-      → Ends after (rowsUnder (b .N) alone) (roundsUnder R alone) f y
-  unlimited {after} R f y small d =
-      let N-max = s .good .sizes .N-max in
-      let e : b .N ≡ rowsUnder (b .N) alone = omega arith in
-      let i : R ≡ roundsUnder R alone = omega arith in
+  -- an account that limits neither rows nor rounds further
+  pub unlimited : {after : Rows} (R : ℕ) (f : Form) (y : Ended) (acc : Terms) → Roomy (b .N) R acc → Ends after (b .N) R f y
+      → Ends after (rowsUnder (b .N) acc) (roundsUnder R acc) f y
+  unlimited {after} R f y acc a d =
+      let l = a .rows in
+      let m = a .rounds in
+      let e : b .N ≡ rowsUnder (b .N) acc = omega arith in
+      let i : R ≡ roundsUnder R acc = omega arith in
       subst₂ (λ (N R : ℕ). Ends after N R f y) e i d
 
   -- V's arrow
@@ -182,33 +194,33 @@ module _ (old : List ℕ) (s : SoundWords old) where
 
   module _ (r : ℕ) (l : r < REGISTERS) where
     -- set r to mu P. P or nu P. P, w being V's arrow
-    module _ (d : Bool) (R : ℕ) (small : R ≤ 4_294_967_295) (w : ℕ) (is : seen old .valid ≡ w) where
-      abbrev Alone : Ended → Form → Type 0
-      Alone y f = Ends (rowsOf (tableOf old)) (rowsUnder (b .N) alone) (roundsUnder R alone) f y
+    module _ (d : Bool) (R : ℕ) (acc : Terms) (roomy : Roomy (b .N) R acc) (w : ℕ) (is : seen old .valid ≡ w) where
+      abbrev Under : Ended → Form → Type 0
+      Under y f = Ends (rowsOf (tableOf old)) (rowsUnder (b .N) acc) (roundsUnder R acc) f y
 
-      self-alone : (y : Ended) → Ends (rowsOf (tableOf old)) (b .N) R (bind d 0 (var 0)) y → Alone y (formulaIn b Set (self d))
-      self-alone y e = subst (Alone y) (self-form d (b .n)) (unlimited R (bind d 0 (var 0)) y small e)
+      self-under : (y : Ended) → Ends (rowsOf (tableOf old)) (b .N) R (bind d 0 (var 0)) y → Under y (formulaIn b Set (self d))
+      self-under y e = subst (Under y) (self-form d (b .n)) (unlimited R (bind d 0 (var 0)) y acc roomy e)
 
       -- one round and no step: node number 0 or V's
-      pub self-done : 0 < R → CallPost (set alone r R (self d)) old (storedIn old r (startArrow d w)) (setReply (ends (startArrow d w) (another nothing)))
+      pub self-done : 0 < R → CallPost (set acc r R (self d)) old (storedIn old r (startArrow d w)) (setReply (ends (startArrow d w) (another nothing)))
       self-done i =
           through-done s tt (λ a. a)
-          (set-value old s (tableOf old) (s .good) (op-refl (tableOf old)) alone r R (self d) l tt (self-passes d (b .n) (regFilled b) (relFilled b)) (startArrow d w) (another nothing)
-          (self-alone (ends (startArrow d w) (another nothing)) (self-ends (modelOf b) (b .N) R noEnv (liveOf b) 0 (s .good .rows) held w (has-valid w is) d i)))
+          (set-value old s (tableOf old) (s .good) (op-refl (tableOf old)) acc r R (self d) l (roomy .place) (self-passes d (b .n) (regFilled b) (relFilled b)) (startArrow d w) (another nothing)
+          (self-under (ends (startArrow d w) (another nothing)) (self-ends (modelOf b) (b .N) R noEnv (liveOf b) 0 (s .good .rows) held w (has-valid w is) d i)))
           (as-it-was refl)
           (view-stored (headerOf old ROWS) r (startArrow d w) old (s .good .sizes .room) l)
 
       -- no round is allowed
-      pub self-refused : R ≡ 0 → CallPost (set alone r R (self d)) old old (plain 9)
+      pub self-refused : R ≡ 0 → CallPost (set acc r R (self d)) old old (plain 9)
       self-refused z =
           through-done s tt (λ a. a)
-          (set-spent old s (tableOf old) (s .good) (op-refl (tableOf old)) alone r R (self d) l tt (self-passes d (b .n) (regFilled b) (relFilled b))
-          (self-alone nine (self-spent (modelOf b) (b .N) R noEnv (liveOf b) 0 (s .good .rows) held w (has-valid w is) d z)))
+          (set-spent old s (tableOf old) (s .good) (op-refl (tableOf old)) acc r R (self d) l (roomy .place) (self-passes d (b .n) (regFilled b) (relFilled b))
+          (self-under nine (self-spent (modelOf b) (b .N) R noEnv (liveOf b) 0 (s .good .rows) held w (has-valid w is) d z)))
           (as-it-was refl) refl
 
     -- set r to mu P. NOT P
-    pub odd-done : (R : ℕ) → CallPost (set alone r R odd) old old (plain 6)
-    odd-done R = call-refused old s 5 (set alone r R odd) (set-refused b alone r R odd 5 l tt (odd-refused (b .n) (regFilled b) (relFilled b)))
+    pub odd-done : (R : ℕ) (acc : Terms) → T (named acc) → CallPost (set acc r R odd) old old (plain 6)
+    odd-done R acc p = call-refused old s 5 (set acc r R odd) (set-refused b acc r R odd 5 l p (odd-refused (b .n) (regFilled b) (relFilled b)))
 
     pub empty-done : CallPost (clear r) old (write old (FIRST-REGISTER + r) 0) (plain 0)
     empty-done = clear-done old (write old (FIRST-REGISTER + r) 0) r s l refl (view-header (headerOf old ROWS) old (s .good .sizes .room) (FIRST-REGISTER + r) 0 (omega arith))

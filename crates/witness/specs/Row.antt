@@ -9,7 +9,8 @@ use native.Mathlib.Omega.{arith}
 use native.Mathlib.Decide.{ℕ-discrete}
 use lib.ListN.{length, set as write}
 use borrow.Author.Tests.{ne-eqb}
-use Rattle.accounts.specs.Terms.{alone, rowsUnder, roundsUnder}
+use Rattle.accounts.specs.declared.Terms.{Terms}
+use Rattle.accounts.specs.Terms.{rowsUnder, roundsUnder}
 use Rattle.accounts.specs.Count.{nothing, needing}
 use Rattle.mucalculus.specs.Form.{Form, now}
 use Rattle.tokens.specs.declared.Kind.the-variants.{Set}
@@ -56,7 +57,7 @@ use Rattle.calls.specs.Changes.{collect-done}
 use Rattle.formula_steps.specs.Evaluated.{registerStored, as-it-was}
 use Rattle.formula_steps.specs.Ends.{set-value, through-done}
 use Rattle.witness.specs.Words.{Viewed, viewed, put-header, put-cell, put-list, put-head, storedIn}
-use Rattle.witness.specs.Made.{held, Ends, unlimited, has-valid, unused}
+use Rattle.witness.specs.Made.{held, Ends, Roomy, unlimited, has-valid, unused}
 
 -- ---- the words
 
@@ -194,14 +195,14 @@ module _ (old : List ℕ) (s : SoundWords old) (none : headerOf old USED ≡ 0) 
       (few-used few (same-refl (rowsOf X)))
 
   -- q and j are what its two steps need
-  pub bit-done : (r R k q j : ℕ) (bs : List ℕ) → r < REGISTERS → R ≤ 4_294_967_295 → k ≡ bucket (W .rows) (2 * p) 1 0
+  pub bit-done : (acc : Terms) (r R k q j : ℕ) (bs : List ℕ) → r < REGISTERS → Roomy (b .N) R acc → k ≡ bucket (W .rows) (2 * p) 1 0
       → checks b Set bs ≡ 0 → now p ≡ formulaIn b Set bs → q ≡ stepNeed (2 * b .n) (liveOf b) (bitF (2 * p)) → j ≡ stepNeed (2 * b .n) (bitF (2 * p) ∷ liveOf b) (bitF (2 * p))
-      → CallPost (set alone r R bs) old (bitIn (W .rows) old k r p) (setReply (ends 3 (needing (needing nothing q) j)))
-  bit-done r R k q j bs l small e passes is i h =
+      → CallPost (set acc r R bs) old (bitIn (W .rows) old k r p) (setReply (ends 3 (needing (needing nothing q) j)))
+  bit-done acc r R k q j bs l roomy e passes is i h =
       through-done s tt (λ a. a)
-      (set-value old s X grown frame alone r R bs l tt passes 3 (needing (needing nothing q) j)
-      (subst (λ (f : Form). Ends old s (rowsOf X) (rowsUnder (b .N) alone) (roundsUnder R alone) f (ends 3 (needing (needing nothing q) j))) is
-      (unlimited old s R (now p) (ends 3 (needing (needing nothing q) j)) small
+      (set-value old s X grown frame acc r R bs l (roomy .place) passes 3 (needing (needing nothing q) j)
+      (subst (λ (f : Form). Ends old s (rowsOf X) (rowsUnder (b .N) acc) (roundsUnder R acc) f (ends 3 (needing (needing nothing q) j))) is
+      (unlimited old s R (now p) (ends 3 (needing (needing nothing q) j)) acc roomy
       (evals-bit (b .n) (b .N) (held old s) (exist (modelOf b)) w (here refl) (here (fnOf-clip (b .n) (b .valid))) (has-valid old s w refl) p nothing low
       step q (i ∙ sym (held-need (held old s) (bitF (2 * p))))
       (at 3) again j (h ∙ sym (ap (stepNeed (2 * b .n) (bitF (2 * p) ∷ liveOf b)) both-bit) ∙ sym (held-need held-bit both))))))

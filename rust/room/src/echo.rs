@@ -92,6 +92,7 @@ pub fn asked(room: &Room, asked: &Asked) -> String {
         Asked::Never(x) => format!("never {}", cond(room, x)),
         Asked::AlwaysPossible(x) => format!("always possible: {}", cond(room, x)),
         Asked::Until(x, y) => format!("{} until {}", cond(room, x), cond(room, y)),
+        Asked::Unless(x, y) => format!("{} unless {}", cond(room, x), cond(room, y)),
     }
 }
 

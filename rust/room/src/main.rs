@@ -34,6 +34,7 @@ FILE is - for standard input. A room file:
   never howl                        no presses lead there from the start
   always possible: not song         after any presses, some presses lead there
   not echo until song               whatever is pressed, song comes, and no echo before
+  not echo unless song              no echo as long as song has not come, which it need not
 
 A press works only where its condition holds, and what it does not name keeps its value. A press may have several lines.
 Conditions have: and, or, not, parentheses, names, SELECTOR = POSITION. A line that begins with a blank goes on with the one before.

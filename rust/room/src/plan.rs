@@ -120,8 +120,12 @@ fn asking(room: &Room, asked: &Asked, relations: u32) -> Asking {
             let sets = vec![set(FIRST, x), leads("from where presses lead there")];
             (sets, store(ANSWER, formula, says), true)
         }
-        Asked::Until(x, y) => {
-            let formula = until(relations, &first, &Formula::register(SECOND));
+        Asked::Until(x, y) | Asked::Unless(x, y) => {
+            let comes = Formula::register(SECOND);
+            let formula = match asked {
+                Asked::Until(..) => until(relations, &first, &comes),
+                _ => unless(relations, &first, &comes),
+            };
             let says = "from where every run of presses passes".to_string();
             (
                 vec![set(FIRST, x), set(SECOND, y)],
@@ -168,4 +172,9 @@ fn until(relations: u32, f: &Formula, g: &Formula) -> Formula {
     }
     let goes_on = every(relations, &Formula::var(0)) & some(relations, &Formula::always());
     Formula::mu(0, g | (f & goes_on))
+}
+
+/// On every run of presses f holds as long as g has not come, which it need not.
+fn unless(relations: u32, f: &Formula, g: &Formula) -> Formula {
+    Formula::nu(0, g | (f & every(relations, &Formula::var(0))))
 }

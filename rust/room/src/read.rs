@@ -113,7 +113,7 @@ impl<'a> Reader<'a> {
             "never" => self.never(&mut line),
             "always" => self.always_possible(&mut line),
             _ if second == "means" => self.means(&mut line),
-            _ if line.words.iter().any(|word| word.text == "until") => self.until(&mut line),
+            _ if line.words.iter().any(|word| joins_two(word.text)) => self.until(&mut line),
             _ => self.no_line(&line),
         }
     }
@@ -168,7 +168,7 @@ impl<'a> Reader<'a> {
             }
         }
         let says = "a line begins with things, selector, start, press, never or always possible, or it is \
-                    \"NAME means ...\" or \"... until ...\"";
+                    \"NAME means ...\", \"... until ...\" or \"... unless ...\"";
         self.wrong(&first, says.to_string())
     }
 
@@ -192,7 +192,9 @@ impl<'a> Reader<'a> {
         let text = word.text;
         let says = match text {
             ")" => "this ) has no ( before it".to_string(),
-            "until" => "one line asks one \"until\", outside all parentheses".to_string(),
+            _ if joins_two(text) => {
+                format!("one line asks one \"{text}\", outside all parentheses")
+            }
             _ if FIRST_WORDS.contains(&text) => {
                 format!("\"{text}\" begins a line of its own, at the left edge")
             }
@@ -360,13 +362,18 @@ impl<'a> Reader<'a> {
 
     fn until(&mut self, line: &mut Line<'a, '_>) -> Read<()> {
         let (before, _) = self.condition(line)?;
-        if !line.take("until") {
+        let weak = line.take("unless");
+        if !weak && !line.take("until") {
             self.end(line)?;
             let last = line.last();
-            return self.wrong(&last, "\"until\" is missing after this".to_string());
+            return self.wrong(
+                &last,
+                "\"until\" or \"unless\" is missing after this".to_string(),
+            );
         }
         let (comes, _) = self.condition(line)?;
-        self.question(line, Asked::Until(before, comes))
+        let asked = if weak { Asked::Unless } else { Asked::Until };
+        self.question(line, asked(before, comes))
     }
 
     fn question(&mut self, line: &Line, asked: Asked) -> Read<()> {
@@ -375,6 +382,11 @@ impl<'a> Reader<'a> {
         self.room.questions.push(Question { line, asked });
         Ok(())
     }
+}
+
+/// The words between the two conditions of a question.
+fn joins_two(word: &str) -> bool {
+    matches!(word, "until" | "unless")
 }
 
 /// A selector's positions as a list.

@@ -132,7 +132,7 @@ fn introduction(run: &Run, presses: usize) -> String {
 fn closing(room: &Room, asked: &Asked, end: End) -> String {
     let (first, second) = match asked {
         Asked::Never(x) | Asked::AlwaysPossible(x) => (echo::cond(room, x), String::new()),
-        Asked::Until(x, y) => (echo::cond(room, x), echo::cond(room, y)),
+        Asked::Until(x, y) | Asked::Unless(x, y) => (echo::cond(room, x), echo::cond(room, y)),
     };
     let again = |state: String| {
         format!(

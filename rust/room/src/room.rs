@@ -100,6 +100,8 @@ pub enum Asked {
     AlwaysPossible(Cond),
     /// Whatever is pressed from the start, the second comes, and the first holds until then.
     Until(Cond, Cond),
+    /// Whatever is pressed from the start, the first holds as long as the second has not come. It need not come.
+    Unless(Cond, Cond),
 }
 
 #[derive(Clone, Debug, PartialEq, Eq)]

@@ -45,7 +45,7 @@ pub fn mistakes(room: &Room) -> Vec<Mistake> {
             Asked::Never(cond) | Asked::AlwaysPossible(cond) => {
                 look(question.line, cond, says, true)
             }
-            Asked::Until(before, comes) => {
+            Asked::Until(before, comes) | Asked::Unless(before, comes) => {
                 look(question.line, before, says, false);
                 look(question.line, comes, says, true);
             }
@@ -64,7 +64,7 @@ pub fn uses(room: &Room, place: usize) -> bool {
         .iter()
         .flat_map(|question| match &question.asked {
             Asked::Never(x) | Asked::AlwaysPossible(x) => vec![x],
-            Asked::Until(x, y) => vec![x, y],
+            Asked::Until(x, y) | Asked::Unless(x, y) => vec![x, y],
         });
     named
         .chain(when)

@@ -30,7 +30,7 @@ pub enum End {
     Reached,
     /// It comes to a state from which no presses lead where it must be possible to come.
     NoWay,
-    /// What must hold until then does not hold, and the other has not come.
+    /// What must hold until then, or unless that, does not hold, and the other has not come.
     Lost,
     /// No press works, and what must come has not come.
     Stuck,
@@ -124,6 +124,22 @@ impl Walk {
         found
     }
 
+    /// The states from which f holds on every run of presses as long as g has not come.
+    fn unless(&self, f: &Set, g: &Set) -> Set {
+        let waits = self.without(g);
+        let mut lost: Set = (waits.iter().zip(f)).map(|(w, f)| *w && !f).collect();
+        let mut open = members(&lost);
+        while let Some(state) = open.pop() {
+            for &from in &self.before[state as usize] {
+                if waits[from as usize] && !lost[from as usize] {
+                    lost[from as usize] = true;
+                    open.push(from);
+                }
+            }
+        }
+        self.without(&lost)
+    }
+
     /// The sets of a question.
     pub fn sets(&self, room: &Room, asked: &Asked) -> Sets {
         match asked {
@@ -148,9 +164,12 @@ impl Walk {
                     inner: Some(inner),
                 }
             }
-            Asked::Until(x, y) => {
+            Asked::Until(x, y) | Asked::Unless(x, y) => {
                 let (first, second) = (self.set(room, x), self.set(room, y));
-                let answer = self.until(&first, &second);
+                let answer = match asked {
+                    Asked::Until(..) => self.until(&first, &second),
+                    _ => self.unless(&first, &second),
+                };
                 Sets {
                     first,
                     second: Some(second),
@@ -178,6 +197,7 @@ impl Walk {
                 into(&self.without(possible), End::NoWay)
             }
             (Asked::Until(..), _, Some(comes)) => self.never_comes(start, &sets.first, comes),
+            (Asked::Unless(..), _, Some(comes)) => self.loses(start, &sets.first, comes),
             _ => into(&sets.first, End::Reached),
         }
     }
@@ -211,6 +231,15 @@ impl Walk {
             run.push(state);
         }
         Some(run)
+    }
+
+    /// A shortest run on which f does not hold and g has not come.
+    fn loses(&self, start: State, f: &Set, g: &Set) -> Option<Run> {
+        let waits = self.without(g);
+        let lost: Set = (waits.iter().zip(f)).map(|(w, f)| *w && !f).collect();
+        let states = self.shortest_run(start, &lost, &waits)?;
+        let end = End::Lost;
+        Some(Run { states, end })
     }
 
     /// A run on which f does not hold until g: a shortest one that loses f or has no next press; else, a shortest way to a state

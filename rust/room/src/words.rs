@@ -27,9 +27,9 @@ impl Word<'_> {
 }
 
 /// Words that have a meaning of their own, and can be no names.
-pub const RESERVED: [&str; 18] = [
+pub const RESERVED: [&str; 19] = [
     "things", "selector", "start", "press", "means", "never", "always", "possible", "until",
-    "when", "and", "or", "not", "on", "off", "turns", "over", "all",
+    "unless", "when", "and", "or", "not", "on", "off", "turns", "over", "all",
 ];
 
 /// Begins a comment, up to the end of its line.

@@ -66,7 +66,7 @@ fn no_mistake() {
 fn lines() {
     let kinds =
         "a line begins with things, selector, start, press, never or always possible, or it is \
-                 \"NAME means ...\" or \"... until ...\"";
+                 \"NAME means ...\", \"... until ...\" or \"... unless ...\"";
     all(&[
         (
             "pres MIC: mic on",
@@ -569,6 +569,17 @@ fn questions() {
         ),
         ("(mic until song)", "(", "this ( has no ) after it"),
         (
+            "mic unless",
+            "unless",
+            "a condition is missing after \"unless\"",
+        ),
+        (
+            "mic until song unless echo",
+            "unless",
+            "one line asks one \"unless\", outside all parentheses",
+        ),
+        ("mic unless song or not song", "", every),
+        (
             "mic song until echo",
             "song",
             "\"and\", \"or\" or a comma is missing before \"song\"",
@@ -692,9 +703,9 @@ fn names_that_double() {
 fn any_words() {
     let words = [
         "things", "selector", "start", "press", "means", "never", "always", "possible", "until",
-        "when", "and", "or", "not", "on", "off", "turns", "over", "all", "mic", "echo", "send",
-        "desk", "hall", "howl", "x", ":", ",", "=", "(", ")", "\n", "\n", "\n", "\n ", "#", "1",
-        ";", "é", "\u{200b}", "-",
+        "unless", "when", "and", "or", "not", "on", "off", "turns", "over", "all", "mic", "echo",
+        "send", "desk", "hall", "howl", "x", ":", ",", "=", "(", ")", "\n", "\n", "\n", "\n ", "#",
+        "1", ";", "é", "\u{200b}", "-",
     ];
     let starts = [
         "things: mic echo\n",

@@ -78,10 +78,11 @@ impl Drawn {
                 self.cond(things, selectors, 2),
                 self.cond(things, selectors, 2),
             );
-            text += &match self.below(3) {
+            text += &match self.below(4) {
                 0 => format!("never {f}\n"),
                 1 => format!("always possible: {f}\n"),
-                _ => format!("{f} until {g}\n"),
+                2 => format!("{f} until {g}\n"),
+                _ => format!("{f} unless {g}\n"),
             };
         }
         text
@@ -200,6 +201,11 @@ fn check(room: &Room, asked: &Asked, run: &Run) {
                 _ => panic!("an until does not end so"),
             }
         }
+        Asked::Unless(x, y) => {
+            let lost = |state: u32| !room.holds(y, state) && !room.holds(x, state);
+            let shortest = presses_to(room, lost, |state| !room.holds(y, state));
+            assert!(run.end == End::Lost && lost(last) && shortest == Some(presses));
+        }
     }
 }
 
@@ -217,6 +223,7 @@ fn the_library_and_the_walk_agree() {
                 (Asked::Never(_), _) => "never: safe".to_string(),
                 (Asked::AlwaysPossible(_), _) => "always possible: safe".to_string(),
                 (Asked::Until(..), _) => "until: safe".to_string(),
+                (Asked::Unless(..), _) => "unless: safe".to_string(),
             };
             *kinds.entry(kind).or_insert(0) += 1;
             if let Verdict::Broken(run) = &verdict {
@@ -226,7 +233,7 @@ fn the_library_and_the_walk_agree() {
     }
     println!("{kinds:?}");
     assert!(
-        kinds.len() == 8 && kinds.values().all(|&count| count > 20),
+        kinds.len() == 9 && kinds.values().all(|&count| count > 20),
         "{kinds:?}"
     );
 }

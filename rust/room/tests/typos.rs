@@ -35,6 +35,7 @@ fn meaning(room: &Room) -> String {
             Asked::Never(x) => format!("never {:?}\n", set(x)),
             Asked::AlwaysPossible(x) => format!("always possible {:?}\n", set(x)),
             Asked::Until(x, y) => format!("{:?} until {:?}\n", set(x), set(y)),
+            Asked::Unless(x, y) => format!("{:?} unless {:?}\n", set(x), set(y)),
         };
     }
     said
