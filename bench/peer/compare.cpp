@@ -6,8 +6,8 @@
 #include <cstdlib>
 #include <map>
 
-static const u64 ENOUGH = 150000000; // nanoseconds of the library at one size
-static const int LEAST_TURNS = 5, MOST_TURNS = 200;
+static const u64 ENOUGH = 60000000; // nanoseconds of the library at one size
+static const int LEAST_TURNS = 3, MOST_TURNS = 200;
 static const u64 NEVER = ~0ull;
 
 // Stops with an error where two runs answered differently.

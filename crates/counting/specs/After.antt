@@ -51,7 +51,6 @@ module _ {m N limit : ℕ} {W X : View} {roots c : List ℕ} {s : Step} {q1 : Co
   arrows : (a : ℕ) → Mem a (live X roots) → Arrow rows a
   arrows = live-arrows roots (n .sound) (n .arrows)
 
-
   before-arrows : (a : ℕ) → Mem a (b ∷ live X roots) → Arrow rows a
   before-arrows a h = ⊎-elim (λ i. subst (Arrow rows) (sym i) (n .fits .0)) (arrows a) (mem-cases h)
 

@@ -5,5 +5,5 @@ pub mod Taken
 pub mod Begin
 pub mod Bound
 pub mod Peak
-pub mod Posts
 pub mod After
+pub mod Posts

@@ -58,6 +58,7 @@ pub struct Few;
 
 impl Few {
     pub const ROWS: u32 = 4096;
+
     pub const MARKS: usize = 128;
 }
 
@@ -154,7 +155,14 @@ pub fn mark_live(words: &[u32], rows: u32, counts: &[u32], roots: &[u32], marks:
 }
 
 // How many rows registers, relations and two lists of further arrows reach, with words for the marks.
-fn count_marking(words: &[u32], rows: u32, counts: &[u32], marks: &mut [u32], roots: &[u32], more: &[u32]) -> u32
+fn count_marking(
+    words: &[u32],
+    rows: u32,
+    counts: &[u32],
+    marks: &mut [u32],
+    roots: &[u32],
+    more: &[u32],
+) -> u32
     requires { ⌜ LivePre rows (now words) (now counts) (now roots ++ now more) (now marks) ⌝ }
     ensures { λ r. ⌜ LiveReaches rows (now (words .entry)) (now (roots .entry)) (now (more .entry)) r ⌝ }
 {

@@ -99,7 +99,13 @@ fn mark_added_row(words: &[u32], rows: u32, reached: &mut [u32], added: &mut [u3
 {
     let i = row_of(b);
     mark_added_part(words, rows, reached, added, get(words, rows, i, Table::LOW));
-    mark_added_part(words, rows, reached, added, get(words, rows, i, Table::HIGH));
+    mark_added_part(
+        words,
+        rows,
+        reached,
+        added,
+        get(words, rows, i, Table::HIGH),
+    );
     set_mark(reached, i);
     count_one(added, get(words, rows, i, Table::LEVEL));
 }
@@ -272,11 +278,33 @@ fn look(
     if rows <= Few::ROWS {
         let mut few_reached = [0u32; Few::MARKS];
         let mut few_seen = [0u32; Counter::FEW_ARROWS];
-        return look_marking(words, counts, rows, bits, &mut few_reached, &mut few_seen, roots, a, left, most);
+        return look_marking(
+            words,
+            counts,
+            rows,
+            bits,
+            &mut few_reached,
+            &mut few_seen,
+            roots,
+            a,
+            left,
+            most,
+        );
     }
     let mut reached = [0u32; Bitmap::WORDS];
     let mut seen = [0u32; Counter::ARROWS];
-    look_marking(words, counts, rows, bits, &mut reached, &mut seen, roots, a, left, most)
+    look_marking(
+        words,
+        counts,
+        rows,
+        bits,
+        &mut reached,
+        &mut seen,
+        roots,
+        a,
+        left,
+        most,
+    )
 }
 
 // Works out EXISTS at every odd level of each arrow that is followed from a, so that it is remembered.

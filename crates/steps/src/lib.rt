@@ -9,7 +9,6 @@ use operations::bit;
 use operations::exists;
 use operations::or_of;
 use operations::shift;
-use table::Code;
 use table::Made;
 use table::made_of;
 ghost use mathlib.Core.Path.{_≡_};
