@@ -8,12 +8,11 @@ use Rattle.tokens.specs.declared.Join.{Join}
 use Rattle.tokens.specs.declared.Leaf.{Leaf}
 use Rattle.tokens.specs.declared.Mode.{Mode}
 use Rattle.accounts.specs.declared.Count.{Count}
-use Rattle.layout.specs.View.{View, view}
 use Rattle.steps.specs.declared.Step.{Step}
-use Rattle.counting.specs.Counts.{CountsOf}
 use Rattle.counting.specs.declared.Taken.{Taken}
 use Rattle.modal.specs.declared.Limits.{Limits}
 use Rattle.modal.specs.Modal.{ModalPre}
+use Rattle.modal.specs.Posts.{viewIn, Counted}
 use Rattle.evaluator.specs.declared.Body.{Body}
 use Rattle.evaluator.specs.declared.Context.{Context}
 use Rattle.evaluator.specs.declared.Evaluated.{Evaluated}
@@ -21,14 +20,6 @@ use Rattle.evaluator.specs.Scene.{OverPost, LivePre, LivePost, JoinedPre
 use Rattle.evaluator.specs.Scene.{EvalPre, EvalPost, NegatePost, BothPre, BothPost, ModePre, ModePost, ReachPre, ReachPost}
 use Rattle.evaluator.specs.Scene.{FurtherPre, FurtherPost, KeepPre, KeepPost, RoundPre, RoundPost, TurnPre, TurnPost, BindPre, BindPost}
 use Rattle.evaluator.specs.Whole.{WithinPre, WithinPost, SetPre, SetPost, PairsPre, PairsPost, RelationPost}
-
--- the view of the words of a table of these sizes
-abbrev pub viewIn : (l : Limits) (words : List ℕ) → View
-viewIn l words = view (l .rows) words
-
--- P holds, and the counts are those of the table in the words
-abbrev pub Counted : (l : Limits) (words counts : List ℕ) (P : Type 0) → Type 0
-Counted l words counts P = P × CountsOf (viewIn l words) counts
 
 -- before a call
 module _ (l : Limits) (words counts stack : List ℕ) where
