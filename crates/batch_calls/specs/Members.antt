@@ -13,9 +13,9 @@ use Rattle.mucalculus.specs.Sets.{mem}
 use Rattle.diagram.specs.Rows.{den}
 use Rattle.layout.specs.Places.{REGISTERS, BITS, ROWS, FIRST-REGISTER}
 use Rattle.layout.specs.View.{view, headerOf}
-use Rattle.soundness.specs.Used.{rowsOf}
-use Rattle.soundness.specs.Roots.{ref-arrow}
-use Rattle.soundness.specs.Sound.{tableOf}
+use Rattle.rows.specs.Used.{rowsOf}
+use Rattle.rows.specs.Roots.{ref-arrow}
+use Rattle.rows.specs.Sound.{tableOf}
 use Rattle.collect.specs.Answers.{sound-base}
 use Rattle.collect.specs.Lent.{getD-mem}
 use Rattle.book.specs.States.{pairVal, nowOf-pairVal}

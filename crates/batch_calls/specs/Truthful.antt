@@ -17,7 +17,7 @@ use Rattle.book.specs.Table.{Reply}
 use Rattle.book.specs.BookOf.{bookOf, whole-bookOf, only-book}
 use Rattle.book.specs.Stored.{whole-does}
 use Rattle.book.specs.Truthful.{set-leaves}
-use Rattle.soundness.specs.Sound.{tableOf}
+use Rattle.rows.specs.Sound.{tableOf}
 use Rattle.contract.specs.Seen.{seen, SoundWords, sound-table, any-words}
 use Rattle.contract.specs.Posts.{CallPost}
 use Rattle.batch_calls.specs.Posts.{Fit, InRange, answersOf, BatchPost}

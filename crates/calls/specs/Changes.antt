@@ -14,8 +14,8 @@ use Rattle.diagram.specs.Used.{usedCount}
 use Rattle.layout.specs.Places.{REGISTERS, ROWS, SPARE, VALID, FIRST-REGISTER, FIRST-RELATION}
 use Rattle.layout.specs.View.{View, view, headerOf, putHeader, view-header}
 use Rattle.layout.specs.Same.{view-same, same-beyond}
-use Rattle.soundness.specs.Used.{rowsOf}
-use Rattle.soundness.specs.Sound.{Sound, tableOf}
+use Rattle.rows.specs.Used.{rowsOf}
+use Rattle.rows.specs.Sound.{Sound, tableOf}
 use Rattle.table.specs.Count.{count-used}
 use Rattle.table.specs.Store.{storable-empty, rows-kept, sound-store}
 use Rattle.collect.specs.Answers.{CollectPost}

@@ -13,8 +13,8 @@ use Rattle.layout.specs.Places.{ROWS, FIRST-REGISTER, FIRST-RELATION}
 use Rattle.layout.specs.View.{View, view, headerOf}
 use Rattle.layout.specs.Header.{headerWords}
 use Rattle.layout.specs.Same.{view-same}
-use Rattle.soundness.specs.Used.{Sizes}
-use Rattle.soundness.specs.Sound.{Sound, tableOf}
+use Rattle.rows.specs.Used.{Sizes}
+use Rattle.rows.specs.Sound.{Sound, tableOf}
 use Rattle.table.specs.Columns.{setHeader, setHeads}
 use Rattle.table.specs.Fresh.{emptied, emptied-sound, zero-at, bits-is, rows-is, valid-is, none-used}
 use Rattle.book.specs.Book.{freshFits, freshNumber}

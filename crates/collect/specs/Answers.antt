@@ -7,12 +7,12 @@ use Rattle.diagram.specs.Rows.{Arrow, den}
 use Rattle.diagram.specs.Need.{need}
 use Rattle.layout.specs.Places.{BITS, USED, VALID, ROOTS-END}
 use Rattle.layout.specs.View.{View}
-use Rattle.soundness.specs.Used.{rowsOf}
-use Rattle.soundness.specs.Bits.{MARK-WORDS, On}
-use Rattle.soundness.specs.Mark.{Base}
-use Rattle.soundness.specs.Roots.{Held, MarksAll}
-use Rattle.soundness.specs.Sound.{Sound}
-use Rattle.soundness.specs.Filled.{filled, filled-arrow}
+use Rattle.rows.specs.Used.{rowsOf}
+use Rattle.rows.specs.Bits.{MARK-WORDS, On}
+use Rattle.rows.specs.Mark.{Base}
+use Rattle.rows.specs.Roots.{Held, MarksAll}
+use Rattle.rows.specs.Sound.{Sound}
+use Rattle.rows.specs.Filled.{filled, filled-arrow}
 use Rattle.collect.specs.Gather.{Gathered}
 use Rattle.collect.specs.Lent.{live, filled-marks}
 use Rattle.collect.specs.Freed.{Freed, freed, freed-count}

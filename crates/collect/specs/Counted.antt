@@ -6,7 +6,7 @@ use Prim.Native.Nat.{ℕ, zero, suc, _+_, _≤_}
 use native.Mathlib.Numerals.{add-one}
 use native.Mathlib.Omega.{arith}
 use Rattle.layout.specs.View.{View}
-use Rattle.soundness.specs.Bits.{isOn}
+use Rattle.rows.specs.Bits.{isOn}
 
 -- 1 where row i is marked, else 0
 abbrev pub markOf : List ℕ → ℕ → ℕ

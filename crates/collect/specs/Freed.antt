@@ -12,12 +12,12 @@ use Rattle.diagram.specs.Collect.{Collects, collects-keeps, collects-wellFormed
 use Rattle.diagram.specs.Even.{even}
 use Rattle.layout.specs.Places.{BITS, ROWS, USED, LAYOUT, VALID, ROOTS-END, LOW, HIGH, LEVEL}
 use Rattle.layout.specs.View.{View}
-use Rattle.soundness.specs.Used.{used, rowsOf}
-use Rattle.soundness.specs.Bits.{On}
-use Rattle.soundness.specs.Roots.{Ref, MarksAll}
-use Rattle.soundness.specs.Sound.{Good, Sound, EvenSets}
-use Rattle.soundness.specs.Filled.{filled, root-filled}
-use Rattle.soundness.specs.Kept.{valid-kept, within-keeps}
+use Rattle.rows.specs.Used.{used, rowsOf}
+use Rattle.rows.specs.Bits.{On}
+use Rattle.rows.specs.Roots.{Ref, MarksAll}
+use Rattle.rows.specs.Sound.{Good, Sound, EvenSets}
+use Rattle.rows.specs.Filled.{filled, root-filled}
+use Rattle.rows.specs.Kept.{valid-kept, within-keeps}
 use Rattle.table.specs.Add.{Frame}
 use Rattle.table.specs.Count.{count-used}
 use Rattle.collect.specs.Lent.{marked-reach, reach-marked}

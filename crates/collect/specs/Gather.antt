@@ -10,12 +10,12 @@ use borrow.Author.Tests.{ne-eqb}
 use Rattle.layout.specs.Places.{MAX-ROWS, wordsFor, USED, LOW, HIGH, LEVEL, NEXT, RANK}
 use Rattle.diagram.specs.Canon.{not-true}
 use Rattle.layout.specs.View.{View, putHeader, putHead, upd}
-use Rattle.soundness.specs.Used.{used, used-in, InList, Ranked, listed-used}
-use Rattle.soundness.specs.Index.{Has, Index}
+use Rattle.rows.specs.Used.{used, used-in, InList, Ranked, listed-used}
+use Rattle.rows.specs.Index.{Has, Index}
 use Rattle.table.specs.Columns.{setHeads}
 use Rattle.table.specs.Append.{appended, append-used, append-kept, append-only, append-ranked, append-index}
-use Rattle.soundness.specs.Checks.{Room}
-use Rattle.soundness.specs.Bits.{On}
+use Rattle.rows.specs.Lookup.{Room}
+use Rattle.rows.specs.Bits.{On}
 
 -- X is W but for its heads
 pub record Headed (W X : View) : Type 0 where

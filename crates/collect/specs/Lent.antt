@@ -11,11 +11,11 @@ use Rattle.diagram.specs.Rows.{Rows, Arrow}
 use Rattle.diagram.specs.Reach.{Reach, reached-root, reach-on}
 use Rattle.layout.specs.Places.{VALID, ROOTS-END}
 use Rattle.layout.specs.View.{View}
-use Rattle.soundness.specs.Used.{rowsOf}
-use Rattle.soundness.specs.Bits.{On}
-use Rattle.soundness.specs.Mark.{Marks, Base, closed-reach}
-use Rattle.soundness.specs.Roots.{MarksAll, Held, marks-none, marks-one, marks-more, marks-same}
-use Rattle.soundness.specs.Filled.{filled, mem-filled, filled-mem}
+use Rattle.rows.specs.Used.{rowsOf}
+use Rattle.rows.specs.Bits.{On}
+use Rattle.rows.specs.Mark.{Marks, Base, closed-reach}
+use Rattle.rows.specs.Roots.{MarksAll, Held, marks-none, marks-one, marks-more, marks-same}
+use Rattle.rows.specs.Filled.{filled, mem-filled, filled-mem}
 
 -- what marking from a list of arrows asks
 pub record LentPre (w : View) (size : ℕ) (xs : List ℕ) : Type 0 where

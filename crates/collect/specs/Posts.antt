@@ -5,8 +5,8 @@ use Prim.Native.Nat.{ℕ, _≤_, _<_}
 use lib.ListN.{length}
 use Rattle.layout.specs.Places.{MAX-ROWS, USED, VALID, ROOTS-END, wordsFor}
 use Rattle.layout.specs.View.{view, listOf, putHeader}
-use Rattle.soundness.specs.Bits.{On}
-use Rattle.soundness.specs.Roots.{RefsPre, MarksIn, MarksHeld}
+use Rattle.rows.specs.Bits.{On}
+use Rattle.rows.specs.Roots.{RefsPre, MarksIn, MarksHeld}
 use Rattle.collect.specs.Lent.{LentPre, live}
 use Rattle.collect.specs.Gather.{Part}
 use Rattle.collect.specs.Freed.{Freed}

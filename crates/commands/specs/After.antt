@@ -9,7 +9,7 @@ use native.Mathlib.Omega.{arith}
 use lib.Dec.{eqb}
 use lib.ListN.{length}
 use borrow.Author.Tests.{ne-eqb, eq-eqb}
-use Rattle.soundness.specs.Says.{Says, holds, fails}
+use Rattle.rows.specs.Says.{Says, holds, fails}
 use Rattle.book.specs.Book.{Call, relation, set, valid, clear, collect, freshNumber}
 use Rattle.book.specs.Program.{Command, start, call, states}
 use Rattle.contract.specs.Seen.{SoundWords}

@@ -24,7 +24,7 @@ ghost use Prim.Native.Nat.{ℕ, _≤_};
 ghost use lib.ListN.{length};
 ghost use Rattle.book.specs.Book as book;
 ghost use Rattle.book.specs.Program as program;
-ghost use Rattle.soundness.specs.Says.{Says};
+ghost use Rattle.rows.specs.Says.{Says};
 ghost use Rattle.contract.specs.Seen.{SoundWords};
 ghost use Rattle.records.specs.Record.{startOf, asked};
 ghost use Rattle.commands.specs.Obey.{plainOutcome, Obeys, StatesIn, TakePost};

@@ -16,7 +16,7 @@ use Rattle.mucalculus.specs.Form.{noEnv}
 use Rattle.mucalculus.specs.Means.{means}
 use Rattle.tokens.specs.declared.Kind.the-variants.{Set}
 use Rattle.book.specs.Book.{Book, Question, set, member, count, registers, refused, modelOf, formulaIn, asked, oneOf, does, answer}
-use Rattle.soundness.specs.Sound.{tableOf}
+use Rattle.rows.specs.Sound.{tableOf}
 use Rattle.book.specs.Table.{Reply, Agrees, Serves}
 use Rattle.book.specs.BookOf.{bookOf, whole-bookOf, only-book}
 use Rattle.book.specs.Stored.{Sets, whole-does, set-means}

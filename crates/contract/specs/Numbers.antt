@@ -6,7 +6,7 @@ use mathlib.Core.Bool.{Bool}
 use mathlib.Core.List.{List}
 use mathlib.Core.Option.{some}
 use Prim.Native.Nat.{ℕ, _<_}
-use Rattle.soundness.specs.Sound.{tableOf}
+use Rattle.rows.specs.Sound.{tableOf}
 use Rattle.book.specs.Book.{registers}
 use Rattle.book.specs.BookOf.{bookOf, whole-bookOf}
 use Rattle.book.specs.Demand.{same-number}

@@ -18,7 +18,7 @@ use Rattle.layout.specs.Places.{HEADER, ROWS, SPARE, wordsFor}
 use Rattle.layout.specs.View.{headerOf, cellOf}
 use Rattle.diagram.specs.Rows.{Rows}
 use Rattle.diagram.specs.Reach.{Reach}
-use Rattle.soundness.specs.Sound.{tableOf}
+use Rattle.rows.specs.Sound.{tableOf}
 use Rattle.book.specs.Book.{Book, fresh, freshNumber, Call, relation, set, valid, clear, collect, Question, Done, registers, does}
 use Rattle.book.specs.Stored.{Whole, whole-fresh, whole-does, range-cases}
 use Rattle.book.specs.Table.{Table, Reply, Refusal, keptRoots, Serves}

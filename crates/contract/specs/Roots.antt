@@ -11,9 +11,9 @@ use Rattle.layout.specs.View.{View}
 use Rattle.diagram.specs.Rows.{Rows}
 use Rattle.diagram.specs.Reach.{reached-root, reach-on, reach-from}
 use Rattle.diagram.specs.Collect.{Collects}
-use Rattle.soundness.specs.Used.{rowsOf}
-use Rattle.soundness.specs.Within.{validOf}
-use Rattle.soundness.specs.Filled.{filled, mem-filled, filled-mem}
+use Rattle.rows.specs.Used.{rowsOf}
+use Rattle.rows.specs.Within.{validOf}
+use Rattle.rows.specs.Filled.{filled, mem-filled, filled-mem}
 use Rattle.book.specs.Book.{registers, relations}
 use Rattle.book.specs.Table.{arrowsOf, rootsOf}
 use Rattle.book.specs.Roots.{arrowsOf-mem, of-arrowsOf}

@@ -10,10 +10,10 @@ use Rattle.layout.specs.Places.{BITS, VALID, FIRST-REGISTER, FIRST-RELATION}
 use Rattle.layout.specs.View.{View}
 use Rattle.diagram.specs.Rows.{Arrow}
 use Rattle.diagram.specs.Reach.{Reach}
-use Rattle.soundness.specs.Used.{rowsOf}
-use Rattle.soundness.specs.Roots.{Ref}
-use Rattle.soundness.specs.Within.{Within, validOf}
-use Rattle.soundness.specs.Sound.{Good, Sound, tableOf}
+use Rattle.rows.specs.Used.{rowsOf}
+use Rattle.rows.specs.Roots.{Ref}
+use Rattle.rows.specs.Within.{Within, validOf}
+use Rattle.rows.specs.Sound.{Good, Sound, tableOf}
 use Rattle.book.specs.Stored.{some-inj, none-some}
 use Rattle.book.specs.Table.{Table, Shows}
 use Rattle.book.specs.BookOf.{SoundTable, bookOf, shows-bookOf}

@@ -18,8 +18,8 @@ use Rattle.diagram.specs.Keep.{Keeps, keeps-map, keeps-within, keeps-refl}
 use Rattle.diagram.specs.Sizes.{need-outside}
 use Rattle.diagram.specs.Steps.{andF}
 use Rattle.layout.specs.View.{View}
-use Rattle.soundness.specs.Used.{rowsOf}
-use Rattle.soundness.specs.Filled.{filled}
+use Rattle.rows.specs.Used.{rowsOf}
+use Rattle.rows.specs.Filled.{filled}
 use Rattle.collect.specs.Lent.{live}
 use Rattle.operations.specs.Work.{op-refl, ready-wf}
 use Rattle.steps.specs.Steps.{operandsOf, liveAt, stepF, StepPre, live-arrows, live-same}

@@ -14,11 +14,11 @@ use Rattle.diagram.specs.Reach.{Reach, reach-used}
 use Rattle.diagram.specs.Sizes.{Reaches}
 use Rattle.layout.specs.Places.{USED, VALID, ROOTS-END, RANK}
 use Rattle.layout.specs.View.{View}
-use Rattle.soundness.specs.Used.{used, used-in, Ranked, rowsOf}
-use Rattle.soundness.specs.Bits.{MARK-WORDS, isOn, On, zeros, no-marks}
-use Rattle.soundness.specs.Roots.{Held, MarksAll, RefsPre}
-use Rattle.soundness.specs.Sound.{Sound}
-use Rattle.soundness.specs.Filled.{filled, filled-arrow}
+use Rattle.rows.specs.Used.{used, used-in, Ranked, rowsOf}
+use Rattle.rows.specs.Bits.{MARK-WORDS, isOn, On, zeros, no-marks}
+use Rattle.rows.specs.Roots.{Held, MarksAll, RefsPre}
+use Rattle.rows.specs.Sound.{Sound}
+use Rattle.rows.specs.Filled.{filled, filled-arrow}
 use Rattle.collect.specs.Lent.{filled-marks, marked-reach, reach-marked}
 use Rattle.collect.specs.Counted.{markCount}
 use Rattle.collect.specs.Answers.{sound-base}

@@ -16,10 +16,10 @@ use Rattle.diagram.specs.Sizes.{Outside, need-outside}
 use Rattle.layout.specs.Places.{MAX-ROWS, BITS}
 use Rattle.layout.specs.View.{View}
 use Rattle.layout.specs.Arrows.{isRow, rowOf, row-is, no-row-leads}
-use Rattle.soundness.specs.Used.{rowsOf, of-arrow}
-use Rattle.soundness.specs.Bits.{isOn}
-use Rattle.soundness.specs.Sound.{Sound}
-use Rattle.soundness.specs.Filled.{filled, filled-arrow}
+use Rattle.rows.specs.Used.{rowsOf, of-arrow}
+use Rattle.rows.specs.Bits.{isOn}
+use Rattle.rows.specs.Sound.{Sound}
+use Rattle.rows.specs.Filled.{filled, filled-arrow}
 use Rattle.collect.specs.Lent.{live}
 use Rattle.counting.specs.Sizes.{placeOf, putSize, outside-none, outside-base, remembered-seen}
 use Rattle.counting.specs.Counts.{NUMBER, needOf, BaseOf, CountsOf, number-need, mark-read, counts-put}

@@ -20,11 +20,11 @@ use Rattle.diagram.specs.Keep.{Keeps, keeps-reach, keeps-reach-back, reach-with
 use Rattle.diagram.specs.Sizes.{Reaches, reaches-need, reaches-keeps, reaches-more, Outside}
 use Rattle.layout.specs.Places.{MAX-ROWS, BITS}
 use Rattle.layout.specs.View.{View}
-use Rattle.soundness.specs.Used.{rowsOf}
-use Rattle.soundness.specs.Bits.{MARK-WORDS, isOn, On}
-use Rattle.soundness.specs.Mark.{Base, OnTo, OnArrow, onArrow-le, Closed, closed-reach}
-use Rattle.soundness.specs.Sound.{Sound}
-use Rattle.soundness.specs.Filled.{filled, filled-arrow}
+use Rattle.rows.specs.Used.{rowsOf}
+use Rattle.rows.specs.Bits.{MARK-WORDS, isOn, On}
+use Rattle.rows.specs.Mark.{Base, OnTo, OnArrow, onArrow-le, Closed, closed-reach}
+use Rattle.rows.specs.Sound.{Sound}
+use Rattle.rows.specs.Filled.{filled, filled-arrow}
 use Rattle.collect.specs.Lent.{live}
 use Rattle.operations.specs.Work.{OpFrame}
 use Rattle.steps.specs.Steps.{filled-same}

@@ -12,10 +12,10 @@ use Rattle.diagram.specs.Count.{NoDup, nodup-append, pigeonhole}
 use Rattle.diagram.specs.Reach.{Reach, low-apart, high-apart}
 use Rattle.layout.specs.View.{View}
 use Rattle.layout.specs.Arrows.{isRow, rowOf, row-is}
-use Rattle.soundness.specs.Used.{rowsOf}
-use Rattle.soundness.specs.Bits.{isOn, On, Sets}
-use Rattle.soundness.specs.Mark.{Marks, MarkPre, marks-constant, marks-again, marks-row, reaches-used}
-use Rattle.soundness.specs.Roots.{MarksAll, marks-more}
+use Rattle.rows.specs.Used.{rowsOf}
+use Rattle.rows.specs.Bits.{isOn, On, Sets}
+use Rattle.rows.specs.Mark.{Marks, MarkPre, marks-constant, marks-again, marks-row, reaches-used}
+use Rattle.rows.specs.Roots.{MarksAll, marks-more}
 use Rattle.collect.specs.Lent.{LentPre, Lent, lent-none, lent-more, lent-all}
 
 -- n rows are marked in m′ and not in m

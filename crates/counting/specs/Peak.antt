@@ -18,8 +18,8 @@ use Rattle.diagram.specs.Sizes.{Reaches, reaches-need, reaches-same}
 use Rattle.diagram.specs.Step.{same-need}
 use Rattle.layout.specs.Places.{MAX-ROWS, BITS, USED}
 use Rattle.layout.specs.View.{View}
-use Rattle.soundness.specs.Used.{rowsOf}
-use Rattle.soundness.specs.Filled.{filled}
+use Rattle.rows.specs.Used.{rowsOf}
+use Rattle.rows.specs.Filled.{filled}
 use Rattle.table.specs.Count.{count-used}
 use Rattle.table.specs.declared.Made.{Made}
 use Rattle.table.specs.declared.Made.the-variants as made

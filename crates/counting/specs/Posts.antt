@@ -6,7 +6,7 @@ use lib.ListN.{length}
 use Rattle.accounts.specs.declared.Count.{Count}
 use Rattle.diagram.specs.Sizes.{Reaches}
 use Rattle.layout.specs.View.{view}
-use Rattle.soundness.specs.Used.{rowsOf}
+use Rattle.rows.specs.Used.{rowsOf}
 use Rattle.table.specs.declared.Made.{Made}
 use Rattle.collect.specs.Lent.{live}
 use Rattle.collect.specs.Answers.{FreePre}

@@ -20,8 +20,8 @@ use Rattle.diagram.specs.Need.{stepNeed}
 use Rattle.diagram.specs.Post.{Denotes}
 use Rattle.diagram.specs.Keep.{keeps-within, keeps-denotes}
 use Rattle.diagram.specs.Steps.{andF, shiftF}
-use Rattle.soundness.specs.Used.{rowsOf}
-use Rattle.soundness.specs.Within.{validOf}
+use Rattle.rows.specs.Used.{rowsOf}
+use Rattle.rows.specs.Within.{validOf}
 use Rattle.steps.specs.declared.Step.the-variants as step
 use Rattle.counting.specs.declared.Taken.{Taken}
 use Rattle.counting.specs.declared.Taken.the-variants as taken

@@ -27,7 +27,7 @@ use Rattle.diagram.specs.Rows.{Arrow}
 use Rattle.diagram.specs.Den.{den-zero, den-one}
 use Rattle.diagram.specs.Post.{Denotes}
 use Rattle.diagram.specs.Steps.{bitF}
-use Rattle.soundness.specs.Used.{rowsOf}
+use Rattle.rows.specs.Used.{rowsOf}
 use Rattle.steps.specs.declared.Step.the-variants as step
 use Rattle.counting.specs.declared.Taken.{Taken}
 use Rattle.counting.specs.declared.Taken.the-variants as taken

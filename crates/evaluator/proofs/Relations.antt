@@ -24,8 +24,8 @@ use Rattle.diagram.specs.Post.{Denotes}
 use Rattle.diagram.specs.Keep.{keeps-within}
 use Rattle.diagram.specs.Reach.{reached-root}
 use Rattle.diagram.specs.Even.{even, reads-levels}
-use Rattle.soundness.specs.Used.{rowsOf}
-use Rattle.soundness.specs.Within.{validOf}
+use Rattle.rows.specs.Used.{rowsOf}
+use Rattle.rows.specs.Within.{validOf}
 use Rattle.collect.specs.Lent.{live}
 use Rattle.table.specs.Make.{result}
 use Rattle.counting.specs.Taken.{madeIn, countIn}

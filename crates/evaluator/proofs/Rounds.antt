@@ -13,8 +13,8 @@ use Rattle.formula.specs.Parse.{binderForm}
 use Rattle.accounts.specs.declared.Count.{Count}
 use Rattle.accounts.specs.Count.{another}
 use Rattle.layout.specs.View.{View}
-use Rattle.soundness.specs.Used.{rowsOf}
-use Rattle.soundness.specs.Within.{validOf}
+use Rattle.rows.specs.Used.{rowsOf}
+use Rattle.rows.specs.Within.{validOf}
 use Rattle.book.specs.Bridge.{fnOf}
 use Rattle.book.specs.Over.{states}
 use Rattle.book.specs.Run.{Outcome, value, loop, run}

@@ -19,10 +19,10 @@ use Rattle.diagram.specs.Level.{Fn}
 use Rattle.diagram.specs.Rows.{Rows, Arrow}
 use Rattle.diagram.specs.Post.{Denotes}
 use Rattle.diagram.specs.Keep.{Keeps, keeps-denotes}
-use Rattle.soundness.specs.Used.{rowsOf}
-use Rattle.soundness.specs.Sound.{Sound}
-use Rattle.soundness.specs.Within.{validOf}
-use Rattle.soundness.specs.Filled.{filled, filled-mem}
+use Rattle.rows.specs.Used.{rowsOf}
+use Rattle.rows.specs.Sound.{Sound}
+use Rattle.rows.specs.Within.{validOf}
+use Rattle.rows.specs.Filled.{filled, filled-mem}
 use Rattle.collect.specs.Lent.{live, getD-mem}
 use Rattle.book.specs.Bridge.{fnOf, fnOfPairs}
 use Rattle.book.specs.Table.{Place}

@@ -26,8 +26,8 @@ use Rattle.diagram.specs.Keep.{keeps-within, keeps-denotes}
 use Rattle.diagram.specs.Step.{StepPost}
 use Rattle.diagram.specs.Steps.{andF, notF}
 use Rattle.diagram.specs.Count.{Within}
-use Rattle.soundness.specs.Used.{rowsOf}
-use Rattle.soundness.specs.Within.{validOf}
+use Rattle.rows.specs.Used.{rowsOf}
+use Rattle.rows.specs.Within.{validOf}
 use Rattle.table.specs.Make.{result}
 use Rattle.collect.specs.Lent.{live}
 use Rattle.steps.specs.declared.Step.{Step}

@@ -30,7 +30,7 @@ use Rattle.layout.specs.Places.{VALID, HEADER, FIRST-RELATION}
 use Rattle.layout.specs.View.{View}
 use Rattle.diagram.specs.Post.{Denotes}
 use Rattle.diagram.specs.Keep.{Keeps, keeps-denotes}
-use Rattle.soundness.specs.Used.{rowsOf}
+use Rattle.rows.specs.Used.{rowsOf}
 use Rattle.counting.specs.declared.Taken.{Taken}
 use Rattle.book.specs.Bridge.{fnOf}
 use Rattle.book.specs.Written.{run-written}

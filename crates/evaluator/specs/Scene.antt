@@ -30,8 +30,8 @@ use Rattle.layout.specs.View.{View}
 use Rattle.diagram.specs.Level.{Fn}
 use Rattle.diagram.specs.Rows.{Arrow}
 use Rattle.diagram.specs.Post.{Denotes}
-use Rattle.soundness.specs.Used.{rowsOf}
-use Rattle.soundness.specs.Within.{validOf}
+use Rattle.rows.specs.Used.{rowsOf}
+use Rattle.rows.specs.Within.{validOf}
 use Rattle.collect.specs.Lent.{live}
 use Rattle.steps.specs.declared.Step.{Step}
 use Rattle.steps.specs.declared.Step.the-variants as step

@@ -13,8 +13,8 @@ use Rattle.layout.specs.View.{View}
 use Rattle.diagram.specs.Level.{Fn}
 use Rattle.diagram.specs.Rows.{Arrow, den}
 use Rattle.diagram.specs.Steps.{andF, shiftF}
-use Rattle.soundness.specs.Used.{rowsOf}
-use Rattle.soundness.specs.Sound.{Sound}
+use Rattle.rows.specs.Used.{rowsOf}
+use Rattle.rows.specs.Sound.{Sound}
 use Rattle.table.specs.Make.{result}
 use Rattle.operations.specs.Work.{OpFrame}
 use Rattle.counting.specs.Taken.{madeIn, countIn}

@@ -18,7 +18,7 @@ use tokens::Kind;
 ghost use Prim.Native.Nat.{_≤_};
 ghost use lib.ListN.{length};
 ghost use Rattle.layout.specs.Places.{HEADER};
-ghost use Rattle.soundness.specs.Says.{Says};
+ghost use Rattle.rows.specs.Says.{Says};
 ghost use Rattle.book.specs.Book as book;
 ghost use Rattle.contract.specs.Seen.{SoundWords};
 ghost use Rattle.contract.specs.Posts.{CallPost};

@@ -18,8 +18,8 @@ use native.Mathlib.Omega.{arith}
 use Rattle.layout.specs.Places.{REGISTERS, RELATIONS, ROWS, VALID, FIRST-REGISTER, FIRST-RELATION}
 use Rattle.layout.specs.View.{View, view, headerOf}
 use Rattle.diagram.specs.Post.{Result, at, full as noRows}
-use Rattle.soundness.specs.Used.{rowsOf}
-use Rattle.soundness.specs.Sound.{Good, Sound, tableOf}
+use Rattle.rows.specs.Used.{rowsOf}
+use Rattle.rows.specs.Sound.{Good, Sound, tableOf}
 use Rattle.book.specs.Book.{Book, Call, relation, set, valid, unfilled, modelOf, liveOf, checks, formulaIn}
 use Rattle.book.specs.Stored.{whole-does}
 use Rattle.book.specs.Table.{Table, Reply, rootsOf, Serves}

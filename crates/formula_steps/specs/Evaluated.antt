@@ -15,9 +15,9 @@ use Rattle.layout.specs.Refusals.{keepsAll}
 use Rattle.layout.specs.Places.{REGISTERS, RELATIONS, BITS, ROWS, USED, CURSOR, SLOTS, STORED, SPARE, VALID, FIRST-REGISTER, FIRST-RELATION}
 use Rattle.layout.specs.View.{View, view, headerOf, putHeader}
 use Rattle.layout.specs.Same.{same-beyond}
-use Rattle.soundness.specs.Used.{rowsOf}
-use Rattle.soundness.specs.Sound.{Good, Sound, tableOf}
-use Rattle.soundness.specs.Filled.{filled}
+use Rattle.rows.specs.Used.{rowsOf}
+use Rattle.rows.specs.Sound.{Good, Sound, tableOf}
+use Rattle.rows.specs.Filled.{filled}
 use Rattle.table.specs.Store.{rows-kept, good-store}
 use Rattle.book.specs.Book.{Book, Call, relation, set, valid, clear, collect}
 use Rattle.book.specs.Stored.{whole-does}

@@ -11,7 +11,7 @@ use Rattle.layout.specs.View.{View, view, headerOf}
 use Rattle.tokens.specs.declared.Kind.the-variants.{Relation, Valid}
 use Rattle.diagram.specs.Level.{Fn}
 use Rattle.diagram.specs.Rows.{Rows}
-use Rattle.soundness.specs.Sound.{Sound, tableOf}
+use Rattle.rows.specs.Sound.{Sound, tableOf}
 use Rattle.table.specs.Make.{result}
 use Rattle.counting.specs.Taken.{madeIn, countIn}
 use Rattle.counting.specs.declared.Taken.{Taken}

@@ -14,7 +14,7 @@ use Rattle.layout.specs.View.{View, view, headerOf, putHeader}
 use Rattle.layout.specs.declared.Refusal.the-variants as refusal
 use Rattle.tokens.specs.declared.Kind.the-variants as kind
 use Rattle.diagram.specs.Rows.{Rows, target, Arrow, ArrowTo, WellFormed}
-use Rattle.soundness.specs.Sound.{Sound, tableOf}
+use Rattle.rows.specs.Sound.{Sound, tableOf}
 use Rattle.counting.specs.declared.Taken.{Taken}
 use Rattle.counting.specs.declared.Taken.the-variants as taken
 use Rattle.book.specs.Book.{set, checks}

@@ -18,7 +18,7 @@ ghost use Prim.Native.Nat.{_<_, _≤_};
 ghost use lib.ListN.{length};
 ghost use Rattle.layout.specs.Places.{REGISTERS, RELATIONS, wordsFor};
 ghost use Rattle.layout.specs.View.{view};
-ghost use Rattle.soundness.specs.Sound.{Sound};
+ghost use Rattle.rows.specs.Sound.{Sound};
 ghost use Rattle.book.specs.Book as book;
 ghost use Rattle.formula_steps.specs.Evaluated.{Tidied};
 ghost use Rattle.contract.specs.Posts.{CallPost};

@@ -15,8 +15,8 @@ use Rattle.layout.specs.View.{View}
 use Rattle.diagram.specs.Rows.{Arrow, den}
 use Rattle.diagram.specs.Post.{Denotes}
 use Rattle.diagram.specs.Keep.{Keeps, keeps-denotes}
-use Rattle.soundness.specs.Used.{rowsOf}
-use Rattle.soundness.specs.Filled.{filled}
+use Rattle.rows.specs.Used.{rowsOf}
+use Rattle.rows.specs.Filled.{filled}
 use Rattle.counting.specs.declared.Taken.{Taken}
 use Rattle.counting.specs.declared.Taken.the-variants as taken
 use Rattle.collect.specs.Answers.{sound-base}

@@ -16,8 +16,8 @@ use Rattle.diagram.specs.Level.{Fn}
 use Rattle.diagram.specs.Rows.{Rows, Arrow, den, WellFormed}
 use Rattle.diagram.specs.Post.{Denotes, at, full as noRows}
 use Rattle.diagram.specs.Keep.{Keeps, keeps-refl, keeps-trans, keeps-within, keeps-denotes}
-use Rattle.soundness.specs.Used.{rowsOf}
-use Rattle.soundness.specs.Filled.{filled, filled-arrow}
+use Rattle.rows.specs.Used.{rowsOf}
+use Rattle.rows.specs.Filled.{filled, filled-arrow}
 use Rattle.table.specs.Make.{result}
 use Rattle.counting.specs.Taken.{madeIn, countIn}
 use Rattle.counting.specs.declared.Taken.{Taken}

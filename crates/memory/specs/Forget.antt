@@ -8,9 +8,9 @@ use native.Mathlib.Omega.{arith}
 use borrow.Author.Tests.{eq-eqb, ne-eqb}
 use Rattle.layout.specs.Places.{MAX-ROWS, USED, SLOTS, STORED, RANK, MEMO-KEY}
 use Rattle.layout.specs.View.{View, putHeader, putCell}
-use Rattle.soundness.specs.Used.{used, used-in}
-use Rattle.soundness.specs.Checks.{Room}
-use Rattle.soundness.specs.Sound.{Good}
+use Rattle.rows.specs.Used.{used, used-in}
+use Rattle.rows.specs.Lookup.{Room}
+use Rattle.rows.specs.Sound.{Good}
 use Rattle.memory.specs.Frame.{MemoFrame, setSlots, memo-trans, memo-slots, memo-stored, room-memo}
 use Rattle.memory.specs.Memo.{Slots, Remembers}
 use Rattle.memory.specs.Store.{Emptied}

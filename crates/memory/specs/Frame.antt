@@ -8,10 +8,10 @@ use borrow.Author.Tests.{ne-eqb}
 use Rattle.diagram.specs.Rows.{Rows}
 use Rattle.layout.specs.Places.{BITS, ROWS, USED, LAYOUT, SLOTS, STORED, LOW, HIGH, LEVEL, RANK, MEMO-KEY, MEMO-VALUE}
 use Rattle.layout.specs.View.{View, putHeader, putCell}
-use Rattle.soundness.specs.Used.{used, usedAt, rowsOf}
-use Rattle.soundness.specs.Index.{keyOf}
-use Rattle.soundness.specs.Alike.{Alike}
-use Rattle.soundness.specs.Checks.{Room}
+use Rattle.rows.specs.Used.{used, usedAt, rowsOf}
+use Rattle.rows.specs.Index.{keyOf}
+use Rattle.rows.specs.Alike.{Alike}
+use Rattle.rows.specs.Lookup.{Room}
 
 -- the slots become those given
 abbrev pub setSlots : View → (ℕ → ℕ) → View

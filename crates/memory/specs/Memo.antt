@@ -15,7 +15,7 @@ use Rattle.diagram.specs.Odd.{oddF, Covered}
 use Rattle.diagram.specs.OddLaws.{covered-extends}
 use Rattle.layout.specs.Places.{SLOTS, STORED, MEMO-KEY, MEMO-VALUE}
 use Rattle.layout.specs.View.{View}
-use Rattle.soundness.specs.Used.{used, rowsOf}
+use Rattle.rows.specs.Used.{used, rowsOf}
 use Rattle.table.specs.Add.{Frame, Keys}
 use Rattle.table.specs.declared.Found.{Found}
 use Rattle.table.specs.declared.Found.the-variants as find

@@ -11,7 +11,7 @@ use borrow.Author.Tests.{eq-eqb, ne-eqb, eqb-true, ltb-true, lt-ltb, le-ltb}
 use Rattle.diagram.specs.Rows.{Rows, marked, Leads, row, carry, leads-is}
 use Rattle.layout.specs.Places.{SLOTS, STORED, MEMO-KEY, MEMO-VALUE}
 use Rattle.layout.specs.View.{View, upd, putHeader, putCell, putSlot}
-use Rattle.soundness.specs.Used.{used, rowsOf}
+use Rattle.rows.specs.Used.{used, rowsOf}
 use Rattle.table.specs.Code.{madeOf, code-at}
 use Rattle.table.specs.declared.Made.{Made}
 use Rattle.table.specs.declared.Made.the-variants as made

@@ -17,9 +17,9 @@ use Rattle.diagram.specs.Need.{stepNeed}
 use Rattle.diagram.specs.Post.{Result, at, full, Denotes}
 use Rattle.diagram.specs.Keep.{Keeps, keeps-trans, keeps-within}
 use Rattle.diagram.specs.Step.{StepPost, StepResult}
-use Rattle.soundness.specs.Used.{rowsOf}
-use Rattle.soundness.specs.Sound.{Sound}
-use Rattle.soundness.specs.Filled.{filled}
+use Rattle.rows.specs.Used.{rowsOf}
+use Rattle.rows.specs.Sound.{Sound}
+use Rattle.rows.specs.Filled.{filled}
 use Rattle.table.specs.Make.{result}
 use Rattle.collect.specs.Lent.{live}
 use Rattle.memory.specs.Memo.{Remembers}

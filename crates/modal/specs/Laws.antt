@@ -16,8 +16,8 @@ use Rattle.diagram.specs.Post.{at, full, Denotes}
 use Rattle.diagram.specs.Keep.{Keeps, keeps-refl, keeps-trans, keeps-arrow, keeps-denotes, keeps-on}
 use Rattle.diagram.specs.Step.{StepPost}
 use Rattle.diagram.specs.Steps.{notF, andF, shiftF, existsF}
-use Rattle.soundness.specs.Used.{rowsOf}
-use Rattle.soundness.specs.Filled.{filled}
+use Rattle.rows.specs.Used.{rowsOf}
+use Rattle.rows.specs.Filled.{filled}
 use Rattle.table.specs.Make.{result}
 use Rattle.collect.specs.Lent.{live}
 use Rattle.steps.specs.declared.Step.the-variants.{Not, And, Shift, Exists}

@@ -24,8 +24,8 @@ use Rattle.diagram.specs.Keep.{Keeps, keeps-arrow, keeps-trans, extends-keeps}
 use Rattle.diagram.specs.Steps.{existsF}
 use Rattle.diagram.specs.Odd.{existsFrom, oddF}
 use Rattle.diagram.specs.Blind.{Blind, blind-reads, blind-more, blind-same, exists-blind, from-unread}
-use Rattle.soundness.specs.Used.{rowsOf}
-use Rattle.soundness.specs.Filled.{filled}
+use Rattle.rows.specs.Used.{rowsOf}
+use Rattle.rows.specs.Filled.{filled}
 use Rattle.table.specs.Keep.{sound-extends}
 use Rattle.table.specs.declared.Found.{Found}
 use Rattle.table.specs.declared.Found.the-variants as find

@@ -8,7 +8,7 @@ use Rattle.diagram.specs.Rows.{Arrow, den}
 use Rattle.diagram.specs.Even.{ReadsOn, even}
 use Rattle.diagram.specs.Need.{stepNeed}
 use Rattle.diagram.specs.Steps.{notF, andF}
-use Rattle.soundness.specs.Used.{rowsOf}
+use Rattle.rows.specs.Used.{rowsOf}
 use Rattle.collect.specs.Lent.{live}
 use Rattle.book.specs.Ticks.{existsNeeds, diamondNeeds}
 use Rattle.book.specs.Diamond.{existsNext, diamondF}

@@ -15,7 +15,7 @@ use Rattle.diagram.specs.Steps.{shiftF}
 use Rattle.layout.specs.Places.{MEMO-KEY, MEMO-VALUE}
 use Rattle.layout.specs.View.{View}
 use Rattle.layout.specs.Arrows.{isRow, rowOf, row-is, is-row-leads}
-use Rattle.soundness.specs.Used.{rowsOf}
+use Rattle.rows.specs.Used.{rowsOf}
 use Rattle.table.specs.Code.{FULL, madeOf}
 use Rattle.table.specs.declared.Found.{Found}
 use Rattle.table.specs.declared.Found.the-variants as find

@@ -17,9 +17,9 @@ use Rattle.diagram.specs.Odd.{oddF, Covered}
 use Rattle.diagram.specs.OddLaws.{odd-constant as odd-of-constant, odd-even, odd-at, covered-extends, covered-constant, covered-row}
 use Rattle.layout.specs.View.{View}
 use Rattle.layout.specs.Arrows.{isRow, no-row-leads}
-use Rattle.soundness.specs.Used.{used, rowsOf}
-use Rattle.soundness.specs.Sound.{Good}
-use Rattle.soundness.specs.Alike.{alike-good}
+use Rattle.rows.specs.Used.{used, rowsOf}
+use Rattle.rows.specs.Sound.{Good}
+use Rattle.rows.specs.Alike.{alike-good}
 use Rattle.table.specs.Code.{FULL, madeOf, code-at, code-is}
 use Rattle.table.specs.Make.{MakePre, MakePost, result}
 use Rattle.table.specs.declared.Made.{Made}

@@ -7,7 +7,7 @@ use Rattle.diagram.specs.Rows.{Rows, Leads, Arrow, levelOf, follow, WellFormed,
 use Rattle.diagram.specs.Grow.{arrow-extends, level-extends}
 use Rattle.diagram.specs.Steps.{Parts, parts-row}
 use Rattle.layout.specs.Arrows.{isRow, rowOf, row-is}
-use Rattle.soundness.specs.Used.{of-arrow}
+use Rattle.rows.specs.Used.{of-arrow}
 
 -- the level of row i, and the arrows that are followed from arrow a, which leads there
 pub record RowIs (rows : Rows) (a i l lo hi : ℕ) : Type 0 where

@@ -16,7 +16,7 @@ use Rattle.diagram.specs.Steps.{notF, andF, orF, lowAt, highAt, low-here, high-
 use Rattle.diagram.specs.Recur.{Divides, two-divides}
 use Rattle.layout.specs.View.{View}
 use Rattle.layout.specs.Arrows.{isRow, rowOf, row-is, row-yes, no-row}
-use Rattle.soundness.specs.Used.{rowsOf, of-arrow}
+use Rattle.rows.specs.Used.{rowsOf, of-arrow}
 use Rattle.table.specs.Code.{FULL, madeOf}
 use Rattle.table.specs.declared.Made.{Made}
 use Rattle.table.specs.declared.Made.the-variants as answer

@@ -10,7 +10,7 @@ use Rattle.diagram.specs.Even.{ReadsOn, even}
 use Rattle.diagram.specs.Steps.{lowAt, highAt}
 use Rattle.layout.specs.View.{view}
 use Rattle.layout.specs.Arrows.{isRow, rowOf, isMarked}
-use Rattle.soundness.specs.Used.{rowsOf}
+use Rattle.rows.specs.Used.{rowsOf}
 use Rattle.table.specs.Code.{madeOf}
 use Rattle.table.specs.declared.Found.{Found}
 use Rattle.operations.specs.Work.{Ready, Known, Worked}

@@ -16,7 +16,7 @@ use Rattle.diagram.specs.Steps.{shiftF, existsF, orF}
 use Rattle.diagram.specs.Recur.{Divides, exists-divides, shift-divides, exists-or, exists-leaf}
 use Rattle.layout.specs.View.{View}
 use Rattle.layout.specs.Arrows.{isRow, no-row-leads}
-use Rattle.soundness.specs.Used.{used, rowsOf}
+use Rattle.rows.specs.Used.{used, rowsOf}
 use Rattle.table.specs.Code.{madeOf}
 use Rattle.table.specs.declared.Made.{Made}
 use Rattle.table.specs.declared.Made.the-variants as answer

@@ -12,10 +12,10 @@ use Rattle.diagram.specs.Steps.{bitF, notF}
 use Rattle.diagram.specs.Recur.{Divides, divided, bit-made}
 use Rattle.layout.specs.Places.{BITS, USED, CURSOR, SLOTS, STORED, MEMO-VALUE}
 use Rattle.layout.specs.View.{View}
-use Rattle.soundness.specs.Used.{rowsOf}
-use Rattle.soundness.specs.Checks.{Room}
-use Rattle.soundness.specs.Sound.{Good}
-use Rattle.soundness.specs.Alike.{alike-good}
+use Rattle.rows.specs.Used.{rowsOf}
+use Rattle.rows.specs.Lookup.{Room}
+use Rattle.rows.specs.Sound.{Good}
+use Rattle.rows.specs.Alike.{alike-good}
 use Rattle.table.specs.Add.{Frame, Fit}
 use Rattle.table.specs.Code.{FULL, madeOf, code-full, code-is, code-at, arrow-code}
 use Rattle.table.specs.Make.{result, MakePre, MakePost}

@@ -22,7 +22,7 @@ ghost use Rattle.diagram.specs.Steps.{bitF, andF, orF, shiftF, existsF};
 ghost use Rattle.layout.specs.Places.{wordsFor};
 ghost use Rattle.layout.specs.View.{view};
 ghost use Rattle.layout.specs.Arrows.{isRow, rowOf, isMarked};
-ghost use Rattle.soundness.specs.Checks.{Room};
+ghost use Rattle.rows.specs.Lookup.{Room};
 ghost use Rattle.memory.specs.Memo.{Slots};
 ghost use Rattle.operations.specs.Work.{Ready};
 ghost use Rattle.operations.specs.Open.{RowIs, ReachesLevel};

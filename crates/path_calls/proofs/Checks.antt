@@ -16,9 +16,9 @@ use Rattle.layout.specs.View.{View, view, headerOf}
 use Rattle.layout.specs.Same.{same-beyond}
 use Rattle.diagram.specs.Rows.{den}
 use Rattle.diagram.specs.Keep.{Keeps, keeps-refl, keeps-within}
-use Rattle.soundness.specs.Used.{rowsOf}
-use Rattle.soundness.specs.Sound.{Sound, tableOf}
-use Rattle.soundness.specs.Filled.{filled, filled-arrow}
+use Rattle.rows.specs.Used.{rowsOf}
+use Rattle.rows.specs.Sound.{Sound, tableOf}
+use Rattle.rows.specs.Filled.{filled, filled-arrow}
 use Rattle.operations.specs.Work.{OpFrame}
 use Rattle.book.specs.Bridge.{setOf, pairsOf}
 use Rattle.book.specs.Book.{Book, registers, relations, liveOf, collect}

@@ -13,9 +13,9 @@ use Rattle.diagram.specs.Rows.{Rows}
 use Rattle.diagram.specs.Post.{Denotes}
 use Rattle.diagram.specs.Keep.{Keeps, keeps-trans}
 use Rattle.diagram.specs.Collect.{collects-keeps}
-use Rattle.soundness.specs.Used.{rowsOf}
-use Rattle.soundness.specs.Sound.{Sound}
-use Rattle.soundness.specs.Filled.{filled, filled-mem}
+use Rattle.rows.specs.Used.{rowsOf}
+use Rattle.rows.specs.Sound.{Sound}
+use Rattle.rows.specs.Filled.{filled, filled-mem}
 use Rattle.collect.specs.Answers.{FreeManyPost, few, many}
 use Rattle.memory.specs.Frame.{rows-same}
 use Rattle.memory.specs.Forget.{Forgot}

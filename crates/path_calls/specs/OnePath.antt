@@ -16,7 +16,7 @@ use Rattle.diagram.specs.Reach.{Reach}
 use Rattle.book.specs.Book.{collect}
 use Rattle.book.specs.Table.{Reply, rootsOf}
 use Rattle.book.specs.BookOf.{bookOf, whole-bookOf}
-use Rattle.soundness.specs.Sound.{tableOf}
+use Rattle.rows.specs.Sound.{tableOf}
 use Rattle.contract.specs.Seen.{seen, SoundWords, any-words, sound-table}
 use Rattle.contract.specs.Kept.{freeWord, changes}
 use Rattle.contract.specs.OneAnswer.{SameRow}

@@ -7,9 +7,9 @@ use Rattle.mucalculus.specs.Form.{inside}
 use Rattle.layout.specs.Places.{BITS, FIRST-REGISTER, FIRST-RELATION}
 use Rattle.layout.specs.View.{View}
 use Rattle.diagram.specs.Keep.{Keeps}
-use Rattle.soundness.specs.Used.{rowsOf}
-use Rattle.soundness.specs.Sound.{Sound}
-use Rattle.soundness.specs.Filled.{filled}
+use Rattle.rows.specs.Used.{rowsOf}
+use Rattle.rows.specs.Sound.{Sound}
+use Rattle.rows.specs.Filled.{filled}
 use Rattle.operations.specs.Work.{OpFrame}
 use Rattle.book.specs.Book.{Book, registers, relations, liveOf}
 use Rattle.book.specs.BookOf.{bookOf}

@@ -22,7 +22,7 @@ use Rattle.book.specs.Table.{Reply, Agrees, Serves, Tells}
 use Rattle.book.specs.Leaves.{valued, shows-fresh}
 use Rattle.book.specs.BookOf.{bookOf, whole-bookOf, only-book}
 use Rattle.book.specs.OneReply.{settledIn, call-value, ask-value}
-use Rattle.soundness.specs.Sound.{tableOf}
+use Rattle.rows.specs.Sound.{tableOf}
 use Rattle.contract.specs.Seen.{seen, SoundWords, sound-table, any-words}
 use Rattle.contract.specs.Posts.{CallPost}
 use Rattle.contract.specs.Answered.{count-means}

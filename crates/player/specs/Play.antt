@@ -9,7 +9,7 @@ use lib.ListN.{length, drop}
 use lib.Seq.{sets}
 use Rattle.book.specs.Program.{Command, start, call, states, recordLength, commandAt}
 use Rattle.book.specs.Demand.{Event, Session, Demand}
-use Rattle.soundness.specs.Says.{Says}
+use Rattle.rows.specs.Says.{Says}
 use Rattle.contract.specs.Seen.{seen, SoundWords}
 use Rattle.contract.specs.Closed.{makes, performs, asks}
 use Rattle.commands.specs.declared.Outcome.{Outcome}

@@ -10,7 +10,7 @@ ghost use mathlib.Core.Path.{_≡_};
 ghost use Prim.Native.Nat.{_+_, _≤_, _<_};
 ghost use lib.ListN.{length};
 ghost use lib.Seq.{sets};
-ghost use Rattle.soundness.specs.Says.{Says};
+ghost use Rattle.rows.specs.Says.{Says};
 ghost use Rattle.contract.specs.Seen.{SoundWords};
 ghost use Rattle.player.specs.Play.{SizePost, CountPost, entryWords, outcomeWords, NextPost, AllPre, AllPost, PlayPost, NextPre};
 

@@ -3,7 +3,7 @@ use mathlib.Core.Path.{_≡_, sym, subst}
 use mathlib.Core.Bool.{Bool, false}
 use mathlib.Core.List.{List}
 use Prim.Native.Nat.{ℕ}
-use Rattle.soundness.specs.Says.{Says, fails}
+use Rattle.rows.specs.Says.{Says, fails}
 use Rattle.contract.specs.Seen.{SoundWords}
 use Rattle.rooms.specs.Whole.{zeros, zeros-stand}
 

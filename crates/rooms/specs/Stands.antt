@@ -12,7 +12,7 @@ use lib.ListN.{length}
 use borrow.Author.Tests.{eqb-true, eqb-false}
 use Rattle.mucalculus.specs.Order.{weight}
 use Rattle.layout.specs.View.{View}
-use Rattle.soundness.specs.Says.{Says, holds, fails}
+use Rattle.rows.specs.Says.{Says, holds, fails}
 use Rattle.book.specs.Book.{Book, fresh, freshFits, Call, relation, set, valid, clear, collect, count, registers, refused, asked, Done, does, answer}
 use Rattle.book.specs.Program.{Line, fields, Command, start, call, states, wordsLent, statesIn, valueOf, opOf, shown, obey}
 use Rattle.book.specs.Table.{Agrees, SettledTo}
@@ -20,7 +20,7 @@ use Rattle.book.specs.Leaves.{shows-fresh, valued}
 use Rattle.book.specs.BookOf.{bookOf, only-book, whole-bookOf}
 use Rattle.book.specs.Stored.{whole-fresh, whole-does, relation-cases, valid-cases, range-cases}
 use Rattle.book.specs.Truthful.{set-leaves}
-use Rattle.soundness.specs.Sound.{tableOf}
+use Rattle.rows.specs.Sound.{tableOf}
 use Rattle.contract.specs.Seen.{seen, SoundWords, sound-table}
 use Rattle.contract.specs.Posts.{CallPost}
 use Rattle.contract.specs.Answered.{count-means}

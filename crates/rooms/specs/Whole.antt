@@ -9,7 +9,7 @@ use Prim.Native.Nat.{ℕ, _≤_}
 use native.Mathlib.Decide.{decLt}
 use native.Mathlib.Omega.{arith}
 use lib.ListN.{length, getD, take, drop, replicate, length-replicate, getD-replicate, List·getD-eq-default}
-use Rattle.soundness.specs.Alike.{zeros-unsound}
+use Rattle.rows.specs.Alike.{zeros-unsound}
 use Rattle.book.specs.Book.{Book}
 use Rattle.book.specs.Program.{Line, wordsLent, textOf, written}
 use Rattle.records.specs.Text.{wrote-front}

@@ -5,7 +5,7 @@ use commands::take_record;
 use records::Text;
 use records::write_end;
 use records::write_line;
-ghost use Rattle.soundness.specs.Says.{Says};
+ghost use Rattle.rows.specs.Says.{Says};
 ghost use Rattle.contract.specs.Seen.{SoundWords};
 ghost use Rattle.rooms.specs.Replies.{Replies};
 

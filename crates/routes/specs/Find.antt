@@ -13,8 +13,8 @@ use Rattle.layout.specs.View.{View}
 use Rattle.layout.specs.declared.Refusal.the-variants as refusal
 use Rattle.diagram.specs.Post.{Denotes}
 use Rattle.diagram.specs.Keep.{Keeps, keeps-trans}
-use Rattle.soundness.specs.Used.{rowsOf}
-use Rattle.soundness.specs.Filled.{filled}
+use Rattle.rows.specs.Used.{rowsOf}
+use Rattle.rows.specs.Filled.{filled}
 use Rattle.book.specs.Bridge.{fnOf}
 use Rattle.book.specs.Run.{fit}
 use Rattle.book.specs.Table.{Reply}

@@ -15,8 +15,8 @@ use Rattle.layout.specs.View.{View}
 use Rattle.diagram.specs.Rows.{den}
 use Rattle.diagram.specs.Post.{Denotes}
 use Rattle.diagram.specs.Keep.{Keeps, keeps-trans, keeps-denotes, keeps-refl}
-use Rattle.soundness.specs.Used.{rowsOf}
-use Rattle.soundness.specs.Filled.{filled, filled-arrow}
+use Rattle.rows.specs.Used.{rowsOf}
+use Rattle.rows.specs.Filled.{filled, filled-arrow}
 use Rattle.book.specs.States.{pairVal, nowOf-pairVal, nextOf-pairVal}
 use Rattle.book.specs.Bridge.{fnOf, fnOfPairs}
 use Rattle.book.specs.Run.{fit}

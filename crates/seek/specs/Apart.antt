@@ -9,8 +9,8 @@ use Rattle.layout.specs.View.{View}
 use Rattle.layout.specs.Arrows.{isRow, rowOf}
 use Rattle.diagram.specs.Rows.{follow}
 use Rattle.diagram.specs.Den.{den-zero}
-use Rattle.soundness.specs.Used.{rowsOf}
-use Rattle.soundness.specs.Mark.{depth}
+use Rattle.rows.specs.Used.{rowsOf}
+use Rattle.rows.specs.Mark.{depth}
 use Rattle.book.specs.States.{pairVal}
 use Rattle.paths.specs.Runs.{firstOf}
 use Rattle.paths.specs.First.{first-none}

@@ -11,7 +11,7 @@ use Rattle.diagram.specs.Rows.{Rows, flip, Arrow, levelOf, den, WellFormed, car
 use Rattle.diagram.specs.Den.{den-zero, den-one, den-flip, den-reads}
 use Rattle.diagram.specs.Even.{ReadsOn, even}
 use borrow.Author.Tests.{eqb-true}
-use Rattle.soundness.specs.Says.{Says, says-map}
+use Rattle.rows.specs.Says.{Says, says-map}
 use Rattle.soundness.specs.Apart.{lift, lift-none, Apart, Half, upd-kept}
 use Rattle.soundness.specs.Masks.{has, lowMask, highMask, swapped, bitOf, has-and, has-or, has-swapped-low, has-swapped-high, low-mask, high-mask, low-mask-past, high-mask-past, NOTHING-CELLS, ALL-CELLS, nothing-low, nothing-high, all-low, all-high}
 

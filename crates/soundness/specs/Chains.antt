@@ -7,10 +7,11 @@ use native.Mathlib.Omega.{arith}
 use native.Mathlib.Decide.{ℕ-discrete}
 use Rattle.layout.specs.Places.{LOW, HIGH, LEVEL, NEXT, RANK}
 use Rattle.layout.specs.View.{View}
-use Rattle.soundness.specs.Used.{used, used-in}
-use Rattle.soundness.specs.Index.{live, live-link, keyOf, Link, Has, Hit, stop, skip, hit-one, down-link}
-use Rattle.soundness.specs.Says.{Says, says-map}
-use Rattle.soundness.specs.Checks.{Finds, height}
+use Rattle.rows.specs.Used.{used, used-in}
+use Rattle.rows.specs.Index.{live, live-link, keyOf, Link, Has, Hit, stop, skip, hit-one, down-link}
+use Rattle.rows.specs.Says.{Says, says-map}
+use Rattle.rows.specs.Lookup.{height}
+use Rattle.soundness.specs.Checks.{Finds}
 use Rattle.soundness.specs.Triples.{triple, Ready, ready-used, AllDiffer, triple-has, has-triple}
 use Rattle.soundness.specs.Heights.{below, Passes, here, on, AllMet}
 use Rattle.soundness.specs.declared.chains.Part.{Part}

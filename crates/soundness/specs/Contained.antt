@@ -17,14 +17,14 @@ use Rattle.diagram.specs.Reach.{Reach, reached-root}
 use Rattle.layout.specs.Places.{HEADER, BITS, VALID, FIRST-REGISTER, FIRST-RELATION, ROOTS-END, LOW, HIGH, LEVEL}
 use Rattle.layout.specs.View.{View}
 use Rattle.layout.specs.Arrows.{isRow, rowOf, row-is, row-yes}
-use Rattle.soundness.specs.Used.{rowsOf}
-use Rattle.soundness.specs.Says.{Says, holds, fails, says-map, says-pass, says-fail}
-use Rattle.soundness.specs.Within.{denOf, validOf, Within}
-use Rattle.soundness.specs.Sound.{Good, EvenSets}
+use Rattle.rows.specs.Used.{rowsOf}
+use Rattle.rows.specs.Says.{Says, holds, fails, says-map, says-pass, says-fail}
+use Rattle.rows.specs.Within.{denOf, validOf, Within}
+use Rattle.rows.specs.Sound.{Good, EvenSets}
 use Rattle.soundness.specs.Apart.{lift, lift-none, Apart, Half, half-past, half-here, apart-low, apart-high, apart-both}
 use Rattle.soundness.specs.declared.within.Pass.{Pass}
 use Rattle.soundness.specs.declared.within.Pass.the-variants.{Now, Next, Both}
-use Rattle.soundness.specs.Roots.{Ref, ref-arrow}
+use Rattle.rows.specs.Roots.{Ref, ref-arrow}
 use Rattle.soundness.specs.Cells.{Disjoint, tables-tell}
 use Rattle.soundness.specs.Tables.{PLACES, Known, TablePre, TablePost, known-none}
 use Rattle.soundness.specs.Pairs.{PAIR-WORDS, Right, Puts, right-puts}

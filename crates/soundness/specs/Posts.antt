@@ -9,9 +9,9 @@ use Rattle.diagram.specs.Rows.{Arrow, row}
 use Rattle.layout.specs.Places.{BITS, ROWS, LAYOUT, CURRENT}
 use Rattle.layout.specs.View.{view, headerOf}
 use Rattle.layout.specs.Arrows.{isRow}
-use Rattle.soundness.specs.Used.{Sizes, rowsOf}
-use Rattle.soundness.specs.Roots.{Ref}
-use Rattle.soundness.specs.Sound.{Good}
+use Rattle.rows.specs.Used.{Sizes, rowsOf}
+use Rattle.rows.specs.Roots.{Ref}
+use Rattle.rows.specs.Sound.{Good}
 use Rattle.soundness.specs.Apart.{Apart}
 use Rattle.soundness.specs.Cells.{Tabled}
 use Rattle.soundness.specs.Contained.{RefApart, Asks, Against, Tells}

@@ -15,10 +15,10 @@ use Rattle.diagram.specs.Rows.{Rows, row, marked, target, flip, carry, Arrow, l
 use Rattle.layout.specs.Places.{BITS, LOW, HIGH, LEVEL}
 use Rattle.layout.specs.View.{View}
 use Rattle.layout.specs.Arrows.{isRow, rowOf, row-is, row-yes}
-use Rattle.soundness.specs.Used.{rowsOf}
-use Rattle.soundness.specs.Bits.{zeros}
-use Rattle.soundness.specs.Says.{Says, holds, fails}
-use Rattle.soundness.specs.Sound.{Good}
+use Rattle.rows.specs.Used.{rowsOf}
+use Rattle.rows.specs.Bits.{zeros}
+use Rattle.rows.specs.Says.{Says, holds, fails}
+use Rattle.rows.specs.Sound.{Good}
 use Rattle.soundness.specs.Apart.{Half, half-here}
 use Rattle.soundness.specs.Masks.{has, swapped, has-and, has-low, some-bit}
 use Rattle.soundness.specs.Cells.{Classed, Tabled, Disjoint, joined, tabled-join, tabled-flip, and-true}

@@ -10,7 +10,7 @@ ghost use Prim.Native.Nat.{_*_, _+_, _≤_, _<_};
 ghost use lib.ListN.{length, getD, set};
 ghost use Rattle.layout.specs.View.{view};
 ghost use Rattle.layout.specs.Arrows.{isRow, isMarked};
-ghost use Rattle.soundness.specs.Says.{Says};
+ghost use Rattle.rows.specs.Says.{Says};
 ghost use Rattle.soundness.specs.Masks.{lowMask, highMask};
 ghost use Rattle.soundness.specs.Cells.{Classed, Disjoint, joined};
 ghost use Rattle.soundness.specs.Tables.{RowPre, TablePre, TablePost, carriedCells};

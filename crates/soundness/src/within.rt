@@ -15,11 +15,11 @@ ghost use Rattle.layout.specs.Places.{wordsFor};
 ghost use Rattle.layout.specs.View.{view};
 ghost use Rattle.layout.specs.Arrows.{isRow, rowOf, flipArrow};
 ghost use Rattle.diagram.specs.Rows.{Arrow};
-ghost use Rattle.soundness.specs.Used.{rowsOf};
-ghost use Rattle.soundness.specs.Says.{Says};
+ghost use Rattle.rows.specs.Used.{rowsOf};
+ghost use Rattle.rows.specs.Says.{Says};
 ghost use Rattle.soundness.specs.Pairs.{PAIR-WORDS, Seen, Puts};
-ghost use Rattle.soundness.specs.Within.{Within};
-ghost use Rattle.soundness.specs.Sound.{Good};
+ghost use Rattle.rows.specs.Within.{Within};
+ghost use Rattle.rows.specs.Sound.{Good};
 ghost use Rattle.soundness.specs.Contained.{AllApart, Clear, ApartPre, Deep, TablesPre, TablesPost, RefsAsked, RootsPre, PassPre, Halved, Split};
 ghost use Rattle.soundness.specs.Posts.{SplitPre, ApartTold, RefApartPre, RefApartTold};
 

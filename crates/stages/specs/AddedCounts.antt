@@ -15,10 +15,10 @@ use Rattle.diagram.specs.Survey.{AddedSoFar, Accounted, bump, added-none, added
 use Rattle.layout.specs.Places.{wordsFor, CELLS}
 use Rattle.layout.specs.View.{View}
 use Rattle.layout.specs.Arrows.{isRow, rowOf, row-is}
-use Rattle.soundness.specs.Used.{rowsOf}
-use Rattle.soundness.specs.Bits.{isOn, On, Sets}
-use Rattle.soundness.specs.Mark.{OnTo, OnArrow, onArrow-le, Marks, MarkPre, Base, Step, depth, step, marks-constant, marks-again, marks-row}
-use Rattle.soundness.specs.Sound.{Good}
+use Rattle.rows.specs.Used.{rowsOf}
+use Rattle.rows.specs.Bits.{isOn, On, Sets}
+use Rattle.rows.specs.Mark.{OnTo, OnArrow, onArrow-le, Marks, MarkPre, Base, Step, depth, step, marks-constant, marks-again, marks-row}
+use Rattle.rows.specs.Sound.{Good}
 use Rattle.stages.specs.Levels.{LEVELS, MOST, countOf, OneMore, one-more-le}
 
 -- the marked rows that the roots do not reach are closed under arrows, and counted by level

@@ -9,9 +9,9 @@ use Rattle.diagram.specs.Rows.{Rows, Arrow, den}
 use Rattle.diagram.specs.Need.{stepNeed}
 use Rattle.diagram.specs.Odd.{existsFrom}
 use Rattle.diagram.specs.Blind.{Blind}
-use Rattle.soundness.specs.Used.{rowsOf}
-use Rattle.soundness.specs.Bits.{On, no-marks}
-use Rattle.soundness.specs.Sound.{Sound}
+use Rattle.rows.specs.Used.{rowsOf}
+use Rattle.rows.specs.Bits.{On, no-marks}
+use Rattle.rows.specs.Sound.{Sound}
 use Rattle.collect.specs.Lent.{live}
 use Rattle.operations.specs.Work.{Ready}
 use Rattle.counting.specs.Counts.{BaseOf}

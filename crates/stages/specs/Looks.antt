@@ -17,10 +17,10 @@ use Rattle.diagram.specs.Bounds.{Evens}
 use Rattle.diagram.specs.Survey.{Passed, Accounted, survey-all, survey-done, added-done}
 use Rattle.diagram.specs.Left.{left-counted}
 use Rattle.layout.specs.View.{View}
-use Rattle.soundness.specs.Used.{rowsOf}
-use Rattle.soundness.specs.Bits.{On, zeros}
-use Rattle.soundness.specs.Mark.{OnTo, OnArrow}
-use Rattle.soundness.specs.Sound.{Good}
+use Rattle.rows.specs.Used.{rowsOf}
+use Rattle.rows.specs.Bits.{On, zeros}
+use Rattle.rows.specs.Mark.{OnTo, OnArrow}
+use Rattle.rows.specs.Sound.{Good}
 use Rattle.collect.specs.Lent.{live}
 use Rattle.steps.specs.Steps.{live-arrows}
 use Rattle.operations.specs.Work.{ready-wf}

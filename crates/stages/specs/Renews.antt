@@ -10,7 +10,7 @@ use Rattle.diagram.specs.Grow.{arrow-extends}
 use Rattle.layout.specs.Places.{wordsFor}
 use Rattle.layout.specs.View.{View}
 use Rattle.layout.specs.Arrows.{isRow, rowOf}
-use Rattle.soundness.specs.Used.{rowsOf}
+use Rattle.rows.specs.Used.{rowsOf}
 use Rattle.operations.specs.Work.{Ready, ready-wf}
 use Rattle.operations.specs.Open.{RowIs, Opened, depth, row-at, opened, low-falls, high-falls, high-later}
 use Rattle.operations.specs.Odd.{Grown, OddPost, grown-none, grown-trans, ready-grown}

@@ -14,9 +14,9 @@ use Rattle.diagram.specs.Grow.{arrow-extends, den-extends}
 use Rattle.diagram.specs.Keep.{extends-keeps}
 use Rattle.diagram.specs.Post.{Denotes, denotes-extends}
 use Rattle.layout.specs.Arrows.{isRow, rowOf}
-use Rattle.soundness.specs.Used.{rowsOf, of-arrow}
-use Rattle.soundness.specs.Sound.{Sound}
-use Rattle.soundness.specs.Filled.{filled-arrow}
+use Rattle.rows.specs.Used.{rowsOf, of-arrow}
+use Rattle.rows.specs.Sound.{Sound}
+use Rattle.rows.specs.Filled.{filled-arrow}
 use Rattle.table.specs.Code.{FULL}
 use Rattle.table.specs.Keep.{sound-extends}
 use Rattle.table.specs.declared.Found.{Found}

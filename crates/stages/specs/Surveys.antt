@@ -17,10 +17,10 @@ use Rattle.diagram.specs.Survey.{Survey, Passed, bump, survey-none, survey-add}
 use Rattle.layout.specs.Places.{wordsFor}
 use Rattle.layout.specs.View.{View}
 use Rattle.layout.specs.Arrows.{isRow, rowOf, no-row-leads}
-use Rattle.soundness.specs.Used.{rowsOf}
-use Rattle.soundness.specs.Bits.{isOn, On, Sets}
-use Rattle.soundness.specs.Mark.{OnArrow, onArrow-le}
-use Rattle.soundness.specs.Sound.{Good}
+use Rattle.rows.specs.Used.{rowsOf}
+use Rattle.rows.specs.Bits.{isOn, On, Sets}
+use Rattle.rows.specs.Mark.{OnArrow, onArrow-le}
+use Rattle.rows.specs.Sound.{Good}
 use Rattle.table.specs.declared.Found.{Found}
 use Rattle.table.specs.declared.Found.the-variants as find
 use Rattle.operations.specs.Work.{Ready, ready-wf}

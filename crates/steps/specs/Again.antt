@@ -12,9 +12,9 @@ use Rattle.diagram.specs.Collect.{Collects, collects-same, collects-keeps}
 use Rattle.diagram.specs.Step.{Settled, step-first, step-again}
 use Rattle.layout.specs.Places.{BITS, USED}
 use Rattle.layout.specs.View.{View}
-use Rattle.soundness.specs.Used.{rowsOf}
-use Rattle.soundness.specs.Sound.{Sound}
-use Rattle.soundness.specs.Alike.{alike-sound}
+use Rattle.rows.specs.Used.{rowsOf}
+use Rattle.rows.specs.Sound.{Sound}
+use Rattle.rows.specs.Alike.{alike-sound}
 use Rattle.table.specs.Make.{result}
 use Rattle.table.specs.Keep.{sound-extends}
 use Rattle.table.specs.declared.Made.{Made}

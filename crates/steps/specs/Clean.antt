@@ -7,10 +7,10 @@ use native.Mathlib.Omega.{arith}
 use Rattle.diagram.specs.Rows.{Rows, Leads, Arrow}
 use Rattle.diagram.specs.Collect.{Collects, collects-same}
 use Rattle.layout.specs.View.{View}
-use Rattle.soundness.specs.Used.{rowsOf}
-use Rattle.soundness.specs.Sound.{Sound}
-use Rattle.soundness.specs.Filled.{filled}
-use Rattle.soundness.specs.Alike.{alike-sound}
+use Rattle.rows.specs.Used.{rowsOf}
+use Rattle.rows.specs.Sound.{Sound}
+use Rattle.rows.specs.Filled.{filled}
+use Rattle.rows.specs.Alike.{alike-sound}
 use Rattle.collect.specs.Lent.{live}
 use Rattle.collect.specs.Freed.{Freed}
 use Rattle.collect.specs.Answers.{FreePre}

@@ -3,7 +3,7 @@
 use mathlib.Core.List.{List}
 use Prim.Native.Nat.{ℕ}
 use Rattle.layout.specs.View.{view}
-use Rattle.soundness.specs.Used.{rowsOf}
+use Rattle.rows.specs.Used.{rowsOf}
 use Rattle.table.specs.declared.Made.{Made}
 use Rattle.operations.specs.Work.{Ready, Worked}
 use Rattle.steps.specs.declared.Step.{Step}

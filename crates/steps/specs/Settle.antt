@@ -9,8 +9,8 @@ use Rattle.diagram.specs.Used.{usedCount}
 use Rattle.diagram.specs.Step.{Settled, ran-out, few-used, few-reached, many-reached, freed}
 use Rattle.layout.specs.Places.{USED}
 use Rattle.layout.specs.View.{View}
-use Rattle.soundness.specs.Used.{rowsOf}
-use Rattle.soundness.specs.Sound.{Sound}
+use Rattle.rows.specs.Used.{rowsOf}
+use Rattle.rows.specs.Sound.{Sound}
 use Rattle.table.specs.Make.{result}
 use Rattle.table.specs.Count.{count-used}
 use Rattle.table.specs.declared.Made.{Made}

@@ -16,9 +16,9 @@ use Rattle.diagram.specs.Post.{denotes-flip}
 use Rattle.diagram.specs.Step.{StepPost}
 use Rattle.layout.specs.Places.{VALID, ROOTS}
 use Rattle.layout.specs.View.{View}
-use Rattle.soundness.specs.Used.{rowsOf}
-use Rattle.soundness.specs.Sound.{Sound}
-use Rattle.soundness.specs.Filled.{filled, filled-arrow, held, push}
+use Rattle.rows.specs.Used.{rowsOf}
+use Rattle.rows.specs.Sound.{Sound}
+use Rattle.rows.specs.Filled.{filled, filled-arrow, held, push}
 use Rattle.table.specs.Code.{madeOf}
 use Rattle.table.specs.Make.{result}
 use Rattle.table.specs.declared.Made.{Made}

@@ -10,13 +10,13 @@ use Rattle.layout.specs.Places.{BITS, USED, CURSOR, LOW, HIGH, LEVEL, NEXT, RAN
 use Rattle.diagram.specs.Rows.{Rows, marked, Arrow, levelOf, Adds}
 use Rattle.diagram.specs.Grow.{adds-wellFormed}
 use Rattle.layout.specs.View.{View, putCell, putHeader}
-use Rattle.soundness.specs.Used.{used, rowsOf, Ranked}
-use Rattle.soundness.specs.Index.{keyOf, live, live-link, Has, Hit, Down, Index}
-use Rattle.soundness.specs.Framed.{hit-frame}
+use Rattle.rows.specs.Used.{used, rowsOf, Ranked}
+use Rattle.rows.specs.Index.{keyOf, live, live-link, Has, Hit, Down, Index}
+use Rattle.rows.specs.Framed.{hit-frame}
 use Rattle.table.specs.Append.{appended, append-used, append-kept, append-only, append-ranked, append-index}
 use Rattle.table.specs.Count.{unused-room}
-use Rattle.soundness.specs.Checks.{Room}
-use Rattle.soundness.specs.Sound.{Good}
+use Rattle.rows.specs.Lookup.{Room}
+use Rattle.rows.specs.Sound.{Good}
 use Rattle.table.specs.Find.{Absent}
 
 -- row i gets its three words, and remembers nothing

@@ -9,9 +9,9 @@ use native.Mathlib.Decide.{ℕ-discrete}
 use borrow.Author.Tests.{eq-eqb, ne-eqb}
 use Rattle.layout.specs.Places.{USED, LOW, HIGH, LEVEL, NEXT, RANK}
 use Rattle.layout.specs.View.{View, putCell, putHeader, putList, putHead}
-use Rattle.soundness.specs.Used.{used, used-yes, used-in, Ranked, listed-used}
-use Rattle.soundness.specs.Index.{keyOf, live, live-used, live-link, Link, Has, Hit, stop, skip, Down, Index}
-use Rattle.soundness.specs.Framed.{hit-frame, live-more}
+use Rattle.rows.specs.Used.{used, used-yes, used-in, Ranked, listed-used}
+use Rattle.rows.specs.Index.{keyOf, live, live-used, live-link, Link, Has, Hit, stop, skip, Down, Index}
+use Rattle.rows.specs.Framed.{hit-frame, live-more}
 
 -- row i takes the next place of the list, and becomes the first of its chain
 abbrev pub appended : View → ℕ → View

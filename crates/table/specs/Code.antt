@@ -8,8 +8,8 @@ use lib.Dec.{eqb}
 use borrow.Author.Tests.{ne-eqb}
 use Rattle.diagram.specs.Rows.{target, Arrow, ArrowTo}
 use Rattle.layout.specs.View.{View}
-use Rattle.soundness.specs.Used.{rowsOf}
-use Rattle.soundness.specs.Sound.{Good}
+use Rattle.rows.specs.Used.{rowsOf}
+use Rattle.rows.specs.Sound.{Good}
 use Rattle.table.specs.declared.Made.{Made}
 use Rattle.table.specs.declared.Made.the-variants as made
 

@@ -8,7 +8,7 @@ use native.Mathlib.Omega.{arith}
 use Rattle.layout.specs.Places.{USED, RANK}
 use Rattle.diagram.specs.Used.{usedCount, SparseSet, sparse-count, all-used}
 use Rattle.layout.specs.View.{View}
-use Rattle.soundness.specs.Used.{used, used-in, InList, Ranked, listed-used, rowsOf}
+use Rattle.rows.specs.Used.{used, used-in, InList, Ranked, listed-used, rowsOf}
 
 module _ (W : View) (r : Ranked W) where
   in-list : (i : ℕ) → used W i ≡ true → InList (W .rows) (W .header USED) (λ x. W .cell x RANK) (W .list) i

@@ -6,10 +6,10 @@ use Prim.Native.Nat.{ℕ, _≤_, _<_}
 use native.Mathlib.Decide.{decLt}
 use native.Mathlib.Omega.{arith}
 use Rattle.layout.specs.View.{View}
-use Rattle.soundness.specs.Used.{used}
-use Rattle.soundness.specs.Index.{bucket, live, Has, Hit, Index}
-use Rattle.soundness.specs.Checks.{Room}
-use Rattle.soundness.specs.Sound.{Good, room-of}
+use Rattle.rows.specs.Used.{used}
+use Rattle.rows.specs.Index.{bucket, live, Has, Hit, Index}
+use Rattle.rows.specs.Lookup.{Room}
+use Rattle.rows.specs.Sound.{Good, room-of}
 use Rattle.table.specs.declared.Found.{Found}
 use Rattle.table.specs.declared.Found.the-variants as found
 

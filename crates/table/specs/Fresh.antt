@@ -11,11 +11,11 @@ use Rattle.layout.specs.Places.{HEADER, BITS, ROWS, USED, LAYOUT, CURRENT, VALI
 use Rattle.layout.specs.View.{View, view, headerOf, header-is, putHeader, putHead, header-past, head-past}
 use Rattle.layout.specs.Header.{headerWords, header-bits, header-rows, header-layout, header-valid, header-zero}
 use Rattle.layout.specs.Arrows.{row-no}
-use Rattle.soundness.specs.Used.{Sizes, used, used-in, rowsOf, arrow-constant}
-use Rattle.soundness.specs.Mark.{reaches-used}
-use Rattle.soundness.specs.Roots.{Ref}
-use Rattle.soundness.specs.Within.{validOf, within-all}
-use Rattle.soundness.specs.Sound.{Good, Sound}
+use Rattle.rows.specs.Used.{Sizes, used, used-in, rowsOf, arrow-constant}
+use Rattle.rows.specs.Mark.{reaches-used}
+use Rattle.rows.specs.Roots.{Ref}
+use Rattle.rows.specs.Within.{validOf, within-all}
+use Rattle.rows.specs.Sound.{Good, Sound}
 use Rattle.table.specs.Columns.{over, over-none, over-more, over-all, setHeader, setHeads}
 
 -- "Fresh empties them all": nothing but the header and the heads is written

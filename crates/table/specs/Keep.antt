@@ -11,11 +11,11 @@ use Rattle.diagram.specs.Keep.{extends-keeps, keeps-reach-back}
 use Rattle.diagram.specs.Post.{Result, Plain, equal-arrows, found-row, added-row, no-row, Making, as-is, turned}
 use Rattle.layout.specs.Places.{BITS, VALID, ROOTS-END}
 use Rattle.layout.specs.View.{View}
-use Rattle.soundness.specs.Used.{rowsOf}
-use Rattle.soundness.specs.Mark.{reaches-used}
-use Rattle.soundness.specs.Roots.{Ref}
-use Rattle.soundness.specs.Sound.{Good, Sound}
-use Rattle.soundness.specs.Kept.{RootsKept, valid-kept, within-extends}
+use Rattle.rows.specs.Used.{rowsOf}
+use Rattle.rows.specs.Mark.{reaches-used}
+use Rattle.rows.specs.Roots.{Ref}
+use Rattle.rows.specs.Sound.{Good, Sound}
+use Rattle.rows.specs.Kept.{RootsKept, valid-kept, within-extends}
 
 -- what an old arrow reaches in the larger table it reaches in the old one
 pub reach-back : {m N : ℕ} {old new : Rows} → Extends old new → WellFormed m N old → {a i : ℕ} → Arrow old a → Reach new (a ∷ []) i → Reach old (a ∷ []) i

@@ -9,10 +9,10 @@ use Rattle.diagram.specs.Rows.{Rows, row, marked, flip, Arrow, marked-odd, even
 use Rattle.diagram.specs.Grow.{same-refl, arrow-extends}
 use Rattle.diagram.specs.Post.{Result, at, full, Plain, equal-arrows, found-row, added-row, no-row, Making, as-is, turned}
 use Rattle.layout.specs.View.{View}
-use Rattle.soundness.specs.Used.{used, rowsOf}
+use Rattle.rows.specs.Used.{used, rowsOf}
 use Rattle.diagram.specs.Used.{usedCount, usedCount-all}
 use Rattle.table.specs.Count.{count-used}
-use Rattle.soundness.specs.Sound.{Good}
+use Rattle.rows.specs.Sound.{Good}
 use Rattle.table.specs.Find.{Absent, FindPost, UnusedPost}
 use Rattle.table.specs.Add.{Frame, Keys, keys-refl, added-keys, frame-refl, frame-trans, frame-append, frame-written, Fit, written, rowAdded, added-adds, added-good}
 use Rattle.table.specs.Code.{FULL, madeOf, code-full, code-at, arrow-code}

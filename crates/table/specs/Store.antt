@@ -12,14 +12,14 @@ use Rattle.diagram.specs.Level.{Val}
 use Rattle.diagram.specs.Rows.{Rows, Arrow, den, WellFormed}
 use Rattle.diagram.specs.Steps.{shiftF}
 use Rattle.layout.specs.View.{View, putHeader}
-use Rattle.soundness.specs.Used.{used, usedAt, rowsOf, Sizes}
-use Rattle.soundness.specs.Index.{keyOf, live, live-link, Hit, Down}
-use Rattle.soundness.specs.Framed.{hit-frame}
+use Rattle.rows.specs.Used.{used, usedAt, rowsOf, Sizes}
+use Rattle.rows.specs.Index.{keyOf, live, live-link, Hit, Down}
+use Rattle.rows.specs.Framed.{hit-frame}
 use Rattle.diagram.specs.Reach.{Reach}
 use Rattle.diagram.specs.Even.{even}
-use Rattle.soundness.specs.Roots.{Ref}
-use Rattle.soundness.specs.Within.{denOf, validOf}
-use Rattle.soundness.specs.Sound.{Good, Sound}
+use Rattle.rows.specs.Roots.{Ref}
+use Rattle.rows.specs.Within.{denOf, validOf}
+use Rattle.rows.specs.Sound.{Good, Sound}
 
 -- what may be stored in word h of the header: where it is a register or relation, nothing or an arrow, of even levels in a register, within V, and in a relation within SHIFT of V
 pub record Storable (W : View) (h v : ℕ) : Type 0 where

@@ -8,7 +8,7 @@ use borrow.Author.Tests.{ne-eqb}
 use Rattle.accounts.specs.declared.Terms.{Terms}
 use Rattle.layout.specs.Places.{REGISTERS, RELATIONS, ROWS, USED, VALID, ALL-STATES, FIRST-REGISTER, FIRST-RELATION}
 use Rattle.layout.specs.View.{View, headerOf, view-header}
-use Rattle.soundness.specs.Used.{Sizes}
+use Rattle.rows.specs.Used.{Sizes}
 use Rattle.book.specs.Book.{Book, relation, set, valid}
 use Rattle.book.specs.BookOf.{bookOf}
 use Rattle.book.specs.Table.{Reply}

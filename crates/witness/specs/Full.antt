@@ -19,10 +19,10 @@ use Rattle.diagram.specs.Need.{stepNeed}
 use Rattle.diagram.specs.Rows.{target}
 use Rattle.diagram.specs.Reach.{Reach, root}
 use Rattle.diagram.specs.Steps.{bitF}
-use Rattle.soundness.specs.Used.{Sizes, used, used-in, rowsOf}
-use Rattle.soundness.specs.Index.{bucket-lt}
-use Rattle.soundness.specs.Sound.{tableOf}
-use Rattle.soundness.specs.Filled.{filled, filled-mem}
+use Rattle.rows.specs.Used.{Sizes, used, used-in, rowsOf}
+use Rattle.rows.specs.Index.{bucket-lt}
+use Rattle.rows.specs.Sound.{tableOf}
+use Rattle.rows.specs.Filled.{filled, filled-mem}
 use Rattle.book.specs.Book.{Book, Call, set, clear, collect, liveOf, checks, formulaIn, does, refuse}
 use Rattle.book.specs.BookOf.{bookOf}
 use Rattle.book.specs.Compute.{computing}

@@ -18,8 +18,8 @@ use Rattle.layout.specs.Places.{BITS, ROWS, VALID, ALL-STATES, FIRST-REGISTER, 
 use Rattle.layout.specs.View.{headerOf}
 use Rattle.diagram.specs.Need.{stepNeed}
 use Rattle.diagram.specs.Steps.{bitF}
-use Rattle.soundness.specs.Used.{Sizes}
-use Rattle.soundness.specs.Index.{bucket}
+use Rattle.rows.specs.Used.{Sizes}
+use Rattle.rows.specs.Index.{bucket}
 use Rattle.book.specs.Book.{Book, Call, relation, set, valid, clear, collect, registers, unfilled, liveOf, checks, formulaIn}
 use Rattle.book.specs.Run.{relationFits, relationCount}
 use Rattle.book.specs.BookOf.{bookOf}

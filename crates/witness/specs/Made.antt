@@ -21,9 +21,9 @@ use Rattle.diagram.specs.Steps.{shiftF}
 use Rattle.diagram.specs.Post.{at, Denotes}
 use Rattle.diagram.specs.Grow.{extends-refl}
 use Rattle.diagram.specs.Reach.{Reach, reach-used}
-use Rattle.soundness.specs.Used.{Sizes, used, used-in, rowsOf}
-use Rattle.soundness.specs.Sound.{tableOf}
-use Rattle.soundness.specs.Filled.{filled, filled-arrow}
+use Rattle.rows.specs.Used.{Sizes, used, used-in, rowsOf}
+use Rattle.rows.specs.Sound.{tableOf}
+use Rattle.rows.specs.Filled.{filled, filled-arrow}
 use Rattle.table.specs.Add.{frame-refl}
 use Rattle.collect.specs.Freed.{Freed, freed-count}
 use Rattle.formula.specs.Parse.{formOf, formulaOf}

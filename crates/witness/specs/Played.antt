@@ -15,7 +15,7 @@ use Rattle.accounts.specs.Count.{nothing}
 use Rattle.mucalculus.specs.Form.{bot}
 use Rattle.layout.specs.Places.{ROWS, VALID, ALL-STATES, FIRST-REGISTER, FIRST-RELATION}
 use Rattle.layout.specs.View.{headerOf}
-use Rattle.soundness.specs.Used.{Sizes}
+use Rattle.rows.specs.Used.{Sizes}
 use Rattle.book.specs.Book.{Book, relation, set, valid, clear, collect, unfilled, liveOf}
 use Rattle.book.specs.Run.{relationFits, relationCount}
 use Rattle.book.specs.BookOf.{bookOf}

@@ -29,13 +29,13 @@ use Rattle.diagram.specs.Reach.{Reach, root, by-low, by-high}
 use Rattle.diagram.specs.Recur.{bit-made}
 use Rattle.diagram.specs.Step.{StepPost, step-first, few-used}
 use Rattle.diagram.specs.Steps.{bitF, andF}
-use Rattle.soundness.specs.Used.{used, used-in, used-no, rowsOf, arrow-constant}
-use Rattle.soundness.specs.Mark.{reaches-used}
-use Rattle.soundness.specs.Roots.{Ref, Held as RootHeld}
-use Rattle.soundness.specs.Within.{validOf, within-all}
-use Rattle.soundness.specs.Index.{bucket, bucket-lt, live, live-not, live-zero}
-use Rattle.soundness.specs.Sound.{Good, Sound, tableOf}
-use Rattle.soundness.specs.Filled.{filled, mem-filled}
+use Rattle.rows.specs.Used.{used, used-in, used-no, rowsOf, arrow-constant}
+use Rattle.rows.specs.Mark.{reaches-used}
+use Rattle.rows.specs.Roots.{Ref, Held as RootHeld}
+use Rattle.rows.specs.Within.{validOf, within-all}
+use Rattle.rows.specs.Index.{bucket, bucket-lt, live, live-not, live-zero}
+use Rattle.rows.specs.Sound.{Good, Sound, tableOf}
+use Rattle.rows.specs.Filled.{filled, mem-filled}
 use Rattle.table.specs.Add.{frame-trans, frame-written, frame-append, written, rowAdded, added-adds, added-good}
 use Rattle.table.specs.Append.{append-by}
 use Rattle.table.specs.Count.{count-used}

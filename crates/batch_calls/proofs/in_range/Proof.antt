@@ -4,7 +4,7 @@ use Prim.Native.Nat.{ℕ, _-_, _^_, _<_}
 use native.Mathlib.Omega.{arith}
 use lib.ListN.{length, getD}
 use borrow.Author.Count.{below-more}
-use Rattle.soundness.specs.Says.{holds, fails}
+use Rattle.rows.specs.Says.{holds, fails}
 use Rattle.calls.specs.Questions.{state-in, state-out}
 use Rattle.batch_calls.proofs.in_range.Statement.{statement}
 use Rattle.batch_calls.proofs.in_range.Tie as tie

@@ -1,6 +1,6 @@
 -- `lists_fit` meets its contract: each test decides one field of `ListsFit`. Assumes nothing.
 use native.Mathlib.Omega.{arith}
-use Rattle.soundness.specs.Says.{holds, fails}
+use Rattle.rows.specs.Says.{holds, fails}
 use Rattle.batch_calls.proofs.lists_fit.Statement.{statement}
 use Rattle.batch_calls.proofs.lists_fit.Tie as tie
 

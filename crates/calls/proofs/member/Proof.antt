@@ -1,6 +1,6 @@
 -- `member` meets its contract: each test is one check, in order; the rest is the walk. Assumes nothing.
 use native.Mathlib.Omega.{arith}
-use Rattle.soundness.specs.Says.{says-pass, says-fail}
+use Rattle.rows.specs.Says.{says-pass, says-fail}
 use mathlib.Core.Bool.{true, false}
 use Rattle.contract.specs.Checked.{ask-unsound}
 use Rattle.calls.specs.Questions.{member-range, member-out, member-empty, walk-pre, member-told}

@@ -2,7 +2,7 @@
 use native.Mathlib.Omega.{arith}
 use borrow.Author.Needs.{needs}
 use Rattle.layout.specs.View.{view}
-use Rattle.soundness.specs.Bits.{MARK-WORDS, no-marks}
+use Rattle.rows.specs.Bits.{MARK-WORDS, no-marks}
 use Rattle.collect.specs.Answers.{sound-base, collect-by}
 use Rattle.collect.proofs.collect_rows.Statement.{statement}
 use Rattle.collect.proofs.collect_rows.Tie as tie

@@ -2,7 +2,7 @@
 use mathlib.Core.Path.{refl}
 use native.Mathlib.Omega.{arith}
 use Rattle.layout.specs.View.{view}
-use Rattle.soundness.specs.Bits.{MARK-WORDS, no-marks}
+use Rattle.rows.specs.Bits.{MARK-WORDS, no-marks}
 use Rattle.collect.specs.Answers.{sound-base, few, many, filled-by}
 use borrow.Author.Needs.{needs}
 use Rattle.collect.proofs.free_many.Statement.{statement}

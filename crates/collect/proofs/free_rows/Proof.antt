@@ -2,7 +2,7 @@
 use native.Mathlib.Omega.{arith}
 use mathlib.Core.List.{_++_, Memᴰ·append-left as append-left, Memᴰ·append-right as append-right}
 use Rattle.layout.specs.View.{view}
-use Rattle.soundness.specs.Bits.{MARK-WORDS, no-marks}
+use Rattle.rows.specs.Bits.{MARK-WORDS, no-marks}
 use Rattle.collect.specs.Lent.{more-marks}
 use Rattle.collect.specs.Answers.{sound-base, free-by}
 use borrow.Author.Needs.{needs}

@@ -4,9 +4,9 @@ use mathlib.Core.Path.{refl, sym, _∙_}
 use native.Mathlib.Omega.{arith}
 use Prim.Native.Nat.{_+_, _*_, ℕ, _<_}
 use Rattle.layout.specs.View.{view}
-use Rattle.soundness.specs.Mark.{step, depth, called}
+use Rattle.rows.specs.Mark.{step, depth, called}
 use Rattle.counting.specs.News.{constant-new, again-new, row-new, new-le, still-off}
-use Rattle.soundness.specs.Says.{test-yes, test-no}
+use Rattle.rows.specs.Says.{test-yes, test-no}
 use borrow.Fn.Kinds.{In}
 use borrow.Fn.PlainCycle.{Measures, is, falls, and}
 use Rattle.counting.proofs.+new_part+new_row.{statement}
@@ -20,8 +20,8 @@ use Rattle.counting.proofs.+new_part+new_row.Lts-new_row as new-row-lts
 use Rattle.layout.proofs.get.Reads as get-reads
 use Rattle.layout.proofs.is_row.Reads as is-row-reads
 use Rattle.layout.proofs.row_of.Reads as row-of-reads
-use Rattle.soundness.proofs.marked.Reads as marked-reads
-use Rattle.soundness.proofs.set_mark.Reads as set-mark-reads
+use Rattle.rows.proofs.marked.Reads as marked-reads
+use Rattle.rows.proofs.set_mark.Reads as set-mark-reads
 
 abbrev μ-new-part : Measures 2 new-part-kinds.ps ℕ
 μ-new-part κs a = 2 * depth (view (a .1 .0) (a .0 .now)) (a .1 .1 .1 .0) + 1

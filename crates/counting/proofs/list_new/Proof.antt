@@ -4,7 +4,7 @@ use Prim.Native.Nat.{_-_, _≤_}
 use native.Mathlib.Omega.{arith}
 use lib.ListN.{length}
 use Rattle.layout.specs.View.{view}
-use Rattle.soundness.specs.Used.{rowsOf}
+use Rattle.rows.specs.Used.{rowsOf}
 use Rattle.collect.specs.Lent.{getD-mem}
 use Rattle.counting.specs.News.{FirstNew, first-none, first-more, first-le, first-all}
 use borrow.Author.Needs.{needs}

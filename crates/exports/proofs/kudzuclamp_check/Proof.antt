@@ -1,7 +1,7 @@
 -- `kudzuclamp_check` meets its contract: `sound` is check 2, and on a sound table `check_formula` gives the number of the book's checks. Assumes nothing.
 use mathlib.Core.Path.{sym, _∙_}
 use native.Mathlib.Omega.{arith}
-use Rattle.soundness.specs.Says.{says-pass, says-fail}
+use Rattle.rows.specs.Says.{says-pass, says-fail}
 use Rattle.formula_calls.specs.Refused.{checks-told}
 use Rattle.exports.specs.Check.{check-unsound, check-done}
 use borrow.Author.Needs.{needs}

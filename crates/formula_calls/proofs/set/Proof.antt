@@ -1,5 +1,5 @@
 -- `set` is check 2, and then `set_unchecked`. Assumes nothing.
-use Rattle.soundness.specs.Says.{says-pass, says-fail}
+use Rattle.rows.specs.Says.{says-pass, says-fail}
 use Rattle.contract.specs.Checked.{call-unsound}
 use borrow.Author.Needs.{needs}
 use Rattle.formula_calls.proofs.set.Statement.{statement}

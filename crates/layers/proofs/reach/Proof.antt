@@ -8,7 +8,7 @@ use lib.ListN.{length}
 use Rattle.layout.specs.View.{view}
 use Rattle.counting.specs.Counts.{CountsOf}
 use Rattle.diagram.specs.Post.{Denotes}
-use Rattle.soundness.specs.Used.{rowsOf}
+use Rattle.rows.specs.Used.{rowsOf}
 use Rattle.book.specs.Bridge.{fnOf}
 use Rattle.modal.specs.Chain.{base-bits}
 use Rattle.seek.specs.Search.{power-fits}

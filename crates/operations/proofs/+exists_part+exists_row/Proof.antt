@@ -3,7 +3,7 @@ use borrow.Author.Needs.{needs}
 use native.Mathlib.Omega.{arith}
 use Prim.Native.Nat.{_+_, _*_, ℕ, _<_}
 use Rattle.layout.specs.View.{view}
-use Rattle.soundness.specs.Used.{rowsOf}
+use Rattle.rows.specs.Used.{rowsOf}
 use Rattle.operations.specs.Work.{ready-wf, ready-look, ready-next, worked-there, low-stops, high-stops, row-pre, row-made}
 use Rattle.operations.specs.Open.{depth, row-at, opened, part-falls, low-falls, high-falls, high-later, reached}
 use Rattle.operations.specs.Rows.{exists-calls, exists-own, exists-kept}

@@ -3,7 +3,7 @@ use borrow.Author.Needs.{needs}
 use native.Mathlib.Omega.{arith}
 use Prim.Native.Nat.{_+_, _*_, ℕ, _<_}
 use Rattle.layout.specs.View.{view}
-use Rattle.soundness.specs.Used.{rowsOf}
+use Rattle.rows.specs.Used.{rowsOf}
 use Rattle.operations.specs.Work.{ready-wf, ready-look}
 use Rattle.operations.specs.Open.{depth, row-at, opened, part-falls, low-falls, high-falls}
 use Rattle.operations.specs.Odd.{odd-there, odd-low-stops, odd-high-pre, odd-high-stops, odd-join-pre, odd-joined, odd-kept}

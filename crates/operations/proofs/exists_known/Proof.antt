@@ -1,6 +1,6 @@
 -- `exists_known` meets its contract: the function does not read x, or what the row remembers. Assumes nothing.
 use native.Mathlib.Omega.{arith}
-use Rattle.soundness.specs.Says.{test-yes, test-no}
+use Rattle.rows.specs.Says.{test-yes, test-no}
 use Rattle.operations.specs.Work.{ready-wf}
 use Rattle.operations.specs.Open.{row-at, reaches}
 use Rattle.operations.specs.Rows.{exists-constant, exists-past, exists-known}

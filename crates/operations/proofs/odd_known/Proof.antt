@@ -1,6 +1,6 @@
 -- `odd_known` meets its contract: a constant, or what the row remembers. Assumes nothing.
 use native.Mathlib.Omega.{arith}
-use Rattle.soundness.specs.Says.{test-yes, test-no}
+use Rattle.rows.specs.Says.{test-yes, test-no}
 use Rattle.operations.specs.Work.{ready-wf}
 use Rattle.operations.specs.Open.{row-at}
 use Rattle.operations.specs.Odd.{odd-constant, odd-remembered}

@@ -3,7 +3,7 @@ use mathlib.Core.Path.{_≡_, refl, _∙_}
 use Prim.Native.Nat.{_-_}
 use native.Mathlib.Omega.{arith}
 use lib.ListN.{length, length-drop}
-use Rattle.soundness.specs.Says.{Says}
+use Rattle.rows.specs.Says.{Says}
 use Rattle.contract.specs.Seen.{SoundWords}
 use Rattle.player.specs.Passes.{next-at, readable-at}
 use Rattle.player.specs.Chained.{Progress, progress-none, progress-next, progress-all, room-at}

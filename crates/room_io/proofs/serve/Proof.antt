@@ -4,7 +4,7 @@ use mathlib.Core.Path.{_≡_, refl, _∙_}
 use native.Mathlib.Omega.{arith}
 use lib.ListN.{length}
 use mathlib.Core.Logic.{inl, inr, ⊎-elim}
-use Rattle.soundness.specs.Says.{Says}
+use Rattle.rows.specs.Says.{Says}
 use Rattle.contract.specs.Seen.{SoundWords}
 use Rattle.room_io.specs.Places.{Placed}
 use Rattle.room_io.specs.Pace.{Upto, upto-none, upto-next, upto-served}

@@ -6,7 +6,7 @@ use Prim.Native.Nat.{ℕ, _+_, _<_}
 use borrow.Fn.Kinds.{In}
 use borrow.Fn.PlainCycle.{Measures, is, falls, and}
 use Rattle.layout.specs.View.{view}
-use Rattle.soundness.specs.Mark.{depth}
+use Rattle.rows.specs.Mark.{depth}
 use Rattle.seek.specs.Apart.{apart-first, apart-second, pair-less, pair-called, apart-both}
 use Rattle.seek.proofs.+apart.{statement}
 use Rattle.seek.proofs.+apart.Tie.{close}

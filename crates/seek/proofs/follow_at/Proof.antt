@@ -2,7 +2,7 @@
 use mathlib.Core.Bool.{true, false}
 use native.Mathlib.Omega.{arith}
 use Rattle.layout.specs.View.{view}
-use Rattle.soundness.specs.Says.{test-yes, test-no}
+use Rattle.rows.specs.Says.{test-yes, test-no}
 use Rattle.seek.specs.Walk.{walk-row}
 use Rattle.seek.specs.Apart.{stays, stays-constant, follows}
 use Rattle.layout.proofs.is_row.Reads as is-row-reads

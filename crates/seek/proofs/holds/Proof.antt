@@ -3,7 +3,7 @@ use mathlib.Core.Path.{_≡_, refl, sym, _∙_}
 use mathlib.Core.Bool.{true, false}
 use native.Mathlib.Omega.{arith}
 use Rattle.layout.specs.View.{view}
-use Rattle.soundness.specs.Mark.{depth}
+use Rattle.rows.specs.Mark.{depth}
 use Rattle.seek.specs.Walk.{HoldsPre, holdsAt, walk-row, walk-child, walk-end}
 use Rattle.seek.proofs.holds.Statement.{statement}
 use Rattle.seek.proofs.holds.Tie as tie

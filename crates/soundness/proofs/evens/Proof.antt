@@ -7,9 +7,9 @@ use native.Mathlib.Omega.{arith}
 use borrow.Author.Count.{below-none, below-more}
 use Rattle.layout.specs.Places.{USED, LEVEL}
 use Rattle.layout.specs.View.{view, listOf, headerOf}
-use Rattle.soundness.specs.Used.{used}
-use Rattle.soundness.specs.Says.{holds, fails}
-use Rattle.soundness.specs.Bits.{On}
+use Rattle.rows.specs.Used.{used}
+use Rattle.rows.specs.Says.{holds, fails}
+use Rattle.rows.specs.Bits.{On}
 use Rattle.soundness.proofs.evens.Statement.{statement}
 use Rattle.soundness.proofs.evens.Tie as tie
 

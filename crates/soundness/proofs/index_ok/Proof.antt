@@ -3,7 +3,8 @@ use Prim.Native.Nat.{ℕ, _-_, _≤_, _<_}
 use native.Mathlib.Omega.{arith}
 use borrow.Author.Count.{below-none, below-more}
 use Rattle.layout.specs.View.{view, listOf}
-use Rattle.soundness.specs.Says.{holds, fails, walk-met, walk-missed}
+use Rattle.rows.specs.Says.{holds, fails}
+use Rattle.soundness.specs.Walks.{walk-met, walk-missed}
 use Rattle.soundness.specs.Checks.{Finds}
 use Rattle.soundness.specs.Triples.{ready-used}
 use Rattle.soundness.specs.Chains.{both-tell}

@@ -2,8 +2,9 @@
 use native.Mathlib.Omega.{arith}
 use borrow.Author.Needs.{needs}
 use Rattle.layout.specs.View.{view}
-use Rattle.soundness.specs.Says.{holds, fails, says-pass, says-fail, says-is}
-use Rattle.soundness.specs.Checks.{down-of, of-down, used-row}
+use Rattle.rows.specs.Says.{holds, fails, says-pass, says-fail, says-is}
+use Rattle.rows.specs.Lookup.{used-row}
+use Rattle.soundness.specs.Checks.{down-of, of-down}
 use Rattle.soundness.proofs.link_ok.Statement.{statement}
 use Rattle.soundness.proofs.link_ok.Tie as tie
 

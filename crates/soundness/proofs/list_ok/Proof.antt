@@ -4,8 +4,8 @@ use Prim.Native.Nat.{ℕ, _-_, _≤_, _<_}
 use native.Mathlib.Omega.{arith}
 use borrow.Author.Count.{below-none, below-more}
 use Rattle.layout.specs.View.{view}
-use Rattle.soundness.specs.Used.{used}
-use Rattle.soundness.specs.Says.{holds, fails}
+use Rattle.rows.specs.Used.{used}
+use Rattle.rows.specs.Says.{holds, fails}
 use Rattle.soundness.specs.Checks.{Placed}
 use Rattle.soundness.proofs.list_ok.Statement.{statement}
 use Rattle.soundness.proofs.list_ok.Tie as tie

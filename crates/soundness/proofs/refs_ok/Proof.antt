@@ -3,9 +3,9 @@ use Prim.Native.Nat.{ℕ, _-_, _≤_, _<_}
 use native.Mathlib.Omega.{arith}
 use borrow.Author.Count.{below-more}
 use Rattle.layout.specs.View.{view, headerOf}
-use Rattle.soundness.specs.Used.{rowsOf}
-use Rattle.soundness.specs.Says.{holds, fails, says-pass, says-fail}
-use Rattle.soundness.specs.Roots.{Ref}
+use Rattle.rows.specs.Used.{rowsOf}
+use Rattle.rows.specs.Says.{holds, fails, says-pass, says-fail}
+use Rattle.rows.specs.Roots.{Ref}
 use Rattle.soundness.proofs.refs_ok.Statement.{statement}
 use Rattle.soundness.proofs.refs_ok.Tie as tie
 

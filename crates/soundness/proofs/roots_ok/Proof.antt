@@ -4,8 +4,9 @@ use native.Mathlib.Omega.{arith}
 use borrow.Author.Needs.{needs}
 use Rattle.layout.specs.View.{view}
 use Rattle.soundness.specs.Contained.{against-root}
-use Rattle.soundness.specs.Says.{fails, says-pass, says-fail}
-use Rattle.soundness.specs.Sound.{room-of, within-tells}
+use Rattle.rows.specs.Says.{fails, says-pass, says-fail}
+use Rattle.rows.specs.Sound.{room-of}
+use Rattle.soundness.specs.Decided.{within-tells}
 use Rattle.soundness.proofs.roots_ok.Statement.{statement}
 use Rattle.soundness.proofs.roots_ok.Tie as tie
 

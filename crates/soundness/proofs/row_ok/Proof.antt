@@ -2,7 +2,7 @@
 use mathlib.Core.Path.{sym, _∙_}
 use native.Mathlib.Omega.{arith}
 use borrow.Author.Needs.{needs}
-use Rattle.soundness.specs.Says.{fails, says-map, says-pass, says-fail}
+use Rattle.rows.specs.Says.{fails, says-map, says-pass, says-fail}
 use Rattle.soundness.proofs.row_ok.Statement.{statement}
 use Rattle.soundness.proofs.row_ok.Tie as tie
 

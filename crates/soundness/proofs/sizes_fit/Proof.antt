@@ -1,7 +1,7 @@
 -- `sizes_fit` meets its contract: each test decides one field of `Sizes`. Assumes nothing.
 use native.Mathlib.Omega.{arith}
 use borrow.Author.Needs.{needs}
-use Rattle.soundness.specs.Says.{holds, fails}
+use Rattle.rows.specs.Says.{holds, fails}
 use Rattle.soundness.proofs.sizes_fit.Statement.{statement}
 use Rattle.soundness.proofs.sizes_fit.Tie as tie
 

@@ -1,7 +1,7 @@
 -- `sizes_ok` meets its contract: with a header, the rest is `sizes_fit`. Assumes nothing.
 use native.Mathlib.Omega.{arith}
 use borrow.Author.Needs.{needs}
-use Rattle.soundness.specs.Says.{fails}
+use Rattle.rows.specs.Says.{fails}
 use Rattle.soundness.proofs.sizes_ok.Statement.{statement}
 use Rattle.soundness.proofs.sizes_ok.Tie as tie
 

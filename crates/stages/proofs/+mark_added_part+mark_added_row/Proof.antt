@@ -4,8 +4,8 @@ use mathlib.Core.Path.{refl, sym, _∙_}
 use native.Mathlib.Omega.{arith}
 use Prim.Native.Nat.{_+_, _*_, ℕ, _<_}
 use Rattle.layout.specs.View.{view}
-use Rattle.soundness.specs.Mark.{depth}
-use Rattle.soundness.specs.Says.{test-yes, test-no}
+use Rattle.rows.specs.Mark.{depth}
+use Rattle.rows.specs.Says.{test-yes, test-no}
 use Rattle.counting.specs.News.{still-off}
 use Rattle.stages.specs.AddedCounts.{added-constant, added-again, added-get, added-in, added-low, added-high, added-count-asks, added-row as added-done}
 use borrow.Fn.Kinds.{In}
@@ -21,8 +21,8 @@ use Rattle.stages.proofs.+mark_added_part+mark_added_row.Lts-mark_added
 use Rattle.layout.proofs.get.Reads as get-reads
 use Rattle.layout.proofs.is_row.Reads as is-row-reads
 use Rattle.layout.proofs.row_of.Reads as row-of-reads
-use Rattle.soundness.proofs.marked.Reads as marked-reads
-use Rattle.soundness.proofs.set_mark.Reads as set-mark-reads
+use Rattle.rows.proofs.marked.Reads as marked-reads
+use Rattle.rows.proofs.set_mark.Reads as set-mark-reads
 use Rattle.stages.proofs.count_one.Reads as count-one-reads
 
 abbrev μ-mark-added-part : Measures 3 mark-added-part-kinds.ps ℕ

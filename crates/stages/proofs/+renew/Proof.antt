@@ -3,9 +3,9 @@ use borrow.Author.Needs.{needs}
 use mathlib.Core.Path.{_∙_}
 use native.Mathlib.Omega.{arith}
 use Rattle.layout.specs.View.{view}
-use Rattle.soundness.specs.Used.{rowsOf}
+use Rattle.rows.specs.Used.{rowsOf}
 use Rattle.operations.specs.Open.{depth}
-use Rattle.soundness.specs.Says.{test-yes}
+use Rattle.rows.specs.Says.{test-yes}
 use Rattle.stages.specs.Renews.{renew-in, renew-none, renew-row, renew-low, renew-high, renew-asks, renew-last}
 use Prim.Native.Nat.{ℕ, _<_}
 use borrow.Fn.Kinds.{In}
@@ -19,8 +19,8 @@ use Rattle.layout.proofs.is_row.Reads as is-row-reads
 use Rattle.layout.proofs.row_of.Reads as row-of-reads
 use Rattle.operations.proofs.exists_odd.Reads as exists-odd-reads
 use Rattle.operations.proofs.node_at.Reads as node-at-reads
-use Rattle.soundness.proofs.marked.Reads as marked-reads
-use Rattle.soundness.proofs.set_mark.Reads as set-mark-reads
+use Rattle.rows.proofs.marked.Reads as marked-reads
+use Rattle.rows.proofs.set_mark.Reads as set-mark-reads
 
 abbrev μ-renew : Measures 2 renew-kinds.ps ℕ
 μ-renew κs a = depth (a .1 .1 .0) (rowsOf (view (a .1 .0) (a .0 .now))) (a .1 .1 .1 .1 .1 .0)

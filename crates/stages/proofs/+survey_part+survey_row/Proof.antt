@@ -6,8 +6,8 @@ use mathlib.Core.Bool.{true≢false}
 use native.Mathlib.Omega.{arith}
 use Prim.Native.Nat.{_+_, _*_, ℕ, _<_}
 use Rattle.layout.specs.View.{view}
-use Rattle.soundness.specs.Used.{rowsOf}
-use Rattle.soundness.specs.Says.{test-yes, test-no}
+use Rattle.rows.specs.Used.{rowsOf}
+use Rattle.rows.specs.Says.{test-yes, test-no}
 use Rattle.operations.specs.Open.{depth}
 use Rattle.stages.specs.Surveys.{survey-in, survey-constant, survey-again, survey-row-at as survey-place, cover-asks, low-asks, high-asks, survey-counts, survey-row as survey-done}
 use borrow.Fn.Kinds.{In}
@@ -24,8 +24,8 @@ use Rattle.layout.proofs.is_row.Reads as is-row-reads
 use Rattle.layout.proofs.row_of.Reads as row-of-reads
 use Rattle.operations.proofs.node_at.Reads as node-at-reads
 use Rattle.operations.proofs.odd_known.Reads as odd-known-reads
-use Rattle.soundness.proofs.marked.Reads as marked-reads
-use Rattle.soundness.proofs.set_mark.Reads as set-mark-reads
+use Rattle.rows.proofs.marked.Reads as marked-reads
+use Rattle.rows.proofs.set_mark.Reads as set-mark-reads
 use Rattle.stages.proofs.count_one.Reads as count-one-reads
 use Rattle.stages.proofs.mark_added.Reads as mark-added-reads
 

@@ -1,7 +1,7 @@
 -- `mark_added` meets its contract: nothing is to mark, or the work on the row. Assumes nothing.
 use mathlib.Core.Path.{sym, _∙_}
 use native.Mathlib.Omega.{arith}
-use Rattle.soundness.specs.Says.{test-yes, test-no}
+use Rattle.rows.specs.Says.{test-yes, test-no}
 use Rattle.counting.specs.News.{still-off}
 use Rattle.stages.specs.AddedCounts.{added-constant, added-again, added-in}
 use borrow.Author.Needs.{needs}
@@ -11,7 +11,7 @@ use Rattle.stages.proofs.mark_added.Reads as reads
 use Rattle.stages.proofs.mark_added.Lts as lts
 use Rattle.layout.proofs.is_row.Reads as is-row-reads
 use Rattle.layout.proofs.row_of.Reads as row-of-reads
-use Rattle.soundness.proofs.marked.Reads as marked-reads
+use Rattle.rows.proofs.marked.Reads as marked-reads
 use Rattle.stages.proofs.mark_added_row.Reads as mark-added-row-reads
 
 pub mark-added-spec : {M : Type 1} → statement M

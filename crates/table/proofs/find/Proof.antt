@@ -3,10 +3,10 @@ use Prim.Native.Nat.{_-_}
 use native.Mathlib.Omega.{arith}
 use Rattle.layout.specs.Places.{NEXT, RANK}
 use Rattle.layout.specs.View.{view}
-use Rattle.soundness.specs.Used.{used}
-use Rattle.soundness.specs.Index.{live-link, Link, down-link}
-use Rattle.soundness.specs.Says.{says-yes, says-no}
-use Rattle.soundness.specs.Checks.{hit-zero, hit-skip, height, height-falls, link-used, used-row}
+use Rattle.rows.specs.Used.{used}
+use Rattle.rows.specs.Index.{live-link, Link, down-link}
+use Rattle.rows.specs.Says.{says-yes, says-no}
+use Rattle.rows.specs.Lookup.{hit-zero, hit-skip, height, height-falls, link-used, used-row}
 use Rattle.table.specs.Find.{Ahead, find-start, good-room}
 use Rattle.table.proofs.find.Statement.{statement}
 use Rattle.table.proofs.find.Tie as tie

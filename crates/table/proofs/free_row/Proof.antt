@@ -6,8 +6,8 @@ use native.Mathlib.Omega.{arith}
 use borrow.Author.Count.{below-more}
 use borrow.Author.Tests.{not-true, not-false}
 use Rattle.layout.specs.View.{view}
-use Rattle.soundness.specs.Used.{used}
-use Rattle.soundness.specs.Checks.{used-row}
+use Rattle.rows.specs.Used.{used}
+use Rattle.rows.specs.Lookup.{used-row}
 use Rattle.table.proofs.free_row.Statement.{statement}
 use Rattle.table.proofs.free_row.Tie as tie
 

@@ -1,7 +1,7 @@
 -- `apart` meets its contract: tables decide past the base, else the halves at the lesser level, and 2n minus that level falls. Assumes nothing.
 use borrow.Author.Needs.{needs}
 use Rattle.layout.specs.View.{view}
-use Rattle.soundness.specs.Says.{holds, fails}
+use Rattle.rows.specs.Says.{holds, fails}
 use Rattle.soundness.specs.Apart.{zero-left, zero-right, one-left, one-right, apart-not}
 use Rattle.soundness.specs.Pairs.{seen-apart}
 use Rattle.soundness.specs.Contained.{far, is-row, told, told-tables, called-low, called-high, asks-on, tells-low, tells-high, tells-both}

@@ -3,7 +3,7 @@ use Prim.Native.Nat.{ℕ, _<_}
 use native.Mathlib.Omega.{arith}
 use borrow.Fn.Kinds.{In}
 use borrow.Fn.PlainCycle.{Measures, is, falls, and}
-use Rattle.soundness.specs.Says.{fails, says-map, says-pass, says-fail}
+use Rattle.rows.specs.Says.{fails, says-map, says-pass, says-fail}
 use Rattle.soundness.specs.Contained.{among}
 use Rattle.soundness.proofs.within.wide_ok.Reads as wide-ok
 use Rattle.soundness.proofs.within.wide_ok.Kinds as wide-ok-kinds

@@ -1,8 +1,8 @@
 -- `all_within` meets its contract: to lie within V is to be apart from NOT V. Assumes nothing.
 use native.Mathlib.Omega.{arith}
 use Rattle.layout.specs.View.{view}
-use Rattle.soundness.specs.Says.{holds}
-use Rattle.soundness.specs.Within.{within-all}
+use Rattle.rows.specs.Says.{holds}
+use Rattle.rows.specs.Within.{within-all}
 use Rattle.soundness.specs.Contained.{against-not, both-tell}
 use borrow.Author.Needs.{needs}
 use Rattle.soundness.proofs.within.all_within.Statement.{statement}

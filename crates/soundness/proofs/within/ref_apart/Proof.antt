@@ -1,7 +1,7 @@
 -- `ref_apart` meets its contract: an empty root has no valuation. Assumes nothing.
 use Rattle.layout.specs.View.{view}
-use Rattle.soundness.specs.Says.{holds}
-use Rattle.soundness.specs.Roots.{ref-arrow}
+use Rattle.rows.specs.Says.{holds}
+use Rattle.rows.specs.Roots.{ref-arrow}
 use Rattle.soundness.specs.Contained.{told, ref-none, ref-tells}
 use borrow.Author.Needs.{needs}
 use Rattle.soundness.proofs.within.ref_apart.Statement.{statement}

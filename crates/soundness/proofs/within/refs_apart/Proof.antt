@@ -6,8 +6,8 @@ use Prim.Native.Nat.{_*_, _-_, _≤_}
 use lib.ListN.{length}
 use Rattle.layout.specs.View.{view, headerOf}
 use Rattle.layout.specs.Places.{BITS}
-use Rattle.soundness.specs.Used.{rowsOf}
-use Rattle.soundness.specs.Says.{holds, fails, says-pass, says-fail}
+use Rattle.rows.specs.Used.{rowsOf}
+use Rattle.rows.specs.Says.{holds, fails, says-pass, says-fail}
 use Rattle.soundness.specs.Pairs.{PAIR-WORDS, Right, right-none}
 use Rattle.soundness.specs.Contained.{Lists, lists-on, AllApart, all-none, all-more}
 use Rattle.soundness.proofs.within.refs_apart.Statement.{statement}
