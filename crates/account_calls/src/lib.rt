@@ -9,7 +9,6 @@ use formula_steps::Stored;
 ghost use mathlib.Core.Path.{_≡_};
 ghost use Rattle.accounts.specs.Listed.{none};
 ghost use Rattle.accounts.specs.Terms.{termsWith};
-ghost use Rattle.book.specs.Book as book;
 ghost use Rattle.contract.specs.Posts.{SetAllPost};
 ghost use Rattle.formula_steps.specs.Replies.{storedReply};
 ghost use Rattle.account_calls.specs.Lists.{roundsOf, FreshBoth, madeCount, FreshListPost, SetPost};

@@ -1,1 +1,4 @@
 pub mod Row
+pub mod AccountLaws
+pub mod Listed
+pub mod TermsLaws

@@ -4,4 +4,3 @@ pub mod Entered
 pub mod Arrange
 pub mod Parts
 pub mod Asked
-pub mod Bench

@@ -34,6 +34,7 @@ visitsAll m rows a (s ∷ ss) = visits m rows (target a) s ++ visitsAll m rows a
 abbrev pub sameVisit : Visit → Visit → Bool
 sameVisit v w = eqb (v .0) (w .0) && same (v .1) (w .1)
 
+-- a visit is among some
 abbrev pub listed : Visit → List Visit → Bool
 listed v [] = false
 listed v (w ∷ ws) = sameVisit v w || listed v ws

@@ -21,6 +21,7 @@ pub record ListsFit (states order answers : ℕ) : Type 0 where
   pub order-room : states ≤ order
   pub answer-room : states ≤ answers
 
+-- the same of three lent lists
 abbrev pub Fit : List ℕ → List ℕ → List ℕ → Type 0
 Fit states order answers = ListsFit (length states) (length order) (length answers)
 

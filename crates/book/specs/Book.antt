@@ -27,6 +27,7 @@ use Rattle.book.specs.Ticks.{contents, ticks, relationTicks, Verdict, co
 abbrev pub registers : ℕ
 registers = 32
 
+-- "8 relations"
 abbrev pub relations : ℕ
 relations = 8
 
@@ -93,6 +94,7 @@ liveOf b = fnOf (b .n) (b .valid) ∷ (contents (fnOf (b .n)) registers (b .reg)
 abbrev pub regFilled : Book → ℕ → Bool
 regFilled b r = ltb r registers && filled (b .reg r)
 
+-- relation t is one of the 8 and filled
 abbrev pub relFilled : Book → ℕ → Bool
 relFilled b t = ltb t relations && filled (b .rel t)
 
@@ -173,6 +175,7 @@ setSteps b acc r R f = ended b (verdict (rowsUnder (b .N) acc) (roundsUnder R ac
 abbrev pub validDone : Book → Form → Done
 validDone b f = (withValid b (statesOf (b .n) f), answered (some 0))
 
+-- the steps of valid: full, or V is put into the book
 abbrev pub validSteps : Book → Form → Done
 validSteps b f = ended b (verdict (b .N) 0 nothing (ticks (pairs (b .n)) (liveOf b) f)) (λ q. validDone b f)
 

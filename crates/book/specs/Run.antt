@@ -6,7 +6,7 @@ use lib.Dec.{leb, ltb}
 use Rattle.mucalculus.specs.Sets.{noStates, same, all}
 use Rattle.mucalculus.specs.Order.{start}
 use Rattle.mucalculus.specs.Form.{Form, bot, top, neg, conj, disj, now, next, var, reg, box, dia, mu, nu, until, Pairs, put, inside}
-use Rattle.mucalculus.specs.Means.{compl, inter, union, bitStates, sometimes, size, exist, related}
+use Rattle.mucalculus.specs.Means.{compl, inter, union, sometimes, size, exist, related}
 use Rattle.diagram.specs.Level.{Fn}
 use Rattle.diagram.specs.Need.{stepNeed}
 use Rattle.diagram.specs.Steps.{andF, shiftF, existsF}
@@ -47,10 +47,6 @@ twoBy lv n N live op A B q = let C = op A B in step n N (lv B ∷ lv A ∷ live)
 
 abbrev pub twoStep : ℕ → ℕ → List Fn → (List Bool → List Bool → List Bool) → List Bool → List Bool → Count → Outcome
 twoStep n N live op A B q = twoBy (fnOf n) n N live op A B q
-
--- a bit, and NOT of the value A, each followed by AND with V, which is E
-abbrev pub bitStep : ℕ → ℕ → List Fn → List Bool → ℕ → Count → Outcome
-bitStep n N live E p q = let B = bitStates (2 ^ n) p in step n N live (fnOf n B) q (λ c. twoStep n N live (inter (2 ^ n)) B E c)
 
 abbrev pub notStep : ℕ → ℕ → List Fn → List Bool → List Bool → Count → Outcome
 notStep n N live E A q = let B = compl (2 ^ n) A in step n N (fnOf n A ∷ live) (fnOf n B) q (λ c. twoStep n N live (inter (2 ^ n)) B E c)

@@ -50,6 +50,7 @@ abbrev pub addRoot : Option ℕ → List ℕ → List ℕ
 addRoot none l = l
 addRoot (some a) l = a ∷ l
 
+-- the arrows in the filled places below k
 abbrev pub arrowsOf : ℕ → (ℕ → Option ℕ) → List ℕ
 arrowsOf zero h = []
 arrowsOf (suc k) h = addRoot (h 0) (arrowsOf k (λ i. h (suc i)))
@@ -110,6 +111,7 @@ keptReg (valid bs) y h r = h r
 keptReg (clear q) y h r = cond (eqb (y .number) 0 && eqb r q) none (h r)
 keptReg collect y h r = h r
 
+-- the roots that a call leaves as they are, V first
 abbrev pub keptRoots : Call → Reply → Table → List ℕ
 keptRoots c y t = addRoot (cond (storesValid c y) none (some (t .valid))) (arrowsOf registers (keptReg c y (t .reg)) ++ arrowsOf relations (λ q. cond (storesRel c y q) none (t .rel q)))
 

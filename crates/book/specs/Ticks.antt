@@ -52,6 +52,7 @@ twoNeed n live op A B = stepNeed (2 * n) (fnOf n B ∷ fnOf n A ∷ live) (fnOf 
 abbrev pub bitNeeds : ℕ → List Fn → List Bool → ℕ → List ℕ
 bitNeeds n live E p = let B = bitStates (2 ^ n) p in stepNeed (2 * n) live (fnOf n B) ∷ twoNeed n live (inter (2 ^ n)) B E ∷ []
 
+-- the needs of NOT: its own, and that of the AND with V after it
 abbrev pub notNeeds : ℕ → List Fn → List Bool → List Bool → List ℕ
 notNeeds n live E A = notNeed n live A ∷ twoNeed n live (inter (2 ^ n)) (compl (2 ^ n) A) E ∷ []
 
@@ -163,11 +164,13 @@ withinNeeds n live W F =
     let S = shiftF W in
     stepNeed (2 * n) (W ∷ F ∷ live) G ∷ stepNeed (2 * n) (W ∷ G ∷ live) S ∷ stepNeed (2 * n) (S ∷ G ∷ live) (andF G S) ∷ []
 
+-- the steps of a relation call: those of its formula, then the three with V
 abbrev pub relationTicks : ℕ → List Fn → List Bool → Form → List Tick
 relationTicks n live E f = ticks (pairs n) live f ++ steps (withinNeeds n live (fnOf n E) (pairF n f))
 
 -- ---- the verdict
 
+-- what becomes of a call's steps: all are counted, or the first cause to stop
 pub data Verdict : Type 0 where
   counted : Count → Verdict  -- every step fits, and so much is counted
   full : Verdict  -- 8: a reached step needs more than N rows

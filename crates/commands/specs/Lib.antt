@@ -1,4 +1,3 @@
 pub mod Obey
-pub mod Obeyed
 pub mod After
 pub mod OneOutcome

@@ -63,6 +63,7 @@ Posted (start n N) old new x = FreshPost n N 1 old new (shownReply x) × (x .num
 Posted (call c) old new x = CallPost c old new (replyOf c x) × Beside c new x
 Posted (states r) old new x = (new ≡ old) × AskPost (count r) old (shownReply x) × (x .node ≡ 0)
 
+-- a command under its call's contract, with the number of its operation
 pub record Obeys (c : Command) (old new : List ℕ) (x : Outcome) : Type 0 where
   pub operation : x .operation ≡ operationOf c
   pub posted : Posted c old new x
@@ -74,5 +75,6 @@ Takes bs old new found.More r = (r ≡ More) × (new ≡ old)
 Takes bs old new found.Bad r = (r ≡ Bad) × (new ≡ old)
 Takes bs old new (found.Record c size) r = (x : Outcome) × (r ≡ Done x size) × Obeys (asked bs size c) old new x
 
+-- what became of the bytes at hand, by what the reader finds in them
 abbrev pub TakePost : List ℕ → Bool → List ℕ → List ℕ → Taken → Type 0
 TakePost bs ended old new r = Takes bs old new (readRecord bs ended) r

@@ -1,42 +1,20 @@
 -- THE THIRD DEMAND over the lent words: the predicates that stand in the functions' `ensures` implement the book, so the whole claim holds after
 -- every list of calls from an answered fresh. Assumes nothing.
-use mathlib.Core.Path.{_≡_, sym, subst}
-use mathlib.Core.List.{List, _++_}
-use Prim.Native.Nat.{ℕ, _≤_}
-use lib.ListN.{length}
-use Rattle.rows.specs.Sound.{tableOf}
+use mathlib.Core.Path.{_≡_}
+use mathlib.Core.List.{List}
+use Prim.Native.Nat.{ℕ}
 use Rattle.book.specs.Book.{Call, Question}
 use Rattle.book.specs.Table.{Reply}
-use Rattle.book.specs.Contract.{Answers, Implements}
-use Rattle.book.specs.Demand.{Event, calls, Session, Demand, third-demand}
-use Rattle.book.specs.Raised.{AllRaised, AllZero, Upgrade, SameVerdicts, Cut, after-each}
-use Rattle.contract.specs.Seen.{seen, SoundWords, sound-table}
 use Rattle.contract.specs.Posts.{FreshPost, CallPost, AskPost}
 
 -- fresh, a call and a question as relations of the words before and after
 abbrev pub makes : List ℕ → ℕ → ℕ → ℕ → List ℕ → Reply → Type 0
 makes old n N count new y = FreshPost n N count old new y
 
+-- a call, as a relation of the words before and after
 abbrev pub performs : List ℕ → Call → List ℕ → Reply → Type 0
 performs old c new y = CallPost c old new y
 
+-- a question, as a relation of the words before and after: no word changes
 abbrev pub asks : List ℕ → Question → List ℕ → Reply → Type 0
 asks old q new y = (new ≡ old) × AskPost q old y
-
-pub words-implement : Implements (List ℕ) length SoundWords seen makes performs asks
-words-implement = record {
-  good = λ w s. sound-table (tableOf w) s;
-  starts = λ w w′ n N k y p. p;
-  performs = λ w w′ c y p. p .performs;
-  answers = λ w w′ q y p. subst (λ (x : List ℕ). Answers SoundWords seen q w x y) (sym (p .0)) (p .1);
-}
-
--- every list of relation, set, valid, clear and collect calls after one answered fresh, refused calls included
-pub words-demand : (n N : ℕ) {end : List ℕ} {l : List Event} → Session (List ℕ) makes performs n N l end → Demand SoundWords seen asks n N l end
-words-demand n N x = third-demand words-implement n N x
-
--- "BIGGER TABLES, SAME VERDICTS" over the lent words: the same list with every limit raised or equal, after its first calls l and l′, wherever it is cut
-pub words-bigger : (n N M : ℕ) → N ≤ M → M ≤ 60_000 → (l k l′ k′ : List Event) {end end′ : List ℕ} (s : Session (List ℕ) makes performs n N (l ++ k) end)
-    (u : Upgrade (List ℕ) length makes performs n M (s .count) (l′ ++ k′) end′) → AllRaised (calls l) (calls l′) → AllZero l
-    → (x : Cut (List ℕ) performs (s .made) l k end) (x′ : Cut (List ℕ) performs (u .made) l′ k′ end′) → SameVerdicts seen asks n N M (u .reply) l l′ (x .mid) (x′ .mid)
-words-bigger n N M more most l k l′ k′ s u r z x x′ = after-each words-implement n N M more most l k l′ k′ s u r z x x′

@@ -36,6 +36,7 @@ Exact (valid bs) y old new = Unit {0}
 Exact (clear r) y old new = y .number ≡ 0 → new ≡ set old (FIRST-REGISTER + r) 0
 Exact collect y old new = Unit {0}
 
+-- what a call with its reply leaves of the words: which words it may not change
 pub record Kept (c : Call) (y : Reply) (old new : List ℕ) : Type 0 where
   -- "all words"
   pub all : T (keepsAll (y .number)) → new ≡ old

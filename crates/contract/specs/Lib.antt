@@ -2,10 +2,6 @@ pub mod Seen
 pub mod Kept
 pub mod Posts
 pub mod Closed
-pub mod Numbers
-pub mod Roots
-pub mod Checked
-pub mod Answered
 pub mod OneAnswer
 pub mod Shared
 pub mod Bigger

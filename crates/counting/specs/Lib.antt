@@ -2,8 +2,6 @@ pub mod News
 pub mod Sizes
 pub mod Counts
 pub mod Taken
-pub mod Begin
 pub mod Bound
 pub mod Peak
-pub mod After
 pub mod Posts

@@ -55,8 +55,3 @@ need m fs = length (needed m fs)
 -- "A step's need is the rows needed by its result and all that is live at it", its operands included.
 abbrev pub stepNeed : ℕ → List Fn → Fn → ℕ
 stepNeed m live result = need m (result ∷ live)
-
--- One name for all that a closed need computes through: `unfolding counting` opens them.
-unfoldable pub counting : Unit {0}
-unfolding splice upTo bitLists fixLevels flatMap cofactors truthTable has among insert distinct needed need
-counting = tt

@@ -30,7 +30,8 @@ use Rattle.counting.specs.declared.Taken.{Taken}
 use Rattle.book.specs.Turns.{startArrow}
 use Rattle.modal.specs.declared.Limits.{Limits}
 use Rattle.modal.specs.Modal.{ModalPre}
-use Rattle.evaluator.specs.Scene.{stackSize, Scene, opened, Ready, holdsReg, holdsRel, Answers, fromTaken, bodyOf, roundOf, isLeast, OverPost, LivePre, LivePost, JoinedPre, JoinedPost, ConfinedPre, ConfinedPost, LeafPre, LeafPost, Evaluates, EvalPre, EvalPost, NegatePost, BothPre, BothPost, ModePre, ModePost, fixOf, variableOf, BodyPart, UntilPost, TurnPre, TurnPost, BindPre, BindPost}
+use Rattle.evaluator.specs.Scene.{stackSize, Scene, Ready, holdsReg, holdsRel, Answers, fromTaken, bodyOf, roundOf, isLeast, OverPost, LivePre, LivePost, JoinedPre, JoinedPost, ConfinedPre, ConfinedPost, LeafPre, LeafPost, Evaluates, EvalPre, EvalPost, NegatePost, BothPre, BothPost, ModePre, ModePost, fixOf, variableOf, BodyPart, UntilPost, TurnPre, TurnPost, BindPre, BindPost}
+use Rattle.evaluator.proofs.Scene.{opened}
 use Rattle.evaluator.specs.declared.Body.{Body}
 use Rattle.evaluator.specs.declared.Body.the-variants as body
 use Rattle.evaluator.specs.declared.Context.{Context}

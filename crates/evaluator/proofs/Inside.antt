@@ -18,19 +18,23 @@ use Rattle.diagram.specs.Even.{ReadsOn, even}
 use Rattle.diagram.specs.Count.{Within}
 use Rattle.diagram.specs.Need.{stepNeed}
 use Rattle.diagram.specs.Post.{Denotes}
-use Rattle.diagram.specs.Keep.{keeps-within, keeps-denotes}
+use Rattle.diagram.proofs.Keep.{keeps-within, keeps-denotes}
 use Rattle.diagram.specs.Steps.{andF, shiftF}
 use Rattle.rows.specs.Used.{rowsOf}
 use Rattle.rows.specs.Within.{validOf}
 use Rattle.steps.specs.declared.Step.the-variants as step
 use Rattle.counting.specs.declared.Taken.{Taken}
 use Rattle.counting.specs.declared.Taken.the-variants as taken
-use Rattle.book.specs.Bridge.{fnOf, fnOf-clip, fnOf-even}
+use Rattle.book.specs.Bridge.{fnOf}
+use Rattle.book.proofs.Bridge.{fnOf-clip, fnOf-even}
 use Rattle.book.specs.Run.{needingAll}
-use Rattle.book.specs.Held.{Held, denoted, held-arrow, held-push, held-operand}
+use Rattle.book.specs.Held.{Held}
+use Rattle.book.proofs.Held.{denoted, held-arrow, held-push, held-operand}
 use Rattle.modal.specs.declared.Limits.{Limits}
-use Rattle.modal.specs.Chain.{alike-sym, alike-once, denotes-own, Took, took, Ran, ran-step, ran-stop, ran-value, ran-then}
-use Rattle.evaluator.specs.Scene.{Scene, pushed, Ready, LivePre, LivePost}
+use Rattle.modal.proofs.Chain.{alike-sym, alike-once, denotes-own, Took, took, ran-step, ran-stop, ran-value, ran-then}
+use Rattle.modal.specs.Chain.{Ran}
+use Rattle.evaluator.specs.Scene.{Scene, Ready, LivePre, LivePost}
+use Rattle.evaluator.proofs.Scene.{pushed}
 use Rattle.evaluator.specs.Whole.{noPlaces, withinF, WithinPost}
 use Rattle.evaluator.proofs.State.{valid-read, valid-mem, valid-live, live-pre, ready-next, ready-push}
 use Rattle.evaluator.proofs.Steps.{took-alike, took-roots, took-within, one-arrow, took-join}

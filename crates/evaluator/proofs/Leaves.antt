@@ -24,20 +24,22 @@ use Rattle.layout.specs.Places.{VALID, FIRST-REGISTER}
 use Rattle.layout.specs.View.{View}
 use Rattle.diagram.specs.Level.{Fn}
 use Rattle.diagram.specs.Rows.{Arrow}
-use Rattle.diagram.specs.Den.{den-zero, den-one}
+use Rattle.diagram.proofs.Den.{den-zero, den-one}
 use Rattle.diagram.specs.Post.{Denotes}
 use Rattle.diagram.specs.Steps.{bitF}
 use Rattle.rows.specs.Used.{rowsOf}
 use Rattle.steps.specs.declared.Step.the-variants as step
 use Rattle.counting.specs.declared.Taken.{Taken}
 use Rattle.counting.specs.declared.Taken.the-variants as taken
-use Rattle.book.specs.Bridge.{fnOf, fnOf-bit, pairs-now, pairs-next}
-use Rattle.book.specs.Over.{pairs, sizeOf, allPairs, levels, nowBit, nextBit, levels-table, points-value}
+use Rattle.book.specs.Bridge.{fnOf}
+use Rattle.book.proofs.Bridge.{fnOf-bit, pairs-now, pairs-next}
+use Rattle.book.specs.Over.{pairs, sizeOf, allPairs, levels, nowBit, nextBit}
+use Rattle.book.proofs.Over.{levels-table, points-value}
 use Rattle.book.specs.Book.{registers}
 use Rattle.book.specs.Run.{value}
-use Rattle.book.specs.Follow.{evals-same, evals-leaf, evals-step, denotes-in}
+use Rattle.book.proofs.Follow.{evals-same, evals-leaf, evals-step, denotes-in}
 use Rattle.modal.specs.declared.Limits.{Limits}
-use Rattle.modal.specs.Chain.{moved-refl, base-wf, Took, took}
+use Rattle.modal.proofs.Chain.{moved-refl, base-wf, Took, took}
 use Rattle.evaluator.specs.Scene.{Scene, modelIn, overOf, overIn, valueIn, runIn, existIn, holdsReg, holdsRel, Named, Ready, LeafAnswers, LivePre, LivePost, ConfinedPre, ConfinedTo, ConfinedPost, TrueBy, TrueIs}
 use Rattle.evaluator.proofs.Parts.{and-first, and-second}
 use Rattle.evaluator.proofs.State.{valid-read, in-scope, live-pre, filled-place}

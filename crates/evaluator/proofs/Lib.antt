@@ -12,3 +12,4 @@ pub mod Untils
 pub mod Cycle
 pub mod Inside
 pub mod Starts
+pub mod Scene

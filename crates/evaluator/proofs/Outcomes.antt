@@ -8,7 +8,8 @@ use native.Mathlib.Omega.{arith}
 use denote.Enum.Declared.{tagOf, declared}
 use Rattle.mucalculus.specs.Form.{Form, neg, now, Pairs, Model, Env, put}
 use Rattle.mucalculus.specs.Means.{inter, union, compl, sometimes, always, size, exist, related}
-use Rattle.mucalculus.specs.Exist.{Inside, box-in}
+use Rattle.mucalculus.specs.Exist.{Inside}
+use Rattle.mucalculus.proofs.Exist.{box-in}
 use Rattle.mucalculus.specs.Order.{start}
 use Rattle.tokens.specs.declared.Join.{Join}
 use Rattle.tokens.specs.declared.Join.the-variants.{And, Or}
@@ -27,14 +28,18 @@ use Rattle.counting.specs.declared.Taken.the-variants as taken
 use Rattle.accounts.specs.declared.Count.{Count}
 use Rattle.diagram.specs.Need.{stepNeed}
 use Rattle.diagram.specs.Steps.{andF, orF}
-use Rattle.book.specs.Bridge.{fnOf, fnOfPairs, fnOf-not, fnOf-and}
-use Rattle.book.specs.Over.{Over, states, levels, sizeOf, nowBit, levels-and, levels-or}
-use Rattle.book.specs.Diamond.{diamondF, diamond-exact}
+use Rattle.book.specs.Bridge.{fnOf, fnOfPairs}
+use Rattle.book.proofs.Bridge.{fnOf-not, fnOf-and}
+use Rattle.book.specs.Over.{Over, states, levels, sizeOf, nowBit}
+use Rattle.book.proofs.Over.{levels-and, levels-or}
+use Rattle.book.specs.Diamond.{diamondF}
+use Rattle.book.proofs.Diamond.{diamond-exact}
 use Rattle.book.specs.Ticks.{counted, full as fullVerdict, diamondNeeds, diaNeeds, notNeeds, boxNeeds}
 use Rattle.book.specs.Run.{fit}
-use Rattle.book.specs.Verdicts.{settle, steps-verdict, dia-ticks, box-ticks}
+use Rattle.book.proofs.Verdicts.{settle, steps-verdict, dia-ticks, box-ticks}
 use Rattle.book.specs.Run.{needingAll, Outcome, value, full, spent, andThen, step, confine, bothBy, diaSteps, boxSteps, loop, run}
-use Rattle.book.specs.Follow.{ends, MatchesBy, Matches, EvalsBy, Evals, Stops, evals-same}
+use Rattle.book.specs.Follow.{ends, MatchesBy, EvalsBy, Evals}
+use Rattle.book.proofs.Follow.{Matches, Stops, evals-same}
 use Rattle.book.specs.Pairs.{PairEvals, PairMatches}
 use Rattle.modal.specs.Modal.{withinNot, complementNeeds, boxedNeeds, boxedF}
 use Rattle.modal.specs.declared.Limits.{Limits}

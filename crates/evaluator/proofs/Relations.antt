@@ -11,7 +11,8 @@ use borrow.Author.Tests.{ltb-true}
 use lib.ListN.{length, take}
 use Rattle.mucalculus.specs.Form.{Form, Pairs, inside}
 use Rattle.mucalculus.specs.Means.{related}
-use Rattle.mucalculus.specs.Exist.{Inside, related-inside, related-same}
+use Rattle.mucalculus.specs.Exist.{Inside}
+use Rattle.mucalculus.proofs.Exist.{related-inside, related-same}
 use Rattle.tokens.specs.declared.Mode.{Mode}
 use Rattle.tokens.specs.declared.Mode.the-variants.{All, Some}
 use Rattle.formula.specs.Parse.{modalForm}
@@ -21,28 +22,33 @@ use Rattle.layout.specs.View.{View}
 use Rattle.diagram.specs.Level.{Fn}
 use Rattle.diagram.specs.Rows.{den}
 use Rattle.diagram.specs.Post.{Denotes}
-use Rattle.diagram.specs.Keep.{keeps-within}
-use Rattle.diagram.specs.Reach.{reached-root}
-use Rattle.diagram.specs.Even.{even, reads-levels}
+use Rattle.diagram.proofs.Keep.{keeps-within}
+use Rattle.diagram.proofs.Reach.{reached-root}
+use Rattle.diagram.specs.Even.{even}
+use Rattle.diagram.proofs.Even.{reads-levels}
 use Rattle.rows.specs.Used.{rowsOf}
 use Rattle.rows.specs.Within.{validOf}
 use Rattle.collect.specs.Lent.{live}
 use Rattle.table.specs.Make.{result}
 use Rattle.counting.specs.Taken.{madeIn, countIn}
 use Rattle.counting.specs.declared.Taken.{Taken}
-use Rattle.book.specs.States.{nowOf, nextOf, nowOf-lt}
-use Rattle.book.specs.Bridge.{fnOf, fnOfPairs, fnOf-even}
+use Rattle.book.specs.States.{nowOf, nextOf}
+use Rattle.book.proofs.States.{nowOf-lt}
+use Rattle.book.specs.Bridge.{fnOf, fnOfPairs}
+use Rattle.book.proofs.Bridge.{fnOf-even}
 use Rattle.book.specs.Book.{relations}
 use Rattle.book.specs.Ticks.{diamondNeeds}
 use Rattle.book.specs.Diamond.{diamondF}
 use Rattle.book.specs.Run.{needingAll}
 use Rattle.book.specs.Run.{fit}
-use Rattle.book.specs.Held.{denoted}
-use Rattle.book.specs.Follow.{Evals, evals-same, evals-then, evals-from}
+use Rattle.book.proofs.Held.{denoted}
+use Rattle.book.specs.Follow.{Evals}
+use Rattle.book.proofs.Follow.{evals-same, evals-then, evals-from}
 use Rattle.book.specs.Pairs.{PairEvals}
 use Rattle.contract.specs.Seen.{arrowIn}
 use Rattle.modal.specs.declared.Limits.{Limits}
-use Rattle.modal.specs.Chain.{alike-sym, held-alike, Moved, moved-trans}
+use Rattle.modal.proofs.Chain.{alike-sym, held-alike, moved-trans}
+use Rattle.modal.specs.Chain.{Moved}
 use Rattle.modal.specs.Modal.{boxedNeeds, boxedF, Chained, ModalPre, BoxPre}
 use Rattle.evaluator.specs.Scene.{Scene, runIn, modelIn, existIn, Boxes, holdsRel, Ready, Answers, endedIn, fromTaken, OverPost}
 use Rattle.evaluator.specs.declared.Evaluated.{Evaluated}

@@ -18,11 +18,15 @@ use Rattle.rows.specs.Within.{validOf}
 use Rattle.book.specs.Bridge.{fnOf}
 use Rattle.book.specs.Over.{states}
 use Rattle.book.specs.Run.{Outcome, value, loop, run}
-use Rattle.book.specs.Follow.{ends, Evals, evals-same}
-use Rattle.book.specs.Turns.{Good, GoodOn, run-good, Turning, startArrow, turn-start, turn-out, turn-stop, turn-end, turn-on}
+use Rattle.book.specs.Follow.{ends, Evals}
+use Rattle.book.proofs.Follow.{evals-same}
+use Rattle.book.proofs.Turns.{Good, GoodOn, run-good, Turning, turn-start, turn-out, turn-stop, turn-end, turn-on}
+use Rattle.book.specs.Turns.{startArrow}
 use Rattle.modal.specs.declared.Limits.{Limits}
-use Rattle.modal.specs.Chain.{Moved, moved-refl, moved-trans, base-wf}
-use Rattle.evaluator.specs.Scene.{stackSize, Scene, modelIn, existIn, opened, Ready, endedOf, EndsAt, Answers, isLeast}
+use Rattle.modal.specs.Chain.{Moved}
+use Rattle.modal.proofs.Chain.{moved-refl, moved-trans, base-wf}
+use Rattle.evaluator.specs.Scene.{stackSize, Scene, modelIn, existIn, Ready, endedOf, EndsAt, Answers, isLeast}
+use Rattle.evaluator.proofs.Scene.{opened}
 use Rattle.evaluator.specs.declared.Evaluated.{Evaluated}
 use Rattle.evaluator.specs.declared.Evaluated.the-variants.{Value, Spent}
 use Rattle.evaluator.proofs.State.{still-below, ready-next, ready-open}

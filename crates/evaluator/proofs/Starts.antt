@@ -8,9 +8,10 @@ use Prim.Native.Nat.{ℕ, _+_, _*_, _^_, _≤_, _<_}
 use native.Mathlib.Omega.{arith}
 use lib.Dec.{T, eqb}
 use lib.ListN.{length, getD, take, replicate, length-replicate, getD-replicate}
-use Rattle.mucalculus.specs.Sets.{mem, mem-lt}
+use Rattle.mucalculus.specs.Sets.{mem}
+use Rattle.mucalculus.proofs.Sets.{mem-lt}
 use Rattle.mucalculus.specs.Order.{Below}
-use Rattle.mucalculus.specs.Laws.{getD-table}
+use Rattle.mucalculus.proofs.Laws.{getD-table}
 use Rattle.mucalculus.specs.Means.{clip}
 use Rattle.mucalculus.specs.Exist.{Inside}
 use Rattle.mucalculus.specs.Form.{Form, Pairs as PairSet, noneOpen, noEnv}
@@ -36,29 +37,35 @@ use Rattle.rows.specs.Sound.{Sound}
 use Rattle.rows.specs.Within.{validOf}
 use Rattle.rows.specs.Filled.{filled}
 use Rattle.collect.specs.Lent.{live}
-use Rattle.memory.specs.Frame.{rows-same}
+use Rattle.memory.proofs.Frame.{rows-same}
 use Rattle.memory.specs.Forget.{Forgot}
-use Rattle.operations.specs.Work.{OpFrame, op-memo, op-trans}
-use Rattle.steps.specs.Steps.{live-same}
-use Rattle.steps.specs.Again.{start-ready}
+use Rattle.operations.specs.Work.{OpFrame}
+use Rattle.operations.proofs.Work.{op-memo, op-trans}
+use Rattle.steps.proofs.Steps.{live-same}
+use Rattle.steps.proofs.Again.{start-ready}
 use Rattle.book.specs.Bridge.{fnOf, fnOfPairs}
 use Rattle.book.specs.Book.{regFilled, relFilled, liveOf, modelOf, checks, formulaIn}
-use Rattle.book.specs.Over.{states, pairs, pairF, levels, pointsOf, points-value}
+use Rattle.book.specs.Over.{states, pairs, pairF, levels}
+use Rattle.book.proofs.Over.{pointsOf, points-value}
 use Rattle.book.specs.Ticks.{withinNeeds, counted, full as fullVerdict}
-use Rattle.book.specs.Verdicts.{settle, fit-append, count-append, run-pairs, pairs-ticks}
+use Rattle.book.proofs.Verdicts.{settle, fit-append, count-append, run-pairs, pairs-ticks}
 use Rattle.book.specs.Formulas.{relationF}
 use Rattle.book.specs.Pairs.{PairEvals, PairMatches}
 use Rattle.book.specs.Stored.{Whole}
-use Rattle.book.specs.BookOf.{whole-bookOf, shows-bookOf}
+use Rattle.book.proofs.BookOf.{whole-bookOf, shows-bookOf}
 use Rattle.book.specs.Table.{Place, Shows, rootsOf}
-use Rattle.book.specs.Roots.{shows-held}
+use Rattle.book.proofs.Roots.{shows-held}
 use Rattle.book.specs.Run.{Outcome, run, fit, needingAll, pairNeeds, pairsFit, pairsCount, relationFits, relationCount}
-use Rattle.book.specs.Held.{Held, denoted}
-use Rattle.book.specs.Follow.{MatchesBy, EvalsBy, Evals, evals-same, denotes-clip}
-use Rattle.contract.specs.Seen.{arrowIn, seenIn, sound-table}
-use Rattle.contract.specs.Roots.{filled-root, root-filled}
+use Rattle.book.specs.Held.{Held}
+use Rattle.book.proofs.Held.{denoted}
+use Rattle.book.specs.Follow.{MatchesBy, EvalsBy, Evals}
+use Rattle.book.proofs.Follow.{evals-same, denotes-clip}
+use Rattle.contract.specs.Seen.{arrowIn, seenIn}
+use Rattle.contract.proofs.Seen.{sound-table}
+use Rattle.contract.proofs.Roots.{filled-root, root-filled}
 use Rattle.modal.specs.declared.Limits.{Limits}
-use Rattle.modal.specs.Chain.{Alike, Base, Moved, moved-trans, Ran, ran-stop, ran-value, ran-then}
+use Rattle.modal.specs.Chain.{Alike, Base, Moved, Ran}
+use Rattle.modal.proofs.Chain.{moved-trans, ran-stop, ran-value, ran-then}
 use Rattle.evaluator.specs.Scene.{stackSize, Scene, modelIn, existIn, holdsReg, holdsRel, Part, Ready, Answers, endedOf, EvalPre, EvalPost}
 use Rattle.evaluator.specs.Whole.{start, noPlaces, bookIn, SetPre, SetPost, withinF, WithinPre, WithinPost, ofPairs, PairsPre, PairsPost, RelationPost}
 use Rattle.table.specs.Make.{result}

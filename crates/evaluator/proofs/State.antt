@@ -18,22 +18,29 @@ use Rattle.layout.specs.View.{View}
 use Rattle.diagram.specs.Level.{Fn}
 use Rattle.diagram.specs.Rows.{Rows, Arrow}
 use Rattle.diagram.specs.Post.{Denotes}
-use Rattle.diagram.specs.Keep.{Keeps, keeps-denotes}
+use Rattle.diagram.specs.Keep.{Keeps}
+use Rattle.diagram.proofs.Keep.{keeps-denotes}
 use Rattle.rows.specs.Used.{rowsOf}
 use Rattle.rows.specs.Sound.{Sound}
 use Rattle.rows.specs.Within.{validOf}
-use Rattle.rows.specs.Filled.{filled, filled-mem}
-use Rattle.collect.specs.Lent.{live, getD-mem}
+use Rattle.rows.specs.Filled.{filled}
+use Rattle.rows.proofs.Filled.{filled-mem}
+use Rattle.collect.specs.Lent.{live}
+use Rattle.collect.proofs.Lent.{getD-mem}
 use Rattle.book.specs.Bridge.{fnOf, fnOfPairs}
 use Rattle.book.specs.Table.{Place}
-use Rattle.book.specs.Held.{denoted, held-arrow, held-push, held-keeps}
-use Rattle.contract.specs.Seen.{arrowIn, word-of, valid-word}
-use Rattle.steps.specs.Steps.{Fits, live-same}
+use Rattle.book.proofs.Held.{denoted, held-arrow, held-push, held-keeps}
+use Rattle.contract.specs.Seen.{arrowIn}
+use Rattle.contract.proofs.Seen.{word-of, valid-word}
+use Rattle.steps.specs.Steps.{Fits}
+use Rattle.steps.proofs.Steps.{live-same}
 use Rattle.steps.specs.declared.Step.{Step}
 use Rattle.modal.specs.declared.Limits.{Limits}
-use Rattle.modal.specs.Chain.{Alike, alike-trans, alike-cons, operands-first, Moved, base-next, step-pre}
-use Rattle.modal.specs.Laws.{held-mem}
-use Rattle.evaluator.specs.Scene.{stackSize, Scene, existIn, pushed, opened, Open, Ready, LivePre}
+use Rattle.modal.specs.Chain.{Alike, Moved}
+use Rattle.modal.proofs.Chain.{alike-trans, alike-cons, operands-first, base-next, step-pre}
+use Rattle.modal.proofs.Laws.{held-mem}
+use Rattle.evaluator.specs.Scene.{stackSize, Scene, existIn, Open, Ready, LivePre}
+use Rattle.evaluator.proofs.Scene.{pushed, opened}
 
 -- a place's content is kept with its row
 place-kept : {X : Type 0} (m : ℕ) {before after : Rows} {roots : List ℕ} (f : X → Fn) (o : Option X) (u : Option ℕ) → Keeps before after roots → ((a : ℕ) → u ≡ some a → Mem a roots)

@@ -22,7 +22,7 @@ use Rattle.diagram.specs.Level.{Fn}
 use Rattle.diagram.specs.Rows.{Rows, Arrow, den}
 use Rattle.diagram.specs.Need.{stepNeed}
 use Rattle.diagram.specs.Post.{Result, Denotes}
-use Rattle.diagram.specs.Keep.{keeps-within, keeps-denotes}
+use Rattle.diagram.proofs.Keep.{keeps-within, keeps-denotes}
 use Rattle.diagram.specs.Step.{StepPost}
 use Rattle.diagram.specs.Steps.{andF, notF}
 use Rattle.diagram.specs.Count.{Within}
@@ -37,13 +37,18 @@ use Rattle.counting.specs.Taken.{madeIn, Counted}
 use Rattle.counting.specs.declared.Taken.{Taken}
 use Rattle.counting.specs.declared.Taken.the-variants as taken
 use Rattle.book.specs.Bridge.{fnOf}
-use Rattle.book.specs.Held.{Held, denoted, held-arrow, held-push, Needed}
-use Rattle.book.specs.Over.{sizeOf, levels-not}
+use Rattle.book.specs.Held.{Held}
+use Rattle.book.proofs.Held.{denoted, held-arrow, held-push, Needed}
+use Rattle.book.specs.Over.{sizeOf}
+use Rattle.book.proofs.Over.{levels-not}
 use Rattle.book.specs.Run.{Outcome, value, andThen, twoBy, confine}
-use Rattle.book.specs.Follow.{ends, EvalsBy, endedBy, evals-same, evals-stop, evals-then, evals-from, evals-two, evals-two-stop, evals-out, evals-on, evals-valid}
+use Rattle.book.specs.Follow.{ends, EvalsBy}
+use Rattle.book.proofs.Follow.{endedBy, evals-same, evals-stop, evals-then, evals-from, evals-two, evals-two-stop, evals-out, evals-on, evals-valid}
 use Rattle.modal.specs.declared.Limits.{Limits}
-use Rattle.modal.specs.Chain.{Alike, alike-cons, alike-sym, alike-once, step-roots, counted-roots, Moved, moved-trans, Took, took}
-use Rattle.evaluator.specs.Scene.{stackSize, Scene, modelIn, overIn, valueIn, runIn, existIn, pushed, Ready, Part, endedOf, endedIn, EndsAt, Answers, fromTaken, joinStep, LeafAnswers, LivePre, LivePost, JoinedTo, JoinedPost, ConfinedPre, ConfinedTo, ConfinedPost}
+use Rattle.modal.specs.Chain.{Alike, Moved}
+use Rattle.modal.proofs.Chain.{alike-cons, alike-sym, alike-once, step-roots, counted-roots, moved-trans, Took, took}
+use Rattle.evaluator.specs.Scene.{stackSize, Scene, modelIn, overIn, valueIn, runIn, existIn, Ready, Part, endedOf, endedIn, EndsAt, Answers, fromTaken, joinStep, LeafAnswers, LivePre, LivePost, JoinedTo, JoinedPost, ConfinedPre, ConfinedTo, ConfinedPost}
+use Rattle.evaluator.proofs.Scene.{pushed}
 use Rattle.evaluator.specs.declared.Evaluated.{Evaluated}
 use Rattle.evaluator.specs.declared.Evaluated.the-variants.{Value, Full, Spent}
 use Rattle.evaluator.proofs.State.{valid-mem, valid-live, still-below, live-pre, ready-next, ready-push}

@@ -15,7 +15,8 @@ use Rattle.tokens.specs.declared.Token.{Token}
 use Rattle.tokens.specs.declared.Token.the-variants.{Leaf as LeafToken, Both}
 use Rattle.tokens.specs.declared.Lead.{Lead}
 use Rattle.tokens.specs.declared.Lead.the-variants.{Is, Bad}
-use Rattle.formula.specs.Parse.{leafForm, twoForm, Got, fails, got, isFormula, formOf, endOf, parse}
+use Rattle.formula.specs.Parse.{leafForm, twoForm, Got, fails, got, isFormula, formOf, parse}
+use Rattle.formula.proofs.Parse.{endOf}
 use Rattle.formula.proofs.Steps.{Unary, lead-inside}
 use Rattle.evaluator.specs.Scene.{Stands}
 use Rattle.formula.proofs.Trees.{TwoParts, some-depth, some-token, tree-leaf, tree-one, tree-both}

@@ -11,7 +11,8 @@ use lib.ListN.{length, set, take, length-set}
 use lib.Seq.{set-out}
 use Rattle.mucalculus.specs.Order.{Below}
 use Rattle.mucalculus.specs.Form.{Form, var, top, conj, box, dia}
-use Rattle.mucalculus.specs.Written.{absent, goes, written, put-here}
+use Rattle.mucalculus.specs.Written.{absent, goes, written}
+use Rattle.mucalculus.proofs.Written.{put-here}
 use Rattle.tokens.specs.declared.Grammar.the-variants.{Runs}
 use Rattle.tokens.specs.declared.Mode.{Mode}
 use Rattle.tokens.specs.declared.Mode.the-variants.{All, Some}
@@ -29,16 +30,18 @@ use Rattle.accounts.specs.declared.Count.{Count}
 use Rattle.layout.specs.Places.{VALID, HEADER, FIRST-RELATION}
 use Rattle.layout.specs.View.{View}
 use Rattle.diagram.specs.Post.{Denotes}
-use Rattle.diagram.specs.Keep.{Keeps, keeps-denotes}
+use Rattle.diagram.specs.Keep.{Keeps}
+use Rattle.diagram.proofs.Keep.{keeps-denotes}
 use Rattle.rows.specs.Used.{rowsOf}
 use Rattle.counting.specs.declared.Taken.{Taken}
 use Rattle.book.specs.Bridge.{fnOf}
-use Rattle.book.specs.Written.{run-written}
-use Rattle.book.specs.Follow.{evals-same, evals-leaf, denotes-in}
+use Rattle.book.proofs.Written.{run-written}
+use Rattle.book.proofs.Follow.{evals-same, evals-leaf, denotes-in}
 use Rattle.modal.specs.declared.Limits.{Limits}
 use Rattle.modal.specs.Modal.{ModalPre}
-use Rattle.modal.specs.Chain.{moved-refl, base-wf}
-use Rattle.evaluator.specs.Scene.{stackSize, Scene, modelIn, existIn, pushed, opened, Ready, Part, holdsReg, holdsRel, Answers, fromTaken, OverPost, JoinedPre, JoinedPost, EvalPre, EvalPost, roundOf, own, isSome, roundForm, Current, IsValue, ReachPre, ReachPost, FurtherPre, FurtherPost, KeepPre, KeepPost, RoundPre, RoundPost, variableOf, BodyPart, TurnPre, TurnPost, UntilPost}
+use Rattle.modal.proofs.Chain.{moved-refl, base-wf}
+use Rattle.evaluator.specs.Scene.{stackSize, Scene, modelIn, existIn, Ready, Part, holdsReg, holdsRel, Answers, fromTaken, OverPost, JoinedPre, JoinedPost, EvalPre, EvalPost, roundOf, own, isSome, roundForm, Current, IsValue, ReachPre, ReachPost, FurtherPre, FurtherPost, KeepPre, KeepPost, RoundPre, RoundPost, variableOf, BodyPart, TurnPre, TurnPost, UntilPost}
+use Rattle.evaluator.proofs.Scene.{pushed, opened}
 use Rattle.evaluator.specs.declared.Body.{Body}
 use Rattle.evaluator.specs.declared.Body.the-variants.{Binder, Until}
 use Rattle.evaluator.specs.declared.Context.{Context}

@@ -16,9 +16,7 @@ use Rattle.modal.specs.Posts.{viewIn, Counted}
 use Rattle.evaluator.specs.declared.Body.{Body}
 use Rattle.evaluator.specs.declared.Context.{Context}
 use Rattle.evaluator.specs.declared.Evaluated.{Evaluated}
-use Rattle.evaluator.specs.Scene.{OverPost, LivePre, LivePost, JoinedPre, JoinedPost, ConfinedPre, ConfinedPost, LeafPre, LeafPost}
-use Rattle.evaluator.specs.Scene.{EvalPre, EvalPost, NegatePost, BothPre, BothPost, ModePre, ModePost, ReachPre, ReachPost}
-use Rattle.evaluator.specs.Scene.{FurtherPre, FurtherPost, KeepPre, KeepPost, RoundPre, RoundPost, TurnPre, TurnPost, BindPre, BindPost}
+use Rattle.evaluator.specs.Scene.{OverPost, LivePre, LivePost, JoinedPre, JoinedPost, ConfinedPre, ConfinedPost, LeafPre, LeafPost, EvalPre, EvalPost, NegatePost, BothPre, BothPost, ModePre, ModePost, ReachPre, ReachPost, FurtherPre, FurtherPost, KeepPre, KeepPost, RoundPre, RoundPost, TurnPre, TurnPost, BindPre, BindPost}
 use Rattle.evaluator.specs.Whole.{WithinPre, WithinPost, SetPre, SetPost, PairsPre, PairsPost, RelationPost}
 
 -- before a call

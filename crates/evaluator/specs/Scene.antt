@@ -2,7 +2,7 @@
 use mathlib.Core.Path.{_≡_}
 use mathlib.Core.Logic.{_⊎_}
 use mathlib.Core.Bool.{Bool, true, false, _&&_}
-use mathlib.Core.List.{List, _∷_, List·Memᴰ as Mem}
+use mathlib.Core.List.{List, List·Memᴰ as Mem}
 use mathlib.Core.Option.{Option, some}
 use Prim.Native.Nat.{ℕ, _+_, _*_, _^_, _≤_, _<_}
 use lib.Dec.{ltb}
@@ -10,7 +10,7 @@ use lib.ListN.{length, getD, set, take}
 use Rattle.mucalculus.specs.Order.{Below}
 use Rattle.mucalculus.specs.Means.{clip}
 use Rattle.mucalculus.specs.Exist.{Inside}
-use Rattle.mucalculus.specs.Form.{Form, neg, conj, disj, Pairs, Model, Env, put, bound, filled as hasContent}
+use Rattle.mucalculus.specs.Form.{Form, neg, conj, disj, Pairs, Model, Env, bound, filled as hasContent}
 use Rattle.mucalculus.specs.Written.{goes}
 use Rattle.tokens.specs.declared.Grammar.{Grammar}
 use Rattle.tokens.specs.declared.Grammar.the-variants.{Pairs as PairsGrammar, Runs}
@@ -89,14 +89,6 @@ valueIn b n σ A = levels (overIn b n σ) A
 -- the states that exist
 abbrev pub existIn : ℕ → Scene → List Bool
 existIn n σ = clip (2 ^ n) (σ .valid)
-
--- "each value made and not yet used": the function F at the arrow a is live too
-abbrev pub pushed : Scene → ℕ → Fn → Scene
-pushed σ a F = record { valid = σ .valid; reg = σ .reg; rel = σ .rel; scope = σ .scope; env = σ .env; roots = a ∷ σ .roots; fns = F ∷ σ .fns }
-
--- "the current set of each open binder": A is the set of variable P
-abbrev pub opened : ℕ → Scene → ℕ → ℕ → List Bool → Scene
-opened n σ P a A = record { valid = σ .valid; reg = σ .reg; rel = σ .rel; scope = set (σ .scope) P true; env = put (σ .env) P A; roots = a ∷ σ .roots; fns = fnOf n A ∷ σ .fns }
 
 -- variable P's place on the stack is live, and holds its set
 pub record Open (n : ℕ) (W : View) (stack places : List ℕ) (held : ℕ) (A : List Bool) (P : ℕ) : Type 0 where

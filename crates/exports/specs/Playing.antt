@@ -1,5 +1,5 @@
 -- What `kudzuclamp_play` gives its caller: `play`'s answer as a number and a count. Assumes nothing.
-use mathlib.Core.Path.{_≡_, refl, subst}
+use mathlib.Core.Path.{_≡_}
 use mathlib.Core.List.{List}
 use Prim.Native.Nat.{ℕ}
 use Rattle.player.specs.Play.{PlayPost}
@@ -18,9 +18,6 @@ playCount (Done n) = n
 playCount Short = 0
 playCount Unreadable = 0
 
+-- what `kudzuclamp_play` promises: `PlayPost`, with its answer as a number and the records obeyed
 abbrev pub PlayGiven : List ℕ → List ℕ → List ℕ → List ℕ → List ℕ → ℕ → ℕ → Type 0
 PlayGiven bs w w′ l l′ k n = (x : Played) × PlayPost bs w w′ l l′ x × (k ≡ playNumber x) × (n ≡ playCount x)
-
--- what was matched
-pub play-given : (bs w w′ l l′ : List ℕ) {x : Played} (y : Played) → PlayPost bs w w′ l l′ x → x ≡ y → PlayGiven bs w w′ l l′ (playNumber y) (playCount y)
-play-given bs w w′ l l′ y p e = (y, subst (PlayPost bs w w′ l l′) e p, refl, refl)

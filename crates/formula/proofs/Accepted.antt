@@ -10,14 +10,15 @@ use lib.Dec.{eqb}
 use lib.ListN.{length, getD, drop, length-drop}
 use lib.Seq.{drop-cons, drop-length}
 use borrow.Author.Tests.{le-leb, eq-eqb, eqb-true}
-use Rattle.mucalculus.specs.Form.{Form, depth}
+use Rattle.mucalculus.specs.Form.{Form}
+use Rattle.mucalculus.proofs.Form.{depth}
 use Rattle.tokens.specs.Tokens.{grammarOf}
 use Rattle.tokens.specs.declared.Kind.{Kind}
 use Rattle.tokens.specs.declared.Grammar.{Grammar}
 use Rattle.tokens.specs.declared.Reading.{Reading}
 use Rattle.tokens.specs.declared.Reading.the-variants.{Is as Reading-is, Unknown}
 use Rattle.formula.specs.Parse.{Got, fails, got, isFormula, parse, depthLimit, lengthOf, framed, filling, formulaBy, formulaOf}
-use Rattle.formula.specs.Bytes.{bytesOf, takes, frameOf, Framing}
+use Rattle.formula.proofs.Bytes.{bytesOf, takes, frameOf, Framing}
 use Rattle.formula.proofs.Steps.{not-got}
 use Rattle.formula.proofs.Frames.{framed-parts}
 use Rattle.formula.proofs.Readings.{parse-reads}

@@ -9,7 +9,8 @@ use lib.Arith.{digits-div, digits-mod}
 use lib.Bits.{bitOr, bitXor, or-block, xor-block, or-shr, or-mod, or-zero-r, xor-zero-r}
 use lib.Dec.{eqb, eqb·zero-suc, eqb·suc-zero, eqb·suc-suc}
 use lib.ListN.{getD, set}
-use Rattle.mucalculus.specs.Means.{bit, bit-half}
+use Rattle.mucalculus.specs.Means.{bit}
+use Rattle.mucalculus.proofs.Means.{bit-half}
 use Rattle.formula.specs.Scans.{bits, mask}
 
 bit-last : (s : ℕ) → bit 0 s ≡ eqb (s % 2) 1

@@ -7,7 +7,7 @@ use native.Mathlib.Omega.{arith}
 use lib.Dec.{T, ltb, eqb, eqb→eq, not-T}
 use lib.ListN.{getD}
 use borrow.Author.Tests.{ltb-true}
-use Rattle.mucalculus.specs.Sets.{and-in}
+use Rattle.mucalculus.proofs.Sets.{and-in}
 use Rattle.mucalculus.specs.Form.{Form, bot, top, neg, conj, disj, now, next, var, reg, box, dia, mu, nu, until}
 use Rattle.mucalculus.specs.Written.{absent}
 use Rattle.tokens.specs.Tokens.{secondOf, grammarOf, allowed, leadAt}
@@ -28,7 +28,7 @@ use Rattle.tokens.proofs.Table.{both-true}
 use Rattle.tokens.proofs.Leads.{lead-is, lead-read}
 use Rattle.formula.specs.Parse.{twoForm, got, one, two, grown, parse, framed, formulaBy, formulaOf}
 use Rattle.formula.specs.Checks.{refusalOf, firstRefusal}
-use Rattle.formula.specs.Bytes.{takes}
+use Rattle.formula.proofs.Bytes.{takes}
 use Rattle.formula.proofs.Steps.{grown-unary}
 use Rattle.formula.proofs.Readings.{Reads, leaf, part, parts, parse-reads}
 

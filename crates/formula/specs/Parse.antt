@@ -26,6 +26,7 @@ use Rattle.tokens.specs.declared.Lead.the-variants.{Is, Bad}
 
 -- ---- from a token to the tree
 
+-- the formula of a token that stands alone
 abbrev pub leafForm : Leaf → Form
 leafForm False = bot
 leafForm True = top
@@ -34,22 +35,27 @@ leafForm (Next p) = next p
 leafForm (Var P) = var P
 leafForm (Reg r) = reg r
 
+-- AND or OR of two formulas
 abbrev pub joinForm : Join → Form → Form → Form
 joinForm And f g = conj f g
 joinForm Or f g = disj f g
 
+-- until of two formulas, on some run or on every run of relation t
 abbrev pub untilForm : Mode → ℕ → Form → Form → Form
 untilForm Some t f g = until true t f g
 untilForm All t f g = until false t f g
 
+-- the formula of a token with two parts
 abbrev pub twoForm : Two → Form → Form → Form
 twoForm (Joins j) f g = joinForm j f g
 twoForm (Until m t) f g = untilForm m t f g
 
+-- box or diamond of relation t
 abbrev pub modalForm : Mode → ℕ → Form → Form
 modalForm All t f = box t f
 modalForm Some t f = dia t f
 
+-- mu or nu of variable P
 abbrev pub binderForm : Fix → ℕ → Form → Form
 binderForm Mu P f = mu P f
 binderForm Nu P f = nu P f
@@ -61,6 +67,7 @@ pub data Got : Type 0 where
   fails : Got
   got : Form → ℕ → Got
 
+-- whether reading gave a formula
 abbrev pub isFormula : Got → Bool
 isFormula fails = false
 isFormula (got f e) = true
@@ -69,11 +76,6 @@ isFormula (got f e) = true
 abbrev pub formOf : Got → Form
 formOf fails = bot
 formOf (got f e) = f
-
--- the place after it
-abbrev pub endOf : Got → ℕ
-endOf fails = 0
-endOf (got f e) = e
 
 -- an operator over the one part that was read
 abbrev pub one : (Form → Form) → Got → Got

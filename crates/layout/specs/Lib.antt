@@ -1,6 +1,5 @@
 pub mod Places
 pub mod View
-pub mod Same
 pub mod Header
 pub mod Arrows
 pub mod Roots

@@ -12,6 +12,7 @@ RELATIONS = 8
 abbrev pub MAX-BITS : ℕ
 MAX-BITS = 16
 
+-- "N (1 to 60,000)"
 abbrev pub MAX-ROWS : ℕ
 MAX-ROWS = 60000
 
@@ -19,6 +20,7 @@ MAX-ROWS = 60000
 abbrev pub HEADER : ℕ
 HEADER = 256
 
+-- the words for each row in all
 abbrev pub ROW-WORDS : ℕ
 ROW-WORDS = 12
 
@@ -46,6 +48,7 @@ CURSOR = 4
 abbrev pub SLOTS : ℕ
 SLOTS = 5
 
+-- how many results were stored
 abbrev pub STORED : ℕ
 STORED = 6
 
@@ -53,6 +56,7 @@ STORED = 6
 abbrev pub LAYOUT : ℕ
 LAYOUT = 7
 
+-- the number of this layout
 abbrev pub CURRENT : ℕ
 CURRENT = 3
 
@@ -60,12 +64,15 @@ CURRENT = 3
 abbrev pub VALID : ℕ
 VALID = 15
 
+-- the first of the 32 registers
 abbrev pub FIRST-REGISTER : ℕ
 FIRST-REGISTER = 16
 
+-- the first of the 8 relations
 abbrev pub FIRST-RELATION : ℕ
 FIRST-RELATION = 48
 
+-- the first word after the roots
 abbrev pub ROOTS-END : ℕ
 ROOTS-END = 56
 
@@ -81,9 +88,11 @@ ALL-STATES = 2
 abbrev pub LOW : ℕ
 LOW = 0
 
+-- a row's high arrow
 abbrev pub HIGH : ℕ
 HIGH = 1
 
+-- a row's level
 abbrev pub LEVEL : ℕ
 LEVEL = 2
 
@@ -122,14 +131,18 @@ SLOTTED = 10
 abbrev pub cellsAt : ℕ → ℕ
 cellsAt i = HEADER + CELLS * i
 
+-- where the list of used rows begins
 abbrev pub listAt : ℕ → ℕ
 listAt N = HEADER + CELLS * N
 
+-- where the heads of the index begin
 abbrev pub headsAt : ℕ → ℕ
 headsAt N = HEADER + HEADS * N
 
+-- where the slots for remembered results begin
 abbrev pub slotsAt : ℕ → ℕ
 slotsAt N = HEADER + SLOTTED * N
 
+-- where the words beyond the table begin
 abbrev pub beyondAt : ℕ → ℕ
 beyondAt N = wordsFor N

@@ -1,6 +1,5 @@
 -- Document 01's table of causes. Assumes nothing.
-use Prim.Native.Nat.{ℕ, _≤_}
-use native.Mathlib.Omega.{arith}
+use Prim.Native.Nat.{ℕ}
 use mathlib.Core.Bool.{Bool, _&&_, _||_}
 use lib.Dec.{leb}
 use Rattle.layout.specs.declared.Refusal.{Refusal}
@@ -39,20 +38,3 @@ refusalNumber Unlisted = 14
 -- "Kept: all words": 1 to 7, and of document 02's numbers 12, 13 and 14
 abbrev pub keepsAll : ℕ → Bool
 keepsAll k = (leb 1 k && leb k 7) || (leb 12 k && leb k 14)
-
--- no refusal has the number of an answer
-pub refusal-some : (x : Refusal) → 1 ≤ refusalNumber x
-refusal-some Sizes = omega arith
-refusal-some Unsound = omega arith
-refusal-some Occupied = omega arith
-refusal-some Range = omega arith
-refusal-some Syntax = omega arith
-refusal-some Unbound = omega arith
-refusal-some Vacuous = omega arith
-refusal-some Odd = omega arith
-refusal-some Empty = omega arith
-refusal-some Full = omega arith
-refusal-some Spent = omega arith
-refusal-some NoRun = omega arith
-refusal-some Short = omega arith
-refusal-some Unlisted = omega arith

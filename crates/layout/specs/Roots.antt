@@ -1,10 +1,8 @@
 -- The roots in the header: each register and relation is empty, or holds an arrow. Assumes nothing.
-use mathlib.Core.Path.{_≡_}
 use mathlib.Core.Bool.{Bool, false, cond, not}
 use mathlib.Core.List.{List}
-use Prim.Native.Nat.{ℕ, _+_, _<_, _≤_}
+use Prim.Native.Nat.{ℕ, _+_}
 use lib.Dec.{ltb, eqb}
-use borrow.Author.Tests.{lt-ltb, le-ltb}
 use Rattle.layout.specs.Places.{REGISTERS, RELATIONS, FIRST-REGISTER, FIRST-RELATION}
 use Rattle.layout.specs.View.{headerOf}
 
@@ -21,11 +19,3 @@ filledRegister ws r = filledRoot ws FIRST-REGISTER REGISTERS r
 
 abbrev pub filledRelation : List ℕ → ℕ → Bool
 filledRelation ws t = filledRoot ws FIRST-RELATION RELATIONS t
-
-pub root-past : (ws : List ℕ) (start total k : ℕ) → total ≤ k → filledRoot ws start total k ≡ false
-unfolding filledRoot
-root-past ws start total k h = rw (le-ltb k total h)
-
-pub root-is : (ws : List ℕ) (start total k : ℕ) {x : ℕ} → k < total → x ≡ headerOf ws (start + k) → filledWord x ≡ filledRoot ws start total k
-unfolding filledRoot
-root-is ws start total k h e = rw (e, lt-ltb k total h)

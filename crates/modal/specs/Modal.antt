@@ -13,8 +13,7 @@ use Rattle.collect.specs.Lent.{live}
 use Rattle.book.specs.Ticks.{existsNeeds, diamondNeeds}
 use Rattle.book.specs.Diamond.{existsNext, diamondF}
 use Rattle.counting.specs.declared.Taken.{Taken}
-use Rattle.book.specs.Run.{needingAll}
-use Rattle.book.specs.Run.{fit}
+use Rattle.book.specs.Run.{needingAll, fit}
 use Rattle.book.specs.Held.{Held}
 use Rattle.modal.specs.Chain.{Base, Ran}
 

@@ -2,7 +2,7 @@
 use mathlib.Core.Bool.{Bool, true, false, not, _&&_, _||_, cond}
 use mathlib.Core.List.{List, []}
 use mathlib.Core.Option.{Option, none, some}
-use Prim.Native.Nat.{ℕ, suc, max}
+use Prim.Native.Nat.{ℕ}
 use lib.Dec.{eqb}
 use lib.ListN.{getD, set, replicate}
 
@@ -16,11 +16,6 @@ pub data Form : Type 0 where
   box dia : ℕ → Form → Form  -- 60 + t f, 68 + t f: over relation t
   mu nu : ℕ → Form → Form  -- 70 + P f, 80 + P f: variable P bound in f
   until : Bool → ℕ → Form → Form → Form  -- 90 + t f g with `true`, 98 + t f g with `false`: on some, on every run of relation t, f until g
-
--- mu with `true`, nu with `false`
-abbrev pub bind : Bool → ℕ → Form → Form
-bind true P f = mu P f
-bind false P f = nu P f
 
 -- a set of pairs: place s of the list holds the set of the next states of s
 abbrev pub Pairs : Type 0
@@ -56,23 +51,6 @@ filled none = false
 filled (some x) = true
 
 -- ---- conditions on a tree
-
--- "A leaf has depth 1, an operator one more than its deepest part"
-unfoldable pub depth : Form → ℕ
-depth bot = 1
-depth top = 1
-depth (neg f) = suc (depth f)
-depth (conj f g) = suc (max (depth f) (depth g))
-depth (disj f g) = suc (max (depth f) (depth g))
-depth (now p) = 1
-depth (next p) = 1
-depth (var P) = 1
-depth (reg r) = 1
-depth (box t f) = suc (depth f)
-depth (dia t f) = suc (depth f)
-depth (mu P f) = suc (depth f)
-depth (nu P f) = suc (depth f)
-depth (until b t f g) = suc (max (depth f) (depth g))
 
 -- check 5, "variable unbound, or bound inside itself": each variable stands below a binder of it, and no binder below a binder of its
 -- variable; `scope` says which variables are open

@@ -1,13 +1,10 @@
 -- The set of the states in which a formula holds, and the set of the pairs in which a relation's formula holds. Assumes nothing.
-use mathlib.Core.Path.{_≡_, sym, ap, _∙_}
 use mathlib.Core.Bool.{Bool, true, false, not, _&&_, _||_}
 use mathlib.Core.List.{List}
-use Prim.Native.Nat.{ℕ, suc, _^_, _/_, _%_}
-use native.Mathlib.Nat.{pow-succ', div-div-eq-div-mul}
+use Prim.Native.Nat.{ℕ, _^_, _/_, _%_}
 use lib.Dec.{eqb}
-use lib.ListN.{length}
-use Rattle.mucalculus.specs.Sets.{mem, table, length-table, noStates, all, any}
-use Rattle.mucalculus.specs.Fixpoint.{least, greatest, length-fix}
+use Rattle.mucalculus.specs.Sets.{mem, table, noStates, all, any}
+use Rattle.mucalculus.specs.Fixpoint.{least, greatest}
 pub use Rattle.mucalculus.specs.Runs.{pair, untilSet}
 use Rattle.mucalculus.specs.Form.{Form, bot, top, neg, conj, disj, now, next, var, reg, box, dia, mu, nu, until, Pairs, Model, Env, put, inside}
 
@@ -32,10 +29,6 @@ union k A B = table k (λ s. mem A s || mem B s)
 -- bit p of state s
 abbrev pub bit : ℕ → ℕ → Bool
 bit p s = eqb (s / 2 ^ p % 2) 1
-
--- bit p + 1 of a number is bit p of its half
-pub bit-half : (p s : ℕ) → bit (suc p) s ≡ bit p (s / 2)
-bit-half p s = ap (λ (q : ℕ). eqb (q % 2) 1) (ap (λ (d : ℕ). s / d) (pow-succ' 2 p) ∙ sym (div-div-eq-div-mul s 2 (2 ^ p)))
 
 -- the states whose bit p is 1
 abbrev pub bitStates : ℕ → ℕ → List Bool
@@ -105,20 +98,3 @@ meansPair n f = table (2 ^ n) (λ s. table (2 ^ n) (λ t. holds f s t))
 -- "then ANDed with V, then with SHIFT of V": the pairs of Q within the set E
 abbrev pub pairsWithin : ℕ → List Bool → Pairs → Pairs
 pairsWithin n E Q = table (2 ^ n) (λ s. table (2 ^ n) (λ t. (pair Q s t && mem E s) && mem E t))
-
--- a meaning has a place for each state
-pub length-means : (m : Model) (e : Env) (f : Form) → length (means m e f) ≡ size m
-length-means m e bot = length-table (size m) (λ s. false)
-length-means m e top = length-table (size m) _
-length-means m e (neg f) = length-table (size m) _
-length-means m e (conj f g) = length-table (size m) _
-length-means m e (disj f g) = length-table (size m) _
-length-means m e (now p) = length-table (size m) _
-length-means m e (next p) = length-table (size m) (λ s. false)
-length-means m e (var P) = length-table (size m) _
-length-means m e (reg r) = length-table (size m) _
-length-means m e (box t f) = length-table (size m) _
-length-means m e (dia t f) = length-table (size m) _
-length-means m e (mu P f) = length-fix true (size m) (exist m) (λ A. means m (put e P A) f)
-length-means m e (nu P f) = length-fix false (size m) (exist m) (λ A. means m (put e P A) f)
-length-means m e (until b t f g) = length-table (size m) _

@@ -8,30 +8,35 @@ use Prim.Native.Nat.{ℕ, zero, suc, _+_, _-_, _*_, _≤_, _<_}
 use native.Mathlib.Omega.{arith}
 use lib.Dec.{T, eqb, ltb, ltb→lt, lt→ltb}
 use lib.ListN.{length}
-use Rattle.mucalculus.specs.Sets.{true-of, false-of, and-in, and-out}
+use Rattle.mucalculus.proofs.Sets.{true-of, false-of, and-in, and-out}
 use Rattle.mucalculus.specs.Form.{Pairs, inside}
 use Rattle.layout.specs.Refusals.{keepsAll}
 use Rattle.layout.specs.Places.{BITS, ROWS, SPARE, FIRST-REGISTER, FIRST-RELATION}
 use Rattle.layout.specs.View.{View, view, headerOf}
-use Rattle.layout.specs.Same.{same-beyond}
+use Rattle.layout.proofs.Same.{same-beyond}
 use Rattle.diagram.specs.Rows.{den}
-use Rattle.diagram.specs.Keep.{Keeps, keeps-refl, keeps-within}
+use Rattle.diagram.specs.Keep.{Keeps}
+use Rattle.diagram.proofs.Keep.{keeps-refl, keeps-within}
 use Rattle.rows.specs.Used.{rowsOf}
 use Rattle.rows.specs.Sound.{Sound, tableOf}
-use Rattle.rows.specs.Filled.{filled, filled-arrow}
+use Rattle.rows.specs.Filled.{filled}
+use Rattle.rows.proofs.Filled.{filled-arrow}
 use Rattle.operations.specs.Work.{OpFrame}
 use Rattle.book.specs.Bridge.{setOf, pairsOf}
 use Rattle.book.specs.Book.{Book, registers, relations, liveOf, collect}
-use Rattle.book.specs.Effects.{in-range}
+use Rattle.book.proofs.Effects.{in-range}
 use Rattle.book.specs.Table.{Reply, Shows, rootsOf}
-use Rattle.book.specs.BookOf.{bookOf, standsFor, whole-bookOf, only-book}
-use Rattle.book.specs.Alike.{alike-shows}
-use Rattle.book.specs.Leaves.{plain, shows-rows}
-use Rattle.contract.specs.Seen.{arrowIn, seenIn, seen, SoundWords, sound-shows-book, sound-table}
+use Rattle.book.specs.BookOf.{bookOf, standsFor}
+use Rattle.book.proofs.BookOf.{whole-bookOf, only-book}
+use Rattle.book.proofs.Alike.{alike-shows}
+use Rattle.book.specs.Leaves.{plain}
+use Rattle.book.proofs.Leaves.{shows-rows}
+use Rattle.contract.specs.Seen.{arrowIn, seenIn, seen, SoundWords}
+use Rattle.contract.proofs.Seen.{sound-shows-book, sound-table}
 use Rattle.contract.specs.Kept.{Kept, changes}
-use Rattle.contract.specs.Checked.{kept-refused}
-use Rattle.contract.specs.Roots.{root-filled}
-use Rattle.formula_steps.specs.Evaluated.{Left, left-op, left-none, rows-seen}
+use Rattle.contract.proofs.Checked.{kept-refused}
+use Rattle.contract.proofs.Roots.{root-filled}
+use Rattle.formula_steps.proofs.Evaluated.{Left, left-op, left-none, rows-seen}
 use Rattle.paths.specs.Runs.{Outcome, full, none as noRun, short, found, outcome}
 use Rattle.paths.specs.Call.{Ended, refuse, ends, overFilled, shortest}
 use Rattle.routes.specs.declared.Found.{Found}

@@ -1,3 +1,4 @@
 -- Modules that belong to no one function.
 pub mod Searching
 pub mod Checks
+pub mod OnePath

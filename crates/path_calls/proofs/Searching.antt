@@ -11,26 +11,32 @@ use Rattle.layout.specs.View.{View}
 use Rattle.diagram.specs.Level.{Fn}
 use Rattle.diagram.specs.Rows.{Rows}
 use Rattle.diagram.specs.Post.{Denotes}
-use Rattle.diagram.specs.Keep.{Keeps, keeps-trans}
-use Rattle.diagram.specs.Collect.{collects-keeps}
+use Rattle.diagram.specs.Keep.{Keeps}
+use Rattle.diagram.proofs.Keep.{keeps-trans}
+use Rattle.diagram.proofs.Collect.{collects-keeps}
 use Rattle.rows.specs.Used.{rowsOf}
 use Rattle.rows.specs.Sound.{Sound}
-use Rattle.rows.specs.Filled.{filled, filled-mem}
+use Rattle.rows.specs.Filled.{filled}
+use Rattle.rows.proofs.Filled.{filled-mem}
 use Rattle.collect.specs.Answers.{FreeManyPost, few, many}
-use Rattle.memory.specs.Frame.{rows-same}
+use Rattle.memory.proofs.Frame.{rows-same}
 use Rattle.memory.specs.Forget.{Forgot}
-use Rattle.operations.specs.Work.{OpFrame, op-trans, op-memo, op-made}
-use Rattle.steps.specs.Again.{start-ready}
+use Rattle.operations.specs.Work.{OpFrame}
+use Rattle.operations.proofs.Work.{op-trans, op-memo, op-made}
+use Rattle.steps.proofs.Again.{start-ready}
 use Rattle.book.specs.Bridge.{fnOf, fnOfPairs, Sized}
 use Rattle.book.specs.Book.{registers, relations, liveOf}
-use Rattle.book.specs.BookOf.{shows-bookOf, whole-bookOf}
+use Rattle.book.proofs.BookOf.{shows-bookOf, whole-bookOf}
 use Rattle.book.specs.Table.{Place, Shows, rootsOf}
-use Rattle.book.specs.Roots.{shows-held}
+use Rattle.book.proofs.Roots.{shows-held}
 use Rattle.book.specs.Held.{Held}
-use Rattle.contract.specs.Seen.{arrowIn, seenIn, sound-table}
-use Rattle.contract.specs.Roots.{filled-root, root-filled}
-use Rattle.modal.specs.Chain.{Base, held-alike}
-use Rattle.layers.specs.Scene.{Scene, filled-same}
+use Rattle.contract.specs.Seen.{arrowIn, seenIn}
+use Rattle.contract.proofs.Seen.{sound-table}
+use Rattle.contract.proofs.Roots.{filled-root, root-filled}
+use Rattle.modal.specs.Chain.{Base}
+use Rattle.modal.proofs.Chain.{held-alike}
+use Rattle.layers.specs.Scene.{Scene}
+use Rattle.layers.proofs.Scene.{filled-same}
 use Rattle.layers.specs.Pass.{PassPre, Steps}
 use Rattle.routes.specs.declared.Found.{Found}
 use Rattle.routes.specs.Find.{FindPost}

@@ -1,8 +1,3 @@
 pub mod Runs
-pub mod First
-pub mod Layers
-pub mod Written
 pub mod Exact
-pub mod Example
 pub mod Call
-pub mod Meaning

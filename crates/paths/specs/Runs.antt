@@ -1,7 +1,7 @@
 -- "The shortest way into trouble": runs of a relation, layers by distance, the run that is to be written, the steps that are taken and what
 -- they come to. Assumes nothing.
 use mathlib.Core.Path.{_≡_}
-use mathlib.Core.Bool.{Bool, true, false, cond, _&&_, _||_}
+use mathlib.Core.Bool.{Bool, false, cond, _&&_, _||_}
 use mathlib.Core.List.{List, [], _∷_, _++_}
 use Prim.Native.Nat.{ℕ, zero, suc, _^_, _≤_}
 use lib.Dec.{T, leb, ltb}
@@ -54,6 +54,7 @@ firstOf (suc k) q = let more = suc (firstOf k (λ i. q (suc i))) in cond (q zero
 abbrev pub common : ℕ → List Bool → List Bool → ℕ
 common k A L = firstOf k (λ s. mem A s && mem L s)
 
+-- two sets share a state
 abbrev pub meets : ℕ → List Bool → List Bool → Bool
 meets k A L = ltb (common k A L) k
 
@@ -103,6 +104,7 @@ pathNeeds n live R A B =
 
 -- ---- the outcome
 
+-- what becomes of the search for a run
 pub data Outcome : Type 0 where
   full : Outcome  -- 8: a step needs more than N rows
   none : Outcome  -- 10: no run exists

@@ -1,5 +1,2 @@
 pub mod Play
-pub mod Passes
-pub mod Chained
-pub mod Next
 pub mod OnePlay

@@ -33,6 +33,7 @@ commandsIn zero bs = some []
 commandsIn (suc fuel) [] = some []
 commandsIn (suc fuel) (x ∷ xs) = let more = commandsIn fuel (drop (2 + recordLength (x ∷ xs)) (x ∷ xs)) in added (commandAt (x ∷ xs)) more
 
+-- the commands of a list of records
 abbrev pub commands : List ℕ → Option (List Command)
 commands bs = commandsIn (length bs) bs
 
@@ -47,13 +48,16 @@ pub record Entry : Type 0 where
 abbrev pub entryWords : ℕ
 entryWords = 5
 
+-- the list's words for an outcome: number, node, rounds, value, peak
 abbrev pub outcomeWords : Outcome → List ℕ
 outcomeWords x = x .number ∷ x .node ∷ x .rounds ∷ x .value ∷ x .peak ∷ []
 
+-- the commands of a list of entries
 abbrev pub commandsOf : List Entry → List Command
 commandsOf [] = []
 commandsOf (e ∷ l) = e .command ∷ commandsOf l
 
+-- the words of a list of entries
 abbrev pub wordsOf : List Entry → List ℕ
 wordsOf [] = []
 wordsOf (e ∷ l) = outcomeWords (e .outcome) ++ wordsOf l
@@ -71,6 +75,7 @@ pub record Since : Type 0 where
   pub N : ℕ
   pub events : List Event
 
+-- one call more since the fresh
 abbrev pub withEvent : Option Since → Event → Option Since
 withEvent none e = none
 withEvent (some s) e = some record { n = s .n; N = s .N; events = s .events ++ (e ∷ []) }

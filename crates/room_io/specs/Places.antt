@@ -27,6 +27,7 @@ pub record Placed (p : Progress) (input output : ℕ) : Type 0 where
 abbrev pub atHand : Progress → List ℕ → List ℕ
 atHand p input = take (p .end - p .start) (drop (p .start) input)
 
+-- the bytes that are still to be written
 abbrev pub unwritten : Progress → List ℕ → List ℕ
 unwritten p output = take (p .pending) output
 

@@ -32,6 +32,7 @@ pub record State : Type 0 where
 abbrev pub start : Progress
 start = record { start = 0; end = 0; pending = 0; ended = false; done = false; sound = false }
 
+-- the state in which `serve` begins
 abbrev pub atStart : List ℕ → List ℕ → List ℕ → State
 atStart w i o = record { progress = start; words = w; input = i; output = o; brought = []; handed = []; way = going }
 
@@ -42,6 +43,7 @@ handedAfter (End k) text before = before
 handedAfter More text before = before
 handedAfter Room text before = before ++ text
 
+-- how the turns stand after what one said: they go on, or how they ended
 abbrev pub wayAfter : Said → Bool → Way
 wayAfter (Line used k) done = going
 wayAfter (End k) done = lastLine
@@ -49,15 +51,18 @@ wayAfter More done = cond done readFailed going
 wayAfter Room done = cond done writeFailed going
 
 module _ (s : State) (q : Progress) (v j u room : List ℕ) where
+  -- what came of a turn that said r
   abbrev pub Came : Said → Type 0
   Came r = After (s .progress) q (s .input) j (s .output) u room r
 
+  -- what the reads have brought after a turn
   abbrev pub broughtAfter : (r : Said) → Came r → List ℕ
   broughtAfter (Line used k) a = s .brought
   broughtAfter (End k) a = s .brought
   broughtAfter More a = s .brought ++ a .0 .bytes
   broughtAfter Room a = s .brought
 
+  -- the state after a turn that said r
   abbrev pub stateAfter : (r : Said) → Came r → State
   stateAfter r a = record {
     progress = q;
@@ -69,6 +74,7 @@ module _ (s : State) (q : Progress) (v j u room : List ℕ) where
     way = wayAfter r (q .done);
   }
 
+-- the state after a turn under its contract
 abbrev pub afterTurn : (s : State) {q : Progress} {v j u : List ℕ} → Turned (s .progress) q (s .words) v (s .input) j (s .output) u → State
 afterTurn s {q} {v} {j} {u} t = stateAfter s q v j u (t .room) (t .reply) (t .after)
 

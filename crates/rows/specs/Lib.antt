@@ -5,9 +5,6 @@ pub mod Mark
 pub mod Roots
 pub mod Says
 pub mod Lookup
-pub mod Framed
 pub mod Within
 pub mod Sound
 pub mod Filled
-pub mod Kept
-pub mod Alike

@@ -4,7 +4,7 @@ use mathlib.Core.Bool.{true}
 use mathlib.Core.Logic.{_≢_}
 use mathlib.Core.List.{List, [], _∷_}
 use Prim.Native.Nat.{ℕ, suc, _*_, _≤_, _<_}
-use Rattle.layout.specs.Places.{BITS, ROWS, USED, LAYOUT, CURRENT, VALID, FIRST-RELATION, ROOTS-END}
+use Rattle.layout.specs.Places.{BITS, ROWS, LAYOUT, CURRENT, VALID, FIRST-RELATION, ROOTS-END}
 use Rattle.diagram.specs.Rows.{WellFormed}
 use Rattle.diagram.specs.Reach.{Reach}
 use Rattle.diagram.specs.Even.{even}
@@ -12,7 +12,6 @@ use Rattle.layout.specs.View.{View, view, headerOf}
 use Rattle.rows.specs.Used.{Sizes, Ranked, rowsOf}
 use Rattle.rows.specs.Index.{Index}
 use Rattle.rows.specs.Roots.{Ref}
-use Rattle.rows.specs.Lookup.{Room}
 use Rattle.rows.specs.Within.{Within, validOf}
 
 -- "each register is empty or an arrow whose rows all have even levels", "V's rows on even levels"
@@ -47,7 +46,3 @@ pub record Sound (W : View) : Type 0 where
 -- the table that words hold
 abbrev pub tableOf : List ℕ → View
 tableOf ws = view (headerOf ws ROWS) ws
-
--- there is room in a table of the right sizes
-pub room-of : (W : View) {n : ℕ} → Sizes n (W .rows) (W .size) → W .header USED ≤ W .rows → Room W
-room-of W z c = record { words = z .room; count-le = c; max = z .N-max }

@@ -1,10 +1,9 @@
 -- "registers within V, and relations within V and SHIFT of V": what lies within the set of states that exist. Assumes nothing.
-use mathlib.Core.Path.{_≡_, ap, _∙_}
+use mathlib.Core.Path.{_≡_}
 use mathlib.Core.Bool.{Bool, true}
 use Prim.Native.Nat.{ℕ, suc, _-_, _*_, _≤_, _<_}
 use Rattle.diagram.specs.Level.{Val}
 use Rattle.diagram.specs.Rows.{den}
-use Rattle.diagram.specs.Den.{den-one}
 use Rattle.diagram.specs.Steps.{shiftF}
 use Rattle.layout.specs.Places.{BITS, VALID, FIRST-REGISTER, FIRST-RELATION, ROOTS-END}
 use Rattle.layout.specs.View.{View}
@@ -22,10 +21,3 @@ validOf W = W .header VALID - 1
 pub record Within (W : View) (v : ℕ) : Type 0 where
   pub roots : (h : ℕ) → FIRST-REGISTER ≤ h → h < ROOTS-END → (a : ℕ) → W .header h ≡ suc a → (x : Val) → denOf W a x ≡ true → denOf W v x ≡ true
   pub shifted : (h : ℕ) → FIRST-RELATION ≤ h → h < ROOTS-END → (a : ℕ) → W .header h ≡ suc a → (x : Val) → denOf W a x ≡ true → shiftF (denOf W v) x ≡ true
-
--- everything is within everything
-pub within-all : (W : View) (v : ℕ) → v ≡ 1 → Within W v
-within-all W v e = record {
-  roots = λ h lo hi a q x g. ap (λ (k : ℕ). denOf W k x) e ∙ den-one (2 * W .header BITS) (rowsOf W) x;
-  shifted = λ h lo hi a q x g. ap (λ (k : ℕ). denOf W k (λ l. x (suc l))) e ∙ den-one (2 * W .header BITS) (rowsOf W) (λ l. x (suc l));
-}

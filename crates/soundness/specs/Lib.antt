@@ -1,10 +1,8 @@
 pub mod Walks
 pub mod Checks
 pub mod Triples
-pub mod Decided
 pub mod Heights
 pub mod Order
-pub mod Halves
 pub mod Chains
 pub mod Apart
 pub mod Pairs

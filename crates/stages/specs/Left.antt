@@ -2,15 +2,14 @@
 use mathlib.Core.Path.{_≡_}
 use mathlib.Core.List.{List, _∷_, map, List·Memᴰ as Mem}
 use Prim.Native.Nat.{ℕ, suc, _+_, _*_, _≤_}
-use native.Mathlib.Omega.{arith}
-use lib.ListN.{length, replicate, length-replicate}
+use lib.ListN.{length}
 use Rattle.layout.specs.View.{View}
 use Rattle.diagram.specs.Rows.{Rows, Arrow, den}
 use Rattle.diagram.specs.Need.{stepNeed}
 use Rattle.diagram.specs.Odd.{existsFrom}
 use Rattle.diagram.specs.Blind.{Blind}
 use Rattle.rows.specs.Used.{rowsOf}
-use Rattle.rows.specs.Bits.{On, no-marks}
+use Rattle.rows.specs.Bits.{On}
 use Rattle.rows.specs.Sound.{Sound}
 use Rattle.collect.specs.Lent.{live}
 use Rattle.operations.specs.Work.{Ready}
@@ -28,9 +27,6 @@ LeftFits m rows roots a left most =
 pub record SeenBlank (N : ℕ) (seen : List ℕ) : Type 0 where
   pub enough : 2 * N + 2 ≤ 32 * length seen
   pub blank : (c : ℕ) → On seen c → ⊥
-
-pub seen-blank : {N : ℕ} (k : ℕ) → 2 * N + 2 ≤ 32 * k → SeenBlank N (replicate k 0)
-seen-blank k l = record { enough = let e = length-replicate {A = ℕ} k 0 in omega (arith, e, l); blank = no-marks k }
 
 -- What a look at them asks: a table between steps, marks of what registers and relations reach, and an arrow that does not read the odd levels done.
 pub record LookPre (n N : ℕ) (W : View) (c roots : List ℕ) (a left : ℕ) : Type 0 where

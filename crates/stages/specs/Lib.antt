@@ -3,5 +3,4 @@ pub mod Levels
 pub mod AddedCounts
 pub mod Surveys
 pub mod Renews
-pub mod Looks
 pub mod Rest

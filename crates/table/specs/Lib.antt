@@ -1,10 +1,7 @@
 pub mod Columns
 pub mod Append
 pub mod Fresh
-pub mod Count
 pub mod Find
 pub mod Add
 pub mod Code
 pub mod Make
-pub mod Store
-pub mod Keep

@@ -28,6 +28,7 @@ pub record Line : Type 0 where
   pub last : ℕ
   pub token : ℕ → Token
 
+-- a line of the table, by its parts
 abbrev pub line : ℕ → ℕ → (ℕ → Token) → Line
 line a b t = record { first = a; last = b; token = t }
 
@@ -56,6 +57,7 @@ addedWords =
     ∷ line 0x98 0x9F (λ t. Both (Until All t))
     ∷ []
 
+-- the table of bytes, both versions
 abbrev pub table : List Line
 table = firstWords ++ addedWords
 
@@ -117,10 +119,12 @@ leafAllowed (Next p) n g = cond (onlyNow g) false (ltb p n)
 leafAllowed (Var P) n g = isStates g
 leafAllowed (Reg r) n g = isStates g
 
+-- whether a token with two parts may stand in a formula of this kind
 abbrev pub twoAllowed : Two → Grammar → Bool
 twoAllowed (Join j) g = true
 twoAllowed (Until m t) g = hasRuns g
 
+-- whether a token may stand in a formula of this kind over n bits
 abbrev pub allowed : Token → ℕ → Grammar → Bool
 allowed (LeafToken l) n g = leafAllowed l n g
 allowed Not n g = true

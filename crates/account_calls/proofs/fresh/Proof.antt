@@ -43,7 +43,8 @@ use Rattle.accounts.proofs.empty_tallies as empty
 use Rattle.accounts.proofs.empty_tallies.Symbol as empty-def
 use Rattle.accounts.proofs.empty_tallies.Symbol.{name as #accounts·empty-tallies}
 use Rattle.accounts.proofs.empty_tallies.Met as empty-thm
-use Rattle.account_calls.specs.Lists.{FreshBoth, madeCount, made-within, made-list, FreshListPost}
+use Rattle.account_calls.specs.Lists.{FreshBoth, madeCount, FreshListPost}
+use Rattle.account_calls.proofs.Lists.{made-within, made-list}
 use Rattle.calls.specs.declared.Started.{Started}
 use Rattle.calls.proofs.Started as S
 use Rattle.calls.proofs.Started.Laws as S′

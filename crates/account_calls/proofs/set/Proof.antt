@@ -57,7 +57,7 @@ use Rattle.accounts.specs.Account.{tallyTop}
 use Rattle.book.specs.Book.{set as setCall}
 use Rattle.contract.specs.Posts.{CallPost, SetAllPost}
 use Rattle.formula_steps.specs.Replies.{storedReply}
-use Rattle.account_calls.specs.Lists as listed
+use Rattle.account_calls.proofs.Lists as listed
 use Rattle.account_calls.specs.Lists.{roundsOf}
 use Rattle.formula_steps.specs.declared.Stored.{Stored}
 use Rattle.formula_steps.proofs.Stored as S

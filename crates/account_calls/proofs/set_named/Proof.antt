@@ -1,5 +1,5 @@
 -- `set_named` meets its contract: the terms are the account's. Assumes nothing.
-use Rattle.account_calls.specs.Lists.{termed}
+use Rattle.account_calls.proofs.Lists.{termed}
 use borrow.Author.Needs.{needs}
 use Rattle.account_calls.proofs.set_named.Statement.{statement}
 use Rattle.account_calls.proofs.set_named.Tie as tie

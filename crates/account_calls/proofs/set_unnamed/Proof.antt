@@ -1,5 +1,5 @@
 -- `set_unnamed` meets its contract: the terms are no account's. Assumes nothing.
-use Rattle.account_calls.specs.Lists.{termed}
+use Rattle.account_calls.proofs.Lists.{termed}
 use borrow.Author.Needs.{needs}
 use Rattle.account_calls.proofs.set_unnamed.Statement.{statement}
 use Rattle.account_calls.proofs.set_unnamed.Tie as tie

@@ -48,7 +48,8 @@ use denote.Triple.Walked.{says, needs, Stays, stay-slice, stay-none, walkOf, Wal
 use denote.Exit.{yes}
 use Rattle.accounts.specs.declared.Account.{Account}
 use Rattle.accounts.specs.Account.{emptied}
-use Rattle.accounts.specs.Listed.{none, emptiedTo, length-emptied, emptied-next}
+use Rattle.accounts.specs.Listed.{none, emptiedTo}
+use Rattle.accounts.proofs.Listed.{length-emptied, emptied-next}
 use Rattle.accounts.proofs.Account as T
 use Rattle.accounts.proofs.Account.Laws as T′
 use Rattle.accounts.proofs.Row.{R, V′, tells, product}

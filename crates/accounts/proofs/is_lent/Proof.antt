@@ -1,6 +1,6 @@
 -- `is_lent` meets its contract: each test decides one part of `lent`. Assumes nothing.
 use native.Mathlib.Omega.{arith}
-use Rattle.accounts.specs.Terms.{none-lent, many-lent, some-lent}
+use Rattle.accounts.proofs.TermsLaws.{none-lent, many-lent, some-lent}
 use Rattle.accounts.proofs.is_lent.Statement.{statement}
 use Rattle.accounts.proofs.is_lent.Tie as tie
 

@@ -1,6 +1,6 @@
 -- `list_fits` meets its contract: each test decides one part of `listFits`. Assumes nothing.
 use native.Mathlib.Omega.{arith}
-use Rattle.accounts.specs.Account.{too-long, has-place, no-place}
+use Rattle.accounts.proofs.AccountLaws.{too-long, has-place, no-place}
 use Rattle.accounts.proofs.list_fits.Statement.{statement}
 use Rattle.accounts.proofs.list_fits.Tie as tie
 

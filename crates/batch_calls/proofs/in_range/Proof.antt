@@ -5,7 +5,7 @@ use native.Mathlib.Omega.{arith}
 use lib.ListN.{length, getD}
 use borrow.Author.Count.{below-more}
 use Rattle.rows.specs.Says.{holds, fails}
-use Rattle.calls.specs.Questions.{state-in, state-out}
+use Rattle.calls.proofs.Questions.{state-in, state-out}
 use Rattle.batch_calls.proofs.in_range.Statement.{statement}
 use Rattle.batch_calls.proofs.in_range.Tie as tie
 

@@ -3,7 +3,8 @@ use mathlib.Core.Path.{_≡_, refl}
 use Prim.Native.Nat.{_-_, _≤_}
 use native.Mathlib.Omega.{arith}
 use lib.ListN.{length, length-set}
-use Rattle.batch_calls.specs.Laid.{Laid, laid-none, laid-more}
+use Rattle.batch_calls.specs.Laid.{Laid}
+use Rattle.batch_calls.proofs.Laid.{laid-none, laid-more}
 use Rattle.batch_calls.proofs.lay.Statement.{statement}
 use Rattle.batch_calls.proofs.lay.Tie as tie
 

@@ -1,8 +1,8 @@
 -- `members` meets its contract: each test is one check, in order; the rest is the walk over the places as they are laid. Assumes nothing.
 use mathlib.Core.Path.{refl, _∙_}
 use native.Mathlib.Omega.{arith}
-use Rattle.rows.specs.Says.{says-pass, says-fail}
-use Rattle.batch_calls.specs.Members.{refuse-sizes, refuse-unsound, refuse-range, refuse-empty, range-is, range-not, ask-pre, answer}
+use Rattle.rows.proofs.Says.{says-pass, says-fail}
+use Rattle.batch_calls.proofs.MembersLaws.{refuse-sizes, refuse-unsound, refuse-range, refuse-empty, range-is, range-not, ask-pre, answer}
 use borrow.Author.Needs.{needs}
 use Rattle.batch_calls.proofs.members.Statement.{statement}
 use Rattle.batch_calls.proofs.members.Tie as tie

@@ -1,6 +1,6 @@
 -- `clear` is check 2, and then `clear_unchecked`. Assumes nothing.
-use Rattle.rows.specs.Says.{says-pass, says-fail}
-use Rattle.contract.specs.Checked.{call-unsound}
+use Rattle.rows.proofs.Says.{says-pass, says-fail}
+use Rattle.contract.proofs.Checked.{call-unsound}
 use borrow.Author.Needs.{needs}
 use Rattle.calls.proofs.clear.Statement.{statement}
 use Rattle.calls.proofs.clear.Tie as tie

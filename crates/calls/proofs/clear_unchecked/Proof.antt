@@ -1,6 +1,6 @@
 -- `clear_unchecked` meets its contract: one test is check 3; one word is then written. Assumes nothing.
 use native.Mathlib.Omega.{arith}
-use Rattle.calls.specs.Changes.{clear-range, clear-done}
+use Rattle.calls.proofs.Changes.{clear-range, clear-done}
 use borrow.Author.Needs.{needs}
 use Rattle.calls.proofs.clear_unchecked.Statement.{statement}
 use Rattle.calls.proofs.clear_unchecked.Tie as tie

@@ -1,6 +1,6 @@
 -- `collect` is check 2, and then `collect_unchecked`. Assumes nothing.
-use Rattle.rows.specs.Says.{says-pass, says-fail}
-use Rattle.contract.specs.Checked.{call-unsound}
+use Rattle.rows.proofs.Says.{says-pass, says-fail}
+use Rattle.contract.proofs.Checked.{call-unsound}
 use borrow.Author.Needs.{needs}
 use Rattle.calls.proofs.collect.Statement.{statement}
 use Rattle.calls.proofs.collect.Tie as tie

@@ -1,6 +1,6 @@
 -- `collect_unchecked` meets its contract: it is `collect_rows`. Assumes nothing.
 use native.Mathlib.Omega.{arith}
-use Rattle.calls.specs.Changes.{collect-done}
+use Rattle.calls.proofs.Changes.{collect-done}
 use borrow.Author.Needs.{needs}
 use Rattle.calls.proofs.collect_unchecked.Statement.{statement}
 use Rattle.calls.proofs.collect_unchecked.Tie as tie

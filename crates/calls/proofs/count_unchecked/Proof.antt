@@ -1,6 +1,6 @@
 -- `count_unchecked` meets its contract: each test is one check, in order; the rest is `count_states`. Assumes nothing.
 use native.Mathlib.Omega.{arith}
-use Rattle.calls.specs.Questions.{count-range, count-empty, walk-pre, count-told}
+use Rattle.calls.proofs.Questions.{count-range, count-empty, walk-pre, count-told}
 use borrow.Author.Needs.{needs}
 use Rattle.calls.proofs.count_unchecked.Statement.{statement}
 use Rattle.calls.proofs.count_unchecked.Tie as tie

@@ -1,7 +1,7 @@
 -- `fresh` meets its contract: its two tests decide the sizes and the list's length, and the rest is `make_empty`. Assumes nothing.
 use mathlib.Core.Path.{refl}
-use Rattle.rows.specs.Says.{says-pass, says-fail}
-use Rattle.calls.specs.Fresh.{test-fails, test-holds, fresh-refused, fresh-unlisted, fresh-ready}
+use Rattle.rows.proofs.Says.{says-pass, says-fail}
+use Rattle.calls.proofs.FreshLaws.{test-fails, test-holds, fresh-refused, fresh-unlisted, fresh-ready}
 use borrow.Author.Needs.{needs}
 use Rattle.calls.proofs.fresh.Statement.{statement}
 use Rattle.calls.proofs.fresh.Tie as tie

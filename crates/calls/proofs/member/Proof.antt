@@ -1,9 +1,9 @@
 -- `member` meets its contract: each test is one check, in order; the rest is the walk. Assumes nothing.
 use native.Mathlib.Omega.{arith}
-use Rattle.rows.specs.Says.{says-pass, says-fail}
+use Rattle.rows.proofs.Says.{says-pass, says-fail}
 use mathlib.Core.Bool.{true, false}
-use Rattle.contract.specs.Checked.{ask-unsound}
-use Rattle.calls.specs.Questions.{member-range, member-out, member-empty, walk-pre, member-told}
+use Rattle.contract.proofs.Checked.{ask-unsound}
+use Rattle.calls.proofs.Questions.{member-range, member-out, member-empty, walk-pre, member-told}
 use borrow.Author.Needs.{needs}
 use Rattle.calls.proofs.member.Statement.{statement}
 use Rattle.calls.proofs.member.Tie as tie

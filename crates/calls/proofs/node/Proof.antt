@@ -1,8 +1,8 @@
 -- `node` meets its contract: each test is one check, in order; the register's word is the number + 1. Assumes nothing.
 use native.Mathlib.Omega.{arith}
-use Rattle.rows.specs.Says.{says-pass, says-fail}
-use Rattle.contract.specs.Checked.{ask-unsound}
-use Rattle.calls.specs.Questions.{node-range, node-empty, node-told}
+use Rattle.rows.proofs.Says.{says-pass, says-fail}
+use Rattle.contract.proofs.Checked.{ask-unsound}
+use Rattle.calls.proofs.Questions.{node-range, node-empty, node-told}
 use borrow.Author.Needs.{needs}
 use Rattle.calls.proofs.node.Statement.{statement}
 use Rattle.calls.proofs.node.Tie as tie

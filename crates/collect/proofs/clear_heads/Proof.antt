@@ -4,7 +4,8 @@ use Prim.Native.Nat.{_-_, _≤_}
 use native.Mathlib.Omega.{arith}
 use lib.ListN.{length}
 use Rattle.layout.specs.View.{view}
-use Rattle.collect.specs.Gather.{Headed, headed-refl, headed-put, headed-list}
+use Rattle.collect.specs.Gather.{Headed}
+use Rattle.collect.proofs.GatherLaws.{headed-refl, headed-put, headed-list}
 use Rattle.collect.proofs.clear_heads.Statement.{statement}
 use Rattle.collect.proofs.clear_heads.Tie as tie
 

@@ -2,8 +2,9 @@
 use native.Mathlib.Omega.{arith}
 use borrow.Author.Needs.{needs}
 use Rattle.layout.specs.View.{view}
-use Rattle.rows.specs.Bits.{MARK-WORDS, no-marks}
-use Rattle.collect.specs.Answers.{sound-base, collect-by}
+use Rattle.rows.specs.Bits.{MARK-WORDS}
+use Rattle.rows.proofs.Bits.{no-marks}
+use Rattle.collect.proofs.Answers.{sound-base, collect-by}
 use Rattle.collect.proofs.collect_rows.Statement.{statement}
 use Rattle.collect.proofs.collect_rows.Tie as tie
 

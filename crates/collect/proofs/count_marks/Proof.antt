@@ -4,7 +4,8 @@ use mathlib.Core.Path.{_≡_}
 use Prim.Native.Nat.{_+_, _-_, _≤_}
 use native.Mathlib.Omega.{arith}
 use Rattle.layout.specs.View.{view}
-use Rattle.collect.specs.Counted.{markCount, count-none, count-more, count-le}
+use Rattle.collect.specs.Counted.{markCount}
+use Rattle.collect.proofs.Counted.{count-none, count-more, count-le}
 use Rattle.collect.proofs.count_marks.Statement.{statement}
 use Rattle.collect.proofs.count_marks.Tie as tie
 

@@ -2,8 +2,10 @@
 use mathlib.Core.Path.{refl}
 use native.Mathlib.Omega.{arith}
 use Rattle.layout.specs.View.{view}
-use Rattle.rows.specs.Bits.{MARK-WORDS, no-marks}
-use Rattle.collect.specs.Answers.{sound-base, few, many, filled-by}
+use Rattle.rows.specs.Bits.{MARK-WORDS}
+use Rattle.rows.proofs.Bits.{no-marks}
+use Rattle.collect.proofs.Answers.{sound-base, filled-by}
+use Rattle.collect.specs.Answers.{few, many}
 use borrow.Author.Needs.{needs}
 use Rattle.collect.proofs.free_many.Statement.{statement}
 use Rattle.collect.proofs.free_many.Tie as tie

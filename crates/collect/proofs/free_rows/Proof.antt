@@ -2,9 +2,10 @@
 use native.Mathlib.Omega.{arith}
 use mathlib.Core.List.{_++_, Memᴰ·append-left as append-left, Memᴰ·append-right as append-right}
 use Rattle.layout.specs.View.{view}
-use Rattle.rows.specs.Bits.{MARK-WORDS, no-marks}
-use Rattle.collect.specs.Lent.{more-marks}
-use Rattle.collect.specs.Answers.{sound-base, free-by}
+use Rattle.rows.specs.Bits.{MARK-WORDS}
+use Rattle.rows.proofs.Bits.{no-marks}
+use Rattle.collect.proofs.Lent.{more-marks}
+use Rattle.collect.proofs.Answers.{sound-base, free-by}
 use borrow.Author.Needs.{needs}
 use Rattle.collect.proofs.free_rows.Statement.{statement}
 use Rattle.collect.proofs.free_rows.Tie as tie

@@ -2,7 +2,7 @@
 use mathlib.Core.Path.{ap, _∙_}
 use native.Mathlib.Omega.{arith}
 use Rattle.layout.specs.View.{View, view}
-use Rattle.collect.specs.Gather.{gather-pre, gathered-by}
+use Rattle.collect.proofs.GatherLaws.{gather-pre, gathered-by}
 use Rattle.collect.proofs.gather.Statement.{statement}
 use Rattle.collect.proofs.gather.Tie as tie
 

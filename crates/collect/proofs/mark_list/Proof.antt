@@ -6,7 +6,7 @@ use native.Mathlib.Omega.{arith}
 use lib.ListN.{length}
 use Rattle.layout.specs.View.{view}
 use Rattle.rows.specs.Used.{rowsOf}
-use Rattle.collect.specs.Lent.{Lent, getD-mem, lent-none, lent-more, lent-all}
+use Rattle.collect.proofs.Lent.{Lent, getD-mem, lent-none, lent-more, lent-all}
 use Rattle.collect.proofs.mark_list.Statement.{statement}
 use Rattle.collect.proofs.mark_list.Tie as tie
 

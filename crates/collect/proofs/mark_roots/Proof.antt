@@ -1,6 +1,6 @@
 -- `mark_roots` meets its contract: it marks from the header's roots, and then from the lent ones. Assumes nothing.
 use native.Mathlib.Omega.{arith}
-use Rattle.collect.specs.Lent.{live-marks}
+use Rattle.collect.proofs.Lent.{live-marks}
 use borrow.Author.Needs.{needs}
 use Rattle.collect.proofs.mark_roots.Statement.{statement}
 use Rattle.collect.proofs.mark_roots.Tie as tie

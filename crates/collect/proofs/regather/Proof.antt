@@ -7,7 +7,8 @@ use native.Mathlib.Omega.{arith}
 use lib.ListN.{length}
 use Rattle.layout.specs.Places.{USED}
 use Rattle.layout.specs.View.{view, putHeader}
-use Rattle.collect.specs.Gather.{Part, part-zero, next-row, next-room, next-keep, next-skip}
+use Rattle.collect.specs.Gather.{Part}
+use Rattle.collect.proofs.GatherLaws.{part-zero, next-row, next-room, next-keep, next-skip}
 use Rattle.rows.specs.Bits.{On}
 use Rattle.collect.proofs.regather.Statement.{statement}
 use Rattle.collect.proofs.regather.Tie as tie

@@ -1,7 +1,7 @@
 -- `obey` takes the command apart: each has its function, and a formula is the part from its start to the record's end.
 -- Without a sound table it is `obey_unsound`. Assumes nothing.
-use Rattle.rows.specs.Says.{says-pass, says-fail}
-use Rattle.commands.specs.Obeyed.{obeys-as, starts-as}
+use Rattle.rows.proofs.Says.{says-pass, says-fail}
+use Rattle.commands.proofs.Obeyed.{obeys-as, starts-as}
 use borrow.Author.Needs.{needs}
 use Rattle.commands.proofs.obey.Statement.{statement}
 use Rattle.commands.proofs.obey.Tie as tie

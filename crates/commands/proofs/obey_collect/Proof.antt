@@ -2,7 +2,7 @@
 use mathlib.Core.Path.{ap, sym, _∙_}
 use Rattle.book.specs.Leaves.{plain}
 use Rattle.calls.specs.Replies.{collectedReply}
-use Rattle.commands.specs.Obeyed.{call-told}
+use Rattle.commands.proofs.Obeyed.{call-told}
 use borrow.Author.Needs.{needs}
 use Rattle.commands.proofs.obey_collect.Statement.{statement}
 use Rattle.commands.proofs.obey_collect.Tie as tie

@@ -2,7 +2,7 @@
 use mathlib.Core.Path.{ap, sym, _∙_}
 use Rattle.book.specs.Leaves.{plain}
 use Rattle.calls.specs.Replies.{answerReply}
-use Rattle.commands.specs.Obeyed.{count-told}
+use Rattle.commands.proofs.Obeyed.{count-told}
 use borrow.Author.Needs.{needs}
 use Rattle.commands.proofs.obey_count.Statement.{statement}
 use Rattle.commands.proofs.obey_count.Tie as tie

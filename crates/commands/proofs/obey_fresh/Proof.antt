@@ -1,6 +1,6 @@
 -- `obey_fresh` is the reply of `fresh` as an outcome. Assumes nothing.
-use Rattle.layout.specs.Refusals.{refusal-some}
-use Rattle.commands.specs.Obeyed.{fresh-ready, fresh-refused}
+use Rattle.layout.proofs.Refusals.{refusal-some}
+use Rattle.commands.proofs.Obeyed.{fresh-ready, fresh-refused}
 use borrow.Author.Needs.{needs}
 use Rattle.commands.proofs.obey_fresh.Statement.{statement}
 use Rattle.commands.proofs.obey_fresh.Tie as tie

@@ -3,7 +3,7 @@ use mathlib.Core.Path.{refl, ap, sym, _∙_, subst}
 use Rattle.book.specs.Leaves.{plain}
 use Rattle.contract.specs.Posts.{CallPost}
 use Rattle.formula_steps.specs.Replies.{loadedReply}
-use Rattle.commands.specs.Obeyed.{relation-done, call-told}
+use Rattle.commands.proofs.Obeyed.{relation-done, call-told}
 use borrow.Author.Needs.{needs}
 use Rattle.commands.proofs.obey_relation.Statement.{statement}
 use Rattle.commands.proofs.obey_relation.Tie as tie

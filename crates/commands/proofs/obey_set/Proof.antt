@@ -5,8 +5,8 @@ use Prim.Native.Nat.{ℕ, _≤_}
 use Rattle.book.specs.Leaves.{plain}
 use Rattle.contract.specs.Posts.{CallPost}
 use Rattle.formula_steps.specs.Replies.{storedReply}
-use Rattle.layout.specs.Refusals.{refusal-some}
-use Rattle.commands.specs.Obeyed.{termed, set-done, set-refused}
+use Rattle.layout.proofs.Refusals.{refusal-some}
+use Rattle.commands.proofs.Obeyed.{termed, set-done, set-refused}
 use borrow.Author.Needs.{needs}
 use Rattle.commands.proofs.obey_set.Statement.{statement}
 use Rattle.commands.proofs.obey_set.Tie as tie

@@ -1,5 +1,5 @@
 -- `obey_unsound` takes the command apart: fresh has its function, and every other one is refused by check 2. Assumes nothing.
-use Rattle.commands.specs.Obeyed.{obeys-as, call-refused, count-refused}
+use Rattle.commands.proofs.Obeyed.{obeys-as, call-refused, count-refused}
 use borrow.Author.Needs.{needs}
 use Rattle.commands.proofs.obey_unsound.Statement.{statement}
 use Rattle.commands.proofs.obey_unsound.Tie as tie

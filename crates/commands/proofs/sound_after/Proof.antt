@@ -1,5 +1,5 @@
 -- `sound_after` is its definition, by its two tests. Assumes nothing.
-use Rattle.commands.specs.After.{after-answered, after-refused}
+use Rattle.commands.proofs.After.{after-answered, after-refused}
 use borrow.Author.Needs.{needs}
 use Rattle.commands.proofs.sound_after.Statement.{statement}
 use Rattle.commands.proofs.sound_after.Tie as tie

@@ -1,7 +1,7 @@
 -- `take_record` does what stands in the bytes at hand. Assumes nothing.
 use mathlib.Core.Path.{refl, sym, _∙_}
-use Rattle.records.specs.Promises.{record-read}
-use Rattle.commands.specs.Obeyed.{took}
+use Rattle.records.proofs.Promises.{record-read}
+use Rattle.commands.proofs.Obeyed.{took}
 use borrow.Author.Needs.{needs}
 use Rattle.commands.proofs.take_record.Statement.{statement}
 use Rattle.commands.proofs.take_record.Tie as tie

@@ -4,9 +4,10 @@ use mathlib.Core.Path.{refl, sym, _∙_}
 use native.Mathlib.Omega.{arith}
 use Prim.Native.Nat.{_+_, _*_, ℕ, _<_}
 use Rattle.layout.specs.View.{view}
-use Rattle.rows.specs.Mark.{step, depth, called}
-use Rattle.counting.specs.News.{constant-new, again-new, row-new, new-le, still-off}
-use Rattle.rows.specs.Says.{test-yes, test-no}
+use Rattle.rows.proofs.MarkLaws.{step, called}
+use Rattle.rows.specs.Mark.{depth}
+use Rattle.counting.proofs.News.{constant-new, again-new, row-new, new-le, still-off}
+use Rattle.rows.proofs.Says.{test-yes, test-no}
 use borrow.Fn.Kinds.{In}
 use borrow.Fn.PlainCycle.{Measures, is, falls, and}
 use Rattle.counting.proofs.+new_part+new_row.{statement}

@@ -4,8 +4,8 @@ use Prim.Native.Nat.{_-_, _≤_}
 use native.Mathlib.Omega.{arith}
 use lib.ListN.{length}
 use Rattle.layout.specs.View.{view}
-use Rattle.collect.specs.Lent.{getD-mem}
-use Rattle.counting.specs.Bound.{Summed, summed-none, summed-more, summed-all, summed-over}
+use Rattle.collect.proofs.Lent.{getD-mem}
+use Rattle.counting.proofs.Bound.{Summed, summed-none, summed-more, summed-all, summed-over}
 use borrow.Author.Needs.{needs}
 use Rattle.counting.proofs.add_sizes.Statement.{statement}
 use Rattle.counting.proofs.add_sizes.Tie as tie

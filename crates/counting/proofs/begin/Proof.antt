@@ -1,6 +1,6 @@
 -- `begin` meets its contract: what is marked is what registers and relations reach, and it is counted. Assumes nothing.
 use native.Mathlib.Omega.{arith}
-use Rattle.counting.specs.Begin.{blank-size, blank-marks, filled-pre, marked-size, front-size, written-size, begun}
+use Rattle.counting.proofs.BeginLaws.{blank-size, blank-marks, filled-pre, marked-size, front-size, written-size, begun}
 use Rattle.counting.proofs.begin.Statement.{statement}
 use Rattle.counting.proofs.begin.Tie as tie
 

@@ -2,7 +2,7 @@
 use Prim.Native.Nat.{_-_, _≤_}
 use native.Mathlib.Omega.{arith}
 use lib.ListN.{length}
-use Rattle.counting.specs.Counts.{Copied, copied-none, copied-more, copied-all}
+use Rattle.counting.proofs.CountsLaws.{Copied, copied-none, copied-more, copied-all}
 use borrow.Author.Needs.{needs}
 use Rattle.counting.proofs.copy_marks.Statement.{statement}
 use Rattle.counting.proofs.copy_marks.Tie as tie

@@ -1,5 +1,5 @@
 -- `count_live` meets its contract: there are words enough for the marks. Assumes nothing.
-use Rattle.counting.specs.Counts.{few-room, all-room}
+use Rattle.counting.proofs.CountsLaws.{few-room, all-room}
 use borrow.Author.Needs.{needs}
 use Rattle.counting.proofs.count_live.Statement.{statement}
 use Rattle.counting.proofs.count_live.Tie as tie

@@ -2,8 +2,8 @@
 use mathlib.Core.Path.{_∙_}
 use mathlib.Core.List.{Memᴰ·append-left as append-left, Memᴰ·append-right as append-right}
 use native.Mathlib.Omega.{arith}
-use Rattle.counting.specs.Counts.{room-base, base-copied}
-use Rattle.counting.specs.Peak.{live-counted, live-le}
+use Rattle.counting.proofs.CountsLaws.{room-base, base-copied}
+use Rattle.counting.proofs.Peak.{live-counted, live-le}
 use borrow.Author.Needs.{needs}
 use Rattle.counting.proofs.count_marking.Statement.{statement}
 use Rattle.counting.proofs.count_marking.Tie as tie

@@ -3,7 +3,8 @@ use mathlib.Core.Path.{_≡_}
 use Prim.Native.Nat.{_-_, _≤_}
 use native.Mathlib.Omega.{arith}
 use Rattle.counting.specs.Sizes.{SIZES}
-use Rattle.counting.specs.Counts.{COUNT-WORDS, Emptied, emptied-none, emptied-more}
+use Rattle.counting.specs.Counts.{COUNT-WORDS, Emptied}
+use Rattle.counting.proofs.CountsLaws.{emptied-none, emptied-more}
 use borrow.Author.Needs.{needs}
 use Rattle.counting.proofs.forget_sizes.Statement.{statement}
 use Rattle.counting.proofs.forget_sizes.Tie as tie

@@ -5,8 +5,8 @@ use native.Mathlib.Omega.{arith}
 use lib.ListN.{length}
 use Rattle.layout.specs.View.{view}
 use Rattle.rows.specs.Used.{rowsOf}
-use Rattle.collect.specs.Lent.{getD-mem}
-use Rattle.counting.specs.News.{FirstNew, first-none, first-more, first-le, first-all}
+use Rattle.collect.proofs.Lent.{getD-mem}
+use Rattle.counting.proofs.News.{FirstNew, first-none, first-more, first-le, first-all}
 use borrow.Author.Needs.{needs}
 use Rattle.counting.proofs.list_new.Statement.{statement}
 use Rattle.counting.proofs.list_new.Tie as tie

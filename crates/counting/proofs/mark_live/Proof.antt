@@ -1,8 +1,8 @@
 -- `mark_live` meets its contract: the base's marks are copied, and what the arrows reach beside it is marked and counted. Assumes nothing.
 use mathlib.Core.Path.{_∙_}
 use native.Mathlib.Omega.{arith}
-use Rattle.counting.specs.Counts.{room-base, base-copied, live-marked}
-use Rattle.counting.specs.Peak.{live-le}
+use Rattle.counting.proofs.CountsLaws.{room-base, base-copied, live-marked}
+use Rattle.counting.proofs.Peak.{live-le}
 use borrow.Author.Needs.{needs}
 use Rattle.counting.proofs.mark_live.Statement.{statement}
 use Rattle.counting.proofs.mark_live.Tie as tie

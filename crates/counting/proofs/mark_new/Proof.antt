@@ -1,9 +1,9 @@
 -- `mark_new` meets its contract: nothing is to mark, or the work on the row. Assumes nothing.
 use mathlib.Core.Path.{sym, _∙_}
 use native.Mathlib.Omega.{arith}
-use Rattle.rows.specs.Mark.{step}
-use Rattle.rows.specs.Says.{test-yes, test-no}
-use Rattle.counting.specs.News.{constant-new, again-new, still-off}
+use Rattle.rows.proofs.MarkLaws.{step}
+use Rattle.rows.proofs.Says.{test-yes, test-no}
+use Rattle.counting.proofs.News.{constant-new, again-new, still-off}
 use borrow.Author.Needs.{needs}
 use Rattle.counting.proofs.mark_new.Statement.{statement}
 use Rattle.counting.proofs.mark_new.Tie as tie

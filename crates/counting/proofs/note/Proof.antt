@@ -1,7 +1,7 @@
 -- `note` meets its contract: all used rows are at most the peak, or sizes are, or what is live is counted. Assumes nothing.
 use native.Mathlib.Omega.{arith}
-use Rattle.steps.specs.Clean.{free-pre}
-use Rattle.counting.specs.Peak.{note-used, note-within, note-counted}
+use Rattle.steps.proofs.CleanLaws.{free-pre}
+use Rattle.counting.proofs.Peak.{note-used, note-within, note-counted}
 use borrow.Author.Needs.{needs}
 use Rattle.counting.proofs.note.Statement.{statement}
 use Rattle.counting.proofs.note.Tie as tie

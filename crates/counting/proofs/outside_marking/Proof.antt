@@ -1,6 +1,6 @@
 -- `outside_marking` meets its contract: what is marked beside the base is what the arrow reaches beside it. Assumes nothing.
 use mathlib.Core.Path.{_∙_}
-use Rattle.counting.specs.Counts.{room-base, base-copied, outside-counted}
+use Rattle.counting.proofs.CountsLaws.{room-base, base-copied, outside-counted}
 use borrow.Author.Needs.{needs}
 use Rattle.counting.proofs.outside_marking.Statement.{statement}
 use Rattle.counting.proofs.outside_marking.Tie as tie

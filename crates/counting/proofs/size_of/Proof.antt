@@ -1,7 +1,7 @@
 -- `size_of` meets its contract: nothing is beside the base, the size is remembered, or it is counted. Assumes nothing.
 use native.Mathlib.Omega.{arith}
-use Rattle.rows.specs.Says.{test-yes, test-no}
-use Rattle.counting.specs.Bound.{size-constant, size-row, size-base, size-seen, size-counted}
+use Rattle.rows.proofs.Says.{test-yes, test-no}
+use Rattle.counting.proofs.Bound.{size-constant, size-row, size-base, size-seen, size-counted}
 use borrow.Author.Needs.{needs}
 use Rattle.counting.proofs.size_of.Statement.{statement}
 use Rattle.counting.proofs.size_of.Tie as tie

@@ -2,8 +2,8 @@
 use mathlib.Core.Path.{_∙_}
 use mathlib.Core.List.{Memᴰ·append-left as append-left, Memᴰ·append-right as append-right}
 use native.Mathlib.Omega.{arith}
-use Rattle.counting.specs.Counts.{number-le}
-use Rattle.counting.specs.Bound.{within-yes, within-no}
+use Rattle.counting.proofs.CountsLaws.{number-le}
+use Rattle.counting.proofs.Bound.{within-yes, within-no}
 use Rattle.counting.proofs.sizes_within.Statement.{statement}
 use Rattle.counting.proofs.sizes_within.Tie as tie
 

@@ -1,5 +1,5 @@
 -- `take` meets its contract: the step's need is that of the table it leaves. Assumes nothing.
-use Rattle.counting.specs.Peak.{note-pre, taken-full, taken-at}
+use Rattle.counting.proofs.Peak.{note-pre, taken-full, taken-at}
 use borrow.Author.Needs.{needs}
 use Rattle.counting.proofs.take.Statement.{statement}
 use Rattle.counting.proofs.take.Tie as tie

@@ -1,7 +1,7 @@
 -- `take_counted` meets its contract: rows were only added, or no size is remembered. Assumes nothing.
 use native.Mathlib.Omega.{arith}
-use Rattle.steps.specs.Again.{first-pre, again-pre, stepped-first, stepped-again}
-use Rattle.counting.specs.Peak.{counted-few, counted-freed}
+use Rattle.steps.proofs.Again.{first-pre, again-pre, stepped-first, stepped-again}
+use Rattle.counting.proofs.Peak.{counted-few, counted-freed}
 use borrow.Author.Needs.{needs}
 use Rattle.counting.proofs.take_counted.Statement.{statement}
 use Rattle.counting.proofs.take_counted.Tie as tie

@@ -2,7 +2,7 @@
 use Rattle.evaluator.proofs.Leaves.{leaf-none, leaf-all, bit-asks, bit-confined, leaf-now, leaf-next, var-slot, var-below, leaf-var, reg-range, reg-some, leaf-reg, as-leaf, leaf-as, leaf-over, now-taken, next-taken, var-taken, reg-taken}
 use Rattle.evaluator.proofs.State.{valid-asks}
 use Rattle.tokens.specs.declared.Leaf.the-variants.{False, True, Now, Next, Var, Reg}
-use Rattle.modal.specs.Chain.{base-bits}
+use Rattle.modal.proofs.Chain.{base-bits}
 use native.Mathlib.Omega.{arith}
 use mathlib.Core.Path.{_∙_}
 use borrow.Author.Needs.{needs}

@@ -1,5 +1,5 @@
 -- `kind_of` meets its contract: a number that is not 0 is a relation call's. Assumes nothing.
-use Rattle.exports.specs.Check.{kind-other}
+use Rattle.exports.proofs.Check.{kind-other}
 use borrow.Author.Needs.{needs}
 use Rattle.exports.proofs.kind_of.Statement.{statement}
 use Rattle.exports.proofs.kind_of.Tie as tie

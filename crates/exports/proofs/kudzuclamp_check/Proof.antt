@@ -1,9 +1,9 @@
 -- `kudzuclamp_check` meets its contract: `sound` is check 2, and on a sound table `check_formula` gives the number of the book's checks. Assumes nothing.
 use mathlib.Core.Path.{sym, _∙_}
 use native.Mathlib.Omega.{arith}
-use Rattle.rows.specs.Says.{says-pass, says-fail}
-use Rattle.formula_calls.specs.Refused.{checks-told}
-use Rattle.exports.specs.Check.{check-unsound, check-done}
+use Rattle.rows.proofs.Says.{says-pass, says-fail}
+use Rattle.formula_calls.proofs.Refused.{checks-told}
+use Rattle.exports.proofs.Check.{check-unsound, check-done}
 use borrow.Author.Needs.{needs}
 use Rattle.exports.proofs.kudzuclamp_check.Statement.{statement}
 use Rattle.exports.proofs.kudzuclamp_check.Tie as tie

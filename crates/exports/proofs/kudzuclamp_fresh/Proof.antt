@@ -43,7 +43,8 @@ use Rattle.calls.specs.Replies.{startedReply}
 use Rattle.calls.specs.declared.Started.{Started}
 use Rattle.calls.proofs.Started as S
 use Rattle.calls.proofs.Started.Laws as S′
-use Rattle.exports.specs.Given.{given, FreshGiven, fresh-given}
+use Rattle.exports.specs.Given.{given, FreshGiven}
+use Rattle.exports.proofs.Given.{fresh-given}
 use Rattle.account_calls.proofs.fresh as fr
 use Rattle.account_calls.proofs.fresh.Symbol as fresh-def
 use Rattle.account_calls.proofs.fresh.Symbol.{name as #calls·fresh}

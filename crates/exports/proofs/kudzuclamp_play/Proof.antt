@@ -1,6 +1,6 @@
 -- `kudzuclamp_play` meets its contract, which is that of `play` over the number and the count that its answer is taken apart into. Assumes nothing.
 use Rattle.player.specs.declared.Played.the-variants.{Done, Short, Unreadable}
-use Rattle.exports.specs.Playing.{play-given}
+use Rattle.exports.proofs.PlayingLaws.{play-given}
 use borrow.Author.Needs.{needs}
 use Rattle.exports.proofs.kudzuclamp_play.Statement.{statement}
 use Rattle.exports.proofs.kudzuclamp_play.Tie as tie

@@ -1,6 +1,6 @@
 -- `relation` is check 2, and then `relation_unchecked`. Assumes nothing.
-use Rattle.rows.specs.Says.{says-pass, says-fail}
-use Rattle.contract.specs.Checked.{call-unsound}
+use Rattle.rows.proofs.Says.{says-pass, says-fail}
+use Rattle.contract.proofs.Checked.{call-unsound}
 use borrow.Author.Needs.{needs}
 use Rattle.formula_calls.proofs.relation.Statement.{statement}
 use Rattle.formula_calls.proofs.relation.Tie as tie

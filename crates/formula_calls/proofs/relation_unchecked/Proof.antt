@@ -1,7 +1,7 @@
 -- `relation_unchecked` meets its contract: each test is one check, in order; the rest is `relation_steps`. Assumes nothing.
 use native.Mathlib.Omega.{arith}
 use Rattle.tokens.specs.declared.Kind.the-variants.{Relation}
-use Rattle.formula_calls.specs.Refused.{checks-told, relation-range, relation-checked}
+use Rattle.formula_calls.proofs.Refused.{checks-told, relation-range, relation-checked}
 use borrow.Author.Needs.{needs}
 use Rattle.formula_calls.proofs.relation_unchecked.Statement.{statement}
 use Rattle.formula_calls.proofs.relation_unchecked.Tie as tie

@@ -1,7 +1,7 @@
 -- `set_unchecked` meets its contract: each test is one check, in order; the rest is `set_steps`. Assumes nothing.
 use native.Mathlib.Omega.{arith}
 use Rattle.tokens.specs.declared.Kind.the-variants.{Set}
-use Rattle.formula_calls.specs.Refused.{test-fails, test-named, checks-told, set-range, set-unnamed, set-checked}
+use Rattle.formula_calls.proofs.Refused.{test-fails, test-named, checks-told, set-range, set-unnamed, set-checked}
 use borrow.Author.Needs.{needs}
 use Rattle.formula_calls.proofs.set_unchecked.Statement.{statement}
 use Rattle.formula_calls.proofs.set_unchecked.Tie as tie

@@ -5,7 +5,8 @@ use mathlib.Core.Path.{_≡_, sym, _∙_}
 use Prim.Native.Nat.{_-_, _≤_}
 use Rattle.layout.specs.Places.{FIRST-REGISTER, ROOTS-END}
 use Rattle.rows.specs.Says.{holds, fails}
-use Rattle.formula_calls.specs.Vacant.{VacantTo, vacant-start, vacant-more}
+use Rattle.formula_calls.specs.Vacant.{VacantTo}
+use Rattle.formula_calls.proofs.Vacant.{vacant-start, vacant-more}
 use Rattle.formula_calls.proofs.unfilled.Statement.{statement}
 use Rattle.formula_calls.proofs.unfilled.Tie as tie
 

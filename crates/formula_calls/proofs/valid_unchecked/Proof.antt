@@ -1,9 +1,9 @@
 -- `valid_unchecked` meets its contract: each test is one check, in order; the rest is `valid_steps`. Assumes nothing.
 use native.Mathlib.Omega.{arith}
 use Rattle.tokens.specs.declared.Kind.the-variants.{Valid}
-use Rattle.rows.specs.Says.{says-pass, says-fail}
-use Rattle.formula_calls.specs.Refused.{checks-told}
-use Rattle.formula_calls.specs.Vacant.{vacant-book, valid-filled, valid-checked}
+use Rattle.rows.proofs.Says.{says-pass, says-fail}
+use Rattle.formula_calls.proofs.Refused.{checks-told}
+use Rattle.formula_calls.proofs.Vacant.{vacant-book, valid-filled, valid-checked}
 use borrow.Author.Needs.{needs}
 use Rattle.formula_calls.proofs.valid_unchecked.Statement.{statement}
 use Rattle.formula_calls.proofs.valid_unchecked.Tie as tie

@@ -1,5 +1,5 @@
 -- `relation_steps` hands the evaluation on to its storing, and that to the collection afterwards. Assumes nothing.
-use Rattle.formula_steps.specs.Load.{relation-asks, relation-storing, relation-tidying, relation-done}
+use Rattle.formula_steps.proofs.Load.{relation-asks, relation-storing, relation-tidying, relation-done}
 use borrow.Author.Needs.{needs}
 use Rattle.formula_steps.proofs.relation_steps.Statement.{statement}
 use Rattle.formula_steps.proofs.relation_steps.Tie as tie

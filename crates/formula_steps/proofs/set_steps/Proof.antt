@@ -1,5 +1,5 @@
 -- `set_steps` hands the evaluation on to its storing, and that to the collection afterwards. Assumes nothing.
-use Rattle.formula_steps.specs.Store.{set-asks, set-storing, set-tidying, set-done}
+use Rattle.formula_steps.proofs.Store.{set-asks, set-storing, set-tidying, set-done}
 use borrow.Author.Needs.{needs}
 use Rattle.formula_steps.proofs.set_steps.Statement.{statement}
 use Rattle.formula_steps.proofs.set_steps.Tie as tie

@@ -1,6 +1,6 @@
 -- `store_relation` writes an arrow's word, or nothing. Assumes nothing.
 use native.Mathlib.Omega.{arith}
-use Rattle.formula_steps.specs.Store.{carries-fits, loaded-full, loaded-value}
+use Rattle.formula_steps.proofs.Store.{carries-fits, loaded-full, loaded-value}
 use borrow.Author.Needs.{needs}
 use Rattle.formula_steps.proofs.store_relation.Statement.{statement}
 use Rattle.formula_steps.proofs.store_relation.Tie as tie

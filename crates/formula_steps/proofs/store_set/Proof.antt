@@ -1,6 +1,6 @@
 -- `store_set` writes an arrow's word, or nothing. Assumes nothing.
 use native.Mathlib.Omega.{arith}
-use Rattle.formula_steps.specs.Store.{holds-fits, stored-full, stored-spent, stored-value}
+use Rattle.formula_steps.proofs.Store.{holds-fits, stored-full, stored-spent, stored-value}
 use borrow.Author.Needs.{needs}
 use Rattle.formula_steps.proofs.store_set.Statement.{statement}
 use Rattle.formula_steps.proofs.store_set.Tie as tie

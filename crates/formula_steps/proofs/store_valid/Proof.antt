@@ -1,6 +1,6 @@
 -- `store_valid` writes an arrow's word, or nothing. Assumes nothing.
 use native.Mathlib.Omega.{arith}
-use Rattle.formula_steps.specs.Store.{carries-fits, confined-full, confined-value}
+use Rattle.formula_steps.proofs.Store.{carries-fits, confined-full, confined-value}
 use borrow.Author.Needs.{needs}
 use Rattle.formula_steps.proofs.store_valid.Statement.{statement}
 use Rattle.formula_steps.proofs.store_valid.Tie as tie

@@ -1,6 +1,7 @@
 -- `tidy` leaves the words, or what `free_many` leaves. Assumes nothing.
 use mathlib.Core.Path.{refl}
-use Rattle.formula_steps.specs.Evaluated.{as-it-was, tidied-by}
+use Rattle.formula_steps.specs.Evaluated.{as-it-was}
+use Rattle.formula_steps.proofs.Evaluated.{tidied-by}
 use borrow.Author.Needs.{needs}
 use Rattle.formula_steps.proofs.tidy.Statement.{statement}
 use Rattle.formula_steps.proofs.tidy.Tie as tie

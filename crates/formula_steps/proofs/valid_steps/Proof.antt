@@ -1,5 +1,5 @@
 -- `valid_steps` hands the evaluation on to its storing, and that to the collection afterwards. Assumes nothing.
-use Rattle.formula_steps.specs.Load.{valid-asks, valid-storing, valid-tidying, valid-done}
+use Rattle.formula_steps.proofs.Load.{valid-asks, valid-storing, valid-tidying, valid-done}
 use borrow.Author.Needs.{needs}
 use Rattle.formula_steps.proofs.valid_steps.Statement.{statement}
 use Rattle.formula_steps.proofs.valid_steps.Tie as tie

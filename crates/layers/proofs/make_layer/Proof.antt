@@ -5,8 +5,9 @@ use native.Mathlib.Omega.{arith}
 use lib.ListN.{length}
 use Rattle.layout.specs.View.{view}
 use Rattle.counting.specs.Counts.{CountsOf}
-use Rattle.layers.specs.Scene.{Scene, Layered, layered-start, next-asks}
-use Rattle.layers.specs.Again.{again-turns, again-never, again-ends}
+use Rattle.layers.specs.Scene.{Scene, Layered}
+use Rattle.layers.proofs.Scene.{layered-start, next-asks}
+use Rattle.layers.proofs.Again.{again-turns, again-never, again-ends}
 use Rattle.layers.proofs.next_layer.Reads as next-layer-reads
 use borrow.Author.Needs.{needs}
 use Rattle.layers.proofs.make_layer.Statement.{statement}

@@ -1,8 +1,8 @@
 -- `next_layer` meets its contract: diamond and OR are one chain of steps, over the roots and the last layer. Assumes nothing.
 use mathlib.Core.Path.{_∙_}
 use native.Mathlib.Omega.{arith}
-use Rattle.modal.specs.Chain.{base-bits, took}
-use Rattle.layers.specs.Next.{dia-asks, next-full, or-base, or-asks, next-ends}
+use Rattle.modal.proofs.Chain.{base-bits, took}
+use Rattle.layers.proofs.Next.{dia-asks, next-full, or-base, or-asks, next-ends}
 use Rattle.modal.proofs.diamond.Reads as diamond-reads
 use Rattle.counting.proofs.take.Reads as take-reads
 use borrow.Author.Needs.{needs}

@@ -10,10 +10,11 @@ use Rattle.counting.specs.Counts.{CountsOf}
 use Rattle.diagram.specs.Post.{Denotes}
 use Rattle.rows.specs.Used.{rowsOf}
 use Rattle.book.specs.Bridge.{fnOf}
-use Rattle.modal.specs.Chain.{base-bits}
-use Rattle.seek.specs.Search.{power-fits}
-use Rattle.layers.specs.Scene.{Scene, next-asks}
-use Rattle.layers.specs.Pass.{Passing, pass-starts, pass-walks, pass-meets, pass-full, pass-still, pass-turns, pass-bound, pass-count}
+use Rattle.modal.proofs.Chain.{base-bits}
+use Rattle.seek.proofs.Search.{power-fits}
+use Rattle.layers.specs.Scene.{Scene}
+use Rattle.layers.proofs.Scene.{next-asks}
+use Rattle.layers.proofs.Pass.{Passing, pass-starts, pass-walks, pass-meets, pass-full, pass-still, pass-turns, pass-bound, pass-count}
 use Rattle.layers.proofs.next_layer.Reads as next-layer-reads
 use Rattle.seek.proofs.least_common.Reads as least-common-reads
 use borrow.Author.Needs.{needs}

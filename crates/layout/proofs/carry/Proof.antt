@@ -1,6 +1,6 @@
 -- `carry` meets its contract: by the test of the mark. Assumes nothing.
 use borrow.Author.Needs.{needs}
-use Rattle.layout.specs.Arrows.{carry-yes, carry-no}
+use Rattle.layout.proofs.Arrows.{carry-yes, carry-no}
 use Rattle.layout.proofs.carry.Statement.{statement}
 use Rattle.layout.proofs.carry.Tie as tie
 

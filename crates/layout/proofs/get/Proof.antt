@@ -1,5 +1,5 @@
 -- `get` meets its contract: the view has the word at that place. Assumes nothing.
-use Rattle.layout.specs.View.{cell-is}
+use Rattle.layout.proofs.View.{cell-is}
 use borrow.Author.Needs.{needs}
 use Rattle.layout.proofs.get.Statement.{statement}
 use Rattle.layout.proofs.get.Tie as tie

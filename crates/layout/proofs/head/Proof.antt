@@ -1,5 +1,5 @@
 -- `head` meets its contract: the view has the word at that place. Assumes nothing.
-use Rattle.layout.specs.View.{head-is}
+use Rattle.layout.proofs.View.{head-is}
 use borrow.Author.Needs.{needs}
 use Rattle.layout.proofs.head.Statement.{statement}
 use Rattle.layout.proofs.head.Tie as tie

@@ -1,5 +1,5 @@
 -- `header_word` meets its contract: the view has the word at that place. Assumes nothing.
-use Rattle.layout.specs.View.{header-is}
+use Rattle.layout.proofs.View.{header-is}
 use borrow.Author.Needs.{needs}
 use Rattle.layout.proofs.header_word.Statement.{statement}
 use Rattle.layout.proofs.header_word.Tie as tie

@@ -1,6 +1,6 @@
 -- `is_row` meets its contract: arrows 0 and 1 lead to no row, all others do. Assumes nothing.
 use mathlib.Core.Path.{sym}
-use Rattle.layout.specs.Arrows.{row-yes, row-no}
+use Rattle.layout.proofs.Arrows.{row-yes, row-no}
 use Rattle.layout.proofs.is_row.Statement.{statement}
 use Rattle.layout.proofs.is_row.Tie as tie
 

@@ -1,5 +1,5 @@
 -- `listed` meets its contract: the view has the word at that place. Assumes nothing.
-use Rattle.layout.specs.View.{list-is}
+use Rattle.layout.proofs.View.{list-is}
 use borrow.Author.Needs.{needs}
 use Rattle.layout.proofs.listed.Statement.{statement}
 use Rattle.layout.proofs.listed.Tie as tie

@@ -1,5 +1,5 @@
 -- `put` meets its contract: one store is one change of the view. Assumes nothing.
-use Rattle.layout.specs.View.{view-cell}
+use Rattle.layout.proofs.View.{view-cell}
 use borrow.Author.Needs.{needs}
 use Rattle.layout.proofs.put.Statement.{statement}
 use Rattle.layout.proofs.put.Tie as tie

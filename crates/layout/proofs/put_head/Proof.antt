@@ -1,5 +1,5 @@
 -- `put_head` meets its contract: one store is one change of the view. Assumes nothing.
-use Rattle.layout.specs.View.{view-head}
+use Rattle.layout.proofs.View.{view-head}
 use borrow.Author.Needs.{needs}
 use Rattle.layout.proofs.put_head.Statement.{statement}
 use Rattle.layout.proofs.put_head.Tie as tie

@@ -1,5 +1,5 @@
 -- `put_header` meets its contract: one store is one change of the view. Assumes nothing.
-use Rattle.layout.specs.View.{view-header}
+use Rattle.layout.proofs.View.{view-header}
 use borrow.Author.Needs.{needs}
 use Rattle.layout.proofs.put_header.Statement.{statement}
 use Rattle.layout.proofs.put_header.Tie as tie

@@ -1,5 +1,5 @@
 -- `put_listed` meets its contract: one store is one change of the view. Assumes nothing.
-use Rattle.layout.specs.View.{view-list}
+use Rattle.layout.proofs.View.{view-list}
 use borrow.Author.Needs.{needs}
 use Rattle.layout.proofs.put_listed.Statement.{statement}
 use Rattle.layout.proofs.put_listed.Tie as tie

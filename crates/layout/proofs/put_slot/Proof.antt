@@ -1,5 +1,5 @@
 -- `put_slot` meets its contract: one store is one change of the view. Assumes nothing.
-use Rattle.layout.specs.View.{view-slot}
+use Rattle.layout.proofs.View.{view-slot}
 use borrow.Author.Needs.{needs}
 use Rattle.layout.proofs.put_slot.Statement.{statement}
 use Rattle.layout.proofs.put_slot.Tie as tie

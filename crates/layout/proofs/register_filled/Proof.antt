@@ -1,6 +1,6 @@
 -- `register_filled` meets its contract: past the last register nothing is filled, else the word of its place decides. Assumes nothing.
 use mathlib.Core.Path.{sym}
-use Rattle.layout.specs.Roots.{root-past, root-is}
+use Rattle.layout.proofs.Roots.{root-past, root-is}
 use borrow.Author.Needs.{needs}
 use Rattle.layout.proofs.register_filled.Statement.{statement}
 use Rattle.layout.proofs.register_filled.Tie as tie

@@ -1,6 +1,6 @@
 -- `root_word` meets its contract: the view has 0 past the header and past the words. Assumes nothing.
 use mathlib.Core.Path.{sym}
-use Rattle.layout.specs.View.{header-is, header-past, header-end}
+use Rattle.layout.proofs.View.{header-is, header-past, header-end}
 use borrow.Author.Needs.{needs}
 use Rattle.layout.proofs.root_word.Statement.{statement}
 use Rattle.layout.proofs.root_word.Tie as tie

@@ -1,6 +1,6 @@
 -- `row_of` meets its contract: an arrow to a row is at least 2, and is the arrow to that row. Assumes nothing.
 use native.Mathlib.Omega.{arith}
-use Rattle.layout.specs.Arrows.{row-is}
+use Rattle.layout.proofs.Arrows.{row-is}
 use Rattle.layout.proofs.row_of.Statement.{statement}
 use Rattle.layout.proofs.row_of.Tie as tie
 

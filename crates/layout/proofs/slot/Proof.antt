@@ -1,5 +1,5 @@
 -- `slot` meets its contract: the view has the word at that place. Assumes nothing.
-use Rattle.layout.specs.View.{slot-is}
+use Rattle.layout.proofs.View.{slot-is}
 use borrow.Author.Needs.{needs}
 use Rattle.layout.proofs.slot.Statement.{statement}
 use Rattle.layout.proofs.slot.Tie as tie

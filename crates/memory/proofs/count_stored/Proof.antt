@@ -1,6 +1,6 @@
 -- `count_stored` meets its contract: it counts, or doubles. Assumes nothing.
 use native.Mathlib.Omega.{arith}
-use Rattle.memory.specs.Store.{fewer-stored}
+use Rattle.memory.proofs.Store.{fewer-stored}
 use borrow.Author.Needs.{needs}
 use Rattle.memory.proofs.count_stored.Statement.{statement}
 use Rattle.memory.proofs.count_stored.Tie as tie

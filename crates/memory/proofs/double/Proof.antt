@@ -1,7 +1,7 @@
 -- `double` meets its contract: the new half is empty, so no entry is there that was not. Assumes nothing.
 use native.Mathlib.Omega.{arith}
-use Rattle.memory.specs.Frame.{room-memo, memo-stored}
-use Rattle.memory.specs.Store.{fewer-stored, fewer-doubled}
+use Rattle.memory.proofs.Frame.{room-memo, memo-stored}
+use Rattle.memory.proofs.Store.{fewer-stored, fewer-doubled}
 use borrow.Author.Needs.{needs}
 use Rattle.memory.proofs.double.Statement.{statement}
 use Rattle.memory.proofs.double.Tie as tie

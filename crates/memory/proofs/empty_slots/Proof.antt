@@ -4,7 +4,8 @@ use Prim.Native.Nat.{_-_, _≤_}
 use native.Mathlib.Omega.{arith}
 use lib.ListN.{length}
 use Rattle.layout.specs.View.{view}
-use Rattle.memory.specs.Store.{Emptied, emptied-none, emptied-more}
+use Rattle.memory.specs.Store.{Emptied}
+use Rattle.memory.proofs.Store.{emptied-none, emptied-more}
 use Rattle.memory.proofs.empty_slots.Statement.{statement}
 use Rattle.memory.proofs.empty_slots.Tie as tie
 

@@ -1,6 +1,6 @@
 -- `forget` meets its contract: the active slots are emptied, and so are the keys of the listed rows, which are the used ones. Assumes nothing.
 use native.Mathlib.Omega.{arith}
-use Rattle.memory.specs.Forget.{forget-room, forget-list, forgot-by}
+use Rattle.memory.proofs.ForgetLaws.{forget-room, forget-list, forgot-by}
 use borrow.Author.Needs.{needs}
 use Rattle.memory.proofs.forget.Statement.{statement}
 use Rattle.memory.proofs.forget.Tie as tie

@@ -4,7 +4,8 @@ use Prim.Native.Nat.{_-_, _≤_}
 use native.Mathlib.Omega.{arith}
 use lib.ListN.{length}
 use Rattle.layout.specs.View.{view}
-use Rattle.memory.specs.Forget.{RowsForgot, rows-none, rows-more, rows-list}
+use Rattle.memory.specs.Forget.{RowsForgot}
+use Rattle.memory.proofs.ForgetLaws.{rows-none, rows-more, rows-list}
 use Rattle.memory.proofs.forget_rows.Statement.{statement}
 use Rattle.memory.proofs.forget_rows.Tie as tie
 

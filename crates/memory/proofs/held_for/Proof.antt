@@ -1,6 +1,6 @@
 -- `held_for` meets its contract: by the test of the mark. Assumes nothing.
 use mathlib.Core.Path.{sym, _∙_}
-use Rattle.memory.specs.Store.{held-turned, held-plain}
+use Rattle.memory.proofs.Store.{held-turned, held-plain}
 use borrow.Author.Needs.{needs}
 use Rattle.memory.proofs.held_for.Statement.{statement}
 use Rattle.memory.proofs.held_for.Tie as tie

@@ -1,6 +1,6 @@
 -- `key_after` meets its contract: one law for each way through. Assumes nothing.
 use mathlib.Core.Path.{sym, _∙_}
-use Rattle.memory.specs.Store.{key-turned, key-same, key-other}
+use Rattle.memory.proofs.Store.{key-turned, key-same, key-other}
 use borrow.Author.Needs.{needs}
 use Rattle.memory.proofs.key_after.Statement.{statement}
 use Rattle.memory.proofs.key_after.Tie as tie

@@ -1,6 +1,6 @@
 -- `recall_row` meets its contract: the kind is asked for, and the word for the arrow holds an answer. Assumes nothing.
 use Rattle.layout.specs.Arrows.{isMarked}
-use Rattle.memory.specs.Store.{recalled}
+use Rattle.memory.proofs.Store.{recalled}
 use borrow.Author.Needs.{needs}
 use Rattle.memory.proofs.recall_row.Statement.{statement}
 use Rattle.memory.proofs.recall_row.Tie as tie

@@ -1,7 +1,7 @@
 -- `remember` meets its contract: the result is counted and then written. Assumes nothing.
 use mathlib.Core.Path.{refl}
-use Rattle.table.specs.Code.{code-is, code-at}
-use Rattle.memory.specs.Frame.{room-memo}
+use Rattle.table.proofs.CodeLaws.{code-is, code-at}
+use Rattle.memory.proofs.Frame.{room-memo}
 use borrow.Author.Needs.{needs}
 use Rattle.memory.proofs.remember.Statement.{statement}
 use Rattle.memory.proofs.remember.Tie as tie

@@ -1,6 +1,6 @@
 -- `remember_row` meets its contract: two words of the row are written. Assumes nothing.
 use Rattle.layout.specs.View.{view}
-use Rattle.memory.specs.Store.{kept-none, kept-by}
+use Rattle.memory.proofs.Store.{kept-none, kept-by}
 use borrow.Author.Needs.{needs}
 use Rattle.memory.proofs.remember_row.Statement.{statement}
 use Rattle.memory.proofs.remember_row.Tie as tie

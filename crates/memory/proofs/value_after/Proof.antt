@@ -1,6 +1,6 @@
 -- `value_after` meets its contract: one law for each way through. Assumes nothing.
-use Rattle.rows.specs.Says.{test-yes, test-no}
-use Rattle.memory.specs.Store.{value-plain, value-same, value-none}
+use Rattle.rows.proofs.Says.{test-yes, test-no}
+use Rattle.memory.proofs.Store.{value-plain, value-same, value-none}
 use borrow.Author.Needs.{needs}
 use Rattle.memory.proofs.value_after.Statement.{statement}
 use Rattle.memory.proofs.value_after.Tie as tie

@@ -1,6 +1,7 @@
 -- `write_entry` meets its contract: three words of one active slot are written. Assumes nothing.
 use mathlib.Core.Path.{refl}
-use Rattle.memory.specs.Store.{no-slot, wrote-by}
+use Rattle.memory.specs.Store.{no-slot}
+use Rattle.memory.proofs.Store.{wrote-by}
 use borrow.Author.Needs.{needs}
 use Rattle.memory.proofs.write_entry.Statement.{statement}
 use Rattle.memory.proofs.write_entry.Tie as tie

@@ -1,6 +1,6 @@
 -- `boxed` meets its contract: NOT, diamond and NOT, each NOT within V, are one chain of steps. Assumes nothing.
 use mathlib.Core.Path.{_∙_}
-use Rattle.modal.specs.Laws.{complement-asks, first-full, diamond-asks, inner-full, last-asks, box-ends}
+use Rattle.modal.proofs.Laws.{complement-asks, first-full, diamond-asks, inner-full, last-asks, box-ends}
 use borrow.Author.Needs.{needs}
 use Rattle.modal.proofs.boxed.Statement.{statement}
 use Rattle.modal.proofs.boxed.Tie as tie

@@ -2,9 +2,9 @@
 -- does. Assumes nothing.
 use mathlib.Core.Path.{_∙_}
 use native.Mathlib.Omega.{arith}
-use Rattle.counting.specs.After.{and-all}
-use Rattle.modal.specs.Chain.{base-bits, took}
-use Rattle.modal.specs.Laws.{not-asks, not-full, in-base, in-asks, complement-ends}
+use Rattle.counting.proofs.After.{and-all}
+use Rattle.modal.proofs.Chain.{base-bits, took}
+use Rattle.modal.proofs.Laws.{not-asks, not-full, in-base, in-asks, complement-ends}
 use borrow.Author.Needs.{needs}
 use Rattle.modal.proofs.complement.Statement.{statement}
 use Rattle.modal.proofs.complement.Tie as tie

@@ -1,8 +1,8 @@
 -- `diamond` meets its contract: SHIFT, AND and the loop are one chain of steps. Assumes nothing.
 use mathlib.Core.Path.{_∙_}
 use native.Mathlib.Omega.{arith}
-use Rattle.modal.specs.Chain.{base-bits, took}
-use Rattle.modal.specs.Laws.{shift-asks, shift-full, and-base, and-asks, and-full, loop-asks, diamond-ends}
+use Rattle.modal.proofs.Chain.{base-bits, took}
+use Rattle.modal.proofs.Laws.{shift-asks, shift-full, and-base, and-asks, and-full, loop-asks, diamond-ends}
 use borrow.Author.Needs.{needs}
 use Rattle.modal.proofs.diamond.Statement.{statement}
 use Rattle.modal.proofs.diamond.Tie as tie

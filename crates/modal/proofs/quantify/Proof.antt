@@ -6,8 +6,8 @@ use native.Mathlib.Omega.{arith}
 use lib.ListN.{length}
 use Rattle.layout.specs.View.{view}
 use Rattle.counting.specs.Counts.{CountsOf}
-use Rattle.modal.specs.Chain.{base-bits}
-use Rattle.modal.specs.Left.{Stands, stands-begins, stands-asks, stands-full, stands-turns, stands-rest, stands-grown, stands-found, stands-ends}
+use Rattle.modal.proofs.Chain.{base-bits}
+use Rattle.modal.proofs.Left.{Stands, stands-begins, stands-asks, stands-full, stands-turns, stands-rest, stands-grown, stands-found, stands-ends}
 use Rattle.modal.proofs.quantify.Statement.{statement}
 use Rattle.modal.proofs.quantify.Tie as tie
 

@@ -2,12 +2,12 @@
 use borrow.Author.Needs.{needs}
 use native.Mathlib.Omega.{arith}
 use Prim.Native.Nat.{_+_, _*_, ℕ, _<_}
-use Rattle.table.specs.Find.{good-room}
+use Rattle.table.proofs.FindLaws.{good-room}
 use Rattle.layout.specs.View.{view}
 use Rattle.rows.specs.Used.{rowsOf}
-use Rattle.operations.specs.Work.{ready-wf, ready-room, ready-next, low-stops, high-stops, row-pre, row-made}
-use Rattle.operations.specs.Open.{part-falls}
-use Rattle.operations.specs.Pairs.{depth, sorted-swap, swap-arrows, swap-depth, swap-worked, short-none, both-within, split, pair-low-falls, pair-high-falls, pair-high-later, known-worked, pair-calls, pair-kept}
+use Rattle.operations.proofs.Work.{ready-wf, ready-room, ready-next, low-stops, high-stops, row-pre, row-made}
+use Rattle.operations.proofs.Open.{part-falls}
+use Rattle.operations.proofs.Pairs.{depth, sorted-swap, swap-arrows, swap-depth, swap-worked, short-none, both-within, split, pair-low-falls, pair-high-falls, pair-high-later, known-worked, pair-calls, pair-kept}
 use borrow.Fn.Kinds.{In}
 use borrow.Fn.PlainCycle.{Measures, is, falls, and}
 use Rattle.operations.proofs.+and_part+and_rows.{statement}

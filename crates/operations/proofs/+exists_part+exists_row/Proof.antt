@@ -4,9 +4,9 @@ use native.Mathlib.Omega.{arith}
 use Prim.Native.Nat.{_+_, _*_, ℕ, _<_}
 use Rattle.layout.specs.View.{view}
 use Rattle.rows.specs.Used.{rowsOf}
-use Rattle.operations.specs.Work.{ready-wf, ready-look, ready-next, worked-there, low-stops, high-stops, row-pre, row-made}
-use Rattle.operations.specs.Open.{depth, row-at, opened, part-falls, low-falls, high-falls, high-later, reached}
-use Rattle.operations.specs.Rows.{exists-calls, exists-own, exists-kept}
+use Rattle.operations.proofs.Work.{ready-wf, ready-look, ready-next, worked-there, low-stops, high-stops, row-pre, row-made}
+use Rattle.operations.proofs.Open.{depth, row-at, opened, part-falls, low-falls, high-falls, high-later, reached}
+use Rattle.operations.proofs.Rows.{exists-calls, exists-own, exists-kept}
 use borrow.Fn.Kinds.{In}
 use borrow.Fn.PlainCycle.{Measures, is, falls, and}
 use Rattle.operations.proofs.+exists_part+exists_row.{statement}

@@ -4,9 +4,9 @@ use native.Mathlib.Omega.{arith}
 use Prim.Native.Nat.{_+_, _*_, ℕ, _<_}
 use Rattle.layout.specs.View.{view}
 use Rattle.rows.specs.Used.{rowsOf}
-use Rattle.operations.specs.Work.{ready-wf, ready-look}
-use Rattle.operations.specs.Open.{depth, row-at, opened, part-falls, low-falls, high-falls}
-use Rattle.operations.specs.Odd.{odd-there, odd-low-stops, odd-high-pre, odd-high-stops, odd-join-pre, odd-joined, odd-kept}
+use Rattle.operations.proofs.Work.{ready-wf, ready-look}
+use Rattle.operations.proofs.Open.{depth, row-at, opened, part-falls, low-falls, high-falls}
+use Rattle.operations.proofs.Odd.{odd-there, odd-low-stops, odd-high-pre, odd-high-stops, odd-join-pre, odd-joined, odd-kept}
 use borrow.Fn.Kinds.{In}
 use borrow.Fn.PlainCycle.{Measures, is, falls, and}
 use Rattle.operations.proofs.+odd_part+odd_row.{statement}

@@ -4,10 +4,10 @@ use native.Mathlib.Omega.{arith}
 use Prim.Native.Nat.{_+_, _*_, ℕ, _<_}
 use Rattle.layout.specs.View.{view}
 use Rattle.rows.specs.Used.{rowsOf}
-use Rattle.operations.specs.Work.{ready-wf, ready-look, ready-next, worked-there, low-stops, high-stops, row-pre, row-made}
-use Rattle.operations.specs.Open.{depth, row-at, opened, part-falls, low-falls, high-falls, high-later}
-use Rattle.operations.specs.Rows.{shift-calls, shift-low, shift-high}
-use Rattle.operations.specs.Carried.{plain-row, plain-mark, plain-arrow, plain-reads, plain-depth, shift-carried, plain-is, plain-kept}
+use Rattle.operations.proofs.Work.{ready-wf, ready-look, ready-next, worked-there, low-stops, high-stops, row-pre, row-made}
+use Rattle.operations.proofs.Open.{depth, row-at, opened, part-falls, low-falls, high-falls, high-later}
+use Rattle.operations.proofs.Rows.{shift-calls, shift-low, shift-high}
+use Rattle.operations.proofs.Carried.{plain-row, plain-mark, plain-arrow, plain-reads, plain-depth, shift-carried, plain-is, plain-kept}
 use borrow.Fn.Kinds.{In}
 use borrow.Fn.PlainCycle.{Measures, is, falls, and}
 use Rattle.operations.proofs.+shift_part+shift_row.{statement}

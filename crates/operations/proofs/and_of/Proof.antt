@@ -1,8 +1,8 @@
 -- `and_of` meets its contract: what is known of the pair in order, or the work on its rows. Assumes nothing.
 use borrow.Author.Needs.{needs}
 use native.Mathlib.Omega.{arith}
-use Rattle.operations.specs.Work.{ready-room}
-use Rattle.operations.specs.Pairs.{sorted-swap, swap-arrows, swap-worked, short-none, known-worked}
+use Rattle.operations.proofs.Work.{ready-room}
+use Rattle.operations.proofs.Pairs.{sorted-swap, swap-arrows, swap-worked, short-none, known-worked}
 use Rattle.operations.proofs.and_of.Statement.{statement}
 use Rattle.operations.proofs.and_of.Tie as tie
 

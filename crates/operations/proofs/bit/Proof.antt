@@ -1,5 +1,5 @@
 -- `bit` meets its contract: a bit is one row. Assumes nothing.
-use Rattle.operations.specs.Work.{bit-worked}
+use Rattle.operations.proofs.Work.{bit-worked}
 use borrow.Author.Needs.{needs}
 use Rattle.operations.proofs.bit.Statement.{statement}
 use Rattle.operations.proofs.bit.Tie as tie

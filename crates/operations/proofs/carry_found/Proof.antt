@@ -1,5 +1,5 @@
 -- `carry_found` meets its contract: by what was found. Assumes nothing.
-use Rattle.operations.specs.Carried.{carried-at}
+use Rattle.operations.proofs.Carried.{carried-at}
 use Rattle.layout.specs.Arrows.{isMarked}
 use borrow.Author.Needs.{needs}
 use Rattle.operations.proofs.carry_found.Statement.{statement}

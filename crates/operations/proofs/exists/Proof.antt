@@ -1,6 +1,6 @@
 -- `exists` meets its contract: what is known, or the work on the row. Assumes nothing.
 use borrow.Author.Needs.{needs}
-use Rattle.operations.specs.Work.{ready-look, worked-there}
+use Rattle.operations.proofs.Work.{ready-look, worked-there}
 use Rattle.operations.proofs.exists.Statement.{statement}
 use Rattle.operations.proofs.exists.Tie as tie
 

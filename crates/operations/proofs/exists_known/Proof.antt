@@ -1,9 +1,9 @@
 -- `exists_known` meets its contract: the function does not read x, or what the row remembers. Assumes nothing.
 use native.Mathlib.Omega.{arith}
-use Rattle.rows.specs.Says.{test-yes, test-no}
-use Rattle.operations.specs.Work.{ready-wf}
-use Rattle.operations.specs.Open.{row-at, reaches}
-use Rattle.operations.specs.Rows.{exists-constant, exists-past, exists-known}
+use Rattle.rows.proofs.Says.{test-yes, test-no}
+use Rattle.operations.proofs.Work.{ready-wf}
+use Rattle.operations.proofs.Open.{row-at, reaches}
+use Rattle.operations.proofs.Rows.{exists-constant, exists-past, exists-known}
 use borrow.Author.Needs.{needs}
 use Rattle.operations.proofs.exists_known.Statement.{statement}
 use Rattle.operations.proofs.exists_known.Tie as tie

@@ -1,6 +1,6 @@
 -- `exists_odd` meets its contract: what is known, or the work on the row. Assumes nothing.
-use Rattle.operations.specs.Work.{ready-look}
-use Rattle.operations.specs.Odd.{odd-there}
+use Rattle.operations.proofs.Work.{ready-look}
+use Rattle.operations.proofs.Odd.{odd-there}
 use borrow.Author.Needs.{needs}
 use Rattle.operations.proofs.exists_odd.Statement.{statement}
 use Rattle.operations.proofs.exists_odd.Tie as tie

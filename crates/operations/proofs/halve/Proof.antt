@@ -1,5 +1,5 @@
 -- `halve` meets its contract: the row is at the level, or past it. Assumes nothing.
-use Rattle.operations.specs.Pairs.{halves-past, halves-here}
+use Rattle.operations.proofs.Pairs.{halves-past, halves-here}
 use borrow.Author.Needs.{needs}
 use Rattle.operations.proofs.halve.Statement.{statement}
 use Rattle.operations.proofs.halve.Tie as tie

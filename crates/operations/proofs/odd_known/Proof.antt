@@ -1,9 +1,9 @@
 -- `odd_known` meets its contract: a constant, or what the row remembers. Assumes nothing.
 use native.Mathlib.Omega.{arith}
-use Rattle.rows.specs.Says.{test-yes, test-no}
-use Rattle.operations.specs.Work.{ready-wf}
-use Rattle.operations.specs.Open.{row-at}
-use Rattle.operations.specs.Odd.{odd-constant, odd-remembered}
+use Rattle.rows.proofs.Says.{test-yes, test-no}
+use Rattle.operations.proofs.Work.{ready-wf}
+use Rattle.operations.proofs.Open.{row-at}
+use Rattle.operations.proofs.Odd.{odd-constant, odd-remembered}
 use borrow.Author.Needs.{needs}
 use Rattle.operations.proofs.odd_known.Statement.{statement}
 use Rattle.operations.proofs.odd_known.Tie as tie

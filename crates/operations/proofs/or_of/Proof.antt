@@ -1,5 +1,5 @@
 -- `or_of` meets its contract: NOT of AND of the two with the other mark. Assumes nothing.
-use Rattle.operations.specs.Pairs.{or-arrows, or-full, or-made}
+use Rattle.operations.proofs.Pairs.{or-arrows, or-full, or-made}
 use borrow.Author.Needs.{needs}
 use Rattle.operations.proofs.or_of.Statement.{statement}
 use Rattle.operations.proofs.or_of.Tie as tie

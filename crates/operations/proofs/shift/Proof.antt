@@ -1,7 +1,7 @@
 -- `shift` meets its contract: what is known, or the work on the row, the mark carried. Assumes nothing.
 use borrow.Author.Needs.{needs}
-use Rattle.operations.specs.Work.{ready-look, worked-there}
-use Rattle.operations.specs.Carried.{plain-row, plain-mark, plain-arrow, plain-reads, shift-carried}
+use Rattle.operations.proofs.Work.{ready-look, worked-there}
+use Rattle.operations.proofs.Carried.{plain-row, plain-mark, plain-arrow, plain-reads, shift-carried}
 use Rattle.operations.proofs.shift.Statement.{statement}
 use Rattle.operations.proofs.shift.Tie as tie
 

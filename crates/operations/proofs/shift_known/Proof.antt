@@ -1,10 +1,10 @@
 -- `shift_known` meets its contract: a constant, or what the row remembers for the arrow without a NOT. Assumes nothing.
 use native.Mathlib.Omega.{arith}
-use Rattle.rows.specs.Says.{test-yes, test-no}
-use Rattle.operations.specs.Work.{ready-wf}
-use Rattle.operations.specs.Open.{row-at}
-use Rattle.operations.specs.Rows.{shift-constant}
-use Rattle.operations.specs.Carried.{shift-remembered}
+use Rattle.rows.proofs.Says.{test-yes, test-no}
+use Rattle.operations.proofs.Work.{ready-wf}
+use Rattle.operations.proofs.Open.{row-at}
+use Rattle.operations.proofs.Rows.{shift-constant}
+use Rattle.operations.proofs.Carried.{shift-remembered}
 use borrow.Author.Needs.{needs}
 use Rattle.operations.proofs.shift_known.Statement.{statement}
 use Rattle.operations.proofs.shift_known.Tie as tie

@@ -1,5 +1,5 @@
 -- `short` meets its contract: one law for each way through. Assumes nothing.
-use Rattle.operations.specs.Pairs.{short-same, short-not, short-row, short-zero, short-one}
+use Rattle.operations.proofs.Pairs.{short-same, short-not, short-row, short-zero, short-one}
 use borrow.Author.Needs.{needs}
 use Rattle.operations.proofs.short.Statement.{statement}
 use Rattle.operations.proofs.short.Tie as tie

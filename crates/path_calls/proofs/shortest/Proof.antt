@@ -1,6 +1,6 @@
 -- `shortest` meets its contract: each check refuses by its cause, and then the search answers. Assumes nothing.
 use native.Mathlib.Omega.{arith}
-use Rattle.rows.specs.Says.{says-pass, says-fail}
+use Rattle.rows.proofs.Says.{says-pass, says-fail}
 use Rattle.path_calls.proofs.Checks.{path-unsound, path-range, path-first, path-second, path-third, call-asks, call-ends}
 use Rattle.layout.proofs.header_word.Reads as header-word-reads
 use Rattle.path_calls.proofs.search.Reads as search-reads

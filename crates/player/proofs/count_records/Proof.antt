@@ -5,7 +5,7 @@ use Prim.Native.Nat.{_-_}
 use native.Mathlib.Omega.{arith}
 use lib.ListN.{length, length-append, length-drop}
 use Rattle.book.specs.Program.{Command}
-use Rattle.player.specs.Passes.{Passed, passed-none, passed-next, passed-all, passed-bad, size-some, size-zero, sized-at}
+use Rattle.player.proofs.Passes.{Passed, passed-none, passed-next, passed-all, passed-bad, size-some, size-zero, sized-at}
 use borrow.Author.Needs.{needs}
 use Rattle.player.proofs.count_records.Statement.{statement}
 use Rattle.player.proofs.count_records.Tie as tie

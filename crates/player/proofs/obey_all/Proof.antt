@@ -5,8 +5,8 @@ use native.Mathlib.Omega.{arith}
 use lib.ListN.{length, length-drop}
 use Rattle.rows.specs.Says.{Says}
 use Rattle.contract.specs.Seen.{SoundWords}
-use Rattle.player.specs.Passes.{next-at, readable-at}
-use Rattle.player.specs.Chained.{Progress, progress-none, progress-next, progress-all, room-at}
+use Rattle.player.proofs.Passes.{next-at, readable-at}
+use Rattle.player.proofs.Chained.{Progress, progress-none, progress-next, progress-all, room-at}
 use borrow.Author.Needs.{needs}
 use Rattle.player.proofs.obey_all.Statement.{statement}
 use Rattle.player.proofs.obey_all.Tie as tie

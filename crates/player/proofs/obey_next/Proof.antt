@@ -1,8 +1,8 @@
 -- `obey_next` obeys the record that can be read, lists its outcome, and knows whether the words are sound after it. Assumes nothing.
 use mathlib.Core.Bool.{true}
 use Rattle.commands.specs.declared.Taken.the-variants.{End, More, Bad}
-use Rattle.commands.specs.After.{obeyed-sound}
-use Rattle.player.specs.Next.{next-done, next-other}
+use Rattle.commands.proofs.After.{obeyed-sound}
+use Rattle.player.proofs.Next.{next-done, next-other}
 use borrow.Author.Needs.{needs}
 use Rattle.player.proofs.obey_next.Statement.{statement}
 use Rattle.player.proofs.obey_next.Tie as tie

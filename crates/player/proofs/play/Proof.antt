@@ -2,7 +2,7 @@
 use mathlib.Core.Path.{refl, subst, _∙_}
 use native.Mathlib.Omega.{arith}
 use Rattle.player.specs.Play.{CountPost}
-use Rattle.player.specs.Chained.{all-none, all-done}
+use Rattle.player.proofs.Chained.{all-none, all-done}
 use borrow.Author.Needs.{needs}
 use Rattle.player.proofs.play.Statement.{statement}
 use Rattle.player.proofs.play.Tie as tie

@@ -1,7 +1,7 @@
 -- `put_outcome` writes five words one after the other. Assumes nothing.
 use native.Mathlib.Omega.{arith}
 use lib.ListN.{length-set}
-use Rattle.player.specs.Next.{put-five}
+use Rattle.player.proofs.Next.{put-five}
 use borrow.Author.Needs.{needs}
 use Rattle.player.proofs.put_outcome.Statement.{statement}
 use Rattle.player.proofs.put_outcome.Tie as tie

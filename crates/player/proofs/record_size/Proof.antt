@@ -1,6 +1,6 @@
 -- `record_size` is the size of what `read_record` finds. Assumes nothing.
 use mathlib.Core.Path.{sym, _∙_}
-use Rattle.player.specs.Passes.{size-record, size-end, size-more, size-bad}
+use Rattle.player.proofs.Passes.{size-record, size-end, size-more, size-bad}
 use borrow.Author.Needs.{needs}
 use Rattle.player.proofs.record_size.Statement.{statement}
 use Rattle.player.proofs.record_size.Tie as tie

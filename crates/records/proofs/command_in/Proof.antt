@@ -4,7 +4,7 @@ use lib.ListN.{length}
 use mathlib.Core.Path.{sym, _∙_}
 use native.Mathlib.Omega.{arith}
 use borrow.Author.Tests.{leb-true, eqb-true}
-use Rattle.records.specs.Reading.{takes-at, command-at, command-last}
+use Rattle.records.proofs.Reading.{takes-at, command-at, command-last}
 use borrow.Author.Needs.{needs}
 use Rattle.records.proofs.command_in.Statement.{statement}
 use Rattle.records.proofs.command_in.Tie as tie

@@ -7,7 +7,7 @@ use lib.ListN.{getD}
 use native.Mathlib.Omega.{arith}
 use Rattle.book.specs.Program.{recordLength}
 use Rattle.records.specs.Record.{takes}
-use Rattle.records.specs.Reading.{range-within, range-below, range-above, doomed-two, doomed-length, doomed-three, doomed-version, doomed-four, doomed-takes}
+use Rattle.records.proofs.Reading.{range-within, range-below, range-above, doomed-two, doomed-length, doomed-three, doomed-version, doomed-four, doomed-takes}
 use borrow.Author.Needs.{needs}
 use Rattle.records.proofs.doomed.Statement.{statement}
 use Rattle.records.proofs.doomed.Tie as tie

@@ -3,7 +3,7 @@
 use mathlib.Core.Path.{sym, _∙_}
 use mathlib.Core.Bool.{true, false}
 use native.Mathlib.Omega.{arith}
-use Rattle.records.specs.Reading.{read-none, read-bad, read-partial, read-command, hopeful-length, hopeful-short, arguments-taken}
+use Rattle.records.proofs.Reading.{read-none, read-bad, read-partial, read-command, hopeful-length, hopeful-short, arguments-taken}
 use borrow.Author.Needs.{needs}
 use Rattle.records.proofs.read_record.Statement.{statement}
 use Rattle.records.proofs.read_record.Tie as tie

@@ -1,7 +1,7 @@
 -- `records::takes` meets its contract: each arm is the definition at its operation.
 -- Assumes nothing.
 use mathlib.Core.Path.{sym}
-use Rattle.records.specs.Reading.{takes-at, takes-none}
+use Rattle.records.proofs.Reading.{takes-at, takes-none}
 use Rattle.records.proofs.takes.Statement.{statement}
 use Rattle.records.proofs.takes.Tie as tie
 

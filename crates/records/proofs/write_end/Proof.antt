@@ -1,7 +1,7 @@
 -- `records::write_end` meets its contract: the two texts are the definition's.
 -- Assumes nothing.
 use mathlib.Core.Bool.{true, false}
-use Rattle.records.specs.Text.{wrote-end}
+use Rattle.records.proofs.TextLaws.{wrote-end}
 use borrow.Author.Needs.{needs}
 use Rattle.records.proofs.write_end.Statement.{statement}
 use Rattle.records.proofs.write_end.Tie as tie

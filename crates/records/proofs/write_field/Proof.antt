@@ -1,7 +1,7 @@
 -- `records::write_field` meets its contract: the number, then the byte after it.
 -- Assumes nothing.
 use native.Mathlib.Omega.{arith}
-use Rattle.records.specs.Text.{wrote-field}
+use Rattle.records.proofs.TextLaws.{wrote-field}
 use borrow.Author.Needs.{needs}
 use Rattle.records.proofs.write_field.Statement.{statement}
 use Rattle.records.proofs.write_field.Tie as tie

@@ -1,7 +1,7 @@
 -- `records::write_line` meets its contract: a line is its four fields one after the other, each of 11 bytes at most.
 -- Assumes nothing.
 use native.Mathlib.Omega.{arith}
-use Rattle.records.specs.Text.{wrote-line}
+use Rattle.records.proofs.TextLaws.{wrote-line}
 use borrow.Author.Needs.{needs}
 use Rattle.records.proofs.write_line.Statement.{statement}
 use Rattle.records.proofs.write_line.Tie as tie

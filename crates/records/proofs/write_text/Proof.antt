@@ -5,7 +5,8 @@ use borrow.Author.Needs.{needs}
 use native.Mathlib.Omega.{arith}
 use Prim.Native.Nat.{_+_, _-_, _≤_}
 use lib.ListN.{length, take, length-set}
-use Rattle.records.specs.Text.{Wrote, wrote-none, wrote-turn, wrote-all}
+use Rattle.records.specs.Text.{Wrote}
+use Rattle.records.proofs.TextLaws.{wrote-none, wrote-turn, wrote-all}
 use Rattle.records.proofs.write_text.Statement.{statement}
 use Rattle.records.proofs.write_text.Tie as tie
 

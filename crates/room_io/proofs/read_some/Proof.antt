@@ -1,6 +1,6 @@
 -- `room_io::read_some` meets its contract: a read that neither failed nor ended brought a byte or more.
 -- Assumes nothing.
-use Rattle.room_io.specs.Turns.{some-bytes}
+use Rattle.room_io.proofs.Turns.{some-bytes}
 use borrow.Author.Needs.{needs}
 use Rattle.room_io.proofs.read_some.Statement.{statement}
 use Rattle.room_io.proofs.read_some.Tie as tie

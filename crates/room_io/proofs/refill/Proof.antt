@@ -3,7 +3,7 @@
 use mathlib.Core.Path.{refl}
 use mathlib.Core.Bool.{true, false}
 use native.Mathlib.Omega.{arith}
-use Rattle.room_io.specs.Turns.{bytes-fit, refilled-bytes, refilled-none}
+use Rattle.room_io.proofs.Turns.{bytes-fit, refilled-bytes, refilled-none}
 use borrow.Author.Needs.{needs}
 use Rattle.room_io.proofs.refill.Statement.{statement}
 use Rattle.room_io.proofs.refill.Tie as tie

@@ -7,8 +7,8 @@ use mathlib.Core.Logic.{inl, inr, ⊎-elim}
 use Rattle.rows.specs.Says.{Says}
 use Rattle.contract.specs.Seen.{SoundWords}
 use Rattle.room_io.specs.Places.{Placed}
-use Rattle.room_io.specs.Pace.{Upto, upto-none, upto-next, upto-served}
-use Rattle.room_io.specs.Known.{known-first}
+use Rattle.room_io.proofs.Pace.{Upto, upto-none, upto-next, upto-served}
+use Rattle.room_io.proofs.Known.{known-first}
 use Rattle.room_io.proofs.serve.Statement.{statement}
 use Rattle.room_io.proofs.serve.Tie as tie
 

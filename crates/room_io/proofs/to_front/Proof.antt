@@ -3,7 +3,7 @@
 use mathlib.Core.Path.{refl}
 use Prim.Native.Nat.{_-_, _≤_}
 use native.Mathlib.Omega.{arith}
-use Rattle.room_io.specs.Moves.{Moved, moved-none, moved-one, moved-all}
+use Rattle.room_io.proofs.Moves.{Moved, moved-none, moved-one, moved-all}
 use Rattle.room_io.proofs.to_front.Statement.{statement}
 use Rattle.room_io.proofs.to_front.Tie as tie
 

@@ -1,9 +1,9 @@
 -- `room_io::turn` meets its contract: an answer uses bytes at hand and writes into the room behind what is unwritten; each arm is one law.
 -- Assumes nothing.
 use native.Mathlib.Omega.{arith}
-use Rattle.rooms.specs.Replies.{line-said, end-said, more-said, more-same, room-same}
-use Rattle.room_io.specs.Turns.{turned-line, turned-end, turned-more, turned-room}
-use Rattle.room_io.specs.Known.{known-still}
+use Rattle.rooms.proofs.Replies.{line-said, end-said, more-said, more-same, room-same}
+use Rattle.room_io.proofs.Turns.{turned-line, turned-end, turned-more, turned-room}
+use Rattle.room_io.proofs.Known.{known-still}
 use borrow.Author.Needs.{needs}
 use Rattle.room_io.proofs.turn.Statement.{statement}
 use Rattle.room_io.proofs.turn.Tie as tie

@@ -2,8 +2,8 @@
 -- Assumes nothing.
 use mathlib.Core.Path.{refl}
 use Rattle.commands.specs.declared.Taken.the-variants.{End, More, Bad}
-use Rattle.commands.specs.After.{taken-says, obeyed-sound}
-use Rattle.rooms.specs.Replies.{replies-room, replies-line, replies-end, replies-bad, replies-more}
+use Rattle.commands.proofs.After.{taken-says, obeyed-sound}
+use Rattle.rooms.proofs.Replies.{replies-room, replies-line, replies-end, replies-bad, replies-more}
 use borrow.Author.Needs.{needs}
 use Rattle.rooms.proofs.answer.Statement.{statement}
 use Rattle.rooms.proofs.answer.Tie as tie

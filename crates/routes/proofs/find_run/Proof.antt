@@ -1,6 +1,6 @@
 -- `find_run` meets its contract: the first pass, then the run where a layer shares a state. Assumes nothing.
 use mathlib.Core.Path.{_∙_}
-use Rattle.routes.specs.Find.{find-full, find-none, find-asks, find-run}
+use Rattle.routes.proofs.Find.{find-full, find-none, find-asks, find-run}
 use Rattle.layers.proofs.reach.Reads as reach-reads
 use Rattle.routes.proofs.write_run.Reads as write-run-reads
 use borrow.Author.Needs.{needs}

@@ -6,7 +6,8 @@ use lib.ListN.{length, length-set}
 use Rattle.layout.specs.View.{view}
 use Rattle.counting.specs.Counts.{CountsOf}
 use Rattle.layers.specs.Scene.{Scene}
-use Rattle.routes.specs.Write.{Onward, Writing, write-starts, write-again, next-walks, next-small, write-turns, write-ends}
+use Rattle.routes.specs.Write.{Onward}
+use Rattle.routes.proofs.Write.{Writing, write-starts, write-again, next-walks, next-small, write-turns, write-ends}
 use Rattle.layers.proofs.make_layer.Reads as make-layer-reads
 use Rattle.seek.proofs.least_next.Reads as least-next-reads
 use borrow.Author.Needs.{needs}

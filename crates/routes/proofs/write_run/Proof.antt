@@ -1,7 +1,7 @@
 -- `write_run` meets its contract: the list is too short, or the first state is written and then the others. Assumes nothing.
 use native.Mathlib.Omega.{arith}
 use lib.ListN.{length-set}
-use Rattle.routes.specs.Find.{first-small, run-short, run-asks, run-written}
+use Rattle.routes.proofs.Find.{first-small, run-short, run-asks, run-written}
 use Rattle.routes.proofs.write_on.Reads as write-on-reads
 use borrow.Author.Needs.{needs}
 use Rattle.routes.proofs.write_run.Statement.{statement}

@@ -4,8 +4,9 @@ use mathlib.Core.Path.{refl, sym, _∙_}
 use native.Mathlib.Omega.{arith}
 use Prim.Native.Nat.{_+_, _*_, ℕ, _<_}
 use Rattle.layout.specs.View.{view}
-use Rattle.rows.specs.Mark.{step, depth, marks-constant, marks-again, marks-row, called}
-use Rattle.rows.specs.Says.{test-yes, test-no}
+use Rattle.rows.proofs.MarkLaws.{step, marks-constant, marks-again, marks-row, called}
+use Rattle.rows.specs.Mark.{depth}
+use Rattle.rows.proofs.Says.{test-yes, test-no}
 use borrow.Fn.Kinds.{In}
 use borrow.Fn.PlainCycle.{Measures, is, falls, and}
 use Rattle.rows.proofs.+mark_part+mark_row.{statement}

@@ -5,7 +5,8 @@ use native.Mathlib.Nat.{mul-le-mul}
 use native.Mathlib.Omega.{arith}
 use borrow.Author.Needs.{needs}
 use Rattle.layout.specs.Places.{MAX-ROWS}
-use Rattle.rows.specs.Index.{bucket, hash, hash-lt, bucket-lt}
+use Rattle.rows.specs.Index.{bucket, hash}
+use Rattle.rows.proofs.Index.{hash-lt, bucket-lt}
 use Rattle.rows.proofs.bucket_of.Statement.{statement}
 use Rattle.rows.proofs.bucket_of.Tie as tie
 

@@ -2,8 +2,8 @@
 use mathlib.Core.Path.{sym, _∙_}
 use borrow.Author.Needs.{needs}
 use borrow.Author.Tests.{not-true, not-false}
-use Rattle.rows.specs.Index.{live-zero}
-use Rattle.rows.specs.Lookup.{used-row, live-not-zero, live-no}
+use Rattle.rows.proofs.Index.{live-zero}
+use Rattle.rows.proofs.Lookup.{used-row, live-not-zero, live-no}
 use Rattle.rows.proofs.first.Statement.{statement}
 use Rattle.rows.proofs.first.Tie as tie
 

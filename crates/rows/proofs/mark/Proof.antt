@@ -1,8 +1,8 @@
 -- `mark` meets its contract: nothing is to mark, or the work on the row. Assumes nothing.
 use mathlib.Core.Path.{sym, _∙_}
 use native.Mathlib.Omega.{arith}
-use Rattle.rows.specs.Mark.{step, marks-constant, marks-again}
-use Rattle.rows.specs.Says.{test-yes, test-no}
+use Rattle.rows.proofs.MarkLaws.{step, marks-constant, marks-again}
+use Rattle.rows.proofs.Says.{test-yes, test-no}
 use borrow.Author.Needs.{needs}
 use Rattle.rows.proofs.mark.Statement.{statement}
 use Rattle.rows.proofs.mark.Tie as tie

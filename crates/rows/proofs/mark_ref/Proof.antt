@@ -1,7 +1,7 @@
 -- `mark_ref` meets its contract: an empty root marks nothing, another marks what its arrow reaches. Assumes nothing.
 use native.Mathlib.Omega.{arith}
 use borrow.Author.Needs.{needs}
-use Rattle.rows.specs.Roots.{marks-none, marks-one, ref-arrow}
+use Rattle.rows.proofs.Roots.{marks-none, marks-one, ref-arrow}
 use Rattle.rows.proofs.mark_ref.Statement.{statement}
 use Rattle.rows.proofs.mark_ref.Tie as tie
 

@@ -5,7 +5,8 @@ use native.Mathlib.Omega.{arith}
 use lib.ListN.{length}
 use Rattle.rows.specs.Used.{rowsOf}
 use Rattle.layout.specs.View.{view}
-use Rattle.rows.specs.Roots.{MarksAll, Held, marks-none, held-more}
+use Rattle.rows.specs.Roots.{MarksAll, Held}
+use Rattle.rows.proofs.Roots.{marks-none, held-more}
 use Rattle.rows.proofs.mark_refs.Statement.{statement}
 use Rattle.rows.proofs.mark_refs.Tie as tie
 

@@ -1,6 +1,6 @@
 -- `set_mark` meets its contract: it sets one bit of one word. Assumes nothing.
 use borrow.Author.Needs.{needs}
-use Rattle.rows.specs.Bits.{sets}
+use Rattle.rows.proofs.Bits.{sets}
 use Rattle.rows.proofs.set_mark.Statement.{statement}
 use Rattle.rows.proofs.set_mark.Tie as tie
 

@@ -2,7 +2,7 @@
 use mathlib.Core.Path.{sym, _∙_}
 use native.Mathlib.Omega.{arith}
 use borrow.Author.Needs.{needs}
-use Rattle.rows.specs.Used.{used-yes, used-no}
+use Rattle.rows.proofs.Used.{used-yes, used-no}
 use Rattle.rows.proofs.used_row.Statement.{statement}
 use Rattle.rows.proofs.used_row.Tie as tie
 

@@ -7,7 +7,7 @@ use borrow.Fn.Kinds.{In}
 use borrow.Fn.PlainCycle.{Measures, is, falls, and}
 use Rattle.layout.specs.View.{view}
 use Rattle.rows.specs.Mark.{depth}
-use Rattle.seek.specs.Apart.{apart-first, apart-second, pair-less, pair-called, apart-both}
+use Rattle.seek.proofs.ApartLaws.{apart-first, apart-second, pair-less, pair-called, apart-both}
 use Rattle.seek.proofs.+apart.{statement}
 use Rattle.seek.proofs.+apart.Tie.{close}
 use Rattle.seek.proofs.apart.Reads as apart

@@ -2,9 +2,9 @@
 use mathlib.Core.Bool.{true, false}
 use native.Mathlib.Omega.{arith}
 use Rattle.layout.specs.View.{view}
-use Rattle.rows.specs.Says.{test-yes, test-no}
-use Rattle.seek.specs.Walk.{walk-row}
-use Rattle.seek.specs.Apart.{stays, stays-constant, follows}
+use Rattle.rows.proofs.Says.{test-yes, test-no}
+use Rattle.seek.proofs.Walk.{walk-row}
+use Rattle.seek.proofs.ApartLaws.{stays, stays-constant, follows}
 use Rattle.layout.proofs.is_row.Reads as is-row-reads
 use Rattle.layout.proofs.row_of.Reads as row-of-reads
 use Rattle.seek.proofs.level_of.Reads as level-of-reads

@@ -4,7 +4,8 @@ use mathlib.Core.Bool.{true, false}
 use native.Mathlib.Omega.{arith}
 use Rattle.layout.specs.View.{view}
 use Rattle.rows.specs.Mark.{depth}
-use Rattle.seek.specs.Walk.{HoldsPre, holdsAt, walk-row, walk-child, walk-end}
+use Rattle.seek.specs.Walk.{HoldsPre, holdsAt}
+use Rattle.seek.proofs.Walk.{walk-row, walk-child, walk-end}
 use Rattle.seek.proofs.holds.Statement.{statement}
 use Rattle.seek.proofs.holds.Tie as tie
 use Rattle.seek.proofs.holds.Reads as reads

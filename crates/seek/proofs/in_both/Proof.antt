@@ -1,6 +1,6 @@
 use Rattle.layout.specs.View.{view}
 use Rattle.seek.specs.Walk.{holdsAt}
-use Rattle.seek.specs.Search.{both-no, both-yes}
+use Rattle.seek.proofs.Search.{both-no, both-yes}
 use borrow.Author.Needs.{needs}
 use Rattle.seek.proofs.in_both.Statement.{statement}
 use Rattle.seek.proofs.in_both.Tie as tie

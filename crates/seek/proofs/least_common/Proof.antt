@@ -3,8 +3,9 @@ use mathlib.Core.Path.{_≡_, refl, sym, _∙_}
 use Prim.Native.Nat.{_-_, _^_, _≤_}
 use native.Mathlib.Omega.{arith}
 use Rattle.layout.specs.View.{view}
-use Rattle.seek.specs.Search.{inBoth, NoneBelow, none-start, none-next, search-found, search-none, power-fits}
-use Rattle.seek.specs.Apart.{apart-none}
+use Rattle.seek.specs.Search.{inBoth}
+use Rattle.seek.proofs.Search.{NoneBelow, none-start, none-next, search-found, search-none, power-fits}
+use Rattle.seek.proofs.ApartLaws.{apart-none}
 use Rattle.seek.proofs.in_both.Reads as in-both-reads
 use Rattle.seek.proofs.apart.Reads as apart-reads
 use borrow.Author.Needs.{needs}

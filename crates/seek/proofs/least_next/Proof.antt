@@ -3,7 +3,8 @@ use mathlib.Core.Path.{_≡_, refl, sym, _∙_}
 use Prim.Native.Nat.{_-_, _^_, _≤_}
 use native.Mathlib.Omega.{arith}
 use Rattle.layout.specs.View.{view}
-use Rattle.seek.specs.Search.{nextIn, NoneBelow, none-start, none-next, search-found, search-none, power-fits}
+use Rattle.seek.specs.Search.{nextIn}
+use Rattle.seek.proofs.Search.{NoneBelow, none-start, none-next, search-found, search-none, power-fits}
 use Rattle.seek.proofs.least_next.Statement.{statement}
 use Rattle.seek.proofs.least_next.Tie as tie
 use Rattle.seek.proofs.least_next.Reads as reads

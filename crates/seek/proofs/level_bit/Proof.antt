@@ -1,5 +1,5 @@
 use mathlib.Core.Path.{_∙_}
-use Rattle.seek.specs.Walk.{even-level, odd-level}
+use Rattle.seek.proofs.Walk.{even-level, odd-level}
 use borrow.Author.Needs.{needs}
 use Rattle.seek.proofs.level_bit.Statement.{statement}
 use Rattle.seek.proofs.level_bit.Tie as tie

@@ -2,8 +2,8 @@
 use mathlib.Core.Path.{sym, _∙_}
 use native.Mathlib.Omega.{arith}
 use Rattle.layout.specs.View.{view}
-use Rattle.seek.specs.Walk.{walk-row}
-use Rattle.seek.specs.Apart.{level-is, level-beyond}
+use Rattle.seek.proofs.Walk.{walk-row}
+use Rattle.seek.proofs.ApartLaws.{level-is, level-beyond}
 use Rattle.layout.proofs.get.Reads as get-reads
 use Rattle.layout.proofs.is_row.Reads as is-row-reads
 use Rattle.layout.proofs.row_of.Reads as row-of-reads

@@ -1,7 +1,7 @@
 use mathlib.Core.Path.{_∙_}
 use Rattle.layout.specs.View.{view}
 use Rattle.seek.specs.Walk.{holdsAt}
-use Rattle.seek.specs.Search.{both-no, both-yes, swap}
+use Rattle.seek.proofs.Search.{both-no, both-yes, swap}
 use borrow.Author.Needs.{needs}
 use Rattle.seek.proofs.next_in.Statement.{statement}
 use Rattle.seek.proofs.next_in.Tie as tie

@@ -1,10 +1,11 @@
 -- `even_sets` meets its contract: the rows that V and the registers reach are those that were marked from them. Assumes nothing.
 use native.Mathlib.Omega.{arith}
 use borrow.Author.Needs.{needs}
-use Rattle.rows.specs.Bits.{MARK-WORDS, no-marks}
+use Rattle.rows.specs.Bits.{MARK-WORDS}
+use Rattle.rows.proofs.Bits.{no-marks}
 use Rattle.layout.specs.View.{view}
-use Rattle.rows.specs.Says.{says-map}
-use Rattle.soundness.specs.Decided.{marked-even, even-marked}
+use Rattle.rows.proofs.Says.{says-map}
+use Rattle.soundness.proofs.Decided.{marked-even, even-marked}
 use Rattle.soundness.proofs.even_sets.Statement.{statement}
 use Rattle.soundness.proofs.even_sets.Tie as tie
 

@@ -1,10 +1,10 @@
 -- `found_row` meets its contract: the head of the row's bucket names it, or it is the walk from there. Assumes nothing.
 use native.Mathlib.Omega.{arith}
 use Rattle.layout.specs.View.{view}
-use Rattle.rows.specs.Index.{live-link}
+use Rattle.rows.proofs.Index.{live-link}
 use Rattle.soundness.specs.Walks.{met}
-use Rattle.rows.specs.Lookup.{used-row}
-use Rattle.soundness.specs.Checks.{head-finds}
+use Rattle.rows.proofs.Lookup.{used-row}
+use Rattle.soundness.proofs.Checks.{head-finds}
 use borrow.Author.Needs.{needs}
 use Rattle.soundness.proofs.found_row.Statement.{statement}
 use Rattle.soundness.proofs.found_row.Tie as tie

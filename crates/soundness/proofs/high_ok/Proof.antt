@@ -2,7 +2,8 @@
 use mathlib.Core.Path.{sym, _∙_}
 use mathlib.Core.Bool.{true≢false}
 use borrow.Author.Needs.{needs}
-use Rattle.rows.specs.Says.{fails, says-map}
+use Rattle.rows.specs.Says.{fails}
+use Rattle.rows.proofs.Says.{says-map}
 use Rattle.soundness.proofs.high_ok.Statement.{statement}
 use Rattle.soundness.proofs.high_ok.Tie as tie
 

@@ -4,10 +4,10 @@ use native.Mathlib.Omega.{arith}
 use Rattle.layout.specs.View.{view}
 use Rattle.rows.specs.Used.{used}
 use Rattle.rows.specs.Index.{Link, Hit}
-use Rattle.rows.specs.Says.{says-yes, says-no}
+use Rattle.rows.proofs.Says.{says-yes, says-no}
 use Rattle.soundness.specs.Walks.{met, missed, long}
-use Rattle.rows.specs.Lookup.{hit-zero, hit-stop, hit-skip, stop-hit, skip-hit}
-use Rattle.soundness.specs.Checks.{link-row, link-next}
+use Rattle.rows.proofs.Lookup.{hit-zero, hit-stop, hit-skip, stop-hit, skip-hit}
+use Rattle.soundness.proofs.Checks.{link-row, link-next}
 use Rattle.soundness.proofs.hits.Statement.{statement}
 use Rattle.soundness.proofs.hits.Tie as tie
 

@@ -4,10 +4,10 @@ use native.Mathlib.Omega.{arith}
 use borrow.Author.Count.{below-none, below-more}
 use Rattle.layout.specs.View.{view, listOf}
 use Rattle.rows.specs.Says.{holds, fails}
-use Rattle.soundness.specs.Walks.{walk-met, walk-missed}
+use Rattle.soundness.proofs.Walks.{walk-met, walk-missed}
 use Rattle.soundness.specs.Checks.{Finds}
-use Rattle.soundness.specs.Triples.{ready-used}
-use Rattle.soundness.specs.Chains.{both-tell}
+use Rattle.soundness.proofs.Triples.{ready-used}
+use Rattle.soundness.proofs.ChainsLaws.{both-tell}
 use Rattle.soundness.proofs.index_ok.Statement.{statement}
 use Rattle.soundness.proofs.index_ok.Tie as tie
 

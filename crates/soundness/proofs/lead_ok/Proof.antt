@@ -1,9 +1,10 @@
 -- `lead_ok` meets its contract: an arrow to no row leads nowhere; one to a row needs a used row of a greater level. Assumes nothing.
 use native.Mathlib.Omega.{arith}
 use Rattle.layout.specs.View.{view}
-use Rattle.rows.specs.Says.{holds, fails, says-pass, says-fail, says-is, test-yes, test-no}
-use Rattle.rows.specs.Lookup.{used-row}
-use Rattle.soundness.specs.Checks.{leads-constant, leads-of, of-leads}
+use Rattle.rows.specs.Says.{holds, fails}
+use Rattle.rows.proofs.Says.{says-pass, says-fail, says-is, test-yes, test-no}
+use Rattle.rows.proofs.Lookup.{used-row}
+use Rattle.soundness.proofs.Checks.{leads-constant, leads-of, of-leads}
 use borrow.Author.Needs.{needs}
 use Rattle.soundness.proofs.lead_ok.Statement.{statement}
 use Rattle.soundness.proofs.lead_ok.Tie as tie

@@ -2,9 +2,10 @@
 use native.Mathlib.Omega.{arith}
 use borrow.Author.Needs.{needs}
 use Rattle.layout.specs.View.{view}
-use Rattle.rows.specs.Says.{holds, fails, says-pass, says-fail, says-is}
-use Rattle.rows.specs.Lookup.{used-row}
-use Rattle.soundness.specs.Checks.{down-of, of-down}
+use Rattle.rows.specs.Says.{holds, fails}
+use Rattle.rows.proofs.Says.{says-pass, says-fail, says-is}
+use Rattle.rows.proofs.Lookup.{used-row}
+use Rattle.soundness.proofs.Checks.{down-of, of-down}
 use Rattle.soundness.proofs.link_ok.Statement.{statement}
 use Rattle.soundness.proofs.link_ok.Tie as tie
 

@@ -1,7 +1,8 @@
 -- `ref_ok` meets its contract: a root is empty, holds a constant, or holds an arrow to a row that must be used. Assumes nothing.
-use Rattle.rows.specs.Used.{arrow-constant, arrow-of, of-arrow}
-use Rattle.rows.specs.Roots.{ref-empty, ref-arrow, arrow-ref}
-use Rattle.rows.specs.Says.{holds, says-map, says-is, test-yes, test-no}
+use Rattle.rows.proofs.Used.{arrow-constant, arrow-of, of-arrow}
+use Rattle.rows.proofs.Roots.{ref-empty, ref-arrow, arrow-ref}
+use Rattle.rows.specs.Says.{holds}
+use Rattle.rows.proofs.Says.{says-map, says-is, test-yes, test-no}
 use borrow.Author.Needs.{needs}
 use Rattle.soundness.proofs.ref_ok.Statement.{statement}
 use Rattle.soundness.proofs.ref_ok.Tie as tie

@@ -4,7 +4,8 @@ use native.Mathlib.Omega.{arith}
 use borrow.Author.Count.{below-more}
 use Rattle.layout.specs.View.{view, headerOf}
 use Rattle.rows.specs.Used.{rowsOf}
-use Rattle.rows.specs.Says.{holds, fails, says-pass, says-fail}
+use Rattle.rows.specs.Says.{holds, fails}
+use Rattle.rows.proofs.Says.{says-pass, says-fail}
 use Rattle.rows.specs.Roots.{Ref}
 use Rattle.soundness.proofs.refs_ok.Statement.{statement}
 use Rattle.soundness.proofs.refs_ok.Tie as tie

@@ -3,10 +3,11 @@ use mathlib.Core.Path.{sym, _∙_}
 use native.Mathlib.Omega.{arith}
 use borrow.Author.Needs.{needs}
 use Rattle.layout.specs.View.{view}
-use Rattle.soundness.specs.Contained.{against-root}
-use Rattle.rows.specs.Says.{fails, says-pass, says-fail}
-use Rattle.rows.specs.Sound.{room-of}
-use Rattle.soundness.specs.Decided.{within-tells}
+use Rattle.soundness.proofs.Contained.{against-root}
+use Rattle.rows.specs.Says.{fails}
+use Rattle.rows.proofs.Says.{says-pass, says-fail}
+use Rattle.rows.proofs.Sound.{room-of}
+use Rattle.soundness.proofs.Decided.{within-tells}
 use Rattle.soundness.proofs.roots_ok.Statement.{statement}
 use Rattle.soundness.proofs.roots_ok.Tie as tie
 

@@ -2,7 +2,8 @@
 use mathlib.Core.Path.{sym, _∙_}
 use native.Mathlib.Omega.{arith}
 use borrow.Author.Needs.{needs}
-use Rattle.rows.specs.Says.{fails, says-map, says-pass, says-fail}
+use Rattle.rows.specs.Says.{fails}
+use Rattle.rows.proofs.Says.{says-map, says-pass, says-fail}
 use Rattle.soundness.proofs.row_ok.Statement.{statement}
 use Rattle.soundness.proofs.row_ok.Tie as tie
 

@@ -4,7 +4,8 @@ use native.Mathlib.Omega.{arith}
 use borrow.Author.Count.{below-none, below-more}
 use Rattle.layout.specs.View.{view, listOf}
 use Rattle.rows.specs.Used.{used}
-use Rattle.rows.specs.Says.{holds, fails, says-pass, says-fail}
+use Rattle.rows.specs.Says.{holds, fails}
+use Rattle.rows.proofs.Says.{says-pass, says-fail}
 use Rattle.soundness.specs.Checks.{RowGood}
 use Rattle.soundness.proofs.rows_ok.Statement.{statement}
 use Rattle.soundness.proofs.rows_ok.Tie as tie

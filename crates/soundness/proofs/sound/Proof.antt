@@ -2,7 +2,8 @@
 use mathlib.Core.Path.{sym, _∙_}
 use native.Mathlib.Omega.{arith}
 use borrow.Author.Needs.{needs}
-use Rattle.rows.specs.Says.{fails, says-pass, says-fail}
+use Rattle.rows.specs.Says.{fails}
+use Rattle.rows.proofs.Says.{says-pass, says-fail}
 use Rattle.soundness.proofs.sound.Statement.{statement}
 use Rattle.soundness.proofs.sound.Tie as tie
 

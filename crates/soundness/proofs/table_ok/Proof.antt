@@ -1,9 +1,10 @@
 -- `table_ok` meets its contract: each part decides one condition of `Good`. Assumes nothing.
 use native.Mathlib.Omega.{arith}
 use Rattle.layout.specs.View.{view}
-use Rattle.rows.specs.Says.{fails, says-pass, says-fail}
-use Rattle.rows.specs.Sound.{room-of}
-use Rattle.soundness.specs.Decided.{of-good, ready-of, index-tells}
+use Rattle.rows.specs.Says.{fails}
+use Rattle.rows.proofs.Says.{says-pass, says-fail}
+use Rattle.rows.proofs.Sound.{room-of}
+use Rattle.soundness.proofs.Decided.{of-good, ready-of, index-tells}
 use Rattle.soundness.proofs.table_ok.Statement.{statement}
 use Rattle.soundness.proofs.table_ok.Tie as tie
 

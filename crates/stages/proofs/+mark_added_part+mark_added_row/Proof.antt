@@ -5,9 +5,9 @@ use native.Mathlib.Omega.{arith}
 use Prim.Native.Nat.{_+_, _*_, ℕ, _<_}
 use Rattle.layout.specs.View.{view}
 use Rattle.rows.specs.Mark.{depth}
-use Rattle.rows.specs.Says.{test-yes, test-no}
-use Rattle.counting.specs.News.{still-off}
-use Rattle.stages.specs.AddedCounts.{added-constant, added-again, added-get, added-in, added-low, added-high, added-count-asks, added-row as added-done}
+use Rattle.rows.proofs.Says.{test-yes, test-no}
+use Rattle.counting.proofs.News.{still-off}
+use Rattle.stages.proofs.AddedCounts.{added-constant, added-again, added-get, added-in, added-low, added-high, added-count-asks, added-row as added-done}
 use borrow.Fn.Kinds.{In}
 use borrow.Fn.PlainCycle.{Measures, is, falls, and}
 use Rattle.stages.proofs.+mark_added_part+mark_added_row.{statement}

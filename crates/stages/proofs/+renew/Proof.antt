@@ -4,9 +4,9 @@ use mathlib.Core.Path.{_∙_}
 use native.Mathlib.Omega.{arith}
 use Rattle.layout.specs.View.{view}
 use Rattle.rows.specs.Used.{rowsOf}
-use Rattle.operations.specs.Open.{depth}
-use Rattle.rows.specs.Says.{test-yes}
-use Rattle.stages.specs.Renews.{renew-in, renew-none, renew-row, renew-low, renew-high, renew-asks, renew-last}
+use Rattle.operations.proofs.Open.{depth}
+use Rattle.rows.proofs.Says.{test-yes}
+use Rattle.stages.proofs.Renews.{renew-in, renew-none, renew-row, renew-low, renew-high, renew-asks, renew-last}
 use Prim.Native.Nat.{ℕ, _<_}
 use borrow.Fn.Kinds.{In}
 use borrow.Fn.PlainCycle.{Measures, is, falls, and}

@@ -7,9 +7,9 @@ use native.Mathlib.Omega.{arith}
 use Prim.Native.Nat.{_+_, _*_, ℕ, _<_}
 use Rattle.layout.specs.View.{view}
 use Rattle.rows.specs.Used.{rowsOf}
-use Rattle.rows.specs.Says.{test-yes, test-no}
-use Rattle.operations.specs.Open.{depth}
-use Rattle.stages.specs.Surveys.{survey-in, survey-constant, survey-again, survey-row-at as survey-place, cover-asks, low-asks, high-asks, survey-counts, survey-row as survey-done}
+use Rattle.rows.proofs.Says.{test-yes, test-no}
+use Rattle.operations.proofs.Open.{depth}
+use Rattle.stages.proofs.Surveys.{survey-in, survey-constant, survey-again, survey-row-at as survey-place, cover-asks, low-asks, high-asks, survey-counts, survey-row as survey-done}
 use borrow.Fn.Kinds.{In}
 use borrow.Fn.PlainCycle.{Measures, is, falls, and}
 use Rattle.stages.proofs.+survey_part+survey_row.{statement}

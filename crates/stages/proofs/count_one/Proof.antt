@@ -1,5 +1,5 @@
 -- `count_one` meets its contract: one place is written. Assumes nothing.
-use Rattle.stages.specs.Levels.{one-more}
+use Rattle.stages.proofs.Levels.{one-more}
 use borrow.Author.Needs.{needs}
 use Rattle.stages.proofs.count_one.Statement.{statement}
 use Rattle.stages.proofs.count_one.Tie as tie

@@ -1,7 +1,7 @@
 -- `look` meets its contract: there are words enough for the marks. Assumes nothing.
 use native.Mathlib.Omega.{arith}
-use Rattle.counting.specs.Counts.{few-room, all-room}
-use Rattle.stages.specs.Left.{seen-blank}
+use Rattle.counting.proofs.CountsLaws.{few-room, all-room}
+use Rattle.stages.proofs.Left.{seen-blank}
 use borrow.Author.Needs.{needs}
 use Rattle.stages.proofs.look.Statement.{statement}
 use Rattle.stages.proofs.look.Tie as tie

@@ -1,5 +1,5 @@
 -- `look_again` meets its contract: rows were only added, and the look is at the table that is left. Assumes nothing.
-use Rattle.stages.specs.Rest.{pre-grown, base-grown, look-asks, sure-yes, sure-no, sure-grown}
+use Rattle.stages.proofs.RestLaws.{pre-grown, base-grown, look-asks, sure-yes, sure-no, sure-grown}
 use borrow.Author.Needs.{needs}
 use Rattle.stages.proofs.look_again.Statement.{statement}
 use Rattle.stages.proofs.look_again.Tie as tie

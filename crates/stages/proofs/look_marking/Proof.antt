@@ -4,8 +4,8 @@ use native.Mathlib.Omega.{arith}
 use Prim.Native.Nat.{ℕ}
 use lib.ListN.{length-replicate}
 use borrow.Author.Tests.{not-false}
-use Rattle.rows.specs.Says.{says-yes}
-use Rattle.stages.specs.Looks.{look-asks, look-levels, look-fits}
+use Rattle.rows.proofs.Says.{says-yes}
+use Rattle.stages.proofs.Looks.{look-asks, look-levels, look-fits}
 use borrow.Author.Needs.{needs}
 use Rattle.stages.proofs.look_marking.Statement.{statement}
 use Rattle.stages.proofs.look_marking.Tie as tie

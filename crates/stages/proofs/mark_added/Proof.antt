@@ -1,9 +1,9 @@
 -- `mark_added` meets its contract: nothing is to mark, or the work on the row. Assumes nothing.
 use mathlib.Core.Path.{sym, _∙_}
 use native.Mathlib.Omega.{arith}
-use Rattle.rows.specs.Says.{test-yes, test-no}
-use Rattle.counting.specs.News.{still-off}
-use Rattle.stages.specs.AddedCounts.{added-constant, added-again, added-in}
+use Rattle.rows.proofs.Says.{test-yes, test-no}
+use Rattle.counting.proofs.News.{still-off}
+use Rattle.stages.proofs.AddedCounts.{added-constant, added-again, added-in}
 use borrow.Author.Needs.{needs}
 use Rattle.stages.proofs.mark_added.Statement.{statement}
 use Rattle.stages.proofs.mark_added.Tie as tie

@@ -1,6 +1,6 @@
 -- `no_size` meets its contract: a row of the table has a mark. Assumes nothing.
 use native.Mathlib.Omega.{arith}
-use Rattle.rows.specs.Says.{test-yes}
+use Rattle.rows.proofs.Says.{test-yes}
 use borrow.Author.Needs.{needs}
 use Rattle.stages.proofs.no_size.Statement.{statement}
 use Rattle.stages.proofs.no_size.Tie as tie

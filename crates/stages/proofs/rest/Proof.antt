@@ -1,6 +1,6 @@
 -- `rest` meets its contract: nothing, or EXISTS at every odd level where each EXISTS left is sure to fit. Assumes nothing.
-use Rattle.operations.specs.Odd.{grown-trans}
-use Rattle.stages.specs.Rest.{pre-grown, base-grown, counts-grown, row-within, sizes-ask, rest-none, rest-idle, rest-at}
+use Rattle.operations.proofs.Odd.{grown-trans}
+use Rattle.stages.proofs.RestLaws.{pre-grown, base-grown, counts-grown, row-within, sizes-ask, rest-none, rest-idle, rest-at}
 use borrow.Author.Needs.{needs}
 use Rattle.stages.proofs.rest.Statement.{statement}
 use Rattle.stages.proofs.rest.Tie as tie

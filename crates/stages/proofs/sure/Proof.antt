@@ -1,5 +1,5 @@
 -- `sure` meets its contract: a look, and one more where a result was not remembered. Assumes nothing.
-use Rattle.stages.specs.Rest.{sure-yes, sure-no}
+use Rattle.stages.proofs.RestLaws.{sure-yes, sure-no}
 use borrow.Author.Needs.{needs}
 use Rattle.stages.proofs.sure.Statement.{statement}
 use Rattle.stages.proofs.sure.Tie as tie

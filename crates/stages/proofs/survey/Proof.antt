@@ -1,8 +1,8 @@
 -- `survey` meets its contract: nothing is to count, or the work on the row. Assumes nothing.
 use mathlib.Core.Path.{sym, _∙_}
 use native.Mathlib.Omega.{arith}
-use Rattle.rows.specs.Says.{test-yes, test-no}
-use Rattle.stages.specs.Surveys.{survey-in, survey-constant, survey-again}
+use Rattle.rows.proofs.Says.{test-yes, test-no}
+use Rattle.stages.proofs.Surveys.{survey-in, survey-constant, survey-again}
 use borrow.Author.Needs.{needs}
 use Rattle.stages.proofs.survey.Statement.{statement}
 use Rattle.stages.proofs.survey.Tie as tie

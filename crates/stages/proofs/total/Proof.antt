@@ -4,7 +4,8 @@ use mathlib.Core.Path.{_≡_}
 use Prim.Native.Nat.{_-_, _≤_}
 use native.Mathlib.Omega.{arith}
 use Rattle.diagram.specs.Tally.{sumTo}
-use Rattle.stages.specs.Levels.{MOST, countOf, sum-none, sum-next, sum-done, sum-le}
+use Rattle.stages.specs.Levels.{MOST, countOf}
+use Rattle.stages.proofs.Levels.{sum-none, sum-next, sum-done, sum-le}
 use Rattle.stages.proofs.total.Statement.{statement}
 use Rattle.stages.proofs.total.Tie as tie
 use Rattle.stages.proofs.total.Reads as reads

@@ -5,7 +5,8 @@ use Prim.Native.Nat.{_+_, _-_, _*_, _≤_}
 use native.Mathlib.Omega.{arith}
 use Rattle.diagram.specs.Tally.{sumTo}
 use Rattle.rows.specs.Says.{holds, fails}
-use Rattle.stages.specs.Levels.{MOST, countOf, sum-le, Looking, looking-none, looking-small, looking-next, looking-over, looking-done}
+use Rattle.stages.specs.Levels.{MOST, countOf}
+use Rattle.stages.proofs.Levels.{sum-le, Looking, looking-none, looking-small, looking-next, looking-over, looking-done}
 use Rattle.stages.proofs.within.Statement.{statement}
 use Rattle.stages.proofs.within.Tie as tie
 use Rattle.stages.proofs.within.Reads as reads

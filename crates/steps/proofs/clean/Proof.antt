@@ -1,5 +1,5 @@
 -- `clean` meets its contract: what is left is what is live and one more arrow; then all is forgotten. Assumes nothing.
-use Rattle.steps.specs.Clean.{free-pre, cleaned-by}
+use Rattle.steps.proofs.CleanLaws.{free-pre, cleaned-by}
 use borrow.Author.Needs.{needs}
 use Rattle.steps.proofs.clean.Statement.{statement}
 use Rattle.steps.proofs.clean.Tie as tie

@@ -1,5 +1,5 @@
 -- `retry` meets its contract: the second try starts from a collected table. Assumes nothing.
-use Rattle.steps.specs.Again.{clean-pre, cleaned-pre, settle-pre, retried}
+use Rattle.steps.proofs.Again.{clean-pre, cleaned-pre, settle-pre, retried}
 use borrow.Author.Needs.{needs}
 use Rattle.steps.proofs.retry.Statement.{statement}
 use Rattle.steps.proofs.retry.Tie as tie

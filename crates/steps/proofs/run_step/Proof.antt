@@ -1,5 +1,5 @@
 -- `run_step` meets its contract: each operation promises it, and NOT is the arrow with the other mark. Assumes nothing.
-use Rattle.steps.specs.Steps.{not-worked}
+use Rattle.steps.proofs.Steps.{not-worked}
 use borrow.Author.Needs.{needs}
 use Rattle.steps.proofs.run_step.Statement.{statement}
 use Rattle.steps.proofs.run_step.Tie as tie

@@ -1,5 +1,5 @@
 -- `settle` meets its contract: few rows are used, or those that are reached are counted. Assumes nothing.
-use Rattle.steps.specs.Settle.{settle-full, settle-few, settle-clean, settle-reached, settle-many}
+use Rattle.steps.proofs.SettleLaws.{settle-full, settle-few, settle-clean, settle-reached, settle-many}
 use borrow.Author.Needs.{needs}
 use Rattle.steps.proofs.settle.Statement.{statement}
 use Rattle.steps.proofs.settle.Tie as tie

@@ -1,7 +1,7 @@
 -- `add` meets its contract: an unused row is written and appended; where there is none, all rows are used. Assumes nothing.
 use Rattle.layout.specs.View.{view}
-use Rattle.table.specs.Add.{append-pre, added-by}
-use Rattle.table.specs.Make.{add-full, add-at}
+use Rattle.table.proofs.AddLaws.{append-pre, added-by}
+use Rattle.table.proofs.MakeLaws.{add-full, add-at}
 use borrow.Author.Needs.{needs}
 use Rattle.table.proofs.add.Statement.{statement}
 use Rattle.table.proofs.add.Tie as tie

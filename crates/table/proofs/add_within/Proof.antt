@@ -1,7 +1,7 @@
 -- `add_within` meets its contract: where `limit` rows are used it is full, else it is `add`. Assumes nothing.
 use native.Mathlib.Omega.{arith}
 use Rattle.layout.specs.View.{view}
-use Rattle.table.specs.Make.{add-over}
+use Rattle.table.proofs.MakeLaws.{add-over}
 use borrow.Author.Needs.{needs}
 use Rattle.table.proofs.add_within.Statement.{statement}
 use Rattle.table.proofs.add_within.Tie as tie

@@ -3,7 +3,7 @@ use mathlib.Core.Path.{_∙_}
 use native.Mathlib.Omega.{arith}
 use borrow.Author.Needs.{needs}
 use Rattle.layout.specs.View.{view}
-use Rattle.table.specs.Append.{append-by}
+use Rattle.table.proofs.AppendLaws.{append-by}
 use Rattle.table.proofs.append.Statement.{statement}
 use Rattle.table.proofs.append.Tie as tie
 

@@ -5,7 +5,7 @@ use Prim.Native.Nat.{_-_, _≤_}
 use native.Mathlib.Omega.{arith}
 use lib.ListN.{length}
 use Rattle.layout.specs.View.{view}
-use Rattle.table.specs.Fresh.{HeadsBelow, heads-none, heads-more, heads-all}
+use Rattle.table.proofs.Fresh.{HeadsBelow, heads-none, heads-more, heads-all}
 use Rattle.table.proofs.empty_heads.Statement.{statement}
 use Rattle.table.proofs.empty_heads.Tie as tie
 

@@ -4,10 +4,12 @@ use native.Mathlib.Omega.{arith}
 use Rattle.layout.specs.Places.{NEXT, RANK}
 use Rattle.layout.specs.View.{view}
 use Rattle.rows.specs.Used.{used}
-use Rattle.rows.specs.Index.{live-link, Link, down-link}
-use Rattle.rows.specs.Says.{says-yes, says-no}
-use Rattle.rows.specs.Lookup.{hit-zero, hit-skip, height, height-falls, link-used, used-row}
-use Rattle.table.specs.Find.{Ahead, find-start, good-room}
+use Rattle.rows.proofs.Index.{live-link, down-link}
+use Rattle.rows.specs.Index.{Link}
+use Rattle.rows.proofs.Says.{says-yes, says-no}
+use Rattle.rows.proofs.Lookup.{hit-zero, hit-skip, height-falls, link-used, used-row}
+use Rattle.rows.specs.Lookup.{height}
+use Rattle.table.proofs.FindLaws.{Ahead, find-start, good-room}
 use Rattle.table.proofs.find.Statement.{statement}
 use Rattle.table.proofs.find.Tie as tie
 

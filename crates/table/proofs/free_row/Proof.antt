@@ -7,7 +7,7 @@ use borrow.Author.Count.{below-more}
 use borrow.Author.Tests.{not-true, not-false}
 use Rattle.layout.specs.View.{view}
 use Rattle.rows.specs.Used.{used}
-use Rattle.rows.specs.Lookup.{used-row}
+use Rattle.rows.proofs.Lookup.{used-row}
 use Rattle.table.proofs.free_row.Statement.{statement}
 use Rattle.table.proofs.free_row.Tie as tie
 

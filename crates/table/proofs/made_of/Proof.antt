@@ -1,6 +1,6 @@
 -- `made_of` meets its contract: the number is FULL, or it is not. Assumes nothing.
 use mathlib.Core.Path.{sym}
-use Rattle.table.specs.Code.{code-is, code-at}
+use Rattle.table.proofs.CodeLaws.{code-is, code-at}
 use Rattle.table.proofs.made_of.Statement.{statement}
 use Rattle.table.proofs.made_of.Tie as tie
 

@@ -1,7 +1,7 @@
 -- `make` meets its contract: as it is where the high arrow carries no NOT, and else by the row of the complements. Assumes nothing.
 use Rattle.layout.specs.View.{view}
-use Rattle.rows.specs.Says.{test-yes, test-no}
-use Rattle.table.specs.Make.{make-as-is, turned-pre, turned-full, turned-at}
+use Rattle.rows.proofs.Says.{test-yes, test-no}
+use Rattle.table.proofs.MakeLaws.{make-as-is, turned-pre, turned-full, turned-at}
 use borrow.Author.Needs.{needs}
 use Rattle.table.proofs.make.Statement.{statement}
 use Rattle.table.proofs.make.Tie as tie

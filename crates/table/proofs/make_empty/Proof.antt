@@ -1,6 +1,6 @@
 -- `make_empty` meets its contract: heads, then the header, are written. Assumes nothing.
 use Rattle.layout.specs.View.{view}
-use Rattle.table.specs.Fresh.{emptied-by}
+use Rattle.table.proofs.Fresh.{emptied-by}
 use borrow.Author.Needs.{needs}
 use Rattle.table.proofs.make_empty.Statement.{statement}
 use Rattle.table.proofs.make_empty.Tie as tie

@@ -1,7 +1,7 @@
 -- `make_plain` meets its contract: equal arrows need no row; a row that is found is taken, and one that is not is added. Assumes nothing.
 use native.Mathlib.Omega.{arith}
 use Rattle.layout.specs.View.{view}
-use Rattle.table.specs.Make.{make-same, make-found}
+use Rattle.table.proofs.MakeLaws.{make-same, make-found}
 use borrow.Author.Needs.{needs}
 use Rattle.table.proofs.make_plain.Statement.{statement}
 use Rattle.table.proofs.make_plain.Tie as tie

@@ -1,7 +1,7 @@
 -- `unused_row` meets its contract: it searches from the cursor up, and then below it. Assumes nothing.
 use borrow.Author.Needs.{needs}
 use Rattle.layout.specs.View.{view}
-use Rattle.table.specs.Find.{unused-all, unused-after, unused-before, unused-none}
+use Rattle.table.proofs.FindLaws.{unused-all, unused-after, unused-before, unused-none}
 use Rattle.table.proofs.unused_row.Statement.{statement}
 use Rattle.table.proofs.unused_row.Tie as tie
 

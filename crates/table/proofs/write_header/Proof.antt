@@ -6,7 +6,7 @@ use native.Mathlib.Omega.{arith}
 use lib.ListN.{length}
 use Rattle.layout.specs.Places.{HEADER}
 use Rattle.layout.specs.View.{view}
-use Rattle.table.specs.Fresh.{HeaderBelow, header-none, header-more, header-all}
+use Rattle.table.proofs.Fresh.{HeaderBelow, header-none, header-more, header-all}
 use Rattle.table.proofs.write_header.Statement.{statement}
 use Rattle.table.proofs.write_header.Tie as tie
 

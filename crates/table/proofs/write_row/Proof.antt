@@ -1,6 +1,6 @@
 -- `write_row` meets its contract: three stores are three changes of the view. Assumes nothing.
 use borrow.Author.Needs.{needs}
-use Rattle.table.specs.Add.{put-by}
+use Rattle.table.proofs.AddLaws.{put-by}
 use Rattle.table.proofs.write_row.Statement.{statement}
 use Rattle.table.proofs.write_row.Tie as tie
 

@@ -1,8 +1,8 @@
 -- `table_of` meets its contract: a remembered table is right, and a row's table is joined from those of its arrows, which lead to greater levels. Assumes nothing.
 use borrow.Author.Needs.{needs}
-use Rattle.soundness.specs.Cells.{tabled-nothing, tabled-everything}
-use Rattle.soundness.specs.Tables.{farTo, led, recalled, asked-arrow, row-asked, made-table}
-use Rattle.layout.specs.Arrows.{row-yes}
+use Rattle.soundness.proofs.CellsLaws.{tabled-nothing, tabled-everything}
+use Rattle.soundness.proofs.TablesLaws.{farTo, led, recalled, asked-arrow, row-asked, made-table}
+use Rattle.layout.proofs.Arrows.{row-yes}
 use Rattle.layout.specs.View.{view}
 use native.Mathlib.Omega.{arith}
 use mathlib.Core.Path.{refl, _∙_}

@@ -1,6 +1,6 @@
 -- `disjoint` meets its contract: a low half that is not 0 has a cell. Assumes nothing.
 use borrow.Author.Needs.{needs}
-use Rattle.soundness.specs.Tables.{disjoint-yes, disjoint-no}
+use Rattle.soundness.proofs.TablesLaws.{disjoint-yes, disjoint-no}
 use Rattle.rows.specs.Says.{holds, fails}
 use Rattle.soundness.proofs.tables.disjoint.Statement.{statement}
 use Rattle.soundness.proofs.tables.disjoint.Tie as tie

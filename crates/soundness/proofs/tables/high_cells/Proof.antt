@@ -1,5 +1,5 @@
 -- `high_cells` meets its contract: one word for each tested level. Assumes nothing.
-use Rattle.soundness.specs.Masks.{high-past}
+use Rattle.soundness.proofs.Masks.{high-past}
 use borrow.Author.Needs.{needs}
 use Rattle.soundness.proofs.tables.high_cells.Statement.{statement}
 use Rattle.soundness.proofs.tables.high_cells.Tie as tie

@@ -1,5 +1,5 @@
 -- `low_cells` meets its contract: one word for each tested level. Assumes nothing.
-use Rattle.soundness.specs.Masks.{low-past}
+use Rattle.soundness.proofs.Masks.{low-past}
 use borrow.Author.Needs.{needs}
 use Rattle.soundness.proofs.tables.low_cells.Statement.{statement}
 use Rattle.soundness.proofs.tables.low_cells.Tie as tie

@@ -1,5 +1,5 @@
 -- `row_cells` meets its contract: what is remembered, or what `table_of` makes. Assumes nothing.
-use Rattle.soundness.specs.Tables.{row-led, recalled}
+use Rattle.soundness.proofs.TablesLaws.{row-led, recalled}
 use native.Mathlib.Omega.{arith}
 use borrow.Author.Needs.{needs}
 use Rattle.soundness.proofs.tables.row_cells.Statement.{statement}

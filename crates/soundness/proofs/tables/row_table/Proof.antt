@@ -1,5 +1,5 @@
 -- `row_table` meets its contract: the tables of a row's arrows are joined by the level's class. Assumes nothing.
-use Rattle.soundness.specs.Tables.{row-fits, row-tabled}
+use Rattle.soundness.proofs.TablesLaws.{row-fits, row-tabled}
 use native.Mathlib.Omega.{arith}
 use borrow.Author.Needs.{needs}
 use Rattle.soundness.proofs.tables.row_table.Statement.{statement}

@@ -2,9 +2,9 @@
 use borrow.Author.Needs.{needs}
 use Rattle.layout.specs.View.{view}
 use Rattle.rows.specs.Says.{holds, fails}
-use Rattle.soundness.specs.Apart.{zero-left, zero-right, one-left, one-right, apart-not}
-use Rattle.soundness.specs.Pairs.{seen-apart}
-use Rattle.soundness.specs.Contained.{far, is-row, told, told-tables, called-low, called-high, asks-on, tells-low, tells-high, tells-both}
+use Rattle.soundness.proofs.ApartLaws.{zero-left, zero-right, one-left, one-right, apart-not}
+use Rattle.soundness.proofs.PairsLaws.{seen-apart}
+use Rattle.soundness.proofs.Contained.{far, is-row, told, told-tables, called-low, called-high, asks-on, tells-low, tells-high, tells-both}
 use mathlib.Core.Path.{_∙_}
 use Prim.Native.Nat.{ℕ, _<_}
 use borrow.Fn.Kinds.{In}

@@ -3,8 +3,9 @@ use Prim.Native.Nat.{ℕ, _<_}
 use native.Mathlib.Omega.{arith}
 use borrow.Fn.Kinds.{In}
 use borrow.Fn.PlainCycle.{Measures, is, falls, and}
-use Rattle.rows.specs.Says.{fails, says-map, says-pass, says-fail}
-use Rattle.soundness.specs.Contained.{among}
+use Rattle.rows.specs.Says.{fails}
+use Rattle.rows.proofs.Says.{says-map, says-pass, says-fail}
+use Rattle.soundness.proofs.Contained.{among}
 use Rattle.soundness.proofs.within.narrow_ok.Reads as narrow-ok
 use Rattle.soundness.proofs.within.narrow_ok.Kinds as narrow-ok-kinds
 use Rattle.soundness.proofs.within.+narrow_ok.Lts-narrow_ok as narrow-ok-lts

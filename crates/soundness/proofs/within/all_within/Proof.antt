@@ -2,8 +2,8 @@
 use native.Mathlib.Omega.{arith}
 use Rattle.layout.specs.View.{view}
 use Rattle.rows.specs.Says.{holds}
-use Rattle.rows.specs.Within.{within-all}
-use Rattle.soundness.specs.Contained.{against-not, both-tell}
+use Rattle.rows.proofs.Within.{within-all}
+use Rattle.soundness.proofs.Contained.{against-not, both-tell}
 use borrow.Author.Needs.{needs}
 use Rattle.soundness.proofs.within.all_within.Statement.{statement}
 use Rattle.soundness.proofs.within.all_within.Tie as tie

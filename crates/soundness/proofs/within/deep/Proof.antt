@@ -1,5 +1,5 @@
 -- `deep` meets its contract: an arrow's level is its row's. Assumes nothing.
-use Rattle.soundness.specs.Contained.{row-at, deep-at}
+use Rattle.soundness.proofs.Contained.{row-at, deep-at}
 use Rattle.layout.specs.View.{view}
 use mathlib.Core.Path.{sym}
 use mathlib.Core.Bool.{true≢false}

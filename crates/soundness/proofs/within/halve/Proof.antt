@@ -1,7 +1,7 @@
 -- `halve` meets its contract: the arrow is past the lesser level, or its row is read. Assumes nothing.
 use Rattle.layout.specs.View.{view}
 use native.Mathlib.Omega.{arith}
-use Rattle.soundness.specs.Contained.{halved-here}
+use Rattle.soundness.proofs.Contained.{halved-here}
 use borrow.Author.Needs.{needs}
 use Rattle.soundness.proofs.within.halve.Statement.{statement}
 use Rattle.soundness.proofs.within.halve.Tie as tie

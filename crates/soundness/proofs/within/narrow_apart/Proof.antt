@@ -1,5 +1,5 @@
 -- `narrow_apart` meets its contract: with a base past all levels no table is asked for. Assumes nothing.
-use Rattle.soundness.specs.Contained.{lists-none}
+use Rattle.soundness.proofs.Contained.{lists-none}
 use Prim.Native.Nat.{ℕ, _*_}
 use mathlib.Core.Path.{ap}
 use native.Mathlib.Omega.{arith}

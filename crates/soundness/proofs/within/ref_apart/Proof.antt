@@ -1,8 +1,8 @@
 -- `ref_apart` meets its contract: an empty root has no valuation. Assumes nothing.
 use Rattle.layout.specs.View.{view}
 use Rattle.rows.specs.Says.{holds}
-use Rattle.rows.specs.Roots.{ref-arrow}
-use Rattle.soundness.specs.Contained.{told, ref-none, ref-tells}
+use Rattle.rows.proofs.Roots.{ref-arrow}
+use Rattle.soundness.proofs.Contained.{told, ref-none, ref-tells}
 use borrow.Author.Needs.{needs}
 use Rattle.soundness.proofs.within.ref_apart.Statement.{statement}
 use Rattle.soundness.proofs.within.ref_apart.Tie as tie

@@ -7,9 +7,12 @@ use lib.ListN.{length}
 use Rattle.layout.specs.View.{view, headerOf}
 use Rattle.layout.specs.Places.{BITS}
 use Rattle.rows.specs.Used.{rowsOf}
-use Rattle.rows.specs.Says.{holds, fails, says-pass, says-fail}
-use Rattle.soundness.specs.Pairs.{PAIR-WORDS, Right, right-none}
-use Rattle.soundness.specs.Contained.{Lists, lists-on, AllApart, all-none, all-more}
+use Rattle.rows.specs.Says.{holds, fails}
+use Rattle.rows.proofs.Says.{says-pass, says-fail}
+use Rattle.soundness.specs.Pairs.{PAIR-WORDS, Right}
+use Rattle.soundness.proofs.PairsLaws.{right-none}
+use Rattle.soundness.specs.Contained.{Lists, AllApart}
+use Rattle.soundness.proofs.Contained.{lists-on, all-none, all-more}
 use Rattle.soundness.proofs.within.refs_apart.Statement.{statement}
 use Rattle.soundness.proofs.within.refs_apart.Tie as tie
 use Rattle.soundness.proofs.within.refs_apart.Reads as reads

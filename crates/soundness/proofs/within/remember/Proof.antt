@@ -1,7 +1,7 @@
 -- `remember` meets its contract: one pair is written, the others stay. Assumes nothing.
 use native.Mathlib.Omega.{arith}
 use lib.ListN.{length-set}
-use Rattle.soundness.specs.Pairs.{puts}
+use Rattle.soundness.proofs.PairsLaws.{puts}
 use borrow.Author.Needs.{needs}
 use Rattle.soundness.proofs.within.remember.Statement.{statement}
 use Rattle.soundness.proofs.within.remember.Tie as tie

@@ -4,7 +4,7 @@ use mathlib.Core.Path.{ap, _∙_}
 use Prim.Native.Nat.{_+_}
 use Rattle.layout.specs.View.{view}
 use Rattle.layout.specs.Places.{LEVEL}
-use Rattle.soundness.specs.Contained.{row-at, split-of}
+use Rattle.soundness.proofs.Contained.{row-at, split-of}
 use borrow.Author.Needs.{needs}
 use Rattle.soundness.proofs.within.split.Statement.{statement}
 use Rattle.soundness.proofs.within.split.Tie as tie

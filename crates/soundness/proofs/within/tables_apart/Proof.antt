@@ -1,5 +1,5 @@
 -- `tables_apart` meets its contract: an arrow of even levels past the base is told by the cell. Assumes nothing.
-use Rattle.soundness.specs.Contained.{table-first, table-second, by-tables}
+use Rattle.soundness.proofs.Contained.{table-first, table-second, by-tables}
 use borrow.Author.Needs.{needs}
 use Rattle.soundness.proofs.within.tables_apart.Statement.{statement}
 use Rattle.soundness.proofs.within.tables_apart.Tie as tie

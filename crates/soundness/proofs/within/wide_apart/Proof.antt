@@ -1,5 +1,5 @@
 -- `wide_apart` meets its contract: lists of zeros have no wrong table. Assumes nothing.
-use Rattle.soundness.specs.Contained.{lists-new}
+use Rattle.soundness.proofs.Contained.{lists-new}
 use Prim.Native.Nat.{ℕ, _*_, _-_}
 use mathlib.Core.Path.{ap, _∙_}
 use native.Mathlib.Omega.{arith}

@@ -1,0 +1,5 @@
+pub mod Laid
+pub mod MembersLaws
+pub mod Facts
+pub mod OneBatch
+pub mod Truthful

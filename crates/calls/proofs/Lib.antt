@@ -1,0 +1,4 @@
+pub mod FreshLaws
+pub mod Changes
+pub mod Questions
+pub mod Caught

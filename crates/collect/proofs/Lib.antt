@@ -1,0 +1,5 @@
+pub mod GatherLaws
+pub mod Lent
+pub mod Counted
+pub mod Freed
+pub mod Answers

@@ -1,0 +1,3 @@
+pub mod Obeyed
+pub mod After
+pub mod OneOutcome

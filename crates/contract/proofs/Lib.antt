@@ -1,0 +1,9 @@
+pub mod Seen
+pub mod Closed
+pub mod Numbers
+pub mod Roots
+pub mod Checked
+pub mod Answered
+pub mod OneAnswer
+pub mod Shared
+pub mod Bigger

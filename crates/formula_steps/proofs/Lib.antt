@@ -1,0 +1,4 @@
+pub mod Evaluated
+pub mod Ends
+pub mod Store
+pub mod Load

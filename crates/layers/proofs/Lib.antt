@@ -1,0 +1,4 @@
+pub mod Next
+pub mod Scene
+pub mod Again
+pub mod Pass

@@ -1,0 +1,6 @@
+pub mod View
+pub mod Same
+pub mod HeaderLaws
+pub mod Arrows
+pub mod Roots
+pub mod Refusals

@@ -1,0 +1,4 @@
+pub mod Frame
+pub mod Memo
+pub mod Store
+pub mod ForgetLaws

@@ -1,0 +1,14 @@
+pub mod Sets
+pub mod Order
+pub mod Fixpoint
+pub mod Form
+pub mod Means
+pub mod Laws
+pub mod Growth
+pub mod Counted
+pub mod Until
+pub mod Exist
+pub mod Polarity
+pub mod Binder
+pub mod Rounds
+pub mod Written

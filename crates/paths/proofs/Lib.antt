@@ -1,0 +1,6 @@
+pub mod First
+pub mod Layers
+pub mod Written
+pub mod Exact
+pub mod Example
+pub mod Meaning

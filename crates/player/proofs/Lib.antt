@@ -1,0 +1,4 @@
+pub mod Passes
+pub mod Chained
+pub mod Next
+pub mod OnePlay

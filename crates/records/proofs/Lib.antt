@@ -1,0 +1,5 @@
+pub mod TextLaws
+pub mod Reading
+pub mod Links
+pub mod Promises
+pub mod Cuts

@@ -1,0 +1,5 @@
+pub mod Moves
+pub mod Turns
+pub mod Text
+pub mod Pace
+pub mod Known

@@ -1,0 +1,3 @@
+pub mod Stands
+pub mod Replies
+pub mod Whole

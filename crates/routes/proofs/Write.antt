@@ -1,0 +1,178 @@
+-- Laws of what specs/Write.antt defines. Assumes nothing.
+use mathlib.Core.Path.{_≡_, refl, sym, ap, ap₂, _∙_, subst}
+use mathlib.Core.Bool.{Bool, _&&_}
+use mathlib.Core.List.{List, [], _∷_, List·Memᴰ as Mem}
+use Prim.Native.Nat.{ℕ, suc, _+_, _-_, _*_, _^_, _≤_, _<_}
+use native.Mathlib.Omega.{arith}
+use lib.Dec.{T, ltb}
+use lib.ListN.{length, set}
+use lib.Pow.{pow-mono}
+use Rattle.mucalculus.specs.Sets.{mem}
+use Rattle.mucalculus.proofs.Sets.{and-out, true-of}
+use Rattle.mucalculus.specs.Form.{Pairs}
+use Rattle.mucalculus.specs.Means.{pair}
+use Rattle.layout.specs.Places.{BITS}
+use Rattle.layout.specs.View.{View}
+use Rattle.diagram.specs.Rows.{den}
+use Rattle.diagram.specs.Post.{Denotes}
+use Rattle.diagram.specs.Keep.{Keeps}
+use Rattle.diagram.proofs.Keep.{keeps-trans, keeps-denotes, keeps-refl}
+use Rattle.rows.specs.Used.{rowsOf}
+use Rattle.rows.specs.Filled.{filled}
+use Rattle.rows.proofs.Filled.{filled-arrow}
+use Rattle.book.specs.States.{pairVal}
+use Rattle.book.proofs.States.{nowOf-pairVal, nextOf-pairVal}
+use Rattle.book.specs.Bridge.{fnOf, fnOfPairs}
+use Rattle.book.specs.Held.{Held}
+use Rattle.book.proofs.Held.{held-keeps}
+use Rattle.modal.specs.Chain.{Base}
+use Rattle.modal.proofs.Chain.{moved-refl, moved-trans, base-next, base-bits, base-wf}
+use Rattle.paths.specs.Runs.{runsInto, firstOf, onward, written}
+use Rattle.paths.proofs.First.{first-same}
+use Rattle.paths.proofs.Layers.{run-lt}
+use Rattle.paths.proofs.Written.{towards}
+use Rattle.seek.specs.Walk.{HoldsPre, holdsAt}
+use Rattle.seek.specs.Search.{nextIn}
+use Rattle.layers.specs.Scene.{Scene, Start, Layered, layerOf}
+use Rattle.layers.proofs.Scene.{filled-same, fits-before}
+use Rattle.layers.specs.Again.{AgainPre, AgainPost}
+use Rattle.layers.specs.Pass.{Steps}
+use Rattle.layers.proofs.Pass.{holds-pre}
+use Rattle.routes.specs.Write.{putAll, Onward, WritePre, WritePost}
+
+-- ---- lists
+
+put-cons : (i : ℕ) (l : List ℕ) (x : ℕ) (m : List ℕ) → putAll (suc i) l (x ∷ m) ≡ x ∷ putAll i l m
+put-cons i [] x m = refl
+put-cons i (s ∷ l) x m = put-cons (suc i) l x (set m i s)
+
+pub put-written : (l m : List ℕ) → length l ≤ length m → putAll 0 l m ≡ written l m
+put-written [] m h = refl
+put-written (s ∷ l) [] h = absurd (omega arith)
+put-written (s ∷ l) (x ∷ m) h = put-cons 0 l s m ∙ ap (λ (k : List ℕ). s ∷ k) (put-written l m (omega arith))
+
+-- ---- the scene in later words
+
+module _ {n N limit : ℕ} {W X : View} {t b : ℕ} (p : Start n N limit W t b) (q : Steps n W X) where
+  pub same-roots : filled X ≡ filled W
+  same-roots = filled-same (q .moved .frame)
+
+  pub start-later : Start n N limit X t b
+  start-later = record {
+    base = base-next (p .base) (q .moved);
+    t-live = subst (λ (xs : List ℕ). Mem t xs) (sym same-roots) (p .t-live);
+    b-live = subst (λ (xs : List ℕ). Mem b xs) (sym same-roots) (p .b-live);
+  }
+
+  abbrev pub scene-later : Scene n W t b → Scene n X t b
+  scene-later S = record {
+    fs = S .fs;
+    R = S .R;
+    B = S .B;
+    held = subst (λ (xs : List ℕ). Held (2 * n) (rowsOf X) xs (S .fs)) (sym same-roots) (held-keeps (S .held) (q .kept));
+    relation = keeps-denotes (q .kept) (p .t-live) (S .relation);
+    goal = keeps-denotes (q .kept) (p .b-live) (S .goal);
+    sized = S .sized;
+  }
+
+  pub steps-later : {Y : View} {S : Scene n X t b} {i x : ℕ} → Layered n X Y t b S i x → Steps n W Y
+  steps-later {Y} l = record {
+    moved = moved-trans (q .moved) (l .moved);
+    kept = keeps-trans (q .kept) (subst (λ (xs : List ℕ). Keeps (rowsOf X) (rowsOf Y) xs) same-roots (l .kept));
+  }
+
+pub steps-start : {n N limit : ℕ} {W : View} {t b : ℕ} → Start n N limit W t b → Steps n W W
+steps-start p = record { moved = moved-refl (p .base); kept = keeps-refl (base-wf (p .base)) (filled-arrow (p .base .sound)) }
+
+-- ---- the least next state, of sets
+
+next-mem : (n : ℕ) (X : View) {t x : ℕ} (R : Pairs) (L : List Bool) → 2 * n ≡ 2 * X .header BITS → Denotes (2 * n) (rowsOf X) t (fnOfPairs n R) → Denotes (2 * n) (rowsOf X) x (fnOf n L)
+    → (s : ℕ) → s < 2 ^ n → (u : ℕ) → u < 2 ^ n → nextIn X t s x u ≡ (pair R s u && mem L u)
+next-mem n X {t} {x} R L e dt dx s l u i = ap₂ _&&_ step inside
+  where
+    step : holdsAt X t s u ≡ pair R s u
+    step = subst (λ (m : ℕ). den m (rowsOf X) t (pairVal s u) ≡ pair R s u) e (dt .same (pairVal s u) ∙ ap₂ (pair R) (nowOf-pairVal n s u l) (nextOf-pairVal n s u i))
+
+    inside : holdsAt X x u 0 ≡ mem L u
+    inside = subst (λ (m : ℕ). den m (rowsOf X) x (pairVal u 0) ≡ mem L u) e (dx .same (pairVal u 0) ∙ ap (mem L) (nowOf-pairVal n u 0 i))
+
+-- ---- writing
+
+-- where the loop stands: s is the last state written, and the rest goes from place i on
+pub record Writing (n limit : ℕ) (W X : View) (t b : ℕ) (S : Scene n W t b) (d first : ℕ) (old now : List ℕ) (s left i : ℕ) : Type 0 where
+  pub steps : Steps n W X
+  pub rest : putAll i (onward (2 ^ n) (S .R) (S .B) left s) now ≡ putAll 1 (onward (2 ^ n) (S .R) (S .B) d first) old
+  pub runs : T (runsInto (2 ^ n) (S .R) (S .B) s (onward (2 ^ n) (S .R) (S .B) left s))
+
+module _ {n N limit : ℕ} {W : View} {t b d first : ℕ} {old : List ℕ} (p : WritePre n N limit W t b d first old) where
+  pub write-starts : (S : Scene n W t b) → Onward limit S d first → Writing n limit W W t b S d first old old first d 1
+  write-starts S r = record { steps = steps-start (p .start); rest = refl; runs = r .1 }
+
+  module _ {X : View} {now : List ℕ} {s left i : ℕ} (q : (S : Scene n W t b) → Onward limit S d first → Writing n limit W X t b S d first old now s left i) where
+    abbrev at-scene : Writing n limit W X t b (p .scene) d first old now s left i
+    at-scene = q (p .scene) (p .ready)
+
+    pub write-again : 0 < left → left ≤ d → AgainPre n N limit X t b (left - 1)
+    write-again l h = record {
+      start = start-later (p .start) (at-scene .steps);
+      scene = scene-later (p .start) (at-scene .steps) (p .scene);
+      fits = true-of _ (fits-before limit (p .scene) (left - 1) d (omega arith) (subst T (sym (p .ready .0)) tt));
+    }
+
+    module _ {Y : View} {x : ℕ} (g : AgainPost n X Y t b (left - 1) x) where
+      made : (S : Scene n W t b) (r : Onward limit S d first) → Layered n X Y t b (scene-later (p .start) (q S r .steps) S) (left - 1) x
+      made S r = g (scene-later (p .start) (q S r .steps) S)
+
+      own : Layered n X Y t b (scene-later (p .start) (at-scene .steps) (p .scene)) (left - 1) x
+      own = made (p .scene) (p .ready)
+
+      base-after : Base n N limit Y
+      base-after = base-next (start-later (p .start) (at-scene .steps) .base) (own .moved)
+
+      steps-after : (S : Scene n W t b) (r : Onward limit S d first) → Steps n W Y
+      steps-after S r = steps-later (p .start) (q S r .steps) (made S r)
+
+      pub next-walks : HoldsPre Y t × HoldsPre Y x × (n ≤ 16)
+      next-walks = (
+        holds-pre base-after (keeps-denotes (steps-after (p .scene) (p .ready) .kept) (p .start .t-live) (p .scene .relation) .arrow),
+        holds-pre base-after (own .layer-is .arrow),
+        base-bits (p .start .base),
+      )
+
+      module _ {u : ℕ} (eu : u ≡ firstOf (2 ^ n) (nextIn Y t s x)) (l : 0 < left) where
+        next-is : (S : Scene n W t b) (r : Onward limit S d first) → u ≡ towards (2 ^ n) (S .R) (S .B) (left - 1) s
+        next-is S r =
+            let small = run-lt (2 ^ n) (S .R) (S .B) s (onward (2 ^ n) (S .R) (S .B) left s) (q S r .runs) in
+            eu ∙ first-same (2 ^ n) (nextIn Y t s x) (λ u. pair (S .R) s u && mem (layerOf S (left - 1)) u)
+            (next-mem n Y (S .R) (layerOf S (left - 1)) (base-after .ready .levels-is) (keeps-denotes (steps-after S r .kept) (p .start .t-live) (S .relation)) (made S r .layer-is) s small)
+
+        pub write-turns : (S : Scene n W t b) → Onward limit S d first → Writing n limit W Y t b S d first old (set now i u) u (left - 1) (i + 1)
+        write-turns S r =
+            let k = 2 ^ n in
+            let z : left ≡ suc (left - 1) = omega arith in
+            let j : suc i ≡ i + 1 = omega arith in
+            let e = next-is S r in
+            let o : ℕ → List ℕ = λ v. onward k (S .R) (S .B) (left - 1) v in
+            let w = subst (λ (m : ℕ). T (runsInto k (S .R) (S .B) s (onward k (S .R) (S .B) m s))) z (q S r .runs) in
+            let f = subst (λ (m : ℕ). putAll i (onward k (S .R) (S .B) m s) now ≡ putAll 1 (onward k (S .R) (S .B) d first) old) z (q S r .rest) in
+            let f1 = subst (λ (v : ℕ). putAll (suc i) (o v) (set now i v) ≡ putAll 1 (onward k (S .R) (S .B) d first) old) (sym e) f in
+            record {
+              steps = steps-after S r;
+              rest = subst (λ (m : ℕ). putAll m (o u) (set now i u) ≡ putAll 1 (onward k (S .R) (S .B) d first) old) j f1;
+              runs = subst (λ (v : ℕ). T (runsInto k (S .R) (S .B) v (o v))) (sym e) (and-out (pair (S .R) s (towards k (S .R) (S .B) (left - 1) s)) _ (and-out (ltb s k) _ w .1) .1);
+            }
+
+        pub next-small : u < 65_536
+        next-small =
+            let h = run-lt (2 ^ n) (p .scene .R) (p .scene .B) u (onward (2 ^ n) (p .scene .R) (p .scene .B) (left - 1) u) (write-turns (p .scene) (p .ready) .runs) in
+            let m : 2 ^ n ≤ 65_536 = pow-mono (base-bits (p .start .base)) in
+            omega arith
+
+    pub write-ends : left ≤ 0 → WritePost n limit W X t b d first old now
+    write-ends l S r =
+        let k = 2 ^ n in
+        let z : left ≡ 0 = omega arith in
+        record {
+          steps = q S r .steps;
+          list = subst (λ (m : ℕ). putAll i (onward k (S .R) (S .B) m s) now ≡ putAll 1 (onward k (S .R) (S .B) d first) old) z (q S r .rest);
+        }

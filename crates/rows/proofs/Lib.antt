@@ -1,0 +1,13 @@
+pub mod Used
+pub mod Index
+pub mod Bits
+pub mod MarkLaws
+pub mod Roots
+pub mod Says
+pub mod Lookup
+pub mod Framed
+pub mod Within
+pub mod Sound
+pub mod Filled
+pub mod Kept
+pub mod Alike

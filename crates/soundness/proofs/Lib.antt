@@ -1,0 +1,14 @@
+pub mod Walks
+pub mod Checks
+pub mod Triples
+pub mod Decided
+pub mod Heights
+pub mod Order
+pub mod Halves
+pub mod ChainsLaws
+pub mod ApartLaws
+pub mod PairsLaws
+pub mod Contained
+pub mod Masks
+pub mod CellsLaws
+pub mod TablesLaws

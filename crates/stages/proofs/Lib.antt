@@ -1,0 +1,7 @@
+pub mod Left
+pub mod Levels
+pub mod AddedCounts
+pub mod Surveys
+pub mod Renews
+pub mod Looks
+pub mod RestLaws

@@ -1,0 +1,4 @@
+pub mod Steps
+pub mod CleanLaws
+pub mod SettleLaws
+pub mod Again

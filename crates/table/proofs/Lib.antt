@@ -1,0 +1,10 @@
+pub mod Columns
+pub mod AppendLaws
+pub mod Fresh
+pub mod Count
+pub mod FindLaws
+pub mod AddLaws
+pub mod CodeLaws
+pub mod MakeLaws
+pub mod Store
+pub mod Keep
