@@ -51,7 +51,8 @@ module _ (p r R : ℕ) (bs old new : List ℕ) (l : List Account) where
   c = set (termsOf l p) r R bs
 
   -- the account is there, and its rounds were added
-  pub found : {m : List Account} (x : Stored) → p < length l → getD l p none .tally ≤ tallyTop → CallPost (set (termsWith (length l) p (getD l p none)) r R bs) old new (storedReply x)
+  pub found : {m : List Account} (x : Stored) → p < length l → getD l p none .tally ≤ tallyTop
+      → CallPost (set (termsWith (length l) p (getD l p none)) r R bs) old new (storedReply x)
       → m ≡ place l p (counted (getD l p none) (roundsOf x)) → SetAllPost p r R bs old new l m (storedReply x)
   found {m} x i h d e = record { table = d; list = e ∙ added x }
     where
@@ -60,8 +61,14 @@ module _ (p r R : ℕ) (bs old new : List ℕ) (l : List Account) where
       added (stored.Refused k) = ap (place l p) (counted-none (getD l p none) h) ∙ put-same l p i ∙ refused k _ l
 
   -- no account at the place: nothing is changed
-  pub lost : (x : Stored) → length l ≤ p → CallPost (set (termsWith (length l) p none) r R bs) old new (storedReply x) → SetAllPost p r R bs old new l l (storedReply x)
-  lost x h d = record { table = subst (λ a. CallPost (set (termsWith (length l) p a) r R bs) old new (storedReply x)) (sym (List·getD-eq-default l none h)) d; list = kept x }
+  pub lost : (x : Stored) → length l ≤ p → CallPost (set (termsWith (length l) p none) r R bs) old new (storedReply x)
+      → SetAllPost p r R bs old new l l (storedReply x)
+  lost x h d =
+      record {
+        table =
+            subst (λ a. CallPost (set (termsWith (length l) p a) r R bs) old new (storedReply x)) (sym (List·getD-eq-default l none h)) d;
+        list = kept x;
+      }
     where
       kept : (x : Stored) → l ≡ charged l c (storedReply x)
       kept (stored.Node a q k) = put-beyond l p (counted (getD l p none) q) h
@@ -74,7 +81,8 @@ made-within started.Ready k = le-refl k
 made-within (started.Refused e) k = zero-le
 
 -- so a list over words and accounts may begin with it (contract, Shared and Bigger)
-pub fresh-all : (n N : ℕ) (old new : List ℕ) (before after : List Account) (x : Started) → FreshListPost n N old new before after x → FreshAllPost n N old new before after (startedReply x)
+pub fresh-all : (n N : ℕ) (old new : List ℕ) (before after : List Account) (x : Started) → FreshListPost n N old new before after x
+    → FreshAllPost n N old new before after (startedReply x)
 fresh-all n N old new before after x p = record { table = p .table .post; list = p .list }
 
 pub made-list : (l : List Account) (x : Started) → emptiedTo (madeCount x (length l)) l ≡ freshened l (startedReply x)
@@ -82,5 +90,6 @@ made-list l started.Ready = refl
 made-list l (started.Refused e) = refused e (emptiedTo (length l) l) l
 
 -- ---- a call's terms, as another function made them
-pub termed : {t u : Terms} (r R : ℕ) (bs old new : List ℕ) (y : Reply) → t ≡ u → CallPost (set t r R bs) old new y → CallPost (set u r R bs) old new y
+pub termed : {t u : Terms} (r R : ℕ) (bs old new : List ℕ) (y : Reply) → t ≡ u → CallPost (set t r R bs) old new y
+    → CallPost (set u r R bs) old new y
 termed r R bs old new y e d = subst (λ (t : Terms). CallPost (set t r R bs) old new y) e d

@@ -1,4 +1,5 @@
-// The entry points over lent words and a lent list of accounts. `set` and `fresh` take the list and are walked by hand; what they call is covered.
+// The entry points over lent words and a lent list of accounts. `set` and `fresh` take the list and are walked by hand; what they call is
+// covered.
 use accounts::Account;
 use accounts::add_rounds;
 use accounts::empty_tallies;

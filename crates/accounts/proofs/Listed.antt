@@ -14,7 +14,8 @@ length-emptied (suc k) [] = refl
 length-emptied (suc k) (a ∷ l) = ap suc (length-emptied k l)
 
 -- one account more
-pub emptied-next : (k : ℕ) (l : List Account) → k < length l → set (emptiedTo k l) k (emptied (getD (emptiedTo k l) k none)) ≡ emptiedTo (suc k) l
+pub emptied-next : (k : ℕ) (l : List Account) → k < length l
+    → set (emptiedTo k l) k (emptied (getD (emptiedTo k l) k none)) ≡ emptiedTo (suc k) l
 emptied-next k [] h = absurd (not-suc-le-zero h)
 emptied-next zero (a ∷ l) h = refl
 emptied-next (suc k) (a ∷ l) h = ap (λ (t : List Account). emptied a ∷ t) (emptied-next k l (le-of-suc-le-suc h))

@@ -1,4 +1,5 @@
--- What a call counts as its steps go: "rounds", and the "peak: the largest row need, over its steps, of live sets and result together". Assumes nothing.
+-- What a call counts as its steps go: "rounds", and the "peak: the largest row need, over its steps, of live sets and result together".
+-- Assumes nothing.
 use Prim.Native.Nat.{suc, max, ℕ}
 use Rattle.accounts.specs.declared.Count.{Count}
 

@@ -1,4 +1,5 @@
-// Accounts that share one table, each with a row limit, a round limit and a tally of rounds. First the arithmetic on one account by value, then the few thin functions over a lent list of accounts.
+// Accounts that share one table, each with a row limit, a round limit and a tally of rounds. First the arithmetic on one account by value,
+// then the few thin functions over a lent list of accounts.
 ghost use mathlib.Core.Path.{_≡_};
 ghost use Prim.Native.Nat.{_<_, _≤_, min};
 ghost use lib.ListN.{length, getD, set};
@@ -6,7 +7,8 @@ ghost use Rattle.accounts.specs.Account.{tallied, counted, emptied, list
 ghost use Rattle.accounts.specs.Listed.{none, emptiedTo};
 ghost use Rattle.accounts.specs.Terms.{termsWith, named, lent, rowsUnder, roundsUnder, alone};
 
-// An account: the rows that a step may need and the rounds that a set call may take, beside the table's and the caller's own, and the rounds of its answered sets since fresh.
+// An account: the rows that a step may need and the rounds that a set call may take, beside the table's and the caller's own, and the
+// rounds of its answered sets since fresh.
 #[repr(C)]
 pub struct Account {
     pub rows: u32,

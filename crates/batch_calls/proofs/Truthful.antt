@@ -38,7 +38,8 @@ module _ (old mid : List ℕ) (acc : Terms) (r R : ℕ) (bs : List ℕ) (x : Rep
   held : SoundWords old → bookOf (seen mid) .reg r ≡ some M
   held s =
       let served = p .performs .served s .1 in
-      let same = only-book (does b (set acc r R bs) .0) (seen mid) (whole-does b (set acc r R bs) (whole-bookOf (seen old) (sound-table (tableOf old) s)))
+      let same = only-book (does b (set acc r R bs) .0) (seen mid)
+      (whole-does b (set acc r R bs) (whole-bookOf (seen old) (sound-table (tableOf old) s)))
       (served .shows) in
       ap (λ (c : Book). c .reg r) (sym same) ∙ set-leaves b acc r R bs x (served .agrees) z
 

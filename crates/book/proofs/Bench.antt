@@ -1,4 +1,5 @@
--- "Rooms on the test bench": the starred cases, from bytes, in one table that one theorem covers; the last three have no star. Assumes nothing.
+-- "Rooms on the test bench": the starred cases, from bytes, in one table that one theorem covers; the last three have no star.
+-- Assumes nothing.
 use mathlib.Core.Bool.{Bool, true, false}
 use mathlib.Core.List.{List, [], _∷_, List·Memᴰ}
 use mathlib.Core.Option.{none, some}
@@ -50,7 +51,11 @@ under k place rows rounds = record { count = k; place = place; rows = rows; roun
 
 abbrev pub cases : List Case
 cases =
-    record { n = 1; N = 100; lines = loaded flip 4 ∷ did (set alone 0 100 (frame reach)) (made 3 4 (some 1)) ∷ holds 0 (some everybody) ∷ [] }
+    record {
+      n = 1;
+      N = 100;
+      lines = loaded flip 4 ∷ did (set alone 0 100 (frame reach)) (made 3 4 (some 1)) ∷ holds 0 (some everybody) ∷ [];
+    }
     ∷ record { n = 1; N = 100; lines = loaded flip 4 ∷ did (set alone 0 2 (frame reach)) (refused 9) ∷ holds 0 none ∷ [] }
     ∷ answers (0x70 ∷ 0x30 ∷ []) 1 0 nobody
     ∷ answers (0x80 ∷ 0x30 ∷ []) 1 1 everybody
@@ -59,11 +64,32 @@ cases =
     ∷ refuses (0x30 ∷ []) 5
     ∷ refuses (0x70 ∷ 0x70 ∷ 0x30 ∷ []) 5
     ∷ refuses (0x60 ∷ 0x01 ∷ []) 7
-    ∷ record { n = 1; N = 100; lines = loaded (0x00 ∷ []) 0 ∷ did (set alone 0 100 (frame (0x60 ∷ 0x00 ∷ []))) (made 0 0 (some 1)) ∷ told (count 0) (answered (some 2)) ∷ [] }
-    ∷ record { n = 1; N = 100; lines = loaded (0x00 ∷ []) 0 ∷ did (set alone 0 100 (frame (0x68 ∷ 0x01 ∷ []))) (made 0 0 (some 0)) ∷ told (count 0) (answered (some 0)) ∷ [] }
-    ∷ record { n = 2; N = 3; lines = did (set alone 0 100 (frame (0x03 ∷ 0x10 ∷ 0x11 ∷ []))) (made 0 3 none) ∷ holds 0 (some (false ∷ false ∷ false ∷ true ∷ [])) ∷ [] }
+    ∷ record {
+      n = 1;
+      N = 100;
+      lines =
+          loaded (0x00 ∷ []) 0 ∷ did (set alone 0 100 (frame (0x60 ∷ 0x00 ∷ []))) (made 0 0 (some 1)) ∷ told (count 0) (answered (some 2))
+          ∷ [];
+    }
+    ∷ record {
+      n = 1;
+      N = 100;
+      lines =
+          loaded (0x00 ∷ []) 0 ∷ did (set alone 0 100 (frame (0x68 ∷ 0x01 ∷ []))) (made 0 0 (some 0)) ∷ told (count 0) (answered (some 0))
+          ∷ [];
+    }
+    ∷ record {
+      n = 2;
+      N = 3;
+      lines =
+          did (set alone 0 100 (frame (0x03 ∷ 0x10 ∷ 0x11 ∷ []))) (made 0 3 none) ∷ holds 0 (some (false ∷ false ∷ false ∷ true ∷ [])) ∷ [];
+    }
     ∷ record { n = 2; N = 2; lines = did (set alone 0 100 (frame (0x03 ∷ 0x10 ∷ 0x11 ∷ []))) (refused 8) ∷ holds 0 none ∷ [] }
-    ∷ record { n = 1; N = 1; lines = did (set alone 0 100 (frame (0x02 ∷ 0x10 ∷ []))) (made 0 1 none) ∷ holds 0 (some (true ∷ false ∷ [])) ∷ [] }
+    ∷ record {
+      n = 1;
+      N = 1;
+      lines = did (set alone 0 100 (frame (0x02 ∷ 0x10 ∷ []))) (made 0 1 none) ∷ holds 0 (some (true ∷ false ∷ [])) ∷ [];
+    }
     ∷ record {
       n = 2;
       N = 2;
@@ -89,23 +115,50 @@ cases =
     ∷ refuses (0x03 ∷ 0x70 ∷ 0x01 ∷ 0x31 ∷ []) 5
     ∷ refuses (0x03 ∷ 0x70 ∷ 0x02 ∷ 0x30 ∷ 0x71 ∷ 0x40 ∷ []) 12
     -- an account's smaller limits: 2 rows and 2 rounds are too few where 3 are enough
-    ∷ record { n = 2; N = 100; lines = did (set (under 1 0 2 100) 0 100 (frame (0x03 ∷ 0x10 ∷ 0x11 ∷ []))) (refused 8) ∷ did (set (under 2 1 3 100) 0 100 (frame (0x03 ∷ 0x10 ∷ 0x11 ∷ []))) (made 0 3 none) ∷ [] }
-    ∷ record { n = 1; N = 100; lines = loaded flip 4 ∷ did (set (under 1 0 100 2) 0 100 (frame reach)) (refused 9) ∷ did (set (under 8 7 100 3) 0 100 (frame reach)) (made 3 4 (some 1)) ∷ [] }
+    ∷ record {
+      n = 2;
+      N = 100;
+      lines =
+          did (set (under 1 0 2 100) 0 100 (frame (0x03 ∷ 0x10 ∷ 0x11 ∷ []))) (refused 8)
+          ∷ did (set (under 2 1 3 100) 0 100 (frame (0x03 ∷ 0x10 ∷ 0x11 ∷ []))) (made 0 3 none) ∷ [];
+    }
+    ∷ record {
+      n = 1;
+      N = 100;
+      lines =
+          loaded flip 4 ∷ did (set (under 1 0 100 2) 0 100 (frame reach)) (refused 9)
+          ∷ did (set (under 8 7 100 3) 0 100 (frame reach)) (made 3 4 (some 1)) ∷ [];
+    }
     -- 14: no account, more than 8, no such place; after 3 and before 4
-    ∷ record { n = 1; N = 100; lines = did (set (under 0 0 0 0) 0 100 (frame (0x01 ∷ []))) (refused 14) ∷ did (set (under 9 0 100 100) 0 100 (frame (0x01 ∷ []))) (refused 14) ∷ did (set (under 8 8 0 0) 0 100 (frame (0x01 ∷ []))) (refused 14) ∷ [] }
-    ∷ record { n = 1; N = 100; lines = did (set (under 9 0 100 100) 32 100 (frame (0x01 ∷ []))) (refused 3) ∷ did (set (under 9 0 100 100) 0 100 []) (refused 14) ∷ did (set (under 8 0 100 100) 0 100 []) (refused 4) ∷ [] }
+    ∷ record {
+      n = 1;
+      N = 100;
+      lines =
+          did (set (under 0 0 0 0) 0 100 (frame (0x01 ∷ []))) (refused 14)
+          ∷ did (set (under 9 0 100 100) 0 100 (frame (0x01 ∷ []))) (refused 14)
+          ∷ did (set (under 8 8 0 0) 0 100 (frame (0x01 ∷ []))) (refused 14) ∷ [];
+    }
+    ∷ record {
+      n = 1;
+      N = 100;
+      lines =
+          did (set (under 9 0 100 100) 32 100 (frame (0x01 ∷ []))) (refused 3) ∷ did (set (under 9 0 100 100) 0 100 []) (refused 14)
+          ∷ did (set (under 8 0 100 100) 0 100 []) (refused 4) ∷ [];
+    }
     ∷ []
 
--- a set of register 0 by a formula of version 2, on a table of n = 1 with relation 0 loaded with peak l: its rounds, peak, node and set, or its refusal
+-- a set of register 0 by a formula of version 2, on a table of n = 1 with relation 0 loaded with peak l: its rounds, peak, node and set, or
+-- its refusal
 abbrev until : List ℕ → ℕ → ℕ → List ℕ → ℕ → ℕ → ℕ → List Bool → Case
-until rel l R f q p a A = record { n = 1; N = 100; lines = loaded rel l ∷ did (set alone 0 R (frame2 f)) (made q p (some a)) ∷ holds 0 (some A) ∷ [] }
+until rel l R f q p a A =
+    record { n = 1; N = 100; lines = loaded rel l ∷ did (set alone 0 R (frame2 f)) (made q p (some a)) ∷ holds 0 (some A) ∷ [] }
 
 abbrev noUntil : List ℕ → ℕ → ℕ → List ℕ → ℕ → Case
 noUntil rel l R f k = record { n = 1; N = 100; lines = loaded rel l ∷ did (set alone 0 R (frame2 f)) (refused k) ∷ holds 0 none ∷ [] }
 
--- "Until". Where each state leads to the other: true until bit 0, on some and on every run, is every state, by the written formula's 3 rounds, of
--- which R = 2 is too few. Over the empty relation false is never reached. Version 1 has no such word, a relation call has no version 2, and
--- check 7 names the relation
+-- "Until". Where each state leads to the other: true until bit 0, on some and on every run, is every state, by the written formula's 3
+-- rounds, of which R = 2 is too few. Over the empty relation false is never reached. Version 1 has no such word, a relation call has no
+-- version 2, and check 7 names the relation
 abbrev pub untils : List Case
 untils =
     until flip 4 100 (0x90 ∷ 0x01 ∷ 0x10 ∷ []) 3 4 1 everybody
@@ -164,15 +217,32 @@ valids =
           ∷ [];
     }
     -- full by the row rule of a relation, and 13 before 4
-    ∷ record { n = 2; N = 2; lines = did (valid (frame (0x02 ∷ 0x03 ∷ 0x10 ∷ 0x11 ∷ []))) (refused 8) ∷ did (set alone 0 100 (frame (0x01 ∷ []))) (made 0 0 (some 1)) ∷ did (valid []) (refused 13) ∷ did (clear 0) (answered (some 0)) ∷ did (valid []) (refused 4) ∷ [] }
+    ∷ record {
+      n = 2;
+      N = 2;
+      lines =
+          did (valid (frame (0x02 ∷ 0x03 ∷ 0x10 ∷ 0x11 ∷ []))) (refused 8) ∷ did (set alone 0 100 (frame (0x01 ∷ []))) (made 0 0 (some 1))
+          ∷ did (valid []) (refused 13) ∷ did (clear 0) (answered (some 0)) ∷ did (valid []) (refused 4) ∷ [];
+    }
     ∷ record { n = 2; N = 3; lines = did (valid (frame (0x02 ∷ 0x03 ∷ 0x10 ∷ 0x11 ∷ []))) (answered (some 0)) ∷ [] }
     -- no state exists: nu P P is empty, and true is node 0
-    ∷ record { n = 1; N = 100; lines = did (valid (frame (0x00 ∷ []))) (answered (some 0)) ∷ did (set alone 0 100 (frame (0x80 ∷ 0x30 ∷ []))) (made 1 0 (some 0)) ∷ did (set alone 1 100 (frame (0x01 ∷ []))) (made 0 0 (some 0)) ∷ did collect (answered (some 0)) ∷ [] }
+    ∷ record {
+      n = 1;
+      N = 100;
+      lines =
+          did (valid (frame (0x00 ∷ []))) (answered (some 0)) ∷ did (set alone 0 100 (frame (0x80 ∷ 0x30 ∷ []))) (made 1 0 (some 0))
+          ∷ did (set alone 1 100 (frame (0x01 ∷ []))) (made 0 0 (some 0)) ∷ did collect (answered (some 0)) ∷ [];
+    }
     ∷ []
 
 -- V and a relation, which leads to each existing state with bit 0: state 1 alone
 abbrev over : Line → Case
-over l = record { n = 2; N = 100; lines = did (valid (frame (0x02 ∷ 0x03 ∷ 0x10 ∷ 0x11 ∷ []))) (answered (some 0)) ∷ loaded (0x20 ∷ []) 11 ∷ l ∷ [] }
+over l =
+    record {
+      n = 2;
+      N = 100;
+      lines = did (valid (frame (0x02 ∷ 0x03 ∷ 0x10 ∷ 0x11 ∷ []))) (answered (some 0)) ∷ loaded (0x20 ∷ []) 11 ∷ l ∷ [];
+    }
 
 abbrev pub boxed : Case
 boxed = over (did (set alone 0 100 (frame (0x60 ∷ 0x10 ∷ []))) (made 0 9 none))

@@ -1,5 +1,5 @@
--- A formula of 00 to 04 and 10 to 1F reads current bits alone: the states in which it holds over all 2^n are the current states of the pairs
--- in which it holds, and the bytes of valid are such a formula. Assumes nothing.
+-- A formula of 00 to 04 and 10 to 1F reads current bits alone: the states in which it holds over all 2^n are the current states of the
+-- pairs in which it holds, and the bytes of valid are such a formula. Assumes nothing.
 use mathlib.Core.Path.{_≡_, refl, sym, ap, ap₂, _∙_, subst, fun-ext}
 use mathlib.Core.Bool.{Bool, true, false, not, _&&_, _||_, cond}
 use mathlib.Core.List.{List}
@@ -64,9 +64,17 @@ module _ (n s t : ℕ) (l : s < 2 ^ n) where
   unfolding bitsOnly
   states-hold bot h = getD-table (2 ^ n) (λ u. false) s false l
   states-hold top h = here
-  states-hold (neg f) h = getD-table (2 ^ n) _ s false l ∙ both _ ∙ getD-table (2 ^ n) (λ u. not (mem (means (everything n) noEnv f) u)) s false l ∙ ap not (states-hold f h)
-  states-hold (conj f g) h = let w = and-out (bitsOnly f) (bitsOnly g) h in getD-table (2 ^ n) (λ u. mem (means (everything n) noEnv f) u && mem (means (everything n) noEnv g) u) s false l ∙ ap₂ _&&_ (states-hold f (w .0)) (states-hold g (w .1))
-  states-hold (disj f g) h = let w = and-out (bitsOnly f) (bitsOnly g) h in getD-table (2 ^ n) (λ u. mem (means (everything n) noEnv f) u || mem (means (everything n) noEnv g) u) s false l ∙ ap₂ _||_ (states-hold f (w .0)) (states-hold g (w .1))
+  states-hold (neg f) h =
+      getD-table (2 ^ n) _ s false l ∙ both _ ∙ getD-table (2 ^ n) (λ u. not (mem (means (everything n) noEnv f) u)) s false l
+      ∙ ap not (states-hold f h)
+  states-hold (conj f g) h =
+      let w = and-out (bitsOnly f) (bitsOnly g) h in
+      getD-table (2 ^ n) (λ u. mem (means (everything n) noEnv f) u && mem (means (everything n) noEnv g) u) s false l
+      ∙ ap₂ _&&_ (states-hold f (w .0)) (states-hold g (w .1))
+  states-hold (disj f g) h =
+      let w = and-out (bitsOnly f) (bitsOnly g) h in
+      getD-table (2 ^ n) (λ u. mem (means (everything n) noEnv f) u || mem (means (everything n) noEnv g) u) s false l
+      ∙ ap₂ _||_ (states-hold f (w .0)) (states-hold g (w .1))
   states-hold (now p) h = getD-table (2 ^ n) _ s false l ∙ both _ ∙ getD-table (2 ^ n) _ s false l
   states-hold (next p) h = absurd h
   states-hold (var P) h = absurd h
@@ -97,8 +105,12 @@ unfolding takes bitsOnly
 taken-bits n bot e = tt
 taken-bits n top e = tt
 taken-bits n (neg f) e = taken-bits n f e
-taken-bits n (conj f g) e = let w = both-true (takes n Bits f) (takes n Bits g) e in and-in (bitsOnly f) (bitsOnly g) (taken-bits n f (w .0)) (taken-bits n g (w .1))
-taken-bits n (disj f g) e = let w = both-true (takes n Bits f) (takes n Bits g) e in and-in (bitsOnly f) (bitsOnly g) (taken-bits n f (w .0)) (taken-bits n g (w .1))
+taken-bits n (conj f g) e =
+    let w = both-true (takes n Bits f) (takes n Bits g) e in
+    and-in (bitsOnly f) (bitsOnly g) (taken-bits n f (w .0)) (taken-bits n g (w .1))
+taken-bits n (disj f g) e =
+    let w = both-true (takes n Bits f) (takes n Bits g) e in
+    and-in (bitsOnly f) (bitsOnly g) (taken-bits n f (w .0)) (taken-bits n g (w .1))
 taken-bits n (now p) e = tt
 taken-bits n (next p) e = never (ltb p 16) false e
 taken-bits n (var P) e = never (ltb P 16) false e

@@ -78,7 +78,8 @@ module _ (n : ℕ) where
   pub pairsOf-fnOfPairs : (R : Pairs) → SizedPairs n R → pairsOf n (fnOfPairs n R) ≡ R
   pairsOf-fnOfPairs R a = fnOfPairs-inj (pairsOf n (fnOfPairs n R)) R (sized-table n (λ s t. fnOfPairs n R (pairVal s t))) a (λ v.
       ap (λ (F : Fn). F v) (fnOfPairs-table n (λ s t. fnOfPairs n R (pairVal s t)))
-      ∙ ap₂ (pair R) (nowOf-pairVal n (nowOf n v) (nextOf n v) (nowOf-lt n v)) (nextOf-pairVal n (nowOf n v) (nextOf n v) (nowOf-lt n (λ l. v (suc l)))))
+      ∙ ap₂ (pair R) (nowOf-pairVal n (nowOf n v) (nextOf n v) (nowOf-lt n v))
+      (nextOf-pairVal n (nowOf n v) (nextOf n v) (nowOf-lt n (λ l. v (suc l)))))
 
   pub fnOf-setOf : (F : Fn) → ((v w : Val) → ((p : ℕ) → p < n → v (2 * p) ≡ w (2 * p)) → F v ≡ F w) → fnOf n (setOf n F) ≡ F
   fnOf-setOf F r = fnOf-table n (λ s. F (pairVal s 0)) ∙ fun-ext (λ v. r _ v (λ p l. pairVal-now p (nowOf n v) 0 ∙ nowOf-bit n v p l))

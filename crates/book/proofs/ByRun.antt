@@ -16,13 +16,17 @@ use Rattle.book.specs.Over.{states}
 use Rattle.book.specs.Ticks.{ticks, Verdict, counted, full, spent, verdict}
 use Rattle.book.specs.Run.{Outcome, value, full as fullRun, spent as spentRun, run, pairsFit, pairsCount, relationFits, relationCount}
 use Rattle.book.proofs.Verdicts.{settle, run-ticks, pairs-ticks, relation-ticks}
-use Rattle.book.specs.Book.{formulaIn, Book, Call, relation, set, valid, clear, collect, unfilled, validDone, validSteps, registers, relations, modelOf, liveOf, checks, Done, refuse, ended, relationDone, setDone, relationSteps, setSteps, passing, formulaCall, does}
+use Rattle.book.specs.Book.{formulaIn, Book, Call, relation, set, valid, clear, collect, unfilled, validDone, validSteps, registers}
+use Rattle.book.specs.Book.{relations, modelOf, liveOf, checks, Done, refuse, ended, relationDone, setDone, relationSteps, setSteps}
+use Rattle.book.specs.Book.{passing, formulaCall, does}
 use Rattle.book.specs.Stored.{Passed}
 use Rattle.book.proofs.Stored.{checks-passed}
 
 -- relation t by its steps' needs alone
 abbrev pub relationByRun : Book → ℕ → Form → Done
-relationByRun b t f = let d = relationDone b t f (relationCount (b .n) (liveOf b) (b .valid) f nothing) in cond (relationFits (b .n) (b .N) (liveOf b) (b .valid) f) d (refuse b 8)
+relationByRun b t f =
+    let d = relationDone b t f (relationCount (b .n) (liveOf b) (b .valid) f nothing) in
+    cond (relationFits (b .n) (b .N) (liveOf b) (b .valid) f) d (refuse b 8)
 
 -- valid by its steps' needs alone
 abbrev pub validByRun : Book → Form → Done
@@ -39,7 +43,8 @@ setByRun b acc r R f = setEnds b r (run (states (modelOf b) noEnv) (rowsUnder (b
 
 abbrev pub doesByRun : Book → Call → Done
 doesByRun b (relation t bs) = let d = formulaCall b Relation bs (relationByRun b t) in cond (ltb t relations) d (refuse b 3)
-doesByRun b (set acc r R bs) = let d = formulaCall b Set bs (setByRun b acc r R) in let e = cond (named acc) d (refuse b 14) in cond (ltb r registers) e (refuse b 3)
+doesByRun b (set acc r R bs) =
+    let d = formulaCall b Set bs (setByRun b acc r R) in let e = cond (named acc) d (refuse b 14) in cond (ltb r registers) e (refuse b 3)
 doesByRun b (clear r) = does b (clear r)
 doesByRun b (valid bs) = let d = formulaCall b Valid bs (validByRun b) in cond (unfilled b) d (refuse b 13)
 doesByRun b collect = does b collect
@@ -47,7 +52,9 @@ doesByRun b collect = does b collect
 -- ---- they agree
 
 pub relation-by-run : (b : Book) (t : ℕ) (f : Form) → relationSteps b t f ≡ relationByRun b t f
-relation-by-run b t f = ap (λ (w : Verdict). ended b w (λ q. relationDone b t f q)) (relation-ticks (b .N) 0 (b .n) (liveOf b) (b .valid) f nothing) ∙ go (relationFits (b .n) (b .N) (liveOf b) (b .valid) f)
+relation-by-run b t f =
+    ap (λ (w : Verdict). ended b w (λ q. relationDone b t f q)) (relation-ticks (b .N) 0 (b .n) (liveOf b) (b .valid) f nothing)
+    ∙ go (relationFits (b .n) (b .N) (liveOf b) (b .valid) f)
   where
     c : Count
     c = relationCount (b .n) (liveOf b) (b .valid) f nothing
@@ -57,9 +64,13 @@ relation-by-run b t f = ap (λ (w : Verdict). ended b w (λ q. relationDone b t 
     go false = refl
 
 pub valid-by-run : (b : Book) (f : Form) → validSteps b f ≡ validByRun b f
-valid-by-run b f = ap (λ (w : Verdict). ended b w (λ q. validDone b f)) (pairs-ticks (b .N) 0 (b .n) (liveOf b) f nothing) ∙ go (pairsFit (b .n) (b .N) (liveOf b) f)
+valid-by-run b f =
+    ap (λ (w : Verdict). ended b w (λ q. validDone b f)) (pairs-ticks (b .N) 0 (b .n) (liveOf b) f nothing)
+    ∙ go (pairsFit (b .n) (b .N) (liveOf b) f)
   where
-    go : (x : Bool) → ended b (cond x (counted (pairsCount (b .n) (liveOf b) f nothing)) full) (λ q. validDone b f) ≡ cond x (validDone b f) (refuse b 8)
+    go : (x : Bool)
+        → ended b (cond x (counted (pairsCount (b .n) (liveOf b) f nothing)) full) (λ q. validDone b f)
+        ≡ cond x (validDone b f) (refuse b 8)
     go true = refl
     go false = refl
 
@@ -72,10 +83,12 @@ ends-by-run b r A spent = refl
 pub set-by-run : (b : Book) (acc : Terms) (r R : ℕ) (f : Form) → T (steady f) → setByRun b acc r R f ≡ setSteps b acc r R f
 set-by-run b acc r R f t =
     ap (setEnds b r) (run-ticks (rowsUnder (b .N) acc) (roundsUnder R acc) (modelOf b) noEnv (liveOf b) f nothing t)
-    ∙ ends-by-run b r (means (modelOf b) noEnv f) (verdict (rowsUnder (b .N) acc) (roundsUnder R acc) nothing (ticks (states (modelOf b) noEnv) (liveOf b) f))
+    ∙ ends-by-run b r (means (modelOf b) noEnv f)
+    (verdict (rowsUnder (b .N) acc) (roundsUnder R acc) nothing (ticks (states (modelOf b) noEnv) (liveOf b) f))
 
 -- two ways to go on that agree on the formulas that pass
-formula-same : (b : Book) (c : Kind) (bs : List ℕ) (x y : Form → Done) → (Passed b c bs → x (formulaIn b c bs) ≡ y (formulaIn b c bs)) → formulaCall b c bs x ≡ formulaCall b c bs y
+formula-same : (b : Book) (c : Kind) (bs : List ℕ) (x y : Form → Done) → (Passed b c bs → x (formulaIn b c bs) ≡ y (formulaIn b c bs))
+    → formulaCall b c bs x ≡ formulaCall b c bs y
 formula-same b c bs x y h = pass (checks b c bs) refl
   where
     pass : (k : ℕ) → checks b c bs ≡ k → passing b k (x (formulaIn b c bs)) ≡ passing b k (y (formulaIn b c bs))
@@ -91,5 +104,6 @@ does-by-run b (set acc r R bs) =
     (formula-same b Set bs (setByRun b acc r R) (setSteps b acc r R) (λ p. set-by-run b acc r R (formulaIn b Set bs) (p .isSteady)))
 does-by-run b (clear r) = refl
 does-by-run b (valid bs) =
-    ap (λ (d : Done). cond (unfilled b) d (refuse b 13)) (formula-same b Valid bs (validByRun b) (validSteps b) (λ p. sym (valid-by-run b (formulaIn b Valid bs))))
+    ap (λ (d : Done). cond (unfilled b) d (refuse b 13))
+    (formula-same b Valid bs (validByRun b) (validSteps b) (λ p. sym (valid-by-run b (formulaIn b Valid bs))))
 does-by-run b collect = refl

@@ -41,7 +41,14 @@ pub collect-serves : (b : Book) (t : Table) (rows : Rows) → Shows b t → Coll
     → Serves b collect t (withRows t rows) (valued (usedCount rows (b .N)))
 collect-serves b t rows s c = record {
   shows = shows-rows b t s rows (collects-wellFormed (s .wf) c) (collects-keeps c);
-  agrees = record { number = refl; rounds = refl; peak = refl; value = collects-count (s .wf) c ∙ held-rows (held-keeps (shows-held b t s) (collects-keeps c)) };
+  agrees =
+      record {
+        number =
+            refl;
+        rounds = refl;
+        peak = refl;
+        value = collects-count (s .wf) c ∙ held-rows (held-keeps (shows-held b t s) (collects-keeps c));
+      };
   numbers = λ q h. refl;
   rels = λ q h z. refl;
   valid = λ z. refl;
@@ -81,7 +88,8 @@ pub clear-out-of-range : (b : Book) (r : ℕ) → registers ≤ r → does b (cl
 clear-out-of-range b r l = out-of-range _ (refuse b 3) r registers l
 
 -- A COLLECTION AFTERWARDS leaves what the call gives
-pub tidied-serves : (b : Book) (c : Call) (t u : Table) (y : Reply) (rows : Rows) → Serves b c t u y → Collects (u .rows) rows (rootsOf u) → Serves b c t (withRows u rows) y
+pub tidied-serves : (b : Book) (c : Call) (t u : Table) (y : Reply) (rows : Rows) → Serves b c t u y → Collects (u .rows) rows (rootsOf u)
+    → Serves b c t (withRows u rows) y
 tidied-serves b c t u y rows s k = record {
   shows = shows-rows (does b c .0) u (s .shows) rows (collects-wellFormed (s .shows .wf) k) (collects-keeps k);
   agrees = s .agrees;

@@ -9,5 +9,6 @@ use Rattle.diagram.proofs.Need.{counting}
 use Rattle.book.specs.States.{nowOf, pairVal}
 
 unfoldable pub computing : Unit {0}
-unfolding counting upd bitLists lookup tokenOf leadAt parse framed formulaOf firstRefusal bound lacks mentioned reads steady filled nowOf pairVal
+unfolding counting upd bitLists lookup tokenOf leadAt parse framed formulaOf firstRefusal bound lacks mentioned reads steady filled nowOf
+    pairVal
 computing = tt

@@ -12,7 +12,8 @@ use Rattle.diagram.specs.Post.{Denotes}
 use Rattle.diagram.proofs.Canon.{canonical}
 use Rattle.book.specs.Bridge.{fnOf}
 use Rattle.book.proofs.Bridge.{fnOf-inj}
-use Rattle.book.specs.Book.{Book, fresh, freshNumber, Call, Question, node, member, count, Answer, registers, refused, nodeOf, asked, does, play, answer}
+use Rattle.book.specs.Book.{Book, fresh, freshNumber, Call, Question, node, member, count, Answer, registers, refused, nodeOf, asked}
+use Rattle.book.specs.Book.{does, play, answer}
 use Rattle.book.specs.Stored.{Whole}
 use Rattle.book.proofs.Stored.{whole-fresh, whole-does, none-some, range-cases}
 use Rattle.book.specs.Last.{Untouched, LastSet}
@@ -28,8 +29,10 @@ use Rattle.book.specs.Demand.{Event, calls, bookAfter, Trace, stop, go, 
 
 -- ---- two registers of a table that shows a whole book
 
-place-denotes : {X : Type 0} (m : ℕ) (rows : Rows) (f : X → Fn) (o : Option X) (n : Option ℕ) (x : X) (a : ℕ) → Place m rows f o n → o ≡ some x → n ≡ some a → Denotes m rows a (f x)
-place-denotes {X} m rows f o n x a p i j = subst (λ (k : Option ℕ). Place m rows f (some x) k) j (subst (λ (q : Option X). Place m rows f q n) i p)
+place-denotes : {X : Type 0} (m : ℕ) (rows : Rows) (f : X → Fn) (o : Option X) (n : Option ℕ) (x : X) (a : ℕ) → Place m rows f o n
+    → o ≡ some x → n ≡ some a → Denotes m rows a (f x)
+place-denotes {X} m rows f o n x a p i j =
+    subst (λ (k : Option ℕ). Place m rows f (some x) k) j (subst (λ (q : Option X). Place m rows f q n) i p)
 
 -- one number exactly where the book's sets are one
 pub same-number : (b : Book) (t : Table) → Whole b → Shows b t → (r q : ℕ) → r < registers → q < registers → (A B : List Bool) (x y : ℕ)
@@ -46,7 +49,8 @@ same-number b t w s r q lr lq A B x y i j k l = (forth, back)
     dy = place-denotes m (t .rows) (fnOf (b .n)) (b .reg q) (t .reg q) B y (s .reg q lq) j l
 
     forth : x ≡ y → A ≡ B
-    forth e = fnOf-inj (b .n) A B (w .reg r A i .0) (w .reg q B j .0) (λ v. sym (dx .same v) ∙ ap (λ (z : ℕ). den m (t .rows) z v) e ∙ dy .same v)
+    forth e =
+        fnOf-inj (b .n) A B (w .reg r A i .0) (w .reg q B j .0) (λ v. sym (dx .same v) ∙ ap (λ (z : ℕ). den m (t .rows) z v) e ∙ dy .same v)
 
     back : A ≡ B → x ≡ y
     back e = canonical (s .wf) x y (dx .arrow) (dy .arrow) (λ v. dx .same v ∙ ap (λ (C : List Bool). fnOf (b .n) C v) e ∙ sym (dy .same v))
@@ -55,10 +59,13 @@ same-number b t w s r q lr lq A B x y i j k l = (forth, back)
 
 -- an answered node's register is in range
 node-in : (b : Book) (q : ℕ) → answer b (node q) .number ≡ 0 → q < registers
-node-in b q = range-cases (λ (a : Answer). a .number ≡ 0 → q < registers) q registers (asked (b .reg q) nodeOf) (refused 3) (λ l z. l) (λ l z. absurd (omega arith))
+node-in b q =
+    range-cases (λ (a : Answer). a .number ≡ 0 → q < registers) q registers (asked (b .reg q) nodeOf) (refused 3) (λ l z. l)
+    (λ l z. absurd (omega arith))
 
 -- from the number in a register to the one last returned
-renamed : (b : Book) (g h : ℕ → Option ℕ) → ((r : ℕ) → r < registers → g r ≡ h r) → (q : Question) (y : Reply) → Tells b q g y → Tells b q h y
+renamed : (b : Book) (g h : ℕ → Option ℕ) → ((r : ℕ) → r < registers → g r ≡ h r) → (q : Question) (y : Reply) → Tells b q g y
+    → Tells b q h y
 renamed b g h e q y t = record { agrees = t .agrees; nodeSays = says q (t .agrees) (t .nodeSays) }
   where
     says : (q : Question) → Agrees (answer b q) y → NodeSays g q y → NodeSays h q y
@@ -75,21 +82,25 @@ record After (b : Book) (g : ℕ → Option ℕ) (after : Table) (l : List Event
   numbers : (r : ℕ) → r < registers → after .reg r ≡ lastNumber (g r) l r
   eights : AllEight b l
 
-module _ {W : Type 0} {words : W → ℕ} {sound : W → Type 0} {view : W → Table} {makes : W → ℕ → ℕ → ℕ → W → Reply → Type 0} {contract : W → Call → W → Reply → Type 0} {asks : W → Question → W → Reply → Type 0}
+module _ {W : Type 0} {words : W → ℕ} {sound : W → Type 0} {view : W → Table} {makes : W → ℕ → ℕ → ℕ → W → Reply → Type 0}
+    {contract : W → Call → W → Reply → Type 0} {asks : W → Question → W → Reply → Type 0}
     (I : Implements W words sound view makes contract asks) where
   -- a call on words that stand for a whole book serves that book
-  serves : (b : Book) {w v : W} {c : Call} {y : Reply} → Whole b → sound w → Shows b (view w) → contract w c v y → sound v × Serves b c (view w) (view v) y
+  serves : (b : Book) {w v : W} {c : Call} {y : Reply} → Whole b → sound w → Shows b (view w) → contract w c v y
+      → sound v × Serves b c (view w) (view v) y
   serves b {w} {v} {c} {y} h ok s p =
       let d = I .performs w v c y p .served ok in
       (d .0, subst (λ (x : Book). Serves x c (view w) (view v) y) (sym (only-book b (view w) h s)) (d .1))
 
   -- soundness and the book are carried along together
-  follows : (b : Book) (g : ℕ → Option ℕ) {w w′ : W} {l : List Event} → Whole b → sound w → Shows b (view w) → ((r : ℕ) → r < registers → view w .reg r ≡ g r) → Trace W contract w l w′
+  follows : (b : Book) (g : ℕ → Option ℕ) {w w′ : W} {l : List Event} → Whole b → sound w → Shows b (view w)
+      → ((r : ℕ) → r < registers → view w .reg r ≡ g r) → Trace W contract w l w′
       → sound w′ × After b g (view w′) l
   follows b g h ok s n stop = (ok, record { whole = h; shows = s; agree = tt; numbers = n; eights = tt })
   follows b g h ok s n (go {c = c} {y = y} p t) =
       let (fine, d) = serves b h ok s p in
-      let (end, a) = follows (does b c .0) (λ r. noted (g r) c y r) (whole-does b c h) fine (d .shows) (λ r i. d .numbers r i ∙ ap (λ (x : Option ℕ). noted x c y r) (n r i)) t in (
+      let (end, a) = follows (does b c .0) (λ r. noted (g r) c y r) (whole-does b c h) fine (d .shows)
+      (λ r i. d .numbers r i ∙ ap (λ (x : Option ℕ). noted x c y r) (n r i)) t in (
         end,
         record {
           whole = a .whole;
@@ -117,18 +128,23 @@ module _ {W : Type 0} {words : W → ℕ} {sound : W → Type 0} {view : W → T
     holds = sym (only-book b (view w′) (a .whole) (a .shows));
     shows = a .shows;
     last = λ r A h. made (last-set (calls l) (fresh n N) r A h);
-    numbers = λ r q i j A B y z u v p o. same-number b (view w′) (a .whole) (a .shows) r q i j A B y z u v (a .numbers r i ∙ p) (a .numbers q j ∙ o);
+    numbers =
+        λ r q i j A B y z u v p o. same-number b (view w′) (a .whole) (a .shows) r q i j A B y z u v (a .numbers r i ∙ p)
+        (a .numbers q j ∙ o);
     current = a .numbers;
     agree = a .agree;
     eights = a .eights;
-    questions = λ v q y p. let d = I .answers w′ v q y p in (d .same, renamed b (view w′ .reg) (lastNumber none l) (a .numbers) q y (asked-of q y (d .told (end .0))));
+    questions =
+        λ v q y p. let d = I .answers w′ v q y p in
+        (d .same, renamed b (view w′ .reg) (lastNumber none l) (a .numbers) q y (asked-of q y (d .told (end .0))));
   }
     where
       b : Book
       b = bookAfter n N l
 
       s : sound (x .made) × Shows (fresh n N) (view (x .made))
-      s = started n N (words (x .lent)) (x .count) (x .reply) (I .starts (x .lent) (x .made) n N (x .count) (x .reply) (x .start)) (x .answered)
+      s = started n N (words (x .lent)) (x .count) (x .reply) (I .starts (x .lent) (x .made) n N (x .count) (x .reply) (x .start))
+          (x .answered)
 
       -- every register is empty at the start
       empty : (o : Option ℕ) (m : ℕ) (rows : Rows) (f : List Bool → Fn) → Place m rows f none o → o ≡ none
@@ -136,7 +152,8 @@ module _ {W : Type 0} {words : W → ℕ} {sound : W → Type 0} {view : W → T
       empty (some y) m rows f p = absurd p
 
       end : sound w′ × After (fresh n N) (λ r. none) (view w′) l
-      end = follows (fresh n N) (λ r. none) (whole-fresh n N) (s .0) (s .1) (λ r i. empty (view (x .made) .reg r) (2 * n) (view (x .made) .rows) (fnOf n) (s .1 .reg r i)) (x .rest)
+      end = follows (fresh n N) (λ r. none) (whole-fresh n N) (s .0) (s .1)
+          (λ r i. empty (view (x .made) .reg r) (2 * n) (view (x .made) .rows) (fnOf n) (s .1 .reg r i)) (x .rest)
 
       a : After (fresh n N) (λ r. none) (view w′) l
       a = end .1
@@ -144,6 +161,7 @@ module _ {W : Type 0} {words : W → ℕ} {sound : W → Type 0} {view : W → T
       asked-of : (q : Question) (y : Reply) → Tells (bookOf (view w′)) q (view w′ .reg) y → Tells b q (view w′ .reg) y
       asked-of q y t = subst (λ (c : Book). Tells c q (view w′ .reg) y) (sym (only-book b (view w′) (a .whole) (a .shows))) t
 
-      made : {r : ℕ} {A : List Bool} → (Untouched r (fresh n N) (calls l) × (fresh n N .reg r ≡ some A)) ⊎ LastSet (fresh n N) (calls l) r A → LastSet (fresh n N) (calls l) r A
+      made : {r : ℕ} {A : List Bool} → (Untouched r (fresh n N) (calls l) × (fresh n N .reg r ≡ some A)) ⊎ LastSet (fresh n N) (calls l) r A
+          → LastSet (fresh n N) (calls l) r A
       made (inl w) = absurd (none-some (w .1))
       made (inr w) = w

@@ -61,10 +61,14 @@ exists-in (suc n) F v w s t = exists-in n (existsF (suc (2 * n)) F) v back kept 
     kept l h =
         by-cases (ℕ-discrete l k)
         (λ e. ap back e ∙ upd-same w k (v k) ∙ sym (ap v e))
-        (λ ne. upd-other w k (v k) l ne ∙ s l (λ p j. by-cases (ℕ-discrete p n) (λ e q. ne (q ∙ ap (λ (x : ℕ). suc (2 * x)) e)) (λ d. h p (omega arith))))
+        (λ ne. upd-other w k (v k) l ne
+        ∙ s l (λ p j. by-cases (ℕ-discrete p n) (λ e q. ne (q ∙ ap (λ (x : ℕ). suc (2 * x)) e)) (λ d. h p (omega arith))))
 
     again : (b : Bool) → w k ≡ b → upd back k b ≡ w
-    again b e = fun-ext (λ l. by-cases (ℕ-discrete l k) (λ q. ap (upd back k b) q ∙ upd-same back k b ∙ sym e ∙ sym (ap w q)) (λ ne. upd-other back k b l ne ∙ upd-other w k (v k) l ne))
+    again b e =
+        fun-ext
+        (λ l. by-cases (ℕ-discrete l k) (λ q. ap (upd back k b) q ∙ upd-same back k b ∙ sym e ∙ sym (ap w q))
+        (λ ne. upd-other back k b l ne ∙ upd-other w k (v k) l ne))
 
     some : (b : Bool) → w k ≡ b → T (existsF k F back)
     some true e = or-right (F (upd back k false)) (F (upd back k true)) (subst (λ (u : Val). T (F u)) (sym (again true e)) t)
@@ -82,11 +86,14 @@ module _ (n : ℕ) (v : Val) where
       (λ g. splice-above (2 * n) _ v l g)
       (λ g.
       let e : l ≡ 2 * (l / 2) = let odd = h (l / 2) (omega arith) in omega arith in
-      splice-below (2 * n) _ v l (omega arith) ∙ ap (pairVal (nowOf n v) t) e ∙ pairVal-now (l / 2) (nowOf n v) t ∙ nowOf-bit n v (l / 2) (omega arith) ∙ ap v (sym e))
+      splice-below (2 * n) _ v l (omega arith) ∙ ap (pairVal (nowOf n v) t) e ∙ pairVal-now (l / 2) (nowOf n v) t
+      ∙ nowOf-bit n v (l / 2) (omega arith) ∙ ap v (sym e))
 
   withNext-next : (t : ℕ) → t < 2 ^ n → nextOf n (withNext t) ≡ t
   unfolding withNext
-  withNext-next t h = nowOf-state n (λ l. withNext t (suc l)) t h (λ p l. splice-below (2 * n) _ v (suc (2 * p)) (omega arith) ∙ pairVal-next p (nowOf n v) t)
+  withNext-next t h =
+      nowOf-state n (λ l. withNext t (suc l)) t h
+      (λ p l. splice-below (2 * n) _ v (suc (2 * p)) (omega arith) ∙ pairVal-next p (nowOf n v) t)
 
   -- what is v but at the next bits has v's current bits
   but-now : (w : Val) → ButNext n v w → nowOf n w ≡ nowOf n v
@@ -107,7 +114,8 @@ same-test false false f g = refl
 
 -- the steps of diamond compute the states of which some next state is in A
 pub diamond-exact : (n : ℕ) (R : Pairs) (A : List Bool) → fnOf n (sometimes (2 ^ n) R A) ≡ diamondF n (fnOfPairs n R) (fnOf n A)
-diamond-exact n R A = fnOf-table n (λ s. any (λ t. pair R s t && mem A t) (table (2 ^ n) (λ t. t))) ∙ fun-ext (λ v. same-test _ _ (there v) (back v))
+diamond-exact n R A =
+    fnOf-table n (λ s. any (λ t. pair R s t && mem A t) (table (2 ^ n) (λ t. t))) ∙ fun-ext (λ v. same-test _ _ (there v) (back v))
   where
     C : Fn
     C = andF (shiftF (fnOf n A)) (fnOfPairs n R)

@@ -9,7 +9,8 @@ use Rattle.mucalculus.proofs.Sets.{true-of, false-of}
 use Rattle.tokens.specs.declared.Kind.the-variants.{Relation, Set, Valid}
 use Rattle.accounts.specs.declared.Terms.{Terms}
 use Rattle.accounts.specs.Terms.{named}
-use Rattle.book.specs.Book.{formulaIn, Book, relation, set, valid, unfilled, validSteps, registers, relations, checks, Done, refuse, relationSteps, setSteps, passing, formulaCall, does}
+use Rattle.book.specs.Book.{formulaIn, Book, relation, set, valid, unfilled, validSteps, registers, relations, checks, Done, refuse}
+use Rattle.book.specs.Book.{relationSteps, setSteps, passing, formulaCall, does}
 
 -- ---- a number in range, and out of it
 
@@ -28,9 +29,11 @@ checked b x limit k j d l z = in-range (passing b k d) (refuse b 3) x limit l �
 
 module _ (b : Book) (acc : Terms) (r R : ℕ) (bs : List ℕ) where
   -- where the list has the account named, the call goes by the number of its checks
-  set-checked : (j : ℕ) → r < registers → T (named acc) → checks b Set bs ≡ j → does b (set acc r R bs) ≡ passing b j (setSteps b acc r R (formulaIn b Set bs))
+  set-checked : (j : ℕ) → r < registers → T (named acc) → checks b Set bs ≡ j
+      → does b (set acc r R bs) ≡ passing b j (setSteps b acc r R (formulaIn b Set bs))
   set-checked j l t z =
-      in-range _ (refuse b 3) r registers l ∙ ap (λ (x : Bool). cond x (formulaCall b Set bs (setSteps b acc r R)) (refuse b 14)) (true-of (named acc) t)
+      in-range _ (refuse b 3) r registers l
+      ∙ ap (λ (x : Bool). cond x (formulaCall b Set bs (setSteps b acc r R)) (refuse b 14)) (true-of (named acc) t)
       ∙ ap (λ (i : ℕ). passing b i (setSteps b acc r R (formulaIn b Set bs))) z
 
   pub does-set : r < registers → T (named acc) → checks b Set bs ≡ 0 → does b (set acc r R bs) ≡ setSteps b acc r R (formulaIn b Set bs)
@@ -41,7 +44,8 @@ module _ (b : Book) (acc : Terms) (r R : ℕ) (bs : List ℕ) where
 
   -- "checked directly after 3"
   pub set-unlisted : r < registers → named acc ≡ false → does b (set acc r R bs) ≡ refuse b 14
-  set-unlisted l e = in-range _ (refuse b 3) r registers l ∙ ap (λ (x : Bool). cond x (formulaCall b Set bs (setSteps b acc r R)) (refuse b 14)) e
+  set-unlisted l e =
+      in-range _ (refuse b 3) r registers l ∙ ap (λ (x : Bool). cond x (formulaCall b Set bs (setSteps b acc r R)) (refuse b 14)) e
 
   pub set-out-of-range : registers ≤ r → does b (set acc r R bs) ≡ refuse b 3
   set-out-of-range l = out-of-range _ (refuse b 3) r registers l

@@ -19,16 +19,19 @@ use Rattle.book.specs.Ticks.{Tick, ticks, relationTicks, Verdict, counte
 use Rattle.book.specs.Run.{fit}
 use Rattle.book.proofs.Larger.{fit-peak, full-peak}
 use Rattle.book.proofs.Effects.{does-set, does-relation, does-valid}
-use Rattle.book.specs.Book.{formulaIn, Book, Call, relation, set, valid, clear, collect, validDone, modelOf, liveOf, Done, ended, relationDone, setDone, does}
+use Rattle.book.specs.Book.{formulaIn, Book, Call, relation, set, valid, clear, collect, validDone, modelOf, liveOf, Done, ended}
+use Rattle.book.specs.Book.{relationDone, setDone, does}
 use Rattle.book.specs.Eight.{EightAt}
 
 -- a verdict's number is 8 exactly where it is full
-ended-eight : (b : Book) (w : Verdict) (go : Count → Done) → ((q : Count) → go q .1 .number ≡ 0) → (ended b w go .1 .number ≡ 8) ↔ (w ≡ full)
+ended-eight : (b : Book) (w : Verdict) (go : Count → Done) → ((q : Count) → go q .1 .number ≡ 0)
+    → (ended b w go .1 .number ≡ 8) ↔ (w ≡ full)
 ended-eight b (counted q) go z = ((λ e. absurd (omega (arith, z q))), (λ e. let i : _≡_ {A = ℕ} 0 1 = cc in absurd (omega arith)))
 ended-eight b full go z = ((λ e. refl), (λ e. refl))
 ended-eight b spent go z = ((λ e. absurd (omega arith)), (λ e. let i : _≡_ {A = ℕ} 0 1 = cc in absurd (omega arith)))
 
-eight : (b : Book) (N R : ℕ) (l : List Tick) (go : Count → Done) → ((q : Count) → go q .1 .number ≡ 0) → (ended b (verdict N R nothing l) go .1 .number ≡ 8) ↔ (N < peak (withinRounds R 0 l))
+eight : (b : Book) (N R : ℕ) (l : List Tick) (go : Count → Done) → ((q : Count) → go q .1 .number ≡ 0)
+    → (ended b (verdict N R nothing l) go .1 .number ≡ 8) ↔ (N < peak (withinRounds R 0 l))
 eight b N R l go z =
     let x = ended-eight b (verdict N R nothing l) go z in
     let y = full-peak N R nothing l in
@@ -38,15 +41,20 @@ eight b N R l go z =
 pub eight-exact : (b : Book) (c : Call) → EightAt b c (does b c .1 .number)
 eight-exact b (relation t bs) = λ l z.
     let f = formulaIn b Relation bs in
-    subst (λ (d : Done). (d .1 .number ≡ 8) ↔ (b .N < peak (withinRounds 0 0 (relationTicks (b .n) (liveOf b) (b .valid) f)))) (sym (does-relation b t bs l z))
+    subst (λ (d : Done). (d .1 .number ≡ 8) ↔ (b .N < peak (withinRounds 0 0 (relationTicks (b .n) (liveOf b) (b .valid) f))))
+    (sym (does-relation b t bs l z))
     (eight b (b .N) 0 (relationTicks (b .n) (liveOf b) (b .valid) f) (λ q. relationDone b t f q) (λ q. refl))
 eight-exact b (set acc r R bs) = λ l t z.
     let f = formulaIn b Set bs in
-    subst (λ (d : Done). (d .1 .number ≡ 8) ↔ (rowsUnder (b .N) acc < peak (withinRounds (roundsUnder R acc) 0 (ticks (states (modelOf b) noEnv) (liveOf b) f)))) (sym (does-set b acc r R bs l t z))
-    (eight b (rowsUnder (b .N) acc) (roundsUnder R acc) (ticks (states (modelOf b) noEnv) (liveOf b) f) (λ q. setDone b r (means (modelOf b) noEnv f) q) (λ q. refl))
+    subst (λ (d : Done). (d .1 .number ≡ 8)
+    ↔ (rowsUnder (b .N) acc < peak (withinRounds (roundsUnder R acc) 0 (ticks (states (modelOf b) noEnv) (liveOf b) f))))
+    (sym (does-set b acc r R bs l t z))
+    (eight b (rowsUnder (b .N) acc) (roundsUnder R acc) (ticks (states (modelOf b) noEnv) (liveOf b) f)
+    (λ q. setDone b r (means (modelOf b) noEnv f) q) (λ q. refl))
 eight-exact b (valid bs) = λ t z.
     let f = formulaIn b Valid bs in
-    subst (λ (d : Done). (d .1 .number ≡ 8) ↔ (b .N < peak (withinRounds 0 0 (ticks (pairs (b .n)) (liveOf b) f)))) (sym (does-valid b bs t z))
+    subst (λ (d : Done). (d .1 .number ≡ 8) ↔ (b .N < peak (withinRounds 0 0 (ticks (pairs (b .n)) (liveOf b) f))))
+    (sym (does-valid b bs t z))
     (eight b (b .N) 0 (ticks (pairs (b .n)) (liveOf b) f) (λ q. validDone b f) (λ q. refl))
 eight-exact b (clear r) = tt
 eight-exact b collect = tt

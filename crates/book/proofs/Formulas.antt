@@ -27,7 +27,8 @@ use Rattle.book.proofs.Held.{denotes-same}
 use Rattle.book.proofs.Bits.{valid-fn, valid-bits}
 use Rattle.book.proofs.Verdicts.{settle, run-ticks}
 use Rattle.book.proofs.Effects.{does-set, does-relation, does-valid}
-use Rattle.book.specs.Book.{formulaIn, Book, relation, set, valid, unfilled, statesOf, validDone, registers, relations, modelOf, liveOf, checks, Done, refuse, ended, relationDone, setDone, relationSteps, setSteps, does}
+use Rattle.book.specs.Book.{formulaIn, Book, relation, set, valid, unfilled, statesOf, validDone, registers, relations, modelOf}
+use Rattle.book.specs.Book.{liveOf, checks, Done, refuse, ended, relationDone, setDone, relationSteps, setSteps, does}
 use Rattle.book.proofs.Stored.{checks-passed}
 use Rattle.book.proofs.ByRun.{relation-by-run, validByRun, valid-by-run}
 use Rattle.book.proofs.Nodes.{node-settled}
@@ -56,10 +57,13 @@ setReply nine = record { number = 9; rounds = 0; peak = 0; value = 0 }
 
 -- from the evaluator's promise to the call's: the table shows the book after its steps, and the reply agrees with its answer
 pub set-served : (b : Book) (t : Table) (acc : Terms) (r R : ℕ) (f : Form) (rows : Rows) (y : Ended) → Shows b t → T (steady f)
-    → Evals (b .n) (b .N) (t .rows) rows (rootsOf t) (run (states (modelOf b) noEnv) (rowsUnder (b .N) acc) (roundsUnder R acc) (liveOf b) f nothing) y
+    → Evals (b .n) (b .N) (t .rows) rows (rootsOf t)
+    (run (states (modelOf b) noEnv) (rowsUnder (b .N) acc) (roundsUnder R acc) (liveOf b) f nothing) y
     → Shows (setSteps b acc r R f .0) (setLeaves t r rows y) × Agrees (setSteps b acc r R f .1) (setReply y)
 set-served b t acc r R f rows y s i d =
-    go (verdict (rowsUnder (b .N) acc) (roundsUnder R acc) nothing (ticks (states (modelOf b) noEnv) (liveOf b) f)) y (subst (λ (o : Outcome). Matches (b .n) rows o y) (run-ticks (rowsUnder (b .N) acc) (roundsUnder R acc) (modelOf b) noEnv (liveOf b) f nothing i) (d .result))
+    go (verdict (rowsUnder (b .N) acc) (roundsUnder R acc) nothing (ticks (states (modelOf b) noEnv) (liveOf b) f)) y
+    (subst (λ (o : Outcome). Matches (b .n) rows o y)
+    (run-ticks (rowsUnder (b .N) acc) (roundsUnder R acc) (modelOf b) noEnv (liveOf b) f nothing i) (d .result))
   where
     after : Shows b (withRows t rows)
     after = shows-rows b t s rows (d .wf) (d .kept)
@@ -71,7 +75,16 @@ set-served b t acc r R f rows y s i d =
         → Shows (ended b w (λ q. setDone b r A q) .0) (setLeaves t r rows y) × Agrees (ended b w (λ q. setDone b r A q) .1) (setReply y)
     go (counted q) (ends a p) m = (
       shows-reg b (withRows t rows) after r (some A) (some a) (m .0),
-      record { number = refl; rounds = ap (λ (c : Count). c .rounds) (m .1); peak = ap (λ (c : Count). c .peak) (m .1); value = node-settled (b .n) (b .N) rows A a (length-means (modelOf b) noEnv f) (d .wf) (m .0) },
+      record {
+        number =
+            refl;
+        rounds =
+            ap (λ (c : Count). c .rounds) (m .1);
+        peak =
+            ap (λ (c : Count). c .peak) (m .1);
+        value =
+            node-settled (b .n) (b .N) rows A a (length-means (modelOf b) noEnv f) (d .wf) (m .0);
+      },
     )
     go (counted q) eight m = absurd m
     go (counted q) nine m = absurd m
@@ -83,8 +96,11 @@ set-served b t acc r R f rows y s i d =
     go spent nine m = (after, record { number = refl; rounds = refl; peak = refl; value = refl })
 
 -- SET, after its checks
-pub set-serves : (b : Book) (t : Table) (acc : Terms) (r R : ℕ) (bs : List ℕ) (rows : Rows) (y : Ended) → Shows b t → r < registers → T (named acc)
-    → checks b Set bs ≡ 0 → Evals (b .n) (b .N) (t .rows) rows (rootsOf t) (run (states (modelOf b) noEnv) (rowsUnder (b .N) acc) (roundsUnder R acc) (liveOf b) (formulaIn b Set bs) nothing) y
+pub set-serves : (b : Book) (t : Table) (acc : Terms) (r R : ℕ) (bs : List ℕ) (rows : Rows) (y : Ended) → Shows b t → r < registers
+    → T (named acc)
+    → checks b Set bs ≡ 0
+    → Evals (b .n) (b .N) (t .rows) rows (rootsOf t)
+    (run (states (modelOf b) noEnv) (rowsUnder (b .N) acc) (roundsUnder R acc) (liveOf b) (formulaIn b Set bs) nothing) y
     → Serves b (set acc r R bs) t (setLeaves t r rows y) (setReply y)
 set-serves b t acc r R bs rows y s l h z d = record {
   shows = subst (λ (x : Done). Shows (x .0) (setLeaves t r rows y)) (sym same) (p .0);
@@ -99,7 +115,8 @@ set-serves b t acc r R bs rows y s l h z d = record {
     same : does b (set acc r R bs) ≡ setSteps b acc r R (formulaIn b Set bs)
     same = does-set b acc r R bs l h z
 
-    p : Shows (setSteps b acc r R (formulaIn b Set bs) .0) (setLeaves t r rows y) × Agrees (setSteps b acc r R (formulaIn b Set bs) .1) (setReply y)
+    p : Shows (setSteps b acc r R (formulaIn b Set bs) .0) (setLeaves t r rows y)
+        × Agrees (setSteps b acc r R (formulaIn b Set bs) .1) (setReply y)
     p = set-served b t acc r R (formulaIn b Set bs) rows y s (checks-passed b Set bs z .isSteady) d
 
     relations-kept : (y : Ended) (q : ℕ) → setLeaves t r rows y .rel q ≡ t .rel q
@@ -137,10 +154,12 @@ relation-fn : (n : ℕ) (E : List Bool) (f : Form) → relationF n E f ≡ fnOfP
 relation-fn n E f = sym (fnOfPairs-table n (λ s t. (pair (meansPair n f) s t && mem E s) && mem E t))
 
 relation-served : (b : Book) (t : Table) (x : ℕ) (f : Form) (rows : Rows) (y : Result) (q : Count) → Shows b t
-    → PairEvals (b .n) (b .N) (t .rows) rows (rootsOf t) (relationFits (b .n) (b .N) (liveOf b) (b .valid) f) (relationF (b .n) (b .valid) f) (relationCount (b .n) (liveOf b) (b .valid) f nothing) y q
+    → PairEvals (b .n) (b .N) (t .rows) rows (rootsOf t) (relationFits (b .n) (b .N) (liveOf b) (b .valid) f)
+    (relationF (b .n) (b .valid) f) (relationCount (b .n) (liveOf b) (b .valid) f nothing) y q
     → Shows (relationSteps b x f .0) (relationLeaves t x rows y) × Agrees (relationSteps b x f .1) (relationReply y q)
 relation-served b t x f rows y q s d =
-    subst (λ (z : Done). Shows (z .0) (relationLeaves t x rows y) × Agrees (z .1) (relationReply y q)) (sym (relation-by-run b x f)) (go (relationFits (b .n) (b .N) (liveOf b) (b .valid) f) y (d .result))
+    subst (λ (z : Done). Shows (z .0) (relationLeaves t x rows y) × Agrees (z .1) (relationReply y q)) (sym (relation-by-run b x f))
+    (go (relationFits (b .n) (b .N) (liveOf b) (b .valid) f) y (d .result))
   where
     after : Shows b (withRows t rows)
     after = shows-rows b t s rows (d .wf) (d .kept)
@@ -149,8 +168,13 @@ relation-served b t x f rows y q s d =
     c = relationCount (b .n) (liveOf b) (b .valid) f nothing
 
     go : (z : Bool) (y : Result) → PairMatches (b .n) rows z (relationF (b .n) (b .valid) f) c y q
-        → Shows (cond z (relationDone b x f c) (refuse b 8) .0) (relationLeaves t x rows y) × Agrees (cond z (relationDone b x f c) (refuse b 8) .1) (relationReply y q)
-    go true (at a) m = (shows-rel b (withRows t rows) after x (some (pairsWithin (b .n) (b .valid) (meansPair (b .n) f))) (some a) (denotes-same (relation-fn (b .n) (b .valid) f) (m .0)), record { number = refl; rounds = refl; peak = ap (λ (c : Count). c .peak) (m .1); value = refl })
+        → Shows (cond z (relationDone b x f c) (refuse b 8) .0) (relationLeaves t x rows y)
+        × Agrees (cond z (relationDone b x f c) (refuse b 8) .1) (relationReply y q)
+    go true (at a) m = (
+      shows-rel b (withRows t rows) after x (some (pairsWithin (b .n) (b .valid) (meansPair (b .n) f))) (some a)
+          (denotes-same (relation-fn (b .n) (b .valid) f) (m .0)),
+      record { number = refl; rounds = refl; peak = ap (λ (c : Count). c .peak) (m .1); value = refl },
+    )
     go true noRows m = absurd m
     go false (at a) m = absurd m
     go false noRows m = (after, record { number = refl; rounds = refl; peak = refl; value = refl })
@@ -158,7 +182,9 @@ relation-served b t x f rows y q s d =
 -- RELATION, after its checks
 pub relation-serves : (b : Book) (t : Table) (x : ℕ) (bs : List ℕ) (rows : Rows) (y : Result) (q : Count) → Shows b t → x < relations
     → checks b Relation bs ≡ 0
-    → PairEvals (b .n) (b .N) (t .rows) rows (rootsOf t) (relationFits (b .n) (b .N) (liveOf b) (b .valid) (formulaIn b Relation bs)) (relationF (b .n) (b .valid) (formulaIn b Relation bs)) (relationCount (b .n) (liveOf b) (b .valid) (formulaIn b Relation bs) nothing) y q
+    → PairEvals (b .n) (b .N) (t .rows) rows (rootsOf t) (relationFits (b .n) (b .N) (liveOf b) (b .valid) (formulaIn b Relation bs))
+    (relationF (b .n) (b .valid) (formulaIn b Relation bs))
+    (relationCount (b .n) (liveOf b) (b .valid) (formulaIn b Relation bs) nothing) y q
     → Serves b (relation x bs) t (relationLeaves t x rows y) (relationReply y q)
 relation-serves b t x bs rows y q s l z d = record {
   shows = subst (λ (u : Done). Shows (u .0) (relationLeaves t x rows y)) (sym same) (p .0);
@@ -173,7 +199,8 @@ relation-serves b t x bs rows y q s l z d = record {
     same : does b (relation x bs) ≡ relationSteps b x (formulaIn b Relation bs)
     same = does-relation b x bs l z
 
-    p : Shows (relationSteps b x (formulaIn b Relation bs) .0) (relationLeaves t x rows y) × Agrees (relationSteps b x (formulaIn b Relation bs) .1) (relationReply y q)
+    p : Shows (relationSteps b x (formulaIn b Relation bs) .0) (relationLeaves t x rows y)
+        × Agrees (relationSteps b x (formulaIn b Relation bs) .1) (relationReply y q)
     p = relation-served b t x (formulaIn b Relation bs) rows y q s d
 
     others : (y : Result) (r : ℕ) → storesRel (relation x bs) (relationReply y q) r ≡ false → relationLeaves t x rows y .rel r ≡ t .rel r
@@ -205,7 +232,8 @@ validReply noRows = plain 8
 -- VALID, after its checks: its steps are a relation's, without V
 pub valid-serves : (b : Book) (t : Table) (bs : List ℕ) (rows : Rows) (y : Result) (q : Count) → Shows b t → T (unfilled b)
     → checks b Valid bs ≡ 0
-    → PairEvals (b .n) (b .N) (t .rows) rows (rootsOf t) (pairsFit (b .n) (b .N) (liveOf b) (formulaIn b Valid bs)) (pairF (b .n) (formulaIn b Valid bs)) (pairsCount (b .n) (liveOf b) (formulaIn b Valid bs) nothing) y q
+    → PairEvals (b .n) (b .N) (t .rows) rows (rootsOf t) (pairsFit (b .n) (b .N) (liveOf b) (formulaIn b Valid bs))
+    (pairF (b .n) (formulaIn b Valid bs)) (pairsCount (b .n) (liveOf b) (formulaIn b Valid bs) nothing) y q
     → Serves b (valid bs) t (validLeaves t rows y) (validReply y)
 valid-serves b t bs rows y q s u z d = record {
   shows = subst (λ (x : Done). Shows (x .0) (validLeaves t rows y)) (sym same) (p .0);
@@ -226,15 +254,21 @@ valid-serves b t bs rows y q s u z d = record {
     after : Shows b (withRows t rows)
     after = shows-rows b t s rows (d .wf) (d .kept)
 
-    go : (x : Bool) (y : Result) → PairMatches (b .n) rows x (pairF (b .n) (formulaIn b Valid bs)) (pairsCount (b .n) (liveOf b) (formulaIn b Valid bs) nothing) y q
-        → Shows (cond x (validDone b (formulaIn b Valid bs)) (refuse b 8) .0) (validLeaves t rows y) × Agrees (cond x (validDone b (formulaIn b Valid bs)) (refuse b 8) .1) (validReply y)
-    go true (at a) m =
-        (shows-valid b (withRows t rows) after (statesOf (b .n) (formulaIn b Valid bs)) a (denotes-same (valid-fn (b .n) (formulaIn b Valid bs) (valid-bits b bs (checks-passed b Valid bs z))) (m .0)), record { number = refl; rounds = refl; peak = refl; value = refl })
+    go : (x : Bool) (y : Result)
+        → PairMatches (b .n) rows x (pairF (b .n) (formulaIn b Valid bs)) (pairsCount (b .n) (liveOf b) (formulaIn b Valid bs) nothing) y q
+        → Shows (cond x (validDone b (formulaIn b Valid bs)) (refuse b 8) .0) (validLeaves t rows y)
+        × Agrees (cond x (validDone b (formulaIn b Valid bs)) (refuse b 8) .1) (validReply y)
+    go true (at a) m = (
+      shows-valid b (withRows t rows) after (statesOf (b .n) (formulaIn b Valid bs)) a
+          (denotes-same (valid-fn (b .n) (formulaIn b Valid bs) (valid-bits b bs (checks-passed b Valid bs z))) (m .0)),
+      record { number = refl; rounds = refl; peak = refl; value = refl },
+    )
     go true noRows m = absurd m
     go false (at a) m = absurd m
     go false noRows m = (after, record { number = refl; rounds = refl; peak = refl; value = refl })
 
-    p : Shows (validByRun b (formulaIn b Valid bs) .0) (validLeaves t rows y) × Agrees (validByRun b (formulaIn b Valid bs) .1) (validReply y)
+    p : Shows (validByRun b (formulaIn b Valid bs) .0) (validLeaves t rows y)
+        × Agrees (validByRun b (formulaIn b Valid bs) .1) (validReply y)
     p = go (pairsFit (b .n) (b .N) (liveOf b) (formulaIn b Valid bs)) y (d .result)
 
     relations-kept : (y : Result) (r : ℕ) → validLeaves t rows y .rel r ≡ t .rel r

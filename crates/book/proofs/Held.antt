@@ -2,7 +2,8 @@
 use mathlib.Core.Path.{_≡_, refl, sym, ap, _∙_, subst, fun-ext}
 use mathlib.Core.Logic.{⊎-elim}
 use mathlib.Core.Bool.{Bool, true, false, cond}
-use mathlib.Core.List.{List, _∷_, map, List·Memᴰ as Mem, List·Memᴰ·head as here, List·Memᴰ·tail as there, List·Memᴰ·cases-cons as mem-cases, Memᴰ·cast as mem-cast, Memᴰ·map as mem-map, Memᴰ·of-map as mem-of-map}
+use mathlib.Core.List.{List, _∷_, map, List·Memᴰ as Mem, List·Memᴰ·head as here, List·Memᴰ·tail as there, List·Memᴰ·cases-cons as mem-cases}
+use mathlib.Core.List.{Memᴰ·cast as mem-cast, Memᴰ·map as mem-map, Memᴰ·of-map as mem-of-map}
 use Prim.Native.Nat.{ℕ, _*_, _≤_, _<_}
 use native.Mathlib.Omega.{arith}
 use lib.Dec.{leb, le→leb, leb→le}
@@ -36,7 +37,8 @@ module _ {m : ℕ} {rows : Rows} {roots : List ℕ} {live : List Fn} (h : Held m
   pub held-push : {a : ℕ} {F : Fn} → Denotes m rows a F → Held m rows (a ∷ roots) (F ∷ live)
   held-push {a} {F} d = record {
     each = λ f i. ⊎-elim (λ e. (a, here refl, denotes-same (sym e) d)) (λ j. let (b, k, c) = h .each f j in (b, there k, c)) (mem-cases i);
-    only = λ b i. ⊎-elim (λ e. (F, here refl, subst (λ (x : ℕ). Denotes m rows x F) (sym e) d)) (λ j. let (f, k, c) = h .only b j in (f, there k, c)) (mem-cases i);
+    only = λ b i. ⊎-elim (λ e. (F, here refl, subst (λ (x : ℕ). Denotes m rows x F) (sym e) d))
+        (λ j. let (f, k, c) = h .only b j in (f, there k, c)) (mem-cases i);
   }
 
   -- an operand that is live already, as a relation is
@@ -92,7 +94,8 @@ Needed m before roots F noRows k = Unit {0}
 
 module _ (n N : ℕ) {limit : ℕ} {before after : Rows} {roots : List ℕ} {live : List Fn} {F : Fn} (h : Held (2 * n) before roots live) where
   -- a step is answered in the table exactly where its need in the book is at most `limit`
-  pub step-fits : (answer : Result) → StepPost (2 * n) N limit before after roots answer F → leb (stepNeed (2 * n) live F) limit ≡ answered answer
+  pub step-fits : (answer : Result) → StepPost (2 * n) N limit before after roots answer F
+      → leb (stepNeed (2 * n) live F) limit ≡ answered answer
   step-fits (at a) p =
       let k : stepNeed (2 * n) live F ≤ limit = subst (λ (x : ℕ). x ≤ limit) (held-need h F) (p .result .1) in
       true-of (leb (stepNeed (2 * n) live F) limit) (le→leb (stepNeed (2 * n) live F) limit k)
@@ -101,10 +104,13 @@ module _ (n N : ℕ) {limit : ℕ} {before after : Rows} {roots : List ℕ} {liv
       false-of (leb (stepNeed (2 * n) live F) limit) (λ t. let l = leb→le (stepNeed (2 * n) live F) limit t in omega arith)
 
   -- what a step answers in the table is what it comes to in the book, its need counted
-  pub step-taken : (answer : Result) → StepPost (2 * n) N limit before after roots answer F → (k : ℕ) → Needed (2 * n) before roots F answer k → (q : Count) (go : Count → Outcome)
+  pub step-taken : (answer : Result) → StepPost (2 * n) N limit before after roots answer F → (k : ℕ)
+      → Needed (2 * n) before roots F answer k → (q : Count) (go : Count → Outcome)
       → step n limit live F q go ≡ goesOn answer (go (needing q k))
-  step-taken answer p k e q go = ap (λ (b : Bool). cond b (go (needing q (stepNeed (2 * n) live F))) full) (step-fits answer p) ∙ pick answer e
+  step-taken answer p k e q go =
+      ap (λ (b : Bool). cond b (go (needing q (stepNeed (2 * n) live F))) full) (step-fits answer p) ∙ pick answer e
     where
-      pick : (answer : Result) → Needed (2 * n) before roots F answer k → cond (answered answer) (go (needing q (stepNeed (2 * n) live F))) full ≡ goesOn answer (go (needing q k))
+      pick : (answer : Result) → Needed (2 * n) before roots F answer k
+          → cond (answered answer) (go (needing q (stepNeed (2 * n) live F))) full ≡ goesOn answer (go (needing q k))
       pick (at a) i = ap (λ (x : ℕ). go (needing q x)) (sym (i ∙ held-need h F))
       pick noRows i = refl

@@ -1,5 +1,5 @@
--- "Five impostors are to be caught": for each a list of calls with its replies, which the third demand refuses, whatever stands behind it; and
--- the same by what can be seen of a later question. Assumes nothing.
+-- "Five impostors are to be caught": for each a list of calls with its replies, which the third demand refuses, whatever stands behind it;
+-- and the same by what can be seen of a later question. Assumes nothing.
 use mathlib.Core.Path.{_≡_, refl, ap, _∙_}
 use mathlib.Core.Bool.{Bool, true, false, true≢false, false≢true}
 use mathlib.Core.List.{List, [], _∷_}
@@ -52,7 +52,9 @@ module _ {W : Type 0} (sound : W → Type 0) (view : W → Table) (asks : W → 
   pub one-number : (a : ℕ) → Claim (replied 0 (0x10 ∷ []) 0 0 a ∷ replied 1 (0x02 ∷ 0x10 ∷ []) 0 0 a ∷ []) → ⊥
   unfolding computing
   one-number a d =
-      let e : false ∷ true ∷ [] ≡ true ∷ false ∷ [] = d .numbers 0 1 (omega arith) (omega arith) (false ∷ true ∷ []) (true ∷ false ∷ []) a a refl refl refl refl .0 refl in
+      let e : false ∷ true ∷ []
+      ≡ true ∷ false
+      ∷ [] = d .numbers 0 1 (omega arith) (omega arith) (false ∷ true ∷ []) (true ∷ false ∷ []) a a refl refl refl refl .0 refl in
       false≢true (ap first e)
 
   -- and one that gives two numbers to one set
@@ -72,7 +74,8 @@ module _ {W : Type 0} (sound : W → Type 0) (view : W → Table) (asks : W → 
 
   -- one that evaluates the first set truly and repeats it afterwards, with numbers of its own choice: state 0 is not in bit 0, but in its
   -- complement, and member says so
-  pub repeats : (a c : ℕ) (w′ : W) → asks w (member 1 0) w′ (valued 0) → Claim (replied 0 (0x10 ∷ []) 0 0 a ∷ replied 1 (0x02 ∷ 0x10 ∷ []) 0 0 c ∷ []) → ⊥
+  pub repeats : (a c : ℕ) (w′ : W) → asks w (member 1 0) w′ (valued 0)
+      → Claim (replied 0 (0x10 ∷ []) 0 0 a ∷ replied 1 (0x02 ∷ 0x10 ∷ []) 0 0 c ∷ []) → ⊥
   unfolding computing
   repeats a c w′ p d = let z : _≡_ {A = ℕ} 0 1 = d .questions w′ (member 1 0) (valued 0) p .1 .agrees .value in absurd (omega arith)
 

@@ -1,7 +1,8 @@
 -- Laws of what specs/Leaves.antt defines. Assumes nothing.
 use mathlib.Core.Path.{_≡_, refl, subst, sym, ap₂, fun-ext}
 use mathlib.Core.Bool.{Bool, true, false, cond, _&&_}
-use mathlib.Core.List.{List, List·Memᴰ as Mem, List·Memᴰ·head as here, List·Memᴰ·tail as there, Memᴰ·append-left as mem-left, Memᴰ·append-right as mem-right}
+use mathlib.Core.List.{List, List·Memᴰ as Mem, List·Memᴰ·head as here, List·Memᴰ·tail as there, Memᴰ·append-left as mem-left}
+use mathlib.Core.List.{Memᴰ·append-right as mem-right}
 use mathlib.Core.Option.{Option, none, some}
 use Prim.Native.Nat.{ℕ, _*_, _^_, _<_}
 use lib.Dec.{T, eqb, ltb, ltb→lt}
@@ -38,14 +39,16 @@ storeRel t q a = record { n = t .n; N = t .N; valid = t .valid; rows = t .rows; 
 abbrev pub storeValid : Table → ℕ → Table
 storeValid t a = record { n = t .n; N = t .N; valid = a; rows = t .rows; reg = t .reg; rel = t .rel }
 
-place-keeps : {X : Type 0} (m : ℕ) (before after : Rows) (roots : List ℕ) (f : X → Fn) (o : Option X) (u : Option ℕ) → Keeps before after roots → ((a : ℕ) → u ≡ some a → Mem a roots)
+place-keeps : {X : Type 0} (m : ℕ) (before after : Rows) (roots : List ℕ) (f : X → Fn) (o : Option X) (u : Option ℕ)
+    → Keeps before after roots → ((a : ℕ) → u ≡ some a → Mem a roots)
     → Place m before f o u → Place m after f o u
 place-keeps m before after roots f none none k i p = tt
 place-keeps m before after roots f none (some a) k i p = absurd p
 place-keeps m before after roots f (some x) none k i p = absurd p
 place-keeps m before after roots f (some x) (some a) k i p = keeps-denotes k (i a refl) p
 
-place-put : {X : Type 0} (m : ℕ) (rows : Rows) (f : X → Fn) (h : ℕ → Option X) (g : ℕ → Option ℕ) (i : ℕ) (o : Option X) (u : Option ℕ) → Place m rows f o u → (j : ℕ) → Place m rows f (h j) (g j)
+place-put : {X : Type 0} (m : ℕ) (rows : Rows) (f : X → Fn) (h : ℕ → Option X) (g : ℕ → Option ℕ) (i : ℕ) (o : Option X) (u : Option ℕ)
+    → Place m rows f o u → (j : ℕ) → Place m rows f (h j) (g j)
     → Place m rows f (put h i o j) (put g i u j)
 place-put m rows f h g i o u p j q = go (eqb j i)
   where
@@ -61,12 +64,16 @@ module _ (b : Book) (t : Table) (s : Shows b t) where
     N = s .N;
     wf = wf;
     valid = keeps-denotes k (here refl) (s .valid);
-    reg = λ r l. place-keeps (2 * b .n) (t .rows) rows (rootsOf t) (fnOf (b .n)) (b .reg r) (t .reg r) k (λ a e. there (mem-left {s = arrowsOf registers (t .reg)} (arrowsOf relations (t .rel)) (arrowsOf-mem registers (t .reg) r a l e))) (s .reg r l);
-    rel = λ r l. place-keeps (2 * b .n) (t .rows) rows (rootsOf t) (fnOfPairs (b .n)) (b .rel r) (t .rel r) k (λ a e. there (mem-right (arrowsOf registers (t .reg)) (arrowsOf-mem relations (t .rel) r a l e))) (s .rel r l);
+    reg = λ r l. place-keeps (2 * b .n) (t .rows) rows (rootsOf t) (fnOf (b .n)) (b .reg r) (t .reg r) k
+        (λ a e. there (mem-left {s = arrowsOf registers (t .reg)} (arrowsOf relations (t .rel)) (arrowsOf-mem registers (t .reg) r a l e)))
+        (s .reg r l);
+    rel = λ r l. place-keeps (2 * b .n) (t .rows) rows (rootsOf t) (fnOfPairs (b .n)) (b .rel r) (t .rel r) k
+        (λ a e. there (mem-right (arrowsOf registers (t .reg)) (arrowsOf-mem relations (t .rel) r a l e))) (s .rel r l);
   }
 
   -- an arrow stored in a register, or a register emptied
-  pub shows-reg : (r : ℕ) (o : Option (List Bool)) (u : Option ℕ) → Place (2 * b .n) (t .rows) (fnOf (b .n)) o u → Shows (withReg b r o) (storeReg t r u)
+  pub shows-reg : (r : ℕ) (o : Option (List Bool)) (u : Option ℕ) → Place (2 * b .n) (t .rows) (fnOf (b .n)) o u
+      → Shows (withReg b r o) (storeReg t r u)
   shows-reg r o u p = record {
     n = s .n;
     N = s .N;
@@ -77,7 +84,8 @@ module _ (b : Book) (t : Table) (s : Shows b t) where
   }
 
   -- an arrow stored in a relation
-  pub shows-rel : (r : ℕ) (o : Option Pairs) (u : Option ℕ) → Place (2 * b .n) (t .rows) (fnOfPairs (b .n)) o u → Shows (withRel b r o) (storeRel t r u)
+  pub shows-rel : (r : ℕ) (o : Option Pairs) (u : Option ℕ) → Place (2 * b .n) (t .rows) (fnOfPairs (b .n)) o u
+      → Shows (withRel b r o) (storeRel t r u)
   shows-rel r o u p = record {
     n = s .n;
     N = s .N;
@@ -88,7 +96,8 @@ module _ (b : Book) (t : Table) (s : Shows b t) where
   }
 
 -- another V
-pub shows-valid : (b : Book) (t : Table) → Shows b t → (E : List Bool) (a : ℕ) → Denotes (2 * b .n) (t .rows) a (fnOf (b .n) E) → Shows (withValid b E) (storeValid t a)
+pub shows-valid : (b : Book) (t : Table) → Shows b t → (E : List Bool) (a : ℕ) → Denotes (2 * b .n) (t .rows) a (fnOf (b .n) E)
+    → Shows (withValid b E) (storeValid t a)
 shows-valid b t s E a d = record { n = s .n; N = s .N; wf = s .wf; valid = d; reg = s .reg; rel = s .rel }
 
 -- a call that makes no row keeps all
@@ -98,10 +107,13 @@ kept-all b t s = keeps-refl (s .wf) (held-arrow (shows-held b t s))
 -- ---- what a register of the table says of the book's
 
 -- a filled register of the table holds the arrow of the book's set
-pub shows-filled : (b : Book) (t : Table) (r a : ℕ) → Shows b t → r < registers → t .reg r ≡ some a → (A : List Bool) × (b .reg r ≡ some A) × Denotes (2 * b .n) (t .rows) a (fnOf (b .n) A)
-shows-filled b t r a s l e = go (b .reg r) refl (subst (λ (u : Option ℕ). Place (2 * b .n) (t .rows) (fnOf (b .n)) (b .reg r) u) e (s .reg r l))
+pub shows-filled : (b : Book) (t : Table) (r a : ℕ) → Shows b t → r < registers → t .reg r ≡ some a
+    → (A : List Bool) × (b .reg r ≡ some A) × Denotes (2 * b .n) (t .rows) a (fnOf (b .n) A)
+shows-filled b t r a s l e =
+    go (b .reg r) refl (subst (λ (u : Option ℕ). Place (2 * b .n) (t .rows) (fnOf (b .n)) (b .reg r) u) e (s .reg r l))
   where
-    go : (o : Option (List Bool)) → b .reg r ≡ o → Place (2 * b .n) (t .rows) (fnOf (b .n)) o (some a) → (A : List Bool) × (b .reg r ≡ some A) × Denotes (2 * b .n) (t .rows) a (fnOf (b .n) A)
+    go : (o : Option (List Bool)) → b .reg r ≡ o → Place (2 * b .n) (t .rows) (fnOf (b .n)) o (some a)
+        → (A : List Bool) × (b .reg r ≡ some A) × Denotes (2 * b .n) (t .rows) a (fnOf (b .n) A)
     go none i p = absurd p
     go (some A) i p = (A, i, p)
 
@@ -146,7 +158,10 @@ module _ (b : Book) (t : Table) (s : Shows b t) where
 
   -- so the reader's number is the book's
   pub checks-same : (c : Kind) (bs : List ℕ) → checks b c bs ≡ firstRefusal c (b .n) (regsFilled t) (relsFilled t) bs
-  checks-same c bs = ap₂ (λ (x y : ℕ → Bool). firstRefusal c (b .n) x y bs) (fun-ext (λ r. below r registers (filled (b .reg r)) (filled (t .reg r)) (reg-filled r))) (fun-ext (λ q. below q relations (filled (b .rel q)) (filled (t .rel q)) (rel-filled q)))
+  checks-same c bs =
+      ap₂ (λ (x y : ℕ → Bool). firstRefusal c (b .n) x y bs)
+      (fun-ext (λ r. below r registers (filled (b .reg r)) (filled (t .reg r)) (reg-filled r)))
+      (fun-ext (λ q. below q relations (filled (b .rel q)) (filled (t .rel q)) (rel-filled q)))
 
 -- ---- fresh
 

@@ -66,7 +66,8 @@ sameContent q (some x) none = false
 sameContent q (some x) (some y) = q x y
 
 sameAnswer : Answer → Answer → Bool
-sameAnswer a b = eqb (a .number) (b .number) && (eqb (a .rounds) (b .rounds) && (eqb (a .peak) (b .peak) && sameContent eqb (a .value) (b .value)))
+sameAnswer a b =
+    eqb (a .number) (b .number) && (eqb (a .rounds) (b .rounds) && (eqb (a .peak) (b .peak) && sameContent eqb (a .value) (b .value)))
 
 -- the computing book gives every line
 pub gives : Book → List Line → Bool
@@ -103,7 +104,8 @@ same-content q h (some x) (some y) t = ap some (h x y t)
 same-answer : (a b : Answer) → T (sameAnswer a b) → a ≡ b
 unfolding sameAnswer
 same-answer a b t =
-    let u = and-out (eqb (a .number) (b .number)) (eqb (a .rounds) (b .rounds) && (eqb (a .peak) (b .peak) && sameContent eqb (a .value) (b .value))) t in
+    let u = and-out (eqb (a .number) (b .number))
+    (eqb (a .rounds) (b .rounds) && (eqb (a .peak) (b .peak) && sameContent eqb (a .value) (b .value))) t in
     let z = and-out (eqb (a .rounds) (b .rounds)) (eqb (a .peak) (b .peak) && sameContent eqb (a .value) (b .value)) (u .1) in
     let w = and-out (eqb (a .peak) (b .peak)) (sameContent eqb (a .value) (b .value)) (z .1) in
     λ i. record {
@@ -119,9 +121,15 @@ unfolding gives
 given b [] t = tt
 given b (did c a ∷ l) t =
     let w = and-out (sameAnswer (doesByRun b c .1) a) (gives (doesByRun b c .0) l) t in
-    let e = does-by-run b c in
-    (ap (λ (d : Done). d .1) (sym e) ∙ same-answer (doesByRun b c .1) a (w .0), subst (λ (d : Done). Gives (d .0) l) e (given (doesByRun b c .0) l (w .1)))
-given b (told q a ∷ l) t = let w = and-out (sameAnswer (answer b q) a) (gives b l) t in (same-answer (answer b q) a (w .0), given b l (w .1))
-given b (holds r A ∷ l) t = let w = and-out (sameContent same (b .reg r) A) (gives b l) t in (same-content same same-eq (b .reg r) A (w .0), given b l (w .1))
-given b (relates x Q ∷ l) t = let w = and-out (sameContent sameRows (b .rel x) Q) (gives b l) t in (same-content sameRows same-rows (b .rel x) Q (w .0), given b l (w .1))
+    let e = does-by-run b c in (
+      ap (λ (d : Done). d .1) (sym e) ∙ same-answer (doesByRun b c .1) a (w .0),
+      subst (λ (d : Done). Gives (d .0) l) e (given (doesByRun b c .0) l (w .1)),
+    )
+given b (told q a ∷ l) t =
+    let w = and-out (sameAnswer (answer b q) a) (gives b l) t in (same-answer (answer b q) a (w .0), given b l (w .1))
+given b (holds r A ∷ l) t =
+    let w = and-out (sameContent same (b .reg r) A) (gives b l) t in (same-content same same-eq (b .reg r) A (w .0), given b l (w .1))
+given b (relates x Q ∷ l) t =
+    let w = and-out (sameContent sameRows (b .rel x) Q) (gives b l) t in
+    (same-content sameRows same-rows (b .rel x) Q (w .0), given b l (w .1))
 given b (existing E ∷ l) t = let w = and-out (same (b .valid) E) (gives b l) t in (same-eq (b .valid) E (w .0), given b l (w .1))

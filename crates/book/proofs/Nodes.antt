@@ -32,11 +32,14 @@ everybody (a ∷ A) t zero l = true-of a (and-out a (all (λ a. a) A) t .0)
 everybody (a ∷ A) t (suc s) l = everybody A (and-out a (all (λ a. a) A) t .1) s (le-of-suc-le-suc l)
 
 -- the arrow that denotes a set is the settled number
-pub node-settled : (n N : ℕ) (rows : Rows) (A : List Bool) (a : ℕ) → Sized n A → WellFormed (2 * n) N rows → Denotes (2 * n) rows a (fnOf n A) → SettledTo (nodeOf A) a
+pub node-settled : (n N : ℕ) (rows : Rows) (A : List Bool) (a : ℕ) → Sized n A → WellFormed (2 * n) N rows
+    → Denotes (2 * n) rows a (fnOf n A) → SettledTo (nodeOf A) a
 node-settled n N rows A a z wf d = none-of (all (λ a. not a) A) (nobody A)
   where
     all-of : (t : Bool) → (T t → (s : ℕ) → s < length A → mem A s ≡ true) → SettledTo (cond t (some 1) none) a
-    all-of true h = canonical wf a 1 (d .arrow) tt (λ v. d .same v ∙ h tt (nowOf n v) (subst (λ (k : ℕ). nowOf n v < k) (sym z) (nowOf-lt n v)) ∙ sym (den-one (2 * n) rows v))
+    all-of true h =
+        canonical wf a 1 (d .arrow) tt
+        (λ v. d .same v ∙ h tt (nowOf n v) (subst (λ (k : ℕ). nowOf n v < k) (sym z) (nowOf-lt n v)) ∙ sym (den-one (2 * n) rows v))
     all-of false h = tt
 
     none-of : (t : Bool) → (T t → (s : ℕ) → mem A s ≡ false) → SettledTo (cond t (some 0) (cond (all (λ a. a) A) (some 1) none)) a

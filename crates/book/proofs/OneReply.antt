@@ -19,7 +19,8 @@ use Rattle.diagram.proofs.Den.{den-zero, den-one}
 use Rattle.diagram.proofs.Canon.{canonical}
 use Rattle.diagram.proofs.Keep.{keeps-reach-back, reach-within}
 use Rattle.book.specs.Bridge.{fnOf}
-use Rattle.book.specs.Book.{Book, Call, relation, set, valid, clear, collect, Question, node, member, count, Done, registers, refused, nodeOf, asked, oneOf, does, answer}
+use Rattle.book.specs.Book.{Book, Call, relation, set, valid, clear, collect, Question, node, member, count, Done, registers, refused}
+use Rattle.book.specs.Book.{nodeOf, asked, oneOf, does, answer}
 use Rattle.book.specs.Stored.{Whole}
 use Rattle.book.proofs.Stored.{set-cases, relation-cases, valid-cases, range-cases, set-means, some-inj, none-some}
 use Rattle.book.specs.Table.{Table, Reply, Shows, SettledTo, Agrees, Serves, Tells}
@@ -37,8 +38,12 @@ same-place b t w s r q lr lq = go (t .reg r) (t .reg q) refl refl
   where
     go : (u v : Option ℕ) → t .reg r ≡ u → t .reg q ≡ v → (u ≡ v) ↔ (b .reg r ≡ b .reg q)
     go none none i j = ((λ e. shows-empty b t r s lr i ∙ sym (shows-empty b t q s lq j)), λ e. refl)
-    go none (some y) i j = ((λ e. absurd (none-some e)), λ e. absurd (none-some (sym (shows-empty b t r s lr i) ∙ e ∙ shows-filled b t q y s lq j .1)))
-    go (some x) none i j = ((λ e. absurd (none-some (sym e))), λ e. absurd (none-some (sym (shows-empty b t q s lq j) ∙ sym e ∙ shows-filled b t r x s lr i .1)))
+    go none (some y) i j =
+        ((λ e. absurd (none-some e)), λ e. absurd (none-some (sym (shows-empty b t r s lr i) ∙ e ∙ shows-filled b t q y s lq j .1)))
+    go (some x) none i j = (
+      (λ e. absurd (none-some (sym e))),
+      λ e. absurd (none-some (sym (shows-empty b t q s lq j) ∙ sym e ∙ shows-filled b t r x s lr i .1)),
+    )
     go (some x) (some y) i j =
         let (A, c, d) = shows-filled b t r x s lr i in
         let (B, f, g) = shows-filled b t q y s lq j in
@@ -51,7 +56,8 @@ pub settled-number : (b : Book) (t u : Table) → Shows b t → Shows b u → (r
 settled-number b t u s z r l x y h i j =
     let (A, c, d) = shows-filled b t r x s l i in
     let (B, f, g) = shows-filled b u r y z l j in
-    canonical (z .wf) y x (g .arrow) (arrow x h) (λ v. g .same v ∙ ap (λ (C : List Bool). fnOf (b .n) C v) (some-inj (sym f ∙ c)) ∙ sym (d .same v) ∙ constant x h v)
+    canonical (z .wf) y x (g .arrow) (arrow x h)
+    (λ v. g .same v ∙ ap (λ (C : List Bool). fnOf (b .n) C v) (some-inj (sym f ∙ c)) ∙ sym (d .same v) ∙ constant x h v)
   where
     arrow : (x : ℕ) → x < 2 → Arrow (u .rows) x
     arrow zero h = tt
@@ -75,7 +81,8 @@ told true (some A) g = tt
 told false o g = tt
 
 -- the number that an answered set returned stands in its register
-set-stores : (b : Book) (acc : Terms) (r R : ℕ) (bs : List ℕ) {t u : Table} {y : Reply} → Serves b (set acc r R bs) t u y → r < registers → y .number ≡ 0
+set-stores : (b : Book) (acc : Terms) (r R : ℕ) (bs : List ℕ) {t u : Table} {y : Reply} → Serves b (set acc r R bs) t u y → r < registers
+    → y .number ≡ 0
     → u .reg r ≡ some (y .value)
 set-stores b acc r R bs {t} {u} {y} p l i =
     let both = and-in (eqb (y .number) 0) (eqb r r) (subst (λ (k : ℕ). T (eqb k 0)) (sym i) tt) (eqb-refl r) in
@@ -85,7 +92,8 @@ set-stores b acc r R bs {t} {u} {y} p l i =
 pub call-value : (c : Call) (b : Book) {s t u v : Table} {y z : Reply} → Serves b c s u y → Serves b c t v z
     → settledIn c (y .value) ≡ settledIn c (z .value)
 call-value (relation t bs) b p q =
-    one-value (does b (relation t bs) .1 .value) (relation-cases (λ (d : Done). T (filled (d .1 .value))) b t bs (λ k i j. tt) (λ l h q. tt)) (p .agrees .value) (q .agrees .value)
+    one-value (does b (relation t bs) .1 .value)
+    (relation-cases (λ (d : Done). T (filled (d .1 .value))) b t bs (λ k i j. tt) (λ l h q. tt)) (p .agrees .value) (q .agrees .value)
 call-value (set acc r R bs) b {u = u} {v} {y} {z} p q = by-cases (ℕ-discrete (y .number) 0) answered refusing
   where
     answered : y .number ≡ 0 → min (y .value) 2 ≡ min (z .value) 2
@@ -93,29 +101,38 @@ call-value (set acc r R bs) b {u = u} {v} {y} {z} p q = by-cases (ℕ-discrete (
         let l = set-means b acc r R bs (sym (p .agrees .number) ∙ i) .range in
         let j = set-stores b acc r R bs p l i in
         let k = set-stores b acc r R bs q l (q .agrees .number ∙ sym (p .agrees .number) ∙ i) in
-        by-cases (decLt (y .value) 2) (λ h. ap (λ (n : ℕ). min n 2) (sym (settled-number _ u v (p .shows) (q .shows) r l (y .value) (z .value) h j k))) (λ n.
-        by-cases (decLt (z .value) 2) (λ h. ap (λ (n : ℕ). min n 2) (settled-number _ v u (q .shows) (p .shows) r l (z .value) (y .value) h k j)) (λ m. omega arith))
+        by-cases (decLt (y .value) 2)
+        (λ h. ap (λ (n : ℕ). min n 2) (sym (settled-number _ u v (p .shows) (q .shows) r l (y .value) (z .value) h j k))) (λ n.
+        by-cases (decLt (z .value) 2)
+        (λ h. ap (λ (n : ℕ). min n 2) (settled-number _ v u (q .shows) (p .shows) r l (z .value) (y .value) h k j)) (λ m. omega arith))
 
     refusing : (y .number ≡ 0 → ⊥) → min (y .value) 2 ≡ min (z .value) 2
     refusing n =
-        let settled = set-cases (λ (d : Done). (d .1 .number ≡ 0 → ⊥) → T (filled (d .1 .value))) b acc r R bs (λ k i j m. tt) (λ l h k m. absurd (m refl)) (λ e. n (p .agrees .number ∙ e)) in
+        let settled = set-cases (λ (d : Done). (d .1 .number ≡ 0 → ⊥) → T (filled (d .1 .value))) b acc r R bs (λ k i j m. tt)
+        (λ l h k m. absurd (m refl)) (λ e. n (p .agrees .number ∙ e)) in
         ap (λ (k : ℕ). min k 2) (one-value (does b (set acc r R bs) .1 .value) settled (p .agrees .value) (q .agrees .value))
-call-value (valid bs) b p q = one-value (does b (valid bs) .1 .value) (valid-cases (λ (d : Done). T (filled (d .1 .value))) b bs (λ k i j. tt) (λ t h. tt)) (p .agrees .value) (q .agrees .value)
+call-value (valid bs) b p q =
+    one-value (does b (valid bs) .1 .value) (valid-cases (λ (d : Done). T (filled (d .1 .value))) b bs (λ k i j. tt) (λ t h. tt))
+    (p .agrees .value) (q .agrees .value)
 call-value (clear r) b p q =
-    one-value (does b (clear r) .1 .value) (range-cases (λ (d : Done). T (filled (d .1 .value))) r registers _ _ (λ l. tt) (λ l. tt)) (p .agrees .value) (q .agrees .value)
+    one-value (does b (clear r) .1 .value) (range-cases (λ (d : Done). T (filled (d .1 .value))) r registers _ _ (λ l. tt) (λ l. tt))
+    (p .agrees .value) (q .agrees .value)
 call-value collect b p q = p .agrees .value ∙ sym (q .agrees .value)
 
 -- a question's value, the number of node too: no word changes
 pub ask-value : (q : Question) (b : Book) (h : ℕ → Option ℕ) {y z : Reply} → Tells b q h y → Tells b q h z → y .value ≡ z .value
 ask-value (node r) b h {y} {z} p q = go (ltb r registers) (b .reg r) (p .agrees) (q .agrees)
   where
-    go : (t : Bool) (o : Option (List Bool)) → Agrees (cond t (asked o nodeOf) (refused 3)) y → Agrees (cond t (asked o nodeOf) (refused 3)) z → y .value ≡ z .value
+    go : (t : Bool) (o : Option (List Bool)) → Agrees (cond t (asked o nodeOf) (refused 3)) y
+        → Agrees (cond t (asked o nodeOf) (refused 3)) z → y .value ≡ z .value
     go true (some A) a b = some-inj (sym (p .nodeSays (a .number)) ∙ q .nodeSays (b .number))
     go true none a b = a .value ∙ sym (b .value)
     go false o a b = a .value ∙ sym (b .value)
 ask-value (member r s) b h p q =
-    one-value (answer b (member r s) .value) (told (ltb r registers && ltb s (2 ^ b .n)) (b .reg r) (λ A. oneOf (mem A s))) (p .agrees .value) (q .agrees .value)
-ask-value (count r) b h p q = one-value (answer b (count r) .value) (told (ltb r registers) (b .reg r) (weight true)) (p .agrees .value) (q .agrees .value)
+    one-value (answer b (member r s) .value) (told (ltb r registers && ltb s (2 ^ b .n)) (b .reg r) (λ A. oneOf (mem A s)))
+    (p .agrees .value) (q .agrees .value)
+ask-value (count r) b h p q =
+    one-value (answer b (count r) .value) (told (ltb r registers) (b .reg r) (weight true)) (p .agrees .value) (q .agrees .value)
 
 -- ---- rows
 
@@ -126,7 +143,8 @@ collect-used b {t} {u} {v} p q i = same (u .rows .used i) (v .rows .used i) (use
   where
     uses : {u v : Table} {y z : Reply} → Serves b collect t u y → Serves b collect t v z → u .rows .used i ≡ true → v .rows .used i ≡ true
     uses {u} p q e =
-        let old = roots-within t (some (u .valid)) (u .reg) (u .rel) (λ a e. sym (p .valid refl) ∙ some-inj e) (λ r a l h. sym (p .numbers r l) ∙ h) (λ r a l h. sym (p .rels r l refl) ∙ h) in
+        let old = roots-within t (some (u .valid)) (u .reg) (u .rel) (λ a e. sym (p .valid refl) ∙ some-inj e)
+        (λ r a l h. sym (p .numbers r l) ∙ h) (λ r a l h. sym (p .rels r l refl) ∙ h) in
         q .kept .used i (keeps-reach-back (p .kept) (reach-within (λ a j _. old a) (p .swept i e)))
 
     same : (x y : Bool) → (x ≡ true → y ≡ true) → (y ≡ true → x ≡ true) → x ≡ y

@@ -76,10 +76,14 @@ pub points-value : (n : ℕ) (f : Form) → levels (pairs n) (pointsOf n f) ≡ 
 points-value n bot = levels-table (pairs n) (λ x. false) ∙ sym (fnOf-holds n bot)
 points-value n top = levels-table (pairs n) (λ x. true) ∙ sym (fnOf-holds n top)
 points-value n (neg f) = levels-not (pairs n) (pointsOf n f) ∙ ap notF (points-value n f) ∙ sym (pairs-not n f)
-points-value n (conj f g) = levels-and (pairs n) (pointsOf n f) (pointsOf n g) ∙ ap₂ andF (points-value n f) (points-value n g) ∙ sym (pairs-and n f g)
-points-value n (disj f g) = levels-or (pairs n) (pointsOf n f) (pointsOf n g) ∙ ap₂ orF (points-value n f) (points-value n g) ∙ sym (pairs-or n f g)
-points-value n (now p) = levels-table (pairs n) (λ x. bit p (x / 2 ^ n)) ∙ fun-ext (λ v. ap (bit p) (point-now n v)) ∙ sym (fnOf-holds n (now p))
-points-value n (next p) = levels-table (pairs n) (λ x. bit p (x % 2 ^ n)) ∙ fun-ext (λ v. ap (bit p) (point-next n v)) ∙ sym (fnOf-holds n (next p))
+points-value n (conj f g) =
+    levels-and (pairs n) (pointsOf n f) (pointsOf n g) ∙ ap₂ andF (points-value n f) (points-value n g) ∙ sym (pairs-and n f g)
+points-value n (disj f g) =
+    levels-or (pairs n) (pointsOf n f) (pointsOf n g) ∙ ap₂ orF (points-value n f) (points-value n g) ∙ sym (pairs-or n f g)
+points-value n (now p) =
+    levels-table (pairs n) (λ x. bit p (x / 2 ^ n)) ∙ fun-ext (λ v. ap (bit p) (point-now n v)) ∙ sym (fnOf-holds n (now p))
+points-value n (next p) =
+    levels-table (pairs n) (λ x. bit p (x % 2 ^ n)) ∙ fun-ext (λ v. ap (bit p) (point-next n v)) ∙ sym (fnOf-holds n (next p))
 points-value n (var P) = levels-table (pairs n) (λ x. false) ∙ sym (fnOf-holds n (var P))
 points-value n (reg r) = levels-table (pairs n) (λ x. false) ∙ sym (fnOf-holds n (reg r))
 points-value n (box t f) = levels-table (pairs n) (λ x. false) ∙ sym (fnOf-holds n (box t f))

@@ -23,7 +23,8 @@ use Rattle.book.specs.Pairs.{PairMatches, PairEvals}
 
 module _ (n N : ℕ) where
   -- what stopped stays so
-  pub pair-stop : {before after : Rows} {roots : List ℕ} {F : Fn} {e q : Count} (b c : Bool) (G : Fn) (d : Count) → PairEvals n N before after roots b F e noRows q → PairEvals n N before after roots (b && c) G d noRows q
+  pub pair-stop : {before after : Rows} {roots : List ℕ} {F : Fn} {e q : Count} (b c : Bool) (G : Fn) (d : Count)
+      → PairEvals n N before after roots b F e noRows q → PairEvals n N before after roots (b && c) G d noRows q
   pair-stop {after = after} {F = F} {e} {q} b c G d p = record { wf = p .wf; kept = p .kept; result = go b (p .result) }
     where
       go : (b : Bool) → PairMatches n after b F e noRows q → PairMatches n after (b && c) G d noRows q
@@ -31,7 +32,8 @@ module _ (n N : ℕ) where
       go false m = tt
 
   -- what follows a value: its steps so far fit
-  pub pair-then : {before mid after : Rows} {roots : List ℕ} {F G : Fn} {a : ℕ} {y : Result} {e d p q : Count} (b c : Bool) → PairEvals n N before mid roots b F e (at a) p
+  pub pair-then : {before mid after : Rows} {roots : List ℕ} {F G : Fn} {a : ℕ} {y : Result} {e d p q : Count} (b c : Bool)
+      → PairEvals n N before mid roots b F e (at a) p
       → (Denotes (2 * n) mid a F → p ≡ e → PairEvals n N before after roots c G d y q) → PairEvals n N before after roots (b && c) G d y q
   pair-then true c d k = k (d .result .0) (d .result .1)
   pair-then false c d k = absurd (d .result)
@@ -39,14 +41,16 @@ module _ (n N : ℕ) where
   module _ {before : Rows} {roots : List ℕ} {live : List Fn} (h : Held (2 * n) before roots live) where
     -- ---- the constants take no step
 
-    pub pair-none : (limit : ℕ) (q : Count) → WellFormed (2 * n) N before → PairEvals n N before before roots (pairsFit n limit live bot) (pairF n bot) (pairsCount n live bot q) (at 0) q
+    pub pair-none : (limit : ℕ) (q : Count) → WellFormed (2 * n) N before
+        → PairEvals n N before before roots (pairsFit n limit live bot) (pairF n bot) (pairsCount n live bot q) (at 0) q
     pair-none limit q wf = record {
       wf = wf;
       kept = keeps-refl wf (held-arrow h);
       result = (denotes-same (sym (fnOf-holds n bot)) (record { arrow = tt; same = λ v. den-zero (2 * n) before v }), refl);
     }
 
-    pub pair-all : (limit : ℕ) (q : Count) → WellFormed (2 * n) N before → PairEvals n N before before roots (pairsFit n limit live top) (pairF n top) (pairsCount n live top q) (at 1) q
+    pub pair-all : (limit : ℕ) (q : Count) → WellFormed (2 * n) N before
+        → PairEvals n N before before roots (pairsFit n limit live top) (pairF n top) (pairsCount n live top q) (at 1) q
     pair-all limit q wf = record {
       wf = wf;
       kept = keeps-refl wf (held-arrow h);
@@ -56,11 +60,15 @@ module _ (n N : ℕ) where
     -- ---- a step after others
 
     -- p is what the code counted before it, which is what the book counts
-    pub pair-step : {limit : ℕ} {mid after : Rows} {roots′ : List ℕ} {live′ : List Fn} {F : Fn} (G : Fn) (p c : Count) → p ≡ c → (Keeps mid after roots′ → Keeps before after roots)
-        → Held (2 * n) mid roots′ live′ → F ≡ G → (answer : Result) → StepPost (2 * n) N limit mid after roots′ answer F → (k : ℕ) → Needed (2 * n) mid roots′ F answer k
-        → PairEvals n N before after roots (leb (stepNeed (2 * n) live′ G) limit) G (needing c (stepNeed (2 * n) live′ G)) answer (needing p k)
+    pub pair-step : {limit : ℕ} {mid after : Rows} {roots′ : List ℕ} {live′ : List Fn} {F : Fn} (G : Fn) (p c : Count) → p ≡ c
+        → (Keeps mid after roots′ → Keeps before after roots)
+        → Held (2 * n) mid roots′ live′ → F ≡ G → (answer : Result) → StepPost (2 * n) N limit mid after roots′ answer F → (k : ℕ)
+        → Needed (2 * n) mid roots′ F answer k
+        → PairEvals n N before after roots (leb (stepNeed (2 * n) live′ G) limit) G (needing c (stepNeed (2 * n) live′ G)) answer
+        (needing p k)
     pair-step {limit} {mid} {after} {roots′} {live′} G p c pc keeping g e answer s′ k x′ =
-        subst (λ (b : Bool). PairEvals n N before after roots b G (needing c (stepNeed (2 * n) live′ G)) answer (needing p k)) (sym (step-fits n N g answer s)) (record {
+        subst (λ (b : Bool). PairEvals n N before after roots b G (needing c (stepNeed (2 * n) live′ G)) answer (needing p k))
+        (sym (step-fits n N g answer s)) (record {
           wf = s .wf;
           kept = keeping (s .kept);
           result = go answer s x;

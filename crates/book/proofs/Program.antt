@@ -48,7 +48,8 @@ pub digits-read : (j k : ℕ) → readDigits 0 (digits j k) ≡ k
 digits-read zero k = omega arith
 digits-read (suc j) k = go (ltb k 10) (digits-read j (k / 10))
   where
-    go : (t : Bool) → readDigits 0 (digits j (k / 10)) ≡ k / 10 → readDigits 0 (cond t ((48 + k) ∷ []) (digits j (k / 10) ++ ((48 + k % 10) ∷ []))) ≡ k
+    go : (t : Bool) → readDigits 0 (digits j (k / 10)) ≡ k / 10
+        → readDigits 0 (cond t ((48 + k) ∷ []) (digits j (k / 10) ++ ((48 + k % 10) ∷ []))) ≡ k
     go true h = omega arith
     go false h = read-append 0 (digits j (k / 10)) (48 + k % 10) ∙ omega arith
 
@@ -69,9 +70,11 @@ pub digits-only : (j k : ℕ) → k < 10 ^ suc j → AllDigits (digits j k)
 digits-only zero k h = ((omega arith, omega (arith, pow-suc 10 0)), tt)
 digits-only (suc j) k h = go (ltb k 10) refl (digits-only j (k / 10))
   where
-    go : (t : Bool) → ltb k 10 ≡ t → (k / 10 < 10 ^ suc j → AllDigits (digits j (k / 10))) → AllDigits (cond t ((48 + k) ∷ []) (digits j (k / 10) ++ ((48 + k % 10) ∷ [])))
+    go : (t : Bool) → ltb k 10 ≡ t → (k / 10 < 10 ^ suc j → AllDigits (digits j (k / 10)))
+        → AllDigits (cond t ((48 + k) ∷ []) (digits j (k / 10) ++ ((48 + k % 10) ∷ [])))
     go true e below = let l = ltb→lt k 10 (subst T (sym e) tt) in ((omega arith, omega arith), tt)
-    go false e below = digits-append (digits j (k / 10)) (48 + k % 10) (below (omega (arith, pow-suc 10 (suc j)))) (omega arith, omega arith)
+    go false e below =
+        digits-append (digits j (k / 10)) (48 + k % 10) (below (omega (arith, pow-suc 10 (suc j)))) (omega arith, omega arith)
 
 -- "decimals without leading zeros": the first digit of a number that is not 0 is not 0
 pub first-digit : (j k : ℕ) → 1 ≤ k → k < 10 ^ suc j → (d : ℕ) (l : List ℕ) → digits j k ≡ d ∷ l → 49 ≤ d
@@ -88,7 +91,8 @@ first-digit (suc j) k a b d l e = go (ltb k 10) refl (digits j (k / 10)) (first-
         pick false [] q = let z : _≡_ {A = ℕ} 0 1 = cc in absurd (omega arith)
         pick false (y ∷ m) q = let z : _≡_ {A = ℕ} 0 1 = cc in absurd (omega arith)
 
-    go : (t : Bool) → ltb k 10 ≡ t → (m : List ℕ) → (1 ≤ k / 10 → k / 10 < 10 ^ suc j → (c : ℕ) (n : List ℕ) → m ≡ c ∷ n → 49 ≤ c) → (m ≡ [] → ⊥)
+    go : (t : Bool) → ltb k 10 ≡ t → (m : List ℕ) → (1 ≤ k / 10 → k / 10 < 10 ^ suc j → (c : ℕ) (n : List ℕ) → m ≡ c ∷ n → 49 ≤ c)
+        → (m ≡ [] → ⊥)
         → cond t ((48 + k) ∷ []) (m ++ ((48 + k % 10) ∷ [])) ≡ d ∷ l → 49 ≤ d
     go true u m below full q = let i : 48 + k ≡ d = cc in omega arith
     go false u [] below full q = absurd (full refl)

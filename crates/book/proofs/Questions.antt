@@ -25,11 +25,13 @@ use Rattle.book.specs.Leaves.{plain, valued}
 
 -- a refusal with zeros
 refusal-agrees : (a : Answer) (k : ℕ) → a ≡ refused k → Agrees a (plain k)
-refusal-agrees a k e = subst (λ (x : Answer). Agrees x (plain k)) (sym e) (record { number = refl; rounds = refl; peak = refl; value = refl })
+refusal-agrees a k e =
+    subst (λ (x : Answer). Agrees x (plain k)) (sym e) (record { number = refl; rounds = refl; peak = refl; value = refl })
 
 -- a value that is settled
 value-agrees : (a : Answer) (x : ℕ) → a ≡ answered (some x) → Agrees a (valued x)
-value-agrees a x e = subst (λ (y : Answer). Agrees y (valued x)) (sym e) (record { number = refl; rounds = refl; peak = refl; value = refl })
+value-agrees a x e =
+    subst (λ (y : Answer). Agrees y (valued x)) (sym e) (record { number = refl; rounds = refl; peak = refl; value = refl })
 
 -- A REFUSED QUESTION
 pub refusal-tells : (b : Book) (q : Question) (h : ℕ → Option ℕ) (k : ℕ) → answer b q ≡ refused (suc k) → Tells b q h (plain (suc k))
@@ -43,13 +45,16 @@ refusal-tells b q h k e = record { agrees = refusal-agrees (answer b q) (suc k) 
 -- member's two numbers are in range
 module _ (r u limit : ℕ) (x y : Answer) where
   both-range : r < registers → u < limit → cond (ltb r registers && ltb u limit) x y ≡ x
-  both-range l h = ap (λ (t : Bool). cond (t && ltb u limit) x y) (true-of (ltb r registers) (lt→ltb r registers l)) ∙ in-range x y u limit h
+  both-range l h =
+      ap (λ (t : Bool). cond (t && ltb u limit) x y) (true-of (ltb r registers) (lt→ltb r registers l)) ∙ in-range x y u limit h
 
   pub register-range : registers ≤ r → cond (ltb r registers && ltb u limit) x y ≡ y
-  register-range l = ap (λ (t : Bool). cond (t && ltb u limit) x y) (false-of (ltb r registers) (λ t. let h = ltb→lt r registers t in omega arith))
+  register-range l =
+      ap (λ (t : Bool). cond (t && ltb u limit) x y) (false-of (ltb r registers) (λ t. let h = ltb→lt r registers t in omega arith))
 
   pub state-range : r < registers → limit ≤ u → cond (ltb r registers && ltb u limit) x y ≡ y
-  state-range l h = ap (λ (t : Bool). cond (t && ltb u limit) x y) (true-of (ltb r registers) (lt→ltb r registers l)) ∙ out-of-range x y u limit h
+  state-range l h =
+      ap (λ (t : Bool). cond (t && ltb u limit) x y) (true-of (ltb r registers) (lt→ltb r registers l)) ∙ out-of-range x y u limit h
 
 -- ---- 3, and 7
 
@@ -79,10 +84,16 @@ module _ (b : Book) (t : Table) (r a : ℕ) (s : Shows b t) (l : r < registers) 
   pub node-tells : Whole b → Tells b (node r) (t .reg) (valued a)
   node-tells w =
       let (A, i, d) = shows-filled b t r a s l e in
-      let same : answer b (node r) ≡ answered (nodeOf A) = in-range _ (refused 3) r registers l ∙ ap (λ (o : Option (List Bool)). asked o nodeOf) i in
+      let same : answer b (node r)
+      ≡ answered (nodeOf A) = in-range _ (refused 3) r registers l ∙ ap (λ (o : Option (List Bool)). asked o nodeOf) i in
       record {
         agrees = subst (λ (x : Answer). Agrees x (valued a)) (sym same)
-            (record { number = refl; rounds = refl; peak = refl; value = node-settled (b .n) (b .N) (t .rows) A a (w .reg r A i .0) (s .wf) d });
+            (record {
+              number = refl;
+              rounds = refl;
+              peak = refl;
+              value = node-settled (b .n) (b .N) (t .rows) A a (w .reg r A i .0) (s .wf) d;
+            });
         nodeSays = λ z. e;
       }
 
@@ -90,10 +101,12 @@ module _ (b : Book) (t : Table) (r a : ℕ) (s : Shows b t) (l : r < registers) 
   pub member-tells : (u : ℕ) → u < 2 ^ b .n → Tells b (member r u) (t .reg) (valued (oneOf (den (2 * b .n) (t .rows) a (pairVal u 0))))
   member-tells u h =
       let (A, i, d) = shows-filled b t r a s l e in
-      let walk : mem A u ≡ den (2 * b .n) (t .rows) a (pairVal u 0) = sym (d .same (pairVal u 0) ∙ ap (mem A) (nowOf-pairVal (b .n) u 0 h)) in
+      let walk : mem A u
+      ≡ den (2 * b .n) (t .rows) a (pairVal u 0) = sym (d .same (pairVal u 0) ∙ ap (mem A) (nowOf-pairVal (b .n) u 0 h)) in
       record {
         agrees = value-agrees (answer b (member r u)) _
-            (both-range r u (2 ^ b .n) _ (refused 3) l h ∙ ap (λ (o : Option (List Bool)). asked o (λ A. some (oneOf (mem A u)))) i ∙ ap (λ (z : Bool). answered (some (oneOf z))) walk);
+            (both-range r u (2 ^ b .n) _ (refused 3) l h ∙ ap (λ (o : Option (List Bool)). asked o (λ A. some (oneOf (mem A u)))) i
+            ∙ ap (λ (z : Bool). answered (some (oneOf z))) walk);
         nodeSays = tt;
       }
 
@@ -101,9 +114,11 @@ module _ (b : Book) (t : Table) (r a : ℕ) (s : Shows b t) (l : r < registers) 
   pub count-tells : Whole b → Tells b (count r) (t .reg) (valued (weight true (setOf (b .n) (den (2 * b .n) (t .rows) a))))
   count-tells w =
       let (A, i, d) = shows-filled b t r a s l e in
-      let same : A ≡ setOf (b .n) (den (2 * b .n) (t .rows) a) = sym (ap (setOf (b .n)) (denoted d) ∙ setOf-fnOf (b .n) A (w .reg r A i .0)) in
+      let same : A
+      ≡ setOf (b .n) (den (2 * b .n) (t .rows) a) = sym (ap (setOf (b .n)) (denoted d) ∙ setOf-fnOf (b .n) A (w .reg r A i .0)) in
       record {
         agrees = value-agrees (answer b (count r)) _
-            (in-range _ (refused 3) r registers l ∙ ap (λ (o : Option (List Bool)). asked o (λ A. some (weight true A))) i ∙ ap (λ (B : List Bool). answered (some (weight true B))) same);
+            (in-range _ (refused 3) r registers l ∙ ap (λ (o : Option (List Bool)). asked o (λ A. some (weight true A))) i
+            ∙ ap (λ (B : List Bool). answered (some (weight true B))) same);
         nodeSays = tt;
       }

@@ -57,7 +57,9 @@ nowOf-lt (suc n) v = go (v 0) (nowOf-lt n (λ l. v (suc (suc l))))
 pub nowOf-cong : (n : ℕ) (v w : Val) → ((p : ℕ) → p < n → v (2 * p) ≡ w (2 * p)) → nowOf n v ≡ nowOf n w
 unfolding nowOf
 nowOf-cong zero v w h = refl
-nowOf-cong (suc n) v w h = ap₂ (λ (b : Bool) (x : ℕ). one b + 2 * x) (h 0 (omega arith)) (nowOf-cong n _ _ (λ p l. ap v (twice p) ∙ h (suc p) (omega arith) ∙ sym (ap w (twice p))))
+nowOf-cong (suc n) v w h =
+    ap₂ (λ (b : Bool) (x : ℕ). one b + 2 * x) (h 0 (omega arith))
+    (nowOf-cong n _ _ (λ p l. ap v (twice p) ∙ h (suc p) (omega arith) ∙ sym (ap w (twice p))))
   where
     twice : (p : ℕ) → suc (suc (2 * p)) ≡ 2 * suc p
     twice p = omega arith
@@ -76,7 +78,8 @@ unfolding nowOf
 nowOf-state zero v s l h = omega arith
 nowOf-state (suc n) v s l h =
     let lowest = ap one (h 0 (omega arith)) ∙ one-bit s in
-    let rest = nowOf-state n (λ k. v (suc (suc k))) (s / 2) (omega (arith, pow-suc 2 n)) (λ p g. ap v (omega arith) ∙ h (suc p) (omega arith) ∙ bit-half p s) in
+    let rest = nowOf-state n (λ k. v (suc (suc k))) (s / 2) (omega (arith, pow-suc 2 n))
+    (λ p g. ap v (omega arith) ∙ h (suc p) (omega arith) ∙ bit-half p s) in
     omega arith
 
 pub pairVal-now : (p s t : ℕ) → pairVal s t (2 * p) ≡ bit p s

@@ -72,10 +72,12 @@ charged-at l (set acc r R bs) y p i h = go (eqb (y .number) 0) (eqb p (acc .plac
     next : Account
     next = counted (getD l (acc .place) none) (y .rounds)
 
-    go : (t u : Bool) → eqb p (acc .place) ≡ u → getD (cond t (place l (acc .place) next) l) p none ≡ counted (getD l p none) (cond (t && u) (y .rounds) 0)
+    go : (t u : Bool) → eqb p (acc .place) ≡ u
+        → getD (cond t (place l (acc .place) next) l) p none ≡ counted (getD l p none) (cond (t && u) (y .rounds) 0)
     go true true e =
         let s = eqb→eq p (acc .place) (subst T (sym e) tt) in
-        subst (λ (j : ℕ). getD (place l j (counted (getD l j none) (y .rounds))) p none ≡ counted (getD l p none) (y .rounds)) s (get-same l p (counted (getD l p none) (y .rounds)) i)
+        subst (λ (j : ℕ). getD (place l j (counted (getD l j none) (y .rounds))) p none ≡ counted (getD l p none) (y .rounds)) s
+        (get-same l p (counted (getD l p none) (y .rounds)) i)
     go true false e = get-other l (acc .place) p next (λ s. subst T (ap (eqb p) s ∙ e) (eqb-refl p)) ∙ sym (counted-none (getD l p none) h)
     go false u e = sym (counted-none (getD l p none) h)
 charged-at l (valid bs) y p i h = sym (counted-none (getD l p none) h)
@@ -89,7 +91,8 @@ length-after l [] = refl
 length-after l (e ∷ es) = length-after (charged l (e .0) (e .1)) es ∙ length-charged l (e .0) (e .1)
 
 -- each account after the list: its limits, and its rounds added
-pub account-after : (l : List Account) (es : List Event) (p : ℕ) → p < length l → getD l p none .tally ≤ tallyTop → getD (accountsAfter l es) p none ≡ counted (getD l p none) (roundsAt p es)
+pub account-after : (l : List Account) (es : List Event) (p : ℕ) → p < length l → getD l p none .tally ≤ tallyTop
+    → getD (accountsAfter l es) p none ≡ counted (getD l p none) (roundsAt p es)
 account-after l [] p i h = sym (counted-none (getD l p none) h)
 account-after l (e ∷ es) p i h =
     let now = charged-at l (e .0) (e .1) p i h in
@@ -102,12 +105,14 @@ account-after l (e ∷ es) p i h =
 pub rounds-agree : (p : ℕ) (b : Book) (es : List Event) → AllAgree (play b (calls es) .1) es → roundsAt p es ≡ bookRounds p b (calls es)
 rounds-agree p b [] d = refl
 rounds-agree p b ((c, y) ∷ es) d =
-    ap (λ (k : ℕ). k + roundsAt p es) (ap (λ (k : ℕ). spentAt p c k (y .rounds)) (d .0 .number) ∙ ap (λ (k : ℕ). spentAt p c (does b c .1 .number) k) (d .0 .rounds))
+    ap (λ (k : ℕ). k + roundsAt p es)
+    (ap (λ (k : ℕ). spentAt p c k (y .rounds)) (d .0 .number) ∙ ap (λ (k : ℕ). spentAt p c (does b c .1 .number) k) (d .0 .rounds))
     ∙ ap (λ (k : ℕ). spentAt p c (does b c .1 .number) (does b c .1 .rounds) + k) (rounds-agree p (does b c .0) es (d .1))
 
 -- A TALLY COUNTS THE ROUNDS OF ITS ACCOUNT'S ANSWERED SETS SINCE FRESH, and its limits are those that were lent
 pub tally-since-fresh : (l : List Account) (y : Reply) (es : List Event) (p : ℕ) → y .number ≡ 0 → p < length l
-    → getD (accountsAfter (freshened l y) es) p none ≡ record { rows = getD l p none .rows; rounds = getD l p none .rounds; tally = min (roundsAt p es) tallyTop }
+    → getD (accountsAfter (freshened l y) es) p none
+    ≡ record { rows = getD l p none .rows; rounds = getD l p none .rounds; tally = min (roundsAt p es) tallyTop }
 tally-since-fresh l y es p z i =
     let all = emptiedTo (length l) l in
     let made : freshened l y ≡ all = ap (λ (k : ℕ). cond (eqb k 0) all l) z in

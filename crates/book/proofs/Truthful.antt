@@ -1,5 +1,5 @@
--- What a reply that agrees with the book says: rounds, states and members by their definitions; demand 2, after an answered set; no call of a
--- list is refused with 2; and the bound on rounds with one binder. Assumes nothing.
+-- What a reply that agrees with the book says: rounds, states and members by their definitions; demand 2, after an answered set; no call of
+-- a list is refused with 2; and the bound on rounds with one binder. Assumes nothing.
 use mathlib.Core.Path.{_≡_, refl, sym, ap, _∙_, subst}
 use mathlib.Core.Logic.{_↔_}
 use mathlib.Core.Bool.{Bool, true, false, cond, _&&_}
@@ -20,7 +20,8 @@ use Rattle.accounts.specs.declared.Terms.{Terms}
 use Rattle.accounts.specs.Terms.{roundsUnder}
 use Rattle.book.specs.Over.{states}
 use Rattle.book.specs.Ticks.{ticks, relationTicks, peak, needsIn}
-use Rattle.book.specs.Book.{formulaIn, Book, Call, relation, set, valid, clear, collect, member, count, refused, registers, modelOf, liveOf, Done, asked, oneOf, does, play, answer}
+use Rattle.book.specs.Book.{formulaIn, Book, Call, relation, set, valid, clear, collect, member, count, refused, registers, modelOf}
+use Rattle.book.specs.Book.{liveOf, Done, asked, oneOf, does, play, answer}
 use Rattle.book.proofs.Stored.{range-cases, set-cases, relation-cases, valid-cases, some-inj, set-means, relation-means}
 use Rattle.book.specs.Table.{Reply, SettledTo, Agrees}
 use Rattle.book.specs.Demand.{Event, calls, AllAgree}
@@ -47,17 +48,20 @@ module _ (b : Book) (acc : Terms) (r R : ℕ) (bs : List ℕ) (y : Reply) (a : A
   pub set-leaves : does b (set acc r R bs) .0 .reg r ≡ some (means (modelOf b) noEnv (formulaIn b Set bs))
   set-leaves =
       let M = means (modelOf b) noEnv (formulaIn b Set bs) in
-      ap (λ (x : Book). x .reg r) (set-means b acc r R bs (sym (a .number) ∙ z) .stored .book) ∙ ap (λ (t : Bool). cond t (some M) (b .reg r)) (true-of (eqb r r) (eqb-refl r))
+      ap (λ (x : Book). x .reg r) (set-means b acc r R bs (sym (a .number) ∙ z) .stored .book)
+      ∙ ap (λ (t : Bool). cond t (some M) (b .reg r)) (true-of (eqb r r) (eqb-refl r))
 
 -- an answered relation's peak is the largest need of its steps
-pub relation-peak : (b : Book) (t : ℕ) (bs : List ℕ) (y : Reply) → Agrees (does b (relation t bs) .1) y → y .number ≡ 0 → y .peak ≡ peak (needsIn (relationTicks (b .n) (liveOf b) (b .valid) (formulaIn b Relation bs)))
+pub relation-peak : (b : Book) (t : ℕ) (bs : List ℕ) (y : Reply) → Agrees (does b (relation t bs) .1) y → y .number ≡ 0
+    → y .peak ≡ peak (needsIn (relationTicks (b .n) (liveOf b) (b .valid) (formulaIn b Relation bs)))
 relation-peak b t bs y a z = a .peak ∙ relation-means b t bs (sym (a .number) ∙ z) .peaks
 
 -- ---- an answered question
 
 module _ (b : Book) where
   -- the register is filled, and the value is that of its set
-  asked-told : (g : List Bool → Option ℕ) (o : Option (List Bool)) → asked o g .number ≡ 0 → (A : List Bool) × (o ≡ some A) × (asked o g .value ≡ g A)
+  asked-told : (g : List Bool → Option ℕ) (o : Option (List Bool)) → asked o g .number ≡ 0
+      → (A : List Bool) × (o ≡ some A) × (asked o g .value ≡ g A)
   asked-told g none z = absurd (omega arith)
   asked-told g (some A) z = (A, refl, refl)
 
@@ -67,13 +71,15 @@ module _ (b : Book) where
   ranged-told r g false z = absurd (omega arith)
 
   -- "count r (states in the set, 0 to 2^n)"
-  pub count-told : (r : ℕ) (y : Reply) → Agrees (answer b (count r)) y → y .number ≡ 0 → (A : List Bool) × (b .reg r ≡ some A) × (y .value ≡ weight true A)
+  pub count-told : (r : ℕ) (y : Reply) → Agrees (answer b (count r)) y → y .number ≡ 0
+      → (A : List Bool) × (b .reg r ≡ some A) × (y .value ≡ weight true A)
   count-told r y a z =
       let w = ranged-told r (λ A. some (weight true A)) (ltb r registers) (sym (a .number) ∙ z) in
       (w .0, w .1, subst (λ (o : Option ℕ). SettledTo o (y .value)) (w .2) (a .value))
 
   -- 1 exactly where the state is in the register's set
-  pub member-told : (r s : ℕ) (y : Reply) → Agrees (answer b (member r s)) y → y .number ≡ 0 → (A : List Bool) × (b .reg r ≡ some A) × ((y .value ≡ 1) ↔ T (mem A s))
+  pub member-told : (r s : ℕ) (y : Reply) → Agrees (answer b (member r s)) y → y .number ≡ 0
+      → (A : List Bool) × (b .reg r ≡ some A) × ((y .value ≡ 1) ↔ T (mem A s))
   member-told r s y a z =
       let w = ranged-told r (λ A. some (oneOf (mem A s))) (ltb r registers && ltb s (2 ^ b .n)) (sym (a .number) ∙ z) in
       (w .0, w .1, one (mem (w .0) s) (subst (λ (o : Option ℕ). SettledTo o (y .value)) (w .2) (a .value)))
@@ -85,12 +91,14 @@ module _ (b : Book) where
 -- ---- DEMAND 2: "A state is in the set of an answered formula exactly when the mu-calculus says so"
 
 module _ (b : Book) (acc : Terms) (r R : ℕ) (bs : List ℕ) (y : Reply) (a : Agrees (does b (set acc r R bs) .1) y) (z : y .number ≡ 0) where
-  pub set-member : (s : ℕ) (x : Reply) → Agrees (answer (does b (set acc r R bs) .0) (member r s)) x → x .number ≡ 0 → (x .value ≡ 1) ↔ T (mem (means (modelOf b) noEnv (formulaIn b Set bs)) s)
+  pub set-member : (s : ℕ) (x : Reply) → Agrees (answer (does b (set acc r R bs) .0) (member r s)) x → x .number ≡ 0
+      → (x .value ≡ 1) ↔ T (mem (means (modelOf b) noEnv (formulaIn b Set bs)) s)
   set-member s x h i =
       let w = member-told (does b (set acc r R bs) .0) r s x h i in
       subst (λ (A : List Bool). (x .value ≡ 1) ↔ T (mem A s)) (some-inj (sym (w .1) ∙ set-leaves b acc r R bs y a z)) (w .2)
 
-  pub set-count : (x : Reply) → Agrees (answer (does b (set acc r R bs) .0) (count r)) x → x .number ≡ 0 → x .value ≡ weight true (means (modelOf b) noEnv (formulaIn b Set bs))
+  pub set-count : (x : Reply) → Agrees (answer (does b (set acc r R bs) .0) (count r)) x → x .number ≡ 0
+      → x .value ≡ weight true (means (modelOf b) noEnv (formulaIn b Set bs))
   set-count x h i =
       let w = count-told (does b (set acc r R bs) .0) r x h i in
       subst (λ (A : List Bool). x .value ≡ weight true A) (some-inj (sym (w .1) ∙ set-leaves b acc r R bs y a z)) (w .2)
@@ -98,10 +106,14 @@ module _ (b : Book) (acc : Terms) (r R : ℕ) (bs : List ℕ) (y : Reply) (a : A
 -- ---- "Check 2 refuses none in such a list"
 
 pub never-two : (b : Book) (c : Call) → does b c .1 .number ≡ 2 → ⊥
-never-two b (relation t bs) = relation-cases (λ (d : Done). d .1 .number ≡ 2 → ⊥) b t bs (λ k i j z. absurd (omega arith)) (λ l p q z. absurd (omega arith))
-never-two b (set acc r R bs) = set-cases (λ (d : Done). d .1 .number ≡ 2 → ⊥) b acc r R bs (λ k i j z. absurd (omega arith)) (λ l p q z. absurd (omega arith))
-never-two b (valid bs) = valid-cases (λ (d : Done). d .1 .number ≡ 2 → ⊥) b bs (λ k i j z. absurd (omega arith)) (λ t p z. absurd (omega arith))
-never-two b (clear r) = range-cases (λ (d : Done). d .1 .number ≡ 2 → ⊥) r registers _ _ (λ l z. absurd (omega arith)) (λ l z. absurd (omega arith))
+never-two b (relation t bs) =
+    relation-cases (λ (d : Done). d .1 .number ≡ 2 → ⊥) b t bs (λ k i j z. absurd (omega arith)) (λ l p q z. absurd (omega arith))
+never-two b (set acc r R bs) =
+    set-cases (λ (d : Done). d .1 .number ≡ 2 → ⊥) b acc r R bs (λ k i j z. absurd (omega arith)) (λ l p q z. absurd (omega arith))
+never-two b (valid bs) =
+    valid-cases (λ (d : Done). d .1 .number ≡ 2 → ⊥) b bs (λ k i j z. absurd (omega arith)) (λ t p z. absurd (omega arith))
+never-two b (clear r) =
+    range-cases (λ (d : Done). d .1 .number ≡ 2 → ⊥) r registers _ _ (λ l z. absurd (omega arith)) (λ l z. absurd (omega arith))
 never-two b collect = λ z. absurd (omega arith)
 
 abbrev pub NoTwo : List Event → Type 0

@@ -73,8 +73,18 @@ first : Performs SoundTable (λ x. x) (set alone 0 100 (frame (0x01 ∷ []))) bl
 unfolding computing
 first =
     let s : Shows (bookOf blank) blank = shows-bookOf blank blank-sound in
-    let d = set-serves (bookOf blank) blank alone 0 100 (frame (0x01 ∷ [])) noRows (ends 1 nothing) s (omega arith) tt refl (evals-leaf 1 100 nothing (s .wf) (shows-held (bookOf blank) blank s) (denotes-clip 1 100 (bookOf blank .valid) (s .valid))) in
-    record { unsound = λ n. absurd (n blank-sound); served = λ k. (sound-shows _ stored (whole-does (bookOf blank) (set alone 0 100 (frame (0x01 ∷ []))) (whole-bookOf blank blank-sound)) (d .shows), d) }
+    let d = set-serves (bookOf blank) blank alone 0 100 (frame (0x01 ∷ [])) noRows (ends 1 nothing) s (omega arith) tt refl
+    (evals-leaf 1 100 nothing (s .wf) (shows-held (bookOf blank) blank s) (denotes-clip 1 100 (bookOf blank .valid) (s .valid))) in
+    record {
+      unsound =
+          λ n. absurd (n blank-sound);
+      served =
+          λ k. (
+            sound-shows _ stored (whole-does (bookOf blank) (set alone 0 100 (frame (0x01 ∷ []))) (whole-bookOf blank blank-sound))
+                (d .shows),
+            d,
+          );
+    }
 
 stored-sound : SoundTable stored
 stored-sound = first .served blank-sound .0
@@ -82,7 +92,11 @@ stored-sound = first .served blank-sound .0
 second : Performs SoundTable (λ x. x) (clear 0) stored emptied (plain 0)
 second =
     let d = clear-serves (bookOf stored) stored 0 (shows-bookOf stored stored-sound) (omega arith) in
-    record { unsound = λ n. absurd (n stored-sound); served = λ k. (sound-shows _ emptied (whole-does (bookOf stored) (clear 0) (whole-bookOf stored stored-sound)) (d .shows), d) }
+    record {
+      unsound =
+          λ n. absurd (n stored-sound);
+      served = λ k. (sound-shows _ emptied (whole-does (bookOf stored) (clear 0) (whole-bookOf stored stored-sound)) (d .shows), d);
+    }
 
 pub played : Session Table makes performs 1 100 events emptied
 played = record {

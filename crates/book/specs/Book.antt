@@ -1,5 +1,5 @@
--- "The book": 8 relations and 32 registers, each empty or holding a set of pairs or of states, and V; each call's effect and answer, a whole list of
--- calls, and the answer to each question. It stores the meaning; steps give the number and the rounds. Assumes nothing.
+-- "The book": 8 relations and 32 registers, each empty or holding a set of pairs or of states, and V; each call's effect and answer, a
+-- whole list of calls, and the answer to each question. It stores the meaning; steps give the number and the rounds. Assumes nothing.
 use mathlib.Core.Bool.{Bool, true, false, not, cond, _&&_}
 use mathlib.Core.List.{List, [], _∷_, _++_}
 use mathlib.Core.Option.{Option, none, some}
@@ -51,7 +51,8 @@ freshFits n N words = (leb 1 n && leb n 16) && ((leb 1 N && leb N 60_000) && leb
 abbrev pub freshNumber : ℕ → ℕ → ℕ → ℕ → ℕ
 freshNumber n N words count = cond (freshFits n N words) (cond (lent count) 0 14) 1
 
--- a call of the third demand's list: its kind and arguments, "formula bytes and R included", "the list's length and the named account's limits too"
+-- a call of the third demand's list: its kind and arguments, "formula bytes and R included", "the list's length and the named account's
+-- limits too"
 pub data Call : Type 0 where
   relation : ℕ → List ℕ → Call  -- relation t, bytes
   set : Terms → ℕ → ℕ → List ℕ → Call  -- set under an account, r, R, bytes
@@ -65,7 +66,8 @@ pub data Question : Type 0 where
   member : ℕ → ℕ → Question  -- member r, state
   count : ℕ → Question  -- count r
 
--- an answer: the refusal's number or 0, the rounds, the peak, and the value where the rules settle it ("Free for the builder: node numbers above 1")
+-- an answer: the refusal's number or 0, the rounds, the peak, and the value where the rules settle it ("Free for the builder: node numbers
+-- above 1")
 pub record Answer : Type 0 where
   pub number : ℕ
   pub rounds : ℕ
@@ -155,9 +157,13 @@ ended b (counted q) go = go q
 ended b full go = refuse b 8
 ended b spent go = refuse b 9
 
--- "relation t then holds exactly the pairs in which the formula holds", within V; "Each answered relation or set call also returns its peak"
+-- "relation t then holds exactly the pairs in which the formula holds", within V; "Each answered relation or set call also returns its
+-- peak"
 abbrev pub relationDone : Book → ℕ → Form → Count → Done
-relationDone b t f q = (withRel b t (some (pairsWithin (b .n) (b .valid) (meansPair (b .n) f))), record { number = 0; rounds = 0; peak = q .peak; value = some 0 })
+relationDone b t f q = (
+  withRel b t (some (pairsWithin (b .n) (b .valid) (meansPair (b .n) f))),
+  record { number = 0; rounds = 0; peak = q .peak; value = some 0 },
+)
 
 -- "register r exactly the states": the set A, made with the count q; set "returns node number and rounds", and its peak
 abbrev pub setDone : Book → ℕ → List Bool → Count → Done
@@ -169,7 +175,9 @@ relationSteps b t f = ended b (verdict (b .N) 0 nothing (relationTicks (b .n) (l
 
 -- set r, after its checks: the states "by the meaning above over the book as it stood before the call"; "Both limits hold"
 abbrev pub setSteps : Book → Terms → ℕ → ℕ → Form → Done
-setSteps b acc r R f = ended b (verdict (rowsUnder (b .N) acc) (roundsUnder R acc) nothing (ticks (states (modelOf b) noEnv) (liveOf b) f)) (λ q. setDone b r (means (modelOf b) noEnv f) q)
+setSteps b acc r R f =
+    ended b (verdict (rowsUnder (b .N) acc) (roundsUnder R acc) nothing (ticks (states (modelOf b) noEnv) (liveOf b) f))
+    (λ q. setDone b r (means (modelOf b) noEnv f) q)
 
 -- valid, after its checks: "an answered one puts V into the book, and it is full by the same row rule as a relation call"
 abbrev pub validDone : Book → Form → Done
@@ -191,7 +199,8 @@ formulaCall b k bs go = let d = go (formulaIn b k bs) in passing b (checks b k b
 -- each call, its checks in the order of the table of refusals
 abbrev pub does : Book → Call → Done
 does b (relation t bs) = let d = formulaCall b Relation bs (relationSteps b t) in cond (ltb t relations) d (refuse b 3)
-does b (set acc r R bs) = let d = formulaCall b Set bs (setSteps b acc r R) in let e = cond (named acc) d (refuse b 14) in cond (ltb r registers) e (refuse b 3)
+does b (set acc r R bs) =
+    let d = formulaCall b Set bs (setSteps b acc r R) in let e = cond (named acc) d (refuse b 14) in cond (ltb r registers) e (refuse b 3)
 -- "13, valid while a register or relation is filled, checked directly after 2"
 does b (valid bs) = let d = formulaCall b Valid bs (validSteps b) in cond (unfilled b) d (refuse b 13)
 does b (clear r) = cond (ltb r registers) (withReg b r none, answered (some 0)) (refuse b 3)

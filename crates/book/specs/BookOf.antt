@@ -1,5 +1,5 @@
--- The book that a sound table stands for: the sets and pairs of its arrows. The table shows it, it is whole, and it is the only such book; so
--- contracts stated with it hold on any sound table, not only after fresh. Assumes nothing.
+-- The book that a sound table stands for: the sets and pairs of its arrows. The table shows it, it is whole, and it is the only such book;
+-- so contracts stated with it hold on any sound table, not only after fresh. Assumes nothing.
 use mathlib.Core.Path.{_≡_}
 use mathlib.Core.Bool.{true, cond}
 use mathlib.Core.List.{[], _∷_}
@@ -27,8 +27,8 @@ denIn t a = den (2 * t .n) (t .rows) a
 abbrev pub Under : Fn → Fn → Type 0
 Under F G = (v : Val) → F v ≡ true → G v ≡ true
 
--- "each register is empty or an arrow whose rows all have even levels; each relation is empty or any arrow"; "A table is sound only with V's rows on
--- even levels, registers within V, and relations within V and SHIFT of V"
+-- "each register is empty or an arrow whose rows all have even levels; each relation is empty or any arrow"; "A table is sound only with
+-- V's rows on even levels, registers within V, and relations within V and SHIFT of V"
 pub record SoundTable (t : Table) : Type 0 where
   pub wf : WellFormed (2 * t .n) (t .N) (t .rows)
   pub valid : Arrow (t .rows) (t .valid) × EvenRows t (t .valid)

@@ -26,7 +26,8 @@ pub record Answers {W : Type 0} (sound : W → Type 0) (view : W → Table) (q :
 -- an implementation over bare words W: how many there are, which are sound, how a table is seen in them, and the contracts of fresh (words
 -- before, n, N, how many accounts are lent, words after, reply), of the calls and of the questions
 pub record Implements (W : Type 0) (words : W → ℕ) (sound : W → Type 0) (view : W → Table)
-    (makes : W → ℕ → ℕ → ℕ → W → Reply → Type 0) (calls : W → Call → W → Reply → Type 0) (asks : W → Question → W → Reply → Type 0) : Type 0 where
+    (makes : W → ℕ → ℕ → ℕ → W → Reply → Type 0) (calls : W → Call → W → Reply → Type 0)
+    (asks : W → Question → W → Reply → Type 0) : Type 0 where
   pub good : (w : W) → sound w → SoundTable (view w)
   pub starts : (w w′ : W) (n N count : ℕ) (y : Reply) → makes w n N count w′ y → Starts sound view n N (words w) count w w′ y
   pub performs : (w w′ : W) (c : Call) (y : Reply) → calls w c w′ y → Performs sound view c w w′ y

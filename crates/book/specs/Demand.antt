@@ -31,10 +31,12 @@ bookAfter n N l = play (fresh n N) (calls l) .0
 -- nobody else writes it"
 pub data Trace (W : Type 0) (contract : W → Call → W → Reply → Type 0) : W → List Event → W → Type 0 where
   stop : {w : W} → Trace W contract w [] w
-  go : {w v w′ : W} {c : Call} {y : Reply} {l : List Event} → contract w c v y → Trace W contract v l w′ → Trace W contract w ((c, y) ∷ l) w′
+  go : {w v w′ : W} {c : Call} {y : Reply} {l : List Event} → contract w c v y → Trace W contract v l w′
+      → Trace W contract w ((c, y) ∷ l) w′
 
 -- a list from bare words: an answered fresh, then the calls, each under its contract
-pub record Session (W : Type 0) (makes : W → ℕ → ℕ → ℕ → W → Reply → Type 0) (contract : W → Call → W → Reply → Type 0) (n N : ℕ) (l : List Event) (end : W) : Type 0 where
+pub record Session (W : Type 0) (makes : W → ℕ → ℕ → ℕ → W → Reply → Type 0) (contract : W → Call → W → Reply → Type 0)
+    (n N : ℕ) (l : List Event) (end : W) : Type 0 where
   pub lent : W
   pub count : ℕ
   pub made : W
@@ -61,7 +63,8 @@ AllEight b [] = Unit {0}
 AllEight b (e ∷ l) = EightAt b (e .0) (e .1 .number) × AllEight (does b (e .0) .0) l
 
 -- the claim for a list that began with an answered fresh of n and N and left the words w
-pub record Demand {W : Type 0} (sound : W → Type 0) (view : W → Table) (asks : W → Question → W → Reply → Type 0) (n N : ℕ) (l : List Event) (w : W) : Type 0 where
+pub record Demand {W : Type 0} (sound : W → Type 0) (view : W → Table) (asks : W → Question → W → Reply → Type 0) (n N : ℕ) (l : List Event)
+    (w : W) : Type 0 where
   -- the words are sound
   pub good : sound w
   -- "each register and relation is filled exactly where the book's is"
@@ -72,8 +75,10 @@ pub record Demand {W : Type 0} (sound : W → Type 0) (view : W → Table) (asks
   pub shows : Shows (bookAfter n N l) (view w)
   -- each register's set is the meaning of the formula of the last answered set of it, over the book as it stood then
   pub last : (r : ℕ) (A : List Bool) → bookAfter n N l .reg r ≡ some A → LastSet (fresh n N) (calls l) r A
-  -- "The node numbers of two filled registers, as the calls that last set them returned them, are equal exactly where the book's two sets are"
-  pub numbers : (r q : ℕ) → r < registers → q < registers → (A B : List Bool) (x y : ℕ) → bookAfter n N l .reg r ≡ some A → bookAfter n N l .reg q ≡ some B
+  -- "The node numbers of two filled registers, as the calls that last set them returned them, are equal exactly where the book's two sets
+  -- are"
+  pub numbers : (r q : ℕ) → r < registers → q < registers → (A B : List Bool) (x y : ℕ) → bookAfter n N l .reg r ≡ some A
+      → bookAfter n N l .reg q ≡ some B
       → lastNumber none l r ≡ some x → lastNumber none l q ≡ some y → (x ≡ y) ↔ (A ≡ B)
   -- the number last returned is the one that the register has
   pub current : (r : ℕ) → r < registers → view w .reg r ≡ lastNumber none l r

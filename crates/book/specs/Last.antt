@@ -1,5 +1,5 @@
--- "as relations and registers stood at the answered calls that last set them": where a register of the book is filled, the call that last set
--- it, and that its set is the meaning of that call's formula over the book as it stood then. Assumes nothing.
+-- "as relations and registers stood at the answered calls that last set them": where a register of the book is filled, the call that last
+-- set it, and that its set is the meaning of that call's formula over the book as it stood then. Assumes nothing.
 use mathlib.Core.Path.{_≡_}
 use mathlib.Core.Bool.{Bool, false, _&&_}
 use mathlib.Core.List.{List, [], _∷_, _++_}

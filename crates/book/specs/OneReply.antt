@@ -1,5 +1,5 @@
--- One table, one call, two replies and two ends that serve the book: values are one but for node numbers above 1, the same registers have one
--- number, and collect leaves the same rows used. The same of a question's values. Assumes nothing.
+-- One table, one call, two replies and two ends that serve the book: values are one but for node numbers above 1, the same registers have
+-- one number, and collect leaves the same rows used. The same of a question's values. Assumes nothing.
 use Prim.Native.Nat.{ℕ, min}
 use Rattle.book.specs.Book.{Call, relation, set, valid, clear, collect}
 

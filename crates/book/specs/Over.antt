@@ -1,5 +1,5 @@
--- What a formula is read over: the states of a model, or the pairs of all states; and its values, sets of the one or the other, as functions of
--- levels. Assumes nothing.
+-- What a formula is read over: the states of a model, or the pairs of all states; and its values, sets of the one or the other, as
+-- functions of levels. Assumes nothing.
 use mathlib.Core.Bool.{Bool}
 use mathlib.Core.List.{List}
 use Prim.Native.Nat.{ℕ, _+_, _*_, _^_, _/_, _%_}

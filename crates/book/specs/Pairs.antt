@@ -1,4 +1,5 @@
--- A chain of steps over arrows follows the book: no rounds, a function as its value, and all that is counted are the needs. Assumes nothing.
+-- A chain of steps over arrows follows the book: no rounds, a function as its value, and all that is counted are the needs.
+-- Assumes nothing.
 use mathlib.Core.Path.{_≡_}
 use mathlib.Core.Bool.{Bool, true, false}
 use mathlib.Core.List.{List}
@@ -17,7 +18,8 @@ PairMatches n rows false F c (at a) q = ⊥
 PairMatches n rows false F c noRows q = Unit {0}
 
 -- the evaluator went from one table to another, kept the roots, and answered as the book does; q is what it counted
-pub record PairEvals (n N : ℕ) (before after : Rows) (roots : List ℕ) (fits : Bool) (F : Fn) (c : Count) (y : Result) (q : Count) : Type 0 where
+pub record PairEvals (n N : ℕ) (before after : Rows) (roots : List ℕ)
+    (fits : Bool) (F : Fn) (c : Count) (y : Result) (q : Count) : Type 0 where
   pub wf : WellFormed (2 * n) N after
   pub kept : Keeps before after roots
   pub result : PairMatches n after fits F c y q

@@ -32,7 +32,8 @@ abbrev pub commandOf : ℕ → List ℕ → Option Command
 commandOf op xs =
     cond (eqb op 1) (cond (eqb (length xs) 3) (some (start (at 0) (at 1 * 256 + at 2))) none)
     (cond (eqb op 2) (cond (leb 1 (length xs)) (some (call (relation (at 0) (drop 1 xs)))) none)
-    (cond (eqb op 3) (cond (leb 5 (length xs)) (some (call (set alone (at 0) (((at 1 * 256 + at 2) * 256 + at 3) * 256 + at 4) (drop 5 xs)))) none)
+    (cond (eqb op 3)
+    (cond (leb 5 (length xs)) (some (call (set alone (at 0) (((at 1 * 256 + at 2) * 256 + at 3) * 256 + at 4) (drop 5 xs)))) none)
     (cond (eqb op 4) (cond (eqb (length xs) 1) (some (call (clear (at 0)))) none)
     (cond (eqb op 5) (cond (eqb (length xs) 1) (some (states (at 0))) none)
     (cond (eqb op 6) (cond (eqb (length xs) 0) (some (call collect)) none)
@@ -88,7 +89,9 @@ recordLength bs = getD bs 0 0 * 256 + getD bs 1 0
 
 -- the record that begins here is whole, in range and of version 1
 abbrev pub whole : List ℕ → Bool
-whole bs = (leb 2 (length bs) && (leb 2 (recordLength bs) && leb (recordLength bs) 1_100)) && (leb (2 + recordLength bs) (length bs) && eqb (getD bs 2 0) 1)
+whole bs =
+    (leb 2 (length bs) && (leb 2 (recordLength bs) && leb (recordLength bs) 1_100))
+    && (leb (2 + recordLength bs) (length bs) && eqb (getD bs 2 0) 1)
 
 -- the command of a whole record
 abbrev pub commandAt : List ℕ → Option Command

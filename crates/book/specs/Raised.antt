@@ -1,5 +1,5 @@
--- "Bigger tables, same verdicts": the same list of calls with every limit raised or equal is answered throughout, where it was, with the same sets,
--- counts, rounds and peaks; and two filled registers have one number in both or in neither. Assumes nothing.
+-- "Bigger tables, same verdicts": the same list of calls with every limit raised or equal is answered throughout, where it was, with the
+-- same sets, counts, rounds and peaks; and two filled registers have one number in both or in neither. Assumes nothing.
 use mathlib.Core.Path.{_≡_}
 use mathlib.Core.Logic.{_↔_}
 use mathlib.Core.List.{List, [], _∷_}
@@ -67,7 +67,8 @@ AllSame (a ∷ as′) (x ∷ l) [] = ⊥
 AllSame (a ∷ as′) (x ∷ l) (x′ ∷ l′) = SameReply a (x .1) (x′ .1) × AllSame as′ l l′
 
 -- the list again, on other words and with a larger row count: fresh, whether it is answered or not, and the calls
-pub record Upgrade (W : Type 0) (words : W → ℕ) (makes : W → ℕ → ℕ → ℕ → W → Reply → Type 0) (contract : W → Call → W → Reply → Type 0) (n M count : ℕ) (l : List Event) (end : W) : Type 0 where
+pub record Upgrade (W : Type 0) (words : W → ℕ) (makes : W → ℕ → ℕ → ℕ → W → Reply → Type 0) (contract : W → Call → W → Reply → Type 0)
+    (n M count : ℕ) (l : List Event) (end : W) : Type 0 where
   pub lent : W
   pub enough : 256 + 12 * M ≤ words lent
   pub made : W
@@ -76,7 +77,8 @@ pub record Upgrade (W : Type 0) (words : W → ℕ) (makes : W → ℕ → ℕ �
   pub rest : Trace W contract made l end
 
 -- the claim after the two lists, which left the words w and w′
-pub record SameVerdicts {W : Type 0} (view : W → Table) (asks : W → Question → W → Reply → Type 0) (n N M : ℕ) (reply : Reply) (l l′ : List Event) (w w′ : W) : Type 0 where
+pub record SameVerdicts {W : Type 0} (view : W → Table) (asks : W → Question → W → Reply → Type 0)
+    (n N M : ℕ) (reply : Reply) (l l′ : List Event) (w w′ : W) : Type 0 where
   -- "the same list is answered throughout", fresh too
   pub started : reply .number ≡ 0
   pub answered : AllZero l′
@@ -88,7 +90,8 @@ pub record SameVerdicts {W : Type 0} (view : W → Table) (asks : W → Question
   pub asked : (q : Question) (v v′ : W) (y y′ : Reply) → asks w q v y → asks w′ q v′ y′ → SameReply (answer (bookOf (view w)) q) y y′
   -- the same registers are filled, and "two filled registers have one number in both or in neither"
   pub same-filled : (r : ℕ) → r < registers → filled (view w′ .reg r) ≡ filled (view w .reg r)
-  pub numbers : (r q : ℕ) → r < registers → q < registers → (x y x′ y′ : ℕ) → view w .reg r ≡ some x → view w .reg q ≡ some y → view w′ .reg r ≡ some x′ → view w′ .reg q ≡ some y′
+  pub numbers : (r q : ℕ) → r < registers → q < registers → (x y x′ y′ : ℕ) → view w .reg r ≡ some x → view w .reg q ≡ some y
+      → view w′ .reg r ≡ some x′ → view w′ .reg q ≡ some y′
       → (x ≡ y) ↔ (x′ ≡ y′)
 
 -- ---- "after each call": the first calls of a list are a list

@@ -67,10 +67,12 @@ boxSteps n N live E R A q = andThen (notStep n N live E A q) (λ B p. andThen (d
 abbrev pub furtherSteps : Bool → ℕ → ℕ → List Fn → List Bool → Pairs → List Bool → Count → Outcome
 furtherSteps true n N live E R A q = diaSteps n N live R A q
 furtherSteps false n N live E R A q =
-    andThen (boxSteps n N live E R A q) (λ B p. andThen (diaSteps n N (fnOf n B ∷ live) R E p) (λ D o. twoStep n N live (inter (2 ^ n)) B D o))
+    andThen (boxSteps n N live E R A q)
+    (λ B p. andThen (diaSteps n N (fnOf n B ∷ live) R E p) (λ D o. twoStep n N live (inter (2 ^ n)) B D o))
 
 -- two parts: the left one's outcome x, the right one's y at the left one's value, which is live meanwhile, and the step op
-abbrev pub bothBy : (List Bool → Fn) → ℕ → ℕ → List Fn → (List Bool → List Bool → List Bool) → Outcome → (List Bool → Count → Outcome) → Outcome
+abbrev pub bothBy : (List Bool → Fn) → ℕ → ℕ → List Fn → (List Bool → List Bool → List Bool) → Outcome → (List Bool → Count → Outcome)
+    → Outcome
 bothBy lv n N live op x y = andThen x (λ A q. andThen (y A q) (λ B p. twoBy lv n N live op A B p))
 
 abbrev pub bothSteps : ℕ → ℕ → List Fn → (List Bool → List Bool → List Bool) → Outcome → (List Bool → Count → Outcome) → Outcome
@@ -81,13 +83,14 @@ abbrev pub keepRound : ℕ → ℕ → List Fn → Bool → List Bool → Pairs 
 keepRound n N live b E R fs A p = bothSteps n N live (inter (2 ^ n)) (fs live p) (λ F o. furtherSteps b n N (fnOf n F ∷ live) E R A o)
 
 -- a round of until at the set A: g's outcome is gs
-abbrev pub untilRound : ℕ → ℕ → List Fn → Bool → List Bool → Pairs → (List Fn → Count → Outcome) → (List Fn → Count → Outcome) → List Bool → Count → Outcome
+abbrev pub untilRound : ℕ → ℕ → List Fn → Bool → List Bool → Pairs → (List Fn → Count → Outcome) → (List Fn → Count → Outcome) → List Bool
+    → Count → Outcome
 untilRound n N live b E R fs gs A q =
     let held = fnOf n A ∷ live in
     bothSteps n N held (union (2 ^ n)) (gs held q) (λ G p. keepRound n N (fnOf n G ∷ held) b E R fs A p)
 
--- rounds from the set A with r counted before: "Every evaluated body is one round, counted as its evaluation starts; a round wanted when R are
--- counted gives 9. If the value is the same set the binder ends with it." No more than R rounds can start, so R is enough fuel
+-- rounds from the set A with r counted before: "Every evaluated body is one round, counted as its evaluation starts; a round wanted when R
+-- are counted gives 9. If the value is the same set the binder ends with it." No more than R rounds can start, so R is enough fuel
 abbrev pub loop : ℕ → (List Bool → Count → Outcome) → ℕ → List Bool → Count → Outcome
 loop R g zero A r = spent
 loop R g (suc j) A r =
@@ -116,8 +119,10 @@ abbrev pub run : Over → ℕ → ℕ → List Fn → Form → Count → Outcome
 run o N R live bot r = value (noStates (sizeOf o)) r
 run o N R live top r = value (trueOf o) r
 run o N R live (neg f) r = andThen (run o N R live f r) (λ A q. negStep o N live A q)
-run o N R live (conj f g) r = bothBy (levels o) (bitsOf o) N live (inter (sizeOf o)) (run o N R live f r) (λ A q. run o N R (levels o A ∷ live) g q)
-run o N R live (disj f g) r = bothBy (levels o) (bitsOf o) N live (union (sizeOf o)) (run o N R live f r) (λ A q. run o N R (levels o A ∷ live) g q)
+run o N R live (conj f g) r =
+    bothBy (levels o) (bitsOf o) N live (inter (sizeOf o)) (run o N R live f r) (λ A q. run o N R (levels o A ∷ live) g q)
+run o N R live (disj f g) r =
+    bothBy (levels o) (bitsOf o) N live (union (sizeOf o)) (run o N R live f r) (λ A q. run o N R (levels o A ∷ live) g q)
 run o N R live (now p) r = nowStep o N live p r
 run o N R live (next p) r = nextStep o N live p r
 run o N R live (var P) r = ofStates o (value (noStates (sizeOf o)) r) (λ m e. value (inter (size m) (e P) (exist m)) r)
@@ -131,7 +136,8 @@ run o N R live (mu P f) r = ofStates o (value (noStates (sizeOf o)) r) (λ m e.
 run o N R live (nu P f) r = ofStates o (value (noStates (sizeOf o)) r) (λ m e.
     loop R (λ A q. run (states m (put e P A)) N R (fnOf (m .n) A ∷ live) f q) R (start false (size m) (exist m)) r)
 run o N R live (until b t f g) r = ofStates o (value (noStates (sizeOf o)) r) (λ m e.
-    loop R (untilRound (m .n) N live b (exist m) (related m t) (λ l q. run o N R l f q) (λ l q. run o N R l g q)) R (start true (size m) (exist m)) r)
+    loop R (untilRound (m .n) N live b (exist m) (related m t) (λ l q. run o N R l f q) (λ l q. run o N R l g q)) R
+    (start true (size m) (exist m)) r)
 
 -- ---- relation calls: no rounds, so the needs of the steps are all there is to tell
 

@@ -1,5 +1,5 @@
--- State numbers and levels: "A state is a number 0 to 2^n − 1; bit p has weight 2^p. Current bit p is at level 2p, next bit p at level 2p + 1."
--- Assumes nothing.
+-- State numbers and levels: "A state is a number 0 to 2^n − 1; bit p has weight 2^p. Current bit p is at level 2p, next bit p at level 2p +
+-- 1." Assumes nothing.
 use mathlib.Core.Bool.{Bool, true, false}
 use Prim.Native.Nat.{ℕ, zero, suc, _+_, _*_, _/_}
 use Rattle.mucalculus.specs.Means.{bit}

@@ -11,7 +11,8 @@ use Rattle.diagram.specs.Post.{Denotes}
 use Rattle.diagram.specs.Reach.{Reach}
 use Rattle.diagram.specs.Keep.{Keeps}
 use Rattle.book.specs.Bridge.{fnOf, fnOfPairs}
-use Rattle.book.specs.Book.{Book, Call, relation, set, valid, clear, collect, Question, node, member, count, Answer, registers, relations, does, answer}
+use Rattle.book.specs.Book.{Book, Call, relation, set, valid, clear, collect, Question, node, member, count, Answer, registers}
+use Rattle.book.specs.Book.{relations, does, answer}
 
 -- a table: its header, its rows, the arrow of V, and the arrow in each register and relation
 pub record Table : Type 0 where
@@ -113,7 +114,9 @@ keptReg collect y h r = h r
 
 -- the roots that a call leaves as they are, V first
 abbrev pub keptRoots : Call → Reply → Table → List ℕ
-keptRoots c y t = addRoot (cond (storesValid c y) none (some (t .valid))) (arrowsOf registers (keptReg c y (t .reg)) ++ arrowsOf relations (λ q. cond (storesRel c y q) none (t .rel q)))
+keptRoots c y t =
+    addRoot (cond (storesValid c y) none (some (t .valid)))
+    (arrowsOf registers (keptReg c y (t .reg)) ++ arrowsOf relations (λ q. cond (storesRel c y q) none (t .rel q)))
 
 -- "unneeded rows (none is left used by an answered collect)": each used row is reached from V, a register or a relation
 abbrev pub Swept : Call → Table → Type 0

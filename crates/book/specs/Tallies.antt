@@ -1,5 +1,6 @@
--- THE ACCOUNTS: "an answered set adds its rounds to its own account's tally, up to the old ceiling, and changes nothing else in the list. If each
--- call gets the list as the one before left it, a tally counts the rounds of its account's answered sets since fresh." Assumes nothing.
+-- THE ACCOUNTS: "an answered set adds its rounds to its own account's tally, up to the old ceiling, and changes nothing else in the list.
+-- If each call gets the list as the one before left it, a tally counts the rounds of its account's answered sets since fresh." Assumes
+-- nothing.
 use mathlib.Core.Path.{_≡_}
 use mathlib.Core.Bool.{cond, _&&_}
 use mathlib.Core.List.{List, [], _∷_}

@@ -80,8 +80,8 @@ abbrev pub steps : List ℕ → List Tick
 steps [] = []
 steps (k ∷ ks) = step k ∷ steps ks
 
--- the rounds of a binder from the set A on: the body's ticks at A are h A and its value is F A. "If the value is the same set the binder ends
--- with it, otherwise it becomes the current set"; j bounds the rounds
+-- the rounds of a binder from the set A on: the body's ticks at A are h A and its value is F A.
+-- "If the value is the same set the binder ends with it, otherwise it becomes the current set"; j bounds the rounds
 abbrev pub roundTicks : (List Bool → List Tick) → (List Bool → List Bool) → ℕ → List Bool → List Tick
 roundTicks h F zero A = []
 roundTicks h F (suc j) A = let B = F A in let more = roundTicks h F j B in round ∷ (h A ++ cond (same B A) [] more)
@@ -96,13 +96,16 @@ furtherTicks false n live E R A =
 
 -- f and what follows, in a round of until at the set A: f's ticks are fs and its value is F
 abbrev pub keepTicks : ℕ → List Fn → Bool → List Bool → Pairs → List Bool → (List Fn → List Tick) → List Bool → List Tick
-keepTicks n live b E R F fs A = fs live ++ (furtherTicks b n (fnOf n F ∷ live) E R A ++ steps (twoNeed n live (inter (2 ^ n)) F (further b (2 ^ n) R A) ∷ []))
+keepTicks n live b E R F fs A =
+    fs live ++ (furtherTicks b n (fnOf n F ∷ live) E R A ++ steps (twoNeed n live (inter (2 ^ n)) F (further b (2 ^ n) R A) ∷ []))
 
 -- a round of until at the set A: g's ticks are gs and its value is G
-abbrev pub untilTicks : ℕ → List Fn → Bool → List Bool → Pairs → List Bool → List Bool → (List Fn → List Tick) → (List Fn → List Tick) → List Bool → List Tick
+abbrev pub untilTicks : ℕ → List Fn → Bool → List Bool → Pairs → List Bool → List Bool → (List Fn → List Tick) → (List Fn → List Tick)
+    → List Bool → List Tick
 untilTicks n live b E R F G fs gs A =
     let held = fnOf n A ∷ live in
-    gs held ++ (keepTicks n (fnOf n G ∷ held) b E R F fs A ++ steps (twoNeed n held (union (2 ^ n)) G (inter (2 ^ n) F (further b (2 ^ n) R A)) ∷ []))
+    gs held ++ (keepTicks n (fnOf n G ∷ held) b E R F fs A
+    ++ steps (twoNeed n held (union (2 ^ n)) G (inter (2 ^ n) F (further b (2 ^ n) R A)) ∷ []))
 
 -- ---- ticks of a formula
 
@@ -130,8 +133,9 @@ ofStates (states m e) x h = h m e
 ofStates (pairs n) x h = x
 
 -- the ticks of f: "Left before right, parts before operator". `live` are the functions live throughout: V, filled registers and
--- relations, current sets of open binders, values made and not yet used. "True takes no step". "Mu starts from the empty set", "nu starts from V";
--- a binder has ended after 2^n + 1 rounds, a larger bound gives the same ticks: `ticks-cap` (Larger). "relation has no rounds"
+-- relations, current sets of open binders, values made and not yet used. "True takes no step".
+-- "Mu starts from the empty set", "nu starts from V"; a binder has ended after 2^n + 1 rounds, a larger bound gives the same ticks:
+-- `ticks-cap` (Larger). "relation has no rounds"
 abbrev pub ticks : Over → List Fn → Form → List Tick
 ticks o live bot = []
 ticks o live top = []
@@ -145,15 +149,19 @@ ticks o live (reg x) = []
 ticks o live (box t f) = ofStates o [] (λ m e. ticks o live f ++ steps (boxNeeds (m .n) live (exist m) (related m t) (means m e f)))
 ticks o live (dia t f) = ofStates o [] (λ m e. ticks o live f ++ steps (diaNeeds (m .n) live (related m t) (means m e f)))
 ticks o live (mu P f) = ofStates o [] (λ m e.
-    roundTicks (λ A. ticks (states m (put e P A)) (fnOf (m .n) A ∷ live) f) (λ A. means m (put e P A) f) (suc (size m)) (start true (size m) (exist m)))
+    roundTicks
+    (λ A. ticks (states m (put e P A))
+    (fnOf (m .n) A ∷ live) f) (λ A. means m (put e P A) f) (suc (size m)) (start true (size m) (exist m)))
 ticks o live (nu P f) = ofStates o [] (λ m e.
-    roundTicks (λ A. ticks (states m (put e P A)) (fnOf (m .n) A ∷ live) f) (λ A. means m (put e P A) f) (suc (size m)) (start false (size m) (exist m)))
+    roundTicks (λ A. ticks (states m (put e P A)) (fnOf (m .n) A ∷ live) f) (λ A. means m (put e P A) f) (suc (size m))
+    (start false (size m) (exist m)))
 -- "Steps and rounds are those of the formula written so": mu X (g or (f and diamond X)), or mu X (g or (f and (box X and diamond true)))
 ticks o live (until b t f g) = ofStates o [] (λ m e.
     let F = means m e f in
     let G = means m e g in
     let R = related m t in
-    roundTicks (untilTicks (m .n) live b (exist m) R F G (λ l. ticks o l f) (λ l. ticks o l g)) (onward b (size m) R F G) (suc (size m)) (start true (size m) (exist m)))
+    roundTicks (untilTicks (m .n) live b (exist m) R F G (λ l. ticks o l f) (λ l. ticks o l g)) (onward b (size m) R F G) (suc (size m))
+    (start true (size m) (exist m)))
 
 -- ---- a relation's steps
 

@@ -27,10 +27,12 @@ pub ask-two-first : (q : Question) (ws : List ℕ) (y : Reply) → (SoundWords w
 ask-two-first q ws y n p = p .unsound n .0
 
 -- USED ROWS COUNTED BEFORE THEY ARE FREED: the value is the need, and each row that is left is reached
-pub collect-needed : (old new : List ℕ) (y : Reply) → SoundWords old → CallPost collect old new y → y .value ≡ need (2 * headerOf old BITS) (liveOf (bookOf (seen old)))
+pub collect-needed : (old new : List ℕ) (y : Reply) → SoundWords old → CallPost collect old new y
+    → y .value ≡ need (2 * headerOf old BITS) (liveOf (bookOf (seen old)))
 collect-needed old new y s p = p .performs .served s .1 .agrees .value
 
-pub collect-swept : (old new : List ℕ) (y : Reply) → SoundWords old → CallPost collect old new y → (i : ℕ) → seen new .rows .used i ≡ true → Reach (seen new .rows) (rootsOf (seen new)) i
+pub collect-swept : (old new : List ℕ) (y : Reply) → SoundWords old → CallPost collect old new y → (i : ℕ) → seen new .rows .used i ≡ true
+    → Reach (seen new .rows) (rootsOf (seen new)) i
 collect-swept old new y s p = p .performs .served s .1 .swept
 
 -- FRESH ANSWERS SIZES THAT DO NOT FIT

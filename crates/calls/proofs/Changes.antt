@@ -60,7 +60,9 @@ module _ (W : View) (r : ℕ) where
   emptied-reg q = go (eqb q r) refl
     where
       go : (b : Bool) → eqb q r ≡ b → arrowIn (X .header (FIRST-REGISTER + q)) ≡ cond b none (seenIn W .reg q)
-      go true e = let z : FIRST-REGISTER + q ≡ FIRST-REGISTER + r = let i = eqb-true q r e in omega arith in rw (eq-eqb (FIRST-REGISTER + q) (FIRST-REGISTER + r) z)
+      go true e =
+          let z : FIRST-REGISTER + q ≡ FIRST-REGISTER + r = let i = eqb-true q r e in
+          omega arith in rw (eq-eqb (FIRST-REGISTER + q) (FIRST-REGISTER + r) z)
       go false e = ap arrowIn (other (FIRST-REGISTER + q) (let n = eqb-false q r e in omega arith))
 
   pub cleared-seen : r < REGISTERS → seenIn X ≡ storeReg (seenIn W) r none
@@ -74,7 +76,9 @@ module _ (W : View) (r : ℕ) where
   }
 
   cleared-sound : r < REGISTERS → Sound W → Sound X
-  cleared-sound l s = sound-store W (FIRST-REGISTER + r) 0 (omega arith) (omega arith) (omega arith) (omega arith) (omega arith) s (storable-empty W (FIRST-REGISTER + r))
+  cleared-sound l s =
+      sound-store W (FIRST-REGISTER + r) 0 (omega arith) (omega arith) (omega arith) (omega arith) (omega arith) s
+      (storable-empty W (FIRST-REGISTER + r))
 
 module _ (old new : List ℕ) (r : ℕ) (s : SoundWords old) (l : r < REGISTERS) {rows : ℕ} (er : rows ≡ headerOf old ROWS)
     (e : view rows new ≡ putHeader (view rows old) (FIRST-REGISTER + r) 0) where
@@ -88,7 +92,8 @@ module _ (old new : List ℕ) (r : ℕ) (s : SoundWords old) (l : r < REGISTERS)
   table-is = table-after old new (ap (λ (v : View). v .header ROWS) is ∙ other (tableOf old) r ROWS (omega arith)) ∙ is
 
   word : new ≡ set old at 0
-  word = view-same (headerOf old ROWS) new (set old at 0) (is ∙ sym (view-header (headerOf old ROWS) old (s .good .sizes .room) at 0 (omega arith)))
+  word = view-same (headerOf old ROWS) new (set old at 0)
+      (is ∙ sym (view-header (headerOf old ROWS) old (s .good .sizes .room) at 0 (omega arith)))
 
   kept : Kept (clear r) (plain 0) old new
   kept = record {
@@ -106,7 +111,8 @@ module _ (old new : List ℕ) (r : ℕ) (s : SoundWords old) (l : r < REGISTERS)
       unsound = λ n. absurd (n s);
       served = λ _. (
         subst Sound (sym table-is) (cleared-sound (tableOf old) r l s),
-        subst (λ (t : Table). Serves (bookOf (seen old)) (clear r) (seen old) t (plain 0)) (sym (ap seenIn table-is ∙ cleared-seen (tableOf old) r l))
+        subst (λ (t : Table). Serves (bookOf (seen old)) (clear r) (seen old) t (plain 0))
+            (sym (ap seenIn table-is ∙ cleared-seen (tableOf old) r l))
             (clear-serves (bookOf (seen old)) (seen old) r (sound-shows-book old s) l),
       );
     };
@@ -114,7 +120,8 @@ module _ (old new : List ℕ) (r : ℕ) (s : SoundWords old) (l : r < REGISTERS)
   }
 
 -- COLLECT: the rows that are left are those that V, registers and relations reach
-module _ (old new : List ℕ) (s : SoundWords old) {rows k : ℕ} (er : rows ≡ headerOf old ROWS) (q : CollectPost (view rows old) (view rows new) k) where
+module _ (old new : List ℕ) (s : SoundWords old) {rows k : ℕ} (er : rows ≡ headerOf old ROWS)
+    (q : CollectPost (view rows old) (view rows new) k) where
   post : CollectPost (tableOf old) (view (headerOf old ROWS) new) k
   post = rw er at q
 
@@ -162,7 +169,8 @@ module _ (old new : List ℕ) (s : SoundWords old) {rows k : ℕ} (er : rows ≡
         subst Sound (sym same-table) (post .freed .sound),
         subst (λ (t : Table). Serves (bookOf (seen old)) collect (seen old) t (valued k)) (sym (ap seenIn same-table ∙ collected-seen))
             (subst (λ (x : ℕ). Serves (bookOf (seen old)) collect (seen old) (withRows (seen old) (rowsOf Y)) (valued x)) (sym left)
-            (collect-serves (bookOf (seen old)) (seen old) (rowsOf Y) (sound-shows-book old s) (collects-roots W (s .valid) (post .freed .collects)))),
+            (collect-serves (bookOf (seen old)) (seen old) (rowsOf Y) (sound-shows-book old s)
+            (collects-roots W (s .valid) (post .freed .collects)))),
       );
     };
     kept = λ _. kept-words;

@@ -43,7 +43,8 @@ module _ {n N size : ℕ} where
   sizes-fits : Sizes n N size → T (freshFits n N size)
   sizes-fits z =
       and-in (leb 1 n && leb n 16) _ (and-in (leb 1 n) (leb n 16) (le→leb 1 n (z .n-pos)) (le→leb n 16 (z .n-max)))
-      (and-in (leb 1 N && leb N 60_000) _ (and-in (leb 1 N) (leb N 60_000) (le→leb 1 N (z .N-pos)) (le→leb N 60_000 (z .N-max))) (le→leb (256 + 12 * N) size (z .room)))
+      (and-in (leb 1 N && leb N 60_000) _ (and-in (leb 1 N) (leb N 60_000) (le→leb 1 N (z .N-pos)) (le→leb N 60_000 (z .N-max)))
+      (le→leb (256 + 12 * N) size (z .room)))
 
   fits-sizes : T (freshFits n N size) → Sizes n N size
   fits-sizes t =
@@ -51,22 +52,41 @@ module _ {n N size : ℕ} where
       let (c, d) = and-out (leb 1 N && leb N 60_000) (leb (256 + 12 * N) size) b in
       let (e, f) = and-out (leb 1 n) (leb n 16) a in
       let (g, h) = and-out (leb 1 N) (leb N 60_000) c in
-      record { n-pos = leb→le 1 n e; n-max = leb→le n 16 f; N-pos = leb→le 1 N g; N-max = leb→le N 60_000 h; room = leb→le (256 + 12 * N) size d }
+      record {
+        n-pos =
+            leb→le 1 n e;
+        n-max = leb→le n 16 f;
+        N-pos = leb→le 1 N g;
+        N-max = leb→le N 60_000 h;
+        room = leb→le (256 + 12 * N) size d;
+      }
 
 -- REFUSED: "fresh: n, N or slice length"
 pub fresh-refused : (n N count : ℕ) (ws : List ℕ) → (Sizes n N (length ws) → ⊥) → FreshPost n N count ws ws (plain 1)
 fresh-refused n N count ws no-fit =
-    let one : freshNumber n N (length ws) count ≡ 1 = ap (λ (t : Bool). cond t (cond (lent count) 0 14) 1) (false-of (freshFits n N (length ws)) (λ t. no-fit (fits-sizes t))) in
-    record { answers = λ e. absurd (omega (arith, one, e)); refuses = λ k e. let i : k ≡ 0 = omega (arith, one, e) in rw i ((refl, refl, refl, refl), refl) }
+    let one : freshNumber n N (length ws) count
+    ≡ 1 = ap (λ (t : Bool). cond t (cond (lent count) 0 14) 1) (false-of (freshFits n N (length ws)) (λ t. no-fit (fits-sizes t))) in
+    record {
+      answers = λ e. absurd (omega (arith, one, e));
+      refuses = λ k e. let i : k ≡ 0 = omega (arith, one, e) in
+          rw i ((refl, refl, refl, refl), refl);
+    }
 
 -- REFUSED: "the list is not 1 to 8 long"
 pub fresh-unlisted : (n N count : ℕ) (ws : List ℕ) → Sizes n N (length ws) → lent count ≡ false → FreshPost n N count ws ws (plain 14)
 fresh-unlisted n N count ws z l =
-    let more : freshNumber n N (length ws) count ≡ 14 = ap (λ (t : Bool). cond t (cond (lent count) 0 14) 1) (true-of (freshFits n N (length ws)) (sizes-fits z)) ∙ ap (λ (t : Bool). cond t 0 14) l in
-    record { answers = λ e. absurd (omega (arith, more, e)); refuses = λ k e. let i : k ≡ 13 = omega (arith, more, e) in rw i ((refl, refl, refl, refl), refl) }
+    let more : freshNumber n N (length ws) count
+    ≡ 14 = ap (λ (t : Bool). cond t (cond (lent count) 0 14) 1) (true-of (freshFits n N (length ws)) (sizes-fits z))
+    ∙ ap (λ (t : Bool). cond t 0 14) l in
+    record {
+      answers = λ e. absurd (omega (arith, more, e));
+      refuses = λ k e. let i : k ≡ 13 = omega (arith, more, e) in
+          rw i ((refl, refl, refl, refl), refl);
+    }
 
 -- ANSWERED: "Fresh empties them all", "after fresh, V is every state"
-module _ (n N count : ℕ) (old new : List ℕ) (z : Sizes n N (length old)) (l : lent count ≡ true) (w : view N new ≡ emptied (view N old) n N) where
+module _ (n N count : ℕ) (old new : List ℕ) (z : Sizes n N (length old)) (l : lent count ≡ true)
+    (w : view N new ≡ emptied (view N old) n N) where
   abbrev X : View
   X = emptied (view N old) n N
 
@@ -79,15 +99,23 @@ module _ (n N count : ℕ) (old new : List ℕ) (z : Sizes n N (length old)) (l 
     size = refl;
     every = let o = valid-is X n z (λ h. refl) in omega arith;
     unused = λ i. not-true _ (none-used X n z (λ h. refl) i);
-    reg = λ r l. ap arrowIn (zero-at X n z (λ h. refl) (FIRST-REGISTER + r) (omega arith) (omega arith) (omega arith) (omega arith) (omega arith));
-    rel = λ t l. ap arrowIn (zero-at X n z (λ h. refl) (FIRST-RELATION + t) (omega arith) (omega arith) (omega arith) (omega arith) (omega arith));
+    reg = λ r l. ap arrowIn
+        (zero-at X n z (λ h. refl) (FIRST-REGISTER + r) (omega arith) (omega arith) (omega arith) (omega arith) (omega arith));
+    rel = λ t l. ap arrowIn
+        (zero-at X n z (λ h. refl) (FIRST-RELATION + t) (omega arith) (omega arith) (omega arith) (omega arith) (omega arith));
   }
 
   zero : freshNumber n N (length old) count ≡ 0
-  zero = ap (λ (t : Bool). cond t (cond (lent count) 0 14) 1) (true-of (freshFits n N (length old)) (sizes-fits z)) ∙ ap (λ (t : Bool). cond t 0 14) l
+  zero = ap (λ (t : Bool). cond t (cond (lent count) 0 14) 1) (true-of (freshFits n N (length old)) (sizes-fits z))
+      ∙ ap (λ (t : Bool). cond t 0 14) l
 
   pub fresh-ready : FreshPost n N count old new (plain 0)
   fresh-ready = record {
-    answers = λ _. ((refl, refl, refl, refl), subst Sound (sym table-is) (emptied-sound (view N old) n z), subst (λ (v : View). Empty n N (seenIn v)) (sym table-is) empty);
+    answers =
+        λ _. (
+          (refl, refl, refl, refl),
+          subst Sound (sym table-is) (emptied-sound (view N old) n z),
+          subst (λ (v : View). Empty n N (seenIn v)) (sym table-is) empty,
+        );
     refuses = λ k e. absurd (omega (arith, zero, e));
   }

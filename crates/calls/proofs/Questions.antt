@@ -64,7 +64,9 @@ module _ (ws : List ℕ) (s : SoundWords ws) where
     -- n as it was read
     module _ {n : ℕ} (en : n ≡ headerOf ws BITS) where
       pub member-out : (u : ℕ) → r < REGISTERS → u / 2 ^ n ≢ 0 → AskPost (member r u) ws (plain 3)
-      member-out u l h = ask-refused ws s 2 (member r u) (book.state-range r u (2 ^ headerOf ws BITS) _ (refused 3) l (subst (λ (k : ℕ). 2 ^ k ≤ u) en (state-out u n h)))
+      member-out u l h =
+          ask-refused ws s 2 (member r u)
+          (book.state-range r u (2 ^ headerOf ws BITS) _ (refused 3) l (subst (λ (k : ℕ). 2 ^ k ≤ u) en (state-out u n h)))
 
     -- the register's word, as it was read
     module _ (l : r < REGISTERS) {x : ℕ} (ex : x ≡ headerOf ws (FIRST-REGISTER + r)) where
@@ -88,24 +90,37 @@ module _ (ws : List ℕ) (s : SoundWords ws) where
 
         -- NODE
         pub node-told : AskPost (node r) ws (valued (x - 1))
-        node-told = told (node r) (valued (x - 1)) (book.node-tells (bookOf (seen ws)) (seen ws) r (x - 1) shows l holds (whole-bookOf (seen ws) (sound-table (tableOf ws) s)))
+        node-told =
+            told (node r) (valued (x - 1))
+            (book.node-tells (bookOf (seen ws)) (seen ws) r (x - 1) shows l holds (whole-bookOf (seen ws) (sound-table (tableOf ws) s)))
 
         -- what `walk` and `count_states` ask
         pub walk-pre : {rows : ℕ} → rows ≡ headerOf ws ROWS → WalkPre (view rows ws) (x - 1)
         walk-pre er = rw er (record {
-          mark = record { base = sound-base s; arrow = ref-arrow (rowsOf (tableOf ws)) x f (rw ex (s .refs (FIRST-REGISTER + r) (omega arith) (omega arith))) };
+          mark = record {
+            base = sound-base s;
+            arrow = ref-arrow (rowsOf (tableOf ws)) x f (rw ex (s .refs (FIRST-REGISTER + r) (omega arith) (omega arith)));
+          };
           bits = s .good .sizes .n-max;
           evens = s .even (FIRST-REGISTER + r) (omega arith) (omega arith) (x - 1) (omega arith);
         })
 
         -- MEMBER
         pub member-told : {n rows : ℕ} → n ≡ headerOf ws BITS → rows ≡ headerOf ws ROWS → (u : ℕ) → u / 2 ^ n ≡ 0 → (b : Bool) {t : Bool}
-            → t ≡ den (2 * headerOf ws BITS) (rowsOf (view rows ws)) (x - 1) (pairVal u 0) → t ≡ b → AskPost (member r u) ws (valued (oneOf b))
+            → t ≡ den (2 * headerOf ws BITS) (rowsOf (view rows ws)) (x - 1) (pairVal u 0) → t ≡ b
+            → AskPost (member r u) ws (valued (oneOf b))
         member-told {n} en er u h b e q =
-            let v : oneOf b ≡ oneOf (den (2 * headerOf ws BITS) (rowsOf (tableOf ws)) (x - 1) (pairVal u 0)) = ap oneOf (sym q ∙ (rw er at e)) in
-            rw v (told (member r u) _ (book.member-tells (bookOf (seen ws)) (seen ws) r (x - 1) shows l holds u (subst (λ (k : ℕ). u < 2 ^ k) en (state-in u n h))))
+            let v : oneOf b
+            ≡ oneOf (den (2 * headerOf ws BITS) (rowsOf (tableOf ws)) (x - 1) (pairVal u 0)) = ap oneOf (sym q ∙ (rw er at e)) in
+            rw v (told (member r u) _
+            (book.member-tells (bookOf (seen ws)) (seen ws) r (x - 1) shows l holds u
+            (subst (λ (k : ℕ). u < 2 ^ k) en (state-in u n h))))
 
         -- COUNT
-        pub count-told : {n rows k : ℕ} → n ≡ headerOf ws BITS → rows ≡ headerOf ws ROWS → k ≡ weight true (setOf n (den (2 * n) (rowsOf (view rows ws)) (x - 1))) → AskPost (count r) ws (valued k)
+        pub count-told : {n rows k : ℕ} → n ≡ headerOf ws BITS → rows ≡ headerOf ws ROWS
+            → k ≡ weight true (setOf n (den (2 * n) (rowsOf (view rows ws)) (x - 1))) → AskPost (count r) ws (valued k)
         count-told en er e =
-            rw (rw (en, er) at e) (told (count r) _ (book.count-tells (bookOf (seen ws)) (seen ws) r (x - 1) shows l holds (whole-bookOf (seen ws) (sound-table (tableOf ws) s))))
+            rw (rw (en, er) at e)
+            (told (count r) _
+            (book.count-tells (bookOf (seen ws)) (seen ws) r (x - 1) shows l holds
+            (whole-bookOf (seen ws) (sound-table (tableOf ws) s))))

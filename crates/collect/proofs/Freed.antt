@@ -28,7 +28,8 @@ use Rattle.collect.specs.Gather.{Gathered}
 use Rattle.collect.specs.Freed.{Freed}
 
 -- the roots are arrows, with V and all registers and relations among them
-module _ (W : View) (s : Sound W) (roots : List ℕ) (arrows : (a : ℕ) → Mem a roots → Arrow (rowsOf W) a) (all : (a : ℕ) → Mem a (filled W) → Mem a roots)
+module _ (W : View) (s : Sound W) (roots : List ℕ) (arrows : (a : ℕ) → Mem a roots → Arrow (rowsOf W) a)
+    (all : (a : ℕ) → Mem a (filled W) → Mem a roots)
     (z m : List ℕ) (none : (i : ℕ) → On z i → ⊥) (k : MarksAll (rowsOf W) z m (λ a. Mem a roots)) (X : View) (g : Gathered W X m) where
   cell : (j l : ℕ) → l < 3 → X .cell j l ≡ W .cell j l
   cell j l h = g .cells j l (omega arith) (omega arith)
@@ -55,7 +56,8 @@ module _ (W : View) (s : Sound W) (roots : List ℕ) (arrows : (a : ℕ) → Mem
     layout-is = g .header LAYOUT (omega arith) ∙ s .good .layout-is;
     ranked = g .ranked;
     rows = subst (λ (n : ℕ). WellFormed (2 * X .header BITS) n (rowsOf X)) (sym (g .rows))
-        (subst (λ (b : ℕ). WellFormed (2 * b) (W .rows) (rowsOf X)) (sym (g .header BITS (omega arith))) (collects-wellFormed (s .good .rows) collects));
+        (subst (λ (b : ℕ). WellFormed (2 * b) (W .rows) (rowsOf X)) (sym (g .header BITS (omega arith)))
+        (collects-wellFormed (s .good .rows) collects));
     index = g .index;
   }
 
@@ -94,7 +96,8 @@ module _ (W : View) (s : Sound W) (roots : List ℕ) (arrows : (a : ℕ) → Mem
   }
 
 -- the rows that are used after a collection are as many as the roots need
-pub freed-count : (W X : View) (roots : List ℕ) → Sound W → Freed W X roots → X .header USED ≡ need (2 * W .header BITS) (map (den (2 * W .header BITS) (rowsOf W)) roots)
+pub freed-count : (W X : View) (roots : List ℕ) → Sound W → Freed W X roots
+    → X .header USED ≡ need (2 * W .header BITS) (map (den (2 * W .header BITS) (rowsOf W)) roots)
 freed-count W X roots s c =
     let m : ℕ = 2 * W .header BITS in
     count-used X (c .sound .good .ranked) ∙ ap (usedCount (rowsOf X)) (c .frame .rows) ∙ collects-count (s .good .rows) (c .collects)

@@ -53,7 +53,8 @@ module _ (E : View) (total : ℕ) (zero-count : E .header USED ≡ 0) where
     has = λ j u m h. absurd (omega arith);
   }
 
-module _ (W : View) (ranked : Ranked W) (shared : Shared W) (mark : ℕ → Type 0) (k : ℕ) (room : k < W .header USED) (X : View) (p : Part W mark k X) where
+module _ (W : View) (ranked : Ranked W) (shared : Shared W) (mark : ℕ → Type 0) (k : ℕ) (room : k < W .header USED)
+    (X : View) (p : Part W mark k X) where
   -- the row at place k, and that only it has rank k
   at : (j : ℕ) → used W j ≡ true → W .cell j RANK ≡ k → j ≡ W .list k
   at j u e = sym (place-of W j u .there) ∙ ap (W .list) e
@@ -113,9 +114,11 @@ module _ (W : View) (ranked : Ranked W) (shared : Shared W) (mark : ℕ → Type
     index = append-index X i (p .ranked) (p .index) row unused space alone;
     from = λ j u. by-cases (ℕ-discrete j i)
         (λ e. rw e (listed-used W ranked k room, m, (let b = ranked .back k room in omega arith)))
-        (λ n. let f = p .from j (append-only X i (p .ranked) (p .index) row unused space alone j u n) in (f .0, f .1, (let l = f .2 in omega arith)));
+        (λ n. let f = p .from j (append-only X i (p .ranked) (p .index) row unused space alone j u n) in
+        (f .0, f .1, (let l = f .2 in omega arith)));
     has = λ j u mj h. by-cases (ℕ-discrete (W .cell j RANK) k)
-        (λ e. subst (λ (x : ℕ). used (appended X i) x ≡ true) (sym (at j u e)) (append-used X i (p .ranked) (p .index) row unused space alone))
+        (λ e. subst (λ (x : ℕ). used (appended X i) x ≡ true) (sym (at j u e))
+        (append-used X i (p .ranked) (p .index) row unused space alone))
         (λ q. append-kept X i (p .ranked) (p .index) row unused space alone j (p .has j u mj (omega arith)));
   }
 
@@ -127,7 +130,8 @@ module _ (W : View) {E₁ E : View} {total : ℕ} (et : total ≡ W .header USED
   is : E ≡ setHeads (putHeader W USED 0) (h .heads)
   is = h .same ∙ ap (λ (v : View). setHeads v (h .heads)) e₁
 
-  pub gather-pre : (size : ℕ) → wordsFor (W .rows) ≤ W .size → W .rows ≤ MAX-ROWS → W .rows ≤ 32 * size → Ranked W → Shared W → GatherPre E total size
+  pub gather-pre : (size : ℕ) → wordsFor (W .rows) ≤ W .size → W .rows ≤ MAX-ROWS → W .rows ≤ 32 * size → Ranked W → Shared W
+      → GatherPre E total size
   gather-pre size a b c r s = subst (λ (v : View). GatherPre v total size) (sym is) (record {
     words = a;
     max = b;
@@ -154,7 +158,8 @@ module _ (W : View) {E₁ E : View} {total : ℕ} (et : total ≡ W .header USED
       }
 
 -- the row at place k, as it is read
-module _ {E X : View} {total size : ℕ} {mark : ℕ → Type 0} {k : ℕ} (g : GatherPre E total size) (p : Part (putHeader E USED total) mark k X) (l : k < total) where
+module _ {E X : View} {total size : ℕ} {mark : ℕ → Type 0} {k : ℕ} (g : GatherPre E total size) (p : Part (putHeader E USED total) mark k X)
+    (l : k < total) where
   pub next-is : {r : ℕ} → r ≡ X .list k → r ≡ E .list k
   next-is e = e ∙ p .left k (omega arith)
 

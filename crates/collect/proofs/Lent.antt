@@ -1,7 +1,9 @@
 -- Laws of what specs/Lent.antt defines. Assumes nothing.
 use mathlib.Core.Path.{_≡_, refl, subst}
 use mathlib.Core.Logic.{inl, inr, ⊎-elim}
-use mathlib.Core.List.{List, [], _∷_, _++_, append-assoc, List·Memᴰ as Mem, List·Memᴰ·head as first, List·Memᴰ·tail as later, List·Memᴰ·not-nil as mem-nil, List·Memᴰ·eq-of-singleton as mem-only, List·Memᴰ·append-cases as append-cases, Memᴰ·append-left as append-left, Memᴰ·append-right as append-right}
+use mathlib.Core.List.{List, [], _∷_, _++_, append-assoc, List·Memᴰ as Mem, List·Memᴰ·head as first, List·Memᴰ·tail as later}
+use mathlib.Core.List.{List·Memᴰ·not-nil as mem-nil, List·Memᴰ·eq-of-singleton as mem-only, List·Memᴰ·append-cases as append-cases}
+use mathlib.Core.List.{Memᴰ·append-left as append-left, Memᴰ·append-right as append-right}
 use Prim.Native.Nat.{ℕ, zero, suc, _+_, _≤_, _<_}
 use native.Mathlib.Numerals.{add-one}
 use native.Mathlib.Omega.{arith}
@@ -34,7 +36,8 @@ pub record Lent (rows : Rows) (m m′ xs : List ℕ) (k : ℕ) : Type 0 where
 pub lent-none : {rows : Rows} (m xs : List ℕ) → Lent rows m m xs 0
 lent-none m xs = record { marks = marks-none m (λ a h. mem-nil h) }
 
-pub lent-more : {rows : Rows} {m₀ m₁ m₂ xs : List ℕ} {k : ℕ} → k < length xs → Lent rows m₀ m₁ xs k → Marks rows m₁ m₂ (getD xs k 0) → Lent rows m₀ m₂ xs (k + 1)
+pub lent-more : {rows : Rows} {m₀ m₁ m₂ xs : List ℕ} {k : ℕ} → k < length xs → Lent rows m₀ m₁ xs k → Marks rows m₁ m₂ (getD xs k 0)
+    → Lent rows m₀ m₂ xs (k + 1)
 lent-more {rows} {m₀} {m₁} {m₂} {xs} {k} l p q =
     let one : MarksAll rows m₁ m₂ (λ b. b ≡ getD xs k 0) = marks-one (getD xs k 0) q refl (λ b x. x) in
     let two : MarksAll rows m₀ m₂ (λ a. Mem a (take k xs ++ getD xs k 0 ∷ [])) = marks-more (p .marks) one
@@ -44,10 +47,12 @@ lent-more {rows} {m₀} {m₁} {m₂} {xs} {k} l p q =
     in
     record { marks = rw (add-one k, take-suc xs k 0 l) two }
 
-pub lent-all : {rows : Rows} {m m′ : List ℕ} (xs : List ℕ) (k : ℕ) → length xs ≤ k → Lent rows m m′ xs k → MarksAll rows m m′ (λ a. Mem a xs)
+pub lent-all : {rows : Rows} {m m′ : List ℕ} (xs : List ℕ) (k : ℕ) → length xs ≤ k → Lent rows m m′ xs k
+    → MarksAll rows m m′ (λ a. Mem a xs)
 lent-all {rows} {m} {m′} xs k l p = subst (λ (ys : List ℕ). MarksAll rows m m′ (λ a. Mem a ys)) (take-all k xs l) (p .marks)
 
-pub live-marks : {W : View} {m₀ m₁ m₂ xs : List ℕ} → MarksAll (rowsOf W) m₀ m₁ (Held W VALID ROOTS-END) → MarksAll (rowsOf W) m₁ m₂ (λ a. Mem a xs)
+pub live-marks : {W : View} {m₀ m₁ m₂ xs : List ℕ} → MarksAll (rowsOf W) m₀ m₁ (Held W VALID ROOTS-END)
+    → MarksAll (rowsOf W) m₁ m₂ (λ a. Mem a xs)
     → MarksAll (rowsOf W) m₀ m₂ (λ a. Mem a (live W xs))
 live-marks {W} {xs = xs} p q = marks-more p q
     (λ a x. append-left xs (filled-mem W a x))
@@ -55,12 +60,15 @@ live-marks {W} {xs = xs} p q = marks-more p q
     (λ a h. ⊎-elim (λ x. inl (mem-filled W a x)) (λ y. inr y) (append-cases (filled W) h))
 
 -- and from a second list
-pub more-marks : (W : View) {m₀ m₁ m₂ : List ℕ} (xs ys : List ℕ) → MarksAll (rowsOf W) m₀ m₁ (λ a. Mem a (live W xs)) → MarksAll (rowsOf W) m₁ m₂ (λ a. Mem a ys)
+pub more-marks : (W : View) {m₀ m₁ m₂ : List ℕ} (xs ys : List ℕ) → MarksAll (rowsOf W) m₀ m₁ (λ a. Mem a (live W xs))
+    → MarksAll (rowsOf W) m₁ m₂ (λ a. Mem a ys)
     → MarksAll (rowsOf W) m₀ m₂ (λ a. Mem a (live W (xs ++ ys)))
 more-marks W xs ys p q =
-    rw (← append-assoc (filled W) xs ys) (marks-more p q (λ a h. append-left ys h) (λ a h. append-right (live W xs) h) (λ a h. append-cases (live W xs) h))
+    rw (← append-assoc (filled W) xs ys)
+    (marks-more p q (λ a h. append-left ys h) (λ a h. append-right (live W xs) h) (λ a h. append-cases (live W xs) h))
 
-pub filled-marks : {W : View} {m m′ : List ℕ} → MarksAll (rowsOf W) m m′ (Held W VALID ROOTS-END) → MarksAll (rowsOf W) m m′ (λ a. Mem a (filled W))
+pub filled-marks : {W : View} {m m′ : List ℕ} → MarksAll (rowsOf W) m m′ (Held W VALID ROOTS-END)
+    → MarksAll (rowsOf W) m m′ (λ a. Mem a (filled W))
 filled-marks {W} p = marks-same p (filled-mem W) (mem-filled W)
 
 -- where nothing was marked before, a row is marked exactly where the roots reach it

@@ -1,4 +1,5 @@
--- What marking from some roots and gathering leave: a sound table with exactly the rows that the roots reach, as many as they need. Assumes nothing.
+-- What marking from some roots and gathering leave: a sound table with exactly the rows that the roots reach, as many as they need.
+-- Assumes nothing.
 use mathlib.Core.List.{List}
 use Prim.Native.Nat.{ℕ}
 use Rattle.diagram.specs.Collect.{Collects}

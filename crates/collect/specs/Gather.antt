@@ -18,7 +18,9 @@ pub record Headed (W X : View) : Type 0 where
 
 -- no two used rows have the same three words
 abbrev pub Shared : View → Type 0
-Shared W = (i j : ℕ) → used W i ≡ true → used W j ≡ true → W .cell i LEVEL ≡ W .cell j LEVEL → W .cell i LOW ≡ W .cell j LOW → W .cell i HIGH ≡ W .cell j HIGH → i ≡ j
+Shared W =
+    (i j : ℕ) → used W i ≡ true → used W j ≡ true → W .cell i LEVEL ≡ W .cell j LEVEL → W .cell i LOW ≡ W .cell j LOW
+    → W .cell i HIGH ≡ W .cell j HIGH → i ≡ j
 
 -- after the first k places of W's list: the marked rows there are used again
 pub record Part (W : View) (mark : ℕ → Type 0) (k : ℕ) (X : View) : Type 0 where

@@ -35,14 +35,16 @@ reply k v = record { number = k; rounds = 0; peak = 0; value = v }
 
 -- ---- fresh
 
-module _ {n N : ℕ} {old new : List ℕ} {v : Started} {x : Outcome} (p : FreshPost n N 1 old new (startedReply v)) (w : FreshWords n N old new v) where
+module _ {n N : ℕ} {old new : List ℕ} {v : Started} {x : Outcome} (p : FreshPost n N 1 old new (startedReply v))
+    (w : FreshWords n N old new v) where
   pub fresh-ready : v ≡ started.Ready → x ≡ plainOutcome 1 0 0 → Obeys (start n N) old new x
   fresh-ready e i = subst (Obeys (start n N) old new) (sym i) record {
     operation = refl;
     posted = (subst (λ (s : Started). FreshPost n N 1 old new (startedReply s)) e p, (λ z. subst (FreshWords n N old new) e w), refl);
   }
 
-  pub fresh-refused : (f : Refusal) {k : ℕ} → v ≡ started.Refused f → 1 ≤ refusalNumber f → k ≡ refusalNumber f → x ≡ plainOutcome 1 k 0 → Obeys (start n N) old new x
+  pub fresh-refused : (f : Refusal) {k : ℕ} → v ≡ started.Refused f → 1 ≤ refusalNumber f → k ≡ refusalNumber f → x ≡ plainOutcome 1 k 0
+      → Obeys (start n N) old new x
   fresh-refused f {k} e l j i = subst (Obeys (start n N) old new) (sym i) record {
     operation = refl;
     posted = (subst (FreshPost n N 1 old new) (ap startedReply e ∙ ap plain (sym j)) p, (λ z. absurd (omega arith)), refl);
@@ -51,7 +53,8 @@ module _ {n N : ℕ} {old new : List ℕ} {v : Started} {x : Outcome} (p : Fresh
 -- ---- relation, clear, collect
 
 -- an answered relation, with its peak
-pub relation-done : (t : ℕ) (bs : List ℕ) {old new : List ℕ} {x : Outcome} (p : ℕ) → CallPost (relation t bs) old new record { number = 0; rounds = 0; peak = p; value = 0 }
+pub relation-done : (t : ℕ) (bs : List ℕ) {old new : List ℕ} {x : Outcome} (p : ℕ)
+    → CallPost (relation t bs) old new record { number = 0; rounds = 0; peak = p; value = 0 }
     → x ≡ record { operation = 2; number = 0; node = 0; rounds = 0; value = 0; peak = p } → Obeys (call (relation t bs)) old new x
 relation-done t bs {old} {new} p d i = subst (Obeys (call (relation t bs)) old new) (sym i) record { operation = refl; posted = (d, refl) }
 
@@ -63,7 +66,8 @@ Nodeless (valid bs) = Unit {0}
 Nodeless (clear r) = Unit {0}
 Nodeless collect = Unit {0}
 
-pub call-told : (c : Call) {old new : List ℕ} {k v : ℕ} {y : Reply} {x : Outcome} → Nodeless c → CallPost c old new y → y ≡ reply k v → x ≡ plainOutcome (opOf c) k v → Obeys (call c) old new x
+pub call-told : (c : Call) {old new : List ℕ} {k v : ℕ} {y : Reply} {x : Outcome} → Nodeless c → CallPost c old new y → y ≡ reply k v
+    → x ≡ plainOutcome (opOf c) k v → Obeys (call c) old new x
 call-told c {old} {new} {k} {v} nodeless p j i = subst (Obeys (call c) old new) (sym i) (go c nodeless (subst (CallPost c old new) j p))
   where
     go : (c : Call) → Nodeless c → CallPost c old new (reply k v) → Obeys (call c) old new (plainOutcome (opOf c) k v)
@@ -75,19 +79,26 @@ call-told c {old} {new} {k} {v} nodeless p j i = subst (Obeys (call c) old new) 
 
 -- ---- count
 
-pub count-told : (r : ℕ) {ws : List ℕ} {k v : ℕ} {y : Reply} {x : Outcome} → AskPost (count r) ws y → y ≡ reply k v → x ≡ plainOutcome 5 k v → Obeys (states r) ws ws x
-count-told r {ws} p j i = subst (Obeys (states r) ws ws) (sym i) record { operation = refl; posted = (refl, subst (AskPost (count r) ws) j p, refl) }
+pub count-told : (r : ℕ) {ws : List ℕ} {k v : ℕ} {y : Reply} {x : Outcome} → AskPost (count r) ws y → y ≡ reply k v → x ≡ plainOutcome 5 k v
+    → Obeys (states r) ws ws x
+count-told r {ws} p j i =
+    subst (Obeys (states r) ws ws) (sym i) record { operation = refl; posted = (refl, subst (AskPost (count r) ws) j p, refl) }
 
 -- ---- set
 
 module _ (acc : Terms) (r R : ℕ) (bs : List ℕ) {old new : List ℕ} {x : Outcome} where
-  pub set-refused : {k : ℕ} → 1 ≤ k → CallPost (set acc r R bs) old new (plain k) → x ≡ plainOutcome 3 k 0 → Obeys (call (set acc r R bs)) old new x
-  set-refused l p i = subst (Obeys (call (set acc r R bs)) old new) (sym i) record { operation = refl; posted = (p, ((λ z. absurd (omega arith)), λ z. refl)) }
+  pub set-refused : {k : ℕ} → 1 ≤ k → CallPost (set acc r R bs) old new (plain k) → x ≡ plainOutcome 3 k 0
+      → Obeys (call (set acc r R bs)) old new x
+  set-refused l p i =
+      subst (Obeys (call (set acc r R bs)) old new) (sym i)
+      record { operation = refl; posted = (p, ((λ z. absurd (omega arith)), λ z. refl)) }
 
   -- after an answered set its register is counted
   pub set-done : (a q p k : ℕ) → CallPost (set acc r R bs) old new record { number = 0; rounds = q; peak = p; value = a } → StatesIn r new k
       → x ≡ record { operation = 3; number = 0; node = a; rounds = q; value = k; peak = p } → Obeys (call (set acc r R bs)) old new x
-  set-done a q p k d (v, c, e) i = subst (Obeys (call (set acc r R bs)) old new) (sym i) record { operation = refl; posted = (d, ((λ z. told v c e), λ z. absurd (omega arith))) }
+  set-done a q p k d (v, c, e) i =
+      subst (Obeys (call (set acc r R bs)) old new) (sym i)
+      record { operation = refl; posted = (d, ((λ z. told v c e), λ z. absurd (omega arith))) }
     where
       -- the count is answered
       told : (v : Answer) → AskPost (count r) new (answerReply v) → k ≡ answerReply v .value → AskPost (count r) new (valued k)
@@ -95,7 +106,8 @@ module _ (acc : Terms) (r R : ℕ) (bs : List ℕ) {old new : List ℕ} {x : Out
       told (answer.Refused f) c e = absurd (omega (arith, refusal-some f, count-answered old new acc r R bs _ d refl _ c))
 
 -- a call's terms, as a function made them
-pub termed : {t u : Terms} (r R : ℕ) (bs old new : List ℕ) (y : Reply) → t ≡ u → CallPost (set t r R bs) old new y → CallPost (set u r R bs) old new y
+pub termed : {t u : Terms} (r R : ℕ) (bs old new : List ℕ) (y : Reply) → t ≡ u → CallPost (set t r R bs) old new y
+    → CallPost (set u r R bs) old new y
 termed r R bs old new y e d = subst (λ (t : Terms). CallPost (set t r R bs) old new y) e d
 
 -- ---- words that are no sound table
@@ -115,12 +127,14 @@ module _ {ws : List ℕ} {x : Outcome} (n : SoundWords ws → ⊥) where
 -- ---- a record
 
 -- what a command is
-pub obeys-as : (bs : List ℕ) (size : ℕ) {old new : List ℕ} {x : Outcome} {c d : records.Command} → c ≡ d → Obeys (asked bs size d) old new x → Obeys (asked bs size c) old new x
+pub obeys-as : (bs : List ℕ) (size : ℕ) {old new : List ℕ} {x : Outcome} {c d : records.Command} → c ≡ d → Obeys (asked bs size d) old new x
+    → Obeys (asked bs size c) old new x
 obeys-as bs size {old} {new} {x} e = subst (λ (k : records.Command). Obeys (asked bs size k) old new x) (sym e)
 
 pub starts-as : {size : ℕ} {c d : records.Command} → c ≡ d → startOf c ≤ size → startOf d ≤ size
 starts-as {size} e = subst (λ (k : records.Command). startOf k ≤ size) e
 
 -- what was read
-pub took : (bs : List ℕ) (ended : Bool) (old new : List ℕ) (r : Taken) {v : Found} (f : Found) → v ≡ readRecord bs ended → v ≡ f → Takes bs old new f r → TakePost bs ended old new r
+pub took : (bs : List ℕ) (ended : Bool) (old new : List ℕ) (r : Taken) {v : Found} (f : Found) → v ≡ readRecord bs ended → v ≡ f
+    → Takes bs old new f r → TakePost bs ended old new r
 took bs ended old new r f i e = subst (λ (g : Found). Takes bs old new g r) (sym e ∙ i)

@@ -16,16 +16,21 @@ use Rattle.commands.specs.Obey.{shownReply, nodeReply, Obeys}
 use Rattle.commands.specs.OneOutcome.{OneOutcome}
 
 -- outcomes without a node number
-pub plain-one : {x z : Outcome} → x .operation ≡ z .operation → x .number ≡ z .number → x .rounds ≡ z .rounds → x .value ≡ z .value → x .peak ≡ z .peak
+pub plain-one : {x z : Outcome} → x .operation ≡ z .operation → x .number ≡ z .number → x .rounds ≡ z .rounds → x .value ≡ z .value
+    → x .peak ≡ z .peak
     → x .node ≡ 0 → z .node ≡ 0 → OneOutcome x z
 plain-one o k q v p i j = record { operation = o; number = k; rounds = q; value = v; peak = p; node = ap (λ (n : ℕ). min n 2) (i ∙ sym j) }
 
 shown-one : {x z : Outcome} → x .operation ≡ z .operation → shownReply x ≡ shownReply z → x .node ≡ 0 → z .node ≡ 0 → OneOutcome x z
-shown-one o e i j = plain-one o (ap (λ (y : Reply). y .number) e) (ap (λ (y : Reply). y .rounds) e) (ap (λ (y : Reply). y .value) e) (ap (λ (y : Reply). y .peak) e) i j
+shown-one o e i j =
+    plain-one o (ap (λ (y : Reply). y .number) e) (ap (λ (y : Reply). y .rounds) e) (ap (λ (y : Reply). y .value) e)
+    (ap (λ (y : Reply). y .peak) e) i j
 
 pub obey-one : (c : Command) {old v w : List ℕ} {x z : Outcome} → Obeys c old v x → Obeys c old w z → OneOutcome x z
-obey-one (start n N) a b = shown-one (a .operation ∙ sym (b .operation)) (fresh-one n N 1 (a .posted .0) (b .posted .0) .0) (a .posted .2) (b .posted .2)
-obey-one (states r) a b = shown-one (a .operation ∙ sym (b .operation)) (ask-one (count r) (a .posted .1) (b .posted .1)) (a .posted .2) (b .posted .2)
+obey-one (start n N) a b =
+    shown-one (a .operation ∙ sym (b .operation)) (fresh-one n N 1 (a .posted .0) (b .posted .0) .0) (a .posted .2) (b .posted .2)
+obey-one (states r) a b =
+    shown-one (a .operation ∙ sym (b .operation)) (ask-one (count r) (a .posted .1) (b .posted .1)) (a .posted .2) (b .posted .2)
 obey-one (call (relation t bs)) a b =
     let o = call-one (relation t bs) (a .posted .0) (b .posted .0) in
     plain-one (a .operation ∙ sym (b .operation)) (o .number) (o .rounds) (o .value) (o .peak) (a .posted .1) (b .posted .1)
@@ -40,7 +45,16 @@ obey-one (call collect) a b =
     plain-one (a .operation ∙ sym (b .operation)) (o .number) (o .rounds) (o .value) (o .peak) (a .posted .1) (b .posted .1)
 obey-one (call (set acc r R bs)) {old} {v} {w} {x} {z} a b =
     let o = call-one (set acc r R bs) (a .posted .0) (b .posted .0) in
-    record { operation = a .operation ∙ sym (b .operation); number = o .number; rounds = o .rounds; value = counted (o .number); peak = o .peak; node = o .value }
+    record {
+      operation =
+          a .operation ∙ sym (b .operation);
+      number =
+          o .number;
+      rounds = o .rounds;
+      value = counted (o .number);
+      peak = o .peak;
+      node = o .value;
+    }
   where
     -- the states of the formula's set, 0 where set is refused
     counted : x .number ≡ z .number → x .value ≡ z .value

@@ -1,5 +1,5 @@
--- ONE ANSWER of a record's command: two outcomes that its contract allows on the same words are one, node numbers above 1 aside. The words that are
--- left are those of `call-one` (contract, OneAnswer) and, of fresh, `fresh-words-one` (calls, Fresh). Assumes nothing.
+-- ONE ANSWER of a record's command: two outcomes that its contract allows on the same words are one, node numbers above 1 aside.
+-- The words that are left are those of `call-one` (contract, OneAnswer) and, of fresh, `fresh-words-one` (calls, Fresh). Assumes nothing.
 use mathlib.Core.Path.{_≡_}
 use Prim.Native.Nat.{min}
 use Rattle.commands.specs.declared.Outcome.{Outcome}

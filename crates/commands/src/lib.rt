@@ -30,7 +30,8 @@ ghost use Rattle.records.specs.Record.{startOf, asked};
 ghost use Rattle.commands.specs.Obey.{plainOutcome, Obeys, StatesIn, TakePost};
 ghost use Rattle.commands.specs.After.{soundAfter};
 
-// What a record returned: its operation, a refusal's number or 0, set's node number, the rounds, the value that the program shows, and the peak.
+// What a record returned: its operation, a refusal's number or 0, set's node number, the rounds, the value that the program shows, and the
+// peak.
 pub struct Outcome {
     pub operation: u32,
     pub number: u32,
@@ -220,8 +221,8 @@ fn obey(words: &mut [u32], sound: bool, bytes: &[u8], size: usize, command: Comm
     }
 }
 
-// Whether the words are a sound table after a record with that number: they were one before it, or it was answered, which on other words fresh
-// alone is.
+// Whether the words are a sound table after a record with that number: they were one before it, or it was answered, which on other words
+// fresh alone is.
 pub fn sound_after(sound: bool, number: u32) -> bool
     ensures { λ r. ⌜ r ≡ soundAfter sound number ⌝ }
 {

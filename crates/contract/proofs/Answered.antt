@@ -1,5 +1,5 @@
--- DEMAND 2 over the lent words, by the predicates that stand in the functions' `ensures`: after an answered set, on whatever words, member and
--- count answer by the meaning of its formula. Assumes nothing.
+-- DEMAND 2 over the lent words, by the predicates that stand in the functions' `ensures`: after an answered set, on whatever words, member
+-- and count answer by the meaning of its formula. Assumes nothing.
 use mathlib.Core.Path.{_≡_, refl, sym, ap, _∙_, subst}
 use mathlib.Core.Logic.{_↔_}
 use mathlib.Core.Bool.{Bool, true, false, cond, _&&_}
@@ -31,7 +31,8 @@ tested : (t : Bool) → Dec (T t)
 tested true = yes tt
 tested false = no (λ x. x)
 
-module _ (old mid : List ℕ) (acc : Terms) (r R : ℕ) (bs : List ℕ) (y : Reply) (p : CallPost (set acc r R bs) old mid y) (z : y .number ≡ 0) where
+module _ (old mid : List ℕ) (acc : Terms) (r R : ℕ) (bs : List ℕ) (y : Reply) (p : CallPost (set acc r R bs) old mid y)
+    (z : y .number ≡ 0) where
   abbrev b : Book
   b = bookOf (seen old)
 
@@ -52,7 +53,9 @@ module _ (old mid : List ℕ) (acc : Terms) (r R : ℕ) (bs : List ℕ) (y : Rep
 
     -- the book that the words stand for is the book after the call
     after-words : after ≡ bookOf (seen mid)
-    after-words = only-book after (seen mid) (whole-does b (set acc r R bs) (whole-bookOf (seen old) (sound-table (tableOf old) s))) (served .1 .shows)
+    after-words =
+        only-book after (seen mid) (whole-does b (set acc r R bs) (whole-bookOf (seen old) (sound-table (tableOf old) s)))
+        (served .1 .shows)
 
     agrees : (q : Question) (x : Reply) → AskPost q mid x → Agrees (answer after q) x
     agrees q x h = subst (λ (v : Book). Agrees (answer v q) x) (sym after-words) (h .told (served .0) .agrees)
@@ -84,7 +87,8 @@ module _ (old mid : List ℕ) (acc : Terms) (r R : ℕ) (bs : List ℕ) (y : Rep
 
   -- "A state is in the set of an answered formula exactly when the mu-calculus says so"
   pub member-means : (a : ℕ) (x : Reply) → AskPost (member r a) mid x → x .number ≡ 0 → (x .value ≡ 1) ↔ T (mem M a)
-  member-means a x q i = ((λ h. answered-words (tested (mem M a)) (λ s. says s .0 h)), λ h. answered-words (ℕ-discrete (x .value) 1) (λ s. says s .1 h))
+  member-means a x q i =
+      ((λ h. answered-words (tested (mem M a)) (λ s. says s .0 h)), λ h. answered-words (ℕ-discrete (x .value) 1) (λ s. says s .1 h))
     where
       says : SoundWords old → (x .value ≡ 1) ↔ T (mem M a)
       says s = set-member b acc r R bs y (served s .1 .agrees) z a x (agrees s (member r a) x q) i

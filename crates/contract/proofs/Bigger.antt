@@ -15,7 +15,8 @@ use Rattle.book.specs.Table.{Reply}
 use Rattle.book.specs.Demand.{Event, calls, Trace, stop, go, Session}
 use Rattle.book.specs.Tallies.{charged, freshened}
 use Rattle.book.proofs.Tallies.{length-after}
-use Rattle.book.specs.Raised.{Eased, Raised, a-relation, a-set, a-valid, a-clear, a-collect, AllRaised, AllZero, Looser, Upgrade, SameVerdicts, Cut}
+use Rattle.book.specs.Raised.{Eased, Raised, a-relation, a-set, a-valid, a-clear, a-collect, AllRaised, AllZero, Looser, Upgrade}
+use Rattle.book.specs.Raised.{SameVerdicts, Cut}
 use Rattle.book.proofs.Raised.{eased-list, bigger-tables, rounds-same}
 use Rattle.contract.specs.Seen.{seen}
 use Rattle.contract.specs.Posts.{FreshPost}
@@ -23,13 +24,16 @@ use Rattle.contract.specs.Closed.{makes, performs, asks}
 use Rattle.contract.proofs.Closed.{words-implement}
 use Rattle.contract.specs.Shared.{Lent, Step, SharedSession}
 use Rattle.contract.proofs.Shared.{step-words, trace-words, shared-tally}
-use Rattle.contract.specs.Bigger.{Again, same-relation, same-set, same-valid, same-clear, same-collect, AllAgain, SharedUpgrade, SharedVerdicts}
+use Rattle.contract.specs.Bigger.{Again, same-relation, same-set, same-valid, same-clear, same-collect, AllAgain, SharedUpgrade}
+use Rattle.contract.specs.Bigger.{SharedVerdicts}
 
 -- ---- no call changes a limit
 
 -- a limit of an account, whichever it is
-module _ (limit : Account → ℕ) (kept : (a : Account) (q : ℕ) → limit (counted a q) ≡ limit a) (kept-fresh : (a : Account) → limit (emptied a) ≡ limit a) where
-  placed-limit : (l : List Account) (i p : ℕ) (x : Account) → limit x ≡ limit (getD l i none) → limit (getD (place l i x) p none) ≡ limit (getD l p none)
+module _ (limit : Account → ℕ) (kept : (a : Account) (q : ℕ) → limit (counted a q) ≡ limit a)
+    (kept-fresh : (a : Account) → limit (emptied a) ≡ limit a) where
+  placed-limit : (l : List Account) (i p : ℕ) (x : Account) → limit x ≡ limit (getD l i none)
+      → limit (getD (place l i x) p none) ≡ limit (getD l p none)
   placed-limit [] i p x e = refl
   placed-limit (a ∷ l) zero zero x e = e
   placed-limit (a ∷ l) zero (suc p) x e = refl
@@ -43,7 +47,8 @@ module _ (limit : Account → ℕ) (kept : (a : Account) (q : ℕ) → limit (co
       next : Account
       next = counted (getD l (acc .place) none) (y .rounds)
 
-      go : (t : Bool) → limit (getD (cond t (place l (acc .place) (counted (getD l (acc .place) none) (y .rounds))) l) p none) ≡ limit (getD l p none)
+      go : (t : Bool)
+          → limit (getD (cond t (place l (acc .place) (counted (getD l (acc .place) none) (y .rounds))) l) p none) ≡ limit (getD l p none)
       go true = placed-limit l (acc .place) p (counted (getD l (acc .place) none) (y .rounds)) (kept (getD l (acc .place) none) (y .rounds))
       go false = refl
   charged-limit l (valid bs) y p = refl
@@ -92,28 +97,38 @@ looser-freshened {l} {l′} o y y′ = looser-same o (length-freshened l y) (len
 
 -- ---- the same list is one with raised limits
 
-raised-call : (a b a′ b′ : Lent) (y y′ : Reply) {c c′ : Call} → Again c c′ → Looser (a .accounts) (a′ .accounts) → Step a c b y → Step a′ c′ b′ y′ → Raised c c′
+raised-call : (a b a′ b′ : Lent) (y y′ : Reply) {c c′ : Call} → Again c c′ → Looser (a .accounts) (a′ .accounts) → Step a c b y
+    → Step a′ c′ b′ y′ → Raised c c′
 raised-call a b a′ b′ y y′ (same-relation t bs) o p q = a-relation t bs
 raised-call a b a′ b′ y y′ (same-set acc acc′ r R R′ bs e i) o (f, _) (g, _) =
-    a-set acc acc′ r R R′ bs (subst₂ Eased (sym f) (sym g) (subst (λ (k : ℕ). Eased (termsOf (a .accounts) (acc .place)) (termsOf (a′ .accounts) k)) (sym e) (eased-list o (acc .place)))) i
+    a-set acc acc′ r R R′ bs
+    (subst₂ Eased (sym f) (sym g)
+    (subst (λ (k : ℕ). Eased (termsOf (a .accounts) (acc .place)) (termsOf (a′ .accounts) k)) (sym e) (eased-list o (acc .place)))) i
 raised-call a b a′ b′ y y′ (same-valid bs) o p q = a-valid bs
 raised-call a b a′ b′ y y′ (same-clear r) o p q = a-clear r
 raised-call a b a′ b′ y y′ same-collect o p q = a-collect
 
-raised-trace : {a b a′ b′ : Lent} {l l′ : List Event} → Trace Lent Step a l b → Trace Lent Step a′ l′ b′ → Looser (a .accounts) (a′ .accounts) → AllAgain (calls l) (calls l′)
+raised-trace : {a b a′ b′ : Lent} {l l′ : List Event} → Trace Lent Step a l b → Trace Lent Step a′ l′ b′
+    → Looser (a .accounts) (a′ .accounts) → AllAgain (calls l) (calls l′)
     → AllRaised (calls l) (calls l′)
 raised-trace stop stop o r = tt
 raised-trace stop (go q u) o r = absurd r
 raised-trace (go p t) stop o r = absurd r
-raised-trace (go {w = a} {v = m} {c = c} {y = y} p t) (go {w = a′} {v = m′} {c = c′} {y = y′} q u) o r =
-    (raised-call a m a′ m′ y y′ (r .0) o p q, raised-trace t u (subst₂ Looser (sym (step-words a m c y p .1)) (sym (step-words a′ m′ c′ y′ q .1)) (looser-charged o c c′ y y′)) (r .1))
+raised-trace (go {w = a} {v = m} {c = c} {y = y} p t) (go {w = a′} {v = m′} {c = c′} {y = y′} q u) o r = (
+  raised-call a m a′ m′ y y′ (r .0) o p q,
+  raised-trace t u (subst₂ Looser (sym (step-words a m c y p .1)) (sym (step-words a′ m′ c′ y′ q .1)) (looser-charged o c c′ y y′))
+      (r .1),
+)
 
 -- ---- the theorem
 
-module _ (n N M : ℕ) (more : N ≤ M) (most : M ≤ 60_000) {l l′ : List Event} {end end′ : Lent} (x : SharedSession n N l end) (u : SharedUpgrade n M l′ end′)
+module _ (n N M : ℕ) (more : N ≤ M) (most : M ≤ 60_000) {l l′ : List Event} {end end′ : Lent} (x : SharedSession n N l end)
+    (u : SharedUpgrade n M l′ end′)
     (loose : Looser (x .lent .accounts) (u .lent .accounts)) (again : AllAgain (calls l) (calls l′)) (zeros : AllZero l) where
   raised : AllRaised (calls l) (calls l′)
-  raised = raised-trace (x .rest) (u .rest) (subst₂ Looser (sym (x .start .list)) (sym (u .start .list)) (looser-freshened loose (x .reply) (u .reply))) again
+  raised =
+      raised-trace (x .rest) (u .rest)
+      (subst₂ Looser (sym (x .start .list)) (sym (u .start .list)) (looser-freshened loose (x .reply) (u .reply))) again
 
   -- the two lists over the words alone
   abbrev session : Session (List ℕ) makes performs n N l (end .words)
@@ -155,8 +170,10 @@ module _ (n N M : ℕ) (more : N ≤ M) (most : M ≤ 60_000) {l l′ : List Eve
   }
 
 -- AFTER EACH CALL: after the first calls l and l′ of two such lists, wherever they are cut
-pub shared-each : (n N M : ℕ) → N ≤ M → M ≤ 60_000 → (l k l′ k′ : List Event) {end end′ : Lent} (x : SharedSession n N (l ++ k) end) (u : SharedUpgrade n M (l′ ++ k′) end′)
-    → Looser (x .lent .accounts) (u .lent .accounts) → AllAgain (calls l) (calls l′) → AllZero l → (c : Cut Lent Step (x .made) l k end) (c′ : Cut Lent Step (u .made) l′ k′ end′)
+pub shared-each : (n N M : ℕ) → N ≤ M → M ≤ 60_000
+    → (l k l′ k′ : List Event) {end end′ : Lent} (x : SharedSession n N (l ++ k) end) (u : SharedUpgrade n M (l′ ++ k′) end′)
+    → Looser (x .lent .accounts) (u .lent .accounts) → AllAgain (calls l) (calls l′) → AllZero l
+    → (c : Cut Lent Step (x .made) l k end) (c′ : Cut Lent Step (u .made) l′ k′ end′)
     → SharedVerdicts n N M (length (x .lent .accounts)) (u .reply) l l′ (c .mid) (c′ .mid)
 shared-each n N M more most l k l′ k′ x u loose again zeros c c′ = shared-bigger n N M more most
     (record { lent = x .lent; made = x .made; reply = x .reply; start = x .start; answered = x .answered; rest = c .first })

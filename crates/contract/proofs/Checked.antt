@@ -1,5 +1,5 @@
--- Refusals by the checks before a call's steps meet its contract: 2 on words that are no sound table, 3 to 7 and 12 to 14 on a sound one; all words are
--- kept. Assumes nothing.
+-- Refusals by the checks before a call's steps meet its contract: 2 on words that are no sound table, 3 to 7 and 12 to 14 on a sound one;
+-- all words are kept. Assumes nothing.
 use mathlib.Core.Path.{_≡_, refl}
 use mathlib.Core.List.{List}
 use Prim.Native.Nat.{ℕ, suc}
@@ -27,7 +27,8 @@ module _ (ws : List ℕ) (n : SoundWords ws → ⊥) where
 
 -- a refusal that keeps all words
 pub kept-refused : (c : Call) (k : ℕ) (ws : List ℕ) → Kept c (plain (suc k)) ws ws
-kept-refused c k ws = record { all = λ _. refl; size = refl; header = λ h l e. refl; spare = λ i l. refl; beyond = λ p l. refl; exact = exact c }
+kept-refused c k ws =
+    record { all = λ _. refl; size = refl; header = λ h l e. refl; spare = λ i l. refl; beyond = λ p l. refl; exact = exact c }
   where
     exact : (c : Call) → Exact c (plain (suc k)) ws ws
     exact (relation t bs) = tt
@@ -40,7 +41,11 @@ module _ (ws : List ℕ) (s : SoundWords ws) (k : ℕ) where
   -- CHECKS 3 TO 7, 12, 13 AND 14: the book refuses with the number
   pub call-refused : (c : Call) → does (bookOf (seen ws)) c ≡ refuse (bookOf (seen ws)) (suc k) → CallPost c ws ws (plain (suc k))
   call-refused c e = record {
-    performs = record { unsound = λ n. absurd (n s); served = λ _. (s, refusal-serves (bookOf (seen ws)) (seen ws) c k (sound-shows-book ws s) e) };
+    performs =
+        record {
+          unsound = λ n. absurd (n s);
+          served = λ _. (s, refusal-serves (bookOf (seen ws)) (seen ws) c k (sound-shows-book ws s) e);
+        };
     kept = λ _. kept-refused c k ws;
   }
 

@@ -22,11 +22,15 @@ words-implement = record {
 }
 
 -- every list of relation, set, valid, clear and collect calls after one answered fresh, refused calls included
-pub words-demand : (n N : ℕ) {end : List ℕ} {l : List Event} → Session (List ℕ) makes performs n N l end → Demand SoundWords seen asks n N l end
+pub words-demand : (n N : ℕ) {end : List ℕ} {l : List Event} → Session (List ℕ) makes performs n N l end
+    → Demand SoundWords seen asks n N l end
 words-demand n N x = third-demand words-implement n N x
 
--- "BIGGER TABLES, SAME VERDICTS" over the lent words: the same list with every limit raised or equal, after its first calls l and l′, wherever it is cut
-pub words-bigger : (n N M : ℕ) → N ≤ M → M ≤ 60_000 → (l k l′ k′ : List Event) {end end′ : List ℕ} (s : Session (List ℕ) makes performs n N (l ++ k) end)
+-- "BIGGER TABLES, SAME VERDICTS" over the lent words: the same list with every limit raised or equal, after its first calls l and l′,
+-- wherever it is cut
+pub words-bigger : (n N M : ℕ) → N ≤ M → M ≤ 60_000
+    → (l k l′ k′ : List Event) {end end′ : List ℕ} (s : Session (List ℕ) makes performs n N (l ++ k) end)
     (u : Upgrade (List ℕ) length makes performs n M (s .count) (l′ ++ k′) end′) → AllRaised (calls l) (calls l′) → AllZero l
-    → (x : Cut (List ℕ) performs (s .made) l k end) (x′ : Cut (List ℕ) performs (u .made) l′ k′ end′) → SameVerdicts seen asks n N M (u .reply) l l′ (x .mid) (x′ .mid)
+    → (x : Cut (List ℕ) performs (s .made) l k end) (x′ : Cut (List ℕ) performs (u .made) l′ k′ end′)
+    → SameVerdicts seen asks n N M (u .reply) l l′ (x .mid) (x′ .mid)
 words-bigger n N M more most l k l′ k′ s u r z x x′ = after-each words-implement n N M more most l k l′ k′ s u r z x x′

@@ -94,7 +94,8 @@ module _ (c : Call) {old v w : List ℕ} {y z : Reply} (p : CallPost c old v y) 
 
   -- and the number is 2; so what can be told apart agrees, if it does on sound words
   agree : {X : Type 0} → Discrete X → (f : Reply → List ℕ → X) → (SoundWords old → f y v ≡ f z w) → f y v ≡ f z w
-  agree d f g = any-words old (d (f y v) (f z w)) g (λ n. ap₂ f (same-refusal (p .performs .unsound n .0) (q .performs .unsound n .0)) (one-kept n))
+  agree d f g =
+      any-words old (d (f y v) (f z w)) g (λ n. ap₂ f (same-refusal (p .performs .unsound n .0) (q .performs .unsound n .0)) (one-kept n))
 
   -- on sound words
   module _ (s : SoundWords old) where
@@ -120,7 +121,8 @@ module _ (c : Call) {old v w : List ℕ} {y z : Reply} (p : CallPost c old v y) 
         ((λ e. j .1 (i .0 e)), λ e. i .1 (j .0 e))
 
     one-header : (h : ℕ) → h < HEADER → changes c y h ≡ false → headerOf v h ≡ headerOf w h
-    one-header h l e = p .kept s .header h l e ∙ sym (q .kept s .header h l (ap (λ (k : ℕ). freeWord h || (eqb k 0 && target c h)) (sym one-number) ∙ e))
+    one-header h l e =
+        p .kept s .header h l e ∙ sym (q .kept s .header h l (ap (λ (k : ℕ). freeWord h || (eqb k 0 && target c h)) (sym one-number) ∙ e))
 
     same-roots : keptRoots c y (seen old) ≡ keptRoots c z (seen old)
     same-roots = roots-by c y (seen old) ∙ ap (λ (k : ℕ). keptRoots c (plain k) (seen old)) one-number ∙ sym (roots-by c z (seen old))
@@ -130,13 +132,20 @@ module _ (c : Call) {old v w : List ℕ} {y z : Reply} (p : CallPost c old v y) 
         let k = subst (λ (l : List ℕ). Reach (seen old .rows) l i) same-roots h in
         let a = first .kept in
         let b = second .kept in
-        record { used = a .used i h ∙ sym (b .used i k); level = a .level i h ∙ sym (b .level i k); low = a .low i h ∙ sym (b .low i k); high = a .high i h ∙ sym (b .high i k) }
+        record {
+          used = a .used i h ∙ sym (b .used i k);
+          level = a .level i h ∙ sym (b .level i k);
+          low = a .low i h ∙ sym (b .low i k);
+          high = a .high i h ∙ sym (b .high i k);
+        }
 
     one-all : T (keepsAll (y .number)) → v ≡ w
     one-all l = p .kept s .all l ∙ sym (q .kept s .all (subst (λ (k : ℕ). T (keepsAll k)) one-number l))
 
   one-used : SoundWords old → c ≡ collect → (i : ℕ) → seen v .rows .used i ≡ seen w .rows .used i
-  one-used s e = collect-used b (subst (λ (x : Call). Serves b x (seen old) (seen v) y) e (first s)) (subst (λ (x : Call). Serves b x (seen old) (seen w) z) e (second s))
+  one-used s e =
+      collect-used b (subst (λ (x : Call). Serves b x (seen old) (seen v) y) e (first s))
+      (subst (λ (x : Call). Serves b x (seen old) (seen w) z) e (second s))
 
   one-clear : SoundWords old → (r : ℕ) → c ≡ clear r → v ≡ w
   one-clear s r e =
@@ -159,13 +168,19 @@ module _ (c : Call) {old v w : List ℕ} {y z : Reply} (p : CallPost c old v y) 
       n = agree ℕ-discrete (λ x u. seen u .n) (λ s. ap (λ (x : Book). x .n) (one-book s)) i;
       N = agree ℕ-discrete (λ x u. seen u .N) (λ s. ap (λ (x : Book). x .N) (one-book s)) i;
       valid = agree (List-discrete Bool-discrete) (λ x u. bookOf (seen u) .valid) (λ s. ap (λ (x : Book). x .valid) (one-book s)) i;
-      rel = fun-ext (λ t. agree (Option-discrete (List-discrete (List-discrete Bool-discrete))) (λ x u. bookOf (seen u) .rel t) (λ s. ap (λ (x : Book). x .rel t) (one-book s))) i;
-      reg = fun-ext (λ r. agree (Option-discrete (List-discrete Bool-discrete)) (λ x u. bookOf (seen u) .reg r) (λ s. ap (λ (x : Book). x .reg r) (one-book s))) i;
+      rel = fun-ext
+          (λ t. agree (Option-discrete (List-discrete (List-discrete Bool-discrete))) (λ x u. bookOf (seen u) .rel t)
+          (λ s. ap (λ (x : Book). x .rel t) (one-book s))) i;
+      reg = fun-ext
+          (λ r. agree (Option-discrete (List-discrete Bool-discrete)) (λ x u. bookOf (seen u) .reg r)
+          (λ s. ap (λ (x : Book). x .reg r) (one-book s))) i;
     };
     numbers = λ r k l m.
         let tell : (u : List ℕ) → Dec (seen u .reg r ≡ seen u .reg k) = λ u. Option-discrete ℕ-discrete (seen u .reg r) (seen u .reg k) in (
-          (λ e. any-words old (tell w) (λ s. one-place s r k l m .0 e) (λ n. subst (λ (u : List ℕ). seen u .reg r ≡ seen u .reg k) (one-kept n) e)),
-          λ e. any-words old (tell v) (λ s. one-place s r k l m .1 e) (λ n. subst (λ (u : List ℕ). seen u .reg r ≡ seen u .reg k) (sym (one-kept n)) e),
+          (λ e. any-words old (tell w) (λ s. one-place s r k l m .0 e)
+              (λ n. subst (λ (u : List ℕ). seen u .reg r ≡ seen u .reg k) (one-kept n) e)),
+          λ e. any-words old (tell v) (λ s. one-place s r k l m .1 e)
+              (λ n. subst (λ (u : List ℕ). seen u .reg r ≡ seen u .reg k) (sym (one-kept n)) e),
         );
     size = agree ℕ-discrete (λ x u. length u) (λ s. p .kept s .size ∙ sym (q .kept s .size));
     header = λ h l e. agree ℕ-discrete (λ x u. headerOf u h) (λ s. one-header s h l e);
@@ -185,7 +200,8 @@ module _ (c : Call) {old v w : List ℕ} {y z : Reply} (p : CallPost c old v y) 
 -- ---- with the accounts that are lent
 
 -- fresh leaves one list of accounts
-pub fresh-accounts : (n N : ℕ) {old v w : List ℕ} {l a b : List Account} {y z : Reply} → FreshAllPost n N old v l a y → FreshAllPost n N old w l b z → a ≡ b
+pub fresh-accounts : (n N : ℕ) {old v w : List ℕ} {l a b : List Account} {y z : Reply} → FreshAllPost n N old v l a y
+    → FreshAllPost n N old w l b z → a ≡ b
 fresh-accounts n N {l = l} p q = p .list ∙ ap (freshened l) (fresh-one n N (length l) (p .table) (q .table) .0) ∙ sym (q .list)
 
 -- and so does set

@@ -44,15 +44,23 @@ pub sound-table : (W : View) → Sound W → SoundTable (seenIn W)
 sound-table W s = record {
   wf = s .good .rows;
   valid =
-      let w = valid-word W (s .valid) in
-      (subst (Ref (rowsOf W)) w (s .refs VALID (omega arith) (omega arith)), λ i. s .even VALID (omega arith) (omega arith) (validOf W) w i);
+      let w = valid-word W (s .valid) in (
+        subst (Ref (rowsOf W)) w (s .refs VALID (omega arith) (omega arith)),
+        λ i. s .even VALID (omega arith) (omega arith) (validOf W) w i,
+      );
   reg = λ r l a e.
-      let w = word-of (W .header (FIRST-REGISTER + r)) a e in
-      (subst (Ref (rowsOf W)) w (s .refs (FIRST-REGISTER + r) (omega arith) (omega arith)), λ i. s .even (FIRST-REGISTER + r) (omega arith) (omega arith) a w i);
-  rel = λ t l a e. subst (Ref (rowsOf W)) (word-of (W .header (FIRST-RELATION + t)) a e) (s .refs (FIRST-RELATION + t) (omega arith) (omega arith));
-  regWithin = λ r l a e v. s .within .roots (FIRST-REGISTER + r) (omega arith) (omega arith) a (word-of (W .header (FIRST-REGISTER + r)) a e) v;
-  relWithin = λ t l a e v. s .within .roots (FIRST-RELATION + t) (omega arith) (omega arith) a (word-of (W .header (FIRST-RELATION + t)) a e) v;
-  relShifted = λ t l a e v. s .within .shifted (FIRST-RELATION + t) (omega arith) (omega arith) a (word-of (W .header (FIRST-RELATION + t)) a e) v;
+      let w = word-of (W .header (FIRST-REGISTER + r)) a e in (
+        subst (Ref (rowsOf W)) w (s .refs (FIRST-REGISTER + r) (omega arith) (omega arith)),
+        λ i. s .even (FIRST-REGISTER + r) (omega arith) (omega arith) a w i,
+      );
+  rel = λ t l a e. subst (Ref (rowsOf W)) (word-of (W .header (FIRST-RELATION + t)) a e)
+      (s .refs (FIRST-RELATION + t) (omega arith) (omega arith));
+  regWithin =
+      λ r l a e v. s .within .roots (FIRST-REGISTER + r) (omega arith) (omega arith) a (word-of (W .header (FIRST-REGISTER + r)) a e) v;
+  relWithin =
+      λ t l a e v. s .within .roots (FIRST-RELATION + t) (omega arith) (omega arith) a (word-of (W .header (FIRST-RELATION + t)) a e) v;
+  relShifted =
+      λ t l a e v. s .within .shifted (FIRST-RELATION + t) (omega arith) (omega arith) a (word-of (W .header (FIRST-RELATION + t)) a e) v;
 }
 
 -- the book that words stand for is the one that they show
@@ -60,7 +68,8 @@ pub sound-shows-book : (ws : List ℕ) → SoundWords ws → Shows (bookOf (seen
 sound-shows-book ws s = shows-bookOf (seen ws) (sound-table (tableOf ws) s)
 
 -- a root's word, from what it is seen as
-ref-of : (W : View) (h start : ℕ) → start ≤ h → ((a : ℕ) → arrowIn (W .header (start + (h - start))) ≡ some a → Arrow (rowsOf W) a) → Ref (rowsOf W) (W .header h)
+ref-of : (W : View) (h start : ℕ) → start ≤ h → ((a : ℕ) → arrowIn (W .header (start + (h - start))) ≡ some a → Arrow (rowsOf W) a)
+    → Ref (rowsOf W) (W .header h)
 ref-of W h start l f = go (W .header h) refl
   where
     at : start + (h - start) ≡ h
@@ -79,7 +88,8 @@ pub table-sound : (W : View) → Good W → W .header VALID ≢ 0 → SoundTable
 table-sound W g n t = record {
   good = g;
   refs = λ h a l. by-cases (decLt h FIRST-REGISTER)
-      (λ k. subst (λ (i : ℕ). Ref (rowsOf W) (W .header i)) (let q : VALID ≡ h = omega arith in q) (subst (Ref (rowsOf W)) (sym (valid-word W n)) (t .valid .0)))
+      (λ k. subst (λ (i : ℕ). Ref (rowsOf W) (W .header i))
+      (let q : VALID ≡ h = omega arith in q) (subst (Ref (rowsOf W)) (sym (valid-word W n)) (t .valid .0)))
       (λ j. by-cases (decLt h FIRST-RELATION)
       (λ k. ref-of W h FIRST-REGISTER (omega arith) (λ b e. t .reg (h - FIRST-REGISTER) (omega arith) b e .0))
       (λ k. ref-of W h FIRST-RELATION (omega arith) (λ b e. t .rel (h - FIRST-RELATION) (omega arith) b e)));

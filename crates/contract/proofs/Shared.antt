@@ -19,16 +19,19 @@ use Rattle.contract.proofs.Closed.{words-demand}
 use Rattle.contract.specs.Shared.{Lent, Step, SharedSession}
 
 -- a call on both is a call on the words, and the list is charged
-pub step-words : (a b : Lent) (c : Call) (y : Reply) → Step a c b y → CallPost c (a .words) (b .words) y × (b .accounts ≡ charged (a .accounts) c y)
+pub step-words : (a b : Lent) (c : Call) (y : Reply) → Step a c b y
+    → CallPost c (a .words) (b .words) y × (b .accounts ≡ charged (a .accounts) c y)
 step-words a b (relation t bs) y (p, e) = (p, e)
 step-words a b (set acc r R bs) y (f, p) =
-    subst (λ (t : Terms). CallPost (set t r R bs) (a .words) (b .words) y × (b .accounts ≡ charged (a .accounts) (set t r R bs) y)) (sym f) (p .table, p .list)
+    subst (λ (t : Terms). CallPost (set t r R bs) (a .words) (b .words) y × (b .accounts ≡ charged (a .accounts) (set t r R bs) y)) (sym f)
+    (p .table, p .list)
 step-words a b (valid bs) y (p, e) = (p, e)
 step-words a b (clear r) y (p, e) = (p, e)
 step-words a b collect y (p, e) = (p, e)
 
 -- so a list on both is one on the words, and the accounts are charged by each call
-pub trace-words : {a b : Lent} {l : List Event} → Trace Lent Step a l b → Trace (List ℕ) performs (a .words) l (b .words) × (b .accounts ≡ accountsAfter (a .accounts) l)
+pub trace-words : {a b : Lent} {l : List Event} → Trace Lent Step a l b
+    → Trace (List ℕ) performs (a .words) l (b .words) × (b .accounts ≡ accountsAfter (a .accounts) l)
 trace-words stop = (stop, refl)
 trace-words (go {w = a} {v = m} {c = c} {y = y} {l = l} p t) =
     let (q, e) = step-words a m c y p in
@@ -54,7 +57,11 @@ module _ (n N : ℕ) {l : List Event} {end : Lent} (x : SharedSession n N l end)
   -- "a tally counts the rounds of its account's answered sets since fresh", and no limit is changed
   pub shared-tally : (p : ℕ) → p < length (x .lent .accounts)
       → getD (end .accounts) p none
-      ≡ record { rows = getD (x .lent .accounts) p none .rows; rounds = getD (x .lent .accounts) p none .rounds; tally = min (roundsAt p l) tallyTop }
+      ≡ record {
+        rows = getD (x .lent .accounts) p none .rows;
+        rounds = getD (x .lent .accounts) p none .rounds;
+        tally = min (roundsAt p l) tallyTop;
+      }
   shared-tally p h =
       ap (λ (k : List Account). getD k p none) (words-trace .1 ∙ ap (λ (k : List Account). accountsAfter k l) (x .start .list))
       ∙ tally-since-fresh (x .lent .accounts) (x .reply) l p (x .answered) h

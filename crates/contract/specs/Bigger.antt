@@ -1,5 +1,5 @@
--- "Bigger tables, same verdicts" over the lent words and accounts: a list of calls, each getting table and accounts as the one before left them, and the
--- same list with every limit raised or equal. Assumes nothing.
+-- "Bigger tables, same verdicts" over the lent words and accounts: a list of calls, each getting table and accounts as the one before left
+-- them, and the same list with every limit raised or equal. Assumes nothing.
 use mathlib.Core.Path.{_≡_}
 use mathlib.Core.List.{List, [], _∷_}
 use Prim.Native.Nat.{ℕ, _+_, _*_, _≤_, _<_}

@@ -1,5 +1,5 @@
--- THE THIRD DEMAND over the lent words: the predicates that stand in the functions' `ensures` implement the book, so the whole claim holds after
--- every list of calls from an answered fresh. Assumes nothing.
+-- THE THIRD DEMAND over the lent words: the predicates that stand in the functions' `ensures` implement the book, so the whole claim holds
+-- after every list of calls from an answered fresh. Assumes nothing.
 use mathlib.Core.Path.{_≡_}
 use mathlib.Core.List.{List}
 use Prim.Native.Nat.{ℕ}

@@ -1,5 +1,6 @@
 -- "Kept": what a call leaves of the lent words, by its number. The parts that it does not name are those that document 01 frees in a sound
--- table: unneeded rows, the index (list of used rows, chains, how many are used, where a search starts) and remembered results. Assumes nothing.
+-- table: unneeded rows, the index (list of used rows, chains, how many are used, where a search starts) and remembered results.
+-- Assumes nothing.
 use mathlib.Core.Path.{_≡_}
 use mathlib.Core.Bool.{Bool, false, _&&_, _||_}
 use mathlib.Core.List.{List}
@@ -40,7 +41,8 @@ Exact collect y old new = Unit {0}
 pub record Kept (c : Call) (y : Reply) (old new : List ℕ) : Type 0 where
   -- "all words"
   pub all : T (keepsAll (y .number)) → new ≡ old
-  -- 8, 9 and an answer: the slice is as long, and n, N, V, registers, relations and every unused header word are as they were, but for the target
+  -- 8, 9 and an answer: the slice is as long, and n, N, V, registers, relations and every unused header word are as they were, but for the
+  -- target
   pub size : length new ≡ length old
   pub header : (h : ℕ) → h < HEADER → changes c y h ≡ false → headerOf new h ≡ headerOf old h
   -- the spare word of every row

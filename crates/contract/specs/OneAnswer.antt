@@ -1,5 +1,6 @@
--- ONE ANSWER: on the same words a contract allows one answer, but for what document 01 frees. Two replies and two ends that it allows agree in all
--- parts below, so whoever answers or leaves anything else does not meet it. Words need not be sound, nor is that decided. Assumes nothing.
+-- ONE ANSWER: on the same words a contract allows one answer, but for what document 01 frees. Two replies and two ends that it allows agree
+-- in all parts below, so whoever answers or leaves anything else does not meet it. Words need not be sound, nor is that decided.
+-- Assumes nothing.
 use mathlib.Core.Path.{_≡_}
 use mathlib.Core.Logic.{_↔_}
 use mathlib.Core.Bool.{false}

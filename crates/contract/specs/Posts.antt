@@ -16,7 +16,8 @@ use Rattle.contract.specs.Kept.{Kept}
 abbrev pub FreshPost : ℕ → ℕ → ℕ → List ℕ → List ℕ → Reply → Type 0
 FreshPost n N count old new y = Starts SoundWords seen n N (length old) count old new y
 
--- a call: not sound gives 2 and keeps all words; sound gives the book's step from the book that the words stand for, sound words, and what is kept
+-- a call: not sound gives 2 and keeps all words; sound gives the book's step from the book that the words stand for, sound words, and what
+-- is kept
 pub record CallPost (c : Call) (old new : List ℕ) (y : Reply) : Type 0 where
   pub performs : Performs SoundWords seen c old new y
   pub kept : SoundWords old → Kept c y old new
@@ -28,7 +29,8 @@ pub record FreshAllPost (n N : ℕ) (old new : List ℕ) (before after : List Ac
   pub table : FreshPost n N (length before) old new y
   pub list : after ≡ freshened before y
 
--- set under the account at a place: fed from the list, and "adds its rounds to its own account's tally, and changes nothing else in the list"
+-- set under the account at a place: fed from the list, and "adds its rounds to its own account's tally, and changes nothing else in the
+-- list"
 pub record SetAllPost (place r R : ℕ) (bs old new : List ℕ) (before after : List Account) (y : Reply) : Type 0 where
   pub table : CallPost (set (termsOf before place) r R bs) old new y
   pub list : after ≡ charged before (set (termsOf before place) r R bs) y

@@ -1,5 +1,5 @@
--- THE THIRD DEMAND AND THE TALLIES over one list: each call gets words and accounts as the one before left them, under the predicates that stand in
--- the functions' `ensures`. Assumes nothing.
+-- THE THIRD DEMAND AND THE TALLIES over one list: each call gets words and accounts as the one before left them, under the predicates that
+-- stand in the functions' `ensures`. Assumes nothing.
 use mathlib.Core.Path.{_≡_}
 use mathlib.Core.List.{List}
 use Prim.Native.Nat.{ℕ}
@@ -18,7 +18,8 @@ pub record Lent : Type 0 where
 -- a call on both: set names its account in the list and is fed from it; no other call gets the list
 abbrev pub Step : Lent → Call → Lent → Reply → Type 0
 Step a (relation t bs) b y = CallPost (relation t bs) (a .words) (b .words) y × (b .accounts ≡ a .accounts)
-Step a (set acc r R bs) b y = Fed (a .accounts) (set acc r R bs) × SetAllPost (acc .place) r R bs (a .words) (b .words) (a .accounts) (b .accounts) y
+Step a (set acc r R bs) b y =
+    Fed (a .accounts) (set acc r R bs) × SetAllPost (acc .place) r R bs (a .words) (b .words) (a .accounts) (b .accounts) y
 Step a (valid bs) b y = CallPost (valid bs) (a .words) (b .words) y × (b .accounts ≡ a .accounts)
 Step a (clear r) b y = CallPost (clear r) (a .words) (b .words) y × (b .accounts ≡ a .accounts)
 Step a collect b y = CallPost collect (a .words) (b .words) y × (b .accounts ≡ a .accounts)

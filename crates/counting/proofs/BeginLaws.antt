@@ -3,7 +3,8 @@
 use mathlib.Core.Path.{_≡_, refl, sym, ap, _∙_, subst}
 use mathlib.Core.Logic.{⊎-elim}
 use mathlib.Core.Bool.{Bool, true, false, cond, true≢false}
-use mathlib.Core.List.{List, [], _∷_, _++_, List·Memᴰ as Mem, List·Memᴰ·head as here, List·Memᴰ·tail as there, List·Memᴰ·cases-cons as mem-cases, List·Memᴰ·not-nil as mem-nil}
+use mathlib.Core.List.{List, [], _∷_, _++_, List·Memᴰ as Mem, List·Memᴰ·head as here, List·Memᴰ·tail as there}
+use mathlib.Core.List.{List·Memᴰ·cases-cons as mem-cases, List·Memᴰ·not-nil as mem-nil}
 use Prim.Native.Nat.{ℕ, zero, suc, _+_, _-_, _≤_, _<_}
 use native.Mathlib.Decide.{ℕ-discrete}
 use native.Mathlib.Omega.{arith}
@@ -41,7 +42,8 @@ module _ (W : View) (m : List ℕ) where
   marked-length zero = refl
   marked-length (suc k) = go (isOn m (W .list k)) (marked-length k)
     where
-      go : (b : Bool) → length (markedRows W m k) ≡ markCount W m k → length (cond b (W .list k ∷ markedRows W m k) (markedRows W m k)) ≡ markCount W m k + cond b 1 0
+      go : (b : Bool) → length (markedRows W m k) ≡ markCount W m k
+          → length (cond b (W .list k ∷ markedRows W m k) (markedRows W m k)) ≡ markCount W m k + cond b 1 0
       go true e = omega (arith, e)
       go false e = omega (arith, e)
 
@@ -63,9 +65,12 @@ module _ (W : View) (m : List ℕ) where
   marked-mem zero j l o = absurd (omega arith)
   marked-mem (suc k) j l o = go (isOn m (W .list k)) refl (λ h. marked-mem k j h o)
     where
-      go : (b : Bool) → isOn m (W .list k) ≡ b → (j < k → Mem (W .list j) (markedRows W m k)) → Mem (W .list j) (cond b (W .list k ∷ markedRows W m k) (markedRows W m k))
+      go : (b : Bool) → isOn m (W .list k) ≡ b → (j < k → Mem (W .list j) (markedRows W m k))
+          → Mem (W .list j) (cond b (W .list k ∷ markedRows W m k) (markedRows W m k))
       go true e rest = elim (ℕ-discrete j k) [ yes q ↦ here (ap (W .list) q) | no n ↦ there (rest (omega arith)) ]
-      go false e rest = elim (ℕ-discrete j k) [ yes q ↦ absurd (true≢false (sym o ∙ ap (λ (x : ℕ). isOn m (W .list x)) q ∙ e)) | no n ↦ rest (omega arith) ]
+      go false e rest =
+          elim (ℕ-discrete j k)
+          [ yes q ↦ absurd (true≢false (sym o ∙ ap (λ (x : ℕ). isOn m (W .list x)) q ∙ e)) | no n ↦ rest (omega arith) ]
 
   marked-once : Ranked W → (k : ℕ) → k ≤ W .header USED → NoDup (markedRows W m k)
   unfolding markedRows
@@ -84,7 +89,8 @@ module _ (W : View) (m : List ℕ) where
       go false d = d
 
   -- where the marked rows are those that some roots reach, they are as many
-  pub marked-reaches : {n : ℕ} {roots : List ℕ} → Ranked W → ((i : ℕ) → Reach (rowsOf W) roots i → used W i ≡ true) → ((i : ℕ) → On m i → Reach (rowsOf W) roots i)
+  pub marked-reaches : {n : ℕ} {roots : List ℕ} → Ranked W → ((i : ℕ) → Reach (rowsOf W) roots i → used W i ≡ true)
+      → ((i : ℕ) → On m i → Reach (rowsOf W) roots i)
       → ((i : ℕ) → Reach (rowsOf W) roots i → On m i) → n ≡ markCount W m (W .header USED) → Reaches (rowsOf W) roots n
   marked-reaches r u only all e = record {
     list = markedRows W m (W .header USED);
@@ -92,7 +98,8 @@ module _ (W : View) (m : List ℕ) where
     only = λ i h. only i (mem-marked (W .header USED) i h .0);
     all = λ i t.
         let q = used-in (W .rows) (W .header USED) (λ x. W .cell x RANK) (W .list) i (u i t) in
-        subst (λ (x : ℕ). Mem x (markedRows W m (W .header USED))) (q .there) (marked-mem (W .header USED) (W .cell i RANK) (q .place) (rw (q .there) (all i t)));
+        subst (λ (x : ℕ). Mem x (markedRows W m (W .header USED))) (q .there)
+        (marked-mem (W .header USED) (W .cell i RANK) (q .place) (rw (q .there) (all i t)));
     count = marked-length (W .header USED) ∙ sym e;
   }
 
@@ -115,7 +122,8 @@ filled-pre s z = rw (← blank-marks z) (record { base = sound-base s; order = o
 module _ {W : View} {c m : List ℕ} (s : Sound W) (z : Blank c) (l : length m ≡ length (take MARK-WORDS c))
     (k : MarksAll (rowsOf W) (take MARK-WORDS c) m (Held W VALID ROOTS-END)) where
   none : (i : ℕ) → On (take MARK-WORDS c) i → ⊥
-  none i o = no-marks MARK-WORDS i (subst (λ (xs : List ℕ). On xs i) (ap (take MARK-WORDS) z ∙ take-zeros MARK-WORDS COUNT-WORDS (omega arith)) o)
+  none i o =
+      no-marks MARK-WORDS i (subst (λ (xs : List ℕ). On xs i) (ap (take MARK-WORDS) z ∙ take-zeros MARK-WORDS COUNT-WORDS (omega arith)) o)
 
   pub marked-size : length (m ++ drop MARK-WORDS c) ≡ COUNT-WORDS
   marked-size = length-front c m MARK-WORDS l ∙ blank-size z
@@ -139,7 +147,8 @@ module _ {W : View} {c m : List ℕ} (s : Sound W) (z : Blank c) (l : length m �
       ∙ ap (λ (x : ℕ). getD (m ++ drop MARK-WORDS c) x 0) ek ∙ getD-append-add m (drop MARK-WORDS c) j 0 ∙ getD-drop MARK-WORDS c j 0
       ∙ ap (λ (x : ℕ). getD c x 0) ec ∙ ap (λ (xs : List ℕ). getD xs k 0) z ∙ zeros COUNT-WORDS k
 
-  base-begun : {n : ℕ} → n ≡ markCount W (take MARK-WORDS (m ++ drop MARK-WORDS c)) (W .header USED) → BaseOf W (set (m ++ drop MARK-WORDS c) NUMBER n)
+  base-begun : {n : ℕ} → n ≡ markCount W (take MARK-WORDS (m ++ drop MARK-WORDS c)) (W .header USED)
+      → BaseOf W (set (m ++ drop MARK-WORDS c) NUMBER n)
   unfolding marksOf
   base-begun {n} e =
       let d : List ℕ = m ++ drop MARK-WORDS c in
@@ -152,8 +161,10 @@ module _ {W : View} {c m : List ℕ} (s : Sound W) (z : Blank c) (l : length m �
         only = λ i o. only i (subst (λ (xs : List ℕ). On xs i) marks o);
         all = λ i r. subst (λ (xs : List ℕ). On xs i) (sym marks) (all i r);
         number = subst (λ (x : ℕ). Reaches (rowsOf W) (filled W) x) (sym number)
-            (marked-reaches W m (s .good .ranked) (λ i r. reach-used (s .good .rows) (filled-arrow s) r) only all (e ∙ ap (λ (xs : List ℕ). markCount W xs (W .header USED)) front));
+            (marked-reaches W m (s .good .ranked) (λ i r. reach-used (s .good .rows) (filled-arrow s) r) only all
+            (e ∙ ap (λ (xs : List ℕ). markCount W xs (W .header USED)) front));
       }
 
-  pub begun : {n : ℕ} → n ≡ markCount W (take MARK-WORDS (m ++ drop MARK-WORDS c)) (W .header USED) → CountsOf W (set (m ++ drop MARK-WORDS c) NUMBER n)
+  pub begun : {n : ℕ} → n ≡ markCount W (take MARK-WORDS (m ++ drop MARK-WORDS c)) (W .header USED)
+      → CountsOf W (set (m ++ drop MARK-WORDS c) NUMBER n)
   begun {n} e = record { base = base-begun e; sizes = remembered-none (rest n) }

@@ -2,7 +2,9 @@
 use mathlib.Core.Path.{_≡_, sym, ap, _∙_, subst}
 use mathlib.Core.Bool.{Bool, true, false, true≢false}
 use mathlib.Core.Logic.{⊎-elim}
-use mathlib.Core.List.{List, [], _∷_, _++_, map, List·Memᴰ·head as here, List·Memᴰ·tail as there, List·Memᴰ·cases-cons as mem-cases, List·Memᴰ·append-cases as append-cases, Memᴰ·append-left as append-left, Memᴰ·append-right as append-right, List·Memᴰ·eq-of-singleton as mem-only, Memᴰ·cast as mem-cast, Memᴰ·map as mem-map, Memᴰ·of-map as mem-of-map}
+use mathlib.Core.List.{List, [], _∷_, _++_, map, List·Memᴰ·head as here, List·Memᴰ·tail as there, List·Memᴰ·cases-cons as mem-cases}
+use mathlib.Core.List.{List·Memᴰ·append-cases as append-cases, Memᴰ·append-left as append-left, Memᴰ·append-right as append-right}
+use mathlib.Core.List.{List·Memᴰ·eq-of-singleton as mem-only, Memᴰ·cast as mem-cast, Memᴰ·map as mem-map, Memᴰ·of-map as mem-of-map}
 use Prim.Native.Nat.{ℕ, suc, _+_, _*_, _/_, _≤_, _<_}
 use native.Mathlib.Numerals.{add-one}
 use native.Mathlib.Omega.{arith}
@@ -36,12 +38,14 @@ use Rattle.counting.specs.Bound.{Bound, SizePre, SizePost, SumPost, With
 pub need-fewer : (W : View) (xs ys : List ℕ) → Within xs ys → needOf W xs ≤ needOf W ys
 need-fewer W xs ys w =
     let f = den (2 * W .header BITS) (rowsOf W) in
-    need-mono (2 * W .header BITS) (map f xs) (map f ys) (λ g h. let (a, ma, e) = mem-of-map f xs h in mem-cast (sym e) (mem-map f (w a ma)))
+    need-mono (2 * W .header BITS) (map f xs) (map f ys)
+    (λ g h. let (a, ma, e) = mem-of-map f xs h in mem-cast (sym e) (mem-map f (w a ma)))
 
 pub bound-base : {W : View} {c : List ℕ} → Sound W → BaseOf W c → Bound W (filled W) (getD c NUMBER 0)
 bound-base s p = record { arrows = filled-arrow s; base = λ a h. h; enough = let e = number-need s p in omega (arith, e) }
 
-bound-more : {W : View} {xs : List ℕ} {a n k : ℕ} → Sound W → Arrow (rowsOf W) a → Outside (rowsOf W) (filled W) a k → Bound W xs n → Bound W (a ∷ xs) (n + k)
+bound-more : {W : View} {xs : List ℕ} {a n k : ℕ} → Sound W → Arrow (rowsOf W) a → Outside (rowsOf W) (filled W) a k → Bound W xs n
+    → Bound W (a ∷ xs) (n + k)
 bound-more {W} {xs} {a} {n} {k} s u o b = record {
   arrows = λ x h. ⊎-elim (λ e. subst (Arrow (rowsOf W)) (sym e) u) (b .arrows x) (mem-cases h);
   base = λ x h. there (b .base x h);
@@ -49,7 +53,13 @@ bound-more {W} {xs} {a} {n} {k} s u o b = record {
 }
 
 bound-same : {W : View} {n : ℕ} (xs ys : List ℕ) → Within ys xs → Within (filled W) ys → Bound W xs n → Bound W ys n
-bound-same {W} xs ys w f b = record { arrows = λ a h. b .arrows a (w a h); base = f; enough = let l = need-fewer W ys xs w in let e = b .enough in omega (arith, l, e) }
+bound-same {W} xs ys w f b =
+    record {
+      arrows = λ a h. b .arrows a (w a h);
+      base = f;
+      enough = let l = need-fewer W ys xs w in
+          let e = b .enough in omega (arith, l, e);
+    }
 
 -- the steps of `size_of`: a constant, an arrow that the base reaches, a size that is remembered, one that is counted
 module _ {W : View} {c : List ℕ} {a : ℕ} (p : SizePre W c a) where
@@ -82,7 +92,8 @@ pub record Summed (W : View) (c xs : List ℕ) (sum k total : ℕ) : Type 0 wher
 pub summed-none : {W : View} {c xs : List ℕ} {sum : ℕ} → CountsOf W c → Summed W c xs sum 0 sum
 summed-none p = record { counts = p; more = omega arith; bound = λ ys b. b }
 
-pub summed-more : {W : View} {c d xs : List ℕ} {sum k total n : ℕ} → Sound W → Arrow (rowsOf W) (getD xs k 0) → k < length xs → Summed W c xs sum k total
+pub summed-more : {W : View} {c d xs : List ℕ} {sum k total n : ℕ} → Sound W → Arrow (rowsOf W) (getD xs k 0) → k < length xs
+    → Summed W c xs sum k total
     → SizePost W d (getD xs k 0) n → Summed W d xs sum (k + 1) (total + n)
 summed-more {W} {xs = xs} {k = k} s u l p q = record {
   counts = q .counts;
@@ -96,10 +107,12 @@ summed-more {W} {xs = xs} {k = k} s u l p q = record {
       (λ t. there (append-right (take k xs) t))
       (append-cases (take k xs ++ x ∷ []) h)
       in
-      rw (add-one k, take-suc xs k 0 l) (bound-same one next within (λ a h. append-right (take k xs ++ x ∷ []) (b .base a h)) (bound-more s u (q .size) (p .bound ys b)));
+      rw (add-one k, take-suc xs k 0 l)
+      (bound-same one next within (λ a h. append-right (take k xs ++ x ∷ []) (b .base a h)) (bound-more s u (q .size) (p .bound ys b)));
 }
 
-pub summed-all : {W : View} {c : List ℕ} (xs : List ℕ) {sum most k r : ℕ} → length xs ≤ k → Summed W c xs sum k r → SumPost W c xs sum most r
+pub summed-all : {W : View} {c : List ℕ} (xs : List ℕ) {sum most k r : ℕ} → length xs ≤ k → Summed W c xs sum k r
+    → SumPost W c xs sum most r
 summed-all {W} xs {k = k} {r} l p = record {
   counts = p .counts;
   more = p .more;
@@ -109,7 +122,8 @@ summed-all {W} xs {k = k} {r} l p = record {
 pub summed-over : {W : View} {c xs : List ℕ} {sum most k r : ℕ} → most < r → Summed W c xs sum k r → SumPost W c xs sum most r
 summed-over l p = record { counts = p .counts; more = p .more; bound = λ ys b h. absurd (omega (arith, l, h)) }
 
-pub within-yes : {W : View} {c c₁ c₂ xs ys : List ℕ} {most f t : ℕ} → Sound W → CountsOf W c → SumPost W c₁ xs (getD c NUMBER 0) most f → SumPost W c₂ ys f most t → t ≤ most
+pub within-yes : {W : View} {c c₁ c₂ xs ys : List ℕ} {most f t : ℕ} → Sound W → CountsOf W c → SumPost W c₁ xs (getD c NUMBER 0) most f
+    → SumPost W c₂ ys f most t → t ≤ most
     → WithinPost W c₂ xs ys most true
 within-yes {W} {xs = xs} {ys} {most} s p q r l = record {
   counts = r .counts;

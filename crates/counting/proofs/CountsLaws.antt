@@ -1,7 +1,8 @@
 -- Laws of what specs/Counts.antt defines. Assumes nothing.
 use mathlib.Core.Path.{_≡_, refl, sym, ap, _∙_, subst}
 use mathlib.Core.Logic.{inl, inr, ⊎-elim, by-cases}
-use mathlib.Core.List.{List, [], _∷_, _++_, List·Memᴰ as Mem, List·Memᴰ·append-cases as append-cases, Memᴰ·append-left as append-left, Memᴰ·append-right as append-right}
+use mathlib.Core.List.{List, [], _∷_, _++_, List·Memᴰ as Mem, List·Memᴰ·append-cases as append-cases, Memᴰ·append-left as append-left}
+use mathlib.Core.List.{Memᴰ·append-right as append-right}
 use Prim.Native.Nat.{ℕ, zero, suc, _+_, _*_, _/_, _%_, _^_, _≤_, _<_}
 use native.Mathlib.Decide.{ℕ-discrete, decLt}
 use native.Mathlib.Numerals.{add-one}
@@ -41,7 +42,8 @@ pub number-need : {W : View} {c : List ℕ} → Sound W → BaseOf W c → getD 
 number-need s p = reaches-need (s .good .rows) (filled-arrow s) (p .number)
 
 -- rows that are reached are no more than a table may have
-pub reaches-le : {W : View} {roots : List ℕ} {n : ℕ} → Sound W → ((a : ℕ) → Mem a roots → Arrow (rowsOf W) a) → Reaches (rowsOf W) roots n → n ≤ MAX-ROWS
+pub reaches-le : {W : View} {roots : List ℕ} {n : ℕ} → Sound W → ((a : ℕ) → Mem a roots → Arrow (rowsOf W) a) → Reaches (rowsOf W) roots n
+    → n ≤ MAX-ROWS
 reaches-le {W} {roots} s arrows r =
     let l = pigeonhole (W .rows) (r .list) (r .once) (λ i h. s .good .rows .bounded i (reach-used (s .good .rows) arrows (r .only i h))) in
     let e = r .count in
@@ -71,15 +73,20 @@ base-keeps {W} {X} {c} f k p =
 pub counts-extends : {W X : View} {c : List ℕ} → Sound W → OpFrame W X → Extends (rowsOf W) (rowsOf X) → CountsOf W c → CountsOf X c
 counts-extends {W} {X} {c} s f e p = record {
   base = base-keeps f (extends-keeps (s .good .rows) (filled-arrow s) e) (p .base);
-  sizes = subst (λ (xs : List ℕ). Remembered (rowsOf X) xs c) (sym (filled-same f)) (remembered-extends (s .good .rows) e (filled-arrow s) (p .sizes));
+  sizes =
+      subst (λ (xs : List ℕ). Remembered (rowsOf X) xs c) (sym (filled-same f))
+      (remembered-extends (s .good .rows) e (filled-arrow s) (p .sizes));
 }
 
 pub base-beside : {W : View} {c d : List ℕ} → Beside c d → BaseOf W c → BaseOf W d
 unfolding marksOf
 base-beside {W} {c} {d} b p =
-    let marks : take MARK-WORDS d ≡ take MARK-WORDS c = sym (take-take MARK-WORDS SIZES d (omega arith)) ∙ ap (take MARK-WORDS) (b .first) ∙ take-take MARK-WORDS SIZES c (omega arith) in
+    let marks : take MARK-WORDS d
+    ≡ take MARK-WORDS c = sym (take-take MARK-WORDS SIZES d (omega arith)) ∙ ap (take MARK-WORDS) (b .first)
+    ∙ take-take MARK-WORDS SIZES c (omega arith) in
     let number : getD d NUMBER 0 ≡ getD c NUMBER 0 =
-    sym (getD-take SIZES d NUMBER 0 (omega arith)) ∙ ap (λ (xs : List ℕ). getD xs NUMBER 0) (b .first) ∙ getD-take SIZES c NUMBER 0 (omega arith)
+    sym (getD-take SIZES d NUMBER 0 (omega arith)) ∙ ap (λ (xs : List ℕ). getD xs NUMBER 0) (b .first)
+    ∙ getD-take SIZES c NUMBER 0 (omega arith)
     in
     record {
       size = b .size ∙ p .size;
@@ -95,9 +102,12 @@ beside-set c k v l = record { size = length-set c k v; first = take-set-le SIZES
 beside-trans : {c d e : List ℕ} → Beside c d → Beside d e → Beside c e
 beside-trans p q = record { size = q .size ∙ p .size; first = q .first ∙ p .first }
 
-pub counts-put : {W : View} {c : List ℕ} (a k : ℕ) → Arrow (rowsOf W) a → Outside (rowsOf W) (filled W) a k → CountsOf W c → CountsOf W (putSize c a k)
+pub counts-put : {W : View} {c : List ℕ} (a k : ℕ) → Arrow (rowsOf W) a → Outside (rowsOf W) (filled W) a k → CountsOf W c
+    → CountsOf W (putSize c a k)
 counts-put {c = c} a k u o p = record {
-  base = base-beside (beside-trans (beside-set c (placeOf a) (a / 2) (omega arith)) (beside-set (set c (placeOf a) (a / 2)) (placeOf a + 1) k (omega arith))) (p .base);
+  base = base-beside
+      (beside-trans (beside-set c (placeOf a) (a / 2) (omega arith))
+      (beside-set (set c (placeOf a) (a / 2)) (placeOf a + 1) k (omega arith))) (p .base);
   sizes = remembered-put c a k (let e = p .base .size in omega (arith, e)) u o (p .sizes);
 }
 
@@ -118,7 +128,9 @@ emptied-counts {W} {c} {d} z p =
     let b = base-beside (z .beside) p in
     record {
       base = b;
-      sizes = remembered-none (λ k l. by-cases (decLt k COUNT-WORDS) (z .zeros k l) (λ n. List·getD-eq-default d 0 (let e = b .size in omega (arith, e))));
+      sizes =
+          remembered-none
+          (λ k l. by-cases (decLt k COUNT-WORDS) (z .zeros k l) (λ n. List·getD-eq-default d 0 (let e = b .size in omega (arith, e))));
     }
 
 -- few words are enough for few rows, all of them for any table; and what marking asks then
@@ -139,10 +151,13 @@ pub record Copied (c m : List ℕ) (n k : ℕ) : Type 0 where
 pub copied-none : {c m : List ℕ} → Copied c m (length m) 0
 copied-none = record { size = refl; same = refl }
 
-pub copied-more : {c m : List ℕ} {n k : ℕ} → k < n → n ≤ MARK-WORDS → length c ≡ COUNT-WORDS → Copied c m n k → Copied c (set m k (getD c k 0)) n (k + 1)
+pub copied-more : {c m : List ℕ} {n k : ℕ} → k < n → n ≤ MARK-WORDS → length c ≡ COUNT-WORDS → Copied c m n k
+    → Copied c (set m k (getD c k 0)) n (k + 1)
 copied-more {c} {m} {n} {k} l h e p = record {
   size = length-set m k (getD c k 0) ∙ p .size;
-  same = rw (add-one k) (take-suc-set m k (getD c k 0) (omega (arith, p .size)) ∙ ap (λ (xs : List ℕ). xs ++ getD c k 0 ∷ []) (p .same) ∙ sym (take-suc c k 0 (omega arith)));
+  same = rw (add-one k)
+      (take-suc-set m k (getD c k 0) (omega (arith, p .size)) ∙ ap (λ (xs : List ℕ). xs ++ getD c k 0 ∷ []) (p .same)
+      ∙ sym (take-suc c k 0 (omega arith)));
 }
 
 pub copied-all : {c m : List ℕ} {n k : ℕ} → k ≡ n → Copied c m n k → m ≡ take n c
@@ -156,12 +171,16 @@ pub record BaseMarked (W : View) (m : List ℕ) : Type 0 where
 -- a mark within the words that were copied, and one beyond them
 mark-copied : (c : List ℕ) (k i : ℕ) → k ≤ MARK-WORDS → i < 32 * k → isOn (take k c) i ≡ isOn (marksOf c) i
 unfolding marksOf isOn
-mark-copied c k i h l = ap (λ (w : ℕ). eqb (w / 2 ^ (i % 32) % 2) 1) (getD-take k c (i / 32) 0 (omega arith) ∙ sym (getD-take MARK-WORDS c (i / 32) 0 (omega arith)))
+mark-copied c k i h l =
+    ap (λ (w : ℕ). eqb (w / 2 ^ (i % 32) % 2) 1)
+    (getD-take k c (i / 32) 0 (omega arith) ∙ sym (getD-take MARK-WORDS c (i / 32) 0 (omega arith)))
 
 mark-beyond : (m : List ℕ) (i : ℕ) → 32 * length m ≤ i → On m i → ⊥
 unfolding isOn
 mark-beyond m i l o =
-    let e : getD m (i / 32) 0 / 2 ^ (i % 32) % 2 ≡ 0 = ap (λ (x : ℕ). x / 2 ^ (i % 32) % 2) (List·getD-eq-default m 0 (omega arith)) ∙ ap (λ (x : ℕ). x % 2) (zero-div (2 ^ (i % 32))) in
+    let e : getD m (i / 32) 0 / 2 ^ (i % 32) % 2
+    ≡ 0 = ap (λ (x : ℕ). x / 2 ^ (i % 32) % 2) (List·getD-eq-default m 0 (omega arith))
+    ∙ ap (λ (x : ℕ). x % 2) (zero-div (2 ^ (i % 32))) in
     let f : getD m (i / 32) 0 / 2 ^ (i % 32) % 2 ≡ 1 = eqb-true _ _ o in
     absurd (omega (arith, e, f))
 
@@ -170,7 +189,9 @@ pub base-copied : {W : View} {c m : List ℕ} {k : ℕ} → Sound W → BaseOf W
 base-copied {W} {c} {m} {k} s p r e = rw e (record {
   only = λ i o. by-cases (decLt i (32 * k))
       (λ l. p .only i (sym (mark-copied c k i (r .most) l) ∙ o))
-      (λ n. absurd (mark-beyond (take k c) i (let e = p .size in let h = r .most in let z = length-take-le k c (omega (arith, e, h)) in omega (arith, n, z)) o));
+      (λ n. absurd
+      (mark-beyond (take k c) i
+      (let e = p .size in let h = r .most in let z = length-take-le k c (omega (arith, e, h)) in omega (arith, n, z)) o));
   all = λ i q.
       let l = s .good .rows .bounded i (reach-used (s .good .rows) (filled-arrow s) q) in
       mark-copied c k i (r .most) (let n = r .enough in omega (arith, l, n)) ∙ p .all i q;
@@ -192,14 +213,17 @@ module _ {W : View} {m₀ : List ℕ} (p : BaseMarked W m₀) where
   base-on a h = on-reached (target a) (reached-root (rowsOf W) (filled W) a h)
 
   -- marking from further arrows marks and counts what they and the base reach
-  pub live-marked : {m : List ℕ} {xs : List ℕ} {b n : ℕ} → Reaches (rowsOf W) (filled W) b → ListNew (rowsOf W) m₀ m xs n → LiveMarked W xs m (b + n)
+  pub live-marked : {m : List ℕ} {xs : List ℕ} {b n : ℕ} → Reaches (rowsOf W) (filled W) b → ListNew (rowsOf W) m₀ m xs n
+      → LiveMarked W xs m (b + n)
   live-marked {m} {xs} {b} {n} c q =
       let rows = rowsOf W in
       let reached : (i : ℕ) → On m i → Reach rows (live W xs) i = λ i o.
-      ⊎-elim (λ b. reach-within (λ a j e h. append-left xs h) (p .only i b)) (λ t. reach-on (reached-root rows (live W xs) (t .0) (append-right (filled W) (t .1))) (t .2)) (q .marks .only i o)
+      ⊎-elim (λ b. reach-within (λ a j e h. append-left xs h) (p .only i b))
+      (λ t. reach-on (reached-root rows (live W xs) (t .0) (append-right (filled W) (t .1))) (t .2)) (q .marks .only i o)
       in
       let marked : (i : ℕ) → Reach rows (live W xs) i → On m i = λ i r.
-      closed-reach (q .marks .closed base-closed) (λ a h. ⊎-elim (λ f. onArrow-le m₀ m (q .marks .kept) a (base-on a f)) (λ t. q .marks .has a t) (append-cases (filled W) h)) r
+      closed-reach (q .marks .closed base-closed)
+      (λ a h. ⊎-elim (λ f. onArrow-le m₀ m (q .marks .kept) a (base-on a f)) (λ t. q .marks .has a t) (append-cases (filled W) h)) r
       in
       let number = subst (λ (k : ℕ). Reaches rows (live W xs) (b + k)) (q .news .count)
       (reaches-more (q .news .rows) (λ a h. append-left xs h) (q .news .once)

@@ -2,7 +2,8 @@
 use mathlib.Core.Path.{_≡_, sym, ap, _∙_, subst}
 use mathlib.Core.Logic.{⊎-elim}
 use mathlib.Core.Bool.{Bool, true}
-use mathlib.Core.List.{List, [], _∷_, _++_, map, List·Memᴰ as Mem, List·Memᴰ·cases-cons as mem-cases, List·Memᴰ·append-cases as append-cases, Memᴰ·append-left as append-left, Memᴰ·of-map as mem-of-map}
+use mathlib.Core.List.{List, [], _∷_, _++_, map, List·Memᴰ as Mem, List·Memᴰ·cases-cons as mem-cases}
+use mathlib.Core.List.{List·Memᴰ·append-cases as append-cases, Memᴰ·append-left as append-left, Memᴰ·of-map as mem-of-map}
 use Prim.Native.Nat.{ℕ, _+_, _*_, _≤_, max}
 use native.Mathlib.Nat.{max-eq-left}
 use native.Mathlib.Omega.{arith}
@@ -69,14 +70,16 @@ module _ {W : View} {roots : List ℕ} {s : Step} {a : ℕ} (p : CleanPre W root
       record { counts = k; raised = sym (max-eq-left (omega (arith, n, c, e, l))) }
 
   module _ {x y : ℕ} (ex : x ≡ firstOperand s) (ey : y ≡ secondOperand s) where
-    pub note-within : {c : List ℕ} {peak : ℕ} {r : Bool} → WithinPost W c roots (x ∷ y ∷ a ∷ []) peak r → r ≡ true → NotePost W c roots s a peak peak
+    pub note-within : {c : List ℕ} {peak : ℕ} {r : Bool} → WithinPost W c roots (x ∷ y ∷ a ∷ []) peak r → r ≡ true
+        → NotePost W c roots s a peak peak
     note-within {c} {peak} {r} w t =
         let w′ : WithinPost W c roots (lent s a) peak r = rw (ex, ey) at w in
         let n = need-fewer W (a ∷ liveAt W roots s) (live W (roots ++ lent s a)) (to-lent ex ey p) in
         let f = w′ .fits t in
         record { counts = w .counts; raised = sym (max-eq-left (omega (arith, n, f))) }
 
-    pub note-counted : {c : List ℕ} (peak : ℕ) {n r : ℕ} → CountsOf W c → Reaches (rowsOf W) (live W (roots ++ (x ∷ y ∷ a ∷ []))) n → r ≡ max peak n
+    pub note-counted : {c : List ℕ} (peak : ℕ) {n r : ℕ} → CountsOf W c → Reaches (rowsOf W) (live W (roots ++ (x ∷ y ∷ a ∷ []))) n
+        → r ≡ max peak n
         → NotePost W c roots s a peak r
     note-counted peak k t e =
         let t′ = rw (ex, ey) at t in
@@ -90,7 +93,8 @@ module _ {m N limit : ℕ} {W X : View} {roots c : List ℕ} {s : Step} (p : Ste
   counted-few e w q l = record { step = stepped-few p e w q l; counts = counts-extends (p .sound) (w .frame) (w .post .kept) k }
 
   -- rows were freed, and the sizes forgotten
-  pub counted-freed : {d : List ℕ} {o : Made} → Emptied c d COUNT-WORDS → Stepped m N limit W X roots s o → StepCounted m N limit W X roots d s o
+  pub counted-freed : {d : List ℕ} {o : Made} → Emptied c d COUNT-WORDS → Stepped m N limit W X roots s o
+      → StepCounted m N limit W X roots d s o
   counted-freed z t =
       let kept = keeps-within (λ a h. append-left (roots ++ operandsOf s) h) (t .post .kept) in
       record { step = t; counts = emptied-counts z (base-keeps (t .frame) kept (k .base)) }
@@ -116,7 +120,11 @@ module _ {m N limit : ℕ} {W X : View} {roots c : List ℕ} {s : Step} {o : Mad
         → TakenPost m N limit W X roots d s q (taken.At a (record { rounds = q .rounds; peak = r }))
     taken-at q {r} p n =
         let f = answered .frame in
-        let em : m ≡ 2 * X .header BITS = p .ready .levels-is ∙ ap (λ (b : ℕ). 2 * b) (sym (f .header BITS (omega arith) (omega arith) (omega arith) (omega arith))) in
-        let l : r ≡ max (q .peak) (need m (map (den m (rowsOf X)) (a ∷ liveAt W roots s))) = rw (em, ← live-same f (roots ++ operandsOf s)) (n .raised) in
+        let em : m
+        ≡ 2 * X .header BITS = p .ready .levels-is
+        ∙ ap (λ (b : ℕ). 2 * b) (sym (f .header BITS (omega arith) (omega arith) (omega arith) (omega arith))) in
+        let l : r
+        ≡ max (q .peak) (need m (map (den m (rowsOf X)) (a ∷ liveAt W roots s))) = rw (em, ← live-same f (roots ++ operandsOf s))
+        (n .raised) in
         let k = l ∙ ap (max (q .peak)) (same-need (liveAt W roots s) (answered .post .kept) (answered .post .result .0)) in
         (answered, n .counts, ap (λ (x : ℕ). record { rounds = q .rounds; peak = x }) k)

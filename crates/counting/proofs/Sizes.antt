@@ -46,7 +46,8 @@ remembered-none {rows} {c = c} z = record {
 }
 
 -- rows are only added
-pub remembered-extends : {m N : ℕ} {old new : Rows} {base c : List ℕ} → WellFormed m N old → Extends old new → ((b : ℕ) → Mem b base → Arrow old b)
+pub remembered-extends : {m N : ℕ} {old new : Rows} {base c : List ℕ} → WellFormed m N old → Extends old new
+    → ((b : ℕ) → Mem b base → Arrow old b)
     → Remembered old base c → Remembered new base c
 remembered-extends {old = old} {c = c} wf e arrows p = record {
   arrow = λ s l. arrow-extends e (2 * getD c (SIZES + 2 * s) 0) (p .arrow s l);
@@ -54,12 +55,15 @@ remembered-extends {old = old} {c = c} wf e arrows p = record {
 }
 
 -- the pair of an arrow is found
-pub remembered-seen : {rows : Rows} {base c : List ℕ} (a : ℕ) → Remembered rows base c → getD c (placeOf a) 0 ≡ a / 2 → Outside rows base a (getD c (placeOf a + 1) 0)
+pub remembered-seen : {rows : Rows} {base c : List ℕ} (a : ℕ) → Remembered rows base c → getD c (placeOf a) 0 ≡ a / 2
+    → Outside rows base a (getD c (placeOf a + 1) 0)
 remembered-seen a p e = outside-told (omega (arith, e)) (p .right (a / 2 % PAIRS) (omega arith))
 
 module _ (c : List ℕ) (a k : ℕ) (l : SIZES + 2 * PAIRS ≤ length c) where
   put-key : getD (putSize c a k) (placeOf a) 0 ≡ a / 2
-  put-key = getD-set-other (set c (placeOf a) (a / 2)) (placeOf a + 1) (placeOf a) k 0 (omega arith) ∙ getD-set-same c (placeOf a) (a / 2) 0 (omega arith)
+  put-key =
+      getD-set-other (set c (placeOf a) (a / 2)) (placeOf a + 1) (placeOf a) k 0 (omega arith)
+      ∙ getD-set-same c (placeOf a) (a / 2) 0 (omega arith)
 
   put-size : getD (putSize c a k) (placeOf a + 1) 0 ≡ k
   put-size = getD-set-same (set c (placeOf a) (a / 2)) (placeOf a + 1) k 0 (let e = length-set c (placeOf a) (a / 2) in omega (arith, e))
@@ -67,14 +71,16 @@ module _ (c : List ℕ) (a k : ℕ) (l : SIZES + 2 * PAIRS ≤ length c) where
   put-other : (j : ℕ) → j ≢ placeOf a → j ≢ placeOf a + 1 → getD (putSize c a k) j 0 ≡ getD c j 0
   put-other j n o = getD-set-other (set c (placeOf a) (a / 2)) (placeOf a + 1) j k 0 o ∙ getD-set-other c (placeOf a) j (a / 2) 0 n
 
-  pub remembered-put : {rows : Rows} {base : List ℕ} → Arrow rows a → Outside rows base a k → Remembered rows base c → Remembered rows base (putSize c a k)
+  pub remembered-put : {rows : Rows} {base : List ℕ} → Arrow rows a → Outside rows base a k → Remembered rows base c
+      → Remembered rows base (putSize c a k)
   remembered-put {rows} {base} u o p = record {
     arrow = λ s h. by-cases (ℕ-discrete s (a / 2 % PAIRS))
         (λ e. rw e (subst (λ (t : ℕ). Arrow rows (2 * t)) (sym put-key) (plain u)))
         (λ n. subst (λ (t : ℕ). Arrow rows (2 * t)) (sym (put-other (SIZES + 2 * s) (omega arith) (omega arith))) (p .arrow s h));
     right = λ s h. by-cases (ℕ-discrete s (a / 2 % PAIRS))
         (λ e. rw e (pair (sym put-key) (sym put-size) (outside-told (omega arith) o)))
-        (λ n. pair (sym (put-other (SIZES + 2 * s) (omega arith) (omega arith))) (sym (put-other (SIZES + 2 * s + 1) (omega arith) (omega arith))) (p .right s h));
+        (λ n. pair (sym (put-other (SIZES + 2 * s) (omega arith) (omega arith)))
+        (sym (put-other (SIZES + 2 * s + 1) (omega arith) (omega arith))) (p .right s h));
   }
     where
       plain : Arrow rows a → Arrow rows (2 * (a / 2))

@@ -1,5 +1,5 @@
--- "Each answered relation or set call also returns its peak: the largest row need, over its steps, of live sets and result together": a step
--- that is taken raises the peak to what it needs. Assumes nothing.
+-- "Each answered relation or set call also returns its peak: the largest row need, over its steps, of live sets and result together": a
+-- step that is taken raises the peak to what it needs. Assumes nothing.
 use mathlib.Core.Path.{_≡_}
 use mathlib.Core.List.{List, _∷_}
 use Prim.Native.Nat.{ℕ, max}
@@ -15,7 +15,8 @@ use Rattle.counting.specs.declared.Taken.{Taken}
 
 -- what taking a step promises: the step, counts that are right for the table left, and its need counted
 abbrev pub TakenPost : ℕ → ℕ → ℕ → View → View → List ℕ → List ℕ → Step → Count → Taken → Type 0
-TakenPost m N limit W X roots c s q r = Stepped m N limit W X roots s (madeIn r) × CountsOf X c × Counted m (rowsOf W) (liveAt W roots s) (stepF m (rowsOf W) s) q r
+TakenPost m N limit W X roots c s q r =
+    Stepped m N limit W X roots s (madeIn r) × CountsOf X c × Counted m (rowsOf W) (liveAt W roots s) (stepF m (rowsOf W) s) q r
 
 -- what `note` leaves: counts that are right still, and the peak
 pub record NotePost (W : View) (c roots : List ℕ) (s : Step) (a peak r : ℕ) : Type 0 where

@@ -16,7 +16,8 @@ PAIRS = 256
 abbrev pub placeOf : ℕ → ℕ
 placeOf a = SIZES + 2 * (a / 2 % PAIRS)
 
--- each pair is right: the arrow without a NOT is one, and reaches at most as many rows beside the base. Two zeros are so: nothing reaches no row.
+-- each pair is right: the arrow without a NOT is one, and reaches at most as many rows beside the base.
+-- Two zeros are so: nothing reaches no row.
 pub record Remembered (rows : Rows) (base c : List ℕ) : Type 0 where
   pub arrow : (s : ℕ) → s < PAIRS → Arrow rows (2 * getD c (SIZES + 2 * s) 0)
   pub right : (s : ℕ) → s < PAIRS → Outside rows base (2 * getD c (SIZES + 2 * s) 0) (getD c (SIZES + 2 * s + 1) 0)

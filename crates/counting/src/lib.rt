@@ -336,8 +336,8 @@ fn note(
     greater(peak, count_live(words, rows, counts, roots, &more))
 }
 
-// Takes a step: refused exactly where its result and all that is live need more than `limit` rows. Where rows may have been freed, no size is
-// remembered afterwards.
+// Takes a step: refused exactly where its result and all that is live need more than `limit` rows.
+// Where rows may have been freed, no size is remembered afterwards.
 fn take_counted(
     words: &mut [u32],
     counts: &mut [u32],

@@ -59,7 +59,8 @@ pub cofactor-reads-from : {lo hi : ℕ} {f g : Fn} → Reads lo hi f → Cofacto
 cofactor-reads-from r c v w h =
     c .same v ∙ r _ _ (λ l a b. by-cases (decLe (c .upto) l)
     (λ k. splice-above (c .upto) (c .fixed) v l k ∙ h l a b ∙ sym (splice-above (c .upto) (c .fixed) w l k))
-    (λ k. splice-below (c .upto) (c .fixed) v l (omega arith) ∙ sym (splice-below (c .upto) (c .fixed) w l (omega arith)))) ∙ sym (c .same w)
+    (λ k. splice-below (c .upto) (c .fixed) v l (omega arith) ∙ sym (splice-below (c .upto) (c .fixed) w l (omega arith))))
+    ∙ sym (c .same w)
 
 -- One more EXISTS makes blind one level earlier, and all those of a stage from the stage on.
 pub exists-blind : {f : Fn} (i : ℕ) → Blind (suc i) f → Blind i (existsF (suc (2 * i)) f)
@@ -76,14 +77,16 @@ exists-blind {f} i r x ix v b =
 pub from-blind : {f : Fn} (d j : ℕ) → Blind (d + j) f → Blind j (existsFrom d j f)
 unfolding existsFrom
 from-blind {f} zero j r = blind-more {f = f} (0 + j) j (omega arith) r
-from-blind {f} (suc d) j r = exists-blind {f = existsFrom d (suc j) f} j (from-blind {f = f} d (suc j) (blind-more {f = f} (suc d + j) (d + suc j) (omega arith) r))
+from-blind {f} (suc d) j r =
+    exists-blind {f = existsFrom d (suc j) f} j (from-blind {f = f} d (suc j) (blind-more {f = f} (suc d + j) (d + suc j) (omega arith) r))
 
 -- EXISTS at levels that are not read changes nothing.
 pub from-unread : {f : Fn} (d z j : ℕ) → d ≤ z → Blind (d + j) f → existsFrom z j f ≡ existsFrom d j f
 unfolding existsFrom
 from-unread zero zero j h r = refl
 from-unread {f} zero (suc z) j h r =
-    let i : existsFrom z (suc j) f ≡ f = from-unread {f = f} zero z (suc j) (omega arith) (blind-more {f = f} (0 + j) (0 + suc j) (omega arith) r) in
+    let i : existsFrom z (suc j) f
+    ≡ f = from-unread {f = f} zero z (suc j) (omega arith) (blind-more {f = f} (0 + j) (0 + suc j) (omega arith) r) in
     ap (existsF (suc (2 * j))) i
     ∙ fun-ext (λ v.
     let p = r j (omega arith) v false in

@@ -1,9 +1,11 @@
--- Bounds for the needs of the stages of EXISTS that are left of a product, from counts by level: a cofactor of a stage is the same stage of an
--- arrow that is followed from the product and leads above the stage's levels, or a row of the `oddF` of one that leads to them. Assumes nothing.
+-- Bounds for the needs of the stages of EXISTS that are left of a product, from counts by level: a cofactor of a stage is the same stage of
+-- an arrow that is followed from the product and leads above the stage's levels, or a row of the `oddF` of one that leads to them.
+-- Assumes nothing.
 use mathlib.Core.Path.{_≡_, refl, sym, ap, _∙_, subst, fun-ext}
 use mathlib.Core.Logic.{_⊎_, inl, inr, ⊎-elim, by-cases}
 use mathlib.Core.Bool.{Bool, true, false}
-use mathlib.Core.List.{List, [], _∷_, _++_, map, List·Memᴰ as Mem, List·Memᴰ·head as here, List·Memᴰ·cases-cons as mem-cases, Memᴰ·cast as mem-cast, Memᴰ·map as mem-map, Memᴰ·append-left as mem-left, Memᴰ·append-right as mem-right}
+use mathlib.Core.List.{List, [], _∷_, _++_, map, List·Memᴰ as Mem, List·Memᴰ·head as here, List·Memᴰ·cases-cons as mem-cases}
+use mathlib.Core.List.{Memᴰ·cast as mem-cast, Memᴰ·map as mem-map, Memᴰ·append-left as mem-left, Memᴰ·append-right as mem-right}
 use Prim.Native.Nat.{ℕ, suc, _+_, _*_, _≤_}
 use native.Mathlib.Decide.{decLe, decLt, ℕ-discrete}
 use native.Mathlib.Omega.{arith}
@@ -27,15 +29,16 @@ use Rattle.diagram.proofs.Stages.{splice-again, from-splice, splice-rea
 use Rattle.diagram.specs.Blind.{Blind}
 use Rattle.diagram.proofs.Blind.{blind-cut, blind-cofactor, blind-part, cofactor-reads-from, from-even, blind-odd, odd-blind}
 use Rattle.diagram.specs.Tally.{sumTo, sumFrom}
-use Rattle.diagram.proofs.Tally.{Surveyed, AddedRows, CoveredBy, listTo, listFrom, mem-listTo, mem-listFrom, length-listTo, length-listFrom}
+use Rattle.diagram.proofs.Tally.{Surveyed, AddedRows, CoveredBy, listTo, listFrom, mem-listTo, mem-listFrom, length-listTo}
+use Rattle.diagram.proofs.Tally.{length-listFrom}
 
 -- Some of the roots denote sets of states: they read no odd level.
 pub record Evens (m : ℕ) (rows : Rows) (roots evens : List ℕ) : Type 0 where
   pub within : Within evens roots
   pub blind : (b : ℕ) → Mem b evens → Blind 0 (den m rows b)
 
--- Where a cofactor g of a stage of arrow a comes from: an arrow that is followed from a, of which g is the same stage, where no more than the
--- levels before the stage's are fixed;
+-- Where a cofactor g of a stage of arrow a comes from: an arrow that is followed from a, of which g is the same stage, where no more than
+-- the levels before the stage's are fixed;
 pub record Near (m : ℕ) (rows : Rows) (a i d j : ℕ) (g : Fn) : Type 0 where
   pub arrow : ℕ
   pub follows : Follows rows a arrow
@@ -60,7 +63,8 @@ module _ {m N : ℕ} {rows : Rows} (wf : WellFormed m N rows) where
       level-told wf (row i) i (row-leads i) u (λ v. turn-inj b _ _ (q _ ∙ same v ∙ sym (q _)))
 
   -- The row of a set of states that reads only levels from 2 j + 1 on is of a level from 2 j + 2 on.
-  pub level-even : (i j : ℕ) (g : Fn) → rows .used i ≡ true → Reads 0 m g → Reads (suc (2 * j)) m g → Blind 0 g → tab wf i ≡ class m g → 2 * suc j ≤ rows .level i
+  pub level-even : (i j : ℕ) (g : Fn) → rows .used i ≡ true → Reads 0 m g → Reads (suc (2 * j)) m g → Blind 0 g → tab wf i ≡ class m g
+      → 2 * suc j ≤ rows .level i
   level-even i j g u r rj bl e =
       let l = rows .level i in
       by-cases (decLe (2 * suc j) l) (λ h. h)
@@ -70,12 +74,14 @@ module _ {m N : ℕ} {rows : Rows} (wf : WellFormed m N rows) where
       (λ ne. rj _ _ (λ k a b. upd-other v l false k (omega arith) ∙ sym (upd-other v l true k (omega arith)))))))
 
   -- Where a cofactor of a stage comes from.
-  module _ {n i : ℕ} (a : ℕ) (em : m ≡ 2 * n) (small : n ≤ 16) (le : i ≤ n) (wa : Arrow rows a) (blind : Blind i (den m rows a)) (d j : ℕ) (ed : d + j ≡ i) (g : Fn)
+  module _ {n i : ℕ} (a : ℕ) (em : m ≡ 2 * n) (small : n ≤ 16) (le : i ≤ n) (wa : Arrow rows a) (blind : Blind i (den m rows a))
+      (d j : ℕ) (ed : d + j ≡ i) (g : Fn)
       (c : CofactorOf (existsFrom d j (den m rows a)) g) where
     pub near : c .upto ≤ suc (2 * j) → Near m rows a i d j g
     near h =
         let cut : Fn = λ w. den m rows a (splice (c .upto) (c .fixed) w) in
-        let x = walk wf (Follows rows a) (λ x i b p l. on b p l) a cut self wa (record { upto = c .upto; fixed = c .fixed; same = λ v. refl }) in
+        let x = walk wf (Follows rows a) (λ x i b p l. on b p l) a cut self wa
+        (record { upto = c .upto; fixed = c .fixed; same = λ v. refl }) in
         let ec : cut ≡ den m rows (x .arrow) = sym (fun-ext (x .same)) in
         record {
           arrow = x .arrow;
@@ -88,10 +94,12 @@ module _ {m N : ℕ} {rows : Rows} (wf : WellFormed m N rows) where
     pub far : suc (2 * j) ≤ c .upto → Far m rows a j (c .upto) (c .fixed) g
     far h =
         let cut : Fn = λ w. den m rows a (splice (suc (2 * j)) (c .fixed) w) in
-        let x = walk wf (Follows rows a) (λ x i b p l. on b p l) a cut self wa (record { upto = suc (2 * j); fixed = c .fixed; same = λ v. refl }) in
+        let x = walk wf (Follows rows a) (λ x i b p l. on b p l) a cut self wa
+        (record { upto = suc (2 * j); fixed = c .fixed; same = λ v. refl }) in
         let f : Fn = den m rows (x .arrow) in
         let ec : cut ≡ f = sym (fun-ext (x .same)) in
-        let rd : Reads (suc (2 * j)) m f = subst (Reads (suc (2 * j)) m) ec (splice-reads (suc (2 * j)) (c .fixed) (den-reads-all wf a wa)) in
+        let rd : Reads (suc (2 * j)) m f = subst (Reads (suc (2 * j)) m) ec
+        (splice-reads (suc (2 * j)) (c .fixed) (den-reads-all wf a wa)) in
         let bf : Blind i f = subst (Blind i) ec (blind-cut {f = den m rows a} i (suc (2 * j)) (c .fixed) blind) in
         let o = blind-odd {m = m} f i (omega arith) bf d j ed rd in
         record {
@@ -136,17 +144,21 @@ module _ {m N : ℕ} {rows : Rows} (wf : WellFormed m N rows) where
         (t .all r (reach-on rx t1))
 
     -- B3: a row that is reached from a set of states is its own stage.
-    told-live : (c r d j : ℕ) → Leads c r → Reach rows evens r → (g : Fn) → ((v : Val) → g v ≡ existsFrom d j (den m rows c) v) → Mem (class m g) (classes m fs)
+    told-live : (c r d j : ℕ) → Leads c r → Reach rows evens r → (g : Fn) → ((v : Val) → g v ≡ existsFrom d j (den m rows c) v)
+        → Mem (class m g) (classes m fs)
     told-live c r d j l re g e =
         let arrows : (b : ℕ) → Mem b evens → Arrow rows b = λ b h. rooted .listed b (even .within b h) .0 in
         let (b, mb, p) = reach-part wf arrows re in
         let br : Blind 0 (den m rows (row r)) = blind-part {f = den m rows b} 0 (even .blind b mb) p in
-        let bc : Blind 0 (den m rows c) = λ x h v z. den-leads m rows c r l _ ∙ ap (turn (marked c)) (br x h v z) ∙ sym (den-leads m rows c r l v) in
+        let bc : Blind 0 (den m rows c) = λ x h v z. den-leads m rows c r l _ ∙ ap (turn (marked c)) (br x h v z)
+        ∙ sym (den-leads m rows c r l v) in
         let own : existsFrom d j (den m rows c) ≡ den m rows c = from-even (den m rows c) d j bc in
-        let q : class m g ≡ tab wf r = class-turn m (marked c) (den m rows (row r)) (λ v. e v ∙ ap (λ (f : Fn). f v) own ∙ den-leads m rows c r l v) in
+        let q : class m g
+        ≡ tab wf r = class-turn m (marked c) (den m rows (row r)) (λ v. e v ∙ ap (λ (f : Fn). f v) own ∙ den-leads m rows c r l v) in
         mem-cast q (row-needed wf rooted r (reach-within (λ b j e. even .within b) re))
 
-    -- B0: each non-constant cofactor of a stage is needed already, the same stage of a surveyed arrow above its levels, or of the rows added.
+    -- B0: each non-constant cofactor of a stage is needed already, the same stage of a surveyed arrow above its levels, or of the rows
+    -- added.
     pub told : (d j k z : ℕ) → d + j ≡ i → k ≤ 2 * suc j → m ≤ k + z → (g : Fn) → CofactorOf (existsFrom d j (den m rows a)) g → Varies g
         → Mem (class m g) (classes m fs) ⊎ (Mem (class m g) (aboveTabs d j) ⊎ Mem (class m g) (addedTabs k z))
     told d j k z ed ek ez g c y =
@@ -157,7 +169,9 @@ module _ {m N : ℕ} {rows : Rows} (wf : WellFormed m N rows) where
         let (r, l) = stage-row m rows (x .arrow) (target (x .arrow)) refl d j g (λ v. v) (x .same) y in
         by-cases (decLt (rows .level r) (suc (2 * j)))
         (λ lt. ⊎-elim (λ re. inl (told-live (x .arrow) r d j l re g (x .same)))
-        (λ mx. inr (inl (mem-cast (ap (class m) (fun-ext (x .same))) (mem-map (stageOf d j) (mem-listTo (s .arrows) (rows .level r) (suc (2 * j)) lt mx)))))
+        (λ mx. inr
+        (inl (mem-cast (ap (class m) (fun-ext (x .same)))
+        (mem-map (stageOf d j) (mem-listTo (s .arrows) (rows .level r) (suc (2 * j)) lt mx)))))
         (s .all (x .arrow) r (x .follows) l))
         (λ ge.
         let lv = leads-level m rows (x .arrow) r l in
@@ -172,7 +186,8 @@ module _ {m N : ℕ} {rows : Rows} (wf : WellFormed m N rows) where
         (λ h.
         let x = far a em small le wa blind d j ed g c (omega arith) in
         ⊎-elim (λ q. inl q) (λ q. inr (inr q))
-        (told-added (x .arrow) j k z ek ez (x .follows) (x .is-arrow) (x .reads) g (record { upto = c .upto; fixed = c .fixed; same = x .same }) y))
+        (told-added (x .arrow) j k z ek ez (x .follows) (x .is-arrow) (x .reads) g
+        (record { upto = c .upto; fixed = c .fixed; same = x .same }) y))
 
     -- B1: two neighbouring stages beside functions that are needed already.
     pub stage-two : (d j z : ℕ) → suc d + j ≡ i → m ≤ 2 * suc j + z
@@ -198,4 +213,17 @@ module _ {m N : ℕ} {rows : Rows} (wf : WellFormed m N rows) where
         (mem-cases more))
         (mem-cases mh))
         in
-        omega (arith, all, need-length m fs, length-append xs rest, length-append ys (ys′ ++ zs), length-append ys′ zs, length-map (listTo (s .arrows) (suc (2 * j))) (stageOf (suc d) j), length-map (listTo (s .arrows) (suc (2 * suc j))) (stageOf d (suc j)), length-map (listFrom (t .listed) k z) (tab wf), length-listTo (s .arrows) above (s .counted) (suc (2 * j)), length-listTo (s .arrows) above (s .counted) (suc (2 * suc j)), length-listFrom (t .listed) added (t .counted) k z)
+        omega (
+          arith,
+          all,
+          need-length m fs,
+          length-append xs rest,
+          length-append ys (ys′ ++ zs),
+          length-append ys′ zs,
+          length-map (listTo (s .arrows) (suc (2 * j))) (stageOf (suc d) j),
+          length-map (listTo (s .arrows) (suc (2 * suc j))) (stageOf d (suc j)),
+          length-map (listFrom (t .listed) k z) (tab wf),
+          length-listTo (s .arrows) above (s .counted) (suc (2 * j)),
+          length-listTo (s .arrows) above (s .counted) (suc (2 * suc j)),
+          length-listFrom (t .listed) added (t .counted) k z,
+        )

@@ -36,8 +36,8 @@ turn-told true false e = absurd (true≢false e)
 turn-told true true e = refl
 
 module _ {m N : ℕ} {rows : Rows} (wf : WellFormed m N rows) where
-  -- A difference of an arrow that is followed for the bit b is one of the arrow: from one that leads past its level, and from one that leads
-  -- to the same level.
+  -- A difference of an arrow that is followed for the bit b is one of the arrow: from one that leads past its level, and from one that
+  -- leads to the same level.
   lift : (a i : ℕ) (b : Bool) (c : ℕ) → Leads a i → rows .used i ≡ true → Arrow rows c → rows .level i < levelOf m rows c
       → Differ m rows (follow rows a i b) c → Differ m rows a c
   lift a i b c e u uc lc d = record {
@@ -49,7 +49,9 @@ module _ {m N : ℕ} {rows : Rows} (wf : WellFormed m N rows) where
       → Differ m rows (follow rows a i b) (follow rows c j b) → Differ m rows a c
   lift-both a c i j b e g u w el d = record {
     at = upd (d .at) (rows .level i) b;
-    apart = λ q. d .apart (sym (den-child wf a i e b u (d .at)) ∙ q ∙ ap (λ l. den m rows c (upd (d .at) l b)) el ∙ den-child wf c j g b w (d .at));
+    apart =
+        λ q. d .apart
+        (sym (den-child wf a i e b u (d .at)) ∙ q ∙ ap (λ l. den m rows c (upd (d .at) l b)) el ∙ den-child wf c j g b w (d .at));
   }
 
   -- What the induction gives: arrows that differ and lead past level k differ at a valuation.
@@ -61,12 +63,14 @@ module _ {m N : ℕ} {rows : Rows} (wf : WellFormed m N rows) where
   follow-apart a i u e = wf .ok i u .reduced (carry-inj (marked a) (rows .low i) (rows .high i) e)
 
   -- An arrow to a row, and one that leads past its level.
-  one-side : (a i b : ℕ) → Leads a i → rows .used i ≡ true → Arrow rows b → rows .level i < levelOf m rows b → Below (rows .level i) → Differ m rows a b
+  one-side : (a i b : ℕ) → Leads a i → rows .used i ≡ true → Arrow rows b → rows .level i < levelOf m rows b → Below (rows .level i)
+      → Differ m rows a b
   one-side a i b e u ub lb below =
       let lo = follow rows a i false in
       let hi = follow rows a i true in
       by-cases (ℕ-discrete lo b)
-      (λ q. lift a i true b e u ub lb (below hi b (follow-arrow wf a i e true u) ub (follow-deeper wf a i e true u) lb (λ g. follow-apart a i u (q ∙ sym g))))
+      (λ q. lift a i true b e u ub lb
+      (below hi b (follow-arrow wf a i e true u) ub (follow-deeper wf a i e true u) lb (λ g. follow-apart a i u (q ∙ sym g))))
       (λ h. lift a i false b e u ub lb (below lo b (follow-arrow wf a i e false u) ub (follow-deeper wf a i e false u) lb h))
 
   -- Arrows to two rows of one level, of which those that are followed are the same, are the same: no high arrow carries a NOT.
@@ -84,20 +88,23 @@ module _ {m N : ℕ} {rows : Rows} (wf : WellFormed m N rows) where
       arrow-told a c (e ∙ ap suc ij ∙ sym g) q
 
   -- Arrows to two rows of one level.
-  two-side : (a c i j : ℕ) → Leads a i → Leads c j → rows .used i ≡ true → rows .used j ≡ true → rows .level i ≡ rows .level j → a ≢ c → Below (rows .level i)
+  two-side : (a c i j : ℕ) → Leads a i → Leads c j → rows .used i ≡ true → rows .used j ≡ true → rows .level i ≡ rows .level j → a ≢ c
+      → Below (rows .level i)
       → Differ m rows a c
   two-side a c i j e g u w el ne below =
       let deep : (b : Bool) → rows .level i < levelOf m rows (follow rows c j b) = λ b. rw el (follow-deeper wf c j g b w) in
       let at : (b : Bool) → follow rows a i b ≢ follow rows c j b → Differ m rows a c = λ b h.
       lift-both a c i j b e g u w el
-      (below (follow rows a i b) (follow rows c j b) (follow-arrow wf a i e b u) (follow-arrow wf c j g b w) (follow-deeper wf a i e b u) (deep b) h)
+      (below (follow rows a i b) (follow rows c j b) (follow-arrow wf a i e b u) (follow-arrow wf c j g b w) (follow-deeper wf a i e b u)
+      (deep b) h)
       in
       by-cases (ℕ-discrete (follow rows a i false) (follow rows c j false))
       (λ q. at true (λ r. ne (followed-same a c i j e g u w el q r)))
       (λ h. at false h)
 
   -- Arrows to two rows: the one of the lesser level is taken apart.
-  rows-differ : (a c i j : ℕ) → Leads a i → Leads c j → Arrow rows a → Arrow rows c → a ≢ c → Below (rows .level i) → Below (rows .level j) → Differ m rows a c
+  rows-differ : (a c i j : ℕ) → Leads a i → Leads c j → Arrow rows a → Arrow rows c → a ≢ c → Below (rows .level i) → Below (rows .level j)
+      → Differ m rows a c
   rows-differ a c i j e g ua uc ne bi bj =
       let u = leads-used rows a i e ua in
       let w = leads-used rows c j g uc in
@@ -110,15 +117,18 @@ module _ {m N : ℕ} {rows : Rows} (wf : WellFormed m N rows) where
   -- A constant is 0 or 1.
   constants-differ : (a b : ℕ) → target a ≡ 0 → target b ≡ 0 → a ≢ b → Differ m rows a b
   constants-differ zero zero e g ne = absurd (ne refl)
-  constants-differ zero (suc zero) e g ne = record { at = λ l. false; apart = λ q. false≢true (sym (den-zero m rows _) ∙ q ∙ den-one m rows _) }
+  constants-differ zero (suc zero) e g ne =
+      record { at = λ l. false; apart = λ q. false≢true (sym (den-zero m rows _) ∙ q ∙ den-one m rows _) }
   constants-differ zero (suc (suc b)) e g ne = absurd (omega arith)
-  constants-differ (suc zero) zero e g ne = record { at = λ l. false; apart = λ q. true≢false (sym (den-one m rows _) ∙ q ∙ den-zero m rows _) }
+  constants-differ (suc zero) zero e g ne =
+      record { at = λ l. false; apart = λ q. true≢false (sym (den-one m rows _) ∙ q ∙ den-zero m rows _) }
   constants-differ (suc zero) (suc zero) e g ne = absurd (ne refl)
   constants-differ (suc zero) (suc (suc b)) e g ne = absurd (omega arith)
   constants-differ (suc (suc a)) b e g ne = absurd (omega arith)
 
   -- An arrow to a row and a constant.
-  constant-side : (d a i b : ℕ) → Leads a i → target b ≡ 0 → m ≤ levelOf m rows a + d → Arrow rows a → Arrow rows b → ((k : ℕ) → k < m → m ≤ k + d → Below k)
+  constant-side : (d a i b : ℕ) → Leads a i → target b ≡ 0 → m ≤ levelOf m rows a + d → Arrow rows a → Arrow rows b
+      → ((k : ℕ) → k < m → m ≤ k + d → Below k)
       → Differ m rows a b
   constant-side d a i b e z ha ua ub below =
       let u = leads-used rows a i e ua in
@@ -128,7 +138,8 @@ module _ {m N : ℕ} {rows : Rows} (wf : WellFormed m N rows) where
       one-side a i b e u ub (rw lb (o .shallow)) (below (rows .level i) (o .shallow) (rw la at ha))
 
   -- Two arrows, by cases, where the induction gives what holds past each level k that d covers.
-  differ-step : (d a b x y : ℕ) → target a ≡ x → target b ≡ y → m ≤ levelOf m rows a + d → m ≤ levelOf m rows b + d → Arrow rows a → Arrow rows b → a ≢ b
+  differ-step : (d a b x y : ℕ) → target a ≡ x → target b ≡ y → m ≤ levelOf m rows a + d → m ≤ levelOf m rows b + d → Arrow rows a
+      → Arrow rows b → a ≢ b
       → ((k : ℕ) → k < m → m ≤ k + d → Below k) → Differ m rows a b
   differ-step d a b zero zero ea eb ha hb ua ub ne below = constants-differ a b ea eb ne
   differ-step d a b zero (suc j) ea eb ha hb ua ub ne below = differ-sym (constant-side d b j a eb ea hb ub ua below)
@@ -171,7 +182,8 @@ module _ {m N : ℕ} {rows : Rows} (wf : WellFormed m N rows) where
   pub level-told : (a i : ℕ) → Leads a i → rows .used i ≡ true
       → ((v : Val) → den m rows a (upd v (rows .level i) false) ≡ den m rows a (upd v (rows .level i) true)) → ⊥
   level-told a i e u same =
-      let d = differ (follow rows a i false) (follow rows a i true) (follow-arrow wf a i e false u) (follow-arrow wf a i e true u) (follow-apart a i u) in
+      let d = differ (follow rows a i false) (follow rows a i true) (follow-arrow wf a i e false u) (follow-arrow wf a i e true u)
+      (follow-apart a i u) in
       d .apart (sym (den-child wf a i e false u (d .at)) ∙ same (d .at) ∙ den-child wf a i e true u (d .at))
 
   -- An arrow whose function reads only levels from k on leads to no lesser level.
@@ -181,7 +193,8 @@ module _ {m N : ℕ} {rows : Rows} (wf : WellFormed m N rows) where
       let w = leads-used rows a i e u in
       let l = rows .level i in
       by-cases (decLt l k)
-      (λ h. absurd (level-told a i e w (λ v. r _ _ (λ j kj _. upd-other v l false j (omega arith) ∙ sym (upd-other v l true j (omega arith))))))
+      (λ h. absurd
+      (level-told a i e w (λ v. r _ _ (λ j kj _. upd-other v l false j (omega arith) ∙ sym (upd-other v l true j (omega arith))))))
       (λ h. rw (leads-level m rows a i e) (omega arith))
 
   pub reads-level : (k a : ℕ) → k ≤ m → Arrow rows a → Reads k m (den m rows a) → k ≤ levelOf m rows a

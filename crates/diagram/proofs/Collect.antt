@@ -25,7 +25,8 @@ collects-keeps c = record {
 }
 
 -- Which roots are arrows to rows is all that counts.
-pub collects-same : {old new : Rows} {xs ys : List ℕ} → ((a i : ℕ) → Leads a i → Mem a xs → Mem a ys) → ((a i : ℕ) → Leads a i → Mem a ys → Mem a xs)
+pub collects-same : {old new : Rows} {xs ys : List ℕ} → ((a i : ℕ) → Leads a i → Mem a xs → Mem a ys)
+    → ((a i : ℕ) → Leads a i → Mem a ys → Mem a xs)
     → Collects old new xs → Collects old new ys
 collects-same f g c = record { kept = c .kept; only = λ i u. reach-within f (c .only i u); all = λ i r. c .all i (reach-within g r) }
 

@@ -1,7 +1,9 @@
 -- Laws of what specs/Count.antt defines. Assumes nothing.
 use mathlib.Core.Path.{_≡_, refl, sym, ap, _∙_}
 use mathlib.Core.Logic.{_≢_, ⊎-elim}
-use mathlib.Core.List.{List, [], _∷_, _++_, map, List·Memᴰ as Mem, List·Memᴰ·head as here, List·Memᴰ·tail as there, List·Memᴰ·cases-cons as mem-cases, List·Memᴰ·not-nil as mem-nil, List·Memᴰ·append-cases as append-cases, Memᴰ·cast as mem-cast, Memᴰ·of-map as mem-of-map}
+use mathlib.Core.List.{List, [], _∷_, _++_, map, List·Memᴰ as Mem, List·Memᴰ·head as here, List·Memᴰ·tail as there}
+use mathlib.Core.List.{List·Memᴰ·cases-cons as mem-cases, List·Memᴰ·not-nil as mem-nil, List·Memᴰ·append-cases as append-cases}
+use mathlib.Core.List.{Memᴰ·cast as mem-cast, Memᴰ·of-map as mem-of-map}
 use Prim.Native.Nat.{ℕ, zero, suc, _≤_, _<_}
 use native.Mathlib.Decide.{ℕ-discrete}
 use native.Mathlib.Omega.{arith}
@@ -48,7 +50,8 @@ nodup-append (x ∷ xs) ys dx dy apart = (
 )
 
 -- A function that keeps the members apart keeps a list without repeats.
-pub nodup-map : {A B : Type 0} (f : A → B) (xs : List A) → ((x y : A) → Mem x xs → Mem y xs → f x ≡ f y → x ≡ y) → NoDup xs → NoDup (map f xs)
+pub nodup-map : {A B : Type 0} (f : A → B) (xs : List A) → ((x y : A) → Mem x xs → Mem y xs → f x ≡ f y → x ≡ y) → NoDup xs
+    → NoDup (map f xs)
 nodup-map f [] inj d = tt
 nodup-map f (x ∷ xs) inj d = (
   (λ m. let (y, my, e) = mem-of-map f xs m in d .0 (mem-cast (inj x y (here refl) (there my) (sym e)) my)),

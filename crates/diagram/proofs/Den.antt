@@ -6,7 +6,8 @@ use Prim.Native.Nat.{ℕ, zero, suc, _+_, _≤_, _<_}
 use native.Mathlib.Omega.{arith}
 use Rattle.diagram.specs.Level.{Val, turn, upd}
 use Rattle.diagram.proofs.Level.{turn-turn, Reads, reads-from, Splits, splits-turn, upd-same, upd-unread}
-use Rattle.diagram.specs.Rows.{Rows, marked, target, Leads, row, flip, carry, Arrow, ArrowTo, levelOf, levelTo, child, follow, denTo, den, WellFormed}
+use Rattle.diagram.specs.Rows.{Rows, marked, target, Leads, row, flip, carry, Arrow, ArrowTo, levelOf, levelTo, child, follow, denTo}
+use Rattle.diagram.specs.Rows.{den, WellFormed}
 use Rattle.diagram.proofs.Rows.{row-leads, row-plain, carry-target, carry-marked, leads-is, carry-arrow, carry-level}
 
 -- The constant is nothing.
@@ -27,7 +28,8 @@ den-one f rows v = ap not (denTo-constant f rows v)
 -- An arrow to the constant is constant.
 pub den-constant : (f : ℕ) (rows : Rows) (a : ℕ) → target a ≡ 0 → (v : Val) → den f rows a v ≡ marked a
 unfolding den
-den-constant f rows a e v = ap (λ k. turn (marked a) (denTo f rows k v)) e ∙ ap (turn (marked a)) (denTo-constant f rows v) ∙ plain (marked a)
+den-constant f rows a e v =
+    ap (λ k. turn (marked a) (denTo f rows k v)) e ∙ ap (turn (marked a)) (denTo-constant f rows v) ∙ plain (marked a)
   where
     plain : (b : Bool) → turn b false ≡ b
     plain true = refl
@@ -59,7 +61,8 @@ den-to f rows i v =
 
 module _ {m N : ℕ} {rows : Rows} (wf : WellFormed m N rows) where
   -- Fuel does not matter once it covers the levels from the arrow's on.
-  denTo-fuel : (f g k : ℕ) → ArrowTo rows k → m ≤ levelTo m rows k + f → m ≤ levelTo m rows k + g → (v : Val) → denTo f rows k v ≡ denTo g rows k v
+  denTo-fuel : (f g k : ℕ) → ArrowTo rows k → m ≤ levelTo m rows k + f → m ≤ levelTo m rows k + g → (v : Val)
+      → denTo f rows k v ≡ denTo g rows k v
   unfolding denTo
   denTo-fuel zero g zero u hf hg v = sym (denTo-constant g rows v)
   denTo-fuel zero g (suc i) u hf hg v = absurd (let o = wf .ok i u in omega arith)
@@ -103,7 +106,8 @@ module _ {m N : ℕ} {rows : Rows} (wf : WellFormed m N rows) where
   den-row i u v = den-to m rows i v ∙ denTo-step m i (omega arith) u v
 
   -- A row splits at its level into its low and high parts.
-  pub row-splits : (i : ℕ) → rows .used i ≡ true → Splits m (rows .level i) (den m rows (row i)) (den m rows (rows .low i)) (den m rows (rows .high i))
+  pub row-splits : (i : ℕ) → rows .used i ≡ true
+      → Splits m (rows .level i) (den m rows (row i)) (den m rows (rows .low i)) (den m rows (rows .high i))
   row-splits i u =
       let o = wf .ok i u in
       record {
@@ -121,7 +125,8 @@ module _ {m N : ℕ} {rows : Rows} (wf : WellFormed m N rows) where
   child-deeper i false u = wf .ok i u .low-deeper
   child-deeper i true u = wf .ok i u .high-deeper
 
-  row-chosen : (i : ℕ) (b : Bool) → rows .used i ≡ true → (v : Val) → v (rows .level i) ≡ b → den m rows (row i) v ≡ den m rows (child rows i b) v
+  row-chosen : (i : ℕ) (b : Bool) → rows .used i ≡ true → (v : Val) → v (rows .level i) ≡ b
+      → den m rows (row i) v ≡ den m rows (child rows i b) v
   row-chosen i false u v e = den-row i u v ∙ ap (λ c. cond c (den m rows (rows .high i) v) (den m rows (rows .low i) v)) e
   row-chosen i true u v e = den-row i u v ∙ ap (λ c. cond c (den m rows (rows .high i) v) (den m rows (rows .low i) v)) e
 
@@ -133,7 +138,8 @@ module _ {m N : ℕ} {rows : Rows} (wf : WellFormed m N rows) where
     pub follow-deeper : (b : Bool) → rows .used i ≡ true → rows .level i < levelOf m rows (follow rows a i b)
     follow-deeper b u = rw (carry-level m rows (marked a) (child rows i b)) (child-deeper i b u)
 
-    pub den-chosen : (b : Bool) → rows .used i ≡ true → (v : Val) → v (rows .level i) ≡ b → den m rows a v ≡ den m rows (follow rows a i b) v
+    pub den-chosen : (b : Bool) → rows .used i ≡ true → (v : Val) → v (rows .level i) ≡ b
+        → den m rows a v ≡ den m rows (follow rows a i b) v
     den-chosen b u v q =
         den-leads m rows a i e v ∙ ap (turn (marked a)) (row-chosen i b u v q) ∙ sym (den-carry m rows (marked a) (child rows i b) v)
 
@@ -144,7 +150,8 @@ module _ {m N : ℕ} {rows : Rows} (wf : WellFormed m N rows) where
         ∙ upd-unread v (rows .level i) b (den-reads m (follow rows a i b) (follow-arrow b u)) (follow-deeper b u)
 
     -- It splits into them.
-    pub arrow-splits : rows .used i ≡ true → Splits m (rows .level i) (den m rows a) (den m rows (follow rows a i false)) (den m rows (follow rows a i true))
+    pub arrow-splits : rows .used i ≡ true
+        → Splits m (rows .level i) (den m rows a) (den m rows (follow rows a i false)) (den m rows (follow rows a i true))
     arrow-splits u =
         let s = splits-turn (row-splits i u) (marked a) in
         record {

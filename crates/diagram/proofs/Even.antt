@@ -20,7 +20,8 @@ pub cofactor-readsOn : {P : ℕ → Bool} {f g : Fn} → ReadsOn P f → Cofacto
 cofactor-readsOn r c v w h =
     c .same v ∙ r _ _ (λ l p. by-cases (decLe (c .upto) l)
     (λ k. splice-above (c .upto) (c .fixed) v l k ∙ h l p ∙ sym (splice-above (c .upto) (c .fixed) w l k))
-    (λ k. splice-below (c .upto) (c .fixed) v l (omega arith) ∙ sym (splice-below (c .upto) (c .fixed) w l (omega arith)))) ∙ sym (c .same w)
+    (λ k. splice-below (c .upto) (c .fixed) v l (omega arith) ∙ sym (splice-below (c .upto) (c .fixed) w l (omega arith))))
+    ∙ sym (c .same w)
 
 part-readsOn : {P : ℕ → Bool} {f g : Fn} → ReadsOn P f → PartOf f g → ReadsOn P g
 part-readsOn {g = g} r p v w h = turn-inj (p .turned) (g v) (g w) (cofactor-readsOn r (p .cofactor) v w h)
@@ -32,7 +33,8 @@ module _ {m N : ℕ} {rows : Rows} (wf : WellFormed m N rows) (P : ℕ → Bool)
       by-cases (Bool-discrete (P (rows .level i)) true) (λ q. q)
       (λ ne.
       let off : (k : ℕ) → P k ≡ true → k ≢ rows .level i = λ k p q. ne (ap P (sym q) ∙ p) in
-      absurd (level-told wf a i e u (λ v. r _ _ (λ k p. upd-other v (rows .level i) false k (off k p) ∙ sym (upd-other v (rows .level i) true k (off k p))))))
+      absurd (level-told wf a i e u
+      (λ v. r _ _ (λ k p. upd-other v (rows .level i) false k (off k p) ∙ sym (upd-other v (rows .level i) true k (off k p))))))
 
   -- An arrow reads only levels that pass P exactly where all rows reached from it are at such levels.
   pub levels-read : (a : ℕ) → Arrow rows a → ReadsOn P (den m rows a) → (i : ℕ) → Reach rows (a ∷ []) i → P (rows .level i) ≡ true

@@ -3,7 +3,8 @@
 use mathlib.Core.Path.{_≡_, refl, sym, _∙_}
 use mathlib.Core.Logic.{⊎-elim, by-cases}
 use mathlib.Core.Bool.{true, Bool-discrete}
-use mathlib.Core.List.{List, [], _∷_, map, List·Memᴰ as Mem, List·Memᴰ·head as here, List·Memᴰ·tail as there, List·Memᴰ·cases-cons as mem-cases, Memᴰ·cast as mem-cast, Memᴰ·map as mem-map, Memᴰ·of-map as mem-of-map}
+use mathlib.Core.List.{List, [], _∷_, map, List·Memᴰ as Mem, List·Memᴰ·head as here, List·Memᴰ·tail as there}
+use mathlib.Core.List.{List·Memᴰ·cases-cons as mem-cases, Memᴰ·cast as mem-cast, Memᴰ·map as mem-map, Memᴰ·of-map as mem-of-map}
 use Prim.Native.Nat.{ℕ, _≤_, _<_}
 use native.Mathlib.Omega.{arith}
 use lib.ListN.{length-map}
@@ -71,7 +72,8 @@ module _ {m N : ℕ} {rows : Rows} (wf : WellFormed m N rows) where
       (mem-cases h)
       in
       let c = need-length m fs in
-      let n = nodup-length (class m lost ∷ map (tab wf) is) (classes m fs) (apart, nodup-map (tab wf) is inj (nodup-usedRows rows N)) within in
+      let n = nodup-length (class m lost ∷ map (tab wf) is) (classes m fs) (apart, nodup-map (tab wf) is inj (nodup-usedRows rows N))
+      within in
       let e = length-map is (tab wf) in
       omega arith
 
@@ -92,6 +94,10 @@ try-full {m} {before = before} {F = F} wf live reads parts p =
     (λ i u. by-cases (Bool-discrete (before .used i) true)
     (λ w.
     let s = parts i w in
-    record { of = s .of; listed = there (s .listed); part = part-same (s .part) (den-extends (p .kept) wf m (row i) (row-arrow before i w)) })
+    record {
+      of = s .of;
+      listed = there (s .listed);
+      part = part-same (s .part) (den-extends (p .kept) wf m (row i) (row-arrow before i w));
+    })
     (λ w. record { of = F; listed = here refl; part = p .fresh i u (not-true _ w) }))
     (r .lost) (record { of = F; listed = here refl; part = r .part }) (r .varies) (r .absent)

@@ -8,7 +8,8 @@ use native.Mathlib.Omega.{arith}
 use lib.Dec.{eqb, eqb-refl, eqb→eq}
 use Rattle.diagram.specs.Level.{Val, turn}
 use Rattle.diagram.proofs.Level.{T-true, T-false}
-use Rattle.diagram.specs.Rows.{Rows, marked, target, Arrow, ArrowTo, levelOf, levelTo, denTo, den, RowOk, WellFormed, Extends, Same, Adds}
+use Rattle.diagram.specs.Rows.{Rows, marked, target, Arrow, ArrowTo, levelOf, levelTo, denTo, den, RowOk, WellFormed, Extends, Same}
+use Rattle.diagram.specs.Rows.{Adds}
 
 pub extends-refl : (rows : Rows) → Extends rows rows
 extends-refl rows = record { used = λ i u. u; level = λ i u. refl; low = λ i u. refl; high = λ i u. refl }
@@ -79,7 +80,8 @@ same-wellFormed s wf = record {
 
 -- Rows may be freed where every arrow of the rows that stay leads to one that stays.
 pub freed-wellFormed : {m N : ℕ} {old new : Rows} → Extends new old → WellFormed m N old
-    → ((i : ℕ) → new .used i ≡ true → Arrow new (new .low i)) → ((i : ℕ) → new .used i ≡ true → Arrow new (new .high i)) → WellFormed m N new
+    → ((i : ℕ) → new .used i ≡ true → Arrow new (new .low i)) → ((i : ℕ) → new .used i ≡ true → Arrow new (new .high i))
+    → WellFormed m N new
 freed-wellFormed {m} {old = old} {new = new} e wf low high = record {
   bounded = λ i u. wf .bounded i (e .used i u);
   ok = λ i u.

@@ -75,7 +75,8 @@ keeps-trans p q = record {
 }
 
 -- Fewer roots reach less; only roots that are arrows to rows count.
-pub reach-within : {rows : Rows} {few roots : List ℕ} → ((a j : ℕ) → Leads a j → Mem a few → Mem a roots) → {i : ℕ} → Reach rows few i → Reach rows roots i
+pub reach-within : {rows : Rows} {few roots : List ℕ} → ((a j : ℕ) → Leads a j → Mem a few → Mem a roots) → {i : ℕ} → Reach rows few i
+    → Reach rows roots i
 reach-within w (root {a = a} {i = i} h e) = root (w a i e h) e
 reach-within w (by-low r e) = by-low (reach-within w r) e
 reach-within w (by-high r e) = by-high (reach-within w r) e
@@ -103,5 +104,6 @@ extends-keeps wf arrows e = record {
 }
 
 -- A table keeps what it has.
-pub keeps-refl : {m N : ℕ} {rows : Rows} {roots : List ℕ} → WellFormed m N rows → ((a : ℕ) → Mem a roots → Arrow rows a) → Keeps rows rows roots
+pub keeps-refl : {m N : ℕ} {rows : Rows} {roots : List ℕ} → WellFormed m N rows → ((a : ℕ) → Mem a roots → Arrow rows a)
+    → Keeps rows rows roots
 keeps-refl {rows = rows} wf arrows = extends-keeps wf arrows (extends-refl rows)

@@ -100,7 +100,9 @@ part-refl f = part-cofactor (cofactor-refl f)
 pub part-trans : {f g h : Fn} → PartOf f g → PartOf g h → PartOf f h
 part-trans {f} {g} {h} p q = record {
   turned = turn (p .turned) (q .turned);
-  cofactor = cofactor-same (cofactor-trans (p .cofactor) (cofactor-turn (p .turned) (q .cofactor))) (λ v. sym (turn-turn (p .turned) (q .turned) (h v)));
+  cofactor =
+      cofactor-same (cofactor-trans (p .cofactor) (cofactor-turn (p .turned) (q .cofactor)))
+      (λ v. sym (turn-turn (p .turned) (q .turned) (h v)));
 }
 
 pub part-same : {f g h : Fn} → PartOf f g → ((v : Val) → h v ≡ g v) → PartOf f h

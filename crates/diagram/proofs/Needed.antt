@@ -2,7 +2,10 @@
 use mathlib.Core.Path.{_≡_, refl, sym, ap, _∙_, subst, fun-ext}
 use mathlib.Core.Logic.{_⊎_, inl, inr, ⊎-elim, by-cases}
 use mathlib.Core.Bool.{Bool, true, false, cond, not, _&&_, _||_, Bool·beq, true≢false, false≢true}
-use mathlib.Core.List.{List, [], _∷_, map, map-map, map-id, flatMap, head-eq-of-cons-eq, tail-eq-of-cons-eq, List·Memᴰ as Mem, List·Memᴰ·head as here, List·Memᴰ·tail as there, List·Memᴰ·cases-cons as mem-cases, List·Memᴰ·not-nil as mem-nil, Memᴰ·cast as mem-cast, Memᴰ·map as mem-map, Memᴰ·of-map as mem-of-map, Memᴰ·append-left as mem-left, Memᴰ·append-right as mem-right, List·Memᴰ·append-cases as append-cases}
+use mathlib.Core.List.{List, [], _∷_, map, map-map, map-id, flatMap, head-eq-of-cons-eq, tail-eq-of-cons-eq, List·Memᴰ as Mem}
+use mathlib.Core.List.{List·Memᴰ·head as here, List·Memᴰ·tail as there, List·Memᴰ·cases-cons as mem-cases, List·Memᴰ·not-nil as mem-nil}
+use mathlib.Core.List.{Memᴰ·cast as mem-cast, Memᴰ·map as mem-map, Memᴰ·of-map as mem-of-map, Memᴰ·append-left as mem-left}
+use mathlib.Core.List.{Memᴰ·append-right as mem-right, List·Memᴰ·append-cases as append-cases}
 use Prim.Native.Nat.{ℕ, zero, suc, _≤_, _<_}
 use native.Mathlib.Decide.{decLe}
 use native.Mathlib.Omega.{arith}
@@ -156,7 +159,9 @@ among-mem : (t : List Bool) (ts : List (List Bool)) → among t ts ≡ true → 
 unfolding among
 among-mem t [] e = absurd (false≢true e)
 among-mem t (s ∷ ss) e =
-    ⊎-elim (λ h. here (⊎-elim (λ g. ap norm (same-eq t s (subst T (sym g) tt))) (λ g. sym (norm-turn true t) ∙ ap norm (same-eq (map not t) s (subst T (sym g) tt)))
+    ⊎-elim (λ h. here
+    (⊎-elim (λ g. ap norm (same-eq t s (subst T (sym g) tt)))
+    (λ g. sym (norm-turn true t) ∙ ap norm (same-eq (map not t) s (subst T (sym g) tt)))
     (or-true (same t s) (same (map not t) s) h)))
     (λ h. there (among-mem t ss h)) (or-true (same t s || same (map not t) s) (among t ss) e)
 
@@ -182,7 +187,8 @@ mem-among t (s ∷ ss) m =
 abbrev pub mixed : List Bool → Bool
 mixed t = has false t && has true t
 
-insert-cases : (t : List Bool) (ts : List (List Bool)) (b c : Bool) → mixed t ≡ b → among t ts ≡ c → insert t ts ≡ cond b (cond c ts (t ∷ ts)) ts
+insert-cases : (t : List Bool) (ts : List (List Bool)) (b c : Bool) → mixed t ≡ b → among t ts ≡ c
+    → insert t ts ≡ cond b (cond c ts (t ∷ ts)) ts
 unfolding insert
 insert-cases t ts b c p q = rw (p, q)
 
@@ -196,10 +202,12 @@ mem-insert t s ts m = go (mixed t) (among t ts) refl refl
     go false true p q = inr (rw (insert-cases t ts false true p q) at m)
     go false false p q = inr (rw (insert-cases t ts false false p q) at m)
 
-insert-mem : (t s : List Bool) (ts : List (List Bool)) → ((s ≡ t) × (mixed t ≡ true)) ⊎ Mem (norm s) (map norm ts) → Mem (norm s) (map norm (insert t ts))
+insert-mem : (t s : List Bool) (ts : List (List Bool)) → ((s ≡ t) × (mixed t ≡ true)) ⊎ Mem (norm s) (map norm ts)
+    → Mem (norm s) (map norm (insert t ts))
 insert-mem t s ts h = go (mixed t) (among t ts) refl refl h
   where
-    go : (b c : Bool) → mixed t ≡ b → among t ts ≡ c → ((s ≡ t) × (mixed t ≡ true)) ⊎ Mem (norm s) (map norm ts) → Mem (norm s) (map norm (insert t ts))
+    go : (b c : Bool) → mixed t ≡ b → among t ts ≡ c → ((s ≡ t) × (mixed t ≡ true)) ⊎ Mem (norm s) (map norm ts)
+        → Mem (norm s) (map norm (insert t ts))
     go true true p q (inl e) = rw (insert-cases t ts true true p q) (mem-cast (ap norm (e .0)) (among-mem t ts q))
     go true false p q (inl e) = rw (insert-cases t ts true false p q) (here (ap norm (e .0)))
     go false true p q (inl e) = absurd (false≢true (sym p ∙ e .1))
@@ -222,7 +230,8 @@ pub mem-distinct : (s : List Bool) (ts : List (List Bool)) → Mem s (distinct t
 unfolding distinct
 mem-distinct s [] m = absurd (mem-nil m)
 mem-distinct s (t ∷ ts) m =
-    ⊎-elim (λ e. (here (e .0), ap mixed (e .0) ∙ e .1)) (λ h. let r = mem-distinct s ts h in (there (r .0), r .1)) (mem-insert t s (distinct ts) m)
+    ⊎-elim (λ e. (here (e .0), ap mixed (e .0) ∙ e .1)) (λ h. let r = mem-distinct s ts h in (there (r .0), r .1))
+    (mem-insert t s (distinct ts) m)
 
 pub distinct-mem : (s : List Bool) (ts : List (List Bool)) → Mem s ts → mixed s ≡ true → Mem (norm s) (map norm (distinct ts))
 unfolding distinct
@@ -257,7 +266,8 @@ cofactor-reads : {m : ℕ} {f g : Fn} → Reads 0 m f → CofactorOf f g → Rea
 cofactor-reads r c v w h =
     c .same v ∙ r _ _ (λ l a b. by-cases (decLe (c .upto) l)
     (λ k. splice-above (c .upto) (c .fixed) v l k ∙ h l a b ∙ sym (splice-above (c .upto) (c .fixed) w l k))
-    (λ k. splice-below (c .upto) (c .fixed) v l (omega arith) ∙ sym (splice-below (c .upto) (c .fixed) w l (omega arith)))) ∙ sym (c .same w)
+    (λ k. splice-below (c .upto) (c .fixed) v l (omega arith) ∙ sym (splice-below (c .upto) (c .fixed) w l (omega arith))))
+    ∙ sym (c .same w)
 
 pub part-reads : {m : ℕ} {f g : Fn} → Reads 0 m f → PartOf f g → Reads 0 m g
 part-reads {g = g} r p v w h = turn-inj (p .turned) (g v) (g w) (cofactor-reads r (p .cofactor) v w h)
@@ -319,11 +329,15 @@ mem-cofactor {m} {f} {g} fs mf r c y =
     by-cases (decLe (c .upto) m)
     (λ h.
     let e : fixLevels (bitsOf (c .upto) (c .fixed)) f ≡ g = fun-ext (λ v. fixLevels-bitsOf (c .upto) (c .fixed) f v ∙ sym (c .same v)) in
-    let mc : Mem g (flatMap (cofactors m) fs) = mem-cast (sym e) (mem-flatMap (cofactors m) fs mf (mem-cofactors m (c .upto) (c .fixed) f h)) in
-    distinct-mem (truthTable m g) (map (truthTable m) (flatMap (cofactors m) fs)) (mem-map (truthTable m) mc) (varies-mixed (cofactor-reads r c) y))
+    let mc : Mem g (flatMap (cofactors m) fs) = mem-cast (sym e)
+    (mem-flatMap (cofactors m) fs mf (mem-cofactors m (c .upto) (c .fixed) f h)) in
+    distinct-mem (truthTable m g) (map (truthTable m) (flatMap (cofactors m) fs)) (mem-map (truthTable m) mc)
+    (varies-mixed (cofactor-reads r c) y))
     (λ h. absurd
     (false≢true (sym (y .at-off) ∙ c .same (y .off)
-    ∙ r _ _ (λ l a b. splice-below (c .upto) (c .fixed) (y .off) l (omega arith) ∙ sym (splice-below (c .upto) (c .fixed) (y .on) l (omega arith)))
+    ∙ r _ _
+    (λ l a b. splice-below (c .upto) (c .fixed) (y .off) l (omega arith)
+    ∙ sym (splice-below (c .upto) (c .fixed) (y .on) l (omega arith)))
     ∙ sym (c .same (y .on)) ∙ y .at-on)))
 
 pub mem-needed : {m : ℕ} {f g : Fn} (fs : List Fn) → Mem f fs → Reads 0 m f → PartOf f g → Varies g → Mem (class m g) (classes m fs)
@@ -351,7 +365,8 @@ needed-within m fs gs w t h =
     let (g, mg, eg) = mem-of-map (truthTable m) (flatMap (cofactors m) fs) (d .0) in
     let (f, mf, mc) = mem-of-flatMap (cofactors m) fs mg in
     mem-cast (sym es)
-    (distinct-mem s (map (truthTable m) (flatMap (cofactors m) gs)) (mem-cast (sym eg) (mem-map (truthTable m) (mem-flatMap (cofactors m) gs (w f mf) mc))) (d .1))
+    (distinct-mem s (map (truthTable m) (flatMap (cofactors m) gs))
+    (mem-cast (sym eg) (mem-map (truthTable m) (mem-flatMap (cofactors m) gs (w f mf) mc))) (d .1))
 
 pub need-mono : (m : ℕ) (fs gs : List Fn) → Within fs gs → need m fs ≤ need m gs
 need-mono m fs gs w = need-classes m fs gs (needed-within m fs gs w)

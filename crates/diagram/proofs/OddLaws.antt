@@ -101,7 +101,8 @@ from-fewer zero (suc n) j h r v = absurd (omega arith)
 from-fewer (suc d) zero j h r v = from-above (suc d) j (omega arith) r v
 from-fewer {f} (suc d) (suc n) j h r v =
     let e : 2 * (j + suc n) ≡ 2 * (suc j + n) = omega arith in
-    let i : existsFrom d (suc j) f ≡ existsFrom n (suc j) f = fun-ext (from-fewer d n (suc j) (omega arith) (subst (λ (k : ℕ). Reads 0 k f) e r)) in
+    let i : existsFrom d (suc j) f
+    ≡ existsFrom n (suc j) f = fun-ext (from-fewer d n (suc j) (omega arith) (subst (λ (k : ℕ). Reads 0 k f) e r)) in
     ap (λ (g : Fn). existsF (suc (2 * j)) g v) i
 
 -- what reads no level is its own
@@ -136,7 +137,8 @@ child-extends : {old new : Rows} → Extends old new → (i : ℕ) (b : Bool) �
 child-extends e i false u = e .low i u
 child-extends e i true u = e .high i u
 
-follows-back : {m N : ℕ} {old new : Rows} {a c : ℕ} → WellFormed m N old → Extends old new → Arrow old a → Follows new a c → Follows old a c × Arrow old c
+follows-back : {m N : ℕ} {old new : Rows} {a c : ℕ} → WellFormed m N old → Extends old new → Arrow old a → Follows new a c
+    → Follows old a c × Arrow old c
 follows-back wf e u self = (self, u)
 follows-back {old = old} {new = new} {a = a} wf e u (on {c = c} {i = i} b t l) =
     let (s, w) = follows-back wf e u t in
@@ -144,7 +146,8 @@ follows-back {old = old} {new = new} {a = a} wf e u (on {c = c} {i = i} b t l) =
     let q : follow old c i b ≡ follow new c i b = ap (carry (marked c)) (sym (child-extends e i b ui)) in
     (subst (Follows old a) q (on b s l), subst (Arrow old) q (follow-arrow wf c i l b ui))
 
-pub covered-extends : {m N : ℕ} {old new : Rows} {a : ℕ} → WellFormed m N old → Extends old new → Arrow old a → Covered m old a → Covered m new a
+pub covered-extends : {m N : ℕ} {old new : Rows} {a : ℕ} → WellFormed m N old → Extends old new → Arrow old a → Covered m old a
+    → Covered m new a
 covered-extends {m} {old = old} {new = new} wf e u c x r =
     let (t, w) = follows-back wf e u r in
     let (b, d) = c x t in
@@ -157,7 +160,8 @@ follows-constant e self = refl
 follows-constant {a = a} e (on {c = c} b t l) = let q = ap target (follows-constant e t) in absurd (omega (arith, q, l, e))
 
 pub covered-constant : (m : ℕ) (rows : Rows) (a : ℕ) → target a ≡ 0 → Covered m rows a
-covered-constant m rows a e c t = (a, subst (λ (x : ℕ). Denotes m rows a (oddF (den m rows x))) (sym (follows-constant e t)) (odd-constant m rows a e))
+covered-constant m rows a e c t =
+    (a, subst (λ (x : ℕ). Denotes m rows a (oddF (den m rows x))) (sym (follows-constant e t)) (odd-constant m rows a e))
 
 -- what is followed from an arrow to row i is the arrow itself, or followed from one of the two that are followed first
 data From (rows : Rows) (a i : ℕ) (c : ℕ) : Type 0 where

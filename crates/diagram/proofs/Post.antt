@@ -6,7 +6,8 @@ use Prim.Native.Nat.{ℕ, suc, _/_, _≤_, _<_}
 use native.Mathlib.Decide.{ℕ-discrete}
 use native.Mathlib.Omega.{arith}
 use Rattle.diagram.specs.Level.{Val, Fn, CofactorOf}
-use Rattle.diagram.proofs.Level.{turn-back, Reads, Splits, splits-turn, part-cofactor, part-refl, part-trans, part-same, part-of-turned, splits-low, splits-high}
+use Rattle.diagram.proofs.Level.{turn-back, Reads, Splits, splits-turn, part-cofactor, part-refl, part-trans, part-same}
+use Rattle.diagram.proofs.Level.{part-of-turned, splits-low, splits-high}
 use Rattle.diagram.specs.Rows.{Rows, marked, row, flip, levelOf, den, WellFormed, Extends, Same, Adds}
 use Rattle.diagram.proofs.Rows.{row-leads, row-arrow, leads-used, carry-arrow, marked-odd, even-marked}
 use Rattle.diagram.proofs.Den.{den-row, den-flip}
@@ -14,15 +15,18 @@ use Rattle.diagram.proofs.Grow.{extends-refl, extends-trans, arrow-exte
 use Rattle.diagram.specs.Used.{usedCount}
 use Rattle.diagram.proofs.Used.{usedCount-extends}
 use Rattle.diagram.proofs.Canon.{not-true, canonical, row-varies, reads-level}
-use Rattle.diagram.specs.Post.{Result, at, full, Denotes, Full, Answers, OpPost, Plain, equal-arrows, found-row, added-row, no-row, flipped, Making, as-is, turned}
+use Rattle.diagram.specs.Post.{Result, at, full, Denotes, Full, Answers, OpPost, Plain, equal-arrows, found-row, added-row, no-row}
+use Rattle.diagram.specs.Post.{flipped, Making, as-is, turned}
 
 -- An arrow denotes in a larger table what it denoted.
-pub denotes-extends : {m N : ℕ} {old new : Rows} {a : ℕ} {F : Fn} → WellFormed m N old → Extends old new → Denotes m old a F → Denotes m new a F
+pub denotes-extends : {m N : ℕ} {old new : Rows} {a : ℕ} {F : Fn} → WellFormed m N old → Extends old new → Denotes m old a F
+    → Denotes m new a F
 denotes-extends {m} {a = a} wf e d =
     record { arrow = arrow-extends e a (d .arrow); same = λ v. den-extends e wf m a (d .arrow) v ∙ d .same v }
 
 -- An arrow that is there already answers for its function.
-pub post-arrow : {m N limit : ℕ} {rows : Rows} {a : ℕ} {F : Fn} → WellFormed m N rows → Denotes m rows a F → OpPost m N limit rows rows (at a) F
+pub post-arrow : {m N limit : ℕ} {rows : Rows} {a : ℕ} {F : Fn} → WellFormed m N rows → Denotes m rows a F
+    → OpPost m N limit rows rows (at a) F
 post-arrow {rows = rows} wf d = record {
   wf = wf;
   kept = extends-refl rows;
@@ -31,18 +35,27 @@ post-arrow {rows = rows} wf d = record {
 }
 
 -- A promise for F is one for each function with the same values.
-pub post-cong : {m N limit : ℕ} {before after : Rows} {answer : Result} {F G : Fn} → ((v : Val) → F v ≡ G v) → OpPost m N limit before after answer F → OpPost m N limit before after answer G
+pub post-cong : {m N limit : ℕ} {before after : Rows} {answer : Result} {F G : Fn} → ((v : Val) → F v ≡ G v)
+    → OpPost m N limit before after answer F → OpPost m N limit before after answer G
 post-cong {m} {N} {limit} {before} {after} {answer} e p = subst (λ H. OpPost m N limit before after answer H) (fun-ext e) p
 
 -- A full table is full for each function that has F as a cofactor.
-pub post-full : {m N limit : ℕ} {before after : Rows} {F G : Fn} → CofactorOf G F → OpPost m N limit before after full F → OpPost m N limit before after full G
+pub post-full : {m N limit : ℕ} {before after : Rows} {F G : Fn} → CofactorOf G F → OpPost m N limit before after full F
+    → OpPost m N limit before after full G
 post-full c p =
     let r = p .result in
     record {
       wf = p .wf;
       kept = p .kept;
       fresh = λ i u n. part-trans (part-cofactor c) (p .fresh i u n);
-      result = record { run-out = r .run-out; lost = r .lost; part = part-trans (part-cofactor c) (r .part); varies = r .varies; absent = r .absent };
+      result =
+          record {
+            run-out = r .run-out;
+            lost = r .lost;
+            part = part-trans (part-cofactor c) (r .part);
+            varies = r .varies;
+            absent = r .absent;
+          };
     }
 
 -- An operation for a cofactor G of F, and after it one for F, are one for F.
@@ -58,7 +71,8 @@ post-then {m} {mid = mid} c p q = record {
 }
 
 -- An operation that then changes no row, as by remembering its result, is the same operation.
-pub post-same : {m N limit : ℕ} {before mid after : Rows} {answer : Result} {F : Fn} → Same mid after → OpPost m N limit before mid answer F → OpPost m N limit before after answer F
+pub post-same : {m N limit : ℕ} {before mid after : Rows} {answer : Result} {F : Fn} → Same mid after → OpPost m N limit before mid answer F
+    → OpPost m N limit before after answer F
 post-same {m} {N} {limit} {mid = mid} {after = after} {answer = answer} {F = F} s p = record {
   wf = same-wellFormed s (p .wf);
   kept = extends-trans (p .kept) (s .forth);
@@ -91,7 +105,8 @@ post-flip {m} {N} {limit} {after = after} {answer = answer} {F = F} p =
   where
     turns : (o : Result) → Answers m N limit after o F → Answers m N limit after (flipped o) (λ v. not (F v))
     turns (at a) r = denotes-flip r
-    turns full r = record { run-out = r .run-out; lost = r .lost; part = part-of-turned true (r .part); varies = r .varies; absent = r .absent }
+    turns full r =
+        record { run-out = r .run-out; lost = r .lost; part = part-of-turned true (r .part); varies = r .varies; absent = r .absent }
 
 -- A row whose arrows denote the two parts of F denotes F.
 row-denotes : {m N : ℕ} {rows : Rows} {i l a b : ℕ} {F F0 F1 : Fn} → WellFormed m N rows → Splits m l F F0 F1
@@ -108,7 +123,8 @@ row-denotes {rows = rows} {i = i} wf f u el ea eb d0 d1 = record {
 }
 
 -- An arrow that denotes a function of levels from k on leads there.
-denotes-level : {m N : ℕ} {rows : Rows} {a : ℕ} {F : Fn} (k : ℕ) → WellFormed m N rows → k ≤ m → Denotes m rows a F → Reads k m F → k ≤ levelOf m rows a
+denotes-level : {m N : ℕ} {rows : Rows} {a : ℕ} {F : Fn} (k : ℕ) → WellFormed m N rows → k ≤ m → Denotes m rows a F → Reads k m F
+    → k ≤ levelOf m rows a
 denotes-level {a = a} k wf km d r =
     reads-level wf k a km (d .arrow) (λ v w h. d .same v ∙ r v w h ∙ sym (d .same w))
 
@@ -124,7 +140,8 @@ module _ {m N : ℕ} {before : Rows} {l a b : ℕ} {F F0 F1 : Fn} (wf : WellForm
   grown : {N′ : ℕ} {new : Rows} {i : ℕ} → Adds before new i l a b → i < N′ → N ≤ N′ → a ≢ b
       → ((j : ℕ) → before .used j ≡ true → before .level j ≡ l → before .low j ≡ a → before .high j ≡ b → ⊥) → WellFormed m N′ new
   grown s room more ne fresh =
-      adds-wellFormed wf s room more lm (d0 .arrow) (d1 .arrow) (denotes-level (suc l) wf lm d0 (f .reads0)) (denotes-level (suc l) wf lm d1 (f .reads1)) ne pb fresh
+      adds-wellFormed wf s room more lm (d0 .arrow) (d1 .arrow) (denotes-level (suc l) wf lm d0 (f .reads0))
+      (denotes-level (suc l) wf lm d1 (f .reads1)) ne pb fresh
 
   added-denotes : {N′ : ℕ} {new : Rows} {i : ℕ} → Adds before new i l a b → WellFormed m N′ new → Denotes m new (row i) F
   added-denotes s wf′ =
@@ -146,12 +163,14 @@ module _ {m N : ℕ} {before : Rows} {l a b : ℕ} {F F0 F1 : Fn} (wf : WellForm
         varies = record { off = y .off; on = y .on; at-off = sym (d .same (y .off)) ∙ y .at-off; at-on = sym (d .same (y .on)) ∙ y .at-on };
         absent = λ c u e.
             let g : c ≡ row N =
-            canonical wf′ c (row N) (arrow-extends (s .kept) c u) (row-arrow _ N (s .used)) (λ v. den-extends (s .kept) wf m c u v ∙ e v ∙ sym (d .same v))
+            canonical wf′ c (row N) (arrow-extends (s .kept) c u) (row-arrow _ N (s .used))
+            (λ v. den-extends (s .kept) wf m c u v ∙ e v ∙ sym (d .same v))
             in
             true≢false (sym (leads-used before c N (ap (λ x. x / 2) g ∙ row-leads N) u) ∙ out);
       }
 
-  post-plain : {limit : ℕ} {after : Rows} {answer : Result} → Plain m N limit before after l a b answer → OpPost m N limit before after answer F
+  post-plain : {limit : ℕ} {after : Rows} {answer : Result} → Plain m N limit before after l a b answer
+      → OpPost m N limit before after answer F
   post-plain (equal-arrows e s) =
       post-same s (post-arrow wf (record {
         arrow = d0 .arrow;
@@ -183,7 +202,8 @@ module _ {m N : ℕ} {before : Rows} {l a b : ℕ} {F F0 F1 : Fn} (wf : WellForm
       })
 
 -- Then with any arrows.
-pub post-make : {m N limit : ℕ} {before after : Rows} {l a b : ℕ} {F F0 F1 : Fn} {answer : Result} → WellFormed m N before → l < m → Splits m l F F0 F1
+pub post-make : {m N limit : ℕ} {before after : Rows} {l a b : ℕ} {F F0 F1 : Fn} {answer : Result} → WellFormed m N before → l < m
+    → Splits m l F F0 F1
     → Denotes m before a F0 → Denotes m before b F1 → Making m N limit before after l a b answer → OpPost m N limit before after answer F
 post-make wf lm f d0 d1 (as-is pb r) = post-plain wf lm f d0 d1 pb r
 post-make {m} {N} {limit} {before} {after} {b = b} {F = F} wf lm f d0 d1 (turned mb r e) =
@@ -196,7 +216,8 @@ post-make {m} {N} {limit} {before} {after} {b = b} {F = F} wf lm f d0 d1 (turned
 -- the table that it starts from.
 pub data Run (m N limit : ℕ) (before after : Rows) (l : ℕ) (F0 : Fn) (F1 : Rows → Fn) : Result → Type 0 where
   low-full : OpPost m N limit before after full F0 → Run m N limit before after l F0 F1 full
-  high-full : {mid : Rows} {a : ℕ} → OpPost m N limit before mid (at a) F0 → OpPost m N limit mid after full (F1 mid) → Run m N limit before after l F0 F1 full
+  high-full : {mid : Rows} {a : ℕ} → OpPost m N limit before mid (at a) F0 → OpPost m N limit mid after full (F1 mid)
+      → Run m N limit before after l F0 F1 full
   made : {mid high : Rows} {a b : ℕ} {answer : Result} → OpPost m N limit before mid (at a) F0 → OpPost m N limit mid high (at b) (F1 mid)
       → Making m N limit high after l a b answer → Run m N limit before after l F0 F1 answer
 
@@ -206,7 +227,8 @@ pub compose : {m N limit : ℕ} {before after : Rows} {l : ℕ} {F F0 : Fn} {F1 
     → l < m → Splits m l F F0 (F1 before) → ((mid : Rows) → Extends before mid → (v : Val) → F1 mid v ≡ F1 before v)
     → Run m N limit before after l F0 F1 answer → OpPost m N limit before after answer F
 compose lm s stable (low-full p) = post-full (splits-low s) p
-compose lm s stable (high-full {mid = mid} p q) = post-then (splits-low s) p (post-full (splits-high s) (post-cong (stable mid (p .kept)) q))
+compose lm s stable (high-full {mid = mid} p q) =
+    post-then (splits-low s) p (post-full (splits-high s) (post-cong (stable mid (p .kept)) q))
 compose lm s stable (made {mid = mid} p q r) =
     let q′ = post-cong (stable mid (p .kept)) q in
     post-then (splits-low s) p

@@ -2,14 +2,17 @@
 use mathlib.Core.Path.{_≡_, refl, sym, ap, _∙_, subst}
 use mathlib.Core.Logic.{by-cases}
 use mathlib.Core.Bool.{Bool, true, false}
-use mathlib.Core.List.{List, [], _∷_, map, List·Memᴰ as Mem, List·Memᴰ·head as here, List·Memᴰ·eq-of-singleton as mem-only, Memᴰ·cast as mem-cast, Memᴰ·map as mem-map, Memᴰ·of-map as mem-of-map}
+use mathlib.Core.List.{List, [], _∷_, map, List·Memᴰ as Mem, List·Memᴰ·head as here, List·Memᴰ·eq-of-singleton as mem-only}
+use mathlib.Core.List.{Memᴰ·cast as mem-cast, Memᴰ·map as mem-map, Memᴰ·of-map as mem-of-map}
 use Prim.Native.Nat.{ℕ, zero, suc, _+_, _≤_, _<_}
 use native.Mathlib.Decide.{decLe}
 use native.Mathlib.Omega.{arith}
 use lib.ListN.{length, length-map}
 use Rattle.diagram.specs.Level.{Val, Fn, turn, splice, CofactorOf, PartOf, Varies}
-use Rattle.diagram.proofs.Level.{turn-back, splice-below, splice-above, Reads, reads-from, part-cofactor, part-trans, part-turned, varies-not, splits-low, splits-high}
-use Rattle.diagram.specs.Rows.{Rows, marked, target, Leads, row, carry, Arrow, ArrowTo, levelOf, levelTo, child, follow, den, WellFormed}
+use Rattle.diagram.proofs.Level.{turn-back, splice-below, splice-above, Reads, reads-from, part-cofactor, part-trans, part-turned}
+use Rattle.diagram.proofs.Level.{varies-not, splits-low, splits-high}
+use Rattle.diagram.specs.Rows.{Rows, marked, target, Leads, row, carry, Arrow, ArrowTo, levelOf, levelTo, child, follow, den}
+use Rattle.diagram.specs.Rows.{WellFormed}
 use Rattle.diagram.proofs.Rows.{row-arrow, carry-target, carry-arrow, leads-used, leads-level}
 use Rattle.diagram.proofs.Den.{den-carry, den-leads, den-constant, den-reads, row-splits, follow-arrow, follow-deeper, den-chosen}
 use Rattle.diagram.proofs.Canon.{canonical, row-varies}
@@ -54,7 +57,8 @@ module _ (rows : Rows) (roots : List ℕ) where
 
   -- What is followed from a reached arrow is reached.
   pub reached-follow : (a i : ℕ) (b : Bool) → Reached rows roots a → Leads a i → Reached rows roots (follow rows a i b)
-  reached-follow a i b r e = subst (ReachedTo rows roots) (sym (carry-target (marked a) (child rows i b))) (reached-child b (subst (ReachedTo rows roots) e r))
+  reached-follow a i b r e =
+      subst (ReachedTo rows roots) (sym (carry-target (marked a) (child rows i b))) (reached-child b (subst (ReachedTo rows roots) e r))
 
 -- From one root: what holds of it holds of every root.
 pub one-root : (P : ℕ → Type 0) {a : ℕ} → P a → (b : ℕ) → Mem b (a ∷ []) → P b
@@ -86,7 +90,8 @@ module _ {m N : ℕ} {rows : Rows} (wf : WellFormed m N rows) where
   -- What a row denotes is a part of what an arrow to it denotes.
   leads-part : (a i : ℕ) → Leads a i → PartOf (den m rows a) (den m rows (row i))
   leads-part a i e =
-      part-turned {f = den m rows a} (marked a) (λ v. sym (turn-back (marked a) (den m rows (row i) v)) ∙ sym (ap (turn (marked a)) (den-leads m rows a i e v)))
+      part-turned {f = den m rows a} (marked a)
+      (λ v. sym (turn-back (marked a) (den m rows (row i) v)) ∙ sym (ap (turn (marked a)) (den-leads m rows a i e v)))
 
   module _ {roots : List ℕ} (arrows : (a : ℕ) → Mem a roots → Arrow rows a) where
     -- A reached row is used.
@@ -133,7 +138,8 @@ module _ {m N : ℕ} {rows : Rows} (wf : WellFormed m N rows) where
       Walked a = Arrived m rows P (λ v. den m rows a (splice k u v))
 
       -- A row of a level below k is left by the arrow of the fixed bit.
-      walk-on : (a i : ℕ) (b : Bool) → Leads a i → u (rows .level i) ≡ b → rows .used i ≡ true → rows .level i < k → Walked (follow rows a i b) → Walked a
+      walk-on : (a i : ℕ) (b : Bool) → Leads a i → u (rows .level i) ≡ b → rows .used i ≡ true → rows .level i < k
+          → Walked (follow rows a i b) → Walked a
       walk-on a i b l e w h c = record {
         arrow = c .arrow;
         holds = c .holds;
@@ -141,8 +147,10 @@ module _ {m N : ℕ} {rows : Rows} (wf : WellFormed m N rows) where
         same = λ v. c .same v ∙ sym (den-chosen wf a i l b w (splice k u v) (splice-below k u v (rows .level i) h ∙ e));
       }
 
-      walk-step : (a x : ℕ) → target a ≡ x → P a → Arrow rows a → ((c : ℕ) → levelOf m rows a < levelOf m rows c → P c → Arrow rows c → Walked c) → Walked a
-      walk-step a zero e p w below = record { arrow = a; holds = p; is-arrow = w; same = λ v. den-constant m rows a e v ∙ sym (den-constant m rows a e _) }
+      walk-step : (a x : ℕ) → target a ≡ x → P a → Arrow rows a
+          → ((c : ℕ) → levelOf m rows a < levelOf m rows c → P c → Arrow rows c → Walked c) → Walked a
+      walk-step a zero e p w below =
+          record { arrow = a; holds = p; is-arrow = w; same = λ v. den-constant m rows a e v ∙ sym (den-constant m rows a e _) }
       walk-step a (suc i) e p w below =
           let b = u (rows .level i) in
           let ui = leads-used rows a i e w in
@@ -154,7 +162,8 @@ module _ {m N : ℕ} {rows : Rows} (wf : WellFormed m N rows) where
             is-arrow = w;
             same = λ v. den-reads wf m a w v _ (λ j q _. sym (splice-above k u v j (omega arith)));
           })
-          (λ h. walk-on a i b e refl ui (omega arith) (below (follow rows a i b) (rw l (follow-deeper wf a i e b ui)) (on a i b p e) (follow-arrow wf a i e b ui)))
+          (λ h. walk-on a i b e refl ui (omega arith)
+          (below (follow rows a i b) (rw l (follow-deeper wf a i e b ui)) (on a i b p e) (follow-arrow wf a i e b ui)))
 
       walk-by : (d a : ℕ) → m ≤ levelOf m rows a + d → P a → Arrow rows a → Walked a
       walk-by zero a h p w = walk-step a (target a) refl p w (λ c g p′ w′. let q = level-le (target c) w′ in absurd (omega arith))
@@ -172,7 +181,8 @@ module _ {m N : ℕ} {rows : Rows} (wf : WellFormed m N rows) where
   pub tab-inj : (i j : ℕ) → rows .used i ≡ true → rows .used j ≡ true → tab i ≡ tab j → i ≡ j
   tab-inj i j u w e =
       let (b, q) = class-eq (den-reads-all (row i) (row-arrow rows i u)) (den-reads-all (row j) (row-arrow rows j w)) e in
-      let c = canonical wf (carry b (row i)) (row j) (carry-arrow rows b (row i) (row-arrow rows i u)) (row-arrow rows j w) (λ v. den-carry m rows b (row i) v ∙ q v) in
+      let c = canonical wf (carry b (row i)) (row j) (carry-arrow rows b (row i) (row-arrow rows i u)) (row-arrow rows j w)
+      (λ v. den-carry m rows b (row i) v ∙ q v) in
       let t = carry-target b (row i) in
       let s : target (row i) ≡ target (row j) = sym t ∙ ap target c in
       omega arith
@@ -202,18 +212,22 @@ module _ {m N : ℕ} {rows : Rows} (wf : WellFormed m N rows) where
         let (i, mi, e) = mem-of-map tab is h in
         let (a, ma, c) = reach-part arrows (only i mi) in
         mem-cast (sym e)
-        (mem-needed (map (den m rows) roots) (mem-map (den m rows) ma) (den-reads-all a (arrows a ma)) c (row-varies wf i (reach-used arrows (only i mi))))
+        (mem-needed (map (den m rows) roots) (mem-map (den m rows) ma) (den-reads-all a (arrows a ma)) c
+        (row-varies wf i (reach-used arrows (only i mi))))
 
     needed-tabs : Within (classes m (map (den m rows) roots)) (map tab is)
     needed-tabs t h =
         let s = needed-source m (map (den m rows) roots) t h in
         let (a, ma, e) = mem-of-map (den m rows) roots (s .listed) in
-        let (i, r, w, q) = cofactor-row roots a (s .part) ma (arrows a ma) (subst (λ f. CofactorOf f (s .part)) (sym e) (s .cofactor)) (s .varies) in
+        let (i, r, w, q) = cofactor-row roots a (s .part) ma (arrows a ma) (subst (λ f. CofactorOf f (s .part)) (sym e) (s .cofactor))
+        (s .varies) in
         mem-cast (sym (q ∙ s .told)) (mem-map tab (all i r))
 
     pub reach-count : NoDup is → length is ≡ need m (map (den m rows) roots)
     reach-count d =
-        let inj : (i j : ℕ) → Mem i is → Mem j is → tab i ≡ tab j → i ≡ j = λ i j mi mj e. tab-inj i j (reach-used arrows (only i mi)) (reach-used arrows (only j mj)) e in
+        let inj : (i j : ℕ) → Mem i is → Mem j is → tab i ≡ tab j
+        → i ≡ j = λ i j mi mj e. tab-inj i j (reach-used arrows (only i mi)) (reach-used arrows (only j mj)) e in
         sym (length-map is tab)
-        ∙ nodup-same-length (map tab is) (classes m (map (den m rows) roots)) (nodup-map tab is inj d) (nodup-needed m (map (den m rows) roots)) tabs-needed needed-tabs
+        ∙ nodup-same-length (map tab is) (classes m (map (den m rows) roots)) (nodup-map tab is inj d)
+        (nodup-needed m (map (den m rows) roots)) tabs-needed needed-tabs
         ∙ need-length m (map (den m rows) roots)

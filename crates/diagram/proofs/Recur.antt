@@ -1,4 +1,5 @@
--- The recursive steps meet the side conditions of `compose`: which two calls and which level make AND, SHIFT and EXISTS. NOT is no call, and
+-- The recursive steps meet the side conditions of `compose`: which two calls and which level make AND, SHIFT and EXISTS.
+-- NOT is no call, and
 -- OR is NOT of AND. Assumes nothing.
 use mathlib.Core.Path.{_≡_, sym, ap, _∙_, subst₂, fun-ext}
 use mathlib.Core.Bool.{Bool, true, false, true≢false}
@@ -27,17 +28,21 @@ module _ {m N : ℕ} {rows : Rows} (wf : WellFormed m N rows) where
   answer-same a F u e = answer-arrow a F u (λ v. sym (e v))
 
   -- EXISTS at a level less than the arrow's.
-  pub exists-leaf : {limit : ℕ} (x a : ℕ) → Arrow rows a → x < levelOf m rows a → OpPost m N limit rows rows (at a) (existsF x (den m rows a))
+  pub exists-leaf : {limit : ℕ} (x a : ℕ) → Arrow rows a → x < levelOf m rows a
+      → OpPost m N limit rows rows (at a) (existsF x (den m rows a))
   exists-leaf x a u h = answer-same a (existsF x (den m rows a)) u (exists-past x h (den-reads wf m a u))
 
 -- The step that makes a bit.
-pub bit-made : {m N limit l : ℕ} {before after : Rows} {answer : Result} → WellFormed m N before → l < m → Making m N limit before after l 0 1 answer
+pub bit-made : {m N limit l : ℕ} {before after : Rows} {answer : Result} → WellFormed m N before → l < m
+    → Making m N limit before after l 0 1 answer
     → OpPost m N limit before after answer (bitF l)
 bit-made {m} {before = before} wf lm r =
-    post-make wf lm (bit-splits m _) (record { arrow = tt; same = λ v. den-zero m before v }) (record { arrow = tt; same = λ v. den-one m before v }) r
+    post-make wf lm (bit-splits m _) (record { arrow = tt; same = λ v. den-zero m before v })
+    (record { arrow = tt; same = λ v. den-one m before v }) r
 
 -- A remembered result stays right while rows are only added.
-pub remembered : {m N : ℕ} {old new : Rows} (G : Fn → Fn → Fn) (a b r : ℕ) → WellFormed m N old → Extends old new → Arrow old a → Arrow old b
+pub remembered : {m N : ℕ} {old new : Rows} (G : Fn → Fn → Fn) (a b r : ℕ) → WellFormed m N old → Extends old new → Arrow old a
+    → Arrow old b
     → Denotes m old r (G (den m old a) (den m old b)) → Denotes m new r (G (den m new a) (den m new b))
 remembered {m} {old = old} {new = new} G a b r wf e ua ub d =
     let ea : den m old a ≡ den m new a = fun-ext (λ v. sym (den-extends e wf m a ua v)) in
@@ -59,7 +64,8 @@ divided d r = compose (d .shallow) (d .splits) (d .stable) r
 module _ {m N l a x y : ℕ} {before : Rows} (wf : WellFormed m N before) (lm : l < m) (s : Parts m before l a x y) where
   -- AND and OR, by `op`.
   pub two-divides : (op : Bool → Bool → Bool) {b z w : ℕ} → Parts m before l b z w
-      → Divides m before l (twoF op (den m before a) (den m before b)) (twoF op (den m before x) (den m before z)) (λ t. twoF op (den m t y) (den m t w))
+      → Divides m before l (twoF op (den m before a) (den m before b)) (twoF op (den m before x) (den m before z))
+      (λ t. twoF op (den m t y) (den m t w))
   two-divides op {w = w} t = record {
     shallow = lm;
     splits = two-splits (s .splits) op (t .splits);
@@ -70,7 +76,8 @@ module _ {m N l a x y : ℕ} {before : Rows} (wf : WellFormed m N before) (lm : 
   }
 
   -- EXISTS at a greater level k.
-  pub exists-divides : (k : ℕ) → l < k → Divides m before l (existsF k (den m before a)) (existsF k (den m before x)) (λ t. existsF k (den m t y))
+  pub exists-divides : (k : ℕ) → l < k
+      → Divides m before l (existsF k (den m before a)) (existsF k (den m before x)) (λ t. existsF k (den m t y))
   exists-divides k h = record {
     shallow = lm;
     splits = exists-splits (s .splits) k h;
@@ -82,7 +89,8 @@ module _ {m N l a x y : ℕ} {before : Rows} (wf : WellFormed m N before) (lm : 
 
 -- EXISTS at the level of the parts is OR of them.
 pub exists-or : {m N limit l a x y : ℕ} {before after : Rows} {answer : Result} → Parts m before l a x y
-    → OpPost m N limit before after answer (orF (den m before x) (den m before y)) → OpPost m N limit before after answer (existsF l (den m before a))
+    → OpPost m N limit before after answer (orF (den m before x) (den m before y))
+    → OpPost m N limit before after answer (existsF l (den m before a))
 exists-or s p = post-cong (λ v. sym (exists-here (s .splits) v)) p
 
 -- The number after an odd one is even.
@@ -99,7 +107,8 @@ shift-reads-all (suc k) em on r = reads-from 0 (omega arith) (shift-reads (even-
 -- SHIFT at an arrow to row i, of a function of even levels, where m is even: the row that is made is one level further.
 pub shift-divides : (m : ℕ) {N : ℕ} {before : Rows} (a i : ℕ) → Leads a i → even m ≡ true → (wf : WellFormed m N before)
     → before .used i ≡ true → ReadsOn even (den m before a)
-    → Divides m before (suc (before .level i)) (shiftF (den m before a)) (shiftF (den m before (follow before a i false))) (λ t. shiftF (den m t (follow before a i true)))
+    → Divides m before (suc (before .level i)) (shiftF (den m before a)) (shiftF (den m before (follow before a i false)))
+    (λ t. shiftF (den m t (follow before a i true)))
 shift-divides zero a i g em wf u on = absurd (let o = wf .ok i u in omega arith)
 shift-divides (suc k) {before = before} a i g em wf u on =
     let o = wf .ok i u in
@@ -108,7 +117,8 @@ shift-divides (suc k) {before = before} a i g em wf u on =
     let odd = odd-pred k em in
     let le : even l ≡ true = row-level-read wf even a i g u on in
     let ne : l ≢ k = λ e. true≢false (sym le ∙ ap even e ∙ odd) in
-    let s′ : Splits k l (den (suc k) before a) (den (suc k) before (follow before a i false)) (den (suc k) before (follow before a i true)) = record {
+    let s′ : Splits k l (den (suc k) before a) (den (suc k) before (follow before a i false))
+    (den (suc k) before (follow before a i true)) = record {
       same = s .same;
       reads0 = even-reads (suc l) k odd (cofactor-readsOn on (splits-low s)) (s .reads0);
       reads1 = even-reads (suc l) k odd (cofactor-readsOn on (splits-high s)) (s .reads1);

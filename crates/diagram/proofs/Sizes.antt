@@ -2,7 +2,9 @@
 use mathlib.Core.Path.{_≡_, refl, sym, ap, _∙_, subst}
 use mathlib.Core.Logic.{_⊎_, inl, inr, ⊎-elim}
 use mathlib.Core.Bool.{Bool}
-use mathlib.Core.List.{List, [], _∷_, _++_, map, List·Memᴰ as Mem, List·Memᴰ·head as here, List·Memᴰ·cases-cons as mem-cases, List·Memᴰ·append-cases as append-cases, Memᴰ·cast as mem-cast, Memᴰ·map as mem-map, Memᴰ·of-map as mem-of-map, Memᴰ·append-left as append-left, Memᴰ·append-right as append-right}
+use mathlib.Core.List.{List, [], _∷_, _++_, map, List·Memᴰ as Mem, List·Memᴰ·head as here, List·Memᴰ·cases-cons as mem-cases}
+use mathlib.Core.List.{List·Memᴰ·append-cases as append-cases, Memᴰ·cast as mem-cast, Memᴰ·map as mem-map, Memᴰ·of-map as mem-of-map}
+use mathlib.Core.List.{Memᴰ·append-left as append-left, Memᴰ·append-right as append-right}
 use Prim.Native.Nat.{ℕ, _+_, _≤_}
 use native.Mathlib.Omega.{arith}
 use lib.ListN.{length, length-map, length-append}
@@ -21,12 +23,14 @@ use Rattle.diagram.proofs.Keep.{keeps-reach, keeps-reach-back, reach-wi
 use Rattle.diagram.specs.Sizes.{Reaches, Outside}
 
 -- They are as many as the roots need.
-pub reaches-need : {m N n : ℕ} {rows : Rows} {roots : List ℕ} → WellFormed m N rows → ((a : ℕ) → Mem a roots → Arrow rows a) → Reaches rows roots n
+pub reaches-need : {m N n : ℕ} {rows : Rows} {roots : List ℕ} → WellFormed m N rows → ((a : ℕ) → Mem a roots → Arrow rows a)
+    → Reaches rows roots n
     → n ≡ need m (map (den m rows) roots)
 reaches-need {roots = roots} wf arrows r = sym (r .count) ∙ reach-count wf roots arrows (r .list) (r .only) (r .all) (r .once)
 
 -- Which roots are arrows to rows is all that counts.
-pub reaches-same : {n : ℕ} {rows : Rows} {xs ys : List ℕ} → ((a i : ℕ) → Leads a i → Mem a xs → Mem a ys) → ((a i : ℕ) → Leads a i → Mem a ys → Mem a xs)
+pub reaches-same : {n : ℕ} {rows : Rows} {xs ys : List ℕ} → ((a i : ℕ) → Leads a i → Mem a xs → Mem a ys)
+    → ((a i : ℕ) → Leads a i → Mem a ys → Mem a xs)
     → Reaches rows xs n → Reaches rows ys n
 reaches-same f g r = record {
   list = r .list;
@@ -37,7 +41,8 @@ reaches-same f g r = record {
 }
 
 -- Roots that are kept reach as many.
-pub reaches-keeps : {n : ℕ} {before after : Rows} {roots : List ℕ} → Keeps before after roots → Reaches before roots n → Reaches after roots n
+pub reaches-keeps : {n : ℕ} {before after : Rows} {roots : List ℕ} → Keeps before after roots → Reaches before roots n
+    → Reaches after roots n
 reaches-keeps k r = record {
   list = r .list;
   once = r .once;
@@ -47,8 +52,10 @@ reaches-keeps k r = record {
 }
 
 -- More roots, and the rows that they reach and the first do not, each once.
-pub reaches-more : {n : ℕ} {rows : Rows} {base roots : List ℕ} (new : List ℕ) → Within base roots → NoDup new → ((i : ℕ) → Mem i new → Reach rows roots i)
-    → ((i : ℕ) → Mem i new → Reach rows base i → ⊥) → ((i : ℕ) → Reach rows roots i → Reach rows base i ⊎ Mem i new) → Reaches rows base n → Reaches rows roots (n + length new)
+pub reaches-more : {n : ℕ} {rows : Rows} {base roots : List ℕ} (new : List ℕ) → Within base roots → NoDup new
+    → ((i : ℕ) → Mem i new → Reach rows roots i)
+    → ((i : ℕ) → Mem i new → Reach rows base i → ⊥) → ((i : ℕ) → Reach rows roots i → Reach rows base i ⊎ Mem i new) → Reaches rows base n
+    → Reaches rows roots (n + length new)
 reaches-more {n} new w once only apart all r = record {
   list = r .list ++ new;
   once = nodup-append (r .list) new (r .once) once (λ i h g. apart i g (r .only i h));
@@ -58,7 +65,8 @@ reaches-more {n} new w once only apart all r = record {
 }
 
 -- It stays so where arrow and base are kept.
-pub outside-keeps : {before after : Rows} {base : List ℕ} {x k : ℕ} → Keeps before after base → Keeps before after (x ∷ []) → Outside before base x k → Outside after base x k
+pub outside-keeps : {before after : Rows} {base : List ℕ} {x k : ℕ} → Keeps before after base → Keeps before after (x ∷ [])
+    → Outside before base x k → Outside after base x k
 outside-keeps kb kx o = record {
   rest = o .rest;
   all = λ i t. ⊎-elim (λ r. inl (keeps-reach kb r)) (λ h. inr h) (o .all i (keeps-reach-back kx t));
@@ -66,7 +74,8 @@ outside-keeps kb kx o = record {
 }
 
 -- Functions need at most as many rows as a list has entries that has the classes of all their non-constant cofactors.
-pub need-within : (m : ℕ) (fs : List Fn) (ts : List (List Bool)) → ((f g : Fn) → Mem f fs → CofactorOf f g → Varies g → Mem (class m g) ts) → need m fs ≤ length ts
+pub need-within : (m : ℕ) (fs : List Fn) (ts : List (List Bool)) → ((f g : Fn) → Mem f fs → CofactorOf f g → Varies g → Mem (class m g) ts)
+    → need m fs ≤ length ts
 need-within m fs ts all =
     let n = nodup-length (classes m fs) ts (nodup-needed m fs) (λ t h.
     let s = needed-source m fs t h in
@@ -96,7 +105,8 @@ module _ {m N : ℕ} {rows : Rows} (wf : WellFormed m N rows) where
       mem-needed fs (p .listed b mb .1) (den-reads-all wf b (arrows b mb)) c (row-varies wf i (reach-used wf arrows r))
 
 -- One arrow more, beside roots that reach what the base does, needs at most its rows outside the base more.
-pub need-outside : {m N : ℕ} {rows : Rows} {base : List ℕ} → WellFormed m N rows → (roots : List ℕ) → ((a : ℕ) → Mem a roots → Arrow rows a) → Within base roots
+pub need-outside : {m N : ℕ} {rows : Rows} {base : List ℕ} → WellFormed m N rows → (roots : List ℕ) → ((a : ℕ) → Mem a roots → Arrow rows a)
+    → Within base roots
     → (x k : ℕ) → Arrow rows x → Outside rows base x k → need m (map (den m rows) (x ∷ roots)) ≤ k + need m (map (den m rows) roots)
 need-outside {m} {rows = rows} wf roots arrows w x k u o =
     let p = rooted-own wf roots arrows in
@@ -106,7 +116,9 @@ need-outside {m} {rows = rows} wf roots arrows w x k u o =
     let all = need-within m (den m rows x ∷ fs) (xs ++ ys) (λ f g mf c y.
     ⊎-elim (λ e.
     let (i, t, v, q) = cofactor-row wf (x ∷ []) x g (here refl) u (subst (λ f. CofactorOf f g) e c) y in
-    mem-cast (sym q) (⊎-elim (λ b. append-left {s = xs} ys (row-needed wf p i (reach-within (λ a j e. w a) b))) (λ b. append-right xs (mem-map (tab wf) b)) (o .all i t)))
+    mem-cast (sym q)
+    (⊎-elim (λ b. append-left {s = xs} ys (row-needed wf p i (reach-within (λ a j e. w a) b)))
+    (λ b. append-right xs (mem-map (tab wf) b)) (o .all i t)))
     (λ h. append-left {s = xs} ys (mem-needed fs h (p .reads f h) (part-cofactor c) y))
     (mem-cases mf))
     in

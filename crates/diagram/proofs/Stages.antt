@@ -31,12 +31,16 @@ splice-again b k u v h =
     (λ g. splice-below b u (splice k u v) l (omega arith) ∙ sym (splice-below k u v l (omega arith)))
 
 -- EXISTS commutes with fixing levels below all those it is at.
-pub from-splice : (d j k : ℕ) (u : Val) (f : Fn) → k ≤ suc (2 * j) → (v : Val) → existsFrom d j f (splice k u v) ≡ existsFrom d j (λ w. f (splice k u w)) v
+pub from-splice : (d j k : ℕ) (u : Val) (f : Fn) → k ≤ suc (2 * j) → (v : Val)
+    → existsFrom d j f (splice k u v) ≡ existsFrom d j (λ w. f (splice k u w)) v
 unfolding existsFrom
 from-splice zero j k u f h v = refl
 from-splice (suc d) j k u f h v =
-    let at : (b : Bool) → existsFrom d (suc j) f (upd (splice k u v) (suc (2 * j)) b) ≡ existsFrom d (suc j) (λ w. f (splice k u w)) (upd v (suc (2 * j)) b) =
-    λ b. ap (existsFrom d (suc j) f) (upd-splice k u v (suc (2 * j)) b h) ∙ from-splice d (suc j) k u f (omega arith) (upd v (suc (2 * j)) b)
+    let at : (b : Bool)
+    → existsFrom d (suc j) f (upd (splice k u v) (suc (2 * j)) b)
+    ≡ existsFrom d (suc j) (λ w. f (splice k u w)) (upd v (suc (2 * j)) b) =
+    λ b. ap (existsFrom d (suc j) f) (upd-splice k u v (suc (2 * j)) b h)
+    ∙ from-splice d (suc j) k u f (omega arith) (upd v (suc (2 * j)) b)
     in
     let p = at false in
     let q = at true in
@@ -62,7 +66,9 @@ module _ {lo hi : ℕ} (f : Fn) (r : Reads lo hi f) where
       ap (λ x. existsFrom x j f) q ∙ ap (λ x. existsFrom d x f) p
   from-last (suc i) d j t zero et ez h = absurd (omega arith)
   from-last (suc i) d j t (suc z) et ez h =
-      fun-ext (λ v. exists-past {k = lo} {m = hi} {f = existsFrom z (suc j) f} (suc (2 * j)) (omega arith) (from-reads {lo = lo} {hi = hi} {f = f} z (suc j) r) v)
+      fun-ext
+      (λ v. exists-past {k = lo} {m = hi} {f = existsFrom z (suc j) f} (suc (2 * j)) (omega arith)
+      (from-reads {lo = lo} {hi = hi} {f = f} z (suc j) r) v)
       ∙ from-last i d (suc j) t z (omega arith) (omega arith) h
 
 -- What f has where levels below k are fixed reads only those from k on.
@@ -75,5 +81,6 @@ splice-reads k u r v w h =
 -- An arrow with a varying stage leads to a row.
 pub stage-row : (m : ℕ) (rows : Rows) (c x : ℕ) → target c ≡ x → (d j : ℕ) (g : Fn) (at : Val → Val)
     → ((v : Val) → g v ≡ existsFrom d j (den m rows c) (at v)) → Varies g → (i : ℕ) × Leads c i
-stage-row m rows c zero e d j g at h y = absurd (varies-not (marked c) y (λ v. h v ∙ from-const d j (den m rows c) (marked c) (den-constant m rows c e) (at v)))
+stage-row m rows c zero e d j g at h y =
+    absurd (varies-not (marked c) y (λ v. h v ∙ from-const d j (den m rows c) (marked c) (den-constant m rows c e) (at v)))
 stage-row m rows c (suc i) e d j g at h y = (i, e)

@@ -1,7 +1,8 @@
 -- Laws of what specs/Step.antt defines. Assumes nothing.
 use mathlib.Core.Path.{_≡_, refl, sym, ap, ap₂, _∙_, subst, fun-ext}
 use mathlib.Core.Logic.{⊎-elim}
-use mathlib.Core.List.{List, _∷_, map, List·Memᴰ as Mem, List·Memᴰ·cases-cons as mem-cases, List·Memᴰ·head as here, Memᴰ·of-map as mem-of-map}
+use mathlib.Core.List.{List, _∷_, map, List·Memᴰ as Mem, List·Memᴰ·cases-cons as mem-cases, List·Memᴰ·head as here}
+use mathlib.Core.List.{Memᴰ·of-map as mem-of-map}
 use Prim.Native.Nat.{ℕ, _≤_, _<_}
 use native.Mathlib.Omega.{arith}
 use Rattle.diagram.specs.Level.{Val, Fn}
@@ -39,7 +40,8 @@ same-need {m} {before} {after} {a} {F} roots k d =
     ap₂ (λ (f : Fn) (fs : List Fn). need m (f ∷ fs)) e (keeps-map k m)
 
 -- The rows that the result and the roots reach are as many as F and the roots needed before.
-count-need : {m N : ℕ} {before tried clean : Rows} {a : ℕ} {F : Fn} (roots : List ℕ) → WellFormed m N tried → Keeps before tried roots → Denotes m tried a F
+count-need : {m N : ℕ} {before tried clean : Rows} {a : ℕ} {F : Fn} (roots : List ℕ) → WellFormed m N tried → Keeps before tried roots
+    → Denotes m tried a F
     → Collects tried clean (a ∷ roots) → usedCount clean N ≡ stepNeed m (map (den m before) roots) F
 count-need roots wf k d c =
     let l = collects-keeps c in
@@ -99,7 +101,8 @@ module _ {m N limit : ℕ} {before tried : Rows} {F : Fn} (roots : List ℕ) whe
     result = subst (λ n. limit < n) (need-reached t c) h;
   }
 
-module _ {m N limit : ℕ} {before : Rows} {F : Fn} (roots : List ℕ) (wf : WellFormed m N before) (arrows : (a : ℕ) → Mem a roots → Arrow before a) where
+module _ {m N limit : ℕ} {before : Rows} {F : Fn} (roots : List ℕ) (wf : WellFormed m N before)
+    (arrows : (a : ℕ) → Mem a roots → Arrow before a) where
   -- The first try answers.
   pub step-first : {tried after : Rows} {a : ℕ} {answer : Result} → OpPost m N limit before tried (at a) F
       → Settled N limit tried after roots (at a) answer → StepPost m N limit before after roots answer F
@@ -113,7 +116,8 @@ module _ {m N limit : ℕ} {before : Rows} {F : Fn} (roots : List ℕ) (wf : Wel
     clean-keeps : Keeps before clean roots
     clean-keeps = keeps-trans (extends-keeps wf arrows (p .kept)) (collects-keeps c)
 
-    again-result : {tried : Rows} (answer : Result) → Reads 0 m F → OpPost m N limit clean tried answer F → TryResult m limit before tried roots answer F
+    again-result : {tried : Rows} (answer : Result) → Reads 0 m F → OpPost m N limit clean tried answer F
+        → TryResult m limit before tried roots answer F
     again-result (at a) r q = q .result
     again-result full r q =
         subst (λ fs. limit < need m (F ∷ fs)) (keeps-map clean-keeps m)
@@ -126,7 +130,8 @@ module _ {m N limit : ℕ} {before : Rows} {F : Fn} (roots : List ℕ) (wf : Wel
         (collects-parts (p .wf) c) q)
 
     pub step-again : {tried after : Rows} {part answer : Result} {G : Fn} → ((v : Val) → G v ≡ F v) → Reads 0 m F
-        → OpPost m N limit clean tried part G → Settled N limit tried after roots part answer → StepPost m N limit before after roots answer F
+        → OpPost m N limit clean tried part G → Settled N limit tried after roots part answer
+        → StepPost m N limit before after roots answer F
     step-again {part = part} e r q′ s =
         let q = post-cong e q′ in
         settle roots (record {

@@ -142,7 +142,8 @@ pub record Parts (m : ℕ) (rows : Rows) (l a lo hi : ℕ) : Type 0 where
 
 module _ {m N : ℕ} {rows : Rows} (wf : WellFormed m N rows) where
   -- An arrow to a row at the row's level, and an arrow at a lesser one.
-  pub parts-row : (a i : ℕ) → Leads a i → rows .used i ≡ true → Parts m rows (rows .level i) a (follow rows a i false) (follow rows a i true)
+  pub parts-row : (a i : ℕ) → Leads a i → rows .used i ≡ true
+      → Parts m rows (rows .level i) a (follow rows a i false) (follow rows a i true)
   parts-row a i e u = record {
     low-arrow = follow-arrow wf a i e false u;
     high-arrow = follow-arrow wf a i e true u;
@@ -156,13 +157,15 @@ module _ {m N : ℕ} {rows : Rows} (wf : WellFormed m N rows) where
 
   parts-at : (l a i : ℕ) (b : Bool) → eqb (rows .level i) l ≡ b → Leads a i → Arrow rows a → l ≤ rows .level i
       → Parts m rows l a (cond b (follow rows a i false) a) (cond b (follow rows a i true) a)
-  parts-at l a i true e g u h = let q : rows .level i ≡ l = eqb→eq (rows .level i) l (rw e tt) in rw q at (parts-row a i g (leads-used rows a i g u))
+  parts-at l a i true e g u h =
+      let q : rows .level i ≡ l = eqb→eq (rows .level i) l (rw e tt) in rw q at (parts-row a i g (leads-used rows a i g u))
   parts-at l a i false e g u h =
       let ne : rows .level i ≢ l = λ q. true≢false (sym (T-true (eqb (rows .level i) l) (rw q (eqb-refl l))) ∙ e) in
       let q = leads-level m rows a i g in
       parts-skip l a u (omega arith)
 
-  parts-to : (l a k : ℕ) → target a ≡ k → l < m → Arrow rows a → l ≤ levelOf m rows a → Parts m rows l a (sideTo rows l a false k) (sideTo rows l a true k)
+  parts-to : (l a k : ℕ) → target a ≡ k → l < m → Arrow rows a → l ≤ levelOf m rows a
+      → Parts m rows l a (sideTo rows l a false k) (sideTo rows l a true k)
   parts-to l a zero e lm u h = parts-skip l a u (rw e lm)
   parts-to l a (suc i) e lm u h = parts-at l a i (eqb (rows .level i) l) refl e u (let q = leads-level m rows a i e in omega arith)
 

@@ -2,7 +2,8 @@
 use mathlib.Core.Path.{_≡_, refl, sym, ap, _∙_, subst}
 use mathlib.Core.Logic.{_⊎_, inl, inr, ⊎-elim}
 use mathlib.Core.Bool.{Bool, true, false, cond, true≢false}
-use mathlib.Core.List.{List, [], _∷_, List·Memᴰ as Mem, List·Memᴰ·tail as there, List·Memᴰ·cases-cons as mem-cases, List·Memᴰ·not-nil as mem-nil}
+use mathlib.Core.List.{List, [], _∷_, List·Memᴰ as Mem, List·Memᴰ·tail as there, List·Memᴰ·cases-cons as mem-cases}
+use mathlib.Core.List.{List·Memᴰ·not-nil as mem-nil}
 use Prim.Native.Nat.{ℕ, suc, _≤_}
 use native.Mathlib.Omega.{arith}
 use lib.ListN.{length}
@@ -17,12 +18,14 @@ use Rattle.diagram.proofs.Tally.{Surveyed, AddedRows, surveyed, added-r
 use Rattle.diagram.specs.Survey.{bump, Passed, Survey, Accounted, AddedSoFar}
 
 -- One more counts once, at its level.
-those-more : (p : ℕ → ℕ → Bool) (x : ℕ) (xs : List ℕ) (h : ℕ → ℕ) (l : ℕ) → ((k : ℕ) → p k x ≡ eqb l k) → ((k : ℕ) → length (those (p k) xs) ≤ h k)
+those-more : (p : ℕ → ℕ → Bool) (x : ℕ) (xs : List ℕ) (h : ℕ → ℕ) (l : ℕ) → ((k : ℕ) → p k x ≡ eqb l k)
+    → ((k : ℕ) → length (those (p k) xs) ≤ h k)
     → (k : ℕ) → length (those (p k) (x ∷ xs)) ≤ bump h l k
 unfolding those bump
 those-more p x xs h l e c k = pick (p k x) (eqb l k) (e k) (c k)
   where
-    pick : (a b : Bool) → a ≡ b → length (those (p k) xs) ≤ h k → length (cond a (x ∷ those (p k) xs) (those (p k) xs)) ≤ cond b (suc (h k)) (h k)
+    pick : (a b : Bool) → a ≡ b → length (those (p k) xs) ≤ h k
+        → length (cond a (x ∷ those (p k) xs) (those (p k) xs)) ≤ cond b (suc (h k)) (h k)
     pick true true q g = omega arith
     pick true false q g = absurd (true≢false q)
     pick false true q g = omega arith
@@ -35,11 +38,14 @@ module _ {m : ℕ} {rows : Rows} {evens : List ℕ} where
   survey-none = record { closed = λ c i b h. absurd (mem-nil h); counted = λ l. omega arith }
 
   -- takes an arrow to row i after the two that are followed from it,
-  pub survey-add : (cs : List ℕ) (above : ℕ → ℕ) (c i : ℕ) → Survey m rows evens cs above → Leads c i → Passed rows evens cs (follow rows c i false) → Passed rows evens cs (follow rows c i true)
+  pub survey-add : (cs : List ℕ) (above : ℕ → ℕ) (c i : ℕ) → Survey m rows evens cs above → Leads c i
+      → Passed rows evens cs (follow rows c i false) → Passed rows evens cs (follow rows c i true)
       → Survey m rows evens (c ∷ cs) (bump above (rows .level i))
   survey-add cs above c i s l low high = record {
     closed = λ x r b mx g. ⊎-elim (λ e. own x r b e g) (λ h. more x r b (s .closed x r b h g)) (mem-cases mx);
-    counted = those-more (λ k x. eqb (levelOf m rows x) k) c cs above (rows .level i) (λ k. ap (λ z. eqb z k) (leads-level m rows c i l)) (s .counted);
+    counted =
+        those-more (λ k x. eqb (levelOf m rows x) k) c cs above (rows .level i) (λ k. ap (λ z. eqb z k) (leads-level m rows c i l))
+        (s .counted);
   }
     where
       more : (x r : ℕ) (b : Bool) → Passed rows evens cs (follow rows x r b) → Passed rows evens (c ∷ cs) (follow rows x r b)
@@ -57,13 +63,15 @@ module _ {m : ℕ} {rows : Rows} {evens : List ℕ} where
           subst (Passed rows evens (c ∷ cs)) f (more c i b (side b))
 
   -- and has, once it is done with arrow a, all that is followed from a.
-  pub survey-all : (cs : List ℕ) (above : ℕ → ℕ) (a c : ℕ) → Survey m rows evens cs above → Passed rows evens cs a → Follows rows a c → Passed rows evens cs c
+  pub survey-all : (cs : List ℕ) (above : ℕ → ℕ) (a c : ℕ) → Survey m rows evens cs above → Passed rows evens cs a → Follows rows a c
+      → Passed rows evens cs c
   survey-all cs above a c s p self = p
   survey-all cs above a c s p (on {c = x} {i = i} b t l) =
       ⊎-elim (λ r. λ j q. inl (subst (ReachedTo rows evens) q (reached-follow rows evens x i b (subst (ReachedTo rows evens) (sym l) r) l)))
       (λ h. s .closed x i b h l) (survey-all cs above a x s p t i l)
 
-  pub survey-done : (cs : List ℕ) (above : ℕ → ℕ) (a : ℕ) → Survey m rows evens cs above → Passed rows evens cs a → Surveyed rows evens a above
+  pub survey-done : (cs : List ℕ) (above : ℕ → ℕ) (a : ℕ) → Survey m rows evens cs above → Passed rows evens cs a
+      → Surveyed rows evens a above
   survey-done cs above a s p = surveyed m rows evens a cs above (λ c i t l. survey-all cs above a c s p t i l) (s .counted)
 
 module _ {rows : Rows} {roots : List ℕ} where
@@ -72,10 +80,13 @@ module _ {rows : Rows} {roots : List ℕ} where
   unfolding those
   added-none = record { closed = λ i b h. absurd (mem-nil h); counted = λ l. omega arith }
 
-  pub added-more : (is : List ℕ) (added : ℕ → ℕ) (i : ℕ) → AddedSoFar rows roots is added → Accounted rows roots is (rows .low i) → Accounted rows roots is (rows .high i)
+  pub added-more : (is : List ℕ) (added : ℕ → ℕ) (i : ℕ) → AddedSoFar rows roots is added → Accounted rows roots is (rows .low i)
+      → Accounted rows roots is (rows .high i)
       → AddedSoFar rows roots (i ∷ is) (bump added (rows .level i))
   added-more is added i s low high = record {
-    closed = λ x b mx. ⊎-elim (λ e. subst (λ y. Accounted rows roots (i ∷ is) (child rows y b)) (sym e) (more (child rows i b) (side b))) (λ h. more (child rows x b) (s .closed x b h)) (mem-cases mx);
+    closed =
+        λ x b mx. ⊎-elim (λ e. subst (λ y. Accounted rows roots (i ∷ is) (child rows y b)) (sym e) (more (child rows i b) (side b)))
+        (λ h. more (child rows x b) (s .closed x b h)) (mem-cases mx);
     counted = those-more (λ k x. eqb (rows .level x) k) i is added (rows .level i) (λ k. refl) (s .counted);
   }
     where
@@ -86,7 +97,8 @@ module _ {rows : Rows} {roots : List ℕ} where
       side false = low
       side true = high
 
-  pub added-done : (is bs : List ℕ) (added : ℕ → ℕ) → AddedSoFar rows roots is added → ((b : ℕ) → Mem b bs → Accounted rows roots is b) → AddedRows rows roots bs added
+  pub added-done : (is bs : List ℕ) (added : ℕ → ℕ) → AddedSoFar rows roots is added → ((b : ℕ) → Mem b bs → Accounted rows roots is b)
+      → AddedRows rows roots bs added
   added-done is bs added s each = added-rows rows roots bs is added all (s .counted)
     where
       all : (i : ℕ) → Reach rows bs i → Reach rows roots i ⊎ Mem i is

@@ -2,7 +2,9 @@
 use mathlib.Core.Path.{_≡_, refl, sym, ap, _∙_, subst}
 use mathlib.Core.Logic.{_⊎_, inl, inr, ⊎-elim, by-cases}
 use mathlib.Core.Bool.{Bool, true, false, cond, true≢false}
-use mathlib.Core.List.{List, [], _∷_, _++_, List·Memᴰ as Mem, List·Memᴰ·head as here, List·Memᴰ·tail as there, List·Memᴰ·cases-cons as mem-cases, List·Memᴰ·not-nil as mem-nil, Memᴰ·append-left as mem-left, Memᴰ·append-right as mem-right}
+use mathlib.Core.List.{List, [], _∷_, _++_, List·Memᴰ as Mem, List·Memᴰ·head as here, List·Memᴰ·tail as there}
+use mathlib.Core.List.{List·Memᴰ·cases-cons as mem-cases, List·Memᴰ·not-nil as mem-nil, Memᴰ·append-left as mem-left}
+use mathlib.Core.List.{Memᴰ·append-right as mem-right}
 use Prim.Native.Nat.{ℕ, zero, suc, _+_, _≤_, _<_}
 use native.Mathlib.Decide.{ℕ-discrete}
 use native.Mathlib.Omega.{arith}
@@ -23,8 +25,8 @@ unfolding sumTo sumFrom
 sum-split h k zero z e = let q : z ≡ k = omega arith in omega (arith, ap (sumTo h) q)
 sum-split h k (suc d) z e = let i = sum-split h (suc k) d z (omega arith) in omega (arith, i)
 
--- What a survey of arrow a leaves: of every level at least as many as there are arrows to its rows, each with its sign (of a row that is met with and
--- without a NOT, two), among those that are followed from a, but for those to rows that are reached from `evens`.
+-- What a survey of arrow a leaves: of every level at least as many as there are arrows to its rows, each with its sign (of a row that is
+-- met with and without a NOT, two), among those that are followed from a, but for those to rows that are reached from `evens`.
 pub record Surveyed (rows : Rows) (evens : List ℕ) (a : ℕ) (above : ℕ → ℕ) : Type 0 where
   pub arrows : ℕ → List ℕ
   pub all : (c i : ℕ) → Follows rows a c → Leads c i → Reach rows evens i ⊎ Mem c (arrows (rows .level i))
@@ -52,18 +54,24 @@ mem-those p {x} (y ∷ xs) e m = pick (p y) refl (λ h. mem-those p xs e h)
 
 -- So one list of arrows, and one of rows, by level, are what surveys leave.
 pub surveyed : (m : ℕ) (rows : Rows) (evens : List ℕ) (a : ℕ) (cs : List ℕ) (above : ℕ → ℕ)
-    → ((c i : ℕ) → Follows rows a c → Leads c i → Reach rows evens i ⊎ Mem c cs) → ((l : ℕ) → length (arrowsAt m rows cs l) ≤ above l) → Surveyed rows evens a above
+    → ((c i : ℕ) → Follows rows a c → Leads c i → Reach rows evens i ⊎ Mem c cs) → ((l : ℕ) → length (arrowsAt m rows cs l) ≤ above l)
+    → Surveyed rows evens a above
 surveyed m rows evens a cs above all counted = record {
   arrows = arrowsAt m rows cs;
-  all = λ c i t e. ⊎-elim (λ h. inl h) (λ h. inr (mem-those (λ x. eqb (levelOf m rows x) (rows .level i)) cs (rw (leads-level m rows c i e) (T-true _ (eqb-refl (rows .level i)))) h)) (all c i t e);
+  all = λ c i t e. ⊎-elim (λ h. inl h)
+      (λ h. inr
+      (mem-those (λ x. eqb (levelOf m rows x) (rows .level i)) cs (rw (leads-level m rows c i e) (T-true _ (eqb-refl (rows .level i)))) h))
+      (all c i t e);
   counted = counted;
 }
 
 pub added-rows : (rows : Rows) (roots bs is : List ℕ) (added : ℕ → ℕ)
-    → ((i : ℕ) → Reach rows bs i → Reach rows roots i ⊎ Mem i is) → ((l : ℕ) → length (rowsAt rows is l) ≤ added l) → AddedRows rows roots bs added
+    → ((i : ℕ) → Reach rows bs i → Reach rows roots i ⊎ Mem i is) → ((l : ℕ) → length (rowsAt rows is l) ≤ added l)
+    → AddedRows rows roots bs added
 added-rows rows roots bs is added all counted = record {
   listed = rowsAt rows is;
-  all = λ i t. ⊎-elim (λ h. inl h) (λ h. inr (mem-those (λ x. eqb (rows .level x) (rows .level i)) is (T-true _ (eqb-refl (rows .level i))) h)) (all i t);
+  all = λ i t. ⊎-elim (λ h. inl h)
+      (λ h. inr (mem-those (λ x. eqb (rows .level x) (rows .level i)) is (T-true _ (eqb-refl (rows .level i))) h)) (all i t);
   counted = counted;
 }
 

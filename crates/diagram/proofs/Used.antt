@@ -2,14 +2,16 @@
 use mathlib.Core.Path.{_≡_, refl, sym, ap, _∙_}
 use mathlib.Core.Logic.{_≢_, ⊎-elim, by-cases}
 use mathlib.Core.Bool.{Bool, true, false, cond, true≢false, Bool-discrete}
-use mathlib.Core.List.{_∷_, map, List·Memᴰ as Mem, List·Memᴰ·head as here, List·Memᴰ·tail as there, List·Memᴰ·cases-cons as mem-cases, List·Memᴰ·not-nil as mem-nil, Memᴰ·cast as mem-cast, Memᴰ·map as mem-map, Memᴰ·of-map as mem-of-map}
+use mathlib.Core.List.{_∷_, map, List·Memᴰ as Mem, List·Memᴰ·head as here, List·Memᴰ·tail as there, List·Memᴰ·cases-cons as mem-cases}
+use mathlib.Core.List.{List·Memᴰ·not-nil as mem-nil, Memᴰ·cast as mem-cast, Memᴰ·map as mem-map, Memᴰ·of-map as mem-of-map}
 use Prim.Native.Nat.{ℕ, zero, suc, _≤_, _<_}
 use native.Mathlib.Decide.{ℕ-discrete}
 use native.Mathlib.Omega.{arith}
 use lib.ListN.{length-map}
 use Rattle.diagram.specs.Rows.{Rows, Extends}
 use Rattle.diagram.specs.Count.{NoDup, upTo}
-use Rattle.diagram.proofs.Count.{nodup-length, nodup-same-length, nodup-map, length-upTo, mem-upTo, upTo-below, nodup-upTo, pigeonhole}
+use Rattle.diagram.proofs.Count.{nodup-length, nodup-same-length, nodup-map, length-upTo, mem-upTo, upTo-below, nodup-upTo}
+use Rattle.diagram.proofs.Count.{pigeonhole}
 use Rattle.diagram.specs.Used.{usedRows, usedCount}
 
 module _ (rows : Rows) where
@@ -54,7 +56,8 @@ usedCount-extends {old} {new} N e =
 -- All N rows are used exactly where N are.
 pub usedCount-all : (rows : Rows) (N : ℕ) → ((i : ℕ) → i < N → rows .used i ≡ true) → N ≤ usedCount rows N
 usedCount-all rows N all =
-    let n = nodup-length (upTo N) (usedRows rows N) (nodup-upTo N) (λ i h. let lt = upTo-below N i h in mem-usedRows rows N i lt (all i lt)) in
+    let n = nodup-length (upTo N) (usedRows rows N) (nodup-upTo N)
+    (λ i h. let lt = upTo-below N i h in mem-usedRows rows N i lt (all i lt)) in
     let e = length-upTo N in
     omega arith
 
@@ -75,7 +78,8 @@ pub record SparseSet (rows : Rows) (count : ℕ) (list rank : ℕ → ℕ) : Typ
   pub there : (i : ℕ) → rows .used i ≡ true → list (rank i) ≡ i
 
 -- Then `count` rows are used.
-pub sparse-count : {rows : Rows} {count : ℕ} {list rank : ℕ → ℕ} (N : ℕ) → ((i : ℕ) → rows .used i ≡ true → i < N) → SparseSet rows count list rank
+pub sparse-count : {rows : Rows} {count : ℕ} {list rank : ℕ → ℕ} (N : ℕ) → ((i : ℕ) → rows .used i ≡ true → i < N)
+    → SparseSet rows count list rank
     → usedCount rows N ≡ count
 sparse-count {rows} {count} {list} {rank} N bounded s =
     let at : (k : ℕ) → Mem k (upTo count) → rank (list k) ≡ k = λ k h. s .back k (upTo-below count k h) in

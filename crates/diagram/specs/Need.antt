@@ -1,6 +1,7 @@
 -- Rows needed, as document 01 has it: "Rows needed by some sets or relations: the distinct non-constant functions got from them by fixing
--- levels 0 to k − 1, in all ways, for every k", where, by document 02, "two functions that are each other's complement need one row". A function of m levels is told by its truth table over all lists of m bits. To fix all m
--- levels, or more, leaves constants, so k goes from 0 to m. Assumes nothing.
+-- levels 0 to k − 1, in all ways, for every k", where, by document 02, "two functions that are each other's complement need one row".
+-- A function of m levels is told by its truth table over all lists of m bits. To fix all m levels, or more, leaves constants, so k goes
+-- from 0 to m. Assumes nothing.
 use mathlib.Core.Bool.{Bool, true, false, cond, not, _&&_, _||_, Bool·beq}
 use mathlib.Core.List.{List, [], _∷_, map, flatMap}
 use Prim.Native.Nat.{ℕ, suc}
@@ -44,7 +45,8 @@ unfoldable pub distinct : List (List Bool) → List (List Bool)
 distinct [] = []
 distinct (t ∷ ts) = insert t (distinct ts)
 
--- The non-constant functions, as tables, distinct up to complement, got from those of fs by fixing levels 0 to k − 1, in all ways, for every k.
+-- The non-constant functions, as tables, distinct up to complement, got from those of fs by fixing levels 0 to k − 1, in all ways, for
+-- every k.
 unfoldable pub needed : ℕ → List Fn → List (List Bool)
 needed m fs = distinct (map (truthTable m) (flatMap (cofactors m) fs))
 

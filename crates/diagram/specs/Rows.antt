@@ -14,8 +14,8 @@ pub record Rows : Type 0 where
   pub low : ℕ → ℕ
   pub high : ℕ → ℕ
 
--- "An arrow may now carry a NOT": arrow a does where it is odd. What it leads to is a / 2: 0 for the one constant that is left, nothing, and
--- i + 1 for row i. So 0 is nothing and 1 everything, as NOT of nothing.
+-- "An arrow may now carry a NOT": arrow a does where it is odd. What it leads to is a / 2: 0 for the one constant that is left, nothing,
+-- and i + 1 for row i. So 0 is nothing and 1 everything, as NOT of nothing.
 abbrev pub marked : ℕ → Bool
 marked a = eqb (a % 2) 1
 
@@ -71,7 +71,8 @@ unfoldable pub denTo : ℕ → Rows → ℕ → Fn
 denTo zero rows k v = false
 denTo (suc fuel) rows zero v = false
 denTo (suc fuel) rows (suc i) v =
-    cond (v (rows .level i)) (turn (marked (rows .high i)) (denTo fuel rows (target (rows .high i)) v)) (turn (marked (rows .low i)) (denTo fuel rows (target (rows .low i)) v))
+    cond (v (rows .level i)) (turn (marked (rows .high i)) (denTo fuel rows (target (rows .high i)) v))
+    (turn (marked (rows .low i)) (denTo fuel rows (target (rows .low i)) v))
 
 -- What an arrow denotes.
 unfoldable pub den : ℕ → Rows → ℕ → Fn

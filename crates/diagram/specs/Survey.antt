@@ -1,5 +1,5 @@
--- How surveys come about, arrow by arrow and row by row, each after what is followed from it: the invariants of the code that counts, and what
--- they leave at the end. Assumes nothing.
+-- How surveys come about, arrow by arrow and row by row, each after what is followed from it: the invariants of the code that counts, and
+-- what they leave at the end. Assumes nothing.
 use mathlib.Core.Logic.{_⊎_}
 use mathlib.Core.Bool.{Bool, cond}
 use mathlib.Core.List.{List, List·Memᴰ as Mem}

@@ -42,16 +42,20 @@ use Rattle.evaluator.proofs.Steps.{took-alike, took-roots, took-within,
 -- ---- chains of steps
 
 -- one step for G, whose operands are among its roots
-step-ran : {n N limit : ℕ} {W X : View} {roots ys : List ℕ} {fs : List Fn} {q : Count} {o : Taken} {F : Fn} (G : Fn) → Held (2 * n) (rowsOf W) ys fs → Within roots ys → F ≡ G → Took n N limit W X ys q o F
+step-ran : {n N limit : ℕ} {W X : View} {roots ys : List ℕ} {fs : List Fn} {q : Count} {o : Taken} {F : Fn} (G : Fn)
+    → Held (2 * n) (rowsOf W) ys fs → Within roots ys → F ≡ G → Took n N limit W X ys q o F
     → Ran n N W X roots (leb (stepNeed (2 * n) fs G) limit) G (needing q (stepNeed (2 * n) fs G)) o
 step-ran {n} {N} {limit} {W} {X} {ys = ys} {q = q} {o} G h w e t = ran-step h w (subst (λ (F : Fn). Took n N limit W X ys q o F) e t)
 
 -- fewer roots
-ran-within : {n N : ℕ} {W X : View} {roots ys : List ℕ} {b : Bool} {F : Fn} {c : Count} {o : Taken} → Within roots ys → Ran n N W X ys b F c o → Ran n N W X roots b F c o
-ran-within w r = record { moved = r .moved; evals = record { wf = r .evals .wf; kept = keeps-within w (r .evals .kept); result = r .evals .result } }
+ran-within : {n N : ℕ} {W X : View} {roots ys : List ℕ} {b : Bool} {F : Fn} {c : Count} {o : Taken} → Within roots ys
+    → Ran n N W X ys b F c o → Ran n N W X roots b F c o
+ran-within w r =
+    record { moved = r .moved; evals = record { wf = r .evals .wf; kept = keeps-within w (r .evals .kept); result = r .evals .result } }
 
 -- three steps fit where each does
-fit-last : {n N : ℕ} {W X : View} {roots : List ℕ} {F : Fn} {d : Count} {o : Taken} (a b c : Bool) → Ran n N W X roots (a && (b && c)) F d o → Ran n N W X roots (a && (b && (c && true))) F d o
+fit-last : {n N : ℕ} {W X : View} {roots : List ℕ} {F : Fn} {d : Count} {o : Taken} (a b c : Bool) → Ran n N W X roots (a && (b && c)) F d o
+    → Ran n N W X roots (a && (b && (c && true))) F d o
 fit-last {n} {N} {W} {X} {roots} {F} {d} {o} a b c r = subst (λ (x : Bool). Ran n N W X roots (a && (b && x)) F d o) (go c) r
   where
     go : (c : Bool) → c ≡ (c && true)
@@ -59,14 +63,17 @@ fit-last {n} {N} {W} {X} {roots} {F} {d} {o} a b c r = subst (λ (x : Bool). Ran
     go false = refl
 
 -- V as a function
-valid-fn : {L : Limits} {W : View} {stack : List ℕ} {held : ℕ} {σ : Scene} → Ready L W stack noPlaces held σ → den (2 * L .bits) (rowsOf W) (validOf W) ≡ fnOf (L .bits) (σ .valid)
+valid-fn : {L : Limits} {W : View} {stack : List ℕ} {held : ℕ} {σ : Scene} → Ready L W stack noPlaces held σ
+    → den (2 * L .bits) (rowsOf W) (validOf W) ≡ fnOf (L .bits) (σ .valid)
 valid-fn {L} {σ = σ} R = denoted (R .valid) ∙ fnOf-clip (L .bits) (σ .valid)
 
-valid-held : {L : Limits} {W : View} {stack : List ℕ} {held : ℕ} {σ : Scene} → Ready L W stack noPlaces held σ → Mem (fnOf (L .bits) (σ .valid)) (σ .fns)
+valid-held : {L : Limits} {W : View} {stack : List ℕ} {held : ℕ} {σ : Scene} → Ready L W stack noPlaces held σ
+    → Mem (fnOf (L .bits) (σ .valid)) (σ .fns)
 valid-held {L} {σ = σ} R = subst (λ (F : Fn). Mem F (σ .fns)) (fnOf-clip (L .bits) (σ .valid)) (valid-live R)
 
 -- V reads current bits alone
-valid-even : {L : Limits} {W : View} {stack : List ℕ} {held : ℕ} {σ : Scene} → Ready L W stack noPlaces held σ → ReadsOn even (den (2 * L .bits) (rowsOf W) (validOf W))
+valid-even : {L : Limits} {W : View} {stack : List ℕ} {held : ℕ} {σ : Scene} → Ready L W stack noPlaces held σ
+    → ReadsOn even (den (2 * L .bits) (rowsOf W) (validOf W))
 valid-even {L} {σ = σ} R = subst (ReadsOn even) (sym (valid-fn R)) (fnOf-even (L .bits) (σ .valid))
 
 module _ {L : Limits} {W : View} {stack : List ℕ} {a : ℕ} (v : ℕ) (read : v + 1 ≡ W .header VALID) (u : Arrow (rowsOf W) a) where
@@ -85,11 +92,17 @@ module _ {L : Limits} {W : View} {stack : List ℕ} {a : ℕ} (v : ℕ) (read : 
       abbrev G : Fn
       G = andF (den (2 * L .bits) (rowsOf W) a) (fnOf (L .bits) (σ .valid))
 
-      one-took : Took (L .bits) (L .rows) (L .limit) W X (a ∷ σ .roots) q o (andF (den (2 * L .bits) (rowsOf W) a) (den (2 * L .bits) (rowsOf W) (validOf W)))
-      one-took = took-within R u (subst (Arrow (rowsOf W)) (sym (valid-read W v read)) (R .valid .arrow)) (valid-read W v read) (took {q = q} {o = o} (R .base) (first-asks R .asks) (s .stepped) (s .count))
+      one-took : Took (L .bits) (L .rows) (L .limit) W X (a ∷ σ .roots) q o
+          (andF (den (2 * L .bits) (rowsOf W) a) (den (2 * L .bits) (rowsOf W) (validOf W)))
+      one-took =
+          took-within R u (subst (Arrow (rowsOf W)) (sym (valid-read W v read)) (R .valid .arrow)) (valid-read W v read)
+          (took {q = q} {o = o} (R .base) (first-asks R .asks) (s .stepped) (s .count))
 
-      one-ran : Ran (L .bits) (L .rows) W X (σ .roots) (leb (stepNeed (2 * L .bits) (E ∷ F ∷ σ .fns) G) (L .limit)) G (needing q (stepNeed (2 * L .bits) (E ∷ F ∷ σ .fns) G)) o
-      one-ran = step-ran G (held-operand (held-push (R .lives) (denotes-own u)) (there (valid-held R))) (λ x i. there i) (ap (andF F) (valid-fn R)) one-took
+      one-ran : Ran (L .bits) (L .rows) W X (σ .roots) (leb (stepNeed (2 * L .bits) (E ∷ F ∷ σ .fns) G) (L .limit)) G
+          (needing q (stepNeed (2 * L .bits) (E ∷ F ∷ σ .fns) G)) o
+      one-ran =
+          step-ran G (held-operand (held-push (R .lives) (denotes-own u)) (there (valid-held R))) (λ x i. there i)
+          (ap (andF F) (valid-fn R)) one-took
 
     pub within-full : o ≡ taken.Full → WithinPost L W X stack a q taken.Full
     within-full e = record { answers = λ σ R. ran-stop _ (withinF (E R) (F R)) _ e (one-ran R) }
@@ -108,14 +121,16 @@ module _ {L : Limits} {W : View} {stack : List ℕ} {a : ℕ} (v : ℕ) (read : 
 
         same-valid : v ≡ validOf X
         same-valid =
-            let same : X .header VALID ≡ W .header VALID = one-ran R .moved .frame .header VALID (omega arith) (omega arith) (omega arith) (omega arith) in
+            let same : X .header VALID
+            ≡ W .header VALID = one-ran R .moved .frame .header VALID (omega arith) (omega arith) (omega arith) (omega arith) in
             let z = valid-read W v read in
             omega arith
 
       pub shift-asks : {σ : Scene} → Ready L W stack noPlaces 0 σ → LivePre L X (set stack 0 b) 1 (step.Shift v)
       shift-asks R =
           live-pre (two-ready R)
-          (subst (λ (x : ℕ). Arrow (rowsOf X) x × ReadsOn even (den (2 * L .bits) (rowsOf X) x)) (sym (same-valid R)) (two-ready R .valid .arrow, valid-even (two-ready R)))
+          (subst (λ (x : ℕ). Arrow (rowsOf X) x × ReadsOn even (den (2 * L .bits) (rowsOf X) x)) (sym (same-valid R))
+          (two-ready R .valid .arrow, valid-even (two-ready R)))
 
       module _ {Y : View} {o′ : Taken} (s′ : LivePost L X Y (set stack 0 b) 1 (step.Shift v) q1 o′) where
         module _ {σ : Scene} (R : Ready L W stack noPlaces 0 σ) where
@@ -124,17 +139,23 @@ module _ {L : Limits} {W : View} {stack : List ℕ} {a : ℕ} (v : ℕ) (read : 
               let t = took {q = q1} {o = o′} (two-ready R .base) (shift-asks R .asks) (s′ .stepped) (s′ .count) in
               let w = subst (λ (x : ℕ). Arrow (rowsOf X) x) (sym (same-valid R)) (two-ready R .valid .arrow) in
               let t1 = took-roots (v ∷ []) (two-ready R) (one-arrow (rowsOf X) v w) t in
-              let t2 = subst (λ (x : ℕ). Took (L .bits) (L .rows) (L .limit) X Y (x ∷ b ∷ σ .roots) q1 o′ (shiftF (den (2 * L .bits) (rowsOf X) x))) (same-valid R) t1 in
+              let t2 =
+              subst (λ (x : ℕ). Took (L .bits) (L .rows) (L .limit) X Y (x ∷ b ∷ σ .roots) q1 o′
+              (shiftF (den (2 * L .bits) (rowsOf X) x))) (same-valid R) t1 in
               let t3 = took-alike (λ x h. held-arrow (two-ready R .lives) x h) (alike-sym (alike-once (valid-mem (two-ready R)))) t2 in
               subst (λ (H : Fn). Took (L .bits) (L .rows) (L .limit) X Y (b ∷ σ .roots) q1 o′ (shiftF H)) (valid-fn (two-ready R)) t3
 
-          two-ran : Ran (L .bits) (L .rows) X Y (b ∷ σ .roots) (leb (stepNeed (2 * L .bits) (E R ∷ G R ∷ σ .fns) (shiftF (E R))) (L .limit)) (shiftF (E R)) (needing q1 (stepNeed (2 * L .bits) (E R ∷ G R ∷ σ .fns) (shiftF (E R)))) o′
+          two-ran : Ran (L .bits) (L .rows) X Y (b ∷ σ .roots) (leb (stepNeed (2 * L .bits) (E R ∷ G R ∷ σ .fns) (shiftF (E R))) (L .limit))
+              (shiftF (E R)) (needing q1 (stepNeed (2 * L .bits) (E R ∷ G R ∷ σ .fns) (shiftF (E R)))) o′
           two-ran = ran-step (held-operand (two-ready R .lives) (there (valid-held R))) (λ x i. i) two-took
 
         pub shift-full : o′ ≡ taken.Full → WithinPost L W Y stack a q taken.Full
         shift-full f = record {
           answers = λ σ R.
-              ran-then e (one-ran R) (λ c. needingAll c (stepNeed (2 * L .bits) (E R ∷ G R ∷ σ .fns) (shiftF (E R)) ∷ stepNeed (2 * L .bits) (shiftF (E R) ∷ G R ∷ σ .fns) (andF (G R) (shiftF (E R))) ∷ []))
+              ran-then e (one-ran R)
+              (λ c. needingAll c
+              (stepNeed (2 * L .bits) (E R ∷ G R ∷ σ .fns) (shiftF (E R))
+              ∷ stepNeed (2 * L .bits) (shiftF (E R) ∷ G R ∷ σ .fns) (andF (G R) (shiftF (E R))) ∷ []))
               (ran-stop _ (withinF (E R) (F R)) _ f (ran-within (λ x i. there i) (two-ran R)));
         }
 
@@ -148,7 +169,8 @@ module _ {L : Limits} {W : View} {stack : List ℕ} {a : ℕ} (v : ℕ) (read : 
 
             three-ready : Ready L Y (set stack 0 b) noPlaces 0 σ
             three-ready =
-                ready-next (one-ready R) (two-ran R .moved) (keeps-within (λ x i. there i) (two-ran R .evals .kept)) (set stack 0 b) (length-set stack 0 b) (take-set-le 0 stack 0 b (omega arith))
+                ready-next (one-ready R) (two-ran R .moved) (keeps-within (λ x i. there i) (two-ran R .evals .kept)) (set stack 0 b)
+                (length-set stack 0 b) (take-set-le 0 stack 0 b (omega arith))
 
           pub last-asks : {σ : Scene} → Ready L W stack noPlaces 0 σ → LivePre L Y (set stack 0 b) 0 (step.And b c)
           last-asks R = live-pre (three-ready R) (b-still R .arrow, c-is R .arrow)
@@ -160,6 +182,9 @@ module _ {L : Limits} {W : View} {stack : List ℕ} {a : ℕ} (v : ℕ) (read : 
                 let t1 = took-join (three-ready R) And refl (b-still R .arrow) (c-is R .arrow) t in
                 let k3 = stepNeed (2 * L .bits) (shiftF (E R) ∷ G R ∷ σ .fns) (andF (G R) (shiftF (E R))) in
                 let k2 = stepNeed (2 * L .bits) (E R ∷ G R ∷ σ .fns) (shiftF (E R)) in
-                let l = step-ran (andF (G R) (shiftF (E R))) (held-push (held-push (three-ready R .lives) (b-still R)) (c-is R)) (λ x i. there (there i)) (ap₂ andF (denoted (b-still R)) (denoted (c-is R))) t1 in
-                fit-last (leb (stepNeed (2 * L .bits) (E R ∷ F R ∷ σ .fns) (G R)) (L .limit)) (leb k2 (L .limit)) (leb k3 (L .limit)) (ran-then e (one-ran R) (λ d. needing (needing d k2) k3) (ran-then f (ran-within (λ x i. there i) (two-ran R)) (λ d. needing d k3) l));
+                let l = step-ran (andF (G R) (shiftF (E R))) (held-push (held-push (three-ready R .lives) (b-still R)) (c-is R))
+                (λ x i. there (there i)) (ap₂ andF (denoted (b-still R)) (denoted (c-is R))) t1 in
+                fit-last (leb (stepNeed (2 * L .bits) (E R ∷ F R ∷ σ .fns) (G R)) (L .limit)) (leb k2 (L .limit)) (leb k3 (L .limit))
+                (ran-then e (one-ran R) (λ d. needing (needing d k2) k3)
+                (ran-then f (ran-within (λ x i. there i) (two-ran R)) (λ d. needing d k3) l));
           }

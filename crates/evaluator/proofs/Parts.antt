@@ -21,7 +21,8 @@ use Rattle.formula.specs.Checks.{filled, twoFilled}
 use Rattle.formula.proofs.Steps.{is-not, is-modal, is-binder}
 use Rattle.formula.proofs.Shapes.{bound-neg, bound-join, bound-modal, bound-binder, filled-neg, filled-join, filled-modal, filled-binder}
 use Rattle.evaluator.specs.Scene.{Named, Part}
-use Rattle.evaluator.proofs.Tokens.{leaf-form, inner, one-form, one-stands, left, right, middle, both-form, left-stands, right-stands}
+use Rattle.evaluator.proofs.Tokens.{leaf-form, inner, one-form, one-stands, left, right, middle, both-form, left-stands}
+use Rattle.evaluator.proofs.Tokens.{right-stands}
 
 pub and-first : (a b : Bool) → (a && b) ≡ true → a ≡ true
 and-first true b h = refl
@@ -35,7 +36,13 @@ and-second false b h = absurd (true≢false (sym h))
 
 module _ {scope : List Bool} {regs rels : ℕ → Bool} where
   named-neg : {f g : Form} → f ≡ neg g → Named scope regs rels f → Named scope regs rels g
-  named-neg {f} {g} e h = record { is-bound = sym (bound-neg scope g) ∙ ap (bound scope) (sym e) ∙ h .is-bound; is-filled = sym (filled-neg regs rels g) ∙ ap (filled regs rels) (sym e) ∙ h .is-filled }
+  named-neg {f} {g} e h =
+      record {
+        is-bound =
+            sym (bound-neg scope g) ∙ ap (bound scope) (sym e) ∙ h .is-bound;
+        is-filled =
+            sym (filled-neg regs rels g) ∙ ap (filled regs rels) (sym e) ∙ h .is-filled;
+      }
 
   module _ {f : Form} (j : Two) (g h : Form) (e : f ≡ twoForm j g h) (p : Named scope regs rels f) where
     both-bound : (bound scope g && bound scope h) ≡ true
@@ -64,9 +71,14 @@ module _ {scope : List Bool} {regs rels : ℕ → Bool} where
     named-relation = and-first _ _ modal-filled
 
     named-modal : Named scope regs rels g
-    named-modal = record { is-bound = sym (bound-modal scope m t g) ∙ ap (bound scope) (sym e) ∙ p .is-bound; is-filled = and-second (rels t) _ modal-filled }
+    named-modal =
+        record {
+          is-bound = sym (bound-modal scope m t g) ∙ ap (bound scope) (sym e) ∙ p .is-bound;
+          is-filled = and-second (rels t) _ modal-filled;
+        }
 
-  named-binder : {f : Form} (x : Fix) (P : ℕ) (g : Form) → f ≡ binderForm x P g → Named scope regs rels f → Named (set scope P true) regs rels g
+  named-binder : {f : Form} (x : Fix) (P : ℕ) (g : Form) → f ≡ binderForm x P g → Named scope regs rels f
+      → Named (set scope P true) regs rels g
   named-binder {f} x P g e p = record {
     is-bound = and-second (not (getD scope P false)) _ (sym (bound-binder scope x P g) ∙ ap (bound scope) (sym e) ∙ p .is-bound);
     is-filled = sym (filled-binder regs rels x P g) ∙ ap (filled regs rels) (sym e) ∙ p .is-filled;
@@ -74,29 +86,50 @@ module _ {scope : List Bool} {regs rels : ℕ → Bool} where
 
 -- ---- by the token
 
-module _ {g : Grammar} {n : ℕ} {bs : List ℕ} {at depth : ℕ} {scope : List Bool} {regs rels : ℕ → Bool} {f : Form} {e : ℕ} (p : Part g n bs at depth scope regs rels f e)
+module _ {g : Grammar} {n : ℕ} {bs : List ℕ} {at depth : ℕ} {scope : List Bool}
+    {regs rels : ℕ → Bool} {f : Form} {e : ℕ} (p : Part g n bs at depth scope regs rels f e)
     {ld : Lead} (found : ld ≡ leadAt n g bs at) {t : Token} (is : ld ≡ Is t) where
   pub leaf-named : {l : Leaf} → t ≡ LeafToken l → Named scope regs rels (leafForm l)
   leaf-named leaf = subst (Named scope regs rels) (leaf-form (p .stands) found is leaf) (p .named)
 
   pub not-part : (one : t ≡ Not) → Part g n bs (at + 1) (depth - 1) scope regs rels (inner (p .stands) found is one is-not) e
-  not-part one = record { stands = one-stands (p .stands) found is one is-not; named = named-neg (one-form (p .stands) found is one is-not) (p .named) }
+  not-part one =
+      record {
+        stands = one-stands (p .stands) found is one is-not;
+        named = named-neg (one-form (p .stands) found is one is-not) (p .named);
+      }
 
-  pub modal-part : {m : Mode} {r : ℕ} (one : t ≡ Modal m r) → Part g n bs (at + 1) (depth - 1) scope regs rels (inner (p .stands) found is one (is-modal m r)) e
-  modal-part {m} {r} one = record { stands = one-stands (p .stands) found is one (is-modal m r); named = named-modal m r _ (one-form (p .stands) found is one (is-modal m r)) (p .named) }
+  pub modal-part : {m : Mode} {r : ℕ} (one : t ≡ Modal m r)
+      → Part g n bs (at + 1) (depth - 1) scope regs rels (inner (p .stands) found is one (is-modal m r)) e
+  modal-part {m} {r} one =
+      record {
+        stands =
+            one-stands (p .stands) found is one (is-modal m r);
+        named =
+            named-modal m r _ (one-form (p .stands) found is one (is-modal m r)) (p .named);
+      }
 
   pub modal-relation : {m : Mode} {r : ℕ} (one : t ≡ Modal m r) → rels r ≡ true
   modal-relation {m} {r} one = named-relation m r _ (one-form (p .stands) found is one (is-modal m r)) (p .named)
 
-  pub binder-part : {x : Fix} {P : ℕ} (one : t ≡ Binder x P) → Part g n bs (at + 1) (depth - 1) (set scope P true) regs rels (inner (p .stands) found is one (is-binder x P)) e
-  binder-part {x} {P} one = record { stands = one-stands (p .stands) found is one (is-binder x P); named = named-binder x P _ (one-form (p .stands) found is one (is-binder x P)) (p .named) }
+  pub binder-part : {x : Fix} {P : ℕ} (one : t ≡ Binder x P)
+      → Part g n bs (at + 1) (depth - 1) (set scope P true) regs rels (inner (p .stands) found is one (is-binder x P)) e
+  binder-part {x} {P} one =
+      record {
+        stands =
+            one-stands (p .stands) found is one (is-binder x P);
+        named =
+            named-binder x P _ (one-form (p .stands) found is one (is-binder x P)) (p .named);
+      }
 
   module _ {j : Two} (two : t ≡ Both j) where
     pub left-part : Part g n bs (at + 1) (depth - 1) scope regs rels (left (p .stands) found is two) (middle (p .stands) found is two)
-    left-part = record { stands = left-stands (p .stands) found is two; named = named-left j _ _ (both-form (p .stands) found is two) (p .named) }
+    left-part =
+        record { stands = left-stands (p .stands) found is two; named = named-left j _ _ (both-form (p .stands) found is two) (p .named) }
 
     pub right-part : Part g n bs (middle (p .stands) found is two) (depth - 1) scope regs rels (right (p .stands) found is two) e
-    right-part = record { stands = right-stands (p .stands) found is two; named = named-right j _ _ (both-form (p .stands) found is two) (p .named) }
+    right-part =
+        record { stands = right-stands (p .stands) found is two; named = named-right j _ _ (both-form (p .stands) found is two) (p .named) }
 
   pub until-relation : {m : Mode} {r : ℕ} (two : t ≡ Both (Until m r)) → rels r ≡ true
   until-relation {m} {r} two = named-two (Until m r) _ _ (both-form (p .stands) found is two) (p .named)

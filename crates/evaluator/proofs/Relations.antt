@@ -59,26 +59,36 @@ use Rattle.evaluator.proofs.Outcomes.{overSteps, run-modal, diamond-eva
 use Rattle.evaluator.proofs.Steps.{answers-taken, value-evals, value-end, value-set, value-is, value-ready}
 
 -- box asks of V what a sound table has, and is within the V that was read
-pub box-asks : {n N limit : ℕ} {W : View} {lent : List ℕ} {t a : ℕ} (v : ℕ) → v + 1 ≡ W .header VALID → ModalPre n N limit W lent t a → BoxPre n N limit W lent v t a
+pub box-asks : {n N limit : ℕ} {W : View} {lent : List ℕ} {t a : ℕ} (v : ℕ) → v + 1 ≡ W .header VALID → ModalPre n N limit W lent t a
+    → BoxPre n N limit W lent v t a
 box-asks {n} {W = W} {lent} v read p = record {
   valid = subst (λ (x : ℕ). Mem x (live W lent)) (sym (valid-read W v read)) (valid-root lent (p .base .sound));
-  states = reads-levels (rowsOf W) even (v ∷ []) (p .base .sound .even VALID (omega arith) (omega arith) v (sym read ∙ add-one v)) (2 * n) v (reached-root (rowsOf W) (v ∷ []) v (here refl));
+  states =
+      reads-levels (rowsOf W) even (v ∷ []) (p .base .sound .even VALID (omega arith) (omega arith) v (sym read ∙ add-one v)) (2 * n) v
+      (reached-root (rowsOf W) (v ∷ []) v (here refl));
   modal = p;
 }
 
-pub box-read : {n N limit : ℕ} {W X : View} {lent : List ℕ} {t a : ℕ} {q : Count} {o : Taken} (v : ℕ) → v + 1 ≡ W .header VALID → Boxes n N limit W X lent v t a q o → Boxes n N limit W X lent (validOf W) t a q o
-box-read {n} {N} {limit} {W} {X} {lent} {t} {a} {q} {o} v read b = subst (λ (x : ℕ). Boxes n N limit W X lent x t a q o) (valid-read W v read) b
+pub box-read : {n N limit : ℕ} {W X : View} {lent : List ℕ} {t a : ℕ} {q : Count} {o : Taken} (v : ℕ) → v + 1 ≡ W .header VALID
+    → Boxes n N limit W X lent v t a q o → Boxes n N limit W X lent (validOf W) t a q o
+box-read {n} {N} {limit} {W} {X} {lent} {t} {a} {q} {o} v read b =
+    subst (λ (x : ℕ). Boxes n N limit W X lent x t a q o) (valid-read W v read) b
 
-module _ {L : Limits} {W X : View} {stack after places : List ℕ} {held : ℕ} {count : Count} {σ : Scene} {f : Form} {e : ℕ} {r : Evaluated} (R : Ready L W stack places held σ)
-    (A : Answers true L W X stack after held count σ f e r) (z : length after ≡ length stack) {a k : ℕ} {q : Count} (is : r ≡ Value a k q) (t : ℕ) (h : holdsRel σ t ≡ true) where
+module _ {L : Limits} {W X : View} {stack after places : List ℕ}
+    {held : ℕ} {count : Count} {σ : Scene} {f : Form} {e : ℕ} {r : Evaluated} (R : Ready L W stack places held σ)
+    (A : Answers true L W X stack after held count σ f e r) (z : length after ≡ length stack) {a k : ℕ} {q : Count} (is : r ≡ Value a k q)
+    (t : ℕ) (h : holdsRel σ t ≡ true) where
   R₁ : Ready L X after places held σ
   R₁ = value-ready R A z is
 
   pub rel-range : t < relations
   rel-range = ltb-true t relations (and-first (ltb t relations) _ h)
 
-  content : (Q : Pairs) × (σ .rel t ≡ some Q) × (b : ℕ) × (X .header (FIRST-RELATION + t) ≡ suc b) × Denotes (2 * L .bits) (rowsOf X) b (fnOfPairs (L .bits) Q)
-  content = filled-place (2 * L .bits) (rowsOf X) (fnOfPairs (L .bits)) (σ .rel t) (X .header (FIRST-RELATION + t)) (and-second (ltb t relations) _ h) (R₁ .rel t rel-range)
+  content : (Q : Pairs) × (σ .rel t ≡ some Q) × (b : ℕ) × (X .header (FIRST-RELATION + t) ≡ suc b)
+      × Denotes (2 * L .bits) (rowsOf X) b (fnOfPairs (L .bits) Q)
+  content =
+      filled-place (2 * L .bits) (rowsOf X) (fnOfPairs (L .bits)) (σ .rel t) (X .header (FIRST-RELATION + t))
+      (and-second (ltb t relations) _ h) (R₁ .rel t rel-range)
 
   pub rel-some : 0 < X .header (FIRST-RELATION + t)
   rel-some = let c = content .3 in omega arith
@@ -93,14 +103,20 @@ module _ {L : Limits} {W X : View} {stack after places : List ℕ} {held : ℕ} 
 
     pairs-same : fnOfPairs (L .bits) (content .0) ≡ fnOfPairs (L .bits) Q
     pairs-same =
-        let i : Inside (2 ^ L .bits) (existIn (L .bits) σ) (inside (σ .rel t)) = subst (λ (o : Option Pairs). Inside (2 ^ L .bits) (existIn (L .bits) σ) (inside o)) (sym (content .1)) (R₁ .in-rel t (content .0) (content .1)) in
+        let i : Inside (2 ^ L .bits) (existIn (L .bits) σ)
+        (inside (σ .rel t)) = subst (λ (o : Option Pairs). Inside (2 ^ L .bits) (existIn (L .bits) σ) (inside o)) (sym (content .1))
+        (R₁ .in-rel t (content .0) (content .1)) in
         ap (λ (o : Option Pairs). fnOfPairs (L .bits) (inside o)) (sym (content .1))
-        ∙ fun-ext (λ v. sym (related-same (modelIn (L .bits) σ) t i (nowOf (L .bits) v) (nextOf (L .bits) v) (nowOf-lt (L .bits) v) (nowOf-lt (L .bits) (λ l. v (suc l)))))
+        ∙ fun-ext
+        (λ v. sym
+        (related-same (modelIn (L .bits) σ) t i (nowOf (L .bits) v) (nextOf (L .bits) v) (nowOf-lt (L .bits) v)
+        (nowOf-lt (L .bits) (λ l. v (suc l)))))
 
     x-is : Denotes (2 * L .bits) (rowsOf X) x (fnOfPairs (L .bits) Q)
     x-is =
         let same : content .2 ≡ x = let c = content .3 in omega arith in
-        subst (λ (F : Fn). Denotes (2 * L .bits) (rowsOf X) x F) pairs-same (subst (λ (b : ℕ). Denotes (2 * L .bits) (rowsOf X) b (fnOfPairs (L .bits) (content .0))) same (content .4))
+        subst (λ (F : Fn). Denotes (2 * L .bits) (rowsOf X) x F) pairs-same
+        (subst (λ (b : ℕ). Denotes (2 * L .bits) (rowsOf X) b (fnOfPairs (L .bits) (content .0))) same (content .4))
 
     pub over-asks : ModalPre (L .bits) (L .rows) (L .limit) X (take held after) x a
     over-asks = record {
@@ -114,38 +130,53 @@ module _ {L : Limits} {W X : View} {stack after places : List ℕ} {held : ℕ} 
     module _ (Y : View) (o : Taken) where
       -- a chain for F with these needs
       abbrev Chain : List ℕ → Fn → Type 0
-      Chain needs F = PairEvals (L .bits) (L .rows) (rowsOf X) (rowsOf Y) (σ .roots) (fit (L .limit) needs) F (needingAll q needs) (result (madeIn o)) (countIn o)
+      Chain needs F =
+          PairEvals (L .bits) (L .rows) (rowsOf X) (rowsOf Y) (σ .roots) (fit (L .limit) needs) F (needingAll q needs) (result (madeIn o))
+          (countIn o)
 
       -- a chain over the relation and the set, as functions of levels
       as-sets : (needs : Fn → Fn → List ℕ) (opF : Fn → Fn → Fn) (C : List Bool) → Denotes (2 * L .bits) (rowsOf X) a (fnOf (L .bits) C)
-          → Chained (L .bits) (L .rows) (L .limit) X Y (take held after) (needs (den (2 * L .bits) (rowsOf X) x) (den (2 * L .bits) (rowsOf X) a)) (opF (den (2 * L .bits) (rowsOf X) x) (den (2 * L .bits) (rowsOf X) a)) q o
+          → Chained (L .bits) (L .rows) (L .limit) X Y (take held after)
+          (needs (den (2 * L .bits) (rowsOf X) x) (den (2 * L .bits) (rowsOf X) a))
+          (opF (den (2 * L .bits) (rowsOf X) x) (den (2 * L .bits) (rowsOf X) a)) q o
           → Chain (needs (fnOfPairs (L .bits) Q) (fnOf (L .bits) C)) (opF (fnOfPairs (L .bits) Q) (fnOf (L .bits) C))
       as-sets needs opF C d p =
           let v = p .evals in
-          let v1 : Chain (needs (den (2 * L .bits) (rowsOf X) x) (den (2 * L .bits) (rowsOf X) a)) (opF (den (2 * L .bits) (rowsOf X) x) (den (2 * L .bits) (rowsOf X) a)) =
+          let v1 : Chain (needs (den (2 * L .bits) (rowsOf X) x) (den (2 * L .bits) (rowsOf X) a))
+          (opF (den (2 * L .bits) (rowsOf X) x) (den (2 * L .bits) (rowsOf X) a)) =
           record { wf = v .wf; kept = keeps-within (R₁ .roots .from) (v .kept); result = v .result } in
-          let v2 = subst (λ (F : Fn). Chain (needs F (den (2 * L .bits) (rowsOf X) a)) (opF F (den (2 * L .bits) (rowsOf X) a))) (denoted x-is) v1 in
+          let v2 = subst (λ (F : Fn). Chain (needs F (den (2 * L .bits) (rowsOf X) a)) (opF F (den (2 * L .bits) (rowsOf X) a)))
+          (denoted x-is) v1 in
           subst (λ (F : Fn). Chain (needs (fnOfPairs (L .bits) Q) F) (opF (fnOfPairs (L .bits) Q) F)) (denoted d) v2
 
-      over-evals : (m : Mode) → OverPost m (L .bits) (L .rows) (L .limit) X Y (take held after) x a q o → (C : List Bool) → Denotes (2 * L .bits) (rowsOf X) a (fnOf (L .bits) C)
-          → Evals (L .bits) (L .rows) (rowsOf X) (rowsOf Y) (σ .roots) (overSteps m (L .bits) (L .limit) (σ .fns) (existIn (L .bits) σ) Q C q) (endedIn o)
+      over-evals : (m : Mode) → OverPost m (L .bits) (L .rows) (L .limit) X Y (take held after) x a q o → (C : List Bool)
+          → Denotes (2 * L .bits) (rowsOf X) a (fnOf (L .bits) C)
+          → Evals (L .bits) (L .rows) (rowsOf X) (rowsOf Y) (σ .roots)
+          (overSteps m (L .bits) (L .limit) (σ .fns) (existIn (L .bits) σ) Q C q) (endedIn o)
       over-evals All p C d =
           let E = fnOf (L .bits) (existIn (L .bits) σ) in
           let w = p .box (σ .fns) (held-alike (alike-sym (R₁ .roots)) (R₁ .lives)) in
-          let w1 = subst (λ (G : Fn). Chained (L .bits) (L .rows) (L .limit) X Y (take held after) (boxedNeeds (L .bits) (σ .fns) G (den (2 * L .bits) (rowsOf X) x) (den (2 * L .bits) (rowsOf X) a))
+          let w1 =
+          subst (λ (G : Fn). Chained (L .bits) (L .rows) (L .limit) X Y (take held after)
+          (boxedNeeds (L .bits) (σ .fns) G (den (2 * L .bits) (rowsOf X) x) (den (2 * L .bits) (rowsOf X) a))
           (boxedF (L .bits) G (den (2 * L .bits) (rowsOf X) x) (den (2 * L .bits) (rowsOf X) a)) q o) (denoted (R₁ .valid)) w in
-          box-evals (L .limit) (σ .fns) Q C o q (existIn (L .bits) σ) pairs-in (as-sets (λ S F. boxedNeeds (L .bits) (σ .fns) E S F) (boxedF (L .bits) E) C d w1)
+          box-evals (L .limit) (σ .fns) Q C o q (existIn (L .bits) σ) pairs-in
+          (as-sets (λ S F. boxedNeeds (L .bits) (σ .fns) E S F) (boxedF (L .bits) E) C d w1)
       over-evals Some p C d =
           diamond-evals (L .limit) (σ .fns) Q C o q
-          (as-sets (λ Q F. diamondNeeds (L .bits) (σ .fns) Q F) (diamondF (L .bits)) C d (p (σ .fns) (held-alike (alike-sym (R₁ .roots)) (R₁ .lives))))
+          (as-sets (λ Q F. diamondNeeds (L .bits) (σ .fns) Q F) (diamondF (L .bits)) C d
+          (p (σ .fns) (held-alike (alike-sym (R₁ .roots)) (R₁ .lives))))
 
       over-moved : (m : Mode) → OverPost m (L .bits) (L .rows) (L .limit) X Y (take held after) x a q o → Moved (L .bits) X Y
       over-moved All p = p .box (σ .fns) (held-alike (alike-sym (R₁ .roots)) (R₁ .lives)) .moved
       over-moved Some p = p (σ .fns) (held-alike (alike-sym (R₁ .roots)) (R₁ .lives)) .moved
 
-      pub over-ends : (m : Mode) {r′ : Evaluated} → OverPost m (L .bits) (L .rows) (L .limit) X Y (take held after) x a q o → r′ ≡ fromTaken k o
+      pub over-ends : (m : Mode) {r′ : Evaluated} → OverPost m (L .bits) (L .rows) (L .limit) X Y (take held after) x a q o
+          → r′ ≡ fromTaken k o
           → Answers true L W Y stack after held count σ (modalForm m t f) e r′
       over-ends m p is-r = answers-taken (modalForm m t f) k o (value-end R A z is) is-r (moved-trans (A .moved) (over-moved m p)) (A .kept)
           (evals-same (sym (run-modal (modelIn (L .bits) σ) (L .limit) (L .rounds) (σ .env) (σ .fns) m t f count))
-          (evals-then (L .bits) (L .rows) (runIn true L σ f count) (λ C p. overSteps m (L .bits) (L .limit) (σ .fns) (existIn (L .bits) σ) (related (modelIn (L .bits) σ) t) C p) (value-evals R A z is) (λ C d.
+          (evals-then (L .bits) (L .rows) (runIn true L σ f count)
+          (λ C p. overSteps m (L .bits) (L .limit) (σ .fns) (existIn (L .bits) σ) (related (modelIn (L .bits) σ) t) C p)
+          (value-evals R A z is) (λ C d.
           evals-from (L .bits) (L .rows) (A .evals .kept) (λ b i. i) (over-evals m p C d))))

@@ -10,8 +10,20 @@ use Rattle.evaluator.specs.Scene.{Scene}
 
 -- "each value made and not yet used": the function F at the arrow a is live too
 abbrev pub pushed : Scene → ℕ → Fn → Scene
-pushed σ a F = record { valid = σ .valid; reg = σ .reg; rel = σ .rel; scope = σ .scope; env = σ .env; roots = a ∷ σ .roots; fns = F ∷ σ .fns }
+pushed σ a F =
+    record { valid = σ .valid; reg = σ .reg; rel = σ .rel; scope = σ .scope; env = σ .env; roots = a ∷ σ .roots; fns = F ∷ σ .fns }
 
 -- "the current set of each open binder": A is the set of variable P
 abbrev pub opened : ℕ → Scene → ℕ → ℕ → List Bool → Scene
-opened n σ P a A = record { valid = σ .valid; reg = σ .reg; rel = σ .rel; scope = set (σ .scope) P true; env = put (σ .env) P A; roots = a ∷ σ .roots; fns = fnOf n A ∷ σ .fns }
+opened n σ P a A =
+    record {
+      valid =
+          σ .valid;
+      reg =
+          σ .reg;
+      rel = σ .rel;
+      scope = set (σ .scope) P true;
+      env = put (σ .env) P A;
+      roots = a ∷ σ .roots;
+      fns = fnOf n A ∷ σ .fns;
+    }

@@ -56,8 +56,8 @@ use Rattle.evaluator.specs.declared.Context.{Context}
 use Rattle.evaluator.specs.declared.Evaluated.{Evaluated}
 use Rattle.evaluator.specs.declared.Evaluated.the-variants.{Value, Full, Spent}
 
--- what a formula is evaluated over: the book's V, registers and relations, the open variables and their sets, and what is live: the roots and
--- the functions that they hold
+-- what a formula is evaluated over: the book's V, registers and relations, the open variables and their sets, and what is live: the roots
+-- and the functions that they hold
 pub record Scene : Type 0 where
   pub valid : List Bool
   pub reg : ℕ → Option (List Bool)
@@ -100,7 +100,8 @@ pub record Ready (L : Limits) (W : View) (stack places : List ℕ) (held : ℕ) 
   pub base : Base (L .bits) (L .rows) (L .limit) W
   pub valid : Denotes (2 * L .bits) (rowsOf W) (validOf W) (fnOf (L .bits) (existIn (L .bits) σ))
   pub reg : (r : ℕ) → r < registers → Place (2 * L .bits) (rowsOf W) (fnOf (L .bits)) (σ .reg r) (arrowIn (W .header (FIRST-REGISTER + r)))
-  pub rel : (t : ℕ) → t < relations → Place (2 * L .bits) (rowsOf W) (fnOfPairs (L .bits)) (σ .rel t) (arrowIn (W .header (FIRST-RELATION + t)))
+  pub rel : (t : ℕ) → t < relations
+      → Place (2 * L .bits) (rowsOf W) (fnOfPairs (L .bits)) (σ .rel t) (arrowIn (W .header (FIRST-RELATION + t)))
   -- what registers, relations and variables hold are states that exist
   pub in-reg : (r : ℕ) (A : List Bool) → σ .reg r ≡ some A → Below A (existIn (L .bits) σ)
   pub in-rel : (t : ℕ) (Q : Pairs) → σ .rel t ≡ some Q → Inside (2 ^ L .bits) (existIn (L .bits) σ) Q
@@ -131,7 +132,8 @@ pub record Stands (n : ℕ) (g : Grammar) (bs : List ℕ) (at depth : ℕ) (f : 
   pub reads : parse n g depth bs at ≡ got f e
 
 -- a formula of the grammar g, or a part of one, that has passed the checks
-pub record Part (g : Grammar) (n : ℕ) (bs : List ℕ) (at depth : ℕ) (scope : List Bool) (regs rels : ℕ → Bool) (f : Form) (e : ℕ) : Type 0 where
+pub record Part (g : Grammar) (n : ℕ) (bs : List ℕ) (at depth : ℕ) (scope : List Bool)
+    (regs rels : ℕ → Bool) (f : Form) (e : ℕ) : Type 0 where
   pub stands : Stands n g bs at depth f e
   pub named : Named scope regs rels f
 
@@ -150,8 +152,10 @@ EndsAt e Spent = Unit {0}
 abbrev pub runIn : Bool → Limits → Scene → Form → Count → Outcome
 runIn b L σ f r = run (overIn b (L .bits) σ) (L .limit) (L .rounds) (σ .fns) f r
 
--- the evaluation of f, with `true` over states, with `false` over pairs: what it leaves of the words, the live part of the stack as it was, and the book's outcome
-pub record Answers (b : Bool) (L : Limits) (W X : View) (stack after : List ℕ) (held : ℕ) (count : Count) (σ : Scene) (f : Form) (e : ℕ) (r : Evaluated) : Type 0 where
+-- the evaluation of f, with `true` over states, with `false` over pairs: what it leaves of the words, the live part of the stack as it was,
+-- and the book's outcome
+pub record Answers (b : Bool) (L : Limits) (W X : View) (stack after : List ℕ)
+    (held : ℕ) (count : Count) (σ : Scene) (f : Form) (e : ℕ) (r : Evaluated) : Type 0 where
   pub moved : Moved (L .bits) W X
   pub kept : take held after ≡ take held stack
   pub evals : EvalsBy (valueIn b (L .bits) σ) (L .bits) (L .rows) (rowsOf W) (rowsOf X) (σ .roots) (runIn b L σ f count) (endedOf r)
@@ -254,7 +258,8 @@ pub record LeafPre (g : Grammar) (L : Limits) (W : View) (stack : List ℕ) (c :
   pub taken : leafAllowed l (L .bits) g ≡ true
 
 pub record LeafPost (g : Grammar) (L : Limits) (W X : View) (stack : List ℕ) (c : Context) (l : Leaf) (o : Taken) : Type 0 where
-  pub answers : (σ : Scene) → Ready L W stack (c .places) (c .held) σ → Named (σ .scope) (holdsReg σ) (holdsRel σ) (leafForm l) → LeafAnswers (onlyNow g) L W X (c .count) σ (leafForm l) o
+  pub answers : (σ : Scene) → Ready L W stack (c .places) (c .held) σ → Named (σ .scope) (holdsReg σ) (holdsRel σ) (leafForm l)
+      → LeafAnswers (onlyNow g) L W X (c .count) σ (leafForm l) o
 
 -- formulas of pairs, or of states and runs
 abbrev pub Evaluates : Grammar → Type 0
@@ -270,12 +275,14 @@ pub record EvalPre (g : Grammar) (L : Limits) (W : View) (stack bs : List ℕ) (
   pub part : Part g (L .bits) bs (c .at) (c .depth) (scene .scope) (holdsReg scene) (holdsRel scene) form end
 
 pub record EvalPost (g : Grammar) (L : Limits) (W X : View) (stack after bs : List ℕ) (c : Context) (r : Evaluated) : Type 0 where
-  pub answers : (σ : Scene) (f : Form) (e : ℕ) → Ready L W stack (c .places) (c .held) σ → Part g (L .bits) bs (c .at) (c .depth) (σ .scope) (holdsReg σ) (holdsRel σ) f e
+  pub answers : (σ : Scene) (f : Form) (e : ℕ) → Ready L W stack (c .places) (c .held) σ
+      → Part g (L .bits) bs (c .at) (c .depth) (σ .scope) (holdsReg σ) (holdsRel σ) f e
       → Answers (onlyNow g) L W X stack after (c .held) (c .count) σ f e r
 
 -- NOT: f is its part, of which it asks what evaluating it does
 pub record NegatePost (g : Grammar) (L : Limits) (W X : View) (stack after bs : List ℕ) (c : Context) (r : Evaluated) : Type 0 where
-  pub answers : (σ : Scene) (f : Form) (e : ℕ) → Ready L W stack (c .places) (c .held) σ → Part g (L .bits) bs (c .at) (c .depth) (σ .scope) (holdsReg σ) (holdsRel σ) f e
+  pub answers : (σ : Scene) (f : Form) (e : ℕ) → Ready L W stack (c .places) (c .held) σ
+      → Part g (L .bits) bs (c .at) (c .depth) (σ .scope) (holdsReg σ) (holdsRel σ) f e
       → Answers (onlyNow g) L W X stack after (c .held) (c .count) σ (neg f) e r
 
 -- AND and OR: f and, after it, g are the parts
@@ -291,9 +298,12 @@ pub record BothPre (g : Grammar) (L : Limits) (W : View) (stack bs : List ℕ) (
   pub first : Part g (L .bits) bs (c .at) (c .depth) (scene .scope) (holdsReg scene) (holdsRel scene) left middle
   pub second : Part g (L .bits) bs middle (c .depth) (scene .scope) (holdsReg scene) (holdsRel scene) right end
 
-pub record BothPost (g : Grammar) (L : Limits) (W X : View) (stack after bs : List ℕ) (c : Context) (j : Join) (r : Evaluated) : Type 0 where
-  pub answers : (σ : Scene) (f h : Form) (m e : ℕ) → Ready L W stack (c .places) (c .held) σ → Part g (L .bits) bs (c .at) (c .depth) (σ .scope) (holdsReg σ) (holdsRel σ) f m
-      → Part g (L .bits) bs m (c .depth) (σ .scope) (holdsReg σ) (holdsRel σ) h e → Answers (onlyNow g) L W X stack after (c .held) (c .count) σ (joinForm j f h) e r
+pub record BothPost (g : Grammar) (L : Limits) (W X : View) (stack after bs : List ℕ)
+    (c : Context) (j : Join) (r : Evaluated) : Type 0 where
+  pub answers : (σ : Scene) (f h : Form) (m e : ℕ) → Ready L W stack (c .places) (c .held) σ
+      → Part g (L .bits) bs (c .at) (c .depth) (σ .scope) (holdsReg σ) (holdsRel σ) f m
+      → Part g (L .bits) bs m (c .depth) (σ .scope) (holdsReg σ) (holdsRel σ) h e
+      → Answers (onlyNow g) L W X stack after (c .held) (c .count) σ (joinForm j f h) e r
 
 -- box and diamond over relation t: f is the part
 pub record ModePre (L : Limits) (W : View) (stack bs : List ℕ) (c : Context) (t : ℕ) : Type 0 where
@@ -306,7 +316,8 @@ pub record ModePre (L : Limits) (W : View) (stack bs : List ℕ) (c : Context) (
   pub relation : holdsRel scene t ≡ true
 
 pub record ModePost (L : Limits) (W X : View) (stack after bs : List ℕ) (c : Context) (m : Mode) (t : ℕ) (r : Evaluated) : Type 0 where
-  pub answers : (σ : Scene) (f : Form) (e : ℕ) → Ready L W stack (c .places) (c .held) σ → Part Runs (L .bits) bs (c .at) (c .depth) (σ .scope) (holdsReg σ) (holdsRel σ) f e
+  pub answers : (σ : Scene) (f : Form) (e : ℕ) → Ready L W stack (c .places) (c .held) σ
+      → Part Runs (L .bits) bs (c .at) (c .depth) (σ .scope) (holdsReg σ) (holdsRel σ) f e
       → holdsRel σ t ≡ true → Answers true L W X stack after (c .held) (c .count) σ (modalForm m t f) e r
 
 -- ---- until: "mu X (g or (f and diamond X))", "mu X (g or (f and (box X and diamond true)))", "X a variable of its own"
@@ -370,7 +381,8 @@ pub record KeepPre (L : Limits) (W : View) (stack bs : List ℕ) (c : Context) (
   pub current : Current L W scene x
 
 pub record KeepPost (L : Limits) (W X : View) (stack after bs : List ℕ) (c : Context) (m : Mode) (t x e : ℕ) (r : Evaluated) : Type 0 where
-  pub answers : (σ : Scene) (f : Form) (k : ℕ) → Ready L W stack (c .places) (c .held) σ → Part Runs (L .bits) bs (c .at) (c .depth) (σ .scope) (holdsReg σ) (holdsRel σ) f k
+  pub answers : (σ : Scene) (f : Form) (k : ℕ) → Ready L W stack (c .places) (c .held) σ
+      → Part Runs (L .bits) bs (c .at) (c .depth) (σ .scope) (holdsReg σ) (holdsRel σ) f k
       → holdsRel σ t ≡ true → Current L W σ x → Answers true L W X stack after (c .held) (c .count) σ (conj f (goes (isSome m) t own)) e r
 
 -- a round: g, or f and that
@@ -386,8 +398,10 @@ pub record RoundPre (L : Limits) (W : View) (stack bs : List ℕ) (c : Context) 
   pub relation : holdsRel scene t ≡ true
   pub current : Current L W scene x
 
-pub record RoundPost (L : Limits) (W X : View) (stack after bs : List ℕ) (c : Context) (middle : ℕ) (m : Mode) (t x : ℕ) (r : Evaluated) : Type 0 where
-  pub answers : (σ : Scene) (f g : Form) (e : ℕ) → Ready L W stack (c .places) (c .held) σ → Part Runs (L .bits) bs (c .at) (c .depth) (σ .scope) (holdsReg σ) (holdsRel σ) f middle
+pub record RoundPost (L : Limits) (W X : View) (stack after bs : List ℕ)
+    (c : Context) (middle : ℕ) (m : Mode) (t x : ℕ) (r : Evaluated) : Type 0 where
+  pub answers : (σ : Scene) (f g : Form) (e : ℕ) → Ready L W stack (c .places) (c .held) σ
+      → Part Runs (L .bits) bs (c .at) (c .depth) (σ .scope) (holdsReg σ) (holdsRel σ) f middle
       → Part Runs (L .bits) bs middle (c .depth) (σ .scope) (holdsReg σ) (holdsRel σ) g e → holdsRel σ t ≡ true → Current L W σ x
       → Answers true L W X stack after (c .held) (c .count) σ (roundForm m t f g) e r
 
@@ -403,7 +417,8 @@ variableOf (Binder x P) = P
 variableOf (Until m t middle) = own
 
 -- f is a round of until, whose parts stand in the bytes
-pub record UntilParts (n : ℕ) (bs : List ℕ) (at depth : ℕ) (scope : List Bool) (regs rels : ℕ → Bool) (m : Mode) (t middle : ℕ) (f : Form) (e : ℕ) : Type 0 where
+pub record UntilParts (n : ℕ) (bs : List ℕ) (at depth : ℕ) (scope : List Bool)
+    (regs rels : ℕ → Bool) (m : Mode) (t middle : ℕ) (f : Form) (e : ℕ) : Type 0 where
   pub left : Form
   pub right : Form
   pub is-round : f ≡ roundForm m t left right
@@ -416,7 +431,8 @@ PartsOf n bs at depth scope regs rels (Binder x P) f e = Part Runs n bs at depth
 PartsOf n bs at depth scope regs rels (Until m t middle) f e = UntilParts n bs at depth scope regs rels m t middle f e
 
 -- f is what a round evaluates
-pub record BodyPart (n : ℕ) (bs : List ℕ) (at depth : ℕ) (scope : List Bool) (regs rels : ℕ → Bool) (b : Body) (f : Form) (e : ℕ) : Type 0 where
+pub record BodyPart (n : ℕ) (bs : List ℕ) (at depth : ℕ) (scope : List Bool)
+    (regs rels : ℕ → Bool) (b : Body) (f : Form) (e : ℕ) : Type 0 where
   pub parts : PartsOf n bs at depth scope regs rels b f e
 
 -- where f stands, until's g begins after it

@@ -57,7 +57,8 @@ pub record SetPre (L : Limits) (W : View) (bs : List ℕ) : Type 0 where
   pub limit : L .limit ≤ L .rows
   pub passed : checks (bookIn W) Set bs ≡ 0
 
--- a sound table with the rows that registers and relations need, nothing else touched, and the outcome of the book's steps: the set with its rounds and peak, 8 or 9
+-- a sound table with the rows that registers and relations need, nothing else touched, and the outcome of the book's steps: the set with
+-- its rounds and peak, 8 or 9
 pub record SetPost (L : Limits) (W X : View) (bs : List ℕ) (r : Evaluated) : Type 0 where
   pub sound : Sound X
   pub frame : OpFrame W X
@@ -78,7 +79,9 @@ pub record WithinPre (L : Limits) (W : View) (stack : List ℕ) (a : ℕ) : Type
 
 pub record WithinPost (L : Limits) (W X : View) (stack : List ℕ) (a : ℕ) (count : Count) (o : Taken) : Type 0 where
   pub answers : (σ : Scene) → Ready L W stack noPlaces 0 σ
-      → Ran (L .bits) (L .rows) W X (σ .roots) (fit (L .limit) (withinNeeds (L .bits) (σ .fns) (fnOf (L .bits) (σ .valid)) (den (2 * L .bits) (rowsOf W) a))) (withinF (fnOf (L .bits) (σ .valid)) (den (2 * L .bits) (rowsOf W) a))
+      → Ran (L .bits) (L .rows) W X (σ .roots)
+      (fit (L .limit) (withinNeeds (L .bits) (σ .fns) (fnOf (L .bits) (σ .valid)) (den (2 * L .bits) (rowsOf W) a)))
+      (withinF (fnOf (L .bits) (σ .valid)) (den (2 * L .bits) (rowsOf W) a))
       (needingAll count (withinNeeds (L .bits) (σ .fns) (fnOf (L .bits) (σ .valid)) (den (2 * L .bits) (rowsOf W) a))) o
 
 -- ---- a relation's formula, and that of valid
@@ -99,7 +102,8 @@ pub record PairsPre (L : Limits) (W : View) (bs : List ℕ) : Type 0 where
   pub is-pairs : ofPairs kind ≡ true
   pub passed : checks (bookIn W) kind bs ≡ 0
 
--- a sound table with the rows that V, registers and relations need, nothing else touched, and the outcome of the formula's steps: its pairs with their peak, or 8
+-- a sound table with the rows that V, registers and relations need, nothing else touched, and the outcome of the formula's steps: its pairs
+-- with their peak, or 8
 pub record PairsPost (L : Limits) (W X : View) (bs : List ℕ) (o : Taken) : Type 0 where
   pub sound : Sound X
   pub frame : OpFrame W X
@@ -114,5 +118,7 @@ pub record RelationPost (L : Limits) (W X : View) (bs : List ℕ) (o : Taken) : 
   pub frame : OpFrame W X
   pub evals : checks (bookIn W) Relation bs ≡ 0
       → PairEvals (bookIn W .n) (bookIn W .N) (rowsOf W) (rowsOf X) (rootsOf (seenIn W))
-      (relationFits (bookIn W .n) (L .limit) (liveOf (bookIn W)) (bookIn W .valid) (formulaIn (bookIn W) Relation bs)) (relationF (bookIn W .n) (bookIn W .valid) (formulaIn (bookIn W) Relation bs))
-      (relationCount (bookIn W .n) (liveOf (bookIn W)) (bookIn W .valid) (formulaIn (bookIn W) Relation bs) nothing) (result (madeIn o)) (countIn o)
+      (relationFits (bookIn W .n) (L .limit) (liveOf (bookIn W)) (bookIn W .valid) (formulaIn (bookIn W) Relation bs))
+      (relationF (bookIn W .n) (bookIn W .valid) (formulaIn (bookIn W) Relation bs))
+      (relationCount (bookIn W .n) (liveOf (bookIn W)) (bookIn W .valid) (formulaIn (bookIn W) Relation bs) nothing) (result (madeIn o))
+      (countIn o)

@@ -24,4 +24,5 @@ check-done ws bs s i e = record { unsound = λ n. absurd (n s); checked = λ _. 
 
 -- one number
 pub check-one : (k : Kind) (ws bs : List ℕ) {x y : ℕ} → CheckPost k ws bs x → CheckPost k ws bs y → x ≡ y
-check-one k ws bs {x} {y} p q = any-words ws (ℕ-discrete x y) (λ s. p .checked s ∙ sym (q .checked s)) (λ n. p .unsound n ∙ sym (q .unsound n))
+check-one k ws bs {x} {y} p q =
+    any-words ws (ℕ-discrete x y) (λ s. p .checked s ∙ sym (q .checked s)) (λ n. p .unsound n ∙ sym (q .unsound n))

@@ -19,7 +19,8 @@ use Rattle.calls.proofs.FreshLaws.{fresh-words-one}
 use Rattle.calls.specs.declared.Started.the-variants.{Ready, Refused}
 use Rattle.exports.specs.Given.{given, FreshLeft, FreshGiven}
 
--- one list of words, so with `fresh-one` (contract, OneAnswer) one answer; the other entry points' contracts are those of `call-one` and `ask-one`
+-- one list of words, so with `fresh-one` (contract, OneAnswer) one answer; the other entry points' contracts are those of `call-one` and
+-- `ask-one`
 pub fresh-left-one : (n N : ℕ) (old v w : List ℕ) (k : ℕ) → FreshLeft n N old v k → FreshLeft n N old w k → v ≡ w
 fresh-left-one n N old v w zero p q = fresh-words-one n N old v w Ready p q
 fresh-left-one n N old v w (suc k) p q = p ∙ sym q
@@ -32,7 +33,8 @@ left-refused n N old new e {k} is same = at k (omega (arith, is, refusal-some e)
     at zero h = absurd (omega arith)
     at (suc j) h = same
 
-pub fresh-given : (n N : ℕ) (old new : List ℕ) (before after : List Account) (x : Started) (k : ℕ) → FreshListPost n N old new before after x → given k 0 0 0 ≡ startedReply x
+pub fresh-given : (n N : ℕ) (old new : List ℕ) (before after : List Account) (x : Started) (k : ℕ)
+    → FreshListPost n N old new before after x → given k 0 0 0 ≡ startedReply x
     → FreshGiven n N old new before after k
 fresh-given n N old new before after x k p e = record {
   post = subst (FreshPost n N (length before) old new) (sym e) (p .table .post);

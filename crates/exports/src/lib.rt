@@ -110,8 +110,8 @@ fn give_stored(x: Stored, node: &mut u32, rounds: &mut u32, peak: &mut u32) -> u
     }
 }
 
-// Register r holds the states of a formula, found under the limits of the account at a place and in at most `most` rounds, which go to its tally; gives its
-// node number, the rounds and the peak.
+// Register r holds the states of a formula, found under the limits of the account at a place and in at most `most` rounds, which go to its
+// tally; gives its node number, the rounds and the peak.
 #[no_mangle]
 pub extern "C" fn kudzuclamp_set(
     words: &mut [u32],
@@ -194,7 +194,8 @@ pub extern "C" fn kudzuclamp_member(words: &[u32], r: u32, s: u32, value: &mut u
     give(calls::member(words, r, s), value)
 }
 
-// Answers for each of up to 1,024 states whether the set in register r has it; gives how many rows were read. The order is lent for the work.
+// Answers for each of up to 1,024 states whether the set in register r has it; gives how many rows were read.
+// The order is lent for the work.
 #[no_mangle]
 pub extern "C" fn kudzuclamp_members(
     words: &[u32],
@@ -281,7 +282,8 @@ impl Playing {
     pub const UNREADABLE: u32 = 101;
 }
 
-// Plays the calls of all records in order, and writes number, node, rounds, value and peak of each to the list; gives how many records there were.
+// Plays the calls of all records in order, and writes number, node, rounds, value and peak of each to the list; gives how many records
+// there were.
 #[no_mangle]
 pub extern "C" fn kudzuclamp_play(
     words: &mut [u32],

@@ -81,7 +81,8 @@ module _ (k : Kind) (n : ℕ) (bs : List ℕ) (f : Form) where
       let F = found k n bs f z in
       let r = parse-reads n (F .grammar) bs depthLimit 3 f (length bs) (F .parsed) in
       let p = framed-parts bs (F .in-frame) in
-      let body : drop 3 bs ≡ bytesOf f = read-written n (F .grammar) bs r ∙ ap (λ (x : List ℕ). bytesOf f ++ x) (drop-length bs) ∙ append-nil (bytesOf f) in
+      let body : drop 3 bs
+      ≡ bytesOf f = read-written n (F .grammar) bs r ∙ ap (λ (x : List ℕ). bytesOf f ++ x) (drop-length bs) ∙ append-nil (bytesOf f) in
       let size : 1 + length (bytesOf f) ≡ lengthOf bs = omega (arith, ap length body, length-drop 3 bs) in
       let high : getD bs 0 0 ≡ (1 + length (bytesOf f)) / 256 = rw size (sym (high-byte (getD bs 0 0) (getD bs 1 0) (small 1))) in
       let low : getD bs 1 0 ≡ (1 + length (bytesOf f)) % 256 = rw size (sym (low-byte (getD bs 0 0) (getD bs 1 0) (small 1))) in
@@ -112,7 +113,8 @@ module _ (v : ℕ) (f : Form) where
       )
 
 module _ (k : Kind) (n : ℕ) (bs : List ℕ) (f : Form) where
-  frame-accepted : (v : ℕ) (g : Grammar) → grammarOf k v ≡ Reading-is g → depth f ≤ depthLimit → takes n g f ≡ true → length (bytesOf f) ≤ 1023 → formulaOf k n (frameOf v f) ≡ got f (length (frameOf v f))
+  frame-accepted : (v : ℕ) (g : Grammar) → grammarOf k v ≡ Reading-is g → depth f ≤ depthLimit → takes n g f ≡ true
+      → length (bytesOf f) ≤ 1023 → formulaOf k n (frameOf v f) ≡ got f (length (frameOf v f))
   unfolding formulaOf
   frame-accepted v g known deep taken short =
       let end : 3 + length (bytesOf f) ≡ length (frameOf v f) = omega arith in
@@ -127,7 +129,8 @@ module _ (k : Kind) (n : ℕ) (bs : List ℕ) (f : Form) where
   accepted small = (framing-of k n bs f small, accepted-of)
 
 -- the same with the formula left open
-pub accepts : (k : Kind) (n : ℕ) (bs : List ℕ) → ((i : ℕ) → getD bs i 0 < 256) → (isFormula (formulaOf k n bs) ≡ true) ↔ ((f : Form) × Framing k n bs f)
+pub accepts : (k : Kind) (n : ℕ) (bs : List ℕ) → ((i : ℕ) → getD bs i 0 < 256)
+    → (isFormula (formulaOf k n bs) ≡ true) ↔ ((f : Form) × Framing k n bs f)
 accepts k n bs small = (λ h. go (formulaOf k n bs) refl h, λ F. ap isFormula (accepted-of k n bs (F .0) (F .1)))
   where
     go : (p : Got) → formulaOf k n bs ≡ p → isFormula p ≡ true → (f : Form) × Framing k n bs f

@@ -44,7 +44,8 @@ bits-with (suc k) w zero h =
     sym (ap₂ (λ (x y : ℕ). eqb x 1 ∷ bits k y) (or-mod w 1 1 ∙ or-one (w % 2) (omega arith)) (or-shr w 1 1 ∙ or-zero-r (w / 2)))
 bits-with (suc k) w (suc P) h =
     ap (λ (l : List Bool). eqb (w % 2) 1 ∷ l) (bits-with k (w / 2) P (omega arith))
-    ∙ sym (ap₂ (λ (x y : ℕ). eqb x 1 ∷ bits k y) (or-mod w (2 ^ suc P) 1 ∙ ap (bitOr (w % 2)) (power-last P) ∙ or-zero-r (w % 2)) (or-shr w (2 ^ suc P) 1 ∙ ap (bitOr (w / 2)) (power-half P)))
+    ∙ sym (ap₂ (λ (x y : ℕ). eqb x 1 ∷ bits k y) (or-mod w (2 ^ suc P) 1 ∙ ap (bitOr (w % 2)) (power-last P) ∙ or-zero-r (w % 2))
+    (or-shr w (2 ^ suc P) 1 ∙ ap (bitOr (w / 2)) (power-half P)))
 
 -- ---- the free variables, as a function
 
@@ -72,8 +73,11 @@ mask-none (suc k) = ap (λ (x : ℕ). x * 2 + 0) (mask-none k)
 pub mask-has : (k : ℕ) (h : ℕ → Bool) (P : ℕ) → P < k → bit P (mask k h) ≡ h P
 unfolding mask
 mask-has zero h P l = absurd (omega arith)
-mask-has (suc k) h zero l = bit-last (mask (suc k) h) ∙ ap (λ (x : ℕ). eqb x 1) (digits-mod (mask k (λ P. h (suc P))) (digit-lt (h 0))) ∙ digit-is (h 0)
-mask-has (suc k) h (suc P) l = bit-half P (mask (suc k) h) ∙ ap (bit P) (digits-div (mask k (λ Q. h (suc Q))) (digit-lt (h 0))) ∙ mask-has k (λ Q. h (suc Q)) P (omega arith)
+mask-has (suc k) h zero l =
+    bit-last (mask (suc k) h) ∙ ap (λ (x : ℕ). eqb x 1) (digits-mod (mask k (λ P. h (suc P))) (digit-lt (h 0))) ∙ digit-is (h 0)
+mask-has (suc k) h (suc P) l =
+    bit-half P (mask (suc k) h) ∙ ap (bit P) (digits-div (mask k (λ Q. h (suc Q))) (digit-lt (h 0)))
+    ∙ mask-has k (λ Q. h (suc Q)) P (omega arith)
 
 pub mask-or : (k : ℕ) (h g : ℕ → Bool) → bitOr (mask k h) (mask k g) ≡ mask k (λ P. h P || g P)
 unfolding mask
@@ -95,7 +99,8 @@ mask-one zero P h = absurd (omega arith)
 mask-one (suc k) zero h = sym (ap (λ (x : ℕ). x * 2 + 1) (mask-same k (λ Q. eqb·zero-suc Q) ∙ mask-none k))
 mask-one (suc k) (suc P) h =
     omega (arith, pow-suc 2 P)
-    ∙ ap₂ (λ (x : ℕ) (b : Bool). x * 2 + digit b) (mask-one k P (omega arith) ∙ mask-same k (λ Q. sym (eqb·suc-suc P Q))) (sym (eqb·suc-zero P))
+    ∙ ap₂ (λ (x : ℕ) (b : Bool). x * 2 + digit b) (mask-one k P (omega arith) ∙ mask-same k (λ Q. sym (eqb·suc-suc P Q)))
+    (sym (eqb·suc-zero P))
 
 -- all but P, which is one of them
 pub mask-without : (k : ℕ) (h : ℕ → Bool) (P : ℕ) → P < k → h P ≡ true → bitXor (mask k h) (2 ^ P) ≡ mask k (λ Q. not (eqb P Q) && h Q)
@@ -104,8 +109,12 @@ mask-without zero h P l e = absurd (omega arith)
 mask-without (suc k) h zero l e =
     ap (λ (b : Bool). bitXor (mask k (λ Q. h (suc Q)) * 2 + digit b) 1) e
     ∙ xor-block 1 (mask k (λ Q. h (suc Q))) 0 1 1 (omega arith) (omega arith)
-    ∙ ap (λ (x : ℕ). x * 2 + 0) (xor-zero-r (mask k (λ Q. h (suc Q))) ∙ mask-same k (λ Q. sym (ap (λ (b : Bool). not b && h (suc Q)) (eqb·zero-suc Q))))
+    ∙ ap (λ (x : ℕ). x * 2 + 0)
+    (xor-zero-r (mask k (λ Q. h (suc Q))) ∙ mask-same k (λ Q. sym (ap (λ (b : Bool). not b && h (suc Q)) (eqb·zero-suc Q))))
 mask-without (suc k) h (suc P) l e =
     ap (λ (x : ℕ). bitXor (mask k (λ Q. h (suc Q)) * 2 + digit (h 0)) x) (pow-suc 2 P ∙ omega arith)
     ∙ xor-block 1 (mask k (λ Q. h (suc Q))) (2 ^ P) (digit (h 0)) 0 (digit-lt (h 0)) (omega arith)
-    ∙ ap₂ (λ (x y : ℕ). x * 2 + y) (mask-without k (λ Q. h (suc Q)) P (omega arith) e ∙ mask-same k (λ Q. sym (ap (λ (b : Bool). not b && h (suc Q)) (eqb·suc-suc P Q)))) (xor-zero-r (digit (h 0)) ∙ sym (ap (λ (b : Bool). digit (not b && h 0)) (eqb·suc-zero P)))
+    ∙ ap₂ (λ (x y : ℕ). x * 2 + y)
+    (mask-without k (λ Q. h (suc Q)) P (omega arith) e
+    ∙ mask-same k (λ Q. sym (ap (λ (b : Bool). not b && h (suc Q)) (eqb·suc-suc P Q))))
+    (xor-zero-r (digit (h 0)) ∙ sym (ap (λ (b : Bool). digit (not b && h 0)) (eqb·suc-zero P)))

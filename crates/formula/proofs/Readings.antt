@@ -23,8 +23,10 @@ use Rattle.formula.proofs.Passes.{not-past}
 -- with depth d, at a place, a formula was read to the place e
 pub data Reads (n : ℕ) (g : Grammar) (bs : List ℕ) : ℕ → ℕ → Form → ℕ → Type 0 where
   leaf : {d at : ℕ} {l : Leaf} → leadAt n g bs at ≡ Is (LeafToken l) → Reads n g bs (suc d) at (leafForm l) (at + 1)
-  part : {d at e : ℕ} {t : Token} {c : Form → Form} {f : Form} → Unary t c → leadAt n g bs at ≡ Is t → Reads n g bs d (at + 1) f e → Reads n g bs (suc d) at (c f) e
-  parts : {d at m e : ℕ} {j : Two} {f h : Form} → leadAt n g bs at ≡ Is (Both j) → Reads n g bs d (at + 1) f m → Reads n g bs d m h e → Reads n g bs (suc d) at (twoForm j f h) e
+  part : {d at e : ℕ} {t : Token} {c : Form → Form} {f : Form} → Unary t c → leadAt n g bs at ≡ Is t → Reads n g bs d (at + 1) f e
+      → Reads n g bs (suc d) at (c f) e
+  parts : {d at m e : ℕ} {j : Two} {f h : Form} → leadAt n g bs at ≡ Is (Both j) → Reads n g bs d (at + 1) f m → Reads n g bs d m h e
+      → Reads n g bs (suc d) at (twoForm j f h) e
 
 module _ (n : ℕ) (g : Grammar) (bs : List ℕ) where
   -- what is read from each place was read step by step
@@ -37,19 +39,26 @@ module _ (n : ℕ) (g : Grammar) (bs : List ℕ) where
       let end : e ≡ e′ = cc in
       subst (λ (x : Form). Reads n g bs d at x e′) form (subst (λ (x : ℕ). Reads n g bs d at f x) end r)
 
-  one-reads : {d at : ℕ} {t : Token} {c : Form → Form} → Unary t c → leadAt n g bs at ≡ Is t → (p : Got) → ((f : Form) (e : ℕ) → p ≡ got f e → Reads n g bs d (at + 1) f e) → (f : Form) (e : ℕ) → one c p ≡ got f e → Reads n g bs (suc d) at f e
+  one-reads : {d at : ℕ} {t : Token} {c : Form → Form} → Unary t c → leadAt n g bs at ≡ Is t → (p : Got)
+      → ((f : Form) (e : ℕ) → p ≡ got f e → Reads n g bs d (at + 1) f e) → (f : Form) (e : ℕ) → one c p ≡ got f e
+      → Reads n g bs (suc d) at f e
   one-reads op is fails up f e z = absurd (not-got z)
   one-reads op is (got f′ e′) up f e z = made z (part op is (up f′ e′ refl))
 
-  two-reads : {d at : ℕ} {j : Two} → leadAt n g bs at ≡ Is (Both j) → (f₁ : Form) (m : ℕ) → Reads n g bs d (at + 1) f₁ m → (p : Got) → ((f : Form) (e : ℕ) → p ≡ got f e → Reads n g bs d m f e) → (f : Form) (e : ℕ) → one (twoForm j f₁) p ≡ got f e → Reads n g bs (suc d) at f e
+  two-reads : {d at : ℕ} {j : Two} → leadAt n g bs at ≡ Is (Both j) → (f₁ : Form) (m : ℕ) → Reads n g bs d (at + 1) f₁ m → (p : Got)
+      → ((f : Form) (e : ℕ) → p ≡ got f e → Reads n g bs d m f e) → (f : Form) (e : ℕ) → one (twoForm j f₁) p ≡ got f e
+      → Reads n g bs (suc d) at f e
   two-reads is f₁ m r₁ fails up f e z = absurd (not-got z)
   two-reads is f₁ m r₁ (got f₂ e₂) up f e z = made z (parts is r₁ (up f₂ e₂ refl))
 
-  both-reads : {d at : ℕ} {j : Two} → leadAt n g bs at ≡ Is (Both j) → (read : ℕ → Got) → All d read → (p : Got) → ((f : Form) (e : ℕ) → p ≡ got f e → Reads n g bs d (at + 1) f e) → (f : Form) (e : ℕ) → two (twoForm j) read p ≡ got f e → Reads n g bs (suc d) at f e
+  both-reads : {d at : ℕ} {j : Two} → leadAt n g bs at ≡ Is (Both j) → (read : ℕ → Got) → All d read → (p : Got)
+      → ((f : Form) (e : ℕ) → p ≡ got f e → Reads n g bs d (at + 1) f e) → (f : Form) (e : ℕ) → two (twoForm j) read p ≡ got f e
+      → Reads n g bs (suc d) at f e
   both-reads is read all fails up f e z = absurd (not-got z)
   both-reads is read all (got f₁ m) up f e z = two-reads is f₁ m (up f₁ m refl) (read m) (all m) f e z
 
-  grown-reads : (d at : ℕ) (ld : Lead) → leadAt n g bs at ≡ ld → (read : ℕ → Got) → All d read → (f : Form) (e : ℕ) → grown ld (at + 1) read ≡ got f e → Reads n g bs (suc d) at f e
+  grown-reads : (d at : ℕ) (ld : Lead) → leadAt n g bs at ≡ ld → (read : ℕ → Got) → All d read → (f : Form) (e : ℕ)
+      → grown ld (at + 1) read ≡ got f e → Reads n g bs (suc d) at f e
   grown-reads d at Bad is read all f e z = absurd (not-got z)
   grown-reads d at (Is (LeafToken l)) is read all f e z = made z (leaf is)
   grown-reads d at (Is Not) is read all f e z = one-reads is-not is (read (at + 1)) (all (at + 1)) f e z

@@ -36,7 +36,8 @@ unfolding bound
 bound-modal s All t f = refl
 bound-modal s Some t f = refl
 
-pub bound-binder : (s : List Bool) (x : Fix) (P : ℕ) (f : Form) → bound s (binderForm x P f) ≡ (not (getD s P false) && bound (set s P true) f)
+pub bound-binder : (s : List Bool) (x : Fix) (P : ℕ) (f : Form)
+    → bound s (binderForm x P f) ≡ (not (getD s P false) && bound (set s P true) f)
 unfolding bound
 bound-binder s Mu P f = refl
 bound-binder s Nu P f = refl
@@ -139,14 +140,16 @@ pub filled-neg : (regs rels : ℕ → Bool) (f : Form) → filled regs rels (neg
 unfolding filled
 filled-neg regs rels f = refl
 
-pub filled-join : (regs rels : ℕ → Bool) (w : Two) (f g : Form) → filled regs rels (twoForm w f g) ≡ (twoFilled rels w && (filled regs rels f && filled regs rels g))
+pub filled-join : (regs rels : ℕ → Bool) (w : Two) (f g : Form)
+    → filled regs rels (twoForm w f g) ≡ (twoFilled rels w && (filled regs rels f && filled regs rels g))
 unfolding filled
 filled-join regs rels (Joins And) f g = refl
 filled-join regs rels (Joins Or) f g = refl
 filled-join regs rels (Until All t) f g = refl
 filled-join regs rels (Until Some t) f g = refl
 
-pub filled-modal : (regs rels : ℕ → Bool) (m : Mode) (t : ℕ) (f : Form) → filled regs rels (modalForm m t f) ≡ (rels t && filled regs rels f)
+pub filled-modal : (regs rels : ℕ → Bool) (m : Mode) (t : ℕ) (f : Form)
+    → filled regs rels (modalForm m t f) ≡ (rels t && filled regs rels f)
 unfolding filled
 filled-modal regs rels All t f = refl
 filled-modal regs rels Some t f = refl

@@ -1,4 +1,5 @@
--- Version 2 reads every formula of version 1 as version 1 does; relation calls and valid refuse it; and the 16 variables of the bytes are below 16. Assumes nothing.
+-- Version 2 reads every formula of version 1 as version 1 does; relation calls and valid refuse it; and the 16 variables of the bytes are
+-- below 16. Assumes nothing.
 use mathlib.Core.Path.{_≡_, refl, sym, ap, _∙_, subst}
 use mathlib.Core.Bool.{Bool, true, false, not, _&&_, cond}
 use mathlib.Core.List.{List}
@@ -70,9 +71,11 @@ module _ (n : ℕ) (g k : Grammar) (more : (t : Token) → allowed t n g ≡ tru
   unfolding parse
   reads-more (leaf {d = d} {at = at} is) = ap (λ (x : Lead). grown x (at + 1) (parse n k d bs)) (lead-more at is)
   reads-more (part {d = d} {at = at} {c = c} op is r) =
-      ap (λ (x : Lead). grown x (at + 1) (parse n k d bs)) (lead-more at is) ∙ grown-unary op (at + 1) (parse n k d bs) ∙ ap (one c) (reads-more r)
+      ap (λ (x : Lead). grown x (at + 1) (parse n k d bs)) (lead-more at is) ∙ grown-unary op (at + 1) (parse n k d bs)
+      ∙ ap (one c) (reads-more r)
   reads-more (parts {d = d} {at = at} {j = j} {f = f} is r₁ r₂) =
-      ap (λ (x : Lead). grown x (at + 1) (parse n k d bs)) (lead-more at is) ∙ ap (two (twoForm j) (parse n k d bs)) (reads-more r₁) ∙ ap (one (twoForm j f)) (reads-more r₂)
+      ap (λ (x : Lead). grown x (at + 1) (parse n k d bs)) (lead-more at is) ∙ ap (two (twoForm j) (parse n k d bs)) (reads-more r₁)
+      ∙ ap (one (twoForm j f)) (reads-more r₂)
 
   parse-more : (d at : ℕ) {f : Form} {e : ℕ} → parse n g d bs at ≡ got f e → parse n k d bs at ≡ got f e
   parse-more d at {f} {e} h = reads-more (parse-reads n g bs d at f e h)
@@ -86,7 +89,8 @@ pub parse-bits : (n : ℕ) (bs : List ℕ) (d at : ℕ) {f : Form} {e : ℕ} →
 parse-bits n bs = parse-more n Bits Pairs (allowed-bits n) bs
 
 -- "Version 2 formulas, for set calls": a call of another kind refuses version 2 with 4
-version-refused : (k : Kind) → secondOf k ≡ Unknown → (n : ℕ) (regs rels : ℕ → Bool) (bs : List ℕ) → getD bs 2 0 ≡ 2 → firstRefusal k n regs rels bs ≡ 4
+version-refused : (k : Kind) → secondOf k ≡ Unknown → (n : ℕ) (regs rels : ℕ → Bool) (bs : List ℕ) → getD bs 2 0 ≡ 2
+    → firstRefusal k n regs rels bs ≡ 4
 unfolding firstRefusal formulaOf
 version-refused k none n regs rels bs two = ap (λ (r : Reading). refusalOf regs rels (formulaBy n bs r)) (go (framed bs))
   where
@@ -111,15 +115,27 @@ unfolding takes
 takes-absent n g bot h = tt
 takes-absent n g top h = tt
 takes-absent n g (neg f) h = takes-absent n g f h
-takes-absent n g (conj f k) h = let w = both-true (takes n g f) (takes n g k) h in and-in (absent 16 f) (absent 16 k) (takes-absent n g f (w .0)) (takes-absent n g k (w .1))
-takes-absent n g (disj f k) h = let w = both-true (takes n g f) (takes n g k) h in and-in (absent 16 f) (absent 16 k) (takes-absent n g f (w .0)) (takes-absent n g k (w .1))
+takes-absent n g (conj f k) h =
+    let w = both-true (takes n g f) (takes n g k) h in
+    and-in (absent 16 f) (absent 16 k) (takes-absent n g f (w .0)) (takes-absent n g k (w .1))
+takes-absent n g (disj f k) h =
+    let w = both-true (takes n g f) (takes n g k) h in
+    and-in (absent 16 f) (absent 16 k) (takes-absent n g f (w .0)) (takes-absent n g k (w .1))
 takes-absent n g (now p) h = tt
 takes-absent n g (next p) h = tt
 takes-absent n g (var P) h = below-16 P (both-true _ _ h .0)
 takes-absent n g (reg r) h = tt
 takes-absent n g (box t f) h = takes-absent n g f (both-true (ltb t 8 && allowed (Modal All t) n g) (takes n g f) h .1)
 takes-absent n g (dia t f) h = takes-absent n g f (both-true (ltb t 8 && allowed (Modal Some t) n g) (takes n g f) h .1)
-takes-absent n g (mu P f) h = let w = both-true _ _ h in and-in (not (eqb P 16)) (absent 16 f) (below-16 P (both-true _ _ (w .0) .0)) (takes-absent n g f (w .1))
-takes-absent n g (nu P f) h = let w = both-true _ _ h in and-in (not (eqb P 16)) (absent 16 f) (below-16 P (both-true _ _ (w .0) .0)) (takes-absent n g f (w .1))
-takes-absent n g (until true t f k) h = let w = both-true (takes n g f) (takes n g k) (both-true (ltb t 8 && allowed (Both (Until Some t)) n g) (takes n g f && takes n g k) h .1) in and-in (absent 16 f) (absent 16 k) (takes-absent n g f (w .0)) (takes-absent n g k (w .1))
-takes-absent n g (until false t f k) h = let w = both-true (takes n g f) (takes n g k) (both-true (ltb t 8 && allowed (Both (Until All t)) n g) (takes n g f && takes n g k) h .1) in and-in (absent 16 f) (absent 16 k) (takes-absent n g f (w .0)) (takes-absent n g k (w .1))
+takes-absent n g (mu P f) h =
+    let w = both-true _ _ h in and-in (not (eqb P 16)) (absent 16 f) (below-16 P (both-true _ _ (w .0) .0)) (takes-absent n g f (w .1))
+takes-absent n g (nu P f) h =
+    let w = both-true _ _ h in and-in (not (eqb P 16)) (absent 16 f) (below-16 P (both-true _ _ (w .0) .0)) (takes-absent n g f (w .1))
+takes-absent n g (until true t f k) h =
+    let w = both-true (takes n g f) (takes n g k)
+    (both-true (ltb t 8 && allowed (Both (Until Some t)) n g) (takes n g f && takes n g k) h .1) in
+    and-in (absent 16 f) (absent 16 k) (takes-absent n g f (w .0)) (takes-absent n g k (w .1))
+takes-absent n g (until false t f k) h =
+    let w = both-true (takes n g f) (takes n g k)
+    (both-true (ltb t 8 && allowed (Both (Until All t)) n g) (takes n g f && takes n g k) h .1) in
+    and-in (absent 16 f) (absent 16 k) (takes-absent n g f (w .0)) (takes-absent n g k (w .1))

@@ -1,4 +1,5 @@
--- What the pass of checks 5 and 12 answers: both checks, and the variables that occur free. A set of variables is a word, bit P for P. Definitions alone.
+-- What the pass of checks 5 and 12 answers: both checks, and the variables that occur free. A set of variables is a word, bit P for P.
+-- Definitions alone.
 use Prim.Native.Nat.{ℕ, zero, suc, _+_, _*_, _/_, _%_, _^_}
 use mathlib.Core.Bool.{Bool, not, _&&_, cond}
 use mathlib.Core.List.{List, [], _∷_}

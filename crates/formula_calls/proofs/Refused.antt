@@ -55,19 +55,23 @@ module _ (ws : List ℕ) (s : SoundWords ws) where
   b = bookOf (seen ws)
 
   -- the reader's number over the words is the book's
-  pub checks-read : (k : Kind) (bs : List ℕ) {n x : ℕ} → n ≡ headerOf ws BITS → x ≡ firstRefusal k n (filledRegister ws) (filledRelation ws) bs → checks b k bs ≡ x
+  pub checks-read : (k : Kind) (bs : List ℕ) {n x : ℕ} → n ≡ headerOf ws BITS
+      → x ≡ firstRefusal k n (filledRegister ws) (filledRelation ws) bs → checks b k bs ≡ x
   checks-read k bs {n} {x} i e =
       checks-same b (seen ws) (sound-shows-book ws s) k bs
-      ∙ ap₂ (λ (p q : ℕ → Bool). firstRefusal k (headerOf ws BITS) p q bs) (fun-ext (root-seen ws FIRST-REGISTER REGISTERS)) (fun-ext (root-seen ws FIRST-RELATION RELATIONS))
+      ∙ ap₂ (λ (p q : ℕ → Bool). firstRefusal k (headerOf ws BITS) p q bs) (fun-ext (root-seen ws FIRST-REGISTER REGISTERS))
+      (fun-ext (root-seen ws FIRST-RELATION RELATIONS))
       ∙ ap (λ (j : ℕ). firstRefusal k j (filledRegister ws) (filledRelation ws) bs) (sym i)
       ∙ sym e
 
   -- and what the reader says is its number
-  pub checks-told : (k : Kind) (bs : List ℕ) {n : ℕ} {v w : Checked} → n ≡ headerOf ws BITS → numberOf v ≡ firstRefusal k n (filledRegister ws) (filledRelation ws) bs → v ≡ w → checks b k bs ≡ numberOf w
+  pub checks-told : (k : Kind) (bs : List ℕ) {n : ℕ} {v w : Checked} → n ≡ headerOf ws BITS
+      → numberOf v ≡ firstRefusal k n (filledRegister ws) (filledRelation ws) bs → v ≡ w → checks b k bs ≡ numberOf w
   checks-told k bs i e h = checks-read k bs i e ∙ ap numberOf h
 
   -- a call that the book refuses with the refusal's number
-  pub refused-by : (c : Call) (x : Refusal) → ((k : ℕ) → refusalNumber x ≡ suc k → does b c ≡ refuse b (suc k)) → CallPost c ws ws (plain (refusalNumber x))
+  pub refused-by : (c : Call) (x : Refusal) → ((k : ℕ) → refusalNumber x ≡ suc k → does b c ≡ refuse b (suc k))
+      → CallPost c ws ws (plain (refusalNumber x))
   refused-by c x h = go (refusalNumber x) refl
     where
       go : (k : ℕ) → refusalNumber x ≡ k → CallPost c ws ws (plain k)
@@ -81,11 +85,13 @@ module _ (ws : List ℕ) (s : SoundWords ws) where
     pub set-unnamed : r < REGISTERS → named acc ≡ false → CallPost (set acc r R bs) ws ws (plain 14)
     set-unnamed l e = call-refused ws s 13 (set acc r R bs) (set-unlisted b acc r R bs l e)
 
-    pub set-checked : (x : Refusal) → r < REGISTERS → T (named acc) → checks b Set bs ≡ refusalNumber x → CallPost (set acc r R bs) ws ws (plain (refusalNumber x))
+    pub set-checked : (x : Refusal) → r < REGISTERS → T (named acc) → checks b Set bs ≡ refusalNumber x
+        → CallPost (set acc r R bs) ws ws (plain (refusalNumber x))
     set-checked x l t z = refused-by (set acc r R bs) x (λ k e. set-refused b acc r R bs k l t (z ∙ e))
 
   pub relation-range : (t : ℕ) (bs : List ℕ) → RELATIONS ≤ t → CallPost (relation t bs) ws ws (plain 3)
   relation-range t bs l = call-refused ws s 2 (relation t bs) (relation-out-of-range b t bs l)
 
-  pub relation-checked : (t : ℕ) (bs : List ℕ) (x : Refusal) → t < RELATIONS → checks b Relation bs ≡ refusalNumber x → CallPost (relation t bs) ws ws (plain (refusalNumber x))
+  pub relation-checked : (t : ℕ) (bs : List ℕ) (x : Refusal) → t < RELATIONS → checks b Relation bs ≡ refusalNumber x
+      → CallPost (relation t bs) ws ws (plain (refusalNumber x))
   relation-checked t bs x l z = refused-by (relation t bs) x (λ k e. relation-refused b t bs k l (z ∙ e))

@@ -74,9 +74,11 @@ module _ (ws : List ℕ) (s : SoundWords ws) where
   pub book-vacant : T (unfilled b) → Vacant ws
   book-vacant t k lo hi = by-cases (decLt k FIRST-RELATION)
       (λ l. at FIRST-REGISTER (k - FIRST-REGISTER) (omega arith)
-      (sym (reg-filled b (seen ws) shows (k - FIRST-REGISTER) (omega arith)) ∙ vacant-at registers (b .reg) (u .0) (k - FIRST-REGISTER) (omega arith)))
+      (sym (reg-filled b (seen ws) shows (k - FIRST-REGISTER) (omega arith))
+      ∙ vacant-at registers (b .reg) (u .0) (k - FIRST-REGISTER) (omega arith)))
       (λ n. at FIRST-RELATION (k - FIRST-RELATION) (omega arith)
-      (sym (rel-filled b (seen ws) shows (k - FIRST-RELATION) (omega arith)) ∙ vacant-at relations (b .rel) (u .1) (k - FIRST-RELATION) (omega arith)))
+      (sym (rel-filled b (seen ws) shows (k - FIRST-RELATION) (omega arith))
+      ∙ vacant-at relations (b .rel) (u .1) (k - FIRST-RELATION) (omega arith)))
     where
       u : T (vacant registers (b .reg)) × T (vacant relations (b .rel))
       u = and-out (vacant registers (b .reg)) (vacant relations (b .rel)) t
@@ -88,5 +90,6 @@ module _ (ws : List ℕ) (s : SoundWords ws) where
   pub valid-filled : (bs : List ℕ) → (Vacant ws → ⊥) → CallPost (valid bs) ws ws (plain 13)
   valid-filled bs n = call-refused ws s 12 (valid bs) (valid-occupied b bs (false-of (unfilled b) (λ t. n (book-vacant t))))
 
-  pub valid-checked : (bs : List ℕ) (x : Refusal) → Vacant ws → checks b Valid bs ≡ refusalNumber x → CallPost (valid bs) ws ws (plain (refusalNumber x))
+  pub valid-checked : (bs : List ℕ) (x : Refusal) → Vacant ws → checks b Valid bs ≡ refusalNumber x
+      → CallPost (valid bs) ws ws (plain (refusalNumber x))
   valid-checked bs x v z = refused-by ws s (valid bs) x (λ k e. valid-refused b bs k (vacant-book v) (z ∙ e))

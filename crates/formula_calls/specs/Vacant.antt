@@ -1,5 +1,5 @@
--- VALID before its steps: whether anything is filled, as the roots' words and as the book say it; 13 where it is, 4 by the reader's number. Assumes
--- nothing.
+-- VALID before its steps: whether anything is filled, as the roots' words and as the book say it; 13 where it is, 4 by the reader's number.
+-- Assumes nothing.
 use mathlib.Core.Path.{_≡_}
 use mathlib.Core.List.{List}
 use Prim.Native.Nat.{ℕ, _≤_, _<_}

@@ -25,8 +25,8 @@ ghost use Rattle.contract.specs.Posts.{CallPost};
 ghost use Rattle.formula_steps.specs.Replies.{storedReply, loadedReply, confinedReply};
 ghost use Rattle.formula_calls.specs.Vacant.{Vacant};
 
-// Relation t of a sound table holds the pairs of a formula; 3 where there is no such relation, 4 to 7 and 12 by the formula, 8 where a step needs
-// more rows than there are.
+// Relation t of a sound table holds the pairs of a formula; 3 where there is no such relation, 4 to 7 and 12 by the formula, 8 where a step
+// needs more rows than there are.
 pub fn relation_unchecked(words: &mut [u32], t: u32, bytes: &[u8]) -> Loaded
     requires { ⌜ SoundWords (now words) ⌝ }
     ensures { λ x. ⌜ CallPost (book.relation t (now (bytes .entry))) (now (words .entry)) (now (words .exit)) (loadedReply x) ⌝ }
@@ -51,8 +51,9 @@ pub fn relation(words: &mut [u32], t: u32, bytes: &[u8]) -> Loaded
     relation_unchecked(words, t, bytes)
 }
 
-// Register r of a sound table holds the states of a formula, found in at most so many rounds under the limits of an account; 3 where there is
-// no such register, 14 where the list has not the account named, 4 to 7 and 12 by the formula, 8 where a step needs more rows than there are,
+// Register r of a sound table holds the states of a formula, found in at most so many rounds under the limits of an account; 3 where there
+// is no such register, 14 where the list has not the account named, 4 to 7 and 12 by the formula, 8 where a step needs more rows than there
+// are,
 // 9 where the rounds are used up.
 pub fn set_unchecked(words: &mut [u32], terms: Terms, r: u32, most: u32, bytes: &[u8]) -> Stored
     requires { ⌜ SoundWords (now words) ⌝ }
@@ -96,8 +97,8 @@ fn unfilled(words: &[u32]) -> bool
     true
 }
 
-// V, the states that exist, are those of a formula, in a sound table; 13 while a register or relation is filled, 4 by the formula, 8 where a step
-// needs more rows than there are.
+// V, the states that exist, are those of a formula, in a sound table; 13 while a register or relation is filled, 4 by the formula, 8 where
+// a step needs more rows than there are.
 pub fn valid_unchecked(words: &mut [u32], bytes: &[u8]) -> Confined
     requires { ⌜ SoundWords (now words) ⌝ }
     ensures { λ x. ⌜ CallPost (book.valid (now (bytes .entry))) (now (words .entry)) (now (words .exit)) (confinedReply x) ⌝ }

@@ -32,14 +32,17 @@ use Rattle.book.specs.BookOf.{bookOf}
 use Rattle.book.proofs.BookOf.{whole-bookOf, sound-shows}
 use Rattle.book.specs.Leaves.{plain}
 use Rattle.book.proofs.Leaves.{storeReg, storeRel, storeValid}
-use Rattle.book.proofs.Formulas.{setLeaves, setReply, set-serves, relationLeaves, relationReply, relation-serves, validLeaves, validReply, valid-serves}
+use Rattle.book.proofs.Formulas.{setLeaves, setReply, set-serves, relationLeaves, relationReply, relation-serves, validLeaves, validReply}
+use Rattle.book.proofs.Formulas.{valid-serves}
 use Rattle.book.specs.Formulas.{relationF}
 use Rattle.contract.specs.Seen.{seenIn, seen, SoundWords}
 use Rattle.contract.proofs.Seen.{sound-table, sound-shows-book, table-sound}
 use Rattle.contract.specs.Kept.{target}
 use Rattle.contract.specs.Posts.{CallPost}
 use Rattle.operations.specs.Work.{OpFrame}
-use Rattle.formula_steps.proofs.Evaluated.{Left, left-op, left-none, left-put, rows-seen, register-seen, register-good, relation-seen, relation-good, valid-other, valid-seen, valid-good, valid-some, tidied-served, tidied-left, takesFormula, formula-done}
+use Rattle.formula_steps.proofs.Evaluated.{Left, left-op, left-none, left-put, rows-seen, register-seen, register-good}
+use Rattle.formula_steps.proofs.Evaluated.{relation-seen, relation-good, valid-other, valid-seen, valid-good, valid-some}
+use Rattle.formula_steps.proofs.Evaluated.{tidied-served, tidied-left, takesFormula, formula-done}
 use Rattle.formula_steps.specs.Evaluated.{registerStored, relationStored, validStored, Tidied}
 
 -- ---- alike tables
@@ -58,10 +61,26 @@ put-same : (h g : ℕ → Option ℕ) (i : ℕ) (o : Option ℕ) (q : ℕ) → h
 put-same h g i o q e = ap (λ (x : Option ℕ). cond (eqb q i) o x) e
 
 alike-reg : {t u : Table} (r : ℕ) (o : Option ℕ) → Alike t u → Alike (storeReg t r o) (storeReg u r o)
-alike-reg {t} {u} r o a = record { n = a .n; N = a .N; valid = a .valid; rows = a .rows; reg = λ q l. put-same (u .reg) (t .reg) r o q (a .reg q l); rel = a .rel }
+alike-reg {t} {u} r o a =
+    record {
+      n = a .n;
+      N = a .N;
+      valid = a .valid;
+      rows = a .rows;
+      reg = λ q l. put-same (u .reg) (t .reg) r o q (a .reg q l);
+      rel = a .rel;
+    }
 
 alike-rel : {t u : Table} (r : ℕ) (o : Option ℕ) → Alike t u → Alike (storeRel t r o) (storeRel u r o)
-alike-rel {t} {u} r o a = record { n = a .n; N = a .N; valid = a .valid; rows = a .rows; reg = a .reg; rel = λ q l. put-same (u .rel) (t .rel) r o q (a .rel q l) }
+alike-rel {t} {u} r o a =
+    record {
+      n = a .n;
+      N = a .N;
+      valid = a .valid;
+      rows = a .rows;
+      reg = a .reg;
+      rel = λ q l. put-same (u .rel) (t .rel) r o q (a .rel q l);
+    }
 
 alike-valid : {t u : Table} (x : ℕ) → Alike t u → Alike (storeValid t x) (storeValid u x)
 alike-valid x a = record { n = a .n; N = a .N; valid = refl; rows = a .rows; reg = a .reg; rel = a .rel }
@@ -76,13 +95,17 @@ pub record Through (old : List ℕ) (c : Call) (y : Reply) (Y : View) : Type 0 w
   pub serves : Serves (bookOf (seen old)) c (seen old) (seenIn Y) y
 
 pub through-sound : {old : List ℕ} {c : Call} {y : Reply} {Y : View} → SoundWords old → Through old c y Y → Sound Y
-through-sound {old} {c} {Y = Y} s p = table-sound Y (p .good) (p .valid) (sound-shows _ (seenIn Y) (whole-does (bookOf (seen old)) c (whole-bookOf (seen old) (sound-table (tableOf old) s))) (p .serves .shows))
+through-sound {old} {c} {Y = Y} s p =
+    table-sound Y (p .good) (p .valid)
+    (sound-shows _ (seenIn Y) (whole-does (bookOf (seen old)) c (whole-bookOf (seen old) (sound-table (tableOf old) s))) (p .serves .shows))
 
 -- and with it
-pub through-done : {old : List ℕ} {c : Call} {y : Reply} {Y : View} → SoundWords old → takesFormula c → (T (keepsAll (y .number)) → ⊥) → Through old c y Y → {Z : View} → Tidied Y Z
+pub through-done : {old : List ℕ} {c : Call} {y : Reply} {Y : View} → SoundWords old → takesFormula c → (T (keepsAll (y .number)) → ⊥)
+    → Through old c y Y → {Z : View} → Tidied Y Z
     → {new : List ℕ} → view (headerOf old ROWS) new ≡ Z → CallPost c old new y
 through-done {old} {c} {y} s k late p {Z} t {new} is =
-    let d = tidied-served (bookOf (seen old)) c (seen old) y (p .good) (p .valid) t (p .serves) in formula-done c y old new k late s Z is (d .0) (d .1) (tidied-left c y t (p .left)) (d .2)
+    let d = tidied-served (bookOf (seen old)) c (seen old) y (p .good) (p .valid) t (p .serves) in
+    formula-done c y old new k late s Z is (d .0) (d .1) (tidied-left c y t (p .left)) (d .2)
 
 module _ (old : List ℕ) (s : SoundWords old) (X : View) (g : Good X) (f : OpFrame (tableOf old) X) where
   abbrev W : View
@@ -107,7 +130,9 @@ module _ (old : List ℕ) (s : SoundWords old) (X : View) (g : Good X) (f : OpFr
 
     -- the evaluation of the call's formula ended so
     abbrev pub SetEnds : Ended → Type 0
-    SetEnds y = Evals (b .n) (b .N) (rowsOf W) (rowsOf X) (rootsOf (seen old)) (run (states (modelOf b) noEnv) (rowsUnder (b .N) acc) (roundsUnder R acc) (liveOf b) (formulaIn b Set bs) nothing) y
+    SetEnds y =
+        Evals (b .n) (b .N) (rowsOf W) (rowsOf X) (rootsOf (seen old))
+        (run (states (modelOf b) noEnv) (rowsUnder (b .N) acc) (roundsUnder R acc) (liveOf b) (formulaIn b Set bs) nothing) y
 
     serves : (y : Ended) → SetEnds y → Serves b c (seen old) (setLeaves (seen old) r (rowsOf X) y) (setReply y)
     serves y d = set-serves b (seen old) acc r R bs (rowsOf X) y (sound-shows-book old s) l m z d
@@ -118,7 +143,9 @@ module _ (old : List ℕ) (s : SoundWords old) (X : View) (g : Good X) (f : OpFr
       good = register-good X r a l g;
       valid = valid-other X (FIRST-REGISTER + r) a (omega arith) still-valid;
       left = left-put c (setReply (ends a q)) (FIRST-REGISTER + r) (suc a) (left c (setReply (ends a q))) refl own;
-      serves = alike-serves (alike-trans (alike-reg r (some a) (rows-seen W X f)) (register-seen X r a l)) b c (seen old) (setReply (ends a q)) (serves (ends a q) d);
+      serves =
+          alike-serves (alike-trans (alike-reg r (some a) (rows-seen W X f)) (register-seen X r a l)) b c (seen old) (setReply (ends a q))
+          (serves (ends a q) d);
     }
       where
         own : target c (FIRST-REGISTER + r) ≡ true
@@ -126,10 +153,22 @@ module _ (old : List ℕ) (s : SoundWords old) (X : View) (g : Good X) (f : OpFr
 
     -- "8: step needs more than N rows", "9: rounds used up"
     pub set-full : SetEnds eight → Through old c (plain 8) X
-    set-full d = record { good = g; valid = still-valid; left = left c (plain 8); serves = alike-serves (rows-seen W X f) b c (seen old) (plain 8) (serves eight d) }
+    set-full d =
+        record {
+          good = g;
+          valid = still-valid;
+          left = left c (plain 8);
+          serves = alike-serves (rows-seen W X f) b c (seen old) (plain 8) (serves eight d);
+        }
 
     pub set-spent : SetEnds nine → Through old c (plain 9) X
-    set-spent d = record { good = g; valid = still-valid; left = left c (plain 9); serves = alike-serves (rows-seen W X f) b c (seen old) (plain 9) (serves nine d) }
+    set-spent d =
+        record {
+          good = g;
+          valid = still-valid;
+          left = left c (plain 9);
+          serves = alike-serves (rows-seen W X f) b c (seen old) (plain 9) (serves nine d);
+        }
 
   -- ---- relation
 
@@ -138,9 +177,13 @@ module _ (old : List ℕ) (s : SoundWords old) (X : View) (g : Good X) (f : OpFr
     k = relation q bs
 
     abbrev pub RelationEnds : Result → Count → Type 0
-    RelationEnds y p = PairEvals (b .n) (b .N) (rowsOf W) (rowsOf X) (rootsOf (seen old)) (relationFits (b .n) (b .N) (liveOf b) (b .valid) (formulaIn b Relation bs)) (relationF (b .n) (b .valid) (formulaIn b Relation bs)) (relationCount (b .n) (liveOf b) (b .valid) (formulaIn b Relation bs) nothing) y p
+    RelationEnds y p =
+        PairEvals (b .n) (b .N) (rowsOf W) (rowsOf X) (rootsOf (seen old))
+        (relationFits (b .n) (b .N) (liveOf b) (b .valid) (formulaIn b Relation bs)) (relationF (b .n) (b .valid) (formulaIn b Relation bs))
+        (relationCount (b .n) (liveOf b) (b .valid) (formulaIn b Relation bs) nothing) y p
 
-    loads : (y : Result) (p : Count) → RelationEnds y p → Serves b k (seen old) (relationLeaves (seen old) q (rowsOf X) y) (relationReply y p)
+    loads : (y : Result) (p : Count) → RelationEnds y p
+        → Serves b k (seen old) (relationLeaves (seen old) q (rowsOf X) y) (relationReply y p)
     loads y p d = relation-serves b (seen old) q bs (rowsOf X) y p (sound-shows-book old s) l z d
 
     -- "also returns its peak"
@@ -149,14 +192,22 @@ module _ (old : List ℕ) (s : SoundWords old) (X : View) (g : Good X) (f : OpFr
       good = relation-good X q a l g;
       valid = valid-other X (FIRST-RELATION + q) a (omega arith) still-valid;
       left = left-put k (relationReply (at a) p) (FIRST-RELATION + q) (suc a) (left k (relationReply (at a) p)) refl own;
-      serves = alike-serves (alike-trans (alike-rel q (some a) (rows-seen W X f)) (relation-seen X q a l)) b k (seen old) (relationReply (at a) p) (loads (at a) p d);
+      serves =
+          alike-serves (alike-trans (alike-rel q (some a) (rows-seen W X f)) (relation-seen X q a l)) b k (seen old)
+          (relationReply (at a) p) (loads (at a) p d);
     }
       where
         own : target k (FIRST-RELATION + q) ≡ true
         own = rw (eq-eqb (FIRST-RELATION + q) (FIRST-RELATION + q) refl)
 
     pub relation-full : (p : Count) → RelationEnds noRows p → Through old k (plain 8) X
-    relation-full p d = record { good = g; valid = still-valid; left = left k (plain 8); serves = alike-serves (rows-seen W X f) b k (seen old) (plain 8) (loads noRows p d) }
+    relation-full p d =
+        record {
+          good = g;
+          valid = still-valid;
+          left = left k (plain 8);
+          serves = alike-serves (rows-seen W X f) b k (seen old) (plain 8) (loads noRows p d);
+        }
 
   -- ---- valid
 
@@ -165,7 +216,9 @@ module _ (old : List ℕ) (s : SoundWords old) (X : View) (g : Good X) (f : OpFr
     j = valid bs
 
     abbrev pub ValidEnds : Result → Count → Type 0
-    ValidEnds y p = PairEvals (b .n) (b .N) (rowsOf W) (rowsOf X) (rootsOf (seen old)) (pairsFit (b .n) (b .N) (liveOf b) (formulaIn b Valid bs)) (pairF (b .n) (formulaIn b Valid bs)) (pairsCount (b .n) (liveOf b) (formulaIn b Valid bs) nothing) y p
+    ValidEnds y p =
+        PairEvals (b .n) (b .N) (rowsOf W) (rowsOf X) (rootsOf (seen old)) (pairsFit (b .n) (b .N) (liveOf b) (formulaIn b Valid bs))
+        (pairF (b .n) (formulaIn b Valid bs)) (pairsCount (b .n) (liveOf b) (formulaIn b Valid bs) nothing) y p
 
     fixes : (y : Result) (p : Count) → ValidEnds y p → Serves b j (seen old) (validLeaves (seen old) (rowsOf X) y) (validReply y)
     fixes y p d = valid-serves b (seen old) bs (rowsOf X) y p (sound-shows-book old s) v z d
@@ -176,8 +229,16 @@ module _ (old : List ℕ) (s : SoundWords old) (X : View) (g : Good X) (f : OpFr
       good = valid-good X a g;
       valid = valid-some X a;
       left = left-put j (validReply (at a)) VALID (suc a) (left j (validReply (at a))) refl refl;
-      serves = alike-serves (alike-trans (alike-valid a (rows-seen W X f)) (valid-seen X a)) b j (seen old) (validReply (at a)) (fixes (at a) p d);
+      serves =
+          alike-serves (alike-trans (alike-valid a (rows-seen W X f)) (valid-seen X a)) b j (seen old) (validReply (at a))
+          (fixes (at a) p d);
     }
 
     pub valid-full : (p : Count) → ValidEnds noRows p → Through old j (plain 8) X
-    valid-full p d = record { good = g; valid = still-valid; left = left j (plain 8); serves = alike-serves (rows-seen W X f) b j (seen old) (plain 8) (fixes noRows p d) }
+    valid-full p d =
+        record {
+          good = g;
+          valid = still-valid;
+          left = left j (plain 8);
+          serves = alike-serves (rows-seen W X f) b j (seen old) (plain 8) (fixes noRows p d);
+        }

@@ -76,7 +76,9 @@ module _ (c : Call) (y : Reply) where
   left-op l f = record {
     rows = f .rows ∙ l .rows;
     size = f .size ∙ l .size;
-    header = λ h e. let z = or-left (freeWord h) (eqb (y .number) 0 && target c h) e in f .header h (not-used h z) (not-cursor h z) (not-slots h z) (not-stored h z) ∙ l .header h e;
+    header =
+        λ h e. let z = or-left (freeWord h) (eqb (y .number) 0 && target c h) e in
+        f .header h (not-used h z) (not-cursor h z) (not-slots h z) (not-stored h z) ∙ l .header h e;
     spare = λ i. f .spare i SPARE (omega arith) ∙ l .spare i;
     beyond = f .beyond ∙ l .beyond;
   }
@@ -89,7 +91,9 @@ module _ (c : Call) (y : Reply) where
   left-put {W} {X} k v l z t = record {
     rows = l .rows;
     size = l .size;
-    header = λ h e. let n : h ≢ k = λ q. true≢false (sym (ap (λ (b : Bool). freeWord h || b) (answered h q) ∙ or-true (freeWord h)) ∙ e) in rw (ne-eqb h k n) (l .header h e);
+    header =
+        λ h e. let n : h ≢ k = λ q. true≢false (sym (ap (λ (b : Bool). freeWord h || b) (answered h q) ∙ or-true (freeWord h)) ∙ e) in
+        rw (ne-eqb h k n) (l .header h e);
     spare = l .spare;
     beyond = l .beyond;
   }
@@ -107,10 +111,13 @@ and-no false = refl
 
 -- N stays
 rows-stays : (c : Call) (y : Reply) → changes c y ROWS ≡ false
-rows-stays (relation t bs) y = let z : eqb ROWS (FIRST-RELATION + t) ≡ false = ne-eqb ROWS (FIRST-RELATION + t) (omega arith) in rw z (and-no (eqb (y .number) 0))
-rows-stays (set acc r R bs) y = let z : eqb ROWS (FIRST-REGISTER + r) ≡ false = ne-eqb ROWS (FIRST-REGISTER + r) (omega arith) in rw z (and-no (eqb (y .number) 0))
+rows-stays (relation t bs) y =
+    let z : eqb ROWS (FIRST-RELATION + t) ≡ false = ne-eqb ROWS (FIRST-RELATION + t) (omega arith) in rw z (and-no (eqb (y .number) 0))
+rows-stays (set acc r R bs) y =
+    let z : eqb ROWS (FIRST-REGISTER + r) ≡ false = ne-eqb ROWS (FIRST-REGISTER + r) (omega arith) in rw z (and-no (eqb (y .number) 0))
 rows-stays (valid bs) y = and-no (eqb (y .number) 0)
-rows-stays (clear r) y = let z : eqb ROWS (FIRST-REGISTER + r) ≡ false = ne-eqb ROWS (FIRST-REGISTER + r) (omega arith) in rw z (and-no (eqb (y .number) 0))
+rows-stays (clear r) y =
+    let z : eqb ROWS (FIRST-REGISTER + r) ≡ false = ne-eqb ROWS (FIRST-REGISTER + r) (omega arith) in rw z (and-no (eqb (y .number) 0))
 rows-stays collect y = and-no (eqb (y .number) 0)
 
 -- ---- what is seen of the words
@@ -131,10 +138,12 @@ other-put : (X : View) (h v k : ℕ) → k ≢ h → putHeader X h v .header k �
 other-put X h v k n = rw (ne-eqb k h n)
 
 -- word `start` + k of the roots written: seen from `start` on
-root-put : (X : View) (start k a q : ℕ) → arrowIn (putHeader X (start + k) (suc a) .header (start + q)) ≡ put (λ j. arrowIn (X .header (start + j))) k (some a) q
+root-put : (X : View) (start k a q : ℕ)
+    → arrowIn (putHeader X (start + k) (suc a) .header (start + q)) ≡ put (λ j. arrowIn (X .header (start + j))) k (some a) q
 root-put X start k a q = go (eqb q k) refl
   where
-    go : (b : Bool) → eqb q k ≡ b → arrowIn (putHeader X (start + k) (suc a) .header (start + q)) ≡ cond b (some a) (arrowIn (X .header (start + q)))
+    go : (b : Bool) → eqb q k ≡ b
+        → arrowIn (putHeader X (start + k) (suc a) .header (start + q)) ≡ cond b (some a) (arrowIn (X .header (start + q)))
     go true e = let z : start + q ≡ start + k = let i = eqb-true q k e in omega arith in rw (eq-eqb (start + q) (start + k) z)
     go false e = let n : start + q ≢ start + k = let m = eqb-false q k e in omega arith in rw (ne-eqb (start + q) (start + k) n)
 
@@ -197,9 +206,11 @@ tidied-by (few e) = as-it-was e
 tidied-by (many p) = freed (p .sound .good) (op-made (p .frame)) (p .collects)
 
 -- a call that serves up to its collection serves with it
-pub tidied-served : (b : Book) (c : Call) (t : Table) (y : Reply) {Y Z : View} → Good Y → Y .header VALID ≢ 0 → Tidied Y Z → Serves b c t (seenIn Y) y
+pub tidied-served : (b : Book) (c : Call) (t : Table) (y : Reply) {Y Z : View} → Good Y → Y .header VALID ≢ 0 → Tidied Y Z
+    → Serves b c t (seenIn Y) y
     → Good Z × (Z .header VALID ≢ 0) × Serves b c t (seenIn Z) y
-tidied-served b c t y {Y} {Z} g n (as-it-was e) s = (subst Good (sym e) g, subst (λ (x : View). x .header VALID ≢ 0) (sym e) n, subst (λ (x : View). Serves b c t (seenIn x) y) (sym e) s)
+tidied-served b c t y {Y} {Z} g n (as-it-was e) s =
+    (subst Good (sym e) g, subst (λ (x : View). x .header VALID ≢ 0) (sym e) n, subst (λ (x : View). Serves b c t (seenIn x) y) (sym e) s)
 tidied-served b c t y {Y} {Z} g n (freed h f k) s = (
   h,
   λ e. n (sym (f .header VALID (omega arith) (omega arith) (omega arith) (omega arith)) ∙ e),
@@ -228,11 +239,19 @@ exact-of collect y old new k = absurd k
 
 -- SET, RELATION OR VALID after its checks: the words `new` hold a table that serves the book, and no word changed that must not
 pub formula-done : (c : Call) (y : Reply) (old new : List ℕ) → takesFormula c → (T (keepsAll (y .number)) → ⊥) → SoundWords old
-    → (Z : View) → view (headerOf old ROWS) new ≡ Z → Good Z → Z .header VALID ≢ 0 → Left c y (tableOf old) Z → Serves (bookOf (seen old)) c (seen old) (seenIn Z) y → CallPost c old new y
+    → (Z : View) → view (headerOf old ROWS) new ≡ Z → Good Z → Z .header VALID ≢ 0 → Left c y (tableOf old) Z
+    → Serves (bookOf (seen old)) c (seen old) (seenIn Z) y → CallPost c old new y
 formula-done c y old new k late s Z is g n l d = record {
   performs = record {
     unsound = λ n. absurd (n s);
-    served = λ _. (subst Sound (sym table) (table-sound Z g n (sound-shows _ (seenIn Z) (whole-does (bookOf (seen old)) c (whole-bookOf (seen old) (sound-table (tableOf old) s))) (d .shows))), subst (λ (v : View). Serves (bookOf (seen old)) c (seen old) (seenIn v) y) (sym table) d);
+    served =
+        λ _. (
+          subst Sound (sym table)
+              (table-sound Z g n
+              (sound-shows _ (seenIn Z) (whole-does (bookOf (seen old)) c (whole-bookOf (seen old) (sound-table (tableOf old) s)))
+              (d .shows))),
+          subst (λ (v : View). Serves (bookOf (seen old)) c (seen old) (seenIn v) y) (sym table) d,
+        );
   };
   kept = λ _. record {
     all = λ a. absurd (late a);

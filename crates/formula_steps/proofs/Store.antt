@@ -32,7 +32,8 @@ use Rattle.formula_steps.specs.declared.Stored.{Stored}
 use Rattle.formula_steps.specs.declared.Stored.the-variants as stored
 use Rattle.formula_steps.specs.declared.Loaded.the-variants as loaded
 use Rattle.formula_steps.specs.declared.Confined.the-variants as confined
-use Rattle.formula_steps.specs.Store.{Holds, storedOf, setStored, Carries, loadedOf, relationLoaded, confinedOf, validConfined, SetReady}
+use Rattle.formula_steps.specs.Store.{Holds, storedOf, setStored, Carries, loadedOf, relationLoaded, confinedOf, validConfined}
+use Rattle.formula_steps.specs.Store.{SetReady}
 
 -- none ends in one of the checks' numbers
 stored-late : (y : Evaluated) → T (keepsAll (storedReply (storedOf y) .number)) → ⊥
@@ -63,22 +64,30 @@ module _ (X : View) (r : ℕ) where
   pub stored-spent : {y : Evaluated} → y ≡ Spent → (stored.Refused refusal.Spent ≡ storedOf y) × (X ≡ setStored X r y)
   stored-spent e = rw e (refl, refl)
 
-  pub stored-value : {y : Evaluated} {a k : ℕ} {q : Count} {Z : View} → y ≡ Value a k q → Z ≡ putHeader X (FIRST-REGISTER + r) (a + 1) → (stored.Node a (q .rounds) (q .peak) ≡ storedOf y) × (Z ≡ setStored X r y)
+  pub stored-value : {y : Evaluated} {a k : ℕ} {q : Count} {Z : View} → y ≡ Value a k q → Z ≡ putHeader X (FIRST-REGISTER + r) (a + 1)
+      → (stored.Node a (q .rounds) (q .peak) ≡ storedOf y) × (Z ≡ setStored X r y)
   stored-value {a = a} {q = q} {Z = Z} e m =
-      subst (λ (y : Evaluated). (stored.Node a (q .rounds) (q .peak) ≡ storedOf y) × (Z ≡ setStored X r y)) (sym e) (refl, m ∙ ap (λ (x : ℕ). putHeader X (FIRST-REGISTER + r) x) (omega arith))
+      subst (λ (y : Evaluated). (stored.Node a (q .rounds) (q .peak) ≡ storedOf y) × (Z ≡ setStored X r y)) (sym e)
+      (refl, m ∙ ap (λ (x : ℕ). putHeader X (FIRST-REGISTER + r) x) (omega arith))
 
   pub loaded-full : {y : Taken} → y ≡ taken.Full → (loaded.Refused refusal.Full ≡ loadedOf y) × (X ≡ relationLoaded X r y)
   loaded-full e = rw e (refl, refl)
 
-  pub loaded-value : {y : Taken} {a : ℕ} {q : Count} {Z : View} → y ≡ taken.At a q → Z ≡ putHeader X (FIRST-RELATION + r) (a + 1) → (loaded.Done (q .peak) ≡ loadedOf y) × (Z ≡ relationLoaded X r y)
-  loaded-value {a = a} {q = q} {Z = Z} e n = subst (λ (y : Taken). (loaded.Done (q .peak) ≡ loadedOf y) × (Z ≡ relationLoaded X r y)) (sym e) (refl, n ∙ ap (λ (x : ℕ). putHeader X (FIRST-RELATION + r) x) (omega arith))
+  pub loaded-value : {y : Taken} {a : ℕ} {q : Count} {Z : View} → y ≡ taken.At a q → Z ≡ putHeader X (FIRST-RELATION + r) (a + 1)
+      → (loaded.Done (q .peak) ≡ loadedOf y) × (Z ≡ relationLoaded X r y)
+  loaded-value {a = a} {q = q} {Z = Z} e n =
+      subst (λ (y : Taken). (loaded.Done (q .peak) ≡ loadedOf y) × (Z ≡ relationLoaded X r y)) (sym e)
+      (refl, n ∙ ap (λ (x : ℕ). putHeader X (FIRST-RELATION + r) x) (omega arith))
 
 module _ (X : View) where
   pub confined-full : {y : Taken} → y ≡ taken.Full → (confined.Refused refusal.Full ≡ confinedOf y) × (X ≡ validConfined X y)
   confined-full e = rw e (refl, refl)
 
-  pub confined-value : {y : Taken} {a : ℕ} {q : Count} {Z : View} → y ≡ taken.At a q → Z ≡ putHeader X VALID (a + 1) → (confined.Done ≡ confinedOf y) × (Z ≡ validConfined X y)
-  confined-value {a = a} {Z = Z} e n = subst (λ (y : Taken). (confined.Done ≡ confinedOf y) × (Z ≡ validConfined X y)) (sym e) (refl, n ∙ ap (λ (x : ℕ). putHeader X VALID x) (omega arith))
+  pub confined-value : {y : Taken} {a : ℕ} {q : Count} {Z : View} → y ≡ taken.At a q → Z ≡ putHeader X VALID (a + 1)
+      → (confined.Done ≡ confinedOf y) × (Z ≡ validConfined X y)
+  confined-value {a = a} {Z = Z} e n =
+      subst (λ (y : Taken). (confined.Done ≡ confinedOf y) × (Z ≡ validConfined X y)) (sym e)
+      (refl, n ∙ ap (λ (x : ℕ). putHeader X VALID x) (omega arith))
 
 -- an arrow's word fits
 fits-to : {m N : ℕ} {rows : Rows} → WellFormed m N rows → N ≤ MAX-ROWS → (a k : ℕ) → target a ≡ k → ArrowTo rows k → suc a < 4_294_967_296
@@ -88,7 +97,8 @@ fits-to wf l a (suc i) e u = let h = wf .bounded i u in omega arith
 pub arrow-fits : {m N : ℕ} {rows : Rows} → WellFormed m N rows → N ≤ MAX-ROWS → (a : ℕ) → Arrow rows a → suc a < 4_294_967_296
 arrow-fits wf l a u = fits-to wf l a (target a) refl u
 
-ends-holds : {n N : ℕ} {before after : Rows} {roots : List ℕ} (o : Outcome) (y : Evaluated) → N ≤ MAX-ROWS → Evals n N before after roots o (endedOf y) → Holds y
+ends-holds : {n N : ℕ} {before after : Rows} {roots : List ℕ} (o : Outcome) (y : Evaluated) → N ≤ MAX-ROWS
+    → Evals n N before after roots o (endedOf y) → Holds y
 ends-holds (value A p) (Value a k q) l d = arrow-fits (d .wf) l a (d .result .0 .arrow)
 ends-holds noRows (Value a k q) l d = absurd (d .result)
 ends-holds spent (Value a k q) l d = absurd (d .result)
@@ -103,7 +113,8 @@ limitsOf n rows limit R = record { bits = n; rows = rows; limit = limit; rounds 
 abbrev limitsUnder : ℕ → ℕ → ℕ → Terms → Limits
 limitsUnder n rows R acc = limitsOf n rows (rowsUnder rows acc) (roundsUnder R acc)
 
-module _ {old bs : List ℕ} {acc : Terms} {r rows n limit most : ℕ} (p : SetReady acc r old bs) (er : rows ≡ headerOf old ROWS) (R : ℕ) (el : limit ≡ rowsUnder rows acc) (em : most ≡ roundsUnder R acc) where
+module _ {old bs : List ℕ} {acc : Terms} {r rows n limit most : ℕ} (p : SetReady acc r old bs) (er : rows ≡ headerOf old ROWS)
+    (R : ℕ) (el : limit ≡ rowsUnder rows acc) (em : most ≡ roundsUnder R acc) where
   pub set-asks : n ≡ headerOf old BITS → SetPre (limitsOf n rows limit most) (view rows old) bs
   set-asks en = rw (el, er) (record { sound = p .sound; bits = en; rows = refl; limit = omega arith; passed = p .passed })
 
@@ -117,8 +128,11 @@ module _ {old bs : List ℕ} {acc : Terms} {r rows n limit most : ℕ} (p : SetR
         X : View
         X = view (headerOf old ROWS) mid
 
-        go : (y : Evaluated) → SetEnds old (p .sound) X (post .sound .good) (post .frame) acc r R bs (p .range) (p .listed) (p .passed) (endedOf y) → Through old (set acc r R bs) (storedReply (storedOf y)) (setStored X r y)
-        go (Value a k q) e = set-value old (p .sound) X (post .sound .good) (post .frame) acc r R bs (p .range) (p .listed) (p .passed) a q e
+        go : (y : Evaluated)
+            → SetEnds old (p .sound) X (post .sound .good) (post .frame) acc r R bs (p .range) (p .listed) (p .passed) (endedOf y)
+            → Through old (set acc r R bs) (storedReply (storedOf y)) (setStored X r y)
+        go (Value a k q) e =
+            set-value old (p .sound) X (post .sound .good) (post .frame) acc r R bs (p .range) (p .listed) (p .passed) a q e
         go Full e = set-full old (p .sound) X (post .sound .good) (post .frame) acc r R bs (p .range) (p .listed) (p .passed) e
         go Spent e = set-spent old (p .sound) X (post .sound .good) (post .frame) acc r R bs (p .range) (p .listed) (p .passed) e
 
@@ -132,5 +146,7 @@ module _ {old bs : List ℕ} {acc : Terms} {r rows n limit most : ℕ} (p : SetR
       set-tidying = subst Sound (sym e) (rw er (through-sound (p .sound) through))
 
       -- the call
-      pub set-done : {x : Stored} → x ≡ storedOf y → (new : List ℕ) → Tidied (view rows after) (view rows new) → CallPost (set acc r R bs) old new (storedReply x)
-      set-done i new t = rw i (through-done (p .sound) tt (stored-late y) through (rw (sym er) (subst (λ (v : View). Tidied v (view rows new)) e t)) refl)
+      pub set-done : {x : Stored} → x ≡ storedOf y → (new : List ℕ) → Tidied (view rows after) (view rows new)
+          → CallPost (set acc r R bs) old new (storedReply x)
+      set-done i new t =
+          rw i (through-done (p .sound) tt (stored-late y) through (rw (sym er) (subst (λ (v : View). Tidied v (view rows new)) e t)) refl)

@@ -1,4 +1,5 @@
--- What set, relation and valid return: document 01's number, rounds and node number, and the peak; "Returned: number, zeros" of a refusal. Assumes nothing.
+-- What set, relation and valid return: document 01's number, rounds and node number, and the peak; "Returned: number, zeros" of a refusal.
+-- Assumes nothing.
 use Rattle.layout.specs.Refusals.{refusalNumber}
 use Rattle.book.specs.Table.{Reply}
 use Rattle.book.specs.Leaves.{plain}

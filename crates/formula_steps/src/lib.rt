@@ -1,4 +1,5 @@
-// The steps of the calls that take a formula, after their checks: the formula is evaluated, what it gives is stored, and rows are freed where many are not needed any more.
+// The steps of the calls that take a formula, after their checks: the formula is evaluated, what it gives is stored, and rows are freed
+// where many are not needed any more.
 use accounts::Terms;
 use accounts::rounds_under;
 use accounts::rows_under;
@@ -24,7 +25,8 @@ ghost use Rattle.formula_steps.specs.Evaluated.{Tidied};
 ghost use Rattle.contract.specs.Posts.{CallPost};
 ghost use Rattle.formula_steps.specs.Load.{RelationReady, ValidReady};
 ghost use Rattle.formula_steps.specs.Replies.{storedReply, loadedReply, confinedReply};
-ghost use Rattle.formula_steps.specs.Store.{SetReady, Holds, storedOf, setStored, Carries, loadedOf, relationLoaded, confinedOf, validConfined};
+ghost use Rattle.formula_steps.specs.Store.{SetReady, Holds, storedOf, setStored, Carries, loadedOf, relationLoaded, confinedOf};
+ghost use Rattle.formula_steps.specs.Store.{validConfined};
 
 // What set answers: the node number, the rounds and the peak.
 pub enum Stored {
@@ -44,8 +46,8 @@ pub enum Confined {
     Refused(Refusal),
 }
 
-// Frees the rows that no register and no relation needs, where they are many. Looked at only where the used rows have passed a multiple of 64
-// since `before` at the call's start, so that a call that makes few rows does not pay for it.
+// Frees the rows that no register and no relation needs, where they are many. Looked at only where the used rows have passed a multiple of
+// 64 since `before` at the call's start, so that a call that makes few rows does not pay for it.
 fn tidy(words: &mut [u32], rows: u32, before: u32)
     requires { ⌜ Sound (view rows (now words)) ⌝ }
     ensures { λ _. ⌜ Tidied (view rows (now (words .entry))) (view rows (now (words .exit))) ⌝ }
@@ -96,7 +98,8 @@ fn store_relation(words: &mut [u32], rows: u32, t: u32, done: Taken) -> Loaded
     }
 }
 
-// Evaluates a checked formula under the limits of an account, stores its states in register r, and frees rows where many are not needed any more.
+// Evaluates a checked formula under the limits of an account, stores its states in register r, and frees rows where many are not needed any
+// more.
 pub fn set_steps(words: &mut [u32], terms: Terms, r: u32, most: u32, bytes: &[u8]) -> Stored
     requires { ⌜ SetReady terms r (now words) (now bytes) ⌝ }
     ensures { λ x. ⌜ CallPost (book.set terms r most (now (bytes .entry))) (now (words .entry)) (now (words .exit)) (storedReply x) ⌝ }

@@ -12,9 +12,12 @@ use Rattle.layers.specs.Scene.{Scene, Layered}
 use Rattle.layers.proofs.Scene.{layered-next, layered-full, full-after}
 use Rattle.layers.specs.Again.{AgainPre, AgainPost}
 
-module _ {n N limit : ℕ} {W : View} {t b j : ℕ} (p : AgainPre n N limit W t b j) {X : View} {i x : ℕ} (q : (S : Scene n W t b) → Layered n W X t b S i x) where
-  pub again-turns : {Y : View} {o : Taken} {y : ℕ} {q : Count} → NextPost n N limit X Y t b x o → o ≡ taken.At y q → (S : Scene n W t b) → Layered n W Y t b S (i + 1) y
-  again-turns {Y} {o} {y} s e S = let z : suc i ≡ i + 1 = omega arith in subst (λ (k : ℕ). Layered n W Y t b S k y) z (layered-next (p .start) (q S) s e .0)
+module _ {n N limit : ℕ} {W : View} {t b j : ℕ} (p : AgainPre n N limit W t b j)
+    {X : View} {i x : ℕ} (q : (S : Scene n W t b) → Layered n W X t b S i x) where
+  pub again-turns : {Y : View} {o : Taken} {y : ℕ} {q : Count} → NextPost n N limit X Y t b x o → o ≡ taken.At y q → (S : Scene n W t b)
+      → Layered n W Y t b S (i + 1) y
+  again-turns {Y} {o} {y} s e S =
+      let z : suc i ≡ i + 1 = omega arith in subst (λ (k : ℕ). Layered n W Y t b S k y) z (layered-next (p .start) (q S) s e .0)
 
   -- no step of it is full
   pub again-never : {Y : View} {o : Taken} → NextPost n N limit X Y t b x o → i < j → o ≡ taken.Full → ⊥

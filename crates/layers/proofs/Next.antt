@@ -2,7 +2,9 @@
 use mathlib.Core.Path.{_≡_, refl, sym, ap, ap₂, _∙_, subst}
 use mathlib.Core.Logic.{⊎-elim}
 use mathlib.Core.Bool.{Bool, true, false, _&&_}
-use mathlib.Core.List.{List, [], _∷_, _++_, map, List·Memᴰ as Mem, List·Memᴰ·head as here, List·Memᴰ·tail as there, List·Memᴰ·cases-cons as mem-cases, List·Memᴰ·not-nil as mem-nil, List·Memᴰ·append-cases as append-cases, Memᴰ·append-left as append-left, Memᴰ·append-right as append-right, Memᴰ·cast as mem-cast}
+use mathlib.Core.List.{List, [], _∷_, _++_, map, List·Memᴰ as Mem, List·Memᴰ·head as here, List·Memᴰ·tail as there}
+use mathlib.Core.List.{List·Memᴰ·cases-cons as mem-cases, List·Memᴰ·not-nil as mem-nil, List·Memᴰ·append-cases as append-cases}
+use mathlib.Core.List.{Memᴰ·append-left as append-left, Memᴰ·append-right as append-right, Memᴰ·cast as mem-cast}
 use Prim.Native.Nat.{ℕ, _*_, _^_}
 use lib.Dec.{leb}
 use Rattle.accounts.specs.declared.Count.{Count}
@@ -35,7 +37,8 @@ use Rattle.book.proofs.Verdicts.{fit-append, count-append}
 use Rattle.book.specs.Held.{Held}
 use Rattle.book.proofs.Held.{denoted, held-push, held-operand, held-keeps}
 use Rattle.modal.specs.Chain.{Alike, Base, Moved, Ran}
-use Rattle.modal.proofs.Chain.{alike-once, held-alike, held-own, base-next, step-pre, Took, ran-step, ran-stop, ran-kept, ran-value, ran-then}
+use Rattle.modal.proofs.Chain.{alike-once, held-alike, held-own, base-next, step-pre, Took, ran-step, ran-stop, ran-kept, ran-value}
+use Rattle.modal.proofs.Chain.{ran-then}
 use Rattle.modal.specs.Modal.{ModalPre, DiamondPost}
 use Rattle.modal.proofs.Laws.{kept-lent, held-mem}
 use Rattle.paths.specs.Runs.{layerNeeds}
@@ -75,7 +78,8 @@ module _ {n N limit : ℕ} {W : View} {t b x : ℕ} (p : NextPre n N limit W t b
   all-held = held-own (live-arrows lent (p .base .sound) lent-arrow)
 
   -- the layer is held too
-  held-live : {fs : List Fn} {F : Fn} → Held (2 * n) (rowsOf W) (filled W) fs → Denotes (2 * n) (rowsOf W) x F → Held (2 * n) (rowsOf W) (live W lent) (F ∷ fs)
+  held-live : {fs : List Fn} {F : Fn} → Held (2 * n) (rowsOf W) (filled W) fs → Denotes (2 * n) (rowsOf W) x F
+      → Held (2 * n) (rowsOf W) (live W lent) (F ∷ fs)
   held-live h d = held-alike (alike-end (filled W) x) (held-push h d)
 
   module _ {X : View} {o : Taken} (d : DiamondPost n N limit W X lent t x (uncounted N) o) where
@@ -84,11 +88,14 @@ module _ {n N limit : ℕ} {W : View} {t b x : ℕ} (p : NextPre n N limit W t b
     dia-count fs R L = needingAll (uncounted N) (diaNeeds n (fnOf n L ∷ fs) R L)
 
     -- the diamond, of sets
-    ran-dia : (fs : List Fn) (R : Pairs) (L : List Bool) → Held (2 * n) (rowsOf W) (filled W) fs → Denotes (2 * n) (rowsOf W) t (fnOfPairs n R) → Denotes (2 * n) (rowsOf W) x (fnOf n L)
+    ran-dia : (fs : List Fn) (R : Pairs) (L : List Bool) → Held (2 * n) (rowsOf W) (filled W) fs
+        → Denotes (2 * n) (rowsOf W) t (fnOfPairs n R) → Denotes (2 * n) (rowsOf W) x (fnOf n L)
         → Ran n N W X (live W lent) (fit limit (diaNeeds n (fnOf n L ∷ fs) R L)) (fnOf n (sometimes (2 ^ n) R L)) (dia-count fs R L) o
     ran-dia fs R L h dt dx =
         let r = d (fnOf n L ∷ fs) (held-live h dx) in
-        let Q : Fn → Fn → Fn → Type 0 = λ T F G. Ran n N W X (live W lent) (fit limit (diamondNeeds n (fnOf n L ∷ fs) T F)) G (needingAll (uncounted N) (diamondNeeds n (fnOf n L ∷ fs) T F)) o in
+        let Q : Fn → Fn → Fn
+        → Type 0 = λ T F G. Ran n N W X (live W lent) (fit limit (diamondNeeds n (fnOf n L ∷ fs) T F)) G
+        (needingAll (uncounted N) (diamondNeeds n (fnOf n L ∷ fs) T F)) o in
         let r1 = subst (λ (F : Fn). Q (den (2 * n) (rowsOf W) t) F (diamondF n (den (2 * n) (rowsOf W) t) F)) (denoted dx) r in
         let r2 = subst (λ (T : Fn). Q T (fnOf n L) (diamondF n T (fnOf n L))) (denoted dt) r1 in
         subst (λ (G : Fn). Q (fnOfPairs n R) (fnOf n L) G) (sym (diamond-exact n R L)) r2
@@ -100,7 +107,8 @@ module _ {n N limit : ℕ} {W : View} {t b x : ℕ} (p : NextPre n N limit W t b
         let k = twoNeed n ls (union (2 ^ n)) B D in
         let G : Fn = fnOf n (union (2 ^ n) B D) in
         let q = needingAll (uncounted N) (layerNeeds n fs R B L) in
-        subst (λ (c : Bool). Ran n N W X (live W lent) c G q taken.Full) (sym (fit-append limit (diaNeeds n ls R L) (k ∷ []))) (ran-stop (fit limit (k ∷ [])) G q e (ran-dia fs R L h dt dx))
+        subst (λ (c : Bool). Ran n N W X (live W lent) c G q taken.Full) (sym (fit-append limit (diaNeeds n ls R L) (k ∷ [])))
+        (ran-stop (fit limit (k ∷ [])) G q e (ran-dia fs R L h dt dx))
 
     module _ {c : ℕ} {q : Count} (e : o ≡ taken.At c q) where
       k1 : Keeps (rowsOf W) (rowsOf X) (live W lent)
@@ -115,7 +123,9 @@ module _ {n N limit : ℕ} {W : View} {t b x : ℕ} (p : NextPre n N limit W t b
       pub or-asks : StepPre (2 * n) N limit X lent (Or b c)
       or-asks = step-pre or-base (kept-lent W lent k1) (keeps-arrow k1 b live-b, ran-value e (d all all-held) .arrow)
 
-      pub next-ends : {Y : View} {u : Taken} → Took n N limit X Y (b ∷ c ∷ live X lent) q u (orF (den (2 * n) (rowsOf X) b) (den (2 * n) (rowsOf X) c)) → NextPost n N limit W Y t b x u
+      pub next-ends : {Y : View} {u : Taken}
+          → Took n N limit X Y (b ∷ c ∷ live X lent) q u (orF (den (2 * n) (rowsOf X) b) (den (2 * n) (rowsOf X) c))
+          → NextPost n N limit W Y t b x u
       next-ends {Y} {u} v fs R B L h dt db dx =
           let D = sometimes (2 ^ n) R L in
           let ls = fnOf n L ∷ fs in
@@ -124,12 +134,18 @@ module _ {n N limit : ℕ} {W : View} {t b x : ℕ} (p : NextPre n N limit W t b
           let r1 = ran-dia fs R L h dt dx in
           let c-is : Denotes (2 * n) (rowsOf X) c (fnOf n D) = ran-value e r1 in
           let b-is : Denotes (2 * n) (rowsOf X) b (fnOf n B) = keeps-denotes k1 live-b db in
-          let v1 = subst (λ (xs : List ℕ). Took n N limit X Y (b ∷ c ∷ xs) q u (orF (den (2 * n) (rowsOf X) b) (den (2 * n) (rowsOf X) c))) (live-same (moved1 .frame) lent) v in
-          let v2 : Took n N limit X Y (b ∷ c ∷ live W lent) q u G = subst (λ (F : Fn). Took n N limit X Y (b ∷ c ∷ live W lent) q u F) (ap₂ orF (denoted b-is) (denoted c-is) ∙ sym (fnOf-or n B D)) v1 in
+          let v1 = subst (λ (xs : List ℕ). Took n N limit X Y (b ∷ c ∷ xs) q u (orF (den (2 * n) (rowsOf X) b) (den (2 * n) (rowsOf X) c)))
+          (live-same (moved1 .frame) lent) v in
+          let v2 : Took n N limit X Y (b ∷ c ∷ live W lent) q u G = subst (λ (F : Fn). Took n N limit X Y (b ∷ c ∷ live W lent) q u F)
+          (ap₂ orF (denoted b-is) (denoted c-is) ∙ sym (fnOf-or n B D)) v1 in
           let hl = held-live h dx in
           let mb : Mem (fnOf n B) ls = mem-cast (sym (denoted db)) (held-mem hl live-b) in
-          let g : Held (2 * n) (rowsOf X) (c ∷ live W lent) (fnOf n D ∷ fnOf n B ∷ ls) = held-push (held-operand (held-keeps hl k1) mb) c-is in
-          let r2 : Ran n N X Y (live W lent) (leb k limit) G (needing q k) u = ran-step (held-alike (alike-once (there live-b)) g) (λ a i. there (there i)) v2 in
-          let z = ap (λ (z : Bool). fit limit (diaNeeds n ls R L) && z) (sym (and-true (leb k limit))) ∙ sym (fit-append limit (diaNeeds n ls R L) (k ∷ [])) in
-          subst (λ (m : Count). Ran n N W Y (live W lent) (fit limit (layerNeeds n fs R B L)) G m u) (sym (count-append (uncounted N) (diaNeeds n ls R L) (k ∷ [])))
+          let g : Held (2 * n) (rowsOf X) (c ∷ live W lent) (fnOf n D ∷ fnOf n B ∷ ls) = held-push (held-operand (held-keeps hl k1) mb)
+          c-is in
+          let r2 : Ran n N X Y (live W lent) (leb k limit) G (needing q k) u = ran-step (held-alike (alike-once (there live-b)) g)
+          (λ a i. there (there i)) v2 in
+          let z = ap (λ (z : Bool). fit limit (diaNeeds n ls R L) && z) (sym (and-true (leb k limit)))
+          ∙ sym (fit-append limit (diaNeeds n ls R L) (k ∷ [])) in
+          subst (λ (m : Count). Ran n N W Y (live W lent) (fit limit (layerNeeds n fs R B L)) G m u)
+          (sym (count-append (uncounted N) (diaNeeds n ls R L) (k ∷ [])))
           (subst (λ (z : Bool). Ran n N W Y (live W lent) z G (needing (dia-count fs R L) k) u) z (ran-then e r1 (λ m. needing m k) r2))

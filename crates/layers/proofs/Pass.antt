@@ -36,7 +36,8 @@ use Rattle.seek.specs.Search.{inBoth}
 use Rattle.seek.proofs.Search.{NoneBelow, none-next}
 use Rattle.layers.specs.Next.{NextPost}
 use Rattle.layers.specs.Scene.{Scene, Layered, layerOf, needsOf}
-use Rattle.layers.proofs.Scene.{layer-sized, layered-start, layered-base, layered-next, layered-full, moved-on, all-kept, last-kept, after-wf, fits-next, full-after}
+use Rattle.layers.proofs.Scene.{layer-sized, layered-start, layered-base, layered-next, layered-full, moved-on, all-kept, last-kept}
+use Rattle.layers.proofs.Scene.{after-wf, fits-next, full-after}
 use Rattle.layers.specs.declared.Reached.the-variants as reached
 use Rattle.layers.specs.Pass.{PassPre, lastOf, Steps, Passed}
 
@@ -53,12 +54,14 @@ pub record Passing (n limit : ℕ) (W X : View) (t b : ℕ) (S : Scene n W t b) 
 
 -- ---- the least common state, of sets
 
-both-mem : (n : ℕ) (W X : View) {a x : ℕ} (A L : List Bool) → 2 * n ≡ 2 * X .header BITS → Denotes (2 * n) (rowsOf X) a (fnOf n A) → Denotes (2 * n) (rowsOf X) x (fnOf n L)
+both-mem : (n : ℕ) (W X : View) {a x : ℕ} (A L : List Bool) → 2 * n ≡ 2 * X .header BITS → Denotes (2 * n) (rowsOf X) a (fnOf n A)
+    → Denotes (2 * n) (rowsOf X) x (fnOf n L)
     → (s : ℕ) → s < 2 ^ n → inBoth X a x s ≡ (mem A s && mem L s)
 both-mem n W X {a} {x} A L e da dx s l = ap₂ _&&_ (one A da) (one L dx)
   where
     one : {c : ℕ} (C : List Bool) → Denotes (2 * n) (rowsOf X) c (fnOf n C) → holdsAt X c s 0 ≡ mem C s
-    one {c} C d = subst (λ (m : ℕ). den m (rowsOf X) c (pairVal s 0) ≡ mem C s) e (d .same (pairVal s 0) ∙ ap (mem C) (nowOf-pairVal n s 0 l))
+    one {c} C d =
+        subst (λ (m : ℕ). den m (rowsOf X) c (pairVal s 0) ≡ mem C s) e (d .same (pairVal s 0) ∙ ap (mem C) (nowOf-pairVal n s 0 l))
 
 -- what a walk asks
 pub holds-pre : {n N limit : ℕ} {X : View} {a : ℕ} → Base n N limit X → Arrow (rowsOf X) a → HoldsPre X a
@@ -69,13 +72,17 @@ module _ {n N limit : ℕ} {W : View} {t a b : ℕ} (p : PassPre n N limit W t a
   before-last : (S : Scene n W t b) (A : List Bool) (i : ℕ) → NoneBelow (stopsAt S A) i → i ≤ lastOf S A
   before-last S A i h =
       let l = last-lt (2 ^ n) (S .R) A (S .B) (S .sized) in
-      let g : i < suc (lastOf S A) = lt-of-not-le (λ s. true≢false (sym (true-of _ (first-found (suc (suc (2 ^ n))) (stopsAt S A) l)) ∙ h (lastOf S A) s)) in
+      let g : i
+      < suc (lastOf S A) =
+      lt-of-not-le (λ s. true≢false (sym (true-of _ (first-found (suc (suc (2 ^ n))) (stopsAt S A) l)) ∙ h (lastOf S A) s)) in
       omega arith
 
   pub pass-starts : (S : Scene n W t b) (A : List Bool) → Passing n limit W W t b S A 0 b
   pass-starts S A = record { layered = layered-start (p .start) S; fits = refl; before = λ j l. absurd (omega arith); grew = refl }
 
-  module _ {X : View} {d x : ℕ} (q : (S : Scene n W t b) (A : List Bool) → Denotes (2 * n) (rowsOf W) a (fnOf n A) → Passing n limit W X t b S A d x) where
+  module _
+      {X : View} {d x : ℕ}
+      (q : (S : Scene n W t b) (A : List Bool) → Denotes (2 * n) (rowsOf W) a (fnOf n A) → Passing n limit W X t b S A d x) where
     here-is : Passing n limit W X t b (p .scene) (p .A) d x
     here-is = q (p .scene) (p .A) (p .from)
 
@@ -85,26 +92,40 @@ module _ {n N limit : ℕ} {W : View} {t a b : ℕ} (p : PassPre n N limit W t a
     pub pass-walks : HoldsPre X a × HoldsPre X x × (n ≤ 16)
     pass-walks =
         let e = pass-base .ready .levels-is in
-        let m = pass-base .sound .good .sizes .n-max in
-        (holds-pre pass-base (keeps-denotes (here-is .layered .kept) (p .a-live) (p .from) .arrow), holds-pre pass-base (here-is .layered .layer-is .arrow), omega arith)
+        let m = pass-base .sound .good .sizes .n-max in (
+          holds-pre pass-base (keeps-denotes (here-is .layered .kept) (p .a-live) (p .from) .arrow),
+          holds-pre pass-base (here-is .layered .layer-is .arrow),
+          omega arith,
+        )
 
-    module _ {s : ℕ} (es : s ≡ firstOf (2 ^ n) (inBoth X a x)) (S : Scene n W t b) (A : List Bool) (from : Denotes (2 * n) (rowsOf W) a (fnOf n A)) where
+    module _ {s : ℕ} (es : s ≡ firstOf (2 ^ n) (inBoth X a x)) (S : Scene n W t b) (A : List Bool)
+        (from : Denotes (2 * n) (rowsOf W) a (fnOf n A)) where
       abbrev now : Passing n limit W X t b S A d x
       now = q S A from
 
       least-is : s ≡ common (2 ^ n) A (layerOf S d)
       least-is = es ∙ first-same (2 ^ n) (inBoth X a x) (λ u. mem A u && mem (layerOf S d) u)
-          (both-mem n W X A (layerOf S d) (pass-base .ready .levels-is) (keeps-denotes (now .layered .kept) (p .a-live) from) (now .layered .layer-is))
+          (both-mem n W X A (layerOf S d) (pass-base .ready .levels-is) (keeps-denotes (now .layered .kept) (p .a-live) from)
+          (now .layered .layer-is))
 
       -- the layer shares a state with A
       pub pass-meets : s < 2 ^ n → Passed n limit W X t b S A (reached.At d s)
       pass-meets l =
-          let m : meets (2 ^ n) A (layerOf S d) ≡ true = true-of _ (lt→ltb (common (2 ^ n) A (layerOf S d)) (2 ^ n) (subst (λ (c : ℕ). c < 2 ^ n) least-is l)) in
-          let lt : d < suc (suc (2 ^ n)) = let h = before-last S A d (now .before) in let k = last-lt (2 ^ n) (S .R) A (S .B) (S .sized) in omega arith in
-          let z : lastOf S A ≡ d = first-is (suc (suc (2 ^ n))) (stopsAt S A) d lt (subst (λ (c : Bool). T (c || still (2 ^ n) (S .R) (S .B) d)) (sym m) tt) (now .before) in
+          let m : meets (2 ^ n) A (layerOf S d)
+          ≡ true = true-of _ (lt→ltb (common (2 ^ n) A (layerOf S d)) (2 ^ n) (subst (λ (c : ℕ). c < 2 ^ n) least-is l)) in
+          let lt : d < suc (suc (2 ^ n)) = let h = before-last S A d (now .before) in
+          let k = last-lt (2 ^ n) (S .R) A (S .B) (S .sized) in omega arith in
+          let z : lastOf S A
+          ≡ d = first-is (suc (suc (2 ^ n))) (stopsAt S A) d lt
+          (subst (λ (c : Bool). T (c || still (2 ^ n) (S .R) (S .B) d)) (sym m) tt) (now .before) in
           record {
             steps = record { moved = now .layered .moved; kept = now .layered .kept };
-            ends = (sym z, ap (λ (i : ℕ). meets (2 ^ n) A (layerOf S i)) z ∙ m, ap (λ (i : ℕ). fit limit (needsOf S i)) z ∙ now .fits, least-is ∙ ap (λ (i : ℕ). common (2 ^ n) A (layerOf S i)) (sym z));
+            ends = (
+              sym z,
+              ap (λ (i : ℕ). meets (2 ^ n) A (layerOf S i)) z ∙ m,
+              ap (λ (i : ℕ). fit limit (needsOf S i)) z ∙ now .fits,
+              least-is ∙ ap (λ (i : ℕ). common (2 ^ n) A (layerOf S i)) (sym z),
+            );
           }
 
       module _ (l : 2 ^ n ≤ s) where
@@ -137,12 +158,22 @@ module _ {n N limit : ℕ} {W : View} {t a b : ℕ} (p : PassPre n N limit W t a
             -- it is the one before
             pub pass-still : y ≡ x → Passed n limit W Y t b S A reached.Nothing
             pass-still z =
-                let t = arrow-same n N (after-wf (p .start) (now .layered) v) (layerOf S d) (layerOf S (suc d)) old (next .layer-is) (layer-sized S d) (layer-sized S (suc d)) z in
+                let t = arrow-same n N (after-wf (p .start) (now .layered) v) (layerOf S d) (layerOf S (suc d)) old (next .layer-is)
+                (layer-sized S d) (layer-sized S (suc d)) z in
                 let g : layerOf S (suc d) ≡ layerOf S d = same-eq _ _ t in
                 let h = before-last S A (d + 1) passed in
                 let k = last-lt (2 ^ n) (S .R) A (S .B) (S .sized) in
-                let i : lastOf S A ≡ suc d = first-is (suc (suc (2 ^ n))) (stopsAt S A) (suc d) (omega arith) (or-right (meets (2 ^ n) A (layerOf S (suc d))) _ t) (λ j l. passed j (omega arith)) in
-                record { steps = after; ends = (ap (λ (j : ℕ). meets (2 ^ n) A (layerOf S j)) i ∙ ap (meets (2 ^ n) A) g ∙ apart, ap (λ (j : ℕ). fit limit (needsOf S j)) i ∙ next-fits) }
+                let i : lastOf S A
+                ≡ suc d = first-is (suc (suc (2 ^ n))) (stopsAt S A) (suc d) (omega arith)
+                (or-right (meets (2 ^ n) A (layerOf S (suc d))) _ t) (λ j l. passed j (omega arith)) in
+                record {
+                  steps =
+                      after;
+                  ends = (
+                    ap (λ (j : ℕ). meets (2 ^ n) A (layerOf S j)) i ∙ ap (meets (2 ^ n) A) g ∙ apart,
+                    ap (λ (j : ℕ). fit limit (needsOf S j)) i ∙ next-fits,
+                  );
+                }
 
             -- or it grew
             pub pass-turns : y ≢ x → Passing n limit W Y t b S A (d + 1) y
@@ -157,7 +188,9 @@ module _ {n N limit : ℕ} {W : View} {t a b : ℕ} (p : PassPre n N limit W t a
                 }
 
   -- the layers that passed are fewer than 2^n + 2
-  pub pass-bound : {X : View} {d x : ℕ} → ((S : Scene n W t b) (A : List Bool) → Denotes (2 * n) (rowsOf W) a (fnOf n A) → Passing n limit W X t b S A d x) → d < suc (suc (2 ^ n))
+  pub pass-bound : {X : View} {d x : ℕ}
+      → ((S : Scene n W t b) (A : List Bool) → Denotes (2 * n) (rowsOf W) a (fnOf n A) → Passing n limit W X t b S A d x)
+      → d < suc (suc (2 ^ n))
   pass-bound {d = d} q =
       let h = before-last (p .scene) (p .A) d (q (p .scene) (p .A) (p .from) .before) in
       let k = last-lt (2 ^ n) (p .scene .R) (p .A) (p .scene .B) (p .scene .sized) in

@@ -46,7 +46,8 @@ pub layer-sized : {n : ℕ} {W : View} {t b : ℕ} (S : Scene n W t b) (i : ℕ)
 layer-sized S zero = S .sized
 layer-sized S (suc i) = length-table _ _
 
-matches-at : (n : ℕ) (rows : Rows) {F : Fn} {a : ℕ} (c q : Count) (b : Bool) → PairMatches n rows b F c (at a) q → (b ≡ true) × Denotes (2 * n) rows a F
+matches-at : (n : ℕ) (rows : Rows) {F : Fn} {a : ℕ} (c q : Count) (b : Bool) → PairMatches n rows b F c (at a) q
+    → (b ≡ true) × Denotes (2 * n) rows a F
 matches-at n rows c q true m = (refl, m .0)
 matches-at n rows c q false m = absurd m
 
@@ -56,7 +57,8 @@ matches-full n rows F c q false m = refl
 
 module _ {n N limit : ℕ} {W : View} {t b : ℕ} (p : Start n N limit W t b) where
   pub layered-start : (S : Scene n W t b) → Layered n W W t b S 0 b
-  layered-start S = record { moved = moved-refl (p .base); kept = keeps-refl (base-wf (p .base)) (filled-arrow (p .base .sound)); layer-is = S .goal }
+  layered-start S =
+      record { moved = moved-refl (p .base); kept = keeps-refl (base-wf (p .base)) (filled-arrow (p .base .sound)); layer-is = S .goal }
 
   module _ {X : View} {i x : ℕ} {S : Scene n W t b} (q : Layered n W X t b S i x) where
     same-roots : filled X ≡ filled W
@@ -79,14 +81,20 @@ module _ {n N limit : ℕ} {W : View} {t b : ℕ} (p : Start n N limit W t b) wh
       layer-needs = layerNeeds n (S .fs) (S .R) (S .B) (layerOf S i)
 
       abbrev Matches : Taken → Type 0
-      Matches z = PairMatches n (rowsOf Y) (fit limit layer-needs) (fnOf n (layerOf S (suc i))) (needingAll (uncounted N) layer-needs) (result (madeIn z)) (countIn z)
+      Matches z =
+          PairMatches n (rowsOf Y) (fit limit layer-needs) (fnOf n (layerOf S (suc i))) (needingAll (uncounted N) layer-needs)
+          (result (madeIn z)) (countIn z)
 
       ran : Ran n N X Y (filled X ++ (x ∷ [])) (fit limit layer-needs) (fnOf n (layerOf S (suc i))) (needingAll (uncounted N) layer-needs) o
-      ran = s (S .fs) (S .R) (S .B) (layerOf S i) (subst (λ (xs : List ℕ). Held (2 * n) (rowsOf X) xs (S .fs)) (sym same-roots) (held-keeps (S .held) (q .kept)))
+      ran = s (S .fs) (S .R) (S .B) (layerOf S i)
+          (subst (λ (xs : List ℕ). Held (2 * n) (rowsOf X) xs (S .fs)) (sym same-roots) (held-keeps (S .held) (q .kept)))
           (keeps-denotes (q .kept) (p .t-live) (S .relation)) (keeps-denotes (q .kept) (p .b-live) (S .goal)) (q .layer-is)
 
       kept-on : Keeps (rowsOf W) (rowsOf Y) (filled W)
-      kept-on = keeps-trans (q .kept) (keeps-within (λ a h. append-left {s = filled X} (x ∷ []) (subst (λ (xs : List ℕ). Mem a xs) (sym same-roots) h)) (ran .evals .kept))
+      kept-on =
+          keeps-trans (q .kept)
+          (keeps-within (λ a h. append-left {s = filled X} (x ∷ []) (subst (λ (xs : List ℕ). Mem a xs) (sym same-roots) h))
+          (ran .evals .kept))
 
       pub moved-on : Moved n W Y
       moved-on = moved-trans (q .moved) (ran .moved)
@@ -101,20 +109,25 @@ module _ {n N limit : ℕ} {W : View} {t b : ℕ} (p : Start n N limit W t b) wh
       after-wf = ran .evals .wf
 
       -- the next layer
-      pub layered-next : {y : ℕ} {q : Count} → o ≡ taken.At y q → Layered n W Y t b S (suc i) y × (fit limit (layerNeeds n (S .fs) (S .R) (S .B) (layerOf S i)) ≡ true)
+      pub layered-next : {y : ℕ} {q : Count} → o ≡ taken.At y q
+          → Layered n W Y t b S (suc i) y × (fit limit (layerNeeds n (S .fs) (S .R) (S .B) (layerOf S i)) ≡ true)
       layered-next {q = q} e =
-          let m = matches-at n (rowsOf Y) (needingAll (uncounted N) layer-needs) q (fit limit layer-needs) (subst Matches e (ran .evals .result)) in
+          let m = matches-at n (rowsOf Y) (needingAll (uncounted N) layer-needs) q (fit limit layer-needs)
+          (subst Matches e (ran .evals .result)) in
           (record { moved = moved-on; kept = kept-on; layer-is = m .1 }, m .0)
 
       -- it is full
       pub layered-full : o ≡ taken.Full → fit limit (layerNeeds n (S .fs) (S .R) (S .B) (layerOf S i)) ≡ false
-      layered-full e = matches-full n (rowsOf Y) (fnOf n (layerOf S (suc i))) (needingAll (uncounted N) layer-needs) (countIn taken.Full) (fit limit layer-needs) (subst Matches e (ran .evals .result))
+      layered-full e =
+          matches-full n (rowsOf Y) (fnOf n (layerOf S (suc i))) (needingAll (uncounted N) layer-needs) (countIn taken.Full)
+          (fit limit layer-needs) (subst Matches e (ran .evals .result))
 
 -- ---- needs
 
 module _ {n : ℕ} {W : View} {t b : ℕ} (limit : ℕ) (S : Scene n W t b) where
   -- one layer more
-  pub fits-next : (i : ℕ) → fit limit (needsOf S (suc i)) ≡ (fit limit (needsOf S i) && fit limit (layerNeeds n (S .fs) (S .R) (S .B) (layerOf S i)))
+  pub fits-next : (i : ℕ)
+      → fit limit (needsOf S (suc i)) ≡ (fit limit (needsOf S i) && fit limit (layerNeeds n (S .fs) (S .R) (S .B) (layerOf S i)))
   fits-next i = fit-append limit (needsOf S i) (layerNeeds n (S .fs) (S .R) (S .B) (layerOf S i))
 
   -- layers before one that fits, fit
@@ -127,7 +140,8 @@ module _ {n : ℕ} {W : View} {t b : ℕ} (limit : ℕ) (S : Scene n W t b) wher
       go (no l) below = let g : i < suc j = lt-of-not-le l in below (omega arith)
 
   -- a layer that is full is full again for all after it
-  pub full-after : (i j : ℕ) → i < j → fit limit (layerNeeds n (S .fs) (S .R) (S .B) (layerOf S i)) ≡ false → fit limit (needsOf S j) ≡ false
+  pub full-after : (i j : ℕ) → i < j → fit limit (layerNeeds n (S .fs) (S .R) (S .B) (layerOf S i)) ≡ false
+      → fit limit (needsOf S j) ≡ false
   full-after i j l e = false-of (fit limit (needsOf S j)) (λ f.
       let g = subst T (fits-next i) (fits-before (suc i) j (omega arith) f) in
       subst T e (and-out (fit limit (needsOf S i)) _ g .1))

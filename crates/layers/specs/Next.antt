@@ -32,9 +32,11 @@ pub record NextPre (n N limit : ℕ) (W : View) (t b x : ℕ) : Type 0 where
 abbrev pub uncounted : ℕ → Count
 uncounted N = record { rounds = 0; peak = N }
 
--- whatever functions registers and relations hold, and whatever sets the three arrows stand for: the answer is the next layer's, exactly where its needs fit
+-- whatever functions registers and relations hold, and whatever sets the three arrows stand for: the answer is the next layer's, exactly
+-- where its needs fit
 abbrev pub NextPost : ℕ → ℕ → ℕ → View → View → ℕ → ℕ → ℕ → Taken → Type 0
 NextPost n N limit W X t b x o =
     (fs : List Fn) (R : Pairs) (B L : List Bool) → Held (2 * n) (rowsOf W) (filled W) fs
     → Denotes (2 * n) (rowsOf W) t (fnOfPairs n R) → Denotes (2 * n) (rowsOf W) b (fnOf n B) → Denotes (2 * n) (rowsOf W) x (fnOf n L)
-    → Ran n N W X (live W (x ∷ [])) (fit limit (layerNeeds n fs R B L)) (fnOf n (union (2 ^ n) B (sometimes (2 ^ n) R L))) (needingAll (uncounted N) (layerNeeds n fs R B L)) o
+    → Ran n N W X (live W (x ∷ [])) (fit limit (layerNeeds n fs R B L)) (fnOf n (union (2 ^ n) B (sometimes (2 ^ n) R L)))
+    (needingAll (uncounted N) (layerNeeds n fs R B L)) o

@@ -36,7 +36,8 @@ pub record Steps (n : ℕ) (W X : View) : Type 0 where
 -- what it ends with: the last layer's number and the least state that it shares with A; or no state; or a step that is full
 abbrev pub Ends : {n : ℕ} {W : View} {t b : ℕ} → ℕ → Scene n W t b → List Bool → Reached → Type 0
 Ends {n} limit S A (reached.At d s) =
-    (d ≡ lastOf S A) × (meets (2 ^ n) A (layerOf S (lastOf S A)) ≡ true) × (fit limit (needsOf S (lastOf S A)) ≡ true) × (s ≡ common (2 ^ n) A (layerOf S (lastOf S A)))
+    (d ≡ lastOf S A) × (meets (2 ^ n) A (layerOf S (lastOf S A)) ≡ true) × (fit limit (needsOf S (lastOf S A)) ≡ true)
+    × (s ≡ common (2 ^ n) A (layerOf S (lastOf S A)))
 Ends {n} limit S A reached.Nothing = (meets (2 ^ n) A (layerOf S (lastOf S A)) ≡ false) × (fit limit (needsOf S (lastOf S A)) ≡ true)
 Ends limit S A reached.Full = fit limit (needsOf S (lastOf S A)) ≡ false
 

@@ -43,7 +43,9 @@ module _ (n N : ℕ) where
       ∙ getD-set-same (replicate HEADER 0) BITS n 0 (let l = zeros in omega arith)
 
   pub header-rows : getD (headerWords n N) ROWS 0 ≡ N
-  header-rows = before ROWS (omega arith) ∙ getD-set-other two LAYOUT ROWS CURRENT 0 (omega arith) ∙ getD-set-same one ROWS N 0 (let l = room in omega arith)
+  header-rows =
+      before ROWS (omega arith) ∙ getD-set-other two LAYOUT ROWS CURRENT 0 (omega arith)
+      ∙ getD-set-same one ROWS N 0 (let l = room in omega arith)
 
   pub header-layout : getD (headerWords n N) LAYOUT 0 ≡ CURRENT
   header-layout = before LAYOUT (omega arith) ∙ getD-set-same two LAYOUT CURRENT 0 (let l = room-two in omega arith)
@@ -54,5 +56,6 @@ module _ (n N : ℕ) where
 
   pub header-zero : (h : ℕ) → h < HEADER → h ≢ BITS → h ≢ ROWS → h ≢ LAYOUT → h ≢ VALID → getD (headerWords n N) h 0 ≡ 0
   header-zero h l a b c d =
-      before h d ∙ getD-set-other two LAYOUT h CURRENT 0 c ∙ getD-set-other one ROWS h N 0 b ∙ getD-set-other (replicate HEADER 0) BITS h n 0 a
+      before h d ∙ getD-set-other two LAYOUT h CURRENT 0 c ∙ getD-set-other one ROWS h N 0 b
+      ∙ getD-set-other (replicate HEADER 0) BITS h n 0 a
       ∙ getD-replicate {A = ℕ} HEADER h 0 0 l

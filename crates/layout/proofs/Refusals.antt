@@ -2,7 +2,8 @@
 use Prim.Native.Nat.{_≤_}
 use native.Mathlib.Omega.{arith}
 use Rattle.layout.specs.declared.Refusal.{Refusal}
-use Rattle.layout.specs.declared.Refusal.the-variants.{Sizes, Unsound, Occupied, Range, Syntax, Unbound, Vacuous, Odd, Empty, Full, Spent, NoRun, Short, Unlisted}
+use Rattle.layout.specs.declared.Refusal.the-variants.{Sizes, Unsound, Occupied, Range, Syntax, Unbound, Vacuous, Odd, Empty, Full}
+use Rattle.layout.specs.declared.Refusal.the-variants.{Spent, NoRun, Short, Unlisted}
 use Rattle.layout.specs.Refusals.{refusalNumber}
 
 -- no refusal has the number of an answer

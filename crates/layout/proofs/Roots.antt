@@ -11,6 +11,7 @@ pub root-past : (ws : List ℕ) (start total k : ℕ) → total ≤ k → filled
 unfolding filledRoot
 root-past ws start total k h = rw (le-ltb k total h)
 
-pub root-is : (ws : List ℕ) (start total k : ℕ) {x : ℕ} → k < total → x ≡ headerOf ws (start + k) → filledWord x ≡ filledRoot ws start total k
+pub root-is : (ws : List ℕ) (start total k : ℕ) {x : ℕ} → k < total → x ≡ headerOf ws (start + k)
+    → filledWord x ≡ filledRoot ws start total k
 unfolding filledRoot
 root-is ws start total k h e = rw (e, lt-ltb k total h)

@@ -10,7 +10,8 @@ use lib.ListN.{length, getD, set, length-set, List·getD-eq-default}
 use lib.Seq.{getD-set-same, getD-set-other}
 use borrow.Author.Tests.{lt-ltb, le-ltb, ltb-true, ltb-false, eqb-true, eqb-false}
 use Rattle.layout.specs.Places.{HEADER, CELLS, wordsFor, cellsAt, listAt, headsAt, slotsAt, beyondAt}
-use Rattle.layout.specs.View.{block, headerOf, cellOf, listOf, headOf, slotOf, beyondOf, view, upd, putHeader, putCell, putList, putHead, putSlot}
+use Rattle.layout.specs.View.{block, headerOf, cellOf, listOf, headOf, slotOf, beyondOf, view, upd, putHeader, putCell, putList}
+use Rattle.layout.specs.View.{putHead, putSlot}
 
 -- reading
 block-is : (s t : ℕ) (ws : List ℕ) (k : ℕ) → k < t → block s t ws k ≡ getD ws (s + k) 0
@@ -67,7 +68,8 @@ module _ (s t : ℕ) (ws : List ℕ) where
   unfolding block
   on i p v at h room k = go (eqb k i) refl (ltb k t) refl
     where
-      go : (b : Bool) → eqb k i ≡ b → (c : Bool) → ltb k t ≡ c → cond c (getD (set ws p v) (s + k) 0) 0 ≡ cond b v (cond c (getD ws (s + k) 0) 0)
+      go : (b : Bool) → eqb k i ≡ b → (c : Bool) → ltb k t ≡ c
+          → cond c (getD (set ws p v) (s + k) 0) 0 ≡ cond b v (cond c (getD ws (s + k) 0) 0)
       go true e true f = let q : k ≡ i = eqb-true k i e in rw (q, at) (getD-set-same ws p v 0 room)
       go true e false f = absurd (let q : k ≡ i = eqb-true k i e in let n : t ≤ k = ltb-false k t f in omega arith)
       go false e true f = let n : k ≢ i = eqb-false k i e in getD-set-other ws p (s + k) v 0 (omega arith)
@@ -95,9 +97,13 @@ module _ (N : ℕ) (ws : List ℕ) where
       same true x = refl
       same false x = refl
 
-      go : (b : Bool) → eqb j i ≡ b → cellOf N (set ws (cellsAt i + k) v) j l ≡ cond (eqb l k) (cond b v (cellOf N ws j l)) (cellOf N ws j l)
-      go true e = rw (eqb-true j i e, row-is i hi (set ws (cellsAt i + k) v) l, row-is i hi ws l) (on (cellsAt i) CELLS ws k (cellsAt i + k) v refl hk (omega arith) l)
-      go false e = let n : j ≢ i = eqb-false j i e in cell-off (cellsAt i + k) v j (λ y x m. omega arith) l ∙ same (eqb l k) (cellOf N ws j l)
+      go : (b : Bool) → eqb j i ≡ b
+          → cellOf N (set ws (cellsAt i + k) v) j l ≡ cond (eqb l k) (cond b v (cellOf N ws j l)) (cellOf N ws j l)
+      go true e =
+          rw (eqb-true j i e, row-is i hi (set ws (cellsAt i + k) v) l, row-is i hi ws l)
+          (on (cellsAt i) CELLS ws k (cellsAt i + k) v refl hk (omega arith) l)
+      go false e =
+          let n : j ≢ i = eqb-false j i e in cell-off (cellsAt i + k) v j (λ y x m. omega arith) l ∙ same (eqb l k) (cellOf N ws j l)
 
   module _ (room : wordsFor N ≤ length ws) where
     -- a word of the header is written

@@ -1,5 +1,5 @@
--- "An arrow is 0 (nothing), 1 (everything) or a used row", and may carry a NOT: arrows (edges, in the field's words) are taken apart here only.
--- Assumes nothing.
+-- "An arrow is 0 (nothing), 1 (everything) or a used row", and may carry a NOT: arrows (edges, in the field's words) are taken apart here
+-- only. Assumes nothing.
 use mathlib.Core.Bool.{Bool, true, false}
 use Prim.Native.Nat.{ℕ, zero, suc, _+_, _-_, _*_, _/_, _%_}
 use lib.Dec.{eqb}

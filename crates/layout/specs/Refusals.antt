@@ -3,7 +3,8 @@ use Prim.Native.Nat.{ℕ}
 use mathlib.Core.Bool.{Bool, _&&_, _||_}
 use lib.Dec.{leb}
 use Rattle.layout.specs.declared.Refusal.{Refusal}
-use Rattle.layout.specs.declared.Refusal.the-variants.{Sizes, Unsound, Occupied, Range, Syntax, Unbound, Vacuous, Odd, Empty, Full, Spent, NoRun, Short, Unlisted}
+use Rattle.layout.specs.declared.Refusal.the-variants.{Sizes, Unsound, Occupied, Range, Syntax, Unbound, Vacuous, Odd, Empty, Full}
+use Rattle.layout.specs.declared.Refusal.the-variants.{Spent, NoRun, Short, Unlisted}
 
 abbrev pub refusalNumber : Refusal → ℕ
 -- "fresh: n, N or slice length"

@@ -1,5 +1,5 @@
--- A table's words seen as functions: the header, the words of each row, the list of used rows, the heads of the chains, the slots for remembered
--- results, and what is beyond the table. Each setter is one equation. Assumes nothing.
+-- A table's words seen as functions: the header, the words of each row, the list of used rows, the heads of the chains, the slots for
+-- remembered results, and what is beyond the table. Each setter is one equation. Assumes nothing.
 use mathlib.Core.Bool.{cond}
 use mathlib.Core.List.{List}
 use Prim.Native.Nat.{ℕ, _+_, _*_}
@@ -48,24 +48,84 @@ pub record View : Type 0 where
 
 -- the words of a table of N rows
 abbrev pub view : ℕ → List ℕ → View
-view N ws = record { rows = N; size = length ws; header = headerOf ws; cell = cellOf N ws; list = listOf N ws; head = headOf N ws; slot = slotOf N ws; beyond = beyondOf N ws }
+view N ws =
+    record {
+      rows = N;
+      size = length ws;
+      header = headerOf ws;
+      cell = cellOf N ws;
+      list = listOf N ws;
+      head = headOf N ws;
+      slot = slotOf N ws;
+      beyond = beyondOf N ws;
+    }
 
 -- one function changed at one number
 abbrev pub upd : (ℕ → ℕ) → ℕ → ℕ → ℕ → ℕ
 upd f i v j = cond (eqb j i) v (f j)
 
 abbrev pub putHeader : View → ℕ → ℕ → View
-putHeader W h v = record { rows = W .rows; size = W .size; header = upd (W .header) h v; cell = W .cell; list = W .list; head = W .head; slot = W .slot; beyond = W .beyond }
+putHeader W h v =
+    record {
+      rows = W .rows;
+      size = W .size;
+      header = upd (W .header) h v;
+      cell = W .cell;
+      list = W .list;
+      head = W .head;
+      slot = W .slot;
+      beyond = W .beyond;
+    }
 
 -- The field is tested first, so that at two numerals the test computes away.
 abbrev pub putCell : View → ℕ → ℕ → ℕ → View
-putCell W i k v = record { rows = W .rows; size = W .size; header = W .header; cell = λ j l. cond (eqb l k) (cond (eqb j i) v (W .cell j l)) (W .cell j l); list = W .list; head = W .head; slot = W .slot; beyond = W .beyond }
+putCell W i k v =
+    record {
+      rows = W .rows;
+      size = W .size;
+      header = W .header;
+      cell = λ j l. cond (eqb l k) (cond (eqb j i) v (W .cell j l)) (W .cell j l);
+      list = W .list;
+      head = W .head;
+      slot = W .slot;
+      beyond = W .beyond;
+    }
 
 abbrev pub putList : View → ℕ → ℕ → View
-putList W k v = record { rows = W .rows; size = W .size; header = W .header; cell = W .cell; list = upd (W .list) k v; head = W .head; slot = W .slot; beyond = W .beyond }
+putList W k v =
+    record {
+      rows = W .rows;
+      size = W .size;
+      header = W .header;
+      cell = W .cell;
+      list = upd (W .list) k v;
+      head = W .head;
+      slot = W .slot;
+      beyond = W .beyond;
+    }
 
 abbrev pub putHead : View → ℕ → ℕ → View
-putHead W b v = record { rows = W .rows; size = W .size; header = W .header; cell = W .cell; list = W .list; head = upd (W .head) b v; slot = W .slot; beyond = W .beyond }
+putHead W b v =
+    record {
+      rows = W .rows;
+      size = W .size;
+      header = W .header;
+      cell = W .cell;
+      list = W .list;
+      head = upd (W .head) b v;
+      slot = W .slot;
+      beyond = W .beyond;
+    }
 
 abbrev pub putSlot : View → ℕ → ℕ → View
-putSlot W p v = record { rows = W .rows; size = W .size; header = W .header; cell = W .cell; list = W .list; head = W .head; slot = upd (W .slot) p v; beyond = W .beyond }
+putSlot W p v =
+    record {
+      rows = W .rows;
+      size = W .size;
+      header = W .header;
+      cell = W .cell;
+      list = W .list;
+      head = W .head;
+      slot = upd (W .slot) p v;
+      beyond = W .beyond;
+    }

@@ -1,5 +1,6 @@
--- "Howls heard before", where a wrong program's answer is another one: a list for each, with the book's answers. (Freed rows that are used again, and a
--- state without next states under box, are in book, Bench; an outer binder's set that is not a root is the edit evaluator/inner_set_not_a_root.) Assumes nothing.
+-- "Howls heard before", where a wrong program's answer is another one: a list for each, with the book's answers.
+-- (Freed rows that are used again, and a state without next states under box, are in book, Bench; an outer binder's set that is not a root
+-- is the edit evaluator/inner_set_not_a_root.) Assumes nothing.
 use mathlib.Core.Bool.{true, false}
 use mathlib.Core.List.{List, [], _∷_}
 use mathlib.Core.Option.{none, some}
@@ -8,9 +9,9 @@ use Rattle.book.specs.Book.{fresh, relation, set}
 use Rattle.book.proofs.Compute.{computing}
 use Rattle.book.proofs.Listed.{frame, Line, did, holds, made, related, Gives, testing, given}
 
--- "Starting an inner mu from its last value". State 1 leads to itself and to state 0, which leads nowhere; nu X. mu Y. diamond ((not bit 0 and X) or Y)
--- asks for state 0 again and again, so no state has it. In the second round of nu the inner mu starts anew and finds no state; from its last
--- value, state 1, it would find state 1, which leads to itself.
+-- "Starting an inner mu from its last value". State 1 leads to itself and to state 0, which leads nowhere; nu X. mu Y.
+-- diamond ((not bit 0 and X) or Y) asks for state 0 again and again, so no state has it. In the second round of nu the inner mu starts anew
+-- and finds no state; from its last value, state 1, it would find state 1, which leads to itself.
 abbrev anew : List Line
 anew =
     did (relation 0 (frame (0x10 ∷ []))) (related 1)

@@ -1,5 +1,6 @@
--- Lists of calls and questions with their answers, from a separate reading of documents 01 and 02 (tests/reference, `cargo run --bin lists 274 6 6`,
--- written by `as-antt`): one theorem each. This is how an outside list is held against the book: write its lines, and prove the test by `tt`. Assumes nothing.
+-- Lists of calls and questions with their answers, from a separate reading of documents 01 and 02 (tests/reference, `cargo run --bin lists
+-- 274 6 6`, written by `as-antt`): one theorem each. This is how an outside list is held against the book: write its lines, and prove the
+-- test by `tt`. Assumes nothing.
 use mathlib.Core.Bool.{true, false}
 use mathlib.Core.List.{List, [], _∷_}
 use mathlib.Core.Option.{none, some}
@@ -22,7 +23,8 @@ list1 =
     told (count 1) (refused 7)
     ∷ did (set (under 7 6 top top) 0 0 (0x00 ∷ 0x06 ∷ 0x01 ∷ 0x70 ∷ 0x04 ∷ 0x30 ∷ 0x02 ∷ 0x01 ∷ [])) (refused 9)
     ∷ did (clear 2) (answered (some 0))
-    ∷ did (set (under 7 2 top top) 0 6 (0x00 ∷ 0x0B ∷ 0x01 ∷ 0x80 ∷ 0x03 ∷ 0x81 ∷ 0x03 ∷ 0x02 ∷ 0x10 ∷ 0x04 ∷ 0x31 ∷ 0x01 ∷ 0x30 ∷ [])) (made 6 1 none)
+    ∷ did (set (under 7 2 top top) 0 6 (0x00 ∷ 0x0B ∷ 0x01 ∷ 0x80 ∷ 0x03 ∷ 0x81 ∷ 0x03 ∷ 0x02 ∷ 0x10 ∷ 0x04 ∷ 0x31 ∷ 0x01 ∷ 0x30 ∷ []))
+    (made 6 1 none)
     ∷ did (set (under 7 1 0 1) 31 3 (0x00 ∷ 0x09 ∷ 0x01 ∷ 0x80 ∷ 0x03 ∷ 0x71 ∷ 0x04 ∷ 0x02 ∷ 0x01 ∷ 0x31 ∷ 0x30 ∷ [])) (refused 9)
     ∷ did (clear 0) (answered (some 0))
     ∷ did (set (under 7 0 top top) 2 4294967295 (0x00 ∷ 0x03 ∷ 0x01 ∷ 0x70 ∷ 0x30 ∷ [])) (made 1 0 (some 0))
@@ -38,12 +40,16 @@ given1 = given (fresh 1 1) list1 tt
 abbrev list2 : List Line
 list2 =
     did (relation 8 (0x00 ∷ 0x05 ∷ 0x01 ∷ 0x02 ∷ 0x02 ∷ 0x02 ∷ 0x10 ∷ [])) (refused 3)
-    ∷ did (set (under 5 1 0 4) 1 4 (0x00 ∷ 0x0A ∷ 0x01 ∷ 0x70 ∷ 0x02 ∷ 0x71 ∷ 0x04 ∷ 0x03 ∷ 0x02 ∷ 0x30 ∷ 0x00 ∷ 0x31 ∷ [])) (made 4 0 (some 1))
+    ∷ did (set (under 5 1 0 4) 1 4 (0x00 ∷ 0x0A ∷ 0x01 ∷ 0x70 ∷ 0x02 ∷ 0x71 ∷ 0x04 ∷ 0x03 ∷ 0x02 ∷ 0x30 ∷ 0x00 ∷ 0x31 ∷ []))
+    (made 4 0 (some 1))
     ∷ did (relation 1 (0x00 ∷ 0x08 ∷ 0x01 ∷ 0x04 ∷ 0x00 ∷ 0x03 ∷ 0x02 ∷ 0x20 ∷ 0x02 ∷ 0x10 ∷ [])) (related 3)
-    ∷ did (set (under 5 2 top top) 0 100 (0x00 ∷ 0x0A ∷ 0x01 ∷ 0x71 ∷ 0x04 ∷ 0x68 ∷ 0x03 ∷ 0x02 ∷ 0x01 ∷ 0x69 ∷ 0x20 ∷ 0x31 ∷ [])) (refused 4)
+    ∷ did (set (under 5 2 top top) 0 100 (0x00 ∷ 0x0A ∷ 0x01 ∷ 0x71 ∷ 0x04 ∷ 0x68 ∷ 0x03 ∷ 0x02 ∷ 0x01 ∷ 0x69 ∷ 0x20 ∷ 0x31 ∷ []))
+    (refused 4)
     ∷ did (set (under 5 4 2 top) 2 0 (0x00 ∷ 0x02 ∷ 0x01 ∷ 0x10 ∷ [])) (refused 8)
     ∷ told (member 1 0) (answered (some 1))
-    ∷ did (set (under 5 2 top top) 1 100 (0x00 ∷ 0x0F ∷ 0x01 ∷ 0x81 ∷ 0x03 ∷ 0x02 ∷ 0x61 ∷ 0x04 ∷ 0x10 ∷ 0x61 ∷ 0x62 ∷ 0x70 ∷ 0x04 ∷ 0x30 ∷ 0x60 ∷ 0x30 ∷ 0x31 ∷ [])) (refused 7)
+    ∷ did (set (under 5 2 top top) 1 100
+    (0x00 ∷ 0x0F ∷ 0x01 ∷ 0x81 ∷ 0x03 ∷ 0x02 ∷ 0x61 ∷ 0x04 ∷ 0x10 ∷ 0x61 ∷ 0x62 ∷ 0x70 ∷ 0x04 ∷ 0x30 ∷ 0x60 ∷ 0x30 ∷ 0x31 ∷ []))
+    (refused 7)
     ∷ did collect (answered (some 2))
     ∷ did (set (under 5 1 0 4) 2 2 (0x00 ∷ 0x06 ∷ 0x01 ∷ 0x70 ∷ 0x03 ∷ 0x41 ∷ 0x61 ∷ 0x30 ∷ [])) (refused 8)
     ∷ did (set (under 5 2 top top) 2 100 (0x00 ∷ 0x06 ∷ 0x01 ∷ 0x80 ∷ 0x03 ∷ 0x10 ∷ 0x61 ∷ 0x30 ∷ [])) (made 2 3 none)
@@ -150,7 +156,9 @@ list7 =
     ∷ holds 0 (some (false ∷ false ∷ true ∷ true ∷ []))
     ∷ holds 1 (some (false ∷ false ∷ false ∷ false ∷ []))
     ∷ holds 31 (some (false ∷ false ∷ false ∷ true ∷ []))
-    ∷ relates 1 (some ((false ∷ false ∷ false ∷ false ∷ []) ∷ (false ∷ false ∷ false ∷ false ∷ []) ∷ (false ∷ false ∷ false ∷ false ∷ []) ∷ (true ∷ true ∷ true ∷ true ∷ []) ∷ [])) ∷ []
+    ∷ relates 1
+    (some ((false ∷ false ∷ false ∷ false ∷ []) ∷ (false ∷ false ∷ false ∷ false ∷ []) ∷ (false ∷ false ∷ false ∷ false ∷ [])
+    ∷ (true ∷ true ∷ true ∷ true ∷ []) ∷ [])) ∷ []
 
 pub given7 : Gives (fresh 2 8) list7
 unfolding testing computing
@@ -169,7 +177,9 @@ list8 =
     ∷ did (set (under 3 0 top top) 2 0 (0x00 ∷ 0x04 ∷ 0x01 ∷ 0x04 ∷ 0x11 ∷ 0x11 ∷ [])) (made 0 1 none)
     ∷ told (node 2) (answered none)
     ∷ holds 2 (some (false ∷ false ∷ true ∷ true ∷ []))
-    ∷ relates 7 (some ((true ∷ true ∷ true ∷ true ∷ []) ∷ (true ∷ true ∷ true ∷ true ∷ []) ∷ (true ∷ true ∷ true ∷ true ∷ []) ∷ (true ∷ true ∷ true ∷ true ∷ []) ∷ [])) ∷ []
+    ∷ relates 7
+    (some ((true ∷ true ∷ true ∷ true ∷ []) ∷ (true ∷ true ∷ true ∷ true ∷ []) ∷ (true ∷ true ∷ true ∷ true ∷ [])
+    ∷ (true ∷ true ∷ true ∷ true ∷ []) ∷ [])) ∷ []
 
 pub given8 : Gives (fresh 2 1) list8
 unfolding testing computing
@@ -190,7 +200,9 @@ list9 =
     ∷ did (set (under 6 5 top top) 1 0 (0x00 ∷ 0x03 ∷ 0x01 ∷ 0x68 ∷ 0x41 ∷ [])) (made 0 1 (some 1))
     ∷ holds 1 (some (true ∷ true ∷ true ∷ true ∷ []))
     ∷ holds 2 (some (false ∷ false ∷ false ∷ false ∷ []))
-    ∷ relates 0 (some ((false ∷ false ∷ true ∷ true ∷ []) ∷ (false ∷ false ∷ true ∷ true ∷ []) ∷ (false ∷ false ∷ true ∷ true ∷ []) ∷ (false ∷ false ∷ true ∷ true ∷ []) ∷ [])) ∷ []
+    ∷ relates 0
+    (some ((false ∷ false ∷ true ∷ true ∷ []) ∷ (false ∷ false ∷ true ∷ true ∷ []) ∷ (false ∷ false ∷ true ∷ true ∷ [])
+    ∷ (false ∷ false ∷ true ∷ true ∷ []) ∷ [])) ∷ []
 
 pub given9 : Gives (fresh 2 1) list9
 unfolding testing computing
@@ -211,7 +223,9 @@ list10 =
     ∷ holds 0 (some (false ∷ true ∷ false ∷ true ∷ []))
     ∷ holds 1 (some (true ∷ true ∷ true ∷ true ∷ []))
     ∷ holds 2 (some (true ∷ true ∷ true ∷ true ∷ []))
-    ∷ relates 1 (some ((false ∷ false ∷ true ∷ true ∷ []) ∷ (false ∷ false ∷ true ∷ true ∷ []) ∷ (false ∷ false ∷ true ∷ true ∷ []) ∷ (false ∷ false ∷ true ∷ true ∷ []) ∷ [])) ∷ []
+    ∷ relates 1
+    (some ((false ∷ false ∷ true ∷ true ∷ []) ∷ (false ∷ false ∷ true ∷ true ∷ []) ∷ (false ∷ false ∷ true ∷ true ∷ [])
+    ∷ (false ∷ false ∷ true ∷ true ∷ []) ∷ [])) ∷ []
 
 pub given10 : Gives (fresh 2 3) list10
 unfolding testing computing
@@ -229,7 +243,9 @@ list11 =
     ∷ told (count 2) (refused 7)
     ∷ did (relation 2 (0x00 ∷ 0x05 ∷ 0x01 ∷ 0x04 ∷ 0x20 ∷ 0x02 ∷ 0x20 ∷ [])) (related 1)
     ∷ told (count 0) (refused 7)
-    ∷ relates 2 (some ((true ∷ true ∷ true ∷ true ∷ []) ∷ (true ∷ true ∷ true ∷ true ∷ []) ∷ (true ∷ true ∷ true ∷ true ∷ []) ∷ (true ∷ true ∷ true ∷ true ∷ []) ∷ [])) ∷ []
+    ∷ relates 2
+    (some ((true ∷ true ∷ true ∷ true ∷ []) ∷ (true ∷ true ∷ true ∷ true ∷ []) ∷ (true ∷ true ∷ true ∷ true ∷ [])
+    ∷ (true ∷ true ∷ true ∷ true ∷ []) ∷ [])) ∷ []
 
 pub given11 : Gives (fresh 2 1) list11
 unfolding testing computing

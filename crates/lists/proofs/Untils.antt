@@ -26,7 +26,8 @@ turn-held = refl
 
 -- n = 2: state 0 leads to 1 and 2, state 1 to 3, and 2 and 3 lead nowhere
 abbrev fork : Pairs
-fork = (false ∷ true ∷ true ∷ false ∷ []) ∷ (false ∷ false ∷ false ∷ true ∷ []) ∷ (false ∷ false ∷ false ∷ false ∷ []) ∷ (false ∷ false ∷ false ∷ false ∷ []) ∷ []
+fork = (false ∷ true ∷ true ∷ false ∷ []) ∷ (false ∷ false ∷ false ∷ true ∷ []) ∷ (false ∷ false ∷ false ∷ false ∷ [])
+    ∷ (false ∷ false ∷ false ∷ false ∷ []) ∷ []
 
 -- both of its runs from 0 are shorter than 4 steps, and count
 pub fork-runs : walks 4 fork 4 0 ≡ (1 ∷ 3 ∷ []) ∷ (2 ∷ []) ∷ []

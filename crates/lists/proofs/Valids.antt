@@ -1,5 +1,5 @@
--- Lists of calls and questions over V with their answers, from a separate evaluator over truth tables that was written from documents 01 and 02 alone: one
--- theorem each. Assumes nothing.
+-- Lists of calls and questions over V with their answers, from a separate evaluator over truth tables that was written from documents 01
+-- and 02 alone: one theorem each. Assumes nothing.
 use mathlib.Core.Bool.{true, false}
 use mathlib.Core.List.{List, [], _∷_}
 use mathlib.Core.Option.{none, some}
@@ -77,7 +77,8 @@ list3 =
     ∷ told (count 2) (refused 7)
     ∷ did (set (under 6 0 2 0) 2 1 (0x00 ∷ 0x03 ∷ 0x02 ∷ 0x60 ∷ 0x01 ∷ [])) (made 0 0 (some 0))
     ∷ holds 2 (some (false ∷ false ∷ []))
-    ∷ did (set (under 5 0 top top) 2 3 (0x00 ∷ 0x0A ∷ 0x01 ∷ 0x04 ∷ 0x02 ∷ 0x70 ∷ 0x04 ∷ 0x30 ∷ 0x30 ∷ 0x68 ∷ 0x02 ∷ 0x00 ∷ [])) (made 1 0 (some 0))
+    ∷ did (set (under 5 0 top top) 2 3 (0x00 ∷ 0x0A ∷ 0x01 ∷ 0x04 ∷ 0x02 ∷ 0x70 ∷ 0x04 ∷ 0x30 ∷ 0x30 ∷ 0x68 ∷ 0x02 ∷ 0x00 ∷ []))
+    (made 1 0 (some 0))
     ∷ holds 2 (some (false ∷ false ∷ [])) ∷ []
 
 pub given3 : Gives (fresh 1 9) list3
@@ -95,7 +96,8 @@ list4 =
     ∷ relates 1 (some ((true ∷ false ∷ []) ∷ (false ∷ false ∷ []) ∷ []))
     ∷ did (set (under 2 0 top top) 2 5 (0x00 ∷ 0x06 ∷ 0x01 ∷ 0x03 ∷ 0x69 ∷ 0x69 ∷ 0x40 ∷ 0x10 ∷ [])) (made 0 3 (some 0))
     ∷ holds 2 (some (false ∷ false ∷ []))
-    ∷ did (set (under 1 0 5 2) 1 3 (0x00 ∷ 0x0B ∷ 0x01 ∷ 0x03 ∷ 0x04 ∷ 0x10 ∷ 0x61 ∷ 0x10 ∷ 0x03 ∷ 0x61 ∷ 0x00 ∷ 0x69 ∷ 0x10 ∷ [])) (made 0 3 (some 0))
+    ∷ did (set (under 1 0 5 2) 1 3 (0x00 ∷ 0x0B ∷ 0x01 ∷ 0x03 ∷ 0x04 ∷ 0x10 ∷ 0x61 ∷ 0x10 ∷ 0x03 ∷ 0x61 ∷ 0x00 ∷ 0x69 ∷ 0x10 ∷ []))
+    (made 0 3 (some 0))
     ∷ holds 1 (some (false ∷ false ∷ []))
     ∷ did (relation 0 (0x00 ∷ 0x02 ∷ 0x01 ∷ 0x20 ∷ [])) (related 4)
     ∷ relates 0 (some ((false ∷ false ∷ []) ∷ (false ∷ false ∷ []) ∷ []))
@@ -212,7 +214,8 @@ list9 =
     ∷ holds 2 (some (true ∷ false ∷ []))
     ∷ did (set (under 1 0 3 5) 0 5 (0x00 ∷ 0x04 ∷ 0x02 ∷ 0x91 ∷ 0x10 ∷ 0x01 ∷ [])) (made 2 3 none)
     ∷ holds 0 (some (true ∷ false ∷ []))
-    ∷ did (set (under 5 0 top top) 0 9 (0x00 ∷ 0x0C ∷ 0x01 ∷ 0x04 ∷ 0x80 ∷ 0x04 ∷ 0x30 ∷ 0x81 ∷ 0x04 ∷ 0x31 ∷ 0x00 ∷ 0x69 ∷ 0x69 ∷ 0x10 ∷ [])) (made 2 3 none)
+    ∷ did (set (under 5 0 top top) 0 9
+    (0x00 ∷ 0x0C ∷ 0x01 ∷ 0x04 ∷ 0x80 ∷ 0x04 ∷ 0x30 ∷ 0x81 ∷ 0x04 ∷ 0x31 ∷ 0x00 ∷ 0x69 ∷ 0x69 ∷ 0x10 ∷ [])) (made 2 3 none)
     ∷ holds 0 (some (true ∷ false ∷ []))
     ∷ did (valid (0x00 ∷ 0x04 ∷ 0x01 ∷ 0x02 ∷ 0x02 ∷ 0x10 ∷ [])) (refused 13)
     ∷ existing (true ∷ false ∷ [])
@@ -252,14 +255,18 @@ list11 =
     did (valid (0x00 ∷ 0x05 ∷ 0x01 ∷ 0x02 ∷ 0x04 ∷ 0x10 ∷ 0x01 ∷ [])) (answered (some 0))
     ∷ existing (false ∷ false ∷ false ∷ false ∷ [])
     ∷ did (relation 1 (0x00 ∷ 0x02 ∷ 0x01 ∷ 0x11 ∷ [])) (related 1)
-    ∷ relates 1 (some ((false ∷ false ∷ false ∷ false ∷ []) ∷ (false ∷ false ∷ false ∷ false ∷ []) ∷ (false ∷ false ∷ false ∷ false ∷ []) ∷ (false ∷ false ∷ false ∷ false ∷ []) ∷ []))
+    ∷ relates 1
+    (some ((false ∷ false ∷ false ∷ false ∷ []) ∷ (false ∷ false ∷ false ∷ false ∷ []) ∷ (false ∷ false ∷ false ∷ false ∷ [])
+    ∷ (false ∷ false ∷ false ∷ false ∷ []) ∷ []))
     ∷ did (set (under 3 0 2 4) 1 100 (0x00 ∷ 0x07 ∷ 0x01 ∷ 0x70 ∷ 0x03 ∷ 0x30 ∷ 0x03 ∷ 0x30 ∷ 0x30 ∷ [])) (made 1 0 (some 0))
     ∷ holds 1 (some (false ∷ false ∷ false ∷ false ∷ []))
     ∷ did (set alone 0 9 (0x00 ∷ 0x05 ∷ 0x01 ∷ 0x69 ∷ 0x03 ∷ 0x01 ∷ 0x00 ∷ [])) (made 0 0 (some 0))
     ∷ holds 0 (some (false ∷ false ∷ false ∷ false ∷ []))
     ∷ did (clear 2) (answered (some 0))
     ∷ did (relation 0 (0x00 ∷ 0x02 ∷ 0x01 ∷ 0x20 ∷ [])) (related 1)
-    ∷ relates 0 (some ((false ∷ false ∷ false ∷ false ∷ []) ∷ (false ∷ false ∷ false ∷ false ∷ []) ∷ (false ∷ false ∷ false ∷ false ∷ []) ∷ (false ∷ false ∷ false ∷ false ∷ []) ∷ [])) ∷ []
+    ∷ relates 0
+    (some ((false ∷ false ∷ false ∷ false ∷ []) ∷ (false ∷ false ∷ false ∷ false ∷ []) ∷ (false ∷ false ∷ false ∷ false ∷ [])
+    ∷ (false ∷ false ∷ false ∷ false ∷ []) ∷ [])) ∷ []
 
 pub given11 : Gives (fresh 2 9) list11
 unfolding testing computing
@@ -272,7 +279,9 @@ list12 =
     ∷ did (set (under 6 0 top top) 2 9 (0x00 ∷ 0x05 ∷ 0x01 ∷ 0x70 ∷ 0x03 ∷ 0x30 ∷ 0x11 ∷ [])) (made 1 2 (some 0))
     ∷ holds 2 (some (false ∷ false ∷ false ∷ false ∷ []))
     ∷ did (relation 0 (0x00 ∷ 0x03 ∷ 0x01 ∷ 0x02 ∷ 0x20 ∷ [])) (related 11)
-    ∷ relates 0 (some ((false ∷ false ∷ false ∷ false ∷ []) ∷ (false ∷ false ∷ true ∷ false ∷ []) ∷ (false ∷ false ∷ true ∷ false ∷ []) ∷ (false ∷ false ∷ true ∷ false ∷ []) ∷ []))
+    ∷ relates 0
+    (some ((false ∷ false ∷ false ∷ false ∷ []) ∷ (false ∷ false ∷ true ∷ false ∷ []) ∷ (false ∷ false ∷ true ∷ false ∷ [])
+    ∷ (false ∷ false ∷ true ∷ false ∷ []) ∷ []))
     ∷ told (count 0) (refused 7)
     ∷ told (member 2 2) (answered (some 0))
     ∷ did (set (under 6 0 top top) 2 2 (0x00 ∷ 0x05 ∷ 0x02 ∷ 0x70 ∷ 0x03 ∷ 0x30 ∷ 0x11 ∷ [])) (made 1 7 (some 0))
@@ -293,7 +302,9 @@ list13 =
     ∷ holds 2 (some (false ∷ false ∷ false ∷ false ∷ []))
     ∷ did collect (answered (some 1))
     ∷ did (relation 1 (0x00 ∷ 0x03 ∷ 0x01 ∷ 0x02 ∷ 0x20 ∷ [])) (related 5)
-    ∷ relates 1 (some ((false ∷ false ∷ false ∷ false ∷ []) ∷ (false ∷ false ∷ false ∷ false ∷ []) ∷ (false ∷ false ∷ true ∷ false ∷ []) ∷ (false ∷ false ∷ true ∷ false ∷ []) ∷ [])) ∷ []
+    ∷ relates 1
+    (some ((false ∷ false ∷ false ∷ false ∷ []) ∷ (false ∷ false ∷ false ∷ false ∷ []) ∷ (false ∷ false ∷ true ∷ false ∷ [])
+    ∷ (false ∷ false ∷ true ∷ false ∷ []) ∷ [])) ∷ []
 
 pub given13 : Gives (fresh 2 100) list13
 unfolding testing computing
@@ -304,13 +315,17 @@ list14 =
     did (valid (0x00 ∷ 0x06 ∷ 0x01 ∷ 0x03 ∷ 0x02 ∷ 0x10 ∷ 0x02 ∷ 0x01 ∷ [])) (answered (some 0))
     ∷ existing (false ∷ false ∷ false ∷ false ∷ [])
     ∷ did (relation 1 (0x00 ∷ 0x05 ∷ 0x01 ∷ 0x02 ∷ 0x04 ∷ 0x00 ∷ 0x11 ∷ [])) (related 1)
-    ∷ relates 1 (some ((false ∷ false ∷ false ∷ false ∷ []) ∷ (false ∷ false ∷ false ∷ false ∷ []) ∷ (false ∷ false ∷ false ∷ false ∷ []) ∷ (false ∷ false ∷ false ∷ false ∷ []) ∷ []))
+    ∷ relates 1
+    (some ((false ∷ false ∷ false ∷ false ∷ []) ∷ (false ∷ false ∷ false ∷ false ∷ []) ∷ (false ∷ false ∷ false ∷ false ∷ [])
+    ∷ (false ∷ false ∷ false ∷ false ∷ []) ∷ []))
     ∷ did (set alone 1 5 (0x00 ∷ 0x04 ∷ 0x02 ∷ 0x61 ∷ 0x61 ∷ 0x11 ∷ [])) (made 0 1 (some 0))
     ∷ holds 1 (some (false ∷ false ∷ false ∷ false ∷ []))
     ∷ did (set alone 0 3 (0x00 ∷ 0x03 ∷ 0x01 ∷ 0x61 ∷ 0x00 ∷ [])) (made 0 0 (some 0))
     ∷ holds 0 (some (false ∷ false ∷ false ∷ false ∷ []))
     ∷ did (relation 0 (0x00 ∷ 0x02 ∷ 0x01 ∷ 0x21 ∷ [])) (related 1)
-    ∷ relates 0 (some ((false ∷ false ∷ false ∷ false ∷ []) ∷ (false ∷ false ∷ false ∷ false ∷ []) ∷ (false ∷ false ∷ false ∷ false ∷ []) ∷ (false ∷ false ∷ false ∷ false ∷ []) ∷ []))
+    ∷ relates 0
+    (some ((false ∷ false ∷ false ∷ false ∷ []) ∷ (false ∷ false ∷ false ∷ false ∷ []) ∷ (false ∷ false ∷ false ∷ false ∷ [])
+    ∷ (false ∷ false ∷ false ∷ false ∷ []) ∷ []))
     ∷ did collect (answered (some 0)) ∷ []
 
 pub given14 : Gives (fresh 2 4) list14

@@ -29,29 +29,44 @@ rows-more {W} {k = k} {i = i} f ei e = record {
   other = λ j l n. rw (ne-eqb l 5 n) (f .other j l n);
   empty = λ q h. by-cases (ℕ-discrete (W .list q) i)
       (λ z. rw (eq-eqb (W .list q) i z))
-      (λ z. rw (ne-eqb (W .list q) i z) (f .empty q (by-cases (ℕ-discrete q k) (λ y. absurd (z (rw y (sym (ei ∙ rows-list f k))))) (λ y. omega arith))));
+      (λ z. rw (ne-eqb (W .list q) i z)
+      (f .empty q (by-cases (ℕ-discrete q k) (λ y. absurd (z (rw y (sym (ei ∙ rows-list f k))))) (λ y. omega arith))));
 }
 
 -- so what is remembered is right
 pub forgot-remembers : {W X : View} (m : ℕ) → Forgot W X → Remembers m X
-forgot-remembers m f = record { sizes = f .sizes; pairs = λ s l n. absurd (n (f .slots s l)); singles = λ i u. record { each = λ n b v q. absurd (n (let z = f .keys i u in omega (arith, z))) } }
+forgot-remembers m f =
+    record {
+      sizes =
+          f .sizes;
+      pairs =
+          λ s l n. absurd (n (f .slots s l));
+      singles = λ i u. record { each = λ n b v q. absurd (n (let z = f .keys i u in omega (arith, z))) };
+    }
 
 -- the steps of `forget`
 module _ {W W₁ W₂ : View} (slots : ℕ) (g : Good W) (e₁ : W₁ ≡ putHeader W SLOTS slots) (e₂ : W₂ ≡ putHeader W₁ STORED 0) where
   pub forget-room : Room W₂
-  forget-room = room-memo (memo-trans (memo-slots W slots) (memo-stored (putHeader W SLOTS slots) 0)) (e₂ ∙ ap (λ (v : View). putHeader v STORED 0) e₁)
+  forget-room =
+      room-memo (memo-trans (memo-slots W slots) (memo-stored (putHeader W SLOTS slots) 0))
+      (e₂ ∙ ap (λ (v : View). putHeader v STORED 0) e₁)
       (record { words = g .sizes .room; count-le = g .ranked .count-le; max = g .sizes .N-max })
 
   pub forget-list : {W₃ : View} {count k : ℕ} → count ≡ W .header USED → Emptied W₂ W₃ 0 slots → k < count → W₃ .list k < W .rows
   forget-list {k = k} ec e h =
-      rw (ap (λ (v : View). v .list k) (e .same ∙ ap (λ (v : View). setSlots v (e .slots)) (e₂ ∙ ap (λ (v : View). putHeader v STORED 0) e₁))) (g .ranked .within k (rw (← ec) h))
+      rw (ap (λ (v : View). v .list k)
+      (e .same ∙ ap (λ (v : View). setSlots v (e .slots)) (e₂ ∙ ap (λ (v : View). putHeader v STORED 0) e₁)))
+      (g .ranked .within k (rw (← ec) h))
 
-pub forgot-by : {W W₁ W₂ W₃ X : View} {count slots : ℕ} → count ≡ W .header USED → 3 * slots ≤ 2 * W .rows → W₁ ≡ putHeader W SLOTS slots → W₂ ≡ putHeader W₁ STORED 0
+pub forgot-by : {W W₁ W₂ W₃ X : View} {count slots : ℕ} → count ≡ W .header USED → 3 * slots ≤ 2 * W .rows → W₁ ≡ putHeader W SLOTS slots
+    → W₂ ≡ putHeader W₁ STORED 0
     → Emptied W₂ W₃ 0 slots → RowsForgot W₃ X count → Forgot W X
 forgot-by {W} {W₁} {W₂} {W₃} {X} {count} {slots} ec h e₁ e₂ e f =
     let is₃ : W₃ ≡ setSlots (putHeader (putHeader W SLOTS slots) STORED 0) (e .slots) =
     e .same ∙ ap (λ (v : View). setSlots v (e .slots)) (e₂ ∙ ap (λ (v : View). putHeader v STORED 0) e₁) in
-    let is : X ≡ setCells (setSlots (putHeader (putHeader W SLOTS slots) STORED 0) (e .slots)) (f .cells) = f .same ∙ ap (λ (v : View). setCells v (f .cells)) is₃ in
+    let is : X
+    ≡ setCells (setSlots (putHeader (putHeader W SLOTS slots) STORED 0) (e .slots)) (f .cells) = f .same
+    ∙ ap (λ (v : View). setCells v (f .cells)) is₃ in
     subst (Forgot W) (sym is) (record {
       frame = record {
         rows = refl;
@@ -66,5 +81,6 @@ forgot-by {W} {W₁} {W₂} {W₃} {X} {count} {slots} ec h e₁ e₂ e f =
       slots = λ s l. e .empty s (omega arith) l;
       keys = λ i u.
           let p = used-in (W .rows) (W .header USED) (λ x. f .cells x RANK) (W .list) i u in
-          subst (λ (j : ℕ). f .cells j MEMO-KEY ≡ 0) (ap (λ (v : View). v .list (f .cells i RANK)) is₃ ∙ p .there) (f .empty (f .cells i RANK) (rw ec (p .place)));
+          subst (λ (j : ℕ). f .cells j MEMO-KEY ≡ 0) (ap (λ (v : View). v .list (f .cells i RANK)) is₃ ∙ p .there)
+          (f .empty (f .cells i RANK) (rw ec (p .place)));
     })

@@ -29,19 +29,55 @@ memo-trans p q = record {
 
 -- the words that may be written
 pub memo-slots : (W : View) (v : ℕ) → MemoFrame W (putHeader W SLOTS v)
-memo-slots W v = record { rows = refl; size = refl; header = λ h a b. rw (ne-eqb h 5 a); cell = λ j k _ _. refl; list = refl; head = refl; beyond = refl }
+memo-slots W v =
+    record {
+      rows = refl;
+      size = refl;
+      header = λ h a b. rw (ne-eqb h 5 a);
+      cell = λ j k _ _. refl;
+      list = refl;
+      head = refl;
+      beyond = refl;
+    }
 
 pub memo-stored : (W : View) (v : ℕ) → MemoFrame W (putHeader W STORED v)
-memo-stored W v = record { rows = refl; size = refl; header = λ h a b. rw (ne-eqb h 6 b); cell = λ j k _ _. refl; list = refl; head = refl; beyond = refl }
+memo-stored W v =
+    record {
+      rows = refl;
+      size = refl;
+      header = λ h a b. rw (ne-eqb h 6 b);
+      cell = λ j k _ _. refl;
+      list = refl;
+      head = refl;
+      beyond = refl;
+    }
 
 pub memo-set : (W : View) (f : ℕ → ℕ) → MemoFrame W (setSlots W f)
 memo-set W f = record { rows = refl; size = refl; header = λ h _ _. refl; cell = λ j k _ _. refl; list = refl; head = refl; beyond = refl }
 
 pub memo-key : (W : View) (i v : ℕ) → MemoFrame W (putCell W i MEMO-KEY v)
-memo-key W i v = record { rows = refl; size = refl; header = λ h _ _. refl; cell = λ j k a b. rw (ne-eqb k 5 a); list = refl; head = refl; beyond = refl }
+memo-key W i v =
+    record {
+      rows = refl;
+      size = refl;
+      header = λ h _ _. refl;
+      cell = λ j k a b. rw (ne-eqb k 5 a);
+      list = refl;
+      head = refl;
+      beyond = refl;
+    }
 
 pub memo-value : (W : View) (i v : ℕ) → MemoFrame W (putCell W i MEMO-VALUE v)
-memo-value W i v = record { rows = refl; size = refl; header = λ h _ _. refl; cell = λ j k a b. rw (ne-eqb k 6 b); list = refl; head = refl; beyond = refl }
+memo-value W i v =
+    record {
+      rows = refl;
+      size = refl;
+      header = λ h _ _. refl;
+      cell = λ j k a b. rw (ne-eqb k 6 b);
+      list = refl;
+      head = refl;
+      beyond = refl;
+    }
 
 module _ {W X : View} (f : MemoFrame W X) where
   low-header : (h : ℕ) → h < SLOTS → X .header h ≡ W .header h

@@ -25,25 +25,37 @@ held-entry g n h =
 
 -- what is recalled for an arrow to row i is right
 pub arrow-right : {m : ℕ} {W : View} {i v : ℕ} (kind a : ℕ) → Remembers m W → used W i ≡ true → kind ≢ 0 → Leads a i
-    → (kindIn (W .cell i MEMO-KEY) ≡ kind) × (held (marked a) (W .cell i MEMO-KEY) (W .cell i MEMO-VALUE) ≡ suc v) → RightFor m (rowsOf W) kind a v
+    → (kindIn (W .cell i MEMO-KEY) ≡ kind) × (held (marked a) (W .cell i MEMO-KEY) (W .cell i MEMO-VALUE) ≡ suc v)
+    → RightFor m (rowsOf W) kind a v
 arrow-right {m} {W} {i} {v} kind a g u n e (p, q) =
     subst₂ (λ (k b : ℕ). RightFor m (rowsOf W) k b v) p (sym (leads-is a i e)) (g .singles i u .each (λ z. n (sym p ∙ z)) (marked a) v q)
 
 -- entries stay right while rows are only added
 pub entry-extends : {m N : ℕ} {old new : Rows} {x y r : ℕ} → WellFormed m N old → Extends old new → Entry m old x y r → Entry m new x y r
 entry-extends {x = x} {y = y} {r = r} wf e d =
-    record { left = arrow-extends e x (d .left); right = arrow-extends e y (d .right); answer = remembered andF x y r wf e (d .left) (d .right) (d .answer) }
+    record {
+      left = arrow-extends e x (d .left);
+      right = arrow-extends e y (d .right);
+      answer = remembered andF x y r wf e (d .left) (d .right) (d .answer);
+    }
 
-for-extends : {m N : ℕ} {old new : Rows} {kind a r : ℕ} → WellFormed m N old → Extends old new → Arrow old a → RightFor m old kind a r → RightFor m new kind a r
+for-extends : {m N : ℕ} {old new : Rows} {kind a r : ℕ} → WellFormed m N old → Extends old new → Arrow old a → RightFor m old kind a r
+    → RightFor m new kind a r
 for-extends {kind = kind} {a = a} {r = r} wf e w d =
-    record { answer = remembered (λ f g. unaryF kind f) a a r wf e w w (d .answer); covered = λ z. covered-extends {a = a} wf e w (d .covered z) }
+    record {
+      answer =
+          remembered (λ f g. unaryF kind f) a a r wf e w w (d .answer);
+      covered = λ z. covered-extends {a = a} wf e w (d .covered z);
+    }
 
-right-extends : {m N : ℕ} {old new : Rows} {key value : ℕ} (i : ℕ) → WellFormed m N old → Extends old new → old .used i ≡ true → Right m old i key value → Right m new i key value
+right-extends : {m N : ℕ} {old new : Rows} {key value : ℕ} (i : ℕ) → WellFormed m N old → Extends old new → old .used i ≡ true
+    → Right m old i key value → Right m new i key value
 right-extends {old = old} i wf e u d =
     record { each = λ n b v q. for-extends wf e (carry-arrow old b (row i) (row-arrow old i u)) (d .each n b v q) }
 
 -- so what is remembered is right in the larger table
-pub remembers-extends : {m N : ℕ} {W X : View} → WellFormed m N (rowsOf W) → Extends (rowsOf W) (rowsOf X) → Frame W X → Keys W X → Remembers m W → Remembers m X
+pub remembers-extends : {m N : ℕ} {W X : View} → WellFormed m N (rowsOf W) → Extends (rowsOf W) (rowsOf X) → Frame W X → Keys W X
+    → Remembers m W → Remembers m X
 remembers-extends {m} {W = W} {X = X} wf e f k g = record {
   sizes = record { room = rw (hs, f .rows) (g .sizes .room); few = rw (ht, hs) (g .sizes .few) };
   pairs = λ s l n. slots (X .slot) (f .slot) s (rw hs at l) n;
@@ -58,8 +70,11 @@ remembers-extends {m} {W = W} {X = X} wf e f k g = record {
     ht : X .header STORED ≡ W .header STORED
     ht = f .header STORED (omega arith) (omega arith)
 
-    slots : (t : ℕ → ℕ) → t ≡ W .slot → (s : ℕ) → s < W .header SLOTS → t (3 * s) ≢ 0 → Entry m (rowsOf X) (t (3 * s)) (t (3 * s + 1)) (t (3 * s + 2))
-    slots t q s l = subst (λ (t : ℕ → ℕ). t (3 * s) ≢ 0 → Entry m (rowsOf X) (t (3 * s)) (t (3 * s + 1)) (t (3 * s + 2))) (sym q) (λ n. entry-extends wf e (g .pairs s l n))
+    slots : (t : ℕ → ℕ) → t ≡ W .slot → (s : ℕ) → s < W .header SLOTS → t (3 * s) ≢ 0
+        → Entry m (rowsOf X) (t (3 * s)) (t (3 * s + 1)) (t (3 * s + 2))
+    slots t q s l =
+        subst (λ (t : ℕ → ℕ). t (3 * s) ≢ 0 → Entry m (rowsOf X) (t (3 * s)) (t (3 * s + 1)) (t (3 * s + 2))) (sym q)
+        (λ n. entry-extends wf e (g .pairs s l n))
 
     rows : {key v : ℕ} (i : ℕ) → used W i ≡ true → W .cell i MEMO-KEY ≡ key → W .cell i MEMO-VALUE ≡ v → Right m (rowsOf X) i key v
     rows {key} {v} i u a b =

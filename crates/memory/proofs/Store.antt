@@ -44,14 +44,17 @@ fewer-stored {W} v z h e = subst (Fewer W) (sym e) (record {
   entries = λ s l n. (l, λ p a b. refl);
 })
 
-pub fewer-doubled : {W W₁ W₂ X : View} {slots : ℕ} → slots ≡ W .header SLOTS → W₁ ≡ putHeader W STORED 0 → Emptied W₁ W₂ slots (2 * slots) → X ≡ putHeader W₂ SLOTS (2 * slots)
+pub fewer-doubled : {W W₁ W₂ X : View} {slots : ℕ} → slots ≡ W .header SLOTS → W₁ ≡ putHeader W STORED 0 → Emptied W₁ W₂ slots (2 * slots)
+    → X ≡ putHeader W₂ SLOTS (2 * slots)
     → 3 * (2 * slots) ≤ 2 * W .rows → Fewer W X
 fewer-doubled {W} {slots = slots} es e₁ e e₂ h =
     let is : _ ≡ putHeader (setSlots (putHeader W STORED 0) (e .slots)) SLOTS (2 * slots) =
     e₂ ∙ ap (λ (v : View). putHeader v SLOTS (2 * slots)) (e .same ∙ ap (λ (v : View). setSlots v (e .slots)) e₁) in
     let k : (p : ℕ) → p < 3 * slots → e .slots p ≡ W .slot p = λ p l. e .kept p l ∙ ap (λ (v : View). v .slot p) e₁ in
     subst (Fewer W) (sym is) (record {
-      frame = memo-trans (memo-stored W 0) (memo-trans (memo-set (putHeader W STORED 0) (e .slots)) (memo-slots (setSlots (putHeader W STORED 0) (e .slots)) (2 * slots)));
+      frame =
+          memo-trans (memo-stored W 0)
+          (memo-trans (memo-set (putHeader W STORED 0) (e .slots)) (memo-slots (setSlots (putHeader W STORED 0) (e .slots)) (2 * slots)));
       sizes = record { room = h; few = omega arith };
       cell = refl;
       entries = λ s l n. by-cases (decLt s slots)
@@ -60,7 +63,8 @@ fewer-doubled {W} {slots = slots} es e₁ e e₂ h =
     })
 
 -- the steps of `write_entry`
-pub wrote-by : {W W₁ W₂ W₃ : View} {at : ℕ} (s x y r : ℕ) → s < W .header SLOTS → at ≡ 3 * s → W₁ ≡ putSlot W at x → W₂ ≡ putSlot W₁ (at + 1) y → W₃ ≡ putSlot W₂ (at + 2) r → Wrote W W₃ x y r
+pub wrote-by : {W W₁ W₂ W₃ : View} {at : ℕ} (s x y r : ℕ) → s < W .header SLOTS → at ≡ 3 * s → W₁ ≡ putSlot W at x
+    → W₂ ≡ putSlot W₁ (at + 1) y → W₃ ≡ putSlot W₂ (at + 2) r → Wrote W W₃ x y r
 wrote-by s x y r l e e₁ e₂ e₃ = at-slot s l (rw (e₃, e₂, e₁, e))
 
 -- as the code tells them apart
@@ -98,8 +102,10 @@ pub kept-none : (W : View) (a i kind r : ℕ) → MOST ≤ r → W ≡ keepRow W
 unfolding keepRow
 kept-none W a i kind r h = rw (le-ltb r MOST h)
 
-pub kept-by : (W : View) {W₁ W₂ : View} {key value k v : ℕ} (a i kind r : ℕ) → r < MOST → key ≡ W .cell i MEMO-KEY → value ≡ W .cell i MEMO-VALUE
-    → k ≡ newKey (marked a) kind r key → v ≡ newValue (marked a) kind r key value → W₁ ≡ putCell W i MEMO-KEY k → W₂ ≡ putCell W₁ i MEMO-VALUE v → W₂ ≡ keepRow W a i kind r
+pub kept-by : (W : View) {W₁ W₂ : View} {key value k v : ℕ} (a i kind r : ℕ) → r < MOST → key ≡ W .cell i MEMO-KEY
+    → value ≡ W .cell i MEMO-VALUE
+    → k ≡ newKey (marked a) kind r key → v ≡ newValue (marked a) kind r key value → W₁ ≡ putCell W i MEMO-KEY k
+    → W₂ ≡ putCell W₁ i MEMO-VALUE v → W₂ ≡ keepRow W a i kind r
 unfolding keepRow
 kept-by W a i kind r h ek ev nk nv e₁ e₂ = rw (lt-ltb r MOST h, e₂, e₁, nv, nk, ev, ek)
 
@@ -115,7 +121,8 @@ remember-frame {W} x y made.Full p = subst (MemoFrame W) (sym p) (memo-refl W)
 stored-frame : (W : View) (a i kind r : ℕ) → MemoFrame W (storedRow W a i kind r)
 stored-frame W a i kind r =
     let k : ℕ = newKey (marked a) kind r (W .cell i MEMO-KEY) in
-    memo-trans (memo-key W i k) (memo-value (putCell W i MEMO-KEY k) i (newValue (marked a) kind r (W .cell i MEMO-KEY) (W .cell i MEMO-VALUE)))
+    memo-trans (memo-key W i k)
+    (memo-value (putCell W i MEMO-KEY k) i (newValue (marked a) kind r (W .cell i MEMO-KEY) (W .cell i MEMO-VALUE)))
 
 pub keepRow-frame : (W : View) (a i kind r : ℕ) → MemoFrame W (keepRow W a i kind r)
 unfolding keepRow
@@ -127,20 +134,24 @@ keepRow-frame W a i kind r = go (ltb r MOST)
 
 -- what W remembers rightly is right in a table that differs in remembered results only
 module _ {m : ℕ} {W X : View} (f : MemoFrame W X) (g : Remembers m W) where
-  pair-at : {x y r : ℕ} (s : ℕ) → s < W .header SLOTS → W .slot (3 * s) ≡ x → W .slot (3 * s + 1) ≡ y → W .slot (3 * s + 2) ≡ r → x ≢ 0 → Entry m (rowsOf X) x y r
+  pair-at : {x y r : ℕ} (s : ℕ) → s < W .header SLOTS → W .slot (3 * s) ≡ x → W .slot (3 * s + 1) ≡ y → W .slot (3 * s + 2) ≡ r → x ≢ 0
+      → Entry m (rowsOf X) x y r
   pair-at {x} {y} {r} s l a b c n =
-      subst (λ (t : Rows). Entry m t x y r) (sym (rows-same f)) (held-entry g n (record { at = s; active = l; first = a; second = b; value = sym c }))
+      subst (λ (t : Rows). Entry m t x y r) (sym (rows-same f))
+      (held-entry g n (record { at = s; active = l; first = a; second = b; value = sym c }))
 
   single-at : {key v : ℕ} (i : ℕ) → used X i ≡ true → W .cell i MEMO-KEY ≡ key → W .cell i MEMO-VALUE ≡ v → Right m (rowsOf X) i key v
   single-at {key} {v} i u a b =
-      subst (λ (t : Rows). Right m t i key v) (sym (rows-same f)) (subst₂ (λ (x y : ℕ). Right m (rowsOf W) i x y) a b (g .singles i (used-same f i u)))
+      subst (λ (t : Rows). Right m t i key v) (sym (rows-same f))
+      (subst₂ (λ (x y : ℕ). Right m (rowsOf W) i x y) a b (g .singles i (used-same f i u)))
 
 remembers-fewer : {m : ℕ} {W X : View} → Remembers m W → Fewer W X → Remembers m X
 remembers-fewer g f = record {
   sizes = f .sizes;
   pairs = λ s l n.
       let q = f .entries s l n in
-      pair-at (f .frame) g s (q .0) (sym (q .1 (3 * s) (omega arith) (omega arith))) (sym (q .1 (3 * s + 1) (omega arith) (omega arith))) (sym (q .1 (3 * s + 2) (omega arith) (omega arith))) n;
+      pair-at (f .frame) g s (q .0) (sym (q .1 (3 * s) (omega arith) (omega arith))) (sym (q .1 (3 * s + 1) (omega arith) (omega arith)))
+      (sym (q .1 (3 * s + 2) (omega arith) (omega arith))) n;
   singles = λ i u. single-at (f .frame) g i u (λ q. sym (f .cell) q i MEMO-KEY) (λ q. sym (f .cell) q i MEMO-VALUE);
 }
 
@@ -167,7 +178,8 @@ module _ {m : ℕ} (W : View) (s x y r : ℕ) (g : Remembers m W) (e : Entry m (
     sizes = record { room = g .sizes .room; few = g .sizes .few };
     pairs = λ t l n. by-cases (ℕ-discrete t s)
         (λ q. rw q new)
-        (λ q. pair-at (memo-set W (Y .slot)) g t l (old t (3 * t) q (omega arith) (omega arith)) (old t (3 * t + 1) q (omega arith) (omega arith)) (old t (3 * t + 2) q (omega arith) (omega arith)) n);
+        (λ q. pair-at (memo-set W (Y .slot)) g t l (old t (3 * t) q (omega arith) (omega arith))
+        (old t (3 * t + 1) q (omega arith) (omega arith)) (old t (3 * t + 2) q (omega arith) (omega arith)) n);
     singles = g .singles;
   }
 
@@ -180,9 +192,11 @@ abbrev pub RightPair : ℕ → Rows → ℕ → ℕ → Made → Type 0
 RightPair m rows x y (made.At r) = Entry m rows x y r
 RightPair m rows x y made.Full = Unit {0}
 
-pub remembers-pair : {m : ℕ} {W X : View} (x y : ℕ) (o : Made) → Remembers m W → RightPair m (rowsOf W) x y o → RememberPost W X x y o → Remembers m X
+pub remembers-pair : {m : ℕ} {W X : View} (x y : ℕ) (o : Made) → Remembers m W → RightPair m (rowsOf W) x y o → RememberPost W X x y o
+    → Remembers m X
 remembers-pair {m} x y (made.At r) g e p =
-    remembers-wrote (remembers-fewer g (p .counted)) (subst (λ (t : Rows). Entry m t x y r) (sym (rows-same (p .counted .frame))) e) (p .wrote)
+    remembers-wrote (remembers-fewer g (p .counted)) (subst (λ (t : Rows). Entry m t x y r) (sym (rows-same (p .counted .frame))) e)
+    (p .wrote)
 remembers-pair {m} x y made.Full g e p = subst (Remembers m) (sym p) g
 
 -- an answer for arrow a
@@ -191,7 +205,8 @@ RightRow m rows a kind (made.At r) = RightFor m rows kind a r
 RightRow m rows a kind made.Full = Unit {0}
 
 -- what a row remembers after one more answer is right
-module _ {m : ℕ} {rows : Rows} {i key value : ℕ} (a kind r : ℕ) (small : kind < 64) (e : Leads a i) (g : Right m rows i key value) (d : RightFor m rows kind a r) where
+module _ {m : ℕ} {rows : Rows} {i key value : ℕ} (a kind r : ℕ) (small : kind < 64) (e : Leads a i) (g : Right m rows i key value)
+    (d : RightFor m rows kind a r) where
   -- the new answer is for a
   new-one : (b : Bool) → marked a ≡ b → (k v : ℕ) → k ≡ kind → suc r ≡ suc v → RightFor m rows k (carry b (row i)) v
   new-one b q k v ek ev =
@@ -207,7 +222,8 @@ module _ {m : ℕ} {rows : Rows} {i key value : ℕ} (a kind r : ℕ) (small : k
 
   -- the old one is for the other arrow, and of the same kind
   by-mark : (b : Bool) → marked a ≡ b → (t : Bool) → eqb (kindIn key) kind ≡ t → (c : Bool) (v : ℕ)
-      → kindIn (newKey b kind r key) ≢ 0 → held c (newKey b kind r key) (newValue b kind r key value) ≡ suc v → RightFor m rows (kindIn (newKey b kind r key)) (carry c (row i)) v
+      → kindIn (newKey b kind r key) ≢ 0 → held c (newKey b kind r key) (newValue b kind r key value) ≡ suc v
+      → RightFor m rows (kindIn (newKey b kind r key)) (carry c (row i)) v
   by-mark true q t z true v n h = new-one true q (kindIn (kind + 64 * (r + 1))) v key-kind (sym key-held ∙ h)
   by-mark true q true z false v n h =
       let k = eqb-true (kindIn key) kind z in
@@ -216,14 +232,17 @@ module _ {m : ℕ} {rows : Rows} {i key value : ℕ} (a kind r : ℕ) (small : k
       subst (λ (x : ℕ). RightFor m rows x (row i) v) (k ∙ sym key-kind) p
   by-mark true q false z false v n h = absurd (let y : 0 ≡ suc v = sym (ap (λ (x : Bool). cond x value 0) z) ∙ h in omega (arith, y))
   by-mark false q true z false v n h =
-      let k : kindIn (cond (eqb (kindIn key) kind) key kind) ≡ kind = ap (λ (x : Bool). kindIn (cond x key kind)) z ∙ eqb-true (kindIn key) kind z in
+      let k : kindIn (cond (eqb (kindIn key) kind) key kind)
+      ≡ kind = ap (λ (x : Bool). kindIn (cond x key kind)) z ∙ eqb-true (kindIn key) kind z in
       new-one false q (kindIn (cond (eqb (kindIn key) kind) key kind)) v k (sym (add-one r) ∙ h)
   by-mark false q false z false v n h =
-      let k : kindIn (cond (eqb (kindIn key) kind) key kind) ≡ kind = ap (λ (x : Bool). kindIn (cond x key kind)) z ∙ (let y : kind % 64 ≡ kind = omega (arith, small) in y) in
+      let k : kindIn (cond (eqb (kindIn key) kind) key kind)
+      ≡ kind = ap (λ (x : Bool). kindIn (cond x key kind)) z ∙ (let y : kind % 64 ≡ kind = omega (arith, small) in y) in
       new-one false q (kindIn (cond (eqb (kindIn key) kind) key kind)) v k (sym (add-one r) ∙ h)
   by-mark false q true z true v n h =
       let s : cond (eqb (kindIn key) kind) key kind ≡ key = ap (λ (x : Bool). cond x key kind) z in
-      subst (λ (x : ℕ). RightFor m rows (kindIn x) (carry true (row i)) v) (sym s) (g .each (λ y. n (ap kindIn s ∙ y)) true v (ap (λ (x : ℕ). x / 64) (sym s) ∙ h))
+      subst (λ (x : ℕ). RightFor m rows (kindIn x) (carry true (row i)) v) (sym s)
+      (g .each (λ y. n (ap kindIn s ∙ y)) true v (ap (λ (x : ℕ). x / 64) (sym s) ∙ h))
   by-mark false q false z true v n h =
       let y : kind / 64 ≡ suc v = ap (λ (x : Bool). cond x key kind / 64) (sym z) ∙ h in
       absurd (omega (arith, y, small))
@@ -231,7 +250,8 @@ module _ {m : ℕ} {rows : Rows} {i key value : ℕ} (a kind r : ℕ) (small : k
   pub stored-right : Right m rows i (newKey (marked a) kind r key) (newValue (marked a) kind r key value)
   stored-right = record { each = λ n c v h. by-mark (marked a) refl (eqb (kindIn key) kind) refl c v n h }
 
-pub remembers-row : {m : ℕ} (W : View) (a i kind r : ℕ) → kind < 64 → Leads a i → Remembers m W → RightRow m (rowsOf W) a kind (madeOf r) → Remembers m (keepRow W a i kind r)
+pub remembers-row : {m : ℕ} (W : View) (a i kind r : ℕ) → kind < 64 → Leads a i → Remembers m W → RightRow m (rowsOf W) a kind (madeOf r)
+    → Remembers m (keepRow W a i kind r)
 unfolding keepRow
 remembers-row {m} W a i kind r small e g d = go (ltb r MOST) refl
   where

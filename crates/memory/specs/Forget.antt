@@ -16,7 +16,17 @@ pub record FirstSlots (rows used : ℕ) : Type 0 where
 
 -- the cells become those given
 abbrev pub setCells : View → (ℕ → ℕ → ℕ) → View
-setCells W f = record { rows = W .rows; size = W .size; header = W .header; cell = f; list = W .list; head = W .head; slot = W .slot; beyond = W .beyond }
+setCells W f =
+    record {
+      rows = W .rows;
+      size = W .size;
+      header = W .header;
+      cell = f;
+      list = W .list;
+      head = W .head;
+      slot = W .slot;
+      beyond = W .beyond;
+    }
 
 -- X is W, but the first k listed rows remember nothing
 pub record RowsForgot (W X : View) (k : ℕ) : Type 0 where

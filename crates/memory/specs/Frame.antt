@@ -7,7 +7,17 @@ use Rattle.layout.specs.View.{View}
 
 -- the slots become those given
 abbrev pub setSlots : View → (ℕ → ℕ) → View
-setSlots W f = record { rows = W .rows; size = W .size; header = W .header; cell = W .cell; list = W .list; head = W .head; slot = f; beyond = W .beyond }
+setSlots W f =
+    record {
+      rows = W .rows;
+      size = W .size;
+      header = W .header;
+      cell = W .cell;
+      list = W .list;
+      head = W .head;
+      slot = f;
+      beyond = W .beyond;
+    }
 
 -- X is W but for remembered results: the slots and their two header words, and two words of each row
 pub record MemoFrame (W X : View) : Type 0 where

@@ -31,8 +31,8 @@ unaryF (suc (suc (suc x))) f = existsF x f
 abbrev pub MOST : ℕ
 MOST = 131072
 
--- a row's key has the kind as its remainder by 64, and one more than the answer for the arrow with a NOT as the rest; the row's value is one more
--- than the answer for the arrow without: 0 where there is none
+-- a row's key has the kind as its remainder by 64, and one more than the answer for the arrow with a NOT as the rest; the row's value is
+-- one more than the answer for the arrow without: 0 where there is none
 abbrev pub kindIn : ℕ → ℕ
 kindIn key = key % 64
 
@@ -63,7 +63,8 @@ pub record Slots (W : View) : Type 0 where
 -- every active slot is empty or holds a right entry, and every used row remembers nothing or a right result
 pub record Remembers (m : ℕ) (W : View) : Type 0 where
   pub sizes : Slots W
-  pub pairs : (s : ℕ) → s < W .header SLOTS → W .slot (3 * s) ≢ 0 → Entry m (rowsOf W) (W .slot (3 * s)) (W .slot (3 * s + 1)) (W .slot (3 * s + 2))
+  pub pairs : (s : ℕ) → s < W .header SLOTS → W .slot (3 * s) ≢ 0
+      → Entry m (rowsOf W) (W .slot (3 * s)) (W .slot (3 * s + 1)) (W .slot (3 * s + 2))
   pub singles : (i : ℕ) → used W i ≡ true → Right m (rowsOf W) i (W .cell i MEMO-KEY) (W .cell i MEMO-VALUE)
 
 -- an active slot holds (x, y, v)
@@ -80,5 +81,6 @@ RecallPost W x y (find.At v) = Held W x y v
 RecallPost W x y find.Nothing = Unit {0}
 
 abbrev pub RowPost : View → ℕ → ℕ → ℕ → Found → Type 0
-RowPost W a i kind (find.At v) = (kindIn (W .cell i MEMO-KEY) ≡ kind) × (held (marked a) (W .cell i MEMO-KEY) (W .cell i MEMO-VALUE) ≡ suc v)
+RowPost W a i kind (find.At v) =
+    (kindIn (W .cell i MEMO-KEY) ≡ kind) × (held (marked a) (W .cell i MEMO-KEY) (W .cell i MEMO-VALUE) ≡ suc v)
 RowPost W a i kind find.Nothing = Unit {0}

@@ -24,7 +24,8 @@ pub record Fewer (W X : View) : Type 0 where
   pub frame : MemoFrame W X
   pub sizes : Slots X
   pub cell : X .cell ≡ W .cell
-  pub entries : (s : ℕ) → s < X .header SLOTS → X .slot (3 * s) ≢ 0 → (s < W .header SLOTS) × ((p : ℕ) → 3 * s ≤ p → p < 3 * s + 3 → X .slot p ≡ W .slot p)
+  pub entries : (s : ℕ) → s < X .header SLOTS → X .slot (3 * s) ≢ 0
+      → (s < W .header SLOTS) × ((p : ℕ) → 3 * s ≤ p → p < 3 * s + 3 → X .slot p ≡ W .slot p)
 
 -- entry s becomes (x, y, r)
 abbrev pub entryPut : View → ℕ → ℕ → ℕ → ℕ → View
@@ -45,7 +46,8 @@ abbrev pub RememberPost : View → View → ℕ → ℕ → Made → Type 0
 RememberPost W X x y (made.At r) = Stored W X x y r
 RememberPost W X x y made.Full = X ≡ W
 
--- the key and the value after a result r of a kind is stored for the arrow with or without a NOT: one of that kind for the other arrow stays
+-- the key and the value after a result r of a kind is stored for the arrow with or without a NOT: one of that kind for the other arrow
+-- stays
 abbrev pub newKey : Bool → ℕ → ℕ → ℕ → ℕ
 newKey true kind r key = kind + 64 * (r + 1)
 newKey false kind r key = cond (eqb (kindIn key) kind) key kind
@@ -57,7 +59,8 @@ newValue false kind r key value = r + 1
 -- row i remembers a result for arrow a, if it was made
 abbrev pub storedRow : View → ℕ → ℕ → ℕ → ℕ → View
 storedRow W a i kind r =
-    putCell (putCell W i MEMO-KEY (newKey (marked a) kind r (W .cell i MEMO-KEY))) i MEMO-VALUE (newValue (marked a) kind r (W .cell i MEMO-KEY) (W .cell i MEMO-VALUE))
+    putCell (putCell W i MEMO-KEY (newKey (marked a) kind r (W .cell i MEMO-KEY))) i MEMO-VALUE
+    (newValue (marked a) kind r (W .cell i MEMO-KEY) (W .cell i MEMO-VALUE))
 
 unfoldable pub keepRow : View → ℕ → ℕ → ℕ → ℕ → View
 keepRow W a i kind r = cond (ltb r MOST) (storedRow W a i kind r) W

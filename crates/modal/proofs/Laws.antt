@@ -1,7 +1,8 @@
 -- Each call and each return of quantify, diamond and box: what it asks and what it gives. Assumes nothing.
 use mathlib.Core.Path.{_≡_, refl, sym, ap, ap₂, _∙_, subst}
 use mathlib.Core.Bool.{Bool, true, false, not, _&&_, cond}
-use mathlib.Core.List.{List, [], _∷_, _++_, map, List·Memᴰ as Mem, List·Memᴰ·tail as there, Memᴰ·cast as mem-cast, Memᴰ·append-right as append-right}
+use mathlib.Core.List.{List, [], _∷_, _++_, map, List·Memᴰ as Mem, List·Memᴰ·tail as there, Memᴰ·cast as mem-cast}
+use mathlib.Core.List.{Memᴰ·append-right as append-right}
 use Prim.Native.Nat.{ℕ, suc, _+_, _-_, _*_, _<_, _≤_}
 use native.Mathlib.Omega.{arith}
 use lib.Dec.{leb}
@@ -34,20 +35,24 @@ use Rattle.book.specs.Held.{Held}
 use Rattle.book.proofs.Held.{denoted, held-arrow, held-push, held-operand, held-keeps}
 use Rattle.book.specs.Pairs.{PairMatches}
 use Rattle.book.proofs.Modal.{Quantifies, quantify-start, quantify-on, quantify-out, quantify-end}
-use Rattle.modal.proofs.Chain.{alike-cons, alike-once, held-alike, denotes-own, held-own, moved-refl, moved-trans, base-next, base-wf, step-pre, Took, ran-step, ran-stop, ran-kept, ran-value, ran-then}
+use Rattle.modal.proofs.Chain.{alike-cons, alike-once, held-alike, denotes-own, held-own, moved-refl, moved-trans, base-next}
+use Rattle.modal.proofs.Chain.{base-wf, step-pre, Took, ran-step, ran-stop, ran-kept, ran-value, ran-then}
 use Rattle.modal.specs.Chain.{Base, Moved, Ran}
-use Rattle.modal.specs.Modal.{withinNot, complementNeeds, boxedF, Chained, QuantifyPre, ModalPre, ComplementPre, BoxPre, QuantifyPost, DiamondPost, ComplementPost, BoxPost}
+use Rattle.modal.specs.Modal.{withinNot, complementNeeds, boxedF, Chained, QuantifyPre, ModalPre, ComplementPre, BoxPre, QuantifyPost}
+use Rattle.modal.specs.Modal.{DiamondPost, ComplementPost, BoxPost}
 
 -- ---- the loop of EXISTS
 
 -- j levels are left, c is the arrow so far and r is counted, q before the loop: the loop's invariant
 pub record Quantified (n N limit : ℕ) (W X : View) (lent : List ℕ) (a : ℕ) (q : Count) (j c : ℕ) (r : Count) : Type 0 where
   pub moved : Moved n W X
-  pub steps : (fs : List Fn) → Held (2 * n) (rowsOf W) (live W lent) fs → Quantifies n N limit (rowsOf W) (rowsOf X) (live W lent) fs (den (2 * n) (rowsOf W) a) q j c r
+  pub steps : (fs : List Fn) → Held (2 * n) (rowsOf W) (live W lent) fs
+      → Quantifies n N limit (rowsOf W) (rowsOf X) (live W lent) fs (den (2 * n) (rowsOf W) a) q j c r
 
 -- the steps at a list of needs fit, or do not
 pub fit-steps : (n limit : ℕ) (fs : List Fn) (j : ℕ) (F : Fn) (q : Count)
-    → existsSteps n limit fs j F q (λ c. value [] c) ≡ settle [] (cond (fit limit (existsNeeds n fs j F)) (counted (needingAll q (existsNeeds n fs j F))) fullVerdict)
+    → existsSteps n limit fs j F q (λ c. value [] c)
+    ≡ settle [] (cond (fit limit (existsNeeds n fs j F)) (counted (needingAll q (existsNeeds n fs j F))) fullVerdict)
 fit-steps n limit fs j F q = exists-ticks limit 0 n fs [] q j F ∙ ap (settle []) (steps-verdict limit 0 q (existsNeeds n fs j F))
 
 pub fit-true : (b : Bool) (r d : Count) → value [] r ≡ settle [] (cond b (counted d) fullVerdict) → (b ≡ true) × (r ≡ d)
@@ -65,11 +70,13 @@ module _ {n N limit : ℕ} {W : View} {lent : List ℕ} {a : ℕ} (p : QuantifyP
   pub quantify-begins : (q : Count) → Quantified n N limit W W lent a q n a q
   quantify-begins q = record {
     moved = moved-refl (p .base);
-    steps = λ fs h. quantify-start n N limit h q (base-wf (p .base)) (keeps-refl (base-wf (p .base)) (held-arrow h)) (denotes-own (p .operand));
+    steps =
+        λ fs h. quantify-start n N limit h q (base-wf (p .base)) (keeps-refl (base-wf (p .base)) (held-arrow h)) (denotes-own (p .operand));
   }
 
   module _ {X : View} {q r : Count} {j c : ℕ} (i : Quantified n N limit W X lent a q j c r) where
-    pub at-own : Quantifies n N limit (rowsOf W) (rowsOf X) (live W lent) (map (den (2 * n) (rowsOf W)) (live W lent)) (den (2 * n) (rowsOf W) a) q j c r
+    pub at-own : Quantifies n N limit (rowsOf W) (rowsOf X) (live W lent) (map (den (2 * n) (rowsOf W)) (live W lent))
+        (den (2 * n) (rowsOf W) a) q j c r
     at-own = i .steps _ own
 
     pub quantify-base : Base n N limit X
@@ -78,19 +85,24 @@ module _ {n N limit : ℕ} {W : View} {lent : List ℕ} {a : ℕ} (p : QuantifyP
     pub quantify-asks : {x : ℕ} → x < 2 * n → StepPre (2 * n) N limit X lent (Exists x c)
     quantify-asks l = step-pre quantify-base (λ b h. keeps-arrow (at-own .kept) b (append-right (filled W) h)) (at-own .denotes .arrow, l)
 
-    module _ {Y : View} {o : Taken} (less : 0 < j) (s : Took n N limit X Y (c ∷ live X lent) r o (existsF (2 * (j - 1) + 1) (den (2 * n) (rowsOf X) c))) where
-      turn : (fs : List Fn) → Held (2 * n) (rowsOf W) (live W lent) fs → Quantifies n N limit (rowsOf W) (rowsOf X) (live W lent) fs (den (2 * n) (rowsOf W) a) q (suc (j - 1)) c r
+    module _ {Y : View} {o : Taken} (less : 0 < j)
+        (s : Took n N limit X Y (c ∷ live X lent) r o (existsF (2 * (j - 1) + 1) (den (2 * n) (rowsOf X) c))) where
+      turn : (fs : List Fn) → Held (2 * n) (rowsOf W) (live W lent) fs
+          → Quantifies n N limit (rowsOf W) (rowsOf X) (live W lent) fs (den (2 * n) (rowsOf W) a) q (suc (j - 1)) c r
       turn fs h =
           let e : j ≡ suc (j - 1) = omega arith in
-          subst (λ (k : ℕ). Quantifies n N limit (rowsOf W) (rowsOf X) (live W lent) fs (den (2 * n) (rowsOf W) a) q k c r) e (i .steps fs h)
+          subst (λ (k : ℕ). Quantifies n N limit (rowsOf W) (rowsOf X) (live W lent) fs (den (2 * n) (rowsOf W) a) q k c r) e
+          (i .steps fs h)
 
       -- the step, from the loop's roots
       taken-at : {t : Taken} → o ≡ t → Took n N limit X Y (c ∷ live W lent) r t (existsF (suc (2 * (j - 1))) (den (2 * n) (rowsOf X) c))
       taken-at {t} e =
           let odd : 2 * (j - 1) + 1 ≡ suc (2 * (j - 1)) = omega arith in
-          let s1 = subst (λ (t : Taken). Took n N limit X Y (c ∷ live X lent) r t (existsF (2 * (j - 1) + 1) (den (2 * n) (rowsOf X) c))) e s in
+          let s1 = subst (λ (t : Taken). Took n N limit X Y (c ∷ live X lent) r t (existsF (2 * (j - 1) + 1) (den (2 * n) (rowsOf X) c))) e
+          s in
           let s2 = subst (λ (x : ℕ). Took n N limit X Y (c ∷ live X lent) r t (existsF x (den (2 * n) (rowsOf X) c))) odd s1 in
-          subst (λ (xs : List ℕ). Took n N limit X Y (c ∷ xs) r t (existsF (suc (2 * (j - 1))) (den (2 * n) (rowsOf X) c))) (live-same (i .moved .frame) lent) s2
+          subst (λ (xs : List ℕ). Took n N limit X Y (c ∷ xs) r t (existsF (suc (2 * (j - 1))) (den (2 * n) (rowsOf X) c)))
+          (live-same (i .moved .frame) lent) s2
 
       pub quantify-turns : {d : ℕ} {m : Count} → o ≡ taken.At d m → Quantified n N limit W Y lent a q (j - 1) d m
       quantify-turns {d} {m} e =
@@ -99,7 +111,9 @@ module _ {n N limit : ℕ} {W : View} {lent : List ℕ} {a : ℕ} (p : QuantifyP
             moved = moved-trans (i .moved) (s .moved);
             steps = λ fs h.
                 subst (Quantifies n N limit (rowsOf W) (rowsOf Y) (live W lent) fs (den (2 * n) (rowsOf W) a) q (j - 1) d) (sym (t .count))
-                (quantify-on n N limit h (j - 1) c d (turn fs h) (t .post) (stepNeed (2 * n) (map (den (2 * n) (rowsOf X)) (c ∷ live W lent)) (existsF (suc (2 * (j - 1))) (den (2 * n) (rowsOf X) c))) refl);
+                (quantify-on n N limit h (j - 1) c d (turn fs h) (t .post)
+                (stepNeed (2 * n) (map (den (2 * n) (rowsOf X)) (c ∷ live W lent))
+                (existsF (suc (2 * (j - 1))) (den (2 * n) (rowsOf X) c))) refl);
           }
 
       pub quantify-full : o ≡ taken.Full → QuantifyPost n N limit W Y lent a q taken.Full
@@ -107,13 +121,16 @@ module _ {n N limit : ℕ} {W : View} {lent : List ℕ} {a : ℕ} (p : QuantifyP
           let C : Fn = den (2 * n) (rowsOf W) a in
           let t = turn fs h in
           let v = taken-at e .post in
-          let out = fit-false (fit limit (existsNeeds n fs n C)) (needingAll q (existsNeeds n fs n C)) (sym (quantify-out n N limit h (j - 1) c t v (λ z. value [] z)) ∙ fit-steps n limit fs n C q) in
+          let out = fit-false (fit limit (existsNeeds n fs n C)) (needingAll q (existsNeeds n fs n C))
+          (sym (quantify-out n N limit h (j - 1) c t v (λ z. value [] z)) ∙ fit-steps n limit fs n C q) in
           record {
             moved = moved-trans (i .moved) (s .moved);
             evals = record {
               wf = v .wf;
               kept = keeps-on (t .kept) (v .kept);
-              result = subst (λ (b : Bool). PairMatches n (rowsOf Y) b (existsNext n C) (needingAll q (existsNeeds n fs n C)) full (countIn taken.Full)) (sym out) tt;
+              result =
+                  subst (λ (b : Bool). PairMatches n (rowsOf Y) b (existsNext n C) (needingAll q (existsNeeds n fs n C)) full
+                  (countIn taken.Full)) (sym out) tt;
             };
           }
 
@@ -121,14 +138,18 @@ module _ {n N limit : ℕ} {W : View} {lent : List ℕ} {a : ℕ} (p : QuantifyP
     quantify-ends z fs h =
         let C : Fn = den (2 * n) (rowsOf W) a in
         let e : j ≡ 0 = omega arith in
-        let t : Quantifies n N limit (rowsOf W) (rowsOf X) (live W lent) fs C q 0 c r = subst (λ (k : ℕ). Quantifies n N limit (rowsOf W) (rowsOf X) (live W lent) fs C q k c r) e (i .steps fs h) in
-        let fits = fit-true (fit limit (existsNeeds n fs n C)) r (needingAll q (existsNeeds n fs n C)) (sym (t .steps (λ z. value [] z)) ∙ fit-steps n limit fs n C q) in
+        let t : Quantifies n N limit (rowsOf W) (rowsOf X) (live W lent) fs C q 0 c
+        r = subst (λ (k : ℕ). Quantifies n N limit (rowsOf W) (rowsOf X) (live W lent) fs C q k c r) e (i .steps fs h) in
+        let fits = fit-true (fit limit (existsNeeds n fs n C)) r (needingAll q (existsNeeds n fs n C))
+        (sym (t .steps (λ z. value [] z)) ∙ fit-steps n limit fs n C q) in
         record {
           moved = i .moved;
           evals = record {
             wf = t .wf;
             kept = t .kept;
-            result = subst (λ (b : Bool). PairMatches n (rowsOf X) b (existsNext n C) (needingAll q (existsNeeds n fs n C)) (at c) r) (sym (fits .0)) (quantify-end n N limit h t, fits .1);
+            result =
+                subst (λ (b : Bool). PairMatches n (rowsOf X) b (existsNext n C) (needingAll q (existsNeeds n fs n C)) (at c) r)
+                (sym (fits .0)) (quantify-end n N limit h t, fits .1);
           };
         }
 
@@ -139,12 +160,15 @@ pub kept-lent : (W : View) {after : Rows} (lent : List ℕ) → Keeps (rowsOf W)
 kept-lent W lent k b h = keeps-arrow k b (append-right (filled W) h)
 
 -- what is held by registers, relations and lent arrows is held by them after steps
-pub held-moved : {n : ℕ} {W X : View} (lent : List ℕ) {fs : List Fn} → Moved n W X → Keeps (rowsOf W) (rowsOf X) (live W lent) → Held (2 * n) (rowsOf W) (live W lent) fs
+pub held-moved : {n : ℕ} {W X : View} (lent : List ℕ) {fs : List Fn} → Moved n W X → Keeps (rowsOf W) (rowsOf X) (live W lent)
+    → Held (2 * n) (rowsOf W) (live W lent) fs
     → Held (2 * n) (rowsOf X) (live X lent) fs
-held-moved {n} {W} {X} lent {fs} m k h = subst (λ (xs : List ℕ). Held (2 * n) (rowsOf X) xs fs) (sym (live-same (m .frame) lent)) (held-keeps h k)
+held-moved {n} {W} {X} lent {fs} m k h =
+    subst (λ (xs : List ℕ). Held (2 * n) (rowsOf X) xs fs) (sym (live-same (m .frame) lent)) (held-keeps h k)
 
 -- a chain from a later table, whose roots are the same
-pub ran-from : {n N : ℕ} {W X Y : View} (lent : List ℕ) {b : Bool} {F : Fn} {d : Count} {o : Taken} → Moved n W X → Ran n N X Y (live X lent) b F d o → Ran n N X Y (live W lent) b F d o
+pub ran-from : {n N : ℕ} {W X Y : View} (lent : List ℕ) {b : Bool} {F : Fn} {d : Count} {o : Taken} → Moved n W X
+    → Ran n N X Y (live X lent) b F d o → Ran n N X Y (live W lent) b F d o
 ran-from {n} {N} {W} {X} {Y} lent {b} {F} {d} {o} m r = subst (λ (xs : List ℕ). Ran n N X Y xs b F d o) (live-same (m .frame) lent) r
 
 -- what a root denotes is among what the roots hold
@@ -156,19 +180,23 @@ and-true true = refl
 and-true false = refl
 
 appended : {n N : ℕ} (limit : ℕ) {W X : View} {roots : List ℕ} {G : Fn} (q : Count) {o : Taken} (xs ys : List ℕ)
-    → Ran n N W X roots (fit limit xs && fit limit ys) G (needingAll (needingAll q xs) ys) o → Ran n N W X roots (fit limit (xs ++ ys)) G (needingAll q (xs ++ ys)) o
+    → Ran n N W X roots (fit limit xs && fit limit ys) G (needingAll (needingAll q xs) ys) o
+    → Ran n N W X roots (fit limit (xs ++ ys)) G (needingAll q (xs ++ ys)) o
 appended {n} {N} limit {W} {X} {roots} {G} q {o} xs ys r =
     subst (λ (b : Bool). Ran n N W X roots b G (needingAll q (xs ++ ys)) o) (sym (fit-append limit xs ys))
     (subst (λ (c : Count). Ran n N W X roots (fit limit xs && fit limit ys) G c o) (sym (count-append q xs ys)) r)
 
 -- a chain of steps after another
-chain-then : {n N : ℕ} (limit : ℕ) {W X Y : View} {roots : List ℕ} {F G : Fn} (q : Count) {o u : Taken} (xs ys : List ℕ) {a : ℕ} {p : Count} → o ≡ taken.At a p
-    → Ran n N W X roots (fit limit xs) F (needingAll q xs) o → Ran n N X Y roots (fit limit ys) G (needingAll p ys) u → Ran n N W Y roots (fit limit (xs ++ ys)) G (needingAll q (xs ++ ys)) u
+chain-then : {n N : ℕ} (limit : ℕ) {W X Y : View} {roots : List ℕ} {F G : Fn} (q : Count) {o u : Taken} (xs ys : List ℕ) {a : ℕ} {p : Count}
+    → o ≡ taken.At a p
+    → Ran n N W X roots (fit limit xs) F (needingAll q xs) o → Ran n N X Y roots (fit limit ys) G (needingAll p ys) u
+    → Ran n N W Y roots (fit limit (xs ++ ys)) G (needingAll q (xs ++ ys)) u
 chain-then limit q xs ys e r s = appended limit q xs ys (ran-then e r (λ c. needingAll c ys) s)
 
 -- the first chain stopped
 chain-stop : {n N : ℕ} (limit : ℕ) {W X : View} {roots : List ℕ} {F : Fn} (G : Fn) (q : Count) {o : Taken} (xs ys : List ℕ) → o ≡ taken.Full
-    → Ran n N W X roots (fit limit xs) F (needingAll q xs) o → Ran n N W X roots (fit limit (xs ++ ys)) G (needingAll q (xs ++ ys)) taken.Full
+    → Ran n N W X roots (fit limit xs) F (needingAll q xs) o
+    → Ran n N W X roots (fit limit (xs ++ ys)) G (needingAll q (xs ++ ys)) taken.Full
 chain-stop limit G q xs ys e r = appended limit q xs ys (ran-stop (fit limit ys) G (needingAll (needingAll q xs) ys) e r)
 
 module _ {n N limit : ℕ} {W : View} {lent : List ℕ} {t a : ℕ} (q : Count) (p : ModalPre n N limit W lent t a) where
@@ -189,7 +217,8 @@ module _ {n N limit : ℕ} {W : View} {lent : List ℕ} {t a : ℕ} (q : Count) 
   shift-asks = step-pre (p .base) (p .arrows) (p .operand, p .even)
 
   -- a first step from the operand
-  first-step : {X : View} {o : Taken} {G : Fn} → Took n N limit W X (a ∷ live W lent) q o G → (fs : List Fn) → Held (2 * n) (rowsOf W) (live W lent) fs
+  first-step : {X : View} {o : Taken} {G : Fn} → Took n N limit W X (a ∷ live W lent) q o G → (fs : List Fn)
+      → Held (2 * n) (rowsOf W) (live W lent) fs
       → Ran n N W X (live W lent) (leb (stepNeed (2 * n) (F ∷ fs) G) limit) G (needing q (stepNeed (2 * n) (F ∷ fs) G)) o
   first-step s fs h = ran-step (held-push h (denotes-own (p .operand))) (λ b i. there i) s
 
@@ -201,7 +230,8 @@ module _ {n N limit : ℕ} {W : View} {lent : List ℕ} {t a : ℕ} (q : Count) 
       abbrev shiftNeed : List Fn → ℕ
       shiftNeed fs = stepNeed (2 * n) (F ∷ fs) (shiftF F)
 
-      shifted : (fs : List Fn) → Held (2 * n) (rowsOf W) (live W lent) fs → Ran n N W X (live W lent) (leb (stepNeed (2 * n) (F ∷ fs) (shiftF F)) limit) (shiftF F) (needing q (shiftNeed fs)) o
+      shifted : (fs : List Fn) → Held (2 * n) (rowsOf W) (live W lent) fs
+          → Ran n N W X (live W lent) (leb (stepNeed (2 * n) (F ∷ fs) (shiftF F)) limit) (shiftF F) (needing q (shiftNeed fs)) o
       shifted fs h = first-step s fs h
 
       k1 : Keeps (rowsOf W) (rowsOf X) (live W lent)
@@ -219,23 +249,30 @@ module _ {n N limit : ℕ} {W : View} {lent : List ℕ} {t a : ℕ} (q : Count) 
       pub and-asks : StepPre (2 * n) N limit X lent (And x t)
       and-asks = step-pre and-base (kept-lent W lent k1) (x-is .arrow, t-is .arrow)
 
-      module _ {Y : View} {u : Taken} (v : Took n N limit X Y (x ∷ t ∷ live X lent) q1 u (andF (den (2 * n) (rowsOf X) x) (den (2 * n) (rowsOf X) t))) where
+      module _
+          {Y : View} {u : Taken}
+          (v : Took n N limit X Y (x ∷ t ∷ live X lent) q1 u (andF (den (2 * n) (rowsOf X) x) (den (2 * n) (rowsOf X) t))) where
         v1 : Took n N limit X Y (x ∷ t ∷ live W lent) q1 u (andF (shiftF F) R)
         v1 =
             subst (λ (G : Fn). Took n N limit X Y (x ∷ t ∷ live W lent) q1 u G) (ap₂ andF (denoted x-is) (denoted t-is))
-            (subst (λ (xs : List ℕ). Took n N limit X Y (x ∷ t ∷ xs) q1 u (andF (den (2 * n) (rowsOf X) x) (den (2 * n) (rowsOf X) t))) (live-same (s .moved .frame) lent) v)
+            (subst (λ (xs : List ℕ). Took n N limit X Y (x ∷ t ∷ xs) q1 u (andF (den (2 * n) (rowsOf X) x) (den (2 * n) (rowsOf X) t)))
+            (live-same (s .moved .frame) lent) v)
 
         abbrev andNeed : List Fn → ℕ
         andNeed fs = stepNeed (2 * n) (shiftF F ∷ R ∷ fs) (andF (shiftF F) R)
 
         joined : (fs : List Fn) → Held (2 * n) (rowsOf W) (live W lent) fs
-            → Ran n N X Y (live W lent) (leb (stepNeed (2 * n) (shiftF F ∷ R ∷ fs) (andF (shiftF F) R)) limit) (andF (shiftF F) R) (needing q1 (andNeed fs)) u
+            → Ran n N X Y (live W lent) (leb (stepNeed (2 * n) (shiftF F ∷ R ∷ fs) (andF (shiftF F) R)) limit) (andF (shiftF F) R)
+            (needing q1 (andNeed fs)) u
         joined fs h =
-            let g : Held (2 * n) (rowsOf X) (x ∷ live W lent) (shiftF F ∷ R ∷ fs) = held-push (held-operand (held-keeps h k1) (held-mem h (p .relation))) x-is in
+            let g : Held (2 * n) (rowsOf X) (x ∷ live W lent)
+            (shiftF F ∷ R ∷ fs) = held-push (held-operand (held-keeps h k1) (held-mem h (p .relation))) x-is in
             ran-step (held-alike (alike-cons x (alike-once (p .relation))) g) (λ b i. there (there i)) v1
 
         pub and-full : u ≡ taken.Full → DiamondPost n N limit W Y lent t a q taken.Full
-        and-full f fs h = ran-then e (shifted fs h) (λ c. needingAll (needing c (andNeed fs)) (existsNeeds n fs n (andF (shiftF F) R))) (ran-stop _ (diamondF n R F) _ f (joined fs h))
+        and-full f fs h =
+            ran-then e (shifted fs h) (λ c. needingAll (needing c (andNeed fs)) (existsNeeds n fs n (andF (shiftF F) R)))
+            (ran-stop _ (diamondF n R F) _ f (joined fs h))
 
         module _ {c : ℕ} {q2 : Count} (f : u ≡ taken.At c q2) where
           k2 : Keeps (rowsOf X) (rowsOf Y) (live W lent)
@@ -278,7 +315,8 @@ module _ {n N limit : ℕ} {W : View} {lent : List ℕ} {v a : ℕ} (q : Count) 
     roots-held = held-own (live-arrows lent (p .base .sound) (p .arrows))
 
     negated : (fs : List Fn) → Held (2 * n) (rowsOf W) (live W lent) fs
-        → Ran n N W X (live W lent) (leb (stepNeed (2 * n) (G ∷ fs) (notF G)) limit) (notF G) (needing q (stepNeed (2 * n) (G ∷ fs) (notF G))) o
+        → Ran n N W X (live W lent) (leb (stepNeed (2 * n) (G ∷ fs) (notF G)) limit) (notF G)
+        (needing q (stepNeed (2 * n) (G ∷ fs) (notF G))) o
     negated fs h = ran-step (held-push h (denotes-own (p .operand))) (λ b i. there i) s
 
     pub not-full : o ≡ taken.Full → ComplementPost n N limit W X lent v a q taken.Full
@@ -300,20 +338,25 @@ module _ {n N limit : ℕ} {W : View} {lent : List ℕ} {v a : ℕ} (q : Count) 
       pub in-asks : StepPre (2 * n) N limit X lent (And b v)
       in-asks = step-pre in-base (kept-lent W lent not-kept) (not-is .arrow, valid-is .arrow)
 
-      module _ {Y : View} {u : Taken} (w : Took n N limit X Y (b ∷ v ∷ live X lent) q1 u (andF (den (2 * n) (rowsOf X) b) (den (2 * n) (rowsOf X) v))) where
+      module _
+          {Y : View} {u : Taken}
+          (w : Took n N limit X Y (b ∷ v ∷ live X lent) q1 u (andF (den (2 * n) (rowsOf X) b) (den (2 * n) (rowsOf X) v))) where
         w1 : Took n N limit X Y (b ∷ v ∷ live W lent) q1 u (withinNot E G)
         w1 =
             subst (λ (H : Fn). Took n N limit X Y (b ∷ v ∷ live W lent) q1 u H) (ap₂ andF (denoted not-is) (denoted valid-is))
-            (subst (λ (xs : List ℕ). Took n N limit X Y (b ∷ v ∷ xs) q1 u (andF (den (2 * n) (rowsOf X) b) (den (2 * n) (rowsOf X) v))) (live-same (s .moved .frame) lent) w)
+            (subst (λ (xs : List ℕ). Took n N limit X Y (b ∷ v ∷ xs) q1 u (andF (den (2 * n) (rowsOf X) b) (den (2 * n) (rowsOf X) v)))
+            (live-same (s .moved .frame) lent) w)
 
         abbrev inNeed : List Fn → ℕ
         inNeed fs = stepNeed (2 * n) (E ∷ notF G ∷ fs) (withinNot E G)
 
         pub complement-ends : ComplementPost n N limit W Y lent v a q u
         complement-ends fs h =
-            let g : Held (2 * n) (rowsOf X) (b ∷ live W lent) (E ∷ notF G ∷ fs) = held-operand (held-push (held-keeps h not-kept) not-is) (there (held-mem h (p .valid))) in
+            let g : Held (2 * n) (rowsOf X) (b ∷ live W lent) (E ∷ notF G ∷ fs) = held-operand (held-push (held-keeps h not-kept) not-is)
+            (there (held-mem h (p .valid))) in
             let l = ran-step (held-alike (alike-cons b (alike-once (p .valid))) g) (λ b i. there (there i)) w1 in
-            subst (λ (x : Bool). Ran n N W Y (live W lent) (leb (stepNeed (2 * n) (G ∷ fs) (notF G)) limit && x) (withinNot E G) (needing (needing q (stepNeed (2 * n) (G ∷ fs) (notF G))) (inNeed fs)) u)
+            subst (λ (x : Bool). Ran n N W Y (live W lent) (leb (stepNeed (2 * n) (G ∷ fs) (notF G)) limit && x) (withinNot E G)
+            (needing (needing q (stepNeed (2 * n) (G ∷ fs) (notF G))) (inNeed fs)) u)
             (sym (and-true (leb (inNeed fs) limit))) (ran-then e (negated fs h) (λ c. needing c (inNeed fs)) l)
 
 -- ---- box
@@ -360,7 +403,8 @@ module _ {n N limit : ℕ} {W : View} {lent : List ℕ} {v t a : ℕ} (q : Count
       b-is = ran-value e (d box-all box-held)
 
       r-is : Denotes (2 * n) (rowsOf X) t Q
-      r-is = keeps-denotes b-kept (p .modal .relation) (denotes-own (live-arrows lent (p .modal .base .sound) (p .modal .arrows) t (p .modal .relation)))
+      r-is = keeps-denotes b-kept (p .modal .relation)
+          (denotes-own (live-arrows lent (p .modal .base .sound) (p .modal .arrows) t (p .modal .relation)))
 
       pub diamond-asks : ModalPre n N limit X lent t b
       diamond-asks = record {
@@ -372,10 +416,13 @@ module _ {n N limit : ℕ} {W : View} {lent : List ℕ} {v t a : ℕ} (q : Count
       }
 
       module _ {Y : View} {u : Taken} (m : DiamondPost n N limit X Y lent t b q1 u) where
-        inner : (fs : List Fn) → Held (2 * n) (rowsOf W) (live W lent) fs → Ran n N X Y (live W lent) (fit limit (diamondNeeds n fs Q B)) (diamondF n Q B) (needingAll q1 (diamondNeeds n fs Q B)) u
+        inner : (fs : List Fn) → Held (2 * n) (rowsOf W) (live W lent) fs
+            → Ran n N X Y (live W lent) (fit limit (diamondNeeds n fs Q B)) (diamondF n Q B) (needingAll q1 (diamondNeeds n fs Q B)) u
         inner fs h =
             let l = m fs (held-moved lent b-moved b-kept h) in
-            let l1 = subst (λ (G : Fn). Chained n N limit X Y lent (diamondNeeds n fs (den (2 * n) (rowsOf X) t) G) (diamondF n (den (2 * n) (rowsOf X) t) G) q1 u) (denoted b-is) l in
+            let l1 =
+            subst (λ (G : Fn). Chained n N limit X Y lent (diamondNeeds n fs (den (2 * n) (rowsOf X) t) G)
+            (diamondF n (den (2 * n) (rowsOf X) t) G) q1 u) (denoted b-is) l in
             let l2 = subst (λ (G : Fn). Chained n N limit X Y lent (diamondNeeds n fs G B) (diamondF n G B) q1 u) (denoted r-is) l1 in
             ran-from lent b-moved l2
 
@@ -408,7 +455,9 @@ module _ {n N limit : ℕ} {W : View} {lent : List ℕ} {v t a : ℕ} (q : Count
           box-ends {Z} {r} w fs h =
               let D : Fn = diamondF n Q B in
               let l = w fs (held-moved lent c-moved c-kept h) in
-              let l1 = subst (λ (G : Fn). Chained n N limit Y Z lent (complementNeeds n fs (den (2 * n) (rowsOf Y) v) G) (withinNot (den (2 * n) (rowsOf Y) v) G) q2 r) (denoted d-is) l in
+              let l1 =
+              subst (λ (G : Fn). Chained n N limit Y Z lent (complementNeeds n fs (den (2 * n) (rowsOf Y) v) G)
+              (withinNot (den (2 * n) (rowsOf Y) v) G) q2 r) (denoted d-is) l in
               let l2 = subst (λ (G : Fn). Chained n N limit Y Z lent (complementNeeds n fs G D) (withinNot G D) q2 r) (denoted v-is) l1 in
               chain-then limit q (complementNeeds n fs U H) (later fs) e (d fs h)
               (chain-then limit q1 (diamondNeeds n fs Q B) (complementNeeds n fs U D) f (inner fs h) (ran-from lent c-moved l2))

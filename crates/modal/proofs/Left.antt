@@ -1,9 +1,10 @@
--- The EXISTS that are left of a diamond's product, at once: where each needs at most the limit and the peak so far, the answer and the count are those
--- of the chain. Assumes nothing.
+-- The EXISTS that are left of a diamond's product, at once: where each needs at most the limit and the peak so far, the answer and the
+-- count are those of the chain. Assumes nothing.
 use mathlib.Core.Path.{_≡_, refl, sym, ap, _∙_, subst, fun-ext}
 use mathlib.Core.Logic.{⊎-elim}
 use mathlib.Core.Bool.{Bool, true, false, _&&_, cond, true≢false}
-use mathlib.Core.List.{List, [], _∷_, map, List·Memᴰ·head as here, List·Memᴰ·tail as there, List·Memᴰ·cases-cons as mem-cases, List·Memᴰ·not-nil as mem-nil, Memᴰ·cast as mem-cast, Memᴰ·map as mem-map, Memᴰ·append-right as append-right}
+use mathlib.Core.List.{List, [], _∷_, map, List·Memᴰ·head as here, List·Memᴰ·tail as there, List·Memᴰ·cases-cons as mem-cases}
+use mathlib.Core.List.{List·Memᴰ·not-nil as mem-nil, Memᴰ·cast as mem-cast, Memᴰ·map as mem-map, Memᴰ·append-right as append-right}
 use Prim.Native.Nat.{ℕ, zero, suc, _+_, _-_, _*_, _≤_, _<_, max, min}
 use native.Mathlib.Omega.{arith}
 use lib.Dec.{T, leb, leb→le}
@@ -51,7 +52,8 @@ use Rattle.book.proofs.Modal.{Quantifies}
 use Rattle.modal.specs.Chain.{Moved}
 use Rattle.modal.proofs.Chain.{moved-trans, base-next, base-wf, base-bits, Took, took}
 use Rattle.modal.specs.Modal.{QuantifyPre, QuantifyPost}
-use Rattle.modal.proofs.Laws.{Quantified, quantify-begins, quantify-base, quantify-asks, quantify-turns, quantify-full, quantify-ends, held-moved, fit-steps, fit-true, at-own}
+use Rattle.modal.proofs.Laws.{Quantified, quantify-begins, quantify-base, quantify-asks, quantify-turns, quantify-full}
+use Rattle.modal.proofs.Laws.{quantify-ends, held-moved, fit-steps, fit-true, at-own}
 
 -- the chain of EXISTS is EXISTS from the last odd level down
 next-from : (j d : ℕ) (C : Fn) → existsNext j (existsFrom d j C) ≡ existsFrom (j + d) 0 C
@@ -75,7 +77,8 @@ needing-none (k ∷ ks) q e = go (leb k (q .peak)) refl (needing-none ks q) e
     same : k ≤ q .peak → needing q k ≡ q
     same l = let m : max (q .peak) k ≡ q .peak = omega (arith, l) in ap (λ (p : ℕ). record { rounds = q .rounds; peak = p }) m
 
-    go : (b : Bool) → leb k (q .peak) ≡ b → (fit (q .peak) ks ≡ true → needingAll q ks ≡ q) → (b && fit (q .peak) ks) ≡ true → needingAll (needing q k) ks ≡ q
+    go : (b : Bool) → leb k (q .peak) ≡ b → (fit (q .peak) ks ≡ true → needingAll q ks ≡ q) → (b && fit (q .peak) ks) ≡ true
+        → needingAll (needing q k) ks ≡ q
     go true u rest v = ap (λ (c : Count). needingAll c ks) (same (leb→le k (q .peak) (subst T (sym u) tt))) ∙ rest v
     go false u rest v = absurd (true≢false (sym v))
 
@@ -84,7 +87,8 @@ held-among : {m : ℕ} {rows : Rows} {roots : List ℕ} {fs : List Fn} → Held 
 held-among {m} {rows} {roots} h f mf = let (b, mb, d) = h .each f mf in mem-cast (sym (denoted d)) (mem-map (den m rows) mb)
 
 -- the needs left fit any number that is not less
-module _ (n a left most : ℕ) {rows : Rows} {roots : List ℕ} {fs : List Fn} (h : Held (2 * n) rows roots fs) (l : LeftFits (2 * n) rows roots a left most) (top : ℕ) (le : most ≤ top) where
+module _ (n a left most : ℕ) {rows : Rows} {roots : List ℕ} {fs : List Fn} (h : Held (2 * n) rows roots fs)
+    (l : LeftFits (2 * n) rows roots a left most) (top : ℕ) (le : most ≤ top) where
   fits-from : (d j : ℕ) → d + j ≡ left → fit top (existsNeeds n fs j (existsFrom d j (den (2 * n) rows a))) ≡ true
   unfolding existsFrom
   fits-from d zero e = refl
@@ -103,7 +107,8 @@ module _ (n a left most : ℕ) {rows : Rows} {roots : List ℕ} {fs : List Fn} (
   fits-left = fits-from 0 left (omega arith)
 
 -- steps that fit, and do not pass what is counted, leave the count
-steps-left : (n limit j : ℕ) (fs : List Fn) (F : Fn) (r : Count) → fit limit (existsNeeds n fs j F) ≡ true → fit (r .peak) (existsNeeds n fs j F) ≡ true
+steps-left : (n limit j : ℕ) (fs : List Fn) (F : Fn) (r : Count) → fit limit (existsNeeds n fs j F) ≡ true
+    → fit (r .peak) (existsNeeds n fs j F) ≡ true
     → existsSteps n limit fs j F r (λ c. value [] c) ≡ value [] r
 steps-left n limit j fs F r e f =
     fit-steps n limit fs j F r
@@ -116,7 +121,8 @@ module _ {n N limit : ℕ} {W : View} {lent : List ℕ} {a : ℕ} (p : QuantifyP
   blind-begins = blind-reads {f = den (2 * n) (rowsOf W) a} n (omega arith) (den-reads-all (base-wf (p .base)) a (p .operand))
 
   module _ {X : View} {q r : Count} {j c : ℕ} (i : Quantified n N limit W X lent a q j c r) (b : Blind j (den (2 * n) (rowsOf X) c)) where
-    pub blind-turns : {Y : View} {o : Taken} {d : ℕ} {m : Count} → 0 < j → Took n N limit X Y (c ∷ live X lent) r o (existsF (2 * (j - 1) + 1) (den (2 * n) (rowsOf X) c)) → o ≡ taken.At d m
+    pub blind-turns : {Y : View} {o : Taken} {d : ℕ} {m : Count} → 0 < j
+        → Took n N limit X Y (c ∷ live X lent) r o (existsF (2 * (j - 1) + 1) (den (2 * n) (rowsOf X) c)) → o ≡ taken.At d m
         → Blind (j - 1) (den (2 * n) (rowsOf Y) d)
     blind-turns {Y} {o} {d} {m} l s e =
         let k : ℕ = j - 1 in
@@ -141,7 +147,10 @@ module _ {n N limit : ℕ} {W : View} {lent : List ℕ} {a : ℕ} (p : QuantifyP
     module _ {Y : View} (g : Grown (2 * n) X Y) where
       grown-moved : Moved n X Y
       grown-moved = record {
-        sound = sound-extends (quantify-base p i .sound) (g .good) (g .frame .header BITS (omega arith) (omega arith) (omega arith) (omega arith)) (λ h x l. g .frame .header h (omega arith) (omega arith) (omega arith) (omega arith)) (g .kept);
+        sound =
+            sound-extends (quantify-base p i .sound) (g .good)
+            (g .frame .header BITS (omega arith) (omega arith) (omega arith) (omega arith))
+            (λ h x l. g .frame .header h (omega arith) (omega arith) (omega arith) (omega arith)) (g .kept);
         memory = g .memory;
         frame = g .frame;
       }
@@ -174,18 +183,23 @@ module _ {n N limit : ℕ} {W : View} {lent : List ℕ} {a : ℕ} (p : QuantifyP
       }
         where
           one : Keeps (rowsOf X) (rowsOf Y) (c ∷ [])
-          one = extends-keeps (base-wf (quantify-base p i)) (λ x h. ⊎-elim (λ e. subst (Arrow (rowsOf X)) (sym e) (at-own p i .denotes .arrow)) (λ z. absurd (mem-nil z)) (mem-cases h)) (g .kept)
+          one = extends-keeps (base-wf (quantify-base p i))
+              (λ x h. ⊎-elim (λ e. subst (Arrow (rowsOf X)) (sym e) (at-own p i .denotes .arrow)) (λ z. absurd (mem-nil z)) (mem-cases h))
+              (g .kept)
 
       pub grown-blind : Blind j (den (2 * n) (rowsOf Y) c)
       grown-blind = subst (Blind j) (sym same) b
 
-    pub rest-ends : {Y : View} {o : Found} {v : ℕ} → j ≤ n → RestPost n X Y lent c j (min (r .peak) limit) o → o ≡ find.At v → QuantifyPost n N limit W Y lent a q (taken.At v r)
+    pub rest-ends : {Y : View} {o : Found} {v : ℕ} → j ≤ n → RestPost n X Y lent c j (min (r .peak) limit) o → o ≡ find.At v
+        → QuantifyPost n N limit W Y lent a q (taken.At v r)
     rest-ends {Y} {o} {v} le s e fs h = record {
       moved = both (s .grown);
       evals = record {
         wf = wf (s .grown);
         kept = keeps-trans (t .kept) (on (s .grown));
-        result = subst (λ (x : Bool). PairMatches n (rowsOf Y) x (existsNext n C) (needingAll q (existsNeeds n fs n C)) (at v) r) (sym (fits .0)) (denotes, fits .1);
+        result =
+            subst (λ (x : Bool). PairMatches n (rowsOf Y) x (existsNext n C) (needingAll q (existsNeeds n fs n C)) (at v) r) (sym (fits .0))
+            (denotes, fits .1);
       };
     }
       where
@@ -202,18 +216,22 @@ module _ {n N limit : ℕ} {W : View} {lent : List ℕ} {a : ℕ} (p : QuantifyP
         here-is = same (s .grown) ∙ denoted (t .denotes)
 
         left : (top : ℕ) → min (r .peak) limit ≤ top → fit top (existsNeeds n fs j (t .F)) ≡ true
-        left top l = subst (λ (f : Fn). fit top (existsNeeds n fs j f) ≡ true) here-is (fits-left n c j (min (r .peak) limit) held (s .fits v e) top l)
+        left top l =
+            subst (λ (f : Fn). fit top (existsNeeds n fs j f) ≡ true) here-is
+            (fits-left n c j (min (r .peak) limit) held (s .fits v e) top l)
 
         fits : (fit limit (existsNeeds n fs n C) ≡ true) × (r ≡ needingAll q (existsNeeds n fs n C))
         fits = fit-true (fit limit (existsNeeds n fs n C)) r (needingAll q (existsNeeds n fs n C))
-            (sym (t .steps (λ z. value [] z) ∙ steps-left n limit j fs (t .F) r (left limit (omega arith)) (left (r .peak) (omega arith))) ∙ fit-steps n limit fs n C q)
+            (sym (t .steps (λ z. value [] z) ∙ steps-left n limit j fs (t .F) r (left limit (omega arith)) (left (r .peak) (omega arith)))
+            ∙ fit-steps n limit fs n C q)
 
         denotes : Denotes (2 * n) (rowsOf Y) v (existsNext n C)
         denotes =
             let d = s .value v e in
             let bits = base-bits (p .base) in
             let f : oddF (den (2 * n) (rowsOf X) c) ≡ existsNext n C =
-            ap oddF (denoted (t .denotes)) ∙ sym (next-odd j (t .F) (omega arith) (subst (Blind j) (denoted (t .denotes)) b)) ∙ sym (t .rest)
+            ap oddF (denoted (t .denotes)) ∙ sym (next-odd j (t .F) (omega arith) (subst (Blind j) (denoted (t .denotes)) b))
+            ∙ sym (t .rest)
             in
             subst (Denotes (2 * n) (rowsOf Y) v) f d
 
@@ -232,7 +250,8 @@ module _ {n N limit : ℕ} {W : View} {lent : List ℕ} {a : ℕ} (p : QuantifyP
     stands-asks less = quantify-asks p (i .done) (omega (arith, i .fewer))
 
     module _ {Y : View} {o : Taken} (less : 0 < j) (s : Stepped (2 * n) N limit X Y lent (Exists (2 * (j - 1) + 1) c) (madeIn o))
-        (k : Counted (2 * n) (rowsOf X) (liveAt X lent (Exists (2 * (j - 1) + 1) c)) (stepF (2 * n) (rowsOf X) (Exists (2 * (j - 1) + 1) c)) r o) where
+        (k : Counted (2 * n) (rowsOf X) (liveAt X lent (Exists (2 * (j - 1) + 1) c)) (stepF (2 * n) (rowsOf X) (Exists (2 * (j - 1) + 1) c))
+        r o) where
       step : Took n N limit X Y (c ∷ live X lent) r o (existsF (2 * (j - 1) + 1) (den (2 * n) (rowsOf X) c))
       step = took (quantify-base p (i .done)) (stands-asks less) s k
 
@@ -240,7 +259,12 @@ module _ {n N limit : ℕ} {W : View} {lent : List ℕ} {a : ℕ} (p : QuantifyP
       stands-full e = quantify-full p (i .done) less step e
 
       pub stands-turns : {d : ℕ} {m : Count} → o ≡ taken.At d m → Stands n N limit W Y lent a q (j - 1) d m
-      stands-turns e = record { done = quantify-turns p (i .done) less step e; blind = blind-turns p (i .done) (i .blind) less step e; fewer = omega (arith, i .fewer) }
+      stands-turns e =
+          record {
+            done = quantify-turns p (i .done) less step e;
+            blind = blind-turns p (i .done) (i .blind) less step e;
+            fewer = omega (arith, i .fewer);
+          }
 
     pub stands-rest : RestPre n N limit X lent c j
     stands-rest = rest-asks p (i .done) (i .blind) (i .fewer)
@@ -248,7 +272,8 @@ module _ {n N limit : ℕ} {W : View} {lent : List ℕ} {a : ℕ} (p : QuantifyP
     pub stands-grown : {Y : View} → Grown (2 * n) X Y → Stands n N limit W Y lent a q j c r
     stands-grown g = record { done = grown-on p (i .done) (i .blind) g; blind = grown-blind p (i .done) (i .blind) g; fewer = i .fewer }
 
-    pub stands-found : {Y : View} {o : Found} {v : ℕ} → RestPost n X Y lent c j (min (r .peak) limit) o → o ≡ find.At v → QuantifyPost n N limit W Y lent a q (taken.At v r)
+    pub stands-found : {Y : View} {o : Found} {v : ℕ} → RestPost n X Y lent c j (min (r .peak) limit) o → o ≡ find.At v
+        → QuantifyPost n N limit W Y lent a q (taken.At v r)
     stands-found s e = rest-ends p (i .done) (i .blind) (i .fewer) s e
 
     pub stands-ends : j ≤ 0 → QuantifyPost n N limit W X lent a q (taken.At c r)

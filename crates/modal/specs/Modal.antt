@@ -65,8 +65,8 @@ pub record BoxPre (n N limit : ℕ) (W : View) (lent : List ℕ) (v t a : ℕ) :
   pub states : ReadsOn even (den (2 * n) (rowsOf W) v)
   pub modal : ModalPre n N limit W lent t a
 
--- whatever functions `fs` registers, relations and the lent arrows hold: each step is answered exactly where it and `fs` need at most `limit` rows, and
--- its need is counted, q being counted before
+-- whatever functions `fs` registers, relations and the lent arrows hold: each step is answered exactly where it and `fs` need at most
+-- `limit` rows, and its need is counted, q being counted before
 abbrev pub QuantifyPost : ℕ → ℕ → ℕ → View → View → List ℕ → ℕ → Count → Taken → Type 0
 QuantifyPost n N limit W X lent a q o =
     (fs : List Fn) → Held (2 * n) (rowsOf W) (live W lent) fs
@@ -75,12 +75,14 @@ QuantifyPost n N limit W X lent a q o =
 abbrev pub DiamondPost : ℕ → ℕ → ℕ → View → View → List ℕ → ℕ → ℕ → Count → Taken → Type 0
 DiamondPost n N limit W X lent t a q o =
     (fs : List Fn) → Held (2 * n) (rowsOf W) (live W lent) fs
-    → Chained n N limit W X lent (diamondNeeds n fs (den (2 * n) (rowsOf W) t) (den (2 * n) (rowsOf W) a)) (diamondF n (den (2 * n) (rowsOf W) t) (den (2 * n) (rowsOf W) a)) q o
+    → Chained n N limit W X lent (diamondNeeds n fs (den (2 * n) (rowsOf W) t) (den (2 * n) (rowsOf W) a))
+    (diamondF n (den (2 * n) (rowsOf W) t) (den (2 * n) (rowsOf W) a)) q o
 
 abbrev pub ComplementPost : ℕ → ℕ → ℕ → View → View → List ℕ → ℕ → ℕ → Count → Taken → Type 0
 ComplementPost n N limit W X lent v a q o =
     (fs : List Fn) → Held (2 * n) (rowsOf W) (live W lent) fs
-    → Chained n N limit W X lent (complementNeeds n fs (den (2 * n) (rowsOf W) v) (den (2 * n) (rowsOf W) a)) (withinNot (den (2 * n) (rowsOf W) v) (den (2 * n) (rowsOf W) a)) q o
+    → Chained n N limit W X lent (complementNeeds n fs (den (2 * n) (rowsOf W) v) (den (2 * n) (rowsOf W) a))
+    (withinNot (den (2 * n) (rowsOf W) v) (den (2 * n) (rowsOf W) a)) q o
 
 abbrev pub BoxPost : ℕ → ℕ → ℕ → View → View → List ℕ → ℕ → ℕ → ℕ → Count → Taken → Type 0
 BoxPost n N limit W X lent v t a q o =

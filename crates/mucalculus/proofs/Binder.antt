@@ -29,8 +29,11 @@ means-bind m e P f true = refl
 means-bind m e P f false = refl
 
 -- the least set is below each set A with f(A) = A, the greatest above
-pub binder-bound : (m : Model) (e : Env) (P : ℕ) (f : Form) (b : Bool) (A : List Bool) → means m (put e P A) f ≡ A → Dir b (means m e (bind b P f)) A
-binder-bound m e P f b A h = subst (λ (X : List Bool). Dir b X A) (means-bind m e P f b) (fix-bound (size m) (exist m) (body m e P f) (body-length m e P f) (body-in m e P f) b A h)
+pub binder-bound : (m : Model) (e : Env) (P : ℕ) (f : Form) (b : Bool) (A : List Bool) → means m (put e P A) f ≡ A
+    → Dir b (means m e (bind b P f)) A
+binder-bound m e P f b A h =
+    subst (λ (X : List Bool). Dir b X A) (means-bind m e P f b)
+    (fix-bound (size m) (exist m) (body m e P f) (body-length m e P f) (body-in m e P f) b A h)
 
 module _ (m : Model) (e : Env) (P : ℕ) (f : Form) (s : T (steady f)) (t : T (reads true P f)) (b : Bool) where
   pub body-mono : Mono (body m e P f)
@@ -38,7 +41,9 @@ module _ (m : Model) (e : Env) (P : ℕ) (f : Form) (s : T (steady f)) (t : T (r
 
   -- it is a set A with f(A) = A
   pub binder-fixed : means m (put e P (means m e (bind b P f))) f ≡ means m e (bind b P f)
-  binder-fixed = subst (λ (X : List Bool). body m e P f X ≡ X) (means-bind m e P f b) (fix-fixed (size m) (exist m) (body m e P f) (body-length m e P f) (body-in m e P f) body-mono b)
+  binder-fixed =
+      subst (λ (X : List Bool). body m e P f X ≡ X) (means-bind m e P f b)
+      (fix-fixed (size m) (exist m) (body m e P f) (body-length m e P f) (body-in m e P f) body-mono b)
 
   -- the j-th set of the iteration: from no state for mu, from V for nu, each the body's value at the one before
   abbrev pub round : ℕ → List Bool

@@ -2,14 +2,16 @@
 use mathlib.Core.Path.{_≡_, refl, sym, ap, ap₂, subst}
 use mathlib.Core.Logic.{_⊎_, inl, inr, _↔_}
 use mathlib.Core.Bool.{Bool, true, false, not, _&&_, _||_, cond}
-use mathlib.Core.List.{List, [], _∷_, _++_, map, List·Memᴰ, List·Memᴰ·head, List·Memᴰ·tail, List·Memᴰ·not-nil, Memᴰ·append-left, Memᴰ·append-right}
+use mathlib.Core.List.{List, [], _∷_, _++_, map, List·Memᴰ, List·Memᴰ·head, List·Memᴰ·tail, List·Memᴰ·not-nil, Memᴰ·append-left}
+use mathlib.Core.List.{Memᴰ·append-right}
 use Prim.Native.Nat.{ℕ, zero, suc, _<_}
 use native.Mathlib.Omega.{arith}
 use native.Mathlib.Nat.{suc-ne-zero, not-suc-le-zero, le-of-suc-le-suc}
 use lib.Dec.{T, ltb, eqb, ltb→lt, lt→ltb, eqb→eq, eqb·suc-suc, leb·suc-suc}
 use lib.ListN.{length}
 use Rattle.mucalculus.specs.Sets.{mem, table, any, keep}
-use Rattle.mucalculus.proofs.Sets.{and-in, and-out, or-right, or-out, all-in, all-out, any-in, any-out, keep-in, keep-out, map-mem, true-of}
+use Rattle.mucalculus.proofs.Sets.{and-in, and-out, or-right, or-out, all-in, all-out, any-in, any-out, keep-in, keep-out, map-mem}
+use Rattle.mucalculus.proofs.Sets.{true-of}
 use Rattle.mucalculus.specs.Form.{Pairs}
 use Rattle.mucalculus.specs.Runs.{pair, stuck, isRun, endOf, counts, passes, nexts, gather, walks, untilSet}
 use Rattle.mucalculus.proofs.Laws.{getD-table, table-out}
@@ -41,7 +43,8 @@ module _ {X Y : Type 0} (h : X → List Y) where
   gather-out [] i = absurd (List·Memᴰ·not-nil i)
   gather-out (x ∷ l) {y} i = go (gather-out l) (append-out (h x) (gather h l) i)
     where
-      go : (List·Memᴰ y (gather h l) → (z : X) × List·Memᴰ z l × List·Memᴰ y (h z)) → List·Memᴰ y (h x) ⊎ List·Memᴰ y (gather h l) → (z : X) × List·Memᴰ z (x ∷ l) × List·Memᴰ y (h z)
+      go : (List·Memᴰ y (gather h l) → (z : X) × List·Memᴰ z l × List·Memᴰ y (h z)) → List·Memᴰ y (h x) ⊎ List·Memᴰ y (gather h l)
+          → (z : X) × List·Memᴰ z (x ∷ l) × List·Memᴰ y (h z)
       go below (inl m) = (x, List·Memᴰ·head refl, m)
       go below (inr m) = let w = below m in (w .0, List·Memᴰ·tail (w .1), w .2)
 
@@ -65,11 +68,14 @@ module _ (k : ℕ) (R : Pairs) where
 
   next-out : (s t : ℕ) → List·Memᴰ t (nexts k R s) → T (ltb t k && pair R s t)
   next-out s t m =
-      and-in (ltb t k) (pair R s t) (lt→ltb t k (table-out k (λ u. u) (λ u. u < k) (λ i l. l) t (keep-mem (λ u. pair R s u) (table k (λ u. u)) m)))
+      and-in (ltb t k) (pair R s t)
+      (lt→ltb t k (table-out k (λ u. u) (λ u. u < k) (λ i l. l) t (keep-mem (λ u. pair R s u) (table k (λ u. u)) m)))
       (keep-out (λ u. pair R s u) (table k (λ u. u)) m)
 
   next-goes : (s t : ℕ) → List·Memᴰ t (nexts k R s) → stuck k R s ≡ false
-  next-goes s t m = ap not (true-of (any (λ u. pair R s u) (table k (λ u. u))) (any-in (λ u. pair R s u) (keep-mem (λ u. pair R s u) (table k (λ u. u)) m) (keep-out (λ u. pair R s u) (table k (λ u. u)) m)))
+  next-goes s t m =
+      ap not (true-of (any (λ u. pair R s u) (table k (λ u. u)))
+      (any-in (λ u. pair R s u) (keep-mem (λ u. pair R s u) (table k (λ u. u)) m) (keep-out (λ u. pair R s u) (table k (λ u. u)) m)))
 
   -- of j steps, or fewer and at an end
   abbrev long : ℕ → ℕ → List ℕ → Bool
@@ -103,7 +109,9 @@ module _ (k : ℕ) (R : Pairs) where
   walks-in (suc j) s (t ∷ l) r h =
       let w = and-out (ltb t k && pair R s t) (isRun k R t l) r in
       let n = next-in s t (w .0) in
-      go (stuck k R s) (next-goes s t n) (gather-in (λ u. map (λ m. u ∷ m) (walks k R j u)) n (map-mem (λ (m : List ℕ). t ∷ m) (walks-in j t l (w .1) (subst T (long-suc j s t l) h))))
+      go (stuck k R s) (next-goes s t n)
+      (gather-in (λ u. map (λ m. u ∷ m) (walks k R j u)) n
+      (map-mem (λ (m : List ℕ). t ∷ m) (walks-in j t l (w .1) (subst T (long-suc j s t l) h))))
     where
       go : (c : Bool) → c ≡ false → List·Memᴰ (t ∷ l) (gather (λ u. map (λ m. u ∷ m) (walks k R j u)) (nexts k R s))
           → List·Memᴰ (t ∷ l) (cond c ([] ∷ []) (gather (λ u. map (λ m. u ∷ m) (walks k R j u)) (nexts k R s)))
@@ -119,15 +127,18 @@ module _ (k : ℕ) (R : Pairs) where
       ended e = or-right (eqb 0 (suc j)) _ (and-in (ltb 0 (suc j)) (stuck k R s) (lt→ltb 0 (suc j) (omega arith)) (subst T (sym e) tt))
 
       go : ((t : ℕ) (m : List ℕ) → List·Memᴰ m (walks k R j t) → T (isRun k R t m) × T (long j t m)) → (c : Bool) → stuck k R s ≡ c
-          → List·Memᴰ l (cond c ([] ∷ []) (gather (λ u. map (λ m. u ∷ m) (walks k R j u)) (nexts k R s))) → T (isRun k R s l) × T (long (suc j) s l)
+          → List·Memᴰ l (cond c ([] ∷ []) (gather (λ u. map (λ m. u ∷ m) (walks k R j u)) (nexts k R s)))
+          → T (isRun k R s l) × T (long (suc j) s l)
       go below true e (List·Memᴰ·head i) = subst (λ (m : List ℕ). T (isRun k R s m) × T (long (suc j) s m)) (sym i) (tt, ended e)
       go below true e (List·Memᴰ·tail i) = absurd (List·Memᴰ·not-nil i)
       go below false e i =
           let w = gather-out (λ u. map (λ m. u ∷ m) (walks k R j u)) (nexts k R s) i in
           let v = map-out (λ m. w .0 ∷ m) (walks k R j (w .0)) (w .2) in
           let o = below (w .0) (v .0) (v .1) in
-          subst (λ (m : List ℕ). T (isRun k R s m) × T (long (suc j) s m)) (sym (v .2))
-          (and-in (ltb (w .0) k && pair R s (w .0)) (isRun k R (w .0) (v .0)) (next-out s (w .0) (w .1)) (o .0), subst T (sym (long-suc j s (w .0) (v .0))) (o .1))
+          subst (λ (m : List ℕ). T (isRun k R s m) × T (long (suc j) s m)) (sym (v .2)) (
+            and-in (ltb (w .0) k && pair R s (w .0)) (isRun k R (w .0) (v .0)) (next-out s (w .0) (w .1)) (o .0),
+            subst T (sym (long-suc j s (w .0) (v .0))) (o .1),
+          )
 
   -- the enumerated runs are those that count
   pub walks-counts : (s : ℕ) (l : List ℕ) → List·Memᴰ l (walks k R k s) ↔ T (counts k R s l)
@@ -140,7 +151,8 @@ module _ (k : ℕ) (R : Pairs) where
     -- 90: some run of the relation counts and passes
     pub until-some : T (mem (untilSet true k R F G) s) ↔ ((l : List ℕ) × T (counts k R s l) × T (passes F G (s ∷ l)))
     until-some = (
-      λ t. let w = any-out (λ l. passes F G (s ∷ l)) (walks k R k s) (subst T (getD-table k _ s false h) t) in (w .0, walks-counts s (w .0) .0 (w .1), w .2),
+      λ t. let w = any-out (λ l. passes F G (s ∷ l)) (walks k R k s) (subst T (getD-table k _ s false h) t) in
+          (w .0, walks-counts s (w .0) .0 (w .1), w .2),
       λ w. subst T (sym (getD-table k _ s false h)) (any-in (λ l. passes F G (s ∷ l)) (walks-counts s (w .0) .1 (w .1)) (w .2)),
     )
 

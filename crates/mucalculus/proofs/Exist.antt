@@ -10,7 +10,8 @@ use Rattle.mucalculus.proofs.Sets.{true-of, mem-table, mem-noStates, an
 use Rattle.mucalculus.specs.Order.{Below}
 use Rattle.mucalculus.specs.Fixpoint.{Into}
 use Rattle.mucalculus.proofs.Fixpoint.{fix-in}
-use Rattle.mucalculus.specs.Form.{Form, bot, top, neg, conj, disj, now, next, var, reg, box, dia, mu, nu, until, Pairs, Model, Env, put, inside}
+use Rattle.mucalculus.specs.Form.{Form, bot, top, neg, conj, disj, now, next, var, reg, box, dia, mu, nu, until, Pairs, Model, Env}
+use Rattle.mucalculus.specs.Form.{put, inside}
 use Rattle.mucalculus.specs.Runs.{pair, untilSet}
 use Rattle.mucalculus.specs.Means.{compl, inter, union, bitStates, always, sometimes, size, exist, related, means}
 use Rattle.mucalculus.proofs.Laws.{getD-table, table-ext, table-out, box-dual}
@@ -45,13 +46,16 @@ inter-agrees k E A u l t = getD-table k (λ s. mem A s && mem E s) u false l ∙
 -- ---- pairs within a set
 
 module _ (m : Model) (t : ℕ) where
-  pub related-pair : (s u : ℕ) → s < size m → u < size m → pair (related m t) s u ≡ ((mem (exist m) s && mem (exist m) u) && pair (inside (m .rel t)) s u)
+  pub related-pair : (s u : ℕ) → s < size m → u < size m
+      → pair (related m t) s u ≡ ((mem (exist m) s && mem (exist m) u) && pair (inside (m .rel t)) s u)
   related-pair s u l i =
-      ap (λ (A : List Bool). mem A u) (getD-table (size m) (λ s. table (size m) (λ u. (mem (exist m) s && mem (exist m) u) && pair (inside (m .rel t)) s u)) s [] l)
+      ap (λ (A : List Bool). mem A u)
+      (getD-table (size m) (λ s. table (size m) (λ u. (mem (exist m) s && mem (exist m) u) && pair (inside (m .rel t)) s u)) s [] l)
       ∙ getD-table (size m) (λ u. (mem (exist m) s && mem (exist m) u) && pair (inside (m .rel t)) s u) u false i
 
   pub related-inside : Inside (size m) (exist m) (related m t)
-  related-inside s u l i p = and-out (mem (exist m) s) (mem (exist m) u) (and-out (mem (exist m) s && mem (exist m) u) _ (subst T (related-pair s u l i) p) .0)
+  related-inside s u l i p =
+      and-out (mem (exist m) s) (mem (exist m) u) (and-out (mem (exist m) s && mem (exist m) u) _ (subst T (related-pair s u l i) p) .0)
 
 module _ (k : ℕ) (E : List Bool) (Q : Pairs) (q : Inside k E Q) where
   -- a state with a next state exists
@@ -79,15 +83,22 @@ module _ (k : ℕ) (E : List Bool) (Q : Pairs) (q : Inside k E Q) where
         go false x = refl
 
     pub sometimes-same : sometimes k Q A ≡ sometimes k Q B
-    sometimes-same = table-ext k _ _ (λ s l. over-same true (λ t. pair Q s t && mem A t) (λ t. pair Q s t && mem B t) (table k (λ t. t)) (table-out k (λ t. t) (λ t. (pair Q s t && mem A t) ≡ (pair Q s t && mem B t)) (λ t i. next-same s t l i)))
+    sometimes-same =
+        table-ext k _ _
+        (λ s l. over-same true (λ t. pair Q s t && mem A t) (λ t. pair Q s t && mem B t) (table k (λ t. t))
+        (table-out k (λ t. t) (λ t. (pair Q s t && mem A t) ≡ (pair Q s t && mem B t)) (λ t i. next-same s t l i)))
 
     pub always-same : always k Q A ≡ always k Q B
-    always-same = table-ext k _ _ (λ s l. over-same false (λ t. not (pair Q s t) || mem A t) (λ t. not (pair Q s t) || mem B t) (table k (λ t. t)) (table-out k (λ t. t) (λ t. (not (pair Q s t) || mem A t) ≡ (not (pair Q s t) || mem B t)) (λ t i. every-same s t l i)))
+    always-same =
+        table-ext k _ _
+        (λ s l. over-same false (λ t. not (pair Q s t) || mem A t) (λ t. not (pair Q s t) || mem B t) (table k (λ t. t))
+        (table-out k (λ t. t) (λ t. (not (pair Q s t) || mem A t) ≡ (not (pair Q s t) || mem B t)) (λ t i. every-same s t l i)))
 
   -- box and true over V are box and true over all states, where there is a next state
   pub further-in : (A : List Bool) → inter k (inter k (always k Q A) E) (sometimes k Q E) ≡ further false k Q A
   further-in A =
-      ap (inter k (inter k (always k Q A) E)) (sometimes-same E (allStates k) (λ u l h. true-of (mem E u) h ∙ sym (getD-table k (λ s. true) u false l)))
+      ap (inter k (inter k (always k Q A) E))
+      (sometimes-same E (allStates k) (λ u l h. true-of (mem E u) h ∙ sym (getD-table k (λ s. true) u false l)))
       ∙ table-ext k _ _ (λ s l.
       ap (λ (c : Bool). c && mem (sometimes k Q (allStates k)) s) (getD-table k (λ s. mem (always k Q A) s && mem E s) s false l)
       ∙ drop (mem (always k Q A) s) (mem E s) (mem (sometimes k Q (allStates k)) s) (sometimes-in (allStates k) s))
@@ -107,13 +118,21 @@ module _ (k : ℕ) (E : List Bool) (Q : Pairs) (q : Inside k E Q) where
 -- relations with the same pairs
 module _ (k : ℕ) (Q R : Pairs) (h : (s u : ℕ) → s < k → u < k → pair Q s u ≡ pair R s u) where
   pub sometimes-pairs : (A : List Bool) → sometimes k Q A ≡ sometimes k R A
-  sometimes-pairs A = table-ext k _ _ (λ s l. over-same true (λ t. pair Q s t && mem A t) (λ t. pair R s t && mem A t) (table k (λ t. t)) (table-out k (λ t. t) (λ t. (pair Q s t && mem A t) ≡ (pair R s t && mem A t)) (λ t i. ap (λ (c : Bool). c && mem A t) (h s t l i))))
+  sometimes-pairs A =
+      table-ext k _ _
+      (λ s l. over-same true (λ t. pair Q s t && mem A t) (λ t. pair R s t && mem A t) (table k (λ t. t))
+      (table-out k (λ t. t) (λ t. (pair Q s t && mem A t) ≡ (pair R s t && mem A t)) (λ t i. ap (λ (c : Bool). c && mem A t) (h s t l i))))
 
   pub always-pairs : (A : List Bool) → always k Q A ≡ always k R A
-  always-pairs A = table-ext k _ _ (λ s l. over-same false (λ t. not (pair Q s t) || mem A t) (λ t. not (pair R s t) || mem A t) (table k (λ t. t)) (table-out k (λ t. t) (λ t. (not (pair Q s t) || mem A t) ≡ (not (pair R s t) || mem A t)) (λ t i. ap (λ (c : Bool). not c || mem A t) (h s t l i))))
+  always-pairs A =
+      table-ext k _ _
+      (λ s l. over-same false (λ t. not (pair Q s t) || mem A t) (λ t. not (pair R s t) || mem A t) (table k (λ t. t))
+      (table-out k (λ t. t) (λ t. (not (pair Q s t) || mem A t) ≡ (not (pair R s t) || mem A t))
+      (λ t i. ap (λ (c : Bool). not c || mem A t) (h s t l i))))
 
 -- where a relation is within V, its pairs are those that exist
-pub related-same : (m : Model) (t : ℕ) → Inside (size m) (exist m) (inside (m .rel t)) → (s u : ℕ) → s < size m → u < size m → pair (related m t) s u ≡ pair (inside (m .rel t)) s u
+pub related-same : (m : Model) (t : ℕ) → Inside (size m) (exist m) (inside (m .rel t)) → (s u : ℕ) → s < size m → u < size m
+    → pair (related m t) s u ≡ pair (inside (m .rel t)) s u
 related-same m t q s u l i = related-pair m t s u l i ∙ go (mem (exist m) s) (mem (exist m) u) (pair (inside (m .rel t)) s u) (q s u l i)
   where
     go : (a c d : Bool) → (T d → T a × T c) → ((a && c) && d) ≡ d
@@ -129,10 +148,12 @@ onward-in : (k : ℕ) (R : Pairs) (b : Bool) (F G E : List Bool) → Below F E �
 onward-in k R b F G E f g A = union-in k G (inter k F (further b k R A)) E g (λ s p. f s (inter-left k F (further b k R A) s p))
 
 -- a round of until makes existing states of existing ones
-pub onward-into : (m : Model) (t : ℕ) (b : Bool) (F G : List Bool) → Below F (exist m) → Below G (exist m) → Into (exist m) (onward b (size m) (related m t) F G)
+pub onward-into : (m : Model) (t : ℕ) (b : Bool) (F G : List Bool) → Below F (exist m) → Below G (exist m)
+    → Into (exist m) (onward b (size m) (related m t) F G)
 onward-into m t b F G f g = onward-in (size m) (related m t) b F G (exist m) f g
 
-until-in : (m : Model) (t : ℕ) (b : Bool) (F G : List Bool) → Below F (exist m) → Below G (exist m) → Below (untilSet b (size m) (related m t) F G) (exist m)
+until-in : (m : Model) (t : ℕ) (b : Bool) (F G : List Bool) → Below F (exist m) → Below G (exist m)
+    → Below (untilSet b (size m) (related m t) F G) (exist m)
 until-in m t b F G f g =
     subst (λ (A : List Bool). Below A (exist m)) (sym (until-least (size m) (related m t) b F G (exist m) (onward-into m t b F G f g)))
     (fix-in true (size m) (exist m) (onward b (size m) (related m t) F G))

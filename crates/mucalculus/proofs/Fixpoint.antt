@@ -8,9 +8,11 @@ use native.Mathlib.Omega.{arith}
 use lib.Dec.{T, ltb, lt→ltb}
 use lib.ListN.{length}
 use Rattle.mucalculus.specs.Sets.{allStates, mem, all, any, bitLists, same}
-use Rattle.mucalculus.proofs.Sets.{mem-allStates, length-table, mem-table, mem-lt, and-in, and-out, all-in, all-out, any-in, any-out, keep-in, keep-out, bitLists-all, same-refl, same-eq}
+use Rattle.mucalculus.proofs.Sets.{mem-allStates, length-table, mem-table, mem-lt, and-in, and-out, all-in, all-out, any-in, any-out}
+use Rattle.mucalculus.proofs.Sets.{keep-in, keep-out, bitLists-all, same-refl, same-eq}
 use Rattle.mucalculus.specs.Order.{Below, start, weight}
-use Rattle.mucalculus.proofs.Order.{Dir, dir-refl, dir-trans, dir-eq, dir-antisym, length-start, start-dir, start-in, weight-le, rise}
+use Rattle.mucalculus.proofs.Order.{Dir, dir-refl, dir-trans, dir-eq, dir-antisym, length-start, start-dir, start-in, weight-le}
+use Rattle.mucalculus.proofs.Order.{rise}
 use Rattle.mucalculus.specs.Fixpoint.{fixpoints, least, greatest, Into}
 
 -- both as one notion, for proofs
@@ -29,8 +31,12 @@ length-fix false k E F = length-table k _
 
 -- what they name are states that exist
 pub fix-in : (b : Bool) (k : ℕ) (E : List Bool) (F : List Bool → List Bool) → Below (fix b k E F) E
-fix-in true k E F = λ s p. and-out (mem E s) _ (and-out (ltb s k) _ (subst T (mem-table k (λ i. mem E i && all (λ (B : List Bool). mem B i) (fixpoints k F)) s) p) .1) .0
-fix-in false k E F = λ s p. and-out (mem E s) _ (and-out (ltb s k) _ (subst T (mem-table k (λ i. mem E i && any (λ (B : List Bool). mem B i) (fixpoints k F)) s) p) .1) .0
+fix-in true k E F =
+    λ s p. and-out (mem E s) _
+    (and-out (ltb s k) _ (subst T (mem-table k (λ i. mem E i && all (λ (B : List Bool). mem B i) (fixpoints k F)) s) p) .1) .0
+fix-in false k E F =
+    λ s p. and-out (mem E s) _
+    (and-out (ltb s k) _ (subst T (mem-table k (λ i. mem E i && any (λ (B : List Bool). mem B i) (fixpoints k F)) s) p) .1) .0
 
 -- F keeps the order
 abbrev pub Mono : (List Bool → List Bool) → Type 0
@@ -56,10 +62,12 @@ module _ (k : ℕ) (E : List Bool) (F : List Bool → List Bool) (len : (A : Lis
   pub fix-bound : (b : Bool) (A : List Bool) → F A ≡ A → Dir b (fix b k E F) A
   fix-bound true A e = λ s p.
       all-out (λ (B : List Bool). mem B s) (fixed-in A e)
-      (and-out (mem E s) _ (and-out (ltb s k) _ (subst T (mem-table k (λ i. mem E i && all (λ (B : List Bool). mem B i) (fixpoints k F)) s) p) .1) .1)
+      (and-out (mem E s) _
+      (and-out (ltb s k) _ (subst T (mem-table k (λ i. mem E i && all (λ (B : List Bool). mem B i) (fixpoints k F)) s) p) .1) .1)
   fix-bound false A e = λ s p.
       subst T (sym (mem-table k (λ i. mem E i && any (λ (B : List Bool). mem B i) (fixpoints k F)) s))
-      (and-in (ltb s k) _ (lt→ltb s k (subst (λ (n : ℕ). s < n) (fixed-length A e) (mem-lt A s p))) (and-in (mem E s) _ (fixed-below A e s p) (any-in (λ (B : List Bool). mem B s) (fixed-in A e) p)))
+      (and-in (ltb s k) _ (lt→ltb s k (subst (λ (n : ℕ). s < n) (fixed-length A e) (mem-lt A s p)))
+      (and-in (mem E s) _ (fixed-below A e s p) (any-in (λ (B : List Bool). mem B s) (fixed-in A e) p)))
 
   -- what is below each fixpoint is below the least; what is above each is above the greatest
   fix-limit : (b : Bool) (X : List Bool) → length X ≡ k → Below X E → ((A : List Bool) → F A ≡ A → Dir b X A) → Dir b X (fix b k E F)
@@ -68,7 +76,9 @@ module _ (k : ℕ) (E : List Bool) (F : List Bool → List Bool) (len : (A : Lis
       (and-in (ltb s k) _ (lt→ltb s k (subst (λ (n : ℕ). s < n) l (mem-lt X s p)))
       (and-in (mem E s) _ (i s p) (all-in (λ (B : List Bool). mem B s) (fixpoints k F) (λ A m. h A (fixed-out A m) s p))))
   fix-limit false X l i h = λ s p.
-      let w = any-out (λ (B : List Bool). mem B s) (fixpoints k F) (and-out (mem E s) _ (and-out (ltb s k) _ (subst T (mem-table k (λ i. mem E i && any (λ (B : List Bool). mem B i) (fixpoints k F)) s) p) .1) .1) in
+      let w = any-out (λ (B : List Bool). mem B s) (fixpoints k F)
+      (and-out (mem E s) _
+      (and-out (ltb s k) _ (subst T (mem-table k (λ i. mem E i && any (λ (B : List Bool). mem B i) (fixpoints k F)) s) p) .1) .1) in
       h (w .0) (fixed-out (w .0) (w .1)) s (w .2)
 
   module _ (mono : Mono F) (b : Bool) where
@@ -107,7 +117,8 @@ module _ (k : ℕ) (E : List Bool) (F : List Bool → List Bool) (len : (A : Lis
     -- a set of the iteration that F leaves as it is, is the fixpoint that the definition names
     pub iter-found : (j : ℕ) → F (nth j) ≡ nth j → nth j ≡ fix b k E F
     iter-found j e =
-        dir-antisym b (nth j) (fix b k E F) (length-nth j ∙ sym (length-fix b k E F)) (fix-limit b (nth j) (length-nth j) (nth-in j) (λ A. nth-below j A)) (fix-bound b (nth j) e)
+        dir-antisym b (nth j) (fix b k E F) (length-nth j ∙ sym (length-fix b k E F))
+        (fix-limit b (nth j) (length-nth j) (nth-in j) (λ A. nth-below j A)) (fix-bound b (nth j) e)
 
     -- the j-th set is a fixpoint, or the next one has more than j places filled
     climb : (j : ℕ) → (F (nth j) ≡ nth j) ⊎ (j < weight b (nth (suc j)))
@@ -118,7 +129,9 @@ module _ (k : ℕ) (E : List Bool) (F : List Bool → List Bool) (len : (A : Lis
         go (inr l) = inr (omega arith)
     climb (suc j) = go (climb j) (step (suc j))
       where
-        go : (F (nth j) ≡ nth j) ⊎ (j < weight b (nth (suc j))) → (nth (suc j) ≡ nth (suc (suc j))) ⊎ (weight b (nth (suc j)) < weight b (nth (suc (suc j)))) → (F (nth (suc j)) ≡ nth (suc j)) ⊎ (suc j < weight b (nth (suc (suc j))))
+        go : (F (nth j) ≡ nth j) ⊎ (j < weight b (nth (suc j)))
+            → (nth (suc j) ≡ nth (suc (suc j))) ⊎ (weight b (nth (suc j)) < weight b (nth (suc (suc j))))
+            → (F (nth (suc j)) ≡ nth (suc j)) ⊎ (suc j < weight b (nth (suc (suc j))))
         go (inl e) o = inl (ap F e)
         go (inr h) (inl e) = inl (sym e)
         go (inr h) (inr l) = inr (omega arith)
@@ -139,7 +152,8 @@ module _ (k : ℕ) (E : List Bool) (F : List Bool → List Bool) (len : (A : Lis
     fix-fixed = ap F (sym fix-iter) ∙ stable ∙ fix-iter
 
 -- the order of two functions goes over to their fixpoints
-pub fix-mono : (k : ℕ) (E : List Bool) (F G : List Bool → List Bool) → ((A : List Bool) → length (F A) ≡ k) → ((A : List Bool) → length (G A) ≡ k) → Into E F → Into E G → Mono F → Mono G
+pub fix-mono : (k : ℕ) (E : List Bool) (F G : List Bool → List Bool) → ((A : List Bool) → length (F A) ≡ k)
+    → ((A : List Bool) → length (G A) ≡ k) → Into E F → Into E G → Mono F → Mono G
     → ((A B : List Bool) → Below A B → Below (F A) (G B)) → (b : Bool) → Below (fix b k E F) (fix b k E G)
 fix-mono k E F G lF lG iF iG mF mG h b = subst₂ Below (fix-iter k E F lF iF mF b) (fix-iter k E G lG iG mG b) (go k)
   where

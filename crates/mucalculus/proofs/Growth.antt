@@ -35,7 +35,8 @@ module _ {X : Type 0} (q r : X → Bool) (h : (x : X) → T (q x) → T (r x)) w
   any-mono (x ∷ l) p = or-mono (q x) (r x) (any q l) (any r l) (h x) (any-mono l) p
 
 table-mono : (k : ℕ) (g h : ℕ → Bool) → ((s : ℕ) → T (g s) → T (h s)) → Below (table k g) (table k h)
-table-mono k g h i s p = subst T (sym (mem-table k h s)) (and-mono (ltb s k) (ltb s k) (g s) (h s) (λ x. x) (i s) (subst T (mem-table k g s) p))
+table-mono k g h i s p =
+    subst T (sym (mem-table k h s)) (and-mono (ltb s k) (ltb s k) (g s) (h s) (λ x. x) (i s) (subst T (mem-table k g s) p))
 
 module _ (k : ℕ) (A B : List Bool) (h : Below A B) where
   pub clip-mono : Below (clip k A) (clip k B)
@@ -46,15 +47,19 @@ module _ (k : ℕ) (A B : List Bool) (h : Below A B) where
 
   module _ (C D : List Bool) (i : Below C D) where
     pub inter-mono : Below (inter k A C) (inter k B D)
-    inter-mono = table-mono k (λ s. mem A s && mem C s) (λ s. mem B s && mem D s) (λ s. and-mono (mem A s) (mem B s) (mem C s) (mem D s) (h s) (i s))
+    inter-mono =
+        table-mono k (λ s. mem A s && mem C s) (λ s. mem B s && mem D s) (λ s. and-mono (mem A s) (mem B s) (mem C s) (mem D s) (h s) (i s))
 
     pub union-mono : Below (union k A C) (union k B D)
-    union-mono = table-mono k (λ s. mem A s || mem C s) (λ s. mem B s || mem D s) (λ s. or-mono (mem A s) (mem B s) (mem C s) (mem D s) (h s) (i s))
+    union-mono =
+        table-mono k (λ s. mem A s || mem C s) (λ s. mem B s || mem D s) (λ s. or-mono (mem A s) (mem B s) (mem C s) (mem D s) (h s) (i s))
 
 -- diamond grows with its set
 pub sometimes-mono : (k : ℕ) (R : Pairs) (A B : List Bool) → Below A B → Below (sometimes k R A) (sometimes k R B)
 sometimes-mono k R A B h =
-    table-mono k _ _ (λ s. any-mono (λ t. pair R s t && mem A t) (λ t. pair R s t && mem B t) (λ t. and-mono (pair R s t) (pair R s t) (mem A t) (mem B t) (λ x. x) (h t)) (table k (λ t. t)))
+    table-mono k _ _
+    (λ s. any-mono (λ t. pair R s t && mem A t) (λ t. pair R s t && mem B t)
+    (λ t. and-mono (pair R s t) (pair R s t) (mem A t) (mem B t) (λ x. x) (h t)) (table k (λ t. t)))
 
 -- and box, which is NOT, diamond, NOT
 pub always-mono : (k : ℕ) (R : Pairs) (A B : List Bool) → Below A B → Below (always k R A) (always k R B)

@@ -18,7 +18,9 @@ getD-table (suc k) h (suc i) d l = getD-table k (λ j. h (suc j)) i d (le-of-suc
 
 pub table-ext : {X : Type 0} (k : ℕ) (g h : ℕ → X) → ((i : ℕ) → i < k → g i ≡ h i) → table k g ≡ table k h
 table-ext zero g h e = refl
-table-ext {X} (suc k) g h e = ap₂ (λ (x : X) (l : List X). x ∷ l) (e zero (suc-le-suc zero-le)) (table-ext k (λ i. g (suc i)) (λ i. h (suc i)) (λ i l. e (suc i) (suc-le-suc l)))
+table-ext {X} (suc k) g h e =
+    ap₂ (λ (x : X) (l : List X). x ∷ l) (e zero (suc-le-suc zero-le))
+    (table-ext k (λ i. g (suc i)) (λ i. h (suc i)) (λ i l. e (suc i) (suc-le-suc l)))
 
 -- the elements of a table
 pub table-out : {X : Type 0} (k : ℕ) (h : ℕ → X) (P : X → Type 0) → ((i : ℕ) → i < k → P (h i)) → (x : X) → List·Memᴰ x (table k h) → P x
@@ -38,7 +40,10 @@ all-any {X} q r (x ∷ l) h = ap₂ _&&_ (h x (List·Memᴰ·head refl)) (all-an
 
 -- box is NOT, diamond, NOT
 pub box-dual : (k : ℕ) (R : Pairs) (A : List Bool) → always k R A ≡ compl k (sometimes k R (compl k A))
-box-dual k R A = table-ext k _ _ (λ s l. all-any (λ t. not (pair R s t) || mem A t) (λ t. pair R s t && mem (compl k A) t) (table k (λ t. t)) (table-out k (λ t. t) _ (λ t i. inner s t i)) ∙ sym (ap not (getD-table k _ s false l)))
+box-dual k R A =
+    table-ext k _ _
+    (λ s l. all-any (λ t. not (pair R s t) || mem A t) (λ t. pair R s t && mem (compl k A) t) (table k (λ t. t))
+    (table-out k (λ t. t) _ (λ t i. inner s t i)) ∙ sym (ap not (getD-table k _ s false l)))
   where
     inner : (s t : ℕ) → t < k → (not (pair R s t) || mem A t) ≡ not (pair R s t && mem (compl k A) t)
     inner s t i = go (pair R s t) (mem A t) ∙ sym (ap (λ (b : Bool). not (pair R s t && b)) (getD-table k (λ u. not (mem A u)) t false i))

@@ -38,7 +38,9 @@ length-start false k E = length-table k _
 
 pub start-dir : (b : Bool) (k : ℕ) (E A : List Bool) → length A ≡ k → Below A E → Dir b (start b k E) A
 start-dir true k E A e i = λ s p. absurd (mem-noStates k s p)
-start-dir false k E A e i = λ s p. subst T (sym (mem-table k (λ t. mem E t) s)) (and-in (ltb s k) (mem E s) (lt→ltb s k (subst (λ (n : ℕ). s < n) e (mem-lt A s p))) (i s p))
+start-dir false k E A e i =
+    λ s p. subst T (sym (mem-table k (λ t. mem E t) s))
+    (and-in (ltb s k) (mem E s) (lt→ltb s k (subst (λ (n : ℕ). s < n) e (mem-lt A s p))) (i s p))
 
 -- no start leaves E
 pub start-in : (b : Bool) (k : ℕ) (E : List Bool) → Below (start b k E) E
@@ -70,7 +72,8 @@ rise b (a ∷ A) (c ∷ B) e h = go b a c h (rise b A B (suc-inj e) (tail b h))
     up b (inl q) = le-of-eq (ap (weight b) q)
     up b (inr l) = le-of-lt l
 
-    level : (b d : Bool) → (A ≡ B) ⊎ (weight b A < weight b B) → (d ∷ A ≡ d ∷ B) ⊎ (bump (Bool·beq d b) (weight b A) < bump (Bool·beq d b) (weight b B))
+    level : (b d : Bool) → (A ≡ B) ⊎ (weight b A < weight b B)
+        → (d ∷ A ≡ d ∷ B) ⊎ (bump (Bool·beq d b) (weight b A) < bump (Bool·beq d b) (weight b B))
     level b d (inl q) = inl (ap (λ (l : List Bool). d ∷ l) q)
     level b d (inr l) = inr (lift (Bool·beq d b) l)
       where
@@ -78,7 +81,8 @@ rise b (a ∷ A) (c ∷ B) e h = go b a c h (rise b A B (suc-inj e) (tail b h))
         lift true l = suc-le-suc l
         lift false l = l
 
-    go : (b a c : Bool) → Dir b (a ∷ A) (c ∷ B) → (A ≡ B) ⊎ (weight b A < weight b B) → (a ∷ A ≡ c ∷ B) ⊎ (weight b (a ∷ A) < weight b (c ∷ B))
+    go : (b a c : Bool) → Dir b (a ∷ A) (c ∷ B) → (A ≡ B) ⊎ (weight b A < weight b B)
+        → (a ∷ A ≡ c ∷ B) ⊎ (weight b (a ∷ A) < weight b (c ∷ B))
     go b true true h o = level b true o
     go b false false h o = level b false o
     go true true false h o = absurd (h zero tt)

@@ -11,7 +11,8 @@ use Rattle.mucalculus.proofs.Sets.{and-out}
 use Rattle.mucalculus.specs.Order.{Below}
 use Rattle.mucalculus.proofs.Order.{Dir, dir-flip}
 use Rattle.mucalculus.proofs.Fixpoint.{fix, fix-mono}
-use Rattle.mucalculus.specs.Form.{Form, bot, top, neg, conj, disj, now, next, var, reg, box, dia, mu, nu, until, Model, Env, put, reads, steady}
+use Rattle.mucalculus.specs.Form.{Form, bot, top, neg, conj, disj, now, next, var, reg, box, dia, mu, nu, until, Model, Env, put}
+use Rattle.mucalculus.specs.Form.{reads, steady}
 use Rattle.mucalculus.proofs.Growth.{compl-anti, inter-mono, union-mono, sometimes-mono, always-mono}
 use Rattle.mucalculus.proofs.Until.{until-mono}
 use Rattle.mucalculus.specs.Means.{compl, always, size, exist, related, means}
@@ -46,7 +47,8 @@ Turns m f P b = (e : Env) (A B : List Bool) → Dir b A B → Below (means m (pu
 
 -- a binder of Q over f turns with P as f does
 module _ (m : Model) (f : Form) (P Q : ℕ) (b : Bool) (inQ : Turns m f Q true) (inP : Turns m f P b) where
-  body-turns : (e : Env) (A B : List Bool) → Dir b A B → (Y : List Bool) → Below (means m (put (put e P A) Q Y) f) (means m (put (put e P B) Q Y) f)
+  body-turns : (e : Env) (A B : List Bool) → Dir b A B → (Y : List Bool)
+      → Below (means m (put (put e P A) Q Y) f) (means m (put (put e P B) Q Y) f)
   body-turns e A B h Y = by-cases (ℕ-discrete P Q)
       (λ i. subst (λ (U : ℕ). Below (means m (put (put e P A) U Y) f) (means m (put (put e P B) U Y) f)) i
       (subst (λ (d : Env). Below (means m (put (put e P A) P Y) f) (means m d f)) (put-over e P A Y ∙ sym (put-over e P B Y)) (λ s p. p)))
@@ -54,7 +56,8 @@ module _ (m : Model) (f : Form) (P Q : ℕ) (b : Bool) (inQ : Turns m f Q true) 
       (subst (λ (d : Env). Below (means m (put (put e Q Y) P A) f) (means m d f)) (sym (put-swap e P B Q Y ne)) (inP (put e Q Y) A B h)))
 
   binder-turns : (c : Bool) (e : Env) (A B : List Bool) → Dir b A B
-      → Below (fix c (size m) (exist m) (λ X. means m (put (put e P A) Q X) f)) (fix c (size m) (exist m) (λ X. means m (put (put e P B) Q X) f))
+      → Below (fix c (size m) (exist m) (λ X. means m (put (put e P A) Q X) f))
+      (fix c (size m) (exist m) (λ X. means m (put (put e P B) Q X) f))
   binder-turns c e A B h =
       fix-mono (size m) (exist m) (λ X. means m (put (put e P A) Q X) f) (λ X. means m (put (put e P B) Q X) f)
       (λ X. length-means m (put (put e P A) Q X) f) (λ X. length-means m (put (put e P B) Q X) f)
@@ -74,7 +77,8 @@ means-turns m bot s P b r e A B h = λ s p. p
 means-turns m top s P b r e A B h = λ s p. p
 means-turns m (neg f) s P b r e A B h =
     inter-mono (size m) (compl (size m) (means m (put e P A) f)) (compl (size m) (means m (put e P B) f))
-    (compl-anti (size m) (means m (put e P B) f) (means m (put e P A) f) (means-turns m f s P (not b) r e B A (dir-flip b A B h))) (exist m) (exist m) (λ s p. p)
+    (compl-anti (size m) (means m (put e P B) f) (means m (put e P A) f) (means-turns m f s P (not b) r e B A (dir-flip b A B h))) (exist m)
+    (exist m) (λ s p. p)
 means-turns m (conj f g) s P b r e A B h =
     let u = and-out (steady f) (steady g) s in
     let w = and-out (reads b P f) (reads b P g) r in
@@ -87,11 +91,13 @@ means-turns m (disj f g) s P b r e A B h =
     (means m (put e P A) g) (means m (put e P B) g) (means-turns m g (u .1) P b (w .1) e A B h)
 means-turns m (now p) s P b r e A B h = λ s p. p
 means-turns m (next p) s P b r e A B h = λ s p. p
-means-turns m (var Q) s P b r e A B h = inter-mono (size m) (put e P A Q) (put e P B Q) (var-turns (eqb Q P) b A B (e Q) r h) (exist m) (exist m) (λ s p. p)
+means-turns m (var Q) s P b r e A B h =
+    inter-mono (size m) (put e P A Q) (put e P B Q) (var-turns (eqb Q P) b A B (e Q) r h) (exist m) (exist m) (λ s p. p)
 means-turns m (reg x) s P b r e A B h = λ s p. p
 means-turns m (box t f) s P b r e A B h =
     inter-mono (size m) (always (size m) (related m t) (means m (put e P A) f)) (always (size m) (related m t) (means m (put e P B) f))
-    (always-mono (size m) (related m t) (means m (put e P A) f) (means m (put e P B) f) (means-turns m f s P b r e A B h)) (exist m) (exist m) (λ s p. p)
+    (always-mono (size m) (related m t) (means m (put e P A) f) (means m (put e P B) f) (means-turns m f s P b r e A B h)) (exist m)
+    (exist m) (λ s p. p)
 means-turns m (dia t f) s P b r e A B h =
     sometimes-mono (size m) (related m t) (means m (put e P A) f) (means m (put e P B) f) (means-turns m f s P b r e A B h)
 means-turns m (mu Q f) s P b r e A B h =

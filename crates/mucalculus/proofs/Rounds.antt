@@ -11,7 +11,8 @@ use Rattle.mucalculus.specs.Sets.{same}
 use Rattle.mucalculus.proofs.Sets.{same-refl, true-of}
 use Rattle.mucalculus.specs.Order.{start}
 use Rattle.mucalculus.proofs.Fixpoint.{iter}
-use Rattle.mucalculus.specs.Form.{Form, bot, top, neg, conj, disj, now, next, var, reg, box, dia, mu, nu, until, Model, Env, put, reads, steady}
+use Rattle.mucalculus.specs.Form.{Form, bot, top, neg, conj, disj, now, next, var, reg, box, dia, mu, nu, until, Model, Env, put}
+use Rattle.mucalculus.specs.Form.{reads, steady}
 use Rattle.mucalculus.specs.Means.{size, exist, related, means}
 use Rattle.mucalculus.specs.Until.{onward}
 use Rattle.mucalculus.specs.Binder.{body}
@@ -63,7 +64,8 @@ one-of : (a b : ℕ) → a + b ≤ 1 → (a ≡ zero) ⊎ (b ≡ zero)
 one-of zero b h = inl refl
 one-of (suc a) b h = inr (omega arith)
 
-two-bound : (m : Model) (e : Env) (f g : Form) → (binders f ≤ 1 → rounds m e f ≤ suc (size m)) → (binders g ≤ 1 → rounds m e g ≤ suc (size m))
+two-bound : (m : Model) (e : Env) (f g : Form) → (binders f ≤ 1 → rounds m e f ≤ suc (size m))
+    → (binders g ≤ 1 → rounds m e g ≤ suc (size m))
     → binders f + binders g ≤ 1 → rounds m e f + rounds m e g ≤ suc (size m)
 two-bound m e f g i j h = go (one-of (binders f) (binders g) h)
   where
@@ -84,8 +86,12 @@ rounds-bound m e (var P) h = zero-le
 rounds-bound m e (reg r) h = zero-le
 rounds-bound m e (box t f) h = rounds-bound m e f h
 rounds-bound m e (dia t f) h = rounds-bound m e f h
-rounds-bound m e (mu P f) h = runs-bound (body m e P f) (λ A. rounds m (put e P A) f) (λ A. rounds-none m (put e P A) f (omega arith)) (suc (size m)) (start true (size m) (exist m))
-rounds-bound m e (nu P f) h = runs-bound (body m e P f) (λ A. rounds m (put e P A) f) (λ A. rounds-none m (put e P A) f (omega arith)) (suc (size m)) (start false (size m) (exist m))
+rounds-bound m e (mu P f) h =
+    runs-bound (body m e P f) (λ A. rounds m (put e P A) f) (λ A. rounds-none m (put e P A) f (omega arith)) (suc (size m))
+    (start true (size m) (exist m))
+rounds-bound m e (nu P f) h =
+    runs-bound (body m e P f) (λ A. rounds m (put e P A) f) (λ A. rounds-none m (put e P A) f (omega arith)) (suc (size m))
+    (start false (size m) (exist m))
 rounds-bound m e (until b t f g) h =
     runs-bound (onward b (size m) (related m t) (means m e f) (means m e g)) (λ A. rounds m e g + rounds m e f)
     (λ A. omega (arith, rounds-none m e g (omega arith), rounds-none m e f (omega arith))) (suc (size m)) (start true (size m) (exist m))
@@ -101,16 +107,19 @@ pub same-set : {A B : List Bool} → B ≡ A → same B A ≡ true
 same-set {A} e = true-of _ (subst (λ (C : List Bool). T (same C A)) (sym e) (same-refl A))
 
 -- where j rounds leave a set that the next one keeps, a larger bound than j + 1 gives the same
-runs-more : (F : List Bool → List Bool) (c : List Bool → ℕ) (j k : ℕ) → j ≤ k → (A : List Bool) → F (iter F j A) ≡ iter F j A → runs F c (suc k) A ≡ runs F c (suc j) A
+runs-more : (F : List Bool → List Bool) (c : List Bool → ℕ) (j k : ℕ) → j ≤ k → (A : List Bool) → F (iter F j A) ≡ iter F j A
+    → runs F c (suc k) A ≡ runs F c (suc j) A
 runs-more F c zero k l A e = ends (runs F c k (F A)) ∙ sym (ends zero)
   where
     ends : (more : ℕ) → suc (c A) + cond (same (F A) A) zero more ≡ suc (c A) + zero
     ends more = ap (λ (t : Bool). suc (c A) + cond t zero more) (same-set e)
 runs-more F c (suc j) zero l A e = absurd (omega arith)
 runs-more F c (suc j) (suc k) l A e =
-    ap (λ (more : ℕ). suc (c A) + cond (same (F A) A) zero more) (runs-more F c j k (omega arith) (F A) (subst (λ (B : List Bool). F B ≡ B) (sym (iter-on F j A)) e))
+    ap (λ (more : ℕ). suc (c A) + cond (same (F A) A) zero more)
+    (runs-more F c j k (omega arith) (F A) (subst (λ (B : List Bool). F B ≡ B) (sym (iter-on F j A)) e))
 
 -- after check 6 any bound from 2^n + 1 on gives the same rounds
-pub rounds-cap : (m : Model) (e : Env) (P : ℕ) (f : Form) → T (steady f) → T (reads true P f) → (b : Bool) (c : List Bool → ℕ) (k : ℕ) → size m ≤ k
+pub rounds-cap : (m : Model) (e : Env) (P : ℕ) (f : Form) → T (steady f) → T (reads true P f) → (b : Bool) (c : List Bool → ℕ) (k : ℕ)
+    → size m ≤ k
     → runs (body m e P f) c (suc k) (start b (size m) (exist m)) ≡ runs (body m e P f) c (suc (size m)) (start b (size m) (exist m))
 rounds-cap m e P f s t b c k l = runs-more (body m e P f) c (size m) k l (start b (size m) (exist m)) (round-ends m e P f s t b)

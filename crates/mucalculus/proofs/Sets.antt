@@ -2,7 +2,8 @@
 use mathlib.Core.Path.{_≡_, refl, sym, ap, _∙_, subst}
 use mathlib.Core.Logic.{_⊎_, inl, inr}
 use mathlib.Core.Bool.{Bool, true, false, _&&_, _||_, cond}
-use mathlib.Core.List.{List, [], _∷_, map, List·Memᴰ, List·Memᴰ·head, List·Memᴰ·tail, List·Memᴰ·not-nil, Memᴰ·append-left, Memᴰ·append-right}
+use mathlib.Core.List.{List, [], _∷_, map, List·Memᴰ, List·Memᴰ·head, List·Memᴰ·tail, List·Memᴰ·not-nil, Memᴰ·append-left}
+use mathlib.Core.List.{Memᴰ·append-right}
 use Prim.Native.Nat.{ℕ, zero, suc, _<_, zero-le, suc-le-suc}
 use lib.Dec.{T, ltb, lt→ltb, leb·suc-suc, leb·suc-zero, leb·zero}
 use lib.ListN.{length}
@@ -116,7 +117,8 @@ pub bitLists-all : (A : List Bool) → List·Memᴰ A (bitLists (length A))
 unfolding bitLists
 bitLists-all [] = List·Memᴰ·head refl
 bitLists-all (false ∷ A) = Memᴰ·append-left _ (map-mem (λ (B : List Bool). false ∷ B) (bitLists-all A))
-bitLists-all (true ∷ A) = Memᴰ·append-right (map (λ (B : List Bool). false ∷ B) (bitLists (length A))) (map-mem (λ (B : List Bool). true ∷ B) (bitLists-all A))
+bitLists-all (true ∷ A) =
+    Memᴰ·append-right (map (λ (B : List Bool). false ∷ B) (bitLists (length A))) (map-mem (λ (B : List Bool). true ∷ B) (bitLists-all A))
 
 pub same-refl : (A : List Bool) → T (same A A)
 same-refl [] = tt

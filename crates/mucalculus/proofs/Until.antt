@@ -66,7 +66,8 @@ module _ {X : Type 0} where
   every-true (x ∷ l) = every-true l
 
   -- over a list that is not empty, what does not depend on the element comes out
-  over-frame : (b a c : Bool) (q : X → Bool) (l : List X) → T (any (λ x. true) l) → over b (λ x. a || (c && q x)) l ≡ (a || (c && over b q l))
+  over-frame : (b a c : Bool) (q : X → Bool) (l : List X) → T (any (λ x. true) l)
+      → over b (λ x. a || (c && q x)) l ≡ (a || (c && over b q l))
   over-frame b a c q [] t = absurd t
   over-frame true true c q (x ∷ l) t = refl
   over-frame false true c q (x ∷ l) t = every-true (x ∷ l)
@@ -78,7 +79,8 @@ module _ {X : Type 0} where
   some-keep p q [] = refl
   some-keep p q (x ∷ l) = go (p x) (some-keep p q l)
     where
-      go : (c : Bool) → any q (keep p l) ≡ any (λ x. p x && q x) l → any q (cond c (x ∷ keep p l) (keep p l)) ≡ (c && q x || any (λ x. p x && q x) l)
+      go : (c : Bool) → any q (keep p l) ≡ any (λ x. p x && q x) l
+          → any q (cond c (x ∷ keep p l) (keep p l)) ≡ (c && q x || any (λ x. p x && q x) l)
       go true e = ap (λ (d : Bool). q x || d) e
       go false e = e
 
@@ -86,7 +88,8 @@ module _ {X : Type 0} where
   every-keep p q [] = refl
   every-keep p q (x ∷ l) = go (p x) (every-keep p q l)
     where
-      go : (c : Bool) → all q (keep p l) ≡ all (λ x. not (p x) || q x) l → all q (cond c (x ∷ keep p l) (keep p l)) ≡ ((not c || q x) && all (λ x. not (p x) || q x) l)
+      go : (c : Bool) → all q (keep p l) ≡ all (λ x. not (p x) || q x) l
+          → all q (cond c (x ∷ keep p l) (keep p l)) ≡ ((not c || q x) && all (λ x. not (p x) || q x) l)
       go true e = ap (λ (d : Bool). q x && d) e
       go false e = e
 
@@ -123,7 +126,8 @@ passes-step F G s l = go (mem G s) (any (λ t. mem G t) l)
     turn true c d = refl
     turn false c d = sym (and-false c)
 
-    go : (g a : Bool) → ((g || a) && all (λ t. mem F t) (cond g [] (s ∷ before G l))) ≡ (g || (mem F s && (a && all (λ t. mem F t) (before G l))))
+    go : (g a : Bool)
+        → ((g || a) && all (λ t. mem F t) (cond g [] (s ∷ before G l))) ≡ (g || (mem F s && (a && all (λ t. mem F t) (before G l))))
     go true a = refl
     go false a = turn a (mem F s) (all (λ t. mem F t) (before G l))
 
@@ -140,7 +144,8 @@ module _ (k : ℕ) (R : Pairs) where
   not-stuck s e = go (any (λ t. pair R s t) states) refl e
     where
       go : (c : Bool) → any (λ t. pair R s t) states ≡ c → not c ≡ false → T (any (λ t. pair R s t && true) states)
-      go true h i = subst T (sym h ∙ over-same true (λ t. pair R s t) (λ t. pair R s t && true) states (λ t m. sym (and-true (pair R s t)))) tt
+      go true h i =
+          subst T (sym h ∙ over-same true (λ t. pair R s t) (λ t. pair R s t && true) states (λ t m. sym (and-true (pair R s t)))) tt
       go false h i = absurd (subst T i tt)
 
   nexts-some : (s : ℕ) → stuck k R s ≡ false → T (any (λ t. true) (nexts k R s))
@@ -149,7 +154,8 @@ module _ (k : ℕ) (R : Pairs) where
   stuck-some : (s : ℕ) (X : ℕ → Bool) → stuck k R s ≡ true → T (any (λ t. pair R s t && X t) states) → ⊥
   stuck-some s X e t =
       let w = any-out (λ t. pair R s t && X t) states t in
-      T-not (any (λ t. pair R s t) states) (subst T (sym e) tt) (any-in (λ t. pair R s t) (w .1) (and-out (pair R s (w .0)) (X (w .0)) (w .2) .0))
+      T-not (any (λ t. pair R s t) states) (subst T (sym e) tt)
+      (any-in (λ t. pair R s t) (w .1) (and-out (pair R s (w .0)) (X (w .0)) (w .2) .0))
 
   stuck-step : (b : Bool) (s : ℕ) (X : ℕ → Bool) → stuck k R s ≡ true → step b s X ≡ false
   stuck-step true s X e = false-of _ (stuck-some s X e)
@@ -166,24 +172,36 @@ module _ (k : ℕ) (R : Pairs) where
   step-none true s = over-same true (λ t. pair R s t && false) (λ t. false) states (λ t m. and-false (pair R s t)) ∙ some-false states
   step-none false s = none-both (λ t. pair R s t) states
 
-  step-further : (b : Bool) (A : List Bool) (X : ℕ → Bool) (s : ℕ) → s < k → ((t : ℕ) → t < k → mem A t ≡ X t) → mem (further b k R A) s ≡ step b s X
+  step-further : (b : Bool) (A : List Bool) (X : ℕ → Bool) (s : ℕ) → s < k → ((t : ℕ) → t < k → mem A t ≡ X t)
+      → mem (further b k R A) s ≡ step b s X
   step-further true A X s l h =
-      getD-table k _ s false l ∙ over-same true (λ t. pair R s t && mem A t) (λ t. pair R s t && X t) states (table-out k (λ t. t) (λ t. (pair R s t && mem A t) ≡ (pair R s t && X t)) (λ t i. ap (λ (c : Bool). pair R s t && c) (h t i)))
+      getD-table k _ s false l
+      ∙ over-same true (λ t. pair R s t && mem A t) (λ t. pair R s t && X t) states
+      (table-out k (λ t. t) (λ t. (pair R s t && mem A t) ≡ (pair R s t && X t)) (λ t i. ap (λ (c : Bool). pair R s t && c) (h t i)))
   step-further false A X s l h =
       getD-table k _ s false l
       ∙ ap₂ _&&_
-      (getD-table k _ s false l ∙ over-same false (λ t. not (pair R s t) || mem A t) (λ t. not (pair R s t) || X t) states (table-out k (λ t. t) (λ t. (not (pair R s t) || mem A t) ≡ (not (pair R s t) || X t)) (λ t i. ap (λ (c : Bool). not (pair R s t) || c) (h t i))))
-      (getD-table k _ s false l ∙ over-same true (λ t. pair R s t && mem (allStates k) t) (λ t. pair R s t && true) states (table-out k (λ t. t) (λ t. (pair R s t && mem (allStates k) t) ≡ (pair R s t && true)) (λ t i. ap (λ (c : Bool). pair R s t && c) (getD-table k (λ u. true) t false i))))
+      (getD-table k _ s false l
+      ∙ over-same false (λ t. not (pair R s t) || mem A t) (λ t. not (pair R s t) || X t) states
+      (table-out k (λ t. t) (λ t. (not (pair R s t) || mem A t) ≡ (not (pair R s t) || X t))
+      (λ t i. ap (λ (c : Bool). not (pair R s t) || c) (h t i))))
+      (getD-table k _ s false l
+      ∙ over-same true (λ t. pair R s t && mem (allStates k) t) (λ t. pair R s t && true) states
+      (table-out k (λ t. t) (λ t. (pair R s t && mem (allStates k) t) ≡ (pair R s t && true))
+      (λ t i. ap (λ (c : Bool). pair R s t && c) (getD-table k (λ u. true) t false i))))
 
   -- each state has a run
   walks-some : (j s : ℕ) → T (any (λ l. true) (walks k R j s))
   walks-some zero s = tt
   walks-some (suc j) s = go (λ t. over-map true (λ l. t ∷ l) (λ l. true) (walks k R j t) ∙ true-of _ (walks-some j t)) (stuck k R s) refl
     where
-      go : ((t : ℕ) → any (λ l. true) (map (λ l. t ∷ l) (walks k R j t)) ≡ true) → (c : Bool) → stuck k R s ≡ c → T (any (λ l. true) (cond c ([] ∷ []) (gather (λ t. map (λ l. t ∷ l) (walks k R j t)) (nexts k R s))))
+      go : ((t : ℕ) → any (λ l. true) (map (λ l. t ∷ l) (walks k R j t)) ≡ true) → (c : Bool) → stuck k R s ≡ c
+          → T (any (λ l. true) (cond c ([] ∷ []) (gather (λ t. map (λ l. t ∷ l) (walks k R j t)) (nexts k R s))))
       go each true e = tt
       go each false e =
-          subst T (sym (over-gather true (λ t. map (λ l. t ∷ l) (walks k R j t)) (λ l. true) (nexts k R s) ∙ over-same true _ (λ t. true) (nexts k R s) (λ t m. each t))) (nexts-some s e)
+          subst T
+          (sym (over-gather true (λ t. map (λ l. t ∷ l) (walks k R j t)) (λ l. true) (nexts k R s)
+          ∙ over-same true _ (λ t. true) (nexts k R s) (λ t m. each t))) (nexts-some s e)
 
   module _ (b : Bool) (F G : List Bool) where
     -- the runs of at most j steps from s, some or every one, pass
@@ -206,7 +224,9 @@ module _ (k : ℕ) (R : Pairs) where
             ∙ over-same b _ _ (walks k R j t) (λ l m. passes-step F G s (t ∷ l))
             ∙ over-frame b (mem G s) (mem F s) (λ l. passes F G (t ∷ l)) (walks k R j t) (walks-some j t)
 
-        go : (c : Bool) → stuck k R s ≡ c → over b (λ l. passes F G (s ∷ l)) (cond c ([] ∷ []) (gather (λ t. map (λ l. t ∷ l) (walks k R j t)) (nexts k R s))) ≡ (mem G s || (mem F s && step b s (within j)))
+        go : (c : Bool) → stuck k R s ≡ c
+            → over b (λ l. passes F G (s ∷ l)) (cond c ([] ∷ []) (gather (λ t. map (λ l. t ∷ l) (walks k R j t)) (nexts k R s)))
+            ≡ (mem G s || (mem F s && step b s (within j)))
         go true e = alone s (within j) (stuck-step b s (within j) e)
         go false e =
             over-gather b (λ t. map (λ l. t ∷ l) (walks k R j t)) (λ l. passes F G (s ∷ l)) (nexts k R s)
@@ -219,15 +239,18 @@ module _ (k : ℕ) (R : Pairs) where
     abbrev round : List Bool → List Bool
     round A = onward b k R F G A
 
-    round-mem : (A : List Bool) (X : ℕ → Bool) → ((t : ℕ) → t < k → mem A t ≡ X t) → (s : ℕ) → s < k → (mem G s || mem (inter k F (further b k R A)) s) ≡ (mem G s || (mem F s && step b s X))
-    round-mem A X h s l = ap (λ (c : Bool). mem G s || c) (getD-table k _ s false l ∙ ap (λ (c : Bool). mem F s && c) (step-further b A X s l h))
+    round-mem : (A : List Bool) (X : ℕ → Bool) → ((t : ℕ) → t < k → mem A t ≡ X t) → (s : ℕ) → s < k
+        → (mem G s || mem (inter k F (further b k R A)) s) ≡ (mem G s || (mem F s && step b s X))
+    round-mem A X h s l =
+        ap (λ (c : Bool). mem G s || c) (getD-table k _ s false l ∙ ap (λ (c : Bool). mem F s && c) (step-further b A X s l h))
 
     -- the runs of at most j steps are j + 1 rounds
     within-iter : (j : ℕ) → table k (within j) ≡ iter round (suc j) (noStates k)
     within-iter zero = table-ext k _ _ (λ s l.
         alone s (λ t. false) (step-none b s) ∙ sym (round-mem (noStates k) (λ t. false) (λ t i. getD-table k (λ u. false) t false i) s l))
     within-iter (suc j) =
-        table-ext k _ _ (λ s l. within-step j s ∙ sym (round-mem (table k (within j)) (within j) (λ t i. getD-table k (within j) t false i) s l))
+        table-ext k _ _
+        (λ s l. within-step j s ∙ sym (round-mem (table k (within j)) (within j) (λ t i. getD-table k (within j) t false i) s l))
         ∙ ap round (within-iter j)
 
     pub onward-length : (A : List Bool) → length (onward b k R F G A) ≡ k
@@ -235,12 +258,16 @@ module _ (k : ℕ) (R : Pairs) where
 
   further-mono : (b : Bool) (A B : List Bool) → Below A B → Below (further b k R A) (further b k R B)
   further-mono true A B h = sometimes-mono k R A B h
-  further-mono false A B h = inter-mono k (always k R A) (always k R B) (always-mono k R A B h) (sometimes k R (allStates k)) (sometimes k R (allStates k)) (λ s p. p)
+  further-mono false A B h =
+      inter-mono k (always k R A) (always k R B) (always-mono k R A B h) (sometimes k R (allStates k)) (sometimes k R (allStates k))
+      (λ s p. p)
 
   -- a round grows with all its parts
-  pub onward-grows : (b : Bool) (F F′ : List Bool) → Below F F′ → (G G′ : List Bool) → Below G G′ → (A B : List Bool) → Below A B → Below (onward b k R F G A) (onward b k R F′ G′ B)
+  pub onward-grows : (b : Bool) (F F′ : List Bool) → Below F F′ → (G G′ : List Bool) → Below G G′ → (A B : List Bool) → Below A B
+      → Below (onward b k R F G A) (onward b k R F′ G′ B)
   onward-grows b F F′ f G G′ g A B h =
-      union-mono k G G′ g (inter k F (further b k R A)) (inter k F′ (further b k R B)) (inter-mono k F F′ f (further b k R A) (further b k R B) (further-mono b A B h))
+      union-mono k G G′ g (inter k F (further b k R A)) (inter k F′ (further b k R B))
+      (inter-mono k F F′ f (further b k R A) (further b k R B) (further-mono b A B h))
 
   pub onward-mono : (b : Bool) (F G : List Bool) → Mono (onward b k R F G)
   onward-mono b F G = onward-grows b F F (λ s p. p) G G (λ s p. p)
@@ -252,9 +279,11 @@ module _ (k : ℕ) (R : Pairs) where
       ∙ stable k E (onward b k R F G) (onward-length b F G) i (onward-mono b F G) true
       ∙ fix-iter k E (onward b k R F G) (onward-length b F G) i (onward-mono b F G) true
 
-  pub until-mono : (b : Bool) (F F′ : List Bool) → Below F F′ → (G G′ : List Bool) → Below G G′ → Below (untilSet b k R F G) (untilSet b k R F′ G′)
+  pub until-mono : (b : Bool) (F F′ : List Bool) → Below F F′ → (G G′ : List Bool) → Below G G′
+      → Below (untilSet b k R F G) (untilSet b k R F′ G′)
   until-mono b F F′ f G G′ g =
       let i = into-all k (onward b k R F G) (onward-length b F G) in
       let j = into-all k (onward b k R F′ G′) (onward-length b F′ G′) in
       subst₂ Below (sym (until-least b F G (allStates k) i)) (sym (until-least b F′ G′ (allStates k) j))
-      (fix-mono k (allStates k) (onward b k R F G) (onward b k R F′ G′) (onward-length b F G) (onward-length b F′ G′) i j (onward-mono b F G) (onward-mono b F′ G′) (onward-grows b F F′ f G G′ g) true)
+      (fix-mono k (allStates k) (onward b k R F G) (onward b k R F′ G′) (onward-length b F G) (onward-length b F′ G′) i j
+      (onward-mono b F G) (onward-mono b F′ G′) (onward-grows b F F′ f G G′ g) true)

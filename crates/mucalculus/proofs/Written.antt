@@ -8,7 +8,8 @@ use lib.Dec.{T, T-not, eqb, eqb-refl}
 use Rattle.mucalculus.proofs.Sets.{and-out, true-of}
 use Rattle.mucalculus.specs.Order.{start}
 use Rattle.mucalculus.specs.Fixpoint.{least, greatest}
-use Rattle.mucalculus.specs.Form.{Form, bot, top, neg, conj, disj, now, next, var, reg, box, dia, mu, nu, until, Pairs, Model, Env, put, lacks, mentioned}
+use Rattle.mucalculus.specs.Form.{Form, bot, top, neg, conj, disj, now, next, var, reg, box, dia, mu, nu, until, Pairs, Model, Env}
+use Rattle.mucalculus.specs.Form.{put, lacks, mentioned}
 use Rattle.mucalculus.specs.Runs.{untilSet}
 use Rattle.mucalculus.specs.Means.{compl, inter, union, always, sometimes, size, exist, related, means}
 use Rattle.mucalculus.proofs.Exist.{means-in, related-inside, inter-agrees, sometimes-same, always-same, further-in, onward-into}
@@ -27,7 +28,8 @@ pub var-apart : {Y : Type 0} (c : Bool) (x y : Y) → T (not c) → cond c x y �
 var-apart true x y h = absurd h
 var-apart false x y h = refl
 
-pub runs-same : (F G : List Bool → List Bool) (c d : List Bool → ℕ) (j : ℕ) (A : List Bool) → ((B : List Bool) → F B ≡ G B) → ((B : List Bool) → c B ≡ d B) → runs F c j A ≡ runs G d j A
+pub runs-same : (F G : List Bool → List Bool) (c d : List Bool → ℕ) (j : ℕ) (A : List Bool) → ((B : List Bool) → F B ≡ G B)
+    → ((B : List Bool) → c B ≡ d B) → runs F c j A ≡ runs G d j A
 runs-same F G c d j A h i = ap₂ (λ (K : List Bool → List Bool) (k : List Bool → ℕ). runs K k j A) (fun-ext h) (fun-ext i)
 
 module _ (m : Model) (X : ℕ) (A : List Bool) where
@@ -35,8 +37,10 @@ module _ (m : Model) (X : ℕ) (A : List Bool) where
   means-absent bot h e = refl
   means-absent top h e = refl
   means-absent (neg f) h e = ap (λ (B : List Bool). inter (size m) (compl (size m) B) (exist m)) (means-absent f h e)
-  means-absent (conj f g) h e = let w = and-out (absent X f) (absent X g) h in ap₂ (inter (size m)) (means-absent f (w .0) e) (means-absent g (w .1) e)
-  means-absent (disj f g) h e = let w = and-out (absent X f) (absent X g) h in ap₂ (union (size m)) (means-absent f (w .0) e) (means-absent g (w .1) e)
+  means-absent (conj f g) h e =
+      let w = and-out (absent X f) (absent X g) h in ap₂ (inter (size m)) (means-absent f (w .0) e) (means-absent g (w .1) e)
+  means-absent (disj f g) h e =
+      let w = and-out (absent X f) (absent X g) h in ap₂ (union (size m)) (means-absent f (w .0) e) (means-absent g (w .1) e)
   means-absent (now p) h e = refl
   means-absent (next p) h e = refl
   means-absent (var P) h e = ap (λ (B : List Bool). inter (size m) B (exist m)) (var-apart (eqb P X) A (e P) h)
@@ -47,14 +51,18 @@ module _ (m : Model) (X : ℕ) (A : List Bool) where
       ap (λ (d : Env). means m d f) (put-swap e X A P B (apart P X (w .0))) ∙ means-absent f (w .1) (put e P B)))
   means-absent (nu P f) h e = let w = and-out (not (eqb P X)) (absent X f) h in ap (greatest (size m) (exist m)) (fun-ext (λ B.
       ap (λ (d : Env). means m d f) (put-swap e X A P B (apart P X (w .0))) ∙ means-absent f (w .1) (put e P B)))
-  means-absent (until b t f g) h e = let w = and-out (absent X f) (absent X g) h in ap₂ (λ (F G : List Bool). untilSet b (size m) (related m t) F G) (means-absent f (w .0) e) (means-absent g (w .1) e)
+  means-absent (until b t f g) h e =
+      let w = and-out (absent X f) (absent X g) h in
+      ap₂ (λ (F G : List Bool). untilSet b (size m) (related m t) F G) (means-absent f (w .0) e) (means-absent g (w .1) e)
 
   pub rounds-absent : (f : Form) → T (absent X f) → (e : Env) → rounds m (put e X A) f ≡ rounds m e f
   rounds-absent bot h e = refl
   rounds-absent top h e = refl
   rounds-absent (neg f) h e = rounds-absent f h e
-  rounds-absent (conj f g) h e = let w = and-out (absent X f) (absent X g) h in ap₂ _+_ (rounds-absent f (w .0) e) (rounds-absent g (w .1) e)
-  rounds-absent (disj f g) h e = let w = and-out (absent X f) (absent X g) h in ap₂ _+_ (rounds-absent f (w .0) e) (rounds-absent g (w .1) e)
+  rounds-absent (conj f g) h e =
+      let w = and-out (absent X f) (absent X g) h in ap₂ _+_ (rounds-absent f (w .0) e) (rounds-absent g (w .1) e)
+  rounds-absent (disj f g) h e =
+      let w = and-out (absent X f) (absent X g) h in ap₂ _+_ (rounds-absent f (w .0) e) (rounds-absent g (w .1) e)
   rounds-absent (now p) h e = refl
   rounds-absent (next p) h e = refl
   rounds-absent (var P) h e = refl
@@ -97,7 +105,8 @@ module _ (m : Model) (e : Env) (b : Bool) (t X : ℕ) where
       read = ap (λ (B : List Bool). inter k B (exist m)) (put-here e X A)
 
       go : (b : Bool) → means m (put e X A) (goes b t X) ≡ further b (size m) (related m t) A
-      go true = ap (sometimes k Q) read ∙ sometimes-same k (exist m) Q (related-inside m t) (inter k A (exist m)) A (inter-agrees k (exist m) A)
+      go true =
+          ap (sometimes k Q) read ∙ sometimes-same k (exist m) Q (related-inside m t) (inter k A (exist m)) A (inter-agrees k (exist m) A)
       go false =
           ap (λ (B : List Bool). inter k (inter k B (exist m)) (sometimes k Q (exist m)))
           (ap (always k Q) read ∙ always-same k (exist m) Q (related-inside m t) (inter k A (exist m)) A (inter-agrees k (exist m) A))
@@ -105,13 +114,17 @@ module _ (m : Model) (e : Env) (b : Bool) (t X : ℕ) where
 
   module _ (f g : Form) (hf : T (absent X f)) (hg : T (absent X g)) where
     -- a round of the written formula is one of until
-    pub written-round : (A : List Bool) → means m (put e X A) (disj g (conj f (goes b t X))) ≡ onward b (size m) (related m t) (means m e f) (means m e g) A
+    pub written-round : (A : List Bool)
+        → means m (put e X A) (disj g (conj f (goes b t X))) ≡ onward b (size m) (related m t) (means m e f) (means m e g) A
     written-round A =
         ap₂ (union (size m)) (means-absent m X A g hg e) (ap₂ (inter (size m)) (means-absent m X A f hf e) (goes-means A))
 
     -- UNTIL IS THE WRITTEN FORMULA, in meaning
     pub until-written : means m e (until b t f g) ≡ means m e (written b t X f g)
-    until-written = until-least (size m) (related m t) b (means m e f) (means m e g) (exist m) (onward-into m t b (means m e f) (means m e g) (means-in m e f) (means-in m e g)) ∙ ap (least (size m) (exist m)) (fun-ext (λ A. sym (written-round A)))
+    until-written =
+        until-least (size m) (related m t) b (means m e f) (means m e g) (exist m)
+        (onward-into m t b (means m e f) (means m e g) (means-in m e f) (means-in m e g))
+        ∙ ap (least (size m) (exist m)) (fun-ext (λ A. sym (written-round A)))
 
     -- and in rounds
     pub rounds-written : rounds m e (until b t f g) ≡ rounds m e (written b t X f g)
@@ -138,7 +151,9 @@ mentioned-written b t X f g =
     ∙ none (lacks X g) (lacks X f)
     ∙ ap (λ (c : Bool). mentioned g && c) (last b)
   where
-    none : (x y : Bool) → (not (x && (y && false)) && (mentioned g && (mentioned f && mentioned (goes b t X)))) ≡ (mentioned g && (mentioned f && mentioned (goes b t X)))
+    none : (x y : Bool)
+        → (not (x && (y && false)) && (mentioned g && (mentioned f && mentioned (goes b t X))))
+        ≡ (mentioned g && (mentioned f && mentioned (goes b t X)))
     none true true = refl
     none true false = refl
     none false y = refl

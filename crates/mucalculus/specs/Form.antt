@@ -1,4 +1,5 @@
--- Formulas of the mu-calculus as trees, what they are read over, and the conditions that checks 4, 5, 12 and 6 put on a tree. Assumes nothing.
+-- Formulas of the mu-calculus as trees, what they are read over, and the conditions that checks 4, 5, 12 and 6 put on a tree.
+-- Assumes nothing.
 use mathlib.Core.Bool.{Bool, true, false, not, _&&_, _||_, cond}
 use mathlib.Core.List.{List, []}
 use mathlib.Core.Option.{Option, none, some}

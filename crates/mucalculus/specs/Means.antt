@@ -6,7 +6,8 @@ use lib.Dec.{eqb}
 use Rattle.mucalculus.specs.Sets.{mem, table, noStates, all, any}
 use Rattle.mucalculus.specs.Fixpoint.{least, greatest}
 pub use Rattle.mucalculus.specs.Runs.{pair, untilSet}
-use Rattle.mucalculus.specs.Form.{Form, bot, top, neg, conj, disj, now, next, var, reg, box, dia, mu, nu, until, Pairs, Model, Env, put, inside}
+use Rattle.mucalculus.specs.Form.{Form, bot, top, neg, conj, disj, now, next, var, reg, box, dia, mu, nu, until, Pairs, Model, Env}
+use Rattle.mucalculus.specs.Form.{put, inside}
 
 -- ---- operations on sets of k states
 
@@ -56,7 +57,8 @@ exist m = clip (size m) (m .valid)
 abbrev pub related : Model → ℕ → Pairs
 related m t = let E = exist m in table (size m) (λ s. table (size m) (λ u. (mem E s && mem E u) && pair (inside (m .rel t)) s u))
 
--- the states in which f holds (a next bit is of relation calls only, and holds nowhere): "true means V, NOT V without the set, a bit its states in
+-- the states in which f holds (a next bit is of relation calls only, and holds nowhere): "true means V, NOT V without the set, a bit its
+-- states in
 -- V"; a variable and a register are read with their states in V
 abbrev pub means : Model → Env → Form → List Bool
 means m e bot = noStates (size m)

@@ -1,5 +1,5 @@
--- How many rounds a formula takes: "Every evaluated body, inner ones included, is one round"; and that with one binder they are at most 2^n + 1.
--- Assumes nothing.
+-- How many rounds a formula takes: "Every evaluated body, inner ones included, is one round"; and that with one binder they are at most 2^n
+-- + 1. Assumes nothing.
 use mathlib.Core.Bool.{Bool, true, false, cond}
 use mathlib.Core.List.{List}
 use Prim.Native.Nat.{ℕ, zero, suc, _+_}
@@ -30,4 +30,6 @@ rounds m e (box t f) = rounds m e f
 rounds m e (dia t f) = rounds m e f
 rounds m e (mu P f) = runs (body m e P f) (λ A. rounds m (put e P A) f) (suc (size m)) (start true (size m) (exist m))
 rounds m e (nu P f) = runs (body m e P f) (λ A. rounds m (put e P A) f) (suc (size m)) (start false (size m) (exist m))
-rounds m e (until b t f g) = runs (onward b (size m) (related m t) (means m e f) (means m e g)) (λ A. rounds m e g + rounds m e f) (suc (size m)) (start true (size m) (exist m))
+rounds m e (until b t f g) =
+    runs (onward b (size m) (related m t) (means m e f) (means m e g)) (λ A. rounds m e g + rounds m e f) (suc (size m))
+    (start true (size m) (exist m))

@@ -52,7 +52,8 @@ module _ {m N limit : ℕ} {W : View} (r : Ready m N limit W) where
   ready-grown g = ready-frame r (g .frame) (g .good) (g .memory)
 
 pub grown-trans : {m : ℕ} {U W X : View} → Grown m U W → Grown m W X → Grown m U X
-grown-trans p q = record { good = q .good; memory = q .memory; frame = op-trans (p .frame) (q .frame); kept = extends-trans (p .kept) (q .kept) }
+grown-trans p q =
+    record { good = q .good; memory = q .memory; frame = op-trans (p .frame) (q .frame); kept = extends-trans (p .kept) (q .kept) }
 
 pub grown-worked : {m N limit : ℕ} {W X : View} {o : Made} {F : Fn} → Worked m N limit W X o F → Grown m W X
 grown-worked w = record { good = w .good; memory = w .memory; frame = w .frame; kept = w .post .kept }
@@ -60,13 +61,15 @@ grown-worked w = record { good = w .good; memory = w .memory; frame = w .frame; 
 -- the constants
 pub odd-constant : {m : ℕ} {W : View} (a : ℕ) → isRow a ≡ false → OddKnown m W a (find.At a)
 odd-constant {m} {W} a h = record {
-  at = λ v e. let z : a ≡ v = cc in subst (λ (x : ℕ). Denotes m (rowsOf W) x (oddF (den m (rowsOf W) a))) z (odd-of-constant m (rowsOf W) a (no-row-leads a h));
+  at = λ v e. let z : a ≡ v = cc in
+      subst (λ (x : ℕ). Denotes m (rowsOf W) x (oddF (den m (rowsOf W) a))) z (odd-of-constant m (rowsOf W) a (no-row-leads a h));
   covered = λ v e. covered-constant m (rowsOf W) a (no-row-leads a h);
   none = λ e. absurd (let z : _≡_ {A = ℕ} 0 1 = cc in omega arith);
 }
 
 -- what row i remembers for a
-pub odd-remembered : {m N limit : ℕ} {W : View} {a i : ℕ} {f : Found} → Ready m N limit W → RowAt (rowsOf W) a i → isRow a ≡ true → RowPost W a i ODD f → OddKnown m W a f
+pub odd-remembered : {m N limit : ℕ} {W : View} {a i : ℕ} {f : Found} → Ready m N limit W → RowAt (rowsOf W) a i → isRow a ≡ true
+    → RowPost W a i ODD f → OddKnown m W a f
 odd-remembered {m} {W = W} {a = a} {i = i} {f = f} r o h p = record {
   at = λ v e. right v e .answer;
   covered = λ v e. right v e .covered refl;
@@ -105,15 +108,19 @@ module _ {m N limit : ℕ} {W : View} {a i l lo hi : ℕ} (r : Ready m N limit W
       low-is = denotes-extends (ready-wf ready₁) (p₂ .grown .kept) (p₁ .result n₁)
 
       high-is : Denotes m (rowsOf X₂) y (oddF (den m (rowsOf W) hi))
-      high-is = subst (λ (f : Fn). Denotes m (rowsOf X₂) y (oddF f)) (fun-ext (den-extends (p₁ .grown .kept) (ready-wf r) m hi (o .parts .high-arrow))) (p₂ .result n₂)
+      high-is =
+          subst (λ (f : Fn). Denotes m (rowsOf X₂) y (oddF f))
+          (fun-ext (den-extends (p₁ .grown .kept) (ready-wf r) m hi (o .parts .high-arrow))) (p₂ .result n₂)
 
       -- at an odd level: OR
-      odd-or : {X₃ : View} {t : Made} → l % 2 ≡ 1 → Worked m N limit X₂ X₃ t (twoF _||_ (den m (rowsOf X₂) x) (den m (rowsOf X₂) y)) → Worked m N limit X₂ X₃ t (oddF (den m (rowsOf W) a))
+      odd-or : {X₃ : View} {t : Made} → l % 2 ≡ 1 → Worked m N limit X₂ X₃ t (twoF _||_ (den m (rowsOf X₂) x) (den m (rowsOf X₂) y))
+          → Worked m N limit X₂ X₃ t (oddF (den m (rowsOf W) a))
       odd-or h w =
           let s = r .good .sizes .n-max in let e = r .levels-is in let k = o .shallow in
           worked-cong (λ v. sym (odd-at h (omega arith) (o .parts .splits) v ∙ sym (two v))) w
         where
-          two : (v : Val) → twoF _||_ (den m (rowsOf X₂) x) (den m (rowsOf X₂) y) v ≡ orF (oddF (den m (rowsOf W) lo)) (oddF (den m (rowsOf W) hi)) v
+          two : (v : Val)
+              → twoF _||_ (den m (rowsOf X₂) x) (den m (rowsOf X₂) y) v ≡ orF (oddF (den m (rowsOf W) lo)) (oddF (den m (rowsOf W) hi)) v
           two v = let p = low-is .same v in let q = high-is .same v in cc (p, q)
 
       -- at an even level: a row
@@ -161,15 +168,19 @@ module _ {m N limit : ℕ} {W : View} {a i l lo hi : ℕ} (r : Ready m N limit W
         cover n =
             let el : follow (rowsOf X₃) a i false ≡ lo = ap (carry (marked a)) (whole .kept .low i (o .at .used)) ∙ sym (o .words .low) in
             let eh : follow (rowsOf X₃) a i true ≡ hi = ap (carry (marked a)) (whole .kept .high i (o .at .used)) ∙ sym (o .words .high) in
-            let kl = covered-extends {a = lo} (ready-wf ready₁) (extends-trans (p₂ .grown .kept) (w .post .kept)) (arrow-extends (p₁ .grown .kept) lo (o .parts .low-arrow)) (p₁ .covered n₁) in
-            let kh = covered-extends {a = hi} (ready-wf ready₂) (w .post .kept) (arrow-extends (both .kept) hi (o .parts .high-arrow)) (p₂ .covered n₂) in
-            covered-row {b = c} (o .at .leads) (own n) (subst (Covered m (rowsOf X₃)) (sym el) kl) (subst (Covered m (rowsOf X₃)) (sym eh) kh)
+            let kl = covered-extends {a = lo} (ready-wf ready₁) (extends-trans (p₂ .grown .kept) (w .post .kept))
+            (arrow-extends (p₁ .grown .kept) lo (o .parts .low-arrow)) (p₁ .covered n₁) in
+            let kh = covered-extends {a = hi} (ready-wf ready₂) (w .post .kept) (arrow-extends (both .kept) hi (o .parts .high-arrow))
+            (p₂ .covered n₂) in
+            covered-row {b = c} (o .at .leads) (own n) (subst (Covered m (rowsOf X₃)) (sym el) kl)
+            (subst (Covered m (rowsOf X₃)) (sym eh) kh)
 
         right : (t : Made) → madeOf c ≡ t → RightRow m (rowsOf X₃) a ODD t
         right (answer.At v) e = full-or (ℕ-discrete c FULL) v e
           where
             full-or : Dec (c ≡ FULL) → (v : ℕ) → madeOf c ≡ answer.At v → RightFor m (rowsOf X₃) ODD a v
-            full-or (yes q) v z = absurd (let y : answer.Full ≡ answer.At v = sym (code-is c q) ∙ z in let k : _≡_ {A = ℕ} 0 1 = cc in omega arith)
+            full-or (yes q) v z =
+                absurd (let y : answer.Full ≡ answer.At v = sym (code-is c q) ∙ z in let k : _≡_ {A = ℕ} 0 1 = cc in omega arith)
             full-or (no n) v z =
                 let y : answer.At c ≡ answer.At v = sym (code-at c n) ∙ z in
                 let k : c ≡ v = cc in

@@ -35,7 +35,8 @@ pub record Opened (m : ℕ) (rows : Rows) (a i l lo hi : ℕ) : Type 0 where
   pub shallow : l < m
   pub parts : Parts m rows l a lo hi
 
-pub opened : {m N : ℕ} {rows : Rows} {a i l lo hi : ℕ} → WellFormed m N rows → RowAt rows a i → RowIs rows a i l lo hi → Opened m rows a i l lo hi
+pub opened : {m N : ℕ} {rows : Rows} {a i l lo hi : ℕ} → WellFormed m N rows → RowAt rows a i → RowIs rows a i l lo hi
+    → Opened m rows a i l lo hi
 opened {m} {rows = rows} {a = a} {i = i} wf r n =
     let p = parts-row wf a i (r .leads) (r .used) in
     record {
@@ -60,7 +61,9 @@ module _ {m : ℕ} {rows : Rows} {a i l lo hi : ℕ} (o : Opened m rows a i l lo
 
   -- and in the larger table that the first call leaves
   pub high-falls : {new : Rows} → Extends rows new → depth m new hi < depth m rows a
-  high-falls {new} e = let p = o .parts .high-deeper in let q = o .level in let s = o .shallow in rw (level-extends e m hi (o .parts .high-arrow)) (omega arith)
+  high-falls {new} e =
+      let p = o .parts .high-deeper in
+      let q = o .level in let s = o .shallow in rw (level-extends e m hi (o .parts .high-arrow)) (omega arith)
 
   pub high-later : {new : Rows} → Extends rows new → Arrow new hi
   high-later e = arrow-extends e hi (o .parts .high-arrow)

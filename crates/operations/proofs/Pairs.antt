@@ -83,18 +83,30 @@ module _ (m : ℕ) (rows : Rows) where
 
   -- an arrow and its NOT
   excludes : (lo hi : ℕ) → hi ≡ flip lo → Denotes m rows 0 (andF (den m rows lo) (den m rows hi))
-  excludes lo hi e = record { arrow = tt; same = λ v. den-zero m rows v ∙ sym (ap (λ x. den m rows lo v && den m rows x v) e ∙ ap (λ y. den m rows lo v && y) (den-flip m rows lo v) ∙ and-not (den m rows lo v)) }
+  excludes lo hi e =
+      record {
+        arrow =
+            tt;
+        same =
+            λ v. den-zero m rows v
+            ∙ sym (ap (λ x. den m rows lo v && den m rows x v) e ∙ ap (λ y. den m rows lo v && y) (den-flip m rows lo v)
+            ∙ and-not (den m rows lo v));
+      }
 
-  pub short-right : (lo hi v : ℕ) → Arrow rows lo → Arrow rows hi → shortOf lo hi ≡ find.At v → Denotes m rows v (andF (den m rows lo) (den m rows hi))
+  pub short-right : (lo hi v : ℕ) → Arrow rows lo → Arrow rows hi → shortOf lo hi ≡ find.At v
+      → Denotes m rows v (andF (den m rows lo) (den m rows hi))
   unfolding shortOf
   short-right lo hi v a b = go (eqb lo hi) refl (eqb hi (flip lo)) refl (isRow lo) refl (eqb lo 0) refl
     where
-      at : {x : ℕ} → find.At x ≡ find.At v → Denotes m rows x (andF (den m rows lo) (den m rows hi)) → Denotes m rows v (andF (den m rows lo) (den m rows hi))
+      at : {x : ℕ} → find.At x ≡ find.At v → Denotes m rows x (andF (den m rows lo) (den m rows hi))
+          → Denotes m rows v (andF (den m rows lo) (den m rows hi))
       at {x} e d = let z : x ≡ v = cc in subst (λ (r : ℕ). Denotes m rows r (andF (den m rows lo) (den m rows hi))) z d
 
       go : (p : Bool) → eqb lo hi ≡ p → (t : Bool) → eqb hi (flip lo) ≡ t → (q : Bool) → isRow lo ≡ q → (s : Bool) → eqb lo 0 ≡ s
-          → cond p (find.At lo) (cond t (find.At 0) (cond q find.Nothing (cond s (find.At lo) (find.At hi)))) ≡ find.At v → Denotes m rows v (andF (den m rows lo) (den m rows hi))
-      go true e t k q f s g h = at h (record { arrow = a; same = λ x. let z : lo ≡ hi = eqb-true lo hi e in rw (← z) (sym (and-self (den m rows lo x))) })
+          → cond p (find.At lo) (cond t (find.At 0) (cond q find.Nothing (cond s (find.At lo) (find.At hi)))) ≡ find.At v
+          → Denotes m rows v (andF (den m rows lo) (den m rows hi))
+      go true e t k q f s g h =
+          at h (record { arrow = a; same = λ x. let z : lo ≡ hi = eqb-true lo hi e in rw (← z) (sym (and-self (den m rows lo x))) })
       go false e true k q f s g h = at h (excludes lo hi (eqb-true hi (flip lo) k))
       go false e false k true f s g h = absurd (let z : _≡_ {A = ℕ} 0 1 = cc in omega arith)
       go false e false k false f true g h = at h (decides lo hi (eqb-true lo 0 g))
@@ -111,7 +123,8 @@ short-none lo hi l = go (eqb lo hi) refl (eqb hi (flip lo)) refl (isRow lo) refl
         → cond p (find.At lo) (cond t (find.At 0) (cond q find.Nothing (cond s (find.At lo) (find.At hi)))) ≡ find.Nothing → BothRows lo hi
     go true e t k q f s g h = absurd (let z : _≡_ {A = ℕ} 0 1 = cc in omega arith)
     go false e true k q f s g h = absurd (let z : _≡_ {A = ℕ} 0 1 = cc in omega arith)
-    go false e false k true f s g h = let n = eqb-false lo hi e in let j = is-row lo f in record { left = f; right = row-yes hi (omega arith); less = omega arith }
+    go false e false k true f s g h =
+        let n = eqb-false lo hi e in let j = is-row lo f in record { left = f; right = row-yes hi (omega arith); less = omega arith }
     go false e false k false f true g h = absurd (let z : _≡_ {A = ℕ} 0 1 = cc in omega arith)
     go false e false k false f false g h = absurd (let z : _≡_ {A = ℕ} 0 1 = cc in omega arith)
 
@@ -132,11 +145,13 @@ sorted-swap {lo} {hi} a b p q = by-cases (decLe a b)
     (λ h. let x : lo ≡ a = omega arith in let y : hi ≡ b = omega arith in rw (x, y) same)
     (λ h. let x : lo ≡ b = omega arith in let y : hi ≡ a = omega arith in rw (x, y) swapped)
 
-pub swap-arrows : {m N limit : ℕ} {W : View} {a b lo hi : ℕ} → Ready m N limit W → Swap a b lo hi → Arrow (rowsOf W) a → Arrow (rowsOf W) b → Arrow (rowsOf W) lo × Arrow (rowsOf W) hi
+pub swap-arrows : {m N limit : ℕ} {W : View} {a b lo hi : ℕ} → Ready m N limit W → Swap a b lo hi → Arrow (rowsOf W) a → Arrow (rowsOf W) b
+    → Arrow (rowsOf W) lo × Arrow (rowsOf W) hi
 swap-arrows r same x y = (x, y)
 swap-arrows r swapped x y = (y, x)
 
-swap-fn : {a b lo hi : ℕ} (m : ℕ) (rows : Rows) → Swap a b lo hi → (v : Val) → andF (den m rows lo) (den m rows hi) v ≡ andF (den m rows a) (den m rows b) v
+swap-fn : {a b lo hi : ℕ} (m : ℕ) (rows : Rows) → Swap a b lo hi → (v : Val)
+    → andF (den m rows lo) (den m rows hi) v ≡ andF (den m rows a) (den m rows b) v
 swap-fn m rows same v = refl
 swap-fn {a} {b} m rows swapped v = and-swap (den m rows b v) (den m rows a v)
 
@@ -159,7 +174,8 @@ level-row : (m : ℕ) (rows : Rows) (a : ℕ) → isRow a ≡ true → levelOf m
 level-row m rows a h = leads-level m rows a (rowOf a) (row-is a h)
 
 pub split : {m N : ℕ} {rows : Rows} {l x₀ x₁ y₀ y₁ : ℕ} (lo hi : ℕ) → WellFormed m N rows → Arrow rows lo × Arrow rows hi → BothRows lo hi
-    → l ≡ min (rows .level (rowOf lo)) (rows .level (rowOf hi)) → (x₀ ≡ lowAt rows l lo) × (x₁ ≡ highAt rows l lo) → (y₀ ≡ lowAt rows l hi) × (y₁ ≡ highAt rows l hi)
+    → l ≡ min (rows .level (rowOf lo)) (rows .level (rowOf hi)) → (x₀ ≡ lowAt rows l lo) × (x₁ ≡ highAt rows l lo)
+    → (y₀ ≡ lowAt rows l hi) × (y₁ ≡ highAt rows l hi)
     → Split m rows lo hi l x₀ x₁ y₀ y₁
 split {m} {N} {rows} {l} lo hi wf u b e p q =
     let i = level-row m rows lo (b .left) in
@@ -173,12 +189,16 @@ split {m} {N} {rows} {l} lo hi wf u b e p q =
       right = rw (q .0, q .1) (parts wf l hi lm (u .1) (omega arith));
     }
 
-pub both-within : {m N limit : ℕ} {W : View} {lo hi : ℕ} → Ready m N limit W → Arrow (rowsOf W) lo × Arrow (rowsOf W) hi → BothRows lo hi → (rowOf lo < N) × (rowOf hi < N)
+pub both-within : {m N limit : ℕ} {W : View} {lo hi : ℕ} → Ready m N limit W → Arrow (rowsOf W) lo × Arrow (rowsOf W) hi → BothRows lo hi
+    → (rowOf lo < N) × (rowOf hi < N)
 both-within {W = W} {lo = lo} {hi = hi} r u b =
-    let wf = ready-wf r in
-    (wf .bounded (rowOf lo) (of-arrow (rowsOf W) lo (b .left) refl (u .0)), wf .bounded (rowOf hi) (of-arrow (rowsOf W) hi (b .right) refl (u .1)))
+    let wf = ready-wf r in (
+      wf .bounded (rowOf lo) (of-arrow (rowsOf W) lo (b .left) refl (u .0)),
+      wf .bounded (rowOf hi) (of-arrow (rowsOf W) hi (b .right) refl (u .1)),
+    )
 
-pub swap-depth : {m N limit : ℕ} {W : View} {a b lo hi : ℕ} → Ready m N limit W → Swap a b lo hi → depth m (rowsOf W) lo hi ≡ depth m (rowsOf W) a b
+pub swap-depth : {m N limit : ℕ} {W : View} {a b lo hi : ℕ} → Ready m N limit W → Swap a b lo hi
+    → depth m (rowsOf W) lo hi ≡ depth m (rowsOf W) a b
 swap-depth {m} {W = W} r w = ap (λ (l : ℕ). m - l) (swap-level (levelOf m (rowsOf W)) w)
 
 module _ {m : ℕ} {rows : Rows} {lo hi l x₀ x₁ y₀ y₁ : ℕ} (s : Split m rows lo hi l x₀ x₁ y₀ y₁) where
@@ -207,19 +227,24 @@ module _ {rows : Rows} {j k x y : ℕ} (l a : ℕ) (h : isRow a ≡ true) (q : j
   leads = row-is a h ∙ ap suc (sym q)
 
   pub halves-past : k ≢ l → (a ≡ lowAt rows l a) × (a ≡ highAt rows l a)
-  halves-past n = let z : rows .level j ≢ l = λ e. n (r .level ∙ e) in (sym (low-past rows l a j leads z), sym (high-past rows l a j leads z))
+  halves-past n =
+      let z : rows .level j ≢ l = λ e. n (r .level ∙ e) in (sym (low-past rows l a j leads z), sym (high-past rows l a j leads z))
 
   pub halves-here : k ≡ l → (x ≡ lowAt rows l a) × (y ≡ highAt rows l a)
-  halves-here e = let z : rows .level j ≡ l = sym (r .level) ∙ e in (r .low ∙ sym (low-here rows l a j leads z), r .high ∙ sym (high-here rows l a j leads z))
+  halves-here e =
+      let z : rows .level j ≡ l = sym (r .level) ∙ e in
+      (r .low ∙ sym (low-here rows l a j leads z), r .high ∙ sym (high-here rows l a j leads z))
 
 -- AND of a and b is AND of lo and hi
 module _ {m N limit : ℕ} {W : View} {a b lo hi : ℕ} (r : Ready m N limit W) (w : Swap a b lo hi) where
-  pub swap-worked : {X : View} {t : Made} → Worked m N limit W X t (andF (den m (rowsOf W) lo) (den m (rowsOf W) hi)) → Worked m N limit W X t (andF (den m (rowsOf W) a) (den m (rowsOf W) b))
+  pub swap-worked : {X : View} {t : Made} → Worked m N limit W X t (andF (den m (rowsOf W) lo) (den m (rowsOf W) hi))
+      → Worked m N limit W X t (andF (den m (rowsOf W) a) (den m (rowsOf W) b))
   swap-worked k = worked-cong (swap-fn m (rowsOf W) w) k
 
 module _ {m N limit : ℕ} {W : View} {lo hi : ℕ} (r : Ready m N limit W) (u : Arrow (rowsOf W) lo × Arrow (rowsOf W) hi) where
   -- what is known
-  pub known-worked : {v : ℕ} {f : Found} → lo ≤ hi → f ≡ find.At v → KnownPost W lo hi f → Worked m N limit W W (madeOf v) (andF (den m (rowsOf W) lo) (den m (rowsOf W) hi))
+  pub known-worked : {v : ℕ} {f : Found} → lo ≤ hi → f ≡ find.At v → KnownPost W lo hi f
+      → Worked m N limit W W (madeOf v) (andF (den m (rowsOf W) lo) (den m (rowsOf W) hi))
   known-worked {v} l e p = worked-there r (right (rw e at p))
     where
       right : KnownAt W lo hi v → Denotes m (rowsOf W) v (andF (den m (rowsOf W) lo) (den m (rowsOf W) hi))
@@ -228,11 +253,13 @@ module _ {m N limit : ℕ} {W : View} {lo hi : ℕ} (r : Ready m N limit W) (u :
 
   -- what the two calls compute
   pub pair-calls : {l x₀ x₁ y₀ y₁ : ℕ} → Split m (rowsOf W) lo hi l x₀ x₁ y₀ y₁
-      → Divides m (rowsOf W) l (andF (den m (rowsOf W) lo) (den m (rowsOf W) hi)) (andF (den m (rowsOf W) x₀) (den m (rowsOf W) y₀)) (λ t. andF (den m t x₁) (den m t y₁))
+      → Divides m (rowsOf W) l (andF (den m (rowsOf W) lo) (den m (rowsOf W) hi)) (andF (den m (rowsOf W) x₀) (den m (rowsOf W) y₀))
+      (λ t. andF (den m t x₁) (den m t y₁))
   pair-calls s = two-divides (ready-wf r) (s .shallow) (s .left) _&&_ (s .right)
 
   -- the result is remembered
-  pub pair-kept : {X Y : View} {t : Made} → BothRows lo hi → Worked m N limit W X t (andF (den m (rowsOf W) lo) (den m (rowsOf W) hi)) → RememberPost X Y lo hi t
+  pub pair-kept : {X Y : View} {t : Made} → BothRows lo hi → Worked m N limit W X t (andF (den m (rowsOf W) lo) (den m (rowsOf W) hi))
+      → RememberPost X Y lo hi t
       → Worked m N limit W Y t (andF (den m (rowsOf W) lo) (den m (rowsOf W) hi))
   pair-kept {X} {t = t} z k p = worked-kept k (remember-frame lo hi t p) (remembers-pair lo hi t (k .memory) (right t k) p)
     where
@@ -244,7 +271,8 @@ module _ {m N limit : ℕ} {W : View} {lo hi : ℕ} (r : Ready m N limit W) (u :
             right = arrow-extends x hi (u .1);
             answer = record {
               arrow = q .post .result .arrow;
-              same = λ y. q .post .result .same y ∙ ap₂ _&&_ (sym (den-extends x (ready-wf r) m lo (u .0) y)) (sym (den-extends x (ready-wf r) m hi (u .1) y));
+              same = λ y. q .post .result .same y
+                  ∙ ap₂ _&&_ (sym (den-extends x (ready-wf r) m lo (u .0) y)) (sym (den-extends x (ready-wf r) m hi (u .1) y));
             };
           }
       right answer.Full q = tt
@@ -252,7 +280,10 @@ module _ {m N limit : ℕ} {W : View} {lo hi : ℕ} (r : Ready m N limit W) (u :
 -- OR is NOT of AND of the two with the other mark
 module _ {m N limit : ℕ} {W : View} {x y : ℕ} (a b : ℕ) (r : Ready m N limit W) (ex : x ≡ flip a) (ey : y ≡ flip b) where
   pub or-arrows : Arrow (rowsOf W) a → Arrow (rowsOf W) b → Arrow (rowsOf W) x × Arrow (rowsOf W) y
-  or-arrows u w = (subst (Arrow (rowsOf W)) (sym ex) (carry-arrow (rowsOf W) true a u), subst (Arrow (rowsOf W)) (sym ey) (carry-arrow (rowsOf W) true b w))
+  or-arrows u w = (
+    subst (Arrow (rowsOf W)) (sym ex) (carry-arrow (rowsOf W) true a u),
+    subst (Arrow (rowsOf W)) (sym ey) (carry-arrow (rowsOf W) true b w),
+  )
 
   morgan : (v : Val) → notF (andF (den m (rowsOf W) x) (den m (rowsOf W) y)) v ≡ orF (den m (rowsOf W) a) (den m (rowsOf W) b) v
   morgan v =
@@ -270,6 +301,7 @@ module _ {m N limit : ℕ} {W : View} {x y : ℕ} (a b : ℕ) (r : Ready m N lim
       → Worked m N limit W X (madeOf FULL) (orF (den m (rowsOf W) a) (den m (rowsOf W) b))
   or-full w e = worked-cong morgan (worked-not-full w e)
 
-  pub or-made : {X : View} {c s : ℕ} → Worked m N limit W X (madeOf c) (andF (den m (rowsOf W) x) (den m (rowsOf W) y)) → c ≢ FULL → s ≡ flip c
+  pub or-made : {X : View} {c s : ℕ} → Worked m N limit W X (madeOf c) (andF (den m (rowsOf W) x) (den m (rowsOf W) y)) → c ≢ FULL
+      → s ≡ flip c
       → Worked m N limit W X (madeOf s) (orF (den m (rowsOf W) a) (den m (rowsOf W) b))
   or-made w n e = worked-cong morgan (worked-not w n e)

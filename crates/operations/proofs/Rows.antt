@@ -41,7 +41,10 @@ even-levels {m} r = let e = r .levels-is in let z : m % 2 ≡ 0 = omega arith in
 -- SHIFT of the constants; EXISTS of them is a case of `exists-leaf`
 shift-is : (m : ℕ) (rows : Rows) (a : ℕ) → target a ≡ 0 → Denotes m rows a (shiftF (den m rows a))
 shift-is m rows a e =
-    record { arrow = subst (ArrowTo rows) (sym e) tt; same = λ v. den-constant m rows a e v ∙ sym (den-constant m rows a e (λ l. v (suc l))) }
+    record {
+      arrow = subst (ArrowTo rows) (sym e) tt;
+      same = λ v. den-constant m rows a e v ∙ sym (den-constant m rows a e (λ l. v (suc l)));
+    }
 
 module _ {m N : ℕ} {W : View} {R : Type 0} (r : Ready m N 0 W) where
   pub shift-constant : (a : ℕ) → isRow a ≡ false → Known m W (find.At a) (shiftF (den m (rowsOf W) a)) R
@@ -54,11 +57,13 @@ module _ {m N : ℕ} {W : View} {R : Type 0} (r : Ready m N 0 W) where
   pub exists-constant : (x a : ℕ) → x < m → Arrow (rowsOf W) a → isRow a ≡ false → Known m W (find.At a) (existsF x (den m (rowsOf W) a)) R
   exists-constant x a h u n = exists-deeper x a u (subst (λ (k : ℕ). x < levelTo m (rowsOf W) k) (sym (no-row-leads a n)) h)
 
-  pub exists-past : {i l : ℕ} (x a : ℕ) → Arrow (rowsOf W) a → RowAt (rowsOf W) a i → l ≡ rowsOf W .level i → x < l → Known m W (find.At a) (existsF x (den m (rowsOf W) a)) R
+  pub exists-past : {i l : ℕ} (x a : ℕ) → Arrow (rowsOf W) a → RowAt (rowsOf W) a i → l ≡ rowsOf W .level i → x < l
+      → Known m W (find.At a) (existsF x (den m (rowsOf W) a)) R
   exists-past x a u q e h = exists-deeper x a u (subst (λ (k : ℕ). x < k) (e ∙ sym (leads-level m (rowsOf W) a _ (q .leads))) h)
 
   -- what row i remembers for a
-  pub row-known : {a i : ℕ} {f : Found} (kind : ℕ) → kind ≢ 0 → RowAt (rowsOf W) a i → R → RowPost W a i kind f → Known m W f (unaryF kind (den m (rowsOf W) a)) R
+  pub row-known : {a i : ℕ} {f : Found} (kind : ℕ) → kind ≢ 0 → RowAt (rowsOf W) a i → R → RowPost W a i kind f
+      → Known m W f (unaryF kind (den m (rowsOf W) a)) R
   row-known {a} kind n o x p = record {
     at = λ v e. arrow-right kind a (r .memory) (o .used) n (o .leads) (rw e at p) .answer;
     none = λ e. x;
@@ -66,11 +71,13 @@ module _ {m N : ℕ} {W : View} {R : Type 0} (r : Ready m N 0 W) where
 
 module _ {m N limit : ℕ} {W : View} (r : Ready m N limit W) where
   -- the result is remembered by the operand's row
-  pub row-kept : {X Y : View} {a i : ℕ} (kind c : ℕ) → kind ≢ ODD → kind < KINDS → RowAt (rowsOf W) a i → Worked m N limit W X (madeOf c) (unaryF kind (den m (rowsOf W) a))
+  pub row-kept : {X Y : View} {a i : ℕ} (kind c : ℕ) → kind ≢ ODD → kind < KINDS → RowAt (rowsOf W) a i
+      → Worked m N limit W X (madeOf c) (unaryF kind (den m (rowsOf W) a))
       → Y ≡ keepRow X a i kind c → Worked m N limit W Y (madeOf c) (unaryF kind (den m (rowsOf W) a))
   row-kept {X} {a = a} {i = i} kind c n l p w e =
       subst (λ (v : View). Worked m N limit W v (madeOf c) (unaryF kind (den m (rowsOf W) a))) (sym e)
-      (worked-kept w (keepRow-frame X a i kind c) (remembers-row X a i kind c (omega (arith, l)) (p .leads) (w .memory) (right (madeOf c) w)))
+      (worked-kept w (keepRow-frame X a i kind c)
+      (remembers-row X a i kind c (omega (arith, l)) (p .leads) (w .memory) (right (madeOf c) w)))
     where
       right : (t : Made) → Worked m N limit W X t (unaryF kind (den m (rowsOf W) a)) → RightRow m (rowsOf X) a kind t
       right (answer.At v) q =
@@ -81,18 +88,21 @@ module _ {m N limit : ℕ} {W : View} (r : Ready m N limit W) where
 
 -- what the two calls compute
 module _ {m N limit : ℕ} {W : View} {a i l lo hi : ℕ} (r : Ready m N limit W) (o : Opened m (rowsOf W) a i l lo hi) where
-  pub exists-calls : (x : ℕ) → l < x → Divides m (rowsOf W) l (existsF x (den m (rowsOf W) a)) (existsF x (den m (rowsOf W) lo)) (λ t. existsF x (den m t hi))
+  pub exists-calls : (x : ℕ) → l < x
+      → Divides m (rowsOf W) l (existsF x (den m (rowsOf W) a)) (existsF x (den m (rowsOf W) lo)) (λ t. existsF x (den m t hi))
   exists-calls x h = exists-divides (ready-wf r) (o .shallow) (o .parts) x h
 
   -- EXISTS at the row's level is OR of its arrows
-  pub exists-own : {X : View} {t : Made} → Worked m N limit W X t (orF (den m (rowsOf W) lo) (den m (rowsOf W) hi)) → Worked m N limit W X t (existsF l (den m (rowsOf W) a))
+  pub exists-own : {X : View} {t : Made} → Worked m N limit W X t (orF (den m (rowsOf W) lo) (den m (rowsOf W) hi))
+      → Worked m N limit W X t (existsF l (den m (rowsOf W) a))
   exists-own w = record { good = w .good; memory = w .memory; frame = w .frame; post = exists-or (o .parts) (w .post) }
 
   -- SHIFT, of a function of even levels
   module _ (on : ReadsOn even (den m (rowsOf W) a)) where
     pub shift-calls : Divides m (rowsOf W) (l + 1) (shiftF (den m (rowsOf W) a)) (shiftF (den m (rowsOf W) lo)) (λ t. shiftF (den m t hi))
     shift-calls =
-        rw (add-one, o .words .level, o .words .low, o .words .high) (shift-divides m a i (o .at .leads) (even-levels r) (ready-wf r) (o .at .used) on)
+        rw (add-one, o .words .level, o .words .low, o .words .high)
+        (shift-divides m a i (o .at .leads) (even-levels r) (ready-wf r) (o .at .used) on)
 
     pub shift-low : ReadsOn even (den m (rowsOf W) lo)
     shift-low = cofactor-readsOn on (splits-low (o .parts .splits))
@@ -107,13 +117,17 @@ module _ {m N limit : ℕ} {W : View} {a i l lo hi : ℕ} (r : Ready m N limit W
 pub exists-kind : (x : ℕ) (f : Fn) → unaryF (3 + x) f ≡ existsF x f
 exists-kind x f = let e : 3 + x ≡ suc (suc (suc x)) = omega arith in rw e
 
-pub exists-known : {m N : ℕ} {W : View} {a i : ℕ} {f : Found} {R : Type 0} (x : ℕ) → Ready m N 0 W → RowAt (rowsOf W) a i → R → RowPost W a i (3 + x) f
+pub exists-known : {m N : ℕ} {W : View} {a i : ℕ} {f : Found} {R : Type 0} (x : ℕ) → Ready m N 0 W → RowAt (rowsOf W) a i → R
+    → RowPost W a i (3 + x) f
     → Known m W f (existsF x (den m (rowsOf W) a)) R
-exists-known {m} {W = W} {a = a} {f = f} {R = R} x r q y p = subst (λ (g : Fn). Known m W f g R) (exists-kind x (den m (rowsOf W) a)) (row-known r (3 + x) (omega arith) q y p)
+exists-known {m} {W = W} {a = a} {f = f} {R = R} x r q y p =
+    subst (λ (g : Fn). Known m W f g R) (exists-kind x (den m (rowsOf W) a)) (row-known r (3 + x) (omega arith) q y p)
 
 module _ {m N limit : ℕ} {W : View} {a i : ℕ} (r : Ready m N limit W) (x : ℕ) (q : RowAt (rowsOf W) a i) where
-  pub exists-kept : {X Y : View} (c : ℕ) → x < 32 → Worked m N limit W X (madeOf c) (existsF x (den m (rowsOf W) a)) → Y ≡ keepRow X a i (3 + x) c
+  pub exists-kept : {X Y : View} (c : ℕ) → x < 32 → Worked m N limit W X (madeOf c) (existsF x (den m (rowsOf W) a))
+      → Y ≡ keepRow X a i (3 + x) c
       → Worked m N limit W Y (madeOf c) (existsF x (den m (rowsOf W) a))
   exists-kept {X} {Y} c l w e =
       let k = exists-kind x (den m (rowsOf W) a) in
-      subst (λ (f : Fn). Worked m N limit W Y (madeOf c) f) k (row-kept r (3 + x) c (omega arith) (omega (arith, l)) q (subst (λ (f : Fn). Worked m N limit W X (madeOf c) f) (sym k) w) e)
+      subst (λ (f : Fn). Worked m N limit W Y (madeOf c) f) k
+      (row-kept r (3 + x) c (omega arith) (omega (arith, l)) q (subst (λ (f : Fn). Worked m N limit W X (madeOf c) f) (sym k) w) e)

@@ -47,10 +47,24 @@ op-trans p q = record {
 }
 
 pub op-made : {W X : View} → Frame W X → OpFrame W X
-op-made f = record { rows = f .rows; size = f .size; header = λ h a b _ _. f .header h a b; spare = λ j k l. f .memo j k (omega arith); beyond = f .beyond }
+op-made f =
+    record {
+      rows = f .rows;
+      size = f .size;
+      header = λ h a b _ _. f .header h a b;
+      spare = λ j k l. f .memo j k (omega arith);
+      beyond = f .beyond;
+    }
 
 pub op-memo : {W X : View} → MemoFrame W X → OpFrame W X
-op-memo f = record { rows = f .rows; size = f .size; header = λ h _ _ a b. f .header h a b; spare = λ j k l. f .cell j k (omega arith) (omega arith); beyond = f .beyond }
+op-memo f =
+    record {
+      rows = f .rows;
+      size = f .size;
+      header = λ h _ _ a b. f .header h a b;
+      spare = λ j k l. f .cell j k (omega arith) (omega arith);
+      beyond = f .beyond;
+    }
 
 pub known-at : {m : ℕ} {W : View} {x : ℕ} {F : Fn} {R : Type 0} → Denotes m (rowsOf W) x F → Known m W (find.At x) F R
 known-at {m} {W} {x} {F} d = record {
@@ -80,7 +94,9 @@ module _ {m N limit : ℕ} {W : View} (r : Ready m N limit W) where
 
   -- an answer that is there already
   pub worked-there : {a : ℕ} {F : Fn} → Denotes m (rowsOf W) a F → Worked m N limit W W (madeOf a) F
-  worked-there {a} d = rw (arrow-code a (r .good) (d .arrow)) (record { good = r .good; memory = r .memory; frame = op-refl W; post = post-arrow ready-wf d })
+  worked-there {a} d =
+      rw (arrow-code a (r .good) (d .arrow))
+      (record { good = r .good; memory = r .memory; frame = op-refl W; post = post-arrow ready-wf d })
 
   -- to look up what is known takes no rows
   pub ready-look : Ready m N 0 W
@@ -89,14 +105,26 @@ module _ {m N limit : ℕ} {W : View} (r : Ready m N limit W) where
   -- what the making of a row asks
   pub make-pre : {l lo hi : ℕ} → Fit m (rowsOf W) l lo hi → MakePre W limit l lo hi
   make-pre {l} {lo} {hi} f =
-      record { good = r .good; limit-le = rw (← r .rows-is) (r .limit-le); fit = subst (λ (k : ℕ). Fit k (rowsOf W) l lo hi) (r .levels-is) f }
+      record {
+        good = r .good;
+        limit-le = rw (← r .rows-is) (r .limit-le);
+        fit = subst (λ (k : ℕ). Fit k (rowsOf W) l lo hi) (r .levels-is) f;
+      }
 
-  pub making : {X : View} {l lo hi : ℕ} {o : Made} → MakePost W X limit l lo hi o → Making m N limit (rowsOf W) (rowsOf X) l lo hi (result o)
+  pub making : {X : View} {l lo hi : ℕ} {o : Made} → MakePost W X limit l lo hi o
+      → Making m N limit (rowsOf W) (rowsOf X) l lo hi (result o)
   making p = rw (r .levels-is, r .rows-is) (p .made)
 
   -- what making a row leaves
-  pub worked-made : {X : View} {l lo hi : ℕ} {o : Made} {F : Fn} → MakePost W X limit l lo hi o → OpPost m N limit (rowsOf W) (rowsOf X) (result o) F → Worked m N limit W X o F
-  worked-made p q = record { good = p .good; memory = remembers-extends ready-wf (q .kept) (p .frame) (p .keys) (r .memory); frame = op-made (p .frame); post = q }
+  pub worked-made : {X : View} {l lo hi : ℕ} {o : Made} {F : Fn} → MakePost W X limit l lo hi o
+      → OpPost m N limit (rowsOf W) (rowsOf X) (result o) F → Worked m N limit W X o F
+  worked-made p q =
+      record {
+        good = p .good;
+        memory = remembers-extends ready-wf (q .kept) (p .frame) (p .keys) (r .memory);
+        frame = op-made (p .frame);
+        post = q;
+      }
 
 -- NOT of what was made, and OR as NOT of AND of the two with the other mark
 module _ {m N limit : ℕ} {W X : View} {r : ℕ} {F : Fn} (w : Worked m N limit W X (madeOf r) F) where
@@ -117,11 +145,13 @@ module _ {m N limit : ℕ} {W : View} (r : Ready m N limit W) (l : ℕ) (h : l <
   bit-worked p = worked-made r p (bit-made (ready-wf r) h (making r p))
 
 -- the promise for a function is one for each with the same values
-pub worked-cong : {m N limit : ℕ} {W X : View} {o : Made} {F G : Fn} → ((v : Val) → F v ≡ G v) → Worked m N limit W X o F → Worked m N limit W X o G
+pub worked-cong : {m N limit : ℕ} {W X : View} {o : Made} {F G : Fn} → ((v : Val) → F v ≡ G v) → Worked m N limit W X o F
+    → Worked m N limit W X o G
 worked-cong e w = record { good = w .good; memory = w .memory; frame = w .frame; post = post-cong e (w .post) }
 
 -- remembering changes no row
-pub worked-kept : {m N limit : ℕ} {W X Y : View} {o : Made} {F : Fn} → Worked m N limit W X o F → MemoFrame X Y → Remembers m Y → Worked m N limit W Y o F
+pub worked-kept : {m N limit : ℕ} {W X Y : View} {o : Made} {F : Fn} → Worked m N limit W X o F → MemoFrame X Y → Remembers m Y
+    → Worked m N limit W Y o F
 worked-kept {m} {N} {limit} {W} {o = o} {F = F} w f g = record {
   good = alike-good (memo-alike f) (w .good);
   memory = g;
@@ -133,17 +163,26 @@ worked-kept {m} {N} {limit} {W} {o = o} {F = F} w f g = record {
 module _ {m N limit : ℕ} {W : View} {l : ℕ} {F F0 : Fn} {F1 : Rows → Fn} (r : Ready m N limit W) (d : Divides m (rowsOf W) l F F0 F1) where
   -- the rows run out in the first call
   pub low-stops : {X : View} {x : ℕ} → x ≡ FULL → Worked m N limit W X (madeOf x) F0 → Worked m N limit W X (madeOf FULL) F
-  low-stops {x = x} e w = let p = rw (code-is x e) at w in rw code-full (record { good = p .good; memory = p .memory; frame = p .frame; post = divided d (low-full (p .post)) })
+  low-stops {x = x} e w =
+      let p = rw (code-is x e) at w in
+      rw code-full (record { good = p .good; memory = p .memory; frame = p .frame; post = divided d (low-full (p .post)) })
 
   module _ {X₁ : View} {x : ℕ} (n₁ : x ≢ FULL) (w₁ : Worked m N limit W X₁ (madeOf x) F0) where
     first : Worked m N limit W X₁ (answer.At x) F0
     first = rw (code-at x n₁) at w₁
 
     -- in the second
-    pub high-stops : {X₂ : View} {y : ℕ} → y ≡ FULL → Worked m N limit X₁ X₂ (madeOf y) (F1 (rowsOf X₁)) → Worked m N limit W X₂ (madeOf FULL) F
+    pub high-stops : {X₂ : View} {y : ℕ} → y ≡ FULL → Worked m N limit X₁ X₂ (madeOf y) (F1 (rowsOf X₁))
+        → Worked m N limit W X₂ (madeOf FULL) F
     high-stops {y = y} e w =
         let q = rw (code-is y e) at w in
-        rw code-full (record { good = q .good; memory = q .memory; frame = op-trans (w₁ .frame) (q .frame); post = divided d (high-full (first .post) (q .post)) })
+        rw code-full
+        (record {
+          good = q .good;
+          memory = q .memory;
+          frame = op-trans (w₁ .frame) (q .frame);
+          post = divided d (high-full (first .post) (q .post));
+        })
 
     module _ {X₂ : View} {y : ℕ} (n₂ : y ≢ FULL) (w₂ : Worked m N limit X₁ X₂ (madeOf y) (F1 (rowsOf X₁))) where
       second : Worked m N limit X₁ X₂ (answer.At y) (F1 (rowsOf X₁))
@@ -156,7 +195,8 @@ module _ {m N limit : ℕ} {W : View} {l : ℕ} {F F0 : Fn} {F1 : Rows → Fn} (
       low-denotes = denotes-extends (first .post .wf) (second .post .kept) (first .post .result)
 
       high-denotes : Denotes m (rowsOf X₂) y (F1 (rowsOf W))
-      high-denotes = let q = second .post .result in record { arrow = q .arrow; same = λ v. q .same v ∙ d .stable (rowsOf X₁) (first .post .kept) v }
+      high-denotes =
+          let q = second .post .result in record { arrow = q .arrow; same = λ v. q .same v ∙ d .stable (rowsOf X₁) (first .post .kept) v }
 
       ready₂ : Ready m N limit X₂
       ready₂ = ready-next (ready-next r first) second

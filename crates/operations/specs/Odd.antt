@@ -1,5 +1,5 @@
--- EXISTS at every odd level at once. The table only grows; where the rows run out nothing else is said, for then the steps are taken one by one.
--- Assumes nothing.
+-- EXISTS at every odd level at once. The table only grows; where the rows run out nothing else is said, for then the steps are taken one by
+-- one. Assumes nothing.
 use mathlib.Core.Path.{_≡_}
 use mathlib.Core.Bool.{true, _||_}
 use mathlib.Core.Logic.{_≢_}

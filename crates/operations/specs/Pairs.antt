@@ -12,7 +12,9 @@ use Rattle.memory.specs.Memo.{Held}
 
 -- AND of a lesser and a greater arrow, where they are the same or each other's NOT, or the lesser is a constant
 unfoldable pub shortOf : ℕ → ℕ → Found
-shortOf lo hi = cond (eqb lo hi) (find.At lo) (cond (eqb hi (flip lo)) (find.At 0) (cond (isRow lo) find.Nothing (cond (eqb lo 0) (find.At lo) (find.At hi))))
+shortOf lo hi =
+    cond (eqb lo hi) (find.At lo)
+    (cond (eqb hi (flip lo)) (find.At 0) (cond (isRow lo) find.Nothing (cond (eqb lo 0) (find.At lo) (find.At hi))))
 
 -- otherwise they differ, and both lead to rows
 pub record BothRows (lo hi : ℕ) : Type 0 where

@@ -14,7 +14,8 @@ use Rattle.table.specs.declared.Found.{Found}
 use Rattle.table.specs.declared.Found.the-variants as find
 use Rattle.memory.specs.Memo.{Remembers}
 
--- what no operation changes: the header but for count, cursor and the numbers of slots, the spare word of rows, and the words beyond the table
+-- what no operation changes: the header but for count, cursor and the numbers of slots, the spare word of rows, and the words beyond the
+-- table
 pub record OpFrame (W X : View) : Type 0 where
   pub rows : X .rows ≡ W .rows
   pub size : X .size ≡ W .size

@@ -1,4 +1,5 @@
-// The operations on arrows: a bit, AND, OR, SHIFT and EXISTS at one level. None of them frees a row. NOT makes no row: it is `layout::flip`.
+// The operations on arrows: a bit, AND, OR, SHIFT and EXISTS at one level. None of them frees a row.
+// NOT makes no row: it is `layout::flip`.
 // Each answers an arrow, or `Code::FULL` where the rows ran out.
 use layout::Table;
 use layout::carry;
@@ -91,7 +92,8 @@ fn shift_known(words: &[u32], rows: u32, levels: u32, a: u32) -> Found
     carry_found(a, found)
 }
 
-// SHIFT of an arrow whose rows all have even levels: every level becomes the next one. It is worked out for the arrow without a NOT, once for both.
+// SHIFT of an arrow whose rows all have even levels: every level becomes the next one. It is worked out for the arrow without a NOT, once
+// for both.
 pub fn shift(words: &mut [u32], rows: u32, levels: u32, limit: u32, a: u32) -> u32
     requires { ⌜ ShiftPre levels rows limit (now words) a ⌝ }
     ensures { λ r. ⌜ OnePost shiftF levels rows limit (now (words .entry)) (now (words .exit)) a r ⌝ }

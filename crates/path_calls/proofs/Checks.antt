@@ -54,7 +54,8 @@ module _ (bk : Book) (a b t : ℕ) (list : List ℕ) where
   abbrev inRange : Bool
   inRange = ltb a registers && (ltb b registers && ltb t relations)
 
-  range-by : {r : Bool} → inRange ≡ r → shortest bk a b t list ≡ cond r (overFilled bk (bk .reg a) (bk .reg b) (bk .rel t) list) (refuse 3 list)
+  range-by : {r : Bool} → inRange ≡ r
+      → shortest bk a b t list ≡ cond r (overFilled bk (bk .reg a) (bk .reg b) (bk .rel t) list) (refuse 3 list)
   range-by e = ap (λ (r : Bool). cond r (overFilled bk (bk .reg a) (bk .reg b) (bk .rel t) list) (refuse 3 list)) e
 
   -- "register, relation or state number out of range"
@@ -66,7 +67,11 @@ module _ (bk : Book) (a b t : ℕ) (list : List ℕ) where
 
   module _ (r : InRange a b t) where
     later : shortest bk a b t list ≡ overFilled bk (bk .reg a) (bk .reg b) (bk .rel t) list
-    later = range-by (true-of inRange (and-in (ltb a registers) _ (lt→ltb a registers (r .0)) (and-in (ltb b registers) _ (lt→ltb b registers (r .1)) (lt→ltb t relations (r .2)))))
+    later =
+        range-by
+        (true-of inRange
+        (and-in (ltb a registers) _ (lt→ltb a registers (r .0))
+        (and-in (ltb b registers) _ (lt→ltb b registers (r .1)) (lt→ltb t relations (r .2)))))
 
     -- "register or relation named is empty"
     pub seven-first : bk .reg a ≡ none → shortest bk a b t list ≡ refuse 7 list
@@ -89,7 +94,8 @@ module _ (bk : Book) (a b t : ℕ) (list : List ℕ) where
 
     -- and then the outcome of the steps
     pub says-outcome : {A B : List Bool} {R : Pairs} → bk .reg a ≡ some A → bk .reg b ≡ some B → bk .rel t ≡ some R
-        → shortest bk a b t list ≡ ends (outcome (bk .n) (bk .N) (liveOf bk) (inside (bk .rel t)) (inside (bk .reg a)) (inside (bk .reg b)) (length list)) list
+        → shortest bk a b t list
+        ≡ ends (outcome (bk .n) (bk .N) (liveOf bk) (inside (bk .rel t)) (inside (bk .reg a)) (inside (bk .reg b)) (length list)) list
     says-outcome ea eb er = later ∙ go (bk .reg a) (bk .reg b) (bk .rel t) ea eb er
       where
         go : {A B : List Bool} {R : Pairs} (o p : Option (List Bool)) (q : Option Pairs) → o ≡ some A → p ≡ some B → q ≡ some R
@@ -106,21 +112,34 @@ module _ (old : List ℕ) where
   bk = bookOf (seen old)
 
   -- what register r and relation t stand for, by their words
-  pub register-is : {r x : ℕ} → r < registers → x ≡ headerOf old (FIRST-REGISTER + r) → bk .reg r ≡ standsFor (setOf (W .header BITS)) (den (2 * W .header BITS) (rowsOf W)) (arrowIn x)
-  register-is {r} l e = in-range _ none r registers l ∙ ap (λ (k : ℕ). standsFor (setOf (W .header BITS)) (den (2 * W .header BITS) (rowsOf W)) (arrowIn k)) (sym e)
+  pub register-is : {r x : ℕ} → r < registers → x ≡ headerOf old (FIRST-REGISTER + r)
+      → bk .reg r ≡ standsFor (setOf (W .header BITS)) (den (2 * W .header BITS) (rowsOf W)) (arrowIn x)
+  register-is {r} l e =
+      in-range _ none r registers l
+      ∙ ap (λ (k : ℕ). standsFor (setOf (W .header BITS)) (den (2 * W .header BITS) (rowsOf W)) (arrowIn k)) (sym e)
 
-  pub relation-is : {t x : ℕ} → t < relations → x ≡ headerOf old (FIRST-RELATION + t) → bk .rel t ≡ standsFor (pairsOf (W .header BITS)) (den (2 * W .header BITS) (rowsOf W)) (arrowIn x)
-  relation-is {t} l e = in-range _ none t relations l ∙ ap (λ (k : ℕ). standsFor (pairsOf (W .header BITS)) (den (2 * W .header BITS) (rowsOf W)) (arrowIn k)) (sym e)
+  pub relation-is : {t x : ℕ} → t < relations → x ≡ headerOf old (FIRST-RELATION + t)
+      → bk .rel t ≡ standsFor (pairsOf (W .header BITS)) (den (2 * W .header BITS) (rowsOf W)) (arrowIn x)
+  relation-is {t} l e =
+      in-range _ none t relations l
+      ∙ ap (λ (k : ℕ). standsFor (pairsOf (W .header BITS)) (den (2 * W .header BITS) (rowsOf W)) (arrowIn k)) (sym e)
 
 -- ---- refusals by the checks
 
 module _ (a b t : ℕ) (ws list : List ℕ) where
   -- CHECK 2
   pub path-unsound : (SoundWords ws → ⊥) → PathPost a b t ws ws list list (plain 2)
-  path-unsound n = record { unsound = λ _. ((refl, refl, refl, refl), refl, refl); told = λ s. absurd (n s); book = refl; kept = kept-refused collect 1 ws }
+  path-unsound n =
+      record {
+        unsound = λ _. ((refl, refl, refl, refl), refl, refl);
+        told = λ s. absurd (n s);
+        book = refl;
+        kept = kept-refused collect 1 ws;
+      }
 
   -- CHECKS 3 AND 7: the book refuses with the number
-  path-refused : SoundWords ws → (k : ℕ) → shortest (bookOf (seen ws)) a b t list ≡ refuse (suc k) list → PathPost a b t ws ws list list (plain (suc k))
+  path-refused : SoundWords ws → (k : ℕ) → shortest (bookOf (seen ws)) a b t list ≡ refuse (suc k) list
+      → PathPost a b t ws ws list list (plain (suc k))
   path-refused s k e = record {
     unsound = λ n. absurd (n s);
     told = λ _. record {
@@ -160,7 +179,8 @@ and-no : (x : Bool) → (x && false) ≡ false
 and-no true = refl
 and-no false = refl
 
-module _ (old new : List ℕ) (y : Reply) (s : SoundWords old) (ok : Sound (view (headerOf old ROWS) new)) (f : OpFrame (tableOf old) (view (headerOf old ROWS) new))
+module _ (old new : List ℕ) (y : Reply) (s : SoundWords old) (ok : Sound (view (headerOf old ROWS) new))
+    (f : OpFrame (tableOf old) (view (headerOf old ROWS) new))
     (k : Keeps (rowsOf (tableOf old)) (rowsOf (view (headerOf old ROWS) new)) (filled (tableOf old))) where
   abbrev Z : View
   Z = view (headerOf old ROWS) new
@@ -187,14 +207,19 @@ module _ (old new : List ℕ) (y : Reply) (s : SoundWords old) (ok : Sound (view
   shown : Shows (bookOf (seen old)) (seenIn Z)
   shown =
       let e : Z .header BITS ≡ headerOf old BITS = left .header BITS (and-no (eqb (y .number) 0)) in
-      alike-shows (rows-seen (tableOf old) Z f) (bookOf (seen old)) (shows-rows (bookOf (seen old)) (seen old) (sound-shows-book old s) (rowsOf Z) (rw (← e) (ok .good .rows)) rows-kept)
+      alike-shows (rows-seen (tableOf old) Z f) (bookOf (seen old))
+      (shows-rows (bookOf (seen old)) (seen old) (sound-shows-book old s) (rowsOf Z) (rw (← e) (ok .good .rows)) rows-kept)
 
   -- the words stand for the same book
   pub same-book : bookOf (seen new) ≡ bookOf (seen old)
-  same-book = ap (λ (v : View). bookOf (seenIn v)) same-table ∙ sym (only-book (bookOf (seen old)) (seenIn Z) (whole-bookOf (seen old) (sound-table (tableOf old) s)) shown)
+  same-book =
+      ap (λ (v : View). bookOf (seenIn v)) same-table
+      ∙ sym (only-book (bookOf (seen old)) (seenIn Z) (whole-bookOf (seen old) (sound-table (tableOf old) s)) shown)
 
-module _ {a b t : ℕ} (old : List ℕ) (s : SoundWords old) (r : InRange a b t) {rows bits x y z : ℕ} (er : rows ≡ headerOf old ROWS) (eb : bits ≡ headerOf old BITS)
-    (ex : x ≡ headerOf old (FIRST-REGISTER + a)) (ey : y ≡ headerOf old (FIRST-REGISTER + b)) (ez : z ≡ headerOf old (FIRST-RELATION + t)) (fx : x ≢ 0) (fy : y ≢ 0) (fz : z ≢ 0) where
+module _ {a b t : ℕ} (old : List ℕ) (s : SoundWords old) (r : InRange a b t) {rows bits x y z : ℕ} (er : rows ≡ headerOf old ROWS)
+    (eb : bits ≡ headerOf old BITS)
+    (ex : x ≡ headerOf old (FIRST-REGISTER + a)) (ey : y ≡ headerOf old (FIRST-REGISTER + b)) (ez : z ≡ headerOf old (FIRST-RELATION + t))
+    (fx : x ≢ 0) (fy : y ≢ 0) (fz : z ≢ 0) where
   names : Named (tableOf old) a b t (x - 1) (y - 1) (z - 1)
   names = record { a-in = r .0; a-is = omega arith; b-in = r .1; b-is = omega arith; t-in = r .2; t-is = omega arith }
 
@@ -203,7 +228,9 @@ module _ {a b t : ℕ} (old : List ℕ) (s : SoundWords old) (r : InRange a b t)
 
   -- the book's own outcome
   abbrev bookOutcome : List ℕ → Outcome
-  bookOutcome list = outcome (headerOf old BITS) (headerOf old ROWS) (liveOf (bookOf (seen old))) (inside (bookOf (seen old) .rel t)) (inside (bookOf (seen old) .reg a)) (inside (bookOf (seen old) .reg b)) (length list)
+  bookOutcome list =
+      outcome (headerOf old BITS) (headerOf old ROWS) (liveOf (bookOf (seen old))) (inside (bookOf (seen old) .rel t))
+      (inside (bookOf (seen old) .reg a)) (inside (bookOf (seen old) .reg b)) (length list)
 
   by-book : (list : List ℕ) → shortest (bookOf (seen old)) a b t list ≡ ends (bookOutcome list) list
   by-book list =
@@ -212,18 +239,24 @@ module _ {a b t : ℕ} (old : List ℕ) (s : SoundWords old) (r : InRange a b t)
       let qz : suc (z - 1) ≡ headerOf old (FIRST-RELATION + t) = omega arith in
       says-outcome (bookOf (seen old)) a b t list r (register-is old (r .0) qx) (register-is old (r .1) qy) (relation-is old (r .2) qz)
 
-  pub call-ends : (new list after : List ℕ) {w : Found} → SearchPost bits rows (view rows old) (view rows new) (z - 1) (x - 1) (y - 1) list after w → PathPost a b t old new list after (foundReply w)
+  pub call-ends : (new list after : List ℕ) {w : Found}
+      → SearchPost bits rows (view rows old) (view rows new) (z - 1) (x - 1) (y - 1) list after w
+      → PathPost a b t old new list after (foundReply w)
   call-ends new list after {w} v =
       let q : Searched bits rows (view rows old) (view rows new) a b t list after w = v a b t (rw er names) in
-      let d : Searched (headerOf old BITS) (headerOf old ROWS) (tableOf old) (view (headerOf old ROWS) new) a b t list after w = rw (← eb, ← er) q in
-      let n : T (keepsAll (foundReply w .number)) → ⊥ = λ h. late (bookOutcome list) list (subst (λ (u : Reply). T (keepsAll (u .number))) (d .told .reply) h) in
+      let d : Searched (headerOf old BITS) (headerOf old ROWS) (tableOf old) (view (headerOf old ROWS) new) a b t list after
+      w = rw (← eb, ← er) q in
+      let n : T (keepsAll (foundReply w .number))
+      → ⊥ = λ h. late (bookOutcome list) list (subst (λ (u : Reply). T (keepsAll (u .number))) (d .told .reply) h) in
       record {
         unsound = λ g. absurd (g s);
         told = λ _. record {
           reply = d .told .reply ∙ sym (ap (λ (u : Ended). u .reply) (by-book list));
           list = d .told .list ∙ sym (ap (λ (u : Ended). u .list) (by-book list));
           sound = subst Sound (sym (same-table old new (foundReply w) s (d .sound) (d .frame) (d .kept))) (d .sound);
-          rows = subst (λ (u : View). Keeps (seen old .rows) (rowsOf u) (rootsOf (seen old))) (sym (same-table old new (foundReply w) s (d .sound) (d .frame) (d .kept))) (rows-kept old new (foundReply w) s (d .sound) (d .frame) (d .kept));
+          rows = subst (λ (u : View). Keeps (seen old .rows) (rowsOf u) (rootsOf (seen old)))
+              (sym (same-table old new (foundReply w) s (d .sound) (d .frame) (d .kept)))
+              (rows-kept old new (foundReply w) s (d .sound) (d .frame) (d .kept));
         };
         book = same-book old new (foundReply w) s (d .sound) (d .frame) (d .kept);
         kept = words-kept old new (foundReply w) s (d .sound) (d .frame) (d .kept) n;

@@ -10,8 +10,8 @@ use Rattle.contract.specs.Seen.{seen, SoundWords}
 use Rattle.contract.specs.Kept.{Kept}
 use Rattle.paths.specs.Call.{shortest}
 
--- on a sound table: what is returned and what is written are those of the book that the words stand for, and the words are sound again, with
--- "registers, relations, rows they need" as they were, row by row
+-- on a sound table: what is returned and what is written are those of the book that the words stand for, and the words are sound again,
+-- with "registers, relations, rows they need" as they were, row by row
 pub record Told (a b t : ℕ) (old new lent left : List ℕ) (y : Reply) : Type 0 where
   pub reply : y ≡ shortest (bookOf (seen old)) a b t lent .reply
   pub list : left ≡ shortest (bookOf (seen old)) a b t lent .list
@@ -25,5 +25,6 @@ pub record PathPost (a b t : ℕ) (old new lent left : List ℕ) (y : Reply) : T
   pub told : SoundWords old → Told a b t old new lent left y
   -- the words stand for the same book
   pub book : bookOf (seen new) ≡ bookOf (seen old)
-  -- 2, 3 and 7 keep all words; else no word changes but those of unneeded rows, of the index and of remembered results: as for collect, which has no target
+  -- 2, 3 and 7 keep all words; else no word changes but those of unneeded rows, of the index and of remembered results: as for collect,
+  -- which has no target
   pub kept : Kept collect y old new

@@ -46,7 +46,9 @@ pub record Searched (n limit : ℕ) (W X : View) (ra rb rt : ℕ) (old new : Lis
   pub sound : Sound X
   pub frame : OpFrame W X
   pub kept : Keeps (rowsOf W) (rowsOf X) (filled W)
-  pub told : Told (outcome n limit (liveOf (bookIn W)) (inside (bookIn W .rel rt)) (inside (bookIn W .reg ra)) (inside (bookIn W .reg rb)) (length old)) r old new
+  pub told : Told
+      (outcome n limit (liveOf (bookIn W)) (inside (bookIn W .rel rt)) (inside (bookIn W .reg ra)) (inside (bookIn W .reg rb)) (length old))
+      r old new
 
 abbrev pub SearchPost : ℕ → ℕ → View → View → ℕ → ℕ → ℕ → List ℕ → List ℕ → Found → Type 0
 SearchPost n limit W X t a b old new r = (ra rb rt : ℕ) → Named W ra rb rt a b t → Searched n limit W X ra rb rt old new r

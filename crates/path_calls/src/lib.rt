@@ -34,9 +34,9 @@ fn search(
     found
 }
 
-// Writes the states of the shortest run from register a into register b over relation t to the list, the least at each place, and answers how
-// many they are: 2 on unsound words, 3 where there is no such register or relation, 7 where one is empty, 8 where a step needs more rows than
-// there are, 10 where there is no run, 11 where the list is too short for it.
+// Writes the states of the shortest run from register a into register b over relation t to the list, the least at each place, and answers
+// how many they are: 2 on unsound words, 3 where there is no such register or relation, 7 where one is empty, 8 where a step needs more
+// rows than there are, 10 where there is no run, 11 where the list is too short for it.
 pub fn shortest(words: &mut [u32], list: &mut [u16], a: u32, b: u32, t: u32) -> Found
     ensures { λ r. ⌜ PathPost a b t (now (words .entry)) (now (words .exit)) (now (list .entry)) (now (list .exit)) (foundReply r) ⌝ }
 {

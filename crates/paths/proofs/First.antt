@@ -31,7 +31,8 @@ pub first-least : (k : ℕ) (q : ℕ → Bool) (i : ℕ) → i < k → T (q i) �
 first-least zero q i l t = absurd (omega arith)
 first-least (suc k) q i l t = go (q zero) refl (λ i l t. first-least k (λ j. q (suc j)) i l t) i l t
   where
-    go : (b : Bool) → q zero ≡ b → ((i : ℕ) → i < k → T (q (suc i)) → firstOf k (λ i. q (suc i)) ≤ i) → (i : ℕ) → i < suc k → T (q i) → cond b zero (suc (firstOf k (λ i. q (suc i)))) ≤ i
+    go : (b : Bool) → q zero ≡ b → ((i : ℕ) → i < k → T (q (suc i)) → firstOf k (λ i. q (suc i)) ≤ i) → (i : ℕ) → i < suc k → T (q i)
+        → cond b zero (suc (firstOf k (λ i. q (suc i)))) ≤ i
     go true e below i l t = omega arith
     go false e below zero l t = absurd (subst T e t)
     go false e below (suc i) l t = let r = below i (omega arith) t in omega arith
@@ -53,4 +54,6 @@ first-none k q h =
 -- tests that agree below k have the same
 pub first-same : (k : ℕ) (q r : ℕ → Bool) → ((i : ℕ) → i < k → q i ≡ r i) → firstOf k q ≡ firstOf k r
 first-same zero q r h = refl
-first-same (suc k) q r h = ap₂ (λ (b : Bool) (m : ℕ). cond b zero (suc m)) (h zero (omega arith)) (first-same k (λ i. q (suc i)) (λ i. r (suc i)) (λ i l. h (suc i) (omega arith)))
+first-same (suc k) q r h =
+    ap₂ (λ (b : Bool) (m : ℕ). cond b zero (suc m)) (h zero (omega arith))
+    (first-same k (λ i. q (suc i)) (λ i. r (suc i)) (λ i l. h (suc i) (omega arith)))

@@ -10,7 +10,8 @@ use native.Mathlib.Omega.{arith}
 use lib.Dec.{T, ltb, ltb→lt, lt→ltb}
 use lib.ListN.{length}
 use Rattle.mucalculus.specs.Sets.{mem, table, any, same}
-use Rattle.mucalculus.proofs.Sets.{mem-lt, mem-table, length-table, any-in, any-out, and-in, and-out, or-left, or-right, or-out, same-eq, same-refl}
+use Rattle.mucalculus.proofs.Sets.{mem-lt, mem-table, length-table, any-in, any-out, and-in, and-out, or-left, or-right, or-out, same-eq}
+use Rattle.mucalculus.proofs.Sets.{same-refl}
 use Rattle.mucalculus.specs.Order.{Below, weight}
 use Rattle.mucalculus.proofs.Order.{weight-le, rise}
 use Rattle.mucalculus.specs.Form.{Pairs}
@@ -27,8 +28,11 @@ run-lt k R B s (u ∷ l) t = ltb→lt s k (and-out (ltb s k) _ t .0)
 
 module _ (k : ℕ) (R : Pairs) (B : List Bool) where
   -- what is in layer j + 1: B, and what has a next state in layer j
-  pub layer-suc : (j s : ℕ) → T (mem (layer k R B (suc j)) s) → T (mem B s) ⊎ ((t : ℕ) × (t < k) × T (pair R s t) × T (mem (layer k R B j) t))
-  layer-suc j s p = go (or-out (mem B s) (mem (sometimes k R L) s) (and-out (ltb s k) _ (subst T (mem-table k (λ s. mem B s || mem (sometimes k R L) s) s) p) .1))
+  pub layer-suc : (j s : ℕ) → T (mem (layer k R B (suc j)) s)
+      → T (mem B s) ⊎ ((t : ℕ) × (t < k) × T (pair R s t) × T (mem (layer k R B j) t))
+  layer-suc j s p =
+      go (or-out (mem B s) (mem (sometimes k R L) s)
+      (and-out (ltb s k) _ (subst T (mem-table k (λ s. mem B s || mem (sometimes k R L) s) s) p) .1))
     where
       L : List Bool
       L = layer k R B j
@@ -42,7 +46,8 @@ module _ (k : ℕ) (R : Pairs) (B : List Bool) where
           inr (w .0, table-out k (λ t. t) (λ t. t < k) (λ t l. l) (w .0) (w .1), b .0, b .1)
 
   suc-layer : (j s : ℕ) → s < k → T (mem B s || mem (sometimes k R (layer k R B j)) s) → T (mem (layer k R B (suc j)) s)
-  suc-layer j s l t = subst T (sym (mem-table k (λ s. mem B s || mem (sometimes k R (layer k R B j)) s) s)) (and-in (ltb s k) _ (lt→ltb s k l) t)
+  suc-layer j s l t =
+      subst T (sym (mem-table k (λ s. mem B s || mem (sometimes k R (layer k R B j)) s) s)) (and-in (ltb s k) _ (lt→ltb s k l) t)
 
   pub layer-here : (j s : ℕ) → s < k → T (mem B s) → T (mem (layer k R B j) s)
   layer-here zero s l t = t
@@ -52,17 +57,22 @@ module _ (k : ℕ) (R : Pairs) (B : List Bool) where
   layer-step j s t l i p q =
       let L = layer k R B j in
       let h : ℕ → Bool = λ s. any (λ t. pair R s t && mem L t) (table k (λ t. t)) in
-      suc-layer j s l (or-right (mem B s) _ (subst T (sym (mem-table k h s)) (and-in (ltb s k) _ (lt→ltb s k l) (any-in (λ t. pair R s t && mem L t) (table-in k (λ t. t) t i) (and-in (pair R s t) _ p q)))))
+      suc-layer j s l
+      (or-right (mem B s) _
+      (subst T (sym (mem-table k h s))
+      (and-in (ltb s k) _ (lt→ltb s k l) (any-in (λ t. pair R s t && mem L t) (table-in k (λ t. t) t i) (and-in (pair R s t) _ p q)))))
 
   -- a state of layer j has a run into B of at most j steps
   pub layer-out : (j s : ℕ) → s < k → T (mem (layer k R B j) s) → (l : List ℕ) × (length l ≤ j) × T (runsInto k R B s l)
   layer-out zero s l t = ([], omega arith, and-in (ltb s k) _ (lt→ltb s k l) t)
   layer-out (suc j) s l t = go (layer-suc j s t) (λ u i p. layer-out j u i p)
     where
-      go : T (mem B s) ⊎ ((t : ℕ) × (t < k) × T (pair R s t) × T (mem (layer k R B j) t)) → ((u : ℕ) → u < k → T (mem (layer k R B j) u) → (l : List ℕ) × (length l ≤ j) × T (runsInto k R B u l))
+      go : T (mem B s) ⊎ ((t : ℕ) × (t < k) × T (pair R s t) × T (mem (layer k R B j) t))
+          → ((u : ℕ) → u < k → T (mem (layer k R B j) u) → (l : List ℕ) × (length l ≤ j) × T (runsInto k R B u l))
           → (l : List ℕ) × (length l ≤ suc j) × T (runsInto k R B s l)
       go (inl b) below = ([], omega arith, and-in (ltb s k) _ (lt→ltb s k l) b)
-      go (inr (u, i, p, q)) below = let w = below u i q in (u ∷ w .0, suc-le-suc (w .1), and-in (ltb s k) _ (lt→ltb s k l) (and-in (pair R s u) _ p (w .2)))
+      go (inr (u, i, p, q)) below =
+          let w = below u i q in (u ∷ w .0, suc-le-suc (w .1), and-in (ltb s k) _ (lt→ltb s k l) (and-in (pair R s u) _ p (w .2)))
 
   -- and a state with such a run is in layer j
   pub layer-in : (j s : ℕ) (l : List ℕ) → length l ≤ j → T (runsInto k R B s l) → T (mem (layer k R B j) s)
@@ -97,23 +107,27 @@ module _ (k : ℕ) (R : Pairs) (B : List Bool) where
     rests zero = inr zero-le
     rests (suc j) = go (rests j) (rise true (layer k R B j) (layer k R B (suc j)) (layer-size j ∙ sym (layer-size (suc j))) (climbs j))
       where
-        go : ((i : ℕ) × (i ≤ j) × T (still k R B i)) ⊎ (j ≤ weight true (layer k R B j)) → (layer k R B j ≡ layer k R B (suc j)) ⊎ (weight true (layer k R B j) < weight true (layer k R B (suc j)))
+        go : ((i : ℕ) × (i ≤ j) × T (still k R B i)) ⊎ (j ≤ weight true (layer k R B j))
+            → (layer k R B j ≡ layer k R B (suc j)) ⊎ (weight true (layer k R B j) < weight true (layer k R B (suc j)))
             → ((i : ℕ) × (i ≤ suc j) × T (still k R B i)) ⊎ (suc j ≤ weight true (layer k R B (suc j)))
         go (inl (i, l, t)) o = inl (i, omega arith, t)
-        go (inr h) (inl e) = inl (suc j, omega arith, subst (λ (L : List Bool). T (same (layer k R B (suc j)) L)) (sym e) (same-refl (layer k R B (suc j))))
+        go (inr h) (inl e) =
+            inl (suc j, omega arith, subst (λ (L : List Bool). T (same (layer k R B (suc j)) L)) (sym e) (same-refl (layer k R B (suc j))))
         go (inr h) (inr l) = inr (omega arith)
 
     some-rests : (i : ℕ) × (i < suc (suc k)) × T (still k R B i)
     some-rests = go (rests (suc k))
       where
-        go : ((i : ℕ) × (i ≤ suc k) × T (still k R B i)) ⊎ (suc k ≤ weight true (layer k R B (suc k))) → (i : ℕ) × (i < suc (suc k)) × T (still k R B i)
+        go : ((i : ℕ) × (i ≤ suc k) × T (still k R B i)) ⊎ (suc k ≤ weight true (layer k R B (suc k)))
+            → (i : ℕ) × (i < suc (suc k)) × T (still k R B i)
         go (inl (i, l, t)) = (i, omega arith, t)
         go (inr l) = absurd (omega (arith, weight-le true (layer k R B (suc k)), layer-size (suc k)))
 
 -- ---- sets that share a state
 
 pub meets-in : (k : ℕ) (A L : List Bool) (s : ℕ) → s < k → T (mem A s) → T (mem L s) → T (meets k A L)
-meets-in k A L s l a b = let h = first-least k (λ s. mem A s && mem L s) s l (and-in (mem A s) _ a b) in lt→ltb (common k A L) k (omega arith)
+meets-in k A L s l a b =
+    let h = first-least k (λ s. mem A s && mem L s) s l (and-in (mem A s) _ a b) in lt→ltb (common k A L) k (omega arith)
 
 pub meets-out : (k : ℕ) (A L : List Bool) → T (meets k A L) → (common k A L < k) × T (mem A (common k A L)) × T (mem L (common k A L))
 meets-out k A L t =
@@ -129,13 +143,15 @@ module _ (k : ℕ) (R : Pairs) (A B : List Bool) where
 
   -- before it no layer meets A
   pub last-least : (j : ℕ) → T (meets k A (layer k R B j)) → j < suc (suc k) → last ≤ j
-  last-least j t l = first-least (suc (suc k)) (λ j. meets k A (layer k R B j) || still k R B j) j l (or-left (meets k A (layer k R B j)) _ t)
+  last-least j t l =
+      first-least (suc (suc k)) (λ j. meets k A (layer k R B j) || still k R B j) j l (or-left (meets k A (layer k R B j)) _ t)
 
   module _ (size : length B ≡ k) where
     pub last-lt : last < suc (suc k)
     last-lt =
         let w = some-rests k R B size in
-        let h = first-least (suc (suc k)) (λ j. meets k A (layer k R B j) || still k R B j) (w .0) (w .1) (or-right (meets k A (layer k R B (w .0))) _ (w .2)) in
+        let h = first-least (suc (suc k)) (λ j. meets k A (layer k R B j) || still k R B j) (w .0) (w .1)
+        (or-right (meets k A (layer k R B (w .0))) _ (w .2)) in
         omega (arith, h, w .1)
 
     ends : T (meets k A (layer k R B last)) ⊎ T (still k R B last)

@@ -28,15 +28,35 @@ pub record Meant (k : ℕ) (R : Pairs) (A B : List Bool) (lent : List ℕ) (e : 
 
 module _ (k : ℕ) (R : Pairs) (A B : List Bool) (lent : List ℕ) where
   by-three : Meant k R A B lent (refuse 3 lent)
-  by-three = record { answered = λ e. absurd (omega (arith, e)); no-run = λ e. absurd (omega (arith, e)); too-short = λ e. absurd (omega (arith, e)); kept = λ _. refl }
+  by-three =
+      record {
+        answered =
+            λ e. absurd (omega (arith, e));
+        no-run = λ e. absurd (omega (arith, e));
+        too-short = λ e. absurd (omega (arith, e));
+        kept = λ _. refl;
+      }
 
   by-seven : Meant k R A B lent (refuse 7 lent)
-  by-seven = record { answered = λ e. absurd (omega (arith, e)); no-run = λ e. absurd (omega (arith, e)); too-short = λ e. absurd (omega (arith, e)); kept = λ _. refl }
+  by-seven =
+      record {
+        answered =
+            λ e. absurd (omega (arith, e));
+        no-run = λ e. absurd (omega (arith, e));
+        too-short = λ e. absurd (omega (arith, e));
+        kept = λ _. refl;
+      }
 
 by-outcome : (n N : ℕ) (live : List Fn) (R : Pairs) (A B : List Bool) (lent : List ℕ) (o : Outcome) → Cause n N live R A B (length lent) o
     → Meant (2 ^ n) R A B lent (ends o lent)
 by-outcome n N live R A B lent full c =
-    record { answered = λ e. absurd (omega (arith, e)); no-run = λ e. absurd (omega (arith, e)); too-short = λ e. absurd (omega (arith, e)); kept = λ _. refl }
+    record {
+      answered =
+          λ e. absurd (omega (arith, e));
+      no-run = λ e. absurd (omega (arith, e));
+      too-short = λ e. absurd (omega (arith, e));
+      kept = λ _. refl;
+    }
 by-outcome n N live R A B lent noRun c =
     record { answered = λ e. absurd (omega (arith, e)); no-run = λ _. c .1; too-short = λ e. absurd (omega (arith, e)); kept = λ _. refl }
 by-outcome n N live R A B lent short c =
@@ -59,9 +79,13 @@ module _ (bk : Book) (lent : List ℕ) where
       (outcome-cause (bk .n) (bk .N) (liveOf bk) R A B (length lent) (s B refl))
 
   -- the call, over the sets in registers a and b and the pairs in relation t
-  pub shortest-means : Whole bk → (a b t : ℕ) → Meant (2 ^ bk .n) (inside (bk .rel t)) (inside (bk .reg a)) (inside (bk .reg b)) lent (shortest bk a b t lent)
-  shortest-means w a b t = go (ltb a registers && (ltb b registers && ltb t relations)) (filled-means (bk .reg a) (bk .reg b) (bk .rel t) (λ B e. w .reg b B e .0))
+  pub shortest-means : Whole bk → (a b t : ℕ)
+      → Meant (2 ^ bk .n) (inside (bk .rel t)) (inside (bk .reg a)) (inside (bk .reg b)) lent (shortest bk a b t lent)
+  shortest-means w a b t =
+      go (ltb a registers && (ltb b registers && ltb t relations))
+      (filled-means (bk .reg a) (bk .reg b) (bk .rel t) (λ B e. w .reg b B e .0))
     where
-      go : {k : ℕ} {R : Pairs} {A B : List Bool} {e : Ended} (r : Bool) → Meant k R A B lent e → Meant k R A B lent (cond r e (refuse 3 lent))
+      go : {k : ℕ} {R : Pairs} {A B : List Bool} {e : Ended} (r : Bool) → Meant k R A B lent e
+          → Meant k R A B lent (cond r e (refuse 3 lent))
       go true m = m
       go {k} {R} {A} {B} false m = by-three k R A B lent

@@ -1,4 +1,5 @@
--- The run that is written is one from A into B; none has fewer states, and of those with as many it is the least at each place. Assumes nothing.
+-- The run that is written is one from A into B; none has fewer states, and of those with as many it is the least at each place.
+-- Assumes nothing.
 use mathlib.Core.Path.{_≡_, refl, sym, ap, ap₂, _∙_, subst}
 use mathlib.Core.Bool.{Bool, _&&_}
 use mathlib.Core.List.{List, [], _∷_}
@@ -57,7 +58,9 @@ module _ (k : ℕ) (R : Pairs) (B : List Bool) where
   onward-runs zero s l t f = and-in (ltb s k) _ (lt→ltb s k l) t
   onward-runs (suc d) s l t f =
       let w = nearer d s l t f in
-      and-in (ltb s k) _ (lt→ltb s k l) (and-in (pair R s (towards d s)) _ (w .next) (onward-runs d (towards d s) (w .state) (w .inside) (far-next d s (towards d s) l (w .next) f)))
+      and-in (ltb s k) _ (lt→ltb s k l)
+      (and-in (pair R s (towards d s)) _ (w .next)
+      (onward-runs d (towards d s) (w .state) (w .inside) (far-next d s (towards d s) l (w .next) f)))
 
   pub onward-length : (d s : ℕ) → length (onward k R B d s) ≡ d
   onward-length zero s = refl
@@ -88,7 +91,10 @@ module _ (k : ℕ) (R : Pairs) (A B : List Bool) where
     c = meets-out k A (layer k R B d) m
 
     pub route-run : T (isRun k R A B (route k R A B d))
-    route-run = and-in (mem A s) _ (c .1) (onward-runs k R B d s (c .0) (c .2) (λ l r. let h = last-shortest k R A B size (s ∷ l) (and-in (mem A s) _ (c .1) r) in omega arith))
+    route-run =
+        and-in (mem A s) _ (c .1)
+        (onward-runs k R B d s (c .0) (c .2)
+        (λ l r. let h = last-shortest k R A B size (s ∷ l) (and-in (mem A s) _ (c .1) r) in omega arith))
 
     route-least : (l : List ℕ) → T (isRun k R A B l) → length l ≡ length (route k R A B d) → Least (route k R A B d) l
     route-least [] t e = tt

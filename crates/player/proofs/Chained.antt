@@ -23,13 +23,15 @@ use Rattle.records.specs.Text.{Wrote}
 use Rattle.records.proofs.TextLaws.{wrote-then}
 use Rattle.player.specs.declared.Played.{Played}
 use Rattle.player.specs.declared.Played.the-variants as played
-use Rattle.player.specs.Play.{Entry, entryWords, outcomeWords, commandsOf, wordsOf, Chain, done, next, Since, noted, since, Standing, commands, AllPost, DonePost, PlayPost, entriesOf}
+use Rattle.player.specs.Play.{Entry, entryWords, outcomeWords, commandsOf, wordsOf, Chain, done, next, Since, noted, since, Standing}
+use Rattle.player.specs.Play.{commands, AllPost, DonePost, PlayPost, entriesOf}
 use Rattle.player.proofs.Passes.{some-inj, Passed, passed-none, passed-next, passed-all, passed-left}
 
 -- ---- sessions
 
 -- a call more at the end of a trace
-trace-last : {w v w′ : List ℕ} {l : List Event} (c : Call) (y : Reply) → Trace (List ℕ) performs w l v → performs v c w′ y → Trace (List ℕ) performs w (l ++ ((c, y) ∷ [])) w′
+trace-last : {w v w′ : List ℕ} {l : List Event} (c : Call) (y : Reply) → Trace (List ℕ) performs w l v → performs v c w′ y
+    → Trace (List ℕ) performs w (l ++ ((c, y) ∷ [])) w′
 trace-last c y stop p = go p stop
 trace-last c y (go q t) p = go q (trace-last c y t p)
 
@@ -46,24 +48,37 @@ pub standing-next : (s : Option Since) (c : Command) (w v : List ℕ) (x : Outco
 standing-next s (start n N) w v x h p = pick (eqb (x .number) 0) refl
   where
     pick : (t : Bool) → eqb (x .number) 0 ≡ t → Standing (cond t (some record { n = n; N = N; events = [] }) s) v
-    pick true e = record { lent = w; count = 1; made = v; reply = shownReply x; start = p .0; answered = eqb-true (x .number) 0 e; rest = stop }
+    pick true e =
+        record { lent = w; count = 1; made = v; reply = shownReply x; start = p .0; answered = eqb-true (x .number) 0 e; rest = stop }
     pick false e = subst (Standing s) (sym (fresh-kept n N 1 (p .0) (eqb-false (x .number) 0 e))) h
 standing-next none (call c) w v x h p = tt
-standing-next (some s) (call c) w v x h p = record { lent = h .lent; count = h .count; made = h .made; reply = h .reply; start = h .start; answered = h .answered; rest = trace-last c (replyOf c x) (h .rest) (p .0) }
+standing-next (some s) (call c) w v x h p =
+    record {
+      lent = h .lent;
+      count = h .count;
+      made = h .made;
+      reply = h .reply;
+      start = h .start;
+      answered = h .answered;
+      rest = trace-last c (replyOf c x) (h .rest) (p .0);
+    }
 standing-next s (states r) w v x h p = subst (Standing s) (sym (p .0)) h
 
 standing : (s : Option Since) (w v : List ℕ) {l : List Entry} → Standing s w → Chain w l v → Standing (since s l) v
 standing s w v h done = h
-standing s w v h (next {v = u} {e = e} o t) = standing (noted s (e .command) (e .outcome)) u v (standing-next s (e .command) w u (e .outcome) h (o .posted)) t
+standing s w v h (next {v = u} {e = e} o t) =
+    standing (noted s (e .command) (e .outcome)) u v (standing-next s (e .command) w u (e .outcome) h (o .posted)) t
 
 -- the whole claim for the list since the last answered fresh
-pub standing-demand : {w : List ℕ} {before : Option Since} (s : Since) → Standing before w → before ≡ some s → Demand SoundWords seen asks (s .n) (s .N) (s .events) w
+pub standing-demand : {w : List ℕ} {before : Option Since} (s : Since) → Standing before w → before ≡ some s
+    → Demand SoundWords seen asks (s .n) (s .N) (s .events) w
 standing-demand {w} s h e = words-demand (s .n) (s .N) (subst (λ (o : Option Since). Standing o w) e h)
 
 -- ---- as far as the records have been obeyed
 
 -- an entry more at the end
-chain-last : {w v w′ : List ℕ} {l : List Entry} (e : Entry) → Chain w l v → Obeys (e .command) v w′ (e .outcome) → Chain w (l ++ (e ∷ [])) w′
+chain-last : {w v w′ : List ℕ} {l : List Entry} (e : Entry) → Chain w l v → Obeys (e .command) v w′ (e .outcome)
+    → Chain w (l ++ (e ∷ [])) w′
 chain-last e done o = next o done
 chain-last e (next q t) o = next q (chain-last e t o)
 
@@ -73,7 +88,9 @@ commands-last (d ∷ l) e = ap (λ (cs : List Command). d .command ∷ cs) (comm
 
 words-last : (l : List Entry) (e : Entry) → wordsOf (l ++ (e ∷ [])) ≡ wordsOf l ++ outcomeWords (e .outcome)
 words-last [] e = append-nil (outcomeWords (e .outcome))
-words-last (d ∷ l) e = ap (λ (ws : List ℕ). outcomeWords (d .outcome) ++ ws) (words-last l e) ∙ sym (append-assoc (outcomeWords (d .outcome)) (wordsOf l) (outcomeWords (e .outcome)))
+words-last (d ∷ l) e =
+    ap (λ (ws : List ℕ). outcomeWords (d .outcome) ++ ws) (words-last l e)
+    ∙ sym (append-assoc (outcomeWords (d .outcome)) (wordsOf l) (outcomeWords (e .outcome)))
 
 pub commands-length : (l : List Entry) → length (commandsOf l) ≡ length l
 commands-length [] = refl
@@ -92,10 +109,12 @@ pub record Progress (bs w₀ l₀ : List ℕ) (at place : ℕ) (w l : List ℕ) 
   pub listed : Wrote l₀ 0 (wordsOf entries) l place
 
 pub progress-none : (bs w l : List ℕ) → Progress bs w l 0 0 w l
-progress-none bs w l = record { entries = []; passed = passed-none bs; placed = refl; chain = done; listed = record { contents = refl; past = refl } }
+progress-none bs w l =
+    record { entries = []; passed = passed-none bs; placed = refl; chain = done; listed = record { contents = refl; past = refl } }
 
 pub progress-next : {bs w₀ l₀ w l w′ l′ : List ℕ} {at place : ℕ} (r : ℕ) (e : Entry) → Progress bs w₀ l₀ at place w l → at < length bs
-    → commandAt (drop at bs) ≡ some (e .command) → r ≡ 2 + recordLength (drop at bs) → r ≤ length (drop at bs) → Obeys (e .command) w w′ (e .outcome)
+    → commandAt (drop at bs) ≡ some (e .command) → r ≡ 2 + recordLength (drop at bs) → r ≤ length (drop at bs)
+    → Obeys (e .command) w w′ (e .outcome)
     → l′ ≡ sets l place (outcomeWords (e .outcome)) → Progress bs w₀ l₀ (at + r) (place + entryWords) w′ l′
 progress-next {bs} {w₀} {l₀} {w} {l} {w′} {l′} {at} {place} r e p h read size within o i = record {
   entries = p .entries ++ (e ∷ []);
@@ -108,7 +127,8 @@ progress-next {bs} {w₀} {l₀} {w} {l} {w′} {l′} {at} {place} r e p h read
 }
 
 -- there is room for the next outcome
-pub room-at : {bs w₀ l₀ w l : List ℕ} {at place : ℕ} {cs : List Command} → Progress bs w₀ l₀ at place w l → commands bs ≡ some cs → length cs * entryWords ≤ length l₀ → at < length bs
+pub room-at : {bs w₀ l₀ w l : List ℕ} {at place : ℕ} {cs : List Command} → Progress bs w₀ l₀ at place w l → commands bs ≡ some cs
+    → length cs * entryWords ≤ length l₀ → at < length bs
     → place + entryWords ≤ length l₀
 room-at {cs = cs} p e room h = omega (arith, p .placed, passed-left cs (p .passed) e h .1, commands-length (p .entries))
 
@@ -121,7 +141,8 @@ all-none w l [] e i z = record { entries = []; read = e; chain = done; listed = 
 all-none w l (c ∷ cs) e i z = absurd (omega arith)
 
 -- all of them, with the claim
-pub all-done : {bs w w′ l l′ : List ℕ} {k : ℕ} {cs : List Command} → AllPost bs w w′ l l′ → commands bs ≡ some cs → length cs ≡ k → DonePost bs w w′ l l′ k
+pub all-done : {bs w w′ l l′ : List ℕ} {k : ℕ} {cs : List Command} → AllPost bs w w′ l l′ → commands bs ≡ some cs → length cs ≡ k
+    → DonePost bs w w′ l l′ k
 all-done {cs = cs} p e i = record {
   all = p;
   count = sym i ∙ ap (λ (x : List Command). length x) (some-inj (sym e ∙ p .read)) ∙ commands-length (p .entries);
@@ -143,8 +164,10 @@ since-both before [] b = refl
 since-both before (e ∷ a) b = since-both (noted before (e .command) (e .outcome)) a b
 
 -- two lists played one after the other have the whole claim of one list, since the last answered fresh in either or before both
-pub play-again : (bs w w′ l l′ : List ℕ) (x : Played) (p : PlayPost bs w w′ l l′ x) (cs w″ m m′ : List ℕ) (y : Played) (q : PlayPost cs w′ w″ m m′ y)
-    (before : Option Since) → Standing before w → (s : Since) → since before (entriesOf bs w w′ l l′ x p ++ entriesOf cs w′ w″ m m′ y q) ≡ some s
+pub play-again : (bs w w′ l l′ : List ℕ) (x : Played) (p : PlayPost bs w w′ l l′ x) (cs w″ m m′ : List ℕ)
+    (y : Played) (q : PlayPost cs w′ w″ m m′ y)
+    (before : Option Since) → Standing before w → (s : Since)
+    → since before (entriesOf bs w w′ l l′ x p ++ entriesOf cs w′ w″ m m′ y q) ≡ some s
     → Demand SoundWords seen asks (s .n) (s .N) (s .events) w″
 play-again bs w w′ l l′ x p cs w″ m m′ y q before h s e =
     let first = entriesOf bs w w′ l l′ x p in

@@ -34,11 +34,14 @@ took bs {w} {w′} {r} h (cs, e) = go (readRecord bs true) refl
     go : (f : Found) → readRecord bs true ≡ f → Takes bs w w′ f r → Took bs w w′ r
     go found.End i t = absurd (omega (arith, end-read bs true i .1))
     go found.More i t = let q : true ≡ false = more-read bs true i .0 in let z : _≡_ {A = ℕ} 0 1 = cc in absurd (omega arith)
-    go found.Bad i t = absurd (none-some (sym (ap commandAt (sym (append-nil bs)) ∙ bad-read bs true i [] (λ u. refl) .1) ∙ front bs cs h e .read))
-    go (found.Record c size) i (x, j, o) = record { command = c; size = size; outcome = x; is = j; recorded = record-read bs true c size i; obeyed = o }
+    go found.Bad i t =
+        absurd (none-some (sym (ap commandAt (sym (append-nil bs)) ∙ bad-read bs true i [] (λ u. refl) .1) ∙ front bs cs h e .read))
+    go (found.Record c size) i (x, j, o) =
+        record { command = c; size = size; outcome = x; is = j; recorded = record-read bs true c size i; obeyed = o }
 
 -- the outcome is listed
-pub next-done : (bs : List ℕ) {w w′ l l′ : List ℕ} {at : ℕ} {r : Taken} (x : Outcome) (size : ℕ) → 1 ≤ length bs → Readable bs → TakePost bs true w w′ r → r ≡ Done x size
+pub next-done : (bs : List ℕ) {w w′ l l′ : List ℕ} {at : ℕ} {r : Taken} (x : Outcome) (size : ℕ) → 1 ≤ length bs → Readable bs
+    → TakePost bs true w w′ r → r ≡ Done x size
     → l′ ≡ sets l at (outcomeWords x) → NextPost bs w w′ l l′ at size
 next-done bs {w} {w′} x size h e p i s =
     let t = took bs h e p in
@@ -65,7 +68,8 @@ next-other bs w w′ q h e p i o = let t = took bs {w = w} {w′ = w′} h e p i
 
 -- ---- the five words of an outcome
 
-pub put-five : (l : List ℕ) (at a b c d e : ℕ) → set (set (set (set (set l at a) (at + 1) b) (at + 2) c) (at + 3) d) (at + 4) e ≡ sets l at (a ∷ b ∷ c ∷ d ∷ e ∷ [])
+pub put-five : (l : List ℕ) (at a b c d e : ℕ)
+    → set (set (set (set (set l at a) (at + 1) b) (at + 2) c) (at + 3) d) (at + 4) e ≡ sets l at (a ∷ b ∷ c ∷ d ∷ e ∷ [])
 put-five l at a b c d e =
     let p : at + 1 ≡ suc at = omega arith in
     let q : at + 2 ≡ suc (suc at) = omega arith in

@@ -72,7 +72,8 @@ call-steps c {a} {b} {v} {w} {y} {z} h p q = record {
   ends = record {
     first = s .0;
     second = q .performs .served (h .second) .0;
-    book = sym (only-book (does (bookOf (seen a)) c .0) (seen v) whole (s .1 .shows)) ∙ only-book (does (bookOf (seen a)) c .0) (seen w) whole (t .shows);
+    book = sym (only-book (does (bookOf (seen a)) c .0) (seen v) whole (s .1 .shows))
+        ∙ only-book (does (bookOf (seen a)) c .0) (seen w) whole (t .shows);
     size = p .kept (h .first) .size ∙ h .size ∙ sym (q .kept (h .second) .size);
   };
 }
@@ -87,7 +88,8 @@ call-steps c {a} {b} {v} {w} {y} {z} h p q = record {
     t = subst (λ (k : Book). Serves k c (seen b) (seen w) z) (sym (h .book)) (q .performs .served (h .second) .1)
 
 -- the states in the set of an answered set call, 0 where it is refused
-set-states : (acc : Terms) (r R : ℕ) (bs a b v w : List ℕ) (x z : Outcome) → bookOf (seen a) ≡ bookOf (seen b) → Posted (call (set acc r R bs)) a v x → Posted (call (set acc r R bs)) b w z
+set-states : (acc : Terms) (r R : ℕ) (bs a b v w : List ℕ) (x z : Outcome) → bookOf (seen a) ≡ bookOf (seen b)
+    → Posted (call (set acc r R bs)) a v x → Posted (call (set acc r R bs)) b w z
     → x .number ≡ z .number → x .value ≡ z .value
 set-states acc r R bs a b v w x z k p q e = by-cases (ℕ-discrete (x .number) 0)
     (λ i.
@@ -96,7 +98,8 @@ set-states acc r R bs a b v w x z k p q e = by-cases (ℕ-discrete (x .number) 0
     ∙ sym (count-means b w acc r R bs (nodeReply z) (q .0) (sym e ∙ i) (valued (z .value)) (q .1 .0 (sym e ∙ i))))
     (λ n. p .1 .1 (omega arith) ∙ sym (q .1 .1 (omega (arith, e))))
 
-fresh-steps : (n N : ℕ) (a b v w : List ℕ) (x z : Outcome) → Alike a b → x .operation ≡ z .operation → Posted (start n N) a v x → Posted (start n N) b w z → OneOutcome x z × Alike v w
+fresh-steps : (n N : ℕ) (a b v w : List ℕ) (x z : Outcome) → Alike a b → x .operation ≡ z .operation → Posted (start n N) a v x
+    → Posted (start n N) b w z → OneOutcome x z × Alike v w
 fresh-steps n N a b v w x z h o p q = go (freshNumber n N (length a) 1) refl
   where
     there : (k : ℕ) → freshNumber n N (length a) 1 ≡ k → freshNumber n N (length b) 1 ≡ k
@@ -113,7 +116,8 @@ fresh-steps n N a b v w x z h o p q = go (freshNumber n N (length a) 1) refl
           record {
             first = sv;
             second = sw;
-            book = sym (only-book (fresh n N) (seen v) (whole-fresh n N) (shows-fresh n N (seen v) ev)) ∙ only-book (fresh n N) (seen w) (whole-fresh n N) (shows-fresh n N (seen w) ew);
+            book = sym (only-book (fresh n N) (seen v) (whole-fresh n N) (shows-fresh n N (seen v) ev))
+                ∙ only-book (fresh n N) (seen w) (whole-fresh n N) (shows-fresh n N (seen w) ew);
             size = sized a v x p (f .0) ∙ h .size ∙ sym (sized b w z q (g .0));
           },
         )
@@ -122,16 +126,21 @@ fresh-steps n N a b v w x z h o p q = go (freshNumber n N (length a) 1) refl
         let (g, j) = q .0 .refuses k (there (suc k) e) in
         (plain-one o (f .0 ∙ sym (g .0)) (f .1 ∙ sym (g .1)) (f .3 ∙ sym (g .3)) (f .2 ∙ sym (g .2)) (p .2) (q .2), alike-ends i j h)
 
-count-steps : (r : ℕ) (a b v w : List ℕ) (x z : Outcome) → Alike a b → x .operation ≡ z .operation → Posted (states r) a v x → Posted (states r) b w z → OneOutcome x z × Alike v w
+count-steps : (r : ℕ) (a b v w : List ℕ) (x z : Outcome) → Alike a b → x .operation ≡ z .operation → Posted (states r) a v x
+    → Posted (states r) b w z → OneOutcome x z × Alike v w
 count-steps r a b v w x z h o p q =
     let s = p .1 .told (h .first) .agrees in
     let t = subst (λ (k : Book). Agrees (answer k (count r)) (shownReply z)) (sym (h .book)) (q .1 .told (h .second) .agrees) in
     let first : Tells (bookOf (seen a)) (count r) (seen a .reg) (shownReply x) = record { agrees = s; nodeSays = tt } in
-    let second : Tells (bookOf (seen a)) (count r) (seen a .reg) (shownReply z) = record { agrees = t; nodeSays = tt } in
-    (plain-one o (s .number ∙ sym (t .number)) (s .rounds ∙ sym (t .rounds)) (ask-value (count r) (bookOf (seen a)) (seen a .reg) first second) (s .peak ∙ sym (t .peak)) (p .2) (q .2), alike-ends (p .0) (q .0) h)
+    let second : Tells (bookOf (seen a)) (count r) (seen a .reg) (shownReply z) = record { agrees = t; nodeSays = tt } in (
+      plain-one o (s .number ∙ sym (t .number)) (s .rounds ∙ sym (t .rounds))
+          (ask-value (count r) (bookOf (seen a)) (seen a .reg) first second) (s .peak ∙ sym (t .peak)) (p .2) (q .2),
+      alike-ends (p .0) (q .0) h,
+    )
 
 step-one : (c : Command) {a b v w : List ℕ} {x z : Outcome} → Alike a b → Obeys c a v x → Obeys c b w z → OneOutcome x z × Alike v w
-step-one (start n N) {a} {b} {v} {w} {x} {z} h p q = fresh-steps n N a b v w x z h (p .operation ∙ sym (q .operation)) (p .posted) (q .posted)
+step-one (start n N) {a} {b} {v} {w} {x} {z} h p q =
+    fresh-steps n N a b v w x z h (p .operation ∙ sym (q .operation)) (p .posted) (q .posted)
 step-one (states r) {a} {b} {v} {w} {x} {z} h p q = count-steps r a b v w x z h (p .operation ∙ sym (q .operation)) (p .posted) (q .posted)
 step-one (call (relation t bs)) h p q =
     let s = call-steps (relation t bs) h (p .posted .0) (q .posted .0) in
@@ -162,7 +171,8 @@ step-one (call (set acc r R bs)) {a} {b} {v} {w} {x} {z} h p q =
 unsound-end : (c : Command) {a v w : List ℕ} {x z : Outcome} → (SoundWords a → ⊥) → Obeys c a v x → Obeys c a w z → v ≡ w
 unsound-end (start n N) {a} {v} {w} {x} {z} no-sound p q =
     let e = ap (λ (y : Reply). y .number) (fresh-one n N 1 (p .posted .0) (q .posted .0) .0) in
-    by-cases (ℕ-discrete (x .number) 0) (λ i. fresh-words-one n N a v w Ready (p .posted .1 i) (q .posted .1 (sym e ∙ i))) (λ k. fresh-one n N 1 (p .posted .0) (q .posted .0) .2 (omega arith))
+    by-cases (ℕ-discrete (x .number) 0) (λ i. fresh-words-one n N a v w Ready (p .posted .1 i) (q .posted .1 (sym e ∙ i)))
+    (λ k. fresh-one n N 1 (p .posted .0) (q .posted .0) .2 (omega arith))
 unsound-end (states r) n p q = p .posted .0 ∙ sym (q .posted .0)
 unsound-end (call c) n p q = p .posted .0 .performs .unsound n .1 ∙ sym (q .posted .0 .performs .unsound n .1)
 
@@ -175,7 +185,8 @@ settled-words : {x z : Outcome} → OneOutcome x z → settledWords x ≡ settle
 settled-words o = λ i. o .number i ∷ o .node i ∷ o .rounds i ∷ o .value i ∷ o .peak i ∷ []
 
 -- two chains of the same commands, from the same words or from words alike
-pub chain-one : {a b v w : List ℕ} {k l : List Entry} → (a ≡ b) ⊎ Alike a b → Chain a k v → Chain b l w → commandsOf k ≡ commandsOf l → settledList k ≡ settledList l
+pub chain-one : {a b v w : List ℕ} {k l : List Entry} → (a ≡ b) ⊎ Alike a b → Chain a k v → Chain b l w → commandsOf k ≡ commandsOf l
+    → settledList k ≡ settledList l
 chain-one r done done e = refl
 chain-one r done (next q u) e = absurd (cons≢nil (sym e))
 chain-one r (next p t) done e = absurd (cons≢nil e)
@@ -184,13 +195,16 @@ chain-one {b = b} (inr h) (next {e = x} {l = k} p t) (next {v = w} {e = z} {l = 
     let s = step-one (x .command) h p q′ in
     joined (settled-words (s .0)) (chain-one (inr (s .1)) t u (tail-eq-of-cons-eq e))
 chain-one {a = a} {b} (inl i) (next {v = v} {e = x} {l = k} p t) (next {v = w} {e = z} {l = l} q u) e =
-    let q′ = subst (λ (y : List ℕ). Obeys (x .command) y w (z .outcome)) (sym i) (subst (λ (c : Command). Obeys c b w (z .outcome)) (sym (head-eq-of-cons-eq e)) q) in
+    let q′ = subst (λ (y : List ℕ). Obeys (x .command) y w (z .outcome)) (sym i)
+    (subst (λ (c : Command). Obeys c b w (z .outcome)) (sym (head-eq-of-cons-eq e)) q) in
     joined (settled-words (obey-one (x .command) p q′)) (any-words a (List-discrete ℕ-discrete (settledList k) (settledList l))
-    (λ s. chain-one (inr (step-one (x .command) (record { first = s; second = s; book = refl; size = refl }) p q′ .1)) t u (tail-eq-of-cons-eq e))
+    (λ s. chain-one (inr (step-one (x .command) (record { first = s; second = s; book = refl; size = refl }) p q′ .1)) t u
+    (tail-eq-of-cons-eq e))
     (λ n. chain-one (inl (unsound-end (x .command) n p q′)) t u (tail-eq-of-cons-eq e)))
 
 -- every record obeyed: what is listed
-pub all-one : (bs w v u l m n : List ℕ) (p : AllPost bs w v l m) (q : AllPost bs w u l n) → settledList (p .entries) ≡ settledList (q .entries)
+pub all-one : (bs w v u l m n : List ℕ) (p : AllPost bs w v l m) (q : AllPost bs w u l n)
+    → settledList (p .entries) ≡ settledList (q .entries)
 all-one bs w v u l m n p q = chain-one (inl refl) (p .chain) (q .chain) (some-inj (sym (p .read) ∙ q .read))
 
 -- `play` itself: done with the same count, or refused alike
@@ -198,7 +212,8 @@ obeyed : {bs w v l m : List ℕ} {k : ℕ} → DonePost bs w v l m k → (cs : L
 obeyed p cs e = p .count ∙ sym (commands-length (p .all .entries)) ∙ ap length (some-inj (sym (p .all .read) ∙ e))
 
 pub play-one : (bs w v u l m n : List ℕ) (x z : Played) → PlayPost bs w v l m x → PlayPost bs w u l n z → x ≡ z
-play-one bs w v u l m n (played.Done k) (played.Done j) p q = ap played.Done (obeyed (p .1) _ (q .1 .all .read) ∙ sym (obeyed (q .1) _ (q .1 .all .read)))
+play-one bs w v u l m n (played.Done k) (played.Done j) p q =
+    ap played.Done (obeyed (p .1) _ (q .1 .all .read) ∙ sym (obeyed (q .1) _ (q .1 .all .read)))
 play-one bs w v u l m n (played.Done k) played.Short p q = let ((cs, e, f), g) = q in absurd (omega (arith, p .0, f, obeyed (p .1) cs e))
 play-one bs w v u l m n (played.Done k) played.Unreadable p q = absurd (none-some (sym (q .0) ∙ p .1 .all .read))
 play-one bs w v u l m n played.Short (played.Done k) p q = let ((cs, e, f), g) = p in absurd (omega (arith, q .0, f, obeyed (q .1) cs e))

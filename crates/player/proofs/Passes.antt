@@ -33,11 +33,14 @@ commands-fuel (suc f) zero [] a b = refl
 commands-fuel (suc f) zero (x ∷ xs) a b = absurd (omega arith)
 commands-fuel (suc f) (suc g) [] a b = refl
 commands-fuel (suc f) (suc g) (x ∷ xs) a b =
-    ap (added (commandAt (x ∷ xs))) (commands-fuel f g (after (x ∷ xs)) (omega (arith, after-shorter x xs)) (omega (arith, after-shorter x xs)))
+    ap (added (commandAt (x ∷ xs)))
+    (commands-fuel f g (after (x ∷ xs)) (omega (arith, after-shorter x xs)) (omega (arith, after-shorter x xs)))
 
 pub commands-next : (bs : List ℕ) → 1 ≤ length bs → commands bs ≡ added (commandAt bs) (commands (after bs))
 commands-next [] h = absurd (omega arith)
-commands-next (x ∷ xs) h = ap (added (commandAt (x ∷ xs))) (commands-fuel (length xs) (length (after (x ∷ xs))) (after (x ∷ xs)) (after-shorter x xs) (omega arith))
+commands-next (x ∷ xs) h =
+    ap (added (commandAt (x ∷ xs)))
+    (commands-fuel (length xs) (length (after (x ∷ xs))) (after (x ∷ xs)) (after-shorter x xs) (omega arith))
 
 pub commands-none : (bs : List ℕ) → length bs ≡ 0 → commands bs ≡ some []
 commands-none [] h = refl
@@ -85,7 +88,8 @@ prefixed-some [] ds = refl
 prefixed-some (c ∷ cs) ds = ap (added (some c)) (prefixed-some cs ds)
 
 -- what is left can be read where all can
-pub prefixed-rest : (cs : List Command) (m : Option (List Command)) (all : List Command) → prefixed cs m ≡ some all → (ds : List Command) × (m ≡ some ds) × (all ≡ cs ++ ds)
+pub prefixed-rest : (cs : List Command) (m : Option (List Command)) (all : List Command) → prefixed cs m ≡ some all
+    → (ds : List Command) × (m ≡ some ds) × (all ≡ cs ++ ds)
 prefixed-rest cs none all e = absurd (none-some (sym (prefixed-none cs) ∙ e))
 prefixed-rest cs (some ds) all e = (ds, refl, some-inj (sym e ∙ prefixed-some cs ds))
 
@@ -102,14 +106,16 @@ left-some : (bs : List ℕ) (at : ℕ) → at < length bs → 1 ≤ length (drop
 left-some bs at l = omega (arith, length-drop at bs)
 
 -- one record more
-pub passed-next : {bs : List ℕ} {at : ℕ} {cs : List Command} (c : Command) (r : ℕ) → Passed bs at cs → at < length bs → commandAt (drop at bs) ≡ some c
+pub passed-next : {bs : List ℕ} {at : ℕ} {cs : List Command} (c : Command) (r : ℕ) → Passed bs at cs → at < length bs
+    → commandAt (drop at bs) ≡ some c
     → r ≡ 2 + recordLength (drop at bs) → r ≤ length (drop at bs) → Passed bs (at + r) (cs ++ (c ∷ []))
 passed-next {bs} {at} {cs} c r p l e s w = record {
   within = omega (arith, length-drop at bs);
   few = omega (arith, p .few, length-append cs (c ∷ []));
   read =
       p .read
-      ∙ ap (prefixed cs) (commands-next (drop at bs) (left-some bs at l) ∙ ap (λ (m : Option Command). added m (commands (after (drop at bs)))) e
+      ∙ ap (prefixed cs)
+      (commands-next (drop at bs) (left-some bs at l) ∙ ap (λ (m : Option Command). added m (commands (after (drop at bs)))) e
       ∙ ap (λ (k : List ℕ). added (some c) (commands k)) (ap (λ (k : ℕ). drop k (drop at bs)) (sym s) ∙ drop-drop r at bs))
       ∙ prefixed-last cs c (commands (drop (at + r) bs));
 }
@@ -117,15 +123,21 @@ passed-next {bs} {at} {cs} c r p l e s w = record {
 -- all of them
 pub passed-all : {bs : List ℕ} {at : ℕ} {cs : List Command} → Passed bs at cs → length bs ≤ at → commands bs ≡ some cs
 passed-all {bs} {at} {cs} p l =
-    p .read ∙ ap (prefixed cs) (commands-none (drop at bs) (omega (arith, length-drop at bs))) ∙ prefixed-some cs [] ∙ ap some (append-nil cs)
+    p .read ∙ ap (prefixed cs) (commands-none (drop at bs) (omega (arith, length-drop at bs))) ∙ prefixed-some cs []
+    ∙ ap some (append-nil cs)
 
 -- a record that cannot be read
-pub passed-bad : {bs : List ℕ} {at : ℕ} {cs : List Command} → Passed bs at cs → at < length bs → commandAt (drop at bs) ≡ none → commands bs ≡ none
+pub passed-bad : {bs : List ℕ} {at : ℕ} {cs : List Command} → Passed bs at cs → at < length bs → commandAt (drop at bs) ≡ none
+    → commands bs ≡ none
 passed-bad {bs} {at} {cs} p l e =
-    p .read ∙ ap (prefixed cs) (commands-next (drop at bs) (left-some bs at l) ∙ ap (λ (m : Option Command). added m (commands (after (drop at bs)))) e) ∙ prefixed-none cs
+    p .read
+    ∙ ap (prefixed cs)
+    (commands-next (drop at bs) (left-some bs at l) ∙ ap (λ (m : Option Command). added m (commands (after (drop at bs)))) e)
+    ∙ prefixed-none cs
 
 -- where all can be read: those left can, and there is one more
-pub passed-left : {bs : List ℕ} {at : ℕ} {cs : List Command} (all : List Command) → Passed bs at cs → commands bs ≡ some all → at < length bs
+pub passed-left : {bs : List ℕ} {at : ℕ} {cs : List Command} (all : List Command) → Passed bs at cs → commands bs ≡ some all
+    → at < length bs
     → ((ds : List Command) × (commands (drop at bs) ≡ some ds)) × (length cs + 1 ≤ length all)
 passed-left {bs} {at} {cs} all p e l =
     let (ds, i, w) = prefixed-rest cs (commands (drop at bs)) all (sym (p .read) ∙ e) in
@@ -139,7 +151,10 @@ passed-left {bs} {at} {cs} all p e l =
 pub size-record : (bs : List ℕ) (c : records.Command) (size : ℕ) → readRecord bs true ≡ Record c size → SizePost bs size
 size-record bs c size e =
     let r = record-read bs true c size e in
-    record { is = sym (ap (λ (m : Option Command). sizeIn m bs) (at-end (r .command-is [])) ∙ length-end (r .length-is [])); within = r .within }
+    record {
+      is = sym (ap (λ (m : Option Command). sizeIn m bs) (at-end (r .command-is [])) ∙ length-end (r .length-is []));
+      within = r .within;
+    }
   where
     at-end : {m : Option Command} → commandAt (bs ++ []) ≡ m → commandAt bs ≡ m
     at-end i = ap commandAt (sym (append-nil bs)) ∙ i
@@ -192,10 +207,12 @@ part bs at = take (length bs - at) (drop at bs)
 pub sized-at : (bs : List ℕ) (at r : ℕ) → SizePost (part bs at) r → SizePost (drop at bs) r
 sized-at bs at r = subst (λ (l : List ℕ). SizePost l r) (part-to-end bs at)
 
-pub next-at : (bs : List ℕ) (at : ℕ) {w w′ l l′ : List ℕ} {place r : ℕ} → NextPost (part bs at) w w′ l l′ place r → NextPost (drop at bs) w w′ l l′ place r
+pub next-at : (bs : List ℕ) (at : ℕ) {w w′ l l′ : List ℕ} {place r : ℕ} → NextPost (part bs at) w w′ l l′ place r
+    → NextPost (drop at bs) w w′ l l′ place r
 next-at bs at {w} {w′} {l} {l′} {place} {r} = subst (λ (k : List ℕ). NextPost k w w′ l l′ place r) (part-to-end bs at)
 
 -- what `obey_next` asks for of the bytes left
-pub readable-at : {bs : List ℕ} {at : ℕ} {cs : List Command} → Passed bs at cs → Readable bs → at < length bs → (1 ≤ length (part bs at)) × Readable (part bs at)
+pub readable-at : {bs : List ℕ} {at : ℕ} {cs : List Command} → Passed bs at cs → Readable bs → at < length bs
+    → (1 ≤ length (part bs at)) × Readable (part bs at)
 readable-at {bs} {at} p e l =
     subst (λ (k : List ℕ). (1 ≤ length k) × Readable k) (sym (part-to-end bs at)) (left-some bs at l, passed-left (e .0) p (e .1) l .0)

@@ -1,5 +1,5 @@
--- ONE ANSWER of a whole list: two plays of the same records on the same words list the same words, node numbers above 1 aside. What is free in the
--- words between two records makes no difference. Assumes nothing.
+-- ONE ANSWER of a whole list: two plays of the same records on the same words list the same words, node numbers above 1 aside.
+-- What is free in the words between two records makes no difference. Assumes nothing.
 use mathlib.Core.List.{List, [], _∷_, _++_}
 use Prim.Native.Nat.{ℕ, min}
 use Rattle.commands.specs.declared.Outcome.{Outcome}

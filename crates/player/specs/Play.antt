@@ -1,4 +1,5 @@
--- A whole list of calls given as records: which calls there are, what each leaves and returns, and the third demand's claim for them. Definitions alone.
+-- A whole list of calls given as records: which calls there are, what each leaves and returns, and the third demand's claim for them.
+-- Definitions alone.
 use mathlib.Core.Path.{_≡_}
 use mathlib.Core.Bool.{Bool, cond}
 use mathlib.Core.List.{List, [], _∷_, _++_}
@@ -27,7 +28,8 @@ added none m = none
 added (some c) none = none
 added (some c) (some cs) = some (c ∷ cs)
 
--- the commands of records one after the other, none where one of them cannot be read; a record has 4 bytes or more, so the bytes' number is enough fuel
+-- the commands of records one after the other, none where one of them cannot be read; a record has 4 bytes or more, so the bytes' number is
+-- enough fuel
 abbrev pub commandsIn : ℕ → List ℕ → Option (List Command)
 commandsIn zero bs = some []
 commandsIn (suc fuel) [] = some []
@@ -115,8 +117,8 @@ CountPost bs counted.Unreadable = commands bs ≡ none
 abbrev pub Readable : List ℕ → Type 0
 Readable bs = (cs : List Command) × (commands bs ≡ some cs)
 
--- one command more can be obeyed: there are bytes, every record can be read, there is room for its outcome, and `sound` says whether the words are a
--- sound table
+-- one command more can be obeyed: there are bytes, every record can be read, there is room for its outcome, and `sound` says whether the
+-- words are a sound table
 abbrev pub NextPre : (bs w l : List ℕ) (at : ℕ) (sound : Bool) → Type 0
 NextPre bs w l at sound = (1 ≤ length bs) × Readable bs × (at + entryWords ≤ length l) × Says (SoundWords w) sound
 
@@ -140,13 +142,14 @@ pub record AllPost (bs w w′ l l′ : List ℕ) : Type 0 where
   pub chain : Chain w entries w′
   pub listed : l′ ≡ sets l 0 (wordsOf entries)
 
--- THE THIRD DEMAND for the list that was played, and for what was called before it: the words stand at the end of the longer list, from which the next
--- call goes on, and after the last answered fresh the whole claim holds
+-- THE THIRD DEMAND for the list that was played, and for what was called before it: the words stand at the end of the longer list, from
+-- which the next call goes on, and after the last answered fresh the whole claim holds
 pub record DonePost (bs w w′ l l′ : List ℕ) (k : ℕ) : Type 0 where
   pub all : AllPost bs w w′ l l′
   pub count : k ≡ length (all .entries)
   pub stands : (before : Option Since) → Standing before w → Standing (since before (all .entries)) w′
-  pub demand : (before : Option Since) → Standing before w → (s : Since) → since before (all .entries) ≡ some s → Demand SoundWords seen asks (s .n) (s .N) (s .events) w′
+  pub demand : (before : Option Since) → Standing before w → (s : Since) → since before (all .entries) ≡ some s
+      → Demand SoundWords seen asks (s .n) (s .N) (s .events) w′
 
 -- a refusal, of `play` itself, keeps the words and the list
 abbrev pub Unchanged : List ℕ → List ℕ → List ℕ → List ℕ → Type 0
@@ -155,7 +158,8 @@ Unchanged w w′ l l′ = (w′ ≡ w) × (l′ ≡ l)
 -- the list's room decides, once all records can be read
 abbrev pub PlayPost : List ℕ → List ℕ → List ℕ → List ℕ → List ℕ → Played → Type 0
 PlayPost bs w w′ l l′ (played.Done k) = (k * entryWords ≤ length l) × DonePost bs w w′ l l′ k
-PlayPost bs w w′ l l′ played.Short = ((cs : List Command) × (commands bs ≡ some cs) × (length l < length cs * entryWords)) × Unchanged w w′ l l′
+PlayPost bs w w′ l l′ played.Short =
+    ((cs : List Command) × (commands bs ≡ some cs) × (length l < length cs * entryWords)) × Unchanged w w′ l l′
 PlayPost bs w w′ l l′ played.Unreadable = (commands bs ≡ none) × Unchanged w w′ l l′
 
 -- the commands that were obeyed, with what they returned

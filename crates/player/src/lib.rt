@@ -14,7 +14,8 @@ ghost use Rattle.rows.specs.Says.{Says};
 ghost use Rattle.contract.specs.Seen.{SoundWords};
 ghost use Rattle.player.specs.Play.{SizePost, CountPost, entryWords, outcomeWords, NextPost, AllPre, AllPost, PlayPost, NextPre};
 
-// What a list of calls came to: so many records were obeyed; or, with nothing changed, there was no room for their outcomes or a record could not be read.
+// What a list of calls came to: so many records were obeyed; or, with nothing changed, there was no room for their outcomes or a record
+// could not be read.
 pub enum Played {
     Done(usize),
     Short,

@@ -69,23 +69,27 @@ lines-fuel (suc f) zero o [] a b = refl
 lines-fuel (suc f) zero o (x ∷ xs) a b = absurd (omega arith)
 lines-fuel (suc f) (suc g) o [] a b = refl
 lines-fuel (suc f) (suc g) o (x ∷ xs) a b =
-    go (commandAt (x ∷ xs)) (λ o′. lines-fuel f g o′ (after (x ∷ xs)) (omega (arith, after-shorter x xs)) (omega (arith, after-shorter x xs)))
+    go (commandAt (x ∷ xs))
+    (λ o′. lines-fuel f g o′ (after (x ∷ xs)) (omega (arith, after-shorter x xs)) (omega (arith, after-shorter x xs)))
   where
     go : (m : Option program.Command) → ((o′ : Option Book) → lines f o′ (after (x ∷ xs)) ≡ lines g o′ (after (x ∷ xs)))
-        → told m (λ c. let d = obey o c in d .1 ∷ lines f (d .0) (after (x ∷ xs))) ≡ told m (λ c. let d = obey o c in d .1 ∷ lines g (d .0) (after (x ∷ xs)))
+        → told m (λ c. let d = obey o c in d .1 ∷ lines f (d .0) (after (x ∷ xs)))
+        ≡ told m (λ c. let d = obey o c in d .1 ∷ lines g (d .0) (after (x ∷ xs)))
     go none h = refl
     go (some c) h = ap (λ (l : List Line). obey o c .1 ∷ l) (h (obey o c .0))
 
 lines-bad : (o : Option Book) (bs : List ℕ) → 1 ≤ length bs → commandAt bs ≡ none → linesFrom o bs ≡ endBad ∷ []
 lines-bad o [] h e = absurd (omega arith)
-lines-bad o (x ∷ xs) h e = ap (λ (m : Option program.Command). told m (λ c. let d = obey o c in d .1 ∷ lines (length xs) (d .0) (after (x ∷ xs)))) e
+lines-bad o (x ∷ xs) h e =
+    ap (λ (m : Option program.Command). told m (λ c. let d = obey o c in d .1 ∷ lines (length xs) (d .0) (after (x ∷ xs)))) e
 
 lines-next : (o : Option Book) (bs : List ℕ) (c : program.Command) → 1 ≤ length bs → commandAt bs ≡ some c
     → linesFrom o bs ≡ obey o c .1 ∷ linesFrom (obey o c .0) (after bs)
 lines-next o [] c h e = absurd (omega arith)
 lines-next o (x ∷ xs) c h e =
     ap (λ (m : Option program.Command). told m (λ c. let d = obey o c in d .1 ∷ lines (length xs) (d .0) (after (x ∷ xs)))) e
-    ∙ ap (λ (l : List Line). obey o c .1 ∷ l) (lines-fuel (length xs) (length (after (x ∷ xs))) (obey o c .0) (after (x ∷ xs)) (after-shorter x xs) (omega arith))
+    ∙ ap (λ (l : List Line). obey o c .1 ∷ l)
+    (lines-fuel (length xs) (length (after (x ∷ xs))) (obey o c .0) (after (x ∷ xs)) (after-shorter x xs) (omega arith))
 
 -- ---- a step keeps to the book
 
@@ -107,7 +111,8 @@ step-follows o bs ended rest last =
     (λ h t. ap (λ (l : List ℕ). linesFrom o (l ++ rest)) (no-bytes bs h) ∙ ap (linesFrom o) (last t))
     (λ t d s. refl)
     (λ h d. lines-bad o (bs ++ rest) (omega (arith, length-append bs rest)) (doomed-stays bs rest d))
-    (λ h t d s. ap (λ (l : List ℕ). linesFrom o (bs ++ l)) (last t) ∙ ap (linesFrom o) (append-nil bs) ∙ lines-bad o bs h (partial-none bs s))
+    (λ h t d s. ap (λ (l : List ℕ). linesFrom o (bs ++ l)) (last t) ∙ ap (linesFrom o) (append-nil bs)
+    ∙ lines-bad o bs h (partial-none bs s))
     (λ d s. recorded (commandIn (getD bs 3 0) (argumentsIn bs)) (2 + recordLength bs) (found-record bs d s))
   where
     recorded : (c : Command) (size : ℕ) → Recorded bs c size → linesFrom o (bs ++ rest) ≡ linesAfter o bs rest (stepOn o bs (Record c size))
@@ -135,7 +140,8 @@ step-lessens o bs ended =
 
 -- what is to be shown of the lines that are written with so much fuel
 abbrev Follows : ℕ → Type 0
-Follows fuel = (o : Option Book) (bs : List ℕ) (ended : Bool) (parts : List (List ℕ)) → (ended ≡ true → parts ≡ []) → effort bs ended parts < fuel
+Follows fuel =
+    (o : Option Book) (bs : List ℕ) (ended : Bool) (parts : List (List ℕ)) → (ended ≡ true → parts ≡ []) → effort bs ended parts < fuel
     → follow fuel o bs ended parts ≡ linesFrom o (bs ++ flatten parts)
 
 refill-follows : (fuel : ℕ) → Follows fuel → (o : Option Book) (bs : List ℕ) (ended : Bool) (parts : List (List ℕ)) → ended ≡ false
@@ -147,10 +153,13 @@ refill-follows fuel ih o bs false (x ∷ parts) e h =
     ih o (bs ++ x) false parts (λ t. never (cc)) (omega (arith, length-append bs x, length-append x (flatten parts)))
     ∙ ap (linesFrom o) (append-assoc bs x (flatten parts))
 
-turn-follows : (fuel : ℕ) → Follows fuel → (o : Option Book) (bs : List ℕ) (ended : Bool) (parts : List (List ℕ)) → (ended ≡ true → parts ≡ [])
+turn-follows : (fuel : ℕ) → Follows fuel → (o : Option Book) (bs : List ℕ) (ended : Bool) (parts : List (List ℕ))
+    → (ended ≡ true → parts ≡ [])
     → effort bs ended parts < suc fuel → (s : Step) → Lessens bs ended s
-    → turned s (λ l o′ left. l ∷ follow fuel o′ left ended parts) (λ u. refilled (follow fuel o) bs parts) ≡ linesAfter o bs (flatten parts) s
-turn-follows fuel ih o bs ended parts last h (writes l o′ left) less = ap (λ (ls : List Line). l ∷ ls) (ih o′ left ended parts last (omega arith))
+    → turned s (λ l o′ left. l ∷ follow fuel o′ left ended parts) (λ u. refilled (follow fuel o) bs parts)
+    ≡ linesAfter o bs (flatten parts) s
+turn-follows fuel ih o bs ended parts last h (writes l o′ left) less =
+    ap (λ (ls : List Line). l ∷ ls) (ih o′ left ended parts last (omega arith))
 turn-follows fuel ih o bs ended parts last h waits less = refill-follows fuel ih o bs ended parts less h
 turn-follows fuel ih o bs ended parts last h (ends l) less = refl
 

@@ -1,4 +1,5 @@
--- What `readRecord` says of every continuation of the bytes at hand, by the book's own reading (`commandAt`, `recordLength`). Assumes nothing.
+-- What `readRecord` says of every continuation of the bytes at hand, by the book's own reading (`commandAt`, `recordLength`).
+-- Assumes nothing.
 use mathlib.Core.Path.{_≡_, refl, sym, ap, _∙_, subst}
 use mathlib.Core.Bool.{Bool, true, false, cond, _&&_, _||_}
 use mathlib.Core.List.{List, [], _∷_, _++_}
@@ -16,8 +17,10 @@ use Rattle.book.specs.Program as program
 use Rattle.book.specs.Book as book
 use Rattle.records.specs.declared.Found.{Found}
 use Rattle.records.specs.declared.Found.the-variants.{End, More, Bad, Record}
-use Rattle.records.specs.Record.{inRange, takes, commandIn, argumentsIn, badLength, badVersion, badArguments, doomed, partial, readRecord, asked}
-use Rattle.records.proofs.Reading.{never, fails, range-within, range-parts, arguments-length, doomed-two, read-none, read-bad, read-partial, read-whole, hopeful-length, hopeful-version, hopeful-takes}
+use Rattle.records.specs.Record.{inRange, takes, commandIn, argumentsIn, badLength, badVersion, badArguments, doomed, partial}
+use Rattle.records.specs.Record.{readRecord, asked}
+use Rattle.records.proofs.Reading.{never, fails, range-within, range-parts, arguments-length, doomed-two, read-none, read-bad}
+use Rattle.records.proofs.Reading.{read-partial, read-whole, hopeful-length, hopeful-version, hopeful-takes}
 
 -- ---- the ways of reading, for any property of what was found
 
@@ -89,16 +92,20 @@ drop-take (suc m) (suc n) (x ∷ l) = let q : suc n - suc m ≡ n - m = omega ar
 formula-part : (bs : List ℕ) (m : ℕ) → drop m (argumentsIn bs) ≡ take (2 + recordLength bs - (4 + m)) (drop (4 + m) bs)
 formula-part bs m =
     let q : recordLength bs - 2 - m ≡ 2 + recordLength bs - (4 + m) = omega arith in
-    drop-take m (recordLength bs - 2) (drop 4 bs) ∙ ap (λ (l : List ℕ). take (recordLength bs - 2 - m) l) (drop-drop m 4 bs) ∙ ap (λ (k : ℕ). take k (drop (4 + m) bs)) q
+    drop-take m (recordLength bs - 2) (drop 4 bs) ∙ ap (λ (l : List ℕ). take (recordLength bs - 2 - m) l) (drop-drop m 4 bs)
+    ∙ ap (λ (k : ℕ). take k (drop (4 + m) bs)) q
 
 -- the book's command is the one that is read, where the operation takes the arguments
 command-taken : (bs : List ℕ) (op : ℕ)
-    → commandOf op (argumentsIn bs) ≡ cond (takes op (length (argumentsIn bs))) (some (asked bs (2 + recordLength bs) (commandIn op (argumentsIn bs)))) none
+    → commandOf op (argumentsIn bs)
+    ≡ cond (takes op (length (argumentsIn bs))) (some (asked bs (2 + recordLength bs) (commandIn op (argumentsIn bs)))) none
 command-taken bs op =
     operations (λ (o : ℕ). commandOf o xs ≡ cond (takes o (length xs)) (some (asked bs (2 + recordLength bs) (commandIn o xs))) none) op
     refl
     (ap (λ (f : List ℕ). cond (leb 1 (length xs)) (some (program.call (book.relation (getD xs 0 0) f))) none) (formula-part bs 1))
-    (ap (λ (f : List ℕ). cond (leb 5 (length xs)) (some (program.call (book.set alone (getD xs 0 0) (((getD xs 1 0 * 256 + getD xs 2 0) * 256 + getD xs 3 0) * 256 + getD xs 4 0) f))) none) (formula-part bs 5))
+    (ap (λ (f : List ℕ). cond (leb 5 (length xs))
+    (some (program.call (book.set alone (getD xs 0 0) (((getD xs 1 0 * 256 + getD xs 2 0) * 256 + getD xs 3 0) * 256 + getD xs 4 0) f)))
+    none) (formula-part bs 5))
     refl
     refl
     refl
@@ -118,7 +125,8 @@ pub record Wholly (bs : List ℕ) : Type 0 where
 
 whole-parts : (bs : List ℕ) → whole bs ≡ true → Wholly bs
 whole-parts bs e =
-    let p = both-true (leb 2 (length bs) && (leb 2 (recordLength bs) && leb (recordLength bs) 1_100)) (leb (2 + recordLength bs) (length bs) && eqb (getD bs 2 0) 1) e in
+    let p = both-true (leb 2 (length bs) && (leb 2 (recordLength bs) && leb (recordLength bs) 1_100))
+    (leb (2 + recordLength bs) (length bs) && eqb (getD bs 2 0) 1) e in
     let q = both-true (leb 2 (length bs)) (leb 2 (recordLength bs) && leb (recordLength bs) 1_100) (p .0) in
     let r = range-parts (recordLength bs) (q .1) in
     let s = both-true (leb (2 + recordLength bs) (length bs)) (eqb (getD bs 2 0) 1) (p .1) in
@@ -132,7 +140,13 @@ whole-parts bs e =
 
 whole-is : (bs : List ℕ) → Wholly bs → whole bs ≡ true
 whole-is bs w =
-    rw (le-leb 2 (length bs) (w .started), le-leb 2 (recordLength bs) (w .least), le-leb (recordLength bs) 1_100 (w .most), le-leb (2 + recordLength bs) (length bs) (w .there), eq-eqb (getD bs 2 0) 1 (w .version))
+    rw (
+      le-leb 2 (length bs) (w .started),
+      le-leb 2 (recordLength bs) (w .least),
+      le-leb (recordLength bs) 1_100 (w .most),
+      le-leb (2 + recordLength bs) (length bs) (w .there),
+      eq-eqb (getD bs 2 0) 1 (w .version),
+    )
 
 -- the command of a whole record
 pub command-whole : (bs : List ℕ) → Wholly bs → commandAt bs ≡ commandOf (getD bs 3 0) (argumentsIn bs)
@@ -146,7 +160,8 @@ command-none bs h = go (whole bs) refl
     go true e =
         let w = whole-parts bs e in
         command-taken bs (getD bs 3 0)
-        ∙ ap (λ (t : Bool). cond t (some (asked bs (2 + recordLength bs) (commandIn (getD bs 3 0) (argumentsIn bs)))) none) (ap (takes (getD bs 3 0)) (arguments-length bs (w .there)) ∙ h w)
+        ∙ ap (λ (t : Bool). cond t (some (asked bs (2 + recordLength bs) (commandIn (getD bs 3 0) (argumentsIn bs)))) none)
+        (ap (takes (getD bs 3 0)) (arguments-length bs (w .there)) ∙ h w)
     go false e = refl
 
 -- ---- every continuation
@@ -157,7 +172,8 @@ module _ (bs rest : List ℕ) where
 
   pub same-length : 2 ≤ length bs → recordLength (bs ++ rest) ≡ recordLength bs
   same-length h =
-      ap (λ (x : ℕ). x * 256 + getD (bs ++ rest) 1 0) (same-byte 0 (omega arith)) ∙ ap (λ (x : ℕ). getD bs 0 0 * 256 + x) (same-byte 1 (omega arith))
+      ap (λ (x : ℕ). x * 256 + getD (bs ++ rest) 1 0) (same-byte 0 (omega arith))
+      ∙ ap (λ (x : ℕ). getD bs 0 0 * 256 + x) (same-byte 1 (omega arith))
 
   longer : length bs ≤ length (bs ++ rest)
   longer = omega (arith, length-append bs rest)

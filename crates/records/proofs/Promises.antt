@@ -1,5 +1,5 @@
--- What each answer of `readRecord` promises: a record is the book's command whatever follows, `Bad` is exactly the book's `end bad`, and more is
--- asked for only where the bytes at hand do not decide. Assumes nothing.
+-- What each answer of `readRecord` promises: a record is the book's command whatever follows, `Bad` is exactly the book's `end bad`, and
+-- more is asked for only where the bytes at hand do not decide. Assumes nothing.
 use mathlib.Core.Path.{_≡_, refl, sym, ap, _∙_, subst}
 use mathlib.Core.Bool.{Bool, true, false, not}
 use mathlib.Core.List.{List, [], _∷_, _++_, append-nil, append-assoc}
@@ -16,8 +16,10 @@ use Rattle.book.specs.Program as program
 use Rattle.records.specs.declared.Command.{Command}
 use Rattle.records.specs.declared.Found.the-variants.{End, More, Bad, Record}
 use Rattle.records.specs.Record.{takes, commandIn, argumentsIn, doomed, readRecord, asked, startOf}
-use Rattle.records.proofs.Reading.{never, range-within, takes-none, doomed-four, doomed-takes, hopeful-length, hopeful-version, hopeful-takes}
-use Rattle.records.proofs.Links.{read-cases, operations, same-byte, same-length, doomed-stays, partial-none, found-whole, found-command}
+use Rattle.records.proofs.Reading.{never, range-within, takes-none, doomed-four, doomed-takes, hopeful-length, hopeful-version}
+use Rattle.records.proofs.Reading.{hopeful-takes}
+use Rattle.records.proofs.Links.{read-cases, operations, same-byte, same-length, doomed-stays, partial-none, found-whole}
+use Rattle.records.proofs.Links.{found-command}
 
 -- ---- a record
 
@@ -50,7 +52,12 @@ found-record bs d s =
       within = s;
       least = omega (arith, w .least);
       most = omega (arith, w .most);
-      starts = omega (arith, w .least, start-within (getD bs 3 0) (recordLength bs - 2) (argumentsIn bs) (hopeful-takes bs d (omega (arith, w .least))));
+      starts =
+          omega (
+            arith,
+            w .least,
+            start-within (getD bs 3 0) (recordLength bs - 2) (argumentsIn bs) (hopeful-takes bs d (omega (arith, w .least))),
+          );
       length-is = λ rest. ap (λ (k : ℕ). 2 + k) (same-length bs rest (w .started));
       command-is = λ rest. found-command bs rest d s;
     }
@@ -138,7 +145,8 @@ completes-arguments bs d h =
     let e = same-length bs zeros (omega arith) in
     let n = length-append bs zeros in
     let z = length-replicate {A = ℕ} (2 + recordLength bs - length bs) 0 in
-    let t = doomed-takes (bs ++ zeros) (omega arith) (same-byte bs zeros 2 (omega arith) ∙ hopeful-version bs d (omega arith)) (range-within (recordLength (bs ++ zeros)) (omega arith) (omega arith))
+    let t = doomed-takes (bs ++ zeros) (omega arith) (same-byte bs zeros 2 (omega arith) ∙ hopeful-version bs d (omega arith))
+    (range-within (recordLength (bs ++ zeros)) (omega arith) (omega arith))
     ∙ ap (λ (op : ℕ). not (takes op (recordLength (bs ++ zeros) - 2))) (same-byte bs zeros 3 (omega arith))
     ∙ ap (λ (k : ℕ). not (takes (getD bs 3 0) (k - 2))) e
     ∙ ap not (hopeful-takes bs d h) in
@@ -154,7 +162,8 @@ completes-with bs d h op t =
     let n = one-length bs op in
     let e = same-length bs (op ∷ []) (omega arith) in
     one-more bs op (completes-arguments (bs ++ (op ∷ []))
-    (doomed-takes (bs ++ (op ∷ [])) (omega arith) (same-byte bs (op ∷ []) 2 (omega arith) ∙ hopeful-version bs d (omega arith)) (range-within (recordLength (bs ++ (op ∷ []))) (omega arith) (omega arith))
+    (doomed-takes (bs ++ (op ∷ [])) (omega arith) (same-byte bs (op ∷ []) 2 (omega arith) ∙ hopeful-version bs d (omega arith))
+    (range-within (recordLength (bs ++ (op ∷ []))) (omega arith) (omega arith))
     ∙ ap (λ (x : ℕ). not (takes x (recordLength (bs ++ (op ∷ [])) - 2))) (one-byte bs op 3 h)
     ∙ ap (λ (k : ℕ). not (takes op (k - 2))) e
     ∙ ap not t)
@@ -179,7 +188,8 @@ completes-version bs d h =
     let n = one-length bs 1 in
     let e = same-length bs (1 ∷ []) (omega arith) in
     one-more bs 1 (completes-operation (bs ++ (1 ∷ []))
-    (doomed-four (bs ++ (1 ∷ [])) (omega arith) (omega arith) (one-byte bs 1 2 h) (range-within (recordLength (bs ++ (1 ∷ []))) (omega arith) (omega arith)))
+    (doomed-four (bs ++ (1 ∷ [])) (omega arith) (omega arith) (one-byte bs 1 2 h)
+    (range-within (recordLength (bs ++ (1 ∷ []))) (omega arith) (omega arith)))
     (omega arith))
 
 -- once L is known, bytes that are not doomed can always be completed

@@ -14,7 +14,8 @@ use Rattle.book.specs.Program.{recordLength}
 use Rattle.records.specs.declared.Command.{Command}
 use Rattle.records.specs.declared.Command.the-variants.{Collect}
 use Rattle.records.specs.declared.Found.the-variants.{End, More, Bad, Record}
-use Rattle.records.specs.Record.{inRange, takes, commandIn, argumentsIn, badLength, badVersion, badArguments, doomed, partial, readRecord}
+use Rattle.records.specs.Record.{inRange, takes, commandIn, argumentsIn, badLength, badVersion, badArguments, doomed, partial}
+use Rattle.records.specs.Record.{readRecord}
 
 -- two constructors that differ
 pub never : {A : Type 0} → _≡_ {A = ℕ} 0 1 → A
@@ -74,7 +75,8 @@ doomed-version bs h v e = rw (le-leb 2 (length bs) (omega arith), le-leb 3 (leng
 
 pub doomed-four : (bs : List ℕ) → 3 ≤ length bs → length bs < 4 → getD bs 2 0 ≡ 1 → inRange (recordLength bs) ≡ true → doomed bs ≡ false
 unfolding doomed
-doomed-four bs g h v e = rw (le-leb 2 (length bs) (omega arith), le-leb 3 (length bs) g, lt-leb 4 (length bs) h, eq-eqb (getD bs 2 0) 1 v, e)
+doomed-four bs g h v e =
+    rw (le-leb 2 (length bs) (omega arith), le-leb 3 (length bs) g, lt-leb 4 (length bs) h, eq-eqb (getD bs 2 0) 1 v, e)
 
 pub doomed-takes : (bs : List ℕ) → 4 ≤ length bs → getD bs 2 0 ≡ 1 → inRange (recordLength bs) ≡ true
     → doomed bs ≡ not (takes (getD bs 3 0) (recordLength bs - 2))
@@ -93,7 +95,8 @@ takes-none op k a b c d e f = rw (ne-eqb op 1 a, ne-eqb op 2 b, ne-eqb op 3 c, n
 pub command-at : {op : ℕ} (n : ℕ) (xs : List ℕ) → op ≡ n → commandIn op xs ≡ commandIn n xs
 command-at n xs e = ap (λ (x : ℕ). commandIn x xs) e
 
-pub command-last : (op : ℕ) (xs : List ℕ) → (op ≡ 1 → ⊥) → (op ≡ 2 → ⊥) → (op ≡ 3 → ⊥) → (op ≡ 4 → ⊥) → (op ≡ 5 → ⊥) → commandIn op xs ≡ Collect
+pub command-last : (op : ℕ) (xs : List ℕ) → (op ≡ 1 → ⊥) → (op ≡ 2 → ⊥) → (op ≡ 3 → ⊥) → (op ≡ 4 → ⊥) → (op ≡ 5 → ⊥)
+    → commandIn op xs ≡ Collect
 command-last op xs a b c d e = rw (ne-eqb op 1 a, ne-eqb op 2 b, ne-eqb op 3 c, ne-eqb op 4 d, ne-eqb op 5 e)
 
 -- ---- the four ways of reading
@@ -106,7 +109,8 @@ pub read-bad : (bs : List ℕ) (ended : Bool) → 1 ≤ length bs → doomed bs 
 unfolding readRecord
 read-bad bs ended h d = rw (ne-eqb (length bs) 0 (λ e. omega arith), d)
 
-pub read-partial : (bs : List ℕ) (ended : Bool) → 1 ≤ length bs → doomed bs ≡ false → length bs < 2 + recordLength bs → readRecord bs ended ≡ partial ended
+pub read-partial : (bs : List ℕ) (ended : Bool) → 1 ≤ length bs → doomed bs ≡ false → length bs < 2 + recordLength bs
+    → readRecord bs ended ≡ partial ended
 unfolding readRecord
 read-partial bs ended h d s = rw (ne-eqb (length bs) 0 (λ e. omega arith), d, lt-leb (2 + recordLength bs) (length bs) s)
 
@@ -124,7 +128,9 @@ module _ (bs : List ℕ) (d : doomed bs ≡ false) where
   pub hopeful-length : 2 ≤ length bs → (2 ≤ recordLength bs) × (recordLength bs ≤ 1_100)
   unfolding doomed
   hopeful-length h =
-      range-parts (recordLength bs) (passes (leb 2 (length bs)) (inRange (recordLength bs)) (either-false (badLength bs) (badVersion bs || badArguments bs) d .0) (le-leb 2 (length bs) h))
+      range-parts (recordLength bs)
+      (passes (leb 2 (length bs)) (inRange (recordLength bs)) (either-false (badLength bs) (badVersion bs || badArguments bs) d .0)
+      (le-leb 2 (length bs) h))
 
   pub hopeful-version : 3 ≤ length bs → getD bs 2 0 ≡ 1
   hopeful-version h = eqb-true (getD bs 2 0) 1 (passes (leb 3 (length bs)) (eqb (getD bs 2 0) 1) (later .0) (le-leb 3 (length bs) h))

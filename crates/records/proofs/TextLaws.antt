@@ -24,7 +24,8 @@ pub wrote-front : {old new : List ℕ} {at end : ℕ} (bytes : List ℕ) → at 
     → take end new ≡ take at old ++ bytes
 wrote-front {old} {new} {at} {end} bytes room w =
     ap (take end) (wrote-parts bytes room w)
-    ∙ take-at (take at old ++ bytes) (drop end old) end (length-append (take at old) bytes ∙ ap (λ (k : ℕ). k + length bytes) (length-take-le at old (omega arith)) ∙ sym (w .past))
+    ∙ take-at (take at old ++ bytes) (drop end old) end
+    (length-append (take at old) bytes ∙ ap (λ (k : ℕ). k + length bytes) (length-take-le at old (omega arith)) ∙ sym (w .past))
 
 -- ---- one after the other
 
@@ -34,7 +35,9 @@ sets-append l i (x ∷ xs) ys = ap (λ (k : ℕ). sets (sets (set l i x) (suc i)
 
 pub wrote-then : {l m n : List ℕ} {i j k : ℕ} (xs ys : List ℕ) → Wrote l i xs m j → Wrote m j ys n k → Wrote l i (xs ++ ys) n k
 wrote-then {l} {m} {n} {i} {j} {k} xs ys a b = record {
-  contents = b .contents ∙ ap (λ (o : List ℕ). sets o j ys) (a .contents) ∙ ap (λ (h : ℕ). sets (sets l i xs) h ys) (a .past) ∙ sets-append l i xs ys;
+  contents =
+      b .contents ∙ ap (λ (o : List ℕ). sets o j ys) (a .contents) ∙ ap (λ (h : ℕ). sets (sets l i xs) h ys) (a .past)
+      ∙ sets-append l i xs ys;
   past = omega (arith, b .past, a .past, length-append xs ys);
 }
 
@@ -53,7 +56,8 @@ wrote-turn {l} {m} {i} k xs h w =
     let b = wrote-then (take k xs) (getD xs k 0 ∷ []) w (wrote-byte m (i + k) (getD xs k 0)) in
     let e : i + k + 1 ≡ i + (k + 1) = omega arith in
     subst (λ (x : ℕ). Wrote l i (take (k + 1) xs) (set m (i + k) (getD xs k 0)) x) e
-    (subst (λ (ys : List ℕ). Wrote l i ys (set m (i + k) (getD xs k 0)) (i + k + 1)) (sym (take-suc xs k 0 h) ∙ ap (λ (j : ℕ). take j xs) (sym (add-one k))) b)
+    (subst (λ (ys : List ℕ). Wrote l i ys (set m (i + k) (getD xs k 0)) (i + k + 1))
+    (sym (take-suc xs k 0 h) ∙ ap (λ (j : ℕ). take j xs) (sym (add-one k))) b)
 
 -- the whole text
 pub wrote-all : {l m : List ℕ} {i : ℕ} (k : ℕ) (xs : List ℕ) → length xs ≤ k → Wrote l i (take k xs) m (i + k) → Wrote l i xs m (i + k)
@@ -64,13 +68,16 @@ wrote-all {l} {m} {i} k xs h w = subst (λ (ys : List ℕ). Wrote l i ys m (i + 
 -- more digits than a number has change nothing
 digits-more : (j k : ℕ) → k < 10 ^ suc j → digits (suc j) k ≡ digits j k
 digits-more zero k h = rw (lt-ltb k 10 (omega (arith, pow-suc 10 0)))
-digits-more (suc j) k h = ap (λ (l : List ℕ). cond (ltb k 10) ((48 + k) ∷ []) (l ++ ((48 + k % 10) ∷ []))) (digits-more j (k / 10) (omega (arith, pow-suc 10 (suc j))))
+digits-more (suc j) k h =
+    ap (λ (l : List ℕ). cond (ltb k 10) ((48 + k) ∷ []) (l ++ ((48 + k % 10) ∷ [])))
+    (digits-more j (k / 10) (omega (arith, pow-suc 10 (suc j))))
 
 pub decimal-last : (k : ℕ) → k < 10 → decimal k ≡ (48 + k) ∷ []
 decimal-last k h = rw (lt-ltb k 10 h)
 
 pub decimal-more : (k : ℕ) → 10 ≤ k → k < 10 ^ 10 → decimal k ≡ decimal (k / 10) ++ ((48 + k % 10) ∷ [])
-decimal-more k g h = rw (le-ltb k 10 g) (ap (λ (l : List ℕ). l ++ ((48 + k % 10) ∷ [])) (sym (digits-more 8 (k / 10) (omega (arith, pow-suc 10 9)))))
+decimal-more k g h =
+    rw (le-ltb k 10 g) (ap (λ (l : List ℕ). l ++ ((48 + k % 10) ∷ [])) (sym (digits-more 8 (k / 10) (omega (arith, pow-suc 10 9)))))
 
 -- a number of j + 1 digits at most
 digits-length : (j k : ℕ) → length (digits j k) ≤ suc j
@@ -105,24 +112,29 @@ number-more {l} {m} {i} {j} k g h w =
 pub line-fields : (a b c d : ℕ) → ((fieldText a 32 ++ fieldText b 32) ++ fieldText c 32) ++ fieldText d 10 ≡ textOf (fields a b c d) []
 line-fields a b c d = simp append-assoc
 
-pub wrote-field : {l m : List ℕ} {i j : ℕ} (k after : ℕ) → WroteWithin 10 l i (decimal k) m j → WroteWithin 11 l i (fieldText k after) (set m j after) (j + 1)
+pub wrote-field : {l m : List ℕ} {i j : ℕ} (k after : ℕ) → WroteWithin 10 l i (decimal k) m j
+    → WroteWithin 11 l i (fieldText k after) (set m j after) (j + 1)
 wrote-field {l} {m} {i} {j} k after w = record {
   wrote = wrote-then (decimal k) (after ∷ []) (w .wrote) (wrote-byte m j after);
   within = omega (arith, w .within);
 }
 
-pub wrote-line : {l m₁ m₂ m₃ n : List ℕ} {i j₁ j₂ j₃ e : ℕ} (a b c d : ℕ) → WroteWithin 11 l i (fieldText a 32) m₁ j₁ → WroteWithin 11 m₁ j₁ (fieldText b 32) m₂ j₂
-    → WroteWithin 11 m₂ j₂ (fieldText c 32) m₃ j₃ → WroteWithin 11 m₃ j₃ (fieldText d 10) n e → WroteWithin 44 l i (textOf (fields a b c d) []) n e
+pub wrote-line : {l m₁ m₂ m₃ n : List ℕ} {i j₁ j₂ j₃ e : ℕ} (a b c d : ℕ) → WroteWithin 11 l i (fieldText a 32) m₁ j₁
+    → WroteWithin 11 m₁ j₁ (fieldText b 32) m₂ j₂
+    → WroteWithin 11 m₂ j₂ (fieldText c 32) m₃ j₃ → WroteWithin 11 m₃ j₃ (fieldText d 10) n e
+    → WroteWithin 44 l i (textOf (fields a b c d) []) n e
 wrote-line {l} {m₁} {m₂} {m₃} {n} {i} {j₁} {j₂} {j₃} {e} a b c d w₁ w₂ w₃ w₄ = record {
   wrote =
       subst (λ (ys : List ℕ). Wrote l i ys n e) (line-fields a b c d)
       (wrote-then ((fieldText a 32 ++ fieldText b 32) ++ fieldText c 32) (fieldText d 10)
-      (wrote-then (fieldText a 32 ++ fieldText b 32) (fieldText c 32) (wrote-then (fieldText a 32) (fieldText b 32) (w₁ .wrote) (w₂ .wrote)) (w₃ .wrote)) (w₄ .wrote));
+      (wrote-then (fieldText a 32 ++ fieldText b 32) (fieldText c 32) (wrote-then (fieldText a 32) (fieldText b 32) (w₁ .wrote) (w₂ .wrote))
+      (w₃ .wrote)) (w₄ .wrote));
   within = omega (arith, w₁ .within, w₂ .within, w₃ .within, w₄ .within);
 }
 
 -- the last line
-pub wrote-end : {l m : List ℕ} {i e : ℕ} (ok : Bool) → Wrote l i (textOf (endLine ok) []) m e → WroteWithin 8 l i (textOf (endLine ok) []) m e
+pub wrote-end : {l m : List ℕ} {i e : ℕ} (ok : Bool) → Wrote l i (textOf (endLine ok) []) m e
+    → WroteWithin 8 l i (textOf (endLine ok) []) m e
 wrote-end true w = record { wrote = w; within = omega (arith, w .past) }
 wrote-end false w = record { wrote = w; within = omega (arith, w .past) }
 

@@ -12,8 +12,8 @@ use Rattle.records.specs.Record.{readRecord, asked}
 
 -- ---- one step
 
--- what the program does with the bytes at hand: it writes a record's line and goes on with a book and the bytes left; it waits for more; or it
--- writes the last line
+-- what the program does with the bytes at hand: it writes a record's line and goes on with a book and the bytes left; it waits for more; or
+-- it writes the last line
 pub data Step : Type 0 where
   writes : Line → Option Book → List ℕ → Step
   waits : Step

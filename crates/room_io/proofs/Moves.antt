@@ -16,10 +16,13 @@ pub record Moved (start : ℕ) (old new : List ℕ) (i : ℕ) : Type 0 where
 pub moved-none : (start : ℕ) (l : List ℕ) → Moved start l l 0
 moved-none start l = record { size = refl; front = refl; back = refl }
 
-pub moved-one : {start i : ℕ} (old new : List ℕ) → start + i < length old → Moved start old new i → Moved start old (set new i (getD new (start + i) 0)) (i + 1)
+pub moved-one : {start i : ℕ} (old new : List ℕ) → start + i < length old → Moved start old new i
+    → Moved start old (set new i (getD new (start + i) 0)) (i + 1)
 moved-one {start} {i} old new h m = subst (Moved start old (set new i a)) (sym (add-one i)) (record {
   size = length-set new i a ∙ m .size;
-  front = take-suc-set new i a (omega (arith, m .size)) ∙ ap (λ (l : List ℕ). l ++ (a ∷ [])) (m .front) ∙ ap (λ (b : ℕ). take i (drop start old) ++ (b ∷ [])) same
+  front =
+      take-suc-set new i a (omega (arith, m .size)) ∙ ap (λ (l : List ℕ). l ++ (a ∷ [])) (m .front)
+      ∙ ap (λ (b : ℕ). take i (drop start old) ++ (b ∷ [])) same
       ∙ sym (take-suc (drop start old) i 0 (omega (arith, length-drop start old)));
   back = drop-set-lt (suc i) new i a (omega arith) ∙ one-off new ∙ ap (drop 1) (m .back) ∙ sym (one-off old);
 })
@@ -38,5 +41,7 @@ moved-one {start} {i} old new h m = subst (Moved start old (set new i a)) (sym (
     same = as-it-was new ∙ ap (λ (l : List ℕ). getD l start 0) (m .back) ∙ sym (as-it-was old) ∙ sym (getD-drop start old i 0)
 
 -- all of them have moved
-pub moved-all : {start i held : ℕ} (old new : List ℕ) → i ≤ held → held ≤ i → Moved start old new i → take held new ≡ take held (drop start old)
-moved-all {start} {i} {held} old new a b m = let e : i ≡ held = omega arith in subst (λ (k : ℕ). take k new ≡ take k (drop start old)) e (m .front)
+pub moved-all : {start i held : ℕ} (old new : List ℕ) → i ≤ held → held ≤ i → Moved start old new i
+    → take held new ≡ take held (drop start old)
+moved-all {start} {i} {held} old new a b m =
+    let e : i ≡ held = omega arith in subst (λ (k : ℕ). take k new ≡ take k (drop start old)) e (m .front)

@@ -1,4 +1,5 @@
--- How many turns there are: at most three for each byte brought and one more, and one that is the last. What `serve` keeps while it makes them. Assumes nothing.
+-- How many turns there are: at most three for each byte brought and one more, and one that is the last.
+-- What `serve` keeps while it makes them. Assumes nothing.
 use mathlib.Core.Path.{_≡_, refl, sym, ap, _∙_}
 use mathlib.Core.Logic.{_⊎_, inl, inr, by-cases}
 use mathlib.Core.Bool.{Bool, true, false, not}
@@ -32,7 +33,8 @@ record Paced (k : ℕ) (s : State) : Type 0 where
   pace : k + 2 * length (atHand (s .progress) (s .input)) + toWrite + toClose ≤ 3 * length (s .brought) + 1
 
 module _ {k : ℕ} (s : State) (q : Progress) (v j u room : List ℕ) (f : Paced k s) (z : Placed q (length j) (length u)) where
-  paced-turn : (r : Said) → Replies (atHand (s .progress) (s .input)) (s .progress .ended) (s .words) v (drop (s .progress .pending) (s .output)) room r
+  paced-turn : (r : Said)
+      → Replies (atHand (s .progress) (s .input)) (s .progress .ended) (s .words) v (drop (s .progress .pending) (s .output)) room r
       → (a : Came s q v j u room r) → wayAfter r (q .done) ≡ going → Paced (suc k) (stateAfter s q v j u room r a)
   paced-turn (Line used n) h (b, c, e, d) y =
       let g = line-fits h in
@@ -82,8 +84,10 @@ module _ {k : ℕ} (s : State) (q : Progress) (v j u room : List ℕ) (f : Paced
           (λ l. absurd (room-wanted h (omega (arith, l, f .placed .line, length-drop (s .progress .pending) (s .output)))))
 
 paced : {w i o : List ℕ} {k : ℕ} {s : State} → Placed start (length i) (length o) → Turns w i o k s → s .way ≡ going → Paced k s
-paced p none y = record { placed = p; toWrite = 0; toClose = 1; writes = λ x. absurd (omega arith); closes = λ x. omega arith; pace = omega arith }
-paced p (more {s = s} {q} {v} {j} {u} c n t) y = paced-turn s q v j u (t .room) (paced p c (goes-on c n)) (t .placed) (t .reply) (t .answered) (t .after) y
+paced p none y =
+    record { placed = p; toWrite = 0; toClose = 1; writes = λ x. absurd (omega arith); closes = λ x. omega arith; pace = omega arith }
+paced p (more {s = s} {q} {v} {j} {u} c n t) y =
+    paced-turn s q v j u (t .room) (paced p c (goes-on c n)) (t .placed) (t .reply) (t .answered) (t .after) y
 
 -- ---- the turns made so far
 
@@ -103,10 +107,12 @@ pub record Upto (w₀ i₀ o₀ : List ℕ) (left : ℕ) (p : Progress) (w i o :
 pub upto-none : (w i o : List ℕ) → Upto w i o most start w i o
 upto-none w i o = record { made = 0; brought = []; handed = []; way = going; chain = none; sum = omega arith }
 
-pub upto-next : {w₀ i₀ o₀ w v i j o u : List ℕ} {left : ℕ} {p q : Progress} → Upto w₀ i₀ o₀ left p w i o → 0 < left → not (p .done) ≡ true → Turned p q w v i j o u
+pub upto-next : {w₀ i₀ o₀ w v i j o u : List ℕ} {left : ℕ} {p q : Progress} → Upto w₀ i₀ o₀ left p w i o → 0 < left → not (p .done) ≡ true
+    → Turned p q w v i j o u
     → Upto w₀ i₀ o₀ (left - 1) q v j u
 upto-next {w = w} {v = v} {i = i} {j = j} {o = o} {u = u} {p = p} {q = q} x h n t =
-    let s = afterTurn (record { progress = p; words = w; input = i; output = o; brought = x .brought; handed = x .handed; way = x .way }) t in
+    let s = afterTurn (record { progress = p; words = w; input = i; output = o; brought = x .brought; handed = x .handed; way = x .way })
+    t in
     record {
       made = suc (x .made);
       brought = s .brought;
@@ -116,7 +122,8 @@ upto-next {w = w} {v = v} {i = i} {j = j} {o = o} {u = u} {p = p} {q = q} x h n 
       sum = omega (arith, x .sum);
     }
 
-pub upto-served : {w₀ i₀ o₀ w i o : List ℕ} {left : ℕ} {p : Progress} → w₀ ≡ zeros → Placed start (length i₀) (length o₀) → Upto w₀ i₀ o₀ left p w i o
+pub upto-served : {w₀ i₀ o₀ w i o : List ℕ} {left : ℕ} {p : Progress} → w₀ ≡ zeros → Placed start (length i₀) (length o₀)
+    → Upto w₀ i₀ o₀ left p w i o
     → (not (p .done) ≡ false) ⊎ (left ≤ 0) → Served w₀ w i₀ i o₀ o
 upto-served {w = w} {i = i} {o = o} {left = left} {p = p} e z x end = record {
   turns = x .made;

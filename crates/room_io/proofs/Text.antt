@@ -13,7 +13,8 @@ use Rattle.rooms.proofs.Whole.{SoFar, so-far-none, so-far-line, so-far-more, so
 use Rattle.rooms.specs.Whole.{zeros}
 use Rattle.room_io.specs.declared.Progress.{Progress}
 use Rattle.room_io.specs.Places.{atHand, unwritten}
-use Rattle.room_io.specs.Served.{Way, going, lastLine, readFailed, writeFailed, State, wayAfter, Came, stateAfter, Turns, none, more, allHanded, Whole, Begins}
+use Rattle.room_io.specs.Served.{Way, going, lastLine, readFailed, writeFailed, State, wayAfter, Came, stateAfter, Turns, none, more}
+use Rattle.room_io.specs.Served.{allHanded, Whole, Begins}
 
 -- ---- the turns go on exactly while they are not done
 
@@ -56,29 +57,38 @@ either true y s a b = a
 either false y s a b = b
 
 -- other spellings of the same
-respelt : {ws bs bs′ text text′ brought : List ℕ} {e e′ : Bool} → bs ≡ bs′ → e ≡ e′ → text ≡ text′ → SoFar ws bs e brought text → SoFar ws bs′ e′ brought text′
+respelt : {ws bs bs′ text text′ brought : List ℕ} {e e′ : Bool} → bs ≡ bs′ → e ≡ e′ → text ≡ text′ → SoFar ws bs e brought text
+    → SoFar ws bs′ e′ brought text′
 respelt {ws} {bs} {bs′} {text} {text′} {brought} {e} {e′} a b c s =
-    subst (SoFar ws bs′ e′ brought) c (subst (λ (x : Bool). SoFar ws bs′ x brought text) b (subst (λ (l : List ℕ). SoFar ws l e brought text) a s))
+    subst (SoFar ws bs′ e′ brought) c
+    (subst (λ (x : Bool). SoFar ws bs′ x brought text) b (subst (λ (l : List ℕ). SoFar ws l e brought text) a s))
 
 module _ (s : State) (q : Progress) (v j u room : List ℕ) (f : Open s) where
-  told-turn : (r : Said) → Replies (atHand (s .progress) (s .input)) (s .progress .ended) (s .words) v (drop (s .progress .pending) (s .output)) room r
+  told-turn : (r : Said)
+      → Replies (atHand (s .progress) (s .input)) (s .progress .ended) (s .words) v (drop (s .progress .pending) (s .output)) room r
       → (a : Came s q v j u room r) → Told (wayAfter r (q .done)) (stateAfter s q v j u room r a)
   told-turn (Line used k) h (b, c, e, d) =
-      respelt (sym b) (sym e) (append-assoc (s .handed) (unwritten (s .progress) (s .output)) (take k room) ∙ ap (λ (l : List ℕ). s .handed ++ l) (sym c)) (so-far-line f used k h)
+      respelt (sym b) (sym e)
+      (append-assoc (s .handed) (unwritten (s .progress) (s .output)) (take k room) ∙ ap (λ (l : List ℕ). s .handed ++ l) (sym c))
+      (so-far-line f used k h)
   told-turn (End k) h (c, e, d) = λ rest z.
       ap (λ (l : List ℕ). s .handed ++ l) c
       ∙ sym (append-assoc (s .handed) (unwritten (s .progress) (s .output)) (take k room))
       ∙ so-far-end f k h rest (λ y. z (e ∙ y))
   told-turn More h (b, c) =
-      let g = respelt (sym (b .follow)) refl (ap (λ (l : List ℕ). s .handed ++ l) (sym c)) (so-far-more f (b .bytes) (q .ended) (b .none) h) in
+      let g = respelt (sym (b .follow)) refl (ap (λ (l : List ℕ). s .handed ++ l) (sym c))
+      (so-far-more f (b .bytes) (q .ended) (b .none) h) in
       either (q .done) readFailed (stateAfter s q v j u room More (b, c)) g g
   told-turn Room h (b, c, e) =
-      let g = respelt (sym b) (sym e) (sym (ap (λ (l : List ℕ). (s .handed ++ unwritten (s .progress) (s .output)) ++ l) c ∙ append-nil (allHanded s))) (so-far-room f h) in
+      let g = respelt (sym b) (sym e)
+      (sym (ap (λ (l : List ℕ). (s .handed ++ unwritten (s .progress) (s .output)) ++ l) c ∙ append-nil (allHanded s)))
+      (so-far-room f h) in
       either (q .done) writeFailed (stateAfter s q v j u room Room (b, c, e)) g g
 
 told : {w i o : List ℕ} {k : ℕ} {s : State} → w ≡ zeros → Turns w i o k s → Told (s .way) s
 told e none = subst (λ (l : List ℕ). SoFar l [] false [] []) (sym e) so-far-none
-told e (more {s = s} {q} {v} {j} {u} c n t) = told-turn s q v j u (t .room) (subst (λ (y : Way). Told y s) (goes-on c n) (told e c)) (t .reply) (t .answered) (t .after)
+told e (more {s = s} {q} {v} {j} {u} c n t) =
+    told-turn s q v j u (t .room) (subst (λ (y : Way). Told y s) (goes-on c n) (told e c)) (t .reply) (t .answered) (t .after)
 
 -- from words of zeros, and any buffers, the last line makes the text that the writes are handed the book's for what the reads brought
 pub program-text : {w i o : List ℕ} {k : ℕ} {s : State} → w ≡ zeros → Turns w i o k s → s .way ≡ lastLine → Whole s

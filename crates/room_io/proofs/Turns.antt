@@ -42,7 +42,8 @@ part-from a l = take-all (length l - a) (drop a l) (omega (arith, length-drop a 
 pub bytes-fit : {room n : ℕ} {b : Brought} → ReadWithin room b → b ≡ brought.Bytes n → (1 ≤ n) × (n ≤ room)
 bytes-fit {room} h e = subst (ReadWithin room) e h
 
-moved-some : (got : ℤ) {size room n : ℕ} → ltZ (pos 0) got ≡ true → Moved size got → room ≡ size → n ≡ clamped got room → (1 ≤ n) × (n ≤ room)
+moved-some : (got : ℤ) {size room n : ℕ} → ltZ (pos 0) got ≡ true → Moved size got → room ≡ size → n ≡ clamped got room
+    → (1 ≤ n) × (n ≤ room)
 moved-some (pos k) t m z e = let h : 0 < k = ltb-true 0 k t in (omega arith, omega arith)
 moved-some (negsuc k) t m z e = never (cc)
 
@@ -72,7 +73,8 @@ module _ (a : ℕ) (l part : List ℕ) (h : a ≤ length l) (z : length part ≡
       ∙ ap (λ (m : List ℕ). take a l ++ m) (take-append-le n part (drop (length l - a) (drop a l)) i)
 
 module _ (p : Progress) (input moved part : List ℕ) {held : ℕ} (within : held ≤ length moved) (is : held ≡ p .end - p .start)
-    (front : take held moved ≡ take held (drop (p .start) input)) (size : length part ≡ length (take (length moved - held) (drop held moved))) where
+    (front : take held moved ≡ take held (drop (p .start) input))
+    (size : length part ≡ length (take (length moved - held) (drop held moved))) where
   -- the bytes at hand stand at the front
   kept-front : take held moved ≡ atHand p input
   kept-front = front ∙ ap (λ (k : ℕ). take k (drop (p .start) input)) is
@@ -89,7 +91,9 @@ module _ (p : Progress) (input moved part : List ℕ) {held : ℕ} (within : hel
         waiting = refl;
         brings = record {
           bytes = take n part;
-          follow = ap (λ (k : ℕ). take k (putMid held (length moved - held) moved part)) z ∙ put-front held moved part within size n i ∙ ap (λ (m : List ℕ). m ++ take n part) kept-front;
+          follow =
+              ap (λ (k : ℕ). take k (putMid held (length moved - held) moved part)) z ∙ put-front held moved part within size n i
+              ∙ ap (λ (m : List ℕ). m ++ take n part) kept-front;
           none = λ t. never (cc);
           some = λ t. omega (arith, length-take-le n part i);
         };
@@ -107,7 +111,9 @@ module _ (p : Progress) (input moved part : List ℕ) {held : ℕ} (within : hel
         waiting = refl;
         brings = record {
           bytes = [];
-          follow = ap (λ (k : ℕ). take k (putMid held (length moved - held) moved part)) z ∙ take-put held (length moved - held) moved part within ∙ kept-front ∙ sym (append-nil (atHand p input));
+          follow =
+              ap (λ (k : ℕ). take k (putMid held (length moved - held) moved part)) z
+              ∙ take-put held (length moved - held) moved part within ∙ kept-front ∙ sym (append-nil (atHand p input));
           none = λ t. refl;
           some = λ t. never (cc);
         };
@@ -140,7 +146,8 @@ module _ {p : Progress} (old new input output room : List ℕ) {r : Said} (place
       old new input input output written
   turned-line {used} {k} e =
       let f = line-said answered e in
-      let n = length-take-le (p .end - p .start) (drop (p .start) input) (omega (arith, placed .order, placed .within, length-drop (p .start) input)) in
+      let n = length-take-le (p .end - p .start) (drop (p .start) input)
+      (omega (arith, placed .order, placed .within, length-drop (p .start) input)) in
       let u : p .end - (p .start + used) ≡ p .end - p .start - used = omega arith in
       record {
         placed = record {
@@ -154,7 +161,9 @@ module _ {p : Progress} (old new input output room : List ℕ) {r : Said} (place
         room = room;
         answered = in-room (Line used k) e;
         after = (
-          ap (λ (m : ℕ). take m (drop (p .start + used) input)) u ∙ ap (take (p .end - p .start - used)) (sym (drop-drop used (p .start) input)) ∙ sym (drop-take used (p .end - p .start) (drop (p .start) input)),
+          ap (λ (m : ℕ). take m (drop (p .start + used) input)) u
+              ∙ ap (take (p .end - p .start - used)) (sym (drop-drop used (p .start) input))
+              ∙ sym (drop-take used (p .end - p .start) (drop (p .start) input)),
           unwritten-then k (omega (arith, f .written-within, size)),
           refl,
           refl,
@@ -167,25 +176,61 @@ module _ {p : Progress} (old new input output room : List ℕ) {r : Said} (place
   turned-end {k} e =
       let f = end-said answered e in
       record {
-        placed = record { order = placed .order; within = placed .within; waiting = omega (arith, f, size, room-size, same-size, placed .waiting); enough = placed .enough; line = omega (arith, placed .line, same-size) };
+        placed =
+            record {
+              order =
+                  placed .order;
+              within =
+                  placed .within;
+              waiting =
+                  omega (arith, f, size, room-size, same-size, placed .waiting);
+              enough =
+                  placed .enough;
+              line = omega (arith, placed .line, same-size);
+            };
         reply = End k;
         room = room;
         answered = in-room (End k) e;
         after = (unwritten-then k (omega (arith, f, size)), refl, refl);
       }
 
-  pub turned-more : {q : Progress} {input′ : List ℕ} → r ≡ More → length input′ ≡ length input → Refilled p q input input′ → Turned p q old new input input′ output written
+  pub turned-more : {q : Progress} {input′ : List ℕ} → r ≡ More → length input′ ≡ length input → Refilled p q input input′
+      → Turned p q old new input input′ output written
   turned-more {q} {input′} e z f = record {
-    placed = record { order = f .order; within = f .within; waiting = omega (arith, f .waiting, placed .waiting, same-size); enough = omega (arith, placed .enough); line = omega (arith, placed .line, same-size) };
+    placed =
+        record {
+          order =
+              f .order;
+          within =
+              f .within;
+          waiting =
+              omega (arith, f .waiting, placed .waiting, same-size);
+          enough =
+              omega (arith, placed .enough);
+          line = omega (arith, placed .line, same-size);
+        };
     reply = More;
     room = room;
     answered = in-room More e;
-    after = (f .brings, ap (λ (k : ℕ). take k written) (f .waiting) ∙ take-put (p .pending) (length output - p .pending) output room (placed .waiting));
+    after = (
+      f .brings,
+      ap (λ (k : ℕ). take k written) (f .waiting) ∙ take-put (p .pending) (length output - p .pending) output room (placed .waiting),
+    );
   }
 
-  pub turned-room : {q : Progress} → r ≡ Room → (q .start ≡ p .start) × (q .end ≡ p .end) × (q .pending ≡ 0) × (q .ended ≡ p .ended) → Turned p q old new input input output written
+  pub turned-room : {q : Progress} → r ≡ Room → (q .start ≡ p .start) × (q .end ≡ p .end) × (q .pending ≡ 0) × (q .ended ≡ p .ended)
+      → Turned p q old new input input output written
   turned-room {q} e (a, b, c, d) = record {
-    placed = record { order = omega (arith, placed .order); within = omega (arith, placed .within); waiting = omega arith; enough = placed .enough; line = omega (arith, placed .line, same-size) };
+    placed =
+        record {
+          order =
+              omega (arith, placed .order);
+          within =
+              omega (arith, placed .within);
+          waiting = omega arith;
+          enough = placed .enough;
+          line = omega (arith, placed .line, same-size);
+        };
     reply = Room;
     room = room;
     answered = in-room Room e;

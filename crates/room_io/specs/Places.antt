@@ -1,4 +1,5 @@
--- Where the bytes at hand and those to be written stand in their buffers, and what a read, a write and a turn make of them. Definitions alone.
+-- Where the bytes at hand and those to be written stand in their buffers, and what a read, a write and a turn make of them.
+-- Definitions alone.
 use mathlib.Core.Path.{_≡_}
 use mathlib.Core.Bool.{true, false}
 use mathlib.Core.List.{List, [], _++_}
@@ -50,12 +51,14 @@ pub record Refilled (p q : Progress) (input input′ : List ℕ) : Type 0 where
   pub waiting : q .pending ≡ p .pending
   pub brings : Brings p q input input′
 
--- what became of the buffers, by what was said: the bytes of a record are done with and its line follows what is unwritten; so does the last line;
--- bytes were read; what was unwritten was written
+-- what became of the buffers, by what was said: the bytes of a record are done with and its line follows what is unwritten; so does the
+-- last line; bytes were read; what was unwritten was written
 abbrev pub After : Progress → Progress → List ℕ → List ℕ → List ℕ → List ℕ → List ℕ → Said → Type 0
 After p q input input′ output output′ room (Line used k) =
-    (atHand q input′ ≡ drop used (atHand p input)) × (unwritten q output′ ≡ unwritten p output ++ take k room) × (q .ended ≡ p .ended) × (q .done ≡ false)
-After p q input input′ output output′ room (End k) = (unwritten q output′ ≡ unwritten p output ++ take k room) × (q .ended ≡ p .ended) × (q .done ≡ true)
+    (atHand q input′ ≡ drop used (atHand p input)) × (unwritten q output′ ≡ unwritten p output ++ take k room) × (q .ended ≡ p .ended)
+    × (q .done ≡ false)
+After p q input input′ output output′ room (End k) =
+    (unwritten q output′ ≡ unwritten p output ++ take k room) × (q .ended ≡ p .ended) × (q .done ≡ true)
 After p q input input′ output output′ room More = Brings p q input input′ × (unwritten q output′ ≡ unwritten p output)
 After p q input input′ output output′ room Room = (atHand q input′ ≡ atHand p input) × (unwritten q output′ ≡ []) × (q .ended ≡ p .ended)
 

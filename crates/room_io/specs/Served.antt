@@ -1,5 +1,5 @@
--- THE PROGRAM: a chain of turns, each under the contract of `turn`, from the start to the last line, with what the reads brought and what the writes
--- were handed; what `serve` promises of it. Definitions alone.
+-- THE PROGRAM: a chain of turns, each under the contract of `turn`, from the start to the last line, with what the reads brought and what
+-- the writes were handed; what `serve` promises of it. Definitions alone.
 use mathlib.Core.Path.{_≡_}
 use mathlib.Core.Bool.{Bool, true, false, cond}
 use mathlib.Core.List.{List, [], _++_}
@@ -102,7 +102,8 @@ Begins s = (more : List ℕ) × (allHanded s ++ more ≡ written (s .brought))
 abbrev pub endless : ℕ
 endless = 4_611_686_018_427_387_904
 
--- the turns went on until one was the last, unless 2^62 bytes and more were read; whatever ended them, no other text was handed on than the book's
+-- the turns went on until one was the last, unless 2^62 bytes and more were read; whatever ended them, no other text was handed on than the
+-- book's
 pub record Served (w w′ i i′ o o′ : List ℕ) : Type 0 where
   pub turns : ℕ
   pub last : State

@@ -29,7 +29,8 @@ use Rattle.rooms.specs.Replies.{lineRoom, Writes, Prints, Steps, Replies
 
 -- ---- the step follows from what became of the bytes
 
-taken-steps : (o : Option Book) (bs old new out out′ : List ℕ) (f : Found) (t : Taken) (r : Said) → Stands o old → Takes bs old new f t → Prints t out out′ r
+taken-steps : (o : Option Book) (bs old new out out′ : List ℕ) (f : Found) (t : Taken) (r : Said) → Stands o old → Takes bs old new f t
+    → Prints t out out′ r
     → Steps bs old new out out′ r (stepOn o bs f)
 taken-steps o bs old new out out′ found.End t r s p w =
     let (k, e, i) = subst (λ (v : Taken). Prints v out out′ r) (p .0) w in
@@ -49,9 +50,11 @@ taken-steps o bs old new out out′ (found.Record c size) t r s p w =
 -- ---- each answer
 
 pub replies-room : (bs : List ℕ) (ended : Bool) (ws out : List ℕ) → length out < lineRoom → Replies bs ended ws ws out out said.Room
-replies-room bs ended ws out h = record { room = λ l. (refl, refl, refl); plain = λ l. absurd (omega arith); book = λ l. absurd (omega arith) }
+replies-room bs ended ws out h =
+    record { room = λ l. (refl, refl, refl); plain = λ l. absurd (omega arith); book = λ l. absurd (omega arith) }
 
-pub replies-plain : (bs : List ℕ) (ended : Bool) (old new out out′ : List ℕ) (t : Taken) (r : Said) → lineRoom ≤ length out → TakePost bs ended old new t → Prints t out out′ r
+pub replies-plain : (bs : List ℕ) (ended : Bool) (old new out out′ : List ℕ) (t : Taken) (r : Said) → lineRoom ≤ length out
+    → TakePost bs ended old new t → Prints t out out′ r
     → Replies bs ended old new out out′ r
 replies-plain bs ended old new out out′ t r h p w = record {
   room = λ l. absurd (omega arith);
@@ -60,19 +63,25 @@ replies-plain bs ended old new out out′ t r h p w = record {
 }
 
 -- by what was matched, and the line written
-module _ (bs : List ℕ) (ended : Bool) (old new out out′ : List ℕ) {t : Taken} (h : lineRoom ≤ length out) (p : TakePost bs ended old new t) where
+module _ (bs : List ℕ) (ended : Bool) (old new out out′ : List ℕ) {t : Taken} (h : lineRoom ≤ length out)
+    (p : TakePost bs ended old new t) where
   matched : (u : Taken) (r : Said) → t ≡ u → Prints u out out′ r → Replies bs ended old new out out′ r
   matched u r e w = replies-plain bs ended old new out out′ t r h p (subst (λ (v : Taken). Prints v out out′ r) (sym e) w)
 
-  pub replies-line : (x : Outcome) (size written : ℕ) → t ≡ taken.Done x size → WroteWithin 44 out 0 (textOf (outcomeLine x) []) out′ written
+  pub replies-line : (x : Outcome) (size written : ℕ) → t ≡ taken.Done x size
+      → WroteWithin 44 out 0 (textOf (outcomeLine x) []) out′ written
       → Replies bs ended old new out out′ (said.Line size written)
   replies-line x size written e w = matched (taken.Done x size) (said.Line size written) e (written, refl, w)
 
-  pub replies-end : (written : ℕ) → t ≡ taken.End → WroteWithin 8 out 0 (textOf endOk []) out′ written → Replies bs ended old new out out′ (said.End written)
-  replies-end written e w = matched taken.End (said.End written) e (written, refl, record { wrote = w .wrote; within = omega (arith, w .within) })
+  pub replies-end : (written : ℕ) → t ≡ taken.End → WroteWithin 8 out 0 (textOf endOk []) out′ written
+      → Replies bs ended old new out out′ (said.End written)
+  replies-end written e w =
+      matched taken.End (said.End written) e (written, refl, record { wrote = w .wrote; within = omega (arith, w .within) })
 
-  pub replies-bad : (written : ℕ) → t ≡ taken.Bad → WroteWithin 8 out 0 (textOf endBad []) out′ written → Replies bs ended old new out out′ (said.End written)
-  replies-bad written e w = matched taken.Bad (said.End written) e (written, refl, record { wrote = w .wrote; within = omega (arith, w .within) })
+  pub replies-bad : (written : ℕ) → t ≡ taken.Bad → WroteWithin 8 out 0 (textOf endBad []) out′ written
+      → Replies bs ended old new out out′ (said.End written)
+  replies-bad written e w =
+      matched taken.Bad (said.End written) e (written, refl, record { wrote = w .wrote; within = omega (arith, w .within) })
 
   pub replies-more : t ≡ taken.More → out′ ≡ out → Replies bs ended old new out out′ said.More
   replies-more e i = matched taken.More said.More e (refl, i)
@@ -97,7 +106,8 @@ module _ {bs : List ℕ} {ended : Bool} {old new out out′ : List ℕ} where
   pub line-fits : {used k : ℕ} → Replies bs ended old new out out′ (said.Line used k) → LineFits bs out used k
   line-fits {used} {k} h = plain-cases (LineFits bs out used k) h (λ e. never (cc)) go
     where
-      go : lineRoom ≤ length out → (f : Found) → readRecord bs ended ≡ f → (t : Taken) → Takes bs old new f t → Prints t out out′ (said.Line used k) → LineFits bs out used k
+      go : lineRoom ≤ length out → (f : Found) → readRecord bs ended ≡ f → (t : Taken) → Takes bs old new f t
+          → Prints t out out′ (said.Line used k) → LineFits bs out used k
       go g found.End i t p w = let (m, e, q) = subst (λ (v : Taken). Prints v out out′ (said.Line used k)) (p .0) w in never (cc)
       go g found.More i t p w = let (e, q) = subst (λ (v : Taken). Prints v out out′ (said.Line used k)) (p .0) w in never (cc)
       go g found.Bad i t p w = let (m, e, q) = subst (λ (v : Taken). Prints v out out′ (said.Line used k)) (p .0) w in never (cc)
@@ -111,7 +121,8 @@ module _ {bs : List ℕ} {ended : Bool} {old new out out′ : List ℕ} where
   pub end-fits : {k : ℕ} → Replies bs ended old new out out′ (said.End k) → k ≤ length out
   end-fits {k} h = plain-cases (k ≤ length out) h (λ e. never (cc)) go
     where
-      go : lineRoom ≤ length out → (f : Found) → readRecord bs ended ≡ f → (t : Taken) → Takes bs old new f t → Prints t out out′ (said.End k) → k ≤ length out
+      go : lineRoom ≤ length out → (f : Found) → readRecord bs ended ≡ f → (t : Taken) → Takes bs old new f t
+          → Prints t out out′ (said.End k) → k ≤ length out
       go g f i (taken.Done x size) p (m, e, q) = never (cc)
       go g f i taken.End p (m, e, q) = let b : k ≡ m = cc in omega (arith, q .within)
       go g f i taken.More p (e, q) = never (cc)
@@ -121,7 +132,8 @@ module _ {bs : List ℕ} {ended : Bool} {old new out out′ : List ℕ} where
   pub more-fits : Replies bs ended old new out out′ said.More → (ended ≡ false) × (length bs < 1_102)
   more-fits h = plain-cases ((ended ≡ false) × (length bs < 1_102)) h (λ e. never (cc)) go
     where
-      go : lineRoom ≤ length out → (f : Found) → readRecord bs ended ≡ f → (t : Taken) → Takes bs old new f t → Prints t out out′ said.More → (ended ≡ false) × (length bs < 1_102)
+      go : lineRoom ≤ length out → (f : Found) → readRecord bs ended ≡ f → (t : Taken) → Takes bs old new f t → Prints t out out′ said.More
+          → (ended ≡ false) × (length bs < 1_102)
       go g found.End i t p w = let (m, e, q) = subst (λ (v : Taken). Prints v out out′ said.More) (p .0) w in never (cc)
       go g found.More i t p w = let d = more-read bs ended i in (d .0, d .1)
       go g found.Bad i t p w = let (m, e, q) = subst (λ (v : Taken). Prints v out out′ said.More) (p .0) w in never (cc)
@@ -151,7 +163,8 @@ module _ {bs : List ℕ} {ended : Bool} {old new out out′ : List ℕ} where
   pub more-same : {r : Said} → Replies bs ended old new out out′ r → r ≡ said.More → new ≡ old
   more-same {r} h i = plain-cases (new ≡ old) h (λ e. never (cc)) go
     where
-      go : lineRoom ≤ length out → (f : Found) → readRecord bs ended ≡ f → (t : Taken) → Takes bs old new f t → Prints t out out′ r → new ≡ old
+      go : lineRoom ≤ length out → (f : Found) → readRecord bs ended ≡ f → (t : Taken) → Takes bs old new f t → Prints t out out′ r
+          → new ≡ old
       go g found.End j t p w = p .1
       go g found.More j t p w = p .1
       go g found.Bad j t p w = p .1

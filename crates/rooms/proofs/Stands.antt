@@ -12,7 +12,8 @@ use borrow.Author.Tests.{eqb-true, eqb-false}
 use Rattle.mucalculus.specs.Order.{weight}
 use Rattle.layout.specs.View.{View}
 use Rattle.rows.specs.Says.{Says, holds, fails}
-use Rattle.book.specs.Book.{Book, fresh, freshFits, Call, relation, set, valid, clear, collect, count, registers, refused, asked, Done, does, answer}
+use Rattle.book.specs.Book.{Book, fresh, freshFits, Call, relation, set, valid, clear, collect, count, registers, refused, asked, Done}
+use Rattle.book.specs.Book.{does, answer}
 use Rattle.book.specs.Program.{Line, fields, Command, start, call, states, wordsLent, statesIn, valueOf, opOf, shown, obey}
 use Rattle.book.specs.Table.{Agrees, SettledTo}
 use Rattle.book.proofs.Leaves.{shows-fresh}
@@ -49,7 +50,8 @@ pub record Obeyed (d : Option Book × Line) (new : List ℕ) (x : Outcome) : Typ
 
 -- ---- fresh
 
-module _ (o : Option Book) (n N : ℕ) (old new : List ℕ) (x : Outcome) (z : length old ≡ wordsLent) (s : Stands o old) (e : x .operation ≡ 1) (p : Posted (start n N) old new x) where
+module _ (o : Option Book) (n N : ℕ) (old new : List ℕ) (x : Outcome) (z : length old ≡ wordsLent) (s : Stands o old) (e : x .operation ≡ 1)
+    (p : Posted (start n N) old new x) where
   lent : freshFits n N (length old) ≡ freshFits n N wordsLent
   lent = ap (freshFits n N) z
 
@@ -60,7 +62,14 @@ module _ (o : Option Book) (n N : ℕ) (old new : List ℕ) (x : Outcome) (z : l
       go true i =
           let (y, w, m) = p .0 .answers (ap (λ (t : Bool). cond t 0 1) (lent ∙ i)) in
           let (a, b, d, c) = y in
-          record { line = cc; stands = (ap (λ (v : View). v .size) (p .1 a) ∙ z, w, only-book (fresh n N) (seen new) (whole-fresh n N) (shows-fresh n N (seen new) m)) }
+          record {
+            line = cc;
+            stands = (
+              ap (λ (v : View). v .size) (p .1 a) ∙ z,
+              w,
+              only-book (fresh n N) (seen new) (whole-fresh n N) (shows-fresh n N (seen new) m),
+            );
+          }
       go false i =
           let (y, w) = p .0 .refuses 0 (ap (λ (t : Bool). cond t 0 1) (lent ∙ i)) in
           let (a, b, d, c) = y in
@@ -91,7 +100,8 @@ reply-rounds (valid bs) x = refl
 reply-rounds (clear r) x = refl
 reply-rounds collect x = refl
 
-none-obeyed : (c : Call) (old new : List ℕ) (x : Outcome) → Stands none old → x .operation ≡ opOf c → Posted (call c) old new x → Obeyed (obey none (call c)) new x
+none-obeyed : (c : Call) (old new : List ℕ) (x : Outcome) → Stands none old → x .operation ≡ opOf c → Posted (call c) old new x
+    → Obeyed (obey none (call c)) new x
 none-obeyed c old new x s e p =
     let (y, w) = p .0 .performs .unsound (s .1) in
     let (a, b, d, v) = y in
@@ -130,10 +140,12 @@ call-value (relation t bs) old new x p b g =
     let e = settled _ 0 (x .value) (relation-value (bookOf (seen old)) t bs) (g .value) in
     value-shown (does (bookOf (seen old)) (relation t bs) .1 .number) 0 (x .value) (λ k. sym e) (λ k. e)
 call-value (set acc r R bs) old new x p b g =
-    value-shown (does (bookOf (seen old)) (set acc r R bs) .1 .number) (statesIn (does (bookOf (seen old)) (set acc r R bs) .0 .reg r)) (x .value)
+    value-shown (does (bookOf (seen old)) (set acc r R bs) .1 .number) (statesIn (does (bookOf (seen old)) (set acc r R bs) .0 .reg r))
+    (x .value)
     (λ e.
     let z : x .number ≡ 0 = g .number ∙ e in
-    ap statesIn (set-leaves (bookOf (seen old)) acc r R bs (nodeReply x) g z) ∙ sym (count-means old new acc r R bs (nodeReply x) p z (valued (x .value)) (b .0 z)))
+    ap statesIn (set-leaves (bookOf (seen old)) acc r R bs (nodeReply x) g z)
+    ∙ sym (count-means old new acc r R bs (nodeReply x) p z (valued (x .value)) (b .0 z)))
     (λ l. b .1 (omega (arith, g .number)))
 call-value (valid bs) old new x p b g =
     let e = settled _ 0 (x .value) (valid-value (bookOf (seen old)) bs) (g .value) in
@@ -143,7 +155,8 @@ call-value (clear r) old new x p b g =
     value-shown (does (bookOf (seen old)) (clear r) .1 .number) 0 (x .value) (λ k. sym e) (λ k. e)
 call-value collect old new x p b g = sym (g .value)
 
-some-obeyed : (c : Call) (old new : List ℕ) (x : Outcome) → length old ≡ wordsLent → SoundWords old → x .operation ≡ opOf c → Posted (call c) old new x
+some-obeyed : (c : Call) (old new : List ℕ) (x : Outcome) → length old ≡ wordsLent → SoundWords old → x .operation ≡ opOf c
+    → Posted (call c) old new x
     → Obeyed (obey (some (bookOf (seen old))) (call c)) new x
 some-obeyed c old new x z s e p =
     let (w, g) = p .0 .performs .served s in
@@ -154,7 +167,12 @@ some-obeyed c old new x z s e p =
     let j = reply-rounds c x in
     record {
       line = cc;
-      stands = (p .0 .kept s .size ∙ z, w, only-book (does (bookOf (seen old)) c .0) (seen new) (whole-does (bookOf (seen old)) c (whole-bookOf (seen old) (sound-table (tableOf old) s))) (g .shows));
+      stands = (
+        p .0 .kept s .size ∙ z,
+        w,
+        only-book (does (bookOf (seen old)) c .0) (seen new)
+            (whole-does (bookOf (seen old)) c (whole-bookOf (seen old) (sound-table (tableOf old) s))) (g .shows),
+      );
     }
 
 -- ---- a count
@@ -171,17 +189,20 @@ count-rounds b r = go (ltb r registers) (b .reg r)
 count-value : (b : Book) (r x : ℕ) → SettledTo (answer b (count r) .value) x → valueOf (answer b (count r) .value) ≡ x
 count-value b r x = go (ltb r registers) (b .reg r)
   where
-    go : (t : Bool) (o : Option (List Bool)) → SettledTo (cond t (asked o (λ A. some (weight true A))) (refused 3) .value) x → valueOf (cond t (asked o (λ A. some (weight true A))) (refused 3) .value) ≡ x
+    go : (t : Bool) (o : Option (List Bool)) → SettledTo (cond t (asked o (λ A. some (weight true A))) (refused 3) .value) x
+        → valueOf (cond t (asked o (λ A. some (weight true A))) (refused 3) .value) ≡ x
     go true none h = sym h
     go true (some A) h = sym h
     go false o h = sym h
 
-none-counted : (r : ℕ) (old new : List ℕ) (x : Outcome) → Stands none old → x .operation ≡ 5 → Posted (states r) old new x → Obeyed (obey none (states r)) new x
+none-counted : (r : ℕ) (old new : List ℕ) (x : Outcome) → Stands none old → x .operation ≡ 5 → Posted (states r) old new x
+    → Obeyed (obey none (states r)) new x
 none-counted r old new x s e p =
     let (a, b, d, v) = p .1 .unsound (s .1) in
     record { line = cc; stands = subst (Stands none) (sym (p .0)) s }
 
-some-counted : (r : ℕ) (old new : List ℕ) (x : Outcome) → length old ≡ wordsLent → SoundWords old → x .operation ≡ 5 → Posted (states r) old new x
+some-counted : (r : ℕ) (old new : List ℕ) (x : Outcome) → length old ≡ wordsLent → SoundWords old → x .operation ≡ 5
+    → Posted (states r) old new x
     → Obeyed (obey (some (bookOf (seen old))) (states r)) new x
 some-counted r old new x z s e p =
     let g = p .1 .told s .agrees in
@@ -201,6 +222,8 @@ obeyed o (start n N) old new x s h = start-obeyed o n N old new x (stands-length
 obeyed none (call c) old new x s h = none-obeyed c old new x s (h .operation) (h .posted)
 obeyed none (states r) old new x s h = none-counted r old new x s (h .operation) (h .posted)
 obeyed (some b) (call c) old new x s h =
-    subst (λ (v : Book). Obeyed (obey (some v) (call c)) new x) (sym (s .2)) (some-obeyed c old new x (s .0) (s .1) (h .operation) (h .posted))
+    subst (λ (v : Book). Obeyed (obey (some v) (call c)) new x) (sym (s .2))
+    (some-obeyed c old new x (s .0) (s .1) (h .operation) (h .posted))
 obeyed (some b) (states r) old new x s h =
-    subst (λ (v : Book). Obeyed (obey (some v) (states r)) new x) (sym (s .2)) (some-counted r old new x (s .0) (s .1) (h .operation) (h .posted))
+    subst (λ (v : Book). Obeyed (obey (some v) (states r)) new x) (sym (s .2))
+    (some-counted r old new x (s .0) (s .1) (h .operation) (h .posted))

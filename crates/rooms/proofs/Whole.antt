@@ -65,7 +65,8 @@ module _ (o : Option Book) (bs : List ℕ) (ended : Bool) (old new out out′ : 
   last-text : (k : ℕ) (rest : List ℕ) → Replies bs ended old new out out′ (said.End k) → take k out′ ≡ textAfter o bs rest (step o bs ended)
   last-text k rest h = said-cases (said.End k) _ h (λ e i. never (cc)) go
     where
-      go : lineRoom ≤ length out → (q : Step) → step o bs ended ≡ q → Steps bs old new out out′ (said.End k) q → take k out′ ≡ textAfter o bs rest (step o bs ended)
+      go : lineRoom ≤ length out → (q : Step) → step o bs ended ≡ q → Steps bs old new out out′ (said.End k) q
+          → take k out′ ≡ textAfter o bs rest (step o bs ended)
       go g (writes l o′ left) i (u, w, e, d, t, z) = never (cc)
       go g waits i (e, n, m) = never (cc)
       go g (ends l) i (w, e, n, t) =
@@ -83,8 +84,8 @@ module _ (o : Option Book) (bs : List ℕ) (ended : Bool) (old new out out′ : 
 
 -- ---- from the first answer on
 
--- the words, the bytes at hand and whether the input has ended, once these bytes were brought and this text was said: whatever is still to come, the
--- book's text for all of it is what was said and what the book says from here on
+-- the words, the bytes at hand and whether the input has ended, once these bytes were brought and this text was said: whatever is still to
+-- come, the book's text for all of it is what was said and what the book says from here on
 pub record SoFar (ws bs : List ℕ) (ended : Bool) (brought text : List ℕ) : Type 0 where
   pub book : Option Book
   pub stands : Stands book ws
@@ -94,14 +95,16 @@ pub zeros-stand : Stands none zeros
 zeros-stand = (length-replicate {A = ℕ} wordsLent 0, zeros-unsound zeros at)
   where
     at : (k : ℕ) → getD zeros k 0 ≡ 0
-    at k = by-cases (decLt k wordsLent) (λ l. getD-replicate wordsLent k 0 0 l) (λ l. List·getD-eq-default zeros 0 {n = k} (omega (arith, length-replicate {A = ℕ} wordsLent 0)))
+    at k = by-cases (decLt k wordsLent) (λ l. getD-replicate wordsLent k 0 0 l)
+        (λ l. List·getD-eq-default zeros 0 {n = k} (omega (arith, length-replicate {A = ℕ} wordsLent 0)))
 
 pub so-far-none : SoFar zeros [] false [] []
 so-far-none = record { book = none; stands = zeros-stand; goes-on = λ rest z. refl }
 
 module _ {old new bs out out′ : List ℕ} {ended : Bool} {brought text : List ℕ} (s : SoFar old bs ended brought text) where
   -- a record's line is written, and its bytes are done with
-  pub so-far-line : (used k : ℕ) → Replies bs ended old new out out′ (said.Line used k) → SoFar new (drop used bs) ended brought (text ++ take k out′)
+  pub so-far-line : (used k : ℕ) → Replies bs ended old new out out′ (said.Line used k)
+      → SoFar new (drop used bs) ended brought (text ++ take k out′)
   so-far-line used k h =
       let d = lined (s .book) bs ended old new out out′ (s .stands) used k h in
       record {
@@ -115,7 +118,8 @@ module _ {old new bs out out′ : List ℕ} {ended : Bool} {brought text : List 
       }
 
   -- more bytes are wanted; these come, and none where the input has ended
-  pub so-far-more : (x : List ℕ) (ended′ : Bool) → (ended′ ≡ true → x ≡ []) → Replies bs ended old new out out′ said.More → SoFar new (bs ++ x) ended′ (brought ++ x) text
+  pub so-far-more : (x : List ℕ) (ended′ : Bool) → (ended′ ≡ true → x ≡ []) → Replies bs ended old new out out′ said.More
+      → SoFar new (bs ++ x) ended′ (brought ++ x) text
   so-far-more x ended′ n h = record {
     book = s .book;
     stands = subst (Stands (s .book)) (sym (same-words (s .book) bs ended old new out out′ (s .stands) said.More (inl refl) h)) (s .stands);
@@ -134,11 +138,15 @@ module _ {old new bs out out′ : List ℕ} {ended : Bool} {brought text : List 
   }
 
   -- the last line is written; "nothing after it is read", whatever is still to come
-  pub so-far-end : (k : ℕ) → Replies bs ended old new out out′ (said.End k) → (rest : List ℕ) → (ended ≡ true → rest ≡ []) → text ++ take k out′ ≡ written (brought ++ rest)
+  pub so-far-end : (k : ℕ) → Replies bs ended old new out out′ (said.End k) → (rest : List ℕ) → (ended ≡ true → rest ≡ [])
+      → text ++ take k out′ ≡ written (brought ++ rest)
   so-far-end k h rest z =
-      ap (λ (t : List ℕ). text ++ t) (last-text (s .book) bs ended old new out out′ (s .stands) k rest h ∙ sym (text-follows (s .book) bs ended rest z))
+      ap (λ (t : List ℕ). text ++ t)
+      (last-text (s .book) bs ended old new out out′ (s .stands) k rest h ∙ sym (text-follows (s .book) bs ended rest z))
       ∙ sym (s .goes-on rest z)
 
 -- what was said is the beginning of the book's text for what was brought
-pub so-far-begins : {ws bs : List ℕ} {ended : Bool} {brought text : List ℕ} → SoFar ws bs ended brought text → (more : List ℕ) × (text ++ more ≡ written brought)
-so-far-begins {bs = bs} {brought = brought} s = (textFrom (s .book) (bs ++ []), sym (s .goes-on [] (λ e. refl)) ∙ ap written (append-nil brought))
+pub so-far-begins : {ws bs : List ℕ} {ended : Bool} {brought text : List ℕ} → SoFar ws bs ended brought text
+    → (more : List ℕ) × (text ++ more ≡ written brought)
+so-far-begins {bs = bs} {brought = brought} s =
+    (textFrom (s .book) (bs ++ []), sym (s .goes-on [] (λ e. refl)) ∙ ap written (append-nil brought))

@@ -1,5 +1,5 @@
--- What `answer` says, writes and leaves: by what became of the bytes on any words, and by the book's step on words that stand for a book or for
--- none. Assumes nothing.
+-- What `answer` says, writes and leaves: by what became of the bytes on any words, and by the book's step on words that stand for a book or
+-- for none. Assumes nothing.
 use mathlib.Core.Path.{_≡_}
 use mathlib.Core.Bool.{Bool}
 use mathlib.Core.List.{List, []}
@@ -34,7 +34,8 @@ Prints taken.Bad out out′ r = (written : ℕ) × (r ≡ said.End written) × W
 
 -- what is said of a step of the book: its line, the bytes left, and words that stand for its next book; that it waits; its last line
 abbrev pub Steps : List ℕ → List ℕ → List ℕ → List ℕ → List ℕ → Said → Step → Type 0
-Steps bs old new out out′ r (writes l o left) = (used written : ℕ) × (r ≡ said.Line used written) × (drop used bs ≡ left) × Writes l out out′ written × Stands o new
+Steps bs old new out out′ r (writes l o left) =
+    (used written : ℕ) × (r ≡ said.Line used written) × (drop used bs ≡ left) × Writes l out out′ written × Stands o new
 Steps bs old new out out′ r waits = (r ≡ said.More) × (new ≡ old) × (out′ ≡ out)
 Steps bs old new out out′ r (ends l) = (written : ℕ) × (r ≡ said.End written) × (new ≡ old) × Writes l out out′ written
 

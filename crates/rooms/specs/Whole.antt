@@ -1,5 +1,5 @@
--- THE PROGRAM'S TEXT: an answer under its contract, on words that stand for a book or for none, goes on with the book's text, however the input
--- comes; it starts from 16,384 words of zeros. Assumes nothing.
+-- THE PROGRAM'S TEXT: an answer under its contract, on words that stand for a book or for none, goes on with the book's text, however the
+-- input comes; it starts from 16,384 words of zeros. Assumes nothing.
 use mathlib.Core.List.{List}
 use Prim.Native.Nat.{ℕ}
 use lib.ListN.{replicate}

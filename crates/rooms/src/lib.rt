@@ -24,8 +24,8 @@ pub struct Reply {
     pub sound: bool,
 }
 
-// Obeys the record at the front of the bytes and writes its line; `sound` says whether the words are a sound table, `ended` that no more bytes
-// will come.
+// Obeys the record at the front of the bytes and writes its line; `sound` says whether the words are a sound table, `ended` that no more
+// bytes will come.
 pub fn answer(words: &mut [u32], sound: bool, bytes: &[u8], ended: bool, out: &mut [u8]) -> Reply
     requires { ⌜ Says (SoundWords (now words)) sound ⌝ }
     ensures { λ r. ⌜ Replies (now (bytes .entry)) ended (now (words .entry)) (now (words .exit)) (now (out .entry)) (now (out .exit))

@@ -51,7 +51,8 @@ module _ {n N limit : ℕ} {W : View} {t b d s : ℕ} (p : RunPre n N limit W t 
   pub run-asks : {list : List ℕ} → d < length list → WritePre n N limit W t b d s list
   run-asks l = record { start = p .start; scene = p .scene; ready = p .ready; room = l }
 
-  pub run-written : {X : View} (old : List ℕ) {new : List ℕ} → d < length old → WritePost n limit W X t b d s (set old 0 s) new → RunPost n limit W X t b d s old new (answer.States (d + 1))
+  pub run-written : {X : View} (old : List ℕ) {new : List ℕ} → d < length old → WritePost n limit W X t b d s (set old 0 s) new
+      → RunPost n limit W X t b d s old new (answer.States (d + 1))
   run-written {X} old {new} l w S r =
       let v = w S r in
       let e = run-size S d s in
@@ -60,7 +61,9 @@ module _ {n N limit : ℕ} {W : View} {t b d s : ℕ} (p : RunPre n N limit W t 
         told =
             let q : d + 1 ≡ length (runOf S d s) = omega arith in
             let w = v .list ∙ put-written (runOf S d s) old (omega arith) in
-            subst (λ (c : ℕ). RunTold (runOf S d s) old new (answer.States c)) (sym q) (subst (λ (m : List ℕ). RunTold (runOf S d s) old m (answer.States (length (runOf S d s)))) (sym w) (is-written (omega arith)));
+            subst (λ (c : ℕ). RunTold (runOf S d s) old new (answer.States c)) (sym q)
+            (subst (λ (m : List ℕ). RunTold (runOf S d s) old m (answer.States (length (runOf S d s)))) (sym w)
+            (is-written (omega arith)));
       }
 
 -- ---- the whole search
@@ -76,9 +79,11 @@ module _ {n : ℕ} {W : View} {t b : ℕ} (limit : ℕ) (S : Scene n W t b) (A :
   abbrev choose : Bool → Bool → Bool → Outcome
   choose f m r = cond f (cond m (cond r (found whole) short) none) full
 
-  outcome-by : {f m r : Bool} → fit limit (needsOf S (lastOf S A)) ≡ f → meets (2 ^ n) A (layerOf S (lastOf S A)) ≡ m → leb (length whole) room ≡ r → out ≡ choose f m r
+  outcome-by : {f m r : Bool} → fit limit (needsOf S (lastOf S A)) ≡ f → meets (2 ^ n) A (layerOf S (lastOf S A)) ≡ m
+      → leb (length whole) room ≡ r → out ≡ choose f m r
   outcome-by {f} {m} {r} ef em er =
-      ap (λ (x : Bool). choose x (meets (2 ^ n) A (layerOf S (lastOf S A))) (leb (length whole) room)) (first-pass n limit (S .fs) (S .R) (S .B) A ∙ ef)
+      ap (λ (x : Bool). choose x (meets (2 ^ n) A (layerOf S (lastOf S A))) (leb (length whole) room))
+      (first-pass n limit (S .fs) (S .R) (S .B) A ∙ ef)
       ∙ ap (λ (x : Bool). choose f x (leb (length whole) room)) em ∙ ap (choose f m) er
 
   pub outcome-full : fit limit (needsOf S (lastOf S A)) ≡ false → out ≡ full
@@ -87,10 +92,12 @@ module _ {n : ℕ} {W : View} {t b : ℕ} (limit : ℕ) (S : Scene n W t b) (A :
   pub outcome-none : fit limit (needsOf S (lastOf S A)) ≡ true → meets (2 ^ n) A (layerOf S (lastOf S A)) ≡ false → out ≡ none
   outcome-none e m = outcome-by e m refl
 
-  pub outcome-short : fit limit (needsOf S (lastOf S A)) ≡ true → meets (2 ^ n) A (layerOf S (lastOf S A)) ≡ true → room < length whole → out ≡ short
+  pub outcome-short : fit limit (needsOf S (lastOf S A)) ≡ true → meets (2 ^ n) A (layerOf S (lastOf S A)) ≡ true → room < length whole
+      → out ≡ short
   outcome-short e m l = outcome-by e m (false-of _ (λ h. let g = leb→le (length whole) room h in omega arith))
 
-  pub outcome-found : fit limit (needsOf S (lastOf S A)) ≡ true → meets (2 ^ n) A (layerOf S (lastOf S A)) ≡ true → length whole ≤ room → out ≡ found whole
+  pub outcome-found : fit limit (needsOf S (lastOf S A)) ≡ true → meets (2 ^ n) A (layerOf S (lastOf S A)) ≡ true → length whole ≤ room
+      → out ≡ found whole
   outcome-found e m l = outcome-by e m (true-of _ (le→leb (length whole) room l))
 
 pub told-by : {o o′ : Outcome} {r : Found} {old new : List ℕ} → o ≡ o′ → Told o′ r old new → Told o r old new
@@ -103,8 +110,10 @@ steps-then {W = W} {X = X} {Y = Y} p q = record {
   kept = keeps-trans (p .kept) (subst (λ (xs : List ℕ). Keeps (rowsOf X) (rowsOf Y) xs) (filled-same (p .moved .frame)) (q .kept));
 }
 
-module _ {n N limit : ℕ} {W : View} {t a b : ℕ} (p : PassPre n N limit W t a b) {X : View} {r : Reached} (q : PassPost n limit W X t a b r) where
-  ended : {u : Reached} → r ≡ u → (S : Scene n W t b) (A : List Bool) → Denotes (2 * n) (rowsOf W) a (fnOf n A) → Passed n limit W X t b S A u
+module _ {n N limit : ℕ} {W : View} {t a b : ℕ} (p : PassPre n N limit W t a b)
+    {X : View} {r : Reached} (q : PassPost n limit W X t a b r) where
+  ended : {u : Reached} → r ≡ u → (S : Scene n W t b) (A : List Bool) → Denotes (2 * n) (rowsOf W) a (fnOf n A)
+      → Passed n limit W X t b S A u
   ended e S A from = subst (λ (u : Reached). Passed n limit W X t b S A u) e (q S A from)
 
   pub find-full : {old : List ℕ} → r ≡ reached.Full → FindPost n limit W X t a b old old (answer.Refused refusal.Full)
@@ -115,11 +124,16 @@ module _ {n N limit : ℕ} {W : View} {t a b : ℕ} (p : PassPre n N limit W t a
   pub find-none : {old : List ℕ} → r ≡ reached.Nothing → FindPost n limit W X t a b old old (answer.Refused refusal.NoRun)
   find-none {old} e S A from =
       let h = ended e S A from in
-      record { steps = h .steps; told = told-by (outcome-none limit S A (length old) (h .ends .1) (h .ends .0)) (record { reply = refl; list = refl }) }
+      record {
+        steps =
+            h .steps;
+        told = told-by (outcome-none limit S A (length old) (h .ends .1) (h .ends .0)) (record { reply = refl; list = refl });
+      }
 
   module _ {d s : ℕ} (e : r ≡ reached.At d s) where
     -- the first state and what follows it
-    whole-is : (S : Scene n W t b) (A : List Bool) → Denotes (2 * n) (rowsOf W) a (fnOf n A) → runOf S d s ≡ route (2 ^ n) (S .R) A (S .B) (lastOf S A)
+    whole-is : (S : Scene n W t b) (A : List Bool) → Denotes (2 * n) (rowsOf W) a (fnOf n A)
+        → runOf S d s ≡ route (2 ^ n) (S .R) A (S .B) (lastOf S A)
     whole-is S A from =
         let h = ended e S A from .ends in
         let k = 2 ^ n in
@@ -132,8 +146,10 @@ module _ {n N limit : ℕ} {W : View} {t a b : ℕ} (p : PassPre n N limit W t a
         let m = route-run k (S .R) A (S .B) (S .sized) (subst T (sym (h .1)) tt) in
         let c = common k A (layerOf S (lastOf S A)) in
         let g = and-out (mem A c) _ m .1 in
-        let g1 = subst (λ (i : ℕ). T (runsInto k (S .R) (S .B) c (onward k (S .R) (S .B) i c))) (sym (h .0)) g in
-        (ap (λ (i : ℕ). fit limit (needsOf S i)) (h .0) ∙ h .2, subst (λ (u : ℕ). T (runsInto k (S .R) (S .B) u (onward k (S .R) (S .B) d u))) (sym (h .3)) g1)
+        let g1 = subst (λ (i : ℕ). T (runsInto k (S .R) (S .B) c (onward k (S .R) (S .B) i c))) (sym (h .0)) g in (
+          ap (λ (i : ℕ). fit limit (needsOf S i)) (h .0) ∙ h .2,
+          subst (λ (u : ℕ). T (runsInto k (S .R) (S .B) u (onward k (S .R) (S .B) d u))) (sym (h .3)) g1,
+        )
 
     own : Passed n limit W X t b (p .scene) (p .A) (reached.At d s)
     own = ended e (p .scene) (p .A) (p .from)
@@ -149,12 +165,17 @@ module _ {n N limit : ℕ} {W : View} {t a b : ℕ} (p : PassPre n N limit W t a
           omega (arith, own .ends .0);
     }
 
-    run-told : {o : Outcome} (S : Scene n W t b) (A : List Bool) (old : List ℕ) {new : List ℕ} {y : Found} → fit limit (needsOf S (lastOf S A)) ≡ true → meets (2 ^ n) A (layerOf S (lastOf S A)) ≡ true
-        → RunTold (route (2 ^ n) (S .R) A (S .B) (lastOf S A)) old new y → outcome n limit (S .fs) (S .R) A (S .B) (length old) ≡ o → Told o y old new
-    run-told S A old f m (is-written h) z = told-by (sym z ∙ outcome-found limit S A (length old) f m h) (record { reply = refl; list = refl })
-    run-told S A old f m (is-short h) z = told-by (sym z ∙ outcome-short limit S A (length old) f m h) (record { reply = refl; list = refl })
+    run-told : {o : Outcome} (S : Scene n W t b) (A : List Bool) (old : List ℕ) {new : List ℕ} {y : Found}
+        → fit limit (needsOf S (lastOf S A)) ≡ true → meets (2 ^ n) A (layerOf S (lastOf S A)) ≡ true
+        → RunTold (route (2 ^ n) (S .R) A (S .B) (lastOf S A)) old new y → outcome n limit (S .fs) (S .R) A (S .B) (length old) ≡ o
+        → Told o y old new
+    run-told S A old f m (is-written h) z =
+        told-by (sym z ∙ outcome-found limit S A (length old) f m h) (record { reply = refl; list = refl })
+    run-told S A old f m (is-short h) z =
+        told-by (sym z ∙ outcome-short limit S A (length old) f m h) (record { reply = refl; list = refl })
 
-    pub find-run : {Y : View} (old : List ℕ) {new : List ℕ} {y : Found} → RunPost n limit X Y t b d s old new y → FindPost n limit W Y t a b old new y
+    pub find-run : {Y : View} (old : List ℕ) {new : List ℕ} {y : Found} → RunPost n limit X Y t b d s old new y
+        → FindPost n limit W Y t a b old new y
     find-run {Y} old {new} {y} v S A from =
         let h = ended e S A from in
         let w = v (scene-later (p .start) (h .steps) S) (onward-is S A from) in

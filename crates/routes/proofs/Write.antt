@@ -86,12 +86,14 @@ steps-start p = record { moved = moved-refl (p .base); kept = keeps-refl (base-w
 
 -- ---- the least next state, of sets
 
-next-mem : (n : ℕ) (X : View) {t x : ℕ} (R : Pairs) (L : List Bool) → 2 * n ≡ 2 * X .header BITS → Denotes (2 * n) (rowsOf X) t (fnOfPairs n R) → Denotes (2 * n) (rowsOf X) x (fnOf n L)
+next-mem : (n : ℕ) (X : View) {t x : ℕ} (R : Pairs) (L : List Bool) → 2 * n ≡ 2 * X .header BITS
+    → Denotes (2 * n) (rowsOf X) t (fnOfPairs n R) → Denotes (2 * n) (rowsOf X) x (fnOf n L)
     → (s : ℕ) → s < 2 ^ n → (u : ℕ) → u < 2 ^ n → nextIn X t s x u ≡ (pair R s u && mem L u)
 next-mem n X {t} {x} R L e dt dx s l u i = ap₂ _&&_ step inside
   where
     step : holdsAt X t s u ≡ pair R s u
-    step = subst (λ (m : ℕ). den m (rowsOf X) t (pairVal s u) ≡ pair R s u) e (dt .same (pairVal s u) ∙ ap₂ (pair R) (nowOf-pairVal n s u l) (nextOf-pairVal n s u i))
+    step = subst (λ (m : ℕ). den m (rowsOf X) t (pairVal s u) ≡ pair R s u) e
+        (dt .same (pairVal s u) ∙ ap₂ (pair R) (nowOf-pairVal n s u l) (nextOf-pairVal n s u i))
 
     inside : holdsAt X x u 0 ≡ mem L u
     inside = subst (λ (m : ℕ). den m (rowsOf X) x (pairVal u 0) ≡ mem L u) e (dx .same (pairVal u 0) ∙ ap (mem L) (nowOf-pairVal n u 0 i))
@@ -108,7 +110,8 @@ module _ {n N limit : ℕ} {W : View} {t b d first : ℕ} {old : List ℕ} (p : 
   pub write-starts : (S : Scene n W t b) → Onward limit S d first → Writing n limit W W t b S d first old old first d 1
   write-starts S r = record { steps = steps-start (p .start); rest = refl; runs = r .1 }
 
-  module _ {X : View} {now : List ℕ} {s left i : ℕ} (q : (S : Scene n W t b) → Onward limit S d first → Writing n limit W X t b S d first old now s left i) where
+  module _ {X : View} {now : List ℕ}
+      {s left i : ℕ} (q : (S : Scene n W t b) → Onward limit S d first → Writing n limit W X t b S d first old now s left i) where
     abbrev at-scene : Writing n limit W X t b (p .scene) d first old now s left i
     at-scene = q (p .scene) (p .ready)
 
@@ -144,9 +147,11 @@ module _ {n N limit : ℕ} {W : View} {t b d first : ℕ} {old : List ℕ} (p : 
         next-is S r =
             let small = run-lt (2 ^ n) (S .R) (S .B) s (onward (2 ^ n) (S .R) (S .B) left s) (q S r .runs) in
             eu ∙ first-same (2 ^ n) (nextIn Y t s x) (λ u. pair (S .R) s u && mem (layerOf S (left - 1)) u)
-            (next-mem n Y (S .R) (layerOf S (left - 1)) (base-after .ready .levels-is) (keeps-denotes (steps-after S r .kept) (p .start .t-live) (S .relation)) (made S r .layer-is) s small)
+            (next-mem n Y (S .R) (layerOf S (left - 1)) (base-after .ready .levels-is)
+            (keeps-denotes (steps-after S r .kept) (p .start .t-live) (S .relation)) (made S r .layer-is) s small)
 
-        pub write-turns : (S : Scene n W t b) → Onward limit S d first → Writing n limit W Y t b S d first old (set now i u) u (left - 1) (i + 1)
+        pub write-turns : (S : Scene n W t b) → Onward limit S d first
+            → Writing n limit W Y t b S d first old (set now i u) u (left - 1) (i + 1)
         write-turns S r =
             let k = 2 ^ n in
             let z : left ≡ suc (left - 1) = omega arith in
@@ -154,17 +159,20 @@ module _ {n N limit : ℕ} {W : View} {t b d first : ℕ} {old : List ℕ} (p : 
             let e = next-is S r in
             let o : ℕ → List ℕ = λ v. onward k (S .R) (S .B) (left - 1) v in
             let w = subst (λ (m : ℕ). T (runsInto k (S .R) (S .B) s (onward k (S .R) (S .B) m s))) z (q S r .runs) in
-            let f = subst (λ (m : ℕ). putAll i (onward k (S .R) (S .B) m s) now ≡ putAll 1 (onward k (S .R) (S .B) d first) old) z (q S r .rest) in
+            let f = subst (λ (m : ℕ). putAll i (onward k (S .R) (S .B) m s) now ≡ putAll 1 (onward k (S .R) (S .B) d first) old) z
+            (q S r .rest) in
             let f1 = subst (λ (v : ℕ). putAll (suc i) (o v) (set now i v) ≡ putAll 1 (onward k (S .R) (S .B) d first) old) (sym e) f in
             record {
               steps = steps-after S r;
               rest = subst (λ (m : ℕ). putAll m (o u) (set now i u) ≡ putAll 1 (onward k (S .R) (S .B) d first) old) j f1;
-              runs = subst (λ (v : ℕ). T (runsInto k (S .R) (S .B) v (o v))) (sym e) (and-out (pair (S .R) s (towards k (S .R) (S .B) (left - 1) s)) _ (and-out (ltb s k) _ w .1) .1);
+              runs = subst (λ (v : ℕ). T (runsInto k (S .R) (S .B) v (o v))) (sym e)
+                  (and-out (pair (S .R) s (towards k (S .R) (S .B) (left - 1) s)) _ (and-out (ltb s k) _ w .1) .1);
             }
 
         pub next-small : u < 65_536
         next-small =
-            let h = run-lt (2 ^ n) (p .scene .R) (p .scene .B) u (onward (2 ^ n) (p .scene .R) (p .scene .B) (left - 1) u) (write-turns (p .scene) (p .ready) .runs) in
+            let h = run-lt (2 ^ n) (p .scene .R) (p .scene .B) u (onward (2 ^ n) (p .scene .R) (p .scene .B) (left - 1) u)
+            (write-turns (p .scene) (p .ready) .runs) in
             let m : 2 ^ n ≤ 65_536 = pow-mono (base-bits (p .start .base)) in
             omega arith
 
@@ -174,5 +182,6 @@ module _ {n N limit : ℕ} {W : View} {t b d first : ℕ} {old : List ℕ} (p : 
         let z : left ≡ 0 = omega arith in
         record {
           steps = q S r .steps;
-          list = subst (λ (m : ℕ). putAll i (onward k (S .R) (S .B) m s) now ≡ putAll 1 (onward k (S .R) (S .B) d first) old) z (q S r .rest);
+          list = subst (λ (m : ℕ). putAll i (onward k (S .R) (S .B) m s) now ≡ putAll 1 (onward k (S .R) (S .B) d first) old) z
+              (q S r .rest);
         }

@@ -60,4 +60,5 @@ pub record Finds (n limit : ℕ) (W X : View) (t b : ℕ) (S : Scene n W t b) (A
   pub told : Told (outcome n limit (S .fs) (S .R) A (S .B) (length old)) r old new
 
 abbrev pub FindPost : ℕ → ℕ → View → View → ℕ → ℕ → ℕ → List ℕ → List ℕ → Found → Type 0
-FindPost n limit W X t a b old new r = (S : Scene n W t b) (A : List Bool) → Denotes (2 * n) (rowsOf W) a (fnOf n A) → Finds n limit W X t b S A old new r
+FindPost n limit W X t a b old new r =
+    (S : Scene n W t b) (A : List Bool) → Denotes (2 * n) (rowsOf W) a (fnOf n A) → Finds n limit W X t b S A old new r

@@ -1,4 +1,5 @@
--- The run is written from its second state on: for each place the layer is made again, and the least next state in it is taken. Assumes nothing.
+-- The run is written from its second state on: for each place the layer is made again, and the least next state in it is taken.
+-- Assumes nothing.
 use mathlib.Core.Path.{_≡_}
 use mathlib.Core.Bool.{true}
 use mathlib.Core.List.{List, [], _∷_}

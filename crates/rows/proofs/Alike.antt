@@ -1,5 +1,5 @@
--- What of a table's words soundness does not depend on: remembered results, header words that are neither sizes nor roots, spare words of rows,
--- rows that are not in the list, and heads of buckets that no listed row has. Assumes nothing.
+-- What of a table's words soundness does not depend on: remembered results, header words that are neither sizes nor roots, spare words of
+-- rows, rows that are not in the list, and heads of buckets that no listed row has. Assumes nothing.
 use mathlib.Core.Path.{_≡_, ap, sym, _∙_, subst}
 use mathlib.Core.Bool.{true}
 use mathlib.Core.List.{List, [], _∷_}
@@ -68,7 +68,13 @@ module _ {W X : View} (e : Alike W X) where
 
   same : Same (rowsOf W) (rowsOf X)
   same = record {
-    forth = record { used = forth; level = λ i u. cell-is i u LEVEL (omega arith); low = λ i u. cell-is i u LOW (omega arith); high = λ i u. cell-is i u HIGH (omega arith) };
+    forth =
+        record {
+          used = forth;
+          level = λ i u. cell-is i u LEVEL (omega arith);
+          low = λ i u. cell-is i u LOW (omega arith);
+          high = λ i u. cell-is i u HIGH (omega arith);
+        };
     back = record {
       used = back;
       level = λ i u. sym (cell-is i (back i u) LEVEL (omega arith));
@@ -85,16 +91,20 @@ module _ {W X : View} (e : Alike W X) where
   key i u = rw (e .rows, cell-is i u LEVEL (omega arith), cell-is i u LOW (omega arith), cell-is i u HIGH (omega arith))
 
   head-is : (i : ℕ) → used W i ≡ true → X .head (keyOf W i) ≡ W .head (keyOf W i)
-  head-is i u = let p = place W i u in subst (λ (j : ℕ). X .head (keyOf W j) ≡ W .head (keyOf W j)) (p .there) (e .head (W .cell i RANK) (p .place))
+  head-is i u =
+      let p = place W i u in subst (λ (j : ℕ). X .head (keyOf W j) ≡ W .head (keyOf W j)) (p .there) (e .head (W .cell i RANK) (p .place))
 
   index : Index W → Index X
   index x = record {
-    nexts = λ i u. let w = back i u in rw (cell-is i w RANK (omega arith), cell-is i w NEXT (omega arith)) (down (W .cell i RANK) (W .cell i NEXT) (x .nexts i w));
+    nexts =
+        λ i u. let w = back i u in
+        rw (cell-is i w RANK (omega arith), cell-is i w NEXT (omega arith)) (down (W .cell i RANK) (W .cell i NEXT) (x .nexts i w));
     found = λ i u.
         let w = back i u in
         let f = x .found i w in
         let r : Hit X (W .cell i LEVEL) (W .cell i LOW) (W .cell i HIGH) (live (used W) (W .head (keyOf W i))) i =
-        hit-frame W X (x .nexts) (λ j v. cell-is j v LEVEL (omega arith)) (λ j v. cell-is j v LOW (omega arith)) (λ j v. cell-is j v HIGH (omega arith))
+        hit-frame W X (x .nexts) (λ j v. cell-is j v LEVEL (omega arith)) (λ j v. cell-is j v LOW (omega arith))
+        (λ j v. cell-is j v HIGH (omega arith))
         (λ j v. cell-is j v NEXT (omega arith)) f (live-link (used W) (W .head (keyOf W i))) in
         let m = live-more (used W) (used X) forth (W .head (keyOf W i)) f in
         let h : X .head (keyOf X i) ≡ W .head (keyOf W i) = ap (X .head) (key i w) ∙ head-is i w in

@@ -26,10 +26,12 @@ last : (x q t u : ℕ) → x ≡ q * 2 + t → t ≡ u → u < 2 → x % 2 ≡ u
 last x q t u e f h = omega arith
 
 or-one : (a b : ℕ) → b % 2 ≡ 1 → bitOr a b % 2 ≡ 1
-or-one a b h = last (bitOr a b) (bitOr (a / 2) (b / 2)) (max (a % 2) (b % 2)) 1 (or-step a b) (max-one (a % 2) (b % 2) (omega arith) h) (omega arith)
+or-one a b h =
+    last (bitOr a b) (bitOr (a / 2) (b / 2)) (max (a % 2) (b % 2)) 1 (or-step a b) (max-one (a % 2) (b % 2) (omega arith) h) (omega arith)
 
 or-none : (a b : ℕ) → b % 2 ≡ 0 → bitOr a b % 2 ≡ a % 2
-or-none a b h = last (bitOr a b) (bitOr (a / 2) (b / 2)) (max (a % 2) (b % 2)) (a % 2) (or-step a b) (max-none (a % 2) (b % 2) h) (omega arith)
+or-none a b h =
+    last (bitOr a b) (bitOr (a / 2) (b / 2)) (max (a % 2) (b % 2)) (a % 2) (or-step a b) (max-none (a % 2) (b % 2) h) (omega arith)
 
 -- a power of two has one bit
 power-above : (d k : ℕ) → bit (1 * 2 ^ (suc d + k)) k ≡ 0
@@ -78,6 +80,7 @@ zeros (suc n) (suc k) = zeros n k
 pub no-marks : (n i : ℕ) → On (replicate n 0) i → ⊥
 unfolding isOn
 no-marks n i o =
-    let e : bit (getD (replicate n 0) (i / 32) 0) (i % 32) ≡ 0 = ap (λ (x : ℕ). bit x (i % 32)) (zeros n (i / 32)) ∙ ap (λ (x : ℕ). x % 2) (zero-div (2 ^ (i % 32))) in
+    let e : bit (getD (replicate n 0) (i / 32) 0) (i % 32)
+    ≡ 0 = ap (λ (x : ℕ). bit x (i % 32)) (zeros n (i / 32)) ∙ ap (λ (x : ℕ). x % 2) (zero-div (2 ^ (i % 32))) in
     let f : bit (getD (replicate n 0) (i / 32) 0) (i % 32) ≡ 1 = eqb-true _ _ o in
     absurd (omega (arith, e, f))

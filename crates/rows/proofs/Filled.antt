@@ -1,7 +1,8 @@
 -- Laws of what specs/Filled.antt defines. Assumes nothing.
 use mathlib.Core.Path.{_≡_, ap, sym, _∙_, subst}
 use mathlib.Core.Logic.{_⊎_, inl, inr, ⊎-elim, by-cases}
-use mathlib.Core.List.{List, List·Memᴰ as Mem, List·Memᴰ·head as first, List·Memᴰ·tail as later, List·Memᴰ·cases-cons as mem-cases, List·Memᴰ·not-nil as mem-nil}
+use mathlib.Core.List.{List, List·Memᴰ as Mem, List·Memᴰ·head as first, List·Memᴰ·tail as later, List·Memᴰ·cases-cons as mem-cases}
+use mathlib.Core.List.{List·Memᴰ·not-nil as mem-nil}
 use Prim.Native.Nat.{ℕ, zero, suc, _+_, _≤_, _<_}
 use native.Mathlib.Omega.{arith}
 use native.Mathlib.Decide.{ℕ-discrete}
@@ -30,7 +31,8 @@ unfolding held
 mem-held W start zero a h = absurd (mem-nil h)
 mem-held W start (suc k) a h = ⊎-elim
     (λ e. record { at = start + k; from = omega arith; below = omega arith; holds = e })
-    (λ g. let x = mem-held W start k a g in record { at = x .at; from = x .from; below = let l = x .below in omega arith; holds = x .holds })
+    (λ g. let x = mem-held W start k a g in
+    record { at = x .at; from = x .from; below = let l = x .below in omega arith; holds = x .holds })
     (mem-push a (W .header (start + k)) (held W start k) h)
 
 held-mem : (W : View) (start k a : ℕ) → Held W start (start + k) a → Mem a (held W start k)

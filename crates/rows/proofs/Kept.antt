@@ -1,5 +1,5 @@
--- What lies within V stays there where the roots stay and denote what they did: in a table with more rows, and in one that kept what the roots reach.
--- Assumes nothing.
+-- What lies within V stays there where the roots stay and denote what they did: in a table with more rows, and in one that kept what the
+-- roots reach. Assumes nothing.
 use mathlib.Core.Path.{_≡_, sym, ap, _∙_, subst}
 use mathlib.Core.Logic.{_≢_}
 use mathlib.Core.List.{List, List·Memᴰ as Mem}
@@ -50,12 +50,14 @@ module _ (W X : View) (k : RootsKept W X) (n : W .header VALID ≢ 0) where
 
   module _ (b : X .header BITS ≡ W .header BITS) where
     -- rows were only added
-    pub within-extends : WellFormed (2 * W .header BITS) (W .rows) (rowsOf W) → ((h : ℕ) → VALID ≤ h → h < ROOTS-END → Ref (rowsOf W) (W .header h))
+    pub within-extends : WellFormed (2 * W .header BITS) (W .rows) (rowsOf W)
+        → ((h : ℕ) → VALID ≤ h → h < ROOTS-END → Ref (rowsOf W) (W .header h))
         → Extends (rowsOf W) (rowsOf X) → Within W (validOf W) → Within X (validOf X)
     within-extends wf r e = within-same λ h a lo hi q x.
         ap (λ (m : ℕ). den (2 * m) (rowsOf X) a x) b ∙ den-extends e wf (2 * W .header BITS) a (subst (Ref (rowsOf W)) q (r h lo hi)) x
 
     -- what some arrows reach was kept, the roots among them
-    pub within-keeps : {some : List ℕ} → ((a : ℕ) → Mem a (filled W) → Mem a some) → Keeps (rowsOf W) (rowsOf X) some → Within W (validOf W) → Within X (validOf X)
+    pub within-keeps : {some : List ℕ} → ((a : ℕ) → Mem a (filled W) → Mem a some) → Keeps (rowsOf W) (rowsOf X) some → Within W (validOf W)
+        → Within X (validOf X)
     within-keeps f e = within-same λ h a lo hi q x.
         ap (λ (m : ℕ). den (2 * m) (rowsOf X) a x) b ∙ keeps-den e (2 * W .header BITS) a (f a (root-filled W h a lo hi q)) x

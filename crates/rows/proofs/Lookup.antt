@@ -21,14 +21,17 @@ hit-stop′ : {W : View} {l lo hi p i : ℕ} → Hit W l lo hi p i → (k : ℕ)
 hit-stop′ (stop a) k e h = omega arith
 hit-stop′ {W} {l} {lo} {hi} (skip {j} n r) k e h = let q : k ≡ j = omega arith in absurd (n (subst (λ (x : ℕ). Has W x l lo hi) q h))
 
-hit-skip′ : {W : View} {l lo hi p i : ℕ} → Hit W l lo hi p i → (k : ℕ) → p ≡ suc k → (Has W k l lo hi → ⊥) → Hit W l lo hi (W .cell k NEXT) i
+hit-skip′ : {W : View} {l lo hi p i : ℕ} → Hit W l lo hi p i → (k : ℕ) → p ≡ suc k → (Has W k l lo hi → ⊥)
+    → Hit W l lo hi (W .cell k NEXT) i
 hit-skip′ {W} {l} {lo} {hi} (stop {j} a) k e h = let q : j ≡ k = omega arith in absurd (h (subst (λ (x : ℕ). Has W x l lo hi) q a))
-hit-skip′ {W} {l} {lo} {hi} {i = i} (skip {j} n r) k e h = let q : j ≡ k = omega arith in subst (λ (x : ℕ). Hit W l lo hi (W .cell x NEXT) i) q r
+hit-skip′ {W} {l} {lo} {hi} {i = i} (skip {j} n r) k e h =
+    let q : j ≡ k = omega arith in subst (λ (x : ℕ). Hit W l lo hi (W .cell x NEXT) i) q r
 
 pub hit-stop : {W : View} {l lo hi p i : ℕ} → p ≢ 0 → Has W (p - 1) l lo hi → Hit W l lo hi p i → i ≡ p - 1
 hit-stop {p = p} n h r = hit-stop′ r (p - 1) (omega arith) h
 
-pub hit-skip : {W : View} {l lo hi p i : ℕ} → p ≢ 0 → (Has W (p - 1) l lo hi → ⊥) → Hit W l lo hi p i → Hit W l lo hi (W .cell (p - 1) NEXT) i
+pub hit-skip : {W : View} {l lo hi p i : ℕ} → p ≢ 0 → (Has W (p - 1) l lo hi → ⊥) → Hit W l lo hi p i
+    → Hit W l lo hi (W .cell (p - 1) NEXT) i
 hit-skip {p = p} n h r = hit-skip′ r (p - 1) (omega arith) h
 
 pub stop-hit : (W : View) (l lo hi p i : ℕ) → p ≢ 0 → Has W (p - 1) l lo hi → i ≡ p - 1 → Hit W l lo hi p i
@@ -37,7 +40,8 @@ stop-hit W l lo hi (suc j) i n h e =
     let q : suc j - 1 ≡ j = omega arith in
     rw (e ∙ q) (stop (rw q at h))
 
-pub skip-hit : (W : View) (l lo hi p i : ℕ) → p ≢ 0 → (Has W (p - 1) l lo hi → ⊥) → Hit W l lo hi (W .cell (p - 1) NEXT) i → Hit W l lo hi p i
+pub skip-hit : (W : View) (l lo hi p i : ℕ) → p ≢ 0 → (Has W (p - 1) l lo hi → ⊥) → Hit W l lo hi (W .cell (p - 1) NEXT) i
+    → Hit W l lo hi p i
 skip-hit W l lo hi zero i n h r = absurd (n refl)
 skip-hit W l lo hi (suc j) i n h r = let q : suc j - 1 ≡ j = omega arith in skip (rw q at h) (rw q at r)
 

@@ -42,7 +42,8 @@ step {w} {size} a p h e =
     rw e s
 
 -- a call for one of them, with r for the arrow and s for the size: the measures are 2 d for the work on a row and 2 d + 1 for any arrow
-pub called : {w : View} {size x d t r s : ℕ} → MarkPre w size x → depth w x < d → 2 * d ≡ t → r ≡ x → s ≡ size → (2 * depth w r + 1 < t) × MarkPre w s r
+pub called : {w : View} {size x d t r s : ℕ} → MarkPre w size x → depth w x < d → 2 * d ≡ t → r ≡ x → s ≡ size
+    → (2 * depth w r + 1 < t) × MarkPre w s r
 called {w} {x = x} {d = d} p l e q z = let h : 2 * depth w x + 1 < 2 * d = double (depth w x) d l in rw (q, z) (rw (← e) h, p)
   where
     double : (a b : ℕ) → a < b → 2 * a + 1 < 2 * b
@@ -57,7 +58,8 @@ onArrow-le m m′ f a o = onTo-le m m′ f (target a) o
 
 -- arrows 0 and 1 mark nothing
 pub marks-constant : (rows : Rows) (m : List ℕ) (a : ℕ) → isRow a ≡ false → Marks rows m m a
-marks-constant rows m a h = record { kept = λ i o. o; has = subst (OnTo m) (sym (no-row-leads a h)) tt; only = λ i o. inl o; closed = λ c. c }
+marks-constant rows m a h =
+    record { kept = λ i o. o; has = subst (OnTo m) (sym (no-row-leads a h)) tt; only = λ i o. inl o; closed = λ c. c }
 
 -- a row that is marked marks nothing
 pub marks-again : {i : ℕ} (rows : Rows) (m : List ℕ) (a : ℕ) → isRow a ≡ true → i ≡ rowOf a → On m i → Marks rows m m a
@@ -105,7 +107,8 @@ marks-row {rows} {m₀} {m₁} {m₂} {m₃} {i = i} a h e s lo el hi eh =
     marks-row-of rows m₀ m₁ m₂ m₃ a i (row-is a h ∙ ap suc (sym e)) s (rw el at lo) (rw eh at hi)
 
 -- what a closed set of marked rows reaches is marked
-pub closed-reach : {rows : Rows} {m : List ℕ} {roots : List ℕ} → Closed rows m → ((a : ℕ) → Mem a roots → OnArrow m a) → {j : ℕ} → Reach rows roots j → On m j
+pub closed-reach : {rows : Rows} {m : List ℕ} {roots : List ℕ} → Closed rows m → ((a : ℕ) → Mem a roots → OnArrow m a) → {j : ℕ}
+    → Reach rows roots j → On m j
 closed-reach {m = m} c o (root {a = a} h e) = subst (OnTo m) e (o a h)
 closed-reach {m = m} c o (by-low {i = i} r e) = subst (OnTo m) e (c .low i (closed-reach c o r))
 closed-reach {m = m} c o (by-high {i = i} r e) = subst (OnTo m) e (c .high i (closed-reach c o r))

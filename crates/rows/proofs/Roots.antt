@@ -26,7 +26,8 @@ arrow-ref rows (suc a) h u = let e : suc a - 1 ≡ a = omega arith in rw e at u
 pub marks-none : {rows : Rows} {root : ℕ → Type 0} (m : List ℕ) → ((a : ℕ) → root a → ⊥) → MarksAll rows m m root
 marks-none m f = record { kept = λ i o. o; has = λ a r. absurd (f a r); only = λ i o. inl o; closed = λ c. c }
 
-pub marks-one : {rows : Rows} {m m′ : List ℕ} {root : ℕ → Type 0} (a : ℕ) → Marks rows m m′ a → root a → ((b : ℕ) → root b → b ≡ a) → MarksAll rows m m′ root
+pub marks-one : {rows : Rows} {m m′ : List ℕ} {root : ℕ → Type 0} (a : ℕ) → Marks rows m m′ a → root a → ((b : ℕ) → root b → b ≡ a)
+    → MarksAll rows m m′ root
 marks-one {m′ = m′} a k r f = record {
   kept = k .kept;
   has = λ b q. subst (λ (x : ℕ). OnArrow m′ x) (sym (f b q)) (k .has);
@@ -35,7 +36,8 @@ marks-one {m′ = m′} a k r f = record {
 }
 
 -- marking from the same roots, told otherwise
-pub marks-same : {rows : Rows} {m m′ : List ℕ} {r q : ℕ → Type 0} → MarksAll rows m m′ r → ((a : ℕ) → r a → q a) → ((a : ℕ) → q a → r a) → MarksAll rows m m′ q
+pub marks-same : {rows : Rows} {m m′ : List ℕ} {r q : ℕ → Type 0} → MarksAll rows m m′ r → ((a : ℕ) → r a → q a) → ((a : ℕ) → q a → r a)
+    → MarksAll rows m m′ q
 marks-same k f g = record {
   kept = k .kept;
   has = λ a x. k .has a (g a x);
@@ -49,7 +51,8 @@ pub marks-more : {rows : Rows} {m₀ m₁ m₂ : List ℕ} {r₁ r₂ r : ℕ �
 marks-more {m₁ = m₁} {m₂} p q f g h = record {
   kept = λ i o. q .kept i (p .kept i o);
   has = λ a r. ⊎-elim (λ x. onArrow-le m₁ m₂ (q .kept) a (p .has a x)) (λ y. q .has a y) (h a r);
-  only = λ i o. ⊎-elim (λ o₁. ⊎-elim (λ o₀. inl o₀) (λ x. inr (x .0, f (x .0) (x .1), x .2)) (p .only i o₁)) (λ y. inr (y .0, g (y .0) (y .1), y .2)) (q .only i o);
+  only = λ i o. ⊎-elim (λ o₁. ⊎-elim (λ o₀. inl o₀) (λ x. inr (x .0, f (x .0) (x .1), x .2)) (p .only i o₁))
+      (λ y. inr (y .0, g (y .0) (y .1), y .2)) (q .only i o);
   closed = λ c. q .closed (p .closed c);
 }
 

@@ -26,7 +26,8 @@ module _ (N c : ℕ) (rk ls : ℕ → ℕ) (i : ℕ) where
   unfolding usedAt
   used-in e = go (ltb i N) refl (ltb (rk i) c) refl (eqb (ls (rk i)) i) refl e
     where
-      go : (x : Bool) → ltb i N ≡ x → (y : Bool) → ltb (rk i) c ≡ y → (z : Bool) → eqb (ls (rk i)) i ≡ z → cond x (cond y z false) false ≡ true → InList N c rk ls i
+      go : (x : Bool) → ltb i N ≡ x → (y : Bool) → ltb (rk i) c ≡ y → (z : Bool) → eqb (ls (rk i)) i ≡ z
+          → cond x (cond y z false) false ≡ true → InList N c rk ls i
       go true p true q true r w = record { row = ltb-true i N p; place = ltb-true (rk i) c q; there = eqb-true (ls (rk i)) i r }
       go true p true q false r w = absurd (true≢false (sym w))
       go true p false q z r w = absurd (true≢false (sym w))

@@ -16,7 +16,9 @@ use Rattle.rows.specs.Within.{Within, validOf}
 
 -- "each register is empty or an arrow whose rows all have even levels", "V's rows on even levels"
 abbrev pub EvenSets : View → Type 0
-EvenSets W = (h : ℕ) → VALID ≤ h → h < FIRST-RELATION → (a : ℕ) → W .header h ≡ suc a → (i : ℕ) → Reach (rowsOf W) (a ∷ []) i → even (rowsOf W .level i) ≡ true
+EvenSets W =
+    (h : ℕ) → VALID ≤ h → h < FIRST-RELATION → (a : ℕ) → W .header h ≡ suc a → (i : ℕ) → Reach (rowsOf W) (a ∷ []) i
+    → even (rowsOf W .level i) ≡ true
 
 -- the rows are sound
 pub record Good (W : View) : Type 0 where
@@ -27,8 +29,8 @@ pub record Good (W : View) : Type 0 where
   pub layout-is : W .header LAYOUT ≡ CURRENT
   -- "a list of unused rows, if one is kept, holds those and only those, each once": ours is that of the used rows
   pub ranked : Ranked W
-  -- "row levels are under 2n, and each arrow to a row leads to a greater level", "low and high differ, and no two used rows agree in all three",
-  -- "an arrow may now carry a NOT, the high arrow of a row never does"
+  -- "row levels are under 2n, and each arrow to a row leads to a greater level", "low and high differ, and no two used rows agree in all
+  -- three", "an arrow may now carry a NOT, the high arrow of a row never does"
   pub rows : WellFormed (2 * W .header BITS) (W .rows) (rowsOf W)
   -- "the lookup index finds every used row"
   pub index : Index W

@@ -1,4 +1,5 @@
--- A table's rows read off its words: which rows are used is a sparse set (Briggs and Torczon), a list and each row's place in it. Assumes nothing.
+-- A table's rows read off its words: which rows are used is a sparse set (Briggs and Torczon), a list and each row's place in it.
+-- Assumes nothing.
 use mathlib.Core.Path.{_≡_}
 use mathlib.Core.Bool.{Bool, false, cond}
 use Prim.Native.Nat.{ℕ, _≤_, _<_}

@@ -19,5 +19,7 @@ validOf W = W .header VALID - 1
 
 -- for V that arrow v denotes: a filled register or relation has no valuation that V has not, a filled relation none that SHIFT of V has not
 pub record Within (W : View) (v : ℕ) : Type 0 where
-  pub roots : (h : ℕ) → FIRST-REGISTER ≤ h → h < ROOTS-END → (a : ℕ) → W .header h ≡ suc a → (x : Val) → denOf W a x ≡ true → denOf W v x ≡ true
-  pub shifted : (h : ℕ) → FIRST-RELATION ≤ h → h < ROOTS-END → (a : ℕ) → W .header h ≡ suc a → (x : Val) → denOf W a x ≡ true → shiftF (denOf W v) x ≡ true
+  pub roots : (h : ℕ) → FIRST-REGISTER ≤ h → h < ROOTS-END → (a : ℕ) → W .header h ≡ suc a → (x : Val) → denOf W a x ≡ true
+      → denOf W v x ≡ true
+  pub shifted : (h : ℕ) → FIRST-RELATION ≤ h → h < ROOTS-END → (a : ℕ) → W .header h ≡ suc a → (x : Val) → denOf W a x ≡ true
+      → shiftF (denOf W v) x ≡ true

@@ -43,7 +43,8 @@ module _ (W : View) where
   stays-constant high a p t = record { pre = p; same = λ s t _. refl; most = omega arith; less = λ n q. absurd (n (q ∙ level-none a t)) }
 
   -- a row's own level
-  pub follows : {i l m x : ℕ} {high : Bool} (side : Bool) (a : ℕ) → HoldsPre W a → isRow a ≡ true → i ≡ rowOf a → m ≡ levelAt W a → m ≡ l → high ≡ side
+  pub follows : {i l m x : ℕ} {high : Bool} (side : Bool) (a : ℕ) → HoldsPre W a → isRow a ≡ true → i ≡ rowOf a → m ≡ levelAt W a → m ≡ l
+      → high ≡ side
       → x ≡ follow (rowsOf W) a i side → Followed W a l high x
   follows {i} {l} side a p t e em el eh ex =
       let c = child-pre W a side p t e ex in
@@ -58,27 +59,34 @@ module _ (W : View) where
   -- ---- the steps of `apart`
 
   pub apart-first : {a : ℕ} (b : ℕ) → a ≡ 0 → Apart W a b true
-  apart-first b e _ s = ap (λ (k : ℕ). holdsAt W k s 0 && holdsAt W b s 0) e ∙ ap (λ (x : Bool). x && holdsAt W b s 0) (den-zero (2 * W .header BITS) (rowsOf W) (pairVal s 0))
+  apart-first b e _ s =
+      ap (λ (k : ℕ). holdsAt W k s 0 && holdsAt W b s 0) e
+      ∙ ap (λ (x : Bool). x && holdsAt W b s 0) (den-zero (2 * W .header BITS) (rowsOf W) (pairVal s 0))
 
   pub apart-second : (a : ℕ) {b : ℕ} → b ≡ 0 → Apart W a b true
-  apart-second a e _ s = ap (λ (k : ℕ). holdsAt W a s 0 && holdsAt W k s 0) e ∙ ap (λ (x : Bool). holdsAt W a s 0 && x) (den-zero (2 * W .header BITS) (rowsOf W) (pairVal s 0)) ∙ none (holdsAt W a s 0)
+  apart-second a e _ s =
+      ap (λ (k : ℕ). holdsAt W a s 0 && holdsAt W k s 0) e
+      ∙ ap (λ (x : Bool). holdsAt W a s 0 && x) (den-zero (2 * W .header BITS) (rowsOf W) (pairVal s 0)) ∙ none (holdsAt W a s 0)
     where
       none : (x : Bool) → (x && false) ≡ false
       none true = refl
       none false = refl
 
   -- the two levels together fall
-  pub pair-less : {l m k x y : ℕ} {high : Bool} (a b : ℕ) → l ≡ levelAt W a → m ≡ levelAt W b → OneOf l m k → k ≢ 32 → Followed W a k high x → Followed W b k high y
+  pub pair-less : {l m k x y : ℕ} {high : Bool} (a b : ℕ) → l ≡ levelAt W a → m ≡ levelAt W b → OneOf l m k → k ≢ 32 → Followed W a k high x
+      → Followed W b k high y
       → depth W x + depth W y < depth W a + depth W b
   pair-less a b el em first n f g = let p = f .less n el in let q = g .most in omega arith
   pair-less a b el em second n f g = let p = f .most in let q = g .less n em in omega arith
 
   -- so a call for what is followed is one nearer the end
-  pub pair-called : {x y d t : ℕ} → depth W x + depth W y < d → d ≡ t → HoldsPre W x → HoldsPre W y → (depth W x + depth W y < t) × (HoldsPre W x × HoldsPre W y)
+  pub pair-called : {x y d t : ℕ} → depth W x + depth W y < d → d ≡ t → HoldsPre W x → HoldsPre W y
+      → (depth W x + depth W y < t) × (HoldsPre W x × HoldsPre W y)
   pair-called l e p q = (omega arith, (p, q))
 
   -- both halves share no state
-  pub apart-both : {l x y z w : ℕ} {p r : Bool} (a b : ℕ) → Followed W a l false x → Followed W b l false y → Followed W a l true z → Followed W b l true w
+  pub apart-both : {l x y z w : ℕ} {p r : Bool} (a b : ℕ) → Followed W a l false x → Followed W b l false y → Followed W a l true z
+      → Followed W b l true w
       → Apart W x y p → not p ≡ false → Apart W z w r → Apart W a b r
   apart-both {l} {x} {y} {z} {w} {p} {r} a b fx fy fz fw low e high t s = go (pairVal s 0 l) refl
     where
@@ -87,8 +95,12 @@ module _ (W : View) where
       yes-low false h = absurd (true≢false h)
 
       go : (v : Bool) → pairVal s 0 l ≡ v → inBoth W a b s ≡ false
-      go true h = ap (λ (u : Bool). u && holdsAt W b s 0) (sym (fz .same s 0 h)) ∙ ap (λ (u : Bool). holdsAt W z s 0 && u) (sym (fw .same s 0 h)) ∙ high t s
-      go false h = ap (λ (u : Bool). u && holdsAt W b s 0) (sym (fx .same s 0 h)) ∙ ap (λ (u : Bool). holdsAt W x s 0 && u) (sym (fy .same s 0 h)) ∙ low (yes-low p e) s
+      go true h =
+          ap (λ (u : Bool). u && holdsAt W b s 0) (sym (fz .same s 0 h)) ∙ ap (λ (u : Bool). holdsAt W z s 0 && u) (sym (fw .same s 0 h))
+          ∙ high t s
+      go false h =
+          ap (λ (u : Bool). u && holdsAt W b s 0) (sym (fx .same s 0 h)) ∙ ap (λ (u : Bool). holdsAt W x s 0 && u) (sym (fy .same s 0 h))
+          ∙ low (yes-low p e) s
 
   -- so the search ends before it begins
   pub apart-none : {k states : ℕ} {r : Bool} (a b : ℕ) → states ≡ k → Apart W a b r → r ≡ true → states ≡ firstOf k (inBoth W a b)

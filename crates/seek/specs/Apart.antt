@@ -1,4 +1,5 @@
--- Two sets that share no state, found by a walk over pairs of arrows: each step follows both at the lesser of their levels. Assumes nothing.
+-- Two sets that share no state, found by a walk over pairs of arrows: each step follows both at the lesser of their levels.
+-- Assumes nothing.
 use mathlib.Core.Path.{_≡_}
 use mathlib.Core.Logic.{_≢_}
 use mathlib.Core.Bool.{Bool, true, false, cond}

@@ -21,7 +21,8 @@ upd-kept v l b e = fun-ext λ k. by-cases (ℕ-discrete k l)
     (λ n. upd-other v l b k n)
 
 module _ {m N : ℕ} {rows : Rows} (wf : WellFormed m N rows) where
-  past-same : (s l a : ℕ) → Arrow rows a → l < levelOf m rows a + s → (v : Val) (b : Bool) → den m rows a (lift s (upd v l b)) ≡ den m rows a (lift s v)
+  past-same : (s l a : ℕ) → Arrow rows a → l < levelOf m rows a + s → (v : Val) (b : Bool)
+      → den m rows a (lift s (upd v l b)) ≡ den m rows a (lift s v)
   past-same s l a u h v b = den-reads wf m a u (lift s (upd v l b)) (lift s v) (λ k lo hi. upd-other v l b (k + s) (λ e. omega arith))
 
   -- an arrow past the level is its own halves
@@ -69,13 +70,15 @@ module _ {m N : ℕ} {rows : Rows} (wf : WellFormed m N rows) where
   one-right {s} {a} {b} u n e p =
       let d = differ wf a 0 u tt n in
       let w : Val = d .at in
-      p .none w (not-false _ (λ q. d .apart (q ∙ sym (den-zero m rows w)))) (ap (λ (x : ℕ). den m rows x (lift s w)) e ∙ den-one m rows (lift s w))
+      p .none w (not-false _ (λ q. d .apart (q ∙ sym (den-zero m rows w))))
+      (ap (λ (x : ℕ). den m rows x (lift s w)) e ∙ den-one m rows (lift s w))
 
 pub zero-left : {s a b : ℕ} (m : ℕ) (rows : Rows) → a ≡ 0 → Apart m rows s a b
 zero-left m rows e = record { none = λ v p q. true≢false (sym p ∙ ap (λ (x : ℕ). den m rows x v) e ∙ den-zero m rows v) }
 
 pub zero-right : {s a b : ℕ} (m : ℕ) (rows : Rows) → b ≡ 0 → Apart m rows s a b
-zero-right {s} m rows e = record { none = λ v p q. true≢false (sym q ∙ ap (λ (x : ℕ). den m rows x (lift s v)) e ∙ den-zero m rows (lift s v)) }
+zero-right {s} m rows e =
+    record { none = λ v p q. true≢false (sym q ∙ ap (λ (x : ℕ). den m rows x (lift s v)) e ∙ den-zero m rows (lift s v)) }
 
 -- an arrow and its NOT, of the same levels
 pub apart-not : {s a b : ℕ} (m : ℕ) (rows : Rows) → s ≡ 0 → a ≡ flip b → Apart m rows s a b
@@ -91,10 +94,12 @@ module _ {m : ℕ} {rows : Rows} {s l a a0 a1 b b0 b1 : ℕ} (x : Half m rows 0 
   plain a v = ap (den m rows a) (lift-none v)
 
   pub apart-low : Apart m rows s a b → Apart m rows s a0 b0
-  apart-low p = record { none = λ v g h. p .none (upd v l false) (sym (plain a (upd v l false)) ∙ x .low-is v ∙ plain a0 v ∙ g) (y .low-is v ∙ h) }
+  apart-low p =
+      record { none = λ v g h. p .none (upd v l false) (sym (plain a (upd v l false)) ∙ x .low-is v ∙ plain a0 v ∙ g) (y .low-is v ∙ h) }
 
   pub apart-high : Apart m rows s a b → Apart m rows s a1 b1
-  apart-high p = record { none = λ v g h. p .none (upd v l true) (sym (plain a (upd v l true)) ∙ x .high-is v ∙ plain a1 v ∙ g) (y .high-is v ∙ h) }
+  apart-high p =
+      record { none = λ v g h. p .none (upd v l true) (sym (plain a (upd v l true)) ∙ x .high-is v ∙ plain a1 v ∙ g) (y .high-is v ∙ h) }
 
   pub apart-both : Apart m rows s a0 b0 → Apart m rows s a1 b1 → Apart m rows s a b
   apart-both p q = record { none = λ v g h. by v g h (v l) refl }

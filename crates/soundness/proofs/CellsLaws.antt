@@ -18,7 +18,8 @@ use Rattle.rows.proofs.Says.{says-map}
 use Rattle.soundness.specs.Apart.{lift, Apart, Half}
 use Rattle.soundness.proofs.ApartLaws.{lift-none, upd-kept}
 use Rattle.soundness.specs.Masks.{has, lowMask, highMask, swapped, bitOf}
-use Rattle.soundness.proofs.Masks.{has-and, has-or, has-swapped-low, has-swapped-high, low-mask, high-mask, low-mask-past, high-mask-past, NOTHING-CELLS, ALL-CELLS, nothing-low, nothing-high, all-low, all-high}
+use Rattle.soundness.proofs.Masks.{has-and, has-or, has-swapped-low, has-swapped-high, low-mask, high-mask, low-mask-past}
+use Rattle.soundness.proofs.Masks.{high-mask-past, NOTHING-CELLS, ALL-CELLS, nothing-low, nothing-high, all-low, all-high}
 use Rattle.soundness.specs.Cells.{InCell, Classed, Meets, Shown, Tabled, joined, Disjoint}
 
 -- some valuation of a cell, and the cell of a valuation
@@ -53,7 +54,8 @@ cell-of base s v =
     let p = four (v (base + 2 * 0 + s)) (v (base + 2 * 1 + s)) (v (base + 2 * 2 + s)) (v (base + 2 * 3 + s)) in
     record { number = p .0; small = p .1; is = record { at = at (p .0) (p .2) (p .3) (p .4) (p .5) } }
   where
-    at : (c : ℕ) → has c 0 ≡ v (base + 2 * 0 + s) → has c 1 ≡ v (base + 2 * 1 + s) → has c 2 ≡ v (base + 2 * 2 + s) → has c 3 ≡ v (base + 2 * 3 + s)
+    at : (c : ℕ) → has c 0 ≡ v (base + 2 * 0 + s) → has c 1 ≡ v (base + 2 * 1 + s) → has c 2 ≡ v (base + 2 * 2 + s)
+        → has c 3 ≡ v (base + 2 * 3 + s)
         → (q : ℕ) → q < 4 → v (base + 2 * q + s) ≡ has c q
     at c a b d e zero h = sym a
     at c a b d e (suc zero) h = sym b
@@ -86,7 +88,8 @@ not-yes true e = absurd (true≢false (sym e))
 not-yes false e = refl
 
 -- a cell's valuation with one level changed that is not tested, or has the value of the cell
-in-upd : {base s c l : ℕ} {v : Val} (b : Bool) → InCell base s c v → ((q : ℕ) → q < 4 → base + 2 * q + s ≡ l → b ≡ has c q) → InCell base s c (upd v l b)
+in-upd : {base s c l : ℕ} {v : Val} (b : Bool) → InCell base s c v → ((q : ℕ) → q < 4 → base + 2 * q + s ≡ l → b ≡ has c q)
+    → InCell base s c (upd v l b)
 in-upd {base} {s} {c} {l} {v} b i f = record {
   at = λ q h. by-cases (ℕ-discrete (base + 2 * q + s) l)
       (λ e. subst (λ (x : ℕ). upd v l b x ≡ has c q) (sym e) (upd-same v l b ∙ f q h e))
@@ -115,17 +118,22 @@ module _ {m : ℕ} {rows : Rows} {base s : ℕ} where
         (λ g. let w = z .here g in (g, omega arith))
         (λ g. absurd (z .past (omega arith) q h (sym e)))
 
-    meets-low : {c : ℕ} (side : Bool) → c < 16 → has (lowMask k) (bitOf side c) ≡ true → Meets m rows base s t lo c → Meets m rows base s t a c
+    meets-low : {c : ℕ} (side : Bool) → c < 16 → has (lowMask k) (bitOf side c) ≡ true → Meets m rows base s t lo c
+        → Meets m rows base s t a c
     meets-low {c} side h g p = record {
       val = upd (p .val) l false;
-      cell = in-upd false (p .cell) (λ q j e. let n = number q j e in sym (not-yes (has c q) (subst (λ (y : ℕ). not (has c y) ≡ true) (n .1) (sym (low-mask k side (n .0) c h) ∙ g))));
+      cell = in-upd false (p .cell)
+          (λ q j e. let n = number q j e in
+          sym (not-yes (has c q) (subst (λ (y : ℕ). not (has c y) ≡ true) (n .1) (sym (low-mask k side (n .0) c h) ∙ g))));
       on = x .low-is (p .val) ∙ p .on;
     }
 
-    meets-high : {c : ℕ} (side : Bool) → c < 16 → has (highMask k) (bitOf side c) ≡ true → Meets m rows base s t hi c → Meets m rows base s t a c
+    meets-high : {c : ℕ} (side : Bool) → c < 16 → has (highMask k) (bitOf side c) ≡ true → Meets m rows base s t hi c
+        → Meets m rows base s t a c
     meets-high {c} side h g p = record {
       val = upd (p .val) l true;
-      cell = in-upd true (p .cell) (λ q j e. let n = number q j e in sym (subst (λ (y : ℕ). has c y ≡ true) (n .1) (sym (high-mask k side (n .0) c h) ∙ g)));
+      cell = in-upd true (p .cell)
+          (λ q j e. let n = number q j e in sym (subst (λ (y : ℕ). has c y ≡ true) (n .1) (sym (high-mask k side (n .0) c h) ∙ g)));
       on = x .high-is (p .val) ∙ p .on;
     }
 
@@ -140,10 +148,13 @@ module _ {m : ℕ} {rows : Rows} {base s : ℕ} where
         (λ g. high-mask-past k side (omega arith) c h)
 
     meets-split : {c : ℕ} (side : Bool) → c < 16 → Meets m rows base s t a c
-        → ((has (lowMask k) (bitOf side c) ≡ true) × Meets m rows base s t lo c) ⊎ ((has (highMask k) (bitOf side c) ≡ true) × Meets m rows base s t hi c)
+        → ((has (lowMask k) (bitOf side c) ≡ true) × Meets m rows base s t lo c)
+        ⊎ ((has (highMask k) (bitOf side c) ≡ true) × Meets m rows base s t hi c)
     meets-split {c} side h p = by (p .val l) refl
       where
-        by : (b : Bool) → p .val l ≡ b → ((has (lowMask k) (bitOf side c) ≡ true) × Meets m rows base s t lo c) ⊎ ((has (highMask k) (bitOf side c) ≡ true) × Meets m rows base s t hi c)
+        by : (b : Bool) → p .val l ≡ b
+            → ((has (lowMask k) (bitOf side c) ≡ true) × Meets m rows base s t lo c)
+            ⊎ ((has (highMask k) (bitOf side c) ≡ true) × Meets m rows base s t hi c)
         by false e = inl (
           mask-low-at side h (p .cell) e,
           record {
@@ -161,34 +172,54 @@ module _ {m : ℕ} {rows : Rows} {base s : ℕ} where
           },
         )
 
-    shown-join : {w0 w1 : ℕ} (side : Bool) → Shown m rows base s t lo w0 side → Shown m rows base s t hi w1 side → Shown m rows base s t a (joined k w0 w1) side
+    shown-join : {w0 w1 : ℕ} (side : Bool) → Shown m rows base s t lo w0 side → Shown m rows base s t hi w1 side
+        → Shown m rows base s t a (joined k w0 w1) side
     shown-join {w0} {w1} side p q = record {
       yes = λ c h e. ⊎-elim
-          (λ f. let g = and-true (has w0 (bitOf side c)) (has (lowMask k) (bitOf side c)) (sym (has-and w0 (lowMask k) (bitOf side c)) ∙ f) in meets-low side h (g .1) (p .yes c h (g .0)))
-          (λ f. let g = and-true (has w1 (bitOf side c)) (has (highMask k) (bitOf side c)) (sym (has-and w1 (highMask k) (bitOf side c)) ∙ f) in meets-high side h (g .1) (q .yes c h (g .0)))
-          (or-cases (has (bitAnd w0 (lowMask k)) (bitOf side c)) (has (bitAnd w1 (highMask k)) (bitOf side c)) (sym (has-or (bitAnd w0 (lowMask k)) (bitAnd w1 (highMask k)) (bitOf side c)) ∙ e));
+          (λ f. let g = and-true (has w0 (bitOf side c)) (has (lowMask k) (bitOf side c))
+          (sym (has-and w0 (lowMask k) (bitOf side c)) ∙ f) in meets-low side h (g .1) (p .yes c h (g .0)))
+          (λ f. let g = and-true (has w1 (bitOf side c)) (has (highMask k) (bitOf side c))
+          (sym (has-and w1 (highMask k) (bitOf side c)) ∙ f) in meets-high side h (g .1) (q .yes c h (g .0)))
+          (or-cases (has (bitAnd w0 (lowMask k)) (bitOf side c)) (has (bitAnd w1 (highMask k)) (bitOf side c))
+          (sym (has-or (bitAnd w0 (lowMask k)) (bitAnd w1 (highMask k)) (bitOf side c)) ∙ e));
       no = λ c h o. has-or (bitAnd w0 (lowMask k)) (bitAnd w1 (highMask k)) (bitOf side c) ∙ ⊎-elim
-          (λ f. or-left (has (bitAnd w0 (lowMask k)) (bitOf side c)) _ (has-and w0 (lowMask k) (bitOf side c) ∙ both (has w0 (bitOf side c)) _ (p .no c h (f .1)) (f .0)))
-          (λ f. or-right (has (bitAnd w0 (lowMask k)) (bitOf side c)) _ (has-and w1 (highMask k) (bitOf side c) ∙ both (has w1 (bitOf side c)) _ (q .no c h (f .1)) (f .0)))
+          (λ f. or-left (has (bitAnd w0 (lowMask k)) (bitOf side c)) _
+          (has-and w0 (lowMask k) (bitOf side c) ∙ both (has w0 (bitOf side c)) _ (p .no c h (f .1)) (f .0)))
+          (λ f. or-right (has (bitAnd w0 (lowMask k)) (bitOf side c)) _
+          (has-and w1 (highMask k) (bitOf side c) ∙ both (has w1 (bitOf side c)) _ (q .no c h (f .1)) (f .0)))
           (meets-split side h o);
     }
 
   -- the tables of halves make that of the arrow
-  pub tabled-join : {t l k a lo hi w0 w1 : ℕ} → Half m rows t l a lo hi → Classed base s l k → Tabled m rows base s t lo w0 → Tabled m rows base s t hi w1
+  pub tabled-join : {t l k a lo hi w0 w1 : ℕ} → Half m rows t l a lo hi → Classed base s l k → Tabled m rows base s t lo w0
+      → Tabled m rows base s t hi w1
       → Tabled m rows base s t a (joined k w0 w1)
-  tabled-join x z p q = record { plain = shown-join x z false (p .plain) (q .plain); turned = shown-join (half-flip x) z true (p .turned) (q .turned) }
+  tabled-join x z p q =
+      record { plain = shown-join x z false (p .plain) (q .plain); turned = shown-join (half-flip x) z true (p .turned) (q .turned) }
 
   -- NOT of an arrow has the halves of its table exchanged
   pub tabled-flip : {t a w : ℕ} → Tabled m rows base s t a w → Tabled m rows base s t (flip a) (swapped w)
   tabled-flip {t} {a} {w} p = record {
-    plain = record { yes = λ c h e. p .turned .yes c h (sym (has-swapped-low w c h) ∙ e); no = λ c h o. has-swapped-low w c h ∙ p .turned .no c h o };
+    plain =
+        record {
+          yes = λ c h e. p .turned .yes c h (sym (has-swapped-low w c h) ∙ e);
+          no = λ c h o. has-swapped-low w c h ∙ p .turned .no c h o;
+        };
     turned = subst (λ (x : ℕ). Shown m rows base s t x (swapped w) true) (sym (flip-back a))
-        (record { yes = λ c h e. p .plain .yes c h (sym (has-swapped-high w c h) ∙ e); no = λ c h o. has-swapped-high w c h ∙ p .plain .no c h o });
+        (record {
+          yes = λ c h e. p .plain .yes c h (sym (has-swapped-high w c h) ∙ e);
+          no = λ c h o. has-swapped-high w c h ∙ p .plain .no c h o;
+        });
   }
 
   -- nothing and everything
   meets-one : {t : ℕ} (c : ℕ) → Meets m rows base s t 1 c
-  meets-one {t} c = record { val = (λ l. has c ((l - (base + s)) / 2)); cell = some-in base s c; on = den-one m rows (lift t (λ l. has c ((l - (base + s)) / 2))) }
+  meets-one {t} c =
+      record {
+        val = (λ l. has c ((l - (base + s)) / 2));
+        cell = some-in base s c;
+        on = den-one m rows (lift t (λ l. has c ((l - (base + s)) / 2)));
+      }
 
   meets-zero : {t c : ℕ} → Meets m rows base s t 0 c → ⊥
   meets-zero {t} p = true≢false (sym (p .on) ∙ den-zero m rows (lift t (p .val)))
@@ -234,14 +265,17 @@ module _ {m N : ℕ} {rows : Rows} (wf : WellFormed m N rows) (base s : ℕ) (eb
         pick l false e lo hi = refl
 
     -- so it is apart from another exactly where their tables are
-    pub tables-tell : {a x y : ℕ} {k : Bool} → Tabled m rows base s 0 a x → Tabled m rows base s s b y → Says (Disjoint x y) k → Says (Apart m rows s a b) k
+    pub tables-tell : {a x y : ℕ} {k : Bool} → Tabled m rows base s 0 a x → Tabled m rows base s s b y → Says (Disjoint x y) k
+        → Says (Apart m rows s a b) k
     tables-tell {a} p q = says-map
         (λ d. record {
           none = λ v g h. let c = cell-of base s v in
-              d (c .number) (c .small) (p .plain .no (c .number) (c .small) (record { val = v; cell = c .is; on = ap (den m rows a) (lift-none v) ∙ g }))
+              d (c .number) (c .small)
+              (p .plain .no (c .number) (c .small) (record { val = v; cell = c .is; on = ap (den m rows a) (lift-none v) ∙ g }))
               (q .plain .no (c .number) (c .small) (record { val = v; cell = c .is; on = h }));
         })
         (λ f c h e g.
         let i = p .plain .yes c h e in
         let j = q .plain .yes c h g in
-        f .none (i .val) (sym (ap (den m rows a) (lift-none (i .val))) ∙ i .on) (cell-tells c (i .val) (j .val) (i .cell) (j .cell) ∙ j .on))
+        f .none (i .val) (sym (ap (den m rows a) (lift-none (i .val))) ∙ i .on)
+        (cell-tells c (i .val) (j .val) (i .cell) (j .cell) ∙ j .on))

@@ -49,7 +49,8 @@ module _ {W : View} {n : ℕ} (c : Ready W n) where
   hit-met : {l lo hi p i : ℕ} → Hit W l lo hi p i → Link (used W) p → Passes (below W) 0 (height W p) (suc (W .cell i RANK))
   hit-met (stop a) u = here
   hit-met {i = i} (skip {j} a r) u =
-      on {r = W .cell j RANK} (omega arith) (subst (λ (q : ℕ). Passes (below W) 0 q (suc (W .cell i RANK))) (sym (step-is j u)) (hit-met r (next-link j u)))
+      on {r = W .cell j RANK} (omega arith)
+      (subst (λ (q : ℕ). Passes (below W) 0 q (suc (W .cell i RANK))) (sym (step-is j u)) (hit-met r (next-link j u)))
 
   -- where no two rows are equal, a walk that meets row i finds it
   module _ (d : AllDiffer W n) (i : ℕ) (ui : used W i ≡ true) where

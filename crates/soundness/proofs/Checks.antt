@@ -18,10 +18,12 @@ use Rattle.soundness.specs.Checks.{LeadsTo, Leads, Finds, Links}
 pub leads-constant : (W : View) (above a : ℕ) → isRow a ≡ false → Leads W above a
 leads-constant W above a h = subst (LeadsTo W above) (sym (no-row-leads a h)) tt
 
-pub leads-of : {i : ℕ} (W : View) (above a : ℕ) → isRow a ≡ true → i ≡ rowOf a → (used W i ≡ true) × (above < W .cell i LEVEL) → Leads W above a
+pub leads-of : {i : ℕ} (W : View) (above a : ℕ) → isRow a ≡ true → i ≡ rowOf a → (used W i ≡ true) × (above < W .cell i LEVEL)
+    → Leads W above a
 leads-of W above a h e p = subst (LeadsTo W above) (sym (row-is a h)) (rw e at p)
 
-pub of-leads : {i : ℕ} (W : View) (above a : ℕ) → isRow a ≡ true → i ≡ rowOf a → Leads W above a → (used W i ≡ true) × (above < W .cell i LEVEL)
+pub of-leads : {i : ℕ} (W : View) (above a : ℕ) → isRow a ≡ true → i ≡ rowOf a → Leads W above a
+    → (used W i ≡ true) × (above < W .cell i LEVEL)
 of-leads W above a h e p = rw e (subst (LeadsTo W above) (row-is a h) p)
 
 -- a link that is not 0

@@ -39,7 +39,8 @@ use Rattle.soundness.specs.Tables.{PLACES, Known, TablePre, TablePost}
 use Rattle.soundness.proofs.TablesLaws.{known-none}
 use Rattle.soundness.specs.Pairs.{Puts}
 use Rattle.soundness.proofs.PairsLaws.{right-puts}
-use Rattle.soundness.specs.Contained.{AllApart, Clear, RefApart, Lists, Asks, Against, ApartPre, Tells, Deep, TablesPre, TablesPost, Halved, Split}
+use Rattle.soundness.specs.Contained.{AllApart, Clear, RefApart, Lists, Asks, Against, ApartPre, Tells, Deep, TablesPre, TablesPost}
+use Rattle.soundness.specs.Contained.{Halved, Split}
 
 -- how many parts a part is made of, beside itself
 abbrev pub among : Pass → ℕ
@@ -75,7 +76,8 @@ pub is-row : (a : ℕ) → a ≢ 0 → a ≢ 1 → isRow a ≡ true
 is-row a n k = row-yes a (omega arith)
 
 -- halves as `halve` gives them
-module _ {W : View} (f : Good W) {s l a own other lo hi : ℕ} (r : RowAt W a) (u : Arrow (rowsOf W) a) (e : own ≡ W .cell (rowOf a) LEVEL + s)
+module _ {W : View} (f : Good W) {s l a own other lo hi : ℕ} (r : RowAt W a) (u : Arrow (rowsOf W) a)
+    (e : own ≡ W .cell (rowOf a) LEVEL + s)
     (h : Halved (rowsOf W) a own other lo hi) (q : l ≡ min own other) where
   pub half-of : Half (2 * W .header BITS) (rowsOf W) s l a lo hi
   half-of = by-cases (decLt other own)
@@ -99,7 +101,8 @@ split-of {W} {s} {a} {b} {la} {lb} f ra ua rb ub ea eb ha hb =
     }
 
 -- the halves' lesser level is nearer to the last
-pub split-less : {W : View} {s a b a0 b0 a1 b1 : ℕ} → Split W s a b a0 b0 a1 b1 → (far W s a0 b0 < far W s a b) × (far W s a1 b1 < far W s a b)
+pub split-less : {W : View} {s a b a0 b0 a1 b1 : ℕ} → Split W s a b a0 b0 a1 b1
+    → (far W s a0 b0 < far W s a b) × (far W s a1 b1 < far W s a b)
 split-less p =
     let e = p .lesser in
     let z = p .shallow in
@@ -112,16 +115,31 @@ split-less p =
 module _ {W : View} {s base a b a0 b0 a1 b1 : ℕ} (p : Split W s a b a0 b0 a1 b1) where
   pub tells-low : {r : Bool} {k xs ys : List ℕ} → not r ≡ true → Tells W s base k xs ys (Apart (2 * W .header BITS) (rowsOf W) s a0 b0) r
       → Tells W s base k xs ys (Apart (2 * W .header BITS) (rowsOf W) s a b) false
-  tells-low e t = record { says = fails (λ x. says-fail e (t .says) (apart-low (p .of-left) (p .of-second) x)); right = t .right; first = t .first; second = t .second }
+  tells-low e t =
+      record {
+        says = fails (λ x. says-fail e (t .says) (apart-low (p .of-left) (p .of-second) x));
+        right = t .right;
+        first = t .first;
+        second = t .second;
+      }
 
   pub tells-high : {r : Bool} {k xs ys : List ℕ} → not r ≡ true → Tells W s base k xs ys (Apart (2 * W .header BITS) (rowsOf W) s a1 b1) r
       → Tells W s base k xs ys (Apart (2 * W .header BITS) (rowsOf W) s a b) false
-  tells-high e t = record { says = fails (λ x. says-fail e (t .says) (apart-high (p .of-left) (p .of-second) x)); right = t .right; first = t .first; second = t .second }
+  tells-high e t =
+      record {
+        says = fails (λ x. says-fail e (t .says) (apart-high (p .of-left) (p .of-second) x));
+        right = t .right;
+        first = t .first;
+        second = t .second;
+      }
 
-  pub tells-both : {r r1 : Bool} {k k1 k2 xs ys xs1 ys1 : List ℕ} → not r ≡ false → not r1 ≡ false → Tells W s base k xs ys (Apart (2 * W .header BITS) (rowsOf W) s a0 b0) r
-      → Tells W s base k1 xs1 ys1 (Apart (2 * W .header BITS) (rowsOf W) s a1 b1) r1 → Puts k1 k2 a b → Tells W s base k2 xs1 ys1 (Apart (2 * W .header BITS) (rowsOf W) s a b) true
+  pub tells-both : {r r1 : Bool} {k k1 k2 xs ys xs1 ys1 : List ℕ} → not r ≡ false → not r1 ≡ false
+      → Tells W s base k xs ys (Apart (2 * W .header BITS) (rowsOf W) s a0 b0) r
+      → Tells W s base k1 xs1 ys1 (Apart (2 * W .header BITS) (rowsOf W) s a1 b1) r1 → Puts k1 k2 a b
+      → Tells W s base k2 xs1 ys1 (Apart (2 * W .header BITS) (rowsOf W) s a b) true
   tells-both e e1 t t1 u =
-      let x : Apart (2 * W .header BITS) (rowsOf W) s a b = apart-both (p .of-left) (p .of-second) (says-pass e (t .says)) (says-pass e1 (t1 .says)) in
+      let x : Apart (2 * W .header BITS) (rowsOf W) s a b = apart-both (p .of-left) (p .of-second) (says-pass e (t .says))
+      (says-pass e1 (t1 .says)) in
       record { says = holds x; right = right-puts (t1 .right) x u; first = t1 .first; second = t1 .second }
 
 -- a half of a set of states reads even levels too
@@ -134,30 +152,47 @@ module _ {m s l b b0 b1 : ℕ} {rows : Rows} (x : Half m rows s l b b0 b1) (r : 
 
   put-same : (c : Bool) (v w : Val) → ((k : ℕ) → even k ≡ true → v k ≡ w k) → (k : ℕ) → even k ≡ true → put c v k ≡ put c w k
   put-same c v w h k e = by-cases (ℕ-discrete (k + s) l)
-      (λ q. subst (λ (j : ℕ). upd (λ i. v (i - s)) l c j ≡ upd (λ i. w (i - s)) l c j) (sym q) (upd-same (λ i. v (i - s)) l c ∙ sym (upd-same (λ i. w (i - s)) l c)))
+      (λ q. subst (λ (j : ℕ). upd (λ i. v (i - s)) l c j ≡ upd (λ i. w (i - s)) l c j) (sym q)
+      (upd-same (λ i. v (i - s)) l c ∙ sym (upd-same (λ i. w (i - s)) l c)))
       (λ n. let z : (k + s) - s ≡ k = omega arith in
       upd-other (λ i. v (i - s)) l c (k + s) n ∙ ap v z ∙ h k e ∙ ap w (sym z) ∙ sym (upd-other (λ i. w (i - s)) l c (k + s) n))
 
   low-reads : ReadsOn even (den m rows b0)
   low-reads v w h =
-      ap (den m rows b0) (sym (back v)) ∙ sym (x .low-is (λ k. v (k - s))) ∙ r (put false v) (put false w) (put-same false v w h) ∙ x .low-is (λ k. w (k - s)) ∙ ap (den m rows b0) (back w)
+      ap (den m rows b0) (sym (back v)) ∙ sym (x .low-is (λ k. v (k - s))) ∙ r (put false v) (put false w) (put-same false v w h)
+      ∙ x .low-is (λ k. w (k - s)) ∙ ap (den m rows b0) (back w)
 
   high-reads : ReadsOn even (den m rows b1)
   high-reads v w h =
-      ap (den m rows b1) (sym (back v)) ∙ sym (x .high-is (λ k. v (k - s))) ∙ r (put true v) (put true w) (put-same true v w h) ∙ x .high-is (λ k. w (k - s)) ∙ ap (den m rows b1) (back w)
+      ap (den m rows b1) (sym (back v)) ∙ sym (x .high-is (λ k. v (k - s))) ∙ r (put true v) (put true w) (put-same true v w h)
+      ∙ x .high-is (λ k. w (k - s)) ∙ ap (den m rows b1) (back w)
 
 -- the calls for the halves
-pub called-low : {W : View} {s base a b a0 b0 a1 b1 t : ℕ} {memo xs ys : List ℕ} → Split W s a b a0 b0 a1 b1 → Against W b → Asks W s base memo xs ys → far W s a b ≡ t
+pub called-low : {W : View} {s base a b a0 b0 a1 b1 t : ℕ} {memo xs ys : List ℕ} → Split W s a b a0 b0 a1 b1 → Against W b
+    → Asks W s base memo xs ys → far W s a b ≡ t
     → (far W s a0 b0 < t) × ApartPre W s base a0 b0 memo xs ys
 called-low p g k e =
-    let l = split-less p in
-    (rw (← e) (l .0), record { asks = k; left = p .of-left .low-arrow; against = record { arrow = p .of-second .low-arrow; reads = low-reads (p .of-second) (g .reads) } })
+    let l = split-less p in (
+      rw (← e) (l .0),
+      record {
+        asks = k;
+        left = p .of-left .low-arrow;
+        against = record { arrow = p .of-second .low-arrow; reads = low-reads (p .of-second) (g .reads) };
+      },
+    )
 
-pub called-high : {W : View} {s base a b a0 b0 a1 b1 t : ℕ} {memo xs ys : List ℕ} → Split W s a b a0 b0 a1 b1 → Against W b → Asks W s base memo xs ys → far W s a b ≡ t
+pub called-high : {W : View} {s base a b a0 b0 a1 b1 t : ℕ} {memo xs ys : List ℕ} → Split W s a b a0 b0 a1 b1 → Against W b
+    → Asks W s base memo xs ys → far W s a b ≡ t
     → (far W s a1 b1 < t) × ApartPre W s base a1 b1 memo xs ys
 called-high p g k e =
-    let l = split-less p in
-    (rw (← e) (l .1), record { asks = k; left = p .of-left .high-arrow; against = record { arrow = p .of-second .high-arrow; reads = high-reads (p .of-second) (g .reads) } })
+    let l = split-less p in (
+      rw (← e) (l .1),
+      record {
+        asks = k;
+        left = p .of-left .high-arrow;
+        against = record { arrow = p .of-second .high-arrow; reads = high-reads (p .of-second) (g .reads) };
+      },
+    )
 
 -- lists of the same lengths with right tables
 pub lists-on : {W : View} {s base : ℕ} {xs ys xs′ ys′ : List ℕ} → Lists W s base xs ys → length xs′ ≡ length xs → length ys′ ≡ length ys
@@ -171,20 +206,31 @@ lists-on l ex ey f g = record {
   second = g;
 }
 
-pub asks-on : {W : View} {s base : ℕ} {memo memo′ xs ys xs′ ys′ : List ℕ} {P : Type 0} {r : Bool} → Asks W s base memo xs ys → length memo′ ≡ length memo → length xs′ ≡ length xs
+pub asks-on : {W : View} {s base : ℕ} {memo memo′ xs ys xs′ ys′ : List ℕ} {P : Type 0} {r : Bool} → Asks W s base memo xs ys
+    → length memo′ ≡ length memo → length xs′ ≡ length xs
     → length ys′ ≡ length ys → Tells W s base memo′ xs′ ys′ P r → Asks W s base memo′ xs′ ys′
-asks-on k e ex ey t = record { good = k .good; shift = k .shift; size = e ∙ k .size; right = t .right; lists = lists-on (k .lists) ex ey (t .first) (t .second) }
+asks-on k e ex ey t =
+    record {
+      good = k .good;
+      shift = k .shift;
+      size = e ∙ k .size;
+      right = t .right;
+      lists = lists-on (k .lists) ex ey (t .first) (t .second);
+    }
 
 -- an answer with the pairs and tables as they were, and one by tables
-pub told : {W : View} {s base : ℕ} {memo xs ys : List ℕ} {P : Type 0} {r : Bool} → Asks W s base memo xs ys → Says P r → Tells W s base memo xs ys P r
+pub told : {W : View} {s base : ℕ} {memo xs ys : List ℕ} {P : Type 0} {r : Bool} → Asks W s base memo xs ys → Says P r
+    → Tells W s base memo xs ys P r
 told k p = record { says = p; right = k .right; first = k .lists .first; second = k .lists .second }
 
-pub told-tables : {W : View} {s base a b : ℕ} {memo xs ys xs′ ys′ : List ℕ} {r : Bool} → Asks W s base memo xs ys → TablesPost W s base a b xs′ ys′ r
+pub told-tables : {W : View} {s base a b : ℕ} {memo xs ys xs′ ys′ : List ℕ} {r : Bool} → Asks W s base memo xs ys
+    → TablesPost W s base a b xs′ ys′ r
     → Tells W s base memo xs′ ys′ (Apart (2 * W .header BITS) (rowsOf W) s a b) r
 told-tables k p = record { says = p .says; right = k .right; first = p .first; second = p .second }
 
 -- as `deep` finds it
-pub deep-at : {base i l : ℕ} (W : View) (b : ℕ) → Good W → Arrow (rowsOf W) b → isRow b ≡ true → i ≡ rowOf b → l ≡ W .cell i LEVEL → base ≤ l → Deep W base b
+pub deep-at : {base i l : ℕ} (W : View) (b : ℕ) → Good W → Arrow (rowsOf W) b → isRow b ≡ true → i ≡ rowOf b → l ≡ W .cell i LEVEL
+    → base ≤ l → Deep W base b
 deep-at W b g u t e f n =
     let r = row-at W b g u t in
     let z = r .level in
@@ -193,7 +239,9 @@ deep-at W b g u t e f n =
 
 -- a row from the base on is there only where the base is below the levels
 pub deep-room : {W : View} {s base a b : ℕ} {xs ys : List ℕ} → TablesPre W s base a b xs ys → (length xs ≡ PLACES) × (length ys ≡ PLACES)
-deep-room {W} {b = b} p = let r = row-at W b (p .good) (p .against .arrow) (p .rows .1) in let e = r .level in let h = r .shallow in let d = p .deep .level in p .lists .room (omega arith)
+deep-room {W} {b = b} p =
+    let r = row-at W b (p .good) (p .against .arrow) (p .rows .1) in
+    let e = r .level in let h = r .shallow in let d = p .deep .level in p .lists .room (omega arith)
 
 pub table-first : {W : View} {s base a b : ℕ} {xs ys : List ℕ} → TablesPre W s base a b xs ys → TablePre W base s 0 a xs
 table-first p = let n = p .good .sizes .n-max in let h = p .lists .bound in record {
@@ -217,10 +265,12 @@ table-second p = let n = p .good .sizes .n-max in let h = p .lists .bound in rec
   arrow = p .against .arrow;
 }
 
-pub by-tables : {W : View} {s base a b x y : ℕ} {xs ys xs′ ys′ : List ℕ} {r : Bool} → TablesPre W s base a b xs ys → TablePost W base s 0 a x xs′ → TablePost W base s s b y ys′
+pub by-tables : {W : View} {s base a b x y : ℕ} {xs ys xs′ ys′ : List ℕ} {r : Bool} → TablesPre W s base a b xs ys
+    → TablePost W base s 0 a x xs′ → TablePost W base s s b y ys′
     → Says (Disjoint x y) r → TablesPost W s base a b xs′ ys′ r
 by-tables {W} {s} {base} {a} {b} p f g d = record {
-  says = tables-tell (p .good .rows) base s (p .lists .even-base) (omega arith) (p .lists .fit) b (p .against .arrow) (p .deep .level) (p .against .reads) (f .tabled) (g .tabled) d;
+  says = tables-tell (p .good .rows) base s (p .lists .even-base) (omega arith) (p .lists .fit) b (p .against .arrow) (p .deep .level)
+      (p .against .reads) (f .tabled) (g .tabled) d;
   first = f .known;
   second = g .known;
 }
@@ -247,25 +297,35 @@ lists-new {W} e = record {
 }
 
 -- an arrow with even levels only, and NOT of it
-pub against-of : (W : View) (v : ℕ) → Arrow (rowsOf W) v → ((i : ℕ) → Reach (rowsOf W) (v ∷ []) i → even (rowsOf W .level i) ≡ true) → Against W v
-against-of W v u e = record { arrow = u; reads = reads-levels (rowsOf W) even (v ∷ []) e (2 * W .header BITS) v (reached-root (rowsOf W) (v ∷ []) v (here refl)) }
+pub against-of : (W : View) (v : ℕ) → Arrow (rowsOf W) v → ((i : ℕ) → Reach (rowsOf W) (v ∷ []) i → even (rowsOf W .level i) ≡ true)
+    → Against W v
+against-of W v u e =
+    record {
+      arrow = u;
+      reads = reads-levels (rowsOf W) even (v ∷ []) e (2 * W .header BITS) v (reached-root (rowsOf W) (v ∷ []) v (here refl));
+    }
 
 -- V's, where its root is no 0
-pub against-root : (W : View) → W .header VALID ≢ 0 → ((h : ℕ) → VALID ≤ h → h < ROOTS-END → Ref (rowsOf W) (W .header h)) → EvenSets W → Against W (validOf W)
+pub against-root : (W : View) → W .header VALID ≢ 0 → ((h : ℕ) → VALID ≤ h → h < ROOTS-END → Ref (rowsOf W) (W .header h)) → EvenSets W
+    → Against W (validOf W)
 against-root W n u e = against-of W (validOf W) (ref-arrow (rowsOf W) (W .header VALID) n (u VALID (omega arith) (omega arith)))
     (e VALID (omega arith) (omega arith) (validOf W) (let z : W .header VALID ≡ suc (validOf W) = omega arith in z))
 
 pub against-not : (W : View) (v : ℕ) → Against W v → Against W (flip v)
 against-not W v g = record {
   arrow = carry-arrow (rowsOf W) true v (g .arrow);
-  reads = λ x y h. den-flip (2 * W .header BITS) (rowsOf W) v x ∙ ap not (g .reads x y h) ∙ sym (den-flip (2 * W .header BITS) (rowsOf W) v y);
+  reads =
+      λ x y h. den-flip (2 * W .header BITS) (rowsOf W) v x ∙ ap not (g .reads x y h) ∙ sym (den-flip (2 * W .header BITS) (rowsOf W) v y);
 }
 
 -- as `halve` gives them
 pub halved-here : {own other i x y lo hi : ℕ} (W : View) (a : ℕ) → own ≤ other → i ≡ rowOf a → x ≡ W .cell i LOW → y ≡ W .cell i HIGH
     → lo ≡ carry (marked a) x → hi ≡ carry (marked a) y → Halved (rowsOf W) a own other lo hi
 halved-here W a h e ex ey el eh = record {
-  here = λ _. (el ∙ ap (carry (marked a)) (ex ∙ ap (λ (k : ℕ). W .cell k LOW) e), eh ∙ ap (carry (marked a)) (ey ∙ ap (λ (k : ℕ). W .cell k HIGH) e));
+  here = λ _. (
+    el ∙ ap (carry (marked a)) (ex ∙ ap (λ (k : ℕ). W .cell k LOW) e),
+    eh ∙ ap (carry (marked a)) (ey ∙ ap (λ (k : ℕ). W .cell k HIGH) e),
+  );
   past = λ g. absurd (omega arith);
 }
 
@@ -273,7 +333,8 @@ halved-here W a h e ex ey el eh = record {
 pub ref-none : {s r b : ℕ} (W : View) → r ≡ 0 → RefApart W s r b
 ref-none W z a e = absurd (omega arith)
 
-pub ref-tells : {W : View} {s base b : ℕ} {memo xs ys : List ℕ} {k : Bool} (r : ℕ) → r ≢ 0 → Tells W s base memo xs ys (Apart (2 * W .header BITS) (rowsOf W) s (r - 1) b) k
+pub ref-tells : {W : View} {s base b : ℕ} {memo xs ys : List ℕ} {k : Bool} (r : ℕ) → r ≢ 0
+    → Tells W s base memo xs ys (Apart (2 * W .header BITS) (rowsOf W) s (r - 1) b) k
     → Tells W s base memo xs ys (RefApart W s r b) k
 ref-tells {W} {s} {base} {b} r n t = record {
   says = says-map
@@ -297,24 +358,36 @@ all-more {s} {start} {k} {r} {b} W p e q h lo hi a g = by-cases (decLt h k)
 -- within V is apart from NOT V
 module _ (W : View) (v a : ℕ) where
   pub apart-within : Apart (2 * W .header BITS) (rowsOf W) 0 a (flip v) → (x : Val) → denOf W a x ≡ true → denOf W v x ≡ true
-  apart-within p x g = not-false _ (λ e. p .none x g (ap (denOf W (flip v)) (lift-none x) ∙ den-flip (2 * W .header BITS) (rowsOf W) v x ∙ ap not e))
+  apart-within p x g =
+      not-false _ (λ e. p .none x g (ap (denOf W (flip v)) (lift-none x) ∙ den-flip (2 * W .header BITS) (rowsOf W) v x ∙ ap not e))
 
   pub within-apart : ((x : Val) → denOf W a x ≡ true → denOf W v x ≡ true) → Apart (2 * W .header BITS) (rowsOf W) 0 a (flip v)
-  within-apart f = record { none = λ x g h. true≢false (sym h ∙ ap (denOf W (flip v)) (lift-none x) ∙ den-flip (2 * W .header BITS) (rowsOf W) v x ∙ ap not (f x g)) }
+  within-apart f =
+      record {
+        none = λ x g h. true≢false
+            (sym h ∙ ap (denOf W (flip v)) (lift-none x) ∙ den-flip (2 * W .header BITS) (rowsOf W) v x ∙ ap not (f x g));
+      }
 
   one-up : (x : Val) → lift 1 x ≡ (λ l. x (suc l))
   one-up x = fun-ext λ l. ap x (let e : l + 1 ≡ suc l = omega arith in e)
 
   pub apart-shifted : Apart (2 * W .header BITS) (rowsOf W) 1 a (flip v) → (x : Val) → denOf W a x ≡ true → shiftF (denOf W v) x ≡ true
-  apart-shifted p x g = not-false _ (λ e. p .none x g (ap (denOf W (flip v)) (one-up x) ∙ den-flip (2 * W .header BITS) (rowsOf W) v (λ l. x (suc l)) ∙ ap not e))
+  apart-shifted p x g =
+      not-false _
+      (λ e. p .none x g (ap (denOf W (flip v)) (one-up x) ∙ den-flip (2 * W .header BITS) (rowsOf W) v (λ l. x (suc l)) ∙ ap not e))
 
   pub shifted-apart : ((x : Val) → denOf W a x ≡ true → shiftF (denOf W v) x ≡ true) → Apart (2 * W .header BITS) (rowsOf W) 1 a (flip v)
-  shifted-apart f = record { none = λ x g h. true≢false (sym h ∙ ap (denOf W (flip v)) (one-up x) ∙ den-flip (2 * W .header BITS) (rowsOf W) v (λ l. x (suc l)) ∙ ap not (f x g)) }
+  shifted-apart f =
+      record {
+        none = λ x g h. true≢false
+            (sym h ∙ ap (denOf W (flip v)) (one-up x) ∙ den-flip (2 * W .header BITS) (rowsOf W) v (λ l. x (suc l)) ∙ ap not (f x g));
+      }
 
 -- the two passes decide it
 module _ (W : View) (v : ℕ) where
   pub within-of : AllApart W 0 FIRST-REGISTER ROOTS-END (flip v) → AllApart W 1 FIRST-RELATION ROOTS-END (flip v) → Within W v
-  within-of p q = record { roots = λ h lo hi a e. apart-within W v a (p h lo hi a e); shifted = λ h lo hi a e. apart-shifted W v a (q h lo hi a e) }
+  within-of p q =
+      record { roots = λ h lo hi a e. apart-within W v a (p h lo hi a e); shifted = λ h lo hi a e. apart-shifted W v a (q h lo hi a e) }
 
   pub of-roots : Within W v → AllApart W 0 FIRST-REGISTER ROOTS-END (flip v)
   of-roots w h lo hi a e = within-apart W v a (w .roots h lo hi a e)

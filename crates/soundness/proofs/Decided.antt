@@ -46,7 +46,8 @@ module _ (W : View) where
 
   -- what holds along the list holds of each used row
   pub along : (P : ℕ → Type 0) → ((k : ℕ) → k < W .header USED → P (W .list k)) → (i : ℕ) → used W i ≡ true → P i
-  along P h i u = let q = used-in (W .rows) (W .header USED) (λ x. W .cell x RANK) (W .list) i u in subst P (q .there) (h (W .cell i RANK) (q .place))
+  along P h i u =
+      let q = used-in (W .rows) (W .header USED) (λ x. W .cell x RANK) (W .list) i u in subst P (q .there) (h (W .cell i RANK) (q .place))
 
   pub links-of : Room W → ((k : ℕ) → k < W .header USED → RowGood W m (W .list k)) → Links W
   links-of r h = record { room = r; nexts = λ i u. along (λ i. RowGood W m i) h i u .next }
@@ -93,7 +94,8 @@ module _ (W : View) where
       plain = g .plain;
     }
 
-    shared-of : (i j : ℕ) → used W i ≡ true → used W j ≡ true → W .cell i LEVEL ≡ W .cell j LEVEL → W .cell i LOW ≡ W .cell j LOW → W .cell i HIGH ≡ W .cell j HIGH → i ≡ j
+    shared-of : (i j : ℕ) → used W i ≡ true → used W j ≡ true → W .cell i LEVEL ≡ W .cell j LEVEL → W .cell i LOW ≡ W .cell j LOW
+        → W .cell i HIGH ≡ W .cell j HIGH → i ≡ j
     shared-of i j u v el elo ehi = let a : Finds W i = finds i u in hit-one (rw (el, elo, ehi) at a) (finds j v)
 
     pub good-of : Good W
@@ -102,7 +104,11 @@ module _ (W : View) where
       rows-is = p .rows-is;
       layout-is = p .layout-is;
       ranked = ranked-of (p .count-le) (p .list);
-      rows = record { bounded = λ i u. used-in (W .rows) (W .header USED) (λ x. W .cell x RANK) (W .list) i u .row; ok = ok-of; shared = shared-of };
+      rows = record {
+        bounded = λ i u. used-in (W .rows) (W .header USED) (λ x. W .cell x RANK) (W .list) i u .row;
+        ok = ok-of;
+        shared = shared-of;
+      };
       index = record { nexts = λ i u. good-row i u .next; found = finds };
     }
 
@@ -129,8 +135,10 @@ module _ (W : View) where
     }
 
 -- where the other parts hold, the index decides
-pub index-tells : {n : ℕ} {r : Bool} (W : View) → Sizes (W .header BITS) (W .rows) (W .size) → W .header ROWS ≡ W .rows → W .header LAYOUT ≡ CURRENT → n ≡ W .header USED → n ≤ W .rows
-    → ((k : ℕ) → k < n → Placed W k) → ((k : ℕ) → k < n → RowGood W (2 * W .header BITS) (W .list k)) → Says ((k : ℕ) → k < n → Finds W (W .list k)) r → Says (Good W) r
+pub index-tells : {n : ℕ} {r : Bool} (W : View) → Sizes (W .header BITS) (W .rows) (W .size) → W .header ROWS ≡ W .rows
+    → W .header LAYOUT ≡ CURRENT → n ≡ W .header USED → n ≤ W .rows
+    → ((k : ℕ) → k < n → Placed W k) → ((k : ℕ) → k < n → RowGood W (2 * W .header BITS) (W .list k))
+    → Says ((k : ℕ) → k < n → Finds W (W .list k)) r → Says (Good W) r
 index-tells W z e l q c p g (holds f) = holds (good-of W (record {
   sizes = z;
   rows-is = e;
@@ -143,14 +151,18 @@ index-tells W z e l q c p g (holds f) = holds (good-of W (record {
 index-tells W z e l q c p g (fails f) = fails (λ x. f (λ k h. of-good W x .index k (omega arith)))
 
 -- where the rows are sound and the roots arrows, what lies within V decides
-pub within-tells : {k : ℕ} {r : Bool} {W : View} → Good W → ((h : ℕ) → VALID ≤ h → h < ROOTS-END → Ref (rowsOf W) (W .header h)) → k ≡ W .header VALID → k ≢ 0 → EvenSets W
+pub within-tells : {k : ℕ} {r : Bool} {W : View} → Good W → ((h : ℕ) → VALID ≤ h → h < ROOTS-END → Ref (rowsOf W) (W .header h))
+    → k ≡ W .header VALID → k ≢ 0 → EvenSets W
     → Says (Within W (k - 1)) r → Says (Sound W) r
-within-tells {W = W} g u e n v (holds w) = holds (record { good = g; refs = u; valid = λ z. n (e ∙ z); even = v; within = subst (λ (k : ℕ). Within W (k - 1)) e w })
+within-tells {W = W} g u e n v (holds w) =
+    holds (record { good = g; refs = u; valid = λ z. n (e ∙ z); even = v; within = subst (λ (k : ℕ). Within W (k - 1)) e w })
 within-tells {W = W} g u e n v (fails f) = fails (λ s. f (subst (λ (k : ℕ). Within W (k - 1)) (sym e) (s .within)))
 
 -- the rows of V and of the registers are those that were marked from them
-module _ (W : View) (ranked : Ranked W) (wf : WellFormed (2 * W .header BITS) (W .rows) (rowsOf W)) (z z′ : List ℕ) (none : (i : ℕ) → On z i → ⊥)
-    (k : MarksAll (rowsOf W) z z′ (Held W VALID FIRST-RELATION)) (refs : (h : ℕ) → VALID ≤ h → h < FIRST-RELATION → Ref (rowsOf W) (W .header h)) where
+module _ (W : View) (ranked : Ranked W) (wf : WellFormed (2 * W .header BITS) (W .rows) (rowsOf W)) (z z′ : List ℕ)
+    (none : (i : ℕ) → On z i → ⊥)
+    (k : MarksAll (rowsOf W) z z′ (Held W VALID FIRST-RELATION))
+    (refs : (h : ℕ) → VALID ≤ h → h < FIRST-RELATION → Ref (rowsOf W) (W .header h)) where
   pub marked-even : EvenMarked W z′ → EvenSets W
   marked-even e h a b x q i r =
       let d : Held W VALID FIRST-RELATION x = record { at = h; from = a; below = b; holds = q } in

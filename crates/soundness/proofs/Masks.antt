@@ -51,14 +51,16 @@ pub has-and : (a b k : ℕ) → has (bitAnd a b) k ≡ has a k && has b k
 has-and a b k =
     let x : ℕ = a / 2 ^ k in
     let y : ℕ = b / 2 ^ k in
-    let e : bitAnd x y % 2 ≡ min (x % 2) (y % 2) = bit-two (bitAnd x y) (bitAnd (x / 2) (y / 2)) (min (x % 2) (y % 2)) (and-step x y) (omega arith) in
+    let e : bitAnd x y % 2
+    ≡ min (x % 2) (y % 2) = bit-two (bitAnd x y) (bitAnd (x / 2) (y / 2)) (min (x % 2) (y % 2)) (and-step x y) (omega arith) in
     ap (λ (z : ℕ). eqb (z % 2) 1) (and-shr a b k) ∙ ap (λ (z : ℕ). eqb z 1) e ∙ min-has (x % 2) (y % 2) (omega arith) (omega arith)
 
 pub has-or : (a b k : ℕ) → has (bitOr a b) k ≡ has a k || has b k
 has-or a b k =
     let x : ℕ = a / 2 ^ k in
     let y : ℕ = b / 2 ^ k in
-    let e : bitOr x y % 2 ≡ max (x % 2) (y % 2) = bit-two (bitOr x y) (bitOr (x / 2) (y / 2)) (max (x % 2) (y % 2)) (or-step x y) (omega arith) in
+    let e : bitOr x y % 2
+    ≡ max (x % 2) (y % 2) = bit-two (bitOr x y) (bitOr (x / 2) (y / 2)) (max (x % 2) (y % 2)) (or-step x y) (omega arith) in
     ap (λ (z : ℕ). eqb (z % 2) 1) (or-shr a b k) ∙ ap (λ (z : ℕ). eqb z 1) e ∙ max-has (x % 2) (y % 2) (omega arith) (omega arith)
 
 -- the low half has the low bits
@@ -66,9 +68,11 @@ pub has-low : (w k : ℕ) → k < 16 → has (w % 65536) k ≡ has w k
 has-low w k h =
     let j : ℕ = 15 - k in
     let e : (suc j) + k ≡ 16 = omega arith in
-    let f : w % 65536 / 2 ^ k ≡ w / 2 ^ k % 2 ^ suc j = subst (λ (x : ℕ). w % 2 ^ x / 2 ^ k ≡ w / 2 ^ k % 2 ^ suc j) e (field w (suc j) k) in
+    let f : w % 65536 / 2 ^ k
+    ≡ w / 2 ^ k % 2 ^ suc j = subst (λ (x : ℕ). w % 2 ^ x / 2 ^ k ≡ w / 2 ^ k % 2 ^ suc j) e (field w (suc j) k) in
     let z : j + 1 ≡ suc j = omega arith in
-    let g : w / 2 ^ k % 2 ^ suc j % 2 ≡ w / 2 ^ k % 2 = subst (λ (x : ℕ). w / 2 ^ k % 2 ^ x % 2 ≡ w / 2 ^ k % 2) z (mod-mod-pow (w / 2 ^ k) j 1) in
+    let g : w / 2 ^ k % 2 ^ suc j % 2
+    ≡ w / 2 ^ k % 2 = subst (λ (x : ℕ). w / 2 ^ k % 2 ^ x % 2 ≡ w / 2 ^ k % 2) z (mod-mod-pow (w / 2 ^ k) j 1) in
     ap (λ (x : ℕ). eqb (x % 2) 1) f ∙ ap (λ (x : ℕ). eqb x 1) g
 
 pub has-swapped-low : (w k : ℕ) → k < 16 → has (swapped w) k ≡ has w (16 + k)
@@ -90,8 +94,12 @@ some-bit (suc n) w h z = by-cases (ℕ-discrete (w % 2) 1)
     (λ e. (0, omega arith, eq-eqb _ _ (let f : w / 1 % 2 ≡ w % 2 = omega arith in f ∙ e)))
     (λ e.
     let q : 2 ^ suc n ≡ 2 ^ n * 2 = pow-suc 2 n in
-    let p = some-bit n (w / 2) (omega arith) (omega arith) in
-    (suc (p .0), (let l = p .1 in omega arith), ap (λ (x : ℕ). eqb (x % 2) 1) (sym (shr-shr w 1 (p .0) ∙ ap (λ (x : ℕ). w / 2 ^ x) (let y : 1 + p .0 ≡ suc (p .0) = omega arith in y))) ∙ p .2))
+    let p = some-bit n (w / 2) (omega arith) (omega arith) in (
+      suc (p .0),
+      (let l = p .1 in omega arith),
+      ap (λ (x : ℕ). eqb (x % 2) 1)
+          (sym (shr-shr w 1 (p .0) ∙ ap (λ (x : ℕ). w / 2 ^ x) (let y : 1 + p .0 ≡ suc (p .0) = omega arith in y))) ∙ p .2,
+    ))
 
 -- two functions agree on the first n numbers
 same : Bool → Bool → Bool

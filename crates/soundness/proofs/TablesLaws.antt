@@ -32,12 +32,15 @@ pub row-fits : {W : View} {i : ℕ} → Good W → rowsOf W .used i ≡ true →
 row-fits {W} {i} g u = let o = g .rows .ok i u .shallow in let n = g .sizes .n-max in (g .rows .bounded i u, omega arith)
 
 -- the halves of a row's own arrow
-row-half : {W : View} {t i : ℕ} → Good W → rowsOf W .used i ≡ true → Half (2 * W .header BITS) (rowsOf W) t (W .cell i LEVEL + t) (row i) (W .cell i LOW) (W .cell i HIGH)
+row-half : {W : View} {t i : ℕ} → Good W → rowsOf W .used i ≡ true
+    → Half (2 * W .header BITS) (rowsOf W) t (W .cell i LEVEL + t) (row i) (W .cell i LOW) (W .cell i HIGH)
 row-half {W} {t} {i} g u =
-    subst (λ (b : Bool). Half (2 * W .header BITS) (rowsOf W) t (W .cell i LEVEL + t) (row i) (carry b (W .cell i LOW)) (carry b (W .cell i HIGH))) (row-plain i)
+    subst (λ (b : Bool). Half (2 * W .header BITS) (rowsOf W) t (W .cell i LEVEL + t) (row i) (carry b (W .cell i LOW))
+    (carry b (W .cell i HIGH))) (row-plain i)
     (half-here (g .rows) t (W .cell i LEVEL + t) (row i) i (row-leads i) u refl)
 
-pub row-tabled : {W : View} {base s t i w0 w1 l k r : ℕ} → RowPre W base s t i w0 w1 → l ≡ W .cell i LEVEL → Classed base s (l + t) k → r ≡ joined k w0 w1
+pub row-tabled : {W : View} {base s t i w0 w1 l k r : ℕ} → RowPre W base s t i w0 w1 → l ≡ W .cell i LEVEL → Classed base s (l + t) k
+    → r ≡ joined k w0 w1
     → Tabled (2 * W .header BITS) (rowsOf W) base s t (row i) r
 row-tabled {W} {base} {s} {t} {i} {w0} {w1} {l} {k} p e c f =
     subst (Tabled (2 * W .header BITS) (rowsOf W) base s t (row i)) (sym f)
@@ -59,20 +62,25 @@ row-led {W} {i} a g u t e =
     record { used = o; below = b; place = omega arith; leads = l }
 
 -- an arrow's table is its row's, carried
-pub carried-tabled : {m base s t i w r : ℕ} {rows : Rows} (a : ℕ) → target a ≡ suc i → Tabled m rows base s t (row i) w → r ≡ carriedCells (marked a) w → Tabled m rows base s t a r
+pub carried-tabled : {m base s t i w r : ℕ} {rows : Rows} (a : ℕ) → target a ≡ suc i → Tabled m rows base s t (row i) w
+    → r ≡ carriedCells (marked a) w → Tabled m rows base s t a r
 carried-tabled {m} {base} {s} {t} {i} {w} {r} {rows} a l p e = subst (Tabled m rows base s t a) (sym e) (go (marked a) refl)
   where
     go : (b : Bool) → marked a ≡ b → Tabled m rows base s t a (carriedCells b w)
     go false f = subst (λ (x : ℕ). Tabled m rows base s t x w) (let q = marked-even a f in let z : row i ≡ a = omega arith in z) p
-    go true f = subst (λ (x : ℕ). Tabled m rows base s t x (swapped w)) (let q = marked-odd a f in let z : flip (row i) ≡ a = omega arith in z) (tabled-flip p)
+    go true f =
+        subst (λ (x : ℕ). Tabled m rows base s t x (swapped w))
+        (let q = marked-odd a f in let z : flip (row i) ≡ a = omega arith in z) (tabled-flip p)
 
 pub known-none : (n : ℕ) {base s t : ℕ} (m : ℕ) (rows : Rows) → Known m rows base s t (replicate n 0)
 known-none n m rows = record { at = λ i q. absurd (q (zeros n i)) }
 
-pub known-more : {m base s t i w : ℕ} {rows : Rows} {memo : List ℕ} → i < length memo → Known m rows base s t memo → Tabled m rows base s t (row i) w → Known m rows base s t (set memo i w)
+pub known-more : {m base s t i w : ℕ} {rows : Rows} {memo : List ℕ} → i < length memo → Known m rows base s t memo
+    → Tabled m rows base s t (row i) w → Known m rows base s t (set memo i w)
 known-more {m} {base} {s} {t} {i} {w} {rows} {memo} h k p = record {
   at = λ j q. by-cases (ℕ-discrete j i)
-      (λ e. subst (λ (x : ℕ). Tabled m rows base s t (row x) (getD (set memo i w) x 0)) (sym e) (subst (Tabled m rows base s t (row i)) (sym (getD-set-same memo i w 0 h)) p))
+      (λ e. subst (λ (x : ℕ). Tabled m rows base s t (row x) (getD (set memo i w) x 0)) (sym e)
+      (subst (Tabled m rows base s t (row i)) (sym (getD-set-same memo i w 0 h)) p))
       (λ n. let z = getD-set-other memo i j w 0 n in subst (Tabled m rows base s t (row j)) (sym z) (k .at j (λ y. q (z ∙ y))));
 }
 
@@ -81,7 +89,8 @@ abbrev pub farTo : View → ℕ → ℕ
 farTo W a = 2 * W .header BITS - levelOf (2 * W .header BITS) (rowsOf W) a
 
 pub asked-arrow : {W : View} {base s t a i x k : ℕ} {memo : List ℕ} → TablePre W base s t a memo → RowOf W a i → farTo W a ≡ k
-    → ((x ≡ W .cell i LOW) ⊎ (x ≡ W .cell i HIGH)) → {memo′ : List ℕ} → length memo′ ≡ length memo → Known (2 * W .header BITS) (rowsOf W) base s t memo′
+    → ((x ≡ W .cell i LOW) ⊎ (x ≡ W .cell i HIGH)) → {memo′ : List ℕ} → length memo′ ≡ length memo
+    → Known (2 * W .header BITS) (rowsOf W) base s t memo′
     → (farTo W x < k) × TablePre W base s t x memo′
 asked-arrow {W} {base} {s} {t} {a} {i} {x} {k} p r f c e n =
     let o = p .good .rows .ok i (r .used) in
@@ -90,23 +99,50 @@ asked-arrow {W} {base} {s} {t} {a} {i} {x} {k} p r f c e n =
     let dl = o .low-deeper in
     let dh = o .high-deeper in
     ⊎-elim
-    (λ q. rw q (omega arith, record { good = p .good; low-base = p .low-base; shift = p .shift; up = p .up; size = e ∙ p .size; known = n; arrow = o .low-arrow }))
-    (λ q. rw q (omega arith, record { good = p .good; low-base = p .low-base; shift = p .shift; up = p .up; size = e ∙ p .size; known = n; arrow = o .high-arrow }))
+    (λ q. rw q (
+      omega arith,
+      record {
+        good = p .good;
+        low-base = p .low-base;
+        shift = p .shift;
+        up = p .up;
+        size = e ∙ p .size;
+        known = n;
+        arrow = o .low-arrow;
+      },
+    ))
+    (λ q. rw q (
+      omega arith,
+      record {
+        good = p .good;
+        low-base = p .low-base;
+        shift = p .shift;
+        up = p .up;
+        size = e ∙ p .size;
+        known = n;
+        arrow = o .high-arrow;
+      },
+    ))
     c
 
 -- as `table_of` goes
 pub led : {W : View} {base s t a i : ℕ} {memo : List ℕ} → TablePre W base s t a memo → a ≢ 0 → a ≢ 1 → i ≡ rowOf a → RowOf W a i
 led {a = a} p n k e = row-led a (p .good) (p .arrow) (row-yes a (omega arith)) e
 
-pub recalled : {W : View} {base s t a i w r : ℕ} {memo : List ℕ} → TablePre W base s t a memo → RowOf W a i → w ≡ getD memo i 0 → w ≢ 0 → r ≡ carriedCells (marked a) w
+pub recalled : {W : View} {base s t a i w r : ℕ} {memo : List ℕ} → TablePre W base s t a memo → RowOf W a i → w ≡ getD memo i 0 → w ≢ 0
+    → r ≡ carriedCells (marked a) w
     → TablePost W base s t a r memo
 recalled {W} {base} {s} {t} {a} {i} p o e n c = record {
-  tabled = carried-tabled a (o .leads) (subst (Tabled (2 * W .header BITS) (rowsOf W) base s t (row i)) (sym e) (p .known .at i (λ z. n (e ∙ z)))) c;
+  tabled =
+      carried-tabled a (o .leads)
+      (subst (Tabled (2 * W .header BITS) (rowsOf W) base s t (row i)) (sym e) (p .known .at i (λ z. n (e ∙ z)))) c;
   known = p .known;
 }
 
-pub row-asked : {W : View} {base s t a i x y w0 w1 : ℕ} {memo : List ℕ} → TablePre W base s t a memo → RowOf W a i → x ≡ W .cell i LOW → y ≡ W .cell i HIGH
-    → Tabled (2 * W .header BITS) (rowsOf W) base s t x w0 → Tabled (2 * W .header BITS) (rowsOf W) base s t y w1 → RowPre W base s t i w0 w1
+pub row-asked : {W : View} {base s t a i x y w0 w1 : ℕ} {memo : List ℕ} → TablePre W base s t a memo → RowOf W a i → x ≡ W .cell i LOW
+    → y ≡ W .cell i HIGH
+    → Tabled (2 * W .header BITS) (rowsOf W) base s t x w0 → Tabled (2 * W .header BITS) (rowsOf W) base s t y w1
+    → RowPre W base s t i w0 w1
 row-asked {W} {base} {s} {t} {w0 = w0} {w1} p o e f u v = record {
   good = p .good;
   low-base = p .low-base;
@@ -117,8 +153,10 @@ row-asked {W} {base} {s} {t} {w0 = w0} {w1} p o e f u v = record {
   high = subst (λ (z : ℕ). Tabled (2 * W .header BITS) (rowsOf W) base s t z w1) f v;
 }
 
-pub made-table : {W : View} {base s t a i w r : ℕ} {memo memo′ : List ℕ} → RowOf W a i → i < length memo → Known (2 * W .header BITS) (rowsOf W) base s t memo
-    → Tabled (2 * W .header BITS) (rowsOf W) base s t (row i) w → memo′ ≡ set memo i w → r ≡ carriedCells (marked a) w → TablePost W base s t a r memo′
+pub made-table : {W : View} {base s t a i w r : ℕ} {memo memo′ : List ℕ} → RowOf W a i → i < length memo
+    → Known (2 * W .header BITS) (rowsOf W) base s t memo
+    → Tabled (2 * W .header BITS) (rowsOf W) base s t (row i) w → memo′ ≡ set memo i w → r ≡ carriedCells (marked a) w
+    → TablePost W base s t a r memo′
 made-table {W} {base} {s} {t} {a} o h k p e c = record {
   tabled = carried-tabled a (o .leads) p c;
   known = subst (Known (2 * W .header BITS) (rowsOf W) base s t) (sym e) (known-more h k p);

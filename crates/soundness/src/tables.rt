@@ -1,5 +1,5 @@
-// Tables of cells: a word that has, for each of the 16 values of the last four tested levels, whether an arrow has a valuation with it, and whether NOT of it
-// has. What lies before the tested levels and between them may be anything.
+// Tables of cells: a word that has, for each of the 16 values of the last four tested levels, whether an arrow has a valuation with it, and
+// whether NOT of it has. What lies before the tested levels and between them may be anything.
 use layout::Table;
 use layout::get;
 use layout::is_marked;

@@ -1,4 +1,5 @@
-// Whether registers lie within the set V of states that exist, and relations within V and SHIFT of V. Nothing is written but local lists of pairs and tables.
+// Whether registers lie within the set V of states that exist, and relations within V and SHIFT of V.
+// Nothing is written but local lists of pairs and tables.
 use super::tables::disjoint;
 use super::tables::row_cells;
 use layout::Table;
@@ -20,7 +21,8 @@ ghost use Rattle.rows.specs.Says.{Says};
 ghost use Rattle.soundness.specs.Pairs.{PAIR-WORDS, Seen, Puts};
 ghost use Rattle.rows.specs.Within.{Within};
 ghost use Rattle.rows.specs.Sound.{Good};
-ghost use Rattle.soundness.specs.Contained.{AllApart, Clear, ApartPre, Deep, TablesPre, TablesPost, RefsAsked, RootsPre, PassPre, Halved, Split};
+ghost use Rattle.soundness.specs.Contained.{AllApart, Clear, ApartPre, Deep, TablesPre, TablesPost, RefsAsked, RootsPre, PassPre};
+ghost use Rattle.soundness.specs.Contained.{Halved, Split};
 ghost use Rattle.soundness.specs.Posts.{SplitPre, ApartTold, RefApartPre, RefApartTold};
 
 // The remembered pairs: how many words they have, two for each of 4,096.
@@ -153,7 +155,8 @@ fn deep(words: &[u32], rows: u32, base: u32, b: u32) -> bool
     true
 }
 
-// Whether two arrows have no valuation in common, the second of even levels from the base on, which count higher by the shift: by their tables.
+// Whether two arrows have no valuation in common, the second of even levels from the base on, which count higher by the shift: by their
+// tables.
 fn tables_apart(
     words: &[u32],
     rows: u32,
@@ -172,8 +175,8 @@ fn tables_apart(
     disjoint(x, y)
 }
 
-// Whether two arrows have no valuation in common, where the second's levels count higher by the shift. It ends at the first one in common, and where the
-// second comes to the base its tables decide.
+// Whether two arrows have no valuation in common, where the second's levels count higher by the shift.
+// It ends at the first one in common, and where the second comes to the base its tables decide.
 fn apart(
     words: &[u32],
     rows: u32,
@@ -326,7 +329,8 @@ pub enum Pass {
     Both,
 }
 
-// Whether a part of the check holds, for NOT of V: with tables. As it calls itself it is never inlined, and no caller's frame has the lists.
+// Whether a part of the check holds, for NOT of V: with tables. As it calls itself it is never inlined, and no caller's frame has the
+// lists.
 fn wide_ok(words: &[u32], rows: u32, b: u32, pass: Pass) -> bool
     requires { ⌜ PassPre (view rows (now words)) b ⌝ }
     ensures { λ r. ⌜ Says (Clear (view rows (now (words .entry))) b pass) r ⌝ }

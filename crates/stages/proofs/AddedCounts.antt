@@ -2,7 +2,8 @@
 use mathlib.Core.Path.{_≡_, sym, ap, _∙_, subst}
 use mathlib.Core.Logic.{inl, inr, ⊎-elim, by-cases}
 use mathlib.Core.Bool.{true, false, true≢false}
-use mathlib.Core.List.{List, [], _∷_, List·Memᴰ·head as here, List·Memᴰ·tail as there, List·Memᴰ·cases-cons as mem-cases, List·Memᴰ·not-nil as mem-nil}
+use mathlib.Core.List.{List, [], _∷_, List·Memᴰ·head as here, List·Memᴰ·tail as there, List·Memᴰ·cases-cons as mem-cases}
+use mathlib.Core.List.{List·Memᴰ·not-nil as mem-nil}
 use Prim.Native.Nat.{ℕ, suc, _+_, _*_, _≤_, _<_}
 use native.Mathlib.Decide.{ℕ-discrete}
 use native.Mathlib.Omega.{arith}
@@ -27,14 +28,21 @@ use Rattle.stages.proofs.Levels.{one-more-le}
 use Rattle.stages.specs.AddedCounts.{AddedCounts, MarkAddedPre, MarkAddedPost}
 
 -- the marks are of what the roots reach, and nothing is counted
-pub counts-none : {rows : Rows} {roots reached added : List ℕ} → ((i : ℕ) → On reached i → Reach rows roots i) → ((l : ℕ) → countOf added l ≡ 0) → AddedCounts rows roots reached added
+pub counts-none : {rows : Rows} {roots reached added : List ℕ} → ((i : ℕ) → On reached i → Reach rows roots i)
+    → ((l : ℕ) → countOf added l ≡ 0) → AddedCounts rows roots reached added
 counts-none {rows} {roots} {reached} {added} only none = record {
   list = [];
   once = tt;
   used = λ i h. absurd (mem-nil h);
   marked = λ i h. absurd (mem-nil h);
   all = λ i o. inl (only i o);
-  so-far = record { closed = added-none {rows = rows} {roots = roots} .closed; counted = λ l. let s = added-none {rows = rows} {roots = roots} .counted l in omega (arith, s) };
+  so-far =
+      record {
+        closed =
+            added-none {rows = rows} {roots = roots} .closed;
+        counted =
+            λ l. let s = added-none {rows = rows} {roots = roots} .counted l in omega (arith, s);
+      };
   few = λ l. let e = none l in omega (arith, e);
 }
 
@@ -51,9 +59,11 @@ module _ {W : View} {reached added : List ℕ} {b : ℕ} (p : MarkAddedPre W rea
 
   -- another arrow, and a further one
   pub added-at : {y : ℕ} → Arrow (rowsOf W) y → MarkAddedPre W reached added y
-  added-at u = record { good = p .good; arrow = u; room = p .room; counts-size = p .counts-size; roots = p .roots; added-counts = p .added-counts }
+  added-at u =
+      record { good = p .good; arrow = u; room = p .room; counts-size = p .counts-size; roots = p .roots; added-counts = p .added-counts }
 
-  pub added-next : {reached′ added′ : List ℕ} {x y : ℕ} → length reached′ ≡ length reached → length added′ ≡ length added → MarkAddedPost (rowsOf W) reached reached′ added added′ x
+  pub added-next : {reached′ added′ : List ℕ} {x y : ℕ} → length reached′ ≡ length reached → length added′ ≡ length added
+      → MarkAddedPost (rowsOf W) reached reached′ added added′ x
       → Arrow (rowsOf W) y → MarkAddedPre W reached′ added′ y
   added-next e f q u = record {
     good = p .good;
@@ -65,7 +75,8 @@ module _ {W : View} {reached added : List ℕ} {b : ℕ} (p : MarkAddedPre W rea
   }
 
 -- an arrow to a row: the row has a mark, and its two arrows lie nearer to the last level
-module _ {W : View} {reached added : List ℕ} {b : ℕ} (p : MarkAddedPre W reached added b) {i : ℕ} (h : isRow b ≡ true) (e : i ≡ rowOf b) where
+module _ {W : View} {reached added : List ℕ} {b : ℕ} (p : MarkAddedPre W reached added b) {i : ℕ} (h : isRow b ≡ true)
+    (e : i ≡ rowOf b) where
   at-row : Step W (length reached) b i
   at-row = step b (added-mark p) h e
 
@@ -82,7 +93,8 @@ module _ {W : View} {reached added : List ℕ} {b : ℕ} (p : MarkAddedPre W rea
       subst (λ (y : ℕ). (2 * depth W y + 1 < t) × MarkAddedPre W reached added y) (sym z)
       (subst (λ (k : ℕ). 2 * depth W (rowsOf W .low i) + 1 < k) q (omega (arith, l)), added-at p (at-row .low .arrow))
 
-  pub added-high : {reached′ added′ : List ℕ} {t x y : ℕ} → 2 * depth W b ≡ t → MarkAddedPost (rowsOf W) reached reached′ added added′ x → length reached′ ≡ length reached → length added′ ≡ length added
+  pub added-high : {reached′ added′ : List ℕ} {t x y : ℕ} → 2 * depth W b ≡ t → MarkAddedPost (rowsOf W) reached reached′ added added′ x
+      → length reached′ ≡ length reached → length added′ ≡ length added
       → y ≡ rowsOf W .high i → (2 * depth W y + 1 < t) × MarkAddedPre W reached′ added′ y
   added-high {reached′} {added′} {t} q lo em ed z =
       let l = at-row .high-less in
@@ -93,31 +105,39 @@ module _ {W : View} {reached added : List ℕ} {b : ℕ} (p : MarkAddedPre W rea
 pub added-constant : (rows : Rows) (reached added : List ℕ) (b : ℕ) → isRow b ≡ false → MarkAddedPost rows reached reached added added b
 added-constant rows reached added b h = record { marks = marks-constant rows reached b h; added-counts = λ roots s. s }
 
-pub added-again : {i : ℕ} (rows : Rows) (reached added : List ℕ) (b : ℕ) → isRow b ≡ true → i ≡ rowOf b → On reached i → MarkAddedPost rows reached reached added added b
+pub added-again : {i : ℕ} (rows : Rows) (reached added : List ℕ) (b : ℕ) → isRow b ≡ true → i ≡ rowOf b → On reached i
+    → MarkAddedPost rows reached reached added added b
 added-again rows reached added b h e o = record { marks = marks-again rows reached b h e o; added-counts = λ roots s. s }
 
 -- there are at most as many as the table has rows, and fewer where one is not marked
-added-room : {m N : ℕ} {rows : Rows} {roots reached added : List ℕ} {i : ℕ} → WellFormed m N rows → AddedCounts rows roots reached added → rows .used i ≡ true → (On reached i → ⊥)
+added-room : {m N : ℕ} {rows : Rows} {roots reached added : List ℕ} {i : ℕ} → WellFormed m N rows → AddedCounts rows roots reached added
+    → rows .used i ≡ true → (On reached i → ⊥)
     → (l : ℕ) → countOf added l < N
 added-room {N = N} {rows} {roots} {reached} {added} {i} wf s u off l =
-    let n = pigeonhole N (i ∷ s .list) ((λ h. off (s .marked i h)), s .once) (λ j h. ⊎-elim (λ e. wf .bounded j (subst (λ (x : ℕ). rows .used x ≡ true) (sym e) u)) (λ g. wf .bounded j (s .used j g)) (mem-cases h)) in
+    let n = pigeonhole N (i ∷ s .list) ((λ h. off (s .marked i h)), s .once)
+    (λ j h. ⊎-elim (λ e. wf .bounded j (subst (λ (x : ℕ). rows .used x ≡ true) (sym e) u)) (λ g. wf .bounded j (s .used j g))
+    (mem-cases h)) in
     let f = s .few l in
     omega (arith, n, f)
 
 -- an arrow to a marked row is done with
-on-accounted : {rows : Rows} {roots reached added : List ℕ} (s : AddedCounts rows roots reached added) (a : ℕ) → OnArrow reached a → Accounted rows roots (s .list) a
+on-accounted : {rows : Rows} {roots reached added : List ℕ} (s : AddedCounts rows roots reached added) (a : ℕ) → OnArrow reached a
+    → Accounted rows roots (s .list) a
 on-accounted {reached = reached} s a o j l = s .all j (subst (OnTo reached) l o)
 
 -- one row more, after its two arrows
-counts-more : {rows : Rows} {roots m₂ m₃ d₂ d₃ : List ℕ} {i : ℕ} → AddedCounts rows roots m₂ d₂ → rows .used i ≡ true → (On m₂ i → ⊥) → OnArrow m₂ (rows .low i) → OnArrow m₂ (rows .high i)
+counts-more : {rows : Rows} {roots m₂ m₃ d₂ d₃ : List ℕ} {i : ℕ} → AddedCounts rows roots m₂ d₂ → rows .used i ≡ true → (On m₂ i → ⊥)
+    → OnArrow m₂ (rows .low i) → OnArrow m₂ (rows .high i)
     → Sets m₂ m₃ i → OneMore d₂ d₃ (rows .level i) → AddedCounts rows roots m₃ d₃
 counts-more {rows} {roots} {m₂} {m₃} {d₂} {d₃} {i} s u off low high new more = record {
   list = i ∷ s .list;
   once = ((λ h. off (s .marked i h)), s .once);
   used = λ j h. ⊎-elim (λ e. subst (λ (x : ℕ). rows .used x ≡ true) (sym e) u) (λ g. s .used j g) (mem-cases h);
   marked = λ j h. ⊎-elim (λ e. subst (On m₃) (sym e) (new .has)) (λ g. on j (s .marked j g)) (mem-cases h);
-  all = λ j o. by-cases (ℕ-discrete j i) (λ e. inr (here e)) (λ n. ⊎-elim (λ r. inl r) (λ h. inr (there h)) (s .all j (sym (new .other j n) ∙ o)));
-  so-far = record { closed = more-so-far .closed; counted = λ l. let e = more .each l in let c = more-so-far .counted l in omega (arith, e, c) };
+  all = λ j o. by-cases (ℕ-discrete j i) (λ e. inr (here e))
+      (λ n. ⊎-elim (λ r. inl r) (λ h. inr (there h)) (s .all j (sym (new .other j n) ∙ o)));
+  so-far =
+      record { closed = more-so-far .closed; counted = λ l. let e = more .each l in let c = more-so-far .counted l in omega (arith, e, c) };
   few = one-more-le more (s .few);
 }
   where
@@ -128,8 +148,10 @@ counts-more {rows} {roots} {m₂} {m₃} {d₂} {d₃} {i} s u off low high new 
     more-so-far = added-more (s .list) (countOf d₂) i (s .so-far) (on-accounted s (rows .low i) low) (on-accounted s (rows .high i) high)
 
 -- a row is marked and counted after its two arrows, which do not reach it
-module _ {W : View} {m₀ m₁ m₂ d₀ d₁ d₂ : List ℕ} {x y i : ℕ} (b : ℕ) (p : MarkAddedPre W m₀ d₀ b) (h : isRow b ≡ true) (e : i ≡ rowOf b) (off : isOn m₀ (rowOf b) ≡ false)
-    (lo : MarkAddedPost (rowsOf W) m₀ m₁ d₀ d₁ x) (ex : x ≡ rowsOf W .low i) (hi : MarkAddedPost (rowsOf W) m₁ m₂ d₁ d₂ y) (ey : y ≡ rowsOf W .high i) where
+module _ {W : View} {m₀ m₁ m₂ d₀ d₁ d₂ : List ℕ} {x y i : ℕ} (b : ℕ) (p : MarkAddedPre W m₀ d₀ b) (h : isRow b ≡ true) (e : i ≡ rowOf b)
+    (off : isOn m₀ (rowOf b) ≡ false)
+    (lo : MarkAddedPost (rowsOf W) m₀ m₁ d₀ d₁ x) (ex : x ≡ rowsOf W .low i) (hi : MarkAddedPost (rowsOf W) m₁ m₂ d₁ d₂ y)
+    (ey : y ≡ rowsOf W .high i) where
   row-used : rowsOf W .used i ≡ true
   row-used = leads-used (rowsOf W) b i (row-is b h ∙ ap suc (sym e)) (p .arrow)
 

@@ -20,7 +20,8 @@ pub one-more : (d : List ℕ) (l : ℕ) → l < length d → OneMore d (set d l 
 unfolding bump
 one-more d l h = record {
   each = λ k. by-cases (ℕ-discrete l k)
-      (λ e. rw (← e, eq-eqb l l refl) (getD-set-same d l (getD d l 0 + 1) 0 h ∙ (let q : getD d l 0 + 1 ≡ suc (getD d l 0) = omega arith in q)))
+      (λ e. rw (← e, eq-eqb l l refl)
+      (getD-set-same d l (getD d l 0 + 1) 0 h ∙ (let q : getD d l 0 + 1 ≡ suc (getD d l 0) = omega arith in q)))
       (λ n. rw (ne-eqb l k n) (getD-set-other d l k (getD d l 0 + 1) 0 (λ e. n (sym e))));
 }
 
@@ -60,7 +61,8 @@ pub record Looking (m live : ℕ) (above added : List ℕ) (most j below past : 
   pub past-is : past ≡ sumTo (countOf added) (2 * j + 2)
   pub fits : AllWithin m live (countOf above) (countOf added) j most
 
-pub looking-none : (m live : ℕ) (above added : List ℕ) (most : ℕ) → Looking m live above added most 0 (getD above 0 0) (getD added 0 0 + getD added 1 0)
+pub looking-none : (m live : ℕ) (above added : List ℕ) (most : ℕ)
+    → Looking m live above added most 0 (getD above 0 0) (getD added 0 0 + getD added 1 0)
 looking-none m live above added most = record {
   below-is = let e = sum-next {s = 0} (countOf above) 0 (sum-none (countOf above)) in omega (arith, e);
   past-is = let e = sum-two {s = 0} (countOf added) 0 2 (sum-none (countOf added)) refl in omega (arith, e);
@@ -68,18 +70,21 @@ looking-none m live above added most = record {
 }
 
 -- they are small
-pub looking-small : {m live most j below past : ℕ} {above added : List ℕ} → Levels above → Levels added → j ≤ 16 → Looking m live above added most j below past
+pub looking-small : {m live most j below past : ℕ} {above added : List ℕ} → Levels above → Levels added → j ≤ 16
+    → Looking m live above added most j below past
     → (below ≤ 5000000) × (past ≤ 5000000)
 looking-small {j = j} {above = above} {added = added} a d l k =
     let x = sum-le (countOf above) MOST (2 * j + 1) (a .few) in
     let y = sum-le (countOf added) MOST (2 * j + 2) (d .few) in
     (omega (arith, x, l, k .below-is), omega (arith, y, l, k .past-is))
 
-module _ {m live most j below past all : ℕ} {above added : List ℕ} (k : Looking m live above added most j below past) (e : all ≡ live + sumTo (countOf added) m) (l : 2 * j + 2 ≤ m) where
+module _ {m live most j below past all : ℕ} {above added : List ℕ} (k : Looking m live above added most j below past)
+    (e : all ≡ live + sumTo (countOf added) m) (l : 2 * j + 2 ≤ m) where
   next-below : below + getD above (2 * j + 1) 0 + getD above (2 * j + 2) 0 ≡ sumTo (countOf above) (2 * (j + 1) + 1)
   next-below =
       let q : 2 * j + 1 + 1 ≡ 2 * j + 2 = omega arith in
-      ap (λ (x : ℕ). below + getD above (2 * j + 1) 0 + getD above x 0) (sym q) ∙ sum-two (countOf above) (2 * j + 1) (2 * (j + 1) + 1) (k .below-is) (omega arith)
+      ap (λ (x : ℕ). below + getD above (2 * j + 1) 0 + getD above x 0) (sym q)
+      ∙ sum-two (countOf above) (2 * j + 1) (2 * (j + 1) + 1) (k .below-is) (omega arith)
 
   next-past : past + (getD added (2 * j + 2) 0 + getD added (2 * j + 3) 0) ≡ sumTo (countOf added) (2 * (j + 1) + 2)
   next-past =
@@ -88,17 +93,29 @@ module _ {m live most j below past all : ℕ} {above added : List ℕ} (k : Look
       omega (arith, ap (λ (x : ℕ). getD added x 0) q, t)
 
   -- what is compared is the next one's bound, with the same on both sides
-  next-bound : bound m live (countOf above) (countOf added) j + past ≡ all + below + (below + getD above (2 * j + 1) 0 + getD above (2 * j + 2) 0)
+  next-bound : bound m live (countOf above) (countOf added) j + past
+      ≡ all + below + (below + getD above (2 * j + 1) 0 + getD above (2 * j + 2) 0)
   next-bound =
       let a = next-below in
       let x : suc (2 * j) ≡ 2 * j + 1 = omega arith in
       let y : suc (2 * suc j) ≡ 2 * (j + 1) + 1 = omega arith in
       let z : 2 * suc j ≡ 2 * j + 2 = omega arith in
       let s = sum-split (countOf added) (2 * suc j) (m - 2 * suc j) m (omega (arith, l)) in
-      omega (arith, a, s, e, k .below-is, k .past-is, ap (sumTo (countOf above)) x, ap (sumTo (countOf above)) y, ap (sumTo (countOf added)) z)
+      omega (
+        arith,
+        a,
+        s,
+        e,
+        k .below-is,
+        k .past-is,
+        ap (sumTo (countOf above)) x,
+        ap (sumTo (countOf above)) y,
+        ap (sumTo (countOf added)) z,
+      )
 
   pub looking-next : all + below + (below + getD above (2 * j + 1) 0 + getD above (2 * j + 2) 0) ≤ most + past
-      → Looking m live above added most (j + 1) (below + getD above (2 * j + 1) 0 + getD above (2 * j + 2) 0) (past + (getD added (2 * j + 2) 0 + getD added (2 * j + 3) 0))
+      → Looking m live above added most (j + 1) (below + getD above (2 * j + 1) 0 + getD above (2 * j + 2) 0)
+      (past + (getD added (2 * j + 2) 0 + getD added (2 * j + 3) 0))
   looking-next h = record {
     below-is = next-below;
     past-is = next-past;

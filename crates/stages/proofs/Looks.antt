@@ -1,7 +1,8 @@
 -- A look at the EXISTS left: the counts of a survey that began with no bit bound their needs. Assumes nothing.
 use mathlib.Core.Path.{_≡_, refl, sym, subst}
 use mathlib.Core.Logic.{inl, inr, ⊎-elim}
-use mathlib.Core.List.{List, [], _++_, map, List·Memᴰ as Mem, List·Memᴰ·not-nil as mem-nil, List·Memᴰ·append-cases as append-cases, Memᴰ·append-left as append-left, Memᴰ·append-right as append-right, Memᴰ·map as mem-map, Memᴰ·of-map as mem-of-map}
+use mathlib.Core.List.{List, [], _++_, map, List·Memᴰ as Mem, List·Memᴰ·not-nil as mem-nil, List·Memᴰ·append-cases as append-cases}
+use mathlib.Core.List.{Memᴰ·append-left as append-left, Memᴰ·append-right as append-right, Memᴰ·map as mem-map, Memᴰ·of-map as mem-of-map}
 use Prim.Native.Nat.{ℕ, zero, suc, _*_, _≤_}
 use native.Mathlib.Omega.{arith}
 use lib.ListN.{length, replicate, length-replicate}
@@ -37,13 +38,16 @@ use Rattle.stages.specs.Surveys.{Surveys, SurveyPre, SurveyPost}
 use Rattle.stages.proofs.Surveys.{surveys-none, arrow-most}
 
 -- rows are marked and arrows have bits once each, so that no count passes the table's size
-pub added-levels : {W : View} {roots reached added : List ℕ} → Good W → length added ≡ LEVELS → AddedCounts (rowsOf W) roots reached added → Levels added
+pub added-levels : {W : View} {roots reached added : List ℕ} → Good W → length added ≡ LEVELS → AddedCounts (rowsOf W) roots reached added
+    → Levels added
 added-levels {W} g e s = record {
   size = e;
-  few = λ l. let n = pigeonhole (W .rows) (s .list) (s .once) (λ i h. g .rows .bounded i (s .used i h)) in let f = s .few l in let r = g .sizes .N-max in omega (arith, n, f, r);
+  few = λ l. let n = pigeonhole (W .rows) (s .list) (s .once) (λ i h. g .rows .bounded i (s .used i h)) in
+      let f = s .few l in let r = g .sizes .N-max in omega (arith, n, f, r);
 }
 
-pub surveys-levels : {m : ℕ} {W : View} {seen above reached : List ℕ} → Good W → length above ≡ LEVELS → Surveys m (rowsOf W) seen above reached → Levels above
+pub surveys-levels : {m : ℕ} {W : View} {seen above reached : List ℕ} → Good W → length above ≡ LEVELS
+    → Surveys m (rowsOf W) seen above reached → Levels above
 surveys-levels {W = W} g e s = record {
   size = e;
   few = λ l. let n = pigeonhole MOST (s .list) (s .once) (λ c h. arrow-most g c (s .arrow c h)) in let f = s .few l in omega (arith, n, f);
@@ -55,7 +59,8 @@ reach-nothing (root h e) = mem-nil h
 reach-nothing (by-low r e) = reach-nothing r
 reach-nothing (by-high r e) = reach-nothing r
 
-module _ {m : ℕ} {rows : Rows} {roots seen above reached added : List ℕ} (s : Surveys m rows seen above reached) (k : AddedCounts rows roots reached added) where
+module _ {m : ℕ} {rows : Rows} {roots seen above reached added : List ℕ} (s : Surveys m rows seen above reached)
+    (k : AddedCounts rows roots reached added) where
   -- what the marks are of is reached from the roots and the rows added
   abbrev pub sources : List ℕ
   sources = roots ++ map row (k .list)
@@ -70,7 +75,9 @@ module _ {m : ℕ} {rows : Rows} {roots seen above reached added : List ℕ} (s 
   reached-arrow b (suc i) e o = subst (ReachedTo rows sources) (sym e) (reached-row i (subst (OnTo reached) e o))
 
   pub looked-added : AddedRows rows roots sources (countOf added)
-  looked-added = added-done (k .list) sources (countOf added) (k .so-far) (λ b h. ⊎-elim (λ g. λ j l. inl (root g l)) (listed b) (append-cases roots h))
+  looked-added =
+      added-done (k .list) sources (countOf added) (k .so-far)
+      (λ b h. ⊎-elim (λ g. λ j l. inl (root g l)) (listed b) (append-cases roots h))
     where
       listed : (b : ℕ) → Mem b (map row (k .list)) → Accounted rows roots (k .list) b
       listed b h j l =
@@ -92,11 +99,13 @@ module _ {m : ℕ} {rows : Rows} {roots seen above reached added : List ℕ} (s 
         pick : (x : ℕ) → target c ≡ x → (b : ℕ) × Reached rows sources b × Denotes m rows b (oddF (den m rows c))
         pick zero e = (c, reached-arrow c zero e (subst (OnTo reached) (sym e) tt), odd-constant m rows c e)
         pick (suc i) e =
-            let h : Mem c (s .list) = ⊎-elim (λ r. absurd (reach-nothing r)) (λ g. g) (survey-all (s .list) (countOf above) a c (s .survey) passed t i e) in
+            let h : Mem c (s .list) = ⊎-elim (λ r. absurd (reach-nothing r)) (λ g. g)
+            (survey-all (s .list) (countOf above) a c (s .survey) passed t i e) in
             let v = s .covers c h in
             (v .by, reached-arrow (v .by) (target (v .by)) refl (v .marked), v .denotes)
 
-module _ {n N : ℕ} {W : View} {c roots : List ℕ} {a left : ℕ} (p : LookPre n N W c roots a left) {reached seen₀ : List ℕ} {number : ℕ} (v : LiveMarked W roots reached number) (b : SeenBlank N seen₀) where
+module _ {n N : ℕ} {W : View} {c roots : List ℕ} {a left : ℕ} (p : LookPre n N W c roots a left) {reached seen₀ : List ℕ}
+    {number : ℕ} (v : LiveMarked W roots reached number) (b : SeenBlank N seen₀) where
   begun : AddedCounts (rowsOf W) (live W roots) reached (replicate LEVELS 0)
   begun = counts-none (v .only) (λ l. zeros LEVELS l)
 
@@ -117,7 +126,8 @@ module _ {n N : ℕ} {W : View} {c roots : List ℕ} {a left : ℕ} (p : LookPre
     };
   }
 
-  module _ {seen above reached′ added : List ℕ} (s : SurveyPost (2 * n) (rowsOf W) seen₀ seen (replicate LEVELS 0) above reached reached′ (replicate LEVELS 0) added a) where
+  module _ {seen above reached′ added : List ℕ}
+      (s : SurveyPost (2 * n) (rowsOf W) seen₀ seen (replicate LEVELS 0) above reached reached′ (replicate LEVELS 0) added a) where
     marked-added : AddedCounts (rowsOf W) (live W roots) reached′ added
     marked-added = s .added-counts (live W roots) begun
 
@@ -129,8 +139,12 @@ module _ {n N : ℕ} {W : View} {c roots : List ℕ} {a left : ℕ} (p : LookPre
     look-levels ea ed = (surveys-levels (p .sound .good) ea (s .surveys), added-levels (p .sound .good) ed marked-added, p .fewer, small)
 
     -- and what its answer says
-    pub look-fits : {most : ℕ} → AllWithin (2 * n) number (countOf above) (countOf added) left most → LeftFits (2 * n) (rowsOf W) (live W roots) a left most
+    pub look-fits : {most : ℕ} → AllWithin (2 * n) number (countOf above) (countOf added) left most
+        → LeftFits (2 * n) (rowsOf W) (live W roots) a left most
     look-fits {most} w =
-        let none : Evens (2 * n) (rowsOf W) (live W roots) [] = record { within = λ b h. absurd (mem-nil h); blind = λ b h. absurd (mem-nil h) } in
-        left-counted (ready-wf (p .ready)) refl small (p .fewer) (p .arrow) (p .blind) (live W roots) (live-arrows roots (p .sound) (p .arrows)) (v .number) none
-        (looked-covered (s .surveys) marked-added a (s .has)) (looked-survey (s .surveys) marked-added a (s .has)) (looked-added (s .surveys) marked-added) most w
+        let none : Evens (2 * n) (rowsOf W) (live W roots)
+        [] = record { within = λ b h. absurd (mem-nil h); blind = λ b h. absurd (mem-nil h) } in
+        left-counted (ready-wf (p .ready)) refl small (p .fewer) (p .arrow) (p .blind) (live W roots)
+        (live-arrows roots (p .sound) (p .arrows)) (v .number) none
+        (looked-covered (s .surveys) marked-added a (s .has)) (looked-survey (s .surveys) marked-added a (s .has))
+        (looked-added (s .surveys) marked-added) most w

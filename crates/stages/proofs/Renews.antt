@@ -39,11 +39,22 @@ module _ {m N limit : ℕ} {W : View} {seen : List ℕ} {a : ℕ} (p : RenewPre 
       open-at = opened (ready-wf (p .ready)) (row-at a (p .arrow) h ei) n
 
       pub renew-low : (depth m (rowsOf W) lo < t) × RenewPre m N limit W seen lo
-      renew-low = (subst (λ (k : ℕ). depth m (rowsOf W) lo < k) q (low-falls open-at), record { ready = p .ready; arrow = open-at .parts .low-arrow; room = p .room })
+      renew-low = (
+        subst (λ (k : ℕ). depth m (rowsOf W) lo < k) q (low-falls open-at),
+        record { ready = p .ready; arrow = open-at .parts .low-arrow; room = p .room },
+      )
 
-      pub renew-high : {X : View} {s : List ℕ} → Grown m W X → length s ≡ length seen → (depth m (rowsOf X) hi < t) × RenewPre m N limit X s hi
-      renew-high {X} g e =
-          (subst (λ (k : ℕ). depth m (rowsOf X) hi < k) q (high-falls open-at (g .kept)), record { ready = ready-grown (p .ready) g; arrow = high-later open-at (g .kept); room = let r = p .room in omega (arith, e, r) })
+      pub renew-high : {X : View} {s : List ℕ} → Grown m W X → length s ≡ length seen
+          → (depth m (rowsOf X) hi < t) × RenewPre m N limit X s hi
+      renew-high {X} g e = (
+        subst (λ (k : ℕ). depth m (rowsOf X) hi < k) q (high-falls open-at (g .kept)),
+        record {
+          ready = ready-grown (p .ready) g;
+          arrow = high-later open-at (g .kept);
+          room = let r = p .room in
+              omega (arith, e, r);
+        },
+      )
 
   -- last the arrow itself
   module _ {X Y : View} (lo : Grown m W X) (hi : Grown m X Y) where

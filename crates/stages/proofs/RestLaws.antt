@@ -2,7 +2,8 @@
 use mathlib.Core.Path.{_≡_, refl, sym, subst, fun-ext}
 use mathlib.Core.Logic.{_≢_, ⊎-elim}
 use mathlib.Core.Bool.{Bool, true, false, true≢false}
-use mathlib.Core.List.{List, [], _∷_, _++_, List·Memᴰ as Mem, List·Memᴰ·cases-cons as mem-cases, List·Memᴰ·not-nil as mem-nil, List·Memᴰ·append-cases as append-cases}
+use mathlib.Core.List.{List, [], _∷_, _++_, List·Memᴰ as Mem, List·Memᴰ·cases-cons as mem-cases, List·Memᴰ·not-nil as mem-nil}
+use mathlib.Core.List.{List·Memᴰ·append-cases as append-cases}
 use Prim.Native.Nat.{ℕ, _*_, _<_}
 use native.Mathlib.Omega.{arith}
 use Rattle.layout.specs.Places.{BITS, MAX-ROWS}
@@ -37,7 +38,9 @@ module _ {n N limit : ℕ} {W : View} {roots : List ℕ} {a left : ℕ} (p : Res
   -- ---- a table to which rows were added
   module _ {X : View} (g : Grown (2 * n) W X) where
     pub sound-grown : Sound X
-    sound-grown = sound-extends (p .sound) (g .good) (g .frame .header BITS (omega arith) (omega arith) (omega arith) (omega arith)) (λ h b l. g .frame .header h (omega arith) (omega arith) (omega arith) (omega arith)) (g .kept)
+    sound-grown =
+        sound-extends (p .sound) (g .good) (g .frame .header BITS (omega arith) (omega arith) (omega arith) (omega arith))
+        (λ h b l. g .frame .header h (omega arith) (omega arith) (omega arith) (omega arith)) (g .kept)
 
     pub pre-grown : RestPre n N limit X roots a left
     pre-grown = record {
@@ -60,7 +63,16 @@ module _ {n N limit : ℕ} {W : View} {roots : List ℕ} {a left : ℕ} (p : Res
 
   -- ---- a look
   pub look-asks : {c : List ℕ} → BaseOf W c → LookPre n N W c roots a left
-  look-asks k = record { ready = ready-look (p .ready); sound = p .sound; base = k; arrows = p .arrows; arrow = p .arrow; blind = p .blind; fewer = p .fewer }
+  look-asks k =
+      record {
+        ready = ready-look (p .ready);
+        sound = p .sound;
+        base = k;
+        arrows = p .arrows;
+        arrow = p .arrow;
+        blind = p .blind;
+        fewer = p .fewer;
+      }
 
   pub sure-yes : {most : ℕ} {r : Looked} → LookPost n W roots a left most r → r ≡ looked.Fits → SurePost n W W roots a left most true
   sure-yes l e = record { grown = grown-none (p .ready); fits = λ t. l .fits e }
@@ -84,7 +96,8 @@ module _ {n N limit : ℕ} {W : View} {roots : List ℕ} {a left : ℕ} (p : Res
 
       one : (b : ℕ) → Mem b (a ∷ a ∷ x ∷ []) → Arrow (rowsOf W) b
       one b h = ⊎-elim (λ e. is e (p .arrow))
-          (λ t. ⊎-elim (λ e. is e (p .arrow)) (λ t. ⊎-elim (λ e. is e (u (rowsOf W) (p .arrow))) (λ z. absurd (mem-nil z)) (mem-cases t)) (mem-cases t)) (mem-cases h)
+          (λ t. ⊎-elim (λ e. is e (p .arrow)) (λ t. ⊎-elim (λ e. is e (u (rowsOf W) (p .arrow))) (λ z. absurd (mem-nil z)) (mem-cases t))
+          (mem-cases t)) (mem-cases h)
 
   pub rest-none : {X : View} {most : ℕ} → Grown (2 * n) W X → RestPost n W X roots a left most find.Nothing
   rest-none g = record { grown = g; value = λ v e. absurd (nothing v e); fits = λ v e. absurd (nothing v e) }
@@ -95,7 +108,8 @@ module _ {n N limit : ℕ} {W : View} {roots : List ℕ} {a left : ℕ} (p : Res
   pub rest-idle : {most : ℕ} → RestPost n W W roots a left most find.Nothing
   rest-idle = rest-none (grown-none (p .ready))
 
-  module _ {X : View} {c : ℕ} (o : OddPost (2 * n) W X a c) (v : c ≢ FULL) {Y : View} {most : ℕ} {b : Bool} (s : SurePost n X Y roots a left most b) where
+  module _ {X : View} {c : ℕ} (o : OddPost (2 * n) W X a c) (v : c ≢ FULL)
+      {Y : View} {most : ℕ} {b : Bool} (s : SurePost n X Y roots a left most b) where
     pub rest-at : b ≡ true → RestPost n W Y roots a left most (find.At c)
     rest-at e = record {
       grown = grown-trans (o .grown) (s .grown);

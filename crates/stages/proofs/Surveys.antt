@@ -2,7 +2,8 @@
 use mathlib.Core.Path.{_≡_, refl, sym, _∙_, subst}
 use mathlib.Core.Logic.{_⊎_, inl, inr, ⊎-elim, by-cases}
 use mathlib.Core.Bool.{Bool, true, false, true≢false}
-use mathlib.Core.List.{List, [], _∷_, List·Memᴰ·head as here, List·Memᴰ·tail as there, List·Memᴰ·cases-cons as mem-cases, List·Memᴰ·not-nil as mem-nil}
+use mathlib.Core.List.{List, [], _∷_, List·Memᴰ·head as here, List·Memᴰ·tail as there, List·Memᴰ·cases-cons as mem-cases}
+use mathlib.Core.List.{List·Memᴰ·not-nil as mem-nil}
 use Prim.Native.Nat.{ℕ, zero, suc, _+_, _*_, _≤_, _<_}
 use native.Mathlib.Decide.{ℕ-discrete}
 use native.Mathlib.Omega.{arith}
@@ -37,20 +38,28 @@ use Rattle.stages.proofs.AddedCounts.{added-at, added-next}
 use Rattle.stages.specs.Surveys.{Cover, Surveys, SurveyPre, SurveyPost}
 
 -- no bit, and nothing counted
-pub surveys-none : {m : ℕ} {rows : Rows} {seen above : List ℕ} (reached : List ℕ) → ((c : ℕ) → On seen c → ⊥) → ((l : ℕ) → countOf above l ≡ 0) → Surveys m rows seen above reached
+pub surveys-none : {m : ℕ} {rows : Rows} {seen above : List ℕ} (reached : List ℕ) → ((c : ℕ) → On seen c → ⊥)
+    → ((l : ℕ) → countOf above l ≡ 0) → Surveys m rows seen above reached
 surveys-none {m} {rows} reached off none = record {
   list = [];
   once = tt;
   arrow = λ c h. absurd (mem-nil h);
   marked = λ c h. absurd (mem-nil h);
   all = λ c o. absurd (off c o);
-  survey = record { closed = survey-none {m = m} {rows = rows} {evens = []} .closed; counted = λ l. let s = survey-none {m = m} {rows = rows} {evens = []} .counted l in omega (arith, s) };
+  survey =
+      record {
+        closed =
+            survey-none {m = m} {rows = rows} {evens = []} .closed;
+        counted =
+            λ l. let s = survey-none {m = m} {rows = rows} {evens = []} .counted l in omega (arith, s);
+      };
   covers = λ c h. absurd (mem-nil h);
   few = λ l. let e = none l in omega (arith, e);
 }
 
 -- more rows marked
-surveys-marked-more : {m : ℕ} {rows : Rows} {seen above reached reached′ : List ℕ} → ((i : ℕ) → On reached i → On reached′ i) → Surveys m rows seen above reached → Surveys m rows seen above reached′
+surveys-marked-more : {m : ℕ} {rows : Rows} {seen above reached reached′ : List ℕ} → ((i : ℕ) → On reached i → On reached′ i)
+    → Surveys m rows seen above reached → Surveys m rows seen above reached′
 surveys-marked-more {reached = reached} {reached′} f s = record {
   list = s .list;
   once = s .once;
@@ -58,7 +67,9 @@ surveys-marked-more {reached = reached} {reached′} f s = record {
   marked = s .marked;
   all = s .all;
   survey = s .survey;
-  covers = λ c h. let v = s .covers c h in record { by = v .by; denotes = v .denotes; marked = onArrow-le reached reached′ f (v .by) (v .marked) };
+  covers =
+      λ c h. let v = s .covers c h in
+      record { by = v .by; denotes = v .denotes; marked = onArrow-le reached reached′ f (v .by) (v .marked) };
   few = s .few;
 }
 
@@ -79,7 +90,8 @@ follows-part : {rows : Rows} {a i c : ℕ} (b : Bool) → Leads a i → Follows 
 follows-part b l self = on b self l
 follows-part b l (on d t k) = on d (follows-part b l t) k
 
-follows-level : {m N : ℕ} {rows : Rows} {a c : ℕ} → WellFormed m N rows → Arrow rows a → Follows rows a c → Arrow rows c × (levelOf m rows a ≤ levelOf m rows c)
+follows-level : {m N : ℕ} {rows : Rows} {a c : ℕ} → WellFormed m N rows → Arrow rows a → Follows rows a c
+    → Arrow rows c × (levelOf m rows a ≤ levelOf m rows c)
 follows-level wf u self = (u, omega arith)
 follows-level {m} {rows = rows} wf u (on {c = c} {i = i} b t l) =
     let (w, h) = follows-level wf u t in
@@ -95,7 +107,8 @@ module _ {m N : ℕ} {W : View} {seen above reached added : List ℕ} {a : ℕ} 
 
   -- arrows 0 and 1, and arrows with a bit, add nothing
   survey-same : ((i : ℕ) → Leads a i → On seen a) → SurveyPost m (rowsOf W) seen seen above above reached reached added added a
-  survey-same h = record { kept = λ c o. o; has = h; only = λ c o. inl o; surveys = p .surveys; marked-more = λ i o. o; added-counts = λ roots s. s }
+  survey-same h =
+      record { kept = λ c o. o; has = h; only = λ c o. inl o; surveys = p .surveys; marked-more = λ i o. o; added-counts = λ roots s. s }
 
   pub survey-constant : isRow a ≡ false → SurveyPost m (rowsOf W) seen seen above above reached reached added added a
   survey-constant h = survey-same (λ i l. let z = no-row-leads a h in absurd (omega (arith, z, l)))
@@ -108,7 +121,8 @@ module _ {m N : ℕ} {W : View} {seen above reached added : List ℕ} {a : ℕ} 
   cover-asks {b = b} e k = added-at (p .marking) (k .at b e .arrow)
 
 -- the walk from an arrow to row i that has no bit
-module _ {m N : ℕ} {W : View} {s₀ a₀ k₀ d₀ : List ℕ} {a i : ℕ} (p : SurveyPre m N W s₀ a₀ k₀ d₀ a) (h : isRow a ≡ true) (ei : i ≡ rowOf a) where
+module _ {m N : ℕ} {W : View} {s₀ a₀ k₀ d₀ : List ℕ} {a i : ℕ} (p : SurveyPre m N W s₀ a₀ k₀ d₀ a) (h : isRow a ≡ true)
+    (ei : i ≡ rowOf a) where
   at-row : RowAt (rowsOf W) a i
   at-row = row-at a (p .marking .arrow) h ei
 
@@ -116,15 +130,18 @@ module _ {m N : ℕ} {W : View} {s₀ a₀ k₀ d₀ : List ℕ} {a i : ℕ} (p 
   pub survey-row-at : (i < W .rows) × (wordsFor (W .rows) ≤ W .size)
   survey-row-at = (p .marking .good .rows .bounded i (at-row .used), p .marking .good .sizes .room)
 
-  module _ {k₁ d₁ : List ℕ} {f : Found} {b l lo hi : ℕ} (ef : f ≡ find.At b) (known : OddKnown m W a f) (sh : MarkAddedPost (rowsOf W) k₀ k₁ d₀ d₁ b) (n : RowIs (rowsOf W) a i l lo hi) where
+  module _ {k₁ d₁ : List ℕ} {f : Found} {b l lo hi : ℕ} (ef : f ≡ find.At b) (known : OddKnown m W a f)
+      (sh : MarkAddedPost (rowsOf W) k₀ k₁ d₀ d₁ b) (n : RowIs (rowsOf W) a i l lo hi) where
     open-at : Opened m (rowsOf W) a i l lo hi
     open-at = opened (ready-wf (p .ready)) at-row n
 
-    -- then the two arrows that are followed from it, first the low one: the measures are 2 d for the work on a row and 2 d + 1 for any arrow
+    -- then the two arrows that are followed from it, first the low one: the measures are 2 d for the work on a row and 2 d + 1 for any
+    -- arrow
     pub low-asks : {t : ℕ} → 2 * depth m (rowsOf W) a ≡ t → length k₁ ≡ length k₀ → length d₁ ≡ length d₀
         → (2 * depth m (rowsOf W) lo + 1 < t) × SurveyPre m N W s₀ a₀ k₁ d₁ lo
     low-asks q ek ed = (
-      subst (λ (k : ℕ). 2 * depth m (rowsOf W) lo + 1 < k) q (part-falls (depth m (rowsOf W) lo) (depth m (rowsOf W) a) (low-falls open-at)),
+      subst (λ (k : ℕ). 2 * depth m (rowsOf W) lo + 1 < k) q
+          (part-falls (depth m (rowsOf W) lo) (depth m (rowsOf W) a) (low-falls open-at)),
       record {
         ready = p .ready;
         seen-room = p .seen-room;
@@ -135,10 +152,12 @@ module _ {m N : ℕ} {W : View} {s₀ a₀ k₀ d₀ : List ℕ} {a i : ℕ} (p 
     )
 
     module _ {s₁ a₁ k₂ d₂ : List ℕ} (low : SurveyPost m (rowsOf W) s₀ s₁ a₀ a₁ k₁ k₂ d₁ d₂ lo) where
-      pub high-asks : {t : ℕ} → 2 * depth m (rowsOf W) a ≡ t → length s₁ ≡ length s₀ → length a₁ ≡ length a₀ → length k₂ ≡ length k₀ → length d₂ ≡ length d₀
+      pub high-asks : {t : ℕ} → 2 * depth m (rowsOf W) a ≡ t → length s₁ ≡ length s₀ → length a₁ ≡ length a₀ → length k₂ ≡ length k₀
+          → length d₂ ≡ length d₀
           → (2 * depth m (rowsOf W) hi + 1 < t) × SurveyPre m N W s₁ a₁ k₂ d₂ hi
       high-asks q es ea ek ed = (
-        subst (λ (k : ℕ). 2 * depth m (rowsOf W) hi + 1 < k) q (part-falls (depth m (rowsOf W) hi) (depth m (rowsOf W) a) (high-falls open-at (extends-refl (rowsOf W)))),
+        subst (λ (k : ℕ). 2 * depth m (rowsOf W) hi + 1 < k) q
+            (part-falls (depth m (rowsOf W) hi) (depth m (rowsOf W) a) (high-falls open-at (extends-refl (rowsOf W)))),
         record {
           ready = p .ready;
           seen-room = let r = p .seen-room in omega (arith, es, r);
@@ -165,7 +184,8 @@ module _ {m N : ℕ} {W : View} {s₀ a₀ k₀ d₀ : List ℕ} {a i : ℕ} (p 
 
         still-off : On s₂ a → ⊥
         still-off o =
-            ⊎-elim (λ q. ⊎-elim (λ r. true≢false (sym r ∙ off)) (λ t. apart lo (open-at .parts .low-arrow) (open-at .parts .low-deeper) t) (low .only a q))
+            ⊎-elim (λ q. ⊎-elim (λ r. true≢false (sym r ∙ off)) (λ t. apart lo (open-at .parts .low-arrow) (open-at .parts .low-deeper) t)
+            (low .only a q))
             (λ t. apart hi (open-at .parts .high-arrow) (open-at .parts .high-deeper) t) (high .only a o)
 
         -- its level has a count, which has not reached its end
@@ -174,7 +194,8 @@ module _ {m N : ℕ} {W : View} {s₀ a₀ k₀ d₀ : List ℕ} {a i : ℕ} (p 
             let s = high .surveys in
             let g = p .marking .good in
             let below : (c : ℕ) → Arrow (rowsOf W) c → c < 2 * W .rows + 2 = λ c u. arrow-below c (target c) refl (g .rows) u in
-            let n = pigeonhole (2 * W .rows + 2) (a ∷ s .list) ((λ x. still-off (s .marked a x)), s .once) (λ c x. ⊎-elim (λ q. rw q (below a (p .marking .arrow))) (λ y. below c (s .arrow c y)) (mem-cases x)) in
+            let n = pigeonhole (2 * W .rows + 2) (a ∷ s .list) ((λ x. still-off (s .marked a x)), s .once)
+            (λ c x. ⊎-elim (λ q. rw q (below a (p .marking .arrow))) (λ y. below c (s .arrow c y)) (mem-cases x)) in
             let w = s .few l in
             let r = g .sizes .N-max in
             let t = g .sizes .n-max in
@@ -195,7 +216,12 @@ module _ {m N : ℕ} {W : View} {s₀ a₀ k₀ d₀ : List ℕ} {a i : ℕ} (p 
             arrow = λ c x. ⊎-elim (λ q. subst (Arrow (rowsOf W)) (sym q) (p .marking .arrow)) (λ y. s .arrow c y) (mem-cases x);
             marked = λ c x. ⊎-elim (λ q. subst (On s₃) (sym q) (new .has)) (λ y. on-bit c (s .marked c y)) (mem-cases x);
             all = λ c o. by-cases (ℕ-discrete c a) (λ e. here e) (λ d. there (s .all c (sym (new .other c d) ∙ o)));
-            survey = record { closed = more-so-far .closed; counted = λ j. let e = more .each j in let x = more-so-far .counted j in omega (arith, e, x) };
+            survey =
+                record {
+                  closed = more-so-far .closed;
+                  counted = λ j. let e = more .each j in
+                      let x = more-so-far .counted j in omega (arith, e, x);
+                };
             covers = λ c x. ⊎-elim (λ q. subst (Cover m (rowsOf W) k₃) (sym q) own) (λ y. s .covers c y) (mem-cases x);
             few = one-more-le more (s .few);
           };

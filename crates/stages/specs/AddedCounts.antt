@@ -1,5 +1,5 @@
--- The rows added in a bitmap, counted by level: the rows that are marked beside those that the roots reach. What `mark_added` asks and leaves.
--- Assumes nothing.
+-- The rows added in a bitmap, counted by level: the rows that are marked beside those that the roots reach.
+-- What `mark_added` asks and leaves. Assumes nothing.
 use mathlib.Core.Path.{_≡_}
 use mathlib.Core.Logic.{_⊎_}
 use mathlib.Core.Bool.{true}

@@ -28,7 +28,8 @@ pub record SeenBlank (N : ℕ) (seen : List ℕ) : Type 0 where
   pub enough : 2 * N + 2 ≤ 32 * length seen
   pub blank : (c : ℕ) → On seen c → ⊥
 
--- What a look at them asks: a table between steps, marks of what registers and relations reach, and an arrow that does not read the odd levels done.
+-- What a look at them asks: a table between steps, marks of what registers and relations reach, and an arrow that does not read the odd
+-- levels done.
 pub record LookPre (n N : ℕ) (W : View) (c roots : List ℕ) (a left : ℕ) : Type 0 where
   pub ready : Ready (2 * n) N 0 W
   pub sound : Sound W

@@ -1,4 +1,5 @@
--- The arrows that are followed from one, in a bitmap with a bit for each arrow, counted by level. What `survey` asks and leaves. Assumes nothing.
+-- The arrows that are followed from one, in a bitmap with a bit for each arrow, counted by level. What `survey` asks and leaves.
+-- Assumes nothing.
 use mathlib.Core.Path.{_≡_}
 use mathlib.Core.Logic.{_⊎_}
 use mathlib.Core.List.{List, [], List·Memᴰ as Mem}

@@ -67,7 +67,9 @@ fn count_one(counts: &mut [u32], level: u32)
 // Marks the rows that arrow b reaches, and counts by level those that were not marked.
 fn mark_added(words: &[u32], rows: u32, reached: &mut [u32], added: &mut [u32], b: u32)
     requires { ⌜ MarkAddedPre (view rows (now words)) (now reached) (now added) b ⌝ }
-    ensures { λ _. ⌜ MarkAddedPost (rowsOf (view rows (now (words .entry)))) (now (reached .entry)) (now (reached .exit)) (now (added .entry)) (now (added .exit)) b ⌝ }
+    ensures { λ _.
+        ⌜ MarkAddedPost (rowsOf (view rows (now (words .entry)))) (now (reached .entry)) (now (reached .exit)) (now (added .entry))
+        (now (added .exit)) b ⌝ }
 {
     if !is_row(b) {
         return;
@@ -81,7 +83,9 @@ fn mark_added(words: &[u32], rows: u32, reached: &mut [u32], added: &mut [u32], 
 // `mark_added` of an arrow of a row. It is apart, so that it is inlined in `mark_added_row`: an arrow with nothing to mark costs no call.
 fn mark_added_part(words: &[u32], rows: u32, reached: &mut [u32], added: &mut [u32], b: u32)
     requires { ⌜ MarkAddedPre (view rows (now words)) (now reached) (now added) b ⌝ }
-    ensures { λ _. ⌜ MarkAddedPost (rowsOf (view rows (now (words .entry)))) (now (reached .entry)) (now (reached .exit)) (now (added .entry)) (now (added .exit)) b ⌝ }
+    ensures { λ _.
+        ⌜ MarkAddedPost (rowsOf (view rows (now (words .entry)))) (now (reached .entry)) (now (reached .exit)) (now (added .entry))
+        (now (added .exit)) b ⌝ }
 {
     if !is_row(b) {
         return;
@@ -94,8 +98,11 @@ fn mark_added_part(words: &[u32], rows: u32, reached: &mut [u32], added: &mut [u
 
 // `mark_added` of an arrow to a row that is not marked.
 fn mark_added_row(words: &[u32], rows: u32, reached: &mut [u32], added: &mut [u32], b: u32)
-    requires { ⌜ MarkAddedPre (view rows (now words)) (now reached) (now added) b × (isRow b ≡ true) × (isOn (now reached) (rowOf b) ≡ false) ⌝ }
-    ensures { λ _. ⌜ MarkAddedPost (rowsOf (view rows (now (words .entry)))) (now (reached .entry)) (now (reached .exit)) (now (added .entry)) (now (added .exit)) b ⌝ }
+    requires { ⌜ MarkAddedPre (view rows (now words)) (now reached) (now added) b × (isRow b ≡ true)
+        × (isOn (now reached) (rowOf b) ≡ false) ⌝ }
+    ensures { λ _.
+        ⌜ MarkAddedPost (rowsOf (view rows (now (words .entry)))) (now (reached .entry)) (now (reached .exit)) (now (added .entry))
+        (now (added .exit)) b ⌝ }
 {
     let i = row_of(b);
     mark_added_part(words, rows, reached, added, get(words, rows, i, Table::LOW));
@@ -110,8 +117,8 @@ fn mark_added_row(words: &[u32], rows: u32, reached: &mut [u32], added: &mut [u3
     count_one(added, get(words, rows, i, Table::LEVEL));
 }
 
-// Counts by level the arrows that are followed from arrow a, each with its sign, and `mark_added`s what is remembered as EXISTS at every odd level of
-// each. False where that is not remembered.
+// Counts by level the arrows that are followed from arrow a, each with its sign, and `mark_added`s what is remembered as EXISTS at every
+// odd level of each. False where that is not remembered.
 fn survey(
     words: &[u32],
     rows: u32,
@@ -123,7 +130,10 @@ fn survey(
     a: u32,
 ) -> bool
     requires { ⌜ SurveyPre levels rows (view rows (now words)) (now seen) (now above) (now reached) (now added) a ⌝ }
-    ensures { λ r. ⌜ (r ≡ true → SurveyPost levels (rowsOf (view rows (now (words .entry)))) (now (seen .entry)) (now (seen .exit)) (now (above .entry)) (now (above .exit)) (now (reached .entry)) (now (reached .exit)) (now (added .entry)) (now (added .exit)) a) ⌝ }
+    ensures { λ r.
+        ⌜ (r ≡ true
+        → SurveyPost levels (rowsOf (view rows (now (words .entry)))) (now (seen .entry)) (now (seen .exit)) (now (above .entry))
+        (now (above .exit)) (now (reached .entry)) (now (reached .exit)) (now (added .entry)) (now (added .exit)) a) ⌝ }
 {
     if !is_row(a) {
         return true;
@@ -146,7 +156,10 @@ fn survey_part(
     a: u32,
 ) -> bool
     requires { ⌜ SurveyPre levels rows (view rows (now words)) (now seen) (now above) (now reached) (now added) a ⌝ }
-    ensures { λ r. ⌜ (r ≡ true → SurveyPost levels (rowsOf (view rows (now (words .entry)))) (now (seen .entry)) (now (seen .exit)) (now (above .entry)) (now (above .exit)) (now (reached .entry)) (now (reached .exit)) (now (added .entry)) (now (added .exit)) a) ⌝ }
+    ensures { λ r.
+        ⌜ (r ≡ true
+        → SurveyPost levels (rowsOf (view rows (now (words .entry)))) (now (seen .entry)) (now (seen .exit)) (now (above .entry))
+        (now (above .exit)) (now (reached .entry)) (now (reached .exit)) (now (added .entry)) (now (added .exit)) a) ⌝ }
 {
     if !is_row(a) {
         return true;
@@ -168,8 +181,12 @@ fn survey_row(
     added: &mut [u32],
     a: u32,
 ) -> bool
-    requires { ⌜ SurveyPre levels rows (view rows (now words)) (now seen) (now above) (now reached) (now added) a × (isRow a ≡ true) × (isOn (now seen) a ≡ false) ⌝ }
-    ensures { λ r. ⌜ (r ≡ true → SurveyPost levels (rowsOf (view rows (now (words .entry)))) (now (seen .entry)) (now (seen .exit)) (now (above .entry)) (now (above .exit)) (now (reached .entry)) (now (reached .exit)) (now (added .entry)) (now (added .exit)) a) ⌝ }
+    requires { ⌜ SurveyPre levels rows (view rows (now words)) (now seen) (now above) (now reached) (now added) a × (isRow a ≡ true)
+        × (isOn (now seen) a ≡ false) ⌝ }
+    ensures { λ r.
+        ⌜ (r ≡ true
+        → SurveyPost levels (rowsOf (view rows (now (words .entry)))) (now (seen .entry)) (now (seen .exit)) (now (above .entry))
+        (now (above .exit)) (now (reached .entry)) (now (reached .exit)) (now (added .entry)) (now (added .exit)) a) ⌝ }
 {
     let known = odd_known(words, rows, levels, a);
     let Found::At(b) = known else {
@@ -237,7 +254,8 @@ fn look_marking(
     left: u32,
     most: u32,
 ) -> Looked
-    requires { ⌜ LookPre bits rows (view rows (now words)) (now counts) (now roots) a left × MarkRoom rows (length (now reached)) × SeenBlank rows (now seen) ⌝ }
+    requires { ⌜ LookPre bits rows (view rows (now words)) (now counts) (now roots) a left × MarkRoom rows (length (now reached))
+        × SeenBlank rows (now seen) ⌝ }
     ensures { λ r. ⌜ LookPost bits (view rows (now (words .entry))) (now (roots .entry)) a left most r ⌝ }
 {
     let live = mark_live(words, rows, counts, roots, reached);
@@ -419,7 +437,8 @@ fn third_of(a: u32, left: u32, bits: u32) -> u32
     a
 }
 
-// EXISTS at every odd level of arrow a, of which those below 2 · left are left, where each of them is sure to need at most `peak` and `limit` rows.
+// EXISTS at every odd level of arrow a, of which those below 2 · left are left, where each of them is sure to need at most `peak` and
+// `limit` rows.
 pub fn rest(
     words: &mut [u32],
     counts: &mut [u32],
@@ -432,7 +451,9 @@ pub fn rest(
     peak: u32,
 ) -> Found
     requires { ⌜ RestPre bits rows limit (view rows (now words)) (now roots) a left × CountsOf (view rows (now words)) (now counts) ⌝ }
-    ensures { λ r. ⌜ RestPost bits (view rows (now (words .entry))) (view rows (now (words .exit))) (now (roots .entry)) a left (min peak limit) r × CountsOf (view rows (now (words .exit))) (now (counts .exit)) ⌝ }
+    ensures { λ r.
+        ⌜ RestPost bits (view rows (now (words .entry))) (view rows (now (words .exit))) (now (roots .entry)) a left (min peak limit) r
+        × CountsOf (view rows (now (words .exit))) (now (counts .exit)) ⌝ }
 {
     let most = lesser(peak, limit);
     // two guesses, that spare the work where the answer is likely to be none

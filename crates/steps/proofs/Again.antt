@@ -1,6 +1,7 @@
 -- Laws of what specs/Again.antt defines. Assumes nothing.
 use mathlib.Core.Path.{_≡_, refl, sym, ap, _∙_, subst}
-use mathlib.Core.List.{List, _++_, List·Memᴰ as Mem, List·Memᴰ·tail as there, List·Memᴰ·cases-cons as mem-cases, List·Memᴰ·append-cases as append-cases}
+use mathlib.Core.List.{List, _++_, List·Memᴰ as Mem, List·Memᴰ·tail as there, List·Memᴰ·cases-cons as mem-cases}
+use mathlib.Core.List.{List·Memᴰ·append-cases as append-cases}
 use mathlib.Core.Logic.{⊎-elim}
 use Prim.Native.Nat.{ℕ, _*_, _≤_}
 use native.Mathlib.Omega.{arith}
@@ -49,7 +50,9 @@ module _ {m N limit : ℕ} {W : View} {roots : List ℕ} {s : Step} (p : StepPre
 
   module _ {X : View} {o : Made} (w : Worked m N limit W X o (stepF m (rowsOf W) s)) where
     tried-sound : Sound X
-    tried-sound = sound-extends (p .sound) (w .good) (w .frame .header BITS (omega arith) (omega arith) (omega arith) (omega arith)) (λ h a l. w .frame .header h (omega arith) (omega arith) (omega arith) (omega arith)) (w .post .kept)
+    tried-sound =
+        sound-extends (p .sound) (w .good) (w .frame .header BITS (omega arith) (omega arith) (omega arith) (omega arith))
+        (λ h a l. w .frame .header h (omega arith) (omega arith) (omega arith) (omega arith)) (w .post .kept)
 
     tried-arrows : (a : ℕ) → Mem a roots → Arrow (rowsOf X) a
     tried-arrows a h = arrow-extends (w .post .kept) a (p .arrows a h)
@@ -79,13 +82,17 @@ module _ {m N limit : ℕ} {W : View} {roots : List ℕ} {s : Step} (p : StepPre
     first-pre e = rw e at settle-pre
 
     -- what a settled try says of the table's N rows and of W's live roots
-    pub settled-at : {Y : View} {t r : Made} → SettlePost limit X Y roots s t r → Settled N limit (rowsOf X) (rowsOf Y) (liveAt W roots s) (result t) (result r)
+    pub settled-at : {Y : View} {t r : Made} → SettlePost limit X Y roots s t r
+        → Settled N limit (rowsOf X) (rowsOf Y) (liveAt W roots s) (result t) (result r)
     settled-at {Y} {t} {r} z =
-        subst (λ (xs : List ℕ). Settled N limit (rowsOf X) (rowsOf Y) xs (result t) (result r)) (live-same (w .frame) (roots ++ operandsOf s))
-        (subst (λ (n : ℕ). Settled n limit (rowsOf X) (rowsOf Y) (liveAt X roots s) (result t) (result r)) (w .frame .rows ∙ sym (p .ready .rows-is)) (z .settled))
+        subst (λ (xs : List ℕ). Settled N limit (rowsOf X) (rowsOf Y) xs (result t) (result r))
+        (live-same (w .frame) (roots ++ operandsOf s))
+        (subst (λ (n : ℕ). Settled n limit (rowsOf X) (rowsOf Y) (liveAt X roots s) (result t) (result r))
+        (w .frame .rows ∙ sym (p .ready .rows-is)) (z .settled))
 
   -- the first try is answered
-  pub stepped-first : {X Y : View} {o r : Made} {a : ℕ} → o ≡ answer.At a → Worked m N limit W X o (stepF m (rowsOf W) s) → SettlePost limit X Y roots s (answer.At a) r → Stepped m N limit W Y roots s r
+  pub stepped-first : {X Y : View} {o r : Made} {a : ℕ} → o ≡ answer.At a → Worked m N limit W X o (stepF m (rowsOf W) s)
+      → SettlePost limit X Y roots s (answer.At a) r → Stepped m N limit W Y roots s r
   stepped-first {X} {Y} {o} {r} {a} e w′ z =
       let w : Worked m N limit W X (answer.At a) (stepF m (rowsOf W) s) = rw e at w′ in
       record {
@@ -96,22 +103,28 @@ module _ {m N limit : ℕ} {W : View} {roots : List ℕ} {s : Step} (p : StepPre
       }
 
   -- and few rows are used
-  pub stepped-few : {X : View} {o : Made} {a c : ℕ} → o ≡ answer.At a → Worked m N limit W X o (stepF m (rowsOf W) s) → c ≡ X .header USED → c ≤ limit → Stepped m N limit W X roots s (answer.At a)
+  pub stepped-few : {X : View} {o : Made} {a c : ℕ} → o ≡ answer.At a → Worked m N limit W X o (stepF m (rowsOf W) s) → c ≡ X .header USED
+      → c ≤ limit → Stepped m N limit W X roots s (answer.At a)
   stepped-few e w q l = stepped-first e w (settle-few limit (first-pre w e) refl q l)
 
   -- it ran out, and the second try decides
-  pub stepped-again : {X Y : View} {o r : Made} → o ≡ answer.Full → Worked m N limit W X o (stepF m (rowsOf W) s) → Retried m N limit X Y roots s r → Stepped m N limit W Y roots s r
+  pub stepped-again : {X Y : View} {o r : Made} → o ≡ answer.Full → Worked m N limit W X o (stepF m (rowsOf W) s)
+      → Retried m N limit X Y roots s r → Stepped m N limit W Y roots s r
   stepped-again {X} {Y} {o} {r} e w′ z =
       let w : Worked m N limit W X answer.Full (stepF m (rowsOf W) s) = rw e at w′ in
       let l = live-same (w .frame) (roots ++ operandsOf s) in
-      let c : Collects (rowsOf X) (z .clean) (liveAt W roots s) = subst (λ (xs : List ℕ). Collects (rowsOf X) (z .clean) xs) l (z .collects) in
-      let d : Settled N limit (z .tried) (rowsOf Y) (liveAt W roots s) (z .part) (result r) = subst (λ (xs : List ℕ). Settled N limit (z .tried) (rowsOf Y) xs (z .part) (result r)) l (z .settled) in
-      let k : Keeps (rowsOf W) (z .clean) (liveAt W roots s) = keeps-trans (extends-keeps (ready-wf (p .ready)) live-are (w .post .kept)) (collects-keeps c) in
+      let c : Collects (rowsOf X) (z .clean) (liveAt W roots s) = subst (λ (xs : List ℕ). Collects (rowsOf X) (z .clean) xs) l
+      (z .collects) in
+      let d : Settled N limit (z .tried) (rowsOf Y) (liveAt W roots s) (z .part)
+      (result r) = subst (λ (xs : List ℕ). Settled N limit (z .tried) (rowsOf Y) xs (z .part) (result r)) l (z .settled) in
+      let k : Keeps (rowsOf W) (z .clean) (liveAt W roots s) = keeps-trans (extends-keeps (ready-wf (p .ready)) live-are (w .post .kept))
+      (collects-keeps c) in
       record {
         sound = z .sound;
         memory = z .memory;
         frame = op-trans (w .frame) (z .frame);
-        post = step-again (liveAt W roots s) (ready-wf (p .ready)) live-are (w .post) c (stepF-keeps m s (keeps-within (operand-live W roots s) k))
+        post = step-again (liveAt W roots s) (ready-wf (p .ready)) live-are (w .post) c
+            (stepF-keeps m s (keeps-within (operand-live W roots s) k))
             (stepF-reads s (ready-wf (p .ready)) (even-levels (p .ready)) (p .fits)) (z .post) d;
       }
 
@@ -131,7 +144,8 @@ module _ {m N limit : ℕ} {W : View} {roots : List ℕ} {s : Step} (p : StepPre
       fits = fits-keeps m s (keeps-within (operand-live W roots s) keeps) (p .fits);
     }
 
-pub retried : {m N limit : ℕ} {W C X Y : View} {roots : List ℕ} {s : Step} {o r : Made} (p : StepPre m N limit W roots s) (c : Cleaned W C roots s 0)
+pub retried : {m N limit : ℕ} {W C X Y : View} {roots : List ℕ} {s : Step} {o r : Made} (p : StepPre m N limit W roots s)
+    (c : Cleaned W C roots s 0)
     (w : Worked m N limit C X o (stepF m (rowsOf C) s)) → SettlePost limit X Y roots s o r → Retried m N limit W Y roots s r
 retried {m} {N} {limit} {W} {C} {X} {Y} {roots} {s} {o} {r} p c w z = record {
   sound = z .sound;
@@ -142,11 +156,14 @@ retried {m} {N} {limit} {W} {C} {X} {Y} {roots} {s} {o} {r} p c w z = record {
   part = result o;
   collects = cleans p c;
   post = w .post;
-  settled = subst (λ (xs : List ℕ). Settled N limit (rowsOf X) (rowsOf Y) xs (result o) (result r)) (live-same (c .frame) (roots ++ operandsOf s)) (settled-at (cleaned-pre p c) w z);
+  settled =
+      subst (λ (xs : List ℕ). Settled N limit (rowsOf X) (rowsOf Y) xs (result o) (result r)) (live-same (c .frame) (roots ++ operandsOf s))
+      (settled-at (cleaned-pre p c) w z);
 }
 
 -- where an evaluation starts, all is forgotten: "Remembered results of earlier steps count for nothing at the start of a call."
-pub start-ready : {m N limit : ℕ} {W X : View} → Sound W → Forgot W X → m ≡ 2 * W .header BITS → N ≡ W .rows → limit ≤ N → Sound X × Ready m N limit X
+pub start-ready : {m N limit : ℕ} {W X : View} → Sound W → Forgot W X → m ≡ 2 * W .header BITS → N ≡ W .rows → limit ≤ N
+    → Sound X × Ready m N limit X
 start-ready {m} z f e n l =
     let y = alike-sound (memo-alike (f .frame)) z in (
       y,

@@ -1,7 +1,9 @@
 -- Laws of what specs/Clean.antt defines. Assumes nothing.
 use mathlib.Core.Path.{_≡_, refl, sym, subst}
 use mathlib.Core.Logic.{_≢_, _⊎_, inl, inr, ⊎-elim}
-use mathlib.Core.List.{List, [], _∷_, _++_, List·Memᴰ as Mem, List·Memᴰ·head as here, List·Memᴰ·tail as there, List·Memᴰ·cases-cons as mem-cases, List·Memᴰ·not-nil as mem-nil, List·Memᴰ·append-cases as append-cases, Memᴰ·append-left as append-left, Memᴰ·append-right as append-right}
+use mathlib.Core.List.{List, [], _∷_, _++_, List·Memᴰ as Mem, List·Memᴰ·head as here, List·Memᴰ·tail as there}
+use mathlib.Core.List.{List·Memᴰ·cases-cons as mem-cases, List·Memᴰ·not-nil as mem-nil, List·Memᴰ·append-cases as append-cases}
+use mathlib.Core.List.{Memᴰ·append-left as append-left, Memᴰ·append-right as append-right}
 use Prim.Native.Nat.{ℕ, zero, suc}
 use native.Mathlib.Omega.{arith}
 use Rattle.diagram.specs.Rows.{Rows, Leads, Arrow}
@@ -30,7 +32,8 @@ lent s kept = firstOperand s ∷ secondOperand s ∷ kept ∷ []
 -- arrows to rows among them are operands, or that arrow
 padded : {b c kept a : ℕ} (xs : List ℕ) → (a ≡ b → Mem a xs) → (a ≡ c → Mem a xs) → Mem a (b ∷ c ∷ kept ∷ []) → Mem a xs ⊎ (a ≡ kept)
 padded xs f g h =
-    ⊎-elim (λ e. inl (f e)) (λ t. ⊎-elim (λ e. inl (g e)) (λ u. ⊎-elim (λ e. inr e) (λ n. absurd (mem-nil n)) (mem-cases u)) (mem-cases t)) (mem-cases h)
+    ⊎-elim (λ e. inl (f e)) (λ t. ⊎-elim (λ e. inl (g e)) (λ u. ⊎-elim (λ e. inr e) (λ n. absurd (mem-nil n)) (mem-cases u)) (mem-cases t))
+    (mem-cases h)
 
 no-row : {A : Type 0} {c : ℕ} → c ≢ 0 → c ≡ 0 → A
 no-row n e = absurd (n e)
@@ -62,10 +65,13 @@ kept-lent : (s : Step) (kept : ℕ) → Mem kept (lent s kept)
 kept-lent s kept = there (there (here refl))
 
 -- what freeing asks
-module _ {W : View} {roots : List ℕ} {s : Step} {kept a b : ℕ} (ea : a ≡ firstOperand s) (eb : b ≡ secondOperand s) (p : CleanPre W roots s kept) where
+module _ {W : View} {roots : List ℕ} {s : Step} {kept a b : ℕ} (ea : a ≡ firstOperand s) (eb : b ≡ secondOperand s)
+    (p : CleanPre W roots s kept) where
   lent-arrow : (c : ℕ) → Mem c (lent s kept) → Arrow (rowsOf W) c
   lent-arrow zero h = tt
-  lent-arrow (suc c) h = ⊎-elim (p .operands (suc c)) (λ e. subst (Arrow (rowsOf W)) (sym e) (p .kept-arrow)) (lent-mem s kept (suc c) (λ e. absurd (omega arith)) h)
+  lent-arrow (suc c) h =
+      ⊎-elim (p .operands (suc c)) (λ e. subst (Arrow (rowsOf W)) (sym e) (p .kept-arrow))
+      (lent-mem s kept (suc c) (λ e. absurd (omega arith)) h)
 
   pub free-pre : FreePre W (roots ++ (a ∷ b ∷ kept ∷ []))
   free-pre = rw (ea, eb) (record { sound = p .sound; arrows = λ c h. ⊎-elim (p .arrows c) (lent-arrow c) (append-cases roots h) })
@@ -75,14 +81,16 @@ module _ {W : View} {roots : List ℕ} {s : Step} {kept a b : ℕ} (ea : a ≡ f
   to-live c i l h =
       ⊎-elim (λ f. there (append-left (roots ++ operandsOf s) f))
       (λ t. ⊎-elim (λ r. there (append-right (filled W) (append-left (operandsOf s) r)))
-      (λ u. ⊎-elim (λ o. there (append-right (filled W) (append-right roots o))) (λ e. here e) (lent-mem s kept c (λ e. absurd (omega (arith, l, e))) u)) (append-cases roots t))
+      (λ u. ⊎-elim (λ o. there (append-right (filled W) (append-right roots o))) (λ e. here e)
+      (lent-mem s kept c (λ e. absurd (omega (arith, l, e))) u)) (append-cases roots t))
       (append-cases (filled W) h)
 
   pub to-lent : (c : ℕ) → Mem c (kept ∷ liveAt W roots s) → Mem c (live W (roots ++ lent s kept))
   to-lent c h =
       ⊎-elim (λ e. append-right (filled W) (append-right roots (subst (λ (c : ℕ). Mem c (lent s kept)) (sym e) (kept-lent s kept))))
       (λ t. ⊎-elim (λ f. append-left (roots ++ lent s kept) f)
-      (λ u. append-right (filled W) (⊎-elim (λ r. append-left (lent s kept) r) (λ o. append-right roots (mem-lent s kept c o)) (append-cases roots u)))
+      (λ u. append-right (filled W)
+      (⊎-elim (λ r. append-left (lent s kept) r) (λ o. append-right roots (mem-lent s kept c o)) (append-cases roots u)))
       (append-cases (filled W) t))
       (mem-cases h)
 
@@ -93,5 +101,7 @@ module _ {W : View} {roots : List ℕ} {s : Step} {kept a b : ℕ} (ea : a ≡ f
         sound = alike-sound (memo-alike (g .frame)) (f .sound);
         memory = λ m. forgot-remembers m g;
         frame = op-trans (op-made (f .frame)) (op-memo (g .frame));
-        collects = subst (λ (t : Rows). Collects (rowsOf W) t (kept ∷ liveAt W roots s)) (sym (rows-same (g .frame))) (collects-same to-live (λ c i l. to-lent c) (f′ .collects));
+        collects =
+            subst (λ (t : Rows). Collects (rowsOf W) t (kept ∷ liveAt W roots s)) (sym (rows-same (g .frame)))
+            (collects-same to-live (λ c i l. to-lent c) (f′ .collects));
       }

@@ -40,9 +40,23 @@ module _ {W : View} {roots : List ℕ} {s : Step} {o : Made} (limit : ℕ) (p : 
       pub settle-reached : {k : ℕ} → k ≡ X .header USED → k ≤ limit → SettlePost limit W X roots s o (answer.At a)
       settle-reached q l =
           let n : usedCount (rowsOf X) (W .rows) ≤ limit = let r = reached in omega (arith, r, q, l) in
-          rw e (record { sound = c .sound; memory = λ m g. c .memory m; frame = c .frame; settled = few-reached (c .collects) n (freed (same-refl (rowsOf X))) })
+          rw e (record {
+            sound =
+                c .sound;
+            memory =
+                λ m g. c .memory m;
+            frame = c .frame;
+            settled = few-reached (c .collects) n (freed (same-refl (rowsOf X)));
+          })
 
       pub settle-many : {k : ℕ} → k ≡ X .header USED → limit < k → SettlePost limit W X roots s o answer.Full
       settle-many q l =
           let n : limit < usedCount (rowsOf X) (W .rows) = let r = reached in omega (arith, r, q, l) in
-          rw e (record { sound = c .sound; memory = λ m g. c .memory m; frame = c .frame; settled = many-reached (c .collects) n (freed (same-refl (rowsOf X))) })
+          rw e (record {
+            sound =
+                c .sound;
+            memory =
+                λ m g. c .memory m;
+            frame = c .frame;
+            settled = many-reached (c .collects) n (freed (same-refl (rowsOf X)));
+          })

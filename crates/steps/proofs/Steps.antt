@@ -2,7 +2,9 @@
 use mathlib.Core.Path.{_≡_, refl, sym, ap, ap₂, _∙_, subst}
 use mathlib.Core.Bool.{true, false, not, _&&_, _||_}
 use mathlib.Core.Logic.{⊎-elim}
-use mathlib.Core.List.{List, [], _∷_, _++_, List·Memᴰ as Mem, List·Memᴰ·head as here, List·Memᴰ·tail as there, List·Memᴰ·cases-cons as mem-cases, List·Memᴰ·not-nil as mem-nil, List·Memᴰ·append-cases as append-cases, Memᴰ·append-left as append-left, Memᴰ·append-right as append-right}
+use mathlib.Core.List.{List, [], _∷_, _++_, List·Memᴰ as Mem, List·Memᴰ·head as here, List·Memᴰ·tail as there}
+use mathlib.Core.List.{List·Memᴰ·cases-cons as mem-cases, List·Memᴰ·not-nil as mem-nil, List·Memᴰ·append-cases as append-cases}
+use mathlib.Core.List.{Memᴰ·append-left as append-left, Memᴰ·append-right as append-right}
 use Prim.Native.Nat.{ℕ, zero, suc, _+_, _≤_, _<_}
 use native.Mathlib.Omega.{arith}
 use Rattle.diagram.specs.Level.{Val, upd}
@@ -31,7 +33,8 @@ use Rattle.steps.specs.declared.Step.the-variants as step
 use Rattle.steps.specs.Steps.{stepF, operandsOf, Fits, liveAt}
 
 -- "NOT needs no new row": it is the arrow with the other mark
-pub not-worked : {m N limit : ℕ} {W : View} {r : ℕ} (a : ℕ) → Ready m N limit W → Arrow (rowsOf W) a → r ≡ flip a → Worked m N limit W W (madeOf r) (notF (den m (rowsOf W) a))
+pub not-worked : {m N limit : ℕ} {W : View} {r : ℕ} (a : ℕ) → Ready m N limit W → Arrow (rowsOf W) a → r ≡ flip a
+    → Worked m N limit W W (madeOf r) (notF (den m (rowsOf W) a))
 not-worked a p u e = rw e (worked-there p (denotes-flip (record { arrow = u; same = λ v. refl })))
 
 -- operands are arrows
@@ -59,7 +62,8 @@ module _ {before after : Rows} (m : ℕ) where
   fits-keeps (step.Not a) k f = keeps-arrow k a (here refl)
   fits-keeps (step.And a b) k f = (keeps-arrow k a (here refl), keeps-arrow k b (there (here refl)))
   fits-keeps (step.Or a b) k f = (keeps-arrow k a (here refl), keeps-arrow k b (there (here refl)))
-  fits-keeps (step.Shift a) k f = (keeps-arrow k a (here refl), λ v w h. keeps-den k m a (here refl) v ∙ f .1 v w h ∙ sym (keeps-den k m a (here refl) w))
+  fits-keeps (step.Shift a) k f =
+      (keeps-arrow k a (here refl), λ v w h. keeps-den k m a (here refl) v ∙ f .1 v w h ∙ sym (keeps-den k m a (here refl) w))
   fits-keeps (step.Exists x a) k f = (keeps-arrow k a (here refl), f .1)
 
   pub stepF-keeps : (s : Step) → Keeps before after (operandsOf s) → (v : Val) → stepF m after s v ≡ stepF m before s v
@@ -80,7 +84,8 @@ stepF-reads {m} (step.Shift a) wf e f = shift-reads-all m e (f .1) (den-reads-al
 stepF-reads (step.Exists x a) wf e f = exists-reads x (den-reads-all wf a (f .0))
 
 -- registers, relations and lent arrows are arrows
-pub live-arrows : {W : View} (lent : List ℕ) → Sound W → ((a : ℕ) → Mem a lent → Arrow (rowsOf W) a) → (a : ℕ) → Mem a (live W lent) → Arrow (rowsOf W) a
+pub live-arrows : {W : View} (lent : List ℕ) → Sound W → ((a : ℕ) → Mem a lent → Arrow (rowsOf W) a) → (a : ℕ) → Mem a (live W lent)
+    → Arrow (rowsOf W) a
 live-arrows {W} lent z u a h = ⊎-elim (filled-arrow z a) (u a) (append-cases (filled W) h)
 
 -- operands and lent roots are live

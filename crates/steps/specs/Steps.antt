@@ -61,7 +61,8 @@ Fits m rows (step.Or a b) = Arrow rows a × Arrow rows b
 Fits m rows (step.Shift a) = Arrow rows a × ReadsOn even (den m rows a)
 Fits m rows (step.Exists x a) = Arrow rows a × (x < m)
 
--- "Live at a step: all filled registers and relations, the current set of each open binder, each value made and not yet used, the step's operands."
+-- "Live at a step: all filled registers and relations, the current set of each open binder, each value made and not yet used, the step's
+-- operands."
 abbrev pub liveAt : View → List ℕ → Step → List ℕ
 liveAt W roots s = live W (roots ++ operandsOf s)
 

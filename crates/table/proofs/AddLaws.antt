@@ -85,7 +85,8 @@ module _ (W : View) (i l lo hi : ℕ) (g : Good W) (unused : used W i ≡ false)
     nexts = λ j u. down-written (W .cell j RANK) (W .cell j NEXT) (g .index .nexts j u);
     found = λ j u.
         let r : Hit Z (W .cell j LEVEL) (W .cell j LOW) (W .cell j HIGH) (live (used W) (W .head (keyOf W j))) j =
-        hit-frame W Z (g .index .nexts) (λ x v. rw (ne-eqb x i (apart x v))) (λ x v. rw (ne-eqb x i (apart x v))) (λ x v. rw (ne-eqb x i (apart x v))) (λ x v. refl)
+        hit-frame W Z (g .index .nexts) (λ x v. rw (ne-eqb x i (apart x v))) (λ x v. rw (ne-eqb x i (apart x v)))
+        (λ x v. rw (ne-eqb x i (apart x v))) (λ x v. refl)
         (g .index .found j u) (live-link (used W) (W .head (keyOf W j))) in
         rw (ne-eqb j i (apart j u)) r;
   }
@@ -138,21 +139,26 @@ module _ (W : View) (i l lo hi : ℕ) (g : Good W) (row : i < W .rows) (unused :
     rows-is = g .rows-is;
     layout-is = g .layout-is;
     ranked = append-ranked Y i (ranked-written W i l lo hi g unused) (index-written W i l lo hi g unused) row unused space alone;
-    rows = adds-wellFormed (g .rows) added-adds row (omega arith) (f .shallow) (f .low-arrow) (f .high-arrow) (f .low-deeper) (f .high-deeper) ne plain
+    rows = adds-wellFormed (g .rows) added-adds row (omega arith) (f .shallow) (f .low-arrow) (f .high-arrow) (f .low-deeper)
+        (f .high-deeper) ne plain
         (λ j u a b c. absent j u (record { level = a; low = b; high = c }));
     index = append-index Y i (ranked-written W i l lo hi g unused) (index-written W i l lo hi g unused) row unused space alone;
   }
 
 -- the steps of `write_row`
-pub put-by : (W : View) (i l lo hi : ℕ) {W₁ W₂ W₃ W₄ : View} → W₁ ≡ putCell W i LOW lo → W₂ ≡ putCell W₁ i HIGH hi → W₃ ≡ putCell W₂ i LEVEL l → W₄ ≡ putCell W₃ i MEMO-KEY 0
+pub put-by : (W : View) (i l lo hi : ℕ) {W₁ W₂ W₃ W₄ : View} → W₁ ≡ putCell W i LOW lo → W₂ ≡ putCell W₁ i HIGH hi
+    → W₃ ≡ putCell W₂ i LEVEL l → W₄ ≡ putCell W₃ i MEMO-KEY 0
     → W₄ ≡ rowPut W i l lo hi
 put-by W i l lo hi e₁ e₂ e₃ e₄ = rw (e₄, e₃, e₂, e₁)
 
 -- the steps of `add`
-pub added-by : (W : View) (i l lo hi : ℕ) {W₁ W₂ W₃ : View} → W₁ ≡ putHeader W CURSOR (i + 1) → W₂ ≡ rowPut W₁ i l lo hi → W₃ ≡ appended W₂ i → W₃ ≡ rowAdded W i l lo hi
+pub added-by : (W : View) (i l lo hi : ℕ) {W₁ W₂ W₃ : View} → W₁ ≡ putHeader W CURSOR (i + 1) → W₂ ≡ rowPut W₁ i l lo hi
+    → W₃ ≡ appended W₂ i → W₃ ≡ rowAdded W i l lo hi
 added-by W i l lo hi e₁ e₂ e₃ = rw (e₃, e₂, e₁)
 
 -- what `append` asks of the row that `add` wrote
-pub append-pre : (W : View) (i l lo hi : ℕ) → Good W → i < W .rows → used W i ≡ false → {W₁ W₂ : View} → W₁ ≡ putHeader W CURSOR (i + 1) → W₂ ≡ rowPut W₁ i l lo hi → Room W₂ × (W₂ .header USED < W .rows)
+pub append-pre : (W : View) (i l lo hi : ℕ) → Good W → i < W .rows → used W i ≡ false → {W₁ W₂ : View} → W₁ ≡ putHeader W CURSOR (i + 1)
+    → W₂ ≡ rowPut W₁ i l lo hi → Room W₂ × (W₂ .header USED < W .rows)
 append-pre W i l lo hi g row unused e₁ e₂ =
-    rw (e₂, e₁) (record { words = g .sizes .room; count-le = g .ranked .count-le; max = g .sizes .N-max }, unused-room W (g .ranked) i row unused)
+    rw (e₂, e₁)
+    (record { words = g .sizes .room; count-le = g .ranked .count-le; max = g .sizes .N-max }, unused-room W (g .ranked) i row unused)

@@ -16,7 +16,8 @@ use Rattle.rows.proofs.Index.{live-used, live-link}
 use Rattle.rows.proofs.Framed.{hit-frame, live-more}
 use Rattle.table.specs.Append.{appended}
 
-module _ (W : View) (i : ℕ) (ranked : Ranked W) (index : Index W) (row : i < W .rows) (unused : used W i ≡ false) (space : W .header USED < W .rows)
+module _ (W : View) (i : ℕ) (ranked : Ranked W) (index : Index W) (row : i < W .rows) (unused : used W i ≡ false)
+    (space : W .header USED < W .rows)
     (alone : (j : ℕ) → used W j ≡ true → Has W j (W .cell i LEVEL) (W .cell i LOW) (W .cell i HIGH) → ⊥) where
   abbrev X : View
   X = appended W i
@@ -57,7 +58,8 @@ module _ (W : View) (i : ℕ) (ranked : Ranked W) (index : Index W) (row : i < W
       let p = used-in (W .rows) (W .header USED) (λ x. W .cell x RANK) (W .list) j u in
       let e = rank-old j (apart j u) in
       let l = p .place in
-      used-yes _ _ _ _ _ (record { row = p .row; place = rw e (omega arith); there = rw e (list-old (W .cell j RANK) (omega arith) ∙ p .there) })
+      used-yes _ _ _ _ _
+      (record { row = p .row; place = rw e (omega arith); there = rw e (list-old (W .cell j RANK) (omega arith) ∙ p .there) })
 
   pub append-only : (j : ℕ) → used X j ≡ true → j ≢ i → used W j ≡ true
   append-only j u n =
@@ -76,7 +78,8 @@ module _ (W : View) (i : ℕ) (ranked : Ranked W) (index : Index W) (row : i < W
         (λ n. rw (list-old k n) (ranked .within k (omega arith)));
     back = λ k h. by-cases (ℕ-discrete k (W .header USED))
         (λ e. rw (e, list-new, rank-new))
-        (λ n. rw (list-old k n) (rank-old (W .list k) (apart (W .list k) (listed-used W ranked k (omega arith))) ∙ ranked .back k (omega arith)));
+        (λ n. rw (list-old k n)
+        (rank-old (W .list k) (apart (W .list k) (listed-used W ranked k (omega arith))) ∙ ranked .back k (omega arith)));
   }
 
   down-more : (k p : ℕ) → Down W k p → Down X k p
@@ -85,7 +88,8 @@ module _ (W : View) (i : ℕ) (ranked : Ranked W) (index : Index W) (row : i < W
 
   link-down : (p : ℕ) → Link (used W) p → Down X (W .header USED) p
   link-down zero l = tt
-  link-down (suc j) u = (append-kept j u, rw (rank-old j (apart j u)) (used-in (W .rows) (W .header USED) (λ x. W .cell x RANK) (W .list) j u .place))
+  link-down (suc j) u =
+      (append-kept j u, rw (rank-old j (apart j u)) (used-in (W .rows) (W .header USED) (λ x. W .cell x RANK) (W .list) j u .place))
 
   old-hit : {l lo hi p j : ℕ} → Hit W l lo hi p j → Link (used W) p → Hit X l lo hi p j
   old-hit r u = hit-frame W X (index .nexts) (λ j u. refl) (λ j u. refl) (λ j u. refl) (λ j u. next-old j (apart j u)) r u
@@ -94,11 +98,13 @@ module _ (W : View) (i : ℕ) (ranked : Ranked W) (index : Index W) (row : i < W
   found-old : (j : ℕ) → used W j ≡ true → Hit X (W .cell j LEVEL) (W .cell j LOW) (W .cell j HIGH) (live (used X) (X .head (keyOf W j))) j
   found-old j u =
       let f = index .found j u in
-      let r : Hit X (W .cell j LEVEL) (W .cell j LOW) (W .cell j HIGH) (live (used W) (W .head (keyOf W j))) j = old-hit f (live-link (used W) (W .head (keyOf W j))) in
+      let r : Hit X (W .cell j LEVEL) (W .cell j LOW) (W .cell j HIGH) (live (used W) (W .head (keyOf W j))) j = old-hit f
+      (live-link (used W) (W .head (keyOf W j))) in
       by-cases (ℕ-discrete (keyOf W j) (keyOf W i))
       (λ e.
       let q : Hit X (W .cell j LEVEL) (W .cell j LOW) (W .cell j HIGH) (X .cell i NEXT) j = rw next-new (rw e at r) in
-      rw (e, head-new, live-used (used X) i append-used) (skip (λ h. alone j u (record { level = sym (h .level); low = sym (h .low); high = sym (h .high) })) q))
+      rw (e, head-new, live-used (used X) i append-used)
+      (skip (λ h. alone j u (record { level = sym (h .level); low = sym (h .low); high = sym (h .high) })) q))
       (λ n. rw (head-old (keyOf W j) n, live-more (used W) (used X) append-kept (W .head (keyOf W j)) f) r)
 
   pub append-index : Index X
@@ -113,5 +119,6 @@ module _ (W : View) (i : ℕ) (ranked : Ranked W) (index : Index W) (row : i < W
 
 -- the steps of `append`
 pub append-by : (W : View) (i : ℕ) {W₁ W₂ W₃ W₄ W₅ : View} {b f u : ℕ} → b ≡ keyOf W i → f ≡ live (used W) (W .head b) → u ≡ W .header USED
-    → W₁ ≡ putCell W i NEXT f → W₂ ≡ putCell W₁ i RANK u → W₃ ≡ putList W₂ u i → W₄ ≡ putHead W₃ b (i + 1) → W₅ ≡ putHeader W₄ USED (u + 1) → W₅ ≡ appended W i
+    → W₁ ≡ putCell W i NEXT f → W₂ ≡ putCell W₁ i RANK u → W₃ ≡ putList W₂ u i → W₄ ≡ putHead W₃ b (i + 1) → W₅ ≡ putHeader W₄ USED (u + 1)
+    → W₅ ≡ appended W i
 append-by W i eb ef eu e₁ e₂ e₃ e₄ e₅ = rw (e₅, e₄, e₃, e₂, e₁, ef, eb, eu)

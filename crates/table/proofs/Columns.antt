@@ -20,7 +20,8 @@ module _ (g f : ℕ → ℕ) where
   unfolding over
   over-more k = fun-ext (λ j. go j (eqb j k) refl (ltb j k) refl)
     where
-      go : (j : ℕ) (b : Bool) → eqb j k ≡ b → (c : Bool) → ltb j k ≡ c → cond b (g k) (cond c (g j) (f j)) ≡ cond (ltb j (k + 1)) (g j) (f j)
+      go : (j : ℕ) (b : Bool) → eqb j k ≡ b → (c : Bool) → ltb j k ≡ c
+          → cond b (g k) (cond c (g j) (f j)) ≡ cond (ltb j (k + 1)) (g j) (f j)
       go j true e c q = let z : j ≡ k = eqb-true j k e in rw (z, lt-ltb k (k + 1) (omega arith))
       go j false e true q = let l : j < k = ltb-true j k q in rw (lt-ltb j (k + 1) (omega arith))
       go j false e false q = let l : k ≤ j = ltb-false j k q in let n = eqb-false j k e in rw (le-ltb j (k + 1) (omega arith))

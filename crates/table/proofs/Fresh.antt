@@ -44,14 +44,18 @@ pub record HeaderBelow (old new : View) (xs : List ℕ) (k : ℕ) : Type 0 where
 pub header-none : (W : View) (xs : List ℕ) → HeaderBelow W W xs 0
 header-none W xs = record { is = ap (setHeader W) (over-none (headerOf xs) (W .header)) }
 
-pub header-more : {W X Y : View} {xs : List ℕ} (k : ℕ) → k < HEADER → HeaderBelow W X xs k → Y ≡ putHeader X k (getD xs k 0) → HeaderBelow W Y xs (k + 1)
+pub header-more : {W X Y : View} {xs : List ℕ} (k : ℕ) → k < HEADER → HeaderBelow W X xs k → Y ≡ putHeader X k (getD xs k 0)
+    → HeaderBelow W Y xs (k + 1)
 header-more {W} {xs = xs} k l h e = record {
-  is = e ∙ ap (putHeader _ k) (sym (header-is xs k l)) ∙ ap (λ (v : View). putHeader v k (headerOf xs k)) (h .is) ∙ ap (setHeader W) (over-more (headerOf xs) (W .header) k);
+  is = e ∙ ap (putHeader _ k) (sym (header-is xs k l)) ∙ ap (λ (v : View). putHeader v k (headerOf xs k)) (h .is)
+      ∙ ap (setHeader W) (over-more (headerOf xs) (W .header) k);
 }
 
-pub header-all : (N : ℕ) (old new xs : List ℕ) → HeaderBelow (view N old) (view N new) xs HEADER → view N new ≡ setHeader (view N old) (headerOf xs)
+pub header-all : (N : ℕ) (old new xs : List ℕ) → HeaderBelow (view N old) (view N new) xs HEADER
+    → view N new ≡ setHeader (view N old) (headerOf xs)
 header-all N old new xs h =
-    h .is ∙ ap (setHeader (view N old)) (over-all (headerOf xs) (headerOf old) HEADER (λ j l. header-past old j l ∙ sym (header-past xs j l)))
+    h .is ∙ ap (setHeader (view N old))
+    (over-all (headerOf xs) (headerOf old) HEADER (λ j l. header-past old j l ∙ sym (header-past xs j l)))
 
 -- a table with a fresh header is sound
 module _ (W : View) (n : ℕ) (z : Sizes n (W .rows) (W .size)) (e : (h : ℕ) → W .header h ≡ headerOf (headerWords n (W .rows)) h) where
@@ -97,12 +101,14 @@ module _ (W : View) (n : ℕ) (z : Sizes n (W .rows) (W .size)) (e : (h : ℕ) �
     good = fresh-good;
     refs = fresh-refs;
     valid = λ q. let o = valid-is in absurd (omega arith);
-    even = λ h a l b q i r. absurd (none-used i (reaches-used (fresh-good .rows) (subst (Ref (rowsOf W)) q (fresh-refs h a (omega arith))) r));
+    even = λ h a l b q i r. absurd
+        (none-used i (reaches-used (fresh-good .rows) (subst (Ref (rowsOf W)) q (fresh-refs h a (omega arith))) r));
     within = within-all W (validOf W) (let o = valid-is in omega arith);
   }
 
 -- the steps of `make_empty`: mid has its heads emptied
-pub emptied-by : (W : View) (n N : ℕ) {X Y : View} {xs : List ℕ} → X ≡ setHeads W (λ b. 0) → xs ≡ headerWords n N → Y ≡ setHeader X (headerOf xs) → Y ≡ emptied W n N
+pub emptied-by : (W : View) (n N : ℕ) {X Y : View} {xs : List ℕ} → X ≡ setHeads W (λ b. 0) → xs ≡ headerWords n N
+    → Y ≡ setHeader X (headerOf xs) → Y ≡ emptied W n N
 emptied-by W n N {xs = xs} eh ex e =
     e ∙ ap (λ (v : View). setHeader v (headerOf xs)) eh ∙ ap (λ (ys : List ℕ). setHeader (setHeads W (λ b. 0)) (headerOf ys)) ex
 

@@ -19,11 +19,13 @@ use Rattle.rows.specs.Sound.{Good, Sound}
 use Rattle.rows.proofs.Kept.{RootsKept, valid-kept, within-extends}
 
 -- what an old arrow reaches in the larger table it reaches in the old one
-pub reach-back : {m N : ℕ} {old new : Rows} → Extends old new → WellFormed m N old → {a i : ℕ} → Arrow old a → Reach new (a ∷ []) i → Reach old (a ∷ []) i
+pub reach-back : {m N : ℕ} {old new : Rows} → Extends old new → WellFormed m N old → {a i : ℕ} → Arrow old a → Reach new (a ∷ []) i
+    → Reach old (a ∷ []) i
 reach-back {old = old} e wf u = keeps-reach-back (extends-keeps wf (one-root (Arrow old) u) e)
 
 -- a good table with more rows and the same roots is sound
-pub sound-extends : {W X : View} → Sound W → Good X → X .header BITS ≡ W .header BITS → RootsKept W X → Extends (rowsOf W) (rowsOf X) → Sound X
+pub sound-extends : {W X : View} → Sound W → Good X → X .header BITS ≡ W .header BITS → RootsKept W X → Extends (rowsOf W) (rowsOf X)
+    → Sound X
 sound-extends {W} {X} s g z f e = record {
   good = g;
   refs = λ h a l. subst (λ (v : ℕ). Ref (rowsOf X) v) (sym (f h a l)) (ref (W .header h) (s .refs h a l));
@@ -47,6 +49,7 @@ plain-extends (found-row i u x y z s) = s .forth
 plain-extends (added-row i h n s f) = s .kept
 plain-extends (no-row n all f s) = s .forth
 
-pub made-extends : {m N limit : ℕ} {before after : Rows} {l a b : ℕ} {o : Result} → Making m N limit before after l a b o → Extends before after
+pub made-extends : {m N limit : ℕ} {before after : Rows} {l a b : ℕ} {o : Result} → Making m N limit before after l a b o
+    → Extends before after
 made-extends (as-is b p) = plain-extends p
 made-extends (turned b p e) = plain-extends p

@@ -15,7 +15,8 @@ use Rattle.diagram.specs.Used.{usedCount}
 use Rattle.diagram.proofs.Used.{usedCount-all}
 use Rattle.table.proofs.Count.{count-used}
 use Rattle.table.specs.Find.{FindPost, UnusedPost}
-use Rattle.table.proofs.AddLaws.{keys-refl, added-keys, frame-refl, frame-trans, frame-append, frame-written, written, rowAdded, added-adds, added-good}
+use Rattle.table.proofs.AddLaws.{keys-refl, added-keys, frame-refl, frame-trans, frame-append, frame-written, written, rowAdded}
+use Rattle.table.proofs.AddLaws.{added-adds, added-good}
 use Rattle.table.specs.Code.{FULL, madeOf}
 use Rattle.table.proofs.CodeLaws.{code-full, code-at, arrow-code}
 use Rattle.table.specs.declared.Made.{Made}
@@ -39,23 +40,39 @@ full-not-at e = subst isFull e tt
     isFull full = Unit {0}
 
 -- the arrow that was made, as the code answers it
-coded : {W X : View} {limit l lo hi : ℕ} (a : ℕ) → Arrow (rowsOf X) a → PlainPost W X limit l lo hi (made.At a) → PlainPost W X limit l lo hi (madeOf a)
+coded : {W X : View} {limit l lo hi : ℕ} (a : ℕ) → Arrow (rowsOf X) a → PlainPost W X limit l lo hi (made.At a)
+    → PlainPost W X limit l lo hi (madeOf a)
 coded {W} {X} {limit} {l} {lo} {hi} a u p = subst (PlainPost W X limit l lo hi) (sym (arrow-code a (p .good) u)) p
 
 module _ (W : View) (limit l lo hi : ℕ) (p : PlainPre W limit l lo hi) where
   pub make-same : lo ≡ hi → PlainPost W W limit l lo hi (madeOf lo)
-  make-same e = coded lo (p .make .fit .low-arrow) (record { good = p .make .good; frame = frame-refl W; keys = keys-refl W; made = equal-arrows e (same-refl (rowsOf W)) })
+  make-same e =
+      coded lo (p .make .fit .low-arrow)
+      (record { good = p .make .good; frame = frame-refl W; keys = keys-refl W; made = equal-arrows e (same-refl (rowsOf W)) })
 
   pub make-found : (i : ℕ) → FindPost W l lo hi (find.At i) → PlainPost W W limit l lo hi (madeOf (row i))
   make-found i f =
-      coded (row i) (row-arrow (rowsOf W) i (f .0)) (record { good = p .make .good; frame = frame-refl W; keys = keys-refl W; made = found-row i (f .0) (f .1 .level) (f .1 .low) (f .1 .high) (same-refl (rowsOf W)) })
+      coded (row i) (row-arrow (rowsOf W) i (f .0))
+      (record {
+        good = p .make .good;
+        frame = frame-refl W;
+        keys = keys-refl W;
+        made = found-row i (f .0) (f .1 .level) (f .1 .low) (f .1 .high) (same-refl (rowsOf W));
+      })
 
 module _ (W : View) (limit l lo hi : ℕ) (a : AddPre W limit l lo hi) where
   lost : (j : ℕ) → used W j ≡ true → W .cell j LEVEL ≡ l → W .cell j LOW ≡ lo → W .cell j HIGH ≡ hi → ⊥
   lost j u x y z = a .absent j u (record { level = x; low = y; high = z })
 
   ran-out : limit ≤ usedCount (rowsOf W) (W .rows) → PlainPost W W limit l lo hi (madeOf FULL)
-  ran-out h = rw code-full (record { good = a .pre .make .good; frame = frame-refl W; keys = keys-refl W; made = no-row (a .differ) h lost (same-refl (rowsOf W)) })
+  ran-out h =
+      rw code-full
+      (record {
+        good = a .pre .make .good;
+        frame = frame-refl W;
+        keys = keys-refl W;
+        made = no-row (a .differ) h lost (same-refl (rowsOf W));
+      })
 
   pub add-full : (i : ℕ) → UnusedPost W i → W .rows ≤ i → PlainPost W W limit l lo hi (madeOf FULL)
   add-full i p h = ran-out (let n = usedCount-all (rowsOf W) (W .rows) (p .all h) in let m = a .pre .make .limit-le in omega (arith, n, m))
@@ -68,7 +85,8 @@ module _ (W : View) (limit l lo hi : ℕ) (a : AddPre W limit l lo hi) where
   add-at i p h e =
       let g = a .pre .make .good in
       let s = added-adds W i l lo hi g h (p .free h) (a .absent) in
-      subst (λ (X : View). PlainPost W X limit l lo hi (madeOf (row i))) (sym e) (coded (row i) (row-arrow (rowsOf (rowAdded W i l lo hi)) i (s .used)) (record {
+      subst (λ (X : View). PlainPost W X limit l lo hi (madeOf (row i))) (sym e)
+      (coded (row i) (row-arrow (rowsOf (rowAdded W i l lo hi)) i (s .used)) (record {
         good = added-good W i l lo hi g h (p .free h) (a .absent) (a .pre .make .fit) (a .differ) (a .pre .plain);
         frame = frame-trans (frame-written W i l lo hi) (frame-append (written W i l lo hi) i);
         keys = added-keys W i l lo hi g h (p .free h) (a .absent);
@@ -76,11 +94,13 @@ module _ (W : View) (limit l lo hi : ℕ) (a : AddPre W limit l lo hi) where
       }))
 
 -- where the high arrow carries no NOT
-pub make-as-is : {W X : View} {limit l lo hi : ℕ} {r : Made} → marked hi ≡ false → PlainPost W X limit l lo hi r → MakePost W X limit l lo hi r
+pub make-as-is : {W X : View} {limit l lo hi : ℕ} {r : Made} → marked hi ≡ false → PlainPost W X limit l lo hi r
+    → MakePost W X limit l lo hi r
 make-as-is e p = record { good = p .good; frame = p .frame; keys = p .keys; made = as-is e (p .made) }
 
 -- the arrow that was made is one
-plain-arrow : {m N lim : ℕ} {before after : Rows} {k a b : ℕ} {o : Result} → Arrow before a → Plain m N lim before after k a b o → (r : ℕ) → o ≡ at r → Arrow after r
+plain-arrow : {m N lim : ℕ} {before after : Rows} {k a b : ℕ} {o : Result} → Arrow before a → Plain m N lim before after k a b o → (r : ℕ)
+    → o ≡ at r → Arrow after r
 plain-arrow {after = after} {a = a} u (equal-arrows q s) r z = subst (Arrow after) (at-inj z) (arrow-extends (s .forth) a u)
 plain-arrow {after = after} u (found-row i w x y h s) r z = subst (Arrow after) (at-inj z) (row-arrow after i (s .forth .used i w))
 plain-arrow {after = after} u (added-row i h n s f) r z = subst (Arrow after) (at-inj z) (row-arrow after i (s .used))
@@ -108,17 +128,23 @@ module _ (W : View) (limit l lo hi : ℕ) (p : MakePre W limit l lo hi) (e : mar
       } in
       subst₂ (λ (a b : ℕ). PlainPre W limit l a b) (sym ex) (sym ey) q
 
-  pub turned-full : {X : View} {x y r : ℕ} → x ≡ flip lo → y ≡ flip hi → PlainPost W X limit l x y (madeOf r) → r ≡ FULL → MakePost W X limit l lo hi (madeOf FULL)
+  pub turned-full : {X : View} {x y r : ℕ} → x ≡ flip lo → y ≡ flip hi → PlainPost W X limit l x y (madeOf r) → r ≡ FULL
+      → MakePost W X limit l lo hi (madeOf FULL)
   turned-full {X} {r = r} ex ey q z =
-      let q′ = subst (λ (k : ℕ). PlainPost W X limit l (flip lo) (flip hi) (madeOf k)) z (subst₂ (λ (a b : ℕ). PlainPost W X limit l a b (madeOf r)) ex ey q) in
+      let q′ = subst (λ (k : ℕ). PlainPost W X limit l (flip lo) (flip hi) (madeOf k)) z
+      (subst₂ (λ (a b : ℕ). PlainPost W X limit l a b (madeOf r)) ex ey q) in
       let t : PlainPost W X limit l (flip lo) (flip hi) made.Full = subst (PlainPost W X limit l (flip lo) (flip hi)) code-full q′ in
-      subst (MakePost W X limit l lo hi) (sym code-full) (record { good = t .good; frame = t .frame; keys = t .keys; made = turned e (t .made) refl })
+      subst (MakePost W X limit l lo hi) (sym code-full)
+      (record { good = t .good; frame = t .frame; keys = t .keys; made = turned e (t .made) refl })
 
-  pub turned-at : {X : View} {x y r s : ℕ} → x ≡ flip lo → y ≡ flip hi → PlainPost W X limit l x y (madeOf r) → r ≢ FULL → s ≡ flip r → MakePost W X limit l lo hi (madeOf s)
+  pub turned-at : {X : View} {x y r s : ℕ} → x ≡ flip lo → y ≡ flip hi → PlainPost W X limit l x y (madeOf r) → r ≢ FULL → s ≡ flip r
+      → MakePost W X limit l lo hi (madeOf s)
   turned-at {X} {r = r} ex ey q n es =
       let t : PlainPost W X limit l (flip lo) (flip hi) (made.At r) =
-      subst (PlainPost W X limit l (flip lo) (flip hi)) (code-at r n) (subst₂ (λ (a b : ℕ). PlainPost W X limit l a b (madeOf r)) ex ey q) in
+      subst (PlainPost W X limit l (flip lo) (flip hi)) (code-at r n)
+      (subst₂ (λ (a b : ℕ). PlainPost W X limit l a b (madeOf r)) ex ey q) in
       let u : Arrow (rowsOf X) r = plain-arrow (carry-arrow (rowsOf W) true lo (p .fit .low-arrow)) (t .made) r refl in
       let c = arrow-code (flip r) (t .good) (carry-arrow (rowsOf X) true r u) in
-      let w : MakePost W X limit l lo hi (made.At (flip r)) = record { good = t .good; frame = t .frame; keys = t .keys; made = turned e (t .made) refl } in
+      let w : MakePost W X limit l lo hi
+      (made.At (flip r)) = record { good = t .good; frame = t .frame; keys = t .keys; made = turned e (t .made) refl } in
       subst (λ (k : ℕ). MakePost W X limit l lo hi (madeOf k)) (sym es) (subst (MakePost W X limit l lo hi) (sym c) w)

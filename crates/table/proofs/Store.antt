@@ -22,20 +22,35 @@ use Rattle.rows.specs.Roots.{Ref}
 use Rattle.rows.specs.Within.{denOf, validOf}
 use Rattle.rows.specs.Sound.{Good, Sound}
 
--- what may be stored in word h of the header: where it is a register or relation, nothing or an arrow, of even levels in a register, within V, and in a relation within SHIFT of V
+-- what may be stored in word h of the header: where it is a register or relation, nothing or an arrow, of even levels in a register, within
+-- V, and in a relation within SHIFT of V
 pub record Storable (W : View) (h v : ℕ) : Type 0 where
   pub ref : FIRST-REGISTER ≤ h → h < ROOTS-END → Ref (rowsOf W) v
-  pub even : FIRST-REGISTER ≤ h → h < FIRST-RELATION → (a : ℕ) → v ≡ suc a → (i : ℕ) → Reach (rowsOf W) (a ∷ []) i → even (W .cell i LEVEL) ≡ true
+  pub even : FIRST-REGISTER ≤ h → h < FIRST-RELATION → (a : ℕ) → v ≡ suc a → (i : ℕ) → Reach (rowsOf W) (a ∷ []) i
+      → even (W .cell i LEVEL) ≡ true
   pub within : FIRST-REGISTER ≤ h → h < ROOTS-END → (a : ℕ) → v ≡ suc a → (x : Val) → denOf W a x ≡ true → denOf W (validOf W) x ≡ true
-  pub shifted : FIRST-RELATION ≤ h → h < ROOTS-END → (a : ℕ) → v ≡ suc a → (x : Val) → denOf W a x ≡ true → shiftF (denOf W (validOf W)) x ≡ true
+  pub shifted : FIRST-RELATION ≤ h → h < ROOTS-END → (a : ℕ) → v ≡ suc a → (x : Val) → denOf W a x ≡ true
+      → shiftF (denOf W (validOf W)) x ≡ true
 
 -- nothing may be stored anywhere
 pub storable-empty : (W : View) (h : ℕ) → Storable W h 0
-storable-empty W h = record { ref = λ _ _. tt; even = λ _ _ a e. absurd (omega arith); within = λ _ _ a e. absurd (omega arith); shifted = λ _ _ a e. absurd (omega arith) }
+storable-empty W h =
+    record {
+      ref = λ _ _. tt;
+      even = λ _ _ a e. absurd (omega arith);
+      within = λ _ _ a e. absurd (omega arith);
+      shifted = λ _ _ a e. absurd (omega arith);
+    }
 
 -- the rows, if c of them are used
 abbrev rowsAt : View → ℕ → Rows
-rowsAt W c = record { used = usedAt (W .rows) c (λ i. W .cell i RANK) (W .list); level = λ i. W .cell i LEVEL; low = λ i. W .cell i LOW; high = λ i. W .cell i HIGH }
+rowsAt W c =
+    record {
+      used = usedAt (W .rows) c (λ i. W .cell i RANK) (W .list);
+      level = λ i. W .cell i LEVEL;
+      low = λ i. W .cell i LOW;
+      high = λ i. W .cell i HIGH;
+    }
 
 -- word h, which is none of n, N, the count and the layout, becomes v
 module _ (W : View) (h v : ℕ) (n0 : h ≢ BITS) (n1 : h ≢ ROWS) (n3 : h ≢ USED) (n7 : h ≢ LAYOUT) where
@@ -77,12 +92,14 @@ module _ (W : View) (h v : ℕ) (n0 : h ≢ BITS) (n1 : h ≢ ROWS) (n3 : h ≢ 
       within = λ k l. g .ranked .within k (subst (λ (c : ℕ). k < c) e l);
       back = λ k l. g .ranked .back k (subst (λ (c : ℕ). k < c) e l);
     };
-    rows = subst (λ (r : Rows). WellFormed (2 * X .header BITS) (W .rows) r) (sym rows-kept) (subst (λ (b : ℕ). WellFormed (2 * b) (W .rows) (rowsOf W)) (sym bits-kept) (g .rows));
+    rows = subst (λ (r : Rows). WellFormed (2 * X .header BITS) (W .rows) r) (sym rows-kept)
+        (subst (λ (b : ℕ). WellFormed (2 * b) (W .rows) (rowsOf W)) (sym bits-kept) (g .rows));
     index = record {
       nexts = λ j u. down-kept (W .cell j RANK) (W .cell j NEXT) (g .index .nexts j (used-kept j u));
       found = λ j u.
           let r : Hit X (W .cell j LEVEL) (W .cell j LOW) (W .cell j HIGH) (live (used W) (W .head (keyOf W j))) j =
-          hit-frame W X (g .index .nexts) (λ x w. refl) (λ x w. refl) (λ x w. refl) (λ x w. refl) (g .index .found j (used-kept j u)) (live-link (used W) (W .head (keyOf W j))) in
+          hit-frame W X (g .index .nexts) (λ x w. refl) (λ x w. refl) (λ x w. refl) (λ x w. refl) (g .index .found j (used-kept j u))
+          (live-link (used W) (W .head (keyOf W j))) in
           subst (λ (p : ℕ). Hit X (W .cell j LEVEL) (W .cell j LOW) (W .cell j HIGH) p j) (sym (live-kept (W .head (keyOf W j)))) r;
     };
   }
@@ -109,11 +126,13 @@ module _ (W : View) (h v : ℕ) (n0 : h ≢ BITS) (n1 : h ≢ ROWS) (n3 : h ≢ 
     pub sound-store : Sound W → Storable W h v → Sound X
     sound-store s t = record {
       good = good-store (s .good);
-      refs = λ k a l. word k (Ref (rowsOf X)) (λ q. ref-kept v (t .ref (omega arith) (omega arith))) (λ n. ref-kept (W .header k) (s .refs k a l));
+      refs = λ k a l. word k (Ref (rowsOf X)) (λ q. ref-kept v (t .ref (omega arith) (omega arith)))
+          (λ n. ref-kept (W .header k) (s .refs k a l));
       valid = λ e. s .valid (sym valid-stays ∙ e);
       even = λ k a l b q i c.
           let d = subst (λ (z : Rows). Reach z (b ∷ []) i) rows-kept c in
-          word k (λ r. r ≡ suc b → even (W .cell i LEVEL) ≡ true) (λ z e. t .even (omega arith) (omega arith) b e i d) (λ n e. s .even k a l b e i d) q;
+          word k (λ r. r ≡ suc b → even (W .cell i LEVEL) ≡ true) (λ z e. t .even (omega arith) (omega arith) b e i d)
+          (λ n e. s .even k a l b e i d) q;
       within = record {
         roots = λ k a l b q x g.
             let f : denOf W b x ≡ true = sym (den-kept b x) ∙ g in
@@ -131,10 +150,12 @@ module _ (W : View) (h v : ℕ) (n0 : h ≢ BITS) (n1 : h ≢ ROWS) (n3 : h ≢ 
     empty : (k b : ℕ) → FIRST-REGISTER ≤ k → k < ROOTS-END → X .header k ≡ suc b → ⊥
     empty k b a l q = let z : X .header k ≡ 0 = kept k (omega arith) ∙ none k a l in omega arith
 
-    pub sound-valid : (b : ℕ) → v ≡ suc b → Sound W → Arrow (rowsOf W) b → ((i : ℕ) → Reach (rowsOf W) (b ∷ []) i → even (W .cell i LEVEL) ≡ true) → Sound X
+    pub sound-valid : (b : ℕ) → v ≡ suc b → Sound W → Arrow (rowsOf W) b
+        → ((i : ℕ) → Reach (rowsOf W) (b ∷ []) i → even (W .cell i LEVEL) ≡ true) → Sound X
     sound-valid b vb s u e = record {
       good = good-store (s .good);
-      refs = λ k a l. word k (Ref (rowsOf X)) (λ q. ref-kept v (subst (Ref (rowsOf W)) (sym vb) u)) (λ n. ref-kept (W .header k) (s .refs k a l));
+      refs = λ k a l. word k (Ref (rowsOf X)) (λ q. ref-kept v (subst (Ref (rowsOf W)) (sym vb) u))
+          (λ n. ref-kept (W .header k) (s .refs k a l));
       valid = λ q. word VALID (λ r. r ≡ 0 → ⊥) (λ z y. omega arith) (λ n y. n (sym hv)) q;
       even = λ k a l c q i r.
           let d = subst (λ (z : Rows). Reach z (c ∷ []) i) rows-kept r in

@@ -8,4 +8,6 @@ use Rattle.rows.specs.Index.{keyOf, live}
 -- row i takes the next place of the list, and becomes the first of its chain
 abbrev pub appended : View → ℕ → View
 appended W i =
-    putHeader (putHead (putList (putCell (putCell W i NEXT (live (used W) (W .head (keyOf W i)))) i 4 (W .header USED)) (W .header USED) i) (keyOf W i) (i + 1)) 3 (W .header 3 + 1)
+    putHeader
+    (putHead (putList (putCell (putCell W i NEXT (live (used W) (W .head (keyOf W i)))) i 4 (W .header USED)) (W .header USED) i)
+    (keyOf W i) (i + 1)) 3 (W .header 3 + 1)

@@ -50,7 +50,8 @@ fits (Binder x P) = ltb P 16
 fits (Both (Until m t)) = ltb t 8
 
 -- the byte with number p of the table's line after k others
-at-line : (k : ℕ) {l : Line} {ls : List Line} → drop k table ≡ l ∷ ls → endBelow (l .first) (take k table) ≡ true → (p : ℕ) → l .first + p ≤ l .last → tokenOf (l .first + p) ≡ Is (l .token p)
+at-line : (k : ℕ) {l : Line} {ls : List Line} → drop k table ≡ l ∷ ls → endBelow (l .first) (take k table) ≡ true → (p : ℕ)
+    → l .first + p ≤ l .last → tokenOf (l .first + p) ≡ Is (l .token p)
 at-line k {l} d e p h =
     let same : l .first + p - l .first ≡ p = omega arith in
     in-line (l .first + p) k d e (omega arith) h ∙ ap (λ (x : ℕ). Is (l .token x)) same
@@ -142,7 +143,8 @@ unfolding lookup
 lookup-right [] rs b {t} e = absurd (let z : _≡_ {A = ℕ} 0 1 = cc in omega arith)
 lookup-right (l ∷ ls) rs b {t} e = in-line-or (leb (l .first) b && leb b (l .last)) refl e (λ q. lookup-right ls (rs .1) b q)
   where
-    in-line-or : (c : Bool) → (leb (l .first) b && leb b (l .last)) ≡ c → cond c (Is (l .token (b - l .first))) (lookup ls b) ≡ Is t → (lookup ls b ≡ Is t → Right b t) → Right b t
+    in-line-or : (c : Bool) → (leb (l .first) b && leb b (l .last)) ≡ c → cond c (Is (l .token (b - l .first))) (lookup ls b) ≡ Is t
+        → (lookup ls b ≡ Is t → Right b t) → Right b t
     in-line-or true h q later =
         let p = both-true (leb (l .first) b) (leb b (l .last)) h in
         let low = leb-true (l .first) b (p .0) in

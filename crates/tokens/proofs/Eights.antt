@@ -1,5 +1,5 @@
--- Two neighbouring lines of eight bytes: the quotient by 8 tells the line, the remainder the place in it; and the same of the whole table, by one
--- computed test over all 256 bytes. Assumes nothing.
+-- Two neighbouring lines of eight bytes: the quotient by 8 tells the line, the remainder the place in it; and the same of the whole table,
+-- by one computed test over all 256 bytes. Assumes nothing.
 use mathlib.Core.Path.{_≡_, refl, ap, ap₂, _∙_}
 use mathlib.Core.Bool.{Bool, true, false}
 use mathlib.Core.List.{List, [], _∷_, _++_, map}
@@ -71,5 +71,6 @@ unfolding tokenOf lookup
 same-tokens = refl
 
 -- and in every grammar
-pub same-leads : (n : ℕ) (g : Grammar) → map (taken n g) (map tokenOf (below 256 [])) ≡ map (taken n g) (map (lookup byEights) (below 256 []))
+pub same-leads : (n : ℕ) (g : Grammar)
+    → map (taken n g) (map tokenOf (below 256 [])) ≡ map (taken n g) (map (lookup byEights) (below 256 []))
 same-leads n g = ap (map (taken n g)) same-tokens

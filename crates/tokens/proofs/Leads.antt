@@ -45,7 +45,8 @@ module _ (n : ℕ) (g : Grammar) (bs : List ℕ) (at : ℕ) where
   unfolding leadAt
   lead-read {t} e = go (ltb at (length bs)) refl e
     where
-      chose : (u : Token) (c : Bool) → at < length bs → tokenOf (getD bs at 0) ≡ Is u → allowed u n g ≡ c → cond c (Is u) Bad ≡ Is t → Read t
+      chose : (u : Token) (c : Bool) → at < length bs → tokenOf (getD bs at 0) ≡ Is u → allowed u n g ≡ c → cond c (Is u) Bad ≡ Is t
+          → Read t
       chose u true h e a q = let same : u ≡ t = cc in subst (λ (x : Token). Read x) same (record { inside = h; token = e; taken-by = a })
       chose u false h e a q = absurd (not-is q)
 

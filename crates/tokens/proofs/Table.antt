@@ -1,5 +1,5 @@
--- A byte is looked up in the table: lines that end below it are passed, a line that has it gives its token, and where all others begin above it there is none.
--- Assumes nothing.
+-- A byte is looked up in the table: lines that end below it are passed, a line that has it gives its token, and where all others begin
+-- above it there is none. Assumes nothing.
 use mathlib.Core.Path.{_≡_, refl, ap, _∙_}
 use mathlib.Core.Bool.{Bool, true, false, _&&_, cond}
 use mathlib.Core.List.{List, [], _∷_}
@@ -61,7 +61,8 @@ module _ (b : ℕ) where
       before-line l ls (omega (arith, ltb-true m (l .first) (p .0))) ∙ miss m ls (p .1) h
 
   -- the byte is in the table's line l, after k lines
-  pub in-line : (k : ℕ) {l : Line} {ls : List Line} → drop k table ≡ l ∷ ls → endBelow (l .first) (take k table) ≡ true → l .first ≤ b → b ≤ l .last → tokenOf b ≡ Is (l .token (b - l .first))
+  pub in-line : (k : ℕ) {l : Line} {ls : List Line} → drop k table ≡ l ∷ ls → endBelow (l .first) (take k table) ≡ true → l .first ≤ b
+      → b ≤ l .last → tokenOf b ≡ Is (l .token (b - l .first))
   unfolding tokenOf
   in-line k {l} {ls} d e low high = skip k (l .first) table e low ∙ ap (λ (x : List Line). lookup x b) d ∙ hit l ls low high
 

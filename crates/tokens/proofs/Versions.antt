@@ -29,7 +29,8 @@ lookup-append [] ms b = refl
 lookup-append (l ∷ ls) ms b = go (leb (l .first) b && leb b (l .last)) (lookup-append ls ms b)
   where
     go : (c : Bool) → lookup (ls ++ ms) b ≡ orElse (lookup ls b) (lookup ms b)
-        → cond c (Is (l .token (b - l .first))) (lookup (ls ++ ms) b) ≡ orElse (cond c (Is (l .token (b - l .first))) (lookup ls b)) (lookup ms b)
+        → cond c (Is (l .token (b - l .first))) (lookup (ls ++ ms) b)
+        ≡ orElse (cond c (Is (l .token (b - l .first))) (lookup ls b)) (lookup ms b)
     go true below = refl
     go false below = below
 

@@ -1,7 +1,8 @@
 // The tokens of document 01: what each formula byte means, and which tokens a call takes.
 ghost use mathlib.Core.Path.{_≡_};
 ghost use Prim.Native.Nat.{_≤_};
-ghost use Rattle.tokens.specs.Tokens.{tokenOf, firstOf, secondOf, grammarOf, isStates, onlyNow, hasRuns, leafAllowed, twoAllowed, allowed, leadAt};
+ghost use Rattle.tokens.specs.Tokens.{tokenOf, firstOf, secondOf, grammarOf, isStates, onlyNow, hasRuns, leafAllowed, twoAllowed};
+ghost use Rattle.tokens.specs.Tokens.{allowed, leadAt};
 ghost use Rattle.tokens.specs.declared.Lead.the-variants.{Is};
 
 // The call that a formula is for.

@@ -26,7 +26,8 @@ use Rattle.witness.proofs.Made.{Roomy, fresh-done}
 
 module _ (n N k : ℕ) (z : Sizes n N k) where
   pub session : {l : List Event} {ws : List ℕ} → Trace (List ℕ) performs (freshOf n N k) l ws → Session (List ℕ) makes performs n N l ws
-  session t = record { lent = zeros k; count = 1; made = freshOf n N k; reply = plain 0; start = fresh-done n N k z; answered = refl; rest = t }
+  session t =
+      record { lent = zeros k; count = 1; made = freshOf n N k; reply = plain 0; start = fresh-done n N k z; answered = refl; rest = t }
 
   module _ {l : List Event} {ws : List ℕ} (t : Trace (List ℕ) performs (freshOf n N k) l ws) where
     -- the words after it are sound, and hold what the book does
@@ -75,7 +76,8 @@ module _ {N : ℕ} {ws : List ℕ} (s : Stands N ws) where
       }
 
   -- after an answered relation t of no pairs
-  pub relation-stands : (t : ℕ) {bs : List ℕ} {y : Reply} → t < RELATIONS → CallPost (relation t bs) ws (write ws (FIRST-RELATION + t) 1) y → Stands N (write ws (FIRST-RELATION + t) 1)
+  pub relation-stands : (t : ℕ) {bs : List ℕ} {y : Reply} → t < RELATIONS → CallPost (relation t bs) ws (write ws (FIRST-RELATION + t) 1) y
+      → Stands N (write ws (FIRST-RELATION + t) 1)
   relation-stands t l p =
       let e = view-header (headerOf ws ROWS) ws (s .sound .good .sizes .room) (FIRST-RELATION + t) 1 (omega arith) in
       record {
@@ -86,7 +88,8 @@ module _ {N : ℕ} {ws : List ℕ} (s : Stands N ws) where
       }
 
   -- after an answered set without a new row
-  pub stored-stands : {acc : Terms} (r R a : ℕ) {bs : List ℕ} {y : Reply} → r < REGISTERS → CallPost (set acc r R bs) ws (storedIn ws r a) y → Stands N (storedIn ws r a)
+  pub stored-stands : {acc : Terms} (r R a : ℕ) {bs : List ℕ} {y : Reply} → r < REGISTERS → CallPost (set acc r R bs) ws (storedIn ws r a) y
+      → Stands N (storedIn ws r a)
   stored-stands r R a l p =
       let e = view-stored (headerOf ws ROWS) r a ws (s .sound .good .sizes .room) l in
       record {

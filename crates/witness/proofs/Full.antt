@@ -1,5 +1,6 @@
--- A LIST THAT MAKES ROWS AND MEETS 8, under the predicates of the functions' `ensures` as in Played: two bits and one row. A set makes the row, a
--- second one is refused with 8, collect keeps the row until its register is cleared, and then the second set is answered. Assumes nothing.
+-- A LIST THAT MAKES ROWS AND MEETS 8, under the predicates of the functions' `ensures` as in Played: two bits and one row.
+-- A set makes the row, a second one is refused with 8, collect keeps the row until its register is cleared, and then the second set is
+-- answered. Assumes nothing.
 use mathlib.Core.Path.{_≡_, refl, sym, ap, _∙_, subst}
 use mathlib.Core.Bool.{true, false}
 use mathlib.Core.Logic.{by-cases}
@@ -114,14 +115,16 @@ module _ {l : List Event} {ws : List ℕ} (t : Trace (List ℕ) performs made l 
       bit-seen = view-bit 1 0 r p ws room none (omega arith) (let h = bucket-lt 1 (2 * p) 1 0 (omega arith) in omega arith) i
 
       bit-set : p < 2 → checks (bookAfter 2 1 l) Set (bit p) ≡ 0 → now p ≡ formulaIn (bookAfter 2 1 l) Set (bit p)
-          → 1 ≡ stepNeed (2 * bookAfter 2 1 l .n) (liveOf (bookAfter 2 1 l)) (bitF (2 * p)) → 1 ≡ stepNeed (2 * bookAfter 2 1 l .n) (bitF (2 * p) ∷ liveOf (bookAfter 2 1 l)) (bitF (2 * p))
+          → 1 ≡ stepNeed (2 * bookAfter 2 1 l .n) (liveOf (bookAfter 2 1 l)) (bitF (2 * p))
+          → 1 ≡ stepNeed (2 * bookAfter 2 1 l .n) (bitF (2 * p) ∷ liveOf (bookAfter 2 1 l)) (bitF (2 * p))
           → CallPost (set alone r 100 (bit p)) ws (bitIn 1 ws 0 r p) node
       bit-set j passes is needs again =
           let e = two in
           let o = one in
           let h = bucket-lt (headerOf ws ROWS) (2 * p) 1 0 (omega arith) in
           subst (λ (k : ℕ). CallPost (set alone r 100 (bit p)) ws (bitIn k ws 0 r p) node) one
-          (bit-done ws sound none every p (omega arith) alone r 100 0 1 1 (bit p) i (alone-roomy (headerOf ws ROWS) 100 (omega arith) (omega arith)) (omega arith)
+          (bit-done ws sound none every p (omega arith) alone r 100 0 1 1 (bit p) i
+          (alone-roomy (headerOf ws ROWS) 100 (omega arith) (omega arith)) (omega arith)
           (subst (λ (b : Book). checks b Set (bit p) ≡ 0) (sym holds) passes)
           (subst (λ (b : Book). now p ≡ formulaIn b Set (bit p)) (sym holds) is)
           (subst (λ (b : Book). 1 ≡ stepNeed (2 * b .n) (liveOf b) (bitF (2 * p))) (sym holds) needs)
@@ -164,7 +167,8 @@ collect-first = collected-done once (sound to-once) needed 1 (header-once USED �
         let o = one to-once refl refl in
         let l = used-in _ _ _ _ i u .row in
         let e : target 3 ≡ suc i = omega arith in
-        root (filled-mem (tableOf once) 3 (record { at = FIRST-REGISTER; from = omega arith; below = omega arith; holds = header-once FIRST-REGISTER })) e
+        root (filled-mem (tableOf once) 3
+        (record { at = FIRST-REGISTER; from = omega arith; below = omega arith; holds = header-once FIRST-REGISTER })) e
 
 clear-first : CallPost (clear 0) once cleared (plain 0)
 clear-first = empty-done once (sound to-once) 0 (omega arith)
@@ -178,17 +182,22 @@ unfolding computing
 bare h a l =
     ap (λ (v : View). v .header h) (view-header 1 once (room to-once refl refl) FIRST-REGISTER 0 (omega arith))
     ∙ by-cases (ℕ-discrete h FIRST-REGISTER) (λ e. rw (eq-eqb h FIRST-REGISTER e))
-    (λ n. rw (ne-eqb h FIRST-REGISTER n) (header-once h ∙ rw (ne-eqb h FIRST-REGISTER n, ne-eqb h USED (omega arith), ne-eqb h CURSOR (omega arith))
+    (λ n. rw (ne-eqb h FIRST-REGISTER n)
+    (header-once h ∙ rw (ne-eqb h FIRST-REGISTER n, ne-eqb h USED (omega arith), ne-eqb h CURSOR (omega arith))
     (fresh-zero 2 1 268 h (omega arith) (omega arith) (omega arith) (omega arith) (omega arith) (omega arith))))
 
 -- V is every state, as fresh left it
 every-cleared : headerOf cleared VALID ≡ ALL-STATES
 unfolding computing
-every-cleared = ap (λ (v : View). v .header VALID) (view-header 1 once (room to-once refl refl) FIRST-REGISTER 0 (omega arith)) ∙ header-once VALID ∙ every-made
+every-cleared =
+    ap (λ (v : View). v .header VALID) (view-header 1 once (room to-once refl refl) FIRST-REGISTER 0 (omega arith)) ∙ header-once VALID
+    ∙ every-made
 
 collect-second : CallPost collect cleared freed (valued 0)
 unfolding computing
-collect-second = subst (λ (k : ℕ). CallPost collect cleared (freedIn k cleared) (valued 0)) (one to-cleared refl refl) (freed-done cleared (sound to-cleared) every-cleared bare)
+collect-second =
+    subst (λ (k : ℕ). CallPost collect cleared (freedIn k cleared) (valued 0)) (one to-cleared refl refl)
+    (freed-done cleared (sound to-cleared) every-cleared bare)
 
 none-freed : headerOf freed USED ≡ 0
 unfolding computing

@@ -1,5 +1,5 @@
--- "BIGGER TABLES, SAME VERDICTS" IS INHABITED: a list over a table of one row under one account, and the same list over a table of two rows with every
--- limit raised, each call under the predicate of its function's `ensures`; and what the theorem says of them. Assumes nothing.
+-- "BIGGER TABLES, SAME VERDICTS" IS INHABITED: a list over a table of one row under one account, and the same list over a table of two rows
+-- with every limit raised, each call under the predicate of its function's `ensures`; and what the theorem says of them. Assumes nothing.
 use mathlib.Core.Path.{_≡_, refl, sym, ap, _∙_, subst}
 use mathlib.Core.Bool.{true, false}
 use mathlib.Core.List.{List, [], _∷_, _++_}
@@ -35,10 +35,12 @@ use Rattle.contract.specs.Posts.{CallPost}
 use Rattle.contract.specs.Closed.{performs}
 use Rattle.contract.specs.Shared.{Lent, Step, SharedSession}
 use Rattle.contract.proofs.Shared.{shared-demand}
-use Rattle.contract.specs.Bigger.{Again, same-relation, same-set, same-valid, same-clear, same-collect, AllAgain, SharedUpgrade, SharedVerdicts}
+use Rattle.contract.specs.Bigger.{Again, same-relation, same-set, same-valid, same-clear, same-collect, AllAgain, SharedUpgrade}
+use Rattle.contract.specs.Bigger.{SharedVerdicts}
 use Rattle.contract.proofs.Bigger.{shared-bigger, shared-each}
 use Rattle.witness.proofs.Words.{zeros, freshOf, storedIn, length-zeros}
-use Rattle.witness.proofs.Made.{Roomy, every, noPairs, self, fresh-done, every-done, noPairs-done, self-done, collected-done, unused, empty-done}
+use Rattle.witness.proofs.Made.{Roomy, every, noPairs, self, fresh-done, every-done, noPairs-done, self-done, collected-done, unused}
+use Rattle.witness.proofs.Made.{empty-done}
 use Rattle.witness.proofs.Row.{bitIn, bit-done}
 use Rattle.witness.proofs.Begun.{holds, Stands, fresh-stands, all-one, roomy, valid-stands, relation-stands, stored-stands}
 
@@ -128,7 +130,8 @@ record Ready (b : Book) : Type 0 where
   needs : 1 ≡ stepNeed (2 * b .n) (liveOf b) (bitF 0)
   again : 1 ≡ stepNeed (2 * b .n) (bitF 0 ∷ liveOf b) (bitF 0)
 
-module _ (N k a c R : ℕ) (z : Sizes 1 N k) (rows : N ≤ a) (rounds : R ≤ c) (some-round : 0 < R) (fits : Fits (bookAfter 1 N ((valid every, plain 0) ∷ [])))
+module _ (N k a c R : ℕ) (z : Sizes 1 N k) (rows : N ≤ a) (rounds : R ≤ c) (some-round : 0 < R)
+    (fits : Fits (bookAfter 1 N ((valid every, plain 0) ∷ [])))
     (ready : Ready (bookAfter 1 N (before a c R))) where
   free : {ws : List ℕ} → Stands N ws → Roomy (headerOf ws ROWS) R (under a c)
   free s = roomy s R (under a c) (record { place = tt; rows = rows; rounds = rounds })
@@ -151,22 +154,28 @@ module _ (N k a c R : ℕ) (z : Sizes 1 N k) (rows : N ≤ a) (rounds : R ≤ c)
   loaded-stands = relation-stands fixed-stands 0 (omega arith) relation-loaded
 
   set-first : CallPost (set (under a c) 0 R (self false)) (loaded N k) (once N k) (node 1)
-  set-first = self-done (loaded N k) (loaded-stands .sound) 0 (omega arith) false R (under a c) (free loaded-stands) 1 (all-one loaded-stands) some-round
+  set-first =
+      self-done (loaded N k) (loaded-stands .sound) 0 (omega arith) false R (under a c) (free loaded-stands) 1 (all-one loaded-stands)
+      some-round
 
   once-stands : Stands N (once N k)
   once-stands = stored-stands loaded-stands 0 R 1 (omega arith) set-first
 
   set-second : CallPost (set (under a c) 1 R (self true)) (once N k) (twice N k) (node 0)
-  set-second = self-done (once N k) (once-stands .sound) 1 (omega arith) true R (under a c) (free once-stands) 1 (all-one once-stands) some-round
+  set-second =
+      self-done (once N k) (once-stands .sound) 1 (omega arith) true R (under a c) (free once-stands) 1 (all-one once-stands) some-round
 
   twice-stands : Stands N (twice N k)
   twice-stands = stored-stands once-stands 1 R 0 (omega arith) set-second
 
   none-freed : CallPost collect (twice N k) (twice N k) (valued 0)
-  none-freed = collected-done (twice N k) (twice-stands .sound) (λ i u. absurd (unused (twice N k) (twice-stands .used) i u)) 0 (twice-stands .used)
+  none-freed =
+      collected-done (twice N k) (twice-stands .sound) (λ i u. absurd (unused (twice N k) (twice-stands .used) i u)) 0 (twice-stands .used)
 
   set-third : CallPost (set (under a c) 2 R (self false)) (twice N k) (thrice N k) (node 1)
-  set-third = self-done (twice N k) (twice-stands .sound) 2 (omega arith) false R (under a c) (free twice-stands) 1 (all-one twice-stands) some-round
+  set-third =
+      self-done (twice N k) (twice-stands .sound) 2 (omega arith) false R (under a c) (free twice-stands) 1 (all-one twice-stands)
+      some-round
 
   thrice-stands : Stands N (thrice N k)
   thrice-stands = stored-stands twice-stands 2 R 1 (omega arith) set-third
@@ -201,16 +210,20 @@ abbrev both : List ℕ → List Account → Lent
 both ws l = record { words = ws; accounts = l }
 
 -- a call on the words, fed so, is one on both
-with-account : (ws vs : List ℕ) (l : List Account) (c : Call) (y : Reply) → CallPost c ws vs y → Fed l c → Step (both ws l) c (both vs (charged l c y)) y
+with-account : (ws vs : List ℕ) (l : List Account) (c : Call) (y : Reply) → CallPost c ws vs y → Fed l c
+    → Step (both ws l) c (both vs (charged l c y)) y
 with-account ws vs l (relation t bs) y p f = (p, refl)
-with-account ws vs l (set acc r R bs) y p f = (f, record { table = subst (λ (x : Terms). CallPost (set x r R bs) ws vs y) f p; list = refl })
+with-account ws vs l (set acc r R bs) y p f =
+    (f, record { table = subst (λ (x : Terms). CallPost (set x r R bs) ws vs y) f p; list = refl })
 with-account ws vs l (valid bs) y p f = (p, refl)
 with-account ws vs l (clear r) y p f = (p, refl)
 with-account ws vs l collect y p f = (p, refl)
 
-with-accounts : {ws vs : List ℕ} {es : List Event} (l : List Account) → Trace (List ℕ) performs ws es vs → AllFed l es → Trace Lent Step (both ws l) es (both vs (accountsAfter l es))
+with-accounts : {ws vs : List ℕ} {es : List Event} (l : List Account) → Trace (List ℕ) performs ws es vs → AllFed l es
+    → Trace Lent Step (both ws l) es (both vs (accountsAfter l es))
 with-accounts l stop f = stop
-with-accounts l (go {w = ws} {v = ms} {c = c} {y = y} p t) f = go {v = both ms (charged l c y)} (with-account ws ms l c y p (f .0)) (with-accounts (charged l c y) t (f .1))
+with-accounts l (go {w = ws} {v = ms} {c = c} {y = y} p t) f =
+    go {v = both ms (charged l c y)} (with-account ws ms l c y p (f .0)) (with-accounts (charged l c y) t (f .1))
 
 -- ---- one row, one round at most, and the account's limits 1 and 1; then two rows, three rounds, and limits 5 and 7
 
@@ -250,7 +263,8 @@ first = record {
   reply = plain 0;
   start = record { table = fresh-done 1 1 268 sizes-small; list = refl };
   answered = refl;
-  rest = with-accounts (lender 1 1 0) (listed 1 268 1 1 1 sizes-small (omega arith) (omega arith) (omega arith) fits-small ready-small) (tt, (tt, (refl, (refl, (tt, (refl, (refl, (tt, tt))))))));
+  rest = with-accounts (lender 1 1 0) (listed 1 268 1 1 1 sizes-small (omega arith) (omega arith) (omega arith) fits-small ready-small)
+      (tt, (tt, (refl, (refl, (tt, (refl, (refl, (tt, tt))))))));
 }
 
 -- the list again
@@ -261,7 +275,8 @@ second = record {
   made = both (freshOf 1 2 300) (lender 5 7 0);
   reply = plain 0;
   start = record { table = fresh-done 1 2 300 sizes-large; list = refl };
-  rest = with-accounts (lender 5 7 0) (listed 2 300 5 7 3 sizes-large (omega arith) (omega arith) (omega arith) fits-large ready-large) (tt, (tt, (refl, (refl, (tt, (refl, (refl, (tt, tt))))))));
+  rest = with-accounts (lender 5 7 0) (listed 2 300 5 7 3 sizes-large (omega arith) (omega arith) (omega arith) fits-large ready-large)
+      (tt, (tt, (refl, (refl, (tt, (refl, (refl, (tt, tt))))))));
 }
 
 raised : (t t′ : ℕ) → Looser (lender 1 1 t) (lender 5 7 t′)
@@ -293,7 +308,8 @@ again-bit = same-set (under 1 1) (under 5 7) 3 1 3 bit refl (omega arith)
 pub shown : SharedVerdicts 1 1 2 1 (plain 0) (events 1 1 1) (events 5 7 3) small large
 unfolding first second
 shown = shared-bigger 1 1 2 (omega arith) (omega arith) first second (raised 8 9)
-    (again (bitSet 1 1 1 row ∷ emptied ∷ []) (bitSet 5 7 3 row ∷ emptied ∷ []) (again-bit, (same-clear 1, tt))) (answered (bitSet 1 1 1 row ∷ emptied ∷ []) (refl, (refl, tt)))
+    (again (bitSet 1 1 1 row ∷ emptied ∷ []) (bitSet 5 7 3 row ∷ emptied ∷ []) (again-bit, (same-clear 1, tt)))
+    (answered (bitSet 1 1 1 row ∷ emptied ∷ []) (refl, (refl, tt)))
 
 -- so register 3 of the larger table holds the states with bit 0, as that of the smaller one does
 pub left : bookOf (seen (large .words)) .reg 3 ≡ some (false ∷ true ∷ [])
@@ -301,10 +317,13 @@ unfolding computing
 left = ap (λ (b : Book). b .reg 3) (shown .table .sets ∙ ap (λ (b : Book). withRowCount b 2) (shared-demand 1 1 first .holds))
 
 -- and before the last call, wherever the two lists stood then
-pub each : (c : Cut Lent Step (first .made) (sofar 1 1 1 row) (emptied ∷ []) small) (c′ : Cut Lent Step (second .made) (sofar 5 7 3 row) (emptied ∷ []) large)
+pub each : (c : Cut Lent Step (first .made) (sofar 1 1 1 row) (emptied ∷ []) small)
+    (c′ : Cut Lent Step (second .made) (sofar 5 7 3 row) (emptied ∷ []) large)
     → SharedVerdicts 1 1 2 1 (plain 0) (sofar 1 1 1 row) (sofar 5 7 3 row) (c .mid) (c′ .mid)
 unfolding first second
-each c c′ = shared-each 1 1 2 (omega arith) (omega arith) (sofar 1 1 1 row) (emptied ∷ []) (sofar 5 7 3 row) (emptied ∷ []) first second (raised 8 9)
+each c c′ =
+    shared-each 1 1 2 (omega arith) (omega arith) (sofar 1 1 1 row) (emptied ∷ []) (sofar 5 7 3 row) (emptied ∷ []) first second
+    (raised 8 9)
     (again (bitSet 1 1 1 row ∷ []) (bitSet 5 7 3 row ∷ []) (again-bit, tt)) (answered (bitSet 1 1 1 row ∷ []) (refl, tt)) c c′
 
 -- ---- impostors: a larger table that replies y to the set of bit 0
@@ -313,7 +332,8 @@ module _ (y : Reply) (end′ : Lent) (u : SharedUpgrade 1 2 (told 5 7 3 y) end�
   same : SharedVerdicts 1 1 2 1 (u .reply) (events 1 1 1) (told 5 7 3 y) small end′
   unfolding first
   same = shared-bigger 1 1 2 (omega arith) (omega arith) first u loose
-      (again (bitSet 1 1 1 row ∷ emptied ∷ []) (bitSet 5 7 3 y ∷ emptied ∷ []) (again-bit, (same-clear 1, tt))) (answered (bitSet 1 1 1 row ∷ emptied ∷ []) (refl, (refl, tt)))
+      (again (bitSet 1 1 1 row ∷ emptied ∷ []) (bitSet 5 7 3 y ∷ emptied ∷ []) (again-bit, (same-clear 1, tt)))
+      (answered (bitSet 1 1 1 row ∷ emptied ∷ []) (refl, (refl, tt)))
 
   -- one that is full, or counts another round or row
   pub same-reply : (y .number ≡ 0) × (y .rounds ≡ 0) × (y .peak ≡ 1)
@@ -325,10 +345,13 @@ module _ (y : Reply) (end′ : Lent) (u : SharedUpgrade 1 2 (told 5 7 3 y) end�
 
   -- one that gives registers 0 and 2, which have one set, two numbers
   pub one-number : (a b : ℕ) → seen (end′ .words) .reg 0 ≡ some a → seen (end′ .words) .reg 2 ≡ some b → a ≡ b
-  one-number a b p q = same .table .numbers 0 2 (omega arith) (omega arith) 1 1 a b (number-of 0 1 (omega arith) refl) (number-of 2 1 (omega arith) refl) p q .0 refl
+  one-number a b p q =
+      same .table .numbers 0 2 (omega arith) (omega arith) 1 1 a b (number-of 0 1 (omega arith) refl) (number-of 2 1 (omega arith) refl) p
+      q .0 refl
 
   -- or registers 0 and 3, which have two, one number
   pub two-numbers : (a b : ℕ) → seen (end′ .words) .reg 0 ≡ some a → seen (end′ .words) .reg 3 ≡ some b → a ≡ b → ⊥
   two-numbers a b p q e =
-      let z : _≡_ {A = ℕ} 1 3 = same .table .numbers 0 3 (omega arith) (omega arith) 1 3 a b (number-of 0 1 (omega arith) refl) (number-of 3 3 (omega arith) refl) p q .1 e in
+      let z : _≡_ {A = ℕ} 1 3 = same .table .numbers 0 3 (omega arith) (omega arith) 1 3 a b (number-of 0 1 (omega arith) refl)
+      (number-of 3 3 (omega arith) refl) p q .1 e in
       omega arith

@@ -117,7 +117,8 @@ every-passes n regs rels = refl
 -- ---- fresh
 
 pub fresh-done : (n N k : ℕ) → Sizes n N k → FreshPost n N 1 (zeros k) (freshOf n N k) (plain 0)
-fresh-done n N k z = fresh-ready n N 1 (zeros k) (freshOf n N k) (subst (Sizes n N) (sym (length-zeros k)) z) refl (view-fresh n N k (z .room))
+fresh-done n N k z =
+    fresh-ready n N 1 (zeros k) (freshOf n N k) (subst (Sizes n N) (sym (length-zeros k)) z) refl (view-fresh n N k (z .room))
 
 -- ---- the calls on a sound table
 
@@ -140,7 +141,9 @@ module _ (old : List ℕ) (s : SoundWords old) where
 
   -- valid of every state
   abbrev Fixes : Form → Type 0
-  Fixes f = PairEvals (b .n) (b .N) (rowsOf (tableOf old)) (rowsOf (tableOf old)) (rootsOf (seen old)) (pairsFit (b .n) (b .N) (liveOf b) f) (pairF (b .n) f) (pairsCount (b .n) (liveOf b) f nothing) (at 1) nothing
+  Fixes f =
+      PairEvals (b .n) (b .N) (rowsOf (tableOf old)) (rowsOf (tableOf old)) (rootsOf (seen old)) (pairsFit (b .n) (b .N) (liveOf b) f)
+      (pairF (b .n) f) (pairsCount (b .n) (liveOf b) f nothing) (at 1) nothing
 
   pub every-done : T (unfilled b) → CallPost (valid every) old (write old VALID ALL-STATES) (plain 0)
   every-done u =
@@ -156,7 +159,9 @@ module _ (old : List ℕ) (s : SoundWords old) where
     counted f = relationCount (b .n) (liveOf b) (b .valid) f nothing
 
     abbrev Loads : Form → Type 0
-    Loads f = PairEvals (b .n) (b .N) (rowsOf (tableOf old)) (rowsOf (tableOf old)) (rootsOf (seen old)) (relationFits (b .n) (b .N) (liveOf b) (b .valid) f) (relationF (b .n) (b .valid) f) (counted f) (at 0) p
+    Loads f =
+        PairEvals (b .n) (b .N) (rowsOf (tableOf old)) (rowsOf (tableOf old)) (rootsOf (seen old))
+        (relationFits (b .n) (b .N) (liveOf b) (b .valid) f) (relationF (b .n) (b .valid) f) (counted f) (at 0) p
 
     loads : relationFits (b .n) (b .N) (liveOf b) (b .valid) bot ≡ true → p ≡ counted bot → Loads bot
     loads fits e =
@@ -164,29 +169,35 @@ module _ (old : List ℕ) (s : SoundWords old) where
         record {
           wf = d .wf;
           kept = d .kept;
-          result = subst (λ (x : Bool). PairMatches (b .n) (rowsOf (tableOf old)) x (relationF (b .n) (b .valid) bot) (counted bot) (at 0) p) (sym fits) (
-            record {
-              arrow = tt;
-              same = λ v.
-                  let none = den-zero (2 * b .n) (rowsOf (tableOf old)) v in
-                  none ∙ sym (ap (λ (x : Bool). (x && fnOf (b .n) (b .valid) v) && shiftF (fnOf (b .n) (b .valid)) v) (sym (d .result .0 .same v) ∙ none));
-            },
-            e,
-          );
+          result =
+              subst (λ (x : Bool). PairMatches (b .n) (rowsOf (tableOf old)) x (relationF (b .n) (b .valid) bot) (counted bot) (at 0) p)
+              (sym fits) (
+                record {
+                  arrow = tt;
+                  same = λ v.
+                      let none = den-zero (2 * b .n) (rowsOf (tableOf old)) v in
+                      none ∙ sym
+                      (ap (λ (x : Bool). (x && fnOf (b .n) (b .valid) v) && shiftF (fnOf (b .n) (b .valid)) v)
+                      (sym (d .result .0 .same v) ∙ none));
+                },
+                e,
+              );
         }
 
     pub noPairs-done : relationFits (b .n) (b .N) (liveOf b) (b .valid) bot ≡ true → p ≡ counted bot
         → CallPost (relation t noPairs) old (write old (FIRST-RELATION + t) 1) (relationReply (at 0) p)
     noPairs-done fits e =
         through-done s tt (λ a. a)
-        (relation-value old s (tableOf old) (s .good) (op-refl (tableOf old)) t noPairs l (noPairs-passes (b .n) (regFilled b) (relFilled b)) 0 p
+        (relation-value old s (tableOf old) (s .good) (op-refl (tableOf old)) t noPairs l
+        (noPairs-passes (b .n) (regFilled b) (relFilled b)) 0 p
         (subst Loads (noPairs-form (b .n)) (loads fits e)))
         (as-it-was refl)
         (view-header (headerOf old ROWS) old (s .good .sizes .room) (FIRST-RELATION + t) 1 (omega arith))
 
   -- the evaluation of f under limits N and R ended so
   abbrev pub Ends : Rows → ℕ → ℕ → Form → Ended → Type 0
-  Ends after N R f y = Evals (b .n) (b .N) (rowsOf (tableOf old)) after (rootsOf (seen old)) (run (states (modelOf b) noEnv) N R (liveOf b) f nothing) y
+  Ends after N R f y =
+      Evals (b .n) (b .N) (rowsOf (tableOf old)) after (rootsOf (seen old)) (run (states (modelOf b) noEnv) N R (liveOf b) f nothing) y
 
   -- an account that limits neither rows nor rounds further
   pub unlimited : {after : Rows} (R : ℕ) (f : Form) (y : Ended) (acc : Terms) → Roomy (b .N) R acc → Ends after (b .N) R f y
@@ -213,11 +224,14 @@ module _ (old : List ℕ) (s : SoundWords old) where
       self-under y e = subst (Under y) (self-form d (b .n)) (unlimited R (bind d 0 (var 0)) y acc roomy e)
 
       -- one round and no step: node number 0 or V's
-      pub self-done : 0 < R → CallPost (set acc r R (self d)) old (storedIn old r (startArrow d w)) (setReply (ends (startArrow d w) (another nothing)))
+      pub self-done : 0 < R
+          → CallPost (set acc r R (self d)) old (storedIn old r (startArrow d w)) (setReply (ends (startArrow d w) (another nothing)))
       self-done i =
           through-done s tt (λ a. a)
-          (set-value old s (tableOf old) (s .good) (op-refl (tableOf old)) acc r R (self d) l (roomy .place) (self-passes d (b .n) (regFilled b) (relFilled b)) (startArrow d w) (another nothing)
-          (self-under (ends (startArrow d w) (another nothing)) (self-ends (modelOf b) (b .N) R noEnv (liveOf b) 0 (s .good .rows) held w (has-valid w is) d i)))
+          (set-value old s (tableOf old) (s .good) (op-refl (tableOf old)) acc r R (self d) l (roomy .place)
+          (self-passes d (b .n) (regFilled b) (relFilled b)) (startArrow d w) (another nothing)
+          (self-under (ends (startArrow d w) (another nothing))
+          (self-ends (modelOf b) (b .N) R noEnv (liveOf b) 0 (s .good .rows) held w (has-valid w is) d i)))
           (as-it-was refl)
           (view-stored (headerOf old ROWS) r (startArrow d w) old (s .good .sizes .room) l)
 
@@ -225,16 +239,20 @@ module _ (old : List ℕ) (s : SoundWords old) where
       pub self-refused : R ≡ 0 → CallPost (set acc r R (self d)) old old (plain 9)
       self-refused z =
           through-done s tt (λ a. a)
-          (set-spent old s (tableOf old) (s .good) (op-refl (tableOf old)) acc r R (self d) l (roomy .place) (self-passes d (b .n) (regFilled b) (relFilled b))
+          (set-spent old s (tableOf old) (s .good) (op-refl (tableOf old)) acc r R (self d) l (roomy .place)
+          (self-passes d (b .n) (regFilled b) (relFilled b))
           (self-under nine (self-spent (modelOf b) (b .N) R noEnv (liveOf b) 0 (s .good .rows) held w (has-valid w is) d z)))
           (as-it-was refl) refl
 
     -- set r to mu P. NOT P
     pub odd-done : (R : ℕ) (acc : Terms) → T (named acc) → CallPost (set acc r R odd) old old (plain 6)
-    odd-done R acc p = call-refused old s 5 (set acc r R odd) (set-refused b acc r R odd 5 l p (odd-refused (b .n) (regFilled b) (relFilled b)))
+    odd-done R acc p =
+        call-refused old s 5 (set acc r R odd) (set-refused b acc r R odd 5 l p (odd-refused (b .n) (regFilled b) (relFilled b)))
 
     pub empty-done : CallPost (clear r) old (write old (FIRST-REGISTER + r) 0) (plain 0)
-    empty-done = clear-done old (write old (FIRST-REGISTER + r) 0) r s l refl (view-header (headerOf old ROWS) old (s .good .sizes .room) (FIRST-REGISTER + r) 0 (omega arith))
+    empty-done =
+        clear-done old (write old (FIRST-REGISTER + r) 0) r s l refl
+        (view-header (headerOf old ROWS) old (s .good .sizes .room) (FIRST-REGISTER + r) 0 (omega arith))
 
   -- collect where V, registers and relations reach every used row
   module _ (needed : (i : ℕ) → used (tableOf old) i ≡ true → Reach (rowsOf (tableOf old)) (filled (tableOf old)) i) where
@@ -242,11 +260,14 @@ module _ (old : List ℕ) (s : SoundWords old) where
     same = record {
       sound = s;
       frame = frame-refl (tableOf old);
-      collects = record { kept = extends-refl (rowsOf (tableOf old)); only = needed; all = λ i r. reach-used (s .good .rows) (filled-arrow s) r };
+      collects =
+          record { kept = extends-refl (rowsOf (tableOf old)); only = needed; all = λ i r. reach-used (s .good .rows) (filled-arrow s) r };
     }
 
     pub collected-done : (k : ℕ) → headerOf old USED ≡ k → CallPost collect old old (valued k)
-    collected-done k z = collect-done old old s refl (record { freed = same; needs = sym z ∙ freed-count (tableOf old) (tableOf old) (filled (tableOf old)) s same })
+    collected-done k z =
+        collect-done old old s refl
+        (record { freed = same; needs = sym z ∙ freed-count (tableOf old) (tableOf old) (filled (tableOf old)) s same })
 
 -- where none is used
 pub unused : (old : List ℕ) → headerOf old USED ≡ 0 → (i : ℕ) → used (tableOf old) i ≡ true → ⊥

@@ -30,7 +30,8 @@ use Rattle.contract.specs.Posts.{CallPost}
 use Rattle.contract.specs.Closed.{makes, performs, asks}
 use Rattle.contract.proofs.Closed.{words-demand}
 use Rattle.witness.proofs.Words.{freshOf, storedIn}
-use Rattle.witness.proofs.Made.{Roomy, alone-roomy, every, noPairs, self, odd, every-done, noPairs-done, self-done, self-refused, odd-done, collected-done, unused, empty-done}
+use Rattle.witness.proofs.Made.{Roomy, alone-roomy, every, noPairs, self, odd, every-done, noPairs-done, self-done, self-refused}
+use Rattle.witness.proofs.Made.{odd-done, collected-done, unused, empty-done}
 use Rattle.witness.proofs.Begun.{session, holds, Stands, fresh-stands, all-one, roomy, valid-stands, relation-stands, stored-stands}
 
 -- ---- the list: n = 1, N = 100, every kind of call, and refusals 6 and 9
@@ -101,13 +102,17 @@ free : {ws : List ℕ} → Stands 100 ws → (R : ℕ) → R ≤ 100 → Roomy (
 free s R l = roomy s R alone (alone-roomy 100 R (omega arith) (omega arith))
 
 set-first : CallPost (set alone 0 100 (self false)) loaded once (node 1)
-set-first = self-done loaded (loaded-stands .sound) 0 (omega arith) false 100 alone (free loaded-stands 100 (omega arith)) 1 (all-one loaded-stands) (omega arith)
+set-first =
+    self-done loaded (loaded-stands .sound) 0 (omega arith) false 100 alone (free loaded-stands 100 (omega arith)) 1 (all-one loaded-stands)
+    (omega arith)
 
 once-stands : Stands 100 once
 once-stands = stored-stands loaded-stands 0 100 1 (omega arith) set-first
 
 set-second : CallPost (set alone 1 100 (self true)) once twice (node 0)
-set-second = self-done once (once-stands .sound) 1 (omega arith) true 100 alone (free once-stands 100 (omega arith)) 1 (all-one once-stands) (omega arith)
+set-second =
+    self-done once (once-stands .sound) 1 (omega arith) true 100 alone (free once-stands 100 (omega arith)) 1 (all-one once-stands)
+    (omega arith)
 
 twice-stands : Stands 100 twice
 twice-stands = stored-stands once-stands 1 100 0 (omega arith) set-second
@@ -134,5 +139,6 @@ unfolding computing
 left = let e = shown .holds in (ap (λ (b : Book). b .reg 0) e, ap (λ (b : Book). b .reg 1) e)
 
 -- and an account lent throughout, the first of one, has two rounds in its tally
-pub account-left : (a : Account) → getD (accountsAfter (freshened (a ∷ []) (plain 0)) events) 0 noAccount ≡ record { rows = a .rows; rounds = a .rounds; tally = 2 }
+pub account-left : (a : Account)
+    → getD (accountsAfter (freshened (a ∷ []) (plain 0)) events) 0 noAccount ≡ record { rows = a .rows; rounds = a .rounds; tally = 2 }
 account-left a = tally-since-fresh (a ∷ []) (plain 0) events 0 refl (omega arith)

@@ -1,4 +1,5 @@
--- A binder whose body is its own variable, over the rows of any table and any V: the first set after one round, and no step. Assumes nothing.
+-- A binder whose body is its own variable, over the rows of any table and any V: the first set after one round, and no step.
+-- Assumes nothing.
 use mathlib.Core.Path.{_≡_, refl, subst}
 use mathlib.Core.Bool.{Bool, true, false}
 use mathlib.Core.List.{List, _∷_}
@@ -25,7 +26,8 @@ use Rattle.book.proofs.Turns.{GoodOn, Turning, run-good, turn-start, turn-end, 
 use Rattle.book.specs.Turns.{startArrow}
 
 -- w is V's arrow
-module _ (m : Model) (N R : ℕ) (e : Env) (live : List Fn) (P : ℕ) {rows : Rows} {roots : List ℕ} (wf : WellFormed (2 * m .n) N rows) (h : Held (2 * m .n) rows roots live)
+module _ (m : Model) (N R : ℕ) (e : Env) (live : List Fn) (P : ℕ) {rows : Rows} {roots : List ℕ} (wf : WellFormed (2 * m .n) N rows)
+    (h : Held (2 * m .n) rows roots live)
     (w : ℕ) (v : Denotes (2 * m .n) rows w (fnOf (m .n) (exist m))) where
   -- a round
   abbrev round : List Bool → Count → Outcome
@@ -38,23 +40,27 @@ module _ (m : Model) (N R : ℕ) (e : Env) (live : List Fn) (P : ℕ) {rows : Ro
   current : (A : List Bool) → A ≡ put e P A P
   current A = rw (eq-eqb P P refl)
 
-  begun : (b : Bool) → Turning (m .n) N R (exist m) rows rows roots round (loop R round R (start b (2 ^ m .n) (exist m)) nothing) (startArrow b w) nothing
+  begun : (b : Bool)
+      → Turning (m .n) N R (exist m) rows rows roots round (loop R round R (start b (2 ^ m .n) (exist m)) nothing) (startArrow b w) nothing
   begun b = turn-start (m .n) N R (exist m) round good b nothing w v wf h
 
   -- one round is allowed
-  ended : (b : Bool) → 0 < R → Evals (m .n) N rows rows roots (loop R round R (start b (2 ^ m .n) (exist m)) nothing) (ends (startArrow b w) (another nothing))
+  ended : (b : Bool) → 0 < R
+      → Evals (m .n) N rows rows roots (loop R round R (start b (2 ^ m .n) (exist m)) nothing) (ends (startArrow b w) (another nothing))
   ended b l =
       let t = begun b in
       let d = subst (λ (A : List Bool). Denotes (2 * m .n) rows (startArrow b w) (fnOf (m .n) A)) (current (t .A)) (t .denotes) in
       let i = subst (λ (A : List Bool). Below A (exist m)) (current (t .A)) (t .exists) in
-      turn-end (m .n) N R (exist m) round good t l (evals-leaf (m .n) N (another nothing) wf (held-push h (t .denotes)) (denotes-in (m .n) N (put e P (t .A) P) (exist m) i d)) refl
+      turn-end (m .n) N R (exist m) round good t l
+      (evals-leaf (m .n) N (another nothing) wf (held-push h (t .denotes)) (denotes-in (m .n) N (put e P (t .A) P) (exist m) i d)) refl
 
   -- none is
   spent : (b : Bool) → R ≡ 0 → Evals (m .n) N rows rows roots (loop R round R (start b (2 ^ m .n) (exist m)) nothing) nine
   spent b z = turn-out (m .n) N R (exist m) round good (begun b) (omega arith)
 
   -- mu P. P has no state, nu P. P has those of V
-  pub self-ends : (b : Bool) → 0 < R → Evals (m .n) N rows rows roots (run (states m e) N R live (bind b P (var P)) nothing) (ends (startArrow b w) (another nothing))
+  pub self-ends : (b : Bool) → 0 < R
+      → Evals (m .n) N rows rows roots (run (states m e) N R live (bind b P (var P)) nothing) (ends (startArrow b w) (another nothing))
   self-ends true = ended true
   self-ends false = ended false
 

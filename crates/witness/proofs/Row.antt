@@ -1,5 +1,5 @@
--- A row made in a table where none is used, and a collection that frees all rows, V being every state: each with the words that it leaves meets its contract. Assumes
--- nothing.
+-- A row made in a table where none is used, and a collection that frees all rows, V being every state: each with the words that it leaves
+-- meets its contract. Assumes nothing.
 use mathlib.Core.Path.{_≡_, refl, sym, ap, _∙_, subst, fun-ext}
 use mathlib.Core.Logic.{by-cases}
 use mathlib.Core.Bool.{Bool, true, false, _&&_, true≢false}
@@ -14,7 +14,8 @@ use Rattle.accounts.specs.Terms.{rowsUnder, roundsUnder}
 use Rattle.accounts.specs.Count.{nothing, needing}
 use Rattle.mucalculus.specs.Form.{Form, now}
 use Rattle.tokens.specs.declared.Kind.the-variants.{Set}
-use Rattle.layout.specs.Places.{REGISTERS, BITS, ROWS, USED, CURSOR, VALID, ALL-STATES, FIRST-REGISTER, ROOTS-END, LOW, HIGH, LEVEL, NEXT, RANK, MEMO-KEY, wordsFor, cellsAt, listAt, headsAt}
+use Rattle.layout.specs.Places.{REGISTERS, BITS, ROWS, USED, CURSOR, VALID, ALL-STATES, FIRST-REGISTER, ROOTS-END, LOW, HIGH, LEVEL, NEXT}
+use Rattle.layout.specs.Places.{RANK, MEMO-KEY, wordsFor, cellsAt, listAt, headsAt}
 use Rattle.layout.specs.View.{View, view, headerOf, putHeader, putCell, putList, putHead}
 use Rattle.layout.proofs.Arrows.{row-no}
 use Rattle.mucalculus.specs.Means.{exist}
@@ -73,15 +74,16 @@ use Rattle.witness.proofs.Made.{held, Ends, Roomy, unlimited, has-valid
 -- row 0 gets its level and arrows and remembers nothing; the search for an unused row starts behind it
 unfoldable pub rowPutIn : List ℕ → ℕ → ℕ → ℕ → List ℕ
 rowPutIn ws l lo hi =
-    write (write (write (write (write ws CURSOR 1) (cellsAt 0 + LOW) lo) (cellsAt 0 + HIGH) hi) (cellsAt 0 + LEVEL) l) (cellsAt 0 + MEMO-KEY) 0
+    write (write (write (write (write ws CURSOR 1) (cellsAt 0 + LOW) lo) (cellsAt 0 + HIGH) hi) (cellsAt 0 + LEVEL) l)
+    (cellsAt 0 + MEMO-KEY) 0
 
 -- it is the only one in its chain, in the list of used rows, and in bucket b
 unfoldable pub joinedIn : ℕ → List ℕ → ℕ → List ℕ
 joinedIn N ws b =
     write (write (write (write (write ws (cellsAt 0 + NEXT) 0) (cellsAt 0 + RANK) 0) (listAt N + 0) 0) (headsAt N + b) 1) USED 1
 
--- register r holds bit p by that row: "the high arrow of a row never does" carry a NOT, so it is the row of the complement, low arrow everything and
--- high arrow nothing, and arrow 3 leads to it with a NOT
+-- register r holds bit p by that row: "the high arrow of a row never does" carry a NOT, so it is the row of the complement, low arrow
+-- everything and high arrow nothing, and arrow 3 leads to it with a NOT
 unfoldable pub bitIn : ℕ → List ℕ → ℕ → ℕ → ℕ → List ℕ
 bitIn N ws b r p = storedIn (joinedIn N (rowPutIn ws (2 * p) 1 0) b) r 3
 
@@ -103,7 +105,8 @@ module _ (W : View) (none : W .header USED ≡ 0) where
   joined b l lo hi = putHeader (putHead (putList (putCell (putCell (written W 0 l lo hi) 0 NEXT 0) 0 RANK 0) 0 0) b 1) USED 1
 
   joined-is : (b l lo hi : ℕ) → b ≡ bucket (W .rows) l lo hi → joined b l lo hi ≡ rowAdded W 0 l lo hi
-  joined-is b l lo hi e = append-by (written W 0 l lo hi) 0 e (sym (live-none (used W) no-row (W .head b))) (sym none) refl refl refl refl refl
+  joined-is b l lo hi e =
+      append-by (written W 0 l lo hi) 0 e (sym (live-none (used W) no-row (W .head b))) (sym none) refl refl refl refl refl
 
 view-row : (N b l lo hi : ℕ) (ws : List ℕ) → wordsFor N ≤ length ws → headerOf ws USED ≡ 0 → b ≡ bucket N l lo hi → b < N
     → Viewed N (joinedIn N (rowPutIn ws l lo hi) b) (rowAdded (view N ws) 0 l lo hi)
@@ -125,19 +128,23 @@ view-row N b l lo hi ws room none e i =
 abbrev pub bitStored : View → ℕ → ℕ → View
 bitStored W r p = registerStored (rowAdded W 0 (2 * p) 1 0) r 3
 
-pub view-bit : (N b r p : ℕ) (ws : List ℕ) → wordsFor N ≤ length ws → headerOf ws USED ≡ 0 → 0 < N → b ≡ bucket N (2 * p) 1 0 → r < REGISTERS
+pub view-bit : (N b r p : ℕ) (ws : List ℕ) → wordsFor N ≤ length ws → headerOf ws USED ≡ 0 → 0 < N → b ≡ bucket N (2 * p) 1 0
+    → r < REGISTERS
     → Viewed N (bitIn N ws b r p) (bitStored (view N ws) r p)
 unfolding bitIn storedIn
 view-bit N b r p ws room none some e l =
-    put-header (view-row N b (2 * p) 1 0 ws room none e (let i = bucket-lt N (2 * p) 1 0 some in omega arith)) (FIRST-REGISTER + r) 4 (omega arith)
+    put-header (view-row N b (2 * p) 1 0 ws room none e (let i = bucket-lt N (2 * p) 1 0 some in omega arith)) (FIRST-REGISTER + r) 4
+    (omega arith)
 
-pub view-freed : (N : ℕ) (ws : List ℕ) → wordsFor N ≤ length ws → 0 < N → Viewed N (freedIn N ws) (putHead (putHeader (view N ws) USED 0) 0 0)
+pub view-freed : (N : ℕ) (ws : List ℕ) → wordsFor N ≤ length ws → 0 < N
+    → Viewed N (freedIn N ws) (putHead (putHeader (view N ws) USED 0) 0 0)
 unfolding freedIn
 view-freed N ws room some = put-head (put-header (viewed room) USED 0 (omega arith)) 0 0 some
 
 -- ---- set r to bit p where no row is used
 
-module _ (old : List ℕ) (s : SoundWords old) (none : headerOf old USED ≡ 0) (every : headerOf old VALID ≡ ALL-STATES) (p : ℕ) (low : p < headerOf old BITS) where
+module _ (old : List ℕ) (s : SoundWords old) (none : headerOf old USED ≡ 0) (every : headerOf old VALID ≡ ALL-STATES)
+    (p : ℕ) (low : p < headerOf old BITS) where
   abbrev W : View
   W = tableOf old
 
@@ -152,13 +159,16 @@ module _ (old : List ℕ) (s : SoundWords old) (none : headerOf old USED ≡ 0) 
 
   grown : Good X
   grown = added-good W 0 (2 * p) 1 0 (s .good) room (no-row W none 0) absent
-      (record { shallow = omega arith; low-arrow = tt; high-arrow = tt; low-deeper = omega arith; high-deeper = omega arith }) (omega arith) refl
+      (record { shallow = omega arith; low-arrow = tt; high-arrow = tt; low-deeper = omega arith; high-deeper = omega arith }) (omega arith)
+      refl
 
   frame : OpFrame W X
   frame = op-made (frame-trans (frame-written W 0 (2 * p) 1 0) (frame-append (written W 0 (2 * p) 1 0) 0))
 
   made : Making (2 * W .header BITS) (W .rows) (W .rows) (rowsOf W) (rowsOf X) (2 * p) 0 1 (at 3)
-  made = turned refl (added-row 0 room (omega arith) (added-adds W 0 (2 * p) 1 0 (s .good) room (no-row W none 0) absent) (λ j u _ _ _. unused old none j u)) refl
+  made = turned refl
+      (added-row 0 room (omega arith) (added-adds W 0 (2 * p) 1 0 (s .good) room (no-row W none 0) absent)
+      (λ j u _ _ _. unused old none j u)) refl
 
   few : usedCount (rowsOf X) (W .rows) ≤ W .rows
   few = let c = count-used X (grown .ranked) in let l = grown .ranked .count-le in omega (arith, c, l)
@@ -205,14 +215,16 @@ module _ (old : List ℕ) (s : SoundWords old) (none : headerOf old USED ≡ 0) 
 
   -- q and j are what its two steps need
   pub bit-done : (acc : Terms) (r R k q j : ℕ) (bs : List ℕ) → r < REGISTERS → Roomy (b .N) R acc → k ≡ bucket (W .rows) (2 * p) 1 0
-      → checks b Set bs ≡ 0 → now p ≡ formulaIn b Set bs → q ≡ stepNeed (2 * b .n) (liveOf b) (bitF (2 * p)) → j ≡ stepNeed (2 * b .n) (bitF (2 * p) ∷ liveOf b) (bitF (2 * p))
+      → checks b Set bs ≡ 0 → now p ≡ formulaIn b Set bs → q ≡ stepNeed (2 * b .n) (liveOf b) (bitF (2 * p))
+      → j ≡ stepNeed (2 * b .n) (bitF (2 * p) ∷ liveOf b) (bitF (2 * p))
       → CallPost (set acc r R bs) old (bitIn (W .rows) old k r p) (setReply (ends 3 (needing (needing nothing q) j)))
   bit-done acc r R k q j bs l roomy e passes is i h =
       through-done s tt (λ a. a)
       (set-value old s X grown frame acc r R bs l (roomy .place) passes 3 (needing (needing nothing q) j)
       (subst (λ (f : Form). Ends old s (rowsOf X) (rowsUnder (b .N) acc) (roundsUnder R acc) f (ends 3 (needing (needing nothing q) j))) is
       (unlimited old s R (now p) (ends 3 (needing (needing nothing q) j)) acc roomy
-      (evals-bit (b .n) (b .N) (held old s) (exist (modelOf b)) w (here refl) (here (fnOf-clip (b .n) (b .valid))) (has-valid old s w refl) p nothing low
+      (evals-bit (b .n) (b .N) (held old s) (exist (modelOf b)) w (here refl) (here (fnOf-clip (b .n) (b .valid))) (has-valid old s w refl)
+      p nothing low
       step q (i ∙ sym (held-need (held old s) (bitF (2 * p))))
       (at 3) again j (h ∙ sym (ap (stepNeed (2 * b .n) (bitF (2 * p) ∷ liveOf b)) both-bit) ∙ sym (held-need held-bit both))))))
       (as-it-was refl)
@@ -220,7 +232,8 @@ module _ (old : List ℕ) (s : SoundWords old) (none : headerOf old USED ≡ 0) 
 
 -- ---- collect where registers and relations are all empty, V being every state
 
-module _ (old : List ℕ) (s : SoundWords old) (every : headerOf old VALID ≡ ALL-STATES) (bare : (h : ℕ) → FIRST-REGISTER ≤ h → h < ROOTS-END → headerOf old h ≡ 0) where
+module _ (old : List ℕ) (s : SoundWords old) (every : headerOf old VALID ≡ ALL-STATES)
+    (bare : (h : ℕ) → FIRST-REGISTER ≤ h → h < ROOTS-END → headerOf old h ≡ 0) where
   abbrev U : View
   U = tableOf old
 
@@ -286,4 +299,5 @@ module _ (old : List ℕ) (s : SoundWords old) (every : headerOf old VALID ≡ A
   pub freed-done : CallPost collect old (freedIn (headerOf old ROWS) old) (valued 0)
   freed-done =
       let v = view-freed (headerOf old ROWS) old (s .good .sizes .room) (s .good .sizes .N-pos) in
-      collect-done old _ s refl (subst (λ (x : View). CollectPost U x 0) (sym (v .is)) (record { freed = freed; needs = freed-count U Z (filled U) s freed }))
+      collect-done old _ s refl
+      (subst (λ (x : View). CollectPost U x 0) (sym (v .is)) (record { freed = freed; needs = freed-count U Z (filled U) s freed }))

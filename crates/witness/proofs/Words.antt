@@ -1,4 +1,5 @@
--- The words that fresh leaves of zeros, and that a set without a new row leaves of any words; how words look after each write. Assumes nothing.
+-- The words that fresh leaves of zeros, and that a set without a new row leaves of any words; how words look after each write.
+-- Assumes nothing.
 use mathlib.Core.Path.{_≡_, refl, sym, ap, _∙_, fun-ext}
 use mathlib.Core.Logic.{_≢_, by-cases}
 use mathlib.Core.List.{List}
@@ -6,7 +7,8 @@ use Prim.Native.Nat.{ℕ, suc, _+_, _≤_, _<_}
 use native.Mathlib.Omega.{arith}
 use native.Mathlib.Decide.{decLt}
 use lib.ListN.{length, replicate, set, length-set, length-replicate, getD-replicate}
-use Rattle.layout.specs.Places.{REGISTERS, HEADER, CELLS, BITS, ROWS, LAYOUT, CURRENT, VALID, ALL-STATES, FIRST-REGISTER, wordsFor, cellsAt, listAt, headsAt}
+use Rattle.layout.specs.Places.{REGISTERS, HEADER, CELLS, BITS, ROWS, LAYOUT, CURRENT, VALID, ALL-STATES, FIRST-REGISTER, wordsFor, cellsAt}
+use Rattle.layout.specs.Places.{listAt, headsAt}
 use Rattle.layout.specs.View.{View, view, headerOf, headOf, upd, putHeader, putCell, putList, putHead}
 use Rattle.layout.proofs.View.{view-header, view-cell, view-list, view-head, header-is, header-past, head-is, head-past}
 use Rattle.layout.specs.Header.{headerWords}
@@ -63,7 +65,8 @@ module _ {N : ℕ} {ws : List ℕ} {W : View} (p : Viewed N ws W) where
   put-header h v l = record { room = roomy h v; is = view-header N ws (p .room) h v l ∙ ap (λ (x : View). putHeader x h v) (p .is) }
 
   pub put-cell : (i k v : ℕ) → i < N → k < CELLS → Viewed N (set ws (cellsAt i + k) v) (putCell W i k v)
-  put-cell i k v l m = record { room = roomy (cellsAt i + k) v; is = view-cell N ws (p .room) i k v l m ∙ ap (λ (x : View). putCell x i k v) (p .is) }
+  put-cell i k v l m =
+      record { room = roomy (cellsAt i + k) v; is = view-cell N ws (p .room) i k v l m ∙ ap (λ (x : View). putCell x i k v) (p .is) }
 
   pub put-list : (k v : ℕ) → k < N → Viewed N (set ws (listAt N + k) v) (putList W k v)
   put-list k v l = record { room = roomy (listAt N + k) v; is = view-list N ws (p .room) k v l ∙ ap (λ (x : View). putList x k v) (p .is) }
@@ -76,14 +79,17 @@ sizes-put : (n N rows : ℕ) (ws : List ℕ) → wordsFor rows ≤ length ws
     → Viewed rows (set (set (set (set ws BITS n) ROWS N) LAYOUT CURRENT) VALID ALL-STATES)
     (putHeader (putHeader (putHeader (putHeader (view rows ws) BITS n) ROWS N) LAYOUT CURRENT) VALID ALL-STATES)
 sizes-put n N rows ws room =
-    put-header (put-header (put-header (put-header (viewed room) BITS n (omega arith)) ROWS N (omega arith)) LAYOUT CURRENT (omega arith)) VALID ALL-STATES (omega arith)
+    put-header (put-header (put-header (put-header (viewed room) BITS n (omega arith)) ROWS N (omega arith)) LAYOUT CURRENT (omega arith))
+    VALID ALL-STATES (omega arith)
 
 -- the header that fresh writes is zeros but for these
-header-fresh : (n N k : ℕ) → HEADER ≤ k → upd (upd (upd (upd (headerOf (zeros k)) BITS n) ROWS N) LAYOUT CURRENT) VALID ALL-STATES ≡ headerOf (headerWords n N)
+header-fresh : (n N k : ℕ) → HEADER ≤ k
+    → upd (upd (upd (upd (headerOf (zeros k)) BITS n) ROWS N) LAYOUT CURRENT) VALID ALL-STATES ≡ headerOf (headerWords n N)
 unfolding headerWords zeros
 header-fresh n N k l =
     let same = length-replicate {A = ℕ} HEADER 0 in
-    ap (λ (f : ℕ → ℕ). upd (upd (upd (upd f BITS n) ROWS N) LAYOUT CURRENT) VALID ALL-STATES) (fun-ext (λ h. header-zeros k l h ∙ sym (header-zeros HEADER (omega arith) h)))
+    ap (λ (f : ℕ → ℕ). upd (upd (upd (upd f BITS n) ROWS N) LAYOUT CURRENT) VALID ALL-STATES)
+    (fun-ext (λ h. header-zeros k l h ∙ sym (header-zeros HEADER (omega arith) h)))
     ∙ sym (ap (λ (x : View). x .header) (sizes-put n N 0 (replicate HEADER 0) (omega arith) .is))
 
 -- "Fresh empties them all"
@@ -104,14 +110,17 @@ view-fresh n N k room =
     })
 
 pub fresh-zero : (n N k h : ℕ) → wordsFor N ≤ k → h < HEADER → h ≢ BITS → h ≢ ROWS → h ≢ LAYOUT → h ≢ VALID → headerOf (freshOf n N k) h ≡ 0
-fresh-zero n N k h room l a b c d = ap (λ (v : View). v .header h) (view-fresh n N k room) ∙ header-is (headerWords n N) h l ∙ header-zero n N h l a b c d
+fresh-zero n N k h room l a b c d =
+    ap (λ (v : View). v .header h) (view-fresh n N k room) ∙ header-is (headerWords n N) h l ∙ header-zero n N h l a b c d
 
 -- "after fresh, V is every state"
 pub fresh-valid : (n N k : ℕ) → wordsFor N ≤ k → headerOf (freshOf n N k) VALID ≡ ALL-STATES
-fresh-valid n N k room = ap (λ (v : View). v .header VALID) (view-fresh n N k room) ∙ header-is (headerWords n N) VALID (omega arith) ∙ header-valid n N
+fresh-valid n N k room =
+    ap (λ (v : View). v .header VALID) (view-fresh n N k room) ∙ header-is (headerWords n N) VALID (omega arith) ∙ header-valid n N
 
 -- ---- stored
 
-pub view-stored : (N r a : ℕ) (ws : List ℕ) → wordsFor N ≤ length ws → r < REGISTERS → view N (storedIn ws r a) ≡ registerStored (view N ws) r a
+pub view-stored : (N r a : ℕ) (ws : List ℕ) → wordsFor N ≤ length ws → r < REGISTERS
+    → view N (storedIn ws r a) ≡ registerStored (view N ws) r a
 unfolding storedIn
 view-stored N r a ws room l = view-header N ws room (FIRST-REGISTER + r) (suc a) (omega arith)

@@ -26,6 +26,10 @@ lay-spec =
     (λ c. let t = c .loop-test .taken in let p = c .before .before .pre .1 in let e = c .before .loop .inv .1 in omega arith)
     (λ c. let t = c .loop-test .taken in let p = c .before .before .pre .0 in omega arith)
     (λ c. let t = c .loop-test .taken in omega arith)
-    (λ c. let t = c .loop-test .taken in let p = c .before .before .pre .1 in let e = c .before .loop .inv .1 in (omega arith, simp length-set e, laid-more (c .before .loop .inv .2) (omega arith)))
+    (λ c. let t = c .loop-test .taken in
+    let p = c .before .before .pre .1 in
+    let e = c .before .loop .inv .1 in (omega arith, simp length-set e, laid-more (c .before .loop .inv .2) (omega arith)))
     (λ c. c .before .loop .inv .1)
-    (λ c. let i = c .before .loop .inv in let l = i .0 in let t = c .loop-test .left in let e : c .before .loop .i ≡ c .before .before .args .k = omega arith in rw e at (i .2)))
+    (λ c. let i = c .before .loop .inv in
+    let l = i .0 in
+    let t = c .loop-test .left in let e : c .before .loop .i ≡ c .before .before .args .k = omega arith in rw e at (i .2)))

@@ -5,4 +5,6 @@ use Rattle.batch_calls.proofs.lists_fit.Statement.{statement}
 use Rattle.batch_calls.proofs.lists_fit.Tie as tie
 
 pub lists-fit-spec : {M : Type 1} → statement M
-lists-fit-spec = tie.close (tie.spec (λ c. fails (λ q. omega arith)) (λ c. fails (λ q. omega arith)) (λ c. fails (λ q. omega arith)) (λ c. holds (omega arith)))
+lists-fit-spec =
+    tie.close
+    (tie.spec (λ c. fails (λ q. omega arith)) (λ c. fails (λ q. omega arith)) (λ c. fails (λ q. omega arith)) (λ c. holds (omega arith)))

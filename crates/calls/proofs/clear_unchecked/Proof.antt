@@ -12,6 +12,9 @@ clear-unchecked-spec =
     (λ c. clear-range _ _ (c .before .before .pre) (c .if1 .taken))
     (λ c κs. let z = c .before .before .before .pre .good .sizes in omega arith)
     (λ c. search needs)
-    (λ c κs. let z = c .before .before .before .before .before .pre .good .sizes in let e = c .before .header-word .ensures in let t = c .before .before .before .if1 .left in omega arith)
+    (λ c κs. let z = c .before .before .before .before .before .pre .good .sizes in
+    let e = c .before .header-word .ensures in let t = c .before .before .before .if1 .left in omega arith)
     (λ c. search needs)
-    (λ c. clear-done _ _ _ (c .before .before .before .before .before .before .before .before .pre) (c .before .before .before .before .before .before .if1 .left) (c .before .before .before .before .header-word .ensures) (c .before .before .put-header .ensures)))
+    (λ c. clear-done _ _ _ (c .before .before .before .before .before .before .before .before .pre)
+    (c .before .before .before .before .before .before .if1 .left) (c .before .before .before .before .header-word .ensures)
+    (c .before .before .put-header .ensures)))

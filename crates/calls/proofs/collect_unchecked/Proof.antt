@@ -12,4 +12,5 @@ collect-unchecked-spec =
     (λ c κs. let z = c .before .before .pre .good .sizes in omega arith)
     (λ c κs. rw (c .before .header-word .ensures) (c .before .before .before .before .pre))
     (λ c. search needs)
-    (λ c. collect-done _ _ (c .before .before .before .before .before .before .before .pre) (c .before .before .before .before .header-word .ensures) (c .before .before .collect-rows .ensures)))
+    (λ c. collect-done _ _ (c .before .before .before .before .before .before .before .pre)
+    (c .before .before .before .before .header-word .ensures) (c .before .before .collect-rows .ensures)))

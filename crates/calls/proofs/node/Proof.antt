@@ -15,7 +15,10 @@ node-spec =
     (λ c. ask-unsound _ (says-fail (c .if1 .taken) (c .before .sound .ensures)) _)
     (λ c. node-range _ (says-pass (c .before .if1 .left) (c .before .before .sound .ensures)) _ (c .if2 .taken))
     (λ c. search needs)
-    (λ c κs. let z = says-pass (c .before .if1 .left) (c .before .before .sound .ensures) .good .sizes in let t = c .if2 .left in omega arith)
+    (λ c κs. let z = says-pass (c .before .if1 .left) (c .before .before .sound .ensures) .good .sizes in
+    let t = c .if2 .left in omega arith)
     (λ c. search needs)
-    (λ c. node-told _ (says-pass (c .before .before .before .if1 .left) (c .before .before .before .before .sound .ensures)) _ (c .before .before .if2 .left) (c .before .header-word .ensures) (c .if3 .taken))
-    (λ c. node-empty _ (says-pass (c .before .before .before .if1 .left) (c .before .before .before .before .sound .ensures)) _ (c .before .before .if2 .left) (c .before .header-word .ensures) (c .if3 .left)))
+    (λ c. node-told _ (says-pass (c .before .before .before .if1 .left) (c .before .before .before .before .sound .ensures)) _
+    (c .before .before .if2 .left) (c .before .header-word .ensures) (c .if3 .taken))
+    (λ c. node-empty _ (says-pass (c .before .before .before .if1 .left) (c .before .before .before .before .sound .ensures)) _
+    (c .before .before .if2 .left) (c .before .header-word .ensures) (c .if3 .left)))

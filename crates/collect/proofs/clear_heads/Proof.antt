@@ -22,11 +22,18 @@ clear-heads-spec =
     Inv-loop
     μ-loop
     (λ c. (omega arith, refl, headed-refl _))
-    (λ c κs. let p = c .before .before .before .before .pre in let v = c .before .before .loop .inv .1 in let t = c .before .loop-test .taken in omega arith)
-    (λ c κs. let p = c .before .before .before .before .before .before .pre in let v = c .before .before .before .before .loop .inv .1 in let q = c .before .before .before .before .before .before .pre .3 _ (c .before .before .before .loop-test .taken) in let e = c .before .listed .ensures ∙ headed-list _ (c .before .before .before .before .loop .inv .2) in omega arith)
-    (λ c κs. let p = c .before .before .before .before .before .before .before .before .pre in let v = c .before .before .before .before .before .before .loop .inv .1 in let b = c .before .row-bucket .ensures .1 in omega arith)
+    (λ c κs. let p = c .before .before .before .before .pre in
+    let v = c .before .before .loop .inv .1 in let t = c .before .loop-test .taken in omega arith)
+    (λ c κs. let p = c .before .before .before .before .before .before .pre in
+    let v = c .before .before .before .before .loop .inv .1 in
+    let q = c .before .before .before .before .before .before .pre .3 _ (c .before .before .before .loop-test .taken) in
+    let e = c .before .listed .ensures ∙ headed-list _ (c .before .before .before .before .loop .inv .2) in omega arith)
+    (λ c κs. let p = c .before .before .before .before .before .before .before .before .pre in
+    let v = c .before .before .before .before .before .before .loop .inv .1 in let b = c .before .row-bucket .ensures .1 in omega arith)
     (λ c. let t = c .before .before .before .before .before .before .before .before .loop-test .taken in omega arith)
     (λ c. let t = c .before .before .before .before .before .before .before .before .loop-test .taken in omega arith)
-    (λ c. let t = c .before .before .before .before .before .before .before .before .loop-test .taken in let v = c .before .before .before .before .before .before .before .before .before .loop .inv in (omega arith, c .before .before .put-head .kept .0 ∙ v .1, headed-put _ _ (v .2) (c .before .before .put-head .ensures)))
+    (λ c. let t = c .before .before .before .before .before .before .before .before .loop-test .taken in
+    let v = c .before .before .before .before .before .before .before .before .before .loop .inv in
+    (omega arith, c .before .before .put-head .kept .0 ∙ v .1, headed-put _ _ (v .2) (c .before .before .put-head .ensures)))
     (λ c. c .before .loop .inv .1)
     (λ c. c .before .loop .inv .2))

@@ -13,9 +13,17 @@ collect-rows-spec =
     tie.close
     (tie.spec
     (λ c. search needs)
-    (λ c κs. let s = c .before .before .before .pre in record { base = sound-base s; order = omega arith; within = omega arith; ref = λ h a l. s .refs h a (omega arith) })
+    (λ c κs. let s = c .before .before .before .pre in
+    record { base = sound-base s; order = omega arith; within = omega arith; ref = λ h a l. s .refs h a (omega arith) })
     (λ c. search needs)
-    (λ c κs. let s = c .before .before .before .before .before .before .before .pre in let z = s .good .sizes in let e = c .before .before .before .mark-filled .kept .1 .1 .0 in (s .good, omega arith))
-    (λ c κs. let z = c .before .before .before .before .before .before .before .before .before .before .before .pre .good .sizes in let e = c .before .before .before .gather .kept .0 in omega arith)
+    (λ c κs. let s = c .before .before .before .before .before .before .before .pre in
+    let z = s .good .sizes in let e = c .before .before .before .mark-filled .kept .1 .1 .0 in (s .good, omega arith))
+    (λ c κs. let z = c .before .before .before .before .before .before .before .before .before .before .before .pre .good .sizes in
+    let e = c .before .before .before .gather .kept .0 in omega arith)
     (λ c. search needs)
-    (λ c. collect-by (view (c .before .before .before .before .before .before .before .before .before .before .before .before .args .rows) (c .before .before .before .before .before .before .before .before .before .before .before .before .args .words .now)) _ _ _ (no-marks MARK-WORDS) (c .before .before .before .before .gather .ensures) (c .before .before .before .before .before .before .before .before .before .before .before .before .pre) (c .before .before .before .before .before .before .before .before .mark-filled .ensures) (c .header-word .ensures)))
+    (λ c. collect-by
+    (view (c .before .before .before .before .before .before .before .before .before .before .before .before .args .rows)
+    (c .before .before .before .before .before .before .before .before .before .before .before .before .args .words .now)) _ _ _
+    (no-marks MARK-WORDS) (c .before .before .before .before .gather .ensures)
+    (c .before .before .before .before .before .before .before .before .before .before .before .before .pre)
+    (c .before .before .before .before .before .before .before .before .mark-filled .ensures) (c .header-word .ensures)))

@@ -1,4 +1,5 @@
--- `free_many` meets its contract: nothing is changed, or what is marked is what registers and relations reach, and that is what stays. Assumes nothing.
+-- `free_many` meets its contract: nothing is changed, or what is marked is what registers and relations reach, and that is what stays.
+-- Assumes nothing.
 use mathlib.Core.Path.{refl}
 use native.Mathlib.Omega.{arith}
 use Rattle.layout.specs.View.{view}
@@ -15,12 +16,23 @@ free-many-spec =
     tie.close
     (tie.spec
     (λ c. search needs)
-    (λ c κs. let s = c .before .before .before .pre in record { base = sound-base s; order = omega arith; within = omega arith; ref = λ h a l. s .refs h a (omega arith) })
+    (λ c κs. let s = c .before .before .before .pre in
+    record { base = sound-base s; order = omega arith; within = omega arith; ref = λ h a l. s .refs h a (omega arith) })
     (λ c. search needs)
-    (λ c κs. let s = c .before .before .before .before .before .before .before .pre in let z = s .good .sizes in let e = c .before .before .before .mark-filled .kept .1 .1 .0 in (s .good .ranked, omega arith, omega arith))
+    (λ c κs. let s = c .before .before .before .before .before .before .before .pre in
+    let z = s .good .sizes in
+    let e = c .before .before .before .mark-filled .kept .1 .1 .0 in (s .good .ranked, omega arith, omega arith))
     (λ c. search needs)
     (λ c. few refl)
     (λ c. search needs)
-    (λ c κs. let s = c .before .before .before .before .before .before .before .before .before .before .before .pre in let z = s .good .sizes in let e = c .before .before .before .before .before .before .before .mark-filled .kept .1 .1 .0 in (s .good, omega arith))
+    (λ c κs. let s = c .before .before .before .before .before .before .before .before .before .before .before .pre in
+    let z = s .good .sizes in
+    let e = c .before .before .before .before .before .before .before .mark-filled .kept .1 .1 .0 in (s .good, omega arith))
     (λ c. search needs)
-    (λ c. many (filled-by (view (c .before .before .before .before .before .before .before .before .before .before .before .before .before .before .args .rows) (c .before .before .before .before .before .before .before .before .before .before .before .before .before .before .args .words .now)) _ _ _ (no-marks MARK-WORDS) (c .before .before .gather .ensures) (c .before .before .before .before .before .before .before .before .before .before .before .before .before .before .pre) (c .before .before .before .before .before .before .before .before .before .before .mark-filled .ensures))))
+    (λ c. many
+    (filled-by
+    (view (c .before .before .before .before .before .before .before .before .before .before .before .before .before .before .args
+    .rows) (c .before .before .before .before .before .before .before .before .before .before .before .before .before .before .args
+    .words .now)) _ _ _ (no-marks MARK-WORDS) (c .before .before .gather .ensures)
+    (c .before .before .before .before .before .before .before .before .before .before .before .before .before .before .pre)
+    (c .before .before .before .before .before .before .before .before .before .before .mark-filled .ensures))))

@@ -12,7 +12,32 @@ gather-spec =
     (tie.spec
     (λ c κs. let z = c .before .before .before .pre .0 .sizes in omega arith)
     (λ c κs. let z = c .before .before .before .before .before .pre .0 .sizes in omega arith)
-    (λ c κs. let g = c .before .before .before .before .before .before .before .before .before .pre .0 in let z = g .sizes in let e = c .before .before .before .before .before .header-word .ensures in let r = g .ranked .count-le in let l = c .before .before .before .put-header .kept .0 in (omega arith, omega arith, omega arith, λ k h. rw (ap (λ (v : View). v .list k) (c .before .before .before .put-header .ensures)) (g .ranked .within k (omega arith))))
-    (λ c κs. let g = c .before .before .before .before .before .before .before .before .before .before .before .before .before .pre .0 in gather-pre (view (c .before .before .before .before .before .before .before .before .before .before .before .before .before .args .rows) (c .before .before .before .before .before .before .before .before .before .before .before .before .before .args .words .now)) (c .before .before .before .before .before .before .before .before .before .header-word .ensures) (c .before .before .before .before .before .before .before .put-header .ensures) (c .before .before .before .clear-heads .ensures) _ (g .sizes .room) (g .sizes .N-max) (c .before .before .before .before .before .before .before .before .before .before .before .before .before .pre .1) (g .ranked) (g .rows .shared))
-    (λ c. c .before .before .regather .kept .0 ∙ c .before .before .before .before .before .before .clear-heads .kept .0 ∙ c .before .before .before .before .before .before .before .before .before .before .put-header .kept .0)
-    (λ c. gathered-by (view (c .before .before .before .before .before .before .before .before .before .before .before .before .before .before .before .before .args .rows) (c .before .before .before .before .before .before .before .before .before .before .before .before .before .before .before .before .args .words .now)) (c .before .before .before .before .before .before .before .before .before .before .before .before .header-word .ensures) (c .before .before .before .before .before .before .before .before .before .before .put-header .ensures) (c .before .before .before .before .before .before .clear-heads .ensures) _ (c .before .before .regather .ensures)))
+    (λ c κs. let g = c .before .before .before .before .before .before .before .before .before .pre .0 in
+    let z = g .sizes in
+    let e = c .before .before .before .before .before .header-word .ensures in
+    let r = g .ranked .count-le in
+    let l = c .before .before .before .put-header .kept .0 in (
+      omega arith,
+      omega arith,
+      omega arith,
+      λ k h. rw (ap (λ (v : View). v .list k) (c .before .before .before .put-header .ensures)) (g .ranked .within k (omega arith)),
+    ))
+    (λ c κs. let g = c .before .before .before .before .before .before .before .before .before .before .before .before .before .pre .0 in
+    gather-pre
+    (view (c .before .before .before .before .before .before .before .before .before .before .before .before .before .args .rows)
+    (c .before .before .before .before .before .before .before .before .before .before .before .before .before .args .words .now))
+    (c .before .before .before .before .before .before .before .before .before .header-word .ensures)
+    (c .before .before .before .before .before .before .before .put-header .ensures) (c .before .before .before .clear-heads .ensures) _
+    (g .sizes .room) (g .sizes .N-max)
+    (c .before .before .before .before .before .before .before .before .before .before .before .before .before .pre .1) (g .ranked)
+    (g .rows .shared))
+    (λ c. c .before .before .regather .kept .0 ∙ c .before .before .before .before .before .before .clear-heads .kept .0
+    ∙ c .before .before .before .before .before .before .before .before .before .before .put-header .kept .0)
+    (λ c. gathered-by
+    (view (c .before .before .before .before .before .before .before .before .before .before .before .before .before .before .before
+    .before .args .rows)
+    (c .before .before .before .before .before .before .before .before .before .before .before .before .before .before .before .before
+    .args .words .now))
+    (c .before .before .before .before .before .before .before .before .before .before .before .before .header-word .ensures)
+    (c .before .before .before .before .before .before .before .before .before .before .put-header .ensures)
+    (c .before .before .before .before .before .before .clear-heads .ensures) _ (c .before .before .regather .ensures)))

@@ -11,7 +11,8 @@ use Rattle.collect.proofs.mark_list.Statement.{statement}
 use Rattle.collect.proofs.mark_list.Tie as tie
 
 abbrev Inv-loop : tie.InvT-loop
-Inv-loop words rows marks₀ roots k₀ marks k = (k ≤ length roots) × (length marks ≡ length marks₀) × Lent (rowsOf (view rows words)) marks₀ marks roots k
+Inv-loop words rows marks₀ roots k₀ marks k =
+    (k ≤ length roots) × (length marks ≡ length marks₀) × Lent (rowsOf (view rows words)) marks₀ marks roots k
 
 abbrev μ-loop : tie.MeasureT-loop
 μ-loop words rows marks₀ roots k₀ marks k = length roots - k
@@ -25,9 +26,15 @@ mark-list-spec =
     (λ c. (omega arith, refl, lent-none _ _))
     (λ c. search needs)
     (λ c. search needs)
-    (λ c κs. let p = c .before .before .before .before .before .before .before .pre in let v = c .before .before .before .loop .inv in rw (v .1) (record { base = p .base; arrow = p .arrow _ (getD-mem _ _ (c .before .before .loop-test .taken)) }))
+    (λ c κs. let p = c .before .before .before .before .before .before .before .pre in
+    let v = c .before .before .before .loop .inv in
+    rw (v .1) (record { base = p .base; arrow = p .arrow _ (getD-mem _ _ (c .before .before .loop-test .taken)) }))
     (λ c. search needs)
     (λ c. search needs)
-    (λ c. let v = c .before .before .before .before .before .before .loop .inv in (omega arith, c .before .before .mark .kept .1 .1 .0 ∙ v .1, lent-more (c .before .before .before .before .before .loop-test .taken) (v .2) (c .before .before .mark .ensures)))
+    (λ c. let v = c .before .before .before .before .before .before .loop .inv in (
+      omega arith,
+      c .before .before .mark .kept .1 .1 .0 ∙ v .1,
+      lent-more (c .before .before .before .before .before .loop-test .taken) (v .2) (c .before .before .mark .ensures),
+    ))
     (λ c. c .before .loop .inv .1)
     (λ c. lent-all _ _ (c .loop-test .left) (c .before .loop .inv .2)))

@@ -18,6 +18,10 @@ obey-relation-spec =
     (λ c κs. search needs)
     (λ c κs. search needs)
     (λ c. search needs)
-    (λ c. relation-done _ _ _ (subst (CallPost _ _ _) (ap loadedReply (c .before .p .given .1)) (c .before .before .before .before .before .relation-unchecked .ensures)) refl)
+    (λ c. relation-done _ _ _
+    (subst (CallPost _ _ _) (ap loadedReply (c .before .p .given .1))
+    (c .before .before .before .before .before .relation-unchecked .ensures)) refl)
     (λ c. search needs)
-    (λ c. call-told _ tt (c .before .before .before .before .before .before .before .relation-unchecked .ensures) (ap loadedReply (c .before .before .before .x .given .1) ∙ ap plain (sym (c .before .refusal-number .ensures))) (c .plain .ensures)))
+    (λ c. call-told _ tt (c .before .before .before .before .before .before .before .relation-unchecked .ensures)
+    (ap loadedReply (c .before .before .before .x .given .1) ∙ ap plain (sym (c .before .refusal-number .ensures)))
+    (c .plain .ensures)))

@@ -18,11 +18,20 @@ obey-set-spec =
     (λ c κs. search needs)
     (λ c κs. c .before .before .before .before .pre)
     (λ c. search needs)
-    (λ c κs. c .before .before .before .before .before .before .set-unchecked .ensures .performs .served (c .before .before .before .before .before .before .before .before .before .before .before .pre) .0)
+    (λ c κs. c .before .before .before .before .before .before .set-unchecked .ensures .performs .served
+    (c .before .before .before .before .before .before .before .before .before .before .before .pre) .0)
     (λ c. search needs)
     (λ c κs. search needs)
     (λ c κs. search needs)
     (λ c. search needs)
-    (λ c. set-done _ _ _ _ _ _ _ _ (subst (CallPost _ _ _) (ap storedReply (c .before .before .before .a .given .1)) (termed _ _ _ _ _ _ (c .before .before .before .before .before .before .before .before .lone-terms .ensures) (c .before .before .before .before .before .before .before .set-unchecked .ensures))) (c .states-in .ensures) refl)
+    (λ c. set-done _ _ _ _ _ _ _ _
+    (subst (CallPost _ _ _) (ap storedReply (c .before .before .before .a .given .1))
+    (termed _ _ _ _ _ _ (c .before .before .before .before .before .before .before .before .lone-terms .ensures)
+    (c .before .before .before .before .before .before .before .set-unchecked .ensures))) (c .states-in .ensures) refl)
     (λ c. search needs)
-    (λ c. set-refused _ _ _ _ (subst (λ (k : ℕ). 1 ≤ k) (sym (c .before .refusal-number .ensures)) (refusal-some (c .before .before .before .x .given .0 .0))) (subst (CallPost _ _ _) (ap storedReply (c .before .before .before .x .given .1) ∙ ap plain (sym (c .before .refusal-number .ensures))) (termed _ _ _ _ _ _ (c .before .before .before .before .before .before .before .before .lone-terms .ensures) (c .before .before .before .before .before .before .before .set-unchecked .ensures))) (c .plain .ensures)))
+    (λ c. set-refused _ _ _ _
+    (subst (λ (k : ℕ). 1 ≤ k) (sym (c .before .refusal-number .ensures)) (refusal-some (c .before .before .before .x .given .0 .0)))
+    (subst (CallPost _ _ _)
+    (ap storedReply (c .before .before .before .x .given .1) ∙ ap plain (sym (c .before .refusal-number .ensures)))
+    (termed _ _ _ _ _ _ (c .before .before .before .before .before .before .before .before .lone-terms .ensures)
+    (c .before .before .before .before .before .before .before .set-unchecked .ensures))) (c .plain .ensures)))

@@ -13,5 +13,13 @@ states-in-spec =
     (λ c κs. c .before .pre)
     (λ c. search needs)
     (λ c. search needs)
-    (λ c. (c .before .before .before .count-unchecked .result, c .before .before .before .count-unchecked .ensures, sym (ap (λ (v : Answer). answerReply v .value) (c .before .k .given .1))))
-    (λ c. (c .before .before .count-unchecked .result, c .before .before .count-unchecked .ensures, sym (ap (λ (v : Answer). answerReply v .value) (c .enum-told .given .1)))))
+    (λ c. (
+      c .before .before .before .count-unchecked .result,
+      c .before .before .before .count-unchecked .ensures,
+      sym (ap (λ (v : Answer). answerReply v .value) (c .before .k .given .1)),
+    ))
+    (λ c. (
+      c .before .before .count-unchecked .result,
+      c .before .before .count-unchecked .ensures,
+      sym (ap (λ (v : Answer). answerReply v .value) (c .enum-told .given .1)),
+    )))

@@ -15,9 +15,18 @@ take-record-spec =
     (λ c. search needs)
     (λ c. search needs)
     (λ c. search needs)
-    (λ c κs. let q = record-read (c .before .before .before .before .before .before .before .args .bytes .now) (c .before .before .before .before .before .before .before .args .ended) _ _ (sym (c .before .before .before .before .read-record .ensures) ∙ c .before .before .command .given .1) in (q .starts, q .within, c .before .before .before .before .before .before .before .pre))
-    (λ c. took (c .before .before .before .before .before .args .bytes .now) (c .before .before .before .before .before .args .ended) _ _ _ _ (c .before .before .read-record .ensures) (c .enum-told .given .1) (refl, refl))
-    (λ c. took (c .before .before .before .before .before .args .bytes .now) (c .before .before .before .before .before .args .ended) _ _ _ _ (c .before .before .read-record .ensures) (c .enum-told2 .given .1) (refl, refl))
-    (λ c. took (c .before .before .before .before .before .args .bytes .now) (c .before .before .before .before .before .args .ended) _ _ _ _ (c .before .before .read-record .ensures) (c .enum-told3 .given .1) (refl, refl))
+    (λ c κs. let q = record-read (c .before .before .before .before .before .before .before .args .bytes .now)
+    (c .before .before .before .before .before .before .before .args .ended) _ _
+    (sym (c .before .before .before .before .read-record .ensures) ∙ c .before .before .command .given .1) in
+    (q .starts, q .within, c .before .before .before .before .before .before .before .pre))
+    (λ c. took (c .before .before .before .before .before .args .bytes .now) (c .before .before .before .before .before .args .ended) _ _ _
+    _ (c .before .before .read-record .ensures) (c .enum-told .given .1) (refl, refl))
+    (λ c. took (c .before .before .before .before .before .args .bytes .now) (c .before .before .before .before .before .args .ended) _ _ _
+    _ (c .before .before .read-record .ensures) (c .enum-told2 .given .1) (refl, refl))
+    (λ c. took (c .before .before .before .before .before .args .bytes .now) (c .before .before .before .before .before .args .ended) _ _ _
+    _ (c .before .before .read-record .ensures) (c .enum-told3 .given .1) (refl, refl))
     (λ c. search needs)
-    (λ c. took (c .before .before .before .before .before .before .before .before .before .before .args .bytes .now) (c .before .before .before .before .before .before .before .before .before .before .args .ended) _ _ _ _ (c .before .before .before .before .before .before .before .read-record .ensures) (c .before .before .before .before .before .command .given .1) (_, refl, c .before .before .obey .ensures)))
+    (λ c. took (c .before .before .before .before .before .before .before .before .before .before .args .bytes .now)
+    (c .before .before .before .before .before .before .before .before .before .before .args .ended) _ _ _ _
+    (c .before .before .before .before .before .before .before .read-record .ensures)
+    (c .before .before .before .before .before .command .given .1) (_, refl, c .before .before .obey .ensures)))

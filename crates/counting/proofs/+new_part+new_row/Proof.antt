@@ -60,10 +60,22 @@ pub +new-part+new-row-spec : {M : Type 1} → statement M
     (λ c κs. search needs)
     (λ c. constant-new _ _ _ (test-no (c .before .is-row .ensures) (c .if1 .taken)))
     (λ c κs. test-yes (c .before .before .is-row .ensures) (c .before .if1 .left))
-    (λ c κs. let s = step _ (c .before .before .before .before .before .before .pre .1) (test-yes (c .before .before .before .is-row .ensures) (c .before .before .if1 .left)) (c .row-of .ensures) in let b = c .before .before .before .before .before .before .pre .1 .base .room in let r = s .row in omega arith)
+    (λ c κs. let s = step _ (c .before .before .before .before .before .before .pre .1)
+    (test-yes (c .before .before .before .is-row .ensures) (c .before .before .if1 .left)) (c .row-of .ensures) in
+    let b = c .before .before .before .before .before .before .pre .1 .base .room in let r = s .row in omega arith)
     (λ c. search needs)
-    (λ c. again-new _ _ _ (test-yes (c .before .before .before .before .before .is-row .ensures) (c .before .before .before .before .if1 .left)) (c .before .before .row-of .ensures) (sym (c .before .marked .ensures) ∙ c .if2 .taken))
-    (λ c κs. (rw (← c .before .before .before .before .before .before .before .before .before .pre .0) (omega arith), (c .before .before .before .before .before .before .before .before .before .pre .1, test-yes (c .before .before .before .before .before .before .is-row .ensures) (c .before .before .before .before .before .if1 .left), still-off _ _ (c .before .before .before .row-of .ensures) (c .before .before .marked .ensures) (c .before .if2 .left))))
+    (λ c. again-new _ _ _
+    (test-yes (c .before .before .before .before .before .is-row .ensures) (c .before .before .before .before .if1 .left))
+    (c .before .before .row-of .ensures) (sym (c .before .marked .ensures) ∙ c .if2 .taken))
+    (λ c κs. (
+      rw (← c .before .before .before .before .before .before .before .before .before .pre .0) (omega arith),
+      (
+        c .before .before .before .before .before .before .before .before .before .pre .1,
+        test-yes (c .before .before .before .before .before .before .is-row .ensures)
+            (c .before .before .before .before .before .if1 .left),
+        still-off _ _ (c .before .before .before .row-of .ensures) (c .before .before .marked .ensures) (c .before .if2 .left),
+      ),
+    ))
     (λ c. search needs)
     (λ c. search needs))
     λ t. new-row-lts.spec (
@@ -79,12 +91,76 @@ pub +new-part+new-row-spec : {M : Type 1} → statement M
     (new-row-at t)
     new-row.Post
     (λ c κs. c .before .before .pre .1 .1)
-    (λ c κs. let s = step _ (c .before .before .before .before .pre .1 .0) (c .before .before .before .before .pre .1 .1) (c .before .row-of .ensures) in let w = c .before .before .before .before .pre .1 .0 .base .words in let h = s .row in (h, omega arith, w))
-    (λ c κs. let s = step _ (c .before .before .before .before .before .pre .1 .0) (c .before .before .before .before .before .pre .1 .1) (c .before .before .row-of .ensures) in called (s .low) (s .low-less) (c .before .before .before .before .before .pre .0) (c .get .ensures) refl)
-    (λ c κs. let s = step _ (c .before .before .before .before .before .before .before .before .before .pre .1 .0) (c .before .before .before .before .before .before .before .before .before .pre .1 .1) (c .before .before .before .before .before .before .row-of .ensures) in let w = c .before .before .before .before .before .before .before .before .before .pre .1 .0 .base .words in let h = s .row in (h, omega arith, w))
-    (λ c κs. let s = step _ (c .before .before .before .before .before .before .before .before .before .before .pre .1 .0) (c .before .before .before .before .before .before .before .before .before .before .pre .1 .1) (c .before .before .before .before .before .before .before .row-of .ensures) in called (s .high) (s .high-less) (c .before .before .before .before .before .before .before .before .before .before .pre .0) (c .get2 .ensures) (c .before .before .before .before .new-part .kept .1 .1 .0))
-    (λ c κs. let s = step _ (c .before .before .before .before .before .before .before .before .before .before .before .before .before .before .pre .1 .0) (c .before .before .before .before .before .before .before .before .before .before .before .before .before .before .pre .1 .1) (c .before .before .before .before .before .before .before .before .before .before .before .row-of .ensures) in let b = c .before .before .before .before .before .before .before .before .before .before .before .before .before .before .pre .1 .0 .base .room in let r = s .row in omega (arith, c .before .before .before .before .before .before .before .before .new-part .kept .1 .1 .0, c .before .before .before .new-part2 .kept .1 .1 .0))
-    (λ c. let l = new-le (c .before .before .before .before .before .before .before .before .before .before .before .before .before .before .before .before .before .pre .1 .0) (row-new _ (c .before .before .before .before .before .before .before .before .before .before .before .before .before .before .before .before .before .pre .1 .0) (c .before .before .before .before .before .before .before .before .before .before .before .before .before .before .before .before .before .pre .1 .1) (c .before .before .before .before .before .before .before .before .before .before .before .before .before .before .row-of .ensures) (c .before .before .before .before .before .before .before .before .before .before .before .before .before .before .before .before .before .pre .1 .2) (c .before .before .set-mark .ensures) (c .before .before .before .before .before .before .before .before .before .before .before .new-part .ensures) (c .before .before .before .before .before .before .before .before .before .before .before .before .get .ensures) (c .before .before .before .before .before .before .new-part2 .ensures) (c .before .before .before .before .before .before .before .get2 .ensures)) in omega arith)
-    (λ c. let l = new-le (c .before .before .before .before .before .before .before .before .before .before .before .before .before .before .before .before .before .pre .1 .0) (row-new _ (c .before .before .before .before .before .before .before .before .before .before .before .before .before .before .before .before .before .pre .1 .0) (c .before .before .before .before .before .before .before .before .before .before .before .before .before .before .before .before .before .pre .1 .1) (c .before .before .before .before .before .before .before .before .before .before .before .before .before .before .row-of .ensures) (c .before .before .before .before .before .before .before .before .before .before .before .before .before .before .before .before .before .pre .1 .2) (c .before .before .set-mark .ensures) (c .before .before .before .before .before .before .before .before .before .before .before .new-part .ensures) (c .before .before .before .before .before .before .before .before .before .before .before .before .get .ensures) (c .before .before .before .before .before .before .new-part2 .ensures) (c .before .before .before .before .before .before .before .get2 .ensures)) in omega arith)
-    (λ c. c .before .before .set-mark .kept .0 ∙ c .before .before .before .before .before .before .new-part2 .kept .1 .1 .0 ∙ c .before .before .before .before .before .before .before .before .before .before .before .new-part .kept .1 .1 .0)
-    (λ c. row-new _ (c .before .before .before .before .before .before .before .before .before .before .before .before .before .before .before .before .before .pre .1 .0) (c .before .before .before .before .before .before .before .before .before .before .before .before .before .before .before .before .before .pre .1 .1) (c .before .before .before .before .before .before .before .before .before .before .before .before .before .before .row-of .ensures) (c .before .before .before .before .before .before .before .before .before .before .before .before .before .before .before .before .before .pre .1 .2) (c .before .before .set-mark .ensures) (c .before .before .before .before .before .before .before .before .before .before .before .new-part .ensures) (c .before .before .before .before .before .before .before .before .before .before .before .before .get .ensures) (c .before .before .before .before .before .before .new-part2 .ensures) (c .before .before .before .before .before .before .before .get2 .ensures))
+    (λ c κs. let s = step _ (c .before .before .before .before .pre .1 .0) (c .before .before .before .before .pre .1 .1)
+    (c .before .row-of .ensures) in
+    let w = c .before .before .before .before .pre .1 .0 .base .words in let h = s .row in (h, omega arith, w))
+    (λ c κs. let s = step _ (c .before .before .before .before .before .pre .1 .0) (c .before .before .before .before .before .pre .1 .1)
+    (c .before .before .row-of .ensures) in
+    called (s .low) (s .low-less) (c .before .before .before .before .before .pre .0) (c .get .ensures) refl)
+    (λ c κs. let s = step _ (c .before .before .before .before .before .before .before .before .before .pre .1 .0)
+    (c .before .before .before .before .before .before .before .before .before .pre .1 .1)
+    (c .before .before .before .before .before .before .row-of .ensures) in
+    let w = c .before .before .before .before .before .before .before .before .before .pre .1 .0 .base .words in
+    let h = s .row in (h, omega arith, w))
+    (λ c κs. let s = step _ (c .before .before .before .before .before .before .before .before .before .before .pre .1 .0)
+    (c .before .before .before .before .before .before .before .before .before .before .pre .1 .1)
+    (c .before .before .before .before .before .before .before .row-of .ensures) in
+    called (s .high) (s .high-less) (c .before .before .before .before .before .before .before .before .before .before .pre .0)
+    (c .get2 .ensures) (c .before .before .before .before .new-part .kept .1 .1 .0))
+    (λ c κs. let s = step _
+    (c .before .before .before .before .before .before .before .before .before .before .before .before .before .before .pre .1 .0)
+    (c .before .before .before .before .before .before .before .before .before .before .before .before .before .before .pre .1 .1)
+    (c .before .before .before .before .before .before .before .before .before .before .before .row-of .ensures) in
+    let b =
+    c .before .before .before .before .before .before .before .before .before .before .before .before .before .before .pre .1 .0 .base
+    .room in let r =
+    s .row in
+    omega (
+      arith,
+      c .before .before .before .before .before .before .before .before .new-part .kept .1 .1 .0,
+      c .before .before .before .new-part2 .kept .1 .1 .0,
+    ))
+    (λ c. let l =
+    new-le (c .before .before .before .before .before .before .before .before .before .before .before .before .before .before .before
+    .before .before .pre .1 .0)
+    (row-new _
+    (c .before .before .before .before .before .before .before .before .before .before .before .before .before .before .before .before
+    .before .pre .1 .0)
+    (c .before .before .before .before .before .before .before .before .before .before .before .before .before .before .before .before
+    .before .pre .1 .1)
+    (c .before .before .before .before .before .before .before .before .before .before .before .before .before .before .row-of .ensures)
+    (c .before .before .before .before .before .before .before .before .before .before .before .before .before .before .before .before
+    .before .pre .1 .2) (c .before .before .set-mark .ensures)
+    (c .before .before .before .before .before .before .before .before .before .before .before .new-part .ensures)
+    (c .before .before .before .before .before .before .before .before .before .before .before .before .get .ensures)
+    (c .before .before .before .before .before .before .new-part2 .ensures)
+    (c .before .before .before .before .before .before .before .get2 .ensures)) in omega arith)
+    (λ c. let l =
+    new-le (c .before .before .before .before .before .before .before .before .before .before .before .before .before .before .before
+    .before .before .pre .1 .0)
+    (row-new _
+    (c .before .before .before .before .before .before .before .before .before .before .before .before .before .before .before .before
+    .before .pre .1 .0)
+    (c .before .before .before .before .before .before .before .before .before .before .before .before .before .before .before .before
+    .before .pre .1 .1)
+    (c .before .before .before .before .before .before .before .before .before .before .before .before .before .before .row-of .ensures)
+    (c .before .before .before .before .before .before .before .before .before .before .before .before .before .before .before .before
+    .before .pre .1 .2) (c .before .before .set-mark .ensures)
+    (c .before .before .before .before .before .before .before .before .before .before .before .new-part .ensures)
+    (c .before .before .before .before .before .before .before .before .before .before .before .before .get .ensures)
+    (c .before .before .before .before .before .before .new-part2 .ensures)
+    (c .before .before .before .before .before .before .before .get2 .ensures)) in omega arith)
+    (λ c. c .before .before .set-mark .kept .0 ∙ c .before .before .before .before .before .before .new-part2 .kept .1 .1 .0
+    ∙ c .before .before .before .before .before .before .before .before .before .before .before .new-part .kept .1 .1 .0)
+    (λ c. row-new _
+    (c .before .before .before .before .before .before .before .before .before .before .before .before .before .before .before .before
+    .before .pre .1 .0)
+    (c .before .before .before .before .before .before .before .before .before .before .before .before .before .before .before .before
+    .before .pre .1 .1)
+    (c .before .before .before .before .before .before .before .before .before .before .before .before .before .before .row-of .ensures)
+    (c .before .before .before .before .before .before .before .before .before .before .before .before .before .before .before .before
+    .before .pre .1 .2) (c .before .before .set-mark .ensures)
+    (c .before .before .before .before .before .before .before .before .before .before .before .new-part .ensures)
+    (c .before .before .before .before .before .before .before .before .before .before .before .before .get .ensures)
+    (c .before .before .before .before .before .before .new-part2 .ensures)
+    (c .before .before .before .before .before .before .before .get2 .ensures))

@@ -11,7 +11,8 @@ use Rattle.counting.proofs.add_sizes.Statement.{statement}
 use Rattle.counting.proofs.add_sizes.Tie as tie
 
 abbrev Inv-loop : tie.InvT-loop
-Inv-loop words rows counts₀ arrows sum most total₀ k₀ counts total k = (k ≤ length arrows) × (length counts ≡ length counts₀) × Summed (view rows words) counts arrows sum k total
+Inv-loop words rows counts₀ arrows sum most total₀ k₀ counts total k =
+    (k ≤ length arrows) × (length counts ≡ length counts₀) × Summed (view rows words) counts arrows sum k total
 
 abbrev μ-loop : tie.MeasureT-loop
 μ-loop words rows counts₀ arrows sum most total₀ k₀ counts total k = length arrows - k
@@ -27,11 +28,26 @@ add-sizes-spec =
     (λ c. summed-over (c .if1 .taken) (c .before .before .loop .inv .2))
     (λ c. search needs)
     (λ c. search needs)
-    (λ c κs. record { sound = c .before .before .before .before .before .before .before .before .pre .0 .sound; arrow = c .before .before .before .before .before .before .before .before .pre .0 .arrows _ (getD-mem _ _ (c .before .before .before .loop-test .taken)); counts = c .before .before .before .before .loop .inv .2 .counts })
+    (λ c κs.
+    record {
+      sound =
+          c .before .before .before .before .before .before .before .before .pre .0 .sound;
+      arrow =
+          c .before .before .before .before .before .before .before .before .pre .0 .arrows _
+          (getD-mem _ _ (c .before .before .before .loop-test .taken));
+      counts = c .before .before .before .before .loop .inv .2 .counts;
+    })
     (λ c. search needs)
     (λ c. let t = c .before .before .before .before .before .if1 .left in omega arith)
     (λ c. search needs)
     (λ c. search needs)
-    (λ c. let v = c .before .before .before .before .before .before .before .loop .inv in (omega arith, c .before .before .size-of .kept .1 .1 .0 ∙ v .1, summed-more (c .before .before .before .before .before .before .before .before .before .before .before .pre .0 .sound) (c .before .before .before .before .before .before .before .before .before .before .before .pre .0 .arrows _ (getD-mem _ _ (c .before .before .before .before .before .before .loop-test .taken))) (c .before .before .before .before .before .before .loop-test .taken) (v .2) (c .before .before .size-of .ensures)))
+    (λ c. let v = c .before .before .before .before .before .before .before .loop .inv in (
+      omega arith,
+      c .before .before .size-of .kept .1 .1 .0 ∙ v .1,
+      summed-more (c .before .before .before .before .before .before .before .before .before .before .before .pre .0 .sound)
+          (c .before .before .before .before .before .before .before .before .before .before .before .pre .0 .arrows _
+          (getD-mem _ _ (c .before .before .before .before .before .before .loop-test .taken)))
+          (c .before .before .before .before .before .before .loop-test .taken) (v .2) (c .before .before .size-of .ensures),
+    ))
     (λ c. c .before .loop .inv .1)
     (λ c. summed-all _ (c .loop-test .left) (c .before .loop .inv .2)))

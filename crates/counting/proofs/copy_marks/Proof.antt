@@ -21,11 +21,20 @@ copy-marks-spec =
     μ-loop
     (λ c. (omega arith, copied-none))
     (λ c. search needs)
-    (λ c. let e = c .before .before .before .pre .0 in let h = c .before .before .before .pre .1 in let z = c .before .before .loop .inv .1 .size in let t = c .before .loop-test .taken in omega (arith, e, h, z, t))
+    (λ c. let e = c .before .before .before .pre .0 in
+    let h = c .before .before .before .pre .1 in
+    let z = c .before .before .loop .inv .1 .size in let t = c .before .loop-test .taken in omega (arith, e, h, z, t))
     (λ c. search needs)
     (λ c. c .before .loop-test .taken)
     (λ c. search needs)
     (λ c. let z = c .before .before .loop .inv .1 .size in let t = c .before .loop-test .taken in omega (arith, z, t))
-    (λ c. let z = c .before .before .loop .inv .1 .size in let t = c .before .loop-test .taken in (omega (arith, z, t), copied-more (omega (arith, z, t)) (c .before .before .before .pre .1) (c .before .before .before .pre .0) (c .before .before .loop .inv .1)))
+    (λ c. let z = c .before .before .loop .inv .1 .size in
+    let t = c .before .loop-test .taken in (
+      omega (arith, z, t),
+      copied-more (omega (arith, z, t)) (c .before .before .before .pre .1) (c .before .before .before .pre .0)
+          (c .before .before .loop .inv .1),
+    ))
     (λ c. c .before .loop .inv .1 .size)
-    (λ c. let t = c .loop-test .left in let z = c .before .loop .inv .1 .size in let i = c .before .loop .inv .0 in copied-all (omega (arith, t, z, i)) (c .before .loop .inv .1)))
+    (λ c. let t = c .loop-test .left in
+    let z = c .before .loop .inv .1 .size in
+    let i = c .before .loop .inv .0 in copied-all (omega (arith, t, z, i)) (c .before .loop .inv .1)))

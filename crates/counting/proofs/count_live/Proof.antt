@@ -9,8 +9,16 @@ count-live-spec =
     tie.close
     (tie.spec
     (λ c. search needs)
-    (λ c κs. (c .before .before .before .before .before .before .pre .0, c .before .before .before .before .before .before .pre .1, few-room (c .before .if1 .taken)))
+    (λ c κs. (
+      c .before .before .before .before .before .before .pre .0,
+      c .before .before .before .before .before .before .pre .1,
+      few-room (c .before .if1 .taken),
+    ))
     (λ c. search needs)
     (λ c. search needs)
-    (λ c κs. (c .before .before .before .before .before .before .pre .0, c .before .before .before .before .before .before .pre .1, all-room (c .before .before .before .before .before .before .pre .0 .sound)))
+    (λ c κs. (
+      c .before .before .before .before .before .before .pre .0,
+      c .before .before .before .before .before .before .pre .1,
+      all-room (c .before .before .before .before .before .before .pre .0 .sound),
+    ))
     (λ c. search needs))

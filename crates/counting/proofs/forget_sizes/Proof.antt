@@ -26,6 +26,9 @@ forget-sizes-spec =
     (λ c. let l = c .before .loop .inv .2 .beside .size in let h = c .before .before .pre in let t = c .loop-test .taken in omega arith)
     (λ c. search needs)
     (λ c. search needs)
-    (λ c. let h = c .before .before .pre in let t = c .loop-test .taken in (omega arith, omega arith, emptied-more (c .before .loop .inv .0) (omega arith) (c .before .loop .inv .2)))
+    (λ c. let h = c .before .before .pre in
+    let t = c .loop-test .taken in
+    (omega arith, omega arith, emptied-more (c .before .loop .inv .0) (omega arith) (c .before .loop .inv .2)))
     (λ c. c .before .loop .inv .2 .beside .size)
-    (λ c. let l = c .before .loop .inv .1 in let t = c .loop-test .left in let e : c .before .loop .k ≡ COUNT-WORDS = omega arith in rw e at (c .before .loop .inv .2)))
+    (λ c. let l = c .before .loop .inv .1 in
+    let t = c .loop-test .left in let e : c .before .loop .k ≡ COUNT-WORDS = omega arith in rw e at (c .before .loop .inv .2)))

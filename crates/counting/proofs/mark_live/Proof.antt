@@ -13,7 +13,29 @@ mark-live-spec =
     (tie.spec
     (λ c κs. (c .before .before .before .before .before .pre .1 .size, c .before .before .before .before .before .pre .2 .most))
     (λ c. let l = c .before .before .before .before .before .before .before .before .before .pre .1 .size in omega arith)
-    (λ c κs. record { base = rw (c .before .before .before .before .copy-marks .kept .1 .0) (room-base (c .before .before .before .before .before .before .before .before .before .before .pre .0 .sound) (c .before .before .before .before .before .before .before .before .before .before .pre .2)); arrow = c .before .before .before .before .before .before .before .before .before .before .pre .0 .arrows })
-    (λ c. let l = live-le (c .before .before .before .before .before .before .before .before .before .before .before .before .before .pre .0) (live-marked (base-copied (c .before .before .before .before .before .before .before .before .before .before .before .before .before .pre .0 .sound) (c .before .before .before .before .before .before .before .before .before .before .before .before .before .pre .1) (c .before .before .before .before .before .before .before .before .before .before .before .before .before .pre .2) (c .before .before .before .before .before .before .before .copy-marks .ensures)) (c .before .before .before .before .before .before .before .before .before .before .before .before .before .pre .1 .number) (c .before .before .list-new .ensures) .number) in omega arith)
+    (λ c κs.
+    record {
+      base = rw (c .before .before .before .before .copy-marks .kept .1 .0)
+          (room-base (c .before .before .before .before .before .before .before .before .before .before .pre .0 .sound)
+          (c .before .before .before .before .before .before .before .before .before .before .pre .2));
+      arrow = c .before .before .before .before .before .before .before .before .before .before .pre .0 .arrows;
+    })
+    (λ c. let l =
+    live-le (c .before .before .before .before .before .before .before .before .before .before .before .before .before .pre .0)
+    (live-marked
+    (base-copied
+    (c .before .before .before .before .before .before .before .before .before .before .before .before .before .pre .0 .sound)
+    (c .before .before .before .before .before .before .before .before .before .before .before .before .before .pre .1)
+    (c .before .before .before .before .before .before .before .before .before .before .before .before .before .pre .2)
+    (c .before .before .before .before .before .before .before .copy-marks .ensures))
+    (c .before .before .before .before .before .before .before .before .before .before .before .before .before .pre .1 .number)
+    (c .before .before .list-new .ensures) .number) in omega arith)
     (λ c. c .before .before .list-new .kept .1 .1 .0 ∙ c .before .before .before .before .before .before .before .copy-marks .kept .1 .0)
-    (λ c. live-marked (base-copied (c .before .before .before .before .before .before .before .before .before .before .before .before .before .pre .0 .sound) (c .before .before .before .before .before .before .before .before .before .before .before .before .before .pre .1) (c .before .before .before .before .before .before .before .before .before .before .before .before .before .pre .2) (c .before .before .before .before .before .before .before .copy-marks .ensures)) (c .before .before .before .before .before .before .before .before .before .before .before .before .before .pre .1 .number) (c .before .before .list-new .ensures)))
+    (λ c. live-marked
+    (base-copied
+    (c .before .before .before .before .before .before .before .before .before .before .before .before .before .pre .0 .sound)
+    (c .before .before .before .before .before .before .before .before .before .before .before .before .before .pre .1)
+    (c .before .before .before .before .before .before .before .before .before .before .before .before .before .pre .2)
+    (c .before .before .before .before .before .before .before .copy-marks .ensures))
+    (c .before .before .before .before .before .before .before .before .before .before .before .before .before .pre .1 .number)
+    (c .before .before .list-new .ensures)))

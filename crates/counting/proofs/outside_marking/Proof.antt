@@ -10,6 +10,16 @@ outside-marking-spec =
     tie.close
     (tie.spec
     (λ c κs. (c .before .before .before .before .pre .0 .counts .base .size, c .before .before .before .before .pre .1 .most))
-    (λ c κs. record { base = rw (c .before .before .before .copy-marks .kept .1 .0) (room-base (c .before .before .before .before .before .before .before .before .pre .0 .sound) (c .before .before .before .before .before .before .before .before .pre .1)); arrow = c .before .before .before .before .before .before .before .before .pre .0 .arrow })
+    (λ c κs.
+    record {
+      base = rw (c .before .before .before .copy-marks .kept .1 .0)
+          (room-base (c .before .before .before .before .before .before .before .before .pre .0 .sound)
+          (c .before .before .before .before .before .before .before .before .pre .1));
+      arrow = c .before .before .before .before .before .before .before .before .pre .0 .arrow;
+    })
     (λ c. c .before .before .mark-new .kept .1 .1 .0 ∙ c .before .before .before .before .before .before .copy-marks .kept .1 .0)
-    (λ c. outside-counted (base-copied (c .before .before .before .before .before .before .before .before .before .before .before .pre .0 .sound) (c .before .before .before .before .before .before .before .before .before .before .before .pre .0 .counts .base) (c .before .before .before .before .before .before .before .before .before .before .before .pre .1) (c .before .before .before .before .before .before .copy-marks .ensures)) (c .before .before .mark-new .ensures)))
+    (λ c. outside-counted
+    (base-copied (c .before .before .before .before .before .before .before .before .before .before .before .pre .0 .sound)
+    (c .before .before .before .before .before .before .before .before .before .before .before .pre .0 .counts .base)
+    (c .before .before .before .before .before .before .before .before .before .before .before .pre .1)
+    (c .before .before .before .before .before .before .copy-marks .ensures)) (c .before .before .mark-new .ensures)))

@@ -12,10 +12,35 @@ sizes-within-spec =
     tie.close
     (tie.spec
     (λ c. let l = c .before .before .before .before .before .pre .1 .base .size in omega arith)
-    (λ c. let l = number-le (c .before .before .before .before .before .pre .0 .sound) (c .before .before .before .before .before .pre .1 .base) in omega arith)
-    (λ c κs. (record { sound = c .before .before .before .before .before .before .pre .0 .sound; arrows = λ a h. c .before .before .before .before .before .before .pre .0 .arrows a (append-left (c .before .before .before .before .before .before .args .more .now) h) }, c .before .before .before .before .before .before .pre .1))
-    (λ c κs. (record { sound = c .before .before .before .before .before .before .before .before .before .before .pre .0 .sound; arrows = λ a h. c .before .before .before .before .before .before .before .before .before .before .pre .0 .arrows a (append-right (c .before .before .before .before .before .before .before .before .before .before .args .roots .now) h) }, c .before .before .before .add-sizes .ensures .counts))
-    (λ c. c .before .before .before .add-sizes2 .kept .1 .1 .0 ∙ c .before .before .before .before .before .before .before .add-sizes .kept .1 .1 .0)
-    (λ c. within-yes (c .before .before .before .before .before .before .before .before .before .before .before .before .before .before .pre .0 .sound) (c .before .before .before .before .before .before .before .before .before .before .before .before .before .before .pre .1) (c .before .before .before .before .before .before .before .add-sizes .ensures) (c .before .before .before .add-sizes2 .ensures) (c .if1 .taken))
-    (λ c. c .before .before .before .add-sizes2 .kept .1 .1 .0 ∙ c .before .before .before .before .before .before .before .add-sizes .kept .1 .1 .0)
+    (λ c. let l = number-le (c .before .before .before .before .before .pre .0 .sound)
+    (c .before .before .before .before .before .pre .1 .base) in omega arith)
+    (λ c κs. (
+      record {
+        sound =
+            c .before .before .before .before .before .before .pre .0 .sound;
+        arrows =
+            λ a h. c .before .before .before .before .before .before .pre .0 .arrows a
+            (append-left (c .before .before .before .before .before .before .args .more .now) h);
+      },
+      c .before .before .before .before .before .before .pre .1,
+    ))
+    (λ c κs. (
+      record {
+        sound =
+            c .before .before .before .before .before .before .before .before .before .before .pre .0 .sound;
+        arrows =
+            λ a h. c .before .before .before .before .before .before .before .before .before .before .pre .0 .arrows a
+            (append-right (c .before .before .before .before .before .before .before .before .before .before .args .roots .now) h);
+      },
+      c .before .before .before .add-sizes .ensures .counts,
+    ))
+    (λ c. c .before .before .before .add-sizes2 .kept .1 .1 .0
+    ∙ c .before .before .before .before .before .before .before .add-sizes .kept .1 .1 .0)
+    (λ c. within-yes
+    (c .before .before .before .before .before .before .before .before .before .before .before .before .before .before .pre .0 .sound)
+    (c .before .before .before .before .before .before .before .before .before .before .before .before .before .before .pre .1)
+    (c .before .before .before .before .before .before .before .add-sizes .ensures) (c .before .before .before .add-sizes2 .ensures)
+    (c .if1 .taken))
+    (λ c. c .before .before .before .add-sizes2 .kept .1 .1 .0
+    ∙ c .before .before .before .before .before .before .before .add-sizes .kept .1 .1 .0)
     (λ c. within-no (c .before .before .before .add-sizes2 .ensures)))

@@ -13,8 +13,20 @@ take-spec =
     (λ c. search needs)
     (λ c. search needs)
     (λ c. search needs)
-    (λ c. taken-full (c .before .before .before .before .before .before .take-counted .ensures) (c .before .before .before .before .before .before .before .before .before .before .before .before .args .count) (c .enum-told .given .1))
-    (λ c κs. (note-pre (c .before .before .before .before .before .before .before .before .before .take-counted .ensures) (c .before .before .before .a .given .1), c .before .before .before .before .before .before .before .before .before .take-counted .ensures .counts))
+    (λ c. taken-full (c .before .before .before .before .before .before .take-counted .ensures)
+    (c .before .before .before .before .before .before .before .before .before .before .before .before .args .count)
+    (c .enum-told .given .1))
+    (λ c κs. (
+      note-pre (c .before .before .before .before .before .before .before .before .before .take-counted .ensures)
+          (c .before .before .before .a .given .1),
+      c .before .before .before .before .before .before .before .before .before .take-counted .ensures .counts,
+    ))
     (λ c. search needs)
     (λ c. search needs)
-    (λ c. taken-at (c .before .before .before .before .before .before .before .before .before .before .before .before .take-counted .ensures) (c .before .before .before .before .before .before .a .given .1) (c .before .before .before .before .before .before .before .before .before .before .before .before .before .before .before .before .before .before .args .count) (c .before .before .before .before .before .before .before .before .before .before .before .before .before .before .before .before .before .before .pre .0) (c .before .before .note .ensures)))
+    (λ c. taken-at
+    (c .before .before .before .before .before .before .before .before .before .before .before .before .take-counted .ensures)
+    (c .before .before .before .before .before .before .a .given .1)
+    (c .before .before .before .before .before .before .before .before .before .before .before .before .before .before .before .before
+    .before .before .args .count)
+    (c .before .before .before .before .before .before .before .before .before .before .before .before .before .before .before .before
+    .before .before .pre .0) (c .before .before .note .ensures)))

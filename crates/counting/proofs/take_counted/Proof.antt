@@ -12,17 +12,50 @@ take-counted-spec =
     (tie.spec
     (λ c κs. (c .before .before .before .before .pre .0 .ready, c .before .before .before .before .pre .0 .fits))
     (λ c. search needs)
-    (λ c κs. let z = first-pre (c .before .before .before .before .before .before .before .before .before .before .before .pre .0) (c .before .before .before .before .before .before .try-step .ensures) (c .before .before .made .given .1) .sound .good .sizes .room in omega arith)
+    (λ c κs. let z = first-pre (c .before .before .before .before .before .before .before .before .before .before .before .pre .0)
+    (c .before .before .before .before .before .before .try-step .ensures)
+    (c .before .before .made .given .1) .sound .good .sizes .room in omega arith)
     (λ c. search needs)
-    (λ c. counted-few (c .before .before .before .before .before .before .before .before .before .before .before .before .before .pre .0) (c .before .before .before .before .before .before .before .before .before .before .before .before .before .pre .1) (c .before .before .before .before .made .given .1) (c .before .before .before .before .before .before .before .before .try-step .ensures) (c .before .header-word .ensures) (c .if1 .taken))
-    (λ c κs. c .before .before .before .before .before .before .before .before .before .before .before .before .before .before .pre .1 .base .size)
-    (λ c κs. first-pre (c .before .before .before .before .before .before .before .before .before .before .before .before .before .before .before .before .before .before .pre .0) (c .before .before .before .before .before .before .before .before .before .before .before .before .before .try-step .ensures) (c .before .before .before .before .before .before .before .before .before .made .given .1))
+    (λ c. counted-few (c .before .before .before .before .before .before .before .before .before .before .before .before .before .pre .0)
+    (c .before .before .before .before .before .before .before .before .before .before .before .before .before .pre .1)
+    (c .before .before .before .before .made .given .1)
+    (c .before .before .before .before .before .before .before .before .try-step .ensures) (c .before .header-word .ensures)
+    (c .if1 .taken))
+    (λ c κs.
+    c .before .before .before .before .before .before .before .before .before .before .before .before .before .before .pre .1 .base
+    .size)
+    (λ c κs. first-pre
+    (c .before .before .before .before .before .before .before .before .before .before .before .before .before .before .before .before
+    .before .before .pre .0)
+    (c .before .before .before .before .before .before .before .before .before .before .before .before .before .try-step .ensures)
+    (c .before .before .before .before .before .before .before .before .before .made .given .1))
     (λ c. search needs)
     (λ c κs. c .before .before .before .before .before .before .before .before .before .before .pre .1 .base .size)
-    (λ c κs. again-pre (c .before .before .before .before .before .before .before .before .before .before .before .before .before .before .pre .0) (c .before .before .before .before .before .before .before .before .before .try-step .ensures))
+    (λ c κs. again-pre
+    (c .before .before .before .before .before .before .before .before .before .before .before .before .before .before .pre .0)
+    (c .before .before .before .before .before .before .before .before .before .try-step .ensures))
     (λ c. search needs)
     (λ c. search needs)
-    (λ c. counted-freed (c .before .before .before .before .before .before .before .before .before .before .before .before .before .before .before .before .before .before .before .before .before .pre .0) (c .before .before .before .before .before .before .before .before .before .before .before .before .before .before .before .before .before .before .before .before .before .pre .1) (c .before .before .before .before .before .before .forget-sizes .ensures) (stepped-first (c .before .before .before .before .before .before .before .before .before .before .before .before .before .before .before .before .before .before .before .before .before .pre .0) (c .before .before .before .before .before .before .before .before .before .before .before .before .made .given .1) (c .before .before .before .before .before .before .before .before .before .before .before .before .before .before .before .before .try-step .ensures) (c .before .before .settle .ensures)))
+    (λ c. counted-freed
+    (c .before .before .before .before .before .before .before .before .before .before .before .before .before .before .before .before
+    .before .before .before .before .before .pre .0)
+    (c .before .before .before .before .before .before .before .before .before .before .before .before .before .before .before .before
+    .before .before .before .before .before .pre .1) (c .before .before .before .before .before .before .forget-sizes .ensures)
+    (stepped-first
+    (c .before .before .before .before .before .before .before .before .before .before .before .before .before .before .before .before
+    .before .before .before .before .before .pre .0)
+    (c .before .before .before .before .before .before .before .before .before .before .before .before .made .given .1)
+    (c .before .before .before .before .before .before .before .before .before .before .before .before .before .before .before .before
+    .try-step .ensures) (c .before .before .settle .ensures)))
     (λ c. search needs)
     (λ c. search needs)
-    (λ c. counted-freed (c .before .before .before .before .before .before .before .before .before .before .before .before .before .before .before .before .before .pre .0) (c .before .before .before .before .before .before .before .before .before .before .before .before .before .before .before .before .before .pre .1) (c .before .before .before .before .before .before .forget-sizes2 .ensures) (stepped-again (c .before .before .before .before .before .before .before .before .before .before .before .before .before .before .before .before .before .pre .0) (c .before .before .before .before .before .before .before .before .enum-told .given .1) (c .before .before .before .before .before .before .before .before .before .before .before .before .try-step .ensures) (c .before .before .retry .ensures))))
+    (λ c. counted-freed
+    (c .before .before .before .before .before .before .before .before .before .before .before .before .before .before .before .before
+    .before .pre .0)
+    (c .before .before .before .before .before .before .before .before .before .before .before .before .before .before .before .before
+    .before .pre .1) (c .before .before .before .before .before .before .forget-sizes2 .ensures)
+    (stepped-again
+    (c .before .before .before .before .before .before .before .before .before .before .before .before .before .before .before .before
+    .before .pre .0) (c .before .before .before .before .before .before .before .before .enum-told .given .1)
+    (c .before .before .before .before .before .before .before .before .before .before .before .before .try-step .ensures)
+    (c .before .before .retry .ensures))))

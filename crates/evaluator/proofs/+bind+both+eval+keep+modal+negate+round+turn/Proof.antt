@@ -9,8 +9,15 @@ use mathlib.Core.Path.{refl, sym, ap, _∙_}
 use mathlib.Core.Logic.{⊎-elim}
 use Rattle.tokens.specs.declared.Token.the-variants.{Both}
 use Rattle.evaluator.proofs.Tokens.{read-depth, read-token, read-inside}
-use Rattle.evaluator.proofs.Untils.{kept-asked, keep-halts, keep-room, further-asked, keep-asked, keep-answered, goal-asked, goal-halts, round-free, kept-part, or-asked, or-answered, formula-asked, round-asked, formula-answered, round-answered}
-use Rattle.evaluator.proofs.Cycle.{leaf-asked, leaf-answered, not-asked, not-answered, both-asked, both-answered, until-asked, until-answered, mode-asked, mode-answered, bind-asked, bind-answered, negate-halts, negate-asked, confined-asked, start-asked, negate-answered, first-asked, first-halts, second-asked, joined-asked, joined-answered, part-asked, mode-halts, relation-asked, live-within, over-asked, over-answered, same-depth, Looping, loop-starts, rounds-out, body-asked, body-halts, body-same, body-less, loop-turns}
+use Rattle.evaluator.proofs.Untils.{kept-asked, keep-halts, keep-room, further-asked, keep-asked, keep-answered, goal-asked}
+use Rattle.evaluator.proofs.Untils.{goal-halts, round-free, kept-part, or-asked, or-answered, formula-asked, round-asked}
+use Rattle.evaluator.proofs.Untils.{formula-answered, round-answered}
+use Rattle.evaluator.proofs.Cycle.{leaf-asked, leaf-answered, not-asked, not-answered, both-asked, both-answered, until-asked}
+use Rattle.evaluator.proofs.Cycle.{until-answered, mode-asked, mode-answered, bind-asked, bind-answered, negate-halts, negate-asked}
+use Rattle.evaluator.proofs.Cycle.{confined-asked, start-asked, negate-answered, first-asked, first-halts, second-asked}
+use Rattle.evaluator.proofs.Cycle.{joined-asked, joined-answered, part-asked, mode-halts, relation-asked, live-within, over-asked}
+use Rattle.evaluator.proofs.Cycle.{over-answered, same-depth, Looping, loop-starts, rounds-out, body-asked, body-halts, body-same}
+use Rattle.evaluator.proofs.Cycle.{body-less, loop-turns}
 use borrow.Fn.PlainCycle.{Measures}
 use Rattle.evaluator.proofs.+bind+both+eval+keep+modal+negate+round+turn.{statement}
 use Rattle.evaluator.proofs.+bind+both+eval+keep+modal+negate+round+turn.Tie.{close}
@@ -83,7 +90,8 @@ bind-Inv-loop words₀ counts₀ stack₀ bytes limits here body held current₀
     Looping limits words₀ words counts₀ counts stack₀ stack bytes here body current counted
 
 abbrev bind-μ-loop : bind-lts.MeasureT-loop
-bind-μ-loop words₀ counts₀ stack₀ bytes limits here body held current₀ counted₀ words counts stack current counted = limits .rounds - counted .rounds
+bind-μ-loop words₀ counts₀ stack₀ bytes limits here body held current₀ counted₀ words counts stack current counted =
+    limits .rounds - counted .rounds
 
 pub +bind+both+eval+keep+modal+negate+round+turn-spec : {M : Type 1} → statement M
 +bind+both+eval+keep+modal+negate+round+turn-spec =
@@ -107,28 +115,128 @@ pub +bind+both+eval+keep+modal+negate+round+turn-spec : {M : Type 1} → stateme
     bind-μ-loop
     (λ c κs. start-asked (c .before .before .before .before .before .pre .1 .0))
     (λ c κs. search needs)
-    (λ c. loop-starts (c .before .before .before .before .before .before .before .before .pre .1 .1) (c .before .before .root-arrow .result) (c .before .before .root-arrow .ensures) (c .before .start-of .ensures))
+    (λ c. loop-starts (c .before .before .before .before .before .before .before .before .pre .1 .1) (c .before .before .root-arrow .result)
+    (c .before .before .root-arrow .ensures) (c .before .start-of .ensures))
     (λ c. search needs)
-    (λ c. omega (arith, c .before .before .before .before .before .before .before .before .before .before .before .before .pre .1 .0 .room, c .before .before .before .before .before .before .before .before .before .before .before .before .pre .1 .0 .ready .size, c .before .before .before .loop .inv .stack-size))
+    (λ c. omega (
+      arith,
+      c .before .before .before .before .before .before .before .before .before .before .before .before .pre .1 .0 .room,
+      c .before .before .before .before .before .before .before .before .before .before .before .before .pre .1 .0 .ready .size,
+      c .before .before .before .loop .inv .stack-size,
+    ))
     (λ c κs. search needs)
     (λ c κs. search needs)
-    (λ c κs. omega (arith, c .before .before .before .before .before .before .before .before .before .before .before .before .before .before .pre .1 .0 .room))
-    (λ c κs. (omega (arith, same-depth (c .before .before .before .opened .ensures), c .before .before .before .before .before .before .before .before .before .before .before .before .before .before .before .before .before .before .pre .0), (body-asked (c .before .before .before .before .before .before .before .before .before .before .before .before .before .before .before .before .before .before .pre .1 .0) (c .before .before .before .before .before .before .before .before .before .loop .inv) (c .before .before .before .opened .ensures) (c .before .before .before .before .before .variable-of .ensures) (c .before .before .before .before .another-round .ensures), c .before .before .before .before .before .before .before .before .before .loop .inv .counts-of)))
+    (λ c κs. omega (
+      arith,
+      c .before .before .before .before .before .before .before .before .before .before .before .before .before .before .pre .1 .0 .room,
+    ))
+    (λ c κs. (
+      omega (
+        arith,
+        same-depth (c .before .before .before .opened .ensures),
+        c .before .before .before .before .before .before .before .before .before .before .before .before .before .before .before .before
+            .before .before .pre .0,
+      ),
+      (
+        body-asked
+            (c .before .before .before .before .before .before .before .before .before .before .before .before .before .before .before
+            .before
+            .before .before .pre .1 .0) (c .before .before .before .before .before .before .before .before .before .loop .inv)
+            (c .before .before .before .opened .ensures) (c .before .before .before .before .before .variable-of .ensures)
+            (c .before .before .before .before .another-round .ensures),
+        c .before .before .before .before .before .before .before .before .before .loop .inv .counts-of,
+      ),
+    ))
     (λ c. search needs)
-    (λ c. c .before .before .before .before .before .before .before .turn .kept .0 ∙ c .before .before .before .before .before .before .before .before .before .before .before .before .before .before .before .before .before .loop .inv .words-size)
-    (λ c. c .before .before .before .before .before .before .before .turn .kept .1 .0 ∙ c .before .before .before .before .before .before .before .before .before .before .before .before .before .before .before .before .before .loop .inv .counts-size)
-    (λ c. (simp length-set at (c .before .before .before .before .before .before .before .turn .kept .1 .1 .0)) ∙ c .before .before .before .before .before .before .before .before .before .before .before .before .before .before .before .before .before .loop .inv .stack-size)
-    (λ c. (body-halts (c .before .before .before .before .before .before .before .before .before .before .before .before .before .before .before .before .before .before .before .before .before .before .before .before .before .before .pre .1 .0) (c .before .before .before .before .before .before .before .before .before .before .before .before .before .before .before .before .before .loop .inv) (c .before .before .before .before .before .before .before .before .before .before .before .opened .ensures) (c .before .before .before .before .before .before .before .before .before .before .before .before .before .variable-of .ensures) (c .before .before .before .before .before .before .before .before .before .before .before .before .another-round .ensures) (c .before .before .before .before .before .before .before .turn .ensures .0) (c .before .before .before .before .before .before .before .before .before .before .before .before .before .before .if1 .taken) (c .match .keys2), c .before .before .before .before .before .before .before .turn .ensures .1))
-    (λ c. c .before .before .before .before .before .before .before .before .before .before .turn .kept .0 ∙ c .before .before .before .before .before .before .before .before .before .before .before .before .before .before .before .before .before .before .before .before .loop .inv .words-size)
-    (λ c. c .before .before .before .before .before .before .before .before .before .before .turn .kept .1 .0 ∙ c .before .before .before .before .before .before .before .before .before .before .before .before .before .before .before .before .before .before .before .before .loop .inv .counts-size)
-    (λ c. (simp length-set at (c .before .before .before .before .before .before .before .before .before .before .turn .kept .1 .1 .0)) ∙ c .before .before .before .before .before .before .before .before .before .before .before .before .before .before .before .before .before .before .before .before .loop .inv .stack-size)
-    (λ c. (body-same (c .before .before .before .before .before .before .before .before .before .before .before .before .before .before .before .before .before .before .before .before .before .before .before .before .before .before .before .before .before .pre .1 .0) (c .before .before .before .before .before .before .before .before .before .before .before .before .before .before .before .before .before .before .before .before .loop .inv) (c .before .before .before .before .before .before .before .before .before .before .before .before .before .before .opened .ensures) (c .before .before .before .before .before .before .before .before .before .before .before .before .before .before .before .before .variable-of .ensures) (c .before .before .before .before .before .before .before .before .before .before .before .before .before .before .before .another-round .ensures) (c .before .before .before .before .before .before .before .before .before .before .turn .ensures .0) (c .before .before .before .before .before .before .before .before .before .before .before .before .before .before .before .before .before .if1 .taken) (c .before .before .value .given .1) (c .if2 .taken), c .before .before .before .before .before .before .before .before .before .before .turn .ensures .1))
-    (λ c. omega (arith, body-less (c .before .before .before .before .before .before .before .before .before .before .before .before .before .before .before .before .before .before .before .before .before .before .before .before .before .before .before .before .before .pre .1 .0) (c .before .before .before .before .before .before .before .before .before .before .before .before .before .before .before .before .before .before .before .before .loop .inv) (c .before .before .before .before .before .before .before .before .before .before .before .before .before .before .opened .ensures) (c .before .before .before .before .before .before .before .before .before .before .before .before .before .before .before .before .variable-of .ensures) (c .before .before .before .before .before .before .before .before .before .before .before .before .before .before .before .another-round .ensures) (c .before .before .before .before .before .before .before .before .before .before .turn .ensures .0) (c .before .before .before .before .before .before .before .before .before .before .before .before .before .before .before .before .before .if1 .taken) (c .before .before .value .given .1), c .before .before .before .before .before .before .before .before .before .before .before .before .before .before .before .before .before .if1 .taken))
-    (λ c. loop-turns (c .before .before .before .before .before .before .before .before .before .before .before .before .before .before .before .before .before .before .before .before .before .before .before .before .before .before .before .before .before .pre .1 .0) (c .before .before .before .before .before .before .before .before .before .before .before .before .before .before .before .before .before .before .before .before .loop .inv) (c .before .before .before .before .before .before .before .before .before .before .before .before .before .before .opened .ensures) (c .before .before .before .before .before .before .before .before .before .before .before .before .before .before .before .before .variable-of .ensures) (c .before .before .before .before .before .before .before .before .before .before .before .before .before .before .before .another-round .ensures) (c .before .before .before .before .before .before .before .before .before .before .turn .ensures .0) (c .before .before .before .before .before .before .before .before .before .before .before .before .before .before .before .before .before .if1 .taken) (c .before .before .value .given .1) (c .if2 .left) _ refl (c .before .before .before .before .before .before .before .before .before .before .turn .ensures .1) (c .before .before .before .before .before .before .before .before .before .before .turn .kept .0) (c .before .before .before .before .before .before .before .before .before .before .turn .kept .1 .0) (c .before .before .before .before .before .before .before .before .before .before .turn .kept .1 .1 .0))
+    (λ c. c .before .before .before .before .before .before .before .turn .kept .0
+    ∙ c .before .before .before .before .before .before .before .before .before .before .before .before .before .before .before .before
+    .before .loop .inv .words-size)
+    (λ c. c .before .before .before .before .before .before .before .turn .kept .1 .0
+    ∙ c .before .before .before .before .before .before .before .before .before .before .before .before .before .before .before .before
+    .before .loop .inv .counts-size)
+    (λ c. (simp length-set at (c .before .before .before .before .before .before .before .turn .kept .1 .1 .0))
+    ∙ c .before .before .before .before .before .before .before .before .before .before .before .before .before .before .before .before
+    .before .loop .inv .stack-size)
+    (λ c. (
+      body-halts
+          (c .before .before .before .before .before .before .before .before .before .before .before .before .before .before .before .before
+          .before .before .before .before .before .before .before .before .before .before .pre .1 .0)
+          (c .before .before .before .before .before .before .before .before .before .before .before .before .before .before .before .before
+          .before .loop .inv) (c .before .before .before .before .before .before .before .before .before .before .before .opened .ensures)
+          (c .before .before .before .before .before .before .before .before .before .before .before .before .before .variable-of .ensures)
+          (c .before .before .before .before .before .before .before .before .before .before .before .before .another-round .ensures)
+          (c .before .before .before .before .before .before .before .turn .ensures .0)
+          (c .before .before .before .before .before .before .before .before .before .before .before .before .before .before .if1 .taken)
+          (c .match .keys2),
+      c .before .before .before .before .before .before .before .turn .ensures .1,
+    ))
+    (λ c. c .before .before .before .before .before .before .before .before .before .before .turn .kept .0
+    ∙ c .before .before .before .before .before .before .before .before .before .before .before .before .before .before .before .before
+    .before .before .before .before .loop .inv .words-size)
+    (λ c. c .before .before .before .before .before .before .before .before .before .before .turn .kept .1 .0
+    ∙ c .before .before .before .before .before .before .before .before .before .before .before .before .before .before .before .before
+    .before .before .before .before .loop .inv .counts-size)
+    (λ c. (simp length-set at (c .before .before .before .before .before .before .before .before .before .before .turn .kept .1 .1 .0))
+    ∙ c .before .before .before .before .before .before .before .before .before .before .before .before .before .before .before .before
+    .before .before .before .before .loop .inv .stack-size)
+    (λ c. (
+      body-same
+          (c .before .before .before .before .before .before .before .before .before .before .before .before .before .before .before .before
+          .before .before .before .before .before .before .before .before .before .before .before .before .before .pre .1 .0)
+          (c .before .before .before .before .before .before .before .before .before .before .before .before .before .before .before .before
+          .before .before .before .before .loop .inv)
+          (c .before .before .before .before .before .before .before .before .before .before .before .before .before .before .opened
+          .ensures)
+          (c .before .before .before .before .before .before .before .before .before .before .before .before .before .before .before .before
+          .variable-of .ensures)
+          (c .before .before .before .before .before .before .before .before .before .before .before .before .before .before .before
+          .another-round .ensures) (c .before .before .before .before .before .before .before .before .before .before .turn .ensures .0)
+          (c .before .before .before .before .before .before .before .before .before .before .before .before .before .before .before .before
+          .before .if1 .taken) (c .before .before .value .given .1) (c .if2 .taken),
+      c .before .before .before .before .before .before .before .before .before .before .turn .ensures .1,
+    ))
+    (λ c. omega (
+      arith,
+      body-less
+          (c .before .before .before .before .before .before .before .before .before .before .before .before .before .before .before .before
+          .before .before .before .before .before .before .before .before .before .before .before .before .before .pre .1 .0)
+          (c .before .before .before .before .before .before .before .before .before .before .before .before .before .before .before .before
+          .before .before .before .before .loop .inv)
+          (c .before .before .before .before .before .before .before .before .before .before .before .before .before .before .opened
+          .ensures)
+          (c .before .before .before .before .before .before .before .before .before .before .before .before .before .before .before .before
+          .variable-of .ensures)
+          (c .before .before .before .before .before .before .before .before .before .before .before .before .before .before .before
+          .another-round .ensures) (c .before .before .before .before .before .before .before .before .before .before .turn .ensures .0)
+          (c .before .before .before .before .before .before .before .before .before .before .before .before .before .before .before .before
+          .before .if1 .taken) (c .before .before .value .given .1),
+      c .before .before .before .before .before .before .before .before .before .before .before .before .before .before .before .before
+          .before .if1 .taken,
+    ))
+    (λ c. loop-turns
+    (c .before .before .before .before .before .before .before .before .before .before .before .before .before .before .before .before
+    .before .before .before .before .before .before .before .before .before .before .before .before .before .pre .1 .0)
+    (c .before .before .before .before .before .before .before .before .before .before .before .before .before .before .before .before
+    .before .before .before .before .loop .inv)
+    (c .before .before .before .before .before .before .before .before .before .before .before .before .before .before .opened .ensures)
+    (c .before .before .before .before .before .before .before .before .before .before .before .before .before .before .before .before
+    .variable-of .ensures)
+    (c .before .before .before .before .before .before .before .before .before .before .before .before .before .before .before
+    .another-round .ensures) (c .before .before .before .before .before .before .before .before .before .before .turn .ensures .0)
+    (c .before .before .before .before .before .before .before .before .before .before .before .before .before .before .before .before
+    .before .if1 .taken) (c .before .before .value .given .1) (c .if2 .left) _ refl
+    (c .before .before .before .before .before .before .before .before .before .before .turn .ensures .1)
+    (c .before .before .before .before .before .before .before .before .before .before .turn .kept .0)
+    (c .before .before .before .before .before .before .before .before .before .before .turn .kept .1 .0)
+    (c .before .before .before .before .before .before .before .before .before .before .turn .kept .1 .1 .0))
     (λ c. c .before .before .before .loop .inv .words-size)
     (λ c. c .before .before .before .loop .inv .counts-size)
     (λ c. c .before .before .before .loop .inv .stack-size)
-    (λ c. (rounds-out (c .before .before .before .before .before .before .before .before .before .before .before .before .pre .1 .0) (c .before .before .before .loop .inv) (c .if1 .left), c .before .before .before .loop .inv .counts-of)))
+    (λ c. (
+      rounds-out (c .before .before .before .before .before .before .before .before .before .before .before .before .pre .1 .0)
+          (c .before .before .before .loop .inv) (c .if1 .left),
+      c .before .before .before .loop .inv .counts-of,
+    )))
     (λ t. both-lts.spec (
       below eval-kinds.ps μ-eval eval.Pre t,
       eval.Post,
@@ -139,21 +247,107 @@ pub +bind+both+eval+keep+modal+negate+round+turn-spec : {M : Type 1} → stateme
     )
     (at both-kinds.ps μ-both both.Pre t)
     both.Post
-    (λ c κs. (omega (arith, c .before .before .before .before .before .before .before .pre .0), (first-asked (c .before .before .before .before .before .before .before .pre .1 .0), c .before .before .before .before .before .before .before .pre .1 .1)))
+    (λ c κs. (
+      omega (arith, c .before .before .before .before .before .before .before .pre .0),
+      (
+        first-asked (c .before .before .before .before .before .before .before .pre .1 .0),
+        c .before .before .before .before .before .before .before .pre .1 .1,
+      ),
+    ))
     (λ c. search needs)
     (λ c. search needs)
     (λ c. search needs)
     (λ c. search needs)
-    (λ c. (first-halts (c .before .before .before .before .before .before .before .before .before .before .before .before .before .before .before .pre .1 .0) (c .before .before .before .before .before .before .before .eval .ensures .0) (c .match .keys2) (c .before .before .before .before .before .before .before .before .before .before .before .before .before .before .before .args .j), c .before .before .before .before .before .before .before .eval .ensures .1))
+    (λ c. (
+      first-halts
+          (c .before .before .before .before .before .before .before .before .before .before .before .before .before .before .before .pre .1
+          .0) (c .before .before .before .before .before .before .before .eval .ensures .0) (c .match .keys2)
+          (c .before .before .before .before .before .before .before .before .before .before .before .before .before .before .before .args
+          .j),
+      c .before .before .before .before .before .before .before .eval .ensures .1,
+    ))
     (λ c. search needs)
-    (λ c. omega (arith, c .before .before .before .before .before .before .before .before .before .before .before .before .before .before .before .before .before .pre .1 .0 .room, c .before .before .before .before .before .before .before .before .before .before .before .before .before .before .before .before .before .pre .1 .0 .ready .size, c .before .before .before .before .before .before .before .before .before .eval .kept .1 .1 .0))
-    (λ c κs. omega (arith, c .before .before .before .before .before .before .before .before .before .before .before .before .before .before .before .before .before .pre .1 .0 .room))
-    (λ c κs. (omega (arith, same-depth (c .before .before .before .onward .ensures), c .before .before .before .before .before .before .before .before .before .before .before .before .before .before .before .before .before .before .before .before .before .pre .0), (second-asked (c .before .before .before .before .before .before .before .before .before .before .before .before .before .before .before .before .before .before .before .before .before .pre .1 .0) (c .before .before .before .before .before .before .before .before .before .before .before .before .before .eval .ensures .0) (c .before .before .before .before .before .before .before .before .before .before .before .before .before .eval .kept .1 .1 .0) (c .before .before .before .before .before .first .given .1) (c .before .before .before .onward .ensures), c .before .before .before .before .before .before .before .before .before .before .before .before .before .eval .ensures .1)))
-    (λ c κs. (joined-asked (c .before .before .before .before .before .before .before .before .before .before .before .before .before .before .before .before .before .before .before .before .before .before .before .before .before .before .before .before .before .before .before .pre .1 .0) (c .before .before .before .before .before .before .before .before .before .before .before .before .before .before .before .before .before .before .before .before .before .before .before .eval .ensures .0) (c .before .before .before .before .before .before .before .before .before .before .before .before .before .before .before .before .before .before .before .before .before .before .before .eval .kept .1 .1 .0) (c .before .before .before .before .before .before .before .before .before .before .before .before .before .before .before .first .given .1) (c .before .before .before .before .before .before .before .before .before .before .before .before .before .onward .ensures) (c .before .before .before .before .before .before .before .before .before .eval2 .ensures .0) (c .before .before .before .before .before .before .before .before .before .eval2 .kept .1 .1 .0) (c .before .before .before .before .before .before .before .before .before .before .before .before .before .before .before .before .before .before .before .before .before .before .before .before .before .before .before .before .before .before .before .args .j), c .before .before .before .before .before .before .before .before .before .eval2 .ensures .1))
-    (λ c. c .before .before .before .before .joined .kept .0 ∙ c .before .before .before .before .before .before .before .before .before .before .before .before .before .before .eval2 .kept .0 ∙ c .before .before .before .before .before .before .before .before .before .before .before .before .before .before .before .before .before .before .before .before .before .before .before .before .before .before .before .before .eval .kept .0)
-    (λ c. c .before .before .before .before .joined .kept .1 .0 ∙ c .before .before .before .before .before .before .before .before .before .before .before .before .before .before .eval2 .kept .1 .0 ∙ c .before .before .before .before .before .before .before .before .before .before .before .before .before .before .before .before .before .before .before .before .before .before .before .before .before .before .before .before .eval .kept .1 .0)
-    (λ c. (simp length-set at (c .before .before .before .before .before .before .before .before .before .before .before .before .before .before .eval2 .kept .1 .1 .0)) ∙ c .before .before .before .before .before .before .before .before .before .before .before .before .before .before .before .before .before .before .before .before .before .before .before .before .before .before .before .before .eval .kept .1 .1 .0)
-    (λ c. (joined-answered (c .before .before .before .before .before .before .before .before .before .before .before .before .before .before .before .before .before .before .before .before .before .before .before .before .before .before .before .before .before .before .before .before .before .before .before .before .pre .1 .0) (c .before .before .before .before .before .before .before .before .before .before .before .before .before .before .before .before .before .before .before .before .before .before .before .before .before .before .before .before .eval .ensures .0) (c .before .before .before .before .before .before .before .before .before .before .before .before .before .before .before .before .before .before .before .before .before .before .before .before .before .before .before .before .eval .kept .1 .1 .0) (c .before .before .before .before .before .before .before .before .before .before .before .before .before .before .before .before .before .before .before .before .first .given .1) (c .before .before .before .before .before .before .before .before .before .before .before .before .before .before .before .before .before .before .onward .ensures) (c .before .before .before .before .before .before .before .before .before .before .before .before .before .before .eval2 .ensures .0) (c .before .before .before .before .before .before .before .before .before .before .before .before .before .before .eval2 .kept .1 .1 .0) (c .before .before .before .before .joined .ensures .0), c .before .before .before .before .joined .ensures .1)))
+    (λ c. omega (
+      arith,
+      c .before .before .before .before .before .before .before .before .before .before .before .before .before .before .before .before
+          .before .pre .1 .0 .room,
+      c .before .before .before .before .before .before .before .before .before .before .before .before .before .before .before .before
+          .before .pre .1 .0 .ready .size,
+      c .before .before .before .before .before .before .before .before .before .eval .kept .1 .1 .0,
+    ))
+    (λ c κs. omega (
+      arith,
+      c .before .before .before .before .before .before .before .before .before .before .before .before .before .before .before .before
+          .before .pre .1 .0 .room,
+    ))
+    (λ c κs. (
+      omega (
+        arith,
+        same-depth (c .before .before .before .onward .ensures),
+        c .before .before .before .before .before .before .before .before .before .before .before .before .before .before .before .before
+            .before .before .before .before .before .pre .0,
+      ),
+      (
+        second-asked
+            (c .before .before .before .before .before .before .before .before .before .before .before .before .before .before .before
+            .before
+            .before .before .before .before .before .pre .1 .0)
+            (c .before .before .before .before .before .before .before .before .before .before .before .before .before .eval .ensures .0)
+            (c .before .before .before .before .before .before .before .before .before .before .before .before .before .eval .kept .1 .1 .0)
+            (c .before .before .before .before .before .first .given .1) (c .before .before .before .onward .ensures),
+        c .before .before .before .before .before .before .before .before .before .before .before .before .before .eval .ensures .1,
+      ),
+    ))
+    (λ c κs. (
+      joined-asked
+          (c .before .before .before .before .before .before .before .before .before .before .before .before .before .before .before .before
+          .before .before .before .before .before .before .before .before .before .before .before .before .before .before .before .pre .1
+          .0)
+          (c .before .before .before .before .before .before .before .before .before .before .before .before .before .before .before .before
+          .before .before .before .before .before .before .before .eval .ensures .0)
+          (c .before .before .before .before .before .before .before .before .before .before .before .before .before .before .before .before
+          .before .before .before .before .before .before .before .eval .kept .1 .1 .0)
+          (c .before .before .before .before .before .before .before .before .before .before .before .before .before .before .before .first
+          .given .1)
+          (c .before .before .before .before .before .before .before .before .before .before .before .before .before .onward .ensures)
+          (c .before .before .before .before .before .before .before .before .before .eval2 .ensures .0)
+          (c .before .before .before .before .before .before .before .before .before .eval2 .kept .1 .1 .0)
+          (c .before .before .before .before .before .before .before .before .before .before .before .before .before .before .before .before
+          .before .before .before .before .before .before .before .before .before .before .before .before .before .before .before .args .j),
+      c .before .before .before .before .before .before .before .before .before .eval2 .ensures .1,
+    ))
+    (λ c. c .before .before .before .before .joined .kept .0
+    ∙ c .before .before .before .before .before .before .before .before .before .before .before .before .before .before .eval2 .kept .0
+    ∙ c .before .before .before .before .before .before .before .before .before .before .before .before .before .before .before .before
+    .before .before .before .before .before .before .before .before .before .before .before .before .eval .kept .0)
+    (λ c. c .before .before .before .before .joined .kept .1 .0
+    ∙ c .before .before .before .before .before .before .before .before .before .before .before .before .before .before .eval2 .kept .1
+    .0 ∙ c .before .before .before .before .before .before .before .before .before .before .before .before .before .before .before
+    .before .before .before .before .before .before .before .before .before .before .before .before .before .eval .kept .1 .0)
+    (λ c. (simp length-set at
+    (c .before .before .before .before .before .before .before .before .before .before .before .before .before .before .eval2 .kept .1
+    .1 .0))
+    ∙ c .before .before .before .before .before .before .before .before .before .before .before .before .before .before .before .before
+    .before .before .before .before .before .before .before .before .before .before .before .before .eval .kept .1 .1 .0)
+    (λ c. (
+      joined-answered
+          (c .before .before .before .before .before .before .before .before .before .before .before .before .before .before .before .before
+          .before .before .before .before .before .before .before .before .before .before .before .before .before .before .before .before
+          .before .before .before .before .pre .1 .0)
+          (c .before .before .before .before .before .before .before .before .before .before .before .before .before .before .before .before
+          .before .before .before .before .before .before .before .before .before .before .before .before .eval .ensures .0)
+          (c .before .before .before .before .before .before .before .before .before .before .before .before .before .before .before .before
+          .before .before .before .before .before .before .before .before .before .before .before .before .eval .kept .1 .1 .0)
+          (c .before .before .before .before .before .before .before .before .before .before .before .before .before .before .before .before
+          .before .before .before .before .first .given .1)
+          (c .before .before .before .before .before .before .before .before .before .before .before .before .before .before .before .before
+          .before .before .onward .ensures)
+          (c .before .before .before .before .before .before .before .before .before .before .before .before .before .before .eval2 .ensures
+          .0) (c .before .before .before .before .before .before .before .before .before .before .before .before .before .before .eval2
+          .kept
+          .1 .1 .0) (c .before .before .before .before .joined .ensures .0),
+      c .before .before .before .before .joined .ensures .1,
+    )))
     (λ t. eval-lts.spec (
       lead-at-reads.Asked,
       lead-at-reads.Learnt,
@@ -177,43 +371,210 @@ pub +bind+both+eval+keep+modal+negate+round+turn-spec : {M : Type 1} → stateme
     (λ c κs. search needs)
     (λ c. search needs)
     (λ c. search needs)
-    (λ c. absurd (read-token (c .before .before .before .before .before .before .before .pre .1 .0 .part .stands) (c .before .before .lead-at .ensures) (c .enum-told .given .1)))
-    (λ c. omega (arith, read-inside (c .before .before .before .before .before .before .before .before .before .pre .1 .0 .part .stands) (c .before .before .before .before .lead-at .ensures) (c .before .before .t .given .1), c .before .before .before .before .before .before .before .before .before .good))
-    (λ c. omega (arith, read-depth (c .before .before .before .before .before .before .before .before .before .before .pre .1 .0 .part .stands)))
+    (λ c. absurd
+    (read-token (c .before .before .before .before .before .before .before .pre .1 .0 .part .stands)
+    (c .before .before .lead-at .ensures) (c .enum-told .given .1)))
+    (λ c. omega (
+      arith,
+      read-inside (c .before .before .before .before .before .before .before .before .before .pre .1 .0 .part .stands)
+          (c .before .before .before .before .lead-at .ensures) (c .before .before .t .given .1),
+      c .before .before .before .before .before .before .before .before .before .good,
+    ))
+    (λ c. omega
+    (arith, read-depth (c .before .before .before .before .before .before .before .before .before .before .pre .1 .0 .part .stands)))
     (λ c. search needs)
-    (λ c κs. (leaf-asked (c .before .before .before .before .before .before .before .before .before .before .before .before .before .before .before .before .pre .1 .0) (c .before .before .before .before .before .before .before .before .before .before .before .lead-at .ensures) (c .before .before .before .before .before .before .before .before .before .t .given .1) (c .before .before .before .before .t2 .given .1), c .before .before .before .before .before .before .before .before .before .before .before .before .before .before .before .before .pre .1 .1))
+    (λ c κs. (
+      leaf-asked
+          (c .before .before .before .before .before .before .before .before .before .before .before .before .before .before .before .before
+          .pre .1 .0) (c .before .before .before .before .before .before .before .before .before .before .before .lead-at .ensures)
+          (c .before .before .before .before .before .before .before .before .before .t .given .1)
+          (c .before .before .before .before .t2 .given .1),
+      c .before .before .before .before .before .before .before .before .before .before .before .before .before .before .before .before
+          .pre .1 .1,
+    ))
     (λ c κs. search needs)
     (λ c. search needs)
     (λ c. search needs)
     (λ c. search needs)
-    (λ c. (leaf-answered (c .before .before .before .before .before .before .before .before .before .before .before .before .before .before .before .before .before .before .before .before .before .before .pre .1 .0) (c .before .before .before .before .before .before .before .before .before .before .before .before .before .before .before .before .before .lead-at .ensures) (c .before .before .before .before .before .before .before .before .before .before .before .before .before .before .before .t .given .1) (c .before .before .before .before .before .before .before .before .before .before .t2 .given .1) (c .before .before .before .before .before .leaf .ensures .0) (c .answer .ensures), c .before .before .before .before .before .leaf .ensures .1))
+    (λ c. (
+      leaf-answered
+          (c .before .before .before .before .before .before .before .before .before .before .before .before .before .before .before .before
+          .before .before .before .before .before .before .pre .1 .0)
+          (c .before .before .before .before .before .before .before .before .before .before .before .before .before .before .before .before
+          .before .lead-at .ensures)
+          (c .before .before .before .before .before .before .before .before .before .before .before .before .before .before .before .t
+          .given
+          .1) (c .before .before .before .before .before .before .before .before .before .before .t2 .given .1)
+          (c .before .before .before .before .before .leaf .ensures .0) (c .answer .ensures),
+      c .before .before .before .before .before .leaf .ensures .1,
+    ))
     (λ c. search needs)
-    (λ c κs. (let d = read-depth (c .before .before .before .before .before .before .before .before .before .before .before .before .before .before .before .pre .1 .0 .part .stands) in omega (arith, c .before .before .before .before .before .before .before .before .before .before .before .before .before .before .before .pre .0), (not-asked (c .before .before .before .before .before .before .before .before .before .before .before .before .before .before .before .pre .1 .0) (c .before .before .before .before .before .before .before .before .before .before .lead-at .ensures) (c .before .before .before .before .before .before .before .before .t .given .1) (c .before .before .before .enum-told2 .given .1), c .before .before .before .before .before .before .before .before .before .before .before .before .before .before .before .pre .1 .1)))
+    (λ c κs. (
+      let d =
+          read-depth
+          (c .before .before .before .before .before .before .before .before .before .before .before .before .before .before .before .pre .1
+          .0 .part .stands) in
+          omega (
+            arith,
+            c .before .before .before .before .before .before .before .before .before .before .before .before .before .before .before .pre
+                .0,
+          ),
+      (
+        not-asked
+            (c .before .before .before .before .before .before .before .before .before .before .before .before .before .before .before .pre
+            .1
+            .0) (c .before .before .before .before .before .before .before .before .before .before .lead-at .ensures)
+            (c .before .before .before .before .before .before .before .before .t .given .1)
+            (c .before .before .before .enum-told2 .given .1),
+        c .before .before .before .before .before .before .before .before .before .before .before .before .before .before .before .pre .1
+            .1,
+      ),
+    ))
     (λ c. search needs)
     (λ c. search needs)
     (λ c. search needs)
-    (λ c. (not-answered (c .before .before .before .before .before .before .before .before .before .before .before .before .before .before .before .before .before .before .before .before .before .before .pre .1 .0) (c .before .before .before .before .before .before .before .before .before .before .before .before .before .before .before .before .before .lead-at .ensures) (c .before .before .before .before .before .before .before .before .before .before .before .before .before .before .before .t .given .1) (c .before .before .before .before .before .before .before .before .before .before .enum-told2 .given .1) (c .before .before .before .before .before .before .negate .ensures .0), c .before .before .before .before .before .before .negate .ensures .1))
+    (λ c. (
+      not-answered
+          (c .before .before .before .before .before .before .before .before .before .before .before .before .before .before .before .before
+          .before .before .before .before .before .before .pre .1 .0)
+          (c .before .before .before .before .before .before .before .before .before .before .before .before .before .before .before .before
+          .before .lead-at .ensures)
+          (c .before .before .before .before .before .before .before .before .before .before .before .before .before .before .before .t
+          .given
+          .1) (c .before .before .before .before .before .before .before .before .before .before .enum-told2 .given .1)
+          (c .before .before .before .before .before .before .negate .ensures .0),
+      c .before .before .before .before .before .before .negate .ensures .1,
+    ))
     (λ c. search needs)
     (λ c. search needs)
-    (λ c κs. (let d = read-depth (c .before .before .before .before .before .before .before .before .before .before .before .before .before .before .before .before .before .before .before .pre .1 .0 .part .stands) in omega (arith, c .before .before .before .before .before .before .before .before .before .before .before .before .before .before .before .before .before .before .before .pre .0), (both-asked (c .before .before .before .before .before .before .before .before .before .before .before .before .before .before .before .before .before .before .before .pre .1 .0) (c .before .before .before .before .before .before .before .before .before .before .before .before .before .before .lead-at .ensures) (c .before .before .before .before .before .before .before .before .before .before .before .before .t .given .1) (c .before .before .before .before .before .before .before .t3 .given .1 ∙ ap Both (c .before .before .before .before .w .given .1)), c .before .before .before .before .before .before .before .before .before .before .before .before .before .before .before .before .before .before .before .pre .1 .1)))
+    (λ c κs. (
+      let d =
+          read-depth
+          (c .before .before .before .before .before .before .before .before .before .before .before .before .before .before .before .before
+          .before .before .before .pre .1 .0 .part .stands) in
+          omega (
+            arith,
+            c .before .before .before .before .before .before .before .before .before .before .before .before .before .before .before
+                .before
+                .before .before .before .pre .0,
+          ),
+      (
+        both-asked
+            (c .before .before .before .before .before .before .before .before .before .before .before .before .before .before .before
+            .before
+            .before .before .before .pre .1 .0)
+            (c .before .before .before .before .before .before .before .before .before .before .before .before .before .before .lead-at
+            .ensures) (c .before .before .before .before .before .before .before .before .before .before .before .before .t .given .1)
+            (c .before .before .before .before .before .before .before .t3 .given .1
+            ∙ ap Both (c .before .before .before .before .w .given .1)),
+        c .before .before .before .before .before .before .before .before .before .before .before .before .before .before .before .before
+            .before .before .before .pre .1 .1,
+      ),
+    ))
     (λ c. search needs)
     (λ c. search needs)
     (λ c. search needs)
-    (λ c. (both-answered (c .before .before .before .before .before .before .before .before .before .before .before .before .before .before .before .before .before .before .before .before .before .before .before .before .before .before .pre .1 .0) (c .before .before .before .before .before .before .before .before .before .before .before .before .before .before .before .before .before .before .before .before .before .lead-at .ensures) (c .before .before .before .before .before .before .before .before .before .before .before .before .before .before .before .before .before .before .before .t .given .1) (c .before .before .before .before .before .before .before .before .before .before .before .before .before .before .t3 .given .1 ∙ ap Both (c .before .before .before .before .before .before .before .before .before .before .before .w .given .1)) (c .before .before .before .before .before .before .both .ensures .0), c .before .before .before .before .before .before .both .ensures .1))
+    (λ c. (
+      both-answered
+          (c .before .before .before .before .before .before .before .before .before .before .before .before .before .before .before .before
+          .before .before .before .before .before .before .before .before .before .before .pre .1 .0)
+          (c .before .before .before .before .before .before .before .before .before .before .before .before .before .before .before .before
+          .before .before .before .before .before .lead-at .ensures)
+          (c .before .before .before .before .before .before .before .before .before .before .before .before .before .before .before .before
+          .before .before .before .t .given .1)
+          (c .before .before .before .before .before .before .before .before .before .before .before .before .before .before .t3 .given .1
+          ∙ ap Both (c .before .before .before .before .before .before .before .before .before .before .before .w .given .1))
+          (c .before .before .before .before .before .before .both .ensures .0),
+      c .before .before .before .before .before .before .both .ensures .1,
+    ))
     (λ c. search needs)
     (λ c κs. search needs)
     (λ c. search needs)
-    (λ c κs. (let d = read-depth (c .before .before .before .before .before .before .before .before .before .before .before .before .before .before .before .before .pre .1 .0 .part .stands) in omega (arith, c .before .before .before .before .before .before .before .before .before .before .before .before .before .before .before .before .pre .0), (mode-asked (c .before .before .before .before .before .before .before .before .before .before .before .before .before .before .before .before .pre .1 .0) (c .before .before .before .before .before .before .before .before .before .before .before .lead-at .ensures) (c .before .before .before .before .before .before .before .before .before .t .given .1) (c .before .before .before .before .t4 .given .1), c .before .before .before .before .before .before .before .before .before .before .before .before .before .before .before .before .pre .1 .1)))
+    (λ c κs. (
+      let d =
+          read-depth
+          (c .before .before .before .before .before .before .before .before .before .before .before .before .before .before .before .before
+          .pre .1 .0 .part .stands) in
+          omega (
+            arith,
+            c .before .before .before .before .before .before .before .before .before .before .before .before .before .before .before
+                .before
+                .pre .0,
+          ),
+      (
+        mode-asked
+            (c .before .before .before .before .before .before .before .before .before .before .before .before .before .before .before
+            .before
+            .pre .1 .0) (c .before .before .before .before .before .before .before .before .before .before .before .lead-at .ensures)
+            (c .before .before .before .before .before .before .before .before .before .t .given .1)
+            (c .before .before .before .before .t4 .given .1),
+        c .before .before .before .before .before .before .before .before .before .before .before .before .before .before .before .before
+            .pre .1 .1,
+      ),
+    ))
     (λ c. search needs)
     (λ c. search needs)
     (λ c. search needs)
-    (λ c. (mode-answered (c .before .before .before .before .before .before .before .before .before .before .before .before .before .before .before .before .before .before .before .before .before .before .before .pre .1 .0) (c .before .before .before .before .before .before .before .before .before .before .before .before .before .before .before .before .before .before .lead-at .ensures) (c .before .before .before .before .before .before .before .before .before .before .before .before .before .before .before .before .t .given .1) (c .before .before .before .before .before .before .before .before .before .before .before .t4 .given .1) (c .before .before .before .before .before .before .modal .ensures .0), c .before .before .before .before .before .before .modal .ensures .1))
+    (λ c. (
+      mode-answered
+          (c .before .before .before .before .before .before .before .before .before .before .before .before .before .before .before .before
+          .before .before .before .before .before .before .before .pre .1 .0)
+          (c .before .before .before .before .before .before .before .before .before .before .before .before .before .before .before .before
+          .before .before .lead-at .ensures)
+          (c .before .before .before .before .before .before .before .before .before .before .before .before .before .before .before .before
+          .t .given .1) (c .before .before .before .before .before .before .before .before .before .before .before .t4 .given .1)
+          (c .before .before .before .before .before .before .modal .ensures .0),
+      c .before .before .before .before .before .before .modal .ensures .1,
+    ))
     (λ c. search needs)
-    (λ c κs. (let d = read-depth (c .before .before .before .before .before .before .before .before .before .before .before .before .before .before .pre .1 .0 .part .stands) in omega (arith, c .before .before .before .before .before .before .before .before .before .before .before .before .before .before .pre .0), (⊎-elim (λ w. until-asked (c .before .before .before .before .before .before .before .before .before .before .before .before .before .before .pre .1 .0) (c .before .before .before .before .before .before .before .before .before .lead-at .ensures) (c .before .before .before .before .before .before .before .t .given .1) (w .1 .given .1 ∙ ap Both (w .4 .given .1)) (w .7) (w .6 .ensures)) (λ w. bind-asked (c .before .before .before .before .before .before .before .before .before .before .before .before .before .before .pre .1 .0) (c .before .before .before .before .before .before .before .before .before .lead-at .ensures) (c .before .before .before .before .before .before .before .t .given .1) (w .1 .given .1) (w .3)) (c .before .before .before .match2 .came), c .before .before .before .before .before .before .before .before .before .before .before .before .before .before .pre .1 .1)))
+    (λ c κs. (
+      let d =
+          read-depth
+          (c .before .before .before .before .before .before .before .before .before .before .before .before .before .before .pre .1 .0
+          .part
+          .stands) in
+          omega (
+            arith,
+            c .before .before .before .before .before .before .before .before .before .before .before .before .before .before .pre .0,
+          ),
+      (
+        ⊎-elim
+            (λ w. until-asked
+            (c .before .before .before .before .before .before .before .before .before .before .before .before .before .before .pre .1 .0)
+            (c .before .before .before .before .before .before .before .before .before .lead-at .ensures)
+            (c .before .before .before .before .before .before .before .t .given .1) (w .1 .given .1 ∙ ap Both (w .4 .given .1)) (w .7)
+            (w .6 .ensures))
+            (λ w. bind-asked
+            (c .before .before .before .before .before .before .before .before .before .before .before .before .before .before .pre .1 .0)
+            (c .before .before .before .before .before .before .before .before .before .lead-at .ensures)
+            (c .before .before .before .before .before .before .before .t .given .1) (w .1 .given .1) (w .3))
+            (c .before .before .before .match2 .came),
+        c .before .before .before .before .before .before .before .before .before .before .before .before .before .before .pre .1 .1,
+      ),
+    ))
     (λ c. search needs)
     (λ c. search needs)
     (λ c. search needs)
-    (λ c. (⊎-elim (λ w. until-answered (c .before .before .before .before .before .before .before .before .before .before .before .before .before .before .before .before .before .before .before .before .before .pre .1 .0) (c .before .before .before .before .before .before .before .before .before .before .before .before .before .before .before .before .lead-at .ensures) (c .before .before .before .before .before .before .before .before .before .before .before .before .before .before .t .given .1) (w .1 .given .1 ∙ ap Both (w .4 .given .1)) (w .7) (w .6 .ensures) (c .before .before .before .before .before .before .bind .ensures .0)) (λ w. bind-answered (c .before .before .before .before .before .before .before .before .before .before .before .before .before .before .before .before .before .before .before .before .before .pre .1 .0) (c .before .before .before .before .before .before .before .before .before .before .before .before .before .before .before .before .lead-at .ensures) (c .before .before .before .before .before .before .before .before .before .before .before .before .before .before .t .given .1) (w .1 .given .1) (w .3) (c .before .before .before .before .before .before .bind .ensures .0)) (c .before .before .before .before .before .before .before .before .before .before .match2 .came), c .before .before .before .before .before .before .bind .ensures .1)))
+    (λ c. (
+      ⊎-elim
+          (λ w. until-answered
+          (c .before .before .before .before .before .before .before .before .before .before .before .before .before .before .before .before
+          .before .before .before .before .before .pre .1 .0)
+          (c .before .before .before .before .before .before .before .before .before .before .before .before .before .before .before .before
+          .lead-at .ensures)
+          (c .before .before .before .before .before .before .before .before .before .before .before .before .before .before .t .given .1)
+          (w .1 .given .1 ∙ ap Both (w .4 .given .1)) (w .7) (w .6 .ensures)
+          (c .before .before .before .before .before .before .bind .ensures .0))
+          (λ w. bind-answered
+          (c .before .before .before .before .before .before .before .before .before .before .before .before .before .before .before .before
+          .before .before .before .before .before .pre .1 .0)
+          (c .before .before .before .before .before .before .before .before .before .before .before .before .before .before .before .before
+          .lead-at .ensures)
+          (c .before .before .before .before .before .before .before .before .before .before .before .before .before .before .t .given .1)
+          (w .1 .given .1) (w .3) (c .before .before .before .before .before .before .bind .ensures .0))
+          (c .before .before .before .before .before .before .before .before .before .before .match2 .came),
+      c .before .before .before .before .before .before .bind .ensures .1,
+    )))
     (λ t. keep-lts.spec (
       below eval-kinds.ps μ-eval eval.Pre t,
       eval.Post,
@@ -226,21 +587,100 @@ pub +bind+both+eval+keep+modal+negate+round+turn-spec : {M : Type 1} → stateme
     )
     (at keep-kinds.ps μ-keep keep.Pre t)
     keep.Post
-    (λ c κs. (omega (arith, c .before .before .before .before .before .before .before .pre .0), (kept-asked (c .before .before .before .before .before .before .before .pre .1 .0), c .before .before .before .before .before .before .before .pre .1 .1)))
+    (λ c κs. (
+      omega (arith, c .before .before .before .before .before .before .before .pre .0),
+      (
+        kept-asked (c .before .before .before .before .before .before .before .pre .1 .0),
+        c .before .before .before .before .before .before .before .pre .1 .1,
+      ),
+    ))
     (λ c. search needs)
     (λ c. search needs)
     (λ c. search needs)
     (λ c. search needs)
-    (λ c. (keep-halts (c .before .before .before .before .before .before .before .before .before .before .before .before .before .before .before .pre .1 .0) (c .before .before .before .before .before .before .before .eval .ensures .0) (c .match .keys2) (c .before .before .before .before .before .before .before .before .before .before .before .before .before .before .before .args .m) (c .before .before .before .before .before .before .before .before .before .before .before .before .before .before .before .args .end), c .before .before .before .before .before .before .before .eval .ensures .1))
+    (λ c. (
+      keep-halts
+          (c .before .before .before .before .before .before .before .before .before .before .before .before .before .before .before .pre .1
+          .0) (c .before .before .before .before .before .before .before .eval .ensures .0) (c .match .keys2)
+          (c .before .before .before .before .before .before .before .before .before .before .before .before .before .before .before .args
+          .m)
+          (c .before .before .before .before .before .before .before .before .before .before .before .before .before .before .before .args
+          .end),
+      c .before .before .before .before .before .before .before .eval .ensures .1,
+    ))
     (λ c. search needs)
-    (λ c. omega (arith, keep-room (c .before .before .before .before .before .before .before .before .before .before .before .before .before .before .before .before .before .pre .1 .0) (c .before .before .before .before .before .before .before .before .before .eval .ensures .0), c .before .before .before .before .before .before .before .before .before .before .before .before .before .before .before .before .before .pre .1 .0 .ready .size, c .before .before .before .before .before .before .before .before .before .eval .kept .1 .1 .0))
-    (λ c κs. omega (arith, keep-room (c .before .before .before .before .before .before .before .before .before .before .before .before .before .before .before .before .before .pre .1 .0) (c .before .before .before .before .before .before .before .before .before .eval .ensures .0)))
-    (λ c κs. (further-asked (c .before .before .before .before .before .before .before .before .before .before .before .before .before .before .before .before .before .before .before .before .before .pre .1 .0) (c .before .before .before .before .before .before .before .before .before .before .before .before .before .eval .ensures .0) (c .before .before .before .before .before .before .before .before .before .before .before .before .before .eval .kept .1 .1 .0) (c .before .before .before .before .before .first .given .1) (c .before .before .before .onward .ensures), c .before .before .before .before .before .before .before .before .before .before .before .before .before .eval .ensures .1))
-    (λ c κs. (keep-asked (c .before .before .before .before .before .before .before .before .before .before .before .before .before .before .before .before .before .before .before .before .before .before .before .before .before .before .before .before .before .before .before .pre .1 .0) (c .before .before .before .before .before .before .before .before .before .before .before .before .before .before .before .before .before .before .before .before .before .before .before .eval .ensures .0) (c .before .before .before .before .before .before .before .before .before .before .before .before .before .before .before .before .before .before .before .before .before .before .before .eval .kept .1 .1 .0) (c .before .before .before .before .before .before .before .before .before .before .before .before .before .before .before .first .given .1) (c .before .before .before .before .before .before .before .before .before .before .before .before .before .onward .ensures) (c .before .before .before .before .before .before .before .before .before .further .ensures .0) (c .before .before .before .before .before .before .before .before .before .further .kept .1 .1 .0), c .before .before .before .before .before .before .before .before .before .further .ensures .1))
-    (λ c. c .before .before .before .before .joined .kept .0 ∙ c .before .before .before .before .before .before .before .before .before .before .before .before .before .before .further .kept .0 ∙ c .before .before .before .before .before .before .before .before .before .before .before .before .before .before .before .before .before .before .before .before .before .before .before .before .before .before .before .before .eval .kept .0)
-    (λ c. c .before .before .before .before .joined .kept .1 .0 ∙ c .before .before .before .before .before .before .before .before .before .before .before .before .before .before .further .kept .1 .0 ∙ c .before .before .before .before .before .before .before .before .before .before .before .before .before .before .before .before .before .before .before .before .before .before .before .before .before .before .before .before .eval .kept .1 .0)
-    (λ c. (simp length-set at (c .before .before .before .before .before .before .before .before .before .before .before .before .before .before .further .kept .1 .1 .0)) ∙ c .before .before .before .before .before .before .before .before .before .before .before .before .before .before .before .before .before .before .before .before .before .before .before .before .before .before .before .before .eval .kept .1 .1 .0)
-    (λ c. (keep-answered (c .before .before .before .before .before .before .before .before .before .before .before .before .before .before .before .before .before .before .before .before .before .before .before .before .before .before .before .before .before .before .before .before .before .before .before .before .pre .1 .0) (c .before .before .before .before .before .before .before .before .before .before .before .before .before .before .before .before .before .before .before .before .before .before .before .before .before .before .before .before .eval .ensures .0) (c .before .before .before .before .before .before .before .before .before .before .before .before .before .before .before .before .before .before .before .before .before .before .before .before .before .before .before .before .eval .kept .1 .1 .0) (c .before .before .before .before .before .before .before .before .before .before .before .before .before .before .before .before .before .before .before .before .first .given .1) (c .before .before .before .before .before .before .before .before .before .before .before .before .before .before .before .before .before .before .onward .ensures) (c .before .before .before .before .before .before .before .before .before .before .before .before .before .before .further .ensures .0) (c .before .before .before .before .before .before .before .before .before .before .before .before .before .before .further .kept .1 .1 .0) (c .before .before .before .before .joined .ensures .0), c .before .before .before .before .joined .ensures .1)))
+    (λ c. omega (
+      arith,
+      keep-room
+          (c .before .before .before .before .before .before .before .before .before .before .before .before .before .before .before .before
+          .before .pre .1 .0) (c .before .before .before .before .before .before .before .before .before .eval .ensures .0),
+      c .before .before .before .before .before .before .before .before .before .before .before .before .before .before .before .before
+          .before .pre .1 .0 .ready .size,
+      c .before .before .before .before .before .before .before .before .before .eval .kept .1 .1 .0,
+    ))
+    (λ c κs. omega (
+      arith,
+      keep-room
+          (c .before .before .before .before .before .before .before .before .before .before .before .before .before .before .before .before
+          .before .pre .1 .0) (c .before .before .before .before .before .before .before .before .before .eval .ensures .0),
+    ))
+    (λ c κs. (
+      further-asked
+          (c .before .before .before .before .before .before .before .before .before .before .before .before .before .before .before .before
+          .before .before .before .before .before .pre .1 .0)
+          (c .before .before .before .before .before .before .before .before .before .before .before .before .before .eval .ensures .0)
+          (c .before .before .before .before .before .before .before .before .before .before .before .before .before .eval .kept .1 .1 .0)
+          (c .before .before .before .before .before .first .given .1) (c .before .before .before .onward .ensures),
+      c .before .before .before .before .before .before .before .before .before .before .before .before .before .eval .ensures .1,
+    ))
+    (λ c κs. (
+      keep-asked
+          (c .before .before .before .before .before .before .before .before .before .before .before .before .before .before .before .before
+          .before .before .before .before .before .before .before .before .before .before .before .before .before .before .before .pre .1
+          .0)
+          (c .before .before .before .before .before .before .before .before .before .before .before .before .before .before .before .before
+          .before .before .before .before .before .before .before .eval .ensures .0)
+          (c .before .before .before .before .before .before .before .before .before .before .before .before .before .before .before .before
+          .before .before .before .before .before .before .before .eval .kept .1 .1 .0)
+          (c .before .before .before .before .before .before .before .before .before .before .before .before .before .before .before .first
+          .given .1)
+          (c .before .before .before .before .before .before .before .before .before .before .before .before .before .onward .ensures)
+          (c .before .before .before .before .before .before .before .before .before .further .ensures .0)
+          (c .before .before .before .before .before .before .before .before .before .further .kept .1 .1 .0),
+      c .before .before .before .before .before .before .before .before .before .further .ensures .1,
+    ))
+    (λ c. c .before .before .before .before .joined .kept .0
+    ∙ c .before .before .before .before .before .before .before .before .before .before .before .before .before .before .further .kept
+    .0 ∙ c .before .before .before .before .before .before .before .before .before .before .before .before .before .before .before
+    .before .before .before .before .before .before .before .before .before .before .before .before .before .eval .kept .0)
+    (λ c. c .before .before .before .before .joined .kept .1 .0
+    ∙ c .before .before .before .before .before .before .before .before .before .before .before .before .before .before .further .kept
+    .1 .0 ∙ c .before .before .before .before .before .before .before .before .before .before .before .before .before .before .before
+    .before .before .before .before .before .before .before .before .before .before .before .before .before .eval .kept .1 .0)
+    (λ c. (simp length-set at
+    (c .before .before .before .before .before .before .before .before .before .before .before .before .before .before .further .kept .1
+    .1 .0))
+    ∙ c .before .before .before .before .before .before .before .before .before .before .before .before .before .before .before .before
+    .before .before .before .before .before .before .before .before .before .before .before .before .eval .kept .1 .1 .0)
+    (λ c. (
+      keep-answered
+          (c .before .before .before .before .before .before .before .before .before .before .before .before .before .before .before .before
+          .before .before .before .before .before .before .before .before .before .before .before .before .before .before .before .before
+          .before .before .before .before .pre .1 .0)
+          (c .before .before .before .before .before .before .before .before .before .before .before .before .before .before .before .before
+          .before .before .before .before .before .before .before .before .before .before .before .before .eval .ensures .0)
+          (c .before .before .before .before .before .before .before .before .before .before .before .before .before .before .before .before
+          .before .before .before .before .before .before .before .before .before .before .before .before .eval .kept .1 .1 .0)
+          (c .before .before .before .before .before .before .before .before .before .before .before .before .before .before .before .before
+          .before .before .before .before .first .given .1)
+          (c .before .before .before .before .before .before .before .before .before .before .before .before .before .before .before .before
+          .before .before .onward .ensures)
+          (c .before .before .before .before .before .before .before .before .before .before .before .before .before .before .further
+          .ensures
+          .0) (c .before .before .before .before .before .before .before .before .before .before .before .before .before .before .further
+          .kept .1 .1 .0) (c .before .before .before .before .joined .ensures .0),
+      c .before .before .before .before .joined .ensures .1,
+    )))
     (λ t. modal-lts.spec (
       below eval-kinds.ps μ-eval eval.Pre t,
       eval.Post,
@@ -253,22 +693,81 @@ pub +bind+both+eval+keep+modal+negate+round+turn-spec : {M : Type 1} → stateme
     )
     (at modal-kinds.ps μ-modal modal.Pre t)
     modal.Post
-    (λ c κs. (omega (arith, c .before .before .before .before .before .before .before .pre .0), (part-asked (c .before .before .before .before .before .before .before .pre .1 .0), c .before .before .before .before .before .before .before .pre .1 .1)))
+    (λ c κs. (
+      omega (arith, c .before .before .before .before .before .before .before .pre .0),
+      (
+        part-asked (c .before .before .before .before .before .before .before .pre .1 .0),
+        c .before .before .before .before .before .before .before .pre .1 .1,
+      ),
+    ))
     (λ c. search needs)
     (λ c. search needs)
     (λ c. search needs)
     (λ c. search needs)
-    (λ c. (mode-halts (c .before .before .before .before .before .before .before .before .before .before .before .before .before .before .before .pre .1 .0) (c .before .before .before .before .before .before .before .eval .ensures .0) (c .match .keys2) (c .before .before .before .before .before .before .before .before .before .before .before .before .before .before .before .args .m), c .before .before .before .before .before .before .before .eval .ensures .1))
+    (λ c. (
+      mode-halts
+          (c .before .before .before .before .before .before .before .before .before .before .before .before .before .before .before .pre .1
+          .0) (c .before .before .before .before .before .before .before .eval .ensures .0) (c .match .keys2)
+          (c .before .before .before .before .before .before .before .before .before .before .before .before .before .before .before .args
+          .m),
+      c .before .before .before .before .before .before .before .eval .ensures .1,
+    ))
     (λ c. search needs)
-    (λ c κs. relation-asked (c .before .before .before .before .before .before .before .before .before .before .before .before .before .before .before .before .before .before .pre .1 .0) (c .before .before .before .before .before .before .before .before .before .before .eval .ensures .0) (c .before .before .before .before .before .before .before .before .before .before .eval .kept .1 .1 .0) (c .before .before .part .given .1))
-    (λ c. live-within (c .before .before .before .before .before .before .before .before .before .before .before .before .before .before .before .before .before .before .before .before .before .pre .1 .0) (c .before .before .before .before .before .before .before .before .before .before .before .before .before .eval .ensures .0) (c .before .before .before .before .before .before .before .before .before .before .before .before .before .eval .kept .1 .1 .0) (c .before .before .before .before .before .part .given .1))
-    (λ c. sym (length-take-le _ _ (live-within (c .before .before .before .before .before .before .before .before .before .before .before .before .before .before .before .before .before .before .before .before .before .before .pre .1 .0) (c .before .before .before .before .before .before .before .before .before .before .before .before .before .before .eval .ensures .0) (c .before .before .before .before .before .before .before .before .before .before .before .before .before .before .eval .kept .1 .1 .0) (c .before .before .before .before .before .before .part .given .1))))
-    (λ c κs. (over-asked (c .before .before .before .before .before .before .before .before .before .before .before .before .before .before .before .before .before .before .before .before .before .before .pre .1 .0) (c .before .before .before .before .before .before .before .before .before .before .before .before .before .before .eval .ensures .0) (c .before .before .before .before .before .before .before .before .before .before .before .before .before .before .eval .kept .1 .1 .0) (c .before .before .before .before .before .before .part .given .1) (c .before .before .before .root-arrow .result) (c .before .before .before .root-arrow .ensures), c .before .before .before .before .before .before .before .before .before .before .before .before .before .before .eval .ensures .1))
+    (λ c κs. relation-asked
+    (c .before .before .before .before .before .before .before .before .before .before .before .before .before .before .before .before
+    .before .before .pre .1 .0) (c .before .before .before .before .before .before .before .before .before .before .eval .ensures .0)
+    (c .before .before .before .before .before .before .before .before .before .before .eval .kept .1 .1 .0)
+    (c .before .before .part .given .1))
+    (λ c. live-within
+    (c .before .before .before .before .before .before .before .before .before .before .before .before .before .before .before .before
+    .before .before .before .before .before .pre .1 .0)
+    (c .before .before .before .before .before .before .before .before .before .before .before .before .before .eval .ensures .0)
+    (c .before .before .before .before .before .before .before .before .before .before .before .before .before .eval .kept .1 .1 .0)
+    (c .before .before .before .before .before .part .given .1))
+    (λ c. sym
+    (length-take-le _ _
+    (live-within
+    (c .before .before .before .before .before .before .before .before .before .before .before .before .before .before .before .before
+    .before .before .before .before .before .before .pre .1 .0)
+    (c .before .before .before .before .before .before .before .before .before .before .before .before .before .before .eval .ensures
+    .0) (c .before .before .before .before .before .before .before .before .before .before .before .before .before .before .eval .kept
+    .1 .1 .0) (c .before .before .before .before .before .before .part .given .1))))
+    (λ c κs. (
+      over-asked
+          (c .before .before .before .before .before .before .before .before .before .before .before .before .before .before .before .before
+          .before .before .before .before .before .before .pre .1 .0)
+          (c .before .before .before .before .before .before .before .before .before .before .before .before .before .before .eval .ensures
+          .0) (c .before .before .before .before .before .before .before .before .before .before .before .before .before .before .eval .kept
+          .1 .1 .0) (c .before .before .before .before .before .before .part .given .1) (c .before .before .before .root-arrow .result)
+          (c .before .before .before .root-arrow .ensures),
+      c .before .before .before .before .before .before .before .before .before .before .before .before .before .before .eval .ensures
+          .1,
+    ))
     (λ c κs. search needs)
-    (λ c. c .before .before .before .before .before .over .kept .0 ∙ c .before .before .before .before .before .before .before .before .before .before .before .before .before .before .before .before .before .before .before .before .eval .kept .0)
-    (λ c. c .before .before .before .before .before .over .kept .1 .0 ∙ c .before .before .before .before .before .before .before .before .before .before .before .before .before .before .before .before .before .before .before .before .eval .kept .1 .0)
+    (λ c. c .before .before .before .before .before .over .kept .0
+    ∙ c .before .before .before .before .before .before .before .before .before .before .before .before .before .before .before .before
+    .before .before .before .before .eval .kept .0)
+    (λ c. c .before .before .before .before .before .over .kept .1 .0
+    ∙ c .before .before .before .before .before .before .before .before .before .before .before .before .before .before .before .before
+    .before .before .before .before .eval .kept .1 .0)
     (λ c. search needs)
-    (λ c. (over-answered (c .before .before .before .before .before .before .before .before .before .before .before .before .before .before .before .before .before .before .before .before .before .before .before .before .before .before .before .before .pre .1 .0) (c .before .before .before .before .before .before .before .before .before .before .before .before .before .before .before .before .before .before .before .before .eval .ensures .0) (c .before .before .before .before .before .before .before .before .before .before .before .before .before .before .before .before .before .before .before .before .eval .kept .1 .1 .0) (c .before .before .before .before .before .before .before .before .before .before .before .before .part .given .1) (c .before .before .before .before .before .before .before .before .before .root-arrow .result) (c .before .before .before .before .before .before .before .before .before .root-arrow .ensures) (c .before .before .before .before .before .over .result) (c .before .before .before .before .before .before .before .before .before .before .before .before .before .before .before .before .before .before .before .before .before .before .before .before .before .before .before .before .args .m) (c .before .before .before .before .before .over .ensures .0) (c .answer .ensures), c .before .before .before .before .before .over .ensures .1)))
+    (λ c. (
+      over-answered
+          (c .before .before .before .before .before .before .before .before .before .before .before .before .before .before .before .before
+          .before .before .before .before .before .before .before .before .before .before .before .before .pre .1 .0)
+          (c .before .before .before .before .before .before .before .before .before .before .before .before .before .before .before .before
+          .before .before .before .before .eval .ensures .0)
+          (c .before .before .before .before .before .before .before .before .before .before .before .before .before .before .before .before
+          .before .before .before .before .eval .kept .1 .1 .0)
+          (c .before .before .before .before .before .before .before .before .before .before .before .before .part .given .1)
+          (c .before .before .before .before .before .before .before .before .before .root-arrow .result)
+          (c .before .before .before .before .before .before .before .before .before .root-arrow .ensures)
+          (c .before .before .before .before .before .over .result)
+          (c .before .before .before .before .before .before .before .before .before .before .before .before .before .before .before .before
+          .before .before .before .before .before .before .before .before .before .before .before .before .args .m)
+          (c .before .before .before .before .before .over .ensures .0) (c .answer .ensures),
+      c .before .before .before .before .before .over .ensures .1,
+    )))
     (λ t. negate-lts.spec (
       below eval-kinds.ps μ-eval eval.Pre t,
       eval.Post,
@@ -281,19 +780,60 @@ pub +bind+both+eval+keep+modal+negate+round+turn-spec : {M : Type 1} → stateme
     )
     (at negate-kinds.ps μ-negate negate.Pre t)
     negate.Post
-    (λ c κs. (omega (arith, c .before .before .before .before .before .before .before .pre .0), c .before .before .before .before .before .before .before .pre .1))
+    (λ c κs. (
+      omega (arith, c .before .before .before .before .before .before .before .pre .0),
+      c .before .before .before .before .before .before .before .pre .1,
+    ))
     (λ c. search needs)
     (λ c. search needs)
     (λ c. search needs)
     (λ c. search needs)
-    (λ c. (negate-halts (c .before .before .before .before .before .before .before .eval .ensures .0) (c .match .keys2), c .before .before .before .before .before .before .before .eval .ensures .1))
-    (λ c κs. (negate-asked (c .before .before .before .before .before .before .before .before .before .before .before .before .eval .ensures .0) (c .before .before .before .before .before .before .before .before .before .before .before .before .eval .kept .1 .1 .0) (c .before .before .before .before .part .given .1) (c .before .before .before .before .before .before .before .before .before .before .before .before .before .before .before .before .before .before .before .before .pre .1 .0), c .before .before .before .before .before .before .before .before .before .before .before .before .eval .ensures .1))
-    (λ c κs. (confined-asked (c .before .before .before .before .before .before .before .before .before .before .before .before .before .before .before .before .before .before .before .before .eval .ensures .0) (c .before .before .before .before .before .before .before .before .before .before .before .before .before .before .before .before .before .before .before .before .eval .kept .1 .1 .0) (c .before .before .before .before .before .before .before .before .before .before .before .before .part .given .1) (c .before .before .before .before .before .before .before .live-step .ensures .0) (c .before .before .before .before .before .before .before .before .before .before .before .before .before .before .before .before .before .before .before .before .before .before .before .before .before .before .before .before .pre .1 .0), c .before .before .before .before .before .before .before .live-step .ensures .1))
+    (λ c. (
+      negate-halts (c .before .before .before .before .before .before .before .eval .ensures .0) (c .match .keys2),
+      c .before .before .before .before .before .before .before .eval .ensures .1,
+    ))
+    (λ c κs. (
+      negate-asked (c .before .before .before .before .before .before .before .before .before .before .before .before .eval .ensures .0)
+          (c .before .before .before .before .before .before .before .before .before .before .before .before .eval .kept .1 .1 .0)
+          (c .before .before .before .before .part .given .1)
+          (c .before .before .before .before .before .before .before .before .before .before .before .before .before .before .before .before
+          .before .before .before .before .pre .1 .0),
+      c .before .before .before .before .before .before .before .before .before .before .before .before .eval .ensures .1,
+    ))
+    (λ c κs. (
+      confined-asked
+          (c .before .before .before .before .before .before .before .before .before .before .before .before .before .before .before .before
+          .before .before .before .before .eval .ensures .0)
+          (c .before .before .before .before .before .before .before .before .before .before .before .before .before .before .before .before
+          .before .before .before .before .eval .kept .1 .1 .0)
+          (c .before .before .before .before .before .before .before .before .before .before .before .before .part .given .1)
+          (c .before .before .before .before .before .before .before .live-step .ensures .0)
+          (c .before .before .before .before .before .before .before .before .before .before .before .before .before .before .before .before
+          .before .before .before .before .before .before .before .before .before .before .before .before .pre .1 .0),
+      c .before .before .before .before .before .before .before .live-step .ensures .1,
+    ))
     (λ c κs. search needs)
-    (λ c. c .before .before .before .before .before .confined .kept .0 ∙ c .before .before .before .before .before .before .before .before .before .before .before .before .before .live-step .kept .0 ∙ c .before .before .before .before .before .before .before .before .before .before .before .before .before .before .before .before .before .before .before .before .before .before .before .before .before .before .eval .kept .0)
-    (λ c. c .before .before .before .before .before .confined .kept .1 .0 ∙ c .before .before .before .before .before .before .before .before .before .before .before .before .before .live-step .kept .1 .0 ∙ c .before .before .before .before .before .before .before .before .before .before .before .before .before .before .before .before .before .before .before .before .before .before .before .before .before .before .eval .kept .1 .0)
+    (λ c. c .before .before .before .before .before .confined .kept .0
+    ∙ c .before .before .before .before .before .before .before .before .before .before .before .before .before .live-step .kept .0
+    ∙ c .before .before .before .before .before .before .before .before .before .before .before .before .before .before .before .before
+    .before .before .before .before .before .before .before .before .before .before .eval .kept .0)
+    (λ c. c .before .before .before .before .before .confined .kept .1 .0
+    ∙ c .before .before .before .before .before .before .before .before .before .before .before .before .before .live-step .kept .1 .0
+    ∙ c .before .before .before .before .before .before .before .before .before .before .before .before .before .before .before .before
+    .before .before .before .before .before .before .before .before .before .before .eval .kept .1 .0)
     (λ c. search needs)
-    (λ c. (negate-answered (c .before .before .before .before .before .before .before .before .before .before .before .before .before .before .before .before .before .before .before .before .before .before .before .before .before .before .eval .ensures .0) (c .before .before .before .before .before .before .before .before .before .before .before .before .before .before .before .before .before .before .before .before .before .before .before .before .before .before .eval .kept .1 .1 .0) (c .before .before .before .before .before .before .before .before .before .before .before .before .before .before .before .before .before .before .part .given .1) (c .before .before .before .before .before .before .before .before .before .before .before .before .before .live-step .ensures .0) (c .before .before .before .before .before .confined .ensures .0) (c .answer .ensures), c .before .before .before .before .before .confined .ensures .1)))
+    (λ c. (
+      negate-answered
+          (c .before .before .before .before .before .before .before .before .before .before .before .before .before .before .before .before
+          .before .before .before .before .before .before .before .before .before .before .eval .ensures .0)
+          (c .before .before .before .before .before .before .before .before .before .before .before .before .before .before .before .before
+          .before .before .before .before .before .before .before .before .before .before .eval .kept .1 .1 .0)
+          (c .before .before .before .before .before .before .before .before .before .before .before .before .before .before .before .before
+          .before .before .part .given .1)
+          (c .before .before .before .before .before .before .before .before .before .before .before .before .before .live-step .ensures .0)
+          (c .before .before .before .before .before .confined .ensures .0) (c .answer .ensures),
+      c .before .before .before .before .before .confined .ensures .1,
+    )))
     (λ t. round-lts.spec (
       below eval-kinds.ps μ-eval eval.Pre t,
       eval.Post,
@@ -306,21 +846,102 @@ pub +bind+both+eval+keep+modal+negate+round+turn-spec : {M : Type 1} → stateme
     )
     (at round-kinds.ps μ-round round.Pre t)
     round.Post
-    (λ c κs. (omega (arith, c .before .before .before .before .before .before .before .pre .0), (goal-asked (c .before .before .before .before .before .before .before .pre .1 .0), c .before .before .before .before .before .before .before .pre .1 .1)))
+    (λ c κs. (
+      omega (arith, c .before .before .before .before .before .before .before .pre .0),
+      (
+        goal-asked (c .before .before .before .before .before .before .before .pre .1 .0),
+        c .before .before .before .before .before .before .before .pre .1 .1,
+      ),
+    ))
     (λ c. search needs)
     (λ c. search needs)
     (λ c. search needs)
     (λ c. search needs)
-    (λ c. (goal-halts (c .before .before .before .before .before .before .before .before .before .before .before .before .before .before .before .pre .1 .0) (c .before .before .before .before .before .before .before .eval .ensures .0) (c .match .keys2) (c .before .before .before .before .before .before .before .before .before .before .before .before .before .before .before .args .m), c .before .before .before .before .before .before .before .eval .ensures .1))
+    (λ c. (
+      goal-halts
+          (c .before .before .before .before .before .before .before .before .before .before .before .before .before .before .before .pre .1
+          .0) (c .before .before .before .before .before .before .before .eval .ensures .0) (c .match .keys2)
+          (c .before .before .before .before .before .before .before .before .before .before .before .before .before .before .before .args
+          .m),
+      c .before .before .before .before .before .before .before .eval .ensures .1,
+    ))
     (λ c. search needs)
-    (λ c. omega (arith, round-free (c .before .before .before .before .before .before .before .before .before .before .before .before .before .before .before .before .before .pre .1 .0) (c .before .before .before .before .before .before .before .before .before .eval .ensures .0), c .before .before .before .before .before .before .before .before .before .before .before .before .before .before .before .before .before .pre .1 .0 .ready .size, c .before .before .before .before .before .before .before .before .before .eval .kept .1 .1 .0))
-    (λ c κs. round-free (c .before .before .before .before .before .before .before .before .before .before .before .before .before .before .before .before .before .pre .1 .0) (c .before .before .before .before .before .before .before .before .before .eval .ensures .0))
-    (λ c κs. (omega (arith, same-depth (c .before .before .before .onward .ensures), c .before .before .before .before .before .before .before .before .before .before .before .before .before .before .before .before .before .before .before .before .before .pre .0), (kept-part (c .before .before .before .before .before .before .before .before .before .before .before .before .before .before .before .before .before .before .before .before .before .pre .1 .0) (c .before .before .before .before .before .before .before .before .before .before .before .before .before .eval .ensures .0) (c .before .before .before .before .before .before .before .before .before .before .before .before .before .eval .kept .1 .1 .0) (c .before .before .before .before .before .first .given .1) (c .before .before .before .onward .ensures), c .before .before .before .before .before .before .before .before .before .before .before .before .before .eval .ensures .1)))
-    (λ c κs. (or-asked (c .before .before .before .before .before .before .before .before .before .before .before .before .before .before .before .before .before .before .before .before .before .before .before .before .before .before .before .before .before .before .before .pre .1 .0) (c .before .before .before .before .before .before .before .before .before .before .before .before .before .before .before .before .before .before .before .before .before .before .before .eval .ensures .0) (c .before .before .before .before .before .before .before .before .before .before .before .before .before .before .before .before .before .before .before .before .before .before .before .eval .kept .1 .1 .0) (c .before .before .before .before .before .before .before .before .before .before .before .before .before .before .before .first .given .1) (c .before .before .before .before .before .before .before .before .before .before .before .before .before .onward .ensures) (c .before .before .before .before .before .before .before .before .before .keep .ensures .0) (c .before .before .before .before .before .before .before .before .before .keep .kept .1 .1 .0), c .before .before .before .before .before .before .before .before .before .keep .ensures .1))
-    (λ c. c .before .before .before .before .joined .kept .0 ∙ c .before .before .before .before .before .before .before .before .before .before .before .before .before .before .keep .kept .0 ∙ c .before .before .before .before .before .before .before .before .before .before .before .before .before .before .before .before .before .before .before .before .before .before .before .before .before .before .before .before .eval .kept .0)
-    (λ c. c .before .before .before .before .joined .kept .1 .0 ∙ c .before .before .before .before .before .before .before .before .before .before .before .before .before .before .keep .kept .1 .0 ∙ c .before .before .before .before .before .before .before .before .before .before .before .before .before .before .before .before .before .before .before .before .before .before .before .before .before .before .before .before .eval .kept .1 .0)
-    (λ c. (simp length-set at (c .before .before .before .before .before .before .before .before .before .before .before .before .before .before .keep .kept .1 .1 .0)) ∙ c .before .before .before .before .before .before .before .before .before .before .before .before .before .before .before .before .before .before .before .before .before .before .before .before .before .before .before .before .eval .kept .1 .1 .0)
-    (λ c. (or-answered (c .before .before .before .before .before .before .before .before .before .before .before .before .before .before .before .before .before .before .before .before .before .before .before .before .before .before .before .before .before .before .before .before .before .before .before .before .pre .1 .0) (c .before .before .before .before .before .before .before .before .before .before .before .before .before .before .before .before .before .before .before .before .before .before .before .before .before .before .before .before .eval .ensures .0) (c .before .before .before .before .before .before .before .before .before .before .before .before .before .before .before .before .before .before .before .before .before .before .before .before .before .before .before .before .eval .kept .1 .1 .0) (c .before .before .before .before .before .before .before .before .before .before .before .before .before .before .before .before .before .before .before .before .first .given .1) (c .before .before .before .before .before .before .before .before .before .before .before .before .before .before .before .before .before .before .onward .ensures) (c .before .before .before .before .before .before .before .before .before .before .before .before .before .before .keep .ensures .0) (c .before .before .before .before .before .before .before .before .before .before .before .before .before .before .keep .kept .1 .1 .0) (c .before .before .before .before .joined .ensures .0), c .before .before .before .before .joined .ensures .1)))
+    (λ c. omega (
+      arith,
+      round-free
+          (c .before .before .before .before .before .before .before .before .before .before .before .before .before .before .before .before
+          .before .pre .1 .0) (c .before .before .before .before .before .before .before .before .before .eval .ensures .0),
+      c .before .before .before .before .before .before .before .before .before .before .before .before .before .before .before .before
+          .before .pre .1 .0 .ready .size,
+      c .before .before .before .before .before .before .before .before .before .eval .kept .1 .1 .0,
+    ))
+    (λ c κs. round-free
+    (c .before .before .before .before .before .before .before .before .before .before .before .before .before .before .before .before
+    .before .pre .1 .0) (c .before .before .before .before .before .before .before .before .before .eval .ensures .0))
+    (λ c κs. (
+      omega (
+        arith,
+        same-depth (c .before .before .before .onward .ensures),
+        c .before .before .before .before .before .before .before .before .before .before .before .before .before .before .before .before
+            .before .before .before .before .before .pre .0,
+      ),
+      (
+        kept-part
+            (c .before .before .before .before .before .before .before .before .before .before .before .before .before .before .before
+            .before
+            .before .before .before .before .before .pre .1 .0)
+            (c .before .before .before .before .before .before .before .before .before .before .before .before .before .eval .ensures .0)
+            (c .before .before .before .before .before .before .before .before .before .before .before .before .before .eval .kept .1 .1 .0)
+            (c .before .before .before .before .before .first .given .1) (c .before .before .before .onward .ensures),
+        c .before .before .before .before .before .before .before .before .before .before .before .before .before .eval .ensures .1,
+      ),
+    ))
+    (λ c κs. (
+      or-asked
+          (c .before .before .before .before .before .before .before .before .before .before .before .before .before .before .before .before
+          .before .before .before .before .before .before .before .before .before .before .before .before .before .before .before .pre .1
+          .0)
+          (c .before .before .before .before .before .before .before .before .before .before .before .before .before .before .before .before
+          .before .before .before .before .before .before .before .eval .ensures .0)
+          (c .before .before .before .before .before .before .before .before .before .before .before .before .before .before .before .before
+          .before .before .before .before .before .before .before .eval .kept .1 .1 .0)
+          (c .before .before .before .before .before .before .before .before .before .before .before .before .before .before .before .first
+          .given .1)
+          (c .before .before .before .before .before .before .before .before .before .before .before .before .before .onward .ensures)
+          (c .before .before .before .before .before .before .before .before .before .keep .ensures .0)
+          (c .before .before .before .before .before .before .before .before .before .keep .kept .1 .1 .0),
+      c .before .before .before .before .before .before .before .before .before .keep .ensures .1,
+    ))
+    (λ c. c .before .before .before .before .joined .kept .0
+    ∙ c .before .before .before .before .before .before .before .before .before .before .before .before .before .before .keep .kept .0
+    ∙ c .before .before .before .before .before .before .before .before .before .before .before .before .before .before .before .before
+    .before .before .before .before .before .before .before .before .before .before .before .before .eval .kept .0)
+    (λ c. c .before .before .before .before .joined .kept .1 .0
+    ∙ c .before .before .before .before .before .before .before .before .before .before .before .before .before .before .keep .kept .1
+    .0 ∙ c .before .before .before .before .before .before .before .before .before .before .before .before .before .before .before
+    .before .before .before .before .before .before .before .before .before .before .before .before .before .eval .kept .1 .0)
+    (λ c. (simp length-set at
+    (c .before .before .before .before .before .before .before .before .before .before .before .before .before .before .keep .kept .1 .1
+    .0)) ∙ c .before .before .before .before .before .before .before .before .before .before .before .before .before .before .before
+    .before .before .before .before .before .before .before .before .before .before .before .before .before .eval .kept .1 .1 .0)
+    (λ c. (
+      or-answered
+          (c .before .before .before .before .before .before .before .before .before .before .before .before .before .before .before .before
+          .before .before .before .before .before .before .before .before .before .before .before .before .before .before .before .before
+          .before .before .before .before .pre .1 .0)
+          (c .before .before .before .before .before .before .before .before .before .before .before .before .before .before .before .before
+          .before .before .before .before .before .before .before .before .before .before .before .before .eval .ensures .0)
+          (c .before .before .before .before .before .before .before .before .before .before .before .before .before .before .before .before
+          .before .before .before .before .before .before .before .before .before .before .before .before .eval .kept .1 .1 .0)
+          (c .before .before .before .before .before .before .before .before .before .before .before .before .before .before .before .before
+          .before .before .before .before .first .given .1)
+          (c .before .before .before .before .before .before .before .before .before .before .before .before .before .before .before .before
+          .before .before .onward .ensures)
+          (c .before .before .before .before .before .before .before .before .before .before .before .before .before .before .keep .ensures
+          .0) (c .before .before .before .before .before .before .before .before .before .before .before .before .before .before .keep .kept
+          .1 .1 .0) (c .before .before .before .before .joined .ensures .0),
+      c .before .before .before .before .joined .ensures .1,
+    )))
     λ t. turn-lts.spec (
       below eval-kinds.ps μ-eval eval.Pre t,
       eval.Post,
@@ -330,14 +951,36 @@ pub +bind+both+eval+keep+modal+negate+round+turn-spec : {M : Type 1} → stateme
     (at turn-kinds.ps μ-turn turn.Pre t)
     turn.Post
     (λ c. search needs)
-    (λ c κs. (omega (arith, c .before .before .before .before .before .before .before .before .before .pre .0), (formula-asked (c .before .before .before .enum-told .given .1) (c .before .before .before .before .before .before .before .before .before .pre .1 .0), c .before .before .before .before .before .before .before .before .before .pre .1 .1)))
+    (λ c κs. (
+      omega (arith, c .before .before .before .before .before .before .before .before .before .pre .0),
+      (
+        formula-asked (c .before .before .before .enum-told .given .1)
+            (c .before .before .before .before .before .before .before .before .before .pre .1 .0),
+        c .before .before .before .before .before .before .before .before .before .pre .1 .1,
+      ),
+    ))
     (λ c. search needs)
-    (λ c κs. (omega (arith, c .before .before .before .before .before .before .before .before .before .before .pre .0), (round-asked (c .before .before .before .before .body .given .1) (c .before .before .before .before .before .before .before .before .before .before .pre .1 .0), c .before .before .before .before .before .before .before .before .before .before .pre .1 .1)))
+    (λ c κs. (
+      omega (arith, c .before .before .before .before .before .before .before .before .before .before .pre .0),
+      (
+        round-asked (c .before .before .before .before .body .given .1)
+            (c .before .before .before .before .before .before .before .before .before .before .pre .1 .0),
+        c .before .before .before .before .before .before .before .before .before .before .pre .1 .1,
+      ),
+    ))
     (λ c. search needs)
     (λ c. search needs)
     (λ c. search needs)
-    (λ c. (formula-answered (c .before .before .before .before .before .before .before .before .before .before .enum-told .given .1) (c .before .before .before .before .before .before .eval .ensures .0), c .before .before .before .before .before .before .eval .ensures .1))
+    (λ c. (
+      formula-answered (c .before .before .before .before .before .before .before .before .before .before .enum-told .given .1)
+          (c .before .before .before .before .before .before .eval .ensures .0),
+      c .before .before .before .before .before .before .eval .ensures .1,
+    ))
     (λ c. search needs)
     (λ c. search needs)
     (λ c. search needs)
-    (λ c. (round-answered (c .before .before .before .before .before .before .before .before .before .before .before .body .given .1) (c .before .before .before .before .before .before .round .ensures .0), c .before .before .before .before .before .before .round .ensures .1))
+    (λ c. (
+      round-answered (c .before .before .before .before .before .before .before .before .before .before .before .body .given .1)
+          (c .before .before .before .before .before .before .round .ensures .0),
+      c .before .before .before .before .before .before .round .ensures .1,
+    ))

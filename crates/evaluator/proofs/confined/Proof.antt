@@ -17,8 +17,25 @@ confined-spec =
     (λ c. (confined-none (c .enum-told .given .1), c .before .before .before .before .before .pre .1))
     (λ c κs. search needs)
     (λ c κs. valid-asks (c .before .before .before .before .before .before .before .before .before .pre .0 .ready .base .sound))
-    (λ c κs. (valid-asked (c .before .before .before .before .before .before .before .first .given .1) (c .before .before .root-arrow .result) (c .before .before .root-arrow .ensures) (c .before .before .before .before .before .before .before .before .before .before .before .before .pre .0), c .before .before .before .before .before .before .before .before .before .before .before .before .pre .1))
+    (λ c κs. (
+      valid-asked (c .before .before .before .before .before .before .before .first .given .1) (c .before .before .root-arrow .result)
+          (c .before .before .root-arrow .ensures)
+          (c .before .before .before .before .before .before .before .before .before .before .before .before .pre .0),
+      c .before .before .before .before .before .before .before .before .before .before .before .before .pre .1,
+    ))
     (λ c. search needs)
     (λ c. search needs)
-    (λ c. (confined-valid (c .before .before .before .before .before .before .before .before .before .before .before .before .first .given .1) (c .before .before .before .before .before .before .before .root-arrow .result) (c .before .before .before .before .before .before .before .root-arrow .ensures) (sym (c .before .before .before .before .before .before .before .before .before .before .only-now .ensures) ∙ c .before .before .before .before .before .before .before .before .before .if1 .taken) (c .before .before .before .before .live-step .ensures .0), c .before .before .before .before .live-step .ensures .1))
-    (λ c. (confined-all (c .before .before .before .first .given .1) (sym (c .before .only-now .ensures) ∙ c .if1 .left), c .before .before .before .before .before .before .before .before .pre .1)))
+    (λ c. (
+      confined-valid
+          (c .before .before .before .before .before .before .before .before .before .before .before .before .first .given .1)
+          (c .before .before .before .before .before .before .before .root-arrow .result)
+          (c .before .before .before .before .before .before .before .root-arrow .ensures)
+          (sym (c .before .before .before .before .before .before .before .before .before .before .only-now .ensures)
+          ∙ c .before .before .before .before .before .before .before .before .before .if1 .taken)
+          (c .before .before .before .before .live-step .ensures .0),
+      c .before .before .before .before .live-step .ensures .1,
+    ))
+    (λ c. (
+      confined-all (c .before .before .before .first .given .1) (sym (c .before .only-now .ensures) ∙ c .if1 .left),
+      c .before .before .before .before .before .before .before .before .pre .1,
+    )))

@@ -13,14 +13,37 @@ evaluate-pairs-spec =
     (tie.spec
     (λ c κs. search needs)
     (λ c. search needs)
-    (λ c κs. (pairs-begins (c .before .before .before .before .before .before .before .before .pre) (c .before .before .before .before .forget .ensures), refl))
+    (λ c κs. (
+      pairs-begins (c .before .before .before .before .before .before .before .before .pre)
+          (c .before .before .before .before .forget .ensures),
+      refl,
+    ))
     (λ c κs. search needs)
     (λ c. search needs)
     (λ c. search needs)
-    (λ c κs. (asks-at (c .before .before .before .starting .ensures) (pairs-asks (c .before .before .before .before .before .before .before .before .before .before .before .before .before .before .pre) (c .before .before .before .before .before .before .before .before .before .before .forget .ensures)), c .before .before .before .before .before .begin .ensures))
+    (λ c κs. (
+      asks-at (c .before .before .before .starting .ensures)
+          (pairs-asks
+          (c .before .before .before .before .before .before .before .before .before .before .before .before .before .before .pre)
+          (c .before .before .before .before .before .before .before .before .before .before .forget .ensures)),
+      c .before .before .before .before .before .begin .ensures,
+    ))
     (λ c. search needs)
     (λ c. search needs)
-    (λ c. pairs-halts (c .before .before .before .before .before .before .before .before .before .before .before .before .before .before .before .before .before .before .before .before .pre) (c .before .before .before .before .before .before .before .before .before .before .before .before .before .before .before .before .forget .ensures) (ends-at (c .before .before .before .before .before .before .before .before .before .starting .ensures) (c .before .before .before .before .before .eval .ensures .0)) (c .match .keys2))
+    (λ c. pairs-halts
+    (c .before .before .before .before .before .before .before .before .before .before .before .before .before .before .before .before
+    .before .before .before .before .pre)
+    (c .before .before .before .before .before .before .before .before .before .before .before .before .before .before .before .before
+    .forget .ensures)
+    (ends-at (c .before .before .before .before .before .before .before .before .before .starting .ensures)
+    (c .before .before .before .before .before .eval .ensures .0)) (c .match .keys2))
     (λ c κs. search needs)
     (λ c. search needs)
-    (λ c. pairs-ends (c .before .before .before .before .before .before .before .before .before .before .before .before .before .before .before .before .before .before .before .before .before .before .before .pre) (c .before .before .before .before .before .before .before .before .before .before .before .before .before .before .before .before .before .before .before .forget .ensures) (ends-at (c .before .before .before .before .before .before .before .before .before .before .before .before .starting .ensures) (c .before .before .before .before .before .before .before .before .eval .ensures .0)) (ap takenOf (c .before .before .a .given .1) ∙ sym (c .unmoved .ensures))))
+    (λ c. pairs-ends
+    (c .before .before .before .before .before .before .before .before .before .before .before .before .before .before .before .before
+    .before .before .before .before .before .before .before .pre)
+    (c .before .before .before .before .before .before .before .before .before .before .before .before .before .before .before .before
+    .before .before .before .forget .ensures)
+    (ends-at (c .before .before .before .before .before .before .before .before .before .before .before .before .starting .ensures)
+    (c .before .before .before .before .before .before .before .before .eval .ensures .0))
+    (ap takenOf (c .before .before .a .given .1) ∙ sym (c .unmoved .ensures))))

@@ -13,10 +13,25 @@ evaluate-set-spec =
     (tie.spec
     (λ c κs. search needs)
     (λ c. search needs)
-    (λ c κs. (set-begins (c .before .before .before .before .before .before .before .before .pre) (c .before .before .before .before .forget .ensures), refl))
+    (λ c κs. (
+      set-begins (c .before .before .before .before .before .before .before .before .pre)
+          (c .before .before .before .before .forget .ensures),
+      refl,
+    ))
     (λ c κs. search needs)
     (λ c. search needs)
     (λ c. search needs)
-    (λ c κs. (asks-at (c .before .before .before .starting .ensures) (set-asks (c .before .before .before .before .before .before .before .before .before .before .before .before .before .before .pre) (c .before .before .before .before .before .before .before .before .before .before .forget .ensures)), c .before .before .before .before .before .begin .ensures))
+    (λ c κs. (
+      asks-at (c .before .before .before .starting .ensures)
+          (set-asks (c .before .before .before .before .before .before .before .before .before .before .before .before .before .before .pre)
+          (c .before .before .before .before .before .before .before .before .before .before .forget .ensures)),
+      c .before .before .before .before .before .begin .ensures,
+    ))
     (λ c. search needs)
-    (λ c. set-ends (c .before .before .before .before .before .before .before .before .before .before .before .before .before .before .before .before .before .before .before .pre) (c .before .before .before .before .before .before .before .before .before .before .before .before .before .before .before .forget .ensures) (ends-at (c .before .before .before .before .before .before .before .before .starting .ensures) (c .before .before .before .before .eval .ensures .0))))
+    (λ c. set-ends
+    (c .before .before .before .before .before .before .before .before .before .before .before .before .before .before .before .before
+    .before .before .before .pre)
+    (c .before .before .before .before .before .before .before .before .before .before .before .before .before .before .before .forget
+    .ensures)
+    (ends-at (c .before .before .before .before .before .before .before .before .starting .ensures)
+    (c .before .before .before .before .eval .ensures .0))))

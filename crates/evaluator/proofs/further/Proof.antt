@@ -15,12 +15,24 @@ further-spec =
     (λ c. search needs)
     (λ c κs. c .before .before .before .before .before .before .before .before .pre)
     (λ c. search needs)
-    (λ c κs. (own-asked (c .before .before .before .before .before .before .before .before .pre .0) _, c .before .before .before .before .before .before .before .before .pre .1))
+    (λ c κs. (
+      own-asked (c .before .before .before .before .before .before .before .before .pre .0) _,
+      c .before .before .before .before .before .before .before .before .pre .1,
+    ))
     (λ c. search needs)
     (λ c. search needs)
     (λ c. search needs)
-    (λ c. (further-as (c .before .before .before .before .before .before .before .before .before .before .enum-told .given .1) (c .before .before .before .before .before .before .every .ensures .0), c .before .before .before .before .before .before .every .ensures .1))
+    (λ c. (
+      further-as (c .before .before .before .before .before .before .before .before .before .before .enum-told .given .1)
+          (c .before .before .before .before .before .before .every .ensures .0),
+      c .before .before .before .before .before .before .every .ensures .1,
+    ))
     (λ c. search needs)
     (λ c. search needs)
     (λ c. search needs)
-    (λ c. (further-as (c .before .before .before .before .before .before .before .before .enum-told2 .given .1) (some-answered (c .before .before .before .before .before .before .before .before .before .before .before .before .before .pre .0) (c .before .before .before .before .reach .ensures .0)), c .before .before .before .before .reach .ensures .1)))
+    (λ c. (
+      further-as (c .before .before .before .before .before .before .before .before .enum-told2 .given .1)
+          (some-answered (c .before .before .before .before .before .before .before .before .before .before .before .before .before .pre .0)
+          (c .before .before .before .before .reach .ensures .0)),
+      c .before .before .before .before .reach .ensures .1,
+    )))

@@ -16,8 +16,17 @@ joined-spec =
     (λ c. search needs)
     (λ c. (joined-stops _ (c .match .keys2), c .before .before .before .before .pre .1))
     (λ c κs. search needs)
-    (λ c κs. (joined-step (c .before .before .before .before .before .before .before .before .before .pre .0) (c .before .before .before .before .second .given .1) (c .join-of .ensures), c .before .before .before .before .before .before .before .before .before .pre .1))
+    (λ c κs. (
+      joined-step (c .before .before .before .before .before .before .before .before .before .pre .0)
+          (c .before .before .before .before .second .given .1) (c .join-of .ensures),
+      c .before .before .before .before .before .before .before .before .before .pre .1,
+    ))
     (λ c κs. search needs)
     (λ c. search needs)
     (λ c. search needs)
-    (λ c. (joined-steps (c .before .before .before .before .before .before .before .before .before .before .second .given .1) (c .before .before .before .before .before .before .join-of .ensures) (c .before .before .before .before .before .live-step .ensures .0) (c .answer .ensures), c .before .before .before .before .before .live-step .ensures .1)))
+    (λ c. (
+      joined-steps (c .before .before .before .before .before .before .before .before .before .before .second .given .1)
+          (c .before .before .before .before .before .before .join-of .ensures)
+          (c .before .before .before .before .before .live-step .ensures .0) (c .answer .ensures),
+      c .before .before .before .before .before .live-step .ensures .1,
+    )))

@@ -13,7 +13,16 @@ live-step-spec =
     (tie.spec
     (λ c. search needs)
     (λ c. sym (length-take-le _ _ (c .before .before .before .before .before .before .before .pre .0 .within)))
-    (λ c κs. (c .before .before .before .before .before .before .before .pre .0 .asks, c .before .before .before .before .before .before .before .pre .1))
+    (λ c κs. (
+      c .before .before .before .before .before .before .before .pre .0 .asks,
+      c .before .before .before .before .before .before .before .pre .1,
+    ))
     (λ c. search needs)
     (λ c. search needs)
-    (λ c. (record { stepped = c .before .before .before .before .take .ensures .0; count = c .before .before .before .before .take .ensures .2 }, c .before .before .before .before .take .ensures .1)))
+    (λ c. (
+      record {
+        stepped = c .before .before .before .before .take .ensures .0;
+        count = c .before .before .before .before .take .ensures .2;
+      },
+      c .before .before .before .before .take .ensures .1,
+    )))

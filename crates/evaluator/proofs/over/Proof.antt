@@ -13,12 +13,26 @@ over-spec =
     (tie.spec
     (λ c. search needs)
     (λ c κs. valid-asks (c .before .before .before .before .before .before .pre .0 .base .sound))
-    (λ c κs. (box-asks (c .before .before .root-arrow .result) (c .before .before .root-arrow .ensures) (c .before .before .before .before .before .before .before .before .before .pre .0), c .before .before .before .before .before .before .before .before .before .pre .1))
+    (λ c κs. (
+      box-asks (c .before .before .root-arrow .result) (c .before .before .root-arrow .ensures)
+          (c .before .before .before .before .before .before .before .before .before .pre .0),
+      c .before .before .before .before .before .before .before .before .before .pre .1,
+    ))
     (λ c. search needs)
     (λ c κs. c .before .before .before .before .before .before .before .pre)
     (λ c. search needs)
     (λ c. search needs)
-    (λ c. (rw (c .before .before .before .before .before .before .before .before .before .enum-told .given .1) (box-read (c .before .before .before .before .before .before .before .root-arrow .result) (c .before .before .before .before .before .before .before .root-arrow .ensures) (record { box = c .before .before .before .before .boxed .ensures .0 })), c .before .before .before .before .boxed .ensures .1))
+    (λ c. (
+      rw (c .before .before .before .before .before .before .before .before .before .enum-told .given .1)
+          (box-read (c .before .before .before .before .before .before .before .root-arrow .result)
+          (c .before .before .before .before .before .before .before .root-arrow .ensures)
+          (record { box = c .before .before .before .before .boxed .ensures .0 })),
+      c .before .before .before .before .boxed .ensures .1,
+    ))
     (λ c. search needs)
     (λ c. search needs)
-    (λ c. (rw (c .before .before .before .before .before .before .before .enum-told2 .given .1) (c .before .before .before .before .diamond .ensures .0), c .before .before .before .before .diamond .ensures .1)))
+    (λ c. (
+      rw (c .before .before .before .before .before .before .before .enum-told2 .given .1)
+          (c .before .before .before .before .diamond .ensures .0),
+      c .before .before .before .before .diamond .ensures .1,
+    )))

@@ -18,8 +18,20 @@ reach-spec =
     (λ c. search needs)
     (λ c κs. reach-relation (c .before .before .before .before .pre .0))
     (λ c. sym (length-take-le _ _ (reach-within (c .before .before .before .before .before .before .before .before .before .pre .0))))
-    (λ c κs. (reach-asks (c .before .before .before .before .before .before .before .before .before .pre .0) (c .before .before .before .before .root-arrow .result) (c .before .before .before .before .root-arrow .ensures), c .before .before .before .before .before .before .before .before .before .pre .1))
+    (λ c κs. (
+      reach-asks (c .before .before .before .before .before .before .before .before .before .pre .0)
+          (c .before .before .before .before .root-arrow .result) (c .before .before .before .before .root-arrow .ensures),
+      c .before .before .before .before .before .before .before .before .before .pre .1,
+    ))
     (λ c κs. search needs)
     (λ c. search needs)
     (λ c. search needs)
-    (λ c. (reach-answers (c .before .before .before .before .before .before .before .before .before .before .root-arrow .result) (c .before .before .before .before .before .before .before .before .before .before .root-arrow .ensures) (c .before .before .before .before .before .over .result) (c .before .before .before .before .before .before .before .before .before .before .before .before .before .before .before .args .m) (c .before .before .before .before .before .over .ensures .0) (c .answer .ensures), c .before .before .before .before .before .over .ensures .1)))
+    (λ c. (
+      reach-answers (c .before .before .before .before .before .before .before .before .before .before .root-arrow .result)
+          (c .before .before .before .before .before .before .before .before .before .before .root-arrow .ensures)
+          (c .before .before .before .before .before .over .result)
+          (c .before .before .before .before .before .before .before .before .before .before .before .before .before .before .before .args
+          .m)
+          (c .before .before .before .before .before .over .ensures .0) (c .answer .ensures),
+      c .before .before .before .before .before .over .ensures .1,
+    )))

@@ -10,4 +10,7 @@ use Rattle.evaluator.proofs.with_place.Reads as reads
 use Rattle.evaluator.proofs.with_place.Lts as lts
 
 pub with-place-spec : {M : Type 1} → statement M
-with-place-spec = tie.close (tie.spec (λ c. search needs) (λ c. search needs) (λ c. search needs) (λ c. let h : length (c .before .args .places) ≡ 16 = search needs in sym (set-out _ _ _ (omega arith))))
+with-place-spec =
+    tie.close
+    (tie.spec (λ c. search needs) (λ c. search needs) (λ c. search needs)
+    (λ c. let h : length (c .before .args .places) ≡ 16 = search needs in sym (set-out _ _ _ (omega arith))))

@@ -14,23 +14,108 @@ within-spec =
     tie.close
     (tie.spec
     (λ c κs. valid-asks (c .before .before .before .before .pre .0 .ready .base .sound))
-    (λ c κs. (first-asks (c .before .before .before .root-arrow .result) (c .before .before .before .root-arrow .ensures) (c .before .before .before .before .before .before .before .before .pre .0 .operand) (c .before .before .before .before .before .before .before .before .pre .0 .ready), c .before .before .before .before .before .before .before .before .pre .1))
+    (λ c κs. (
+      first-asks (c .before .before .before .root-arrow .result) (c .before .before .before .root-arrow .ensures)
+          (c .before .before .before .before .before .before .before .before .pre .0 .operand)
+          (c .before .before .before .before .before .before .before .before .pre .0 .ready),
+      c .before .before .before .before .before .before .before .before .pre .1,
+    ))
     (λ c. search needs)
     (λ c. search needs)
     (λ c. search needs)
     (λ c. search needs)
     (λ c. search needs)
-    (λ c. (within-full (c .before .before .before .before .before .before .before .before .before .before .root-arrow .result) (c .before .before .before .before .before .before .before .before .before .before .root-arrow .ensures) (c .before .before .before .before .before .before .before .before .before .before .before .before .before .before .before .pre .0 .operand) (c .before .before .before .before .before .before .live-step .ensures .0) (c .enum-told .given .1), c .before .before .before .before .before .before .live-step .ensures .1))
-    (λ c. omega (arith, c .before .before .before .before .before .before .before .before .before .before .before .before .before .before .before .before .pre .0 .ready .size))
-    (λ c κs. (shift-asks (c .before .before .before .before .before .before .before .before .before .before .before .before .before .before .root-arrow .result) (c .before .before .before .before .before .before .before .before .before .before .before .before .before .before .root-arrow .ensures) (c .before .before .before .before .before .before .before .before .before .before .before .before .before .before .before .before .before .before .before .pre .0 .operand) (c .before .before .before .before .before .before .before .before .before .before .live-step .ensures .0) (c .before .before .before .before .b .given .1) (c .before .before .before .before .before .before .before .before .before .before .before .before .before .before .before .before .before .before .before .pre .0 .ready), c .before .before .before .before .before .before .before .before .before .before .live-step .ensures .1))
+    (λ c. (
+      within-full (c .before .before .before .before .before .before .before .before .before .before .root-arrow .result)
+          (c .before .before .before .before .before .before .before .before .before .before .root-arrow .ensures)
+          (c .before .before .before .before .before .before .before .before .before .before .before .before .before .before .before .pre .0
+          .operand) (c .before .before .before .before .before .before .live-step .ensures .0) (c .enum-told .given .1),
+      c .before .before .before .before .before .before .live-step .ensures .1,
+    ))
+    (λ c. omega (
+      arith,
+      c .before .before .before .before .before .before .before .before .before .before .before .before .before .before .before .before
+          .pre .0 .ready .size,
+    ))
+    (λ c κs. (
+      shift-asks
+          (c .before .before .before .before .before .before .before .before .before .before .before .before .before .before .root-arrow
+          .result)
+          (c .before .before .before .before .before .before .before .before .before .before .before .before .before .before .root-arrow
+          .ensures)
+          (c .before .before .before .before .before .before .before .before .before .before .before .before .before .before .before .before
+          .before .before .before .pre .0 .operand)
+          (c .before .before .before .before .before .before .before .before .before .before .live-step .ensures .0)
+          (c .before .before .before .before .b .given .1)
+          (c .before .before .before .before .before .before .before .before .before .before .before .before .before .before .before .before
+          .before .before .before .pre .0 .ready),
+      c .before .before .before .before .before .before .before .before .before .before .live-step .ensures .1,
+    ))
     (λ c. search needs)
     (λ c. search needs)
     (λ c. search needs)
     (λ c. search needs)
     (λ c. search needs)
-    (λ c. (shift-full (c .before .before .before .before .before .before .before .before .before .before .before .before .before .before .before .before .before .before .before .before .before .root-arrow .result) (c .before .before .before .before .before .before .before .before .before .before .before .before .before .before .before .before .before .before .before .before .before .root-arrow .ensures) (c .before .before .before .before .before .before .before .before .before .before .before .before .before .before .before .before .before .before .before .before .before .before .before .before .before .before .pre .0 .operand) (c .before .before .before .before .before .before .before .before .before .before .before .before .before .before .before .before .before .live-step .ensures .0) (c .before .before .before .before .before .before .before .before .before .before .before .b .given .1) (c .before .before .before .before .before .before .live-step2 .ensures .0) (c .enum-told2 .given .1), c .before .before .before .before .before .before .live-step2 .ensures .1))
-    (λ c κs. (last-asks (c .before .before .before .before .before .before .before .before .before .before .before .before .before .before .before .before .before .before .before .before .before .before .before .before .before .root-arrow .result) (c .before .before .before .before .before .before .before .before .before .before .before .before .before .before .before .before .before .before .before .before .before .before .before .before .before .root-arrow .ensures) (c .before .before .before .before .before .before .before .before .before .before .before .before .before .before .before .before .before .before .before .before .before .before .before .before .before .before .before .before .before .before .pre .0 .operand) (c .before .before .before .before .before .before .before .before .before .before .before .before .before .before .before .before .before .before .before .before .before .live-step .ensures .0) (c .before .before .before .before .before .before .before .before .before .before .before .before .before .before .before .b .given .1) (c .before .before .before .before .before .before .before .before .before .before .live-step2 .ensures .0) (c .before .before .before .before .c .given .1) (c .before .before .before .before .before .before .before .before .before .before .before .before .before .before .before .before .before .before .before .before .before .before .before .before .before .before .before .before .before .before .pre .0 .ready), c .before .before .before .before .before .before .before .before .before .before .live-step2 .ensures .1))
-    (λ c. c .before .before .before .before .live-step3 .kept .0 ∙ c .before .before .before .before .before .before .before .before .before .before .before .before .before .before .before .live-step2 .kept .0 ∙ c .before .before .before .before .before .before .before .before .before .before .before .before .before .before .before .before .before .before .before .before .before .before .before .before .before .before .live-step .kept .0)
-    (λ c. c .before .before .before .before .live-step3 .kept .1 .0 ∙ c .before .before .before .before .before .before .before .before .before .before .before .before .before .before .before .live-step2 .kept .1 .0 ∙ c .before .before .before .before .before .before .before .before .before .before .before .before .before .before .before .before .before .before .before .before .before .before .before .before .before .before .live-step .kept .1 .0)
+    (λ c. (
+      shift-full
+          (c .before .before .before .before .before .before .before .before .before .before .before .before .before .before .before .before
+          .before .before .before .before .before .root-arrow .result)
+          (c .before .before .before .before .before .before .before .before .before .before .before .before .before .before .before .before
+          .before .before .before .before .before .root-arrow .ensures)
+          (c .before .before .before .before .before .before .before .before .before .before .before .before .before .before .before .before
+          .before .before .before .before .before .before .before .before .before .before .pre .0 .operand)
+          (c .before .before .before .before .before .before .before .before .before .before .before .before .before .before .before .before
+          .before .live-step .ensures .0)
+          (c .before .before .before .before .before .before .before .before .before .before .before .b .given .1)
+          (c .before .before .before .before .before .before .live-step2 .ensures .0) (c .enum-told2 .given .1),
+      c .before .before .before .before .before .before .live-step2 .ensures .1,
+    ))
+    (λ c κs. (
+      last-asks
+          (c .before .before .before .before .before .before .before .before .before .before .before .before .before .before .before .before
+          .before .before .before .before .before .before .before .before .before .root-arrow .result)
+          (c .before .before .before .before .before .before .before .before .before .before .before .before .before .before .before .before
+          .before .before .before .before .before .before .before .before .before .root-arrow .ensures)
+          (c .before .before .before .before .before .before .before .before .before .before .before .before .before .before .before .before
+          .before .before .before .before .before .before .before .before .before .before .before .before .before .before .pre .0 .operand)
+          (c .before .before .before .before .before .before .before .before .before .before .before .before .before .before .before .before
+          .before .before .before .before .before .live-step .ensures .0)
+          (c .before .before .before .before .before .before .before .before .before .before .before .before .before .before .before .b
+          .given
+          .1) (c .before .before .before .before .before .before .before .before .before .before .live-step2 .ensures .0)
+          (c .before .before .before .before .c .given .1)
+          (c .before .before .before .before .before .before .before .before .before .before .before .before .before .before .before .before
+          .before .before .before .before .before .before .before .before .before .before .before .before .before .before .pre .0 .ready),
+      c .before .before .before .before .before .before .before .before .before .before .live-step2 .ensures .1,
+    ))
+    (λ c. c .before .before .before .before .live-step3 .kept .0
+    ∙ c .before .before .before .before .before .before .before .before .before .before .before .before .before .before .before
+    .live-step2 .kept .0
+    ∙ c .before .before .before .before .before .before .before .before .before .before .before .before .before .before .before .before
+    .before .before .before .before .before .before .before .before .before .before .live-step .kept .0)
+    (λ c. c .before .before .before .before .live-step3 .kept .1 .0
+    ∙ c .before .before .before .before .before .before .before .before .before .before .before .before .before .before .before
+    .live-step2 .kept .1 .0
+    ∙ c .before .before .before .before .before .before .before .before .before .before .before .before .before .before .before .before
+    .before .before .before .before .before .before .before .before .before .before .live-step .kept .1 .0)
     (λ c. search needs)
-    (λ c. (within-ends (c .before .before .before .before .before .before .before .before .before .before .before .before .before .before .before .before .before .before .before .before .before .before .before .before .before .before .before .before .before .before .root-arrow .result) (c .before .before .before .before .before .before .before .before .before .before .before .before .before .before .before .before .before .before .before .before .before .before .before .before .before .before .before .before .before .before .root-arrow .ensures) (c .before .before .before .before .before .before .before .before .before .before .before .before .before .before .before .before .before .before .before .before .before .before .before .before .before .before .before .before .before .before .before .before .before .before .before .pre .0 .operand) (c .before .before .before .before .before .before .before .before .before .before .before .before .before .before .before .before .before .before .before .before .before .before .before .before .before .before .live-step .ensures .0) (c .before .before .before .before .before .before .before .before .before .before .before .before .before .before .before .before .before .before .before .before .b .given .1) (c .before .before .before .before .before .before .before .before .before .before .before .before .before .before .before .live-step2 .ensures .0) (c .before .before .before .before .before .before .before .before .before .c .given .1) (c .before .before .before .before .live-step3 .ensures .0), c .before .before .before .before .live-step3 .ensures .1)))
+    (λ c. (
+      within-ends
+          (c .before .before .before .before .before .before .before .before .before .before .before .before .before .before .before .before
+          .before .before .before .before .before .before .before .before .before .before .before .before .before .before .root-arrow
+          .result)
+          (c .before .before .before .before .before .before .before .before .before .before .before .before .before .before .before .before
+          .before .before .before .before .before .before .before .before .before .before .before .before .before .before .root-arrow
+          .ensures)
+          (c .before .before .before .before .before .before .before .before .before .before .before .before .before .before .before .before
+          .before .before .before .before .before .before .before .before .before .before .before .before .before .before .before .before
+          .before .before .before .pre .0 .operand)
+          (c .before .before .before .before .before .before .before .before .before .before .before .before .before .before .before .before
+          .before .before .before .before .before .before .before .before .before .before .live-step .ensures .0)
+          (c .before .before .before .before .before .before .before .before .before .before .before .before .before .before .before .before
+          .before .before .before .before .b .given .1)
+          (c .before .before .before .before .before .before .before .before .before .before .before .before .before .before .before
+          .live-step2 .ensures .0) (c .before .before .before .before .before .before .before .before .before .c .given .1)
+          (c .before .before .before .before .live-step3 .ensures .0),
+      c .before .before .before .before .live-step3 .ensures .1,
+    )))

@@ -1,4 +1,5 @@
--- `give_stored` meets its contract: the node, the rounds and the peak are given with 0, a refusal with its number and zeros. Assumes nothing.
+-- `give_stored` meets its contract: the node, the rounds and the peak are given with 0, a refusal with its number and zeros.
+-- Assumes nothing.
 use mathlib.Core.Path.{sym, ap, _∙_}
 use Rattle.book.specs.Leaves.{plain}
 use Rattle.formula_steps.specs.Replies.{storedReply}

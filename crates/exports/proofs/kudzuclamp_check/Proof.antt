@@ -1,4 +1,5 @@
--- `kudzuclamp_check` meets its contract: `sound` is check 2, and on a sound table `check_formula` gives the number of the book's checks. Assumes nothing.
+-- `kudzuclamp_check` meets its contract: `sound` is check 2, and on a sound table `check_formula` gives the number of the book's checks.
+-- Assumes nothing.
 use mathlib.Core.Path.{sym, _∙_}
 use native.Mathlib.Omega.{arith}
 use Rattle.rows.proofs.Says.{says-pass, says-fail}
@@ -21,10 +22,14 @@ kudzuclamp-check-spec =
     (λ c. search needs)
     (λ c. search needs)
     (λ c κs. search needs)
-    (λ c. let s = says-pass (c .before .before .before .before .before .if1 .left) (c .before .before .before .before .before .before .sound .ensures) in
+    (λ c. let s = says-pass (c .before .before .before .before .before .if1 .left)
+    (c .before .before .before .before .before .before .sound .ensures) in
     check-done _ _ s (c .before .before .before .kind-of .ensures)
-    (checks-told _ s _ _ (c .before .before .before .before .header-word .ensures) (c .before .before .check-formula .ensures) (c .enum-told .given .1)))
-    (λ c. let s = says-pass (c .before .before .before .before .before .before .before .if1 .left) (c .before .before .before .before .before .before .before .before .sound .ensures) in
+    (checks-told _ s _ _ (c .before .before .before .before .header-word .ensures) (c .before .before .check-formula .ensures)
+    (c .enum-told .given .1)))
+    (λ c. let s = says-pass (c .before .before .before .before .before .before .before .if1 .left)
+    (c .before .before .before .before .before .before .before .before .sound .ensures) in
     check-done _ _ s (c .before .before .before .before .before .kind-of .ensures)
-    (checks-told _ s _ _ (c .before .before .before .before .before .before .header-word .ensures) (c .before .before .before .before .check-formula .ensures) (c .before .before .e .given .1)
+    (checks-told _ s _ _ (c .before .before .before .before .before .before .header-word .ensures)
+    (c .before .before .before .before .check-formula .ensures) (c .before .before .e .given .1)
     ∙ sym (c .refusal-number2 .ensures))))

@@ -18,4 +18,5 @@ kudzuclamp-clear-spec =
     (λ c. search needs)
     (λ c. subst (CallPost _ _ _) (ap clearedReply (c .enum-told .given .1)) (c .before .before .before .before .clear .ensures))
     (λ c. search needs)
-    (λ c. subst (CallPost _ _ _) (ap clearedReply (c .before .before .x .given .1) ∙ ap plain (sym (c .refusal-number .ensures))) (c .before .before .before .before .before .before .clear .ensures)))
+    (λ c. subst (CallPost _ _ _) (ap clearedReply (c .before .before .x .given .1) ∙ ap plain (sym (c .refusal-number .ensures)))
+    (c .before .before .before .before .before .before .clear .ensures)))

@@ -6,4 +6,7 @@ use Rattle.exports.proofs.kudzuclamp_member.Statement.{statement}
 use Rattle.exports.proofs.kudzuclamp_member.Tie as tie
 
 pub kudzuclamp-member-spec : {M : Type 1} → statement M
-kudzuclamp-member-spec = tie.close (tie.spec (λ c κs. search needs) (λ c κs. search needs) (λ c. subst (AskPost _ _) (sym (c .give .ensures)) (c .before .before .member .ensures)))
+kudzuclamp-member-spec =
+    tie.close
+    (tie.spec (λ c κs. search needs) (λ c κs. search needs)
+    (λ c. subst (AskPost _ _) (sym (c .give .ensures)) (c .before .before .member .ensures)))

@@ -6,4 +6,7 @@ use Rattle.exports.proofs.kudzuclamp_node.Statement.{statement}
 use Rattle.exports.proofs.kudzuclamp_node.Tie as tie
 
 pub kudzuclamp-node-spec : {M : Type 1} → statement M
-kudzuclamp-node-spec = tie.close (tie.spec (λ c κs. search needs) (λ c κs. search needs) (λ c. subst (AskPost _ _) (sym (c .give .ensures)) (c .before .before .node .ensures)))
+kudzuclamp-node-spec =
+    tie.close
+    (tie.spec (λ c κs. search needs) (λ c κs. search needs)
+    (λ c. subst (AskPost _ _) (sym (c .give .ensures)) (c .before .before .node .ensures)))

@@ -1,4 +1,5 @@
--- `kudzuclamp_play` meets its contract, which is that of `play` over the number and the count that its answer is taken apart into. Assumes nothing.
+-- `kudzuclamp_play` meets its contract, which is that of `play` over the number and the count that its answer is taken apart into.
+-- Assumes nothing.
 use Rattle.player.specs.declared.Played.the-variants.{Done, Short, Unreadable}
 use Rattle.exports.proofs.PlayingLaws.{play-given}
 use borrow.Author.Needs.{needs}
@@ -15,7 +16,8 @@ kudzuclamp-play-spec =
     (λ c. search needs)
     (λ c. search needs)
     (λ c. search needs)
-    (λ c. play-given _ _ _ _ _ (Done (c .before .x .given .0 .0)) (c .before .before .before .before .before .before .before .play .ensures) (c .before .x .given .1))
+    (λ c. play-given _ _ _ _ _ (Done (c .before .x .given .0 .0)) (c .before .before .before .before .before .before .before .play .ensures)
+    (c .before .x .given .1))
     (λ c. search needs)
     (λ c. search needs)
     (λ c. play-given _ _ _ _ _ Short (c .before .before .before .before .before .before .play .ensures) (c .enum-told .given .1))

@@ -18,4 +18,5 @@ kudzuclamp-relation-spec =
     (λ c. search needs)
     (λ c. subst (CallPost _ _ _) (ap loadedReply (c .before .x .given .1)) (c .before .before .before .before .before .relation .ensures))
     (λ c. search needs)
-    (λ c. subst (CallPost _ _ _) (ap loadedReply (c .before .before .x2 .given .1) ∙ ap plain (sym (c .refusal-number .ensures))) (c .before .before .before .before .before .before .relation .ensures)))
+    (λ c. subst (CallPost _ _ _) (ap loadedReply (c .before .before .x2 .given .1) ∙ ap plain (sym (c .refusal-number .ensures)))
+    (c .before .before .before .before .before .before .relation .ensures)))

@@ -1,4 +1,5 @@
--- `kudzuclamp_set` meets its contract: a walk of its MIR, by hand. The words, the accounts and the bytes go on to the call, the three answers to `give_stored`, each at its own lifetime. Assumes nothing.
+-- `kudzuclamp_set` meets its contract: a walk of its MIR, by hand. The words, the accounts and the bytes go on to the call, the three
+-- answers to `give_stored`, each at its own lifetime. Assumes nothing.
 use mathlib.Core.Path.{_≡_, refl, sym, ap, subst, _∙_}
 use Prim.Native.Nat.{ℕ, _<_, _≤_, _^_}
 use mathlib.Core.List.{List, [], _∷_}
@@ -14,10 +15,12 @@ use prog.Wp.{Heap, Calls, Loops, WpFn, Tables}
 use ghost.Atoms.{Atoms, sem}
 use contract.Monad.{Fun, fact}
 use contract.Running.{givenOf, tables, tablesOf}
-use types.Kit.{Given, ‵, raw, _⊛_, some, later, ⋆, _$_, _∵_, !, qed, by, move, keep, drop, use0, use1, use2, use3, split, join, pick, fsplit, fjoin, feqL, suffices, frame, await, done}
+use types.Kit.{Given, ‵, raw, _⊛_, some, later, ⋆, _$_, _∵_, !, qed, by, move, keep, drop, use0, use1, use2, use3, split, join, pick}
+use types.Kit.{fsplit, fjoin, feqL, suffices, frame, await, done}
 use types.Part.{whole, sub, look-in}
 use types.Part.{agg, whole, sub, look-in}
-use types.Run.{look, init, store, forget, stop, hop, fld, from, load, lit, addr, of-opd, assigns, and-then, no-more, land, returns, enter, alloc1, alloc0, params1, pass1, pass0, free1, free0}
+use types.Run.{look, init, store, forget, stop, hop, fld, from, load, lit, addr, of-opd, assigns, and-then, no-more, land, returns, enter}
+use types.Run.{alloc1, alloc0, params1, pass1, pass0, free1, free0}
 use sound.WpLaws.{FmC, fmOf, WpFn-mono}
 use denote.RattleType.{owns}
 use denote.Laws.{Is, shows}
@@ -34,7 +37,8 @@ use denote.Triple.Clauses.{ensured, lasts}
 use denote.Triple.Entry.{Vals, onEntry}
 use denote.Triple.Spec.{Meets, tripleOf}
 use denote.Triple.Table.{entered, cited}
-use denote.Triple.Walked.{says, Stays, gave-ref, gave-slice, stay-none, stay-none-slice, walkOf, Walks, ends-at, walked, goes-gave-ref, goes-gave-slice, goes-none, goes-none-slice, walk-meets}
+use denote.Triple.Walked.{says, Stays, gave-ref, gave-slice, stay-none, stay-none-slice, walkOf, Walks, ends-at, walked, goes-gave-ref}
+use denote.Triple.Walked.{goes-gave-slice, goes-none, goes-none-slice, walk-meets}
 use denote.Exit.{yes}
 use Rattle.accounts.specs.declared.Account.{Account}
 use Rattle.accounts.proofs.Row.{R}
@@ -58,7 +62,28 @@ use Rattle.exports.proofs.kudzuclamp_set.Statement as stated
 use Rattle.exports.proofs.kudzuclamp_set.Code as code
 
 abbrev stayed : Stays (f.ended .signature .params) (f.ended .kept)
-stayed = (gave-slice (0 ∷ []) tt (plain (λ _. u32)), (gave-slice (1 ∷ []) tt (plain (λ _. R)), (stay-none (λ _. u32) yes, (stay-none (λ _. u32) yes, (stay-none (λ _. u32) yes, (stay-none-slice (2 ∷ []) tt (plain (λ _. u8)) yes, (gave-ref (3 ∷ []) tt (plain (λ _. u32)), (gave-ref (4 ∷ []) tt (plain (λ _. u32)), (gave-ref (5 ∷ []) tt (plain (λ _. u32)), tt)))))))))
+stayed = (
+  gave-slice (0 ∷ []) tt (plain (λ _. u32)),
+  (
+    gave-slice (1 ∷ []) tt (plain (λ _. R)),
+    (
+      stay-none (λ _. u32) yes,
+      (
+        stay-none (λ _. u32) yes,
+        (
+          stay-none (λ _. u32) yes,
+          (
+            stay-none-slice (2 ∷ []) tt (plain (λ _. u8)) yes,
+            (
+              gave-ref (3 ∷ []) tt (plain (λ _. u32)),
+              (gave-ref (4 ∷ []) tt (plain (λ _. u32)), (gave-ref (5 ∷ []) tt (plain (λ _. u32)), tt)),
+            ),
+          ),
+        ),
+      ),
+    ),
+  ),
+)
 
 module _ {M : Type 1} (𝓤 : URA M) (H : Heap 𝓤) (A : Atoms 𝓤) (at-mem : Memory → SProp 𝓤) (run : Routine → Fun 𝓤) where
   -- the contracts that the proof cites
@@ -69,9 +94,11 @@ module _ {M : Type 1} (𝓤 : URA M) (H : Heap 𝓤) (A : Atoms 𝓤) (at-mem : 
   Give = tripleOf 𝓤 H A gv.signature (gv.spec 𝓤 H A at-mem run)
 
 module _ {M : Type 1} (𝓤 : URA M) (H : Heap 𝓤) (A : Atoms 𝓤) (W : Given 𝓤 H A) (at-mem : Memory → SProp 𝓤) (run : Routine → Fun 𝓤)
-    (κ₀ κ₁ κ₂ κ₃ κ₄ κ₅ : Lft) (q₀ q₁ q₂ q₃ q₄ q₅ : Share) (bw ow : ℕ) (γw : GName) (ws : List ℕ) (b o : ℕ) (γ : GName) (ys : List Account) (p reg mo : ℕ) (bb ob : ℕ) (γb : GName) (bs : List ℕ)
+    (κ₀ κ₁ κ₂ κ₃ κ₄ κ₅ : Lft) (q₀ q₁ q₂ q₃ q₄ q₅ : Share) (bw ow : ℕ) (γw : GName) (ws : List ℕ) (b o : ℕ) (γ : GName) (ys : List Account)
+    (p reg mo : ℕ) (bb ob : ℕ) (γb : GName) (bs : List ℕ)
     (bn on : ℕ) (γn : GName) (xn : ℕ) (bq oq : ℕ) (γq : GName) (xq : ℕ) (bp op : ℕ) (γp : GName) (xp : ℕ)
-    (gw : Room u32 (length ws)) (ga : Room R (length ys)) (gp : p < 2 ^ 32) (gr : reg < 2 ^ 32) (gm : mo < 2 ^ 32) (gb : Room u8 (length bs)) where
+    (gw : Room u32 (length ws)) (ga : Room R (length ys)) (gp : p < 2 ^ 32) (gr : reg < 2 ^ 32) (gm : mo < 2 ^ 32)
+    (gb : Room u8 (length bs)) where
   -- the borrows, and the arguments
   abbrev at-words : List ℕ → RefT (List ℕ)
   at-words l = record { ptr = (bw, ow); name = γw; now = l }
@@ -110,21 +137,43 @@ module _ {M : Type 1} (𝓤 : URA M) (H : Heap 𝓤) (A : Atoms 𝓤) (W : Given
   Ob = ShrSlice (named 2) κ₂ u8 .own (at-bytes bs) (sb ∷ [])
 
   abbrev at : Vals f.signature (κ₀, (κ₁, (κ₂, (κ₃, (κ₄, (κ₅, tt))))))
-  at = (sw ∷ [], (sa ∷ [], (vint w32 p ∷ [], (vint w32 reg ∷ [], (vint w32 mo ∷ [], (sb ∷ [], (vptr bn on ∷ [], (vptr bq oq ∷ [], (vptr bp op ∷ [], tt)))))))))
+  at = (
+    sw ∷ [],
+    (
+      sa ∷ [],
+      (vint w32 p ∷ [], (vint w32 reg ∷ [], (vint w32 mo ∷ [], (sb ∷ [], (vptr bn on ∷ [], (vptr bq oq ∷ [], (vptr bp op ∷ [], tt))))))),
+    ),
+  )
 
   abbrev Post : Val → SProp 𝓤
-  Post = walkOf 𝓤 H A f.ended stayed (f.clauses 𝓤 H A at-mem run) .post (((κ₀, (κ₁, (κ₂, (κ₃, (κ₄, (κ₅, tt)))))), (q₀, (q₁, (q₂, (q₃, (q₄, (q₅, tt)))))), tt, x, at), tt)
+  Post = walkOf 𝓤 H A f.ended stayed (f.clauses 𝓤 H A at-mem run) .post
+      (((κ₀, (κ₁, (κ₂, (κ₃, (κ₄, (κ₅, tt)))))), (q₀, (q₁, (q₂, (q₃, (q₄, (q₅, tt)))))), tt, x, at), tt)
 
-  exits : (k : ℕ) (v : Val) (zs : List ℕ) (l : List Account) (a q m : ℕ) → length zs ≡ length ws → length l ≡ length ys → SetAllPost p reg mo bs ws zs ys l (given k q m a)
-      → ent 𝓤 (⋆ 𝓤 H A ((‵ (flft κ₀ q₀) ⊛ ‵ (flft κ₁ q₁) ⊛ ‵ (flft κ₂ q₂) ⊛ ‵ ftrue) ∷ (‵ (flft κ₃ q₃) ⊛ ‵ (flft κ₄ q₄) ⊛ ‵ (flft κ₅ q₅) ⊛ ‵ ftrue) ∷ ‵ (finally u32 γw zs) ∷ ‵ (finally R γ l) ∷ ‵ Ob ∷ ‵ (fres γn (u32 .coded .code a)) ∷ ‵ (fres γq (u32 .coded .code q)) ∷ ‵ (fres γp (u32 .coded .code m)) ∷ ‵ (u32 .own k (v ∷ [])) ∷ [])) (Post v)
+  exits : (k : ℕ) (v : Val) (zs : List ℕ) (l : List Account) (a q m : ℕ) → length zs ≡ length ws → length l ≡ length ys
+      → SetAllPost p reg mo bs ws zs ys l (given k q m a)
+      → ent 𝓤
+      (⋆ 𝓤 H A
+      ((‵ (flft κ₀ q₀) ⊛ ‵ (flft κ₁ q₁) ⊛ ‵ (flft κ₂ q₂) ⊛ ‵ ftrue) ∷ (‵ (flft κ₃ q₃) ⊛ ‵ (flft κ₄ q₄) ⊛ ‵ (flft κ₅ q₅) ⊛ ‵ ftrue)
+      ∷ ‵ (finally u32 γw zs) ∷ ‵ (finally R γ l) ∷ ‵ Ob ∷ ‵ (fres γn (u32 .coded .code a)) ∷ ‵ (fres γq (u32 .coded .code q))
+      ∷ ‵ (fres γp (u32 .coded .code m)) ∷ ‵ (u32 .own k (v ∷ [])) ∷ [])) (Post v)
   exits k v zs l a q m ew el post =
-      qed W ((‵ (flft κ₀ q₀) ⊛ ‵ (flft κ₁ q₁) ⊛ ‵ (flft κ₂ q₂) ⊛ ‵ ftrue) ∷ (‵ (flft κ₃ q₃) ⊛ ‵ (flft κ₄ q₄) ⊛ ‵ (flft κ₅ q₅) ⊛ ‵ ftrue) ∷ ‵ (finally u32 γw zs) ∷ ‵ (finally R γ l) ∷ ‵ Ob ∷ ‵ (fres γn (u32 .coded .code a)) ∷ ‵ (fres γq (u32 .coded .code q)) ∷ ‵ (fres γp (u32 .coded .code m)) ∷ ‵ (u32 .own k (v ∷ [])) ∷ []) ∵
-      suffices ! _ (ends-at 𝓤 H A f.ended stayed (f.clauses 𝓤 H A at-mem run) W (((κ₀, (κ₁, (κ₂, (κ₃, (κ₄, (κ₅, tt)))))), (q₀, (q₁, (q₂, (q₃, (q₄, (q₅, tt)))))), tt, x, at), tt) v k (zs, (l, (tt, (tt, (tt, (tt, (a, (q, (m, tt))))))))) (ew, (el, (tt, (tt, (tt, (tt, (tt, (tt, (tt, tt)))))))))) $ says ! post $
+      qed W ((‵ (flft κ₀ q₀) ⊛ ‵ (flft κ₁ q₁) ⊛ ‵ (flft κ₂ q₂) ⊛ ‵ ftrue) ∷ (‵ (flft κ₃ q₃) ⊛ ‵ (flft κ₄ q₄) ⊛ ‵ (flft κ₅ q₅) ⊛ ‵ ftrue)
+      ∷ ‵ (finally u32 γw zs) ∷ ‵ (finally R γ l) ∷ ‵ Ob ∷ ‵ (fres γn (u32 .coded .code a)) ∷ ‵ (fres γq (u32 .coded .code q))
+      ∷ ‵ (fres γp (u32 .coded .code m)) ∷ ‵ (u32 .own k (v ∷ [])) ∷ []) ∵
+      suffices ! _
+      (ends-at 𝓤 H A f.ended stayed (f.clauses 𝓤 H A at-mem run) W
+      (((κ₀, (κ₁, (κ₂, (κ₃, (κ₄, (κ₅, tt)))))), (q₀, (q₁, (q₂, (q₃, (q₄, (q₅, tt)))))), tt, x, at), tt) v k
+      (zs, (l, (tt, (tt, (tt, (tt, (a, (q, (m, tt))))))))) (ew, (el, (tt, (tt, (tt, (tt, (tt, (tt, (tt, tt)))))))))) $ says ! post $
       -- the six tokens
-      split ! $ move ! (1 ∷ []) $ split ! $ move ! (1 ∷ []) $ split ! $ move ! (0 ∷ 4 ∷ []) $ join ! $ move ! (2 ∷ 0 ∷ []) $ join ! $ move ! (2 ∷ 0 ∷ []) $ join ! $ frame ! $ drop ! $
+      split ! $ move ! (1 ∷ []) $ split ! $ move ! (1 ∷ []) $ split ! $ move ! (0 ∷ 4 ∷ []) $ join ! $ move ! (2 ∷ 0 ∷ []) $ join ! $
+      move ! (2 ∷ 0 ∷ []) $ join ! $ frame ! $ drop ! $
       -- [the words' last list; the accounts'; the bytes; the node; the rounds; the peak; the result]
-      nothing ! $ move ! (6 ∷ 0 ∷ []) $ fjoin ! $ move ! (5 ∷ 0 ∷ []) $ fjoin ! $ move ! (4 ∷ 0 ∷ []) $ fjoin ! $ move ! (3 ∷ 0 ∷ []) $ fjoin ! $
-      owned ! u32 (Is u32) (uint-makes 𝓤 H A W w32) mo _ (refl, gm) $ fjoin ! $ owned ! u32 (Is u32) (uint-makes 𝓤 H A W w32) reg _ (refl, gr) $ fjoin ! $ owned ! u32 (Is u32) (uint-makes 𝓤 H A W w32) p _ (refl, gp) $ fjoin ! $ move ! (2 ∷ 0 ∷ []) $ fjoin ! $ move ! (1 ∷ 0 ∷ []) $ fjoin ! $ done !
+      nothing ! $ move ! (6 ∷ 0 ∷ []) $ fjoin ! $ move ! (5 ∷ 0 ∷ []) $ fjoin ! $ move ! (4 ∷ 0 ∷ []) $ fjoin ! $ move ! (3 ∷ 0 ∷ []) $
+      fjoin ! $
+      owned ! u32 (Is u32) (uint-makes 𝓤 H A W w32) mo _ (refl, gm) $ fjoin ! $
+      owned ! u32 (Is u32) (uint-makes 𝓤 H A W w32) reg _ (refl, gr) $ fjoin ! $
+      owned ! u32 (Is u32) (uint-makes 𝓤 H A W w32) p _ (refl, gp) $ fjoin ! $ move ! (2 ∷ 0 ∷ []) $ fjoin ! $ move ! (1 ∷ 0 ∷ []) $
+      fjoin ! $ done !
 
   -- what each callee is passed
   abbrev SetArgs : Type 0
@@ -134,14 +183,33 @@ module _ {M : Type 1} (𝓤 : URA M) (H : Heap 𝓤) (A : Atoms 𝓤) (W : Given
   set-args = (at-words ws, (at-list ys, (p, (reg, (mo, (at-bytes bs, tt))))))
 
   abbrev to-set : Set 𝓤 H A at-mem run .Ghost
-  to-set = (((κ₀, (κ₁, (κ₂, tt))), (q₀, (q₁, (q₂, tt))), tt, set-args, (sw ∷ [], (sa ∷ [], (vint w32 p ∷ [], (vint w32 reg ∷ [], (vint w32 mo ∷ [], (sb ∷ [], tt))))))), tt)
+  to-set = (
+    (
+      (κ₀, (κ₁, (κ₂, tt))),
+      (q₀, (q₁, (q₂, tt))),
+      tt,
+      set-args,
+      (sw ∷ [], (sa ∷ [], (vint w32 p ∷ [], (vint w32 reg ∷ [], (vint w32 mo ∷ [], (sb ∷ [], tt)))))),
+    ),
+    tt,
+  )
 
-  goes-set : ent 𝓤 (⋆ 𝓤 H A ((‵ (flft κ₀ q₀) ⊛ (‵ (flft κ₁ q₁) ⊛ ‵ (flft κ₂ q₂))) ∷ (‵ (MutSlice (named 0) κ₀ u32 .own (at-words ws) (sw ∷ [])) ⊛ ‵ (MutSlice (named 1) κ₁ R .own (at-list ys) (sa ∷ []))) ∷ ‵ Ob ∷ [])) (Set 𝓤 H A at-mem run .pre to-set)
+  goes-set : ent 𝓤
+      (⋆ 𝓤 H A
+      ((‵ (flft κ₀ q₀) ⊛ (‵ (flft κ₁ q₁) ⊛ ‵ (flft κ₂ q₂)))
+      ∷ (‵ (MutSlice (named 0) κ₀ u32 .own (at-words ws) (sw ∷ [])) ⊛ ‵ (MutSlice (named 1) κ₁ R .own (at-list ys) (sa ∷ []))) ∷ ‵ Ob ∷ []))
+      (Set 𝓤 H A at-mem run .pre to-set)
   goes-set =
-      qed W ((‵ (flft κ₀ q₀) ⊛ (‵ (flft κ₁ q₁) ⊛ ‵ (flft κ₂ q₂))) ∷ (‵ (MutSlice (named 0) κ₀ u32 .own (at-words ws) (sw ∷ [])) ⊛ ‵ (MutSlice (named 1) κ₁ R .own (at-list ys) (sa ∷ []))) ∷ ‵ Ob ∷ []) ∵
-      split ! $ move ! (1 ∷ []) $ split ! $ nothing ! $ move ! (2 ∷ 0 ∷ []) $ join ! $ move ! (1 ∷ 0 ∷ []) $ join ! $ move ! (1 ∷ 0 ∷ []) $ join ! $
+      qed W ((‵ (flft κ₀ q₀) ⊛ (‵ (flft κ₁ q₁) ⊛ ‵ (flft κ₂ q₂)))
+      ∷ (‵ (MutSlice (named 0) κ₀ u32 .own (at-words ws) (sw ∷ [])) ⊛ ‵ (MutSlice (named 1) κ₁ R .own (at-list ys) (sa ∷ []))) ∷ ‵ Ob
+      ∷ []) ∵
+      split ! $ move ! (1 ∷ []) $ split ! $ nothing ! $ move ! (2 ∷ 0 ∷ []) $ join ! $ move ! (1 ∷ 0 ∷ []) $ join ! $ move ! (1 ∷ 0 ∷ []) $
+      join ! $
       -- [the tokens; the words and the accounts; the bytes]
-      nothing ! $ move ! (3 ∷ 0 ∷ []) $ fjoin ! $ owned ! u32 (Is u32) (uint-makes 𝓤 H A W w32) mo _ (refl, gm) $ fjoin ! $ owned ! u32 (Is u32) (uint-makes 𝓤 H A W w32) reg _ (refl, gr) $ fjoin ! $ owned ! u32 (Is u32) (uint-makes 𝓤 H A W w32) p _ (refl, gp) $ fjoin ! $ move ! (2 ∷ []) $ split ! $ move ! (1 ∷ 2 ∷ []) $ fjoin ! $ move ! (1 ∷ 0 ∷ []) $ fjoin ! $ move ! (1 ∷ 0 ∷ []) $ join ! $ frame ! $ done !
+      nothing ! $ move ! (3 ∷ 0 ∷ []) $ fjoin ! $ owned ! u32 (Is u32) (uint-makes 𝓤 H A W w32) mo _ (refl, gm) $ fjoin ! $
+      owned ! u32 (Is u32) (uint-makes 𝓤 H A W w32) reg _ (refl, gr) $ fjoin ! $
+      owned ! u32 (Is u32) (uint-makes 𝓤 H A W w32) p _ (refl, gp) $ fjoin ! $ move ! (2 ∷ []) $ split ! $ move ! (1 ∷ 2 ∷ []) $
+      fjoin ! $ move ! (1 ∷ 0 ∷ []) $ fjoin ! $ move ! (1 ∷ 0 ∷ []) $ join ! $ frame ! $ done !
 
   abbrev GiveArgs : Type 0
   GiveArgs = Stored × (RefT ℕ × (RefT ℕ × (RefT ℕ × Unit {0})))
@@ -150,19 +218,50 @@ module _ {M : Type 1} (𝓤 : URA M) (H : Heap 𝓤) (A : Atoms 𝓤) (W : Given
   give-args r = (r, (at-node, (at-rounds, (at-peak, tt))))
 
   abbrev to-give : Stored → Val → Give 𝓤 H A at-mem run .Ghost
-  to-give r u = (((κ₃, (κ₄, (κ₅, tt))), (q₃, (q₄, (q₅, tt))), tt, give-args r, (u ∷ [], (vptr bn on ∷ [], (vptr bq oq ∷ [], (vptr bp op ∷ [], tt))))), tt)
+  to-give r u = (
+    ((κ₃, (κ₄, (κ₅, tt))), (q₃, (q₄, (q₅, tt))), tt, give-args r, (u ∷ [], (vptr bn on ∷ [], (vptr bq oq ∷ [], (vptr bp op ∷ [], tt))))),
+    tt,
+  )
 
-  goes-give : (r : Stored) (u : Val) → Is S.the-row r (u ∷ []) → ent 𝓤 (⋆ 𝓤 H A ((‵ (flft κ₃ q₃) ⊛ ‵ (flft κ₄ q₄) ⊛ ‵ (flft κ₅ q₅) ⊛ ‵ ftrue) ∷ ‵ (MutRef (named 3) κ₃ u32 .own at-node (vptr bn on ∷ [])) ∷ (‵ (MutRef (named 4) κ₄ u32 .own at-rounds (vptr bq oq ∷ [])) ⊛ ‵ (MutRef (named 5) κ₅ u32 .own at-peak (vptr bp op ∷ []))) ∷ [])) (Give 𝓤 H A at-mem run .pre (to-give r u))
+  goes-give : (r : Stored) (u : Val) → Is S.the-row r (u ∷ [])
+      → ent 𝓤
+      (⋆ 𝓤 H A
+      ((‵ (flft κ₃ q₃) ⊛ ‵ (flft κ₄ q₄) ⊛ ‵ (flft κ₅ q₅) ⊛ ‵ ftrue) ∷ ‵ (MutRef (named 3) κ₃ u32 .own at-node (vptr bn on ∷ []))
+      ∷ (‵ (MutRef (named 4) κ₄ u32 .own at-rounds (vptr bq oq ∷ [])) ⊛ ‵ (MutRef (named 5) κ₅ u32 .own at-peak (vptr bp op ∷ []))) ∷ []))
+      (Give 𝓤 H A at-mem run .pre (to-give r u))
   goes-give r u is =
-      qed W ((‵ (flft κ₃ q₃) ⊛ ‵ (flft κ₄ q₄) ⊛ ‵ (flft κ₅ q₅) ⊛ ‵ ftrue) ∷ ‵ (MutRef (named 3) κ₃ u32 .own at-node (vptr bn on ∷ [])) ∷ (‵ (MutRef (named 4) κ₄ u32 .own at-rounds (vptr bq oq ∷ [])) ⊛ ‵ (MutRef (named 5) κ₅ u32 .own at-peak (vptr bp op ∷ []))) ∷ []) ∵ move ! (2 ∷ []) $ split ! $ nothing ! $ move ! (2 ∷ 0 ∷ []) $ fjoin ! $ move ! (1 ∷ 0 ∷ []) $ fjoin ! $ move ! (2 ∷ 0 ∷ []) $ fjoin ! $
-      owned ! S.the-row (Is S.the-row) ((EL.makes S.the-type S′.the-plain) 𝓤 H A) r _ is $ fjoin ! $ move ! (1 ∷ 0 ∷ []) $ join ! $ frame ! $ done !
+      qed W ((‵ (flft κ₃ q₃) ⊛ ‵ (flft κ₄ q₄) ⊛ ‵ (flft κ₅ q₅) ⊛ ‵ ftrue) ∷ ‵ (MutRef (named 3) κ₃ u32 .own at-node (vptr bn on ∷ []))
+      ∷ (‵ (MutRef (named 4) κ₄ u32 .own at-rounds (vptr bq oq ∷ [])) ⊛ ‵ (MutRef (named 5) κ₅ u32 .own at-peak (vptr bp op ∷ [])))
+      ∷ []) ∵ move ! (2 ∷ []) $ split ! $ nothing ! $ move ! (2 ∷ 0 ∷ []) $ fjoin ! $ move ! (1 ∷ 0 ∷ []) $ fjoin ! $
+      move ! (2 ∷ 0 ∷ []) $ fjoin ! $
+      owned ! S.the-row (Is S.the-row) ((EL.makes S.the-type S′.the-plain) 𝓤 H A) r _ is $ fjoin ! $ move ! (1 ∷ 0 ∷ []) $ join ! $
+      frame ! $ done !
 
-  module _ (C : Calls 𝓤 H) (Λ : Loops 𝓤 H) (fm : FmC 𝓤 H (W .laws) C) (known-set : Triple 𝓤 (C #calls·set) (Set 𝓤 H A at-mem run)) (known-give : Triple 𝓤 (C #exports·give-stored) (Give 𝓤 H A at-mem run)) where
-    walk : ent 𝓤 (onEntry 𝓤 H A f.signature (κ₀, (κ₁, (κ₂, (κ₃, (κ₄, (κ₅, tt)))))) (q₀, (q₁, (q₂, (q₃, (q₄, (q₅, tt)))))) x at) (WpFn 𝓤 H C Λ code.function (sw ∷ sa ∷ vint w32 p ∷ vint w32 reg ∷ vint w32 mo ∷ sb ∷ vptr bn on ∷ vptr bq oq ∷ vptr bp op ∷ []) Post)
+  module _ (C : Calls 𝓤 H) (Λ : Loops 𝓤 H) (fm : FmC 𝓤 H (W .laws) C) (known-set : Triple 𝓤 (C #calls·set) (Set 𝓤 H A at-mem run))
+      (known-give : Triple 𝓤 (C #exports·give-stored) (Give 𝓤 H A at-mem run)) where
+    walk : ent 𝓤 (onEntry 𝓤 H A f.signature (κ₀, (κ₁, (κ₂, (κ₃, (κ₄, (κ₅, tt)))))) (q₀, (q₁, (q₂, (q₃, (q₄, (q₅, tt)))))) x at)
+        (WpFn 𝓤 H C Λ code.function (sw ∷ sa ∷ vint w32 p ∷ vint w32 reg ∷ vint w32 mo ∷ sb ∷ vptr bn on ∷ vptr bq oq ∷ vptr bp op ∷ [])
+        Post)
     walk =
-        qed W ((‵ (flft κ₀ q₀) ⊛ ‵ (flft κ₁ q₁) ⊛ ‵ (flft κ₂ q₂) ⊛ ‵ (flft κ₃ q₃) ⊛ ‵ (flft κ₄ q₄) ⊛ ‵ (flft κ₅ q₅) ⊛ ‵ ftrue) ∷ ‵ (owns (MutSlice (named 0) κ₀ u32 ∷ MutSlice (named 1) κ₁ R ∷ u32 ∷ u32 ∷ u32 ∷ ShrSlice (named 2) κ₂ u8 ∷ MutRef (named 3) κ₃ u32 ∷ MutRef (named 4) κ₄ u32 ∷ MutRef (named 5) κ₅ u32 ∷ []) x at) ∷ []) ∵
+        qed W ((‵ (flft κ₀ q₀) ⊛ ‵ (flft κ₁ q₁) ⊛ ‵ (flft κ₂ q₂) ⊛ ‵ (flft κ₃ q₃) ⊛ ‵ (flft κ₄ q₄) ⊛ ‵ (flft κ₅ q₅) ⊛ ‵ ftrue)
+        ∷ ‵ (owns
+        (MutSlice (named 0) κ₀ u32 ∷ MutSlice (named 1) κ₁ R ∷ u32 ∷ u32 ∷ u32 ∷ ShrSlice (named 2) κ₂ u8 ∷ MutRef (named 3) κ₃ u32
+        ∷ MutRef (named 4) κ₄ u32 ∷ MutRef (named 5) κ₅ u32 ∷ []) x at) ∷ []) ∵
         enter ! C Λ code.function (sw ∷ sa ∷ vint w32 p ∷ vint w32 reg ∷ vint w32 mo ∷ sb ∷ vptr bn on ∷ vptr bq oq ∷ vptr bp op ∷ []) _ $
-        alloc1 ! (λ l₀. alloc1 ! (λ l₁. alloc1 ! (λ l₂. alloc1 ! (λ l₃. alloc1 ! (λ l₄. alloc1 ! (λ l₅. alloc1 ! (λ l₆. alloc1 ! (λ l₇. alloc1 ! (λ l₈. alloc1 ! (λ l₉. alloc1 ! (λ l₁₀. alloc1 ! (λ l₁₁. alloc1 ! (λ l₁₂. alloc1 ! (λ l₁₃. alloc1 ! (λ l₁₄. alloc1 ! (λ l₁₅. alloc1 ! (λ l₁₆. alloc1 ! (λ l₁₇. alloc0 ! $ params1 ! $
+        alloc1 !
+        (λ l₀. alloc1 !
+        (λ l₁. alloc1 !
+        (λ l₂. alloc1 !
+        (λ l₃. alloc1 !
+        (λ l₄. alloc1 !
+        (λ l₅. alloc1 !
+        (λ l₆. alloc1 !
+        (λ l₇. alloc1 !
+        (λ l₈. alloc1 !
+        (λ l₉. alloc1 !
+        (λ l₁₀. alloc1 !
+        (λ l₁₁. alloc1 !
+        (λ l₁₂. alloc1 ! (λ l₁₃. alloc1 ! (λ l₁₄. alloc1 ! (λ l₁₅. alloc1 ! (λ l₁₆. alloc1 ! (λ l₁₇. alloc0 ! $ params1 ! $
         pass1 ! (init ! 32 refl (tt, (tt, (record { fits = gw .0 }, tt)))) $
         pass1 ! (init ! 30 refl (tt, (tt, (record { fits = ga .0 }, tt)))) $
         pass1 ! (init ! 28 refl (tt, record { fits = gp })) $
@@ -173,10 +272,18 @@ module _ {M : Type 1} (𝓤 : URA M) (H : Heap 𝓤) (A : Atoms 𝓤) (W : Given
         pass1 ! (init ! 18 refl (tt, tt)) $
         pass1 ! (init ! 16 refl (tt, tt)) $
         pass0 ! $
-        assigns ! (addr ! (from ! (fld ! refl (hop ! (look-in ! 32 (sub ! 0 refl (whole !))) (stop !))))) (from ! (stop !)) (init ! 12 refl (tt, tt)) $
-        assigns ! (agg ! (and-then ! (load ! (from ! (stop !)) (look ! 12 refl)) (and-then ! (load ! (from ! (fld ! refl (stop !))) (look-in ! 32 (sub ! 1 refl (whole !)))) (no-more !)))) (from ! (stop !)) (init ! 10 refl (tt, (tt, (record { fits = gw .0 }, tt)))) $
-        assigns ! (addr ! (from ! (fld ! refl (hop ! (look-in ! 30 (sub ! 0 refl (whole !))) (stop !))))) (from ! (stop !)) (init ! 8 refl (tt, tt)) $
-        assigns ! (agg ! (and-then ! (load ! (from ! (stop !)) (look ! 8 refl)) (and-then ! (load ! (from ! (fld ! refl (stop !))) (look-in ! 30 (sub ! 1 refl (whole !)))) (no-more !)))) (from ! (stop !)) (init ! 6 refl (tt, (tt, (record { fits = ga .0 }, tt)))) $
+        assigns ! (addr ! (from ! (fld ! refl (hop ! (look-in ! 32 (sub ! 0 refl (whole !))) (stop !))))) (from ! (stop !))
+        (init ! 12 refl (tt, tt)) $
+        assigns !
+        (agg ! (and-then ! (load ! (from ! (stop !)) (look ! 12 refl))
+        (and-then ! (load ! (from ! (fld ! refl (stop !))) (look-in ! 32 (sub ! 1 refl (whole !)))) (no-more !)))) (from ! (stop !))
+        (init ! 10 refl (tt, (tt, (record { fits = gw .0 }, tt)))) $
+        assigns ! (addr ! (from ! (fld ! refl (hop ! (look-in ! 30 (sub ! 0 refl (whole !))) (stop !))))) (from ! (stop !))
+        (init ! 8 refl (tt, tt)) $
+        assigns !
+        (agg ! (and-then ! (load ! (from ! (stop !)) (look ! 8 refl))
+        (and-then ! (load ! (from ! (fld ! refl (stop !))) (look-in ! 30 (sub ! 1 refl (whole !)))) (no-more !)))) (from ! (stop !))
+        (init ! 6 refl (tt, (tt, (record { fits = ga .0 }, tt)))) $
         move ! (37 ∷ []) $
         fsplit ! $
         move ! (1 ∷ []) $
@@ -211,10 +318,25 @@ module _ {M : Type 1} (𝓤 : URA M) (H : Heap 𝓤) (A : Atoms 𝓤) (W : Given
         join ! $
         move ! (1 ∷ 0 ∷ 3 ∷ []) $
         use3 W (raw (Set 𝓤 H A at-mem run .pre to-set)) goes-set $
-        calls-at ! fm (Set 𝓤 H A at-mem run) known-set to-set (and-then ! (load ! (from ! (stop !)) (look ! 20 refl)) (and-then ! (load ! (from ! (stop !)) (look ! 16 refl)) (and-then ! (load ! (from ! (stop !)) (look ! 38 refl)) (and-then ! (load ! (from ! (stop !)) (look ! 36 refl)) (and-then ! (load ! (from ! (stop !)) (look ! 34 refl)) (and-then ! (load ! (from ! (stop !)) (look ! 32 refl)) (no-more !))))))) (λ u.
-        use1 W (later (some (λ (r : Stored). ((‵ (flft κ₀ q₀) ⊛ ‵ (flft κ₁ q₁) ⊛ ‵ (flft κ₂ q₂) ⊛ ‵ ftrue) ⊛ ‵ (S.the-row .own r (u ∷ []))) ⊛ raw (ensured 𝓤 H A st.ended (st.clauses 𝓤 H A at-mem run) (κ₀, (κ₁, (κ₂, tt))) set-args tt r)))) (id⊢ 𝓤 _) $ await ! tt $ pick ! (λ r.
-        split ! $ move ! (1 ∷ []) $ use1 W (some (λ (zs : List ℕ × (List Account × (Unit {0} × (Unit {0} × (Unit {0} × (Unit {0} × Unit {0})))))). ‵ (lasts st.ended (κ₀, (κ₁, (κ₂, tt))) set-args zs) ⊛ raw (fact 𝓤 (SetAllPost p reg mo bs ws (zs .0) ys (zs .1 .0) (storedReply r))))) (id⊢ 𝓤 _) $ pick ! (λ zs.
-        split ! $ move ! (1 ∷ []) $ heard ! (SetAllPost p reg mo bs ws (zs .0) ys (zs .1 .0) (storedReply r)) (λ e. fsplit ! $ fsplit ! $ move ! (1 ∷ []) $ feqL ! (λ lw.
+        calls-at ! fm (Set 𝓤 H A at-mem run) known-set to-set
+        (and-then ! (load ! (from ! (stop !)) (look ! 20 refl))
+        (and-then ! (load ! (from ! (stop !)) (look ! 16 refl))
+        (and-then ! (load ! (from ! (stop !)) (look ! 38 refl))
+        (and-then ! (load ! (from ! (stop !)) (look ! 36 refl))
+        (and-then ! (load ! (from ! (stop !)) (look ! 34 refl))
+        (and-then ! (load ! (from ! (stop !)) (look ! 32 refl)) (no-more !))))))) (λ u.
+        use1 W (later
+        (some (λ (r : Stored). ((‵ (flft κ₀ q₀) ⊛ ‵ (flft κ₁ q₁) ⊛ ‵ (flft κ₂ q₂) ⊛ ‵ ftrue) ⊛ ‵ (S.the-row .own r (u ∷ [])))
+        ⊛ raw (ensured 𝓤 H A st.ended (st.clauses 𝓤 H A at-mem run) (κ₀, (κ₁, (κ₂, tt))) set-args tt r)))) (id⊢ 𝓤 _) $ await ! tt $
+        pick ! (λ r.
+        split ! $ move ! (1 ∷ []) $
+        use1 W (some
+        (λ (zs : List ℕ × (List Account × (Unit {0} × (Unit {0} × (Unit {0} × (Unit {0} × Unit {0})))))).
+        ‵ (lasts st.ended (κ₀, (κ₁, (κ₂, tt))) set-args zs)
+        ⊛ raw (fact 𝓤 (SetAllPost p reg mo bs ws (zs .0) ys (zs .1 .0) (storedReply r))))) (id⊢ 𝓤 _) $ pick ! (λ zs.
+        split ! $ move ! (1 ∷ []) $
+        heard ! (SetAllPost p reg mo bs ws (zs .0) ys (zs .1 .0) (storedReply r))
+        (λ e. fsplit ! $ fsplit ! $ move ! (1 ∷ []) $ feqL ! (λ lw.
         move ! (1 ∷ []) $
         fsplit ! $ fsplit ! $ move ! (1 ∷ []) $ feqL ! (λ la.
         move ! (3 ∷ []) $
@@ -229,10 +351,21 @@ module _ {M : Type 1} (𝓤 : URA M) (H : Heap 𝓤) (A : Atoms 𝓤) (W : Given
         join ! $
         move ! (7 ∷ 9 ∷ 0 ∷ []) $
         use3 W (raw (Give 𝓤 H A at-mem run .pre (to-give r u))) (goes-give r u is) $
-        calls-at ! fm (Give 𝓤 H A at-mem run) known-give (to-give r u) (and-then ! (load ! (from ! (stop !)) (look ! 25 refl)) (and-then ! (load ! (from ! (stop !)) (look ! 15 refl)) (and-then ! (load ! (from ! (stop !)) (look ! 13 refl)) (and-then ! (load ! (from ! (stop !)) (look ! 11 refl)) (no-more !))))) (λ v.
-        use1 W (later (some (λ (k : ℕ). ((‵ (flft κ₃ q₃) ⊛ ‵ (flft κ₄ q₄) ⊛ ‵ (flft κ₅ q₅) ⊛ ‵ ftrue) ⊛ ‵ (u32 .own k (v ∷ []))) ⊛ raw (ensured 𝓤 H A gv.ended (gv.clauses 𝓤 H A at-mem run) (κ₃, (κ₄, (κ₅, tt))) (give-args r) tt k)))) (id⊢ 𝓤 _) $ await ! tt $ pick ! (λ k.
-        split ! $ move ! (1 ∷ []) $ use1 W (some (λ (ls : Unit {0} × (ℕ × (ℕ × (ℕ × Unit {0})))). ‵ (lasts gv.ended (κ₃, (κ₄, (κ₅, tt))) (give-args r) ls) ⊛ raw (fact 𝓤 (given k (ls .1 .1 .0) (ls .1 .1 .1 .0) (ls .1 .0) ≡ storedReply r)))) (id⊢ 𝓤 _) $ pick ! (λ ls.
-        split ! $ move ! (1 ∷ []) $ heard ! (given k (ls .1 .1 .0) (ls .1 .1 .1 .0) (ls .1 .0) ≡ storedReply r) (λ ek. fsplit ! $ drop ! $ fsplit ! $
+        calls-at ! fm (Give 𝓤 H A at-mem run) known-give (to-give r u)
+        (and-then ! (load ! (from ! (stop !)) (look ! 25 refl))
+        (and-then ! (load ! (from ! (stop !)) (look ! 15 refl))
+        (and-then ! (load ! (from ! (stop !)) (look ! 13 refl)) (and-then ! (load ! (from ! (stop !)) (look ! 11 refl)) (no-more !)))))
+        (λ v.
+        use1 W (later
+        (some (λ (k : ℕ). ((‵ (flft κ₃ q₃) ⊛ ‵ (flft κ₄ q₄) ⊛ ‵ (flft κ₅ q₅) ⊛ ‵ ftrue) ⊛ ‵ (u32 .own k (v ∷ [])))
+        ⊛ raw (ensured 𝓤 H A gv.ended (gv.clauses 𝓤 H A at-mem run) (κ₃, (κ₄, (κ₅, tt))) (give-args r) tt k)))) (id⊢ 𝓤 _) $ await ! tt $
+        pick ! (λ k.
+        split ! $ move ! (1 ∷ []) $
+        use1 W (some
+        (λ (ls : Unit {0} × (ℕ × (ℕ × (ℕ × Unit {0})))). ‵ (lasts gv.ended (κ₃, (κ₄, (κ₅, tt))) (give-args r) ls)
+        ⊛ raw (fact 𝓤 (given k (ls .1 .1 .0) (ls .1 .1 .1 .0) (ls .1 .0) ≡ storedReply r)))) (id⊢ 𝓤 _) $ pick ! (λ ls.
+        split ! $ move ! (1 ∷ []) $
+        heard ! (given k (ls .1 .1 .0) (ls .1 .1 .1 .0) (ls .1 .0) ≡ storedReply r) (λ ek. fsplit ! $ drop ! $ fsplit ! $
         move ! (1 ∷ []) $
         fsplit ! $
         move ! (1 ∷ []) $
@@ -299,24 +432,56 @@ module _ {M : Type 1} (𝓤 : URA M) (H : Heap 𝓤) (A : Atoms 𝓤) (W : Given
         free1 ! $
         free0 ! $
         keep ! (7 ∷ 1 ∷ 10 ∷ 8 ∷ 11 ∷ 5 ∷ 4 ∷ 2 ∷ 0 ∷ []) $
-        by ! (exits k v (zs .0) (zs .1 .0) (ls .1 .0) (ls .1 .1 .0) (ls .1 .1 .1 .0) lw la (subst (SetAllPost p reg mo bs ws (zs .0) ys (zs .1 .0)) (sym ek) e))))))))))))))))))))))))))))))))
+        by ! (exits k v (zs .0) (zs .1 .0) (ls .1 .0) (ls .1 .1 .0) (ls .1 .1 .1 .0) lw la
+        (subst (SetAllPost p reg mo bs ws (zs .0) ys (zs .1 .0)) (sym ek) e))))))))))))))))))))))))))))))))
 
 module _ {M : Type 1} (𝓤 : URA M) (H : Heap 𝓤) (A : Atoms 𝓤) (W : Given 𝓤 H A) (at-mem : Memory → SProp 𝓤) (run : Routine → Fun 𝓤) where
-  set-walks : (C : Calls 𝓤 H) (Λ : Loops 𝓤 H) → FmC 𝓤 H (W .laws) C → Triple 𝓤 (C #calls·set) (Set 𝓤 H A at-mem run) → Triple 𝓤 (C #exports·give-stored) (Give 𝓤 H A at-mem run)
+  set-walks : (C : Calls 𝓤 H) (Λ : Loops 𝓤 H) → FmC 𝓤 H (W .laws) C → Triple 𝓤 (C #calls·set) (Set 𝓤 H A at-mem run)
+      → Triple 𝓤 (C #exports·give-stored) (Give 𝓤 H A at-mem run)
       → Walks 𝓤 H A f.ended stayed (WpFn 𝓤 H C Λ code.function) (f.clauses 𝓤 H A at-mem run)
   set-walks C Λ fm known-set known-give = walked 𝓤 H A f.ended stayed (f.clauses 𝓤 H A at-mem run) (WpFn 𝓤 H C Λ code.function)
-      (λ κs. (slice-vals, (slice-vals, (uint-vals w32, (uint-vals w32, (uint-vals w32, (slice-vals, (ptr-vals, (ptr-vals, (ptr-vals, tt))))))))))
-      (λ κs. (mut-slice-tells (named 0) (κs .0) u32, (mut-slice-tells (named 1) (κs .1 .0) R, (uint-tells w32, (uint-tells w32, (uint-tells w32, (shr-slice-tells (named 2) (κs .1 .1 .0) u8, (mut-tells (named 3) (κs .1 .1 .1 .0) u32, (mut-tells (named 4) (κs .1 .1 .1 .1 .0) u32, (mut-tells (named 5) (κs .1 .1 .1 .1 .1 .0) u32, tt))))))))))
+      (λ κs. (
+        slice-vals,
+        (slice-vals, (uint-vals w32, (uint-vals w32, (uint-vals w32, (slice-vals, (ptr-vals, (ptr-vals, (ptr-vals, tt)))))))),
+      ))
+      (λ κs. (
+        mut-slice-tells (named 0) (κs .0) u32,
+        (
+          mut-slice-tells (named 1) (κs .1 .0) R,
+          (
+            uint-tells w32,
+            (
+              uint-tells w32,
+              (
+                uint-tells w32,
+                (
+                  shr-slice-tells (named 2) (κs .1 .1 .0) u8,
+                  (
+                    mut-tells (named 3) (κs .1 .1 .1 .0) u32,
+                    (mut-tells (named 4) (κs .1 .1 .1 .1 .0) u32, (mut-tells (named 5) (κs .1 .1 .1 .1 .1 .0) u32, tt)),
+                  ),
+                ),
+              ),
+            ),
+          ),
+        ),
+      ))
       (λ κs qs bounds a g are. via 𝓤 _ (fst∗ 𝓤 _ (emp 𝓤))
-      (walk 𝓤 H A W at-mem run (κs .0) (κs .1 .0) (κs .1 .1 .0) (κs .1 .1 .1 .0) (κs .1 .1 .1 .1 .0) (κs .1 .1 .1 .1 .1 .0) (qs .0) (qs .1 .0) (qs .1 .1 .0) (qs .1 .1 .1 .0) (qs .1 .1 .1 .1 .0) (qs .1 .1 .1 .1 .1 .0)
+      (walk 𝓤 H A W at-mem run (κs .0) (κs .1 .0) (κs .1 .1 .0) (κs .1 .1 .1 .0) (κs .1 .1 .1 .1 .0) (κs .1 .1 .1 .1 .1 .0) (qs .0)
+      (qs .1 .0) (qs .1 .1 .0) (qs .1 .1 .1 .0) (qs .1 .1 .1 .1 .0) (qs .1 .1 .1 .1 .1 .0)
       (a .0 .ptr .0) (a .0 .ptr .1) (a .0 .name) (a .0 .now) (a .1 .0 .ptr .0) (a .1 .0 .ptr .1) (a .1 .0 .name) (a .1 .0 .now)
-      (a .1 .1 .0) (a .1 .1 .1 .0) (a .1 .1 .1 .1 .0) (a .1 .1 .1 .1 .1 .0 .ptr .0) (a .1 .1 .1 .1 .1 .0 .ptr .1) (a .1 .1 .1 .1 .1 .0 .name) (a .1 .1 .1 .1 .1 .0 .now)
+      (a .1 .1 .0) (a .1 .1 .1 .0) (a .1 .1 .1 .1 .0) (a .1 .1 .1 .1 .1 .0 .ptr .0) (a .1 .1 .1 .1 .1 .0 .ptr .1)
+      (a .1 .1 .1 .1 .1 .0 .name) (a .1 .1 .1 .1 .1 .0 .now)
       (a .1 .1 .1 .1 .1 .1 .0 .ptr .0) (a .1 .1 .1 .1 .1 .1 .0 .ptr .1) (a .1 .1 .1 .1 .1 .1 .0 .name) (a .1 .1 .1 .1 .1 .1 .0 .now)
-      (a .1 .1 .1 .1 .1 .1 .1 .0 .ptr .0) (a .1 .1 .1 .1 .1 .1 .1 .0 .ptr .1) (a .1 .1 .1 .1 .1 .1 .1 .0 .name) (a .1 .1 .1 .1 .1 .1 .1 .0 .now)
-      (a .1 .1 .1 .1 .1 .1 .1 .1 .0 .ptr .0) (a .1 .1 .1 .1 .1 .1 .1 .1 .0 .ptr .1) (a .1 .1 .1 .1 .1 .1 .1 .1 .0 .name) (a .1 .1 .1 .1 .1 .1 .1 .1 .0 .now)
-      (are .0 .0 .1) (are .1 .0 .0 .1) (are .1 .1 .0 .1) (are .1 .1 .1 .0 .1) (are .1 .1 .1 .1 .0 .1) (are .1 .1 .1 .1 .1 .0 .0 .1) C Λ fm known-set known-give))
+      (a .1 .1 .1 .1 .1 .1 .1 .0 .ptr .0) (a .1 .1 .1 .1 .1 .1 .1 .0 .ptr .1) (a .1 .1 .1 .1 .1 .1 .1 .0 .name)
+      (a .1 .1 .1 .1 .1 .1 .1 .0 .now)
+      (a .1 .1 .1 .1 .1 .1 .1 .1 .0 .ptr .0) (a .1 .1 .1 .1 .1 .1 .1 .1 .0 .ptr .1) (a .1 .1 .1 .1 .1 .1 .1 .1 .0 .name)
+      (a .1 .1 .1 .1 .1 .1 .1 .1 .0 .now)
+      (are .0 .0 .1) (are .1 .0 .0 .1) (are .1 .1 .0 .1) (are .1 .1 .1 .0 .1) (are .1 .1 .1 .1 .0 .1) (are .1 .1 .1 .1 .1 .0 .0 .1) C Λ fm
+      known-set known-give))
 
-set-meets : {M : Type 1} (𝓤 : URA M) (H : Heap 𝓤) (A : Atoms 𝓤) (W : Given 𝓤 H A) (at-mem : Memory → SProp 𝓤) (run : Routine → Fun 𝓤) (𝓣 : Tables 𝓤 H)
+set-meets : {M : Type 1} (𝓤 : URA M) (H : Heap 𝓤) (A : Atoms 𝓤) (W : Given 𝓤 H A) (at-mem : Memory → SProp 𝓤) (run : Routine → Fun 𝓤)
+    (𝓣 : Tables 𝓤 H)
     → Triple 𝓤 (𝓣 .C #calls·set) (Set 𝓤 H A at-mem run) → Triple 𝓤 (𝓣 .C #exports·give-stored) (Give 𝓤 H A at-mem run)
     → Meets 𝓤 H A f.signature (WpFn 𝓤 H (𝓣 .C) (𝓣 .Λ) code.function) (f.spec 𝓤 H A at-mem run)
 set-meets 𝓤 H A W at-mem run 𝓣 known-set known-give =
@@ -330,13 +495,20 @@ set-meets 𝓤 H A W at-mem run 𝓣 known-set known-give =
             goes-none 𝓤 H A W 6 (λ _. u32) yes (λ κs x f. refl),
             (
               goes-none 𝓤 H A W 6 (λ _. u32) yes (λ κs x f. refl),
-              (goes-none-slice 𝓤 H A W 6 (2 ∷ []) tt (plain (λ _. u8)) yes, (goes-gave-ref 𝓤 H A W 6 3 tt (plain (λ _. u32)), (goes-gave-ref 𝓤 H A W 6 4 tt (plain (λ _. u32)), (goes-gave-ref 𝓤 H A W 6 5 tt (plain (λ _. u32)), tt)))),
+              (
+                goes-none-slice 𝓤 H A W 6 (2 ∷ []) tt (plain (λ _. u8)) yes,
+                (
+                  goes-gave-ref 𝓤 H A W 6 3 tt (plain (λ _. u32)),
+                  (goes-gave-ref 𝓤 H A W 6 4 tt (plain (λ _. u32)), (goes-gave-ref 𝓤 H A W 6 5 tt (plain (λ _. u32)), tt)),
+                ),
+              ),
             ),
           ),
         ),
       ),
     ) (f.clauses 𝓤 H A at-mem run)
-    (WpFn 𝓤 H (𝓣 .C) (𝓣 .Λ) code.function) (WpFn-mono 𝓤 H (W .laws) 𝓣 code.function) (set-walks 𝓤 H A W at-mem run (𝓣 .C) (𝓣 .Λ) (fmOf 𝓤 H (W .laws) 𝓣) known-set known-give)
+    (WpFn 𝓤 H (𝓣 .C) (𝓣 .Λ) code.function) (WpFn-mono 𝓤 H (W .laws) 𝓣 code.function)
+    (set-walks 𝓤 H A W at-mem run (𝓣 .C) (𝓣 .Λ) (fmOf 𝓤 H (W .laws) 𝓣) known-set known-give)
 
 pub kudzuclamp-set-spec : {M : Type 1} → stated.statement M
 unfolding code.routine tablesOf
@@ -344,5 +516,7 @@ kudzuclamp-set-spec 𝓤 H 𝓜 𝓖 𝓡 =
     entered 𝓤 H (tripleOf 𝓤 H (𝓖 .A) f.signature (f.spec 𝓤 H (𝓖 .A) (𝓜 .mem) (𝓡 .run)))
     (tables 𝓤 H 𝓜 𝓡 code.env .C) (tables 𝓤 H 𝓜 𝓡 code.env .Λ) #exports·set code.function (code.unfolded 𝓤 H 𝓜 𝓡)
     (set-meets 𝓤 H (𝓖 .A) (givenOf 𝓤 H 𝓜 𝓖) (𝓜 .mem) (𝓡 .run) (tablesOf 𝓤 H 𝓜 (tables 𝓤 H 𝓜 𝓡 code.env))
-    (cited 𝓤 H (Set 𝓤 H (𝓖 .A) (𝓜 .mem) (𝓡 .run)) 𝓜 𝓡 code.env #calls·set set-def.routine code.calls-account-calls·set (set-thm.met 𝓤 H 𝓜 𝓖 𝓡))
-    (cited 𝓤 H (Give 𝓤 H (𝓖 .A) (𝓜 .mem) (𝓡 .run)) 𝓜 𝓡 code.env #exports·give-stored give-def.routine code.calls-exports·give-stored (give-thm.met 𝓤 H 𝓜 𝓖 𝓡)))
+    (cited 𝓤 H (Set 𝓤 H (𝓖 .A) (𝓜 .mem) (𝓡 .run)) 𝓜 𝓡 code.env #calls·set set-def.routine code.calls-account-calls·set
+    (set-thm.met 𝓤 H 𝓜 𝓖 𝓡))
+    (cited 𝓤 H (Give 𝓤 H (𝓖 .A) (𝓜 .mem) (𝓡 .run)) 𝓜 𝓡 code.env #exports·give-stored give-def.routine code.calls-exports·give-stored
+    (give-thm.met 𝓤 H 𝓜 𝓖 𝓡)))

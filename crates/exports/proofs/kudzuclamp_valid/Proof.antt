@@ -18,4 +18,5 @@ kudzuclamp-valid-spec =
     (λ c. search needs)
     (λ c. subst (CallPost _ _ _) (ap confinedReply (c .enum-told .given .1)) (c .before .before .before .before .valid .ensures))
     (λ c. search needs)
-    (λ c. subst (CallPost _ _ _) (ap confinedReply (c .before .before .x .given .1) ∙ ap plain (sym (c .refusal-number .ensures))) (c .before .before .before .before .before .before .valid .ensures)))
+    (λ c. subst (CallPost _ _ _) (ap confinedReply (c .before .before .x .given .1) ∙ ap plain (sym (c .refusal-number .ensures)))
+    (c .before .before .before .before .before .before .valid .ensures)))

@@ -4,7 +4,8 @@ use native.Mathlib.Omega.{arith}
 use mathlib.Core.Path.{refl}
 use Rattle.formula.proofs.Steps.{is-not, is-modal}
 use Rattle.formula.proofs.Passes.{shallower, ans-inside}
-use Rattle.formula.proofs.Scans.{alike-neg, alike-modal, leaf-small, binder-small, scan-zero, scan-bad, scan-token, scan-alike, scan-binder, scan-both, scan-both-bad}
+use Rattle.formula.proofs.Scans.{alike-neg, alike-modal, leaf-small, binder-small, scan-zero, scan-bad, scan-token, scan-alike}
+use Rattle.formula.proofs.Scans.{scan-binder, scan-both, scan-both-bad}
 use Prim.Native.Nat.{ℕ, _<_}
 use borrow.Fn.Kinds.{In}
 use borrow.Fn.PlainCycle.{Measures, is, falls, and}
@@ -53,28 +54,79 @@ pub +scan-at-spec : {M : Type 1} → statement M
     (λ c. c .match .keys1)
     (λ c. c .match .keys2)
     (λ c. scan-bad _ _ _ _ _ _ (c .before .before .before .if1 .left) (c .before .before .lead-at .ensures) (c .enum-told .given .1))
-    (λ c. omega (arith, ans-inside (c .before .before .before .before .before .before .args .n) (c .before .before .before .before .before .before .args .grammar) (c .before .before .before .before .before .before .args .bytes .now) (c .before .before .before .before .before .before .args .at) (c .before .before .before .lead-at .ensures) (c .before .t .given .1)))
+    (λ c. omega (
+      arith,
+      ans-inside (c .before .before .before .before .before .before .args .n)
+          (c .before .before .before .before .before .before .args .grammar)
+          (c .before .before .before .before .before .before .args .bytes .now)
+          (c .before .before .before .before .before .before .args .at)
+          (c .before .before .before .lead-at .ensures) (c .before .t .given .1),
+    ))
     (λ c. search needs)
     (λ c. c .match2 .keys1)
-    (λ c κs. leaf-small _ _ _ _ (c .before .before .before .before .before .before .lead-at .ensures) (c .before .before .before .before .t .given .1) (c .before .t2 .given .1))
+    (λ c κs. leaf-small _ _ _ _ (c .before .before .before .before .before .before .lead-at .ensures)
+    (c .before .before .before .before .t .given .1) (c .before .t2 .given .1))
     (λ c. c .match2 .keys2)
-    (λ c κs. (shallower (c .before .before .before .before .before .before .if1 .left) (c .before .before .before .before .before .before .before .before .pre .0), tt))
+    (λ c κs. (
+      shallower (c .before .before .before .before .before .before .if1 .left)
+          (c .before .before .before .before .before .before .before .before .pre .0),
+      tt,
+    ))
     (λ c. c .match2 .keys3)
-    (λ c κs. (shallower (c .before .before .before .before .before .before .if1 .left) (c .before .before .before .before .before .before .before .before .pre .0), tt))
+    (λ c κs. (
+      shallower (c .before .before .before .before .before .before .if1 .left)
+          (c .before .before .before .before .before .before .before .before .pre .0),
+      tt,
+    ))
     (λ c. c .match3 .keys1)
     (λ c. c .match3 .keys2)
-    (λ c. scan-both-bad _ _ _ _ _ _ (c .before .before .before .before .before .before .before .before .before .if1 .left) (c .before .before .before .before .before .before .before .before .lead-at .ensures) (c .before .before .before .before .before .before .t .given .1) (c .before .before .before .enum-told3 .given .1) (c .before .before .scan-at2 .ensures) (c .enum-told4 .given .1))
-    (λ c κs. (shallower (c .before .before .before .before .before .before .before .before .before .before .if1 .left) (c .before .before .before .before .before .before .before .before .before .before .before .before .pre .0), tt))
+    (λ c. scan-both-bad _ _ _ _ _ _ (c .before .before .before .before .before .before .before .before .before .if1 .left)
+    (c .before .before .before .before .before .before .before .before .lead-at .ensures)
+    (c .before .before .before .before .before .before .t .given .1) (c .before .before .before .enum-told3 .given .1)
+    (c .before .before .scan-at2 .ensures) (c .enum-told4 .given .1))
+    (λ c κs. (
+      shallower (c .before .before .before .before .before .before .before .before .before .before .if1 .left)
+          (c .before .before .before .before .before .before .before .before .before .before .before .before .pre .0),
+      tt,
+    ))
     (λ c κs. tt)
     (λ c. c .match2 .keys4)
-    (λ c κs. (shallower (c .before .before .before .before .before .before .if1 .left) (c .before .before .before .before .before .before .before .before .pre .0), tt))
+    (λ c κs. (
+      shallower (c .before .before .before .before .before .before .if1 .left)
+          (c .before .before .before .before .before .before .before .before .pre .0),
+      tt,
+    ))
     (λ c. c .match2 .keys5)
-    (λ c κs. binder-small _ _ _ _ (c .before .before .before .before .before .before .lead-at .ensures) (c .before .before .before .before .t .given .1) (c .before .t3 .given .1))
-    (λ c κs. binder-small _ _ _ _ (c .before .before .before .before .before .before .before .lead-at .ensures) (c .before .before .before .before .before .t .given .1) (c .before .before .t3 .given .1))
-    (λ c κs. (shallower (c .before .before .before .before .before .before .before .before .before .if1 .left) (c .before .before .before .before .before .before .before .before .before .before .before .pre .0), tt))
-    (λ c κs. binder-small _ _ _ _ (c .before .before .before .before .before .before .before .before .before .lead-at .ensures) (c .before .before .before .before .before .before .before .t .given .1) (c .before .before .before .before .t3 .given .1))
-    (λ c. scan-token _ _ _ _ _ _ (c .before .before .before .before .before .before .before .before .if1 .left) (c .before .before .before .before .before .before .before .lead-at .ensures) (c .before .before .before .before .before .t .given .1) (c .before .before .t2 .given .1) (c .leaf-scan .ensures))
-    (λ c. scan-alike _ _ _ _ _ _ (c .before .before .before .before .before .before .before .if1 .left) (c .before .before .before .before .before .before .lead-at .ensures) (c .before .before .before .before .t .given .1) (c .before .enum-told2 .given .1) is-not alike-neg (c .scan-at .ensures))
-    (λ c. scan-both _ _ _ _ _ _ (c .before .before .before .before .before .before .before .before .before .before .before .before .if1 .left) (c .before .before .before .before .before .before .before .before .before .before .before .lead-at .ensures) (c .before .before .before .before .before .before .before .before .before .t .given .1) (c .before .before .before .before .before .before .enum-told3 .given .1) (c .before .before .before .before .before .scan-at2 .ensures) (c .before .before .before .mid .given .1) (c .before .scan-at3 .ensures) (c .joined .ensures))
-    (λ c. scan-alike _ _ _ _ _ _ (c .before .before .before .before .before .before .before .if1 .left) (c .before .before .before .before .before .before .lead-at .ensures) (c .before .before .before .before .t .given .1) (c .before .enum-told5 .given .1) (is-modal _ _) (alike-modal (c .before .enum-told5 .given .0 .0) (c .before .enum-told5 .given .0 .1 .0)) (c .scan-at4 .ensures))
-    (λ c. scan-binder _ _ _ _ _ _ (c .before .before .before .before .before .before .before .before .before .before .before .if1 .left) (c .before .before .before .before .before .before .before .before .before .before .lead-at .ensures) (c .before .before .before .before .before .before .before .before .t .given .1) (c .before .before .before .before .before .t3 .given .1) (c .before .before .before .has .ensures) (c .before .before .single .ensures) refl (c .before .scan-at5 .ensures) (c .closed .ensures))
+    (λ c κs. binder-small _ _ _ _ (c .before .before .before .before .before .before .lead-at .ensures)
+    (c .before .before .before .before .t .given .1) (c .before .t3 .given .1))
+    (λ c κs. binder-small _ _ _ _ (c .before .before .before .before .before .before .before .lead-at .ensures)
+    (c .before .before .before .before .before .t .given .1) (c .before .before .t3 .given .1))
+    (λ c κs. (
+      shallower (c .before .before .before .before .before .before .before .before .before .if1 .left)
+          (c .before .before .before .before .before .before .before .before .before .before .before .pre .0),
+      tt,
+    ))
+    (λ c κs. binder-small _ _ _ _ (c .before .before .before .before .before .before .before .before .before .lead-at .ensures)
+    (c .before .before .before .before .before .before .before .t .given .1) (c .before .before .before .before .t3 .given .1))
+    (λ c. scan-token _ _ _ _ _ _ (c .before .before .before .before .before .before .before .before .if1 .left)
+    (c .before .before .before .before .before .before .before .lead-at .ensures)
+    (c .before .before .before .before .before .t .given .1) (c .before .before .t2 .given .1) (c .leaf-scan .ensures))
+    (λ c. scan-alike _ _ _ _ _ _ (c .before .before .before .before .before .before .before .if1 .left)
+    (c .before .before .before .before .before .before .lead-at .ensures) (c .before .before .before .before .t .given .1)
+    (c .before .enum-told2 .given .1) is-not alike-neg (c .scan-at .ensures))
+    (λ c. scan-both _ _ _ _ _ _
+    (c .before .before .before .before .before .before .before .before .before .before .before .before .if1 .left)
+    (c .before .before .before .before .before .before .before .before .before .before .before .lead-at .ensures)
+    (c .before .before .before .before .before .before .before .before .before .t .given .1)
+    (c .before .before .before .before .before .before .enum-told3 .given .1)
+    (c .before .before .before .before .before .scan-at2 .ensures) (c .before .before .before .mid .given .1)
+    (c .before .scan-at3 .ensures) (c .joined .ensures))
+    (λ c. scan-alike _ _ _ _ _ _ (c .before .before .before .before .before .before .before .if1 .left)
+    (c .before .before .before .before .before .before .lead-at .ensures) (c .before .before .before .before .t .given .1)
+    (c .before .enum-told5 .given .1) (is-modal _ _)
+    (alike-modal (c .before .enum-told5 .given .0 .0) (c .before .enum-told5 .given .0 .1 .0)) (c .scan-at4 .ensures))
+    (λ c. scan-binder _ _ _ _ _ _ (c .before .before .before .before .before .before .before .before .before .before .before .if1 .left)
+    (c .before .before .before .before .before .before .before .before .before .before .lead-at .ensures)
+    (c .before .before .before .before .before .before .before .before .t .given .1)
+    (c .before .before .before .before .before .t3 .given .1) (c .before .before .before .has .ensures)
+    (c .before .before .single .ensures) refl (c .before .scan-at5 .ensures) (c .closed .ensures))

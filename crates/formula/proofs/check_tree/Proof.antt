@@ -14,16 +14,58 @@ check-tree-spec =
     (λ c. c .match .keys1)
     (λ c. c .match .keys2)
     (λ c. unscanned _ _ _ _ _ (c .before .before .scan-at .ensures) (c .enum-told .given .1))
-    (λ c. verdict _ _ _ _ _ (c .before .before .before .before .scan-at .ensures) (c .before .before .bound .given .1) (not-true _ (c .if1 .taken)) refl refl refl)
-    (λ c. verdict _ _ _ _ _ (c .before .before .before .before .before .scan-at .ensures) (c .before .before .before .bound .given .1) (not-false _ (c .before .if1 .left)) (not-true _ (c .if2 .taken)) refl refl)
+    (λ c. verdict _ _ _ _ _ (c .before .before .before .before .scan-at .ensures) (c .before .before .bound .given .1)
+    (not-true _ (c .if1 .taken)) refl refl refl)
+    (λ c. verdict _ _ _ _ _ (c .before .before .before .before .before .scan-at .ensures) (c .before .before .before .bound .given .1)
+    (not-false _ (c .before .if1 .left)) (not-true _ (c .if2 .taken)) refl refl)
     (λ c κs. tt)
     (λ c. c .match2 .keys1)
     (λ c. c .match2 .keys2)
     (λ c. misread _ _ _ _ _ steady (c .before .before .steady-at .ensures) (c .enum-told2 .given .1))
-    (λ c. verdict _ _ _ _ _ (c .before .before .before .before .before .before .before .before .before .before .scan-at .ensures) (c .before .before .before .before .before .before .before .before .bound .given .1) (not-false _ (c .before .before .before .before .before .before .if1 .left)) (not-false _ (c .before .before .before .before .before .if2 .left)) (tells _ _ _ _ _ (c .before .before .before .before .before .before .before .before .before .before .scan-at .ensures) (c .before .before .before .before .before .before .before .before .bound .given .1) steady (c .before .before .before .before .steady-at .ensures) (c .before .before .steady .given .1) ∙ not-true _ (c .if3 .taken)) refl)
+    (λ c. verdict _ _ _ _ _ (c .before .before .before .before .before .before .before .before .before .before .scan-at .ensures)
+    (c .before .before .before .before .before .before .before .before .bound .given .1)
+    (not-false _ (c .before .before .before .before .before .before .if1 .left))
+    (not-false _ (c .before .before .before .before .before .if2 .left))
+    (tells _ _ _ _ _ (c .before .before .before .before .before .before .before .before .before .before .scan-at .ensures)
+    (c .before .before .before .before .before .before .before .before .bound .given .1) steady
+    (c .before .before .before .before .steady-at .ensures) (c .before .before .steady .given .1) ∙ not-true _ (c .if3 .taken)) refl)
     (λ c κs. tt)
     (λ c. c .match3 .keys1)
     (λ c. c .match3 .keys2)
     (λ c. misread _ _ _ _ _ _ (c .before .before .filled-at .ensures) (c .enum-told3 .given .1))
-    (λ c. verdict _ _ _ _ _ (c .before .before .before .before .before .before .before .before .before .before .before .before .before .before .before .scan-at .ensures) (c .before .before .before .before .before .before .before .before .before .before .before .before .before .bound .given .1) (not-false _ (c .before .before .before .before .before .before .before .before .before .before .before .if1 .left)) (not-false _ (c .before .before .before .before .before .before .before .before .before .before .if2 .left)) (tells _ _ _ _ _ (c .before .before .before .before .before .before .before .before .before .before .before .before .before .before .before .scan-at .ensures) (c .before .before .before .before .before .before .before .before .before .before .before .before .before .bound .given .1) steady (c .before .before .before .before .before .before .before .before .before .steady-at .ensures) (c .before .before .before .before .before .before .before .steady .given .1) ∙ not-false _ (c .before .before .before .before .before .if3 .left)) (tells _ _ _ _ _ (c .before .before .before .before .before .before .before .before .before .before .before .before .before .before .before .scan-at .ensures) (c .before .before .before .before .before .before .before .before .before .before .before .before .before .bound .given .1) _ (c .before .before .before .before .filled-at .ensures) (c .before .before .full .given .1) ∙ not-true _ (c .if4 .taken)))
-    (λ c. verdict _ _ _ _ _ (c .before .before .before .before .before .before .before .before .before .before .before .before .before .before .before .scan-at .ensures) (c .before .before .before .before .before .before .before .before .before .before .before .before .before .bound .given .1) (not-false _ (c .before .before .before .before .before .before .before .before .before .before .before .if1 .left)) (not-false _ (c .before .before .before .before .before .before .before .before .before .before .if2 .left)) (tells _ _ _ _ _ (c .before .before .before .before .before .before .before .before .before .before .before .before .before .before .before .scan-at .ensures) (c .before .before .before .before .before .before .before .before .before .before .before .before .before .bound .given .1) steady (c .before .before .before .before .before .before .before .before .before .steady-at .ensures) (c .before .before .before .before .before .before .before .steady .given .1) ∙ not-false _ (c .before .before .before .before .before .if3 .left)) (tells _ _ _ _ _ (c .before .before .before .before .before .before .before .before .before .before .before .before .before .before .before .scan-at .ensures) (c .before .before .before .before .before .before .before .before .before .before .before .before .before .bound .given .1) _ (c .before .before .before .before .filled-at .ensures) (c .before .before .full .given .1) ∙ not-false _ (c .if4 .left))))
+    (λ c. verdict _ _ _ _ _
+    (c .before .before .before .before .before .before .before .before .before .before .before .before .before .before .before .scan-at
+    .ensures)
+    (c .before .before .before .before .before .before .before .before .before .before .before .before .before .bound .given .1)
+    (not-false _ (c .before .before .before .before .before .before .before .before .before .before .before .if1 .left))
+    (not-false _ (c .before .before .before .before .before .before .before .before .before .before .if2 .left))
+    (tells _ _ _ _ _
+    (c .before .before .before .before .before .before .before .before .before .before .before .before .before .before .before .scan-at
+    .ensures)
+    (c .before .before .before .before .before .before .before .before .before .before .before .before .before .bound .given .1) steady
+    (c .before .before .before .before .before .before .before .before .before .steady-at .ensures)
+    (c .before .before .before .before .before .before .before .steady .given .1)
+    ∙ not-false _ (c .before .before .before .before .before .if3 .left))
+    (tells _ _ _ _ _
+    (c .before .before .before .before .before .before .before .before .before .before .before .before .before .before .before .scan-at
+    .ensures)
+    (c .before .before .before .before .before .before .before .before .before .before .before .before .before .bound .given .1) _
+    (c .before .before .before .before .filled-at .ensures) (c .before .before .full .given .1) ∙ not-true _ (c .if4 .taken)))
+    (λ c. verdict _ _ _ _ _
+    (c .before .before .before .before .before .before .before .before .before .before .before .before .before .before .before .scan-at
+    .ensures)
+    (c .before .before .before .before .before .before .before .before .before .before .before .before .before .bound .given .1)
+    (not-false _ (c .before .before .before .before .before .before .before .before .before .before .before .if1 .left))
+    (not-false _ (c .before .before .before .before .before .before .before .before .before .before .if2 .left))
+    (tells _ _ _ _ _
+    (c .before .before .before .before .before .before .before .before .before .before .before .before .before .before .before .scan-at
+    .ensures)
+    (c .before .before .before .before .before .before .before .before .before .before .before .before .before .bound .given .1) steady
+    (c .before .before .before .before .before .before .before .before .before .steady-at .ensures)
+    (c .before .before .before .before .before .before .before .steady .given .1)
+    ∙ not-false _ (c .before .before .before .before .before .if3 .left))
+    (tells _ _ _ _ _
+    (c .before .before .before .before .before .before .before .before .before .before .before .before .before .before .before .scan-at
+    .ensures)
+    (c .before .before .before .before .before .before .before .before .before .before .before .before .before .bound .given .1) _
+    (c .before .before .before .before .filled-at .ensures) (c .before .before .full .given .1) ∙ not-false _ (c .if4 .left))))

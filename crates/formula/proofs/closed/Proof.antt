@@ -12,5 +12,6 @@ closed-spec =
     (λ c. rw (c .enum-told .given .1))
     (λ c κs. c .before .before .before .pre)
     (λ c κs. c .before .before .before .before .before .pre)
-    (λ c. closed-free _ _ (c .before .before .before .before .body .given .1) (c .before .before .has .ensures) (c .before .if1 .taken) (c .single .ensures))
+    (λ c. closed-free _ _ (c .before .before .before .before .body .given .1) (c .before .before .has .ensures) (c .before .if1 .taken)
+    (c .single .ensures))
     (λ c. closed-vacuous _ _ (c .before .before .before .body .given .1) (c .before .has .ensures) (c .if1 .left)))

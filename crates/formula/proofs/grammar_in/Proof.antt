@@ -12,7 +12,10 @@ grammar-in-spec =
     tie.close
     (tie.spec
     (λ c κs. tt)
-    (λ c. let p = framed-parts (c .before .before .before .before .args .bytes .now) (sym (c .before .before .is-framed .ensures) ∙ c .before .if1 .taken) in omega arith)
+    (λ c. let p = framed-parts (c .before .before .before .before .args .bytes .now)
+    (sym (c .before .before .is-framed .ensures) ∙ c .before .if1 .taken) in omega arith)
     (λ c κs. tt)
-    (λ c. let h : framed (c .before .before .before .before .before .args .bytes .now) ≡ true = sym (c .before .before .before .is-framed .ensures) ∙ c .before .before .if1 .taken in rw h (c .grammar-of .ensures))
-    (λ c. let h : framed (c .before .before .before .args .bytes .now) ≡ false = sym (c .before .is-framed .ensures) ∙ c .if1 .left in rw h))
+    (λ c. let h : framed (c .before .before .before .before .before .args .bytes .now)
+    ≡ true = sym (c .before .before .before .is-framed .ensures) ∙ c .before .before .if1 .taken in rw h (c .grammar-of .ensures))
+    (λ c. let h : framed (c .before .before .before .args .bytes .now) ≡ false = sym (c .before .is-framed .ensures) ∙ c .if1 .left in
+    rw h))

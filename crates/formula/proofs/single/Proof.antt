@@ -9,4 +9,6 @@ use Rattle.formula.proofs.single.Statement.{statement}
 use Rattle.formula.proofs.single.Tie as tie
 
 pub single-spec : {M : Type 1} → statement M
-single-spec = tie.close (tie.spec (λ c. search needs) (λ c. shl-exact 1 (c .args .p) 32 (le-refl 2) (omega (arith, c .pre)) ∙ one-mul (2 ^ (c .args .p))))
+single-spec =
+    tie.close
+    (tie.spec (λ c. search needs) (λ c. shl-exact 1 (c .args .p) 32 (le-refl 2) (omega (arith, c .pre)) ∙ one-mul (2 ^ (c .args .p))))

@@ -15,8 +15,22 @@ relation-unchecked-spec =
     (λ c κs. search needs)
     (λ c. search needs)
     (λ c. search needs)
-    (λ c κs. record { sound = c .before .before .before .before .before .before .before .before .before .before .pre; range = c .before .before .before .before .before .before .before .if1 .left; passed = checks-told _ (c .before .before .before .before .before .before .before .before .before .before .pre) Relation _ (c .before .before .before .before .before .header-word .ensures) (c .before .before .before .check-formula .ensures) (c .before .enum-told .given .1) })
+    (λ c κs.
+    record {
+      sound =
+          c .before .before .before .before .before .before .before .before .before .before .pre;
+      range =
+          c .before .before .before .before .before .before .before .if1 .left;
+      passed =
+          checks-told _ (c .before .before .before .before .before .before .before .before .before .before .pre) Relation _
+          (c .before .before .before .before .before .header-word .ensures) (c .before .before .before .check-formula .ensures)
+          (c .before .enum-told .given .1);
+    })
     (λ c. search needs)
-    (λ c. relation-checked _ (c .before .before .before .before .before .before .before .before .before .before .pre) _ _ (c .before .x .given .0 .0) (c .before .before .before .before .before .before .before .if1 .left) (checks-told _ (c .before .before .before .before .before .before .before .before .before .before .pre) Relation _ (c .before .before .before .before .before .header-word .ensures) (c .before .before .before .check-formula .ensures) (c .before .x .given .1)))
+    (λ c. relation-checked _ (c .before .before .before .before .before .before .before .before .before .before .pre) _ _
+    (c .before .x .given .0 .0) (c .before .before .before .before .before .before .before .if1 .left)
+    (checks-told _ (c .before .before .before .before .before .before .before .before .before .before .pre) Relation _
+    (c .before .before .before .before .before .header-word .ensures) (c .before .before .before .check-formula .ensures)
+    (c .before .x .given .1)))
     (λ c. search needs)
     (λ c. search needs))

@@ -24,8 +24,14 @@ unfilled-spec =
     μ-loop
     (λ c. (omega arith, vacant-start _))
     (λ c κs. let t = c .loop-test .taken in let w = c .before .before .before .pre in (omega arith, w))
-    (λ c. fails (λ v. c .if1 .taken (c .before .header-word .ensures ∙ v _ (c .before .before .before .loop .inv .0) (c .before .before .loop-test .taken))))
+    (λ c. fails
+    (λ v. c .if1 .taken
+    (c .before .header-word .ensures ∙ v _ (c .before .before .before .loop .inv .0) (c .before .before .loop-test .taken))))
     (λ c. let t = c .before .before .loop-test .taken in omega arith)
     (λ c. let t = c .before .before .loop-test .taken in omega arith)
-    (λ c. (let t = c .before .before .before .loop .inv .0 in omega arith, vacant-more _ (c .before .before .before .loop .inv .1) (c .before .header-word .ensures) (c .if1 .left)))
+    (λ c. (
+      let t = c .before .before .before .loop .inv .0 in
+          omega arith,
+      vacant-more _ (c .before .before .before .loop .inv .1) (c .before .header-word .ensures) (c .if1 .left),
+    ))
     (λ c. holds (λ h lo hi. let t = c .loop-test .left in c .before .loop .inv .1 h lo (omega arith))))

@@ -19,8 +19,26 @@ valid-unchecked-spec =
     (λ c κs. search needs)
     (λ c. search needs)
     (λ c. search needs)
-    (λ c κs. record { sound = c .before .before .before .before .before .before .before .before .before .before .before .before .pre; free = vacant-book _ (c .before .before .before .before .before .before .before .before .before .before .before .before .pre) (says-pass (c .before .before .before .before .before .before .before .if1 .left) (c .before .before .before .before .before .before .before .before .unfilled .ensures)); passed = checks-told _ (c .before .before .before .before .before .before .before .before .before .before .before .before .pre) Valid _ (c .before .before .before .before .before .header-word .ensures) (c .before .before .before .check-formula .ensures) (c .before .enum-told .given .1) })
+    (λ c κs.
+    record {
+      sound =
+          c .before .before .before .before .before .before .before .before .before .before .before .before .pre;
+      free =
+          vacant-book _ (c .before .before .before .before .before .before .before .before .before .before .before .before .pre)
+          (says-pass (c .before .before .before .before .before .before .before .if1 .left)
+          (c .before .before .before .before .before .before .before .before .unfilled .ensures));
+      passed =
+          checks-told _ (c .before .before .before .before .before .before .before .before .before .before .before .before .pre) Valid _
+          (c .before .before .before .before .before .header-word .ensures) (c .before .before .before .check-formula .ensures)
+          (c .before .enum-told .given .1);
+    })
     (λ c. search needs)
-    (λ c. valid-checked _ (c .before .before .before .before .before .before .before .before .before .before .before .before .pre) _ (c .before .x .given .0 .0) (says-pass (c .before .before .before .before .before .before .before .if1 .left) (c .before .before .before .before .before .before .before .before .unfilled .ensures)) (checks-told _ (c .before .before .before .before .before .before .before .before .before .before .before .before .pre) Valid _ (c .before .before .before .before .before .header-word .ensures) (c .before .before .before .check-formula .ensures) (c .before .x .given .1)))
+    (λ c. valid-checked _ (c .before .before .before .before .before .before .before .before .before .before .before .before .pre) _
+    (c .before .x .given .0 .0)
+    (says-pass (c .before .before .before .before .before .before .before .if1 .left)
+    (c .before .before .before .before .before .before .before .before .unfilled .ensures))
+    (checks-told _ (c .before .before .before .before .before .before .before .before .before .before .before .before .pre) Valid _
+    (c .before .before .before .before .before .header-word .ensures) (c .before .before .before .check-formula .ensures)
+    (c .before .x .given .1)))
     (λ c. search needs)
     (λ c. search needs))

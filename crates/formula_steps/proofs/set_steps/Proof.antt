@@ -13,8 +13,40 @@ set-steps-spec =
     (λ c κs. search needs)
     (λ c κs. search needs)
     (λ c κs. search needs)
-    (λ c κs. set-asks (c .before .before .before .before .before .before .before .before .before .before .before .pre) (c .before .before .before .before .before .before .before .header-word .ensures) (c .before .before .before .before .before .before .before .before .before .before .before .args .most) (c .before .before .before .before .rows-under .ensures) (c .before .before .before .rounds-under .ensures) (c .before .before .before .before .before .header-word2 .ensures))
-    (λ c κs. set-storing (c .before .before .before .before .before .before .before .before .before .before .before .before .before .before .before .pre) (c .before .before .before .before .before .before .before .before .before .before .before .header-word .ensures) (c .before .before .before .before .before .before .before .before .before .before .before .before .before .before .before .args .most) (c .before .before .before .before .before .before .before .before .rows-under .ensures) (c .before .before .before .before .before .before .before .rounds-under .ensures) _ (c .before .before .before .evaluate-set .ensures))
-    (λ c κs. set-tidying (c .before .before .before .before .before .before .before .before .before .before .before .before .before .before .before .before .before .before .before .pre) (c .before .before .before .before .before .before .before .before .before .before .before .before .before .before .before .header-word .ensures) (c .before .before .before .before .before .before .before .before .before .before .before .before .before .before .before .before .before .before .before .args .most) (c .before .before .before .before .before .before .before .before .before .before .before .before .rows-under .ensures) (c .before .before .before .before .before .before .before .before .before .before .before .rounds-under .ensures) _ (c .before .before .before .before .before .before .before .evaluate-set .ensures) _ (c .before .before .before .store-set .ensures .1))
+    (λ c κs. set-asks (c .before .before .before .before .before .before .before .before .before .before .before .pre)
+    (c .before .before .before .before .before .before .before .header-word .ensures)
+    (c .before .before .before .before .before .before .before .before .before .before .before .args .most)
+    (c .before .before .before .before .rows-under .ensures) (c .before .before .before .rounds-under .ensures)
+    (c .before .before .before .before .before .header-word2 .ensures))
+    (λ c κs. set-storing
+    (c .before .before .before .before .before .before .before .before .before .before .before .before .before .before .before .pre)
+    (c .before .before .before .before .before .before .before .before .before .before .before .header-word .ensures)
+    (c .before .before .before .before .before .before .before .before .before .before .before .before .before .before .before .args
+    .most) (c .before .before .before .before .before .before .before .before .rows-under .ensures)
+    (c .before .before .before .before .before .before .before .rounds-under .ensures) _
+    (c .before .before .before .evaluate-set .ensures))
+    (λ c κs. set-tidying
+    (c .before .before .before .before .before .before .before .before .before .before .before .before .before .before .before .before
+    .before .before .before .pre)
+    (c .before .before .before .before .before .before .before .before .before .before .before .before .before .before .before
+    .header-word .ensures)
+    (c .before .before .before .before .before .before .before .before .before .before .before .before .before .before .before .before
+    .before .before .before .args .most)
+    (c .before .before .before .before .before .before .before .before .before .before .before .before .rows-under .ensures)
+    (c .before .before .before .before .before .before .before .before .before .before .before .rounds-under .ensures) _
+    (c .before .before .before .before .before .before .before .evaluate-set .ensures) _
+    (c .before .before .before .store-set .ensures .1))
     (λ c. search needs)
-    (λ c. set-done (c .before .before .before .before .before .before .before .before .before .before .before .before .before .before .before .before .before .before .before .before .before .before .pre) (c .before .before .before .before .before .before .before .before .before .before .before .before .before .before .before .before .before .before .header-word .ensures) (c .before .before .before .before .before .before .before .before .before .before .before .before .before .before .before .before .before .before .before .before .before .before .args .most) (c .before .before .before .before .before .before .before .before .before .before .before .before .before .before .before .rows-under .ensures) (c .before .before .before .before .before .before .before .before .before .before .before .before .before .before .rounds-under .ensures) _ (c .before .before .before .before .before .before .before .before .before .before .evaluate-set .ensures) _ (c .before .before .before .before .before .before .store-set .ensures .1) (c .before .before .before .before .before .before .store-set .ensures .0) _ (c .before .before .tidy .ensures)))
+    (λ c. set-done
+    (c .before .before .before .before .before .before .before .before .before .before .before .before .before .before .before .before
+    .before .before .before .before .before .before .pre)
+    (c .before .before .before .before .before .before .before .before .before .before .before .before .before .before .before .before
+    .before .before .header-word .ensures)
+    (c .before .before .before .before .before .before .before .before .before .before .before .before .before .before .before .before
+    .before .before .before .before .before .before .args .most)
+    (c .before .before .before .before .before .before .before .before .before .before .before .before .before .before .before
+    .rows-under .ensures)
+    (c .before .before .before .before .before .before .before .before .before .before .before .before .before .before .rounds-under
+    .ensures) _ (c .before .before .before .before .before .before .before .before .before .before .evaluate-set .ensures) _
+    (c .before .before .before .before .before .before .store-set .ensures .1)
+    (c .before .before .before .before .before .before .store-set .ensures .0) _ (c .before .before .tidy .ensures)))

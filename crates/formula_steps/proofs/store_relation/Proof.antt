@@ -19,7 +19,8 @@ add-at c = search needs
 
 -- src/lib.rt:95:41
 add-put-header : tie.Need-add-put-header
-add-put-header c = let h = carries-fits (c .before .before .done .given .1) (c .before .before .before .before .before .pre .2) in omega arith
+add-put-header c =
+    let h = carries-fits (c .before .before .done .given .1) (c .before .before .before .before .before .pre .2) in omega arith
 
 -- src/lib.rt:95:13
 put-header-requires : tie.Need-put-header-requires

@@ -12,7 +12,8 @@ enum-known-done : tie.Need-enum-known-done
 enum-known-done c = search needs
 
 add-put-header : tie.Need-add-put-header
-add-put-header c = let h = carries-fits (c .before .before .done .given .1) (c .before .before .before .before .before .pre .1) in omega arith
+add-put-header c =
+    let h = carries-fits (c .before .before .done .given .1) (c .before .before .before .before .before .pre .1) in omega arith
 
 put-header-requires : tie.Need-put-header-requires
 put-header-requires c κs = search needs

@@ -9,4 +9,5 @@ use Rattle.formula_steps.proofs.tidy.Tie as tie
 pub tidy-spec : {M : Type 1} → statement M
 tidy-spec =
     tie.close
-    (tie.spec (λ c κs. search needs) (λ c. search needs) (λ c. as-it-was refl) (λ c κs. search needs) (λ c. search needs) (λ c. tidied-by (c .before .before .free-many .ensures)))
+    (tie.spec (λ c κs. search needs) (λ c. search needs) (λ c. as-it-was refl) (λ c κs. search needs) (λ c. search needs)
+    (λ c. tidied-by (c .before .before .free-many .ensures)))

@@ -17,14 +17,50 @@ next-layer-spec =
     (tie.spec
     (λ c. omega (arith, base-bits (c .before .before .before .pre .0 .base)))
     (λ c. search needs)
-    (λ c κs. (dia-asks (c .before .before .before .before .before .before .pre .0), c .before .before .before .before .before .before .pre .1))
+    (λ c κs.
+    (dia-asks (c .before .before .before .before .before .before .pre .0), c .before .before .before .before .before .before .pre .1))
     (λ c. search needs)
     (λ c. search needs)
     (λ c. c .before .before .before .before .before .before .diamond .kept .0)
     (λ c. c .before .before .before .before .before .before .diamond .kept .1 .0)
-    (λ c. (next-full (c .before .before .before .before .before .before .before .before .before .before .before .before .before .pre .0) (c .before .before .before .before .before .before .diamond .ensures .0) (c .enum-told .given .1), c .before .before .before .before .before .before .diamond .ensures .1))
+    (λ c. (
+      next-full (c .before .before .before .before .before .before .before .before .before .before .before .before .before .pre .0)
+          (c .before .before .before .before .before .before .diamond .ensures .0) (c .enum-told .given .1),
+      c .before .before .before .before .before .before .diamond .ensures .1,
+    ))
     (λ c. search needs)
-    (λ c κs. (or-asks (c .before .before .before .before .before .before .before .before .before .before .before .before .before .before .before .before .before .pre .0) (c .before .before .before .before .before .before .before .before .before .before .diamond .ensures .0) (c .before .before .before .before .d .given .1), c .before .before .before .before .before .before .before .before .before .before .diamond .ensures .1))
-    (λ c. c .before .before .before .before .take .kept .0 ∙ c .before .before .before .before .before .before .before .before .before .before .before .before .before .before .before .diamond .kept .0)
-    (λ c. c .before .before .before .before .take .kept .1 .0 ∙ c .before .before .before .before .before .before .before .before .before .before .before .before .before .before .before .diamond .kept .1 .0)
-    (λ c. (next-ends (c .before .before .before .before .before .before .before .before .before .before .before .before .before .before .before .before .before .before .before .before .before .before .pre .0) (c .before .before .before .before .before .before .before .before .before .before .before .before .before .before .before .diamond .ensures .0) (c .before .before .before .before .before .before .before .before .before .d .given .1) (took (or-base (c .before .before .before .before .before .before .before .before .before .before .before .before .before .before .before .before .before .before .before .before .before .before .pre .0) (c .before .before .before .before .before .before .before .before .before .before .before .before .before .before .before .diamond .ensures .0) (c .before .before .before .before .before .before .before .before .before .d .given .1)) (or-asks (c .before .before .before .before .before .before .before .before .before .before .before .before .before .before .before .before .before .before .before .before .before .before .pre .0) (c .before .before .before .before .before .before .before .before .before .before .before .before .before .before .before .diamond .ensures .0) (c .before .before .before .before .before .before .before .before .before .d .given .1)) (c .before .before .before .before .take .ensures .0) (c .before .before .before .before .take .ensures .2)), c .before .before .before .before .take .ensures .1)))
+    (λ c κs. (
+      or-asks
+          (c .before .before .before .before .before .before .before .before .before .before .before .before .before .before .before .before
+          .before .pre .0) (c .before .before .before .before .before .before .before .before .before .before .diamond .ensures .0)
+          (c .before .before .before .before .d .given .1),
+      c .before .before .before .before .before .before .before .before .before .before .diamond .ensures .1,
+    ))
+    (λ c. c .before .before .before .before .take .kept .0
+    ∙ c .before .before .before .before .before .before .before .before .before .before .before .before .before .before .before .diamond
+    .kept .0)
+    (λ c. c .before .before .before .before .take .kept .1 .0
+    ∙ c .before .before .before .before .before .before .before .before .before .before .before .before .before .before .before .diamond
+    .kept .1 .0)
+    (λ c. (
+      next-ends
+          (c .before .before .before .before .before .before .before .before .before .before .before .before .before .before .before .before
+          .before .before .before .before .before .before .pre .0)
+          (c .before .before .before .before .before .before .before .before .before .before .before .before .before .before .before
+          .diamond
+          .ensures .0) (c .before .before .before .before .before .before .before .before .before .d .given .1)
+          (took (or-base
+          (c .before .before .before .before .before .before .before .before .before .before .before .before .before .before .before .before
+          .before .before .before .before .before .before .pre .0)
+          (c .before .before .before .before .before .before .before .before .before .before .before .before .before .before .before
+          .diamond
+          .ensures .0) (c .before .before .before .before .before .before .before .before .before .d .given .1))
+          (or-asks
+          (c .before .before .before .before .before .before .before .before .before .before .before .before .before .before .before .before
+          .before .before .before .before .before .before .pre .0)
+          (c .before .before .before .before .before .before .before .before .before .before .before .before .before .before .before
+          .diamond
+          .ensures .0) (c .before .before .before .before .before .before .before .before .before .d .given .1))
+          (c .before .before .before .before .take .ensures .0) (c .before .before .before .before .take .ensures .2)),
+      c .before .before .before .before .take .ensures .1,
+    )))

@@ -18,4 +18,7 @@ count-stored-spec =
     (λ c. search needs)
     (λ c κs. search needs)
     (λ c. search needs)
-    (λ c. fewer-stored _ (c .before .before .before .before .before .before .before .before .before .before .pre .1) (let t = c .before .before .before .before .if1 .left in let e = c .before .before .before .before .before .before .before .header-word .ensures in omega arith) (c .before .before .put-header .ensures)))
+    (λ c. fewer-stored _ (c .before .before .before .before .before .before .before .before .before .before .pre .1)
+    (let t = c .before .before .before .before .if1 .left in
+    let e = c .before .before .before .before .before .before .before .header-word .ensures in omega arith)
+    (c .before .before .put-header .ensures)))

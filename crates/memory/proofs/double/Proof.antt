@@ -15,10 +15,20 @@ double-spec =
     (λ c. search needs)
     (λ c. search needs)
     (λ c. search needs)
-    (λ c. fewer-stored _ (c .before .before .before .before .before .before .pre .1) (omega arith) (c .before .before .before .put-header .ensures))
+    (λ c. fewer-stored _ (c .before .before .before .before .before .before .pre .1) (omega arith)
+    (c .before .before .before .put-header .ensures))
     (λ c. search needs)
-    (λ c κs. (omega arith, omega arith, room-memo (memo-stored _ _) (c .before .before .before .before .put-header .ensures) (c .before .before .before .before .before .before .before .pre .0)))
+    (λ c κs. (
+      omega arith,
+      omega arith,
+      room-memo (memo-stored _ _) (c .before .before .before .before .put-header .ensures)
+          (c .before .before .before .before .before .before .before .pre .0),
+    ))
     (λ c. search needs)
     (λ c κs. search needs)
     (λ c. search needs)
-    (λ c. fewer-doubled (c .before .before .before .before .before .before .before .before .before .before .before .before .before .before .pre .2) (c .before .before .before .before .before .before .before .before .before .before .before .put-header .ensures) (c .before .before .before .before .before .before .empty-slots .ensures) (c .before .before .put-header2 .ensures) (let t = c .before .before .before .before .before .before .before .before .if1 .left in omega arith)))
+    (λ c. fewer-doubled
+    (c .before .before .before .before .before .before .before .before .before .before .before .before .before .before .pre .2)
+    (c .before .before .before .before .before .before .before .before .before .before .before .put-header .ensures)
+    (c .before .before .before .before .before .before .empty-slots .ensures) (c .before .before .put-header2 .ensures)
+    (let t = c .before .before .before .before .before .before .before .before .if1 .left in omega arith)))

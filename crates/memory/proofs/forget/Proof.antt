@@ -1,4 +1,5 @@
--- `forget` meets its contract: the active slots are emptied, and so are the keys of the listed rows, which are the used ones. Assumes nothing.
+-- `forget` meets its contract: the active slots are emptied, and so are the keys of the listed rows, which are the used ones.
+-- Assumes nothing.
 use native.Mathlib.Omega.{arith}
 use Rattle.memory.proofs.ForgetLaws.{forget-room, forget-list, forgot-by}
 use borrow.Author.Needs.{needs}
@@ -13,7 +14,38 @@ forget-spec =
     (λ c κs. search needs)
     (λ c κs. search needs)
     (λ c κs. search needs)
-    (λ c κs. (omega arith, (let e = c .before .before .before .before .before .before .before .before .before .first-slots .ensures in omega arith), forget-room _ (c .before .before .before .before .before .before .before .before .before .before .before .before .before .pre) (c .before .before .before .before .before .before .before .put-header .ensures) (c .before .before .before .put-header2 .ensures)))
-    (λ c κs. let g = c .before .before .before .before .before .before .before .before .before .before .before .before .before .before .before .before .before .pre in let z = g .sizes in let r = g .ranked .count-le in let e = c .before .before .before .before .before .before .before .before .before .before .before .before .before .before .header-word .ensures in let a = c .before .before .before .before .before .before .before .before .before .before .before .put-header .kept .0 in let b = c .before .before .before .before .before .before .before .put-header2 .kept .0 in let d = c .before .before .before .empty-slots .kept .0 in (omega arith, omega arith, λ k h. forget-list _ (c .before .before .before .before .before .before .before .before .before .before .before .before .before .before .before .before .before .pre) (c .before .before .before .before .before .before .before .before .before .before .before .put-header .ensures) (c .before .before .before .before .before .before .before .put-header2 .ensures) (c .before .before .before .before .before .before .before .before .before .before .before .before .before .before .header-word .ensures) (c .before .before .before .empty-slots .ensures) h))
+    (λ c κs. (
+      omega arith,
+      (let e = c .before .before .before .before .before .before .before .before .before .first-slots .ensures in omega arith),
+      forget-room _ (c .before .before .before .before .before .before .before .before .before .before .before .before .before .pre)
+          (c .before .before .before .before .before .before .before .put-header .ensures)
+          (c .before .before .before .put-header2 .ensures),
+    ))
+    (λ c κs. let g =
+    c .before .before .before .before .before .before .before .before .before .before .before .before .before .before .before .before
+    .before .pre in let z =
+    g .sizes in let r =
+    g .ranked .count-le in let e =
+    c .before .before .before .before .before .before .before .before .before .before .before .before .before .before .header-word
+    .ensures in let a =
+    c .before .before .before .before .before .before .before .before .before .before .before .put-header .kept .0 in let b =
+    c .before .before .before .before .before .before .before .put-header2 .kept .0 in let d =
+    c .before .before .before .empty-slots .kept .0 in (
+      omega arith,
+      omega arith,
+      λ k h. forget-list _
+          (c .before .before .before .before .before .before .before .before .before .before .before .before .before .before .before .before
+          .before .pre) (c .before .before .before .before .before .before .before .before .before .before .before .put-header .ensures)
+          (c .before .before .before .before .before .before .before .put-header2 .ensures)
+          (c .before .before .before .before .before .before .before .before .before .before .before .before .before .before .header-word
+          .ensures) (c .before .before .before .empty-slots .ensures) h,
+    ))
     (λ c. search needs)
-    (λ c. forgot-by (c .before .before .before .before .before .before .before .before .before .before .before .before .before .before .before .before .before .header-word .ensures) (c .before .before .before .before .before .before .before .before .before .before .before .before .before .before .before .before .first-slots .ensures) (c .before .before .before .before .before .before .before .before .before .before .before .before .before .before .put-header .ensures) (c .before .before .before .before .before .before .before .before .before .before .put-header2 .ensures) (c .before .before .before .before .before .before .empty-slots .ensures) (c .before .before .forget-rows .ensures)))
+    (λ c. forgot-by
+    (c .before .before .before .before .before .before .before .before .before .before .before .before .before .before .before .before
+    .before .header-word .ensures)
+    (c .before .before .before .before .before .before .before .before .before .before .before .before .before .before .before .before
+    .first-slots .ensures)
+    (c .before .before .before .before .before .before .before .before .before .before .before .before .before .before .put-header
+    .ensures) (c .before .before .before .before .before .before .before .before .before .before .put-header2 .ensures)
+    (c .before .before .before .before .before .before .empty-slots .ensures) (c .before .before .forget-rows .ensures)))

@@ -22,10 +22,19 @@ forget-rows-spec =
     Inv-loop
     μ-loop
     (λ c. (omega arith, refl, rows-none _))
-    (λ c κs. let p = c .before .before .before .before .pre in let v = c .before .before .loop .inv .1 in let t = c .before .loop-test .taken in omega arith)
-    (λ c κs. let p = c .before .before .before .before .before .before .pre in let v = c .before .before .before .before .loop .inv .1 in let q = c .before .before .before .before .before .before .pre .2 _ (c .before .before .before .loop-test .taken) in let e = c .before .listed .ensures ∙ rows-list (c .before .before .before .before .loop .inv .2) _ in omega arith)
+    (λ c κs. let p = c .before .before .before .before .pre in
+    let v = c .before .before .loop .inv .1 in let t = c .before .loop-test .taken in omega arith)
+    (λ c κs. let p = c .before .before .before .before .before .before .pre in
+    let v = c .before .before .before .before .loop .inv .1 in
+    let q = c .before .before .before .before .before .before .pre .2 _ (c .before .before .before .loop-test .taken) in
+    let e = c .before .listed .ensures ∙ rows-list (c .before .before .before .before .loop .inv .2) _ in omega arith)
     (λ c. let t = c .before .before .before .before .before .before .loop-test .taken in omega arith)
     (λ c. let t = c .before .before .before .before .before .before .loop-test .taken in omega arith)
-    (λ c. let t = c .before .before .before .before .before .before .loop-test .taken in let v = c .before .before .before .before .before .before .before .loop .inv in (omega arith, c .before .before .put .kept .0 ∙ v .1, rows-more (v .2) (c .before .before .before .before .listed .ensures) (c .before .before .put .ensures)))
+    (λ c. let t = c .before .before .before .before .before .before .loop-test .taken in
+    let v = c .before .before .before .before .before .before .before .loop .inv in (
+      omega arith,
+      c .before .before .put .kept .0 ∙ v .1,
+      rows-more (v .2) (c .before .before .before .before .listed .ensures) (c .before .before .put .ensures),
+    ))
     (λ c. c .before .loop .inv .1)
     (λ c. let e : c .before .loop .k ≡ c .before .before .before .args .used = omega arith in rw e at (c .before .loop .inv .2)))

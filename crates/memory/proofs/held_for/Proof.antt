@@ -6,4 +6,7 @@ use Rattle.memory.proofs.held_for.Statement.{statement}
 use Rattle.memory.proofs.held_for.Tie as tie
 
 pub held-for-spec : {M : Type 1} → statement M
-held-for-spec = tie.close (tie.spec (λ c κs. search needs) (λ c. held-turned _ _ (sym (c .before .is-marked .ensures) ∙ c .if1 .taken)) (λ c. held-plain _ _ (sym (c .before .is-marked .ensures) ∙ c .if1 .left)))
+held-for-spec =
+    tie.close
+    (tie.spec (λ c κs. search needs) (λ c. held-turned _ _ (sym (c .before .is-marked .ensures) ∙ c .if1 .taken))
+    (λ c. held-plain _ _ (sym (c .before .is-marked .ensures) ∙ c .if1 .left)))

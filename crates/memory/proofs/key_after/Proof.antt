@@ -8,4 +8,7 @@ use Rattle.memory.proofs.key_after.Tie as tie
 pub key-after-spec : {M : Type 1} → statement M
 key-after-spec =
     tie.close
-    (tie.spec (λ c κs. search needs) (λ c. search needs) (λ c. search needs) (λ c. search needs) (λ c. key-turned _ _ _ 0 (sym (c .before .is-marked .ensures) ∙ c .if1 .taken)) (λ c. key-same _ _ _ 0 (sym (c .before .before .is-marked .ensures) ∙ c .before .if1 .left) (c .if2 .taken)) (λ c. key-other _ _ _ 0 (sym (c .before .before .is-marked .ensures) ∙ c .before .if1 .left) (c .if2 .left)))
+    (tie.spec (λ c κs. search needs) (λ c. search needs) (λ c. search needs) (λ c. search needs)
+    (λ c. key-turned _ _ _ 0 (sym (c .before .is-marked .ensures) ∙ c .if1 .taken))
+    (λ c. key-same _ _ _ 0 (sym (c .before .before .is-marked .ensures) ∙ c .before .if1 .left) (c .if2 .taken))
+    (λ c. key-other _ _ _ 0 (sym (c .before .before .is-marked .ensures) ∙ c .before .if1 .left) (c .if2 .left)))

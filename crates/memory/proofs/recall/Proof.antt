@@ -19,4 +19,14 @@ recall-spec =
     (λ c. search needs)
     (λ c. search needs)
     (λ c κs. search needs)
-    (λ c. record { at = c .before .before .before .before .before .slot-of .result; active = rw (← c .before .before .before .before .before .before .before .header-word .ensures) (c .before .before .before .before .before .slot-of .ensures); first = sym (c .before .before .before .before .slot .ensures) ∙ c .before .before .before .if2 .left; second = sym (c .before .before .slot2 .ensures) ∙ c .before .if3 .left; value = c .slot3 .ensures }))
+    (λ c. record {
+      at = c .before .before .before .before .before .slot-of .result;
+      active =
+          rw (← c .before .before .before .before .before .before .before .header-word .ensures)
+          (c .before .before .before .before .before .slot-of .ensures);
+      first =
+          sym (c .before .before .before .before .slot .ensures) ∙ c .before .before .before .if2 .left;
+      second =
+          sym (c .before .before .slot2 .ensures) ∙ c .before .if3 .left;
+      value = c .slot3 .ensures;
+    }))

@@ -17,4 +17,14 @@ remember-row-spec =
     (λ c κs. search needs)
     (λ c κs. search needs)
     (λ c. search needs)
-    (λ c. kept-by (view (c .before .before .before .before .before .before .before .before .before .before .before .before .before .before .before .before .args .rows) (c .before .before .before .before .before .before .before .before .before .before .before .before .before .before .before .before .args .words .now)) _ _ _ _ (c .before .before .before .before .before .before .before .before .before .before .before .before .before .before .if1 .left) (c .before .before .before .before .before .before .before .before .before .before .before .before .get .ensures) (c .before .before .before .before .before .before .before .before .before .before .get2 .ensures) (c .before .before .before .before .before .before .before .before .key-after .ensures) (c .before .before .before .value-after .ensures) (c .before .before .before .before .before .before .before .put .ensures) (c .before .before .put2 .ensures)))
+    (λ c. kept-by
+    (view (c .before .before .before .before .before .before .before .before .before .before .before .before .before .before .before
+    .before .args .rows)
+    (c .before .before .before .before .before .before .before .before .before .before .before .before .before .before .before .before
+    .args .words .now)) _ _ _ _
+    (c .before .before .before .before .before .before .before .before .before .before .before .before .before .before .if1 .left)
+    (c .before .before .before .before .before .before .before .before .before .before .before .before .get .ensures)
+    (c .before .before .before .before .before .before .before .before .before .before .get2 .ensures)
+    (c .before .before .before .before .before .before .before .before .key-after .ensures)
+    (c .before .before .before .value-after .ensures) (c .before .before .before .before .before .before .before .put .ensures)
+    (c .before .before .put2 .ensures)))

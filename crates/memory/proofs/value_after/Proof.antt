@@ -6,4 +6,9 @@ use Rattle.memory.proofs.value_after.Statement.{statement}
 use Rattle.memory.proofs.value_after.Tie as tie
 
 pub value-after-spec : {M : Type 1} → statement M
-value-after-spec = tie.close (tie.spec (λ c κs. search needs) (λ c. search needs) (λ c. value-plain _ _ _ _ (test-no (c .before .is-marked .ensures) (c .if1 .taken))) (λ c. value-same _ _ _ _ (test-yes (c .before .before .is-marked .ensures) (c .before .if1 .left)) (c .if2 .taken)) (λ c. value-none _ _ _ _ (test-yes (c .before .before .is-marked .ensures) (c .before .if1 .left)) (c .if2 .left)))
+value-after-spec =
+    tie.close
+    (tie.spec (λ c κs. search needs) (λ c. search needs)
+    (λ c. value-plain _ _ _ _ (test-no (c .before .is-marked .ensures) (c .if1 .taken)))
+    (λ c. value-same _ _ _ _ (test-yes (c .before .before .is-marked .ensures) (c .before .if1 .left)) (c .if2 .taken))
+    (λ c. value-none _ _ _ _ (test-yes (c .before .before .is-marked .ensures) (c .before .if1 .left)) (c .if2 .left)))

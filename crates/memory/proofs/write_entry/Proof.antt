@@ -21,4 +21,9 @@ write-entry-spec =
     (λ c. search needs)
     (λ c κs. search needs)
     (λ c. search needs)
-    (λ c. wrote-by (c .before .before .before .before .before .before .before .before .before .before .before .before .slot-of .result) _ _ _ (rw (← c .before .before .before .before .before .before .before .before .before .before .before .before .before .before .header-word .ensures) (c .before .before .before .before .before .before .before .before .before .before .before .before .slot-of .ensures)) refl (c .before .before .before .before .before .before .before .before .before .before .put-slot .ensures) (c .before .before .before .before .before .before .put-slot2 .ensures) (c .before .before .put-slot3 .ensures)))
+    (λ c. wrote-by (c .before .before .before .before .before .before .before .before .before .before .before .before .slot-of .result) _ _
+    _ (rw (← c .before .before .before .before .before .before .before .before .before .before .before .before .before .before
+    .header-word .ensures)
+    (c .before .before .before .before .before .before .before .before .before .before .before .before .slot-of .ensures)) refl
+    (c .before .before .before .before .before .before .before .before .before .before .put-slot .ensures)
+    (c .before .before .before .before .before .before .put-slot2 .ensures) (c .before .before .put-slot3 .ensures)))

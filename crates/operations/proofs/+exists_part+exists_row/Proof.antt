@@ -1,4 +1,5 @@
--- `exists_part` and `exists_row` meet their contracts: above level x the two calls and the row are what `exists-calls` says, at level x OR of the arrows; levels grow. Assumes nothing.
+-- `exists_part` and `exists_row` meet their contracts: above level x the two calls and the row are what `exists-calls` says, at level x OR
+-- of the arrows; levels grow. Assumes nothing.
 use borrow.Author.Needs.{needs}
 use native.Mathlib.Omega.{arith}
 use Prim.Native.Nat.{_+_, _*_, ℕ, _<_}
@@ -58,9 +59,18 @@ pub +exists-part+exists-row-spec : {M : Type 1} → statement M
     (λ c κs. (ready-look (c .before .before .pre .1 .0), c .before .before .pre .1 .1, c .before .before .pre .1 .2))
     (λ c. search needs)
     (λ c. search needs)
-    (λ c. worked-there (c .before .before .before .before .before .before .pre .1 .0) (c .before .before .before .exists-known .ensures .at _ (c .before .known .given .1)))
+    (λ c. worked-there (c .before .before .before .before .before .before .pre .1 .0)
+    (c .before .before .before .exists-known .ensures .at _ (c .before .known .given .1)))
     (λ c. search needs)
-    (λ c κs. (rw (← c .before .before .before .before .before .before .pre .0) (omega arith), (c .before .before .before .before .before .before .pre .1 .0, c .before .before .before .before .before .before .pre .1 .1, c .before .before .before .before .before .before .pre .1 .2, c .before .before .before .exists-known .ensures .none (c .before .enum-told .given .1))))
+    (λ c κs. (
+      rw (← c .before .before .before .before .before .before .pre .0) (omega arith),
+      (
+        c .before .before .before .before .before .before .pre .1 .0,
+        c .before .before .before .before .before .before .pre .1 .1,
+        c .before .before .before .before .before .before .pre .1 .2,
+        c .before .before .before .exists-known .ensures .none (c .before .enum-told .given .1),
+      ),
+    ))
     (λ c. search needs)
     (λ c. c .before .before .exists-row .ensures))
     λ t. exists-row-lts.spec (
@@ -80,19 +90,177 @@ pub +exists-part+exists-row-spec : {M : Type 1} → statement M
     (exists-row-at t)
     exists-row.Post
     (λ c κs. c .before .pre .1 .3 .is-row)
-    (λ c κs. let r = c .before .before .before .pre .1 .0 in let R = row-at _ (c .before .before .before .pre .1 .1) (c .before .before .before .pre .1 .3 .is-row) (c .before .row-of .ensures) in (ready-wf r .bounded _ (R .used), r .good .sizes .room))
-    (λ c. let r = c .before .before .before .before .pre .1 .0 in let e = r .levels-is in let n = r .good .sizes .n-max in let h = c .before .before .before .before .pre .1 .2 in omega arith)
-    (λ c κs. let r = c .before .before .before .before .before .before .before .pre .1 .0 in let R = row-at _ (c .before .before .before .before .before .before .before .pre .1 .1) (c .before .before .before .before .before .before .before .pre .1 .3 .is-row) (c .before .before .before .before .before .row-of .ensures) in let o = opened (ready-wf r) R (c .before .before .before .node-at .ensures) in (r, o .parts .low-arrow, o .parts .high-arrow))
-    (λ c κs. let r = c .before .before .before .before .before .before .before .before .before .before .before .pre .1 .0 in let R = row-at _ (c .before .before .before .before .before .before .before .before .before .before .before .pre .1 .1) (c .before .before .before .before .before .before .before .before .before .before .before .pre .1 .3 .is-row) (c .before .before .before .before .before .before .before .before .before .row-of .ensures) in (ready-wf r .bounded _ (R .used), c .before .before .before .or-of .ensures .good .sizes .room, let e = r .levels-is in let n = r .good .sizes .n-max in let h = c .before .before .before .before .before .before .before .before .before .before .before .pre .1 .2 in omega arith))
+    (λ c κs. let r = c .before .before .before .pre .1 .0 in
+    let R = row-at _ (c .before .before .before .pre .1 .1) (c .before .before .before .pre .1 .3 .is-row)
+    (c .before .row-of .ensures) in (ready-wf r .bounded _ (R .used), r .good .sizes .room))
+    (λ c. let r = c .before .before .before .before .pre .1 .0 in
+    let e = r .levels-is in let n = r .good .sizes .n-max in let h = c .before .before .before .before .pre .1 .2 in omega arith)
+    (λ c κs. let r = c .before .before .before .before .before .before .before .pre .1 .0 in
+    let R = row-at _ (c .before .before .before .before .before .before .before .pre .1 .1)
+    (c .before .before .before .before .before .before .before .pre .1 .3 .is-row)
+    (c .before .before .before .before .before .row-of .ensures) in
+    let o = opened (ready-wf r) R (c .before .before .before .node-at .ensures) in (r, o .parts .low-arrow, o .parts .high-arrow))
+    (λ c κs. let r = c .before .before .before .before .before .before .before .before .before .before .before .pre .1 .0 in
+    let R = row-at _ (c .before .before .before .before .before .before .before .before .before .before .before .pre .1 .1)
+    (c .before .before .before .before .before .before .before .before .before .before .before .pre .1 .3 .is-row)
+    (c .before .before .before .before .before .before .before .before .before .row-of .ensures) in (
+      ready-wf r .bounded _ (R .used),
+      c .before .before .before .or-of .ensures .good .sizes .room,
+      let e = r .levels-is in
+          let n = r .good .sizes .n-max in
+          let h = c .before .before .before .before .before .before .before .before .before .before .before .pre .1 .2 in omega arith,
+    ))
     (λ c. search needs)
-    (λ c. let r = c .before .before .before .before .before .before .before .before .before .before .before .before .before .before .pre .1 .0 in let R = row-at _ (c .before .before .before .before .before .before .before .before .before .before .before .before .before .before .pre .1 .1) (c .before .before .before .before .before .before .before .before .before .before .before .before .before .before .pre .1 .3 .is-row) (c .before .before .before .before .before .before .before .before .before .before .before .before .row-of .ensures) in let o = opened (ready-wf r) R (c .before .before .before .before .before .before .before .before .before .before .node-at .ensures) in exists-kept r _ R _ (let e = r .levels-is in let n = r .good .sizes .n-max in let h = c .before .before .before .before .before .before .before .before .before .before .before .before .before .before .pre .1 .2 in omega arith) (rw (c .before .before .before .before .before .before .before .before .if1 .taken) at (exists-own r o (c .before .before .before .before .before .before .or-of .ensures))) (c .before .before .remember-row .ensures))
-    (λ c κs. let r = c .before .before .before .before .before .before .before .pre .1 .0 in let R = row-at _ (c .before .before .before .before .before .before .before .pre .1 .1) (c .before .before .before .before .before .before .before .pre .1 .3 .is-row) (c .before .before .before .before .before .row-of .ensures) in let o = opened (ready-wf r) R (c .before .before .before .node-at .ensures) in (rw (← c .before .before .before .before .before .before .before .pre .0) (part-falls _ _ (low-falls o)), (r, o .parts .low-arrow, c .before .before .before .before .before .before .before .pre .1 .2)))
+    (λ c. let r =
+    c .before .before .before .before .before .before .before .before .before .before .before .before .before .before .pre .1 .0 in
+    let R = row-at _
+    (c .before .before .before .before .before .before .before .before .before .before .before .before .before .before .pre .1 .1)
+    (c .before .before .before .before .before .before .before .before .before .before .before .before .before .before .pre .1 .3
+    .is-row) (c .before .before .before .before .before .before .before .before .before .before .before .before .row-of .ensures) in
+    let o = opened (ready-wf r) R
+    (c .before .before .before .before .before .before .before .before .before .before .node-at .ensures) in
+    exists-kept r _ R _
+    (let e = r .levels-is in
+    let n = r .good .sizes .n-max in
+    let h =
+    c .before .before .before .before .before .before .before .before .before .before .before .before .before .before .pre .1 .2 in
+    omega arith)
+    (rw (c .before .before .before .before .before .before .before .before .if1 .taken) at
+    (exists-own r o (c .before .before .before .before .before .before .or-of .ensures))) (c .before .before .remember-row .ensures))
+    (λ c κs. let r = c .before .before .before .before .before .before .before .pre .1 .0 in
+    let R = row-at _ (c .before .before .before .before .before .before .before .pre .1 .1)
+    (c .before .before .before .before .before .before .before .pre .1 .3 .is-row)
+    (c .before .before .before .before .before .row-of .ensures) in
+    let o = opened (ready-wf r) R (c .before .before .before .node-at .ensures) in (
+      rw (← c .before .before .before .before .before .before .before .pre .0) (part-falls _ _ (low-falls o)),
+      (r, o .parts .low-arrow, c .before .before .before .before .before .before .before .pre .1 .2),
+    ))
     (λ c. search needs)
-    (λ c. let r = c .before .before .before .before .before .before .before .before .before .before .before .pre .1 .0 in let R = row-at _ (c .before .before .before .before .before .before .before .before .before .before .before .pre .1 .1) (c .before .before .before .before .before .before .before .before .before .before .before .pre .1 .3 .is-row) (c .before .before .before .before .before .before .before .before .before .row-of .ensures) in let o = opened (ready-wf r) R (c .before .before .before .before .before .before .before .node-at .ensures) in let D = exists-calls r o _ (let t = reached (c .before .before .before .before .before .before .before .before .before .before .before .pre .1 .3) (c .before .before .before .before .before .before .before .before .before .row-of .ensures) (c .before .before .before .before .before .before .before .node-at .ensures) in let u = c .before .before .before .before .before .if1 .left in omega arith) in low-stops r D (c .if2 .taken) (c .before .before .before .exists-part .ensures))
-    (λ c κs. let r = c .before .before .before .before .before .before .before .before .before .before .before .before .pre .1 .0 in let R = row-at _ (c .before .before .before .before .before .before .before .before .before .before .before .before .pre .1 .1) (c .before .before .before .before .before .before .before .before .before .before .before .before .pre .1 .3 .is-row) (c .before .before .before .before .before .before .before .before .before .before .row-of .ensures) in let o = opened (ready-wf r) R (c .before .before .before .before .before .before .before .before .node-at .ensures) in let w = c .before .before .before .before .exists-part .ensures in (rw (← c .before .before .before .before .before .before .before .before .before .before .before .before .pre .0) (part-falls _ _ (high-falls o (w .post .kept))), (ready-next r w, high-later o (w .post .kept), c .before .before .before .before .before .before .before .before .before .before .before .before .pre .1 .2)))
+    (λ c. let r = c .before .before .before .before .before .before .before .before .before .before .before .pre .1 .0 in
+    let R = row-at _ (c .before .before .before .before .before .before .before .before .before .before .before .pre .1 .1)
+    (c .before .before .before .before .before .before .before .before .before .before .before .pre .1 .3 .is-row)
+    (c .before .before .before .before .before .before .before .before .before .row-of .ensures) in
+    let o = opened (ready-wf r) R (c .before .before .before .before .before .before .before .node-at .ensures) in
+    let D = exists-calls r o _
+    (let t = reached (c .before .before .before .before .before .before .before .before .before .before .before .pre .1 .3)
+    (c .before .before .before .before .before .before .before .before .before .row-of .ensures)
+    (c .before .before .before .before .before .before .before .node-at .ensures) in
+    let u = c .before .before .before .before .before .if1 .left in omega arith) in
+    low-stops r D (c .if2 .taken) (c .before .before .before .exists-part .ensures))
+    (λ c κs. let r = c .before .before .before .before .before .before .before .before .before .before .before .before .pre .1 .0 in
+    let R = row-at _ (c .before .before .before .before .before .before .before .before .before .before .before .before .pre .1 .1)
+    (c .before .before .before .before .before .before .before .before .before .before .before .before .pre .1 .3 .is-row)
+    (c .before .before .before .before .before .before .before .before .before .before .row-of .ensures) in
+    let o = opened (ready-wf r) R (c .before .before .before .before .before .before .before .before .node-at .ensures) in
+    let w = c .before .before .before .before .exists-part .ensures in (
+      rw (← c .before .before .before .before .before .before .before .before .before .before .before .before .pre .0)
+          (part-falls _ _ (high-falls o (w .post .kept))),
+      (
+        ready-next r w,
+        high-later o (w .post .kept),
+        c .before .before .before .before .before .before .before .before .before .before .before .before .pre .1 .2,
+      ),
+    ))
     (λ c. search needs)
-    (λ c. let r = c .before .before .before .before .before .before .before .before .before .before .before .before .before .before .before .before .pre .1 .0 in let R = row-at _ (c .before .before .before .before .before .before .before .before .before .before .before .before .before .before .before .before .pre .1 .1) (c .before .before .before .before .before .before .before .before .before .before .before .before .before .before .before .before .pre .1 .3 .is-row) (c .before .before .before .before .before .before .before .before .before .before .before .before .before .before .row-of .ensures) in let o = opened (ready-wf r) R (c .before .before .before .before .before .before .before .before .before .before .before .before .node-at .ensures) in let D = exists-calls r o _ (let t = reached (c .before .before .before .before .before .before .before .before .before .before .before .before .before .before .before .before .pre .1 .3) (c .before .before .before .before .before .before .before .before .before .before .before .before .before .before .row-of .ensures) (c .before .before .before .before .before .before .before .before .before .before .before .before .node-at .ensures) in let u = c .before .before .before .before .before .before .before .before .before .before .if1 .left in omega arith) in high-stops r D (c .before .before .before .before .before .if2 .left) (c .before .before .before .before .before .before .before .before .exists-part .ensures) (c .if3 .taken) (c .before .before .before .exists-part2 .ensures))
-    (λ c κs. let r = c .before .before .before .before .before .before .before .before .before .before .before .before .before .before .before .before .before .pre .1 .0 in let R = row-at _ (c .before .before .before .before .before .before .before .before .before .before .before .before .before .before .before .before .before .pre .1 .1) (c .before .before .before .before .before .before .before .before .before .before .before .before .before .before .before .before .before .pre .1 .3 .is-row) (c .before .before .before .before .before .before .before .before .before .before .before .before .before .before .before .row-of .ensures) in let o = opened (ready-wf r) R (c .before .before .before .before .before .before .before .before .before .before .before .before .before .node-at .ensures) in let D = exists-calls r o _ (let t = reached (c .before .before .before .before .before .before .before .before .before .before .before .before .before .before .before .before .before .pre .1 .3) (c .before .before .before .before .before .before .before .before .before .before .before .before .before .before .before .row-of .ensures) (c .before .before .before .before .before .before .before .before .before .before .before .before .before .node-at .ensures) in let u = c .before .before .before .before .before .before .before .before .before .before .before .if1 .left in omega arith) in row-pre r D (c .before .before .before .before .before .before .if2 .left) (c .before .before .before .before .before .before .before .before .before .exists-part .ensures) (c .before .if3 .left) (c .before .before .before .before .exists-part2 .ensures))
-    (λ c κs. let r = c .before .before .before .before .before .before .before .before .before .before .before .before .before .before .before .before .before .before .before .before .before .pre .1 .0 in let R = row-at _ (c .before .before .before .before .before .before .before .before .before .before .before .before .before .before .before .before .before .before .before .before .before .pre .1 .1) (c .before .before .before .before .before .before .before .before .before .before .before .before .before .before .before .before .before .before .before .before .before .pre .1 .3 .is-row) (c .before .before .before .before .before .before .before .before .before .before .before .before .before .before .before .before .before .before .before .row-of .ensures) in (ready-wf r .bounded _ (R .used), c .before .before .before .make .ensures .good .sizes .room, let e = r .levels-is in let n = r .good .sizes .n-max in let h = c .before .before .before .before .before .before .before .before .before .before .before .before .before .before .before .before .before .before .before .before .before .pre .1 .2 in omega arith))
+    (λ c. let r =
+    c .before .before .before .before .before .before .before .before .before .before .before .before .before .before .before .before
+    .pre .1 .0 in let R =
+    row-at _
+    (c .before .before .before .before .before .before .before .before .before .before .before .before .before .before .before .before
+    .pre .1 .1)
+    (c .before .before .before .before .before .before .before .before .before .before .before .before .before .before .before .before
+    .pre .1 .3 .is-row)
+    (c .before .before .before .before .before .before .before .before .before .before .before .before .before .before .row-of
+    .ensures) in
+    let o = opened (ready-wf r) R
+    (c .before .before .before .before .before .before .before .before .before .before .before .before .node-at .ensures) in
+    let D = exists-calls r o _
+    (let t =
+    reached
+    (c .before .before .before .before .before .before .before .before .before .before .before .before .before .before .before .before
+    .pre .1 .3)
+    (c .before .before .before .before .before .before .before .before .before .before .before .before .before .before .row-of .ensures)
+    (c .before .before .before .before .before .before .before .before .before .before .before .before .node-at .ensures) in
+    let u = c .before .before .before .before .before .before .before .before .before .before .if1 .left in omega arith) in
+    high-stops r D (c .before .before .before .before .before .if2 .left)
+    (c .before .before .before .before .before .before .before .before .exists-part .ensures) (c .if3 .taken)
+    (c .before .before .before .exists-part2 .ensures))
+    (λ c κs. let r =
+    c .before .before .before .before .before .before .before .before .before .before .before .before .before .before .before .before
+    .before .pre .1 .0 in let R =
+    row-at _
+    (c .before .before .before .before .before .before .before .before .before .before .before .before .before .before .before .before
+    .before .pre .1 .1)
+    (c .before .before .before .before .before .before .before .before .before .before .before .before .before .before .before .before
+    .before .pre .1 .3 .is-row)
+    (c .before .before .before .before .before .before .before .before .before .before .before .before .before .before .before .row-of
+    .ensures) in
+    let o = opened (ready-wf r) R
+    (c .before .before .before .before .before .before .before .before .before .before .before .before .before .node-at .ensures) in
+    let D = exists-calls r o _
+    (let t =
+    reached
+    (c .before .before .before .before .before .before .before .before .before .before .before .before .before .before .before .before
+    .before .pre .1 .3)
+    (c .before .before .before .before .before .before .before .before .before .before .before .before .before .before .before .row-of
+    .ensures)
+    (c .before .before .before .before .before .before .before .before .before .before .before .before .before .node-at .ensures) in
+    let u = c .before .before .before .before .before .before .before .before .before .before .before .if1 .left in omega arith) in
+    row-pre r D (c .before .before .before .before .before .before .if2 .left)
+    (c .before .before .before .before .before .before .before .before .before .exists-part .ensures) (c .before .if3 .left)
+    (c .before .before .before .before .exists-part2 .ensures))
+    (λ c κs. let r =
+    c .before .before .before .before .before .before .before .before .before .before .before .before .before .before .before .before
+    .before .before .before .before .before .pre .1 .0 in let R =
+    row-at _
+    (c .before .before .before .before .before .before .before .before .before .before .before .before .before .before .before .before
+    .before .before .before .before .before .pre .1 .1)
+    (c .before .before .before .before .before .before .before .before .before .before .before .before .before .before .before .before
+    .before .before .before .before .before .pre .1 .3 .is-row)
+    (c .before .before .before .before .before .before .before .before .before .before .before .before .before .before .before .before
+    .before .before .before .row-of .ensures) in (
+      ready-wf r .bounded _ (R .used),
+      c .before .before .before .make .ensures .good .sizes .room,
+      let e = r .levels-is in
+          let n = r .good .sizes .n-max in
+          let h =
+          c .before .before .before .before .before .before .before .before .before .before .before .before .before .before .before .before
+          .before .before .before .before .before .pre .1 .2 in omega arith,
+    ))
     (λ c. search needs)
-    (λ c. let r = c .before .before .before .before .before .before .before .before .before .before .before .before .before .before .before .before .before .before .before .before .before .before .before .before .pre .1 .0 in let R = row-at _ (c .before .before .before .before .before .before .before .before .before .before .before .before .before .before .before .before .before .before .before .before .before .before .before .before .pre .1 .1) (c .before .before .before .before .before .before .before .before .before .before .before .before .before .before .before .before .before .before .before .before .before .before .before .before .pre .1 .3 .is-row) (c .before .before .before .before .before .before .before .before .before .before .before .before .before .before .before .before .before .before .before .before .before .before .row-of .ensures) in let o = opened (ready-wf r) R (c .before .before .before .before .before .before .before .before .before .before .before .before .before .before .before .before .before .before .before .before .node-at .ensures) in let D = exists-calls r o _ (let t = reached (c .before .before .before .before .before .before .before .before .before .before .before .before .before .before .before .before .before .before .before .before .before .before .before .before .pre .1 .3) (c .before .before .before .before .before .before .before .before .before .before .before .before .before .before .before .before .before .before .before .before .before .before .row-of .ensures) (c .before .before .before .before .before .before .before .before .before .before .before .before .before .before .before .before .before .before .before .before .node-at .ensures) in let u = c .before .before .before .before .before .before .before .before .before .before .before .before .before .before .before .before .before .before .if1 .left in omega arith) in exists-kept r _ R _ (let e = r .levels-is in let n = r .good .sizes .n-max in let h = c .before .before .before .before .before .before .before .before .before .before .before .before .before .before .before .before .before .before .before .before .before .before .before .before .pre .1 .2 in omega arith) (row-made r D (c .before .before .before .before .before .before .before .before .before .before .before .before .before .if2 .left) (c .before .before .before .before .before .before .before .before .before .before .before .before .before .before .before .before .exists-part .ensures) (c .before .before .before .before .before .before .before .before .if3 .left) (c .before .before .before .before .before .before .before .before .before .before .before .exists-part2 .ensures) (c .before .before .before .before .before .before .make .ensures)) (c .before .before .remember-row2 .ensures))
+    (λ c. let r =
+    c .before .before .before .before .before .before .before .before .before .before .before .before .before .before .before .before
+    .before .before .before .before .before .before .before .before .pre .1 .0 in let R =
+    row-at _
+    (c .before .before .before .before .before .before .before .before .before .before .before .before .before .before .before .before
+    .before .before .before .before .before .before .before .before .pre .1 .1)
+    (c .before .before .before .before .before .before .before .before .before .before .before .before .before .before .before .before
+    .before .before .before .before .before .before .before .before .pre .1 .3 .is-row)
+    (c .before .before .before .before .before .before .before .before .before .before .before .before .before .before .before .before
+    .before .before .before .before .before .before .row-of .ensures) in
+    let o = opened (ready-wf r) R
+    (c .before .before .before .before .before .before .before .before .before .before .before .before .before .before .before .before
+    .before .before .before .before .node-at .ensures) in
+    let D = exists-calls r o _
+    (let t =
+    reached
+    (c .before .before .before .before .before .before .before .before .before .before .before .before .before .before .before .before
+    .before .before .before .before .before .before .before .before .pre .1 .3)
+    (c .before .before .before .before .before .before .before .before .before .before .before .before .before .before .before .before
+    .before .before .before .before .before .before .row-of .ensures)
+    (c .before .before .before .before .before .before .before .before .before .before .before .before .before .before .before .before
+    .before .before .before .before .node-at .ensures) in
+    let u =
+    c .before .before .before .before .before .before .before .before .before .before .before .before .before .before .before .before
+    .before .before .if1 .left in omega arith) in
+    exists-kept r _ R _
+    (let e = r .levels-is in
+    let n = r .good .sizes .n-max in
+    let h =
+    c .before .before .before .before .before .before .before .before .before .before .before .before .before .before .before .before
+    .before .before .before .before .before .before .before .before .pre .1 .2 in omega arith)
+    (row-made r D (c .before .before .before .before .before .before .before .before .before .before .before .before .before .if2 .left)
+    (c .before .before .before .before .before .before .before .before .before .before .before .before .before .before .before .before
+    .exists-part .ensures) (c .before .before .before .before .before .before .before .before .if3 .left)
+    (c .before .before .before .before .before .before .before .before .before .before .before .exists-part2 .ensures)
+    (c .before .before .before .before .before .before .make .ensures)) (c .before .before .remember-row2 .ensures))

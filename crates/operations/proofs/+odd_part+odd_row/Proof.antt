@@ -54,9 +54,17 @@ pub +odd-part+odd-row-spec : {M : Type 1} → statement M
     (λ c κs. (ready-look (c .before .before .pre .1 .0), c .before .before .pre .1 .1))
     (λ c. search needs)
     (λ c. search needs)
-    (λ c. odd-there (c .before .before .before .before .before .before .pre .1 .0) (c .before .known .given .1) (c .before .before .before .odd-known .ensures))
+    (λ c. odd-there (c .before .before .before .before .before .before .pre .1 .0) (c .before .known .given .1)
+    (c .before .before .before .odd-known .ensures))
     (λ c. search needs)
-    (λ c κs. (rw (← c .before .before .before .before .before .before .pre .0) (omega arith), (c .before .before .before .before .before .before .pre .1 .0, c .before .before .before .before .before .before .pre .1 .1, c .before .before .before .odd-known .ensures .none (c .before .enum-told .given .1))))
+    (λ c κs. (
+      rw (← c .before .before .before .before .before .before .pre .0) (omega arith),
+      (
+        c .before .before .before .before .before .before .pre .1 .0,
+        c .before .before .before .before .before .before .pre .1 .1,
+        c .before .before .before .odd-known .ensures .none (c .before .enum-told .given .1),
+      ),
+    ))
     (λ c. search needs)
     (λ c. c .before .before .odd-row .ensures))
     λ t. odd-row-lts.spec (
@@ -74,14 +82,95 @@ pub +odd-part+odd-row-spec : {M : Type 1} → statement M
     (odd-row-at t)
     odd-row.Post
     (λ c κs. c .before .pre .1 .2)
-    (λ c κs. let r = c .before .before .before .pre .1 .0 in let R = row-at _ (c .before .before .before .pre .1 .1) (c .before .before .before .pre .1 .2) (c .before .row-of .ensures) in (ready-wf r .bounded _ (R .used), r .good .sizes .room))
-    (λ c κs. let r = c .before .before .before .before .before .pre .1 .0 in let R = row-at _ (c .before .before .before .before .before .pre .1 .1) (c .before .before .before .before .before .pre .1 .2) (c .before .before .before .row-of .ensures) in let o = opened (ready-wf r) R (c .before .node-at .ensures) in (rw (← c .before .before .before .before .before .pre .0) (part-falls _ _ (low-falls o)), (r, o .parts .low-arrow)))
+    (λ c κs. let r = c .before .before .before .pre .1 .0 in
+    let R = row-at _ (c .before .before .before .pre .1 .1) (c .before .before .before .pre .1 .2) (c .before .row-of .ensures) in
+    (ready-wf r .bounded _ (R .used), r .good .sizes .room))
+    (λ c κs. let r = c .before .before .before .before .before .pre .1 .0 in
+    let R = row-at _ (c .before .before .before .before .before .pre .1 .1) (c .before .before .before .before .before .pre .1 .2)
+    (c .before .before .before .row-of .ensures) in
+    let o = opened (ready-wf r) R (c .before .node-at .ensures) in
+    (rw (← c .before .before .before .before .before .pre .0) (part-falls _ _ (low-falls o)), (r, o .parts .low-arrow)))
     (λ c. search needs)
-    (λ c. let r = c .before .before .before .before .before .before .before .before .before .pre .1 .0 in let R = row-at _ (c .before .before .before .before .before .before .before .before .before .pre .1 .1) (c .before .before .before .before .before .before .before .before .before .pre .1 .2) (c .before .before .before .before .before .before .before .row-of .ensures) in let o = opened (ready-wf r) R (c .before .before .before .before .before .node-at .ensures) in odd-low-stops r o (c .before .before .before .odd-part .ensures))
-    (λ c κs. let r = c .before .before .before .before .before .before .before .before .before .before .pre .1 .0 in let R = row-at _ (c .before .before .before .before .before .before .before .before .before .before .pre .1 .1) (c .before .before .before .before .before .before .before .before .before .before .pre .1 .2) (c .before .before .before .before .before .before .before .before .row-of .ensures) in let o = opened (ready-wf r) R (c .before .before .before .before .before .before .node-at .ensures) in let w = c .before .before .before .before .odd-part .ensures in (rw (← c .before .before .before .before .before .before .before .before .before .before .pre .0) (part-falls _ _ (high-falls o (w .grown .kept))), odd-high-pre r o (c .before .if1 .left) w))
+    (λ c. let r = c .before .before .before .before .before .before .before .before .before .pre .1 .0 in
+    let R = row-at _ (c .before .before .before .before .before .before .before .before .before .pre .1 .1)
+    (c .before .before .before .before .before .before .before .before .before .pre .1 .2)
+    (c .before .before .before .before .before .before .before .row-of .ensures) in
+    let o = opened (ready-wf r) R (c .before .before .before .before .before .node-at .ensures) in
+    odd-low-stops r o (c .before .before .before .odd-part .ensures))
+    (λ c κs. let r = c .before .before .before .before .before .before .before .before .before .before .pre .1 .0 in
+    let R = row-at _ (c .before .before .before .before .before .before .before .before .before .before .pre .1 .1)
+    (c .before .before .before .before .before .before .before .before .before .before .pre .1 .2)
+    (c .before .before .before .before .before .before .before .before .row-of .ensures) in
+    let o = opened (ready-wf r) R (c .before .before .before .before .before .before .node-at .ensures) in
+    let w = c .before .before .before .before .odd-part .ensures in (
+      rw (← c .before .before .before .before .before .before .before .before .before .before .pre .0)
+          (part-falls _ _ (high-falls o (w .grown .kept))),
+      odd-high-pre r o (c .before .if1 .left) w,
+    ))
     (λ c. search needs)
-    (λ c. let r = c .before .before .before .before .before .before .before .before .before .before .before .before .before .before .pre .1 .0 in let R = row-at _ (c .before .before .before .before .before .before .before .before .before .before .before .before .before .before .pre .1 .1) (c .before .before .before .before .before .before .before .before .before .before .before .before .before .before .pre .1 .2) (c .before .before .before .before .before .before .before .before .before .before .before .before .row-of .ensures) in let o = opened (ready-wf r) R (c .before .before .before .before .before .before .before .before .before .before .node-at .ensures) in odd-high-stops r o (c .before .before .before .before .before .if1 .left) (c .before .before .before .before .before .before .before .before .odd-part .ensures) (c .before .before .before .odd-part2 .ensures))
-    (λ c κs. let r = c .before .before .before .before .before .before .before .before .before .before .before .before .before .before .before .pre .1 .0 in let R = row-at _ (c .before .before .before .before .before .before .before .before .before .before .before .before .before .before .before .pre .1 .1) (c .before .before .before .before .before .before .before .before .before .before .before .before .before .before .before .pre .1 .2) (c .before .before .before .before .before .before .before .before .before .before .before .before .before .row-of .ensures) in let o = opened (ready-wf r) R (c .before .before .before .before .before .before .before .before .before .before .before .node-at .ensures) in odd-join-pre r o (c .before .before .before .before .before .before .if1 .left) (c .before .before .before .before .before .before .before .before .before .odd-part .ensures) (c .before .if2 .left) (c .before .before .before .before .odd-part2 .ensures))
-    (λ c κs. let r = c .before .before .before .before .before .before .before .before .before .before .before .before .before .before .before .before .before .before .before .pre .1 .0 in let R = row-at _ (c .before .before .before .before .before .before .before .before .before .before .before .before .before .before .before .before .before .before .before .pre .1 .1) (c .before .before .before .before .before .before .before .before .before .before .before .before .before .before .before .before .before .before .before .pre .1 .2) (c .before .before .before .before .before .before .before .before .before .before .before .before .before .before .before .before .before .row-of .ensures) in let o = opened (ready-wf r) R (c .before .before .before .before .before .before .before .before .before .before .before .before .before .before .before .node-at .ensures) in let w = odd-joined r o (c .before .before .before .before .before .before .before .before .before .before .if1 .left) (c .before .before .before .before .before .before .before .before .before .before .before .before .before .odd-part .ensures) (c .before .before .before .before .before .if2 .left) (c .before .before .before .before .before .before .before .before .odd-part2 .ensures) (c .before .before .before .odd-join .ensures) in (ready-wf r .bounded _ (R .used), w .good .sizes .room, omega arith))
+    (λ c. let r =
+    c .before .before .before .before .before .before .before .before .before .before .before .before .before .before .pre .1 .0 in
+    let R = row-at _
+    (c .before .before .before .before .before .before .before .before .before .before .before .before .before .before .pre .1 .1)
+    (c .before .before .before .before .before .before .before .before .before .before .before .before .before .before .pre .1 .2)
+    (c .before .before .before .before .before .before .before .before .before .before .before .before .row-of .ensures) in
+    let o = opened (ready-wf r) R
+    (c .before .before .before .before .before .before .before .before .before .before .node-at .ensures) in
+    odd-high-stops r o (c .before .before .before .before .before .if1 .left)
+    (c .before .before .before .before .before .before .before .before .odd-part .ensures)
+    (c .before .before .before .odd-part2 .ensures))
+    (λ c κs. let r =
+    c .before .before .before .before .before .before .before .before .before .before .before .before .before .before .before .pre .1
+    .0 in let R =
+    row-at _
+    (c .before .before .before .before .before .before .before .before .before .before .before .before .before .before .before .pre .1
+    .1) (c .before .before .before .before .before .before .before .before .before .before .before .before .before .before .before .pre
+    .1 .2) (c .before .before .before .before .before .before .before .before .before .before .before .before .before .row-of
+    .ensures) in
+    let o = opened (ready-wf r) R
+    (c .before .before .before .before .before .before .before .before .before .before .before .node-at .ensures) in
+    odd-join-pre r o (c .before .before .before .before .before .before .if1 .left)
+    (c .before .before .before .before .before .before .before .before .before .odd-part .ensures) (c .before .if2 .left)
+    (c .before .before .before .before .odd-part2 .ensures))
+    (λ c κs. let r =
+    c .before .before .before .before .before .before .before .before .before .before .before .before .before .before .before .before
+    .before .before .before .pre .1 .0 in let R =
+    row-at _
+    (c .before .before .before .before .before .before .before .before .before .before .before .before .before .before .before .before
+    .before .before .before .pre .1 .1)
+    (c .before .before .before .before .before .before .before .before .before .before .before .before .before .before .before .before
+    .before .before .before .pre .1 .2)
+    (c .before .before .before .before .before .before .before .before .before .before .before .before .before .before .before .before
+    .before .row-of .ensures) in
+    let o = opened (ready-wf r) R
+    (c .before .before .before .before .before .before .before .before .before .before .before .before .before .before .before .node-at
+    .ensures) in
+    let w = odd-joined r o (c .before .before .before .before .before .before .before .before .before .before .if1 .left)
+    (c .before .before .before .before .before .before .before .before .before .before .before .before .before .odd-part .ensures)
+    (c .before .before .before .before .before .if2 .left)
+    (c .before .before .before .before .before .before .before .before .odd-part2 .ensures)
+    (c .before .before .before .odd-join .ensures) in (ready-wf r .bounded _ (R .used), w .good .sizes .room, omega arith))
     (λ c. search needs)
-    (λ c. let r = c .before .before .before .before .before .before .before .before .before .before .before .before .before .before .before .before .before .before .before .before .before .before .pre .1 .0 in let R = row-at _ (c .before .before .before .before .before .before .before .before .before .before .before .before .before .before .before .before .before .before .before .before .before .before .pre .1 .1) (c .before .before .before .before .before .before .before .before .before .before .before .before .before .before .before .before .before .before .before .before .before .before .pre .1 .2) (c .before .before .before .before .before .before .before .before .before .before .before .before .before .before .before .before .before .before .before .before .row-of .ensures) in let o = opened (ready-wf r) R (c .before .before .before .before .before .before .before .before .before .before .before .before .before .before .before .before .before .before .node-at .ensures) in odd-kept r o (c .before .before .before .before .before .before .before .before .before .before .before .before .before .if1 .left) (c .before .before .before .before .before .before .before .before .before .before .before .before .before .before .before .before .odd-part .ensures) (c .before .before .before .before .before .before .before .before .if2 .left) (c .before .before .before .before .before .before .before .before .before .before .before .odd-part2 .ensures) _ (odd-joined r o (c .before .before .before .before .before .before .before .before .before .before .before .before .before .if1 .left) (c .before .before .before .before .before .before .before .before .before .before .before .before .before .before .before .before .odd-part .ensures) (c .before .before .before .before .before .before .before .before .if2 .left) (c .before .before .before .before .before .before .before .before .before .before .before .odd-part2 .ensures) (c .before .before .before .before .before .before .odd-join .ensures)) (c .before .before .remember-row .ensures))
+    (λ c. let r =
+    c .before .before .before .before .before .before .before .before .before .before .before .before .before .before .before .before
+    .before .before .before .before .before .before .pre .1 .0 in let R =
+    row-at _
+    (c .before .before .before .before .before .before .before .before .before .before .before .before .before .before .before .before
+    .before .before .before .before .before .before .pre .1 .1)
+    (c .before .before .before .before .before .before .before .before .before .before .before .before .before .before .before .before
+    .before .before .before .before .before .before .pre .1 .2)
+    (c .before .before .before .before .before .before .before .before .before .before .before .before .before .before .before .before
+    .before .before .before .before .row-of .ensures) in
+    let o = opened (ready-wf r) R
+    (c .before .before .before .before .before .before .before .before .before .before .before .before .before .before .before .before
+    .before .before .node-at .ensures) in
+    odd-kept r o (c .before .before .before .before .before .before .before .before .before .before .before .before .before .if1 .left)
+    (c .before .before .before .before .before .before .before .before .before .before .before .before .before .before .before .before
+    .odd-part .ensures) (c .before .before .before .before .before .before .before .before .if2 .left)
+    (c .before .before .before .before .before .before .before .before .before .before .before .odd-part2 .ensures) _
+    (odd-joined r o
+    (c .before .before .before .before .before .before .before .before .before .before .before .before .before .if1 .left)
+    (c .before .before .before .before .before .before .before .before .before .before .before .before .before .before .before .before
+    .odd-part .ensures) (c .before .before .before .before .before .before .before .before .if2 .left)
+    (c .before .before .before .before .before .before .before .before .before .before .before .odd-part2 .ensures)
+    (c .before .before .before .before .before .before .odd-join .ensures)) (c .before .before .remember-row .ensures))

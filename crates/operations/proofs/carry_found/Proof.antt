@@ -7,4 +7,7 @@ use Rattle.operations.proofs.carry_found.Tie as tie
 
 pub carry-found-spec : {M : Type 1} → statement M
 carry-found-spec =
-    tie.close (tie.spec (λ c. search needs) (λ c κs. search needs) (λ c. carried-at (isMarked (c .before .before .before .before .args .by)) (c .before .before .found .given .1) (c .carry .ensures)) (λ c. search needs) (λ c. search needs))
+    tie.close
+    (tie.spec (λ c. search needs) (λ c κs. search needs)
+    (λ c. carried-at (isMarked (c .before .before .before .before .args .by)) (c .before .before .found .given .1) (c .carry .ensures))
+    (λ c. search needs) (λ c. search needs))

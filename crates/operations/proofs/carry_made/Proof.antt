@@ -6,4 +6,5 @@ use Rattle.operations.proofs.carry_made.Statement.{statement}
 use Rattle.operations.proofs.carry_made.Tie as tie
 
 pub carry-made-spec : {M : Type 1} → statement M
-carry-made-spec = tie.close (tie.spec (λ c. stays (c .if1 .taken) refl) (λ c κs. search needs) (λ c. turned (c .before .if1 .left) (c .carry .ensures)))
+carry-made-spec =
+    tie.close (tie.spec (λ c. stays (c .if1 .taken) refl) (λ c κs. search needs) (λ c. turned (c .before .if1 .left) (c .carry .ensures)))

@@ -11,8 +11,14 @@ exists-spec =
     (λ c κs. (ready-look (c .before .before .pre .0), c .before .before .pre .1, c .before .before .pre .2))
     (λ c. search needs)
     (λ c. search needs)
-    (λ c. worked-there (c .before .before .before .before .before .before .pre .0) (c .before .before .before .exists-known .ensures .at _ (c .before .known .given .1)))
+    (λ c. worked-there (c .before .before .before .before .before .before .pre .0)
+    (c .before .before .before .exists-known .ensures .at _ (c .before .known .given .1)))
     (λ c. search needs)
-    (λ c κs. (c .before .before .before .before .before .before .pre .0, c .before .before .before .before .before .before .pre .1, c .before .before .before .before .before .before .pre .2, c .before .before .before .exists-known .ensures .none (c .before .enum-told .given .1)))
+    (λ c κs. (
+      c .before .before .before .before .before .before .pre .0,
+      c .before .before .before .before .before .before .pre .1,
+      c .before .before .before .before .before .before .pre .2,
+      c .before .before .before .exists-known .ensures .none (c .before .enum-told .given .1),
+    ))
     (λ c. search needs)
     (λ c. c .before .before .exists-row .ensures))

@@ -12,8 +12,13 @@ exists-odd-spec =
     (λ c κs. (ready-look (c .before .before .pre .0), c .before .before .pre .1))
     (λ c. search needs)
     (λ c. search needs)
-    (λ c. odd-there (c .before .before .before .before .before .before .pre .0) (c .before .known .given .1) (c .before .before .before .odd-known .ensures))
+    (λ c. odd-there (c .before .before .before .before .before .before .pre .0) (c .before .known .given .1)
+    (c .before .before .before .odd-known .ensures))
     (λ c. search needs)
-    (λ c κs. (c .before .before .before .before .before .before .pre .0, c .before .before .before .before .before .before .pre .1, c .before .before .before .odd-known .ensures .none (c .before .enum-told .given .1)))
+    (λ c κs. (
+      c .before .before .before .before .before .before .pre .0,
+      c .before .before .before .before .before .before .pre .1,
+      c .before .before .before .odd-known .ensures .none (c .before .enum-told .given .1),
+    ))
     (λ c. search needs)
     (λ c. c .before .before .odd-row .ensures))

@@ -5,4 +5,10 @@ use Rattle.operations.proofs.halve.Statement.{statement}
 use Rattle.operations.proofs.halve.Tie as tie
 
 pub halve-spec : {M : Type 1} → statement M
-halve-spec = tie.close (tie.spec (λ c κs. search needs) (λ c κs. search needs) (λ c. halves-past _ _ (c .before .before .before .before .before .pre .0) (c .before .before .before .row-of .ensures) (c .before .before .node-at .ensures) (c .if1 .taken)) (λ c. halves-here _ _ (c .before .before .before .before .before .pre .0) (c .before .before .before .row-of .ensures) (c .before .before .node-at .ensures) (c .if1 .left)))
+halve-spec =
+    tie.close
+    (tie.spec (λ c κs. search needs) (λ c κs. search needs)
+    (λ c. halves-past _ _ (c .before .before .before .before .before .pre .0) (c .before .before .before .row-of .ensures)
+    (c .before .before .node-at .ensures) (c .if1 .taken))
+    (λ c. halves-here _ _ (c .before .before .before .before .before .pre .0) (c .before .before .before .row-of .ensures)
+    (c .before .before .node-at .ensures) (c .if1 .left)))

@@ -10,4 +10,13 @@ use Rattle.operations.proofs.odd_known.Tie as tie
 
 pub odd-known-spec : {M : Type 1} → statement M
 odd-known-spec =
-    tie.close (tie.spec (λ c κs. search needs) (λ c. odd-constant _ (test-no (c .before .is-row .ensures) (c .if1 .taken))) (λ c κs. test-yes (c .before .is-row .ensures) (c .if1 .left)) (λ c κs. let r = c .before .before .before .before .pre .0 in let R = row-at _ (c .before .before .before .before .pre .1) (test-yes (c .before .before .is-row .ensures) (c .before .if1 .left)) (c .row-of .ensures) in (ready-wf r .bounded _ (R .used), r .good .sizes .room, omega arith)) (λ c. let r = c .before .before .before .before .before .pre .0 in let R = row-at _ (c .before .before .before .before .before .pre .1) (test-yes (c .before .before .before .is-row .ensures) (c .before .before .if1 .left)) (c .before .row-of .ensures) in odd-remembered r R (test-yes (c .before .before .before .is-row .ensures) (c .before .before .if1 .left)) (c .recall-row .ensures)))
+    tie.close
+    (tie.spec (λ c κs. search needs) (λ c. odd-constant _ (test-no (c .before .is-row .ensures) (c .if1 .taken)))
+    (λ c κs. test-yes (c .before .is-row .ensures) (c .if1 .left))
+    (λ c κs. let r = c .before .before .before .before .pre .0 in
+    let R = row-at _ (c .before .before .before .before .pre .1) (test-yes (c .before .before .is-row .ensures) (c .before .if1 .left))
+    (c .row-of .ensures) in (ready-wf r .bounded _ (R .used), r .good .sizes .room, omega arith))
+    (λ c. let r = c .before .before .before .before .before .pre .0 in
+    let R = row-at _ (c .before .before .before .before .before .pre .1)
+    (test-yes (c .before .before .before .is-row .ensures) (c .before .before .if1 .left)) (c .before .row-of .ensures) in
+    odd-remembered r R (test-yes (c .before .before .before .is-row .ensures) (c .before .before .if1 .left)) (c .recall-row .ensures)))

@@ -1,5 +1,5 @@
--- `search` meets its contract: after forgetting, the table holds the scene of its own book; freeing keeps what registers and relations need. Assumes
--- nothing.
+-- `search` meets its contract: after forgetting, the table holds the scene of its own book; freeing keeps what registers and relations
+-- need. Assumes nothing.
 use mathlib.Core.Path.{refl, _∙_}
 use Rattle.path_calls.proofs.Searching.{start-base, search-asks, search-frees, search-done}
 use Rattle.memory.proofs.forget.Reads as forget-reads
@@ -18,10 +18,32 @@ search-spec =
     (tie.spec
     (λ c κs. search needs)
     (λ c. search needs)
-    (λ c κs. (start-base (c .before .before .before .before .before .before .before .before .pre) (c .before .before .before .before .forget .ensures) .sound, refl))
+    (λ c κs. (
+      start-base (c .before .before .before .before .before .before .before .before .pre)
+          (c .before .before .before .before .forget .ensures) .sound,
+      refl,
+    ))
     (λ c. search needs)
-    (λ c κs. (search-asks (c .before .before .before .before .before .before .before .before .before .before .before .before .before .pre) (c .before .before .before .before .before .before .before .before .before .forget .ensures), c .before .before .before .before .begin .ensures))
-    (λ c κs. search-frees (c .before .before .before .before .before .before .before .before .before .before .before .before .before .before .before .before .before .before .before .before .pre) (c .before .before .before .before .before .before .before .before .before .before .before .before .before .before .before .before .forget .ensures) (c .before .before .before .before .before .before .before .before .before .before .before .before .before .before .before .before .before .before .before .before .args .list .now) (c .before .before .before .before .before .before .find-run .ensures))
+    (λ c κs. (
+      search-asks (c .before .before .before .before .before .before .before .before .before .before .before .before .before .pre)
+          (c .before .before .before .before .before .before .before .before .before .forget .ensures),
+      c .before .before .before .before .begin .ensures,
+    ))
+    (λ c κs. search-frees
+    (c .before .before .before .before .before .before .before .before .before .before .before .before .before .before .before .before
+    .before .before .before .before .pre)
+    (c .before .before .before .before .before .before .before .before .before .before .before .before .before .before .before .before
+    .forget .ensures)
+    (c .before .before .before .before .before .before .before .before .before .before .before .before .before .before .before .before
+    .before .before .before .before .args .list .now) (c .before .before .before .before .before .before .find-run .ensures))
     (λ c. search needs)
     (λ c. search needs)
-    (λ c. search-done (c .before .before .before .before .before .before .before .before .before .before .before .before .before .before .before .before .before .before .before .before .before .before .before .pre) (c .before .before .before .before .before .before .before .before .before .before .before .before .before .before .before .before .before .before .before .forget .ensures) (c .before .before .before .before .before .before .before .before .before .before .before .before .before .before .before .before .before .before .before .before .before .before .before .args .list .now) (c .before .before .before .before .before .before .before .before .before .find-run .ensures) (c .before .before .free-many .ensures)))
+    (λ c. search-done
+    (c .before .before .before .before .before .before .before .before .before .before .before .before .before .before .before .before
+    .before .before .before .before .before .before .before .pre)
+    (c .before .before .before .before .before .before .before .before .before .before .before .before .before .before .before .before
+    .before .before .before .forget .ensures)
+    (c .before .before .before .before .before .before .before .before .before .before .before .before .before .before .before .before
+    .before .before .before .before .before .before .before .args .list .now)
+    (c .before .before .before .before .before .before .before .before .before .find-run .ensures)
+    (c .before .before .free-many .ensures)))

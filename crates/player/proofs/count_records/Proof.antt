@@ -27,9 +27,32 @@ count-records-spec =
     (λ c. search needs)
     (λ c. search needs)
     (λ c κs. search needs)
-    (λ c. passed-bad (c .before .before .before .before .loop .inv .1) (c .before .before .before .loop-test .taken) (size-zero _ _ (sized-at (c .before .before .before .before .before .before .args .bytes .now) _ _ (c .before .record-size .ensures)) (c .if1 .taken)))
-    (λ c. let z = size-some _ _ (sized-at (c .before .before .before .before .before .before .args .bytes .now) _ _ (c .before .record-size .ensures)) (c .if1 .left) in let p = c .before .before .before .before .loop .inv .1 in omega (arith, z .within, length-drop (c .before .before .before .before .loop .at) (c .before .before .before .before .before .before .args .bytes .now), p .within))
-    (λ c. let z = size-some _ _ (sized-at (c .before .before .before .before .before .before .args .bytes .now) _ _ (c .before .record-size .ensures)) (c .if1 .left) in let p = c .before .before .before .before .loop .inv in omega (arith, p .1 .few, p .1 .within, p .2))
-    (λ c. let z = size-some _ _ (sized-at (c .before .before .before .before .before .before .args .bytes .now) _ _ (c .before .record-size .ensures)) (c .if1 .left) in omega (arith, z .size, c .before .before .before .loop-test .taken))
-    (λ c. let z = size-some _ _ (sized-at (c .before .before .before .before .before .before .args .bytes .now) _ _ (c .before .record-size .ensures)) (c .if1 .left) in let p = c .before .before .before .before .loop .inv in (_, passed-next (z .command) _ (p .1) (c .before .before .before .loop-test .taken) (z .read) (z .size) (z .within), omega (arith, length-append (p .0) (z .command ∷ []), p .2)))
+    (λ c. passed-bad (c .before .before .before .before .loop .inv .1) (c .before .before .before .loop-test .taken)
+    (size-zero _ _
+    (sized-at (c .before .before .before .before .before .before .args .bytes .now) _ _ (c .before .record-size .ensures))
+    (c .if1 .taken)))
+    (λ c. let z = size-some _ _
+    (sized-at (c .before .before .before .before .before .before .args .bytes .now) _ _ (c .before .record-size .ensures))
+    (c .if1 .left) in
+    let p = c .before .before .before .before .loop .inv .1 in
+    omega (
+      arith,
+      z .within,
+      length-drop (c .before .before .before .before .loop .at) (c .before .before .before .before .before .before .args .bytes .now),
+      p .within,
+    ))
+    (λ c. let z = size-some _ _
+    (sized-at (c .before .before .before .before .before .before .args .bytes .now) _ _ (c .before .record-size .ensures))
+    (c .if1 .left) in let p = c .before .before .before .before .loop .inv in omega (arith, p .1 .few, p .1 .within, p .2))
+    (λ c. let z = size-some _ _
+    (sized-at (c .before .before .before .before .before .before .args .bytes .now) _ _ (c .before .record-size .ensures))
+    (c .if1 .left) in omega (arith, z .size, c .before .before .before .loop-test .taken))
+    (λ c. let z = size-some _ _
+    (sized-at (c .before .before .before .before .before .before .args .bytes .now) _ _ (c .before .record-size .ensures))
+    (c .if1 .left) in
+    let p = c .before .before .before .before .loop .inv in (
+      _,
+      passed-next (z .command) _ (p .1) (c .before .before .before .loop-test .taken) (z .read) (z .size) (z .within),
+      omega (arith, length-append (p .0) (z .command ∷ []), p .2),
+    ))
     (λ c. (_, passed-all (c .before .loop .inv .1) (c .loop-test .left), c .before .loop .inv .2)))

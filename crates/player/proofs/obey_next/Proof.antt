@@ -20,10 +20,39 @@ obey-next-spec =
     (λ c. search needs)
     (λ c. search needs)
     (λ c. search needs)
-    (λ c. (next-done (c .before .before .before .before .before .before .before .before .before .before .before .before .before .before .before .args .bytes .now) _ _ (c .before .before .before .before .before .before .before .before .before .before .before .before .before .before .before .pre .0) (c .before .before .before .before .before .before .before .before .before .before .before .before .before .before .before .pre .1) (c .before .before .before .before .before .before .before .before .before .before .take-record .ensures) (c .before .before .before .before .before .before .outcome .given .1) (c .before .before .before .put-outcome .ensures), obeyed-sound (c .before .before .before .before .before .before .before .before .before .before .before .before .before .before .before .args .bytes .now) true _ _ _ (c .before .before .before .before .before .before .before .before .before .before .take-record .ensures) (c .before .before .before .before .before .before .outcome .given .1) (c .before .before .before .before .before .before .before .before .before .before .before .before .before .before .before .pre .3) (c .sound-after .ensures)))
+    (λ c. (
+      next-done
+          (c .before .before .before .before .before .before .before .before .before .before .before .before .before .before .before .args
+          .bytes .now) _ _
+          (c .before .before .before .before .before .before .before .before .before .before .before .before .before .before .before .pre
+          .0)
+          (c .before .before .before .before .before .before .before .before .before .before .before .before .before .before .before .pre
+          .1)
+          (c .before .before .before .before .before .before .before .before .before .before .take-record .ensures)
+          (c .before .before .before .before .before .before .outcome .given .1) (c .before .before .before .put-outcome .ensures),
+      obeyed-sound
+          (c .before .before .before .before .before .before .before .before .before .before .before .before .before .before .before .args
+          .bytes .now) true _ _ _ (c .before .before .before .before .before .before .before .before .before .before .take-record .ensures)
+          (c .before .before .before .before .before .before .outcome .given .1)
+          (c .before .before .before .before .before .before .before .before .before .before .before .before .before .before .before .pre
+          .3)
+          (c .sound-after .ensures),
+    ))
     (λ c. search needs)
-    (λ c. absurd (next-other (c .before .before .before .before .before .before .before .before .before .args .bytes .now) _ _ End (c .before .before .before .before .before .before .before .before .before .pre .0) (c .before .before .before .before .before .before .before .before .before .pre .1) (c .before .before .before .before .take-record .ensures) (c .enum-told .given .1) tt))
+    (λ c. absurd
+    (next-other (c .before .before .before .before .before .before .before .before .before .args .bytes .now) _ _ End
+    (c .before .before .before .before .before .before .before .before .before .pre .0)
+    (c .before .before .before .before .before .before .before .before .before .pre .1)
+    (c .before .before .before .before .take-record .ensures) (c .enum-told .given .1) tt))
     (λ c. search needs)
-    (λ c. absurd (next-other (c .before .before .before .before .before .before .before .before .before .args .bytes .now) _ _ More (c .before .before .before .before .before .before .before .before .before .pre .0) (c .before .before .before .before .before .before .before .before .before .pre .1) (c .before .before .before .before .take-record .ensures) (c .enum-told2 .given .1) tt))
+    (λ c. absurd
+    (next-other (c .before .before .before .before .before .before .before .before .before .args .bytes .now) _ _ More
+    (c .before .before .before .before .before .before .before .before .before .pre .0)
+    (c .before .before .before .before .before .before .before .before .before .pre .1)
+    (c .before .before .before .before .take-record .ensures) (c .enum-told2 .given .1) tt))
     (λ c. search needs)
-    (λ c. absurd (next-other (c .before .before .before .before .before .before .before .before .before .args .bytes .now) _ _ Bad (c .before .before .before .before .before .before .before .before .before .pre .0) (c .before .before .before .before .before .before .before .before .before .pre .1) (c .before .before .before .before .take-record .ensures) (c .enum-told3 .given .1) tt)))
+    (λ c. absurd
+    (next-other (c .before .before .before .before .before .before .before .before .before .args .bytes .now) _ _ Bad
+    (c .before .before .before .before .before .before .before .before .before .pre .0)
+    (c .before .before .before .before .before .before .before .before .before .pre .1)
+    (c .before .before .before .before .take-record .ensures) (c .enum-told3 .given .1) tt)))

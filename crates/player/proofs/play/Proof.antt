@@ -14,10 +14,29 @@ play-spec =
     (λ c κs. search needs)
     (λ c. search needs)
     (λ c. search needs)
-    (λ c. (subst (CountPost (c .before .before .before .before .before .before .args .bytes .now)) (c .enum-told .given .1) (c .before .before .count-records .ensures), (refl, refl)))
-    (λ c. let (cs, e, i) = subst (CountPost (c .before .before .before .before .before .before .before .before .args .bytes .now)) (c .before .before .count .given .1) (c .before .before .before .before .count-records .ensures) in ((cs, e, omega (arith, c .if1 .taken)), (refl, refl)))
-    (λ c. let (cs, e, i) = subst (CountPost (c .before .before .before .before .before .before .before .before .before .args .bytes .now)) (c .before .before .before .count .given .1) (c .before .before .before .before .before .count-records .ensures) in (omega arith, all-done (all-none _ _ cs e i (c .if2 .taken)) e (i ∙ c .if2 .taken)))
-    (λ c κs. let (cs, e, i) = subst (CountPost (c .before .before .before .before .before .before .before .before .before .before .before .args .bytes .now)) (c .before .before .before .before .before .count .given .1) (c .before .before .before .before .before .before .before .count-records .ensures) in (cs, e, omega (arith, c .before .before .before .if1 .left)))
+    (λ c. (
+      subst (CountPost (c .before .before .before .before .before .before .args .bytes .now)) (c .enum-told .given .1)
+          (c .before .before .count-records .ensures),
+      (refl, refl),
+    ))
+    (λ c. let (cs, e, i) = subst (CountPost (c .before .before .before .before .before .before .before .before .args .bytes .now))
+    (c .before .before .count .given .1) (c .before .before .before .before .count-records .ensures) in
+    ((cs, e, omega (arith, c .if1 .taken)), (refl, refl)))
+    (λ c. let (cs, e, i) = subst (CountPost (c .before .before .before .before .before .before .before .before .before .args .bytes .now))
+    (c .before .before .before .count .given .1) (c .before .before .before .before .before .count-records .ensures) in
+    (omega arith, all-done (all-none _ _ cs e i (c .if2 .taken)) e (i ∙ c .if2 .taken)))
+    (λ c κs. let (cs, e, i) =
+    subst (CountPost (c .before .before .before .before .before .before .before .before .before .before .before .args .bytes .now))
+    (c .before .before .before .before .before .count .given .1)
+    (c .before .before .before .before .before .before .before .count-records .ensures) in
+    (cs, e, omega (arith, c .before .before .before .if1 .left)))
     (λ c. search needs)
     (λ c. search needs)
-    (λ c. let (cs, e, i) = subst (CountPost (c .before .before .before .before .before .before .before .before .before .before .before .before .before .before .before .before .args .bytes .now)) (c .before .before .before .before .before .before .before .before .before .before .count .given .1) (c .before .before .before .before .before .before .before .before .before .before .before .before .count-records .ensures) in (omega (arith, c .before .before .before .before .before .before .before .before .if1 .left), all-done (c .before .before .before .before .obey-all .ensures) e i)))
+    (λ c. let (cs, e, i) =
+    subst (CountPost
+    (c .before .before .before .before .before .before .before .before .before .before .before .before .before .before .before .before
+    .args .bytes .now)) (c .before .before .before .before .before .before .before .before .before .before .count .given .1)
+    (c .before .before .before .before .before .before .before .before .before .before .before .before .count-records .ensures) in (
+      omega (arith, c .before .before .before .before .before .before .before .before .if1 .left),
+      all-done (c .before .before .before .before .obey-all .ensures) e i,
+    )))

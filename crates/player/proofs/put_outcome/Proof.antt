@@ -25,4 +25,5 @@ put-outcome-spec =
     (λ c. search needs)
     (λ c. simp length-set (omega (arith, c .pre)))
     (λ c. search needs)
-    (λ c. put-five (c .args .list .now) (c .args .at) (c .args .x .number) (c .args .x .node) (c .args .x .rounds) (c .args .x .value) (c .args .x .peak)))
+    (λ c. put-five (c .args .list .now) (c .args .at) (c .args .x .number) (c .args .x .node) (c .args .x .rounds) (c .args .x .value)
+    (c .args .x .peak)))

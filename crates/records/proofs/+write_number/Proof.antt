@@ -44,7 +44,13 @@ pub +write-number-spec : {M : Type 1} → statement M
     (λ c κs. (omega (arith, c .before .before .before .pre .0), omega (arith, c .before .before .before .pre .1)))
     (λ c. omega arith)
     (λ c. search needs)
-    (λ c. omega (arith, c .before .before .before .before .before .before .pre .1, c .before .before .write-number .ensures .within, c .before .before .write-number .kept .0))
+    (λ c. omega (
+      arith,
+      c .before .before .before .before .before .before .pre .1,
+      c .before .before .write-number .ensures .within,
+      c .before .before .write-number .kept .0,
+    ))
     (λ c. omega (arith, c .before .before .before .before .before .before .pre .1, c .before .before .write-number .ensures .within))
     (λ c. simp length-set (c .before .before .write-number .kept .0))
-    (λ c. number-more (c .before .before .before .before .before .before .args .x) (omega arith) (omega arith) (c .before .before .write-number .ensures .wrote))
+    (λ c. number-more (c .before .before .before .before .before .before .args .x) (omega arith) (omega arith)
+    (c .before .before .write-number .ensures .wrote))

@@ -16,5 +16,9 @@ pair-spec =
     (λ c. search needs)
     (λ c. search needs)
     (λ c. omega (arith, c .before .shared-slice-known .given (c .before .before .args .at + 1)))
-    (λ c. omega (arith, c .before .shared-slice-known .given (c .before .before .args .at), c .before .shared-slice-known .given (c .before .before .args .at + 1)))
+    (λ c. omega (
+      arith,
+      c .before .shared-slice-known .given (c .before .before .args .at),
+      c .before .shared-slice-known .given (c .before .before .args .at + 1),
+    ))
     (λ c. search needs))

@@ -19,4 +19,10 @@ quad-spec =
     (λ c κs. search needs)
     (λ c. search needs)
     (λ c. search needs)
-    (λ c. let e : c .before .before .before .args .at + 2 + 1 ≡ c .before .before .before .args .at + 3 = omega arith in omega (arith, c .before .pair .ensures, c .pair2 .ensures, ap (λ (k : ℕ). getD (c .before .before .before .args .bytes .now) k 0) e)))
+    (λ c. let e : c .before .before .before .args .at + 2 + 1 ≡ c .before .before .before .args .at + 3 = omega arith in
+    omega (
+      arith,
+      c .before .pair .ensures,
+      c .pair2 .ensures,
+      ap (λ (k : ℕ). getD (c .before .before .before .args .bytes .now) k 0) e,
+    )))

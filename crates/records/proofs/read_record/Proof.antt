@@ -15,17 +15,44 @@ read-record-spec =
     (λ c. rw (c .if2 .taken) (sym (read-none (c .before .before .before .args .bytes .now) true (omega arith))))
     (λ c. rw (c .if2 .left) (sym (read-none (c .before .before .before .args .bytes .now) false (omega arith))))
     (λ c κs. search needs)
-    (λ c. sym (read-bad (c .before .before .before .before .args .bytes .now) (c .before .before .before .before .args .ended) (omega arith) (sym (c .before .doomed .ensures) ∙ c .if3 .taken)))
+    (λ c. sym
+    (read-bad (c .before .before .before .before .args .bytes .now) (c .before .before .before .before .args .ended) (omega arith)
+    (sym (c .before .doomed .ensures) ∙ c .if3 .taken)))
     (λ c κs. search needs)
-    (λ c. let d = sym (c .before .before .before .doomed .ensures) ∙ c .before .before .if3 .left in c .partial .ensures ∙ sym (read-partial (c .before .before .before .before .before .before .args .bytes .now) (c .before .before .before .before .before .before .args .ended) (omega arith) d (hopeful-short (c .before .before .before .before .before .before .args .bytes .now) d (omega arith))))
+    (λ c. let d = sym (c .before .before .before .doomed .ensures) ∙ c .before .before .if3 .left in
+    c .partial .ensures
+    ∙ sym (read-partial (c .before .before .before .before .before .before .args .bytes .now)
+    (c .before .before .before .before .before .before .args .ended) (omega arith) d
+    (hopeful-short (c .before .before .before .before .before .before .args .bytes .now) d (omega arith))))
     (λ c κs. search needs)
     (λ c. search needs)
     (λ c. search needs)
     (λ c κs. search needs)
-    (λ c. c .partial2 .ensures ∙ sym (read-partial (c .before .before .before .before .before .before .before .before .args .bytes .now) (c .before .before .before .before .before .before .before .before .args .ended) (omega arith) (sym (c .before .before .before .before .before .doomed .ensures) ∙ c .before .before .before .before .if3 .left) (omega (arith, c .before .before .pair .ensures))))
+    (λ c. c .partial2 .ensures
+    ∙ sym (read-partial (c .before .before .before .before .before .before .before .before .args .bytes .now)
+    (c .before .before .before .before .before .before .before .before .args .ended) (omega arith)
+    (sym (c .before .before .before .before .before .doomed .ensures) ∙ c .before .before .before .before .if3 .left)
+    (omega (arith, c .before .before .pair .ensures))))
     (λ c. search needs)
-    (λ c. omega (arith, c .before .before .pair .ensures, hopeful-length (c .before .before .before .before .before .before .before .before .args .bytes .now) (sym (c .before .before .before .before .before .doomed .ensures) ∙ c .before .before .before .before .if3 .left) (omega arith)))
-    (λ c. omega (arith, c .before .before .pair .ensures, hopeful-length (c .before .before .before .before .before .before .before .before .args .bytes .now) (sym (c .before .before .before .before .before .doomed .ensures) ∙ c .before .before .before .before .if3 .left) (omega arith)))
+    (λ c. omega (
+      arith,
+      c .before .before .pair .ensures,
+      hopeful-length (c .before .before .before .before .before .before .before .before .args .bytes .now)
+          (sym (c .before .before .before .before .before .doomed .ensures) ∙ c .before .before .before .before .if3 .left) (omega arith),
+    ))
+    (λ c. omega (
+      arith,
+      c .before .before .pair .ensures,
+      hopeful-length (c .before .before .before .before .before .before .before .before .args .bytes .now)
+          (sym (c .before .before .before .before .before .doomed .ensures) ∙ c .before .before .before .before .if3 .left) (omega arith),
+    ))
     (λ c. search needs)
-    (λ c κs. arguments-taken (c .before .before .before .before .before .before .before .before .before .args .bytes .now) _ (c .before .before .before .pair .ensures) (sym (c .before .before .before .before .before .before .doomed .ensures) ∙ c .before .before .before .before .before .if3 .left) (omega arith) (omega arith))
-    (λ c. read-command (c .before .before .before .before .before .before .before .before .before .before .args .bytes .now) (c .before .before .before .before .before .before .before .before .before .before .args .ended) _ _ (c .before .before .before .before .pair .ensures) (sym (c .before .before .before .before .before .before .before .doomed .ensures) ∙ c .before .before .before .before .before .before .if3 .left) (omega arith) (c .command-in .ensures)))
+    (λ c κs. arguments-taken (c .before .before .before .before .before .before .before .before .before .args .bytes .now) _
+    (c .before .before .before .pair .ensures)
+    (sym (c .before .before .before .before .before .before .doomed .ensures) ∙ c .before .before .before .before .before .if3 .left)
+    (omega arith) (omega arith))
+    (λ c. read-command (c .before .before .before .before .before .before .before .before .before .before .args .bytes .now)
+    (c .before .before .before .before .before .before .before .before .before .before .args .ended) _ _
+    (c .before .before .before .before .pair .ensures)
+    (sym (c .before .before .before .before .before .before .before .doomed .ensures)
+    ∙ c .before .before .before .before .before .before .if3 .left) (omega arith) (c .command-in .ensures)))

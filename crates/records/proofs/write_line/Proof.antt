@@ -12,7 +12,32 @@ write-line-spec =
     (tie.spec
     (λ c κs. search needs)
     (λ c κs. omega (arith, c .before .before .before .write-field .ensures .within, c .before .before .before .write-field .kept .0))
-    (λ c κs. omega (arith, c .before .before .before .before .before .before .before .write-field .ensures .within, c .before .before .before .before .before .before .before .write-field .kept .0, c .before .before .before .write-field2 .ensures .within, c .before .before .before .write-field2 .kept .0))
-    (λ c κs. omega (arith, c .before .before .before .before .before .before .before .before .before .before .before .write-field .ensures .within, c .before .before .before .before .before .before .before .before .before .before .before .write-field .kept .0, c .before .before .before .before .before .before .before .write-field2 .ensures .within, c .before .before .before .before .before .before .before .write-field2 .kept .0, c .before .before .before .write-field3 .ensures .within, c .before .before .before .write-field3 .kept .0))
+    (λ c κs. omega (
+      arith,
+      c .before .before .before .before .before .before .before .write-field .ensures .within,
+      c .before .before .before .before .before .before .before .write-field .kept .0,
+      c .before .before .before .write-field2 .ensures .within,
+      c .before .before .before .write-field2 .kept .0,
+    ))
+    (λ c κs. omega (
+      arith,
+      c .before .before .before .before .before .before .before .before .before .before .before .write-field .ensures .within,
+      c .before .before .before .before .before .before .before .before .before .before .before .write-field .kept .0,
+      c .before .before .before .before .before .before .before .write-field2 .ensures .within,
+      c .before .before .before .before .before .before .before .write-field2 .kept .0,
+      c .before .before .before .write-field3 .ensures .within,
+      c .before .before .before .write-field3 .kept .0,
+    ))
     (λ c. search needs)
-    (λ c. wrote-line (c .before .before .before .before .before .before .before .before .before .before .before .before .before .before .before .before .before .args .op) (c .before .before .before .before .before .before .before .before .before .before .before .before .before .before .before .before .before .args .number) (c .before .before .before .before .before .before .before .before .before .before .before .before .before .before .before .before .before .args .value) (c .before .before .before .before .before .before .before .before .before .before .before .before .before .before .before .before .before .args .rounds) (c .before .before .before .before .before .before .before .before .before .before .before .before .before .before .write-field .ensures) (c .before .before .before .before .before .before .before .before .before .before .write-field2 .ensures) (c .before .before .before .before .before .before .write-field3 .ensures) (c .before .before .write-field4 .ensures)))
+    (λ c. wrote-line
+    (c .before .before .before .before .before .before .before .before .before .before .before .before .before .before .before .before
+    .before .args .op)
+    (c .before .before .before .before .before .before .before .before .before .before .before .before .before .before .before .before
+    .before .args .number)
+    (c .before .before .before .before .before .before .before .before .before .before .before .before .before .before .before .before
+    .before .args .value)
+    (c .before .before .before .before .before .before .before .before .before .before .before .before .before .before .before .before
+    .before .args .rounds)
+    (c .before .before .before .before .before .before .before .before .before .before .before .before .before .before .write-field
+    .ensures) (c .before .before .before .before .before .before .before .before .before .before .write-field2 .ensures)
+    (c .before .before .before .before .before .before .write-field3 .ensures) (c .before .before .write-field4 .ensures)))

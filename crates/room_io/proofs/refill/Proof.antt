@@ -18,12 +18,62 @@ refill-spec =
     (λ c. search needs)
     (λ c κs. search needs)
     (λ c. search needs)
-    (λ c. let n = bytes-fit (c .before .before .before .before .before .read-some .ensures) (c .before .n .given .1) in omega (arith, n .1, c .before .before .before .before .before .read-some .kept .0, c .before .before .before .before .before .before .before .before .before .to-front .ensures .0, c .before .before .before .before .before .before .before .before .before .to-front .kept .0))
+    (λ c. let n = bytes-fit (c .before .before .before .before .before .read-some .ensures) (c .before .n .given .1) in
+    omega (
+      arith,
+      n .1,
+      c .before .before .before .before .before .read-some .kept .0,
+      c .before .before .before .before .before .before .before .before .before .to-front .ensures .0,
+      c .before .before .before .before .before .before .before .before .before .to-front .kept .0,
+    ))
     (λ c. search needs)
     (λ c. search needs)
     (λ c. search needs)
-    (λ c. (refilled-bytes (c .before .before .before .before .before .before .before .before .before .before .before .before .args .p) (c .before .before .before .before .before .before .before .before .before .before .before .before .args .input .now) (c .before .before .before .before .before .before .before .before .before .to-front .last .0) (c .before .before .before .before .before .read-some .last .0) (omega (arith, c .before .before .before .before .before .before .before .before .before .to-front .ensures .0, c .before .before .before .before .before .before .before .before .before .to-front .kept .0)) (c .before .before .before .before .before .before .before .before .before .to-front .ensures .0) (c .before .before .before .before .before .before .before .before .before .to-front .ensures .1) (c .before .before .before .before .before .read-some .kept .0) (c .before .before .before .before .before .read-some .ensures) (c .before .n .given .1), refl))
+    (λ c. (
+      refilled-bytes (c .before .before .before .before .before .before .before .before .before .before .before .before .args .p)
+          (c .before .before .before .before .before .before .before .before .before .before .before .before .args .input .now)
+          (c .before .before .before .before .before .before .before .before .before .to-front .last .0)
+          (c .before .before .before .before .before .read-some .last .0)
+          (omega (
+            arith,
+            c .before .before .before .before .before .before .before .before .before .to-front .ensures .0,
+            c .before .before .before .before .before .before .before .before .before .to-front .kept .0,
+          ))
+          (c .before .before .before .before .before .before .before .before .before .to-front .ensures .0)
+          (c .before .before .before .before .before .before .before .before .before .to-front .ensures .1)
+          (c .before .before .before .before .before .read-some .kept .0) (c .before .before .before .before .before .read-some .ensures)
+          (c .before .n .given .1),
+      refl,
+    ))
     (λ c. search needs)
-    (λ c. (refilled-none (c .before .before .before .before .before .before .before .before .before .before .before .args .p) (c .before .before .before .before .before .before .before .before .before .before .before .args .input .now) (c .before .before .before .before .before .before .before .before .to-front .last .0) (c .before .before .before .before .read-some .last .0) (omega (arith, c .before .before .before .before .before .before .before .before .to-front .ensures .0, c .before .before .before .before .before .before .before .before .to-front .kept .0)) (c .before .before .before .before .before .before .before .before .to-front .ensures .0) (c .before .before .before .before .before .before .before .before .to-front .ensures .1) (c .before .before .before .before .read-some .kept .0) false, refl))
+    (λ c. (
+      refilled-none (c .before .before .before .before .before .before .before .before .before .before .before .args .p)
+          (c .before .before .before .before .before .before .before .before .before .before .before .args .input .now)
+          (c .before .before .before .before .before .before .before .before .to-front .last .0)
+          (c .before .before .before .before .read-some .last .0)
+          (omega (
+            arith,
+            c .before .before .before .before .before .before .before .before .to-front .ensures .0,
+            c .before .before .before .before .before .before .before .before .to-front .kept .0,
+          ))
+          (c .before .before .before .before .before .before .before .before .to-front .ensures .0)
+          (c .before .before .before .before .before .before .before .before .to-front .ensures .1)
+          (c .before .before .before .before .read-some .kept .0) false,
+      refl,
+    ))
     (λ c. search needs)
-    (λ c. (refilled-none (c .before .before .before .before .before .before .before .before .before .before .before .args .p) (c .before .before .before .before .before .before .before .before .before .before .before .args .input .now) (c .before .before .before .before .before .before .before .before .to-front .last .0) (c .before .before .before .before .read-some .last .0) (omega (arith, c .before .before .before .before .before .before .before .before .to-front .ensures .0, c .before .before .before .before .before .before .before .before .to-front .kept .0)) (c .before .before .before .before .before .before .before .before .to-front .ensures .0) (c .before .before .before .before .before .before .before .before .to-front .ensures .1) (c .before .before .before .before .read-some .kept .0) true, refl)))
+    (λ c. (
+      refilled-none (c .before .before .before .before .before .before .before .before .before .before .before .args .p)
+          (c .before .before .before .before .before .before .before .before .before .before .before .args .input .now)
+          (c .before .before .before .before .before .before .before .before .to-front .last .0)
+          (c .before .before .before .before .read-some .last .0)
+          (omega (
+            arith,
+            c .before .before .before .before .before .before .before .before .to-front .ensures .0,
+            c .before .before .before .before .before .before .before .before .to-front .kept .0,
+          ))
+          (c .before .before .before .before .before .before .before .before .to-front .ensures .0)
+          (c .before .before .before .before .before .before .before .before .to-front .ensures .1)
+          (c .before .before .before .before .read-some .kept .0) true,
+      refl,
+    )))

@@ -15,5 +15,9 @@ run-spec =
     (λ c. search needs)
     (λ c. search needs)
     (λ c. search needs)
-    (λ c κs. (refl, omega (arith, c .before .before .before .before .buffer .ensures), omega (arith, c .before .before .before .buffer2 .ensures)))
+    (λ c κs. (
+      refl,
+      omega (arith, c .before .before .before .before .buffer .ensures),
+      omega (arith, c .before .before .before .buffer2 .ensures),
+    ))
     (λ c. search needs))

@@ -15,16 +15,36 @@ find-run-spec =
     (tie.spec
     (λ c κs. search needs)
     (λ c. search needs)
-    (λ c κs. (find-asks (c .before .before .before .before .before .before .before .before .before .before .before .before .before .before .before .before .pre .0) (c .before .before .before .before .before .before .before .before .before .before .reach .ensures .0) (c .before .before .before .before .reached .given .1), c .before .before .before .before .before .before .before .before .before .before .reach .ensures .1))
+    (λ c κs. (
+      find-asks
+          (c .before .before .before .before .before .before .before .before .before .before .before .before .before .before .before .before
+          .pre .0) (c .before .before .before .before .before .before .before .before .before .before .reach .ensures .0)
+          (c .before .before .before .before .reached .given .1),
+      c .before .before .before .before .before .before .before .before .before .before .reach .ensures .1,
+    ))
     (λ c. search needs)
     (λ c. search needs)
-    (λ c. c .before .before .before .before .before .before .write-run .kept .0 ∙ c .before .before .before .before .before .before .before .before .before .before .before .before .before .before .before .before .before .reach .kept .0)
-    (λ c. c .before .before .before .before .before .before .write-run .kept .1 .0 ∙ c .before .before .before .before .before .before .before .before .before .before .before .before .before .before .before .before .before .reach .kept .1 .0)
+    (λ c. c .before .before .before .before .before .before .write-run .kept .0
+    ∙ c .before .before .before .before .before .before .before .before .before .before .before .before .before .before .before .before
+    .before .reach .kept .0)
+    (λ c. c .before .before .before .before .before .before .write-run .kept .1 .0
+    ∙ c .before .before .before .before .before .before .before .before .before .before .before .before .before .before .before .before
+    .before .reach .kept .1 .0)
     (λ c. c .before .before .before .before .before .before .write-run .kept .1 .1 .0)
-    (λ c. find-run (c .before .before .before .before .before .before .before .before .before .before .before .before .before .before .before .before .before .before .before .before .before .before .before .pre .0) (c .before .before .before .before .before .before .before .before .before .before .before .before .before .before .before .before .before .reach .ensures .0) (c .before .before .before .before .before .before .before .before .before .before .before .reached .given .1) (c .before .before .before .before .before .before .before .before .before .before .before .before .before .before .before .before .before .before .before .before .before .before .before .args .list .now) (c .before .before .before .before .before .before .write-run .ensures))
+    (λ c. find-run
+    (c .before .before .before .before .before .before .before .before .before .before .before .before .before .before .before .before
+    .before .before .before .before .before .before .before .pre .0)
+    (c .before .before .before .before .before .before .before .before .before .before .before .before .before .before .before .before
+    .before .reach .ensures .0)
+    (c .before .before .before .before .before .before .before .before .before .before .before .reached .given .1)
+    (c .before .before .before .before .before .before .before .before .before .before .before .before .before .before .before .before
+    .before .before .before .before .before .before .before .args .list .now)
+    (c .before .before .before .before .before .before .write-run .ensures))
     (λ c. c .before .before .before .before .before .before .reach .kept .0)
     (λ c. c .before .before .before .before .before .before .reach .kept .1 .0)
-    (λ c. find-none (c .before .before .before .before .before .before .before .before .before .before .before .before .pre .0) (c .before .before .before .before .before .before .reach .ensures .0) (c .enum-told .given .1))
+    (λ c. find-none (c .before .before .before .before .before .before .before .before .before .before .before .before .pre .0)
+    (c .before .before .before .before .before .before .reach .ensures .0) (c .enum-told .given .1))
     (λ c. c .before .before .before .before .before .before .reach .kept .0)
     (λ c. c .before .before .before .before .before .before .reach .kept .1 .0)
-    (λ c. find-full (c .before .before .before .before .before .before .before .before .before .before .before .before .pre .0) (c .before .before .before .before .before .before .reach .ensures .0) (c .enum-told2 .given .1)))
+    (λ c. find-full (c .before .before .before .before .before .before .before .before .before .before .before .before .pre .0)
+    (c .before .before .before .before .before .before .reach .ensures .0) (c .enum-told2 .given .1)))

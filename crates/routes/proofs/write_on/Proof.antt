@@ -17,7 +17,12 @@ use Rattle.routes.proofs.write_on.Reads as reads
 use Rattle.routes.proofs.write_on.Lts as lts
 
 abbrev Inv-loop : tie.InvT-loop
-Inv-loop words₀ counts₀ list₀ limits relation b d first s₀ left₀ at₀ words counts list s left at = (length words ≡ length words₀) × (length counts ≡ length counts₀) × (length list ≡ length list₀) × (at + left ≡ suc d) × (1 ≤ at) × CountsOf (view (limits .rows) words) counts × ((S : Scene (limits .bits) (view (limits .rows) words₀) relation b) → Onward (limits .limit) S d first → Writing (limits .bits) (limits .limit) (view (limits .rows) words₀) (view (limits .rows) words) relation b S d first list₀ list s left at)
+Inv-loop words₀ counts₀ list₀ limits relation b d first s₀ left₀ at₀ words counts list s left at =
+    (length words ≡ length words₀) × (length counts ≡ length counts₀) × (length list ≡ length list₀) × (at + left ≡ suc d) × (1 ≤ at)
+    × CountsOf (view (limits .rows) words) counts
+    × ((S : Scene (limits .bits) (view (limits .rows) words₀) relation b) → Onward (limits .limit) S d first
+    → Writing (limits .bits) (limits .limit) (view (limits .rows) words₀) (view (limits .rows) words) relation b S d first list₀ list s left
+    at)
 
 abbrev μ-loop : tie.MeasureT-loop
 μ-loop words₀ counts₀ list₀ limits relation b d first s₀ left₀ at₀ words counts list s left at = left
@@ -28,16 +33,68 @@ write-on-spec =
     (tie.spec
     Inv-loop
     μ-loop
-    (λ c. (refl, refl, refl, omega arith, omega arith, c .before .before .before .pre .1, λ S r. write-starts (c .before .before .before .pre .0) S r))
+    (λ c. (
+      refl,
+      refl,
+      refl,
+      omega arith,
+      omega arith,
+      c .before .before .before .pre .1,
+      λ S r. write-starts (c .before .before .before .pre .0) S r,
+    ))
     (λ c. omega (arith, c .loop-test .taken))
-    (λ c κs. (write-again (c .before .before .before .before .before .before .before .pre .0) (c .before .before .before .loop .inv .6) (c .before .before .loop-test .taken) (omega (arith, c .before .before .before .loop .inv .3, c .before .before .before .loop .inv .4)), c .before .before .before .loop .inv .5))
-    (λ c κs. next-walks (c .before .before .before .before .before .before .before .before .before .before .before .before .before .pre .0) (c .before .before .before .before .before .before .before .before .before .loop .inv .6) (c .before .before .before .before .before .make-layer .ensures .0))
-    (λ c. let h = next-small (c .before .before .before .before .before .before .before .before .before .before .before .before .before .before .pre .0) (c .before .before .before .before .before .before .before .before .before .before .loop .inv .6) (c .before .before .before .before .before .before .make-layer .ensures .0) (c .least-next .ensures) (c .before .before .before .before .before .before .before .before .before .loop-test .taken) in omega arith)
+    (λ c κs. (
+      write-again (c .before .before .before .before .before .before .before .pre .0) (c .before .before .before .loop .inv .6)
+          (c .before .before .loop-test .taken)
+          (omega (arith, c .before .before .before .loop .inv .3, c .before .before .before .loop .inv .4)),
+      c .before .before .before .loop .inv .5,
+    ))
+    (λ c κs. next-walks (c .before .before .before .before .before .before .before .before .before .before .before .before .before .pre .0)
+    (c .before .before .before .before .before .before .before .before .before .loop .inv .6)
+    (c .before .before .before .before .before .make-layer .ensures .0))
+    (λ c. let h =
+    next-small
+    (c .before .before .before .before .before .before .before .before .before .before .before .before .before .before .pre .0)
+    (c .before .before .before .before .before .before .before .before .before .before .loop .inv .6)
+    (c .before .before .before .before .before .before .make-layer .ensures .0) (c .least-next .ensures)
+    (c .before .before .before .before .before .before .before .before .before .loop-test .taken) in omega arith)
     (λ c. search needs)
-    (λ c. omega (arith, c .before .before .before .before .before .before .before .before .before .before .loop .inv .2, c .before .before .before .before .before .before .before .before .before .before .loop .inv .3, c .before .before .before .before .before .before .before .before .before .before .before .before .before .before .pre .0 .room, c .before .before .before .before .before .before .before .before .before .loop-test .taken))
-    (λ c. omega (arith, c .before .before .before .before .before .before .before .before .before .before .loop .inv .2, c .before .before .before .before .before .before .before .before .before .before .loop .inv .3, c .before .before .before .before .before .before .before .before .before .before .before .before .before .before .pre .0 .room, c .before .before .before .before .before .before .before .before .before .loop-test .taken))
+    (λ c. omega (
+      arith,
+      c .before .before .before .before .before .before .before .before .before .before .loop .inv .2,
+      c .before .before .before .before .before .before .before .before .before .before .loop .inv .3,
+      c .before .before .before .before .before .before .before .before .before .before .before .before .before .before .pre .0 .room,
+      c .before .before .before .before .before .before .before .before .before .loop-test .taken,
+    ))
+    (λ c. omega (
+      arith,
+      c .before .before .before .before .before .before .before .before .before .before .loop .inv .2,
+      c .before .before .before .before .before .before .before .before .before .before .loop .inv .3,
+      c .before .before .before .before .before .before .before .before .before .before .before .before .before .before .pre .0 .room,
+      c .before .before .before .before .before .before .before .before .before .loop-test .taken,
+    ))
     (λ c. omega (arith, c .before .before .before .before .before .before .before .before .before .loop-test .taken))
-    (λ c. (c .before .before .before .before .before .before .make-layer .kept .0 ∙ c .before .before .before .before .before .before .before .before .before .before .loop .inv .0, c .before .before .before .before .before .before .make-layer .kept .1 .0 ∙ c .before .before .before .before .before .before .before .before .before .before .loop .inv .1, length-set (c .before .before .before .before .before .before .before .before .before .before .loop .list) (c .before .before .before .before .before .before .before .before .before .before .loop .at) _ ∙ c .before .before .before .before .before .before .before .before .before .before .loop .inv .2, omega (arith, c .before .before .before .before .before .before .before .before .before .before .loop .inv .3, c .before .before .before .before .before .before .before .before .before .loop-test .taken), omega (arith, c .before .before .before .before .before .before .before .before .before .before .loop .inv .4), c .before .before .before .before .before .before .make-layer .ensures .1, write-turns (c .before .before .before .before .before .before .before .before .before .before .before .before .before .before .pre .0) (c .before .before .before .before .before .before .before .before .before .before .loop .inv .6) (c .before .before .before .before .before .before .make-layer .ensures .0) (c .least-next .ensures) (c .before .before .before .before .before .before .before .before .before .loop-test .taken)))
+    (λ c. (
+      c .before .before .before .before .before .before .make-layer .kept .0
+          ∙ c .before .before .before .before .before .before .before .before .before .before .loop .inv .0,
+      c .before .before .before .before .before .before .make-layer .kept .1 .0
+          ∙ c .before .before .before .before .before .before .before .before .before .before .loop .inv .1,
+      length-set (c .before .before .before .before .before .before .before .before .before .before .loop .list)
+          (c .before .before .before .before .before .before .before .before .before .before .loop .at) _
+          ∙ c .before .before .before .before .before .before .before .before .before .before .loop .inv .2,
+      omega (
+        arith,
+        c .before .before .before .before .before .before .before .before .before .before .loop .inv .3,
+        c .before .before .before .before .before .before .before .before .before .loop-test .taken,
+      ),
+      omega (arith, c .before .before .before .before .before .before .before .before .before .before .loop .inv .4),
+      c .before .before .before .before .before .before .make-layer .ensures .1,
+      write-turns
+          (c .before .before .before .before .before .before .before .before .before .before .before .before .before .before .pre .0)
+          (c .before .before .before .before .before .before .before .before .before .before .loop .inv .6)
+          (c .before .before .before .before .before .before .make-layer .ensures .0) (c .least-next .ensures)
+          (c .before .before .before .before .before .before .before .before .before .loop-test .taken),
+    ))
     (λ c. c .before .loop .inv .0)
     (λ c. c .before .loop .inv .1)
     (λ c. c .before .loop .inv .2)

@@ -16,9 +16,19 @@ write-run-spec =
     (λ c. run-short (c .before .before .before .before .pre .0) (c .if1 .taken))
     (λ c. let h = first-small (c .before .before .before .before .pre .0) in omega arith)
     (λ c. search needs)
-    (λ c κs. (run-asks (c .before .before .before .before .before .before .before .pre .0) (simp length-set (omega (arith, c .before .before .before .if1 .left))), c .before .before .before .before .before .before .before .pre .1))
-    (λ c. let h = c .before .before .before .before .before .before .before .before .before .before .before .before .before .before .pre .0 .few in omega arith)
+    (λ c κs. (
+      run-asks (c .before .before .before .before .before .before .before .pre .0)
+          (simp length-set (omega (arith, c .before .before .before .if1 .left))),
+      c .before .before .before .before .before .before .before .pre .1,
+    ))
+    (λ c. let h =
+    c .before .before .before .before .before .before .before .before .before .before .before .before .before .before .pre .0 .few in
+    omega arith)
     (λ c. c .before .before .before .before .before .before .write-on .kept .0)
     (λ c. c .before .before .before .before .before .before .write-on .kept .1 .0)
     (λ c. simp length-set at (c .before .before .before .before .before .before .write-on .kept .1 .1 .0))
-    (λ c. run-written (c .before .before .before .before .before .before .before .before .before .before .before .before .before .before .pre .0) (c .before .before .before .before .before .before .before .before .before .before .before .before .before .before .args .list .now) (omega (arith, c .before .before .before .before .before .before .before .before .before .before .if1 .left)) (c .before .before .before .before .before .before .write-on .ensures)))
+    (λ c. run-written
+    (c .before .before .before .before .before .before .before .before .before .before .before .before .before .before .pre .0)
+    (c .before .before .before .before .before .before .before .before .before .before .before .before .before .before .args .list .now)
+    (omega (arith, c .before .before .before .before .before .before .before .before .before .before .if1 .left))
+    (c .before .before .before .before .before .before .write-on .ensures)))

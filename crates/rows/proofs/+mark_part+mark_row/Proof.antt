@@ -59,10 +59,21 @@ pub +mark-part+mark-row-spec : {M : Type 1} → statement M
     (λ c κs. search needs)
     (λ c. marks-constant _ _ _ (test-no (c .before .is-row .ensures) (c .if1 .taken)))
     (λ c κs. test-yes (c .before .before .is-row .ensures) (c .before .if1 .left))
-    (λ c κs. let s = step _ (c .before .before .before .before .before .before .pre .1) (test-yes (c .before .before .before .is-row .ensures) (c .before .before .if1 .left)) (c .row-of .ensures) in let b = c .before .before .before .before .before .before .pre .1 .base .room in let r = s .row in omega arith)
+    (λ c κs. let s = step _ (c .before .before .before .before .before .before .pre .1)
+    (test-yes (c .before .before .before .is-row .ensures) (c .before .before .if1 .left)) (c .row-of .ensures) in
+    let b = c .before .before .before .before .before .before .pre .1 .base .room in let r = s .row in omega arith)
     (λ c. search needs)
-    (λ c. marks-again _ _ _ (test-yes (c .before .before .before .before .before .is-row .ensures) (c .before .before .before .before .if1 .left)) (c .before .before .row-of .ensures) (sym (c .before .marked .ensures) ∙ c .if2 .taken))
-    (λ c κs. (rw (← c .before .before .before .before .before .before .before .before .before .pre .0) (omega arith), (c .before .before .before .before .before .before .before .before .before .pre .1, test-yes (c .before .before .before .before .before .before .is-row .ensures) (c .before .before .before .before .before .if1 .left))))
+    (λ c. marks-again _ _ _
+    (test-yes (c .before .before .before .before .before .is-row .ensures) (c .before .before .before .before .if1 .left))
+    (c .before .before .row-of .ensures) (sym (c .before .marked .ensures) ∙ c .if2 .taken))
+    (λ c κs. (
+      rw (← c .before .before .before .before .before .before .before .before .before .pre .0) (omega arith),
+      (
+        c .before .before .before .before .before .before .before .before .before .pre .1,
+        test-yes (c .before .before .before .before .before .before .is-row .ensures)
+            (c .before .before .before .before .before .if1 .left),
+      ),
+    ))
     (λ c. search needs)
     (λ c. c .before .before .mark-row .ensures))
     λ t. mark-row-lts.spec (
@@ -78,10 +89,43 @@ pub +mark-part+mark-row-spec : {M : Type 1} → statement M
     (mark-row-at t)
     mark-row.Post
     (λ c κs. c .before .before .pre .1 .1)
-    (λ c κs. let s = step _ (c .before .before .before .before .pre .1 .0) (c .before .before .before .before .pre .1 .1) (c .before .row-of .ensures) in let w = c .before .before .before .before .pre .1 .0 .base .words in let h = s .row in (h, omega arith, w))
-    (λ c κs. let s = step _ (c .before .before .before .before .before .pre .1 .0) (c .before .before .before .before .before .pre .1 .1) (c .before .before .row-of .ensures) in called (s .low) (s .low-less) (c .before .before .before .before .before .pre .0) (c .get .ensures) refl)
-    (λ c κs. let s = step _ (c .before .before .before .before .before .before .before .before .before .pre .1 .0) (c .before .before .before .before .before .before .before .before .before .pre .1 .1) (c .before .before .before .before .before .before .row-of .ensures) in let w = c .before .before .before .before .before .before .before .before .before .pre .1 .0 .base .words in let h = s .row in (h, omega arith, w))
-    (λ c κs. let s = step _ (c .before .before .before .before .before .before .before .before .before .before .pre .1 .0) (c .before .before .before .before .before .before .before .before .before .before .pre .1 .1) (c .before .before .before .before .before .before .before .row-of .ensures) in called (s .high) (s .high-less) (c .before .before .before .before .before .before .before .before .before .before .pre .0) (c .get2 .ensures) (c .before .before .before .before .mark-part .kept .1 .1 .0))
-    (λ c κs. let s = step _ (c .before .before .before .before .before .before .before .before .before .before .before .before .before .before .pre .1 .0) (c .before .before .before .before .before .before .before .before .before .before .before .before .before .before .pre .1 .1) (c .before .before .before .before .before .before .before .before .before .before .before .row-of .ensures) in let b = c .before .before .before .before .before .before .before .before .before .before .before .before .before .before .pre .1 .0 .base .room in let r = s .row in omega (arith, c .before .before .before .before .before .before .before .before .mark-part .kept .1 .1 .0, c .before .before .before .mark-part2 .kept .1 .1 .0))
-    (λ c. c .before .before .set-mark .kept .0 ∙ c .before .before .before .before .before .before .mark-part2 .kept .1 .1 .0 ∙ c .before .before .before .before .before .before .before .before .before .before .before .mark-part .kept .1 .1 .0)
-    (λ c. marks-row _ (c .before .before .before .before .before .before .before .before .before .before .before .before .before .before .before .before .before .pre .1 .1) (c .before .before .before .before .before .before .before .before .before .before .before .before .before .before .row-of .ensures) (c .before .before .set-mark .ensures) (c .before .before .before .before .before .before .before .before .before .before .before .mark-part .ensures) (c .before .before .before .before .before .before .before .before .before .before .before .before .get .ensures) (c .before .before .before .before .before .before .mark-part2 .ensures) (c .before .before .before .before .before .before .before .get2 .ensures))
+    (λ c κs. let s = step _ (c .before .before .before .before .pre .1 .0) (c .before .before .before .before .pre .1 .1)
+    (c .before .row-of .ensures) in
+    let w = c .before .before .before .before .pre .1 .0 .base .words in let h = s .row in (h, omega arith, w))
+    (λ c κs. let s = step _ (c .before .before .before .before .before .pre .1 .0) (c .before .before .before .before .before .pre .1 .1)
+    (c .before .before .row-of .ensures) in
+    called (s .low) (s .low-less) (c .before .before .before .before .before .pre .0) (c .get .ensures) refl)
+    (λ c κs. let s = step _ (c .before .before .before .before .before .before .before .before .before .pre .1 .0)
+    (c .before .before .before .before .before .before .before .before .before .pre .1 .1)
+    (c .before .before .before .before .before .before .row-of .ensures) in
+    let w = c .before .before .before .before .before .before .before .before .before .pre .1 .0 .base .words in
+    let h = s .row in (h, omega arith, w))
+    (λ c κs. let s = step _ (c .before .before .before .before .before .before .before .before .before .before .pre .1 .0)
+    (c .before .before .before .before .before .before .before .before .before .before .pre .1 .1)
+    (c .before .before .before .before .before .before .before .row-of .ensures) in
+    called (s .high) (s .high-less) (c .before .before .before .before .before .before .before .before .before .before .pre .0)
+    (c .get2 .ensures) (c .before .before .before .before .mark-part .kept .1 .1 .0))
+    (λ c κs. let s = step _
+    (c .before .before .before .before .before .before .before .before .before .before .before .before .before .before .pre .1 .0)
+    (c .before .before .before .before .before .before .before .before .before .before .before .before .before .before .pre .1 .1)
+    (c .before .before .before .before .before .before .before .before .before .before .before .row-of .ensures) in
+    let b =
+    c .before .before .before .before .before .before .before .before .before .before .before .before .before .before .pre .1 .0 .base
+    .room in let r =
+    s .row in
+    omega (
+      arith,
+      c .before .before .before .before .before .before .before .before .mark-part .kept .1 .1 .0,
+      c .before .before .before .mark-part2 .kept .1 .1 .0,
+    ))
+    (λ c. c .before .before .set-mark .kept .0 ∙ c .before .before .before .before .before .before .mark-part2 .kept .1 .1 .0
+    ∙ c .before .before .before .before .before .before .before .before .before .before .before .mark-part .kept .1 .1 .0)
+    (λ c. marks-row _
+    (c .before .before .before .before .before .before .before .before .before .before .before .before .before .before .before .before
+    .before .pre .1 .1)
+    (c .before .before .before .before .before .before .before .before .before .before .before .before .before .before .row-of .ensures)
+    (c .before .before .set-mark .ensures)
+    (c .before .before .before .before .before .before .before .before .before .before .before .mark-part .ensures)
+    (c .before .before .before .before .before .before .before .before .before .before .before .before .get .ensures)
+    (c .before .before .before .before .before .before .mark-part2 .ensures)
+    (c .before .before .before .before .before .before .before .get2 .ensures))

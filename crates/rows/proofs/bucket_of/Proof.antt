@@ -20,6 +20,11 @@ bucket-of-spec =
     (λ c. search needs)
     (λ c. search needs)
     (λ c. search needs)
-    (λ c. let h = hash-lt (c .args .level) (c .args .low) (c .args .high) in let p : hash (c .args .level) (c .args .low) (c .args .high) * c .args .rows ≤ 4294967296 * MAX-ROWS = mul-le-mul (let z : hash (c .args .level) (c .args .low) (c .args .high) ≤ 4294967296 = omega arith in z) (c .pre .1) in record { fits = omega arith })
-    (λ c. let h = bucket-lt (c .args .rows) (c .args .level) (c .args .low) (c .args .high) (c .pre .0) in let p = c .pre .1 in record { fits = omega arith })
+    (λ c. let h = hash-lt (c .args .level) (c .args .low) (c .args .high) in
+    let p : hash (c .args .level) (c .args .low) (c .args .high) * c .args .rows
+    ≤ 4294967296 * MAX-ROWS =
+    mul-le-mul (let z : hash (c .args .level) (c .args .low) (c .args .high) ≤ 4294967296 = omega arith in z) (c .pre .1) in
+    record { fits = omega arith })
+    (λ c. let h = bucket-lt (c .args .rows) (c .args .level) (c .args .low) (c .args .high) (c .pre .0) in
+    let p = c .pre .1 in record { fits = omega arith })
     (λ c. (refl, bucket-lt _ _ _ _ (c .pre .0))))

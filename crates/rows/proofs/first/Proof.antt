@@ -15,5 +15,9 @@ first-spec =
     (λ c. let e = c .before .head .ensures in let z = sym e ∙ c .if1 .taken in rw z (sym (live-zero _)))
     (λ c. search needs)
     (λ c κs. search needs)
-    (λ c. let e = c .before .before .before .head .ensures in let z = not-true _ (c .if2 .taken) in rw (← e) (sym (live-no _ _ (c .before .before .if1 .left) (sym (c .before .used-row .ensures) ∙ z))))
-    (λ c. let e = c .before .before .before .head .ensures in let z = not-false _ (c .if2 .left) in rw (← e) (sym (live-not-zero _ _ (c .before .before .if1 .left) (sym (c .before .used-row .ensures) ∙ z)))))
+    (λ c. let e = c .before .before .before .head .ensures in
+    let z = not-true _ (c .if2 .taken) in
+    rw (← e) (sym (live-no _ _ (c .before .before .if1 .left) (sym (c .before .used-row .ensures) ∙ z))))
+    (λ c. let e = c .before .before .before .head .ensures in
+    let z = not-false _ (c .if2 .left) in
+    rw (← e) (sym (live-not-zero _ _ (c .before .before .if1 .left) (sym (c .before .used-row .ensures) ∙ z)))))

@@ -11,6 +11,11 @@ mark-ref-spec =
     (tie.spec
     (λ c. let e = c .if1 .taken in marks-none _ (λ a x. omega arith))
     (λ c. search needs)
-    (λ c κs. record { base = c .before .before .before .before .pre .base; arrow = ref-arrow _ _ (c .before .if1 .left) (c .before .before .before .before .pre .ref) })
+    (λ c κs.
+    record {
+      base = c .before .before .before .before .pre .base;
+      arrow = ref-arrow _ _ (c .before .if1 .left) (c .before .before .before .before .pre .ref);
+    })
     (λ c. search needs)
-    (λ c. let n = c .before .before .before .before .if1 .left in marks-one _ (c .before .before .mark .ensures) (omega arith) (λ b x. omega arith)))
+    (λ c. let n = c .before .before .before .before .if1 .left in
+    marks-one _ (c .before .before .mark .ensures) (omega arith) (λ b x. omega arith)))

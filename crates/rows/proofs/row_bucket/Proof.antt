@@ -11,4 +11,8 @@ row-bucket-spec =
     (λ c κs. search needs)
     (λ c κs. search needs)
     (λ c κs. search needs)
-    (λ c. (rw (c .before .before .before .get .ensures, c .before .before .get2 .ensures, c .before .get3 .ensures) at (c .bucket-of .ensures .0), c .bucket-of .ensures .1)))
+    (λ c. (
+      rw (c .before .before .before .get .ensures, c .before .before .get2 .ensures, c .before .get3 .ensures) at
+          (c .bucket-of .ensures .0),
+      c .bucket-of .ensures .1,
+    )))

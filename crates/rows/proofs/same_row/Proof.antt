@@ -15,4 +15,12 @@ same-row-spec =
     (λ c. fails (λ q. c .if2 .taken (c .before .get2 .ensures ∙ q .low)))
     (λ c κs. search needs)
     (λ c. fails (λ q. c .if3 .taken (c .before .get3 .ensures ∙ q .high)))
-    (λ c. holds (record { level = sym (c .before .before .before .before .before .get .ensures) ∙ c .before .before .before .before .if1 .left; low = sym (c .before .before .before .get2 .ensures) ∙ c .before .before .if2 .left; high = sym (c .before .get3 .ensures) ∙ c .if3 .left })))
+    (λ c. holds
+    (record {
+      level =
+          sym (c .before .before .before .before .before .get .ensures) ∙ c .before .before .before .before .if1 .left;
+      low =
+          sym (c .before .before .before .get2 .ensures) ∙ c .before .before .if2 .left;
+      high =
+          sym (c .before .get3 .ensures) ∙ c .if3 .left;
+    })))

@@ -47,9 +47,35 @@ pub +apart-spec : {M : Type 1} → statement M
     (λ c. λ e. absurd (true≢false (sym e)))
     (λ c κs. c .before .before .before .before .before .before .before .pre .1 .0)
     (λ c κs. c .before .before .before .before .before .before .before .before .pre .1 .1)
-    (λ c κs. pair-called (view (c .before .before .before .before .before .before .before .before .before .args .rows) (c .before .before .before .before .before .before .before .before .before .args .words .now)) (pair-less (view (c .before .before .before .before .before .before .before .before .before .args .rows) (c .before .before .before .before .before .before .before .before .before .args .words .now)) _ _ (c .before .before .before .before .before .level-of .ensures) (c .before .before .before .before .level-of2 .ensures) (c .before .before .before .lesser .ensures) (c .before .before .if3 .left) (c .before .follow-at .ensures) (c .follow-at2 .ensures)) (c .before .before .before .before .before .before .before .before .before .pre .0) (c .before .follow-at .ensures .pre) (c .follow-at2 .ensures .pre))
+    (λ c κs. pair-called
+    (view (c .before .before .before .before .before .before .before .before .before .args .rows)
+    (c .before .before .before .before .before .before .before .before .before .args .words .now))
+    (pair-less
+    (view (c .before .before .before .before .before .before .before .before .before .args .rows)
+    (c .before .before .before .before .before .before .before .before .before .args .words .now)) _ _
+    (c .before .before .before .before .before .level-of .ensures) (c .before .before .before .before .level-of2 .ensures)
+    (c .before .before .before .lesser .ensures) (c .before .before .if3 .left) (c .before .follow-at .ensures)
+    (c .follow-at2 .ensures)) (c .before .before .before .before .before .before .before .before .before .pre .0)
+    (c .before .follow-at .ensures .pre) (c .follow-at2 .ensures .pre))
     (λ c. λ e. absurd (true≢false (sym e)))
     (λ c κs. c .before .before .before .before .before .before .before .before .before .before .before .pre .1 .0)
     (λ c κs. c .before .before .before .before .before .before .before .before .before .before .before .before .pre .1 .1)
-    (λ c κs. pair-called (view (c .before .before .before .before .before .before .before .before .before .before .before .before .before .args .rows) (c .before .before .before .before .before .before .before .before .before .before .before .before .before .args .words .now)) (pair-less (view (c .before .before .before .before .before .before .before .before .before .before .before .before .before .args .rows) (c .before .before .before .before .before .before .before .before .before .before .before .before .before .args .words .now)) _ _ (c .before .before .before .before .before .before .before .before .before .level-of .ensures) (c .before .before .before .before .before .before .before .before .level-of2 .ensures) (c .before .before .before .before .before .before .before .lesser .ensures) (c .before .before .before .before .before .before .if3 .left) (c .before .follow-at3 .ensures) (c .follow-at4 .ensures)) (c .before .before .before .before .before .before .before .before .before .before .before .before .before .pre .0) (c .before .follow-at3 .ensures .pre) (c .follow-at4 .ensures .pre))
-    (λ c. apart-both (view (c .before .before .before .before .before .before .before .before .before .before .before .before .before .before .args .rows) (c .before .before .before .before .before .before .before .before .before .before .before .before .before .before .args .words .now)) _ _ (c .before .before .before .before .before .before .follow-at .ensures) (c .before .before .before .before .before .follow-at2 .ensures) (c .before .before .follow-at3 .ensures) (c .before .follow-at4 .ensures) (c .before .before .before .before .apart .ensures) (c .before .before .before .if4 .left) (c .apart2 .ensures))
+    (λ c κs. pair-called
+    (view (c .before .before .before .before .before .before .before .before .before .before .before .before .before .args .rows)
+    (c .before .before .before .before .before .before .before .before .before .before .before .before .before .args .words .now))
+    (pair-less
+    (view (c .before .before .before .before .before .before .before .before .before .before .before .before .before .args .rows)
+    (c .before .before .before .before .before .before .before .before .before .before .before .before .before .args .words .now)) _ _
+    (c .before .before .before .before .before .before .before .before .before .level-of .ensures)
+    (c .before .before .before .before .before .before .before .before .level-of2 .ensures)
+    (c .before .before .before .before .before .before .before .lesser .ensures)
+    (c .before .before .before .before .before .before .if3 .left) (c .before .follow-at3 .ensures) (c .follow-at4 .ensures))
+    (c .before .before .before .before .before .before .before .before .before .before .before .before .before .pre .0)
+    (c .before .follow-at3 .ensures .pre) (c .follow-at4 .ensures .pre))
+    (λ c. apart-both
+    (view (c .before .before .before .before .before .before .before .before .before .before .before .before .before .before .args
+    .rows) (c .before .before .before .before .before .before .before .before .before .before .before .before .before .before .args
+    .words .now)) _ _ (c .before .before .before .before .before .before .follow-at .ensures)
+    (c .before .before .before .before .before .follow-at2 .ensures) (c .before .before .follow-at3 .ensures)
+    (c .before .follow-at4 .ensures) (c .before .before .before .before .apart .ensures) (c .before .before .before .if4 .left)
+    (c .apart2 .ensures))

@@ -20,11 +20,38 @@ follow-at-spec =
     tie.close
     (tie.spec
     (λ c κs. search needs)
-    (λ c. stays (view (c .before .before .before .args .rows) (c .before .before .before .args .words .now)) _ _ (c .before .before .before .pre) (c .before .level-of .ensures) (c .if1 .taken))
+    (λ c. stays (view (c .before .before .before .args .rows) (c .before .before .before .args .words .now)) _ _
+    (c .before .before .before .pre) (c .before .level-of .ensures) (c .if1 .taken))
     (λ c κs. search needs)
-    (λ c. stays-constant (view (c .before .before .before .before .before .args .rows) (c .before .before .before .before .before .args .words .now)) _ _ (c .before .before .before .before .before .pre) (test-no (c .before .is-row .ensures) (c .if2 .taken)))
+    (λ c. stays-constant
+    (view (c .before .before .before .before .before .args .rows) (c .before .before .before .before .before .args .words .now)) _ _
+    (c .before .before .before .before .before .pre) (test-no (c .before .is-row .ensures) (c .if2 .taken)))
     (λ c κs. test-yes (c .before .is-row .ensures) (c .if2 .left))
-    (λ c κs. let w = walk-row (view (c .before .before .before .before .before .before .before .args .rows) (c .before .before .before .before .before .before .before .args .words .now)) _ (c .before .before .before .before .before .before .before .pre) (test-yes (c .before .before .before .is-row .ensures) (c .before .before .if2 .left)) (c .before .row-of .ensures) in let b = c .before .before .before .before .before .before .before .pre .mark .base in omega arith)
-    (λ c. follows (view (c .before .before .before .before .before .before .before .before .args .rows) (c .before .before .before .before .before .before .before .before .args .words .now)) true _ (c .before .before .before .before .before .before .before .before .pre) (test-yes (c .before .before .before .before .is-row .ensures) (c .before .before .before .if2 .left)) (c .before .before .row-of .ensures) (c .before .before .before .before .before .before .level-of .ensures) (c .before .before .before .before .before .if1 .left) (c .before .if3 .taken) (c .side .ensures))
-    (λ c κs. let w = walk-row (view (c .before .before .before .before .before .before .before .args .rows) (c .before .before .before .before .before .before .before .args .words .now)) _ (c .before .before .before .before .before .before .before .pre) (test-yes (c .before .before .before .is-row .ensures) (c .before .before .if2 .left)) (c .before .row-of .ensures) in let b = c .before .before .before .before .before .before .before .pre .mark .base in omega arith)
-    (λ c. follows (view (c .before .before .before .before .before .before .before .before .args .rows) (c .before .before .before .before .before .before .before .before .args .words .now)) false _ (c .before .before .before .before .before .before .before .before .pre) (test-yes (c .before .before .before .before .is-row .ensures) (c .before .before .before .if2 .left)) (c .before .before .row-of .ensures) (c .before .before .before .before .before .before .level-of .ensures) (c .before .before .before .before .before .if1 .left) (c .before .if3 .left) (c .side2 .ensures)))
+    (λ c κs. let w =
+    walk-row
+    (view (c .before .before .before .before .before .before .before .args .rows)
+    (c .before .before .before .before .before .before .before .args .words .now)) _
+    (c .before .before .before .before .before .before .before .pre)
+    (test-yes (c .before .before .before .is-row .ensures) (c .before .before .if2 .left)) (c .before .row-of .ensures) in
+    let b = c .before .before .before .before .before .before .before .pre .mark .base in omega arith)
+    (λ c. follows
+    (view (c .before .before .before .before .before .before .before .before .args .rows)
+    (c .before .before .before .before .before .before .before .before .args .words .now)) true _
+    (c .before .before .before .before .before .before .before .before .pre)
+    (test-yes (c .before .before .before .before .is-row .ensures) (c .before .before .before .if2 .left))
+    (c .before .before .row-of .ensures) (c .before .before .before .before .before .before .level-of .ensures)
+    (c .before .before .before .before .before .if1 .left) (c .before .if3 .taken) (c .side .ensures))
+    (λ c κs. let w =
+    walk-row
+    (view (c .before .before .before .before .before .before .before .args .rows)
+    (c .before .before .before .before .before .before .before .args .words .now)) _
+    (c .before .before .before .before .before .before .before .pre)
+    (test-yes (c .before .before .before .is-row .ensures) (c .before .before .if2 .left)) (c .before .row-of .ensures) in
+    let b = c .before .before .before .before .before .before .before .pre .mark .base in omega arith)
+    (λ c. follows
+    (view (c .before .before .before .before .before .before .before .before .args .rows)
+    (c .before .before .before .before .before .before .before .before .args .words .now)) false _
+    (c .before .before .before .before .before .before .before .before .pre)
+    (test-yes (c .before .before .before .before .is-row .ensures) (c .before .before .before .if2 .left))
+    (c .before .before .row-of .ensures) (c .before .before .before .before .before .before .level-of .ensures)
+    (c .before .before .before .before .before .if1 .left) (c .before .if3 .left) (c .side2 .ensures)))

@@ -28,11 +28,37 @@ least-common-spec =
     μ-loop
     (λ c. search needs)
     (λ c κs. (c .before .pre .0, c .before .pre .1))
-    (λ c. apart-none (view (c .before .before .before .args .rows) (c .before .before .before .args .words .now)) _ _ (power-fits (c .before .before .before .args .n) (c .before .before .before .pre .2)) (c .before .apart .ensures) (c .if1 .taken))
-    (λ c. (power-fits (c .before .before .before .args .n) (c .before .before .before .pre .2), omega arith, none-start (inBoth (view (c .before .before .before .args .rows) (c .before .before .before .args .words .now)) (c .before .before .before .args .a) (c .before .before .before .args .b))))
+    (λ c. apart-none (view (c .before .before .before .args .rows) (c .before .before .before .args .words .now)) _ _
+    (power-fits (c .before .before .before .args .n) (c .before .before .before .pre .2)) (c .before .apart .ensures) (c .if1 .taken))
+    (λ c. (
+      power-fits (c .before .before .before .args .n) (c .before .before .before .pre .2),
+      omega arith,
+      none-start
+          (inBoth (view (c .before .before .before .args .rows) (c .before .before .before .args .words .now))
+          (c .before .before .before .args .a) (c .before .before .before .args .b)),
+    ))
     (λ c κs. (c .before .before .before .before .before .pre .0, c .before .before .before .before .before .pre .1))
-    (λ c. search-found {k = 2 ^ (c .before .before .before .before .before .before .before .args .n)} (inBoth (view (c .before .before .before .before .before .before .before .args .rows) (c .before .before .before .before .before .before .before .args .words .now)) (c .before .before .before .before .before .before .before .args .a) (c .before .before .before .before .before .before .before .args .b)) _ (omega arith) (c .before .before .before .loop .inv .2) (sym (c .before .in-both .ensures) ∙ c .if2 .taken))
+    (λ c. search-found {k = 2 ^ (c .before .before .before .before .before .before .before .args .n)}
+    (inBoth
+    (view (c .before .before .before .before .before .before .before .args .rows)
+    (c .before .before .before .before .before .before .before .args .words .now))
+    (c .before .before .before .before .before .before .before .args .a)
+    (c .before .before .before .before .before .before .before .args .b)) _ (omega arith) (c .before .before .before .loop .inv .2)
+    (sym (c .before .in-both .ensures) ∙ c .if2 .taken))
     (λ c. search needs)
     (λ c. search needs)
-    (λ c. (c .before .before .before .loop .inv .0, omega arith, none-next (inBoth (view (c .before .before .before .before .before .before .before .args .rows) (c .before .before .before .before .before .before .before .args .words .now)) (c .before .before .before .before .before .before .before .args .a) (c .before .before .before .before .before .before .before .args .b)) _ (c .before .before .before .loop .inv .2) (sym (c .before .in-both .ensures) ∙ c .if2 .left)))
-    (λ c. search-none (inBoth (view (c .before .before .before .before .before .args .rows) (c .before .before .before .before .before .args .words .now)) (c .before .before .before .before .before .args .a) (c .before .before .before .before .before .args .b)) _ (c .before .loop .inv .0) (c .loop-test .left) (c .before .loop .inv .2)))
+    (λ c. (
+      c .before .before .before .loop .inv .0,
+      omega arith,
+      none-next
+          (inBoth
+          (view (c .before .before .before .before .before .before .before .args .rows)
+          (c .before .before .before .before .before .before .before .args .words .now))
+          (c .before .before .before .before .before .before .before .args .a)
+          (c .before .before .before .before .before .before .before .args .b)) _ (c .before .before .before .loop .inv .2)
+          (sym (c .before .in-both .ensures) ∙ c .if2 .left),
+    ))
+    (λ c. search-none
+    (inBoth (view (c .before .before .before .before .before .args .rows) (c .before .before .before .before .before .args .words .now))
+    (c .before .before .before .before .before .args .a) (c .before .before .before .before .before .args .b)) _
+    (c .before .loop .inv .0) (c .loop-test .left) (c .before .loop .inv .2)))

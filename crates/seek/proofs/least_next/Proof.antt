@@ -24,10 +24,32 @@ least-next-spec =
     Inv-loop
     μ-loop
     (λ c. search needs)
-    (λ c. (power-fits (c .before .args .n) (c .before .pre .2), omega arith, none-start (nextIn (view (c .before .args .rows) (c .before .args .words .now)) (c .before .args .r) (c .before .args .s) (c .before .args .b))))
+    (λ c. (
+      power-fits (c .before .args .n) (c .before .pre .2),
+      omega arith,
+      none-start
+          (nextIn (view (c .before .args .rows) (c .before .args .words .now)) (c .before .args .r) (c .before .args .s)
+          (c .before .args .b)),
+    ))
     (λ c κs. (c .before .before .before .pre .0, c .before .before .before .pre .1))
-    (λ c. search-found {k = 2 ^ (c .before .before .before .before .before .args .n)} (nextIn (view (c .before .before .before .before .before .args .rows) (c .before .before .before .before .before .args .words .now)) (c .before .before .before .before .before .args .r) (c .before .before .before .before .before .args .s) (c .before .before .before .before .before .args .b)) _ (omega arith) (c .before .before .before .loop .inv .2) (sym (c .before .next-in .ensures) ∙ c .if1 .taken))
+    (λ c. search-found {k = 2 ^ (c .before .before .before .before .before .args .n)}
+    (nextIn (view (c .before .before .before .before .before .args .rows) (c .before .before .before .before .before .args .words .now))
+    (c .before .before .before .before .before .args .r) (c .before .before .before .before .before .args .s)
+    (c .before .before .before .before .before .args .b)) _ (omega arith) (c .before .before .before .loop .inv .2)
+    (sym (c .before .next-in .ensures) ∙ c .if1 .taken))
     (λ c. search needs)
     (λ c. search needs)
-    (λ c. (c .before .before .before .loop .inv .0, omega arith, none-next (nextIn (view (c .before .before .before .before .before .args .rows) (c .before .before .before .before .before .args .words .now)) (c .before .before .before .before .before .args .r) (c .before .before .before .before .before .args .s) (c .before .before .before .before .before .args .b)) _ (c .before .before .before .loop .inv .2) (sym (c .before .next-in .ensures) ∙ c .if1 .left)))
-    (λ c. search-none (nextIn (view (c .before .before .before .args .rows) (c .before .before .before .args .words .now)) (c .before .before .before .args .r) (c .before .before .before .args .s) (c .before .before .before .args .b)) _ (c .before .loop .inv .0) (c .loop-test .left) (c .before .loop .inv .2)))
+    (λ c. (
+      c .before .before .before .loop .inv .0,
+      omega arith,
+      none-next
+          (nextIn
+          (view (c .before .before .before .before .before .args .rows) (c .before .before .before .before .before .args .words .now))
+          (c .before .before .before .before .before .args .r) (c .before .before .before .before .before .args .s)
+          (c .before .before .before .before .before .args .b)) _ (c .before .before .before .loop .inv .2)
+          (sym (c .before .next-in .ensures) ∙ c .if1 .left),
+    ))
+    (λ c. search-none
+    (nextIn (view (c .before .before .before .args .rows) (c .before .before .before .args .words .now))
+    (c .before .before .before .args .r) (c .before .before .before .args .s) (c .before .before .before .args .b)) _
+    (c .before .loop .inv .0) (c .loop-test .left) (c .before .loop .inv .2)))

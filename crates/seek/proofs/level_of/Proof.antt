@@ -19,6 +19,11 @@ level-of-spec =
     (tie.spec
     (λ c κs. search needs)
     (λ c κs. sym (c .before .is-row .ensures) ∙ c .if1 .taken)
-    (λ c κs. let w = walk-row (view (c .before .before .before .before .args .rows) (c .before .before .before .before .args .words .now)) _ (c .before .before .before .before .pre) (sym (c .before .before .is-row .ensures) ∙ c .before .if1 .taken) (c .row-of .ensures) in let b = c .before .before .before .before .pre .mark .base in omega arith)
-    (λ c. level-is (view (c .before .before .before .before .before .args .rows) (c .before .before .before .before .before .args .words .now)) _ (sym (c .before .before .before .is-row .ensures) ∙ c .before .before .if1 .taken) (c .before .row-of .ensures) (c .get .ensures))
-    (λ c. level-beyond (view (c .before .before .before .args .rows) (c .before .before .before .args .words .now)) _ (sym (c .before .is-row .ensures) ∙ c .if1 .left)))
+    (λ c κs. let w = walk-row (view (c .before .before .before .before .args .rows) (c .before .before .before .before .args .words .now)) _
+    (c .before .before .before .before .pre) (sym (c .before .before .is-row .ensures) ∙ c .before .if1 .taken) (c .row-of .ensures) in
+    let b = c .before .before .before .before .pre .mark .base in omega arith)
+    (λ c. level-is
+    (view (c .before .before .before .before .before .args .rows) (c .before .before .before .before .before .args .words .now)) _
+    (sym (c .before .before .before .is-row .ensures) ∙ c .before .before .if1 .taken) (c .before .row-of .ensures) (c .get .ensures))
+    (λ c. level-beyond (view (c .before .before .before .args .rows) (c .before .before .before .args .words .now)) _
+    (sym (c .before .is-row .ensures) ∙ c .if1 .left)))

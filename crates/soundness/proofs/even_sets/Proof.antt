@@ -16,5 +16,16 @@ even-sets-spec =
     (λ c. search needs)
     (λ c κs. c .before .before .pre .1)
     (λ c. search needs)
-    (λ c κs. let p = c .before .before .before .before .before .pre .1 .base in let e = c .before .before .mark-refs .kept .1 .1 .0 in (c .before .before .before .before .before .pre .0, omega arith, omega arith))
-    (λ c. let p = c .before .before .before .before .before .before .pre in says-map (marked-even (view (c .before .before .before .before .before .before .args .rows) (c .before .before .before .before .before .before .args .words .now)) (p .0) (p .1 .base .rows) _ _ (no-marks MARK-WORDS) (c .before .before .before .mark-refs .ensures) (p .1 .ref)) (even-marked (view (c .before .before .before .before .before .before .args .rows) (c .before .before .before .before .before .before .args .words .now)) (p .0) (p .1 .base .rows) _ _ (no-marks MARK-WORDS) (c .before .before .before .mark-refs .ensures) (p .1 .ref)) (c .evens .ensures)))
+    (λ c κs. let p = c .before .before .before .before .before .pre .1 .base in
+    let e = c .before .before .mark-refs .kept .1 .1 .0 in
+    (c .before .before .before .before .before .pre .0, omega arith, omega arith))
+    (λ c. let p = c .before .before .before .before .before .before .pre in
+    says-map
+    (marked-even
+    (view (c .before .before .before .before .before .before .args .rows)
+    (c .before .before .before .before .before .before .args .words .now)) (p .0) (p .1 .base .rows) _ _ (no-marks MARK-WORDS)
+    (c .before .before .before .mark-refs .ensures) (p .1 .ref))
+    (even-marked
+    (view (c .before .before .before .before .before .before .args .rows)
+    (c .before .before .before .before .before .before .args .words .now)) (p .0) (p .1 .base .rows) _ _ (no-marks MARK-WORDS)
+    (c .before .before .before .mark-refs .ensures) (p .1 .ref)) (c .evens .ensures)))

@@ -14,7 +14,9 @@ use Rattle.soundness.proofs.evens.Statement.{statement}
 use Rattle.soundness.proofs.evens.Tie as tie
 
 abbrev Inv-loop : tie.InvT-loop
-Inv-loop words rows marks used k₀ k = (used ≡ headerOf words USED) × (k ≤ used) × ((j : ℕ) → j < k → On marks (listOf rows words j) → view rows words .cell (listOf rows words j) LEVEL % 2 ≡ 0)
+Inv-loop words rows marks used k₀ k =
+    (used ≡ headerOf words USED) × (k ≤ used)
+    × ((j : ℕ) → j < k → On marks (listOf rows words j) → view rows words .cell (listOf rows words j) LEVEL % 2 ≡ 0)
 
 abbrev μ-loop : tie.MeasureT-loop
 μ-loop words rows marks used k₀ k = used - k
@@ -27,13 +29,30 @@ evens-spec =
     μ-loop
     (λ c κs. let p = c .before .before .pre .2 in omega arith)
     (λ c. (c .header-word .ensures, omega arith, below-none _))
-    (λ c κs. let p = c .before .before .before .before .before .pre .0 in let v = c .before .loop .inv .0 in let t = c .loop-test .taken in omega arith)
-    (λ c κs. let v = c .before .before .loop .inv .0 in let t = c .before .loop-test .taken in let p = c .before .before .before .before .before .before .pre .0 .within (c .before .before .loop .k) (omega arith) in let e = c .listed .ensures in let q = c .before .before .before .before .before .before .pre .1 in omega arith)
-    (λ c κs. let v = c .before .before .before .before .loop .inv .0 in let t = c .before .before .before .loop-test .taken in let p = c .before .before .before .before .before .before .before .before .pre .0 .within (c .before .before .before .before .loop .k) (omega arith) in let e = c .before .before .listed .ensures in let q = c .before .before .before .before .before .before .before .before .pre .2 in omega arith)
-    (λ c. fails (λ q. let v = c .before .before .before .before .before .before .loop .inv .0 in let t = c .before .before .before .before .before .loop-test .taken in let e = c .before .before .before .before .listed .ensures in let z = q (c .before .before .before .before .before .before .loop .k) (omega arith) (rw e at (sym (c .before .before .before .marked .ensures) ∙ c .before .before .if1 .taken)) in let g = rw e at (c .before .get .ensures) in let s = c .if2 .taken in omega arith))
+    (λ c κs. let p = c .before .before .before .before .before .pre .0 in
+    let v = c .before .loop .inv .0 in let t = c .loop-test .taken in omega arith)
+    (λ c κs. let v = c .before .before .loop .inv .0 in
+    let t = c .before .loop-test .taken in
+    let p = c .before .before .before .before .before .before .pre .0 .within (c .before .before .loop .k) (omega arith) in
+    let e = c .listed .ensures in let q = c .before .before .before .before .before .before .pre .1 in omega arith)
+    (λ c κs. let v = c .before .before .before .before .loop .inv .0 in
+    let t = c .before .before .before .loop-test .taken in
+    let p = c .before .before .before .before .before .before .before .before .pre .0 .within
+    (c .before .before .before .before .loop .k) (omega arith) in
+    let e = c .before .before .listed .ensures in
+    let q = c .before .before .before .before .before .before .before .before .pre .2 in omega arith)
+    (λ c. fails
+    (λ q. let v = c .before .before .before .before .before .before .loop .inv .0 in
+    let t = c .before .before .before .before .before .loop-test .taken in
+    let e = c .before .before .before .before .listed .ensures in
+    let z = q (c .before .before .before .before .before .before .loop .k) (omega arith)
+    (rw e at (sym (c .before .before .before .marked .ensures) ∙ c .before .before .if1 .taken)) in
+    let g = rw e at (c .before .get .ensures) in let s = c .if2 .taken in omega arith))
     (λ c. omega arith)
     (λ c. omega arith)
-    (λ c. let v = c .before .before .before .before .loop .inv in let e = c .before .before .listed .ensures in let m = c .before .marked .ensures in let t = c .before .before .before .loop-test .taken in (
+    (λ c. let v = c .before .before .before .before .loop .inv in
+    let e = c .before .before .listed .ensures in
+    let m = c .before .marked .ensures in let t = c .before .before .before .loop-test .taken in (
       v .0,
       omega arith,
       ⊎-elim

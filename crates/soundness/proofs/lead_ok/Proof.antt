@@ -17,7 +17,24 @@ lead-ok-spec =
     (λ c. holds (leads-constant _ _ _ (test-no (c .before .is-row .ensures) (c .if1 .taken))))
     (λ c κs. test-yes (c .before .is-row .ensures) (c .if1 .left))
     (λ c κs. search needs)
-    (λ c. fails (λ q. says-fail (c .if2 .taken) (says-is (c .before .used-row .ensures)) (of-leads _ _ _ (test-yes (c .before .before .before .before .is-row .ensures) (c .before .before .before .if1 .left)) (c .before .before .row-of .ensures) q .0)))
-    (λ c κs. let u = used-row (view (c .before .before .before .before .before .before .args .rows) (c .before .before .before .before .before .before .args .words .now)) _ (says-pass (c .if2 .left) (says-is (c .before .used-row .ensures))) in let r = c .before .before .before .before .before .before .pre in omega arith)
-    (λ c. fails (λ q. let z = of-leads _ _ _ (test-yes (c .before .before .before .before .before .before .is-row .ensures) (c .before .before .before .before .before .if1 .left)) (c .before .before .before .before .row-of .ensures) q in let e = c .before .get .ensures in let t = c .if3 .taken in omega arith))
-    (λ c. let e = c .before .get .ensures in let t = c .if3 .left in holds (leads-of _ _ _ (test-yes (c .before .before .before .before .before .before .is-row .ensures) (c .before .before .before .before .before .if1 .left)) (c .before .before .before .before .row-of .ensures) (says-pass (c .before .before .if2 .left) (says-is (c .before .before .before .used-row .ensures)), omega arith))))
+    (λ c. fails
+    (λ q. says-fail (c .if2 .taken) (says-is (c .before .used-row .ensures))
+    (of-leads _ _ _ (test-yes (c .before .before .before .before .is-row .ensures) (c .before .before .before .if1 .left))
+    (c .before .before .row-of .ensures) q .0)))
+    (λ c κs. let u =
+    used-row
+    (view (c .before .before .before .before .before .before .args .rows)
+    (c .before .before .before .before .before .before .args .words .now)) _
+    (says-pass (c .if2 .left) (says-is (c .before .used-row .ensures))) in
+    let r = c .before .before .before .before .before .before .pre in omega arith)
+    (λ c. fails
+    (λ q. let z = of-leads _ _ _
+    (test-yes (c .before .before .before .before .before .before .is-row .ensures)
+    (c .before .before .before .before .before .if1 .left)) (c .before .before .before .before .row-of .ensures) q in
+    let e = c .before .get .ensures in let t = c .if3 .taken in omega arith))
+    (λ c. let e = c .before .get .ensures in
+    let t = c .if3 .left in
+    holds (leads-of _ _ _
+    (test-yes (c .before .before .before .before .before .before .is-row .ensures)
+    (c .before .before .before .before .before .if1 .left)) (c .before .before .before .before .row-of .ensures)
+    (says-pass (c .before .before .if2 .left) (says-is (c .before .before .before .used-row .ensures)), omega arith))))

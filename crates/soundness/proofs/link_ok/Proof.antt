@@ -16,7 +16,15 @@ link-ok-spec =
     (λ c. holds (rw (c .if1 .taken) tt))
     (λ c. search needs)
     (λ c κs. search needs)
-    (λ c. fails (λ q. says-fail (c .if2 .taken) (says-is (c .before .used-row .ensures)) (of-down _ _ _ (c .before .before .if1 .left) q .0)))
-    (λ c κs. let u = used-row (view (c .before .before .before .before .args .rows) (c .before .before .before .before .args .words .now)) _ (says-pass (c .if2 .left) (says-is (c .before .used-row .ensures))) in let r = c .before .before .before .before .pre in omega arith)
-    (λ c. fails (λ q. let z = of-down _ _ _ (c .before .before .before .before .if1 .left) q in let e = c .before .get .ensures in let t = c .if3 .taken in omega arith))
-    (λ c. let e = c .before .get .ensures in let t = c .if3 .left in holds (down-of _ _ _ (c .before .before .before .before .if1 .left) (says-pass (c .before .before .if2 .left) (says-is (c .before .before .before .used-row .ensures)), omega arith))))
+    (λ c. fails
+    (λ q. says-fail (c .if2 .taken) (says-is (c .before .used-row .ensures)) (of-down _ _ _ (c .before .before .if1 .left) q .0)))
+    (λ c κs. let u = used-row (view (c .before .before .before .before .args .rows) (c .before .before .before .before .args .words .now)) _
+    (says-pass (c .if2 .left) (says-is (c .before .used-row .ensures))) in
+    let r = c .before .before .before .before .pre in omega arith)
+    (λ c. fails
+    (λ q. let z = of-down _ _ _ (c .before .before .before .before .if1 .left) q in
+    let e = c .before .get .ensures in let t = c .if3 .taken in omega arith))
+    (λ c. let e = c .before .get .ensures in
+    let t = c .if3 .left in
+    holds (down-of _ _ _ (c .before .before .before .before .if1 .left)
+    (says-pass (c .before .before .if2 .left) (says-is (c .before .before .before .used-row .ensures)), omega arith))))

@@ -24,10 +24,21 @@ list-ok-spec =
     μ-loop
     (λ c. (omega arith, below-none _))
     (λ c κs. let l = c .loop-test .taken in let p = c .before .before .before .pre in omega arith)
-    (λ c. fails (λ q. let z = q _ (c .before .before .loop-test .taken) .0 in let e = c .before .listed .ensures in let t = c .if1 .taken in omega arith))
+    (λ c. fails
+    (λ q. let z = q _ (c .before .before .loop-test .taken) .0 in
+    let e = c .before .listed .ensures in let t = c .if1 .taken in omega arith))
     (λ c κs. let l = c .if1 .left in let p = c .before .before .before .before .before .pre in omega arith)
-    (λ c. fails (λ q. c .if2 .taken (c .before .get .ensures ∙ rw (c .before .before .before .listed .ensures) (q _ (c .before .before .before .before .loop-test .taken) .1))))
+    (λ c. fails
+    (λ q. c .if2 .taken
+    (c .before .get .ensures
+    ∙ rw (c .before .before .before .listed .ensures) (q _ (c .before .before .before .before .loop-test .taken) .1))))
     (λ c. omega arith)
     (λ c. omega arith)
-    (λ c. let l = c .before .before .before .before .loop-test .taken in let t = c .before .before .if1 .left in let e = c .before .before .before .listed .ensures in (omega arith, below-more _ _ (c .before .before .before .before .before .loop .inv .1) (omega arith, rw (← e) (sym (c .before .get .ensures) ∙ c .if2 .left))))
+    (λ c. let l = c .before .before .before .before .loop-test .taken in
+    let t = c .before .before .if1 .left in
+    let e = c .before .before .before .listed .ensures in (
+      omega arith,
+      below-more _ _ (c .before .before .before .before .before .loop .inv .1)
+          (omega arith, rw (← e) (sym (c .before .get .ensures) ∙ c .if2 .left)),
+    ))
     (λ c. holds (λ k h. let l = c .loop-test .left in c .before .loop .inv .1 k (omega arith))))

@@ -25,8 +25,15 @@ refs-ok-spec =
     (λ c. (omega arith, λ h a b. absurd (omega arith)))
     (λ c κs. let r = c .before .before .before .pre .1 in let l = c .loop-test .taken in omega arith)
     (λ c κs. c .before .before .before .before .pre .1)
-    (λ c. fails (λ q. says-fail (c .if1 .taken) (c .before .ref-ok .ensures) (rw (c .before .before .header-word .ensures) (q _ (c .before .before .before .before .loop .inv .0) (c .before .before .before .loop-test .taken)))))
+    (λ c. fails
+    (λ q. says-fail (c .if1 .taken) (c .before .ref-ok .ensures)
+    (rw (c .before .before .header-word .ensures)
+    (q _ (c .before .before .before .before .loop .inv .0) (c .before .before .before .loop-test .taken)))))
     (λ c. omega arith)
     (λ c. omega arith)
-    (λ c. (omega arith, below-more _ _ (c .before .before .before .before .loop .inv .1) (λ _. rw (c .before .before .header-word .ensures) at (says-pass (c .if1 .left) (c .before .ref-ok .ensures)))))
+    (λ c. (
+      omega arith,
+      below-more _ _ (c .before .before .before .before .loop .inv .1)
+          (λ _. rw (c .before .before .header-word .ensures) at (says-pass (c .if1 .left) (c .before .ref-ok .ensures))),
+    ))
     (λ c. holds (λ h a l. let t = c .loop-test .left in c .before .loop .inv .1 h (omega arith) a)))

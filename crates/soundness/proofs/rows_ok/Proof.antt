@@ -24,9 +24,16 @@ rows-ok-spec =
     μ-loop
     (λ c. (omega arith, below-none _))
     (λ c κs. let l = c .loop-test .taken in let p = c .before .before .before .pre in omega arith)
-    (λ c κs. let z = c .before .before .before .before .pre .2 _ (c .before .loop-test .taken) .0 in let e = c .listed .ensures in (omega arith, c .before .before .before .before .pre .1))
-    (λ c. fails (λ q. says-fail (c .if1 .taken) (c .before .row-ok .ensures) (rw (c .before .before .listed .ensures) (q _ (c .before .before .before .loop-test .taken)))))
+    (λ c κs. let z = c .before .before .before .before .pre .2 _ (c .before .loop-test .taken) .0 in
+    let e = c .listed .ensures in (omega arith, c .before .before .before .before .pre .1))
+    (λ c. fails
+    (λ q. says-fail (c .if1 .taken) (c .before .row-ok .ensures)
+    (rw (c .before .before .listed .ensures) (q _ (c .before .before .before .loop-test .taken)))))
     (λ c. omega arith)
     (λ c. omega arith)
-    (λ c. let l = c .before .before .before .loop-test .taken in (omega arith, below-more _ _ (c .before .before .before .before .loop .inv .1) (rw (c .before .before .listed .ensures) at (says-pass (c .if1 .left) (c .before .row-ok .ensures)))))
+    (λ c. let l = c .before .before .before .loop-test .taken in (
+      omega arith,
+      below-more _ _ (c .before .before .before .before .loop .inv .1)
+          (rw (c .before .before .listed .ensures) at (says-pass (c .if1 .left) (c .before .row-ok .ensures))),
+    ))
     (λ c. holds (λ k h. let l = c .loop-test .left in c .before .loop .inv .1 k (omega arith))))

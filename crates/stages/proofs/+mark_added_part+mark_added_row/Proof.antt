@@ -1,4 +1,5 @@
--- `mark_added_part` and `mark_added_row` meet their contracts: a row is marked and counted after both its arrows, and 2n minus the level falls. Assumes nothing.
+-- `mark_added_part` and `mark_added_row` meet their contracts: a row is marked and counted after both its arrows, and 2n minus the level
+-- falls. Assumes nothing.
 use borrow.Author.Needs.{needs}
 use mathlib.Core.Path.{refl, sym, _∙_}
 use native.Mathlib.Omega.{arith}
@@ -7,7 +8,8 @@ use Rattle.layout.specs.View.{view}
 use Rattle.rows.specs.Mark.{depth}
 use Rattle.rows.proofs.Says.{test-yes, test-no}
 use Rattle.counting.proofs.News.{still-off}
-use Rattle.stages.proofs.AddedCounts.{added-constant, added-again, added-get, added-in, added-low, added-high, added-count-asks, added-row as added-done}
+use Rattle.stages.proofs.AddedCounts.{added-constant, added-again, added-get, added-in, added-low, added-high, added-count-asks}
+use Rattle.stages.proofs.AddedCounts.{added-row as added-done}
 use borrow.Fn.Kinds.{In}
 use borrow.Fn.PlainCycle.{Measures, is, falls, and}
 use Rattle.stages.proofs.+mark_added_part+mark_added_row.{statement}
@@ -62,10 +64,23 @@ pub +mark-added-part+mark-added-row-spec : {M : Type 1} → statement M
     (λ c κs. search needs)
     (λ c. added-constant _ _ _ _ (test-no (c .before .is-row .ensures) (c .if1 .taken)))
     (λ c κs. (test-yes (c .before .before .is-row .ensures) (c .before .if1 .left)))
-    (λ c κs. let l = added-in (c .before .before .before .before .before .before .before .pre .1) (test-yes (c .before .before .before .is-row .ensures) (c .before .before .if1 .left)) (c .row-of .ensures) in let z = c .before .before .before .before .before .before .before .pre .1 .room in omega (arith, l, z))
+    (λ c κs. let l = added-in (c .before .before .before .before .before .before .before .pre .1)
+    (test-yes (c .before .before .before .is-row .ensures) (c .before .before .if1 .left)) (c .row-of .ensures) in
+    let z = c .before .before .before .before .before .before .before .pre .1 .room in omega (arith, l, z))
     (λ c. search needs)
-    (λ c. added-again _ _ _ _ (test-yes (c .before .before .before .before .before .is-row .ensures) (c .before .before .before .before .if1 .left)) (c .before .before .row-of .ensures) (sym (c .before .marked .ensures) ∙ c .if2 .taken))
-    (λ c κs. (rw (← c .before .before .before .before .before .before .before .before .before .before .before .pre .0) (omega arith), (c .before .before .before .before .before .before .before .before .before .before .before .pre .1, (test-yes (c .before .before .before .before .before .before .before .is-row .ensures) (c .before .before .before .before .before .before .if1 .left)), (still-off _ _ (c .before .before .before .before .row-of .ensures) (c .before .before .before .marked .ensures) (c .before .before .if2 .left)))))
+    (λ c. added-again _ _ _ _
+    (test-yes (c .before .before .before .before .before .is-row .ensures) (c .before .before .before .before .if1 .left))
+    (c .before .before .row-of .ensures) (sym (c .before .marked .ensures) ∙ c .if2 .taken))
+    (λ c κs. (
+      rw (← c .before .before .before .before .before .before .before .before .before .before .before .pre .0) (omega arith),
+      (
+        c .before .before .before .before .before .before .before .before .before .before .before .pre .1,
+        (test-yes (c .before .before .before .before .before .before .before .is-row .ensures)
+            (c .before .before .before .before .before .before .if1 .left)),
+        (still-off _ _ (c .before .before .before .before .row-of .ensures) (c .before .before .before .marked .ensures)
+            (c .before .before .if2 .left)),
+      ),
+    ))
     (λ c. search needs)
     (λ c. search needs)
     (λ c. search needs))
@@ -84,13 +99,86 @@ pub +mark-added-part+mark-added-row-spec : {M : Type 1} → statement M
     (mark-added-row-at t)
     added-row.Post
     (λ c κs. c .before .before .before .pre .1 .1)
-    (λ c κs. added-get (c .before .before .before .before .before .before .pre .1 .0) (c .before .before .before .before .before .before .pre .1 .1) (c .before .before .row-of .ensures) _ (omega arith))
-    (λ c κs. added-low (c .before .before .before .before .before .before .before .pre .1 .0) (c .before .before .before .before .before .before .before .pre .1 .1) (c .before .before .before .row-of .ensures) (c .before .before .before .before .before .before .before .pre .0) (c .get .ensures))
-    (λ c κs. added-get (c .before .before .before .before .before .before .before .before .before .before .before .before .before .before .pre .1 .0) (c .before .before .before .before .before .before .before .before .before .before .before .before .before .before .pre .1 .1) (c .before .before .before .before .before .before .before .before .before .before .row-of .ensures) _ (omega arith))
-    (λ c κs. added-high (c .before .before .before .before .before .before .before .before .before .before .before .before .before .before .before .pre .1 .0) (c .before .before .before .before .before .before .before .before .before .before .before .before .before .before .before .pre .1 .1) (c .before .before .before .before .before .before .before .before .before .before .before .row-of .ensures) (c .before .before .before .before .before .before .before .before .before .before .before .before .before .before .before .pre .0) (c .before .before .before .before .before .before .before .mark-added-part .ensures) (c .before .before .before .before .before .before .before .mark-added-part .kept .1 .1 .0) (c .before .before .before .before .before .before .before .mark-added-part .kept .1 .1 .1 .0) (c .get2 .ensures))
-    (λ c κs. let l = added-in (c .before .before .before .before .before .before .before .before .before .before .before .before .before .before .before .before .before .before .before .before .before .pre .1 .0) (c .before .before .before .before .before .before .before .before .before .before .before .before .before .before .before .before .before .before .before .before .before .pre .1 .1) (c .before .before .before .before .before .before .before .before .before .before .before .before .before .before .before .before .before .row-of .ensures) in let z = c .before .before .before .before .before .mark-added-part2 .kept .1 .1 .0 ∙ c .before .before .before .before .before .before .before .before .before .before .before .before .before .mark-added-part .kept .1 .1 .0 in omega (arith, l, z))
-    (λ c κs. added-get (c .before .before .before .before .before .before .before .before .before .before .before .before .before .before .before .before .before .before .before .before .before .before .before .before .before .pre .1 .0) (c .before .before .before .before .before .before .before .before .before .before .before .before .before .before .before .before .before .before .before .before .before .before .before .before .before .pre .1 .1) (c .before .before .before .before .before .before .before .before .before .before .before .before .before .before .before .before .before .before .before .before .before .row-of .ensures) _ (omega arith))
-    (λ c κs. added-count-asks _ (c .before .before .before .before .before .before .before .before .before .before .before .before .before .before .before .before .before .before .before .before .before .before .before .before .before .before .pre .1 .0) (c .before .before .before .before .before .before .before .before .before .before .before .before .before .before .before .before .before .before .before .before .before .before .before .before .before .before .pre .1 .1) (c .before .before .before .before .before .before .before .before .before .before .before .before .before .before .before .before .before .before .before .before .before .before .row-of .ensures) (c .before .before .before .before .before .before .before .before .before .before .before .before .before .before .before .before .before .before .before .before .before .before .before .before .before .before .pre .1 .2) (c .before .before .before .before .before .before .before .before .before .before .before .before .before .before .before .before .before .before .mark-added-part .ensures) (c .before .before .before .before .before .before .before .before .before .before .before .before .before .before .before .before .before .before .before .get .ensures) (c .before .before .before .before .before .before .before .before .before .before .mark-added-part2 .ensures) (c .before .before .before .before .before .before .before .before .before .before .before .get2 .ensures) (c .get3 .ensures) (c .before .before .before .before .before .before .before .before .before .before .mark-added-part2 .kept .1 .1 .1 .0 ∙ c .before .before .before .before .before .before .before .before .before .before .before .before .before .before .before .before .before .before .mark-added-part .kept .1 .1 .1 .0 ∙ c .before .before .before .before .before .before .before .before .before .before .before .before .before .before .before .before .before .before .before .before .before .before .before .before .before .before .pre .1 .0 .counts-size))
-    (λ c. c .before .before .before .before .before .before .before .set-mark .kept .0 ∙ c .before .before .before .before .before .before .before .before .before .before .before .before .before .mark-added-part2 .kept .1 .1 .0 ∙ c .before .before .before .before .before .before .before .before .before .before .before .before .before .before .before .before .before .before .before .before .before .mark-added-part .kept .1 .1 .0)
-    (λ c. c .before .before .count-one .kept .0 ∙ c .before .before .before .before .before .before .before .before .before .before .before .before .before .mark-added-part2 .kept .1 .1 .1 .0 ∙ c .before .before .before .before .before .before .before .before .before .before .before .before .before .before .before .before .before .before .before .before .before .mark-added-part .kept .1 .1 .1 .0)
-    (λ c. added-done _ (c .before .before .before .before .before .before .before .before .before .before .before .before .before .before .before .before .before .before .before .before .before .before .before .before .before .before .before .before .before .pre .1 .0) (c .before .before .before .before .before .before .before .before .before .before .before .before .before .before .before .before .before .before .before .before .before .before .before .before .before .before .before .before .before .pre .1 .1) (c .before .before .before .before .before .before .before .before .before .before .before .before .before .before .before .before .before .before .before .before .before .before .before .before .before .row-of .ensures) (c .before .before .before .before .before .before .before .before .before .before .before .before .before .before .before .before .before .before .before .before .before .before .before .before .before .before .before .before .before .pre .1 .2) (c .before .before .before .before .before .before .before .before .before .before .before .before .before .before .before .before .before .before .before .before .before .mark-added-part .ensures) (c .before .before .before .before .before .before .before .before .before .before .before .before .before .before .before .before .before .before .before .before .before .before .get .ensures) (c .before .before .before .before .before .before .before .before .before .before .before .before .before .mark-added-part2 .ensures) (c .before .before .before .before .before .before .before .before .before .before .before .before .before .before .get2 .ensures) (c .before .before .before .before .before .before .before .set-mark .ensures) (c .before .before .before .get3 .ensures) (c .before .before .count-one .ensures))
+    (λ c κs. added-get (c .before .before .before .before .before .before .pre .1 .0)
+    (c .before .before .before .before .before .before .pre .1 .1) (c .before .before .row-of .ensures) _ (omega arith))
+    (λ c κs. added-low (c .before .before .before .before .before .before .before .pre .1 .0)
+    (c .before .before .before .before .before .before .before .pre .1 .1) (c .before .before .before .row-of .ensures)
+    (c .before .before .before .before .before .before .before .pre .0) (c .get .ensures))
+    (λ c κs. added-get
+    (c .before .before .before .before .before .before .before .before .before .before .before .before .before .before .pre .1 .0)
+    (c .before .before .before .before .before .before .before .before .before .before .before .before .before .before .pre .1 .1)
+    (c .before .before .before .before .before .before .before .before .before .before .row-of .ensures) _ (omega arith))
+    (λ c κs. added-high
+    (c .before .before .before .before .before .before .before .before .before .before .before .before .before .before .before .pre .1
+    .0) (c .before .before .before .before .before .before .before .before .before .before .before .before .before .before .before .pre
+    .1 .1) (c .before .before .before .before .before .before .before .before .before .before .before .row-of .ensures)
+    (c .before .before .before .before .before .before .before .before .before .before .before .before .before .before .before .pre .0)
+    (c .before .before .before .before .before .before .before .mark-added-part .ensures)
+    (c .before .before .before .before .before .before .before .mark-added-part .kept .1 .1 .0)
+    (c .before .before .before .before .before .before .before .mark-added-part .kept .1 .1 .1 .0) (c .get2 .ensures))
+    (λ c κs. let l =
+    added-in
+    (c .before .before .before .before .before .before .before .before .before .before .before .before .before .before .before .before
+    .before .before .before .before .before .pre .1 .0)
+    (c .before .before .before .before .before .before .before .before .before .before .before .before .before .before .before .before
+    .before .before .before .before .before .pre .1 .1)
+    (c .before .before .before .before .before .before .before .before .before .before .before .before .before .before .before .before
+    .before .row-of .ensures) in
+    let z = c .before .before .before .before .before .mark-added-part2 .kept .1 .1 .0
+    ∙ c .before .before .before .before .before .before .before .before .before .before .before .before .before .mark-added-part .kept
+    .1 .1 .0 in omega (arith, l, z))
+    (λ c κs. added-get
+    (c .before .before .before .before .before .before .before .before .before .before .before .before .before .before .before .before
+    .before .before .before .before .before .before .before .before .before .pre .1 .0)
+    (c .before .before .before .before .before .before .before .before .before .before .before .before .before .before .before .before
+    .before .before .before .before .before .before .before .before .before .pre .1 .1)
+    (c .before .before .before .before .before .before .before .before .before .before .before .before .before .before .before .before
+    .before .before .before .before .before .row-of .ensures) _ (omega arith))
+    (λ c κs. added-count-asks _
+    (c .before .before .before .before .before .before .before .before .before .before .before .before .before .before .before .before
+    .before .before .before .before .before .before .before .before .before .before .pre .1 .0)
+    (c .before .before .before .before .before .before .before .before .before .before .before .before .before .before .before .before
+    .before .before .before .before .before .before .before .before .before .before .pre .1 .1)
+    (c .before .before .before .before .before .before .before .before .before .before .before .before .before .before .before .before
+    .before .before .before .before .before .before .row-of .ensures)
+    (c .before .before .before .before .before .before .before .before .before .before .before .before .before .before .before .before
+    .before .before .before .before .before .before .before .before .before .before .pre .1 .2)
+    (c .before .before .before .before .before .before .before .before .before .before .before .before .before .before .before .before
+    .before .before .mark-added-part .ensures)
+    (c .before .before .before .before .before .before .before .before .before .before .before .before .before .before .before .before
+    .before .before .before .get .ensures)
+    (c .before .before .before .before .before .before .before .before .before .before .mark-added-part2 .ensures)
+    (c .before .before .before .before .before .before .before .before .before .before .before .get2 .ensures) (c .get3 .ensures)
+    (c .before .before .before .before .before .before .before .before .before .before .mark-added-part2 .kept .1 .1 .1 .0
+    ∙ c .before .before .before .before .before .before .before .before .before .before .before .before .before .before .before .before
+    .before .before .mark-added-part .kept .1 .1 .1 .0
+    ∙ c .before .before .before .before .before .before .before .before .before .before .before .before .before .before .before .before
+    .before .before .before .before .before .before .before .before .before .before .pre .1 .0 .counts-size))
+    (λ c. c .before .before .before .before .before .before .before .set-mark .kept .0
+    ∙ c .before .before .before .before .before .before .before .before .before .before .before .before .before .mark-added-part2 .kept
+    .1 .1 .0
+    ∙ c .before .before .before .before .before .before .before .before .before .before .before .before .before .before .before .before
+    .before .before .before .before .before .mark-added-part .kept .1 .1 .0)
+    (λ c. c .before .before .count-one .kept .0
+    ∙ c .before .before .before .before .before .before .before .before .before .before .before .before .before .mark-added-part2 .kept
+    .1 .1 .1 .0
+    ∙ c .before .before .before .before .before .before .before .before .before .before .before .before .before .before .before .before
+    .before .before .before .before .before .mark-added-part .kept .1 .1 .1 .0)
+    (λ c. added-done _
+    (c .before .before .before .before .before .before .before .before .before .before .before .before .before .before .before .before
+    .before .before .before .before .before .before .before .before .before .before .before .before .before .pre .1 .0)
+    (c .before .before .before .before .before .before .before .before .before .before .before .before .before .before .before .before
+    .before .before .before .before .before .before .before .before .before .before .before .before .before .pre .1 .1)
+    (c .before .before .before .before .before .before .before .before .before .before .before .before .before .before .before .before
+    .before .before .before .before .before .before .before .before .before .row-of .ensures)
+    (c .before .before .before .before .before .before .before .before .before .before .before .before .before .before .before .before
+    .before .before .before .before .before .before .before .before .before .before .before .before .before .pre .1 .2)
+    (c .before .before .before .before .before .before .before .before .before .before .before .before .before .before .before .before
+    .before .before .before .before .before .mark-added-part .ensures)
+    (c .before .before .before .before .before .before .before .before .before .before .before .before .before .before .before .before
+    .before .before .before .before .before .before .get .ensures)
+    (c .before .before .before .before .before .before .before .before .before .before .before .before .before .mark-added-part2
+    .ensures)
+    (c .before .before .before .before .before .before .before .before .before .before .before .before .before .before .get2 .ensures)
+    (c .before .before .before .before .before .before .before .set-mark .ensures) (c .before .before .before .get3 .ensures)
+    (c .before .before .count-one .ensures))

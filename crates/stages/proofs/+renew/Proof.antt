@@ -52,15 +52,55 @@ pub +renew-spec : {M : Type 1} → statement M
     renew.Post
     (λ c κs. search needs)
     (λ c. renew-none (c .before .before .before .before .pre .1))
-    (λ c κs. let l = renew-in (c .before .before .before .before .before .pre .1) in let z = c .before .before .before .before .before .pre .1 .room in omega (arith, l, z))
+    (λ c κs. let l = renew-in (c .before .before .before .before .before .pre .1) in
+    let z = c .before .before .before .before .before .pre .1 .room in omega (arith, l, z))
     (λ c. search needs)
     (λ c. renew-none (c .before .before .before .before .before .before .before .pre .1))
     (λ c κs. test-yes (c .before .before .before .before .before .is-row .ensures) (c .before .before .before .before .if1 .left))
-    (λ c κs. renew-row (c .before .before .before .before .before .before .before .before .before .pre .1) (test-yes (c .before .before .before .before .before .before .is-row .ensures) (c .before .before .before .before .before .if1 .left)) (c .row-of .ensures))
-    (λ c κs. renew-low (c .before .before .before .before .before .before .before .before .before .before .before .before .pre .1) (test-yes (c .before .before .before .before .before .before .before .before .before .is-row .ensures) (c .before .before .before .before .before .before .before .before .if1 .left)) (c .before .before .before .row-of .ensures) (c .before .before .node-at .ensures) (c .before .before .before .before .before .before .before .before .before .before .before .before .pre .0))
-    (λ c κs. renew-high (c .before .before .before .before .before .before .before .before .before .before .before .before .before .before .before .before .before .before .before .pre .1) (test-yes (c .before .before .before .before .before .before .before .before .before .before .before .before .before .before .before .before .is-row .ensures) (c .before .before .before .before .before .before .before .before .before .before .before .before .before .before .before .if1 .left)) (c .before .before .before .before .before .before .before .before .before .before .row-of .ensures) (c .before .before .before .before .before .before .before .before .before .node-at .ensures) (c .before .before .before .before .before .before .before .before .before .before .before .before .before .before .before .before .before .before .before .pre .0) (c .before .before .before .before .before .before .renew .ensures) (c .before .before .before .before .before .before .renew .kept .1 .1 .1 .1 .0))
-    (λ c κs. let l = renew-in (c .before .before .before .before .before .before .before .before .before .before .before .before .before .before .before .before .before .before .before .before .before .before .before .before .before .pre .1) in let z = c .before .before .before .before .before .renew2 .kept .1 .1 .1 .1 .0 ∙ c .before .before .before .before .before .before .before .before .before .before .before .before .renew .kept .1 .1 .1 .1 .0 in omega (arith, l, z))
-    (λ c κs. renew-asks (c .before .before .before .before .before .before .before .before .before .before .before .before .before .before .before .before .before .before .before .before .before .before .before .before .before .before .before .before .before .pre .1) (c .before .before .before .before .before .before .before .before .before .before .before .before .before .before .before .before .renew .ensures) (c .before .before .before .before .before .before .before .before .before .renew2 .ensures))
-    (λ c. c .before .before .exists-odd .kept .0 ∙ c .before .before .before .before .before .before .before .before .before .before .before .before .renew2 .kept .0 ∙ c .before .before .before .before .before .before .before .before .before .before .before .before .before .before .before .before .before .before .before .renew .kept .0)
-    (λ c. c .before .before .before .before .before .before .set-mark .kept .0 ∙ c .before .before .before .before .before .before .before .before .before .before .before .before .renew2 .kept .1 .1 .1 .1 .0 ∙ c .before .before .before .before .before .before .before .before .before .before .before .before .before .before .before .before .before .before .before .renew .kept .1 .1 .1 .1 .0)
-    (λ c. renew-last (c .before .before .before .before .before .before .before .before .before .before .before .before .before .before .before .before .before .before .before .before .before .before .before .before .before .before .before .before .before .before .before .before .pre .1) (c .before .before .before .before .before .before .before .before .before .before .before .before .before .before .before .before .before .before .before .renew .ensures) (c .before .before .before .before .before .before .before .before .before .before .before .before .renew2 .ensures) (c .before .before .exists-odd .ensures))
+    (λ c κs. renew-row (c .before .before .before .before .before .before .before .before .before .pre .1)
+    (test-yes (c .before .before .before .before .before .before .is-row .ensures)
+    (c .before .before .before .before .before .if1 .left)) (c .row-of .ensures))
+    (λ c κs. renew-low (c .before .before .before .before .before .before .before .before .before .before .before .before .pre .1)
+    (test-yes (c .before .before .before .before .before .before .before .before .before .is-row .ensures)
+    (c .before .before .before .before .before .before .before .before .if1 .left)) (c .before .before .before .row-of .ensures)
+    (c .before .before .node-at .ensures)
+    (c .before .before .before .before .before .before .before .before .before .before .before .before .pre .0))
+    (λ c κs. renew-high
+    (c .before .before .before .before .before .before .before .before .before .before .before .before .before .before .before .before
+    .before .before .before .pre .1)
+    (test-yes
+    (c .before .before .before .before .before .before .before .before .before .before .before .before .before .before .before .before
+    .is-row .ensures)
+    (c .before .before .before .before .before .before .before .before .before .before .before .before .before .before .before .if1
+    .left)) (c .before .before .before .before .before .before .before .before .before .before .row-of .ensures)
+    (c .before .before .before .before .before .before .before .before .before .node-at .ensures)
+    (c .before .before .before .before .before .before .before .before .before .before .before .before .before .before .before .before
+    .before .before .before .pre .0) (c .before .before .before .before .before .before .renew .ensures)
+    (c .before .before .before .before .before .before .renew .kept .1 .1 .1 .1 .0))
+    (λ c κs. let l =
+    renew-in
+    (c .before .before .before .before .before .before .before .before .before .before .before .before .before .before .before .before
+    .before .before .before .before .before .before .before .before .before .pre .1) in
+    let z = c .before .before .before .before .before .renew2 .kept .1 .1 .1 .1 .0
+    ∙ c .before .before .before .before .before .before .before .before .before .before .before .before .renew .kept .1 .1 .1 .1 .0 in
+    omega (arith, l, z))
+    (λ c κs. renew-asks
+    (c .before .before .before .before .before .before .before .before .before .before .before .before .before .before .before .before
+    .before .before .before .before .before .before .before .before .before .before .before .before .before .pre .1)
+    (c .before .before .before .before .before .before .before .before .before .before .before .before .before .before .before .before
+    .renew .ensures) (c .before .before .before .before .before .before .before .before .before .renew2 .ensures))
+    (λ c. c .before .before .exists-odd .kept .0
+    ∙ c .before .before .before .before .before .before .before .before .before .before .before .before .renew2 .kept .0
+    ∙ c .before .before .before .before .before .before .before .before .before .before .before .before .before .before .before .before
+    .before .before .before .renew .kept .0)
+    (λ c. c .before .before .before .before .before .before .set-mark .kept .0
+    ∙ c .before .before .before .before .before .before .before .before .before .before .before .before .renew2 .kept .1 .1 .1 .1 .0
+    ∙ c .before .before .before .before .before .before .before .before .before .before .before .before .before .before .before .before
+    .before .before .before .renew .kept .1 .1 .1 .1 .0)
+    (λ c. renew-last
+    (c .before .before .before .before .before .before .before .before .before .before .before .before .before .before .before .before
+    .before .before .before .before .before .before .before .before .before .before .before .before .before .before .before .before .pre
+    .1) (c .before .before .before .before .before .before .before .before .before .before .before .before .before .before .before
+    .before .before .before .before .renew .ensures)
+    (c .before .before .before .before .before .before .before .before .before .before .before .before .renew2 .ensures)
+    (c .before .before .exists-odd .ensures))

@@ -1,4 +1,5 @@
--- `survey_part` and `survey_row` meet their contracts: what covers an arrow is marked, then what is followed from it is surveyed, and last it is counted itself; 2n minus the level falls. Assumes nothing.
+-- `survey_part` and `survey_row` meet their contracts: what covers an arrow is marked, then what is followed from it is surveyed, and last
+-- it is counted itself; 2n minus the level falls. Assumes nothing.
 use borrow.Author.Needs.{needs}
 use borrow.Author.Tests.{not-false}
 use mathlib.Core.Path.{refl, sym, _∙_}
@@ -9,7 +10,8 @@ use Rattle.layout.specs.View.{view}
 use Rattle.rows.specs.Used.{rowsOf}
 use Rattle.rows.proofs.Says.{test-yes, test-no}
 use Rattle.operations.proofs.Open.{depth}
-use Rattle.stages.proofs.Surveys.{survey-in, survey-constant, survey-again, survey-row-at as survey-place, cover-asks, low-asks, high-asks, survey-counts, survey-row as survey-done}
+use Rattle.stages.proofs.Surveys.{survey-in, survey-constant, survey-again, survey-row-at as survey-place, cover-asks, low-asks}
+use Rattle.stages.proofs.Surveys.{high-asks, survey-counts, survey-row as survey-done}
 use borrow.Fn.Kinds.{In}
 use borrow.Fn.PlainCycle.{Measures, is, falls, and}
 use Rattle.stages.proofs.+survey_part+survey_row.{statement}
@@ -63,11 +65,23 @@ pub +survey-part+survey-row-spec : {M : Type 1} → statement M
     (survey-part-at t)
     survey-part.Post
     (λ c κs. search needs)
-    (λ c. λ e. survey-constant (c .before .before .before .before .before .before .before .pre .1) (test-no (c .before .is-row .ensures) (c .if1 .taken)))
-    (λ c κs. let l = survey-in (c .before .before .before .before .before .before .before .before .pre .1) in let z = c .before .before .before .before .before .before .before .before .pre .1 .seen-room in omega (arith, l, z))
+    (λ c. λ e. survey-constant (c .before .before .before .before .before .before .before .pre .1)
+    (test-no (c .before .is-row .ensures) (c .if1 .taken)))
+    (λ c κs. let l = survey-in (c .before .before .before .before .before .before .before .before .pre .1) in
+    let z = c .before .before .before .before .before .before .before .before .pre .1 .seen-room in omega (arith, l, z))
     (λ c. search needs)
-    (λ c. λ e. survey-again (c .before .before .before .before .before .before .before .before .before .before .pre .1) (sym (c .before .marked .ensures) ∙ c .if2 .taken))
-    (λ c κs. (rw (← c .before .before .before .before .before .before .before .before .before .before .before .before .before .before .pre .0) (omega arith), (c .before .before .before .before .before .before .before .before .before .before .before .before .before .before .pre .1, (test-yes (c .before .before .before .before .before .before .before .before .is-row .ensures) (c .before .before .before .before .before .before .before .if1 .left)), (sym (c .before .before .before .before .before .marked .ensures) ∙ c .before .before .before .before .if2 .left))))
+    (λ c. λ e. survey-again (c .before .before .before .before .before .before .before .before .before .before .pre .1)
+    (sym (c .before .marked .ensures) ∙ c .if2 .taken))
+    (λ c κs. (
+      rw (← c .before .before .before .before .before .before .before .before .before .before .before .before .before .before .pre .0)
+          (omega arith),
+      (
+        c .before .before .before .before .before .before .before .before .before .before .before .before .before .before .pre .1,
+        (test-yes (c .before .before .before .before .before .before .before .before .is-row .ensures)
+            (c .before .before .before .before .before .before .before .if1 .left)),
+        (sym (c .before .before .before .before .before .marked .ensures) ∙ c .before .before .before .before .if2 .left),
+      ),
+    ))
     (λ c. search needs)
     (λ c. search needs)
     (λ c. search needs)
@@ -91,29 +105,205 @@ pub +survey-part+survey-row-spec : {M : Type 1} → statement M
     )
     (survey-row-at t)
     survey-row.Post
-    (λ c κs. (c .before .before .before .before .before .pre .1 .0 .ready, c .before .before .before .before .before .pre .1 .0 .marking .arrow))
+    (λ c κs.
+    (c .before .before .before .before .before .pre .1 .0 .ready, c .before .before .before .before .before .pre .1 .0 .marking .arrow))
     (λ c. search needs)
     (λ c. search needs)
     (λ c. λ e. absurd (true≢false (sym e)))
-    (λ c κs. cover-asks (c .before .before .before .before .before .before .before .before .before .before .before .pre .1 .0) (c .before .before .before .known .given .1) (c .before .before .before .before .before .odd-known .ensures))
-    (λ c κs. c .before .before .before .before .before .before .before .before .before .before .before .before .before .before .before .before .pre .1 .1)
-    (λ c κs. survey-place (c .before .before .before .before .before .before .before .before .before .before .before .before .before .before .before .before .before .pre .1 .0) (c .before .before .before .before .before .before .before .before .before .before .before .before .before .before .before .before .before .pre .1 .1) (c .row-of .ensures))
-    (λ c κs. low-asks (c .before .before .before .before .before .before .before .before .before .before .before .before .before .before .before .before .before .before .before .before .before .before .pre .1 .0) (c .before .before .before .before .before .before .before .before .before .before .before .before .before .before .before .before .before .before .before .before .before .before .pre .1 .1) (c .before .before .before .before .before .row-of .ensures) (c .before .before .before .before .before .before .before .before .before .before .before .before .before .before .known .given .1) (c .before .before .before .before .before .before .before .before .before .before .before .before .before .before .before .before .odd-known .ensures) (c .before .before .before .before .before .before .before .before .before .before .mark-added .ensures) (c .before .before .before .before .node-at .ensures) (c .before .before .before .before .before .before .before .before .before .before .before .before .before .before .before .before .before .before .before .before .before .before .pre .0) (c .before .before .before .before .before .before .before .before .before .before .mark-added .kept .1 .1 .0) (c .before .before .before .before .before .before .before .before .before .before .mark-added .kept .1 .1 .1 .0))
+    (λ c κs. cover-asks (c .before .before .before .before .before .before .before .before .before .before .before .pre .1 .0)
+    (c .before .before .before .known .given .1) (c .before .before .before .before .before .odd-known .ensures))
+    (λ c κs.
+    c .before .before .before .before .before .before .before .before .before .before .before .before .before .before .before .before
+    .pre .1 .1)
+    (λ c κs. survey-place
+    (c .before .before .before .before .before .before .before .before .before .before .before .before .before .before .before .before
+    .before .pre .1 .0)
+    (c .before .before .before .before .before .before .before .before .before .before .before .before .before .before .before .before
+    .before .pre .1 .1) (c .row-of .ensures))
+    (λ c κs. low-asks
+    (c .before .before .before .before .before .before .before .before .before .before .before .before .before .before .before .before
+    .before .before .before .before .before .before .pre .1 .0)
+    (c .before .before .before .before .before .before .before .before .before .before .before .before .before .before .before .before
+    .before .before .before .before .before .before .pre .1 .1) (c .before .before .before .before .before .row-of .ensures)
+    (c .before .before .before .before .before .before .before .before .before .before .before .before .before .before .known .given .1)
+    (c .before .before .before .before .before .before .before .before .before .before .before .before .before .before .before .before
+    .odd-known .ensures) (c .before .before .before .before .before .before .before .before .before .before .mark-added .ensures)
+    (c .before .before .before .before .node-at .ensures)
+    (c .before .before .before .before .before .before .before .before .before .before .before .before .before .before .before .before
+    .before .before .before .before .before .before .pre .0)
+    (c .before .before .before .before .before .before .before .before .before .before .mark-added .kept .1 .1 .0)
+    (c .before .before .before .before .before .before .before .before .before .before .mark-added .kept .1 .1 .1 .0))
     (λ c. c .before .before .before .before .before .before .before .before .before .survey-part .kept .1 .1 .1 .0)
     (λ c. c .before .before .before .before .before .before .before .before .before .survey-part .kept .1 .1 .1 .1 .0)
-    (λ c. c .before .before .before .before .before .before .before .before .before .survey-part .kept .1 .1 .1 .1 .1 .0 ∙ c .before .before .before .before .before .before .before .before .before .before .before .before .before .before .before .before .before .before .before .before .mark-added .kept .1 .1 .0)
-    (λ c. c .before .before .before .before .before .before .before .before .before .survey-part .kept .1 .1 .1 .1 .1 .1 .0 ∙ c .before .before .before .before .before .before .before .before .before .before .before .before .before .before .before .before .before .before .before .before .mark-added .kept .1 .1 .1 .0)
+    (λ c. c .before .before .before .before .before .before .before .before .before .survey-part .kept .1 .1 .1 .1 .1 .0
+    ∙ c .before .before .before .before .before .before .before .before .before .before .before .before .before .before .before .before
+    .before .before .before .before .mark-added .kept .1 .1 .0)
+    (λ c. c .before .before .before .before .before .before .before .before .before .survey-part .kept .1 .1 .1 .1 .1 .1 .0
+    ∙ c .before .before .before .before .before .before .before .before .before .before .before .before .before .before .before .before
+    .before .before .before .before .mark-added .kept .1 .1 .1 .0)
     (λ c. λ e. absurd (true≢false (sym e)))
-    (λ c κs. high-asks (c .before .before .before .before .before .before .before .before .before .before .before .before .before .before .before .before .before .before .before .before .before .before .before .before .before .before .before .before .before .before .before .before .before .before .before .before .pre .1 .0) (c .before .before .before .before .before .before .before .before .before .before .before .before .before .before .before .before .before .before .before .before .before .before .before .before .before .before .before .before .before .before .before .before .before .before .before .before .pre .1 .1) (c .before .before .before .before .before .before .before .before .before .before .before .before .before .before .before .before .before .before .before .row-of .ensures) (c .before .before .before .before .before .before .before .before .before .before .before .before .before .before .before .before .before .before .before .before .before .before .before .before .before .before .before .before .known .given .1) (c .before .before .before .before .before .before .before .before .before .before .before .before .before .before .before .before .before .before .before .before .before .before .before .before .before .before .before .before .before .before .odd-known .ensures) (c .before .before .before .before .before .before .before .before .before .before .before .before .before .before .before .before .before .before .before .before .before .before .before .before .mark-added .ensures) (c .before .before .before .before .before .before .before .before .before .before .before .before .before .before .before .before .before .before .node-at .ensures) (c .before .before .before .before .before .before .before .before .before .before .before .before .before .survey-part .ensures (not-false _ (c .before .before .before .before .if1 .left))) (c .before .before .before .before .before .before .before .before .before .before .before .before .before .before .before .before .before .before .before .before .before .before .before .before .before .before .before .before .before .before .before .before .before .before .before .before .pre .0) (c .before .before .before .before .before .before .before .before .before .before .before .before .before .survey-part .kept .1 .1 .1 .0) (c .before .before .before .before .before .before .before .before .before .before .before .before .before .survey-part .kept .1 .1 .1 .1 .0) (c .before .before .before .before .before .before .before .before .before .before .before .before .before .survey-part .kept .1 .1 .1 .1 .1 .0 ∙ c .before .before .before .before .before .before .before .before .before .before .before .before .before .before .before .before .before .before .before .before .before .before .before .before .mark-added .kept .1 .1 .0) (c .before .before .before .before .before .before .before .before .before .before .before .before .before .survey-part .kept .1 .1 .1 .1 .1 .1 .0 ∙ c .before .before .before .before .before .before .before .before .before .before .before .before .before .before .before .before .before .before .before .before .before .before .before .before .mark-added .kept .1 .1 .1 .0))
-    (λ c. c .before .before .before .before .before .before .before .before .before .survey-part2 .kept .1 .1 .1 .0 ∙ c .before .before .before .before .before .before .before .before .before .before .before .before .before .before .before .before .before .before .before .before .before .before .before .survey-part .kept .1 .1 .1 .0)
-    (λ c. c .before .before .before .before .before .before .before .before .before .survey-part2 .kept .1 .1 .1 .1 .0 ∙ c .before .before .before .before .before .before .before .before .before .before .before .before .before .before .before .before .before .before .before .before .before .before .before .survey-part .kept .1 .1 .1 .1 .0)
-    (λ c. c .before .before .before .before .before .before .before .before .before .survey-part2 .kept .1 .1 .1 .1 .1 .0 ∙ c .before .before .before .before .before .before .before .before .before .before .before .before .before .before .before .before .before .before .before .before .before .before .before .survey-part .kept .1 .1 .1 .1 .1 .0 ∙ c .before .before .before .before .before .before .before .before .before .before .before .before .before .before .before .before .before .before .before .before .before .before .before .before .before .before .before .before .before .before .before .before .before .before .mark-added .kept .1 .1 .0)
-    (λ c. c .before .before .before .before .before .before .before .before .before .survey-part2 .kept .1 .1 .1 .1 .1 .1 .0 ∙ c .before .before .before .before .before .before .before .before .before .before .before .before .before .before .before .before .before .before .before .before .before .before .before .survey-part .kept .1 .1 .1 .1 .1 .1 .0 ∙ c .before .before .before .before .before .before .before .before .before .before .before .before .before .before .before .before .before .before .before .before .before .before .before .before .before .before .before .before .before .before .before .before .before .before .mark-added .kept .1 .1 .1 .0)
+    (λ c κs. high-asks
+    (c .before .before .before .before .before .before .before .before .before .before .before .before .before .before .before .before
+    .before .before .before .before .before .before .before .before .before .before .before .before .before .before .before .before
+    .before .before .before .before .pre .1 .0)
+    (c .before .before .before .before .before .before .before .before .before .before .before .before .before .before .before .before
+    .before .before .before .before .before .before .before .before .before .before .before .before .before .before .before .before
+    .before .before .before .before .pre .1 .1)
+    (c .before .before .before .before .before .before .before .before .before .before .before .before .before .before .before .before
+    .before .before .before .row-of .ensures)
+    (c .before .before .before .before .before .before .before .before .before .before .before .before .before .before .before .before
+    .before .before .before .before .before .before .before .before .before .before .before .before .known .given .1)
+    (c .before .before .before .before .before .before .before .before .before .before .before .before .before .before .before .before
+    .before .before .before .before .before .before .before .before .before .before .before .before .before .before .odd-known .ensures)
+    (c .before .before .before .before .before .before .before .before .before .before .before .before .before .before .before .before
+    .before .before .before .before .before .before .before .before .mark-added .ensures)
+    (c .before .before .before .before .before .before .before .before .before .before .before .before .before .before .before .before
+    .before .before .node-at .ensures)
+    (c .before .before .before .before .before .before .before .before .before .before .before .before .before .survey-part .ensures
+    (not-false _ (c .before .before .before .before .if1 .left)))
+    (c .before .before .before .before .before .before .before .before .before .before .before .before .before .before .before .before
+    .before .before .before .before .before .before .before .before .before .before .before .before .before .before .before .before
+    .before .before .before .before .pre .0)
+    (c .before .before .before .before .before .before .before .before .before .before .before .before .before .survey-part .kept .1 .1
+    .1 .0) (c .before .before .before .before .before .before .before .before .before .before .before .before .before .survey-part .kept
+    .1 .1 .1 .1 .0)
+    (c .before .before .before .before .before .before .before .before .before .before .before .before .before .survey-part .kept .1 .1
+    .1 .1 .1 .0
+    ∙ c .before .before .before .before .before .before .before .before .before .before .before .before .before .before .before .before
+    .before .before .before .before .before .before .before .before .mark-added .kept .1 .1 .0)
+    (c .before .before .before .before .before .before .before .before .before .before .before .before .before .survey-part .kept .1 .1
+    .1 .1 .1 .1 .0
+    ∙ c .before .before .before .before .before .before .before .before .before .before .before .before .before .before .before .before
+    .before .before .before .before .before .before .before .before .mark-added .kept .1 .1 .1 .0))
+    (λ c. c .before .before .before .before .before .before .before .before .before .survey-part2 .kept .1 .1 .1 .0
+    ∙ c .before .before .before .before .before .before .before .before .before .before .before .before .before .before .before .before
+    .before .before .before .before .before .before .before .survey-part .kept .1 .1 .1 .0)
+    (λ c. c .before .before .before .before .before .before .before .before .before .survey-part2 .kept .1 .1 .1 .1 .0
+    ∙ c .before .before .before .before .before .before .before .before .before .before .before .before .before .before .before .before
+    .before .before .before .before .before .before .before .survey-part .kept .1 .1 .1 .1 .0)
+    (λ c. c .before .before .before .before .before .before .before .before .before .survey-part2 .kept .1 .1 .1 .1 .1 .0
+    ∙ c .before .before .before .before .before .before .before .before .before .before .before .before .before .before .before .before
+    .before .before .before .before .before .before .before .survey-part .kept .1 .1 .1 .1 .1 .0
+    ∙ c .before .before .before .before .before .before .before .before .before .before .before .before .before .before .before .before
+    .before .before .before .before .before .before .before .before .before .before .before .before .before .before .before .before
+    .before .before .mark-added .kept .1 .1 .0)
+    (λ c. c .before .before .before .before .before .before .before .before .before .survey-part2 .kept .1 .1 .1 .1 .1 .1 .0
+    ∙ c .before .before .before .before .before .before .before .before .before .before .before .before .before .before .before .before
+    .before .before .before .before .before .before .before .survey-part .kept .1 .1 .1 .1 .1 .1 .0
+    ∙ c .before .before .before .before .before .before .before .before .before .before .before .before .before .before .before .before
+    .before .before .before .before .before .before .before .before .before .before .before .before .before .before .before .before
+    .before .before .mark-added .kept .1 .1 .1 .0)
     (λ c. λ e. absurd (true≢false (sym e)))
-    (λ c κs. let l = survey-in (c .before .before .before .before .before .before .before .before .before .before .before .before .before .before .before .before .before .before .before .before .before .before .before .before .before .before .before .before .before .before .before .before .before .before .before .before .before .before .before .before .before .before .before .before .before .before .before .pre .1 .0) in let z = c .before .before .before .before .before .before .before .before .before .before .survey-part2 .kept .1 .1 .1 .0 ∙ c .before .before .before .before .before .before .before .before .before .before .before .before .before .before .before .before .before .before .before .before .before .before .before .before .survey-part .kept .1 .1 .1 .0 in omega (arith, l, z))
-    (λ c κs. survey-counts (c .before .before .before .before .before .before .before .before .before .before .before .before .before .before .before .before .before .before .before .before .before .before .before .before .before .before .before .before .before .before .before .before .before .before .before .before .before .before .before .before .before .before .before .before .before .before .before .before .before .before .before .pre .1 .0) (c .before .before .before .before .before .before .before .before .before .before .before .before .before .before .before .before .before .before .before .before .before .before .before .before .before .before .before .before .before .before .before .before .before .before .before .before .before .before .before .before .before .before .before .before .before .before .before .before .before .before .before .pre .1 .1) (c .before .before .before .before .before .before .before .before .before .before .before .before .before .before .before .before .before .before .before .before .before .before .before .before .before .before .before .before .before .before .before .before .before .before .row-of .ensures) (c .before .before .before .before .before .before .before .before .before .before .before .before .before .before .before .before .before .before .before .before .before .before .before .before .before .before .before .before .before .before .before .before .before .before .before .before .before .before .before .before .before .before .before .known .given .1) (c .before .before .before .before .before .before .before .before .before .before .before .before .before .before .before .before .before .before .before .before .before .before .before .before .before .before .before .before .before .before .before .before .before .before .before .before .before .before .before .before .before .before .before .before .before .odd-known .ensures) (c .before .before .before .before .before .before .before .before .before .before .before .before .before .before .before .before .before .before .before .before .before .before .before .before .before .before .before .before .before .before .before .before .before .before .before .before .before .before .before .mark-added .ensures) (c .before .before .before .before .before .before .before .before .before .before .before .before .before .before .before .before .before .before .before .before .before .before .before .before .before .before .before .before .before .before .before .before .before .node-at .ensures) (c .before .before .before .before .before .before .before .before .before .before .before .before .before .before .before .before .before .before .before .before .before .before .before .before .before .before .before .before .survey-part .ensures (not-false _ (c .before .before .before .before .before .before .before .before .before .before .before .before .before .before .before .before .before .before .before .if1 .left))) (c .before .before .before .before .before .before .before .before .before .before .before .before .before .before .before .before .before .before .before .before .before .before .before .before .before .before .before .before .before .before .before .before .before .before .before .before .before .before .before .before .before .before .before .before .before .before .before .before .before .before .before .pre .1 .2) (c .before .before .before .before .before .before .before .before .before .before .before .before .before .before .survey-part2 .ensures (not-false _ (c .before .before .before .before .before .if2 .left))) (c .before .before .before .before .before .before .before .before .before .before .before .before .before .before .survey-part2 .kept .1 .1 .1 .1 .0 ∙ c .before .before .before .before .before .before .before .before .before .before .before .before .before .before .before .before .before .before .before .before .before .before .before .before .before .before .before .before .survey-part .kept .1 .1 .1 .1 .0))
-    (λ c. c .before .before .before .before .before .before .set-mark .kept .0 ∙ c .before .before .before .before .before .before .before .before .before .before .before .before .before .before .before .before .before .survey-part2 .kept .1 .1 .1 .0 ∙ c .before .before .before .before .before .before .before .before .before .before .before .before .before .before .before .before .before .before .before .before .before .before .before .before .before .before .before .before .before .before .before .survey-part .kept .1 .1 .1 .0)
-    (λ c. c .before .before .count-one .kept .0 ∙ c .before .before .before .before .before .before .before .before .before .before .before .before .before .before .before .before .before .survey-part2 .kept .1 .1 .1 .1 .0 ∙ c .before .before .before .before .before .before .before .before .before .before .before .before .before .before .before .before .before .before .before .before .before .before .before .before .before .before .before .before .before .before .before .survey-part .kept .1 .1 .1 .1 .0)
-    (λ c. c .before .before .before .before .before .before .before .before .before .before .before .before .before .before .before .before .before .survey-part2 .kept .1 .1 .1 .1 .1 .0 ∙ c .before .before .before .before .before .before .before .before .before .before .before .before .before .before .before .before .before .before .before .before .before .before .before .before .before .before .before .before .before .before .before .survey-part .kept .1 .1 .1 .1 .1 .0 ∙ c .before .before .before .before .before .before .before .before .before .before .before .before .before .before .before .before .before .before .before .before .before .before .before .before .before .before .before .before .before .before .before .before .before .before .before .before .before .before .before .before .before .before .mark-added .kept .1 .1 .0)
-    (λ c. c .before .before .before .before .before .before .before .before .before .before .before .before .before .before .before .before .before .survey-part2 .kept .1 .1 .1 .1 .1 .1 .0 ∙ c .before .before .before .before .before .before .before .before .before .before .before .before .before .before .before .before .before .before .before .before .before .before .before .before .before .before .before .before .before .before .before .survey-part .kept .1 .1 .1 .1 .1 .1 .0 ∙ c .before .before .before .before .before .before .before .before .before .before .before .before .before .before .before .before .before .before .before .before .before .before .before .before .before .before .before .before .before .before .before .before .before .before .before .before .before .before .before .before .before .before .mark-added .kept .1 .1 .1 .0)
-    (λ c. λ e. survey-done (c .before .before .before .before .before .before .before .before .before .before .before .before .before .before .before .before .before .before .before .before .before .before .before .before .before .before .before .before .before .before .before .before .before .before .before .before .before .before .before .before .before .before .before .before .before .before .before .before .before .before .before .before .before .before .pre .1 .0) (c .before .before .before .before .before .before .before .before .before .before .before .before .before .before .before .before .before .before .before .before .before .before .before .before .before .before .before .before .before .before .before .before .before .before .before .before .before .before .before .before .before .before .before .before .before .before .before .before .before .before .before .before .before .before .pre .1 .1) (c .before .before .before .before .before .before .before .before .before .before .before .before .before .before .before .before .before .before .before .before .before .before .before .before .before .before .before .before .before .before .before .before .before .before .before .before .before .row-of .ensures) (c .before .before .before .before .before .before .before .before .before .before .before .before .before .before .before .before .before .before .before .before .before .before .before .before .before .before .before .before .before .before .before .before .before .before .before .before .before .before .before .before .before .before .before .before .before .before .known .given .1) (c .before .before .before .before .before .before .before .before .before .before .before .before .before .before .before .before .before .before .before .before .before .before .before .before .before .before .before .before .before .before .before .before .before .before .before .before .before .before .before .before .before .before .before .before .before .before .before .before .odd-known .ensures) (c .before .before .before .before .before .before .before .before .before .before .before .before .before .before .before .before .before .before .before .before .before .before .before .before .before .before .before .before .before .before .before .before .before .before .before .before .before .before .before .before .before .before .mark-added .ensures) (c .before .before .before .before .before .before .before .before .before .before .before .before .before .before .before .before .before .before .before .before .before .before .before .before .before .before .before .before .before .before .before .before .before .before .before .before .node-at .ensures) (c .before .before .before .before .before .before .before .before .before .before .before .before .before .before .before .before .before .before .before .before .before .before .before .before .before .before .before .before .before .before .before .survey-part .ensures (not-false _ (c .before .before .before .before .before .before .before .before .before .before .before .before .before .before .before .before .before .before .before .before .before .before .if1 .left))) (c .before .before .before .before .before .before .before .before .before .before .before .before .before .before .before .before .before .before .before .before .before .before .before .before .before .before .before .before .before .before .before .before .before .before .before .before .before .before .before .before .before .before .before .before .before .before .before .before .before .before .before .before .before .before .pre .1 .2) (c .before .before .before .before .before .before .before .before .before .before .before .before .before .before .before .before .before .survey-part2 .ensures (not-false _ (c .before .before .before .before .before .before .before .before .if2 .left))) (c .before .before .before .before .before .before .set-mark .ensures) (c .before .before .count-one .ensures))
+    (λ c κs. let l =
+    survey-in
+    (c .before .before .before .before .before .before .before .before .before .before .before .before .before .before .before .before
+    .before .before .before .before .before .before .before .before .before .before .before .before .before .before .before .before
+    .before .before .before .before .before .before .before .before .before .before .before .before .before .before .before .pre .1
+    .0) in let z = c .before .before .before .before .before .before .before .before .before .before .survey-part2 .kept .1 .1 .1 .0
+    ∙ c .before .before .before .before .before .before .before .before .before .before .before .before .before .before .before .before
+    .before .before .before .before .before .before .before .before .survey-part .kept .1 .1 .1 .0 in omega (arith, l, z))
+    (λ c κs. survey-counts
+    (c .before .before .before .before .before .before .before .before .before .before .before .before .before .before .before .before
+    .before .before .before .before .before .before .before .before .before .before .before .before .before .before .before .before
+    .before .before .before .before .before .before .before .before .before .before .before .before .before .before .before .before
+    .before .before .before .pre .1 .0)
+    (c .before .before .before .before .before .before .before .before .before .before .before .before .before .before .before .before
+    .before .before .before .before .before .before .before .before .before .before .before .before .before .before .before .before
+    .before .before .before .before .before .before .before .before .before .before .before .before .before .before .before .before
+    .before .before .before .pre .1 .1)
+    (c .before .before .before .before .before .before .before .before .before .before .before .before .before .before .before .before
+    .before .before .before .before .before .before .before .before .before .before .before .before .before .before .before .before
+    .before .before .row-of .ensures)
+    (c .before .before .before .before .before .before .before .before .before .before .before .before .before .before .before .before
+    .before .before .before .before .before .before .before .before .before .before .before .before .before .before .before .before
+    .before .before .before .before .before .before .before .before .before .before .before .known .given .1)
+    (c .before .before .before .before .before .before .before .before .before .before .before .before .before .before .before .before
+    .before .before .before .before .before .before .before .before .before .before .before .before .before .before .before .before
+    .before .before .before .before .before .before .before .before .before .before .before .before .before .odd-known .ensures)
+    (c .before .before .before .before .before .before .before .before .before .before .before .before .before .before .before .before
+    .before .before .before .before .before .before .before .before .before .before .before .before .before .before .before .before
+    .before .before .before .before .before .before .before .mark-added .ensures)
+    (c .before .before .before .before .before .before .before .before .before .before .before .before .before .before .before .before
+    .before .before .before .before .before .before .before .before .before .before .before .before .before .before .before .before
+    .before .node-at .ensures)
+    (c .before .before .before .before .before .before .before .before .before .before .before .before .before .before .before .before
+    .before .before .before .before .before .before .before .before .before .before .before .before .survey-part .ensures
+    (not-false _
+    (c .before .before .before .before .before .before .before .before .before .before .before .before .before .before .before .before
+    .before .before .before .if1 .left)))
+    (c .before .before .before .before .before .before .before .before .before .before .before .before .before .before .before .before
+    .before .before .before .before .before .before .before .before .before .before .before .before .before .before .before .before
+    .before .before .before .before .before .before .before .before .before .before .before .before .before .before .before .before
+    .before .before .before .pre .1 .2)
+    (c .before .before .before .before .before .before .before .before .before .before .before .before .before .before .survey-part2
+    .ensures (not-false _ (c .before .before .before .before .before .if2 .left)))
+    (c .before .before .before .before .before .before .before .before .before .before .before .before .before .before .survey-part2
+    .kept .1 .1 .1 .1 .0
+    ∙ c .before .before .before .before .before .before .before .before .before .before .before .before .before .before .before .before
+    .before .before .before .before .before .before .before .before .before .before .before .before .survey-part .kept .1 .1 .1 .1 .0))
+    (λ c. c .before .before .before .before .before .before .set-mark .kept .0
+    ∙ c .before .before .before .before .before .before .before .before .before .before .before .before .before .before .before .before
+    .before .survey-part2 .kept .1 .1 .1 .0
+    ∙ c .before .before .before .before .before .before .before .before .before .before .before .before .before .before .before .before
+    .before .before .before .before .before .before .before .before .before .before .before .before .before .before .before .survey-part
+    .kept .1 .1 .1 .0)
+    (λ c. c .before .before .count-one .kept .0
+    ∙ c .before .before .before .before .before .before .before .before .before .before .before .before .before .before .before .before
+    .before .survey-part2 .kept .1 .1 .1 .1 .0
+    ∙ c .before .before .before .before .before .before .before .before .before .before .before .before .before .before .before .before
+    .before .before .before .before .before .before .before .before .before .before .before .before .before .before .before .survey-part
+    .kept .1 .1 .1 .1 .0)
+    (λ c. c .before .before .before .before .before .before .before .before .before .before .before .before .before .before .before .before
+    .before .survey-part2 .kept .1 .1 .1 .1 .1 .0
+    ∙ c .before .before .before .before .before .before .before .before .before .before .before .before .before .before .before .before
+    .before .before .before .before .before .before .before .before .before .before .before .before .before .before .before .survey-part
+    .kept .1 .1 .1 .1 .1 .0
+    ∙ c .before .before .before .before .before .before .before .before .before .before .before .before .before .before .before .before
+    .before .before .before .before .before .before .before .before .before .before .before .before .before .before .before .before
+    .before .before .before .before .before .before .before .before .before .before .mark-added .kept .1 .1 .0)
+    (λ c. c .before .before .before .before .before .before .before .before .before .before .before .before .before .before .before .before
+    .before .survey-part2 .kept .1 .1 .1 .1 .1 .1 .0
+    ∙ c .before .before .before .before .before .before .before .before .before .before .before .before .before .before .before .before
+    .before .before .before .before .before .before .before .before .before .before .before .before .before .before .before .survey-part
+    .kept .1 .1 .1 .1 .1 .1 .0
+    ∙ c .before .before .before .before .before .before .before .before .before .before .before .before .before .before .before .before
+    .before .before .before .before .before .before .before .before .before .before .before .before .before .before .before .before
+    .before .before .before .before .before .before .before .before .before .before .mark-added .kept .1 .1 .1 .0)
+    (λ c. λ e. survey-done
+    (c .before .before .before .before .before .before .before .before .before .before .before .before .before .before .before .before
+    .before .before .before .before .before .before .before .before .before .before .before .before .before .before .before .before
+    .before .before .before .before .before .before .before .before .before .before .before .before .before .before .before .before
+    .before .before .before .before .before .before .pre .1 .0)
+    (c .before .before .before .before .before .before .before .before .before .before .before .before .before .before .before .before
+    .before .before .before .before .before .before .before .before .before .before .before .before .before .before .before .before
+    .before .before .before .before .before .before .before .before .before .before .before .before .before .before .before .before
+    .before .before .before .before .before .before .pre .1 .1)
+    (c .before .before .before .before .before .before .before .before .before .before .before .before .before .before .before .before
+    .before .before .before .before .before .before .before .before .before .before .before .before .before .before .before .before
+    .before .before .before .before .before .row-of .ensures)
+    (c .before .before .before .before .before .before .before .before .before .before .before .before .before .before .before .before
+    .before .before .before .before .before .before .before .before .before .before .before .before .before .before .before .before
+    .before .before .before .before .before .before .before .before .before .before .before .before .before .before .known .given .1)
+    (c .before .before .before .before .before .before .before .before .before .before .before .before .before .before .before .before
+    .before .before .before .before .before .before .before .before .before .before .before .before .before .before .before .before
+    .before .before .before .before .before .before .before .before .before .before .before .before .before .before .before .before
+    .odd-known .ensures)
+    (c .before .before .before .before .before .before .before .before .before .before .before .before .before .before .before .before
+    .before .before .before .before .before .before .before .before .before .before .before .before .before .before .before .before
+    .before .before .before .before .before .before .before .before .before .before .mark-added .ensures)
+    (c .before .before .before .before .before .before .before .before .before .before .before .before .before .before .before .before
+    .before .before .before .before .before .before .before .before .before .before .before .before .before .before .before .before
+    .before .before .before .before .node-at .ensures)
+    (c .before .before .before .before .before .before .before .before .before .before .before .before .before .before .before .before
+    .before .before .before .before .before .before .before .before .before .before .before .before .before .before .before .survey-part
+    .ensures
+    (not-false _
+    (c .before .before .before .before .before .before .before .before .before .before .before .before .before .before .before .before
+    .before .before .before .before .before .before .if1 .left)))
+    (c .before .before .before .before .before .before .before .before .before .before .before .before .before .before .before .before
+    .before .before .before .before .before .before .before .before .before .before .before .before .before .before .before .before
+    .before .before .before .before .before .before .before .before .before .before .before .before .before .before .before .before
+    .before .before .before .before .before .before .pre .1 .2)
+    (c .before .before .before .before .before .before .before .before .before .before .before .before .before .before .before .before
+    .before .survey-part2 .ensures (not-false _ (c .before .before .before .before .before .before .before .before .if2 .left)))
+    (c .before .before .before .before .before .before .set-mark .ensures) (c .before .before .count-one .ensures))

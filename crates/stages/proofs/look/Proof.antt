@@ -12,9 +12,17 @@ look-spec =
     (tie.spec
     (λ c. search needs)
     (λ c. search needs)
-    (λ c κs. (c .before .before .before .before .before .before .pre, few-room (c .before .before .if1 .taken), seen-blank 257 (let l = c .before .before .if1 .taken in omega (arith, l))))
+    (λ c κs. (
+      c .before .before .before .before .before .before .pre,
+      few-room (c .before .before .if1 .taken),
+      seen-blank 257 (let l = c .before .before .if1 .taken in omega (arith, l)),
+    ))
     (λ c. search needs)
     (λ c. search needs)
     (λ c. search needs)
-    (λ c κs. (c .before .before .before .before .before .before .pre, all-room (c .before .before .before .before .before .before .pre .sound), seen-blank 3751 (let l = c .before .before .before .before .before .before .pre .sound .good .sizes .N-max in omega (arith, l))))
+    (λ c κs. (
+      c .before .before .before .before .before .before .pre,
+      all-room (c .before .before .before .before .before .before .pre .sound),
+      seen-blank 3751 (let l = c .before .before .before .before .before .before .pre .sound .good .sizes .N-max in omega (arith, l)),
+    ))
     (λ c. search needs))

@@ -21,10 +21,20 @@ mark-added-spec =
     (λ c κs. search needs)
     (λ c. added-constant _ _ _ _ (test-no (c .before .is-row .ensures) (c .if1 .taken)))
     (λ c κs. (test-yes (c .before .before .is-row .ensures) (c .before .if1 .left)))
-    (λ c κs. let l = added-in (c .before .before .before .before .before .before .before .pre) (test-yes (c .before .before .before .is-row .ensures) (c .before .before .if1 .left)) (c .row-of .ensures) in let z = c .before .before .before .before .before .before .before .pre .room in omega (arith, l, z))
+    (λ c κs. let l = added-in (c .before .before .before .before .before .before .before .pre)
+    (test-yes (c .before .before .before .is-row .ensures) (c .before .before .if1 .left)) (c .row-of .ensures) in
+    let z = c .before .before .before .before .before .before .before .pre .room in omega (arith, l, z))
     (λ c. search needs)
-    (λ c. added-again _ _ _ _ (test-yes (c .before .before .before .before .before .is-row .ensures) (c .before .before .before .before .if1 .left)) (c .before .before .row-of .ensures) (sym (c .before .marked .ensures) ∙ c .if2 .taken))
-    (λ c κs. (c .before .before .before .before .before .before .before .before .before .before .before .pre, (test-yes (c .before .before .before .before .before .before .before .is-row .ensures) (c .before .before .before .before .before .before .if1 .left)), (still-off _ _ (c .before .before .before .before .row-of .ensures) (c .before .before .before .marked .ensures) (c .before .before .if2 .left))))
+    (λ c. added-again _ _ _ _
+    (test-yes (c .before .before .before .before .before .is-row .ensures) (c .before .before .before .before .if1 .left))
+    (c .before .before .row-of .ensures) (sym (c .before .marked .ensures) ∙ c .if2 .taken))
+    (λ c κs. (
+      c .before .before .before .before .before .before .before .before .before .before .before .pre,
+      (test-yes (c .before .before .before .before .before .before .before .is-row .ensures)
+          (c .before .before .before .before .before .before .if1 .left)),
+      (still-off _ _ (c .before .before .before .before .row-of .ensures) (c .before .before .before .marked .ensures)
+          (c .before .before .if2 .left)),
+    ))
     (λ c. search needs)
     (λ c. search needs)
     (λ c. search needs))

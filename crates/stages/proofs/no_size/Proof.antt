@@ -13,5 +13,7 @@ no-size-spec =
     (λ c κs. search needs)
     (λ c. search needs)
     (λ c κs. test-yes (c .before .is-row .ensures) (c .if2 .left))
-    (λ c κs. let l = c .before .before .before .before .before .pre .1 (test-yes (c .before .before .is-row .ensures) (c .before .if2 .left)) in let e = c .row-of .ensures in let s = c .before .before .before .before .before .pre .0 in omega (arith, l, e, s))
+    (λ c κs. let l = c .before .before .before .before .before .pre .1
+    (test-yes (c .before .before .is-row .ensures) (c .before .if2 .left)) in
+    let e = c .row-of .ensures in let s = c .before .before .before .before .before .pre .0 in omega (arith, l, e, s))
     (λ c. search needs))

@@ -11,10 +11,27 @@ renew-all-spec =
     tie.close
     (tie.spec
     (λ c. search needs)
-    (λ c κs. record { ready = c .before .before .before .before .pre .0; arrow = c .before .before .before .before .pre .1; room = let l = c .before .before .if1 .taken in let e = length-replicate {A = ℕ} 257 0 in omega (arith, l, e) })
+    (λ c κs.
+    record {
+      ready =
+          c .before .before .before .before .pre .0;
+      arrow =
+          c .before .before .before .before .pre .1;
+      room =
+          let l = c .before .before .if1 .taken in let e = length-replicate {A = ℕ} 257 0 in omega (arith, l, e);
+    })
     (λ c. search needs)
     (λ c. search needs)
     (λ c. search needs)
-    (λ c κs. record { ready = c .before .before .before .before .pre .0; arrow = c .before .before .before .before .pre .1; room = let l = c .before .before .before .before .pre .0 .good .sizes .N-max in let e = length-replicate {A = ℕ} 3751 0 in omega (arith, l, e) })
+    (λ c κs.
+    record {
+      ready =
+          c .before .before .before .before .pre .0;
+      arrow =
+          c .before .before .before .before .pre .1;
+      room =
+          let l = c .before .before .before .before .pre .0 .good .sizes .N-max in
+          let e = length-replicate {A = ℕ} 3751 0 in omega (arith, l, e);
+    })
     (λ c. search needs)
     (λ c. search needs))

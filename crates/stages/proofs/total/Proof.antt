@@ -27,8 +27,14 @@ total-spec =
     (λ c. search needs)
     (λ c. search needs)
     (λ c. let f = c .before .before .before .pre .1 .few (c .before .before .loop .j) in omega (arith, f))
-    (λ c. let p = c .before .before .before .pre in let v = c .before .before .loop .inv in let l = sum-le (countOf (c .before .before .before .args .counts .now)) MOST (c .before .before .loop .j) (p .1 .few) in let f = p .1 .few (c .before .before .loop .j) in omega (arith, l, f, p .0, v .0, v .1))
+    (λ c. let p = c .before .before .before .pre in
+    let v = c .before .before .loop .inv in
+    let l = sum-le (countOf (c .before .before .before .args .counts .now)) MOST (c .before .before .loop .j) (p .1 .few) in
+    let f = p .1 .few (c .before .before .loop .j) in omega (arith, l, f, p .0, v .0, v .1))
     (λ c. search needs)
     (λ c. search needs)
-    (λ c. let v = c .before .before .loop .inv in (omega arith, sum-next (countOf (c .before .before .before .args .counts .now)) (c .before .before .loop .j) (v .1)))
-    (λ c. let v = c .before .loop .inv in sum-done (countOf (c .before .before .args .counts .now)) (c .before .loop .j) (c .before .before .args .k) (v .1) (v .0) (c .loop-test .left)))
+    (λ c. let v = c .before .before .loop .inv in
+    (omega arith, sum-next (countOf (c .before .before .before .args .counts .now)) (c .before .before .loop .j) (v .1)))
+    (λ c. let v = c .before .loop .inv in
+    sum-done (countOf (c .before .before .args .counts .now)) (c .before .loop .j) (c .before .before .args .k) (v .1) (v .0)
+    (c .loop-test .left)))

@@ -10,7 +10,11 @@ clean-spec =
     (tie.spec
     (λ c κs. search needs)
     (λ c. search needs)
-    (λ c κs. free-pre (c .before .before .operands-of .ensures .0) (c .before .before .operands-of .ensures .1) (c .before .before .before .before .before .pre))
+    (λ c κs. free-pre (c .before .before .operands-of .ensures .0) (c .before .before .operands-of .ensures .1)
+    (c .before .before .before .before .before .pre))
     (λ c κs. search needs)
     (λ c. search needs)
-    (λ c. cleaned-by (c .before .before .before .before .before .before .before .before .before .operands-of .ensures .0) (c .before .before .before .before .before .before .before .before .before .operands-of .ensures .1) (c .before .before .before .before .before .before .before .before .before .before .before .before .pre) (c .before .before .before .before .before .before .free-rows .ensures) (c .before .before .forget .ensures)))
+    (λ c. cleaned-by (c .before .before .before .before .before .before .before .before .before .operands-of .ensures .0)
+    (c .before .before .before .before .before .before .before .before .before .operands-of .ensures .1)
+    (c .before .before .before .before .before .before .before .before .before .before .before .before .pre)
+    (c .before .before .before .before .before .before .free-rows .ensures) (c .before .before .forget .ensures)))

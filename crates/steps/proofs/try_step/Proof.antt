@@ -4,4 +4,7 @@ use Rattle.steps.proofs.try_step.Statement.{statement}
 use Rattle.steps.proofs.try_step.Tie as tie
 
 pub try-step-spec : {M : Type 1} → statement M
-try-step-spec = tie.close (tie.spec (λ c κs. search needs) (λ c κs. search needs) (λ c. search needs) (λ c. rw (c .made-of .ensures) (c .before .before .before .run-step .ensures)))
+try-step-spec =
+    tie.close
+    (tie.spec (λ c κs. search needs) (λ c κs. search needs) (λ c. search needs)
+    (λ c. rw (c .made-of .ensures) (c .before .before .before .run-step .ensures)))

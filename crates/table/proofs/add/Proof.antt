@@ -12,11 +12,37 @@ add-spec =
     (tie.spec
     (λ c κs. search needs)
     (λ c. search needs)
-    (λ c. add-full (view (c .before .before .before .before .args .rows) (c .before .before .before .before .args .words .now)) _ _ _ _ (c .before .before .before .before .pre) _ (c .before .unused-row .ensures) (c .if1 .taken))
+    (λ c. add-full (view (c .before .before .before .before .args .rows) (c .before .before .before .before .args .words .now)) _ _ _ _
+    (c .before .before .before .before .pre) _ (c .before .unused-row .ensures) (c .if1 .taken))
     (λ c. search needs)
     (λ c κs. search needs)
     (λ c κs. search needs)
-    (λ c κs. let p = append-pre (view (c .before .before .before .before .before .before .before .before .before .before .before .before .before .args .rows) (c .before .before .before .before .before .before .before .before .before .before .before .before .before .args .words .now)) _ _ _ _ (c .before .before .before .before .before .before .before .before .before .before .before .before .before .pre .pre .make .good) (c .before .before .before .before .before .before .before .before .before .if1 .left) (c .before .before .before .before .before .before .before .before .before .before .unused-row .ensures .free (c .before .before .before .before .before .before .before .before .before .if1 .left)) (c .before .before .before .before .before .before .before .put-header .ensures) (c .before .before .before .write-row .ensures) in (c .before .before .before .before .before .before .before .before .before .if1 .left, p .0, p .1))
+    (λ c κs. let p =
+    append-pre
+    (view (c .before .before .before .before .before .before .before .before .before .before .before .before .before .args .rows)
+    (c .before .before .before .before .before .before .before .before .before .before .before .before .before .args .words .now)) _ _ _
+    _ (c .before .before .before .before .before .before .before .before .before .before .before .before .before .pre .pre .make .good)
+    (c .before .before .before .before .before .before .before .before .before .if1 .left)
+    (c .before .before .before .before .before .before .before .before .before .before .unused-row .ensures .free
+    (c .before .before .before .before .before .before .before .before .before .if1 .left))
+    (c .before .before .before .before .before .before .before .put-header .ensures) (c .before .before .before .write-row .ensures) in
+    (c .before .before .before .before .before .before .before .before .before .if1 .left, p .0, p .1))
     (λ c κs. search needs)
     (λ c. search needs)
-    (λ c. rw (c .arrow-of .ensures) (add-at (view (c .before .before .before .before .before .before .before .before .before .before .before .before .before .before .before .before .before .args .rows) (c .before .before .before .before .before .before .before .before .before .before .before .before .before .before .before .before .before .args .words .now)) _ _ _ _ (c .before .before .before .before .before .before .before .before .before .before .before .before .before .before .before .before .before .pre) _ (c .before .before .before .before .before .before .before .before .before .before .before .before .before .before .unused-row .ensures) (c .before .before .before .before .before .before .before .before .before .before .before .before .before .if1 .left) (added-by (view (c .before .before .before .before .before .before .before .before .before .before .before .before .before .before .before .before .before .args .rows) (c .before .before .before .before .before .before .before .before .before .before .before .before .before .before .before .before .before .args .words .now)) _ _ _ _ (c .before .before .before .before .before .before .before .before .before .before .before .put-header .ensures) (c .before .before .before .before .before .before .before .write-row .ensures) (c .before .before .before .append .ensures)))))
+    (λ c. rw (c .arrow-of .ensures)
+    (add-at
+    (view (c .before .before .before .before .before .before .before .before .before .before .before .before .before .before .before
+    .before .before .args .rows)
+    (c .before .before .before .before .before .before .before .before .before .before .before .before .before .before .before .before
+    .before .args .words .now)) _ _ _ _
+    (c .before .before .before .before .before .before .before .before .before .before .before .before .before .before .before .before
+    .before .pre) _
+    (c .before .before .before .before .before .before .before .before .before .before .before .before .before .before .unused-row
+    .ensures) (c .before .before .before .before .before .before .before .before .before .before .before .before .before .if1 .left)
+    (added-by
+    (view (c .before .before .before .before .before .before .before .before .before .before .before .before .before .before .before
+    .before .before .args .rows)
+    (c .before .before .before .before .before .before .before .before .before .before .before .before .before .before .before .before
+    .before .args .words .now)) _ _ _ _
+    (c .before .before .before .before .before .before .before .before .before .before .before .put-header .ensures)
+    (c .before .before .before .before .before .before .before .write-row .ensures) (c .before .before .before .append .ensures)))))

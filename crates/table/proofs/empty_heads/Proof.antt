@@ -22,9 +22,13 @@ empty-heads-spec =
     Inv-loop
     μ-loop
     (λ c. (omega arith, refl, heads-none _))
-    (λ c κs. let p = c .before .before .before .before .pre in let v = c .before .before .loop .inv .1 in let t = c .before .loop-test .taken in omega arith)
+    (λ c κs. let p = c .before .before .before .before .pre in
+    let v = c .before .before .loop .inv .1 in let t = c .before .loop-test .taken in omega arith)
     (λ c. let t = c .before .before .before .before .loop-test .taken in omega arith)
     (λ c. let t = c .before .before .before .before .loop-test .taken in omega arith)
-    (λ c. let t = c .before .before .before .before .loop-test .taken in let v = c .before .before .before .before .before .loop .inv in (omega arith, c .before .before .put-head .kept .0 ∙ v .1, heads-more _ (v .2) (c .before .before .put-head .ensures)))
+    (λ c. let t = c .before .before .before .before .loop-test .taken in
+    let v = c .before .before .before .before .before .loop .inv in
+    (omega arith, c .before .before .put-head .kept .0 ∙ v .1, heads-more _ (v .2) (c .before .before .put-head .ensures)))
     (λ c. c .before .loop .inv .1)
-    (λ c. let e : c .before .loop .b ≡ c .before .before .before .args .rows = omega arith in heads-all _ _ _ (rw e at (c .before .loop .inv .2))))
+    (λ c. let e : c .before .loop .b ≡ c .before .before .before .args .rows = omega arith in
+    heads-all _ _ _ (rw e at (c .before .loop .inv .2))))

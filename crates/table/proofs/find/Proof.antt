@@ -27,11 +27,65 @@ find-spec =
     μ-loop
     (λ c κs. let z = c .before .pre .sizes in omega arith)
     (λ c κs. (c .bucket-of .ensures .1, good-room _ (c .before .before .pre)))
-    (λ c. rw (c .first .ensures, c .before .bucket-of .ensures .0) (live-link _ _, find-start (view (c .before .before .before .args .rows) (c .before .before .before .args .words .now)) _ _ _ (c .before .before .before .pre .index)))
+    (λ c. rw (c .first .ensures, c .before .bucket-of .ensures .0) (
+      live-link _ _,
+      find-start (view (c .before .before .before .args .rows) (c .before .before .before .args .words .now)) _ _ _
+          (c .before .before .before .pre .index),
+    ))
     (λ c. omega arith)
-    (λ c κs. let u = used-row (view (c .before .before .before .before .before .args .rows) (c .before .before .before .before .before .args .words .now)) _ (link-used (view (c .before .before .before .before .before .args .rows) (c .before .before .before .before .before .args .words .now)) _ (c .loop-test .taken) (c .before .loop .inv .0)) in let z = c .before .before .before .before .before .pre .sizes in omega arith)
-    (λ c. (link-used (view (c .before .before .before .before .before .before .before .args .rows) (c .before .before .before .before .before .before .before .args .words .now)) _ (c .before .before .loop-test .taken) (c .before .before .before .loop .inv .0), says-yes (c .if1 .taken) (c .before .same-row .ensures)))
-    (λ c κs. let u = used-row (view (c .before .before .before .before .before .before .before .args .rows) (c .before .before .before .before .before .before .before .args .words .now)) _ (link-used (view (c .before .before .before .before .before .before .before .args .rows) (c .before .before .before .before .before .before .before .args .words .now)) _ (c .before .before .loop-test .taken) (c .before .before .before .loop .inv .0)) in let z = c .before .before .before .before .before .before .before .pre .sizes in omega arith)
-    (λ c. rw (c .get .ensures) (height-falls (view (c .before .before .before .before .before .before .before .before .args .rows) (c .before .before .before .before .before .before .before .before .args .words .now)) (c .before .before .before .before .loop .p) ((view (c .before .before .before .before .before .before .before .before .args .rows) (c .before .before .before .before .before .before .before .before .args .words .now)) .cell (c .before .before .before .before .loop .p - 1) NEXT) (c .before .before .before .loop-test .taken) (c .before .before .before .before .before .before .before .before .pre .index .nexts (c .before .before .before .before .loop .p - 1) (link-used (view (c .before .before .before .before .before .before .before .before .args .rows) (c .before .before .before .before .before .before .before .before .args .words .now)) _ (c .before .before .before .loop-test .taken) (c .before .before .before .before .loop .inv .0)))))
-    (λ c. let n = c .before .before .before .loop-test .taken in let v = c .before .before .before .before .loop .inv in let h = says-no (c .before .if1 .left) (c .before .before .same-row .ensures) in rw (c .get .ensures) (down-link (view (c .before .before .before .before .before .before .before .before .args .rows) (c .before .before .before .before .before .before .before .before .args .words .now)) ((view (c .before .before .before .before .before .before .before .before .args .rows) (c .before .before .before .before .before .before .before .before .args .words .now)) .cell (c .before .before .before .before .loop .p - 1) RANK) ((view (c .before .before .before .before .before .before .before .before .args .rows) (c .before .before .before .before .before .before .before .before .args .words .now)) .cell (c .before .before .before .before .loop .p - 1) NEXT) (c .before .before .before .before .before .before .before .before .pre .index .nexts (c .before .before .before .before .loop .p - 1) (link-used (view (c .before .before .before .before .before .before .before .before .args .rows) (c .before .before .before .before .before .before .before .before .args .words .now)) _ n (v .0))), (λ i u s. hit-skip n h (v .1 i u s))))
+    (λ c κs. let u =
+    used-row
+    (view (c .before .before .before .before .before .args .rows) (c .before .before .before .before .before .args .words .now)) _
+    (link-used
+    (view (c .before .before .before .before .before .args .rows) (c .before .before .before .before .before .args .words .now)) _
+    (c .loop-test .taken) (c .before .loop .inv .0)) in let z = c .before .before .before .before .before .pre .sizes in omega arith)
+    (λ c. (
+      link-used
+          (view (c .before .before .before .before .before .before .before .args .rows)
+          (c .before .before .before .before .before .before .before .args .words .now)) _ (c .before .before .loop-test .taken)
+          (c .before .before .before .loop .inv .0),
+      says-yes (c .if1 .taken) (c .before .same-row .ensures),
+    ))
+    (λ c κs. let u =
+    used-row
+    (view (c .before .before .before .before .before .before .before .args .rows)
+    (c .before .before .before .before .before .before .before .args .words .now)) _
+    (link-used
+    (view (c .before .before .before .before .before .before .before .args .rows)
+    (c .before .before .before .before .before .before .before .args .words .now)) _ (c .before .before .loop-test .taken)
+    (c .before .before .before .loop .inv .0)) in
+    let z = c .before .before .before .before .before .before .before .pre .sizes in omega arith)
+    (λ c. rw (c .get .ensures)
+    (height-falls
+    (view (c .before .before .before .before .before .before .before .before .args .rows)
+    (c .before .before .before .before .before .before .before .before .args .words .now)) (c .before .before .before .before .loop .p)
+    ((view (c .before .before .before .before .before .before .before .before .args .rows)
+    (c .before .before .before .before .before .before .before .before .args .words .now)) .cell
+    (c .before .before .before .before .loop .p - 1) NEXT) (c .before .before .before .loop-test .taken)
+    (c .before .before .before .before .before .before .before .before .pre .index .nexts
+    (c .before .before .before .before .loop .p - 1)
+    (link-used
+    (view (c .before .before .before .before .before .before .before .before .args .rows)
+    (c .before .before .before .before .before .before .before .before .args .words .now)) _
+    (c .before .before .before .loop-test .taken) (c .before .before .before .before .loop .inv .0)))))
+    (λ c. let n = c .before .before .before .loop-test .taken in
+    let v = c .before .before .before .before .loop .inv in
+    let h = says-no (c .before .if1 .left) (c .before .before .same-row .ensures) in
+    rw (c .get .ensures) (
+      down-link
+          (view (c .before .before .before .before .before .before .before .before .args .rows)
+          (c .before .before .before .before .before .before .before .before .args .words .now))
+          ((view (c .before .before .before .before .before .before .before .before .args .rows)
+          (c .before .before .before .before .before .before .before .before .args .words .now)) .cell
+          (c .before .before .before .before .loop .p - 1) RANK)
+          ((view (c .before .before .before .before .before .before .before .before .args .rows)
+          (c .before .before .before .before .before .before .before .before .args .words .now)) .cell
+          (c .before .before .before .before .loop .p - 1) NEXT)
+          (c .before .before .before .before .before .before .before .before .pre .index .nexts
+          (c .before .before .before .before .loop .p - 1)
+          (link-used
+          (view (c .before .before .before .before .before .before .before .before .args .rows)
+          (c .before .before .before .before .before .before .before .before .args .words .now)) _ n (v .0))),
+      (λ i u s. hit-skip n h (v .1 i u s)),
+    ))
     (λ c. λ j u h. hit-zero (c .before .loop .inv .1 j u h) (c .loop-test .left)))

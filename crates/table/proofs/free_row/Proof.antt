@@ -25,8 +25,17 @@ free-row-spec =
     μ-loop
     (λ c. let p = c .before .pre .1 in (omega arith, omega arith, λ j a b. absurd (omega arith)))
     (λ c κs. c .before .before .before .pre .0)
-    (λ c. let v = c .before .before .before .loop .inv in record { low = v .0; high = v .1; below = λ j a b. v .2 j b a; free = λ _. sym (c .before .used-row .ensures) ∙ not-true _ (c .if1 .taken) })
+    (λ c. let v = c .before .before .before .loop .inv in
+    record {
+      low = v .0;
+      high = v .1;
+      below = λ j a b. v .2 j b a;
+      free = λ _. sym (c .before .used-row .ensures) ∙ not-true _ (c .if1 .taken);
+    })
     (λ c. omega arith)
     (λ c. omega arith)
-    (λ c. let v = c .before .before .before .loop .inv in let t = c .before .before .loop-test .taken in (omega arith, omega arith, below-more _ _ (v .2) (λ _. sym (c .before .used-row .ensures) ∙ not-false _ (c .if1 .left))))
-    (λ c. let v = c .before .loop .inv in let t = c .loop-test .left in record { low = v .0; high = v .1; below = λ j a b. v .2 j b a; free = λ h. absurd (omega arith) }))
+    (λ c. let v = c .before .before .before .loop .inv in
+    let t = c .before .before .loop-test .taken in
+    (omega arith, omega arith, below-more _ _ (v .2) (λ _. sym (c .before .used-row .ensures) ∙ not-false _ (c .if1 .left))))
+    (λ c. let v = c .before .loop .inv in
+    let t = c .loop-test .left in record { low = v .0; high = v .1; below = λ j a b. v .2 j b a; free = λ h. absurd (omega arith) }))

@@ -13,4 +13,8 @@ make-empty-spec =
     (λ c κs. search needs)
     (λ c κs. search needs)
     (λ c. search needs)
-    (λ c. emptied-by (view (c .before .before .before .before .before .before .before .before .before .before .before .args .rows) (c .before .before .before .before .before .before .before .before .before .before .before .args .words .now)) _ _ (c .before .before .before .before .before .before .before .before .empty-heads .ensures) (c .before .before .before .before .before .header .ensures) (c .before .before .write-header .ensures)))
+    (λ c. emptied-by
+    (view (c .before .before .before .before .before .before .before .before .before .before .before .args .rows)
+    (c .before .before .before .before .before .before .before .before .before .before .before .args .words .now)) _ _
+    (c .before .before .before .before .before .before .before .before .empty-heads .ensures)
+    (c .before .before .before .before .before .header .ensures) (c .before .before .write-header .ensures)))

@@ -11,9 +11,18 @@ unused-row-spec =
     (tie.spec
     (λ c κs. search needs)
     (λ c κs. search needs)
-    (λ c. unused-all (view (c .before .before .before .before .args .rows) (c .before .before .before .before .args .words .now)) (c .free-row .ensures))
+    (λ c. unused-all (view (c .before .before .before .before .args .rows) (c .before .before .before .before .args .words .now))
+    (c .free-row .ensures))
     (λ c κs. search needs)
-    (λ c. unused-after (view (c .before .before .before .before .before .args .rows) (c .before .before .before .before .before .args .words .now)) (c .before .free-row2 .ensures) (c .if2 .taken))
+    (λ c. unused-after
+    (view (c .before .before .before .before .before .args .rows) (c .before .before .before .before .before .args .words .now))
+    (c .before .free-row2 .ensures) (c .if2 .taken))
     (λ c κs. search needs)
-    (λ c. unused-before (view (c .before .before .before .before .before .before .before .args .rows) (c .before .before .before .before .before .before .before .args .words .now)) (c .before .before .before .before .if1 .left) (c .before .free-row3 .ensures) (c .if3 .taken))
-    (λ c. unused-none (view (c .before .before .before .before .before .before .before .args .rows) (c .before .before .before .before .before .before .before .args .words .now)) (c .before .before .before .free-row2 .ensures) (c .before .before .if2 .left) (c .before .free-row3 .ensures) (c .if3 .left)))
+    (λ c. unused-before
+    (view (c .before .before .before .before .before .before .before .args .rows)
+    (c .before .before .before .before .before .before .before .args .words .now)) (c .before .before .before .before .if1 .left)
+    (c .before .free-row3 .ensures) (c .if3 .taken))
+    (λ c. unused-none
+    (view (c .before .before .before .before .before .before .before .args .rows)
+    (c .before .before .before .before .before .before .before .args .words .now)) (c .before .before .before .free-row2 .ensures)
+    (c .before .before .if2 .left) (c .before .free-row3 .ensures) (c .if3 .left)))

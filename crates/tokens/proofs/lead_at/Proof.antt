@@ -13,8 +13,17 @@ lead-at-spec =
     (λ c κs. tt)
     (λ c. c .match .keys1)
     (λ c. c .match .keys2)
-    (λ c. sym (lead-bad _ _ _ _ (c .before .before .before .before .if1 .taken) (sym (c .before .before .token-of .ensures) ∙ c .enum-told .given .1)))
+    (λ c. sym
+    (lead-bad _ _ _ _ (c .before .before .before .before .if1 .taken)
+    (sym (c .before .before .token-of .ensures) ∙ c .enum-told .given .1)))
     (λ c κs. tt)
-    (λ c. sym (lead-is _ _ _ _ _ (c .before .before .before .before .before .before .before .if1 .taken) (sym (c .before .before .before .before .before .token-of .ensures) ∙ c .before .before .before .t .given .1) (sym (c .before .token-allowed .ensures) ∙ c .if2 .taken)))
-    (λ c. sym (lead-refused _ _ _ _ (c .before .before .before .t .given .0 .0) (c .before .before .before .before .before .before .before .if1 .taken) (sym (c .before .before .before .before .before .token-of .ensures) ∙ c .before .before .before .t .given .1) (sym (c .before .token-allowed .ensures) ∙ c .if2 .left)))
+    (λ c. sym
+    (lead-is _ _ _ _ _ (c .before .before .before .before .before .before .before .if1 .taken)
+    (sym (c .before .before .before .before .before .token-of .ensures) ∙ c .before .before .before .t .given .1)
+    (sym (c .before .token-allowed .ensures) ∙ c .if2 .taken)))
+    (λ c. sym
+    (lead-refused _ _ _ _ (c .before .before .before .t .given .0 .0)
+    (c .before .before .before .before .before .before .before .if1 .taken)
+    (sym (c .before .before .before .before .before .token-of .ensures) ∙ c .before .before .before .t .given .1)
+    (sym (c .before .token-allowed .ensures) ∙ c .if2 .left)))
     (λ c. sym (lead-past _ _ _ _ (c .if1 .left))))

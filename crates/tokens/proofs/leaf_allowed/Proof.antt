@@ -23,6 +23,7 @@ leaf-allowed-spec =
     (λ c. search needs)
     (λ c. search needs)
     (λ c. rw (c .before .l .given .1))
-    (λ c. let e : onlyNow (c .before .before .before .before .before .args .grammar) ≡ false = cc in rw (c .before .before .before .l2 .given .1, e))
+    (λ c. let e : onlyNow (c .before .before .before .before .before .args .grammar) ≡ false = cc in
+    rw (c .before .before .before .l2 .given .1, e))
     (λ c. search needs)
     (λ c. search needs))

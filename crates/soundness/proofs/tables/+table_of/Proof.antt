@@ -1,4 +1,5 @@
--- `table_of` meets its contract: a remembered table is right, and a row's table is joined from those of its arrows, which lead to greater levels. Assumes nothing.
+-- `table_of` meets its contract: a remembered table is right, and a row's table is joined from those of its arrows, which lead to greater
+-- levels. Assumes nothing.
 use borrow.Author.Needs.{needs}
 use Rattle.soundness.proofs.CellsLaws.{tabled-nothing, tabled-everything}
 use Rattle.soundness.proofs.TablesLaws.{farTo, led, recalled, asked-arrow, row-asked, made-table}
@@ -54,16 +55,86 @@ pub +table-of-spec : {M : Type 1} → statement M
     (λ c. record { tabled = tabled-nothing _ (c .if1 .taken); known = c .before .before .before .pre .1 .known })
     (λ c. record { tabled = tabled-everything _ (c .if2 .taken); known = c .before .before .before .before .pre .1 .known })
     (λ c κs. row-yes _ (let x = c .before .if1 .left in let y = c .if2 .left in omega arith))
-    (λ c κs. let r = led (c .before .before .before .before .before .before .pre .1) (c .before .before .before .if1 .left) (c .before .before .if2 .left) (c .before .row-of .ensures) in let h = r .place in let e = c .before .before .before .before .before .before .pre .1 .size in omega arith)
+    (λ c κs. let r = led (c .before .before .before .before .before .before .pre .1) (c .before .before .before .if1 .left)
+    (c .before .before .if2 .left) (c .before .row-of .ensures) in
+    let h = r .place in let e = c .before .before .before .before .before .before .pre .1 .size in omega arith)
     (λ c κs. search needs)
     (λ c. search needs)
-    (λ c. recalled (c .before .before .before .before .before .before .before .before .before .pre .1) (led (c .before .before .before .before .before .before .before .before .before .pre .1) (c .before .before .before .before .before .before .if1 .left) (c .before .before .before .before .before .if2 .left) (c .before .before .before .before .row-of .ensures)) (c .before .before .recall .ensures) (c .before .if3 .taken) (c .carried .ensures))
-    (λ c κs. let r = led (c .before .before .before .before .before .before .before .before .pre .1) (c .before .before .before .before .before .if1 .left) (c .before .before .before .before .if2 .left) (c .before .before .before .row-of .ensures) in (r .below, omega arith, c .before .before .before .before .before .before .before .before .pre .1 .good .sizes .room))
-    (λ c κs. asked-arrow (c .before .before .before .before .before .before .before .before .before .before .pre .1) (led (c .before .before .before .before .before .before .before .before .before .before .pre .1) (c .before .before .before .before .before .before .before .if1 .left) (c .before .before .before .before .before .before .if2 .left) (c .before .before .before .before .before .row-of .ensures)) (c .before .before .before .before .before .before .before .before .before .before .pre .0) (inl (c .before .get .ensures)) refl (c .before .before .before .before .before .before .before .before .before .before .pre .1 .known))
-    (λ c κs. let r = led (c .before .before .before .before .before .before .before .before .before .before .before .before .before .pre .1) (c .before .before .before .before .before .before .before .before .before .before .if1 .left) (c .before .before .before .before .before .before .before .before .before .if2 .left) (c .before .before .before .before .before .before .before .before .row-of .ensures) in (r .below, omega arith, c .before .before .before .before .before .before .before .before .before .before .before .before .before .pre .1 .good .sizes .room))
-    (λ c κs. asked-arrow (c .before .before .before .before .before .before .before .before .before .before .before .before .before .before .before .pre .1) (led (c .before .before .before .before .before .before .before .before .before .before .before .before .before .before .before .pre .1) (c .before .before .before .before .before .before .before .before .before .before .before .before .if1 .left) (c .before .before .before .before .before .before .before .before .before .before .before .if2 .left) (c .before .before .before .before .before .before .before .before .before .before .row-of .ensures)) (c .before .before .before .before .before .before .before .before .before .before .before .before .before .before .before .pre .0) (inr (c .before .get2 .ensures)) (c .before .before .before .before .table-of .kept .1 .1 .1 .1 .1 .1 .0) (c .before .before .before .before .table-of .ensures .known))
-    (λ c κs. row-asked (c .before .before .before .before .before .before .before .before .before .before .before .before .before .before .before .before .before .before .pre .1) (led (c .before .before .before .before .before .before .before .before .before .before .before .before .before .before .before .before .before .before .pre .1) (c .before .before .before .before .before .before .before .before .before .before .before .before .before .before .before .if1 .left) (c .before .before .before .before .before .before .before .before .before .before .before .before .before .before .if2 .left) (c .before .before .before .before .before .before .before .before .before .before .before .before .before .row-of .ensures)) (c .before .before .before .before .before .before .before .before .before .get .ensures) (c .before .before .before .before .get2 .ensures) (c .before .before .before .before .before .before .before .table-of .ensures .tabled) (c .before .before .table-of2 .ensures .tabled))
-    (λ c κs. let r = led (c .before .before .before .before .before .before .before .before .before .before .before .before .before .before .before .before .before .before .before .before .pre .1) (c .before .before .before .before .before .before .before .before .before .before .before .before .before .before .before .before .before .if1 .left) (c .before .before .before .before .before .before .before .before .before .before .before .before .before .before .before .before .if2 .left) (c .before .before .before .before .before .before .before .before .before .before .before .before .before .before .before .row-of .ensures) in let h = r .place in let e = c .before .before .before .before .table-of2 .kept .1 .1 .1 .1 .1 .1 .0 ∙ c .before .before .before .before .before .before .before .before .before .table-of .kept .1 .1 .1 .1 .1 .1 .0 ∙ c .before .before .before .before .before .before .before .before .before .before .before .before .before .before .before .before .before .before .before .before .pre .1 .size in omega arith)
+    (λ c. recalled (c .before .before .before .before .before .before .before .before .before .pre .1)
+    (led (c .before .before .before .before .before .before .before .before .before .pre .1)
+    (c .before .before .before .before .before .before .if1 .left) (c .before .before .before .before .before .if2 .left)
+    (c .before .before .before .before .row-of .ensures)) (c .before .before .recall .ensures) (c .before .if3 .taken)
+    (c .carried .ensures))
+    (λ c κs. let r = led (c .before .before .before .before .before .before .before .before .pre .1)
+    (c .before .before .before .before .before .if1 .left) (c .before .before .before .before .if2 .left)
+    (c .before .before .before .row-of .ensures) in
+    (r .below, omega arith, c .before .before .before .before .before .before .before .before .pre .1 .good .sizes .room))
+    (λ c κs. asked-arrow (c .before .before .before .before .before .before .before .before .before .before .pre .1)
+    (led (c .before .before .before .before .before .before .before .before .before .before .pre .1)
+    (c .before .before .before .before .before .before .before .if1 .left)
+    (c .before .before .before .before .before .before .if2 .left) (c .before .before .before .before .before .row-of .ensures))
+    (c .before .before .before .before .before .before .before .before .before .before .pre .0) (inl (c .before .get .ensures)) refl
+    (c .before .before .before .before .before .before .before .before .before .before .pre .1 .known))
+    (λ c κs. let r = led (c .before .before .before .before .before .before .before .before .before .before .before .before .before .pre .1)
+    (c .before .before .before .before .before .before .before .before .before .before .if1 .left)
+    (c .before .before .before .before .before .before .before .before .before .if2 .left)
+    (c .before .before .before .before .before .before .before .before .row-of .ensures) in (
+      r .below,
+      omega arith,
+      c .before .before .before .before .before .before .before .before .before .before .before .before .before .pre .1 .good .sizes
+          .room,
+    ))
+    (λ c κs. asked-arrow
+    (c .before .before .before .before .before .before .before .before .before .before .before .before .before .before .before .pre .1)
+    (led (c .before .before .before .before .before .before .before .before .before .before .before .before .before .before .before .pre
+    .1) (c .before .before .before .before .before .before .before .before .before .before .before .before .if1 .left)
+    (c .before .before .before .before .before .before .before .before .before .before .before .if2 .left)
+    (c .before .before .before .before .before .before .before .before .before .before .row-of .ensures))
+    (c .before .before .before .before .before .before .before .before .before .before .before .before .before .before .before .pre .0)
+    (inr (c .before .get2 .ensures)) (c .before .before .before .before .table-of .kept .1 .1 .1 .1 .1 .1 .0)
+    (c .before .before .before .before .table-of .ensures .known))
+    (λ c κs. row-asked
+    (c .before .before .before .before .before .before .before .before .before .before .before .before .before .before .before .before
+    .before .before .pre .1)
+    (led (c .before .before .before .before .before .before .before .before .before .before .before .before .before .before .before
+    .before .before .before .pre .1)
+    (c .before .before .before .before .before .before .before .before .before .before .before .before .before .before .before .if1
+    .left) (c .before .before .before .before .before .before .before .before .before .before .before .before .before .before .if2
+    .left) (c .before .before .before .before .before .before .before .before .before .before .before .before .before .row-of .ensures))
+    (c .before .before .before .before .before .before .before .before .before .get .ensures)
+    (c .before .before .before .before .get2 .ensures)
+    (c .before .before .before .before .before .before .before .table-of .ensures .tabled)
+    (c .before .before .table-of2 .ensures .tabled))
+    (λ c κs. let r =
+    led (c .before .before .before .before .before .before .before .before .before .before .before .before .before .before .before
+    .before .before .before .before .before .pre .1)
+    (c .before .before .before .before .before .before .before .before .before .before .before .before .before .before .before .before
+    .before .if1 .left)
+    (c .before .before .before .before .before .before .before .before .before .before .before .before .before .before .before .before
+    .if2 .left)
+    (c .before .before .before .before .before .before .before .before .before .before .before .before .before .before .before .row-of
+    .ensures) in
+    let h = r .place in
+    let e = c .before .before .before .before .table-of2 .kept .1 .1 .1 .1 .1 .1 .0
+    ∙ c .before .before .before .before .before .before .before .before .before .table-of .kept .1 .1 .1 .1 .1 .1 .0
+    ∙ c .before .before .before .before .before .before .before .before .before .before .before .before .before .before .before .before
+    .before .before .before .before .pre .1 .size in omega arith)
     (λ c κs. search needs)
     (λ c. search needs)
-    (λ c. let r = led (c .before .before .before .before .before .before .before .before .before .before .before .before .before .before .before .before .before .before .before .before .before .before .before .before .pre .1) (c .before .before .before .before .before .before .before .before .before .before .before .before .before .before .before .before .before .before .before .before .before .if1 .left) (c .before .before .before .before .before .before .before .before .before .before .before .before .before .before .before .before .before .before .before .before .if2 .left) (c .before .before .before .before .before .before .before .before .before .before .before .before .before .before .before .before .before .before .before .row-of .ensures) in let h = r .place in let e = c .before .before .before .before .before .before .before .before .table-of2 .kept .1 .1 .1 .1 .1 .1 .0 ∙ c .before .before .before .before .before .before .before .before .before .before .before .before .before .table-of .kept .1 .1 .1 .1 .1 .1 .0 ∙ c .before .before .before .before .before .before .before .before .before .before .before .before .before .before .before .before .before .before .before .before .before .before .before .before .pre .1 .size in made-table r (omega arith) (c .before .before .before .before .before .before .before .before .table-of2 .ensures .known) (c .before .before .before .before .before .row-table .ensures) (c .before .before .before .keep .ensures) (c .carried2 .ensures))
+    (λ c. let r =
+    led (c .before .before .before .before .before .before .before .before .before .before .before .before .before .before .before
+    .before .before .before .before .before .before .before .before .before .pre .1)
+    (c .before .before .before .before .before .before .before .before .before .before .before .before .before .before .before .before
+    .before .before .before .before .before .if1 .left)
+    (c .before .before .before .before .before .before .before .before .before .before .before .before .before .before .before .before
+    .before .before .before .before .if2 .left)
+    (c .before .before .before .before .before .before .before .before .before .before .before .before .before .before .before .before
+    .before .before .before .row-of .ensures) in
+    let h = r .place in
+    let e = c .before .before .before .before .before .before .before .before .table-of2 .kept .1 .1 .1 .1 .1 .1 .0
+    ∙ c .before .before .before .before .before .before .before .before .before .before .before .before .before .table-of .kept .1 .1 .1
+    .1 .1 .1 .0
+    ∙ c .before .before .before .before .before .before .before .before .before .before .before .before .before .before .before .before
+    .before .before .before .before .before .before .before .before .pre .1 .size in
+    made-table r (omega arith) (c .before .before .before .before .before .before .before .before .table-of2 .ensures .known)
+    (c .before .before .before .before .before .row-table .ensures) (c .before .before .before .keep .ensures) (c .carried2 .ensures))

@@ -11,4 +11,8 @@ use Rattle.soundness.proofs.tables.carried.Lts as lts
 use Rattle.layout.proofs.is_marked.Reads as is-marked-reads
 
 pub carried-spec : {M : Type 1} → statement M
-carried-spec = tie.close (tie.spec (λ c κs. search needs) (λ c. search needs) (λ c. search needs) (λ c. ap (λ (b : Bool). carriedCells b (c .before .before .args .table)) (sym (c .if1 .taken) ∙ c .before .is-marked .ensures)) (λ c. ap (λ (b : Bool). carriedCells b (c .before .before .args .table)) (sym (c .if1 .left) ∙ c .before .is-marked .ensures)))
+carried-spec =
+    tie.close
+    (tie.spec (λ c κs. search needs) (λ c. search needs) (λ c. search needs)
+    (λ c. ap (λ (b : Bool). carriedCells b (c .before .before .args .table)) (sym (c .if1 .taken) ∙ c .before .is-marked .ensures))
+    (λ c. ap (λ (b : Bool). carriedCells b (c .before .before .args .table)) (sym (c .if1 .left) ∙ c .before .is-marked .ensures)))

@@ -12,4 +12,5 @@ use Rattle.soundness.proofs.tables.high_cells.Reads as high-cells-reads
 use Rattle.soundness.proofs.tables.low_cells.Reads as low-cells-reads
 
 pub join-spec : {M : Type 1} → statement M
-join-spec = tie.close (tie.spec (λ c κs. search needs) (λ c κs. search needs) (λ c. rw (c .before .low-cells .ensures, c .high-cells .ensures)))
+join-spec =
+    tie.close (tie.spec (λ c κs. search needs) (λ c κs. search needs) (λ c. rw (c .before .low-cells .ensures, c .high-cells .ensures)))

@@ -16,10 +16,16 @@ row-cells-spec =
     tie.close
     (tie.spec
     (λ c κs. c .before .before .before .pre .1)
-    (λ c κs. let r = row-led _ (c .before .before .before .before .pre .0 .good) (c .before .before .before .before .pre .0 .arrow) (c .before .before .before .before .pre .1) (c .row-of .ensures) in let h = r .place in let e = c .before .before .before .before .pre .0 .size in omega arith)
+    (λ c κs. let r = row-led _ (c .before .before .before .before .pre .0 .good) (c .before .before .before .before .pre .0 .arrow)
+    (c .before .before .before .before .pre .1) (c .row-of .ensures) in
+    let h = r .place in let e = c .before .before .before .before .pre .0 .size in omega arith)
     (λ c κs. search needs)
     (λ c. search needs)
-    (λ c. recalled (c .before .before .before .before .before .before .before .pre .0) (row-led _ (c .before .before .before .before .before .before .before .pre .0 .good) (c .before .before .before .before .before .before .before .pre .0 .arrow) (c .before .before .before .before .before .before .before .pre .1) (c .before .before .before .row-of .ensures)) (c .before .before .recall .ensures) (c .before .if1 .taken) (c .carried .ensures))
+    (λ c. recalled (c .before .before .before .before .before .before .before .pre .0)
+    (row-led _ (c .before .before .before .before .before .before .before .pre .0 .good)
+    (c .before .before .before .before .before .before .before .pre .0 .arrow)
+    (c .before .before .before .before .before .before .before .pre .1) (c .before .before .before .row-of .ensures))
+    (c .before .before .recall .ensures) (c .before .if1 .taken) (c .carried .ensures))
     (λ c κs. c .before .before .before .before .before .before .before .pre .0)
     (λ c. search needs)
     (λ c. c .before .before .table-of .ensures))

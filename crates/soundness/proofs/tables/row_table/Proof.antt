@@ -12,4 +12,10 @@ use Rattle.soundness.proofs.tables.join.Reads as join-reads
 
 pub row-table-spec : {M : Type 1} → statement M
 row-table-spec =
-    tie.close (tie.spec (λ c κs. let p = c .before .pre in let f = row-fits (p .good) (p .used) in (f .0, omega arith, p .good .sizes .room)) (λ c. let p = c .before .before .pre in let f = row-fits (p .good) (p .used) in let e = c .get .ensures in let u = p .up in let h = f .1 in omega arith) (λ c κs. (c .before .before .pre .low-base, c .before .before .pre .shift)) (λ c κs. search needs) (λ c. row-tabled (c .before .before .before .before .pre) (c .before .before .get .ensures) (c .before .class-of .ensures) (c .join .ensures)))
+    tie.close
+    (tie.spec (λ c κs. let p = c .before .pre in let f = row-fits (p .good) (p .used) in (f .0, omega arith, p .good .sizes .room))
+    (λ c. let p = c .before .before .pre in
+    let f = row-fits (p .good) (p .used) in let e = c .get .ensures in let u = p .up in let h = f .1 in omega arith)
+    (λ c κs. (c .before .before .pre .low-base, c .before .before .pre .shift)) (λ c κs. search needs)
+    (λ c. row-tabled (c .before .before .before .before .pre) (c .before .before .get .ensures) (c .before .class-of .ensures)
+    (c .join .ensures)))

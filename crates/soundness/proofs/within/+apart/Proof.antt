@@ -1,10 +1,12 @@
--- `apart` meets its contract: tables decide past the base, else the halves at the lesser level, and 2n minus that level falls. Assumes nothing.
+-- `apart` meets its contract: tables decide past the base, else the halves at the lesser level, and 2n minus that level falls.
+-- Assumes nothing.
 use borrow.Author.Needs.{needs}
 use Rattle.layout.specs.View.{view}
 use Rattle.rows.specs.Says.{holds, fails}
 use Rattle.soundness.proofs.ApartLaws.{zero-left, zero-right, one-left, one-right, apart-not}
 use Rattle.soundness.proofs.PairsLaws.{seen-apart}
-use Rattle.soundness.proofs.Contained.{far, is-row, told, told-tables, called-low, called-high, asks-on, tells-low, tells-high, tells-both}
+use Rattle.soundness.proofs.Contained.{far, is-row, told, told-tables, called-low, called-high, asks-on, tells-low, tells-high}
+use Rattle.soundness.proofs.Contained.{tells-both}
 use mathlib.Core.Path.{_∙_}
 use Prim.Native.Nat.{ℕ, _<_}
 use borrow.Fn.Kinds.{In}
@@ -51,31 +53,119 @@ pub +apart-spec : {M : Type 1} → statement M
     apart.Post
     (λ c. told (c .before .before .before .before .before .pre .1 .asks) (holds (zero-left _ _ (c .if1 .taken))))
     (λ c. told (c .before .before .before .before .before .before .pre .1 .asks) (holds (zero-right _ _ (c .if2 .taken))))
-    (λ c. told (c .before .before .before .before .before .before .before .pre .1 .asks) (fails (one-left (c .before .before .before .before .before .before .before .pre .1 .asks .good .rows) (c .before .before .before .before .before .before .before .pre .1 .against .arrow) (c .before .if2 .left) (c .if3 .taken))))
-    (λ c. told (c .before .before .before .before .before .before .before .before .pre .1 .asks) (fails (one-right (c .before .before .before .before .before .before .before .before .pre .1 .asks .good .rows) (c .before .before .before .before .before .before .before .before .pre .1 .left) (c .before .before .before .if1 .left) (c .if4 .taken))))
+    (λ c. told (c .before .before .before .before .before .before .before .pre .1 .asks)
+    (fails (one-left (c .before .before .before .before .before .before .before .pre .1 .asks .good .rows)
+    (c .before .before .before .before .before .before .before .pre .1 .against .arrow) (c .before .if2 .left) (c .if3 .taken))))
+    (λ c. told (c .before .before .before .before .before .before .before .before .pre .1 .asks)
+    (fails (one-right (c .before .before .before .before .before .before .before .before .pre .1 .asks .good .rows)
+    (c .before .before .before .before .before .before .before .before .pre .1 .left) (c .before .before .before .if1 .left)
+    (c .if4 .taken))))
     (λ c κs. search needs)
-    (λ c. let e = c .before .opposite .ensures (c .if5 .taken) in told (c .before .before .before .before .before .before .before .before .before .before .pre .1 .asks) (holds (apart-not _ _ (e .0) (e .1))))
-    (λ c κs. (c .before .before .before .before .before .before .before .before .before .before .pre .1 .asks .good, c .before .before .before .before .before .before .before .before .before .before .pre .1 .against .arrow, is-row _ (c .before .before .before .before .if2 .left) (c .before .before .if4 .left)))
-    (λ c κs. record { good = c .before .before .before .before .before .before .before .before .before .before .before .before .before .before .pre .1 .asks .good; shift = c .before .before .before .before .before .before .before .before .before .before .before .before .before .before .pre .1 .asks .shift; lists = c .before .before .before .before .before .before .before .before .before .before .before .before .before .before .pre .1 .asks .lists; left = c .before .before .before .before .before .before .before .before .before .before .before .before .before .before .pre .1 .left; against = c .before .before .before .before .before .before .before .before .before .before .before .before .before .before .pre .1 .against; rows = (is-row _ (c .before .before .before .before .before .before .before .before .before .if1 .left) (c .before .before .before .before .before .before .before .if3 .left), is-row _ (c .before .before .before .before .before .before .before .before .if2 .left) (c .before .before .before .before .before .before .if4 .left)); deep = c .before .before .before .deep .ensures (c .before .before .if6 .taken) })
+    (λ c. let e = c .before .opposite .ensures (c .if5 .taken) in
+    told (c .before .before .before .before .before .before .before .before .before .before .pre .1 .asks)
+    (holds (apart-not _ _ (e .0) (e .1))))
+    (λ c κs. (
+      c .before .before .before .before .before .before .before .before .before .before .pre .1 .asks .good,
+      c .before .before .before .before .before .before .before .before .before .before .pre .1 .against .arrow,
+      is-row _ (c .before .before .before .before .if2 .left) (c .before .before .if4 .left),
+    ))
+    (λ c κs.
+    record {
+      good = c .before .before .before .before .before .before .before .before .before .before .before .before .before .before .pre .1
+          .asks .good;
+      shift =
+          c .before .before .before .before .before .before .before .before .before .before .before .before .before .before .pre .1 .asks
+          .shift;
+      lists =
+          c .before .before .before .before .before .before .before .before .before .before .before .before .before .before .pre .1 .asks
+          .lists;
+      left =
+          c .before .before .before .before .before .before .before .before .before .before .before .before .before .before .pre .1 .left;
+      against =
+          c .before .before .before .before .before .before .before .before .before .before .before .before .before .before .pre .1
+          .against;
+      rows = (
+        is-row _ (c .before .before .before .before .before .before .before .before .before .if1 .left)
+            (c .before .before .before .before .before .before .before .if3 .left),
+        is-row _ (c .before .before .before .before .before .before .before .before .if2 .left)
+            (c .before .before .before .before .before .before .if4 .left),
+      );
+      deep = c .before .before .before .deep .ensures (c .before .before .if6 .taken);
+    })
     (λ c. search needs)
     (λ c. search needs)
-    (λ c. told-tables (c .before .before .before .before .before .before .before .before .before .before .before .before .before .before .before .before .before .before .before .pre .1 .asks) (c .before .before .before .before .tables-apart .ensures))
+    (λ c. told-tables
+    (c .before .before .before .before .before .before .before .before .before .before .before .before .before .before .before .before
+    .before .before .before .pre .1 .asks) (c .before .before .before .before .tables-apart .ensures))
     (λ c κs. c .before .before .before .before .before .before .before .before .before .before .before .before .before .pre .1 .asks .size)
     (λ c. search needs)
-    (λ c. told (c .before .before .before .before .before .before .before .before .before .before .before .before .before .before .before .pre .1 .asks) (holds (seen-apart (c .before .before .before .before .before .before .before .before .before .before .before .before .before .before .before .pre .1 .asks .right) (c .before .seen .ensures (c .if7 .taken)))))
-    (λ c κs. (c .before .before .before .before .before .before .before .before .before .before .before .before .before .before .before .pre .1 .asks .good, c .before .before .before .before .before .before .before .before .before .before .before .before .before .before .before .pre .1 .asks .shift, c .before .before .before .before .before .before .before .before .before .before .before .before .before .before .before .pre .1 .left, c .before .before .before .before .before .before .before .before .before .before .before .before .before .before .before .pre .1 .against .arrow, is-row _ (c .before .before .before .before .before .before .before .before .before .before .if1 .left) (c .before .before .before .before .before .before .before .before .if3 .left), is-row _ (c .before .before .before .before .before .before .before .before .before .if2 .left) (c .before .before .before .before .before .before .before .if4 .left)))
-    (λ c κs. called-low (c .before .before .before .split .ensures) (c .before .before .before .before .before .before .before .before .before .before .before .before .before .before .before .before .before .before .before .pre .1 .against) (c .before .before .before .before .before .before .before .before .before .before .before .before .before .before .before .before .before .before .before .pre .1 .asks) (c .before .before .before .before .before .before .before .before .before .before .before .before .before .before .before .before .before .before .before .pre .0))
+    (λ c. told
+    (c .before .before .before .before .before .before .before .before .before .before .before .before .before .before .before .pre .1
+    .asks) (holds
+    (seen-apart
+    (c .before .before .before .before .before .before .before .before .before .before .before .before .before .before .before .pre .1
+    .asks .right) (c .before .seen .ensures (c .if7 .taken)))))
+    (λ c κs. (
+      c .before .before .before .before .before .before .before .before .before .before .before .before .before .before .before .pre .1
+          .asks .good,
+      c .before .before .before .before .before .before .before .before .before .before .before .before .before .before .before .pre .1
+          .asks .shift,
+      c .before .before .before .before .before .before .before .before .before .before .before .before .before .before .before .pre .1
+          .left,
+      c .before .before .before .before .before .before .before .before .before .before .before .before .before .before .before
+          .pre .1 .against .arrow,
+      is-row _ (c .before .before .before .before .before .before .before .before .before .before .if1 .left)
+          (c .before .before .before .before .before .before .before .before .if3 .left),
+      is-row _ (c .before .before .before .before .before .before .before .before .before .if2 .left)
+          (c .before .before .before .before .before .before .before .if4 .left),
+    ))
+    (λ c κs. called-low (c .before .before .before .split .ensures)
+    (c .before .before .before .before .before .before .before .before .before .before .before .before .before .before .before .before
+    .before .before .before .pre .1 .against)
+    (c .before .before .before .before .before .before .before .before .before .before .before .before .before .before .before .before
+    .before .before .before .pre .1 .asks)
+    (c .before .before .before .before .before .before .before .before .before .before .before .before .before .before .before .before
+    .before .before .before .pre .0))
     (λ c. search needs)
     (λ c. search needs)
     (λ c. search needs)
-    (λ c. tells-low (c .before .before .before .before .before .before .before .before .before .before .before .split .ensures) (c .if8 .taken) (c .before .before .before .before .before .before .before .apart .ensures))
-    (λ c κs. called-high (c .before .before .before .before .before .before .before .before .before .before .before .before .before .before .split .ensures) (c .before .before .before .before .before .before .before .before .before .before .before .before .before .before .before .before .before .before .before .before .before .before .before .before .before .before .before .before .before .before .pre .1 .against) (asks-on (c .before .before .before .before .before .before .before .before .before .before .before .before .before .before .before .before .before .before .before .before .before .before .before .before .before .before .before .before .before .before .pre .1 .asks) (c .before .before .before .before .before .before .before .before .before .before .apart .kept .1 .1 .1 .1 .1 .1 .0) (c .before .before .before .before .before .before .before .before .before .before .apart .kept .1 .1 .1 .1 .1 .1 .1 .0) (c .before .before .before .before .before .before .before .before .before .before .apart .kept .1 .1 .1 .1 .1 .1 .1 .1 .0) (c .before .before .before .before .before .before .before .before .before .before .apart .ensures)) (c .before .before .before .before .before .before .before .before .before .before .before .before .before .before .before .before .before .before .before .before .before .before .before .before .before .before .before .before .before .before .pre .0))
+    (λ c. tells-low (c .before .before .before .before .before .before .before .before .before .before .before .split .ensures)
+    (c .if8 .taken) (c .before .before .before .before .before .before .before .apart .ensures))
+    (λ c κs. called-high
+    (c .before .before .before .before .before .before .before .before .before .before .before .before .before .before .split .ensures)
+    (c .before .before .before .before .before .before .before .before .before .before .before .before .before .before .before .before
+    .before .before .before .before .before .before .before .before .before .before .before .before .before .before .pre .1 .against)
+    (asks-on
+    (c .before .before .before .before .before .before .before .before .before .before .before .before .before .before .before .before
+    .before .before .before .before .before .before .before .before .before .before .before .before .before .before .pre .1 .asks)
+    (c .before .before .before .before .before .before .before .before .before .before .apart .kept .1 .1 .1 .1 .1 .1 .0)
+    (c .before .before .before .before .before .before .before .before .before .before .apart .kept .1 .1 .1 .1 .1 .1 .1 .0)
+    (c .before .before .before .before .before .before .before .before .before .before .apart .kept .1 .1 .1 .1 .1 .1 .1 .1 .0)
+    (c .before .before .before .before .before .before .before .before .before .before .apart .ensures))
+    (c .before .before .before .before .before .before .before .before .before .before .before .before .before .before .before .before
+    .before .before .before .before .before .before .before .before .before .before .before .before .before .before .pre .0))
     (λ c. search needs)
     (λ c. search needs)
     (λ c. search needs)
-    (λ c. tells-high (c .before .before .before .before .before .before .before .before .before .before .before .before .before .before .before .before .before .before .before .before .before .before .split .ensures) (c .if9 .taken) (c .before .before .before .before .before .before .before .apart2 .ensures))
-    (λ c κs. c .before .before .before .before .before .before .before .before .apart2 .kept .1 .1 .1 .1 .1 .1 .0 ∙ c .before .before .before .before .before .before .before .before .before .before .before .before .before .before .before .before .before .before .before .apart .kept .1 .1 .1 .1 .1 .1 .0 ∙ c .before .before .before .before .before .before .before .before .before .before .before .before .before .before .before .before .before .before .before .before .before .before .before .before .before .before .before .before .before .before .before .before .before .before .before .before .before .before .before .pre .1 .asks .size)
+    (λ c. tells-high
+    (c .before .before .before .before .before .before .before .before .before .before .before .before .before .before .before .before
+    .before .before .before .before .before .before .split .ensures) (c .if9 .taken)
+    (c .before .before .before .before .before .before .before .apart2 .ensures))
+    (λ c κs. c .before .before .before .before .before .before .before .before .apart2 .kept .1 .1 .1 .1 .1 .1 .0
+    ∙ c .before .before .before .before .before .before .before .before .before .before .before .before .before .before .before .before
+    .before .before .before .apart .kept .1 .1 .1 .1 .1 .1 .0
+    ∙ c .before .before .before .before .before .before .before .before .before .before .before .before .before .before .before .before
+    .before .before .before .before .before .before .before .before .before .before .before .before .before .before .before .before
+    .before .before .before .before .before .before .before .pre .1 .asks .size)
     (λ c. search needs)
     (λ c. search needs)
     (λ c. search needs)
-    (λ c. tells-both (c .before .before .before .before .before .before .before .before .before .before .before .before .before .before .before .before .before .before .before .before .before .before .before .before .before .before .split .ensures) (c .before .before .before .before .before .before .before .before .before .before .before .before .before .before .before .if8 .left) (c .before .before .before .before .if9 .left) (c .before .before .before .before .before .before .before .before .before .before .before .before .before .before .before .before .before .before .before .before .before .before .apart .ensures) (c .before .before .before .before .before .before .before .before .before .before .before .apart2 .ensures) (c .before .before .remember .ensures))
+    (λ c. tells-both
+    (c .before .before .before .before .before .before .before .before .before .before .before .before .before .before .before .before
+    .before .before .before .before .before .before .before .before .before .before .split .ensures)
+    (c .before .before .before .before .before .before .before .before .before .before .before .before .before .before .before .if8
+    .left) (c .before .before .before .before .if9 .left)
+    (c .before .before .before .before .before .before .before .before .before .before .before .before .before .before .before .before
+    .before .before .before .before .before .before .apart .ensures)
+    (c .before .before .before .before .before .before .before .before .before .before .before .apart2 .ensures)
+    (c .before .before .remember .ensures))

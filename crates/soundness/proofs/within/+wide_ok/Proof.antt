@@ -32,13 +32,25 @@ pub +wide-ok-spec : {M : Type 1} → statement M
     (wide-ok-at t)
     wide-ok.Post
     (λ c. c .match .keys1)
-    (λ c κs. let p = c .before .before .before .pre .1 in record { good = p .good; shift = omega arith; against = p .against; order = omega arith; within = omega arith; refs = p .refs })
+    (λ c κs. let p = c .before .before .before .pre .1 in
+    record { good = p .good; shift = omega arith; against = p .against; order = omega arith; within = omega arith; refs = p .refs })
     (λ c. c .match .keys2)
-    (λ c κs. let p = c .before .before .before .pre .1 in record { good = p .good; shift = omega arith; against = p .against; order = omega arith; within = omega arith; refs = λ h lo hi. p .refs h (omega arith) hi })
+    (λ c κs. let p = c .before .before .before .pre .1 in
+    record {
+      good = p .good;
+      shift = omega arith;
+      against = p .against;
+      order = omega arith;
+      within = omega arith;
+      refs = λ h lo hi. p .refs h (omega arith) hi;
+    })
     (λ c. c .match .keys3)
-    (λ c κs. let e = rw (c .enum-told3 .given .1) at (c .before .before .before .pre .0) in (omega arith, c .before .before .before .pre .1))
+    (λ c κs. let e = rw (c .enum-told3 .given .1) at (c .before .before .before .pre .0) in
+    (omega arith, c .before .before .before .pre .1))
     (λ c. rw (c .before .before .enum-told3 .given .1) (fails (λ q. says-fail (c .if1 .taken) (c .before .wide-ok .ensures) (q .0))))
-    (λ c κs. let e = rw (c .before .before .enum-told3 .given .1) at (c .before .before .before .before .before .pre .0) in (omega arith, c .before .before .before .before .before .pre .1))
+    (λ c κs. let e = rw (c .before .before .enum-told3 .given .1) at (c .before .before .before .before .before .pre .0) in
+    (omega arith, c .before .before .before .before .before .pre .1))
     (λ c. rw (c .before .enum-told .given .1) (c .wide-apart .ensures))
     (λ c. rw (c .before .enum-told2 .given .1) (c .wide-apart2 .ensures))
-    (λ c. rw (c .before .before .before .enum-told3 .given .1) (says-map (λ d. (says-pass (c .before .if1 .left) (c .before .before .wide-ok .ensures), d)) (λ q. q .1) (c .wide-ok2 .ensures)))
+    (λ c. rw (c .before .before .before .enum-told3 .given .1)
+    (says-map (λ d. (says-pass (c .before .if1 .left) (c .before .before .wide-ok .ensures), d)) (λ q. q .1) (c .wide-ok2 .ensures)))

@@ -18,10 +18,36 @@ pub all-within-spec : {M : Type 1} → statement M
 all-within-spec =
     tie.close
     (tie.spec
-    (λ c. holds (within-all (view (c .before .before .args .rows) (c .before .before .args .words .now)) (c .before .before .args .v) (c .if1 .taken)))
+    (λ c. holds
+    (within-all (view (c .before .before .args .rows) (c .before .before .args .words .now)) (c .before .before .args .v)
+    (c .if1 .taken)))
     (λ c κs. search needs)
     (λ c κs. let w = c .before .before .before .pre .good .sizes .room in (omega arith, omega arith))
-    (λ c κs. let p = c .before .before .before .before .before .pre in record { good = p .good; against = rw (c .before .before .flip .ensures) (against-not (view (c .before .before .before .before .before .args .rows) (c .before .before .before .before .before .args .words .now)) (c .before .before .before .before .before .args .v) (p .against)); refs = p .refs })
-    (λ c. both-tell (view (c .before .before .before .before .before .before .args .rows) (c .before .before .before .before .before .before .args .words .now)) (c .before .before .before .before .before .before .args .v) (rw (c .before .before .before .flip .ensures) at (c .wide-ok .ensures)))
-    (λ c κs. let p = c .before .before .before .before .before .pre in record { good = p .good; against = rw (c .before .before .flip .ensures) (against-not (view (c .before .before .before .before .before .args .rows) (c .before .before .before .before .before .args .words .now)) (c .before .before .before .before .before .args .v) (p .against)); refs = p .refs })
-    (λ c. both-tell (view (c .before .before .before .before .before .before .args .rows) (c .before .before .before .before .before .before .args .words .now)) (c .before .before .before .before .before .before .args .v) (rw (c .before .before .before .flip .ensures) at (c .narrow-ok .ensures))))
+    (λ c κs. let p = c .before .before .before .before .before .pre in
+    record {
+      good = p .good;
+      against =
+          rw (c .before .before .flip .ensures)
+          (against-not
+          (view (c .before .before .before .before .before .args .rows) (c .before .before .before .before .before .args .words .now))
+          (c .before .before .before .before .before .args .v) (p .against));
+      refs = p .refs;
+    })
+    (λ c. both-tell
+    (view (c .before .before .before .before .before .before .args .rows)
+    (c .before .before .before .before .before .before .args .words .now)) (c .before .before .before .before .before .before .args .v)
+    (rw (c .before .before .before .flip .ensures) at (c .wide-ok .ensures)))
+    (λ c κs. let p = c .before .before .before .before .before .pre in
+    record {
+      good = p .good;
+      against =
+          rw (c .before .before .flip .ensures)
+          (against-not
+          (view (c .before .before .before .before .before .args .rows) (c .before .before .before .before .before .args .words .now))
+          (c .before .before .before .before .before .args .v) (p .against));
+      refs = p .refs;
+    })
+    (λ c. both-tell
+    (view (c .before .before .before .before .before .before .args .rows)
+    (c .before .before .before .before .before .before .args .words .now)) (c .before .before .before .before .before .before .args .v)
+    (rw (c .before .before .before .flip .ensures) at (c .narrow-ok .ensures))))

@@ -21,4 +21,8 @@ halve-spec =
     (λ c κs. search needs)
     (λ c κs. search needs)
     (λ c κs. search needs)
-    (λ c. halved-here (view (c .before .before .before .before .before .before .before .args .rows) (c .before .before .before .before .before .before .before .args .words .now)) _ (let t = c .before .before .before .before .before .if1 .left in omega arith) (c .before .before .before .before .row-of .ensures) (c .before .before .before .get .ensures) (c .before .get2 .ensures) (c .before .before .carry .ensures) (c .carry2 .ensures)))
+    (λ c. halved-here
+    (view (c .before .before .before .before .before .before .before .args .rows)
+    (c .before .before .before .before .before .before .before .args .words .now)) _
+    (let t = c .before .before .before .before .before .if1 .left in omega arith) (c .before .before .before .before .row-of .ensures)
+    (c .before .before .before .get .ensures) (c .before .get2 .ensures) (c .before .before .carry .ensures) (c .carry2 .ensures)))

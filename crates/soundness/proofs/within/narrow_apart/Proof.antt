@@ -19,5 +19,10 @@ narrow-apart-spec =
     (λ c. let w = c .before .before .pre .good .sizes .n-max in let e = c .header-word .ensures in omega arith)
     (λ c. search needs)
     (λ c. search needs)
-    (λ c κs. record { roots = c .before .before .before .before .pre; lists = lists-none (ap (λ (k : ℕ). 2 * k) (c .before .before .header-word .ensures)) })
+    (λ c κs.
+    record {
+      roots =
+          c .before .before .before .before .pre;
+      lists = lists-none (ap (λ (k : ℕ). 2 * k) (c .before .before .header-word .ensures));
+    })
     (λ c. search needs))

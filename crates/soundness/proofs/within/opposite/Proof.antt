@@ -9,4 +9,6 @@ use Rattle.soundness.proofs.within.opposite.Lts as lts
 use Rattle.layout.proofs.flip.Reads as flip-reads
 
 pub opposite-spec : {M : Type 1} → statement M
-opposite-spec = tie.close (tie.spec (λ c. λ e. absurd (true≢false (sym e))) (λ c κs. search needs) (λ c. λ e. absurd (true≢false (sym e))) (λ c. search needs))
+opposite-spec =
+    tie.close
+    (tie.spec (λ c. λ e. absurd (true≢false (sym e))) (λ c κs. search needs) (λ c. λ e. absurd (true≢false (sym e))) (λ c. search needs))

@@ -22,4 +22,5 @@ seen-spec =
     (λ c. search needs)
     (λ c. search needs)
     (λ c. λ e. absurd (true≢false (sym e)))
-    (λ c. λ e. record { at = c .before .before .before .before .place .result; first = c .before .before .if1 .left; second = c .if2 .left }))
+    (λ c. λ e.
+    record { at = c .before .before .before .before .place .result; first = c .before .before .if1 .left; second = c .if2 .left }))

@@ -13,8 +13,13 @@ tables-apart-spec =
     tie.close
     (tie.spec
     (λ c κs. (table-first (c .before .before .before .before .pre), c .before .before .before .before .pre .rows .0))
-    (λ c κs. (table-second (c .before .before .before .before .before .before .before .before .pre), c .before .before .before .before .before .before .before .before .pre .rows .1))
+    (λ c κs. (
+      table-second (c .before .before .before .before .before .before .before .before .pre),
+      c .before .before .before .before .before .before .before .before .pre .rows .1,
+    ))
     (λ c κs. search needs)
     (λ c. search needs)
     (λ c. search needs)
-    (λ c. by-tables (c .before .before .before .before .before .before .before .before .before .before .before .before .pre) (c .before .before .before .before .before .before .before .row-cells .ensures) (c .before .before .before .row-cells2 .ensures) (c .disjoint .ensures)))
+    (λ c. by-tables (c .before .before .before .before .before .before .before .before .before .before .before .before .pre)
+    (c .before .before .before .before .before .before .before .row-cells .ensures) (c .before .before .before .row-cells2 .ensures)
+    (c .disjoint .ensures)))

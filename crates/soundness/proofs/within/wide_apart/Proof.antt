@@ -21,5 +21,11 @@ wide-apart-spec =
     (λ c κs. search needs)
     (λ c. search needs)
     (λ c. search needs)
-    (λ c κs. record { roots = c .before .before .before .before .before .pre; lists = lists-new (c .before .before .base-of .ensures ∙ ap (λ (k : ℕ). 2 * k - 8) (c .before .before .before .header-word .ensures)) })
+    (λ c κs.
+    record {
+      roots =
+          c .before .before .before .before .before .pre;
+      lists =
+          lists-new (c .before .before .base-of .ensures ∙ ap (λ (k : ℕ). 2 * k - 8) (c .before .before .before .header-word .ensures));
+    })
     (λ c. search needs))
