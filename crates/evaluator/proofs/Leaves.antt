@@ -29,6 +29,8 @@ use Rattle.diagram.specs.Post.{Denotes}
 use Rattle.diagram.specs.Steps.{bitF}
 use Rattle.rows.specs.Used.{rowsOf}
 use Rattle.steps.specs.declared.Step.the-variants as step
+use Rattle.counting.specs.Counts.{CountsOf}
+use Rattle.counting.proofs.After.{and-all}
 use Rattle.counting.specs.declared.Taken.{Taken}
 use Rattle.counting.specs.declared.Taken.the-variants as taken
 use Rattle.book.specs.Bridge.{fnOf}
@@ -138,7 +140,7 @@ module _ {L : Limits} {W : View} {stack places : List ℕ} {held : ℕ} {σ : Sc
       took-roots [] R (λ a h. absurd (mem-nil h)) (took {q = q} {o = o} (R .base) (bit-asks .asks) (s .stepped) (s .count))
 
   pub bit-confined : {X : View} {q : Count} {o : Taken} → LivePost L W X stack held (step.Bit x) q o → ConfinedPre L X stack held o
-  bit-confined s = confined-asks R (λ a i. i) (bit-took s)
+  bit-confined s = confined-asks R (λ a i. i) (bit-took s) s
 
 -- current bit p is level 2p
 now-exact : (onStates : Bool) (m : Model) (e : Env) (p : ℕ) → p < m .n
@@ -237,6 +239,13 @@ module _ {onStates : Bool} {L : Limits} {W : View} {stack : List ℕ} {held : �
           subst (λ (b : Bool). ConfinedPost b L W X stack held first u) (sym i)
           (subst (λ (y : Taken). ConfinedPost true L W X stack held y u) (sym e)
           (record { to = subst (λ (y : ℕ). LivePost L W X stack held (step.And x y) q u) (valid-read W v read) s }))
+
+      -- V is every state: AND with it answers what the step before answered, and needs no more
+      pub confined-known : {c : List ℕ} → onStates ≡ true → v ≡ 1 → ConfinedPre L W stack held first → CountsOf W c
+          → ConfinedPost onStates L W W stack held first (taken.At x q)
+      confined-known i one P k =
+          let z = and-all (P .before) first e (P .told .stepped, k, P .told .count) (valid-asked e v read P .asks) one in
+          confined-valid i (record { stepped = z .0; count = z .2 })
 
 pub truth-valid : {onStates : Bool} {w x : ℕ} → onStates ≡ true → x + 1 ≡ w → TrueIs onStates w x
 truth-valid {w = w} {x} i e = subst (λ (b : Bool). TrueIs b w x) (sym i) (record { says = e })

@@ -233,8 +233,17 @@ module _ {L : Limits} {W : View} {stack places : List ℕ} {held : ℕ} {σ : Sc
   first-ready : Ready L X stack places held σ
   first-ready = ready-next R (t .moved) (keeps-within w (t .post .kept)) stack refl refl
 
-  pub confined-asks : ConfinedPre L X stack held o
-  confined-asks = record { scene = σ; places = places; ready = first-ready; arrow = λ x p i. took-at i t .post .result .0 .arrow }
+  pub confined-asks : {s : Step} → LivePost L W X stack held s q o → ConfinedPre L X stack held o
+  confined-asks {s} p = record {
+    scene = σ;
+    places = places;
+    ready = first-ready;
+    arrow = λ x p i. took-at i t .post .result .0 .arrow;
+    earlier = W;
+    last = s;
+    before = q;
+    told = p;
+  }
 
 -- the outcome of a step for the set B after which q is counted, and of what follows it
 pub record Confines (onStates : Bool) (L : Limits) (W : View) (σ : Scene) (operands : List Fn) (B : List Bool)
@@ -364,7 +373,7 @@ module _ {onStates : Bool} {L : Limits} {W X : View} {stack after places : List 
         (took {q = q} {o = o} (value-ready .base) (negate-asks .asks) (p .stepped) (p .count))
 
     pub negate-confined : ConfinedPre L Y after held o
-    negate-confined = confined-asks value-ready (λ x i. there i) negate-took
+    negate-confined = confined-asks value-ready (λ x i. there i) negate-took p
 
     module _ {Z : View} {u : Taken} (s : ConfinedPost onStates L Y Z after held o u) where
       -- whatever set the value's arrow denotes

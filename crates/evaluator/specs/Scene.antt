@@ -226,12 +226,16 @@ JoinedTo L W X stack held j a Spent r = (X ≡ W) × (r ≡ Spent)
 pub record JoinedPost (L : Limits) (W X : View) (stack : List ℕ) (held : ℕ) (j : Join) (a : ℕ) (second r : Evaluated) : Type 0 where
   pub joins : JoinedTo L W X stack held j a second r
 
--- a step's result, and over states AND with V
+-- the result of a step, which began with the words `earlier`, and over states AND with V
 pub record ConfinedPre (L : Limits) (W : View) (stack : List ℕ) (held : ℕ) (first : Taken) : Type 0 where
   pub scene : Scene
   pub places : List ℕ
   pub ready : Ready L W stack places held scene
   pub arrow : (x : ℕ) (q : Count) → first ≡ taken.At x q → Arrow (rowsOf W) x
+  pub earlier : View
+  pub last : Step
+  pub before : Count
+  pub told : LivePost L earlier W stack held last before first
 
 abbrev pub ConfinedTo : Bool → Limits → View → View → List ℕ → ℕ → Taken → Taken → Type 0
 ConfinedTo true L W X stack held (taken.At x q) r = LivePost L W X stack held (step.And x (validOf W)) q r

@@ -258,7 +258,8 @@ fn joined(
     answer(taken, end)
 }
 
-// A step's result, and for a formula of states AND with V. Pairs are of all states.
+// A step's result, and for a formula of states AND with V, which answers and needs the same where V is every state.
+// Pairs are of all states.
 fn confined(
     words: &mut [u32],
     counts: &mut [u32],
@@ -281,6 +282,9 @@ fn confined(
     };
     if only_now(grammar) {
         let valid = root_arrow(words, Table::VALID);
+        if valid == Table::EVERYTHING {
+            return first;
+        }
         return live_step(
             words,
             counts,
