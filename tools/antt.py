@@ -47,6 +47,11 @@ class Decl:
     def body(self):
         return '\n'.join(self.lines)
 
+    def text(self, statement=False):
+        """The declaration to be read alone, or its signature: with the parameters of its sections, which belong to it."""
+        lines = next(chunks(self))[0].split('\n') if statement and not self.kind else self.lines
+        return '\n'.join([x for section in self.sections for x in section.header] + lines)
+
 
 class Section:
     def __init__(self, header, comment, first):
@@ -245,12 +250,12 @@ class Tree:
 
 
 def clauses(text):
-    """The contracts of a Rattle file: (function, line, what stands in the braces) of each clause; and its `ghost use` lines."""
+    """The contracts of a Rattle file: (function, last line, what stands in the braces) of each clause; and its `ghost use` lines."""
     found = []
     for m in re.finditer(r'(?m)^\s*(?:requires|ensures|ghost)\s*\{', text):
         depth, at = 1, m.end()
         while depth:
             depth += {'{': 1, '}': -1}.get(text[at], 0)
             at += 1
-        found.append((re.findall(r'\bfn (\w+)', text[:m.start()])[-1], text.count('\n', 0, m.end()) + 1, text[m.end():at - 1]))
+        found.append((re.findall(r'\bfn (\w+)', text[:m.start()])[-1], text.count('\n', 0, at) + 1, text[m.end():at - 1]))
     return found, [Use(x) for x in text.split('\n') if x.startswith('ghost use')]

@@ -24,6 +24,6 @@ emptied a = record { rows = a .rows; rounds = a .rounds; tally = 0 }
 abbrev pub lifted : Account
 lifted = record { rows = 4_294_967_295; rounds = 4_294_967_295; tally = 0 }
 
--- "the list is not 1 to 8 long or has no account at that place": 14 where this fails
+-- the list is 1 to 8 long and has an account at that place; 14 where this fails
 abbrev pub listFits : ℕ → ℕ → Bool
 listFits count place = leb count 8 && ltb place count

@@ -17,7 +17,7 @@ termsWith count place a = record { count = count; place = place; rows = a .rows;
 abbrev pub termsOf : List Account → ℕ → Terms
 termsOf l place = termsWith (length l) place (getD l place none)
 
--- "the list is not 1 to 8 long": what fresh checks
+-- the list is 1 to 8 long; in fresh 14 where this fails
 abbrev pub lent : ℕ → Bool
 lent count = leb 1 count && leb count 8
 
@@ -25,7 +25,7 @@ lent count = leb 1 count && leb count 8
 abbrev pub named : Terms → Bool
 named acc = listFits (acc .count) (acc .place)
 
--- "Both limits hold: the smaller of N and the account's row limit, the smaller of R and its round limit"
+-- "the smaller of N and the account's row limit"
 abbrev pub rowsUnder : ℕ → Terms → ℕ
 rowsUnder N acc = min N (acc .rows)
 

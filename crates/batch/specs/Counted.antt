@@ -1,5 +1,4 @@
--- Visits counted by lists without repeats: a single question reads no row twice, so "that figure is never above the sum over single
--- questions". Assumes nothing.
+-- Visits counted by a list without repeats. Assumes nothing.
 use mathlib.Core.Path.{_≡_}
 use mathlib.Core.List.{List, List·Memᴰ as Mem}
 use Prim.Native.Nat.{ℕ}

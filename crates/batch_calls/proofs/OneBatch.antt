@@ -78,6 +78,7 @@ module _ {r : ℕ} (words : List ℕ) {states order v w answers a b : List ℕ} 
   agree (yes e) f = e
   agree (no n) f = absurd (not-two (λ o. n (f o)))
 
+  -- one reply and one list of answers; the arrangement of the places alone is free
   pub batch-one : OneBatch states v w a b y z
   batch-one = record {
     reply = same-reply {y = y} {z = z} (same (λ x. x .number)) (same (λ x. x .rounds)) (same (λ x. x .peak)) (same (λ x. x .value));

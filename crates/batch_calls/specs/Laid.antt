@@ -1,4 +1,4 @@
--- The places from 0 up, laid one by one; and the test that a number is a state. Assumes nothing.
+-- The places from 0 up, laid one by one. Assumes nothing.
 use mathlib.Core.Path.{_≡_}
 use mathlib.Core.List.{List}
 use Prim.Native.Nat.{ℕ, _≤_, _<_}

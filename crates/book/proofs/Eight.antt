@@ -37,7 +37,7 @@ eight b N R l go z =
     let y = full-peak N R nothing l in
     ((λ e. y .0 (x .0 e)), (λ w. x .1 (y .1 w)))
 
--- the book's own numbers
+-- the book's own number is 8 exactly where `EightAt` says
 pub eight-exact : (b : Book) (c : Call) → EightAt b c (does b c .1 .number)
 eight-exact b (relation t bs) = λ l z.
     let f = formulaIn b Relation bs in

@@ -84,7 +84,7 @@ answered x = record { number = 0; rounds = 0; peak = 0; value = x }
 
 -- ---- what a call sees of the book
 
--- what its formula is read over
+-- what a call's formula is read over
 abbrev pub modelOf : Book → Model
 modelOf b = record { n = b .n; valid = b .valid; rel = b .rel; reg = b .reg }
 

@@ -1,5 +1,5 @@
--- The book that a sound table stands for: the sets and pairs of its arrows. The table shows it, it is whole, and it is the only such book;
--- so contracts stated with it hold on any sound table, not only after fresh. Assumes nothing.
+-- The book that a table stands for: the sets and pairs of its arrows; and "A table is sound when", of a table seen apart from its words.
+-- Assumes nothing.
 use mathlib.Core.Path.{_≡_}
 use mathlib.Core.Bool.{true, cond}
 use mathlib.Core.List.{[], _∷_}
@@ -43,7 +43,7 @@ abbrev pub standsFor : {X : Type 0} → (Fn → X) → (ℕ → Fn) → Option �
 standsFor f d none = none
 standsFor f d (some a) = some (f (d a))
 
--- the sets and pairs that V, registers and relations stand for
+-- the book that a table stands for: what the arrows of V, registers and relations denote
 abbrev pub bookOf : Table → Book
 bookOf t = record {
   n = t .n;

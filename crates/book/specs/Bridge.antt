@@ -1,4 +1,4 @@
--- Sets of states and of pairs as functions of levels, and back; and the steps on both sides. Assumes nothing.
+-- Sets of states and of pairs as functions of levels, and back; and when they have a place for each state. Assumes nothing.
 use mathlib.Core.Path.{_≡_}
 use mathlib.Core.Bool.{Bool}
 use mathlib.Core.List.{List, []}

@@ -12,8 +12,6 @@ use Rattle.book.specs.Eight.{EightAt}
 use Rattle.book.specs.Table.{Table, Reply, Shows, Agrees, noted, Tells}
 use Rattle.book.specs.BookOf.{bookOf}
 
--- ---- the claim
-
 -- a call with what it returned
 abbrev pub Event : Type 0
 Event = Call × Reply

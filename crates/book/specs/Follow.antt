@@ -1,5 +1,4 @@
--- An evaluator over arrows follows the book's run: what it has after each part and each step gives what it has after the whole.
--- A function's proof cites one lemma of here for each way through its code. Assumes nothing.
+-- What it means that an evaluator over arrows follows the book's run. Assumes nothing.
 use mathlib.Core.Path.{_≡_}
 use mathlib.Core.Bool.{Bool}
 use mathlib.Core.List.{List}

@@ -1,4 +1,4 @@
--- SET and RELATION: from the reader's number and the evaluators' promises to the call's contract. Assumes nothing.
+-- The function of levels that a relation call stores. Assumes nothing.
 use mathlib.Core.Bool.{Bool}
 use mathlib.Core.List.{List}
 use Prim.Native.Nat.{ℕ}
@@ -7,8 +7,6 @@ use Rattle.book.specs.Run.{pairF}
 use Rattle.diagram.specs.Level.{Fn}
 use Rattle.diagram.specs.Steps.{andF, shiftF}
 use Rattle.book.specs.Bridge.{fnOf}
-
--- ---- relation
 
 -- the relation's function: the formula's, ANDed with V, then with SHIFT of V
 abbrev pub relationF : ℕ → List Bool → Form → Fn

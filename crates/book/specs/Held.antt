@@ -1,5 +1,5 @@
 -- Roots are the arrows that a step must keep: each live function is denoted by one of them, and each denotes a live function, in any order.
--- So what a step answers in the table is what it comes to in the book. Assumes nothing.
+-- Assumes nothing.
 use mathlib.Core.List.{List, List·Memᴰ as Mem}
 use Prim.Native.Nat.{ℕ}
 use Rattle.diagram.specs.Level.{Fn}

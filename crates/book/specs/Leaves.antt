@@ -1,4 +1,4 @@
--- Tables after a call: with other rows, with an arrow stored, or a register emptied, they show the book after it. Assumes nothing.
+-- Replies without rounds and steps, and a table just made. Assumes nothing.
 use mathlib.Core.Path.{_≡_}
 use mathlib.Core.Bool.{false}
 use mathlib.Core.Option.{none}
@@ -14,8 +14,6 @@ plain k = record { number = k; rounds = 0; peak = 0; value = 0 }
 -- an answer with a value
 abbrev pub valued : ℕ → Reply
 valued x = record { number = 0; rounds = 0; peak = 0; value = x }
-
--- ---- fresh
 
 -- a table just made: no row used, V every state, nothing filled
 pub record Empty (n N : ℕ) (t : Table) : Type 0 where

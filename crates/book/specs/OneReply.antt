@@ -1,9 +1,6 @@
--- One table, one call, two replies and two ends that serve the book: values are one but for node numbers above 1, the same registers have
--- one number, and collect leaves the same rows used. The same of a question's values. Assumes nothing.
+-- What document 01 settles of a call's value: all but node numbers above 1. Assumes nothing.
 use Prim.Native.Nat.{ℕ, min}
 use Rattle.book.specs.Book.{Call, relation, set, valid, clear, collect}
-
--- ---- values
 
 -- what is settled of a call's value: "Free for the builder: node numbers above 1"
 abbrev pub settledIn : Call → ℕ → ℕ

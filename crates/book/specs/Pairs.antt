@@ -1,5 +1,5 @@
--- A chain of steps over arrows follows the book: no rounds, a function as its value, and all that is counted are the needs.
--- Assumes nothing.
+-- What it means that a chain of steps over arrows follows the book: no rounds, a function as its value, and all that is counted are the
+-- needs. Assumes nothing.
 use mathlib.Core.Path.{_≡_}
 use mathlib.Core.Bool.{Bool, true, false}
 use mathlib.Core.List.{List}

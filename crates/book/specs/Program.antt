@@ -83,7 +83,7 @@ obey none (states r) = (none, fields 5 2 0 0)
 obey (some b) (call c) = let d = does b c in (some (d .0), lineOf c d)
 obey (some b) (states r) = let a = answer b (count r) in (some b, fields 5 (a .number) (valueOf (a .value)) 0)
 
--- the length of the record that begins here, and whether it is whole, in range and of version 1
+-- the length L of the record that begins here
 abbrev pub recordLength : List ℕ → ℕ
 recordLength bs = getD bs 0 0 * 256 + getD bs 1 0
 

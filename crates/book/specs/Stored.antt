@@ -1,5 +1,4 @@
--- What the book's calls store: the meaning of the formula over the book as it stood before the call, with the formula's rounds; and every
--- filled place of the book has its full size. Assumes nothing.
+-- Formula bytes that pass the checks; and a book of which every filled place has its full size and is within V. Assumes nothing.
 use mathlib.Core.Path.{_≡_}
 use mathlib.Core.Bool.{Bool}
 use mathlib.Core.List.{List}
@@ -15,8 +14,6 @@ use Rattle.formula.specs.Checks.{filled}
 use Rattle.book.specs.Bridge.{Sized, SizedPairs}
 use Rattle.book.specs.Book.{formulaIn, Book, valid, registers, relations, regFilled, relFilled}
 
--- ---- the checks
-
 -- what checks 4 to 7 and 12 give where none refuses
 pub record Passed (b : Book) (c : Kind) (bs : List ℕ) : Type 0 where
   pub isRead : T (isFormula (formulaOf c (b .n) bs))
@@ -25,8 +22,7 @@ pub record Passed (b : Book) (c : Kind) (bs : List ℕ) : Type 0 where
   pub isSteady : T (steady (formulaIn b c bs))
   pub isFilled : T (filled (regFilled b) (relFilled b) (formulaIn b c bs))
 
--- ---- every filled place has its full size and is within V, and none is filled past the registers and relations
-
+-- every filled place has its full size and is within V, and none is filled past the registers and relations
 pub record Whole (b : Book) : Type 0 where
   pub valid : Sized (b .n) (b .valid)
   pub reg : (r : ℕ) (A : List Bool) → b .reg r ≡ some A → Sized (b .n) A × (r < registers) × Below A (b .valid)

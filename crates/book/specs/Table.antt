@@ -46,7 +46,7 @@ pub record Shows (b : Book) (t : Table) : Type 0 where
   pub reg : (r : ℕ) → r < registers → Place (2 * b .n) (t .rows) (fnOf (b .n)) (b .reg r) (t .reg r)
   pub rel : (r : ℕ) → r < relations → Place (2 * b .n) (t .rows) (fnOfPairs (b .n)) (b .rel r) (t .rel r)
 
--- the arrows in the filled places below k
+-- the arrow in a filled place, in front
 abbrev pub addRoot : Option ℕ → List ℕ → List ℕ
 addRoot none l = l
 addRoot (some a) l = a ∷ l
@@ -104,7 +104,7 @@ storesValid (valid bs) y = eqb (y .number) 0
 storesValid (clear r) y = false
 storesValid collect y = false
 
--- the roots that a call leaves as they are: all but an answered call's target
+-- the registers that a call leaves as they are: all but an answered call's target, which is none here
 abbrev pub keptReg : Call → Reply → (ℕ → Option ℕ) → ℕ → Option ℕ
 keptReg (relation t bs) y h r = h r
 keptReg (set acc q R bs) y h r = cond (eqb (y .number) 0 && eqb r q) none (h r)
@@ -126,7 +126,7 @@ Swept (valid bs) after = Unit {0}
 Swept (clear r) after = Unit {0}
 Swept collect after = (i : ℕ) → after .rows .used i ≡ true → Reach (after .rows) (rootsOf after) i
 
--- what one call's contract gives on a table that shows the book
+-- a call served: the table after it shows the book after it, the reply agrees, and what the call must keep is kept
 pub record Serves (b : Book) (c : Call) (before after : Table) (y : Reply) : Type 0 where
   pub shows : Shows (does b c .0) after
   pub agrees : Agrees (does b c .1) y

@@ -114,11 +114,12 @@ abbrev pub negNeeds : Over → List Fn → Form → List ℕ
 negNeeds (states m e) live f = notNeeds (m .n) live (exist m) (means m e f)
 negNeeds (pairs n) live f = stepNeed (2 * n) (pairF n f ∷ live) (pairF n (neg f)) ∷ []
 
--- a current bit, over states within V, and a next bit
+-- a current bit, over states within V
 abbrev pub nowNeeds : Over → List Fn → ℕ → List ℕ
 nowNeeds (states m e) live p = bitNeeds (m .n) live (exist m) p
 nowNeeds (pairs n) live p = stepNeed (2 * n) live (pairF n (now p)) ∷ []
 
+-- a next bit, which a formula of states does not have
 abbrev pub nextNeeds : Over → List Fn → ℕ → List ℕ
 nextNeeds (states m e) live p = []
 nextNeeds (pairs n) live p = stepNeed (2 * n) live (pairF n (next p)) ∷ []

@@ -1,4 +1,4 @@
--- FRESH: from what its checks and `make_empty` find and leave to its contract. Assumes nothing.
+-- The words that fresh leaves. Assumes nothing.
 use mathlib.Core.Path.{_≡_}
 use mathlib.Core.List.{List}
 use Prim.Native.Nat.{ℕ}

@@ -120,7 +120,7 @@ fn gather(words: &mut [u32], rows: u32, marks: &[u32])
     regather(words, rows, total, marks);
 }
 
-// Whether the used rows are many more than the marked ones.
+// Whether the used rows are many more than the marked ones. A guess: nothing rests on its answer.
 fn many_unmarked(words: &[u32], rows: u32, marks: &[u32]) -> bool
     requires { ⌜ Ranked (view rows (now words)) × (rows ≤ 32 * length (now marks)) × (wordsFor rows ≤ length (now words)) ⌝ }
 {

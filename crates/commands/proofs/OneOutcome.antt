@@ -26,6 +26,7 @@ shown-one o e i j =
     plain-one o (ap (λ (y : Reply). y .number) e) (ap (λ (y : Reply). y .rounds) e) (ap (λ (y : Reply). y .value) e)
     (ap (λ (y : Reply). y .peak) e) i j
 
+-- two outcomes that a command's contract allows on the same words are one, node numbers above 1 aside
 pub obey-one : (c : Command) {old v w : List ℕ} {x z : Outcome} → Obeys c old v x → Obeys c old w z → OneOutcome x z
 obey-one (start n N) a b =
     shown-one (a .operation ∙ sym (b .operation)) (fresh-one n N 1 (a .posted .0) (b .posted .0) .0) (a .posted .2) (b .posted .2)

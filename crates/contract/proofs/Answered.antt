@@ -76,11 +76,13 @@ module _ (old mid : List ℕ) (acc : Terms) (r R : ℕ) (bs : List ℕ) (y : Rep
     asks : (t : Bool) (o : Option (List Bool)) (g : List Bool → Option ℕ) → T t → o ≡ some M → cond t (asked o g) (refused 3) .number ≡ 0
     asks t o g u e = rw (true-of t u, e) refl
 
+  -- after an answered set, member of any state of the table is answered
   pub member-answered : (a : ℕ) (x : Reply) → a < 2 ^ b .n → AskPost (member r a) mid x → x .number ≡ 0
   member-answered a x l q = answered-words (ℕ-discrete (x .number) 0) (λ s.
       agrees s (member r a) x q .number ∙ asks s (ltb r registers && ltb a (2 ^ after .n)) (after .reg r) (λ A. some (oneOf (mem A a)))
       (and-in (ltb r registers) _ (range s) (lt→ltb a (2 ^ after .n) (subst (λ (k : ℕ). a < 2 ^ k) (sym (bits s)) l))) (held s))
 
+  -- and count is
   pub count-answered : (x : Reply) → AskPost (count r) mid x → x .number ≡ 0
   count-answered x q = answered-words (ℕ-discrete (x .number) 0) (λ s.
       agrees s (count r) x q .number ∙ asks s (ltb r registers) (after .reg r) (λ A. some (weight true A)) (range s) (held s))
@@ -93,6 +95,7 @@ module _ (old mid : List ℕ) (acc : Terms) (r R : ℕ) (bs : List ℕ) (y : Rep
       says : SoundWords old → (x .value ≡ 1) ↔ T (mem M a)
       says s = set-member b acc r R bs y (served s .1 .agrees) z a x (agrees s (member r a) x q) i
 
+  -- count gives how many states there are in the set of an answered formula
   pub count-means : (x : Reply) → AskPost (count r) mid x → x .value ≡ weight true M
   count-means x q = answered-words (ℕ-discrete (x .value) (weight true M)) (λ s.
       set-count b acc r R bs y (served s .1 .agrees) z x (agrees s (count r) x q) (count-answered x q))

@@ -13,6 +13,7 @@ use Rattle.contract.specs.Seen.{seen, SoundWords}
 use Rattle.contract.proofs.Seen.{sound-table}
 use Rattle.contract.specs.Closed.{makes, performs, asks}
 
+-- the predicates of the functions' `ensures` implement the book
 pub words-implement : Implements (List ℕ) length SoundWords seen makes performs asks
 words-implement = record {
   good = λ w s. sound-table (tableOf w) s;

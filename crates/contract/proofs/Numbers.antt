@@ -14,6 +14,7 @@ use Rattle.book.proofs.Demand.{same-number}
 use Rattle.contract.specs.Seen.{seen, SoundWords}
 use Rattle.contract.proofs.Seen.{sound-table, sound-shows-book}
 
+-- on sound words two filled registers have one number exactly where they hold one set
 pub numbers-agree : (ws : List ℕ) → SoundWords ws → (r q : ℕ) → r < registers → q < registers → (A B : List Bool) (x y : ℕ)
     → bookOf (seen ws) .reg r ≡ some A → bookOf (seen ws) .reg q ≡ some B → seen ws .reg r ≡ some x → seen ws .reg q ≡ some y
     → (x ≡ y) ↔ (A ≡ B)

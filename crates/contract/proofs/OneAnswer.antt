@@ -158,6 +158,7 @@ module _ (c : Call) {old v w : List ℕ} {y z : Reply} (p : CallPost c old v y) 
       (λ o. one-all s (subst (λ (k : ℕ). T (keepsAll k)) (sym (told ∙ o)) tt))
       few
 
+  -- two replies and two ends that a call's contract allows on the same words agree in all that document 01 does not free
   pub call-one : OneAnswer c old v w y z
   call-one = record {
     number = agree ℕ-discrete (λ x u. x .number) one-number;

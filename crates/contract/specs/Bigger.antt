@@ -15,8 +15,6 @@ use Rattle.contract.specs.Posts.{FreshAllPost}
 use Rattle.contract.specs.Closed.{asks}
 use Rattle.contract.specs.Shared.{Lent, Step}
 
--- ---- the claim
-
 -- the same call, a set's rounds raised or equal, and its account at the same place of the list that it gets
 pub data Again : Call → Call → Type 0 where
   same-relation : (t : ℕ) (bs : List ℕ) → Again (relation t bs) (relation t bs)

@@ -1,5 +1,5 @@
--- THE THIRD DEMAND over the lent words: the predicates that stand in the functions' `ensures` implement the book, so the whole claim holds
--- after every list of calls from an answered fresh. Assumes nothing.
+-- The predicates that stand in the functions' `ensures`, as relations of the lent words before and after: `Demand` speaks of these
+-- (`words-demand`). Assumes nothing.
 use mathlib.Core.Path.{_≡_}
 use mathlib.Core.List.{List}
 use Prim.Native.Nat.{ℕ}
@@ -7,7 +7,7 @@ use Rattle.book.specs.Book.{Call, Question}
 use Rattle.book.specs.Table.{Reply}
 use Rattle.contract.specs.Posts.{FreshPost, CallPost, AskPost}
 
--- fresh, a call and a question as relations of the words before and after
+-- fresh, as a relation of the words before and after
 abbrev pub makes : List ℕ → ℕ → ℕ → ℕ → List ℕ → Reply → Type 0
 makes old n N count new y = FreshPost n N count old new y
 

@@ -29,7 +29,7 @@ target collect h = false
 abbrev pub changes : Call → Reply → ℕ → Bool
 changes c y h = freeWord h || (eqb (y .number) 0 && target c h)
 
--- clear writes one word
+-- an answered clear writes just the word of its register; of other calls no more is asked here
 abbrev pub Exact : Call → Reply → List ℕ → List ℕ → Type 0
 Exact (relation t bs) y old new = Unit {0}
 Exact (setCall acc r R bs) y old new = Unit {0}

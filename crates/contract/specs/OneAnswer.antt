@@ -20,8 +20,6 @@ use Rattle.book.specs.OneReply.{settledIn}
 use Rattle.contract.specs.Seen.{seen}
 use Rattle.contract.specs.Kept.{changes}
 
--- ---- the claim
-
 -- row i is used in both or in none, with the same level and arrows
 pub record SameRow (a b : Rows) (i : ℕ) : Type 0 where
   pub used : a .used i ≡ b .used i

@@ -25,7 +25,7 @@ seenIn W = record {
   rel = λ t. arrowIn (W .header (FIRST-RELATION + t));
 }
 
--- of lent words
+-- the table that lent words hold
 abbrev pub seen : List ℕ → Table
 seen ws = seenIn (tableOf ws)
 

@@ -1,5 +1,4 @@
--- Functions that do not read the odd levels from one on, as a product after some stages of EXISTS: their parts do not either, and EXISTS at
--- those levels changes nothing. Assumes nothing.
+-- Functions that do not read the odd levels from one on, as a product after some stages of EXISTS. Assumes nothing.
 use mathlib.Core.Path.{_≡_}
 use mathlib.Core.Bool.{Bool}
 use Prim.Native.Nat.{ℕ, suc, _*_, _≤_}

@@ -1,5 +1,4 @@
--- Collecting: the rows that the roots do not reach are freed. What is left is well formed, is row by row what it was, and is as many rows
--- as the roots need. Assumes nothing.
+-- Collecting: the rows that the roots do not reach are freed. Assumes nothing.
 use mathlib.Core.Path.{_≡_}
 use mathlib.Core.Bool.{true}
 use mathlib.Core.List.{List}

@@ -1,4 +1,4 @@
--- Functions that read only some levels, as sets of states read only the even ones; and the rows of such functions. Assumes nothing.
+-- Functions that read only some levels, as sets of states read only the even ones. Assumes nothing.
 use mathlib.Core.Path.{_≡_}
 use mathlib.Core.Bool.{Bool, true}
 use Prim.Native.Nat.{ℕ, _%_}

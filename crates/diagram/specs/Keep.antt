@@ -1,5 +1,4 @@
--- What is kept of a table: the rows that some roots reach, row by row. So the roots stay arrows, reach the same rows and denote what they
--- did. Assumes nothing.
+-- What is kept of a table: the rows that some roots reach, row by row. Assumes nothing.
 use mathlib.Core.Path.{_≡_}
 use mathlib.Core.Bool.{true}
 use mathlib.Core.List.{List}

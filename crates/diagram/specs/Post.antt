@@ -1,5 +1,4 @@
--- What every operation on the table promises, and how the promises for two parts and the making of one row give the promise for the whole.
--- Assumes nothing.
+-- What every operation on the table promises. Assumes nothing.
 use mathlib.Core.Path.{_≡_}
 use mathlib.Core.Logic.{_≢_}
 use mathlib.Core.Bool.{true, false}

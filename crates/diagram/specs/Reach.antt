@@ -1,5 +1,4 @@
--- The rows reachable from some roots are, one for one, the non-constant cofactors of what the roots denote, each with its complement; so
--- they are as many as those need. Assumes nothing.
+-- The rows that are reachable from some roots. Assumes nothing.
 use mathlib.Core.List.{List, List·Memᴰ as Mem}
 use Prim.Native.Nat.{ℕ}
 use Rattle.diagram.specs.Rows.{Rows, Leads}

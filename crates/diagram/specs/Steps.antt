@@ -1,5 +1,4 @@
--- What the steps compute, as functions of levels, and how each splits at the least level of its operands: the side conditions of `compose`.
--- Assumes nothing.
+-- What the steps compute, as functions of levels; and an arrow's two halves at a level. Assumes nothing.
 use mathlib.Core.Bool.{Bool, true, false, cond, not, _&&_, _||_}
 use Prim.Native.Nat.{ℕ, zero, suc}
 use lib.Dec.{eqb}
@@ -13,7 +12,7 @@ bitF l v = v l
 abbrev pub notF : Fn → Fn
 notF f v = not (f v)
 
--- AND and OR are one law over the operation on bits.
+-- An operation on bits, of two functions: AND, OR.
 abbrev pub twoF : (Bool → Bool → Bool) → Fn → Fn → Fn
 twoF op f g v = op (f v) (g v)
 
@@ -28,7 +27,7 @@ orF = twoF _||_
 abbrev pub shiftF : Fn → Fn
 shiftF f v = f (λ l. v (suc l))
 
--- There is a value of level x.
+-- EXISTS at level x: f holds for some value of it.
 abbrev pub existsF : ℕ → Fn → Fn
 existsF x f v = f (upd v x false) || f (upd v x true)
 

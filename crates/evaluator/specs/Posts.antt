@@ -1,5 +1,5 @@
--- What the evaluator's functions ask of the words and promise of them, by name: a record over the view, and that the counts are those of
--- the table. Assumes nothing.
+-- What the evaluator's functions ask of the words and promise of them, by name: `Asks` is a `Pre` and `Gives` a `Post` over the view, and
+-- the counts are those of the table. Assumes nothing.
 use mathlib.Core.List.{List}
 use Prim.Native.Nat.{ℕ}
 use Rattle.tokens.specs.Tokens.{onlyNow}

@@ -8,7 +8,7 @@ use Rattle.book.specs.Book.{checks}
 use Rattle.book.specs.BookOf.{bookOf}
 use Rattle.contract.specs.Seen.{seen, SoundWords}
 
--- the call that formula bytes are for
+-- the call that formula bytes are for: 0 a set call, else a relation call
 abbrev pub kindOf : ℕ → Kind
 kindOf zero = Set
 kindOf (suc t) = Relation

@@ -6,7 +6,7 @@ use Rattle.player.specs.Play.{PlayPost}
 use Rattle.player.specs.declared.Played.{Played}
 use Rattle.player.specs.declared.Played.the-variants.{Done, Short, Unreadable}
 
--- 0, or a number of its own
+-- 0; 100 where there is no room for the outcomes, 101 where a record cannot be read
 abbrev pub playNumber : Played → ℕ
 playNumber (Done n) = 0
 playNumber Short = 100

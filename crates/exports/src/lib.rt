@@ -144,7 +144,7 @@ pub extern "C" fn kudzuclamp_clear(words: &mut [u32], r: u32) -> u32
     }
 }
 
-// Frees the rows that no register and no relation needs; gives how many are needed.
+// Frees the rows that neither V nor a register or relation needs; gives how many are needed.
 #[no_mangle]
 pub extern "C" fn kudzuclamp_collect(words: &mut [u32], rows: &mut u32) -> u32
     ensures { λ k. ⌜ CallPost book.collect (now (words .entry)) (now (words .exit)) (given k 0 0 (now (rows .exit))) ⌝ }

@@ -1,5 +1,4 @@
--- VALID before its steps: whether anything is filled, as the roots' words and as the book say it; 13 where it is, 4 by the reader's number.
--- Assumes nothing.
+-- "13, valid while a register or relation is filled": nothing is filled, as the roots' words say it. Assumes nothing.
 use mathlib.Core.Path.{_≡_}
 use mathlib.Core.List.{List}
 use Prim.Native.Nat.{ℕ, _≤_, _<_}

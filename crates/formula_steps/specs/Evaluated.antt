@@ -1,5 +1,4 @@
--- SET, RELATION and VALID: from what the evaluators leave, a root stored, and a collection afterwards, to the calls' contracts. Assumes
--- nothing.
+-- A root stored after an evaluation, and the collection afterwards. Assumes nothing.
 use mathlib.Core.Path.{_≡_}
 use Prim.Native.Nat.{ℕ, suc, _+_}
 use Rattle.diagram.specs.Collect.{Collects}
@@ -9,8 +8,6 @@ use Rattle.rows.specs.Used.{rowsOf}
 use Rattle.rows.specs.Sound.{Good}
 use Rattle.rows.specs.Filled.{filled}
 use Rattle.operations.specs.Work.{OpFrame}
-
--- ---- what is seen of the words
 
 -- register r holds arrow a
 abbrev pub registerStored : View → ℕ → ℕ → View
@@ -23,8 +20,6 @@ relationStored X t a = putHeader X (FIRST-RELATION + t) (suc a)
 -- V is arrow a
 abbrev pub validStored : View → ℕ → View
 validStored X a = putHeader X VALID (suc a)
-
--- ---- the call
 
 -- what the collection afterwards leaves of a table: nothing was freed, or what V, the registers and the relations do not need
 pub data Tidied (Y Z : View) : Type 0 where

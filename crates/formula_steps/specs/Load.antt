@@ -1,4 +1,4 @@
--- RELATION and VALID after their checks: from the evaluator's promise to the call's contract. Assumes nothing.
+-- What relation and valid ask after their checks. Assumes nothing.
 use mathlib.Core.Path.{_≡_}
 use mathlib.Core.List.{List}
 use Prim.Native.Nat.{ℕ, _<_}
@@ -14,8 +14,6 @@ pub record RelationReady (t : ℕ) (old bs : List ℕ) : Type 0 where
   pub sound : SoundWords old
   pub range : t < RELATIONS
   pub passed : checks (bookOf (seen old)) Relation bs ≡ 0
-
--- ---- valid
 
 -- what valid asks after its checks
 pub record ValidReady (old bs : List ℕ) : Type 0 where

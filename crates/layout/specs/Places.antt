@@ -8,7 +8,7 @@ REGISTERS = 32
 abbrev pub RELATIONS : ℕ
 RELATIONS = 8
 
--- "n from 1 to 16", "N (1 to 60,000)"
+-- "n from 1 to 16"
 abbrev pub MAX-BITS : ℕ
 MAX-BITS = 16
 
@@ -16,7 +16,7 @@ MAX-BITS = 16
 abbrev pub MAX-ROWS : ℕ
 MAX-ROWS = 60000
 
--- "at least 256 + 12 × N words": the words before the rows, and those for each row in all
+-- "at least 256 + 12 × N words": the words before the rows, the header
 abbrev pub HEADER : ℕ
 HEADER = 256
 
@@ -28,15 +28,15 @@ ROW-WORDS = 12
 abbrev pub wordsFor : ℕ → ℕ
 wordsFor N = HEADER + ROW-WORDS * N
 
--- the header: n
+-- the word of the header for n
 abbrev pub BITS : ℕ
 BITS = 0
 
--- N
+-- the one for N
 abbrev pub ROWS : ℕ
 ROWS = 1
 
--- how many rows are used
+-- the one for how many rows are used
 abbrev pub USED : ℕ
 USED = 3
 
@@ -44,7 +44,7 @@ USED = 3
 abbrev pub CURSOR : ℕ
 CURSOR = 4
 
--- how many slots for remembered results are active, and how many were stored
+-- how many slots for remembered results are active
 abbrev pub SLOTS : ℕ
 SLOTS = 5
 
@@ -52,15 +52,15 @@ SLOTS = 5
 abbrev pub STORED : ℕ
 STORED = 6
 
--- which layout the words have, and the number of this one, in which arrows may carry a NOT and V is a root
+-- which layout the words have
 abbrev pub LAYOUT : ℕ
 LAYOUT = 7
 
--- the number of this layout
+-- the number of this layout, in which arrows may carry a NOT and V is a root
 abbrev pub CURRENT : ℕ
 CURRENT = 3
 
--- the roots: V, the set of states that exist, then registers, then relations
+-- the word of the root of V, the set of states that exist; roots are words of the header: 0, or an arrow + 1
 abbrev pub VALID : ℕ
 VALID = 15
 
@@ -84,7 +84,7 @@ ROOTS = 41
 abbrev pub ALL-STATES : ℕ
 ALL-STATES = 2
 
--- a row's words: low arrow, high arrow, level
+-- the word of a row for its low arrow
 abbrev pub LOW : ℕ
 LOW = 0
 
@@ -127,7 +127,7 @@ HEADS = 9
 abbrev pub SLOTTED : ℕ
 SLOTTED = 10
 
--- where row i, the list, the heads and the slots begin, and what is beyond the table
+-- where the words of row i begin
 abbrev pub cellsAt : ℕ → ℕ
 cellsAt i = HEADER + CELLS * i
 

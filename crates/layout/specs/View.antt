@@ -1,5 +1,5 @@
 -- A table's words seen as functions: the header, the words of each row, the list of used rows, the heads of the chains, the slots for
--- remembered results, and what is beyond the table. Each setter is one equation. Assumes nothing.
+-- remembered results, and what is beyond the table; and the same with one word put. Assumes nothing.
 use mathlib.Core.Bool.{cond}
 use mathlib.Core.List.{List}
 use Prim.Native.Nat.{ℕ, _+_, _*_}

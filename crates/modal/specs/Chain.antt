@@ -1,4 +1,4 @@
--- A chain of steps over the words: what it starts from, what it leaves, and how one step more is one chain more. Assumes nothing.
+-- A chain of steps over the words: what it starts from and what it leaves. Assumes nothing.
 use mathlib.Core.Bool.{Bool}
 use mathlib.Core.List.{List}
 use Prim.Native.Nat.{ℕ, _*_}

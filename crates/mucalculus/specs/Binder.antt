@@ -1,5 +1,4 @@
--- The meaning of a binder that passes check 6: it is a fixpoint, the least or the greatest, and iteration finds it in time.
--- With b `true` this is mu, with `false` nu. Assumes nothing.
+-- "mu P: least set A with f(A) = A", "nu P: greatest such set", as statements about a set. Assumes nothing.
 use mathlib.Core.Path.{_≡_}
 use mathlib.Core.Bool.{Bool}
 use mathlib.Core.List.{List}
@@ -11,8 +10,6 @@ use Rattle.mucalculus.specs.Means.{means}
 -- the body as a function of the bound variable's set
 abbrev pub body : Model → Env → ℕ → Form → List Bool → List Bool
 body m e P f A = means m (put e P A) f
-
--- ---- the same in plain words
 
 -- A is the least set with F A = A
 pub record Least (F : List Bool → List Bool) (A : List Bool) : Type 0 where

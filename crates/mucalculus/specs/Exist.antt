@@ -1,4 +1,4 @@
--- Every meaning is a set of existing states, and the pairs of a relation are pairs of existing states. Assumes nothing.
+-- Relations whose pairs are pairs of existing states. Assumes nothing.
 use mathlib.Core.Bool.{Bool}
 use mathlib.Core.List.{List}
 use Prim.Native.Nat.{ℕ, _<_}
@@ -6,8 +6,6 @@ use lib.Dec.{T}
 use Rattle.mucalculus.specs.Sets.{mem}
 use Rattle.mucalculus.specs.Form.{Pairs}
 use Rattle.mucalculus.specs.Runs.{pair}
-
--- ---- pairs within a set
 
 -- each pair of Q is one of states of E
 abbrev pub Inside : ℕ → List Bool → Pairs → Type 0

@@ -1,6 +1,4 @@
--- The least and the greatest set A with F A = A, over all sets of existing states: their definition by enumeration, and that iteration
--- finds them.
--- Both are one notion in the direction b: `true` is least, `false` is greatest. Assumes nothing.
+-- The least and the greatest set A with F A = A, by enumeration of all sets. Assumes nothing.
 use mathlib.Core.Bool.{Bool, _&&_}
 use mathlib.Core.List.{List}
 use Prim.Native.Nat.{ℕ}

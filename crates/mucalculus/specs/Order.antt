@@ -1,5 +1,4 @@
--- The order of sets by inclusion, read upwards (`true`) or downwards (`false`), and the weight that a strict step raises.
--- Assumes nothing.
+-- Inclusion of sets, the set from which mu (`true`) and nu (`false`) start, and how many states a set has. Assumes nothing.
 use mathlib.Core.Bool.{Bool, true, false, Bool·beq}
 use mathlib.Core.List.{List, [], _∷_}
 use Prim.Native.Nat.{ℕ, zero, suc}
@@ -14,8 +13,6 @@ Below A B = (s : ℕ) → T (mem A s) → T (mem B s)
 abbrev pub start : Bool → ℕ → List Bool → List Bool
 start true k E = noStates k
 start false k E = table k (λ s. mem E s)
-
--- ---- weight
 
 -- one more where the test holds
 abbrev pub bump : Bool → ℕ → ℕ

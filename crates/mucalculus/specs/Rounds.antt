@@ -1,5 +1,4 @@
--- How many rounds a formula takes: "Every evaluated body, inner ones included, is one round"; and that with one binder they are at most 2^n
--- + 1. Assumes nothing.
+-- How many rounds a formula takes: "Every evaluated body, inner ones included, is one round". Assumes nothing.
 use mathlib.Core.Bool.{Bool, true, false, cond}
 use mathlib.Core.List.{List}
 use Prim.Native.Nat.{ℕ, zero, suc, _+_}

@@ -39,8 +39,6 @@ before G (s ∷ l) = let others = before G l in cond (mem G s) [] (s ∷ others)
 abbrev pub passes : List Bool → List Bool → List ℕ → Bool
 passes F G l = any (λ s. mem G s) l && all (λ s. mem F s) (before G l)
 
--- ---- all counted runs
-
 -- the next states of s
 abbrev pub nexts : ℕ → Pairs → ℕ → List ℕ
 nexts k R s = keep (λ t. pair R s t) (table k (λ t. t))

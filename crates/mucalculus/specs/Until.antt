@@ -1,4 +1,4 @@
--- Until by runs is the least set A with: g, or f and the next states as the form wants them in A. Assumes nothing.
+-- A round of until at the set A: g, or f and the next states as the form wants them in A. Assumes nothing.
 use mathlib.Core.Bool.{Bool, true, false}
 use mathlib.Core.List.{List}
 use Prim.Native.Nat.{ℕ}

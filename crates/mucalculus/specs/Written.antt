@@ -1,5 +1,5 @@
--- Until is the formula written with a binder: "The first form is read as mu X (g or (f and diamond X)), the second as mu X (g or (f and
--- (box X and diamond true))), X a variable of its own"; the meaning and the rounds are the same. Assumes nothing.
+-- Until written with a binder: "The first form is read as mu X (g or (f and diamond X)), the second as mu X (g or (f and (box X and diamond
+-- true))), X a variable of its own". Assumes nothing.
 use mathlib.Core.Bool.{Bool, true, false, not, _&&_}
 use Prim.Native.Nat.{ℕ}
 use lib.Dec.{eqb}

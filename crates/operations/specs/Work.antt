@@ -1,4 +1,4 @@
--- What every operation asks and promises, over the words, and how two calls and the making of a row give it. Assumes nothing.
+-- What every operation asks and promises, over the words. Assumes nothing.
 use mathlib.Core.Path.{_≡_}
 use Prim.Native.Nat.{ℕ, _*_, _≤_, _<_}
 use mathlib.Core.Logic.{_≢_}

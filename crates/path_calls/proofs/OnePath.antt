@@ -17,7 +17,8 @@ use Rattle.contract.specs.Seen.{seen, SoundWords}
 use Rattle.contract.proofs.Seen.{any-words, sound-table}
 use Rattle.contract.specs.Kept.{freeWord, changes}
 use Rattle.paths.specs.Call.{Ended, shortest}
-use Rattle.paths.proofs.Meaning.{Meant, shortest-means}
+use Rattle.paths.specs.Meaning.{Meant}
+use Rattle.paths.proofs.Meaning.{shortest-means}
 use Rattle.path_calls.specs.Post.{PathPost}
 use Rattle.path_calls.specs.OnePath.{OnePath}
 
@@ -43,6 +44,7 @@ module _ (a b t : ℕ) (old : List ℕ) {v w list k l : List ℕ} {y z : Reply} 
   one-end : (SoundWords old → ⊥) → v ≡ w
   one-end n = p .unsound n .1 ∙ sym (q .unsound n .1)
 
+  -- one reply and one list, and one book of the words that are left
   pub path-one : OnePath old v w k l y z
   path-one = record {
     number = one-number;

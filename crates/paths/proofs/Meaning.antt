@@ -15,16 +15,8 @@ use Rattle.book.specs.Stored.{Whole}
 use Rattle.paths.specs.Runs.{isRun, Shortest, Outcome, full, none as noRun, short, found, outcome, written}
 use Rattle.paths.specs.Call.{Ended, refuse, ends, overFilled, shortest}
 use Rattle.paths.specs.Exact.{Cause}
+use Rattle.paths.specs.Meaning.{Meant}
 use Rattle.paths.proofs.Exact.{outcome-cause}
-
--- from A into B over R, with a list before and what the call ends with
-pub record Meant (k : ℕ) (R : Pairs) (A B : List Bool) (lent : List ℕ) (e : Ended) : Type 0 where
-  -- the shortest run that is least at each place, of which there is only one (`shortest-only`), is written, and its length is returned
-  pub answered : e .reply .number ≡ 0
-      → (l : List ℕ) × Shortest k R A B l × (length l ≤ length lent) × (e .reply .value ≡ length l) × (e .list ≡ written l lent)
-  pub no-run : e .reply .number ≡ 10 → (l : List ℕ) → T (isRun k R A B l) → ⊥
-  pub too-short : e .reply .number ≡ 11 → (l : List ℕ) × Shortest k R A B l × (length lent < length l)
-  pub kept : 1 ≤ e .reply .number → e .list ≡ lent
 
 module _ (k : ℕ) (R : Pairs) (A B : List Bool) (lent : List ℕ) where
   by-three : Meant k R A B lent (refuse 3 lent)

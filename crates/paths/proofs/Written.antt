@@ -123,6 +123,7 @@ least-same (s ∷ l) (t ∷ m) e a b =
     let q : s ≡ t = omega (arith, a .0, b .0) in
     ap₂ (λ (x : ℕ) (y : List ℕ). x ∷ y) q (least-same l m (suc-inj e) (a .1 q) (b .1 (sym q)))
 
+-- there is only one run that is shortest and least at each place
 pub shortest-only : {k : ℕ} {R : Pairs} {A B : List Bool} {l m : List ℕ} → Shortest k R A B l → Shortest k R A B m → l ≡ m
 shortest-only {l = l} {m = m} p q =
     let a = p .fewest m (q .run) in

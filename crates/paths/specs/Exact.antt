@@ -1,4 +1,4 @@
--- Each outcome comes exactly by its cause; layers that are made again are never the first to be full. Assumes nothing.
+-- The cause of each outcome. Assumes nothing.
 use mathlib.Core.Path.{_≡_}
 use mathlib.Core.Bool.{Bool, true, false}
 use mathlib.Core.List.{List}
@@ -9,8 +9,6 @@ use Rattle.mucalculus.specs.Form.{Pairs}
 use Rattle.diagram.specs.Level.{Fn}
 use Rattle.book.specs.Run.{fit}
 use Rattle.paths.specs.Runs.{isRun, Shortest, pathNeeds, Outcome, full, none, short, found}
-
--- ---- the causes
 
 -- what each outcome says
 abbrev pub Cause : ℕ → ℕ → List Fn → Pairs → List Bool → List Bool → ℕ → Outcome → Type 0

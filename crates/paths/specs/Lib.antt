@@ -1,3 +1,4 @@
 pub mod Runs
 pub mod Exact
 pub mod Call
+pub mod Meaning

@@ -207,10 +207,11 @@ pub all-one : (bs w v u l m n : List ℕ) (p : AllPost bs w v l m) (q : AllPost 
     → settledList (p .entries) ≡ settledList (q .entries)
 all-one bs w v u l m n p q = chain-one (inl refl) (p .chain) (q .chain) (some-inj (sym (p .read) ∙ q .read))
 
--- `play` itself: done with the same count, or refused alike
+-- as many records are obeyed as can be read
 obeyed : {bs w v l m : List ℕ} {k : ℕ} → DonePost bs w v l m k → (cs : List Command) → commands bs ≡ some cs → k ≡ length cs
 obeyed p cs e = p .count ∙ sym (commands-length (p .all .entries)) ∙ ap length (some-inj (sym (p .all .read) ∙ e))
 
+-- `play` itself: done with the same count, or refused alike
 pub play-one : (bs w v u l m n : List ℕ) (x z : Played) → PlayPost bs w v l m x → PlayPost bs w u l n z → x ≡ z
 play-one bs w v u l m n (played.Done k) (played.Done j) p q =
     ap played.Done (obeyed (p .1) _ (q .1 .all .read) ∙ sym (obeyed (q .1) _ (q .1 .all .read)))

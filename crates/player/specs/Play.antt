@@ -46,7 +46,7 @@ pub record Entry : Type 0 where
   pub command : Command
   pub outcome : Outcome
 
--- the list's words for an outcome: number, node, rounds, value, peak
+-- how many words of the list an outcome takes
 abbrev pub entryWords : ℕ
 entryWords = 5
 

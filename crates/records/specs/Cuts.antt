@@ -1,4 +1,4 @@
--- Folding `readRecord` over the input, however it is cut into reads, gives the book's lines and text. Assumes nothing.
+-- What the program does with the bytes at hand, by the book. Assumes nothing.
 use mathlib.Core.Bool.{Bool}
 use mathlib.Core.List.{List}
 use mathlib.Core.Option.{Option}
@@ -9,8 +9,6 @@ use Rattle.book.specs.Program.{Line, endOk, endBad, obey}
 use Rattle.records.specs.declared.Found.{Found}
 use Rattle.records.specs.declared.Found.the-variants.{End, More, Bad, Record}
 use Rattle.records.specs.Record.{readRecord, asked}
-
--- ---- one step
 
 -- what the program does with the bytes at hand: it writes a record's line and goes on with a book and the bytes left; it waits for more; or
 -- it writes the last line

@@ -1,4 +1,4 @@
--- What writing leaves behind, and the laws by which a line is put together. Assumes nothing.
+-- What writing leaves behind, and the parts of a line. Assumes nothing.
 use mathlib.Core.Path.{_≡_}
 use mathlib.Core.Bool.{Bool, cond}
 use mathlib.Core.List.{List, [], _∷_, _++_}
@@ -20,8 +20,6 @@ pub record WroteWithin (room : ℕ) (old : List ℕ) (at : ℕ) (bytes new : Lis
 -- "Last line `end ok`, or .. `end bad`"
 abbrev pub endLine : Bool → Line
 endLine ok = cond ok endOk endBad
-
--- ---- lines
 
 -- a number and the byte after it
 abbrev pub fieldText : ℕ → ℕ → List ℕ

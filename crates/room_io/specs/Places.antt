@@ -24,7 +24,7 @@ pub record Placed (p : Progress) (input output : ℕ) : Type 0 where
   pub enough : longest ≤ input
   pub line : lineRoom ≤ output
 
--- the bytes at hand, and those that are still to be written
+-- the bytes at hand
 abbrev pub atHand : Progress → List ℕ → List ℕ
 atHand p input = take (p .end - p .start) (drop (p .start) input)
 

@@ -36,7 +36,7 @@ start = record { start = 0; end = 0; pending = 0; ended = false; done = false; s
 abbrev pub atStart : List ℕ → List ℕ → List ℕ → State
 atStart w i o = record { progress = start; words = w; input = i; output = o; brought = []; handed = []; way = going }
 
--- by what a turn said: a read adds to what was brought, a write to what was handed on, and the last line or what failed ends the turns
+-- what the writes were handed after a turn: more where it said that there is no room
 abbrev pub handedAfter : Said → List ℕ → List ℕ → List ℕ
 handedAfter (Line used k) text before = before
 handedAfter (End k) text before = before

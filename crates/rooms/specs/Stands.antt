@@ -1,5 +1,4 @@
--- The book that the lent words stand for, and that a command under the contract of its call says the book's line and leaves words that
--- stand for the book's next one. Assumes nothing.
+-- The book that the lent words stand for, and the line of an outcome. Assumes nothing.
 use mathlib.Core.Path.{_≡_}
 use mathlib.Core.List.{List}
 use mathlib.Core.Option.{Option, none, some}

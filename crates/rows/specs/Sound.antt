@@ -20,7 +20,7 @@ EvenSets W =
     (h : ℕ) → VALID ≤ h → h < FIRST-RELATION → (a : ℕ) → W .header h ≡ suc a → (i : ℕ) → Reach (rowsOf W) (a ∷ []) i
     → even (rowsOf W .level i) ≡ true
 
--- the rows are sound
+-- the sizes, the list of used rows, the rows and the index are sound
 pub record Good (W : View) : Type 0 where
   -- "n and N are in range and the slice is long enough"
   pub sizes : Sizes (W .header BITS) (W .rows) (W .size)
@@ -35,7 +35,7 @@ pub record Good (W : View) : Type 0 where
   -- "the lookup index finds every used row"
   pub index : Index W
 
--- "A table is sound when": its rows are, and
+-- "A table is sound when": all but its roots is `Good`, and V, registers and relations are as they must be
 pub record Sound (W : View) : Type 0 where
   pub good : Good W
   -- "each register is empty or an arrow"; "each relation is empty or any arrow"; V is an arrow

@@ -12,11 +12,11 @@ use Rattle.layout.specs.View.{View}
 unfoldable pub usedAt : ℕ → ℕ → (ℕ → ℕ) → (ℕ → ℕ) → ℕ → Bool
 usedAt N count rank list i = cond (ltb i N) (cond (ltb (rank i) count) (eqb (list (rank i)) i) false) false
 
--- row i of a table is used: "An arrow is 0 (nothing), 1 (everything) or a used row"
+-- row i of a table is used
 abbrev pub used : View → ℕ → Bool
 used W = usedAt (W .rows) (W .header USED) (λ i. W .cell i RANK) (W .list)
 
--- its rows
+-- the rows of a table
 abbrev pub rowsOf : View → Rows
 rowsOf W = record { used = used W; level = λ i. W .cell i LEVEL; low = λ i. W .cell i LOW; high = λ i. W .cell i HIGH }
 

@@ -1,4 +1,4 @@
--- When two arrows of a table have no valuation in common, and that the halves of both decide it. Assumes nothing.
+-- When two arrows of a table have no valuation in common, and their halves. Assumes nothing.
 use mathlib.Core.Path.{_≡_}
 use mathlib.Core.Bool.{true, false}
 use Prim.Native.Nat.{ℕ, _+_, _<_}

@@ -1,5 +1,4 @@
--- Long chains: the lookup of every used row finds it exactly where every walk meets its row and no two used rows are equal.
--- Assumes nothing.
+-- What the parts of the check of long chains tell: every walk meets its row, and no two used rows are equal. Assumes nothing.
 use Prim.Native.Nat.{ℕ}
 use Rattle.layout.specs.View.{View}
 use Rattle.soundness.specs.Triples.{AllDiffer}

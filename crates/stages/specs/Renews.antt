@@ -1,4 +1,4 @@
--- What `renew` asks, and its steps: rows are only added. Assumes nothing.
+-- What `renew` asks. Assumes nothing.
 use mathlib.Core.List.{List}
 use Prim.Native.Nat.{ℕ, _+_, _*_, _≤_}
 use lib.ListN.{length}

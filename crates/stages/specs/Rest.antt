@@ -1,4 +1,4 @@
--- All EXISTS left of an arrow at once: what is asked, what is promised, and what each call and each return gives. Assumes nothing.
+-- All EXISTS left of an arrow at once: what is asked and what is promised. Assumes nothing.
 use mathlib.Core.Path.{_≡_}
 use mathlib.Core.Bool.{Bool, true}
 use mathlib.Core.List.{List, List·Memᴰ as Mem}

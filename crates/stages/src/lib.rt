@@ -415,6 +415,7 @@ fn lesser(a: u32, b: u32) -> u32
 }
 
 // Whether the size of arrow a says nothing: before the first EXISTS, of a product that registers and relations reach.
+// A guess: nothing rests on its answer.
 fn no_size(counts: &[u32], a: u32, left: u32, bits: u32) -> bool
     requires { ⌜ (length (now counts) ≡ COUNT-WORDS) × (isRow a ≡ true → rowOf a < MAX-ROWS) ⌝ }
 {
@@ -428,6 +429,7 @@ fn no_size(counts: &[u32], a: u32, left: u32, bits: u32) -> bool
 }
 
 // The arrow to count a third time: before the first EXISTS, whose results are often larger, arrow a, else none.
+// A guess: nothing rests on it.
 fn third_of(a: u32, left: u32, bits: u32) -> u32
     ensures { λ r. ⌜ ((rs : Rows) → Arrow rs a → Arrow rs r) ⌝ }
 {

@@ -2,7 +2,7 @@
 use Prim.Native.Nat.{ℕ}
 use Rattle.layout.specs.View.{View}
 
--- the header, and the heads, become those given
+-- the header becomes the one given
 abbrev pub setHeader : View → (ℕ → ℕ) → View
 setHeader W f =
     record {

@@ -1,4 +1,4 @@
--- A fresh table: its header is the header maker's and its heads are 0; it is sound whatever stands in the other words. Assumes nothing.
+-- A fresh table: its header is the header maker's and its heads are 0. Assumes nothing.
 use Prim.Native.Nat.{ℕ}
 use Rattle.layout.specs.View.{View, headerOf}
 use Rattle.layout.specs.Header.{headerWords}
