@@ -1,4 +1,4 @@
-// What every call promises, over the lent words, is in specs/; this function only makes the folder a crate.
+// What every call promises, over the lent words, is in specs/ and proofs/; this function only makes the folder a crate.
 pub fn nothing(x: u32) -> u32 {
     x
 }
