@@ -49,18 +49,18 @@ module _ {W : Type 0} (sound : W → Type 0) (view : W → Table) (asks : W → 
   always-one d = let z : _≡_ {A = ℕ} 1 0 = d .agree .0 .value in absurd (omega arith)
 
   -- or one number to two sets that differ
-  pub one-number : (a : ℕ) → Claim (replied 0 (0x10 ∷ []) 0 0 a ∷ replied 1 (0x02 ∷ 0x10 ∷ []) 0 0 a ∷ []) → ⊥
+  pub one-number : (p q a : ℕ) → Claim (measured 0 (0x10 ∷ []) 0 0 p a ∷ measured 1 (0x02 ∷ 0x10 ∷ []) 0 0 q a ∷ []) → ⊥
   unfolding computing
-  one-number a d =
+  one-number p q a d =
       let e : false ∷ true ∷ []
       ≡ true ∷ false
       ∷ [] = d .numbers 0 1 (omega arith) (omega arith) (false ∷ true ∷ []) (true ∷ false ∷ []) a a refl refl refl refl .0 refl in
       false≢true (ap first e)
 
   -- and one that gives two numbers to one set
-  pub two-numbers : (a c : ℕ) → Claim (replied 0 (0x10 ∷ []) 0 0 a ∷ replied 1 (0x03 ∷ 0x10 ∷ 0x10 ∷ []) 0 0 c ∷ []) → a ≡ c
+  pub two-numbers : (p q a c : ℕ) → Claim (measured 0 (0x10 ∷ []) 0 0 p a ∷ measured 1 (0x03 ∷ 0x10 ∷ 0x10 ∷ []) 0 0 q c ∷ []) → a ≡ c
   unfolding computing
-  two-numbers a c d = d .numbers 0 1 (omega arith) (omega arith) (false ∷ true ∷ []) (false ∷ true ∷ []) a c refl refl refl refl .1 refl
+  two-numbers p q a c d = d .numbers 0 1 (omega arith) (omega arith) (false ∷ true ∷ []) (false ∷ true ∷ []) a c refl refl refl refl .1 refl
 
   -- one that stores nothing
   pub stores-nothing : (a : ℕ) → view w .reg 0 ≡ none → Claim (replied 0 (0x01 ∷ []) 0 0 a ∷ []) → ⊥
@@ -74,15 +74,15 @@ module _ {W : Type 0} (sound : W → Type 0) (view : W → Table) (asks : W → 
 
   -- one that evaluates the first set truly and repeats it afterwards, with numbers of its own choice: state 0 is not in bit 0, but in its
   -- complement, and member says so
-  pub repeats : (a c : ℕ) (w′ : W) → asks w (member 1 0) w′ (valued 0)
-      → Claim (replied 0 (0x10 ∷ []) 0 0 a ∷ replied 1 (0x02 ∷ 0x10 ∷ []) 0 0 c ∷ []) → ⊥
+  pub repeats : (x y a c : ℕ) (w′ : W) → asks w (member 1 0) w′ (valued 0)
+      → Claim (measured 0 (0x10 ∷ []) 0 0 x a ∷ measured 1 (0x02 ∷ 0x10 ∷ []) 0 0 y c ∷ []) → ⊥
   unfolding computing
-  repeats a c w′ p d = let z : _≡_ {A = ℕ} 0 1 = d .questions w′ (member 1 0) (valued 0) p .1 .agrees .value in absurd (omega arith)
+  repeats x y a c w′ p d = let z : _≡_ {A = ℕ} 0 1 = d .questions w′ (member 1 0) (valued 0) p .1 .agrees .value in absurd (omega arith)
 
   -- node gives another number than set returned
-  pub other-number : (a c : ℕ) (w′ : W) → asks w (node 0) w′ (valued c) → Claim (replied 0 (0x10 ∷ []) 0 0 a ∷ []) → c ≡ a
+  pub other-number : (x a c : ℕ) (w′ : W) → asks w (node 0) w′ (valued c) → Claim (measured 0 (0x10 ∷ []) 0 0 x a ∷ []) → c ≡ a
   unfolding computing
-  other-number a c w′ p d = let e = d .questions w′ (node 0) (valued c) p .1 .nodeSays refl in cc
+  other-number x a c w′ p d = let e = d .questions w′ (node 0) (valued c) p .1 .nodeSays refl in cc
 
   -- "A made-up round or state count differs from its definition": it can only be the definition's
   pub made-up-rounds : (q a : ℕ) → Claim (replied 0 (0x70 ∷ 0x30 ∷ []) 0 q a ∷ []) → q ≡ 1
@@ -94,6 +94,6 @@ module _ {W : Type 0} (sound : W → Type 0) (view : W → Table) (asks : W → 
   unfolding computing
   made-up-peak p a d = d .agree .0 .peak
 
-  pub made-up-count : (a k : ℕ) (w′ : W) → asks w (count 0) w′ (valued k) → Claim (replied 0 (0x10 ∷ []) 0 0 a ∷ []) → k ≡ 1
+  pub made-up-count : (x a k : ℕ) (w′ : W) → asks w (count 0) w′ (valued k) → Claim (measured 0 (0x10 ∷ []) 0 0 x a ∷ []) → k ≡ 1
   unfolding computing
-  made-up-count a k w′ p d = d .questions w′ (count 0) (valued k) p .1 .agrees .value
+  made-up-count x a k w′ p d = d .questions w′ (count 0) (valued k) p .1 .agrees .value

@@ -3,8 +3,8 @@
 use mathlib.Core.Path.{_≡_, refl, sym, ap, _∙_, subst}
 use mathlib.Core.Logic.{_↔_}
 use mathlib.Core.Bool.{Bool, true, false, cond, _&&_}
-use mathlib.Core.List.{List, [], _∷_, _++_}
-use Prim.Native.Nat.{ℕ, zero, suc, _≤_, _<_, max}
+use mathlib.Core.List.{List, [], _∷_, _++_, List·Memᴰ·head as here}
+use Prim.Native.Nat.{ℕ, zero, suc, _*_, _≤_, _<_, max}
 use native.Mathlib.Omega.{arith}
 use native.Mathlib.Nat.{lt-of-not-le}
 use lib.Dec.{T, leb, leb→le, le→leb, ltb, ltb→lt, lt→ltb}
@@ -19,7 +19,12 @@ use Rattle.mucalculus.proofs.Binder.{round-ends}
 use Rattle.mucalculus.proofs.Rounds.{iter-on, same-set}
 use Rattle.accounts.specs.declared.Count.{Count}
 use Rattle.accounts.specs.Count.{needing, another}
-use Rattle.book.specs.Ticks.{Tick, step, round, roundTicks, counted, full, spent, verdict, withinRounds, peak}
+use Rattle.diagram.specs.Level.{Fn}
+use Rattle.diagram.specs.Need.{need}
+use Rattle.diagram.proofs.Needed.{need-not}
+use Rattle.book.specs.Bridge.{fnOf}
+use Rattle.book.proofs.Bridge.{fnOf-not}
+use Rattle.book.specs.Ticks.{Tick, step, round, notNeed, roundTicks, counted, full, spent, verdict, withinRounds, peak}
 use Rattle.book.specs.Run.{fit}
 use Rattle.book.proofs.Verdicts.{verdict-full, not-full, not-spent}
 
@@ -91,3 +96,8 @@ pub ticks-cap : (m : Model) (e : Env) (P : ℕ) (f : Form) → T (steady f) → 
     → roundTicks h (body m e P f) (suc k) (start b (size m) (exist m))
     ≡ roundTicks h (body m e P f) (suc (size m)) (start b (size m) (exist m))
 ticks-cap m e P f s t b h k l = ticks-more h (body m e P f) (size m) k l (start b (size m) (exist m)) (round-ends m e P f s t b)
+
+-- "NOT needs no new row": the step's need is that of what is live, its operand included
+pub not-need : (n : ℕ) (live : List Fn) (A : List Bool) → notNeed n live A ≡ need (2 * n) (fnOf n A ∷ live)
+not-need n live A =
+    ap (λ (F : Fn). need (2 * n) (F ∷ fnOf n A ∷ live)) (fnOf-not n A) ∙ need-not (2 * n) (fnOf n A) (fnOf n A ∷ live) (here refl)

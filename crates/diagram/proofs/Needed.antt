@@ -17,6 +17,7 @@ use Rattle.diagram.specs.Level.{Val, Fn, turn, splice, CofactorOf, PartO
 use Rattle.diagram.proofs.Level.{turn-turn, turn-back, turn-inj, splice-below, splice-above, Reads, varies-turn}
 use Rattle.diagram.specs.Count.{NoDup, Within, upTo}
 use Rattle.diagram.proofs.Count.{nodup-length, mem-upTo}
+use Rattle.diagram.specs.Steps.{notF}
 use Rattle.diagram.specs.Need.{val, fixLevels, cofactors, truthTable, has, among, insert, distinct, needed, need}
 
 -- Membership in a `flatMap`, both ways.
@@ -375,4 +376,44 @@ pub need-same : (m : ℕ) (fs gs : List Fn) → Within fs gs → Within gs fs �
 need-same m fs gs p q =
     let a = need-mono m fs gs p in
     let b = need-mono m gs fs q in
+    omega arith
+
+-- A complement is constant where the table is.
+mixed-not : (t : List Bool) → mixed (map not t) ≡ true → mixed t ≡ true
+mixed-not t e =
+    let h = and-true (has false (map not t)) (has true (map not t)) e in
+    let (x, mx, ex) = mem-of-map not t (has-mem false (map not t) (h .0)) in
+    let (y, my, ey) = mem-of-map not t (has-mem true (map not t) (h .1)) in
+    rw (mem-has false t (mem-cast (sym (ap not ey) ∙ turn-back true y) my)) (mem-has true t (mem-cast (sym (ap not ex) ∙ turn-back true x) mx))
+
+-- The classes of a complement are those of the function.
+not-within : (m : ℕ) (f : Fn) (fs : List Fn) → Mem f fs → Within (classes m (notF f ∷ fs)) (classes m fs)
+unfolding classes needed cofactors fixLevels
+not-within m f fs mf t h =
+    let (s, ms, es) = mem-of-map norm (needed m (notF f ∷ fs)) h in
+    let d = mem-distinct s (map (truthTable m) (flatMap (cofactors m) (notF f ∷ fs))) ms in
+    let (g, mg, eg) = mem-of-map (truthTable m) (flatMap (cofactors m) (notF f ∷ fs)) (d .0) in
+    let (k, mk, mc) = mem-of-flatMap (cofactors m) (notF f ∷ fs) mg in
+    mem-cast (sym es) (⊎-elim (λ e. own s g (d .1) eg (subst (λ (x : Fn). Mem g (cofactors m x)) e mc))
+    (λ i. distinct-mem s (map (truthTable m) (flatMap (cofactors m) fs))
+    (mem-cast (sym eg) (mem-map (truthTable m) (mem-flatMap (cofactors m) fs i mc))) (d .1)) (mem-cases mk))
+  where
+    own : (s : List Bool) (g : Fn) → mixed s ≡ true → truthTable m g ≡ s → Mem g (cofactors m (notF f))
+        → Mem (norm s) (map norm (distinct (map (truthTable m) (flatMap (cofactors m) fs))))
+    own s g x eg mc =
+        let (k, mk, mb) = mem-of-flatMap (λ k. map (λ bits. fixLevels bits (notF f)) (bitLists k)) (upTo (suc m)) mc in
+        let (bits, mbits, eb) = mem-of-map (λ bits. fixLevels bits (notF f)) (bitLists k) mb in
+        let t = truthTable m (fixLevels bits f) in
+        let q : s ≡ map not t = sym eg ∙ ap (truthTable m) (sym eb) ∙ table-turn m true (fixLevels bits f) in
+        let mf′ : Mem (fixLevels bits f) (cofactors m f) = mem-flatMap (λ k. map (λ bits. fixLevels bits f) (bitLists k)) (upTo (suc m)) mk
+        (mem-map (λ bits. fixLevels bits f) mbits) in
+        mem-cast (ap norm q ∙ norm-turn true t)
+        (distinct-mem t (map (truthTable m) (flatMap (cofactors m) fs)) (mem-map (truthTable m) (mem-flatMap (cofactors m) fs mf mf′))
+        (mixed-not t (ap mixed (sym q) ∙ x)))
+
+-- "Two functions that are each other's complement need one row", "NOT needs no new row"
+pub need-not : (m : ℕ) (f : Fn) (fs : List Fn) → Mem f fs → need m (notF f ∷ fs) ≡ need m fs
+need-not m f fs mf =
+    let a = need-mono m fs (notF f ∷ fs) (λ g i. there i) in
+    let b = need-classes m (notF f ∷ fs) fs (not-within m f fs mf) in
     omega arith
