@@ -1,7 +1,7 @@
 -- CLEAR, COLLECT and a refusal by a check: from what the code does to the call's contract. Assumes nothing.
 use mathlib.Core.Path.{_≡_, refl, sym, ap, _∙_, subst}
-use mathlib.Core.Bool.{Bool, cond, _&&_}
-use mathlib.Core.Option.{none, some}
+use mathlib.Core.Bool.{Bool, false, cond, _&&_}
+use mathlib.Core.Option.{Option, none, some}
 use Prim.Native.Nat.{ℕ, suc, _≤_, _<_}
 use native.Mathlib.Omega.{arith}
 use lib.Dec.{eqb, eqb·suc-zero}
@@ -11,8 +11,9 @@ use Rattle.diagram.proofs.Keep.{keeps-reach, keeps-trans, keeps-within}
 use Rattle.diagram.specs.Collect.{Collects}
 use Rattle.diagram.proofs.Collect.{collects-keeps, collects-wellFormed, collects-count}
 use Rattle.book.specs.Run.{value}
-use Rattle.book.specs.Book.{Book, Call, relation, set, valid, clear, collect, answered, registers, Done, refuse, withReg, does}
-use Rattle.book.specs.Table.{Table, Reply, Shows, Agrees, noted, rootsOf, Swept, Serves}
+use Rattle.book.specs.Book.{Book, Call, relation, set, valid, clear, collect, effect, stores, answered, registers, Done, refuse}
+use Rattle.book.specs.Book.{withReg, does}
+use Rattle.book.specs.Table.{Table, Reply, Shows, Agrees, rootsOf, Swept, Serves}
 use Rattle.book.proofs.Held.{held-keeps, held-rows}
 use Rattle.book.proofs.Roots.{shows-held, kept-before, kept-after}
 use Rattle.book.proofs.Leaves.{withRows, storeReg, shows-rows, shows-reg, kept-all}
@@ -56,12 +57,18 @@ collect-serves b t rows s c = record {
   swept = λ i u. keeps-reach (collects-keeps c) (c .only i u);
 }
 
+-- a refused call stores nothing
+none-stored : (o : Option ℕ) (k q : ℕ) → stores o (suc k) q ≡ false
+none-stored none k q = refl
+none-stored (some r) k q = ap (λ (x : Bool). x && eqb q r) (eqb·suc-zero k)
+
 -- A REFUSAL by a check: the book refuses, and the table is as it was
 pub refusal-serves : (b : Book) (t : Table) (c : Call) (k : ℕ) → Shows b t → does b c ≡ refuse b (suc k) → Serves b c t t (plain (suc k))
 refusal-serves b t c k s e = record {
   shows = subst (λ (x : Done). Shows (x .0) t) (sym e) s;
   agrees = subst (λ (x : Done). Agrees (x .1) (plain (suc k))) (sym e) (record { number = refl; rounds = refl; peak = refl; value = refl });
-  numbers = λ q h. noting c q;
+  numbers =
+      λ q h. sym (ap (λ (x : Bool). cond x (cond (effect c .fills) (some 0) none) (t .reg q)) (none-stored (effect c .reg) k q));
   rels = λ q h z. refl;
   valid = λ z. refl;
   kept = keeps-within (kept-before c (plain (suc k)) t) (kept-all b t s);
@@ -75,13 +82,6 @@ refusal-serves b t c k s e = record {
     sweeps (valid bs) h = tt
     sweeps (clear x) h = tt
     sweeps collect h = let z : _≡_ {A = ℕ} 0 (suc k) = ap (λ (d : Done). d .1 .number) h in absurd (omega arith)
-
-    noting : (c : Call) (q : ℕ) → t .reg q ≡ noted (t .reg q) c (plain (suc k)) q
-    noting (relation x bs) q = refl
-    noting (set acc x R bs) q = sym (ap (λ (x′ : Bool). cond (x′ && eqb q x) (some 0) (t .reg q)) (eqb·suc-zero k))
-    noting (valid bs) q = refl
-    noting (clear x) q = sym (ap (λ (x′ : Bool). cond (x′ && eqb q x) none (t .reg q)) (eqb·suc-zero k))
-    noting collect q = refl
 
 -- CLEAR out of range
 pub clear-out-of-range : (b : Book) (r : ℕ) → registers ≤ r → does b (clear r) ≡ refuse b 3

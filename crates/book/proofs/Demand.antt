@@ -23,9 +23,9 @@ use Rattle.book.proofs.Eight.{eight-exact}
 use Rattle.book.specs.Table.{Table, Reply, Place, Shows, Agrees, noted, Serves, NodeSays, Tells}
 use Rattle.book.proofs.Leaves.{reg-filled, rel-filled, shows-fresh}
 use Rattle.book.specs.BookOf.{bookOf}
-use Rattle.book.proofs.BookOf.{only-book}
-use Rattle.book.specs.Contract.{Starts, Implements}
-use Rattle.book.specs.Demand.{Event, calls, bookAfter, Trace, stop, go, Session, lastNumber, AllAgree, AllEight, Demand}
+use Rattle.book.proofs.BookOf.{only-book, shows-bookOf}
+use Rattle.book.specs.Contract.{Starts, Quiet, Implements}
+use Rattle.book.specs.Demand.{Event, calls, bookAfter, Trace, stop, go, pause, Session, lastNumber, AllAgree, AllEight, Demand}
 
 -- ---- two registers of a table that shows a whole book
 
@@ -83,8 +83,8 @@ record After (b : Book) (g : ℕ → Option ℕ) (after : Table) (l : List Event
   eights : AllEight b l
 
 module _ {W : Type 0} {words : W → ℕ} {sound : W → Type 0} {view : W → Table} {makes : W → ℕ → ℕ → ℕ → W → Reply → Type 0}
-    {contract : W → Call → W → Reply → Type 0} {asks : W → Question → W → Reply → Type 0}
-    (I : Implements W words sound view makes contract asks) where
+    {contract : W → Call → W → Reply → Type 0} {rests : W → W → Type 0} {asks : W → Question → W → Reply → Type 0}
+    (I : Implements W words sound view makes contract rests asks) where
   -- a call on words that stand for a whole book serves that book
   serves : (b : Book) {w v : W} {c : Call} {y : Reply} → Whole b → sound w → Shows b (view w) → contract w c v y
       → sound v × Serves b c (view w) (view v) y
@@ -92,9 +92,14 @@ module _ {W : Type 0} {words : W → ℕ} {sound : W → Type 0} {view : W → T
       let d = I .performs w v c y p .served ok in
       (d .0, subst (λ (x : Book). Serves x c (view w) (view v) y) (sym (only-book b (view w) h s)) (d .1))
 
+  -- words left by a call that stores nothing show the same book
+  still-shows : (b : Book) {w v : W} → Whole b → sound w → Shows b (view w) → Quiet sound view w v → Shows b (view v)
+  still-shows b {w} {v} h ok s k = subst (λ (x : Book). Shows x (view v)) (k .book ok ∙ sym (only-book b (view w) h s))
+      (shows-bookOf (view v) (I .good v (k .good ok)))
+
   -- soundness and the book are carried along together
   follows : (b : Book) (g : ℕ → Option ℕ) {w w′ : W} {l : List Event} → Whole b → sound w → Shows b (view w)
-      → ((r : ℕ) → r < registers → view w .reg r ≡ g r) → Trace W contract w l w′
+      → ((r : ℕ) → r < registers → view w .reg r ≡ g r) → Trace W contract rests w l w′
       → sound w′ × After b g (view w′) l
   follows b g h ok s n stop = (ok, record { whole = h; shows = s; agree = tt; numbers = n; eights = tt })
   follows b g h ok s n (go {c = c} {y = y} p t) =
@@ -110,6 +115,8 @@ module _ {W : Type 0} {words : W → ℕ} {sound : W → Type 0} {view : W → T
           eights = (subst (λ (k : ℕ). EightAt b c k) (sym (d .agrees .number)) (eight-exact b c), a .eights);
         },
       )
+  follows b g h ok s n (pause {w = w} {v = v} q t) =
+      let k = I .quiet w v q in follows b g h (k .good ok) (still-shows b h ok s k) (λ r i. k .numbers ok r i ∙ n r i) t
 
   -- what an answered fresh leaves
   started : (n N k j : ℕ) {w w′ : W} (y : Reply) → Starts sound view n N k j w w′ y → y .number ≡ 0 → sound w′ × Shows (fresh n N) (view w′)
@@ -120,7 +127,7 @@ module _ {W : Type 0} {words : W → ℕ} {sound : W → Type 0} {view : W → T
       pick (suc i) e = absurd (omega (arith, s .refuses i e .0 .0))
 
   -- THE THIRD DEMAND: after any list of calls from an answered fresh the whole claim holds
-  pub third-demand : (n N : ℕ) {w′ : W} {l : List Event} → Session W makes contract n N l w′ → Demand sound view asks n N l w′
+  pub third-demand : (n N : ℕ) {w′ : W} {l : List Event} → Session W makes contract rests n N l w′ → Demand sound view asks n N l w′
   third-demand n N {w′} {l} x = record {
     good = end .0;
     reg-filled = reg-filled b (view w′) (a .shows);

@@ -27,12 +27,12 @@ use Rattle.book.proofs.Held.{denotes-same}
 use Rattle.book.proofs.Bits.{valid-fn, valid-bits}
 use Rattle.book.proofs.Verdicts.{settle, run-ticks}
 use Rattle.book.proofs.Effects.{does-set, does-relation, does-valid}
-use Rattle.book.specs.Book.{formulaIn, Book, relation, set, valid, unfilled, statesOf, validDone, registers, relations, modelOf}
+use Rattle.book.specs.Book.{formulaIn, Book, relation, set, valid, stores, unfilled, statesOf, validDone, registers, relations, modelOf}
 use Rattle.book.specs.Book.{liveOf, checks, Done, refuse, ended, relationDone, setDone, relationSteps, setSteps, does}
 use Rattle.book.proofs.Stored.{checks-passed}
 use Rattle.book.proofs.ByRun.{relation-by-run, validByRun, valid-by-run}
 use Rattle.book.proofs.Nodes.{node-settled}
-use Rattle.book.specs.Table.{Table, Reply, Shows, Agrees, noted, storesRel, storesValid, rootsOf, Serves}
+use Rattle.book.specs.Table.{Table, Reply, Shows, Agrees, noted, storesValid, rootsOf, Serves}
 use Rattle.book.specs.Follow.{Ended, ends, eight, nine, Evals}
 use Rattle.book.proofs.Follow.{Matches}
 use Rattle.book.proofs.Roots.{kept-before}
@@ -203,7 +203,7 @@ relation-serves b t x bs rows y q s l z d = record {
         × Agrees (relationSteps b x (formulaIn b Relation bs) .1) (relationReply y q)
     p = relation-served b t x (formulaIn b Relation bs) rows y q s d
 
-    others : (y : Result) (r : ℕ) → storesRel (relation x bs) (relationReply y q) r ≡ false → relationLeaves t x rows y .rel r ≡ t .rel r
+    others : (y : Result) (r : ℕ) → stores (some x) (relationReply y q .number) r ≡ false → relationLeaves t x rows y .rel r ≡ t .rel r
     others (at a) r z = ap (λ (u : Bool). cond u (some a) (t .rel r)) z
     others noRows r z = refl
 

@@ -13,15 +13,15 @@ use Rattle.tokens.specs.declared.Kind.the-variants.{Set}
 use Rattle.accounts.specs.declared.Terms.{Terms}
 use Rattle.accounts.specs.declared.Count.{Count}
 use Rattle.book.specs.Book.{formulaIn, Book, Call, relation, set, valid, clear, collect, answered, registers, modelOf, Done, withReg}
-use Rattle.book.specs.Book.{setDone, does, play}
+use Rattle.book.specs.Book.{effect, stores, setDone, does, play}
 use Rattle.book.proofs.Stored.{range-cases, set-cases, relation-cases, valid-cases, some-inj, none-some, set-means}
 use Rattle.book.specs.Stored.{Passed}
-use Rattle.book.specs.Last.{touches, Untouched, LastSet}
+use Rattle.book.specs.Last.{Untouched, LastSet}
 
 -- one call that leaves A in register r: it did not touch r, or it was an answered set of it
 abbrev Comes : Book → ℕ → List Bool → Call → Done → Type 0
 Comes b r A c d =
-    ((touches r c (d .1) ≡ false) × (b .reg r ≡ some A))
+    ((stores (effect c .reg) (d .1 .number) r ≡ false) × (b .reg r ≡ some A))
     ⊎ ((acc : Terms) × (R : ℕ) × (bs : List ℕ) × (c ≡ set acc r R bs) × (d .1 .number ≡ 0))
 
 -- what an answered set leaves

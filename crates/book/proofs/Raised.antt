@@ -27,11 +27,11 @@ use Rattle.book.proofs.Leaves.{shows-filled}
 use Rattle.book.specs.Table.{Table, Reply, SettledTo, Agrees}
 use Rattle.book.specs.BookOf.{bookOf}
 use Rattle.book.specs.Contract.{Implements}
-use Rattle.book.specs.Demand.{Event, calls, bookAfter, Trace, stop, go, Session, AllAgree, Demand}
+use Rattle.book.specs.Demand.{Event, calls, bookAfter, Trace, stop, go, pause, Session, AllAgree, Demand}
 use Rattle.book.proofs.Demand.{third-demand}
 use Rattle.book.specs.Tallies.{spentAt, roundsAt}
-use Rattle.book.specs.Raised.{Eased, Raised, a-relation, a-set, a-valid, a-clear, a-collect, AllRaised, withRowCount, AllZero}
-use Rattle.book.specs.Raised.{SameReply, AllSame, Upgrade, SameVerdicts, Cut, Looser}
+use Rattle.book.specs.Raised.{Eased, SameCall, same-relation, same-set, same-valid, same-clear, same-collect, AllRaised, withRowCount}
+use Rattle.book.specs.Raised.{AllZero, SameReply, AllSame, Upgrade, SameVerdicts, Cut, Looser}
 
 -- ---- raised limits
 
@@ -67,15 +67,15 @@ module _ (M : ℕ) where
   named-same acc acc′ r = ap (λ (x : ℕ). listFits x (acc′ .place)) (r .count) ∙ ap (listFits (acc .count)) (r .place)
 
   -- A CALL THAT IS ANSWERED is answered alike under raised limits
-  pub does-more : (b : Book) → b .N ≤ M → {c d : Call} → Raised c d → does b c .1 .number ≡ 0 → Same (does b c) (does (withRowCount b M) d)
-  does-more b l (a-relation t bs) z =
+  pub does-more : (b : Book) → b .N ≤ M → {c d : Call} → SameCall Eased c d → does b c .1 .number ≡ 0 → Same (does b c) (does (withRowCount b M) d)
+  does-more b l (same-relation t bs) z =
       let f = formulaIn b Relation bs in
       let B = withRowCount b M in
       same-test (ltb t relations) _ _ (refuse b 3) (refuse B 3) 2
       (same-passing b B (checks b Relation bs) (relationSteps b t f) (relationSteps B t f)
       (same-ended b B _ _ (λ q. relationDone b t f q) (λ q. relationDone B t f q)
       (λ q e. verdict-more (b .N) M 0 0 l (omega arith) nothing (relationTicks (b .n) (liveOf b) (b .valid) f) q e) (λ q. refl))) refl z
-  does-more b l (a-set acc acc′ r R R′ bs e i) z =
+  does-more b l (same-set acc acc′ r R R′ bs e i) z =
       let f = formulaIn b Set bs in
       let B = withRowCount b M in
       let rows = e .rows in
@@ -91,15 +91,15 @@ module _ (M : ℕ) where
       nothing (ticks (states (modelOf b) noEnv) (liveOf b) f) q e) (λ q. refl))) refl) refl z
       in
       subst (λ (t : Bool). Same (does b (set acc r R bs)) (due t)) (sym (named-same acc acc′ e)) fed
-  does-more b l (a-valid bs) z =
+  does-more b l (same-valid bs) z =
       let f = formulaIn b Valid bs in
       let B = withRowCount b M in
       same-test (unfilled b) _ _ (refuse b 13) (refuse B 13) 12
       (same-passing b B (checks b Valid bs) (validSteps b f) (validSteps B f)
       (same-ended b B _ _ (λ q. validDone b f) (λ q. validDone B f)
       (λ q e. verdict-more (b .N) M 0 0 l (omega arith) nothing (ticks (pairs (b .n)) (liveOf b) f) q e) (λ q. refl))) refl z
-  does-more b l (a-clear r) z = same-test (ltb r registers) _ _ (refuse b 3) (refuse (withRowCount b M) 3) 2 (λ _. refl) refl z
-  does-more b l a-collect z = refl
+  does-more b l (same-clear r) z = same-test (ltb r registers) _ _ (refuse b 3) (refuse (withRowCount b M) 3) 2 (λ _. refl) refl z
+  does-more b l same-collect z = refl
 
   -- the rows of the book do not change
   rows-kept : (b : Book) (c : Call) → does b c .0 .N ≡ b .N
@@ -110,6 +110,10 @@ module _ (M : ℕ) where
   rows-kept b collect = refl
 
   -- ---- a list of calls
+
+  pub rows-after : (b : Book) (cs : List Call) → play b cs .0 .N ≡ b .N
+  rows-after b [] = refl
+  rows-after b (c ∷ cs) = rows-after (does b c .0) cs ∙ rows-kept b c
 
   -- SAME VERDICTS, of the book: the same answers, and the same book but for its rows
   pub play-more : (b : Book) → b .N ≤ M → (cs ds : List Call) → AllRaised cs ds → AllAnswered (play b cs .1)
@@ -189,10 +193,10 @@ all-same (a ∷ as′) (x ∷ l) [] d e = absurd e
 all-same (a ∷ as′) (x ∷ l) (x′ ∷ l′) d e = (same-reply a (x .1) (x′ .1) (d .0) (e .0), all-same as′ l l′ (d .1) (e .1))
 
 module _ {W : Type 0} {words : W → ℕ} {sound : W → Type 0} {view : W → Table} {makes : W → ℕ → ℕ → ℕ → W → Reply → Type 0}
-    {contract : W → Call → W → Reply → Type 0} {asks : W → Question → W → Reply → Type 0}
-    (I : Implements W words sound view makes contract asks) where
-  module _ (n N M : ℕ) (more : N ≤ M) (most : M ≤ 60_000) {l l′ : List Event} {w w′ : W} (s : Session W makes contract n N l w)
-      (u : Upgrade W words makes contract n M (s .count) l′ w′)
+    {contract : W → Call → W → Reply → Type 0} {rests : W → W → Type 0} {asks : W → Question → W → Reply → Type 0}
+    (I : Implements W words sound view makes contract rests asks) where
+  module _ (n N M : ℕ) (more : N ≤ M) (most : M ≤ 60_000) {l l′ : List Event} {w w′ : W} (s : Session W makes contract rests n N l w)
+      (u : Upgrade W words makes contract rests n M (s .count) l′ w′)
       (raised : AllRaised (calls l) (calls l′)) (zero-all : AllZero l) where
     first : Demand sound view asks n N l w
     first = third-demand I n N s
@@ -276,19 +280,34 @@ module _ {W : Type 0} {words : W → ℕ} {sound : W → Type 0} {view : W → T
 
 -- ---- "after each call": the first calls of a list are a list
 
+-- the first call of a list, with what rests before it, and the list after it
+record Off (W : Type 0) (contract : W → Call → W → Reply → Type 0) (rests : W → W → Type 0) (w : W) (x : Event) (m : List Event) (w′ : W)
+    : Type 0 where
+  after : W
+  led : (l : List Event) (u : W) → Trace W contract rests after l u → Trace W contract rests w (x ∷ l) u
+  rest : Trace W contract rests after m w′
+
+first-off : {W : Type 0} {contract : W → Call → W → Reply → Type 0} {rests : W → W → Type 0} {w w′ : W} {x : Event} {m : List Event}
+    → Trace W contract rests w (x ∷ m) w′ → Off W contract rests w x m w′
+first-off (go {v = v} p t) = record { after = v; led = λ l u s. go p s; rest = t }
+first-off (pause q t) = let o = first-off t in record { after = o .after; led = λ l u s. pause q (o .led l u s); rest = o .rest }
+
 -- every list can be cut after its first calls
-pub trace-cut : {W : Type 0} {contract : W → Call → W → Reply → Type 0} {w w′ : W} (l k : List Event) → Trace W contract w (l ++ k) w′
-    → Cut W contract w l k w′
+pub trace-cut : {W : Type 0} {contract : W → Call → W → Reply → Type 0} {rests : W → W → Type 0} {w w′ : W} (l k : List Event)
+    → Trace W contract rests w (l ++ k) w′ → Cut W contract rests w l k w′
 trace-cut {w = w} [] k t = record { mid = w; first = stop; rest = t }
-trace-cut (x ∷ l) k (go p t) = let c = trace-cut l k t in record { mid = c .mid; first = go p (c .first); rest = c .rest }
+trace-cut (x ∷ l) k t =
+    let o = first-off t in
+    let c = trace-cut l k (o .rest) in record { mid = c .mid; first = o .led l (c .mid) (c .first); rest = c .rest }
 
 -- BIGGER TABLES, SAME VERDICTS, AFTER EACH CALL: after the first calls l and l′ of the two lists, wherever they are cut
 pub after-each : {W : Type 0} {words : W → ℕ} {sound : W → Type 0} {view : W → Table} {makes : W → ℕ → ℕ → ℕ → W → Reply → Type 0}
-    {contract : W → Call → W → Reply → Type 0} {asks : W → Question → W → Reply → Type 0}
-    → Implements W words sound view makes contract asks → (n N M : ℕ) → N ≤ M → M ≤ 60_000
-    → (l k l′ k′ : List Event) {w w′ : W} (s : Session W makes contract n N (l ++ k) w)
-    (u : Upgrade W words makes contract n M (s .count) (l′ ++ k′) w′)
-    → AllRaised (calls l) (calls l′) → AllZero l → (x : Cut W contract (s .made) l k w) (x′ : Cut W contract (u .made) l′ k′ w′)
+    {contract : W → Call → W → Reply → Type 0} {rests : W → W → Type 0} {asks : W → Question → W → Reply → Type 0}
+    → Implements W words sound view makes contract rests asks → (n N M : ℕ) → N ≤ M → M ≤ 60_000
+    → (l k l′ k′ : List Event) {w w′ : W} (s : Session W makes contract rests n N (l ++ k) w)
+    (u : Upgrade W words makes contract rests n M (s .count) (l′ ++ k′) w′)
+    → AllRaised (calls l) (calls l′) → AllZero l → (x : Cut W contract rests (s .made) l k w)
+    (x′ : Cut W contract rests (u .made) l′ k′ w′)
     → SameVerdicts view asks n N M (u .reply) l l′ (x .mid) (x′ .mid)
 after-each I n N M more most l k l′ k′ s u r z x x′ =
     bigger-tables I n N M more most
@@ -321,13 +340,13 @@ rounds-same p (a ∷ as′) (x ∷ l) (x′ ∷ l′) r d =
     ap (λ (k : ℕ). k + roundsAt p l′) (one (r .0) (x .1) (x′ .1) (d .0))
     ∙ ap (λ (k : ℕ). spentAt p (x .0) (x .1 .number) (x .1 .rounds) + k) (rounds-same p as′ l l′ (r .1) (d .1))
   where
-    one : {c c′ : Call} → Raised c c′ → (y y′ : Reply) → SameReply a y y′
+    one : {c c′ : Call} → SameCall Eased c c′ → (y y′ : Reply) → SameReply a y y′
         → spentAt p c′ (y′ .number) (y′ .rounds) ≡ spentAt p c (y .number) (y .rounds)
-    one (a-relation t bs) y y′ h = refl
-    one (a-set acc acc′ i R R′ bs e j) y y′ h =
+    one (same-relation t bs) y y′ h = refl
+    one (same-set acc acc′ i R R′ bs e j) y y′ h =
         ap (λ (k : ℕ). cond (eqb k 0 && eqb p (acc′ .place)) (y′ .rounds) 0) (h .number)
         ∙ ap (λ (k : ℕ). cond (eqb (y .number) 0 && eqb p k) (y′ .rounds) 0) (e .place)
         ∙ ap (λ (k : ℕ). cond (eqb (y .number) 0 && eqb p (acc .place)) k 0) (h .rounds)
-    one (a-valid bs) y y′ h = refl
-    one (a-clear i) y y′ h = refl
-    one a-collect y y′ h = refl
+    one (same-valid bs) y y′ h = refl
+    one (same-clear i) y y′ h = refl
+    one same-collect y y′ h = refl

@@ -1,6 +1,6 @@
 -- The roots of a table, the arrows in its filled registers and relations, hold what is live in the book that it shows. Assumes nothing.
 use mathlib.Core.Path.{_≡_, refl, sym, ap, _∙_, subst}
-use mathlib.Core.Bool.{Bool, true, false, _&&_, cond}
+use mathlib.Core.Bool.{Bool, true, false, cond}
 use mathlib.Core.Logic.{⊎-elim}
 use mathlib.Core.List.{List, [], _++_, List·Memᴰ as Mem, List·Memᴰ·head as here, List·Memᴰ·tail as there, List·Memᴰ·not-nil as mem-nil}
 use mathlib.Core.List.{List·Memᴰ·cases-cons as mem-cases, Memᴰ·append-left as mem-left, Memᴰ·append-right as mem-right}
@@ -8,15 +8,14 @@ use mathlib.Core.List.{List·Memᴰ·append-cases as append-cases}
 use mathlib.Core.Option.{Option, none, some}
 use Prim.Native.Nat.{ℕ, zero, suc, _*_, _<_}
 use native.Mathlib.Omega.{arith}
-use lib.Dec.{eqb}
 use Rattle.diagram.specs.Level.{Fn}
 use Rattle.diagram.specs.Count.{Within}
 use Rattle.diagram.specs.Rows.{Rows}
 use Rattle.book.specs.Bridge.{fnOf, fnOfPairs}
 use Rattle.book.specs.Run.{addFilled, contents}
-use Rattle.book.specs.Book.{Book, Call, relation, set, valid, clear, collect, registers, relations, liveOf}
+use Rattle.book.specs.Book.{Book, Call, effect, stores, registers, relations, liveOf}
 use Rattle.book.proofs.Stored.{none-some, some-inj}
-use Rattle.book.specs.Table.{Table, Reply, Place, Shows, addRoot, arrowsOf, rootsOf, noted, storesRel, storesValid, keptReg}
+use Rattle.book.specs.Table.{Table, Reply, Place, Shows, addRoot, arrowsOf, rootsOf, noted, storesValid, keptAt}
 use Rattle.book.specs.Table.{keptRoots}
 use Rattle.book.specs.Held.{Held}
 use Rattle.book.proofs.Held.{held-push}
@@ -111,34 +110,24 @@ cond-filled false o a e = (refl, e)
 -- what a call leaves of the roots are roots before it
 pub kept-before : (c : Call) (y : Reply) (t : Table) → Within (keptRoots c y t) (rootsOf t)
 kept-before c y t =
-    roots-within t (cond (storesValid c y) none (some (t .valid))) (keptReg c y (t .reg)) (λ q. cond (storesRel c y q) none (t .rel q))
-    (λ a e. some-inj (cond-filled (storesValid c y) (some (t .valid)) a e .1)) (λ i a l e. reg c i a e)
-    (λ i a l e. cond-filled (storesRel c y i) (t .rel i) a e .1)
-  where
-    reg : (c : Call) (i a : ℕ) → keptReg c y (t .reg) i ≡ some a → t .reg i ≡ some a
-    reg (relation q bs) i a e = e
-    reg (set acc q R bs) i a e = cond-filled (eqb (y .number) 0 && eqb i q) (t .reg i) a e .1
-    reg (valid bs) i a e = e
-    reg (clear q) i a e = cond-filled (eqb (y .number) 0 && eqb i q) (t .reg i) a e .1
-    reg collect i a e = e
+    roots-within t (cond (storesValid c y) none (some (t .valid))) (keptAt (effect c .reg) (y .number) (t .reg))
+    (keptAt (effect c .rel) (y .number) (t .rel))
+    (λ a e. some-inj (cond-filled (storesValid c y) (some (t .valid)) a e .1))
+    (λ i a l e. cond-filled (stores (effect c .reg) (y .number) i) (t .reg i) a e .1)
+    (λ i a l e. cond-filled (stores (effect c .rel) (y .number) i) (t .rel i) a e .1)
 
 -- and after it
 pub kept-after : (c : Call) (y : Reply) (t u : Table) → ((r : ℕ) → r < registers → u .reg r ≡ noted (t .reg r) c y r)
-    → ((q : ℕ) → q < relations → storesRel c y q ≡ false → u .rel q ≡ t .rel q)
+    → ((q : ℕ) → q < relations → stores (effect c .rel) (y .number) q ≡ false → u .rel q ≡ t .rel q)
     → (storesValid c y ≡ false → u .valid ≡ t .valid) → Within (keptRoots c y t) (rootsOf u)
 kept-after c y t u p q v =
-    roots-within u (cond (storesValid c y) none (some (t .valid))) (keptReg c y (t .reg)) (λ x. cond (storesRel c y x) none (t .rel x))
-    (λ a e. let w = cond-filled (storesValid c y) (some (t .valid)) a e in v (w .0) ∙ some-inj (w .1)) (λ i a l e. p i l ∙ reg c i a e)
-    (λ i a l e. let w = cond-filled (storesRel c y i) (t .rel i) a e in q i l (w .0) ∙ w .1)
+    roots-within u (cond (storesValid c y) none (some (t .valid))) (keptAt (effect c .reg) (y .number) (t .reg))
+    (keptAt (effect c .rel) (y .number) (t .rel))
+    (λ a e. let w = cond-filled (storesValid c y) (some (t .valid)) a e in v (w .0) ∙ some-inj (w .1))
+    (λ i a l e. p i l ∙ other (stores (effect c .reg) (y .number) i) (cond (effect c .fills) (some (y .value)) none) (t .reg i) a e)
+    (λ i a l e. let w = cond-filled (stores (effect c .rel) (y .number) i) (t .rel i) a e in q i l (w .0) ∙ w .1)
   where
     -- no target
     other : (b : Bool) (new old : Option ℕ) (a : ℕ) → cond b none old ≡ some a → cond b new old ≡ some a
     other true new old a e = absurd (none-some e)
     other false new old a e = e
-
-    reg : (c : Call) (i a : ℕ) → keptReg c y (t .reg) i ≡ some a → noted (t .reg i) c y i ≡ some a
-    reg (relation x bs) i a e = e
-    reg (set acc x R bs) i a e = other (eqb (y .number) 0 && eqb i x) (some (y .value)) (t .reg i) a e
-    reg (valid bs) i a e = e
-    reg (clear x) i a e = other (eqb (y .number) 0 && eqb i x) none (t .reg i) a e
-    reg collect i a e = e

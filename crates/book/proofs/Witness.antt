@@ -21,7 +21,7 @@ use Rattle.book.proofs.Leaves.{storeReg, shows-fresh}
 use Rattle.book.specs.BookOf.{SoundTable, bookOf}
 use Rattle.book.proofs.BookOf.{whole-bookOf, shows-bookOf, sound-shows}
 use Rattle.book.proofs.Stored.{whole-fresh, whole-does}
-use Rattle.book.specs.Contract.{Starts, Performs, Answers, Implements}
+use Rattle.book.specs.Contract.{Starts, Performs, Answers, Quiet, Implements}
 use Rattle.book.proofs.Formulas.{set-serves}
 use Rattle.book.proofs.Calls.{clear-serves}
 use Rattle.book.specs.Demand.{Event, stop, go, Session, Demand}
@@ -41,8 +41,18 @@ performs t c t′ y = Performs SoundTable (λ x. x) c t t′ y
 abbrev pub answers : Table → Question → Table → Reply → Type 0
 answers t q t′ y = Answers SoundTable (λ x. x) q t t′ y
 
-pub tables-implement : Implements Table (λ t. lent) SoundTable (λ t. t) makes performs answers
-tables-implement = record { good = λ w s. s; starts = λ w w′ n N k y p. p; performs = λ w w′ c y p. p; answers = λ w w′ q y p. p }
+-- a call that stores nothing
+abbrev pub rests : Table → Table → Type 0
+rests t t′ = Quiet SoundTable (λ x. x) t t′
+
+pub tables-implement : Implements Table (λ t. lent) SoundTable (λ t. t) makes performs rests answers
+tables-implement = record {
+  good = λ w s. s;
+  starts = λ w w′ n N k y p. p;
+  performs = λ w w′ c y p. p;
+  quiet = λ w w′ p. p;
+  answers = λ w w′ q y p. p;
+}
 
 -- ---- a list: set 0 to all states, clear 0
 
@@ -98,7 +108,7 @@ second =
       served = λ k. (sound-shows _ emptied (whole-does (bookOf stored) (clear 0) (whole-bookOf stored stored-sound)) (d .shows), d);
     }
 
-pub played : Session Table makes performs 1 100 events emptied
+pub played : Session Table makes performs rests 1 100 events emptied
 played = record {
   lent = blank;
   count = 1;

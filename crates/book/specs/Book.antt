@@ -4,7 +4,7 @@ use mathlib.Core.Bool.{Bool, true, false, not, cond, _&&_}
 use mathlib.Core.List.{List, [], _∷_, _++_}
 use mathlib.Core.Option.{Option, none, some}
 use Prim.Native.Nat.{ℕ, zero, suc, _+_, _*_, _^_}
-use lib.Dec.{leb, ltb}
+use lib.Dec.{leb, ltb, eqb}
 use Rattle.mucalculus.specs.Sets.{mem, all, allStates}
 use Rattle.mucalculus.specs.Order.{weight}
 use Rattle.mucalculus.specs.Form.{Form, Pairs, Model, noEnv, put, filled}
@@ -59,6 +59,27 @@ pub data Call : Type 0 where
   clear : ℕ → Call  -- clear r
   valid : List ℕ → Call  -- valid, bytes: "Valid may stand among the calls after fresh"
   collect : Call
+
+-- what an answered call changes: a register, which it fills or empties, a relation, V; and the account that it names
+pub record Effect : Type 0 where
+  pub reg : Option ℕ
+  pub fills : Bool
+  pub rel : Option ℕ
+  pub valid : Bool
+  pub account : Option Terms
+
+-- each call's
+abbrev pub effect : Call → Effect
+effect (relation t bs) = record { reg = none; fills = false; rel = some t; valid = false; account = none }
+effect (set acc r R bs) = record { reg = some r; fills = true; rel = none; valid = false; account = some acc }
+effect (clear r) = record { reg = some r; fills = false; rel = none; valid = false; account = none }
+effect (valid bs) = record { reg = none; fills = false; rel = none; valid = true; account = none }
+effect collect = record { reg = none; fills = false; rel = none; valid = false; account = none }
+
+-- a call with the number k was answered, and q is the place, if any, that it changes
+abbrev pub stores : Option ℕ → ℕ → ℕ → Bool
+stores none k q = false
+stores (some r) k q = eqb k 0 && eqb q r
 
 -- a question, which changes nothing
 pub data Question : Type 0 where

@@ -26,34 +26,39 @@ abbrev pub bookAfter : ℕ → ℕ → List Event → Book
 bookAfter n N l = play (fresh n N) (calls l) .0
 
 -- events in order, each under its call's contract, from the words w to the words w′: "each gets the table as the one before left it, and
--- nobody else writes it"
-pub data Trace (W : Type 0) (contract : W → Call → W → Reply → Type 0) : W → List Event → W → Type 0 where
-  stop : {w : W} → Trace W contract w [] w
-  go : {w v w′ : W} {c : Call} {y : Reply} {l : List Event} → contract w c v y → Trace W contract v l w′
-      → Trace W contract w ((c, y) ∷ l) w′
+-- nobody else writes it"; calls that store nothing may stand anywhere between them
+pub data Trace (W : Type 0) (contract : W → Call → W → Reply → Type 0) (rests : W → W → Type 0) : W → List Event → W → Type 0 where
+  stop : {w : W} → Trace W contract rests w [] w
+  go : {w v w′ : W} {c : Call} {y : Reply} {l : List Event} → contract w c v y → Trace W contract rests v l w′
+      → Trace W contract rests w ((c, y) ∷ l) w′
+  pause : {w v w′ : W} {l : List Event} → rests w v → Trace W contract rests v l w′ → Trace W contract rests w l w′
 
 -- a list from bare words: an answered fresh, then the calls, each under its contract
 pub record Session (W : Type 0) (makes : W → ℕ → ℕ → ℕ → W → Reply → Type 0) (contract : W → Call → W → Reply → Type 0)
-    (n N : ℕ) (l : List Event) (end : W) : Type 0 where
+    (rests : W → W → Type 0) (n N : ℕ) (l : List Event) (end : W) : Type 0 where
   pub lent : W
   pub count : ℕ
   pub made : W
   pub reply : Reply
   pub start : makes lent n N count made reply
   pub answered : reply .number ≡ 0
-  pub rest : Trace W contract made l end
+  pub rest : Trace W contract rests made l end
 
 -- the number of register r, x before the events, "as the calls that last set them returned them"
 abbrev pub lastNumber : Option ℕ → List Event → ℕ → Option ℕ
 lastNumber x [] r = x
 lastNumber x (e ∷ l) r = lastNumber (noted x (e .0) (e .1) r) l r
 
+-- two lists, equally long, and R holds of what stands at the same place
+abbrev pub Pairwise : {X Y : Type 0} → (X → Y → Type 0) → List X → List Y → Type 0
+Pairwise R [] [] = Unit {0}
+Pairwise R [] (y ∷ l) = ⊥
+Pairwise R (x ∷ k) [] = ⊥
+Pairwise R (x ∷ k) (y ∷ l) = R x y × Pairwise R k l
+
 -- "Each call in the list was answered where the book answers it, and elsewhere refused with the book's number"
 abbrev pub AllAgree : List Answer → List Event → Type 0
-AllAgree [] [] = Unit {0}
-AllAgree [] (e ∷ l) = ⊥
-AllAgree (a ∷ as′) [] = ⊥
-AllAgree (a ∷ as′) (e ∷ l) = Agrees a (e .1) × AllAgree as′ l
+AllAgree as′ l = Pairwise (λ a e. Agrees a (e .1)) as′ l
 
 -- each number is 8 exactly where a need within the rounds is above N, over the book as it stood then
 abbrev pub AllEight : Book → List Event → Type 0

@@ -14,7 +14,7 @@ use Rattle.accounts.specs.Terms.{lent}
 use Rattle.book.specs.Book.{Book, fresh, Call, relation, set, valid, clear, collect, Question, count, Answer, registers, play, answer}
 use Rattle.book.specs.Table.{Table, Reply}
 use Rattle.book.specs.BookOf.{bookOf}
-use Rattle.book.specs.Demand.{Event, calls, Trace}
+use Rattle.book.specs.Demand.{Event, calls, Trace, Pairwise}
 
 -- ---- raised limits
 
@@ -25,20 +25,17 @@ pub record Eased (acc acc′ : Terms) : Type 0 where
   pub rows : acc .rows ≤ acc′ .rows
   pub rounds : acc .rounds ≤ acc′ .rounds
 
--- the same call "with every limit raised or equal"
-pub data Raised : Call → Call → Type 0 where
-  a-relation : (t : ℕ) (bs : List ℕ) → Raised (relation t bs) (relation t bs)
-  a-set : (acc acc′ : Terms) (r R R′ : ℕ) (bs : List ℕ) → Eased acc acc′ → R ≤ R′ → Raised (set acc r R bs) (set acc′ r R′ bs)
-  a-valid : (bs : List ℕ) → Raised (valid bs) (valid bs)
-  a-clear : (r : ℕ) → Raised (clear r) (clear r)
-  a-collect : Raised collect collect
+-- the same call, with its rounds raised or equal and the accounts that it names related by E
+pub data SameCall (E : Terms → Terms → Type 0) : Call → Call → Type 0 where
+  same-relation : (t : ℕ) (bs : List ℕ) → SameCall E (relation t bs) (relation t bs)
+  same-set : (acc acc′ : Terms) (r R R′ : ℕ) (bs : List ℕ) → E acc acc′ → R ≤ R′ → SameCall E (set acc r R bs) (set acc′ r R′ bs)
+  same-valid : (bs : List ℕ) → SameCall E (valid bs) (valid bs)
+  same-clear : (r : ℕ) → SameCall E (clear r) (clear r)
+  same-collect : SameCall E collect collect
 
--- the same list of calls
+-- "the same list" of calls "with every limit raised or equal"
 abbrev pub AllRaised : List Call → List Call → Type 0
-AllRaised [] [] = Unit {0}
-AllRaised [] (d ∷ ds) = ⊥
-AllRaised (c ∷ cs) [] = ⊥
-AllRaised (c ∷ cs) (d ∷ ds) = Raised c d × AllRaised cs ds
+AllRaised cs ds = Pairwise (SameCall Eased) cs ds
 
 -- the book of a table with M rows
 abbrev pub withRowCount : Book → ℕ → Book
@@ -68,13 +65,13 @@ AllSame (a ∷ as′) (x ∷ l) (x′ ∷ l′) = SameReply a (x .1) (x′ .1) �
 
 -- the list again, on other words and with a larger row count: fresh, whether it is answered or not, and the calls
 pub record Upgrade (W : Type 0) (words : W → ℕ) (makes : W → ℕ → ℕ → ℕ → W → Reply → Type 0) (contract : W → Call → W → Reply → Type 0)
-    (n M count : ℕ) (l : List Event) (end : W) : Type 0 where
+    (rests : W → W → Type 0) (n M count : ℕ) (l : List Event) (end : W) : Type 0 where
   pub lent : W
   pub enough : 256 + 12 * M ≤ words lent
   pub made : W
   pub reply : Reply
   pub start : makes lent n M count made reply
-  pub rest : Trace W contract made l end
+  pub rest : Trace W contract rests made l end
 
 -- the claim after the two lists, which left the words w and w′
 pub record SameVerdicts {W : Type 0} (view : W → Table) (asks : W → Question → W → Reply → Type 0)
@@ -97,10 +94,11 @@ pub record SameVerdicts {W : Type 0} (view : W → Table) (asks : W → Question
 -- ---- "after each call": the first calls of a list are a list
 
 -- a list cut in two: the words between
-pub record Cut (W : Type 0) (contract : W → Call → W → Reply → Type 0) (w : W) (l k : List Event) (w′ : W) : Type 0 where
+pub record Cut (W : Type 0) (contract : W → Call → W → Reply → Type 0) (rests : W → W → Type 0) (w : W) (l k : List Event) (w′ : W)
+    : Type 0 where
   pub mid : W
-  pub first : Trace W contract w l mid
-  pub rest : Trace W contract mid k w′
+  pub first : Trace W contract rests w l mid
+  pub rest : Trace W contract rests mid k w′
 
 -- ---- the accounts
 

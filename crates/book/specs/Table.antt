@@ -11,8 +11,8 @@ use Rattle.diagram.specs.Post.{Denotes}
 use Rattle.diagram.specs.Reach.{Reach}
 use Rattle.diagram.specs.Keep.{Keeps}
 use Rattle.book.specs.Bridge.{fnOf, fnOfPairs}
-use Rattle.book.specs.Book.{Book, Call, relation, set, valid, clear, collect, Question, node, member, count, Answer, registers}
-use Rattle.book.specs.Book.{relations, does, answer}
+use Rattle.book.specs.Book.{Book, Call, relation, set, valid, clear, collect, effect, stores, Question, node, member, count, Answer}
+use Rattle.book.specs.Book.{registers, relations, does, answer}
 
 -- a table: its header, its rows, the arrow of V, and the arrow in each register and relation
 pub record Table : Type 0 where
@@ -82,41 +82,21 @@ Refusal k y = (y .number ≡ k) × (y .rounds ≡ 0) × (y .peak ≡ 0) × (y .v
 
 -- "A register keeps its number until it is set or cleared": register r's number after a call, from the one before it
 abbrev pub noted : Option ℕ → Call → Reply → ℕ → Option ℕ
-noted x (relation t bs) y r = x
-noted x (set acc q R bs) y r = cond (eqb (y .number) 0 && eqb r q) (some (y .value)) x
-noted x (valid bs) y r = x
-noted x (clear q) y r = cond (eqb (y .number) 0 && eqb r q) none x
-noted x collect y r = x
-
--- the call was an answered relation q
-abbrev pub storesRel : Call → Reply → ℕ → Bool
-storesRel (relation t bs) y q = eqb (y .number) 0 && eqb q t
-storesRel (set acc r R bs) y q = false
-storesRel (valid bs) y q = false
-storesRel (clear r) y q = false
-storesRel collect y q = false
+noted x c y r = cond (stores (effect c .reg) (y .number) r) (cond (effect c .fills) (some (y .value)) none) x
 
 -- the call was an answered valid
 abbrev pub storesValid : Call → Reply → Bool
-storesValid (relation t bs) y = false
-storesValid (set acc r R bs) y = false
-storesValid (valid bs) y = eqb (y .number) 0
-storesValid (clear r) y = false
-storesValid collect y = false
+storesValid c y = effect c .valid && eqb (y .number) 0
 
--- the registers that a call leaves as they are: all but an answered call's target, which is none here
-abbrev pub keptReg : Call → Reply → (ℕ → Option ℕ) → ℕ → Option ℕ
-keptReg (relation t bs) y h r = h r
-keptReg (set acc q R bs) y h r = cond (eqb (y .number) 0 && eqb r q) none (h r)
-keptReg (valid bs) y h r = h r
-keptReg (clear q) y h r = cond (eqb (y .number) 0 && eqb r q) none (h r)
-keptReg collect y h r = h r
+-- the places that a call with the number k leaves as they are: all but an answered call's target, which is none here
+abbrev pub keptAt : Option ℕ → ℕ → (ℕ → Option ℕ) → ℕ → Option ℕ
+keptAt o k h q = cond (stores o k q) none (h q)
 
 -- the roots that a call leaves as they are, V first
 abbrev pub keptRoots : Call → Reply → Table → List ℕ
 keptRoots c y t =
     addRoot (cond (storesValid c y) none (some (t .valid)))
-    (arrowsOf registers (keptReg c y (t .reg)) ++ arrowsOf relations (λ q. cond (storesRel c y q) none (t .rel q)))
+    (arrowsOf registers (keptAt (effect c .reg) (y .number) (t .reg)) ++ arrowsOf relations (keptAt (effect c .rel) (y .number) (t .rel)))
 
 -- "unneeded rows (none is left used by an answered collect)": each used row is reached from V, a register or a relation
 abbrev pub Swept : Call → Table → Type 0
@@ -131,7 +111,7 @@ pub record Serves (b : Book) (c : Call) (before after : Table) (y : Reply) : Typ
   pub shows : Shows (does b c .0) after
   pub agrees : Agrees (does b c .1) y
   pub numbers : (r : ℕ) → r < registers → after .reg r ≡ noted (before .reg r) c y r
-  pub rels : (q : ℕ) → q < relations → storesRel c y q ≡ false → after .rel q ≡ before .rel q
+  pub rels : (q : ℕ) → q < relations → stores (effect c .rel) (y .number) q ≡ false → after .rel q ≡ before .rel q
   -- "V … is kept by every refusal"
   pub valid : storesValid c y ≡ false → after .valid ≡ before .valid
   -- "Kept: registers, relations, rows they need", row by row

@@ -4,26 +4,31 @@
 use mathlib.Core.Path.{_≡_}
 use mathlib.Core.Bool.{cond, _&&_}
 use mathlib.Core.List.{List, [], _∷_}
+use mathlib.Core.Option.{Option, none, some}
 use Prim.Native.Nat.{ℕ, _+_}
 use lib.Dec.{eqb}
 use lib.ListN.{length, getD, set as place}
 use Rattle.accounts.specs.declared.Account.{Account}
 use Rattle.accounts.specs.Account.{counted}
-use Rattle.accounts.specs.Listed.{none, emptiedTo}
+use Rattle.accounts.specs.declared.Terms.{Terms}
+use Rattle.accounts.specs.Listed.{none as noAccount, emptiedTo}
 use Rattle.accounts.specs.Terms.{termsOf}
-use Rattle.book.specs.Book.{Book, Call, relation, set, valid, clear, collect, does}
+use Rattle.book.specs.Book.{Book, Call, effect, does}
 use Rattle.book.specs.Table.{Reply}
 use Rattle.book.specs.Demand.{Event}
 
 -- ---- what a call leaves of the list
 
+-- what is due by the account that a call names, x where it names none
+abbrev pub byAccount : {X : Type 0} → Option Terms → X → (Terms → X) → X
+byAccount none x h = x
+byAccount (some acc) x h = h acc
+
 -- an answered set charges its own account; "no refusal changes an account", and no other call gets the list
 abbrev pub charged : List Account → Call → Reply → List Account
-charged l (relation t bs) y = l
-charged l (set acc r R bs) y = cond (eqb (y .number) 0) (place l (acc .place) (counted (getD l (acc .place) none) (y .rounds))) l
-charged l (valid bs) y = l
-charged l (clear r) y = l
-charged l collect y = l
+charged l c y =
+    byAccount (effect c .account) l
+    (λ acc. cond (eqb (y .number) 0) (place l (acc .place) (counted (getD l (acc .place) noAccount) (y .rounds))) l)
 
 -- "Fresh sets the tallies to 0", where it is answered
 abbrev pub freshened : List Account → Reply → List Account
@@ -35,22 +40,18 @@ accountsAfter l [] = l
 accountsAfter l (e ∷ es) = accountsAfter (charged l (e .0) (e .1)) es
 
 -- "The book is fed the list's length and the named account's limits": each set, from the list as it stood
+abbrev pub FedBy : List Account → Option Terms → Type 0
+FedBy l none = Unit {0}
+FedBy l (some acc) = acc ≡ termsOf l (acc .place)
+
 abbrev pub Fed : List Account → Call → Type 0
-Fed l (relation t bs) = Unit {0}
-Fed l (set acc r R bs) = acc ≡ termsOf l (acc .place)
-Fed l (valid bs) = Unit {0}
-Fed l (clear r) = Unit {0}
-Fed l collect = Unit {0}
+Fed l c = FedBy l (effect c .account)
 
 -- ---- what a tally counts
 
 -- the rounds of an answered set of the account at place p, by a number and its rounds
 abbrev pub spentAt : ℕ → Call → ℕ → ℕ → ℕ
-spentAt p (relation t bs) number q = 0
-spentAt p (set acc r R bs) number q = cond (eqb number 0 && eqb p (acc .place)) q 0
-spentAt p (valid bs) number q = 0
-spentAt p (clear r) number q = 0
-spentAt p collect number q = 0
+spentAt p c number q = byAccount (effect c .account) 0 (λ acc. cond (eqb number 0 && eqb p (acc .place)) q 0)
 
 -- of all of them in a list
 abbrev pub roundsAt : ℕ → List Event → ℕ

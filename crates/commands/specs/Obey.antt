@@ -1,9 +1,9 @@
 -- What a record's command leaves and returns, by the contracts of its calls. Definitions alone.
 use mathlib.Core.Path.{_≡_}
-use mathlib.Core.Bool.{Bool}
+use mathlib.Core.Bool.{Bool, cond}
 use mathlib.Core.List.{List}
 use Prim.Native.Nat.{ℕ, _≤_}
-use Rattle.book.specs.Book.{Call, relation, set, valid, clear, collect, count}
+use Rattle.book.specs.Book.{Call, relation, set, valid, clear, collect, effect, count}
 use Rattle.book.specs.Program.{Command, start, call, states, opOf}
 use Rattle.book.specs.Table.{Reply}
 use Rattle.book.specs.Leaves.{valued}
@@ -39,11 +39,7 @@ nodeReply x = record { number = x .number; rounds = x .rounds; peak = x .peak; v
 
 -- a call's reply in an outcome
 abbrev pub replyOf : Call → Outcome → Reply
-replyOf (relation t bs) x = shownReply x
-replyOf (set acc r R bs) x = nodeReply x
-replyOf (valid bs) x = shownReply x
-replyOf (clear r) x = shownReply x
-replyOf collect x = shownReply x
+replyOf c x = cond (effect c .fills) (nodeReply x) (shownReply x)
 
 -- what else an outcome tells of a call: of an answered set the states in r, as count answers them; node numbers of set alone
 abbrev pub Beside : Call → List ℕ → Outcome → Type 0

@@ -1,9 +1,10 @@
 -- Laws of what specs/Closed.antt defines. Assumes nothing.
-use mathlib.Core.Path.{sym, subst}
+use mathlib.Core.Path.{_≡_, sym, ap, subst}
 use mathlib.Core.List.{List, _++_}
 use Prim.Native.Nat.{ℕ, _≤_}
 use lib.ListN.{length}
 use Rattle.rows.specs.Sound.{tableOf}
+use Rattle.book.specs.BookOf.{bookOf}
 use Rattle.book.specs.Contract.{Answers, Implements}
 use Rattle.book.specs.Demand.{Event, calls, Session, Demand}
 use Rattle.book.proofs.Demand.{third-demand}
@@ -11,27 +12,37 @@ use Rattle.book.specs.Raised.{AllRaised, AllZero, Upgrade, SameVerdicts, Cut}
 use Rattle.book.proofs.Raised.{after-each}
 use Rattle.contract.specs.Seen.{seen, SoundWords}
 use Rattle.contract.proofs.Seen.{sound-table}
-use Rattle.contract.specs.Closed.{makes, performs, asks}
+use Rattle.contract.specs.Closed.{makes, performs, rests, asks}
 
 -- the predicates of the functions' `ensures` implement the book
-pub words-implement : Implements (List ℕ) length SoundWords seen makes performs asks
+pub words-implement : Implements (List ℕ) length SoundWords seen makes performs rests asks
 words-implement = record {
   good = λ w s. sound-table (tableOf w) s;
   starts = λ w w′ n N k y p. p;
   performs = λ w w′ c y p. p .performs;
+  quiet = λ w w′ p. p;
   answers = λ w w′ q y p. subst (λ (x : List ℕ). Answers SoundWords seen q w x y) (sym (p .0)) (p .1);
 }
 
--- every list of relation, set, valid, clear and collect calls after one answered fresh, refused calls included
-pub words-demand : (n N : ℕ) {end : List ℕ} {l : List Event} → Session (List ℕ) makes performs n N l end
+-- every list of relation, set, valid, clear and collect calls after one answered fresh, refused calls included, with calls that store
+-- nothing anywhere between them
+pub words-demand : (n N : ℕ) {end : List ℕ} {l : List Event} → Session (List ℕ) makes performs rests n N l end
     → Demand SoundWords seen asks n N l end
 words-demand n N x = third-demand words-implement n N x
 
 -- "BIGGER TABLES, SAME VERDICTS" over the lent words: the same list with every limit raised or equal, after its first calls l and l′,
 -- wherever it is cut
 pub words-bigger : (n N M : ℕ) → N ≤ M → M ≤ 60_000
-    → (l k l′ k′ : List Event) {end end′ : List ℕ} (s : Session (List ℕ) makes performs n N (l ++ k) end)
-    (u : Upgrade (List ℕ) length makes performs n M (s .count) (l′ ++ k′) end′) → AllRaised (calls l) (calls l′) → AllZero l
-    → (x : Cut (List ℕ) performs (s .made) l k end) (x′ : Cut (List ℕ) performs (u .made) l′ k′ end′)
+    → (l k l′ k′ : List Event) {end end′ : List ℕ} (s : Session (List ℕ) makes performs rests n N (l ++ k) end)
+    (u : Upgrade (List ℕ) length makes performs rests n M (s .count) (l′ ++ k′) end′) → AllRaised (calls l) (calls l′) → AllZero l
+    → (x : Cut (List ℕ) performs rests (s .made) l k end) (x′ : Cut (List ℕ) performs rests (u .made) l′ k′ end′)
     → SameVerdicts seen asks n N M (u .reply) l l′ (x .mid) (x′ .mid)
 words-bigger n N M more most l k l′ k′ s u r z x x′ = after-each words-implement n N M more most l k l′ k′ s u r z x x′
+
+-- a call that leaves all words stores nothing
+pub same-rests : {w v : List ℕ} → v ≡ w → rests w v
+same-rests e = record {
+  good = λ s. subst SoundWords (sym e) s;
+  book = λ s. ap (λ (x : List ℕ). bookOf (seen x)) e;
+  numbers = λ s r l. ap (λ (x : List ℕ). seen x .reg r) e;
+}

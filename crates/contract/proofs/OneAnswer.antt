@@ -17,10 +17,10 @@ use Rattle.layout.specs.Places.{HEADER, ROWS, SPARE}
 use Rattle.layout.specs.View.{headerOf, cellOf}
 use Rattle.diagram.specs.Reach.{Reach}
 use Rattle.rows.specs.Sound.{tableOf}
-use Rattle.book.specs.Book.{Book, fresh, freshNumber, Call, relation, set, valid, clear, collect, Question, Done, registers, does}
+use Rattle.book.specs.Book.{Book, fresh, freshNumber, Call, set, clear, collect, Question, Done, registers, does}
 use Rattle.book.specs.Stored.{Whole}
 use Rattle.book.proofs.Stored.{whole-fresh, whole-does, range-cases}
-use Rattle.book.specs.Table.{Table, Reply, Refusal, keptRoots, Serves}
+use Rattle.book.specs.Table.{Reply, Refusal, keptRoots, Serves}
 use Rattle.book.specs.Leaves.{plain}
 use Rattle.book.proofs.Leaves.{shows-fresh}
 use Rattle.book.specs.BookOf.{bookOf}
@@ -72,14 +72,6 @@ ask-one q {ws} {y} {z} a b = same-reply {y = y} {z = z}
 
 -- ---- a call
 
--- the roots that a call leaves, by its number alone
-roots-by : (c : Call) (y : Reply) (t : Table) → keptRoots c y t ≡ keptRoots c (plain (y .number)) t
-roots-by (relation q bs) y t = refl
-roots-by (set acc r R bs) y t = refl
-roots-by (valid bs) y t = refl
-roots-by (clear r) y t = refl
-roots-by collect y t = refl
-
 -- clear is answered or refused with 3
 clear-few : (b : Book) (r : ℕ) → (does b (clear r) .1 .number ≡ 0) ⊎ (does b (clear r) .1 .number ≡ 3)
 clear-few b r = range-cases (λ (d : Done). (d .1 .number ≡ 0) ⊎ (d .1 .number ≡ 3)) r registers _ _ (λ l. inl refl) (λ l. inr refl)
@@ -125,7 +117,7 @@ module _ (c : Call) {old v w : List ℕ} {y z : Reply} (p : CallPost c old v y) 
         p .kept s .header h l e ∙ sym (q .kept s .header h l (ap (λ (k : ℕ). freeWord h || (eqb k 0 && target c h)) (sym one-number) ∙ e))
 
     same-roots : keptRoots c y (seen old) ≡ keptRoots c z (seen old)
-    same-roots = roots-by c y (seen old) ∙ ap (λ (k : ℕ). keptRoots c (plain k) (seen old)) one-number ∙ sym (roots-by c z (seen old))
+    same-roots = ap (λ (k : ℕ). keptRoots c (plain k) (seen old)) one-number
 
     one-row : (i : ℕ) → Reach (seen old .rows) (keptRoots c y (seen old)) i → SameRow (seen v .rows) (seen w .rows) i
     one-row i h =

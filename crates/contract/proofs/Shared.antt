@@ -1,45 +1,48 @@
 -- Laws of what specs/Shared.antt defines. Assumes nothing.
 use mathlib.Core.Path.{_≡_, refl, sym, ap, _∙_, subst}
-use mathlib.Core.List.{List}
+use mathlib.Core.List.{List, [], _∷_}
 use Prim.Native.Nat.{ℕ, _<_, min}
 use lib.ListN.{length, getD}
 use Rattle.accounts.specs.declared.Account.{Account}
 use Rattle.accounts.specs.Account.{tallyTop}
 use Rattle.accounts.specs.Listed.{none}
-use Rattle.accounts.specs.declared.Terms.{Terms}
-use Rattle.book.specs.Book.{fresh, Call, relation, set, valid, clear, collect}
+use Rattle.accounts.specs.Terms.{termsOf}
+use Rattle.book.specs.Book.{fresh, set}
 use Rattle.book.specs.Table.{Reply}
-use Rattle.book.specs.Demand.{Event, calls, Trace, stop, go, Demand}
-use Rattle.book.specs.Tallies.{charged, accountsAfter, roundsAt, bookRounds}
+use Rattle.book.specs.Demand.{Event, calls, Trace, stop, go, pause, Demand}
+use Rattle.book.specs.Tallies.{charged, Fed, accountsAfter, roundsAt, bookRounds}
 use Rattle.book.proofs.Tallies.{rounds-agree, tally-since-fresh}
 use Rattle.contract.specs.Seen.{seen, SoundWords}
-use Rattle.contract.specs.Posts.{CallPost}
-use Rattle.contract.specs.Closed.{performs, asks}
+use Rattle.contract.specs.Posts.{SetAllPost}
+use Rattle.contract.specs.Closed.{performs, rests, asks}
 use Rattle.contract.proofs.Closed.{words-demand}
-use Rattle.contract.specs.Shared.{Lent, Step, SharedSession}
+use Rattle.contract.specs.Shared.{Lent, Step, Rest, SharedSession}
 
--- a call on both is a call on the words, and the list is charged
-pub step-words : (a b : Lent) (c : Call) (y : Reply) → Step a c b y
-    → CallPost c (a .words) (b .words) y × (b .accounts ≡ charged (a .accounts) c y)
-step-words a b (relation t bs) y (p, e) = (p, e)
-step-words a b (set acc r R bs) y (f, p) =
-    subst (λ (t : Terms). CallPost (set t r R bs) (a .words) (b .words) y × (b .accounts ≡ charged (a .accounts) (set t r R bs) y)) (sym f)
-    (p .table, p .list)
-step-words a b (valid bs) y (p, e) = (p, e)
-step-words a b (clear r) y (p, e) = (p, e)
-step-words a b collect y (p, e) = (p, e)
+-- set's promise, literally, is such a call
+pub set-step : (spot r R : ℕ) (bs : List ℕ) (a b : Lent) (y : Reply)
+    → SetAllPost spot r R bs (a .words) (b .words) (a .accounts) (b .accounts) y
+    → Step a (set (termsOf (a .accounts) spot) r R bs) b y
+set-step spot r R bs a b y p = (refl, p .table, p .list)
 
--- so a list on both is one on the words, and the accounts are charged by each call
-pub trace-words : {a b : Lent} {l : List Event} → Trace Lent Step a l b
-    → Trace (List ℕ) performs (a .words) l (b .words) × (b .accounts ≡ accountsAfter (a .accounts) l)
-trace-words stop = (stop, refl)
-trace-words (go {w = a} {v = m} {c = c} {y = y} {l = l} p t) =
-    let (q, e) = step-words a m c y p in
-    let (u, f) = trace-words t in
-    (go q u, f ∙ ap (λ (x : List Account). accountsAfter x l) e)
+-- each call is fed from the accounts as they stood
+abbrev pub AllFed : List Account → List Event → Type 0
+AllFed l [] = Unit {0}
+AllFed l (e ∷ es) = Fed l (e .0) × AllFed (charged l (e .0) (e .1)) es
+
+-- a list on both is one on the words, fed so, and the accounts are charged by each call
+pub trace-words : {a b : Lent} {l : List Event} → Trace Lent Step Rest a l b
+    → Trace (List ℕ) performs rests (a .words) l (b .words) × (b .accounts ≡ accountsAfter (a .accounts) l) × AllFed (a .accounts) l
+trace-words stop = (stop, refl, tt)
+trace-words (go {l = l} (f, p, e) t) =
+    let (u, i, fed) = trace-words t in
+    (go p u, i ∙ ap (λ (x : List Account). accountsAfter x l) e, (f, subst (λ (x : List Account). AllFed x l) e fed))
+trace-words (pause {l = l} (q, e) t) =
+    let (u, i, fed) = trace-words t in
+    (pause q u, i ∙ ap (λ (x : List Account). accountsAfter x l) e, subst (λ (x : List Account). AllFed x l) e fed)
 
 module _ (n N : ℕ) {l : List Event} {end : Lent} (x : SharedSession n N l end) where
-  words-trace : Trace (List ℕ) performs (x .made .words) l (end .words) × (end .accounts ≡ accountsAfter (x .made .accounts) l)
+  words-trace : Trace (List ℕ) performs rests (x .made .words) l (end .words) × (end .accounts ≡ accountsAfter (x .made .accounts) l)
+      × AllFed (x .made .accounts) l
   words-trace = trace-words (x .rest)
 
   -- the third demand, over the words

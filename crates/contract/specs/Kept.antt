@@ -4,26 +4,28 @@
 use mathlib.Core.Path.{_≡_}
 use mathlib.Core.Bool.{Bool, false, _&&_, _||_}
 use mathlib.Core.List.{List}
+use mathlib.Core.Option.{Option, none, some}
 use Prim.Native.Nat.{ℕ, _+_, _≤_, _<_}
 use lib.Dec.{T, eqb}
 use lib.ListN.{length, getD, set}
 use Rattle.layout.specs.Refusals.{keepsAll}
 use Rattle.layout.specs.Places.{VALID, HEADER, ROWS, USED, CURSOR, SLOTS, STORED, SPARE, FIRST-REGISTER, FIRST-RELATION, wordsFor}
 use Rattle.layout.specs.View.{headerOf, cellOf}
-use Rattle.book.specs.Book.{Call, relation, set as setCall, valid, clear, collect}
+use Rattle.book.specs.Book.{Call, relation, set as setCall, valid, clear, collect, effect}
 use Rattle.book.specs.Table.{Reply}
 
 -- header words of the index and of remembered results
 abbrev pub freeWord : ℕ → Bool
 freeWord h = (eqb h USED || eqb h CURSOR) || (eqb h SLOTS || eqb h STORED)
 
+-- header word h is that of the place, the first of its kind being at `first`; t where there is no such place
+abbrev pub wordOf : Option ℕ → ℕ → ℕ → Bool → Bool
+wordOf none first h t = t
+wordOf (some r) first h t = eqb h (first + r)
+
 -- header words that an answered call changes: its target
 abbrev pub target : Call → ℕ → Bool
-target (relation t bs) h = eqb h (FIRST-RELATION + t)
-target (setCall acc r R bs) h = eqb h (FIRST-REGISTER + r)
-target (valid bs) h = eqb h VALID
-target (clear r) h = eqb h (FIRST-REGISTER + r)
-target collect h = false
+target c h = wordOf (effect c .reg) FIRST-REGISTER h (wordOf (effect c .rel) FIRST-RELATION h (effect c .valid && eqb h VALID))
 
 -- header word h may be another one after the call
 abbrev pub changes : Call → Reply → ℕ → Bool

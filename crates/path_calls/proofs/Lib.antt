@@ -2,3 +2,4 @@
 pub mod Searching
 pub mod Checks
 pub mod OnePath
+pub mod Rests

@@ -4,3 +4,4 @@ pub mod Written
 pub mod Exact
 pub mod Example
 pub mod Meaning
+pub mod Raised

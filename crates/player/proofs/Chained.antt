@@ -12,10 +12,10 @@ use borrow.Author.Tests.{eqb-true, eqb-false}
 use Rattle.book.specs.Book.{Call, freshNumber}
 use Rattle.book.specs.Program.{Command, start, call, states, recordLength, commandAt}
 use Rattle.book.specs.Table.{Reply}
-use Rattle.book.specs.Demand.{Event, Trace, stop, go, Demand}
+use Rattle.book.specs.Demand.{Event, Trace, stop, go, pause, Demand}
 use Rattle.contract.specs.Seen.{seen, SoundWords}
 use Rattle.contract.specs.Posts.{FreshPost}
-use Rattle.contract.specs.Closed.{performs, asks}
+use Rattle.contract.specs.Closed.{performs, rests, asks}
 use Rattle.contract.proofs.Closed.{words-demand}
 use Rattle.commands.specs.declared.Outcome.{Outcome}
 use Rattle.commands.specs.Obey.{shownReply, replyOf, Posted, Obeys}
@@ -30,10 +30,31 @@ use Rattle.player.proofs.Passes.{some-inj, Passed, passed-none, passed-
 -- ---- sessions
 
 -- a call more at the end of a trace
-trace-last : {w v w′ : List ℕ} {l : List Event} (c : Call) (y : Reply) → Trace (List ℕ) performs w l v → performs v c w′ y
-    → Trace (List ℕ) performs w (l ++ ((c, y) ∷ [])) w′
+trace-last : {w v w′ : List ℕ} {l : List Event} (c : Call) (y : Reply) → Trace (List ℕ) performs rests w l v → performs v c w′ y
+    → Trace (List ℕ) performs rests w (l ++ ((c, y) ∷ [])) w′
 trace-last c y stop p = go p stop
 trace-last c y (go q t) p = go q (trace-last c y t p)
+trace-last c y (pause q t) p = pause q (trace-last c y t p)
+
+-- or a call that stores nothing
+trace-rests : {w v w′ : List ℕ} {l : List Event} → Trace (List ℕ) performs rests w l v → rests v w′ → Trace (List ℕ) performs rests w l w′
+trace-rests stop p = pause p stop
+trace-rests (go q t) p = go q (trace-rests t p)
+trace-rests (pause q t) p = pause q (trace-rests t p)
+
+-- such a call may stand between two lists that are played, and anywhere in them
+pub standing-rests : (s : Option Since) {w v : List ℕ} → Standing s w → rests w v → Standing s v
+standing-rests none h p = tt
+standing-rests (some s) h p =
+    record {
+      lent = h .lent;
+      count = h .count;
+      made = h .made;
+      reply = h .reply;
+      start = h .start;
+      answered = h .answered;
+      rest = trace-rests (h .rest) p;
+    }
 
 -- a refused fresh keeps all words
 fresh-kept : (n N count : ℕ) {old new : List ℕ} {y : Reply} → FreshPost n N count old new y → (y .number ≡ 0 → ⊥) → new ≡ old
@@ -163,13 +184,15 @@ since-both : (before : Option Since) (a b : List Entry) → since (since before 
 since-both before [] b = refl
 since-both before (e ∷ a) b = since-both (noted before (e .command) (e .outcome)) a b
 
--- two lists played one after the other have the whole claim of one list, since the last answered fresh in either or before both
-pub play-again : (bs w w′ l l′ : List ℕ) (x : Played) (p : PlayPost bs w w′ l l′ x) (cs w″ m m′ : List ℕ)
-    (y : Played) (q : PlayPost cs w′ w″ m m′ y)
+-- two lists played one after the other, and a call that stores nothing between them, have the whole claim of one list, since the last
+-- answered fresh in either or before both
+pub play-again : (bs w w′ l l′ : List ℕ) (x : Played) (p : PlayPost bs w w′ l l′ x) (v : List ℕ) → rests w′ v → (cs w″ m m′ : List ℕ)
+    (y : Played) (q : PlayPost cs v w″ m m′ y)
     (before : Option Since) → Standing before w → (s : Since)
-    → since before (entriesOf bs w w′ l l′ x p ++ entriesOf cs w′ w″ m m′ y q) ≡ some s
+    → since before (entriesOf bs w w′ l l′ x p ++ entriesOf cs v w″ m m′ y q) ≡ some s
     → Demand SoundWords seen asks (s .n) (s .N) (s .events) w″
-play-again bs w w′ l l′ x p cs w″ m m′ y q before h s e =
+play-again bs w w′ l l′ x p v r cs w″ m m′ y q before h s e =
     let first = entriesOf bs w w′ l l′ x p in
-    let h′ = play-stands cs w′ w″ m m′ y q (since before first) (play-stands bs w w′ l l′ x p before h) in
-    standing-demand s h′ (since-both before first (entriesOf cs w′ w″ m m′ y q) ∙ e)
+    let h′ = play-stands cs v w″ m m′ y q (since before first) (standing-rests (since before first) (play-stands bs w w′ l l′ x p before h) r)
+    in
+    standing-demand s h′ (since-both before first (entriesOf cs v w″ m m′ y q) ∙ e)

@@ -12,7 +12,7 @@ use Rattle.book.specs.Program.{Command, start, call, states, recordLength, comm
 use Rattle.book.specs.Demand.{Event, Session, Demand}
 use Rattle.rows.specs.Says.{Says}
 use Rattle.contract.specs.Seen.{seen, SoundWords}
-use Rattle.contract.specs.Closed.{makes, performs, asks}
+use Rattle.contract.specs.Closed.{makes, performs, rests, asks}
 use Rattle.commands.specs.declared.Outcome.{Outcome}
 use Rattle.commands.specs.Obey.{Obeys, replyOf}
 use Rattle.player.specs.declared.Counted.{Counted}
@@ -96,7 +96,7 @@ since s (e ∷ l) = since (noted s (e .command) (e .outcome)) l
 -- the words stand at the end of a session of the list since an answered fresh; of words before one nothing is asked
 abbrev pub Standing : Option Since → List ℕ → Type 0
 Standing none w = Unit {0}
-Standing (some s) w = Session (List ℕ) makes performs (s .n) (s .N) (s .events) w
+Standing (some s) w = Session (List ℕ) makes performs rests (s .n) (s .N) (s .events) w
 
 -- ---- what the functions promise
 

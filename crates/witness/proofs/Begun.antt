@@ -17,7 +17,7 @@ use Rattle.book.specs.Leaves.{plain}
 use Rattle.book.specs.Demand.{Event, bookAfter, Trace, stop, Session}
 use Rattle.contract.specs.Seen.{seen, SoundWords}
 use Rattle.contract.specs.Posts.{CallPost}
-use Rattle.contract.specs.Closed.{makes, performs}
+use Rattle.contract.specs.Closed.{makes, performs, rests}
 use Rattle.contract.proofs.Closed.{words-demand}
 use Rattle.witness.proofs.Words.{zeros, freshOf, storedIn, fresh-zero, fresh-valid, view-stored}
 use Rattle.witness.proofs.Made.{Roomy, fresh-done}
@@ -25,11 +25,11 @@ use Rattle.witness.proofs.Made.{Roomy, fresh-done}
 -- ---- a list from fresh on
 
 module _ (n N k : ℕ) (z : Sizes n N k) where
-  pub session : {l : List Event} {ws : List ℕ} → Trace (List ℕ) performs (freshOf n N k) l ws → Session (List ℕ) makes performs n N l ws
+  pub session : {l : List Event} {ws : List ℕ} → Trace (List ℕ) performs rests (freshOf n N k) l ws → Session (List ℕ) makes performs rests n N l ws
   session t =
       record { lent = zeros k; count = 1; made = freshOf n N k; reply = plain 0; start = fresh-done n N k z; answered = refl; rest = t }
 
-  module _ {l : List Event} {ws : List ℕ} (t : Trace (List ℕ) performs (freshOf n N k) l ws) where
+  module _ {l : List Event} {ws : List ℕ} (t : Trace (List ℕ) performs rests (freshOf n N k) l ws) where
     -- the words after it are sound, and hold what the book does
     pub sound : SoundWords ws
     sound = words-demand n N (session t) .good

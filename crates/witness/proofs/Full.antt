@@ -37,7 +37,7 @@ use Rattle.book.specs.Demand.{Event, bookAfter, Trace, stop, go, Session, Deman
 use Rattle.contract.specs.Seen.{seen, SoundWords}
 use Rattle.contract.specs.Posts.{CallPost}
 use Rattle.contract.proofs.Checked.{call-refused}
-use Rattle.contract.specs.Closed.{makes, performs, asks}
+use Rattle.contract.specs.Closed.{makes, performs, rests, asks}
 use Rattle.contract.proofs.Closed.{words-demand}
 use Rattle.witness.proofs.Words.{Viewed, freshOf, fresh-zero, fresh-valid}
 use Rattle.witness.proofs.Made.{alone-roomy, collected-done, empty-done}
@@ -91,7 +91,7 @@ end = bitIn 1 freed 0 1 1
 sizes : Sizes 2 1 268
 sizes = record { n-pos = omega arith; n-max = omega arith; N-pos = omega arith; N-max = omega arith; room = omega arith }
 
-module _ {l : List Event} {ws : List ℕ} (t : Trace (List ℕ) performs made l ws) where
+module _ {l : List Event} {ws : List ℕ} (t : Trace (List ℕ) performs rests made l ws) where
   abbrev sound : SoundWords ws
   sound = sound-after 2 1 268 sizes t
 
@@ -142,7 +142,7 @@ set-first : CallPost first made once node
 unfolding computing
 set-first = bit-set stop refl refl none-made every-made 0 0 (omega arith) (omega arith) refl refl refl refl
 
-to-once : Trace (List ℕ) performs made ((first, node) ∷ []) once
+to-once : Trace (List ℕ) performs rests made ((first, node) ∷ []) once
 to-once = go set-first stop
 
 -- a second set needs a second row
@@ -173,7 +173,7 @@ collect-first = collected-done once (sound to-once) needed 1 (header-once USED �
 clear-first : CallPost (clear 0) once cleared (plain 0)
 clear-first = empty-done once (sound to-once) 0 (omega arith)
 
-to-cleared : Trace (List ℕ) performs made ((first, node) ∷ (clear 0, plain 0) ∷ []) cleared
+to-cleared : Trace (List ℕ) performs rests made ((first, node) ∷ (clear 0, plain 0) ∷ []) cleared
 to-cleared = go set-first (go clear-first stop)
 
 -- every register and relation is empty
@@ -209,7 +209,7 @@ every-freed = ap (λ (v : View). v .header VALID) (view-freed 1 cleared (room to
 
 -- ---- the row is free again
 
-to-freed : Trace (List ℕ) performs made ((first, node) ∷ (clear 0, plain 0) ∷ (collect, valued 0) ∷ []) freed
+to-freed : Trace (List ℕ) performs rests made ((first, node) ∷ (clear 0, plain 0) ∷ (collect, valued 0) ∷ []) freed
 to-freed = go set-first (go clear-first (go collect-second stop))
 
 set-second : CallPost second freed end node
@@ -218,7 +218,7 @@ set-second = bit-set to-freed refl refl none-freed every-freed 1 1 (omega arith)
 
 -- ---- the whole list under the calls' contracts, and what the closed list theorem says of it
 
-pub played : Session (List ℕ) makes performs 2 1 events end
+pub played : Session (List ℕ) makes performs rests 2 1 events end
 played = session 2 1 268 sizes (go set-first (go set-refused (go collect-first (go clear-first (go collect-second (go set-second stop))))))
 
 pub shown : Demand SoundWords seen asks 2 1 events end

@@ -27,16 +27,15 @@ use Rattle.book.proofs.Compute.{computing}
 use Rattle.book.proofs.Listed.{frame}
 use Rattle.book.specs.Table.{Reply}
 use Rattle.book.specs.Leaves.{plain, valued}
-use Rattle.book.specs.Demand.{Event, bookAfter, calls, lastNumber, Trace, stop, go}
+use Rattle.book.specs.Demand.{Event, bookAfter, calls, lastNumber, Trace, stop, go, pause}
 use Rattle.book.specs.Tallies.{charged, accountsAfter, Fed}
-use Rattle.book.specs.Raised.{withRowCount, AllZero, Looser, Cut}
+use Rattle.book.specs.Raised.{SameCall, same-relation, same-set, same-valid, same-clear, same-collect, withRowCount, AllZero, Looser, Cut}
 use Rattle.contract.specs.Seen.{seen, SoundWords}
 use Rattle.contract.specs.Posts.{CallPost}
-use Rattle.contract.specs.Closed.{performs}
-use Rattle.contract.specs.Shared.{Lent, Step, SharedSession}
-use Rattle.contract.proofs.Shared.{shared-demand}
-use Rattle.contract.specs.Bigger.{Again, same-relation, same-set, same-valid, same-clear, same-collect, AllAgain, SharedUpgrade}
-use Rattle.contract.specs.Bigger.{SharedVerdicts}
+use Rattle.contract.specs.Closed.{performs, rests}
+use Rattle.contract.specs.Shared.{Lent, Step, Rest, SharedSession}
+use Rattle.contract.proofs.Shared.{AllFed, shared-demand}
+use Rattle.contract.specs.Bigger.{AllAgain, SharedUpgrade, SharedVerdicts}
 use Rattle.contract.proofs.Bigger.{shared-bigger, shared-each}
 use Rattle.witness.proofs.Words.{zeros, freshOf, storedIn, length-zeros}
 use Rattle.witness.proofs.Made.{Roomy, every, noPairs, self, fresh-done, every-done, noPairs-done, self-done, collected-done, unused}
@@ -180,7 +179,7 @@ module _ (N k a c R : ℕ) (z : Sizes 1 N k) (rows : N ≤ a) (rounds : R ≤ c)
   thrice-stands : Stands N (thrice N k)
   thrice-stands = stored-stands twice-stands 2 R 1 (omega arith) set-third
 
-  to-thrice : Trace (List ℕ) performs (made N k) (before a c R) (thrice N k)
+  to-thrice : Trace (List ℕ) performs rests (made N k) (before a c R) (thrice N k)
   to-thrice = go valid-fixed (go relation-loaded (go set-first (go set-second (go none-freed (go set-third stop)))))
 
   row-made : CallPost (set (under a c) 3 R bit) (thrice N k) (rowed N k) row
@@ -195,16 +194,11 @@ module _ (N k a c R : ℕ) (z : Sizes 1 N k) (rows : N ≤ a) (rounds : R ≤ c)
   rowed-sound : SoundWords (rowed N k)
   rowed-sound = row-made .performs .served (thrice-stands .sound) .0
 
-  listed : Trace (List ℕ) performs (made N k) (events a c R) (end N k)
+  listed : Trace (List ℕ) performs rests (made N k) (events a c R) (end N k)
   listed = go valid-fixed (go relation-loaded (go set-first (go set-second (go none-freed (go set-third (go row-made
       (go (empty-done (rowed N k) rowed-sound 1 (omega arith)) stop)))))))
 
 -- ---- with the account
-
--- each set is fed from the accounts as they stand
-abbrev AllFed : List Account → List Event → Type 0
-AllFed l [] = Unit {0}
-AllFed l (e ∷ es) = Fed l (e .0) × AllFed (charged l (e .0) (e .1)) es
 
 abbrev both : List ℕ → List Account → Lent
 both ws l = record { words = ws; accounts = l }
@@ -212,18 +206,14 @@ both ws l = record { words = ws; accounts = l }
 -- a call on the words, fed so, is one on both
 with-account : (ws vs : List ℕ) (l : List Account) (c : Call) (y : Reply) → CallPost c ws vs y → Fed l c
     → Step (both ws l) c (both vs (charged l c y)) y
-with-account ws vs l (relation t bs) y p f = (p, refl)
-with-account ws vs l (set acc r R bs) y p f =
-    (f, record { table = subst (λ (x : Terms). CallPost (set x r R bs) ws vs y) f p; list = refl })
-with-account ws vs l (valid bs) y p f = (p, refl)
-with-account ws vs l (clear r) y p f = (p, refl)
-with-account ws vs l collect y p f = (p, refl)
+with-account ws vs l c y p f = (f, p, refl)
 
-with-accounts : {ws vs : List ℕ} {es : List Event} (l : List Account) → Trace (List ℕ) performs ws es vs → AllFed l es
-    → Trace Lent Step (both ws l) es (both vs (accountsAfter l es))
+with-accounts : {ws vs : List ℕ} {es : List Event} (l : List Account) → Trace (List ℕ) performs rests ws es vs → AllFed l es
+    → Trace Lent Step Rest (both ws l) es (both vs (accountsAfter l es))
 with-accounts l stop f = stop
 with-accounts l (go {w = ws} {v = ms} {c = c} {y = y} p t) f =
     go {v = both ms (charged l c y)} (with-account ws ms l c y p (f .0)) (with-accounts (charged l c y) t (f .1))
+with-accounts l (pause {v = ms} q t) f = pause {v = both ms l} (q, refl) (with-accounts l t f)
 
 -- ---- one row, one round at most, and the account's limits 1 and 1; then two rows, three rounds, and limits 5 and 7
 
@@ -301,7 +291,7 @@ again l l′ rest =
 answered : (l : List Event) → AllZero l → AllZero (before 1 1 1 ++ l)
 answered l rest = (refl, (refl, (refl, (refl, (refl, (refl, rest))))))
 
-again-bit : Again (set (under 1 1) 3 1 bit) (set (under 5 7) 3 3 bit)
+again-bit : SameCall (λ acc acc′. acc′ .place ≡ acc .place) (set (under 1 1) 3 1 bit) (set (under 5 7) 3 3 bit)
 again-bit = same-set (under 1 1) (under 5 7) 3 1 3 bit refl (omega arith)
 
 -- and what the theorem says of them
@@ -317,8 +307,8 @@ unfolding computing
 left = ap (λ (b : Book). b .reg 3) (shown .table .sets ∙ ap (λ (b : Book). withRowCount b 2) (shared-demand 1 1 first .holds))
 
 -- and before the last call, wherever the two lists stood then
-pub each : (c : Cut Lent Step (first .made) (sofar 1 1 1 row) (emptied ∷ []) small)
-    (c′ : Cut Lent Step (second .made) (sofar 5 7 3 row) (emptied ∷ []) large)
+pub each : (c : Cut Lent Step Rest (first .made) (sofar 1 1 1 row) (emptied ∷ []) small)
+    (c′ : Cut Lent Step Rest (second .made) (sofar 5 7 3 row) (emptied ∷ []) large)
     → SharedVerdicts 1 1 2 1 (plain 0) (sofar 1 1 1 row) (sofar 5 7 3 row) (c .mid) (c′ .mid)
 unfolding first second
 each c c′ =

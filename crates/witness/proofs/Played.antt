@@ -27,7 +27,7 @@ use Rattle.book.specs.Tallies.{freshened, accountsAfter}
 use Rattle.book.proofs.Tallies.{tally-since-fresh}
 use Rattle.contract.specs.Seen.{seen, SoundWords}
 use Rattle.contract.specs.Posts.{CallPost}
-use Rattle.contract.specs.Closed.{makes, performs, asks}
+use Rattle.contract.specs.Closed.{makes, performs, rests, asks}
 use Rattle.contract.proofs.Closed.{words-demand}
 use Rattle.witness.proofs.Words.{freshOf, storedIn}
 use Rattle.witness.proofs.Made.{Roomy, alone-roomy, every, noPairs, self, odd, every-done, noPairs-done, self-done, self-refused}
@@ -118,7 +118,7 @@ twice-stands : Stands 100 twice
 twice-stands = stored-stands once-stands 1 100 0 (omega arith) set-second
 
 -- the list under the calls' contracts
-pub played : Session (List ℕ) makes performs 1 100 events end
+pub played : Session (List ℕ) makes performs rests 1 100 events end
 played =
     let s = twice-stands .sound in
     session 1 100 16_384 sizes (
