@@ -301,6 +301,7 @@ uint32_t kudzuclamp_member(const uint32_t *words, size_t words_len, uint32_t r, 
  * counts once for all states whose bits, as far as the rows on the way asked for them, are the same. So it is never above the sum over the same
  * states asked one by one. It returns 0, 1, 2, 3 or 7; a refusal keeps both lists.
  */
+KUDZUCLAMP_USE_RESULT
 uint32_t kudzuclamp_members(const uint32_t *words, size_t words_len, uint32_t r, const uint16_t *states, size_t states_len, uint16_t *order,
                             size_t order_len, uint8_t *answers, size_t answers_len, uint32_t *reads);
 
@@ -317,6 +318,7 @@ uint32_t kudzuclamp_count(const uint32_t *words, size_t words_len, uint32_t r, u
  * changes. A step may need at most N rows, of the last layer of states by their distance, of the next one's steps and of what registers and
  * relations hold. It returns 0, 2, 3, 7, 8, KUDZUCLAMP_NO_RUN or KUDZUCLAMP_SHORT.
  */
+KUDZUCLAMP_USE_RESULT
 uint32_t kudzuclamp_shortest(uint32_t *words, size_t words_len, uint16_t *list, size_t list_len, uint32_t a, uint32_t b, uint32_t t, uint32_t *states);
 
 /*
