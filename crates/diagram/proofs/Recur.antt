@@ -1,6 +1,5 @@
--- The recursive steps meet the side conditions of `compose`: which two calls and which level make AND, SHIFT and EXISTS.
--- NOT is no call, and
--- OR is NOT of AND. Assumes nothing.
+-- The recursive steps meet the side conditions of `compose`: which two calls and which level make AND, OR, SHIFT and EXISTS.
+-- NOT is no call. Assumes nothing.
 use mathlib.Core.Path.{_≡_, sym, ap, _∙_, subst₂, fun-ext}
 use mathlib.Core.Bool.{Bool, true, false, true≢false}
 use mathlib.Core.Logic.{_≢_}

@@ -33,7 +33,7 @@ pub carried-at : {f : Found} {x y : ℕ} (b : Bool) → f ≡ find.At x → y �
 carried-at b e q = ap find.At q ∙ ap (carriedFound b) (sym e)
 
 -- a promise for F is one for G, which is F turned by b, where b is carried to the answer
-worked-carried : {m N limit : ℕ} {W X : View} {c r : ℕ} {F G : Fn} (b : Bool) → ((v : Val) → turn b (F v) ≡ G v)
+pub worked-carried : {m N limit : ℕ} {W X : View} {c r : ℕ} {F G : Fn} (b : Bool) → ((v : Val) → turn b (F v) ≡ G v)
     → Worked m N limit W X (madeOf c) F → CarriedMade b c r → Worked m N limit W X (madeOf r) G
 worked-carried {m} {N} {limit} {W} {X} {F = F} false same w (stays e q) =
     worked-cong same (subst (λ (z : ℕ). Worked m N limit W X (madeOf z) F) (e ∙ sym q) w)
@@ -43,7 +43,7 @@ worked-carried {m} {N} {limit} {W} {X} {F = F} true same w (stays e q) =
     worked-cong same (subst (λ (z : ℕ). Worked m N limit W X (madeOf z) (λ v. turn true (F v))) (sym q) (worked-not-full w e))
 worked-carried true same w (turned n q) = worked-cong same (worked-not w n q)
 
-denotes-carried : {m : ℕ} {rows : Rows} {x : ℕ} {F G : Fn} (b : Bool) → ((v : Val) → turn b (F v) ≡ G v) → Denotes m rows x F
+pub denotes-carried : {m : ℕ} {rows : Rows} {x : ℕ} {F G : Fn} (b : Bool) → ((v : Val) → turn b (F v) ≡ G v) → Denotes m rows x F
     → Denotes m rows (carry b x) G
 denotes-carried false same d = record { arrow = d .arrow; same = λ v. d .same v ∙ same v }
 denotes-carried true same d = let t = denotes-flip d in record { arrow = t .arrow; same = λ v. t .same v ∙ same v }

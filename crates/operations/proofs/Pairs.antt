@@ -1,5 +1,5 @@
 -- Laws of what specs/Pairs.antt defines. Assumes nothing.
-use mathlib.Core.Path.{_≡_, refl, sym, ap, ap₂, _∙_, subst}
+use mathlib.Core.Path.{_≡_, refl, sym, ap, ap₂, _∙_, subst, subst₂}
 use mathlib.Core.Bool.{Bool, true, false, cond, not, _&&_, _||_}
 use mathlib.Core.Logic.{_≢_, by-cases}
 use Prim.Native.Nat.{ℕ, zero, suc, _-_, _≤_, _<_, min, max}
@@ -13,7 +13,7 @@ use Rattle.diagram.proofs.Rows.{leads-level, carry-arrow}
 use Rattle.diagram.proofs.Den.{den-zero, den-one, den-flip}
 use Rattle.diagram.proofs.Grow.{arrow-extends, den-extends, level-extends}
 use Rattle.diagram.specs.Post.{Denotes}
-use Rattle.diagram.specs.Steps.{notF, andF, orF, lowAt, highAt}
+use Rattle.diagram.specs.Steps.{andF, orF, lowAt, highAt}
 use Rattle.diagram.proofs.Steps.{low-here, high-here, low-past, high-past, Parts, parts}
 use Rattle.diagram.proofs.Recur.{Divides, two-divides}
 use Rattle.layout.specs.View.{View}
@@ -21,19 +21,21 @@ use Rattle.layout.specs.Arrows.{isRow, rowOf}
 use Rattle.layout.proofs.Arrows.{row-is, row-yes, no-row}
 use Rattle.rows.specs.Used.{rowsOf}
 use Rattle.rows.proofs.Used.{of-arrow}
-use Rattle.table.specs.Code.{FULL, madeOf}
+use Rattle.table.specs.Code.{madeOf}
 use Rattle.table.specs.declared.Made.{Made}
 use Rattle.table.specs.declared.Made.the-variants as answer
 use Rattle.table.specs.declared.Found.{Found}
 use Rattle.table.specs.declared.Found.the-variants as find
-use Rattle.memory.specs.Memo.{RecallPost}
+use Rattle.memory.specs.Memo.{Remembers, RecallPost}
 use Rattle.memory.proofs.Memo.{held-entry}
 use Rattle.memory.specs.Store.{RememberPost}
 use Rattle.memory.proofs.Store.{remember-frame, RightPair, remembers-pair}
 use Rattle.operations.specs.Work.{Ready, Worked}
-use Rattle.operations.proofs.Work.{ready-wf, worked-there, worked-kept, worked-cong, worked-not, worked-not-full}
+use Rattle.operations.proofs.Work.{ready-wf, worked-there, worked-kept, worked-cong}
 use Rattle.operations.specs.Open.{RowIs}
-use Rattle.operations.specs.Pairs.{shortOf, BothRows, KnownAt, at-once, recalled, KnownPost}
+use Rattle.operations.specs.Carried.{CarriedMade, carriedFound}
+use Rattle.operations.proofs.Carried.{worked-carried, denotes-carried}
+use Rattle.operations.specs.Pairs.{shortOf, BothRows, KnownAt, at-once, recalled, KnownPost, OrKnown, OrRemembered}
 
 -- the ways through it
 module _ (lo hi : ℕ) where
@@ -115,25 +117,37 @@ module _ (m : ℕ) (rows : Rows) where
 is-row : (a : ℕ) → isRow a ≡ true → 2 ≤ a
 is-row a h = let e = row-is a h in omega arith
 
-pub short-none : (lo hi : ℕ) → lo ≤ hi → shortOf lo hi ≡ find.Nothing → BothRows lo hi
+-- what is not known at once are two, and the first leads to a row
+short-differ : (lo hi : ℕ) → shortOf lo hi ≡ find.Nothing → (lo ≢ hi) × (isRow lo ≡ true)
 unfolding shortOf
-short-none lo hi l = go (eqb lo hi) refl (eqb hi (flip lo)) refl (isRow lo) refl (eqb lo 0) refl
+short-differ lo hi = go (eqb lo hi) refl (eqb hi (flip lo)) refl (isRow lo) refl (eqb lo 0) refl
   where
     go : (p : Bool) → eqb lo hi ≡ p → (t : Bool) → eqb hi (flip lo) ≡ t → (q : Bool) → isRow lo ≡ q → (s : Bool) → eqb lo 0 ≡ s
-        → cond p (find.At lo) (cond t (find.At 0) (cond q find.Nothing (cond s (find.At lo) (find.At hi)))) ≡ find.Nothing → BothRows lo hi
+        → cond p (find.At lo) (cond t (find.At 0) (cond q find.Nothing (cond s (find.At lo) (find.At hi)))) ≡ find.Nothing
+        → (lo ≢ hi) × (isRow lo ≡ true)
     go true e t k q f s g h = absurd (let z : _≡_ {A = ℕ} 0 1 = cc in omega arith)
     go false e true k q f s g h = absurd (let z : _≡_ {A = ℕ} 0 1 = cc in omega arith)
-    go false e false k true f s g h =
-        let n = eqb-false lo hi e in let j = is-row lo f in record { left = f; right = row-yes hi (omega arith); less = omega arith }
+    go false e false k true f s g h = (eqb-false lo hi e, f)
     go false e false k false f true g h = absurd (let z : _≡_ {A = ℕ} 0 1 = cc in omega arith)
     go false e false k false f false g h = absurd (let z : _≡_ {A = ℕ} 0 1 = cc in omega arith)
+
+pub short-none : (lo hi : ℕ) → lo ≤ hi → shortOf lo hi ≡ find.Nothing → BothRows lo hi
+short-none lo hi l e =
+    let d = short-differ lo hi e in
+    let n = d .0 in
+    let j = is-row lo (d .1) in
+    record { left = d .1; right = row-yes hi (omega arith); less = omega arith }
 
 pub known-recalled : (W : View) (lo hi : ℕ) (f : Found) → shortOf lo hi ≡ find.Nothing → RecallPost W lo hi f → KnownPost W lo hi f
 known-recalled W lo hi (find.At v) e h = recalled e h
 known-recalled W lo hi find.Nothing e h = e
 
-first-row : (lo hi : ℕ) → BothRows lo hi → lo ≢ 0
-first-row lo hi b e = let k = is-row lo (b .left) in omega arith
+-- what is known of AND is right
+known-right : {m N limit : ℕ} {W : View} (lo hi v : ℕ) → Ready m N limit W → Arrow (rowsOf W) lo → Arrow (rowsOf W) hi → KnownAt W lo hi v
+    → Denotes m (rowsOf W) v (andF (den m (rowsOf W) lo) (den m (rowsOf W) hi))
+known-right {m} {W = W} lo hi v r a b (at-once q) = short-right m (rowsOf W) lo hi v a b q
+known-right lo hi v r a b (recalled q h) =
+    held-entry (r .memory) (λ e. let k = is-row lo (short-differ lo hi q .1) in omega arith) h .answer
 
 -- lo and hi are a and b, the lesser first
 pub data Swap (a b : ℕ) : ℕ → ℕ → Type 0 where
@@ -241,15 +255,30 @@ module _ {m N limit : ℕ} {W : View} {a b lo hi : ℕ} (r : Ready m N limit W) 
       → Worked m N limit W X t (andF (den m (rowsOf W) a) (den m (rowsOf W) b))
   swap-worked k = worked-cong (swap-fn m (rowsOf W) w) k
 
+-- AND of lo and hi may be remembered
+pair-remembers : {m N limit : ℕ} {W X Y : View} (lo hi : ℕ) (t : Made) → Ready m N limit W → Arrow (rowsOf W) lo × Arrow (rowsOf W) hi
+    → Worked m N limit W X t (andF (den m (rowsOf W) lo) (den m (rowsOf W) hi)) → RememberPost X Y lo hi t → Remembers m Y
+pair-remembers {m} {N} {limit} {W} {X} lo hi t r u k p = remembers-pair lo hi t (k .memory) (right t k) p
+  where
+    right : (s : Made) → Worked m N limit W X s (andF (den m (rowsOf W) lo) (den m (rowsOf W) hi)) → RightPair m (rowsOf X) lo hi s
+    right (answer.At v) q =
+        let x = q .post .kept in
+        record {
+          left = arrow-extends x lo (u .0);
+          right = arrow-extends x hi (u .1);
+          answer = record {
+            arrow = q .post .result .arrow;
+            same = λ y. q .post .result .same y
+                ∙ ap₂ _&&_ (sym (den-extends x (ready-wf r) m lo (u .0) y)) (sym (den-extends x (ready-wf r) m hi (u .1) y));
+          };
+        }
+    right answer.Full q = tt
+
 module _ {m N limit : ℕ} {W : View} {lo hi : ℕ} (r : Ready m N limit W) (u : Arrow (rowsOf W) lo × Arrow (rowsOf W) hi) where
   -- what is known
   pub known-worked : {v : ℕ} {f : Found} → lo ≤ hi → f ≡ find.At v → KnownPost W lo hi f
       → Worked m N limit W W (madeOf v) (andF (den m (rowsOf W) lo) (den m (rowsOf W) hi))
-  known-worked {v} l e p = worked-there r (right (rw e at p))
-    where
-      right : KnownAt W lo hi v → Denotes m (rowsOf W) v (andF (den m (rowsOf W) lo) (den m (rowsOf W) hi))
-      right (at-once q) = short-right m (rowsOf W) lo hi v (u .0) (u .1) q
-      right (recalled q h) = let z = short-none lo hi l q in held-entry (r .memory) (first-row lo hi z) h .answer
+  known-worked {v} l e p = worked-there r (known-right lo hi v r (u .0) (u .1) (rw e at p))
 
   -- what the two calls compute
   pub pair-calls : {l x₀ x₁ y₀ y₁ : ℕ} → Split m (rowsOf W) lo hi l x₀ x₁ y₀ y₁
@@ -261,47 +290,92 @@ module _ {m N limit : ℕ} {W : View} {lo hi : ℕ} (r : Ready m N limit W) (u :
   pub pair-kept : {X Y : View} {t : Made} → BothRows lo hi → Worked m N limit W X t (andF (den m (rowsOf W) lo) (den m (rowsOf W) hi))
       → RememberPost X Y lo hi t
       → Worked m N limit W Y t (andF (den m (rowsOf W) lo) (den m (rowsOf W) hi))
-  pair-kept {X} {t = t} z k p = worked-kept k (remember-frame lo hi t p) (remembers-pair lo hi t (k .memory) (right t k) p)
+  pair-kept {t = t} z k p = worked-kept k (remember-frame lo hi t p) (pair-remembers lo hi t r u k p)
+
+-- OR, and AND of the two with the other mark: each is NOT of the other
+not-and : (p q : Bool) → not (not p && not q) ≡ (p || q)
+not-and true q = refl
+not-and false true = refl
+not-and false false = refl
+
+not-or : (p q : Bool) → not (p || q) ≡ (not p && not q)
+not-or true q = refl
+not-or false q = refl
+
+or-swap : (p q : Bool) → (p || q) ≡ (q || p)
+or-swap true true = refl
+or-swap true false = refl
+or-swap false true = refl
+or-swap false false = refl
+
+module _ (m : ℕ) (rows : Rows) (a b : ℕ) (v : Val) where
+  turned-or : not (andF (den m rows (flip a)) (den m rows (flip b)) v) ≡ orF (den m rows a) (den m rows b) v
+  turned-or = ap₂ (λ p q. not (p && q)) (den-flip m rows a v) (den-flip m rows b v) ∙ not-and (den m rows a v) (den m rows b v)
+
+  turned-and : not (orF (den m rows a) (den m rows b) v) ≡ andF (den m rows (flip a)) (den m rows (flip b)) v
+  turned-and = not-or (den m rows a v) (den m rows b v) ∙ sym (ap₂ _&&_ (den-flip m rows a v) (den-flip m rows b v))
+
+swap-or : {a b lo hi : ℕ} (m : ℕ) (rows : Rows) → Swap a b lo hi → (v : Val)
+    → orF (den m rows lo) (den m rows hi) v ≡ orF (den m rows a) (den m rows b) v
+swap-or m rows same v = refl
+swap-or {a} {b} m rows swapped v = or-swap (den m rows b v) (den m rows a v)
+
+turned-arrows : (rows : Rows) (a b : ℕ) → Arrow rows a × Arrow rows b → Arrow rows (flip a) × Arrow rows (flip b)
+turned-arrows rows a b u = (carry-arrow rows true a (u .0), carry-arrow rows true b (u .1))
+
+-- what the code turns
+module _ (lo hi : ℕ) {x y : ℕ} (ex : x ≡ flip lo) (ey : y ≡ flip hi) where
+  pub or-by : {r : Found} (W : View) (f : Found) → KnownPost W x y f → r ≡ carriedFound true f → OrKnown W lo hi r
+  or-by W f k e = record { found = f; known = subst₂ (λ (i j : ℕ). KnownPost W i j f) ex ey k; turned = e }
+
+  pub or-stored : {W X : View} {c z : ℕ} → CarriedMade true c z → RememberPost W X x y (madeOf z) → OrRemembered W X lo hi c
+  or-stored {W} {X} {z = z} t p =
+      record { answer = z; turned = t; post = subst₂ (λ (i j : ℕ). RememberPost W X i j (madeOf z)) ex ey p }
+
+-- where OR is not known, both lead to rows
+pub or-none : {W : View} (lo hi : ℕ) {f : Found} → lo ≤ hi → f ≡ find.Nothing → OrKnown W lo hi f → BothRows lo hi
+or-none {W} lo hi {f} l e k = go (k .found) (k .known) (sym (k .turned) ∙ e)
+  where
+    go : (g : Found) → KnownPost W (flip lo) (flip hi) g → carriedFound true g ≡ find.Nothing → BothRows lo hi
+    go (find.At v) p q = absurd (let z : _≡_ {A = ℕ} 0 1 = cc in omega arith)
+    go find.Nothing p q =
+        let d = short-differ (flip lo) (flip hi) p in
+        let n : lo ≢ hi = λ z. d .0 (ap flip z) in
+        let j = is-row (flip lo) (d .1) in
+        record { left = row-yes lo (omega arith); right = row-yes hi (omega arith); less = omega arith }
+
+module _ {m N limit : ℕ} {W : View} {a b lo hi : ℕ} (r : Ready m N limit W) (w : Swap a b lo hi) where
+  pub or-swapped : {X : View} {t : Made} → Worked m N limit W X t (orF (den m (rowsOf W) lo) (den m (rowsOf W) hi))
+      → Worked m N limit W X t (orF (den m (rowsOf W) a) (den m (rowsOf W) b))
+  or-swapped k = worked-cong (swap-or m (rowsOf W) w) k
+
+module _ {m N limit : ℕ} {W : View} {lo hi : ℕ} (r : Ready m N limit W) (u : Arrow (rowsOf W) lo × Arrow (rowsOf W) hi) where
+  -- what is known
+  pub or-known : {v : ℕ} {f : Found} → f ≡ find.At v → OrKnown W lo hi f
+      → Worked m N limit W W (madeOf v) (orF (den m (rowsOf W) lo) (den m (rowsOf W) hi))
+  or-known {v} e k = worked-there r (go (k .found) (k .known) (sym (k .turned) ∙ e))
     where
-      right : (s : Made) → Worked m N limit W X s (andF (den m (rowsOf W) lo) (den m (rowsOf W) hi)) → RightPair m (rowsOf X) lo hi s
-      right (answer.At v) q =
-          let x = q .post .kept in
-          record {
-            left = arrow-extends x lo (u .0);
-            right = arrow-extends x hi (u .1);
-            answer = record {
-              arrow = q .post .result .arrow;
-              same = λ y. q .post .result .same y
-                  ∙ ap₂ _&&_ (sym (den-extends x (ready-wf r) m lo (u .0) y)) (sym (den-extends x (ready-wf r) m hi (u .1) y));
-            };
-          }
-      right answer.Full q = tt
+      go : (g : Found) → KnownPost W (flip lo) (flip hi) g → carriedFound true g ≡ find.At v
+          → Denotes m (rowsOf W) v (orF (den m (rowsOf W) lo) (den m (rowsOf W) hi))
+      go (find.At x) p q =
+          let z : flip x ≡ v = cc in
+          let U = turned-arrows (rowsOf W) lo hi u in
+          subst (λ (y : ℕ). Denotes m (rowsOf W) y (orF (den m (rowsOf W) lo) (den m (rowsOf W) hi))) z
+          (denotes-carried true (turned-or m (rowsOf W) lo hi)
+          (known-right (flip lo) (flip hi) x r (U .0) (U .1) p))
+      go find.Nothing p q = absurd (let z : _≡_ {A = ℕ} 0 1 = cc in omega arith)
 
--- OR is NOT of AND of the two with the other mark
-module _ {m N limit : ℕ} {W : View} {x y : ℕ} (a b : ℕ) (r : Ready m N limit W) (ex : x ≡ flip a) (ey : y ≡ flip b) where
-  pub or-arrows : Arrow (rowsOf W) a → Arrow (rowsOf W) b → Arrow (rowsOf W) x × Arrow (rowsOf W) y
-  or-arrows u w = (
-    subst (Arrow (rowsOf W)) (sym ex) (carry-arrow (rowsOf W) true a u),
-    subst (Arrow (rowsOf W)) (sym ey) (carry-arrow (rowsOf W) true b w),
-  )
+  -- what the two calls compute
+  pub or-calls : {l x₀ x₁ y₀ y₁ : ℕ} → Split m (rowsOf W) lo hi l x₀ x₁ y₀ y₁
+      → Divides m (rowsOf W) l (orF (den m (rowsOf W) lo) (den m (rowsOf W) hi)) (orF (den m (rowsOf W) x₀) (den m (rowsOf W) y₀))
+      (λ t. orF (den m t x₁) (den m t y₁))
+  or-calls s = two-divides (ready-wf r) (s .shallow) (s .left) _||_ (s .right)
 
-  morgan : (v : Val) → notF (andF (den m (rowsOf W) x) (den m (rowsOf W) y)) v ≡ orF (den m (rowsOf W) a) (den m (rowsOf W) b) v
-  morgan v =
-      let p = ap (λ z. den m (rowsOf W) z v) ex ∙ den-flip m (rowsOf W) a v in
-      let q = ap (λ z. den m (rowsOf W) z v) ey ∙ den-flip m (rowsOf W) b v in
-      let d = laws (den m (rowsOf W) a v) (den m (rowsOf W) b v) in
-      cc (p, q, d)
-    where
-      laws : (p q : Bool) → not (not p && not q) ≡ (p || q)
-      laws true q = refl
-      laws false true = refl
-      laws false false = refl
-
-  pub or-full : {X : View} {c : ℕ} → Worked m N limit W X (madeOf c) (andF (den m (rowsOf W) x) (den m (rowsOf W) y)) → c ≡ FULL
-      → Worked m N limit W X (madeOf FULL) (orF (den m (rowsOf W) a) (den m (rowsOf W) b))
-  or-full w e = worked-cong morgan (worked-not-full w e)
-
-  pub or-made : {X : View} {c s : ℕ} → Worked m N limit W X (madeOf c) (andF (den m (rowsOf W) x) (den m (rowsOf W) y)) → c ≢ FULL
-      → s ≡ flip c
-      → Worked m N limit W X (madeOf s) (orF (den m (rowsOf W) a) (den m (rowsOf W) b))
-  or-made w n e = worked-cong morgan (worked-not w n e)
+  -- the result is remembered, as AND of the two with the other mark
+  pub or-kept : {X Y : View} {c : ℕ} → Worked m N limit W X (madeOf c) (orF (den m (rowsOf W) lo) (den m (rowsOf W) hi))
+      → OrRemembered X Y lo hi c
+      → Worked m N limit W Y (madeOf c) (orF (den m (rowsOf W) lo) (den m (rowsOf W) hi))
+  or-kept k p =
+      worked-kept k (remember-frame (flip lo) (flip hi) (madeOf (p .answer)) (p .post))
+      (pair-remembers (flip lo) (flip hi) (madeOf (p .answer)) r (turned-arrows (rowsOf W) lo hi u)
+      (worked-carried true (turned-and m (rowsOf W) lo hi) k (p .turned)) (p .post))

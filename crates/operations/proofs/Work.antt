@@ -126,7 +126,7 @@ module _ {m N limit : ℕ} {W : View} (r : Ready m N limit W) where
         post = q;
       }
 
--- NOT of what was made, and OR as NOT of AND of the two with the other mark
+-- NOT of what was made
 module _ {m N limit : ℕ} {W X : View} {r : ℕ} {F : Fn} (w : Worked m N limit W X (madeOf r) F) where
   pub worked-not-full : r ≡ FULL → Worked m N limit W X (madeOf FULL) (notF F)
   worked-not-full e =

@@ -29,7 +29,7 @@ ghost use Rattle.operations.specs.Work.{Ready};
 ghost use Rattle.operations.specs.Open.{RowIs, ReachesLevel};
 ghost use Rattle.operations.specs.Odd.{OddKnown, OddPost, JoinPre};
 ghost use Rattle.operations.specs.Carried.{CarriedMade, carriedFound};
-ghost use Rattle.operations.specs.Pairs.{shortOf, KnownPost, BothRows};
+ghost use Rattle.operations.specs.Pairs.{shortOf, KnownPost, BothRows, OrKnown, OrRemembered};
 ghost use Rattle.operations.specs.Posts.{rowsIn, ArrowPre, RowPre, PairPre, PairRowsPre, ShiftPre, ShiftRowPre, LevelPre};
 ghost use Rattle.operations.specs.Posts.{LevelRowPre, KnownOf, FnPost, OnePost, TwoPost, JoinedPost, topLevel, HalvesAt};
 
@@ -267,16 +267,70 @@ fn and_rows(words: &mut [u32], rows: u32, levels: u32, limit: u32, lo: u32, hi: 
     made
 }
 
-// OR of two arrows: NOT of AND of the two with the other mark.
+// What is known of OR of a lesser and a greater arrow: NOT of what is known of AND of the two with the other mark, so that one memory is
+// for both.
+fn or_known(words: &[u32], rows: u32, lo: u32, hi: u32) -> Found
+    requires { ⌜ Room (view rows (now words)) × Slots (view rows (now words)) ⌝ }
+    ensures { λ r. ⌜ OrKnown (view rows (now (words .entry))) lo hi r ⌝ }
+{
+    let found = known(words, rows, flip(lo), flip(hi));
+    carry_found(Table::EVERYTHING, found)
+}
+
+// Remembers OR of a lesser and a greater arrow: NOT of it, as AND of the two with the other mark.
+fn remember_or(words: &mut [u32], rows: u32, lo: u32, hi: u32, made: u32)
+    requires { ⌜ Room (view rows (now words)) × Slots (view rows (now words)) ⌝ }
+    ensures { λ _. ⌜ OrRemembered (view rows (now (words .entry))) (view rows (now (words .exit))) lo hi made ⌝ }
+{
+    let turned = carry_made(Table::EVERYTHING, made);
+    remember(words, rows, flip(lo), flip(hi), turned);
+}
+
+// OR of two arrows.
 pub fn or_of(words: &mut [u32], rows: u32, levels: u32, limit: u32, a: u32, b: u32) -> u32
     requires { ⌜ PairPre levels rows limit (now words) a b ⌝ }
     ensures { λ r. ⌜ TwoPost orF levels rows limit (now (words .entry)) (now (words .exit)) a b r ⌝ }
 {
-    let made = and_of(words, rows, levels, limit, flip(a), flip(b));
-    if made == Code::FULL {
+    let p = sort(a, b);
+    let found = or_known(words, rows, p.lo, p.hi);
+    if let Found::At(r) = found {
+        return r;
+    }
+    or_rows(words, rows, levels, limit, p.lo, p.hi)
+}
+
+// `or_of` of parts of two rows. It is apart, so that it is inlined in `or_rows`: a pair whose result is known costs no call.
+fn or_part(words: &mut [u32], rows: u32, levels: u32, limit: u32, a: u32, b: u32) -> u32
+    requires { ⌜ PairPre levels rows limit (now words) a b ⌝ }
+    ensures { λ r. ⌜ TwoPost orF levels rows limit (now (words .entry)) (now (words .exit)) a b r ⌝ }
+{
+    let p = sort(a, b);
+    let found = or_known(words, rows, p.lo, p.hi);
+    if let Found::At(r) = found {
+        return r;
+    }
+    or_rows(words, rows, levels, limit, p.lo, p.hi)
+}
+
+// OR of a lesser and a greater arrow to rows.
+fn or_rows(words: &mut [u32], rows: u32, levels: u32, limit: u32, lo: u32, hi: u32) -> u32
+    requires { ⌜ PairRowsPre levels rows limit (now words) lo hi ⌝ }
+    ensures { λ r. ⌜ TwoPost orF levels rows limit (now (words .entry)) (now (words .exit)) lo hi r ⌝ }
+{
+    let level = top(words, rows, lo, hi);
+    let x = halve(words, rows, level, lo);
+    let y = halve(words, rows, level, hi);
+    let low = or_part(words, rows, levels, limit, x.low, y.low);
+    if low == Code::FULL {
         return Code::FULL;
     }
-    flip(made)
+    let high = or_part(words, rows, levels, limit, x.high, y.high);
+    if high == Code::FULL {
+        return Code::FULL;
+    }
+    let made = make(words, rows, limit, level, low, high);
+    remember_or(words, rows, lo, hi, made);
+    made
 }
 
 // What is known of EXISTS at level x of an arrow: of a function that does not read x, or remembered.

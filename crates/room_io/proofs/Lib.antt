@@ -1,4 +1,5 @@
 pub mod Moves
+pub mod Calls
 pub mod Turns
 pub mod Text
 pub mod Pace

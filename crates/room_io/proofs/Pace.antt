@@ -69,7 +69,7 @@ module _ {k : ℕ} (s : State) (q : Progress) (v j u room : List ℕ) (f : Paced
         closes = λ x. f .closes (more-fits h .0);
         pace = omega (arith, f .pace, size, b .some e, length-append (s .brought) (b .bytes));
       }
-  paced-turn Room h (b, c, e) y = record {
+  paced-turn Room h (b, c, e, w) y = record {
     placed = z;
     toWrite = 0;
     toClose = f .toClose;

@@ -79,11 +79,11 @@ module _ (s : State) (q : Progress) (v j u room : List ℕ) (f : Open s) where
       let g = respelt (sym (b .follow)) refl (ap (λ (l : List ℕ). s .handed ++ l) (sym c))
       (so-far-more f (b .bytes) (q .ended) (b .none) h) in
       either (q .done) readFailed (stateAfter s q v j u room More (b, c)) g g
-  told-turn Room h (b, c, e) =
+  told-turn Room h (b, c, e, w) =
       let g = respelt (sym b) (sym e)
       (sym (ap (λ (l : List ℕ). (s .handed ++ unwritten (s .progress) (s .output)) ++ l) c ∙ append-nil (allHanded s)))
       (so-far-room f h) in
-      either (q .done) writeFailed (stateAfter s q v j u room Room (b, c, e)) g g
+      either (q .done) writeFailed (stateAfter s q v j u room Room (b, c, e, w)) g g
 
 told : {w i o : List ℕ} {k : ℕ} {s : State} → w ≡ zeros → Turns w i o k s → Told (s .way) s
 told e none = subst (λ (l : List ℕ). SoFar l [] false [] []) (sym e) so-far-none

@@ -4,17 +4,9 @@ use mathlib.Core.Bool.{Bool, true, false}
 use mathlib.Core.List.{List, [], _∷_, _++_, append-nil}
 use Prim.Native.Nat.{ℕ, zero, suc, _+_, _-_, _≤_, _<_}
 use native.Mathlib.Omega.{arith}
-use lib.IntN.{ℤ, pos, negsuc}
 use lib.ListN.{length, take, drop, length-drop}
 use lib.Seq.{length-take-le, take-all, take-append-le, take-append-add, drop-drop, take-nil}
-use lib.Signed.{ltZ}
-use borrow.Author.Tests.{ltb-true}
-use mir.Syntax.{w64}
-use mir.Val.{toZ, ofZ, SFits}
-use mir.Facts.{toZ-ofZ}
 use borrow.Rule.Slice.PartMut.{putMid, same-len-mid, take-put}
-use Rattle.io.specs.Counts.{clamped}
-use Rattle.libc.specs.Io.{Moved}
 use Rattle.records.proofs.Reading.{never}
 use Rattle.rooms.specs.declared.Said.{Said}
 use Rattle.rooms.specs.declared.Said.the-variants.{Line, End, More, Room}
@@ -23,7 +15,9 @@ use Rattle.rooms.proofs.Replies.{line-said, end-said}
 use Rattle.room_io.specs.declared.Progress.{Progress}
 use Rattle.room_io.specs.declared.Brought.{Brought}
 use Rattle.room_io.specs.declared.Brought.the-variants as brought
-use Rattle.room_io.specs.Places.{Placed, atHand, unwritten, ReadWithin, Refilled, Turned}
+use Rattle.room_io.specs.Calls.{ReadSays, afterRead, WriteSays}
+use Rattle.room_io.specs.Places.{Placed, atHand, unwritten, Refilled, Turned}
+use Rattle.room_io.proofs.Calls.{ReadWithin, read-within, sound-read}
 
 -- ---- parts of a list
 
@@ -38,21 +32,6 @@ part-from : (a : ℕ) (l : List ℕ) → take (length l - a) (drop a l) ≡ drop
 part-from a l = take-all (length l - a) (drop a l) (omega (arith, length-drop a l))
 
 -- ---- a read
-
-pub bytes-fit : {room n : ℕ} {b : Brought} → ReadWithin room b → b ≡ brought.Bytes n → (1 ≤ n) × (n ≤ room)
-bytes-fit {room} h e = subst (ReadWithin room) e h
-
-moved-some : (got : ℤ) {size room n : ℕ} → ltZ (pos 0) got ≡ true → Moved size got → room ≡ size → n ≡ clamped got room
-    → (1 ≤ n) × (n ≤ room)
-moved-some (pos k) t m z e = let h : 0 < k = ltb-true 0 k t in (omega arith, omega arith)
-moved-some (negsuc k) t m z e = never (cc)
-
--- a read that answers more than 0 brings so many bytes; the test and the count read the answer back from its bits
-pub some-bytes : (got : ℤ) {size room n : ℕ} → SFits w64 got → ltZ (pos 0) (toZ w64 (ofZ w64 got)) ≡ true → Moved size got → room ≡ size
-    → n ≡ clamped (toZ w64 (ofZ w64 got)) room → (1 ≤ n) × (n ≤ room)
-some-bytes got {room = room} fits t m z e =
-    let back : toZ w64 (ofZ w64 got) ≡ got = toZ-ofZ fits in
-    moved-some got (sym (ap (ltZ (pos 0)) back) ∙ t) m z (e ∙ ap (λ (x : ℤ). clamped x room) back)
 
 -- what a list holds once a part from a place on has been written
 module _ (a : ℕ) (l part : List ℕ) (h : a ≤ length l) (z : length part ≡ length (take (length l - a) (drop a l))) where
@@ -79,45 +58,74 @@ module _ (p : Progress) (input moved part : List ℕ) {held : ℕ} (within : hel
   kept-front : take held moved ≡ atHand p input
   kept-front = front ∙ ap (λ (k : ℕ). take k (drop (p .start) input)) is
 
-  pub refilled-bytes : {n : ℕ} {b : Brought} → ReadWithin (length part) b → b ≡ brought.Bytes n
-      → Refilled p (record { start = 0; end = held + n; pending = p .pending; ended = false; done = false; sound = p .sound }) input
-      (putMid held (length moved - held) moved part)
-  refilled-bytes {n} read e =
-      let (f, i) = bytes-fit read e in
+  abbrev filled : List ℕ
+  filled = putMid held (length moved - held) moved part
+
+  -- the room that was read into is what is behind the bytes at hand
+  room-behind : length part ≡ length filled - (p .end - p .start)
+  room-behind = omega (arith, is, part-size held moved part within size, put-size held moved part within size)
+
+  -- a read of nothing leaves the bytes at hand
+  none-follows : take (held - 0) filled ≡ atHand p input ++ []
+  none-follows =
+      let z : held - 0 ≡ held = omega arith in
+      ap (λ (k : ℕ). take k filled) z ∙ take-put held (length moved - held) moved part within ∙ kept-front
+      ∙ sym (append-nil (atHand p input))
+
+  filled-as : (b : Brought) → ReadWithin (length part) b → ReadSays (length part) b → Refilled p (afterRead p held b) input filled
+  filled-as (brought.Bytes n) (f, i) h =
       let z : held + n - 0 ≡ held + n = omega arith in
       record {
         order = omega arith;
         within = omega (arith, i, part-size held moved part within size, put-size held moved part within size);
         waiting = refl;
         brings = record {
+          brought = brought.Bytes n;
+          read = subst (λ (k : ℕ). ReadSays k (brought.Bytes n)) room-behind h;
+          is = ap (λ (k : ℕ). afterRead p k (brought.Bytes n)) is;
           bytes = take n part;
           follow =
-              ap (λ (k : ℕ). take k (putMid held (length moved - held) moved part)) z ∙ put-front held moved part within size n i
+              ap (λ (k : ℕ). take k filled) z ∙ put-front held moved part within size n i
               ∙ ap (λ (m : List ℕ). m ++ take n part) kept-front;
           none = λ t. never (cc);
           some = λ t. omega (arith, length-take-le n part i);
         };
       }
+  filled-as brought.End f h = record {
+    order = omega arith;
+    within = omega (arith, put-size held moved part within size);
+    waiting = refl;
+    brings = record {
+      brought = brought.End;
+      read = subst (λ (k : ℕ). ReadSays k brought.End) room-behind h;
+      is = ap (λ (k : ℕ). afterRead p k brought.End) is;
+      bytes = [];
+      follow = none-follows;
+      none = λ t. refl;
+      some = λ t. never (cc);
+    };
+  }
+  filled-as brought.Failed f h = record {
+    order = omega arith;
+    within = omega (arith, put-size held moved part within size);
+    waiting = refl;
+    brings = record {
+      brought = brought.Failed;
+      read = subst (λ (k : ℕ). ReadSays k brought.Failed) room-behind h;
+      is = ap (λ (k : ℕ). afterRead p k brought.Failed) is;
+      bytes = [];
+      follow = none-follows;
+      none = λ t. refl;
+      some = λ t. never (cc);
+    };
+  }
 
-  -- the end of the input, or a read that failed
-  pub refilled-none : (failed : Bool)
-      → Refilled p (record { start = 0; end = held; pending = p .pending; ended = true; done = failed; sound = p .sound }) input
-      (putMid held (length moved - held) moved part)
-  refilled-none failed =
-      let z : held - 0 ≡ held = omega arith in
-      record {
-        order = omega arith;
-        within = omega (arith, put-size held moved part within size);
-        waiting = refl;
-        brings = record {
-          bytes = [];
-          follow =
-              ap (λ (k : ℕ). take k (putMid held (length moved - held) moved part)) z
-              ∙ take-put held (length moved - held) moved part within ∙ kept-front ∙ sym (append-nil (atHand p input));
-          none = λ t. refl;
-          some = λ t. never (cc);
-        };
-      }
+  -- a read into the room behind the bytes at hand, and how far the program is by its answer
+  pub refilled : {b : Brought} {q : Progress} → ReadSays (length part) b → q ≡ afterRead p held b → Refilled p q input filled
+  refilled {b} h e = subst (λ (x : Progress). Refilled p x input filled) (sym e) (filled-as b (read-within h) h)
+
+pub read-sound : {p q : Progress} {input input′ : List ℕ} → Refilled p q input input′ → q .sound ≡ p .sound
+read-sound {p} f = let b = f .brings in ap (λ (x : Progress). x .sound) (b .is) ∙ sound-read p (p .end - p .start) (b .brought)
 
 -- ---- an answer's turn
 
@@ -218,9 +226,9 @@ module _ {p : Progress} (old new input output room : List ℕ) {r : Said} (place
     );
   }
 
-  pub turned-room : {q : Progress} → r ≡ Room → (q .start ≡ p .start) × (q .end ≡ p .end) × (q .pending ≡ 0) × (q .ended ≡ p .ended)
-      → Turned p q old new input input output written
-  turned-room {q} e (a, b, c, d) = record {
+  pub turned-room : {q : Progress} → r ≡ Room → WriteSays p q → Turned p q old new input input output written
+  turned-room {q} e w = let a = ap (λ (x : Progress). x .start) (w .is) in let b = ap (λ (x : Progress). x .end) (w .is) in
+      let c = ap (λ (x : Progress). x .pending) (w .is) in let d = ap (λ (x : Progress). x .ended) (w .is) in record {
     placed =
         record {
           order =
@@ -234,5 +242,5 @@ module _ {p : Progress} (old new input output room : List ℕ) {r : Said} (place
     reply = Room;
     room = room;
     answered = in-room Room e;
-    after = (ap₂ (λ (i j : ℕ). take (j - i) (drop i input)) a b, ap (λ (k : ℕ). take k written) c, d);
+    after = (ap₂ (λ (i j : ℕ). take (j - i) (drop i input)) a b, ap (λ (k : ℕ). take k written) c, d, w);
   }

@@ -10,7 +10,7 @@ use Rattle.rooms.specs.declared.Said.the-variants.{Line, End, More, Room}
 use Rattle.rooms.specs.Replies.{lineRoom, Replies}
 use Rattle.room_io.specs.declared.Progress.{Progress}
 use Rattle.room_io.specs.declared.Brought.{Brought}
-use Rattle.room_io.specs.declared.Brought.the-variants as brought
+use Rattle.room_io.specs.Calls.{ReadSays, afterRead, WriteSays}
 
 -- the longest record: two length bytes and L of at most 1,100
 abbrev pub longest : ℕ
@@ -32,14 +32,12 @@ atHand p input = take (p .end - p .start) (drop (p .start) input)
 abbrev pub unwritten : Progress → List ℕ → List ℕ
 unwritten p output = take (p .pending) output
 
--- a read that is not the end of the input brings a byte or more, and no more than there is room for
-abbrev pub ReadWithin : ℕ → Brought → Type 0
-ReadWithin room (brought.Bytes n) = (1 ≤ n) × (n ≤ room)
-ReadWithin room brought.End = Unit {0}
-ReadWithin room brought.Failed = Unit {0}
-
--- what a read brought follows the bytes at hand; it brought nothing exactly where no more will come
+-- what a read into the room behind the bytes at hand brought follows them, and its answer says how far the program is; it brought nothing
+-- exactly where no more will come
 pub record Brings (p q : Progress) (input input′ : List ℕ) : Type 0 where
+  pub brought : Brought
+  pub read : ReadSays (length input′ - (p .end - p .start)) brought
+  pub is : q ≡ afterRead p (p .end - p .start) brought
   pub bytes : List ℕ
   pub follow : atHand q input′ ≡ atHand p input ++ bytes
   pub none : q .ended ≡ true → bytes ≡ []
@@ -60,7 +58,9 @@ After p q input input′ output output′ room (Line used k) =
 After p q input input′ output output′ room (End k) =
     (unwritten q output′ ≡ unwritten p output ++ take k room) × (q .ended ≡ p .ended) × (q .done ≡ true)
 After p q input input′ output output′ room More = Brings p q input input′ × (unwritten q output′ ≡ unwritten p output)
-After p q input input′ output output′ room Room = (atHand q input′ ≡ atHand p input) × (unwritten q output′ ≡ []) × (q .ended ≡ p .ended)
+After p q input input′ output output′ room Room =
+    (atHand q input′ ≡ atHand p input) × (unwritten q output′ ≡ []) × (q .ended ≡ p .ended)
+    × WriteSays p q
 
 -- a turn: one answer to the bytes at hand, in the room behind what is unwritten
 pub record Turned (p q : Progress) (old new input input′ output output′ : List ℕ) : Type 0 where

@@ -10,7 +10,8 @@ ghost use Rattle.rows.specs.Says.{Says};
 ghost use Rattle.contract.specs.Seen.{SoundWords};
 ghost use Rattle.rooms.specs.Replies.{lineRoom};
 ghost use Rattle.rooms.specs.Whole.{zeros};
-ghost use Rattle.room_io.specs.Places.{Placed, ReadWithin, Refilled, Turned, longest};
+ghost use Rattle.room_io.specs.Places.{Placed, Refilled, Turned, longest, unwritten};
+ghost use Rattle.room_io.specs.Calls.{broughtOf, ReadSays, Sums, afterRead, afterWrite, WriteSays};
 ghost use Rattle.room_io.specs.Served.{Served};
 
 // How far the program is: the bytes at hand stand in the input buffer from `start` to `end`, and `pending` bytes at the front of the output
@@ -32,11 +33,10 @@ pub enum Brought {
     Failed,
 }
 
-// Reads once into the room.
-fn read_some(room: &mut [u8]) -> Brought
-    ensures { λ r. ⌜ ReadWithin (length (now (room .exit))) r ⌝ }
+// What the answer of a read into the room says: above 0 so many bytes, 0 the end of the input, below 0 that it failed.
+fn brought_of(got: isize, room: &[u8]) -> Brought
+    ensures { λ r. ⌜ r ≡ broughtOf got (length (now (room .entry))) ⌝ }
 {
-    let got = libc::read(STDIN_FILENO, room);
     if got > 0 {
         return Brought::Bytes(io::count(got, room));
     }
@@ -44,6 +44,14 @@ fn read_some(room: &mut [u8]) -> Brought
         return Brought::Failed;
     }
     Brought::End
+}
+
+// Reads once into the room.
+fn read_some(room: &mut [u8]) -> Brought
+    ensures { λ r. ⌜ ReadSays (length (now (room .exit))) r ⌝ }
+{
+    let got = libc::read(STDIN_FILENO, room);
+    brought_of(got, room)
 }
 
 // Moves the bytes from `start` to `end` to the front, and answers how many they are.
@@ -60,14 +68,12 @@ fn to_front(input: &mut [u8], start: usize, end: usize) -> usize
     held
 }
 
-// More bytes after those at hand, which move to the front. There is room for more, so that a read of none is the end of the input.
-fn refill(input: &mut [u8], p: Progress) -> Progress
-    requires { ⌜ (p .start ≤ p .end) × (p .end ≤ length (now input)) × (p .end - p .start < length (now input)) ⌝ }
-    ensures { λ r. ⌜ Refilled p r (now (input .entry)) (now (input .exit)) ⌝ }
-    ensures { λ r. ⌜ r .sound ≡ p .sound ⌝ }
+// How far the program is once `held` bytes stand at the front and a read behind them brought what it did.
+fn after_read(p: Progress, held: usize, brought: Brought) -> Progress
+    requires { ⌜ Sums held brought ⌝ }
+    ensures { λ r. ⌜ r ≡ afterRead p held brought ⌝ }
 {
-    let held = to_front(input, p.start, p.end);
-    match read_some(&mut input[held..]) {
+    match brought {
         Brought::Bytes(n) => Progress {
             start: 0,
             end: held + n,
@@ -95,22 +101,47 @@ fn refill(input: &mut [u8], p: Progress) -> Progress
     }
 }
 
-// Writes what is pending.
-fn flush(output: &[u8], p: Progress) -> Progress
-    requires { ⌜ p .pending ≤ length (now output) ⌝ }
-    ensures { λ r. ⌜ (r .start ≡ p .start) × (r .end ≡ p .end) × (r .pending ≡ 0) × (r .ended ≡ p .ended) ⌝ }
+// More bytes after those at hand, which move to the front. There is room for more, so that a read of none is the end of the input.
+fn refill(input: &mut [u8], p: Progress) -> Progress
+    requires { ⌜ (p .start ≤ p .end) × (p .end ≤ length (now input)) × (p .end - p .start < length (now input)) ⌝ }
+    ensures { λ r. ⌜ Refilled p r (now (input .entry)) (now (input .exit)) ⌝ }
     ensures { λ r. ⌜ r .sound ≡ p .sound ⌝ }
 {
-    let pending = p.pending;
-    let is_written = io::write_all(STDOUT_FILENO, &output[..pending]);
+    let held = to_front(input, p.start, p.end);
+    let brought = read_some(&mut input[held..]);
+    after_read(p, held, brought)
+}
+
+// How far the program is after a write of what was pending: done exactly where it failed.
+fn after_write(p: Progress, written: bool) -> Progress
+    ensures { λ r. ⌜ r ≡ afterWrite p written ⌝ }
+{
     Progress {
         start: p.start,
         end: p.end,
         pending: 0,
         ended: p.ended,
-        done: !is_written,
+        done: !written,
         sound: p.sound,
     }
+}
+
+// Writes the text, which is what is pending in the output buffer.
+fn write_text(text: &[u8], output: &[u8], p: Progress) -> Progress
+    requires { ⌜ now text ≡ unwritten p (now output) ⌝ }
+    ensures { λ r. ⌜ WriteSays p r ⌝ }
+{
+    let written = io::write_all(STDOUT_FILENO, text);
+    after_write(p, written)
+}
+
+// Writes what is pending.
+fn flush(output: &[u8], p: Progress) -> Progress
+    requires { ⌜ p .pending ≤ length (now output) ⌝ }
+    ensures { λ r. ⌜ WriteSays p r ⌝ }
+{
+    let due = p.pending;
+    write_text(&output[..due], output, p)
 }
 
 // One answer, and the read or the write that it asks for.

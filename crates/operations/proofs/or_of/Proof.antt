@@ -1,6 +1,8 @@
--- `or_of` meets its contract: NOT of AND of the two with the other mark. Assumes nothing.
-use Rattle.operations.proofs.Pairs.{or-arrows, or-full, or-made}
+-- `or_of` meets its contract: what is known of the pair in order, or the work on its rows. Assumes nothing.
 use borrow.Author.Needs.{needs}
+use native.Mathlib.Omega.{arith}
+use Rattle.operations.proofs.Work.{ready-room}
+use Rattle.operations.proofs.Pairs.{sorted-swap, swap-arrows, or-swapped, or-none, or-known}
 use Rattle.operations.proofs.or_of.Statement.{statement}
 use Rattle.operations.proofs.or_of.Tie as tie
 
@@ -9,21 +11,27 @@ or-of-spec =
     tie.close
     (tie.spec
     (λ c κs. search needs)
-    (λ c κs. search needs)
-    (λ c κs. let U = or-arrows (c .before .before .before .before .args .a) (c .before .before .before .before .args .b)
-    (c .before .before .before .before .pre .0) (c .before .flip .ensures) (c .flip2 .ensures)
-    (c .before .before .before .before .pre .1) (c .before .before .before .before .pre .2) in
-    (c .before .before .before .before .pre .0, U .0, U .1))
+    (λ c κs. let r = c .before .before .before .pre .0 in (ready-room r, r .memory .sizes))
     (λ c. search needs)
-    (λ c. or-full (c .before .before .before .before .before .before .before .before .args .a)
-    (c .before .before .before .before .before .before .before .before .args .b)
-    (c .before .before .before .before .before .before .before .before .pre .0)
-    (c .before .before .before .before .before .flip .ensures) (c .before .before .before .before .flip2 .ensures)
-    (c .before .before .before .and-of .ensures) (c .if1 .taken))
-    (λ c κs. search needs)
     (λ c. search needs)
-    (λ c. or-made (c .before .before .before .before .before .before .before .before .before .args .a)
-    (c .before .before .before .before .before .before .before .before .before .args .b)
-    (c .before .before .before .before .before .before .before .before .before .pre .0)
-    (c .before .before .before .before .before .before .flip .ensures) (c .before .before .before .before .before .flip2 .ensures)
-    (c .before .before .before .before .and-of .ensures) (c .before .if1 .left) (c .flip3 .ensures)))
+    (λ c. let r = c .before .before .before .before .before .before .before .pre .0 in
+    let S = sorted-swap _ _ (c .before .before .before .before .before .sort .ensures .0)
+    (c .before .before .before .before .before .sort .ensures .1) in
+    let U = swap-arrows r S (c .before .before .before .before .before .before .before .pre .1)
+    (c .before .before .before .before .before .before .before .pre .2) in
+    or-swapped r S (or-known r U (c .before .found .given .1) (c .before .before .before .or-known .ensures)))
+    (λ c. search needs)
+    (λ c κs. let r = c .before .before .before .before .before .before .before .pre .0 in
+    let S = sorted-swap _ _ (c .before .before .before .before .before .sort .ensures .0)
+    (c .before .before .before .before .before .sort .ensures .1) in
+    let U = swap-arrows r S (c .before .before .before .before .before .before .before .pre .1)
+    (c .before .before .before .before .before .before .before .pre .2) in
+    let p = c .before .before .before .before .before .sort .ensures .0 in
+    let q = c .before .before .before .before .before .sort .ensures .1 in
+    let B = or-none _ _ (omega arith) (c .before .enum-told .given .1) (c .before .before .before .or-known .ensures) in
+    (r, U .0, U .1, B))
+    (λ c. search needs)
+    (λ c. let r = c .before .before .before .before .before .before .before .before .before .before .pre .0 in
+    let S = sorted-swap _ _ (c .before .before .before .before .before .before .before .before .sort .ensures .0)
+    (c .before .before .before .before .before .before .before .before .sort .ensures .1) in
+    or-swapped r S (c .before .before .or-rows .ensures)))

@@ -1,6 +1,6 @@
--- `room_io::read_some` meets its contract: a read that neither failed nor ended brought a byte or more.
+-- `room_io::read_some` meets its contract: what it gives is what the answer of the read says.
 -- Assumes nothing.
-use Rattle.room_io.proofs.Turns.{some-bytes}
+use Rattle.room_io.proofs.Calls.{read-says}
 use borrow.Author.Needs.{needs}
 use Rattle.room_io.proofs.read_some.Statement.{statement}
 use Rattle.room_io.proofs.read_some.Tie as tie
@@ -12,11 +12,5 @@ read-some-spec =
     (λ c κs. search needs)
     (λ c κs. search needs)
     (λ c. search needs)
-    (λ c. some-bytes (c .before .before .before .before .before .read .result)
-    (record { sfits = c .before .before .before .before .before .read .ok }) (c .before .before .if1 .taken)
-    (c .before .before .before .before .before .read .ensures) (c .before .before .before .before .before .read .kept .1 .0)
-    (c .count .ensures .1))
-    (λ c. search needs)
-    (λ c. search needs)
-    (λ c. search needs)
-    (λ c. search needs))
+    (λ c. read-says (c .before .before .before .before .read .result) _ (record { sfits = c .before .before .before .before .read .ok }) (c .before .before .before .before .read .ensures) (c .before .before .before .before .read .kept .1 .0)
+    (c .brought-of .ensures)))

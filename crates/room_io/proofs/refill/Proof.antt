@@ -1,9 +1,8 @@
 -- `room_io::refill` meets its contract: the bytes at hand stand at the front, and what a read brought stands behind them.
 -- Assumes nothing.
-use mathlib.Core.Path.{refl}
-use mathlib.Core.Bool.{true, false}
 use native.Mathlib.Omega.{arith}
-use Rattle.room_io.proofs.Turns.{bytes-fit, refilled-bytes, refilled-none}
+use Rattle.room_io.proofs.Calls.{sums}
+use Rattle.room_io.proofs.Turns.{refilled, read-sound}
 use borrow.Author.Needs.{needs}
 use Rattle.room_io.proofs.refill.Statement.{statement}
 use Rattle.room_io.proofs.refill.Tie as tie
@@ -17,63 +16,15 @@ refill-spec =
     (λ c. search needs)
     (λ c. search needs)
     (λ c κs. search needs)
-    (λ c. search needs)
-    (λ c. let n = bytes-fit (c .before .before .before .before .before .read-some .ensures) (c .before .n .given .1) in
-    omega (
+    (λ c κs. sums _ (c .before .before .read-some .ensures)
+    (omega (
       arith,
-      n .1,
-      c .before .before .before .before .before .read-some .kept .0,
-      c .before .before .before .before .before .before .before .before .before .to-front .ensures .0,
-      c .before .before .before .before .before .before .before .before .before .to-front .kept .0,
-    ))
-    (λ c. search needs)
-    (λ c. search needs)
-    (λ c. search needs)
-    (λ c. (
-      refilled-bytes (c .before .before .before .before .before .before .before .before .before .before .before .before .args .p)
-          (c .before .before .before .before .before .before .before .before .before .before .before .before .args .input .now)
-          (c .before .before .before .before .before .before .before .before .before .to-front .last .0)
-          (c .before .before .before .before .before .read-some .last .0)
-          (omega (
-            arith,
-            c .before .before .before .before .before .before .before .before .before .to-front .ensures .0,
-            c .before .before .before .before .before .before .before .before .before .to-front .kept .0,
-          ))
-          (c .before .before .before .before .before .before .before .before .before .to-front .ensures .0)
-          (c .before .before .before .before .before .before .before .before .before .to-front .ensures .1)
-          (c .before .before .before .before .before .read-some .kept .0) (c .before .before .before .before .before .read-some .ensures)
-          (c .before .n .given .1),
-      refl,
-    ))
-    (λ c. search needs)
-    (λ c. (
-      refilled-none (c .before .before .before .before .before .before .before .before .before .before .before .args .p)
-          (c .before .before .before .before .before .before .before .before .before .before .before .args .input .now)
-          (c .before .before .before .before .before .before .before .before .to-front .last .0)
-          (c .before .before .before .before .read-some .last .0)
-          (omega (
-            arith,
-            c .before .before .before .before .before .before .before .before .to-front .ensures .0,
-            c .before .before .before .before .before .before .before .before .to-front .kept .0,
-          ))
-          (c .before .before .before .before .before .before .before .before .to-front .ensures .0)
-          (c .before .before .before .before .before .before .before .before .to-front .ensures .1)
-          (c .before .before .before .before .read-some .kept .0) false,
-      refl,
-    ))
-    (λ c. search needs)
-    (λ c. (
-      refilled-none (c .before .before .before .before .before .before .before .before .before .before .before .args .p)
-          (c .before .before .before .before .before .before .before .before .before .before .before .args .input .now)
-          (c .before .before .before .before .before .before .before .before .to-front .last .0)
-          (c .before .before .before .before .read-some .last .0)
-          (omega (
-            arith,
-            c .before .before .before .before .before .before .before .before .to-front .ensures .0,
-            c .before .before .before .before .before .before .before .before .to-front .kept .0,
-          ))
-          (c .before .before .before .before .before .before .before .before .to-front .ensures .0)
-          (c .before .before .before .before .before .before .before .before .to-front .ensures .1)
-          (c .before .before .before .before .read-some .kept .0) true,
-      refl,
+      c .before .before .read-some .kept .0,
+      c .before .before .before .before .before .before .to-front .ensures .0,
+      c .before .before .before .before .before .before .to-front .kept .0,
     )))
+    (λ c. search needs)
+    (λ c. let f = refilled (c .before .before .before .before .before .before .before .before .before .before .args .p) (c .before .before .before .before .before .before .before .before .before .before .args .input .now) (c .before .before .before .before .before .before .before .to-front .last .0) (c .before .before .before .read-some .last .0)
+    (omega (arith, c .before .before .before .before .before .before .before .to-front .ensures .0, c .before .before .before .before .before .before .before .to-front .kept .0))
+    (c .before .before .before .before .before .before .before .to-front .ensures .0) (c .before .before .before .before .before .before .before .to-front .ensures .1) (c .before .before .before .read-some .kept .0) (c .before .before .before .read-some .ensures)
+    (c .after-read .ensures) in (f, read-sound f)))

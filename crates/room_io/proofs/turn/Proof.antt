@@ -2,6 +2,7 @@
 -- Assumes nothing.
 use native.Mathlib.Omega.{arith}
 use Rattle.rooms.proofs.Replies.{line-said, end-said, more-said, more-same, room-same}
+use Rattle.room_io.proofs.Calls.{write-sound}
 use Rattle.room_io.proofs.Turns.{turned-line, turned-end, turned-more, turned-room}
 use Rattle.room_io.proofs.Known.{known-still}
 use borrow.Author.Needs.{needs}
@@ -127,10 +128,10 @@ turn-spec =
           (c .before .before .before .before .before .before .before .before .before .before .before .before .before .before .before .before
           .pre .0) (c .before .before .before .before .before .before .before .before .answer .ensures .0)
           (c .before .before .before .before .before .before .before .before .answer .kept .1 .1 .1 .1 .0)
-          (c .before .before .enum-told2 .given .1) (c .flush .ensures .0),
+          (c .before .before .enum-told2 .given .1) (c .flush .ensures),
       known-still _ _
           (room-same (c .before .before .before .before .before .before .before .before .answer .ensures .0)
-          (c .before .before .enum-told2 .given .1)) (c .flush .ensures .1)
+          (c .before .before .enum-told2 .given .1)) (write-sound (c .flush .ensures))
           (c .before .before .before .before .before .before .before .before .before .before .before .before .before .before .before .before
           .pre .1),
     )))
