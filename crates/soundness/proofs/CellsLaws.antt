@@ -28,40 +28,58 @@ some-in base s c = record { at = λ q l. ap (has c) (let e : (base + 2 * q + s -
 
 pub record Cell (base s : ℕ) (v : Val) : Type 0 where
   pub number : ℕ
-  pub small : number < 16
+  pub small : number < 32
   pub is : InCell base s number v
 
-four : (x y z w : Bool) → (c : ℕ) × (c < 16) × (has c 0 ≡ x) × (has c 1 ≡ y) × (has c 2 ≡ z) × (has c 3 ≡ w)
-four false false false false = (0, omega arith, refl, refl, refl, refl)
-four true false false false = (1, omega arith, refl, refl, refl, refl)
-four false true false false = (2, omega arith, refl, refl, refl, refl)
-four true true false false = (3, omega arith, refl, refl, refl, refl)
-four false false true false = (4, omega arith, refl, refl, refl, refl)
-four true false true false = (5, omega arith, refl, refl, refl, refl)
-four false true true false = (6, omega arith, refl, refl, refl, refl)
-four true true true false = (7, omega arith, refl, refl, refl, refl)
-four false false false true = (8, omega arith, refl, refl, refl, refl)
-four true false false true = (9, omega arith, refl, refl, refl, refl)
-four false true false true = (10, omega arith, refl, refl, refl, refl)
-four true true false true = (11, omega arith, refl, refl, refl, refl)
-four false false true true = (12, omega arith, refl, refl, refl, refl)
-four true false true true = (13, omega arith, refl, refl, refl, refl)
-four false true true true = (14, omega arith, refl, refl, refl, refl)
-four true true true true = (15, omega arith, refl, refl, refl, refl)
+five : (x y z w u : Bool)
+    → (c : ℕ) × (c < 32) × (has c 0 ≡ x) × (has c 1 ≡ y) × (has c 2 ≡ z) × (has c 3 ≡ w) × (has c 4 ≡ u)
+five false false false false false = (0, omega arith, refl, refl, refl, refl, refl)
+five true false false false false = (1, omega arith, refl, refl, refl, refl, refl)
+five false true false false false = (2, omega arith, refl, refl, refl, refl, refl)
+five true true false false false = (3, omega arith, refl, refl, refl, refl, refl)
+five false false true false false = (4, omega arith, refl, refl, refl, refl, refl)
+five true false true false false = (5, omega arith, refl, refl, refl, refl, refl)
+five false true true false false = (6, omega arith, refl, refl, refl, refl, refl)
+five true true true false false = (7, omega arith, refl, refl, refl, refl, refl)
+five false false false true false = (8, omega arith, refl, refl, refl, refl, refl)
+five true false false true false = (9, omega arith, refl, refl, refl, refl, refl)
+five false true false true false = (10, omega arith, refl, refl, refl, refl, refl)
+five true true false true false = (11, omega arith, refl, refl, refl, refl, refl)
+five false false true true false = (12, omega arith, refl, refl, refl, refl, refl)
+five true false true true false = (13, omega arith, refl, refl, refl, refl, refl)
+five false true true true false = (14, omega arith, refl, refl, refl, refl, refl)
+five true true true true false = (15, omega arith, refl, refl, refl, refl, refl)
+five false false false false true = (16, omega arith, refl, refl, refl, refl, refl)
+five true false false false true = (17, omega arith, refl, refl, refl, refl, refl)
+five false true false false true = (18, omega arith, refl, refl, refl, refl, refl)
+five true true false false true = (19, omega arith, refl, refl, refl, refl, refl)
+five false false true false true = (20, omega arith, refl, refl, refl, refl, refl)
+five true false true false true = (21, omega arith, refl, refl, refl, refl, refl)
+five false true true false true = (22, omega arith, refl, refl, refl, refl, refl)
+five true true true false true = (23, omega arith, refl, refl, refl, refl, refl)
+five false false false true true = (24, omega arith, refl, refl, refl, refl, refl)
+five true false false true true = (25, omega arith, refl, refl, refl, refl, refl)
+five false true false true true = (26, omega arith, refl, refl, refl, refl, refl)
+five true true false true true = (27, omega arith, refl, refl, refl, refl, refl)
+five false false true true true = (28, omega arith, refl, refl, refl, refl, refl)
+five true false true true true = (29, omega arith, refl, refl, refl, refl, refl)
+five false true true true true = (30, omega arith, refl, refl, refl, refl, refl)
+five true true true true true = (31, omega arith, refl, refl, refl, refl, refl)
 
 pub cell-of : (base s : ℕ) (v : Val) → Cell base s v
 cell-of base s v =
-    let p = four (v (base + 2 * 0 + s)) (v (base + 2 * 1 + s)) (v (base + 2 * 2 + s)) (v (base + 2 * 3 + s)) in
-    record { number = p .0; small = p .1; is = record { at = at (p .0) (p .2) (p .3) (p .4) (p .5) } }
+    let p = five (v (base + 2 * 0 + s)) (v (base + 2 * 1 + s)) (v (base + 2 * 2 + s)) (v (base + 2 * 3 + s)) (v (base + 2 * 4 + s)) in
+    record { number = p .0; small = p .1; is = record { at = at (p .0) (p .2) (p .3) (p .4) (p .5) (p .6) } }
   where
     at : (c : ℕ) → has c 0 ≡ v (base + 2 * 0 + s) → has c 1 ≡ v (base + 2 * 1 + s) → has c 2 ≡ v (base + 2 * 2 + s)
-        → has c 3 ≡ v (base + 2 * 3 + s)
-        → (q : ℕ) → q < 4 → v (base + 2 * q + s) ≡ has c q
-    at c a b d e zero h = sym a
-    at c a b d e (suc zero) h = sym b
-    at c a b d e (suc (suc zero)) h = sym d
-    at c a b d e (suc (suc (suc zero))) h = sym e
-    at c a b d e (suc (suc (suc (suc q)))) h = absurd (omega arith)
+        → has c 3 ≡ v (base + 2 * 3 + s) → has c 4 ≡ v (base + 2 * 4 + s)
+        → (q : ℕ) → q < 5 → v (base + 2 * q + s) ≡ has c q
+    at c a b d e f zero h = sym a
+    at c a b d e f (suc zero) h = sym b
+    at c a b d e f (suc (suc zero)) h = sym d
+    at c a b d e f (suc (suc (suc zero))) h = sym e
+    at c a b d e f (suc (suc (suc (suc zero)))) h = sym f
+    at c a b d e f (suc (suc (suc (suc (suc q))))) h = absurd (omega arith)
 
 or-cases : (x y : Bool) → x || y ≡ true → (x ≡ true) ⊎ (y ≡ true)
 or-cases true y e = inl refl
@@ -88,7 +106,7 @@ not-yes true e = absurd (true≢false (sym e))
 not-yes false e = refl
 
 -- a cell's valuation with one level changed that is not tested, or has the value of the cell
-in-upd : {base s c l : ℕ} {v : Val} (b : Bool) → InCell base s c v → ((q : ℕ) → q < 4 → base + 2 * q + s ≡ l → b ≡ has c q)
+in-upd : {base s c l : ℕ} {v : Val} (b : Bool) → InCell base s c v → ((q : ℕ) → q < 5 → base + 2 * q + s ≡ l → b ≡ has c q)
     → InCell base s c (upd v l b)
 in-upd {base} {s} {c} {l} {v} b i f = record {
   at = λ q h. by-cases (ℕ-discrete (base + 2 * q + s) l)
@@ -113,12 +131,12 @@ flip-back a = omega arith
 module _ {m : ℕ} {rows : Rows} {base s : ℕ} where
   module _ {t l k a lo hi : ℕ} (x : Half m rows t l a lo hi) (z : Classed base s l k) where
     -- the level's number among the tested ones
-    number : (q : ℕ) → q < 4 → base + 2 * q + s ≡ l → (k < 4) × (k ≡ q)
-    number q h e = by-cases (decLt k 4)
+    number : (q : ℕ) → q < 5 → base + 2 * q + s ≡ l → (k < 5) × (k ≡ q)
+    number q h e = by-cases (decLt k 5)
         (λ g. let w = z .here g in (g, omega arith))
         (λ g. absurd (z .past (omega arith) q h (sym e)))
 
-    meets-low : {c : ℕ} (side : Bool) → c < 16 → has (lowMask k) (bitOf side c) ≡ true → Meets m rows base s t lo c
+    meets-low : {c : ℕ} (side : Bool) → c < 32 → has (lowMask k) (bitOf side c) ≡ true → Meets m rows base s t lo c
         → Meets m rows base s t a c
     meets-low {c} side h g p = record {
       val = upd (p .val) l false;
@@ -128,7 +146,7 @@ module _ {m : ℕ} {rows : Rows} {base s : ℕ} where
       on = x .low-is (p .val) ∙ p .on;
     }
 
-    meets-high : {c : ℕ} (side : Bool) → c < 16 → has (highMask k) (bitOf side c) ≡ true → Meets m rows base s t hi c
+    meets-high : {c : ℕ} (side : Bool) → c < 32 → has (highMask k) (bitOf side c) ≡ true → Meets m rows base s t hi c
         → Meets m rows base s t a c
     meets-high {c} side h g p = record {
       val = upd (p .val) l true;
@@ -137,17 +155,17 @@ module _ {m : ℕ} {rows : Rows} {base s : ℕ} where
       on = x .high-is (p .val) ∙ p .on;
     }
 
-    mask-low-at : {c : ℕ} (side : Bool) {v : Val} → c < 16 → InCell base s c v → v l ≡ false → has (lowMask k) (bitOf side c) ≡ true
-    mask-low-at {c} side {v} h i e = by-cases (decLt k 4)
+    mask-low-at : {c : ℕ} (side : Bool) {v : Val} → c < 32 → InCell base s c v → v l ≡ false → has (lowMask k) (bitOf side c) ≡ true
+    mask-low-at {c} side {v} h i e = by-cases (decLt k 5)
         (λ g. low-mask k side g c h ∙ ap not (sym (i .at k g) ∙ ap v (sym (z .here g)) ∙ e))
         (λ g. low-mask-past k side (omega arith) c h)
 
-    mask-high-at : {c : ℕ} (side : Bool) {v : Val} → c < 16 → InCell base s c v → v l ≡ true → has (highMask k) (bitOf side c) ≡ true
-    mask-high-at {c} side {v} h i e = by-cases (decLt k 4)
+    mask-high-at : {c : ℕ} (side : Bool) {v : Val} → c < 32 → InCell base s c v → v l ≡ true → has (highMask k) (bitOf side c) ≡ true
+    mask-high-at {c} side {v} h i e = by-cases (decLt k 5)
         (λ g. high-mask k side g c h ∙ (sym (i .at k g) ∙ ap v (sym (z .here g)) ∙ e))
         (λ g. high-mask-past k side (omega arith) c h)
 
-    meets-split : {c : ℕ} (side : Bool) → c < 16 → Meets m rows base s t a c
+    meets-split : {c : ℕ} (side : Bool) → c < 32 → Meets m rows base s t a c
         → ((has (lowMask k) (bitOf side c) ≡ true) × Meets m rows base s t lo c)
         ⊎ ((has (highMask k) (bitOf side c) ≡ true) × Meets m rows base s t hi c)
     meets-split {c} side h p = by (p .val l) refl
@@ -243,7 +261,7 @@ module _ {m : ℕ} {rows : Rows} {base s : ℕ} where
   tabled-everything {t} a e = subst (λ (x : ℕ). Tabled m rows base s t x ALL-CELLS) (sym e) everything-is
 
 -- an arrow of even levels from the base on, counted s higher, is told by the cell
-module _ {m N : ℕ} {rows : Rows} (wf : WellFormed m N rows) (base s : ℕ) (eb : base % 2 ≡ 0) (em : m % 2 ≡ 0) (fit : m ≤ base + 8) where
+module _ {m N : ℕ} {rows : Rows} (wf : WellFormed m N rows) (base s : ℕ) (eb : base % 2 ≡ 0) (em : m % 2 ≡ 0) (fit : m ≤ base + 10) where
   module _ (b : ℕ) (u : Arrow rows b) (deep : base ≤ levelOf m rows b) (r : ReadsOn even (den m rows b)) where
     cell-tells : (c : ℕ) (v w : Val) → InCell base s c v → InCell base s c w → den m rows b (lift s v) ≡ den m rows b (lift s w)
     cell-tells c v w i j =
@@ -257,7 +275,7 @@ module _ {m N : ℕ} {rows : Rows} (wf : WellFormed m N rows) (base s : ℕ) (eb
         agree l lo hi e =
             let q : ℕ = (l - base) / 2 in
             let z : base + 2 * q + s ≡ l + s = omega arith in
-            let h : q < 4 = omega arith in
+            let h : q < 5 = omega arith in
             ap v (sym z) ∙ i .at q h ∙ sym (j .at q h) ∙ ap w z
 
         pick : (l : ℕ) (y : Bool) → even l ≡ y → levelOf m rows b ≤ l → l < m → cond y (v (l + s)) (w (l + s)) ≡ w (l + s)
@@ -265,17 +283,17 @@ module _ {m N : ℕ} {rows : Rows} (wf : WellFormed m N rows) (base s : ℕ) (eb
         pick l false e lo hi = refl
 
     -- so it is apart from another exactly where their tables are
-    pub tables-tell : {a x y : ℕ} {k : Bool} → Tabled m rows base s 0 a x → Tabled m rows base s s b y → Says (Disjoint x y) k
+    pub tables-tell : {a x y : ℕ} {k : Bool} → Tabled m rows base s 0 a x → Shown m rows base s s b y false → Says (Disjoint x y) k
         → Says (Apart m rows s a b) k
     tables-tell {a} p q = says-map
         (λ d. record {
           none = λ v g h. let c = cell-of base s v in
               d (c .number) (c .small)
               (p .plain .no (c .number) (c .small) (record { val = v; cell = c .is; on = ap (den m rows a) (lift-none v) ∙ g }))
-              (q .plain .no (c .number) (c .small) (record { val = v; cell = c .is; on = h }));
+              (q .no (c .number) (c .small) (record { val = v; cell = c .is; on = h }));
         })
         (λ f c h e g.
         let i = p .plain .yes c h e in
-        let j = q .plain .yes c h g in
+        let j = q .yes c h g in
         f .none (i .val) (sym (ap (den m rows a) (lift-none (i .val))) ∙ i .on)
         (cell-tells c (i .val) (j .val) (i .cell) (j .cell) ∙ j .on))

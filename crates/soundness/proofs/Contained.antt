@@ -18,7 +18,7 @@ use Rattle.diagram.specs.Even.{ReadsOn, even}
 use Rattle.diagram.proofs.Even.{reads-levels}
 use Rattle.diagram.specs.Reach.{Reach}
 use Rattle.diagram.proofs.Reach.{reached-root}
-use Rattle.layout.specs.Places.{BITS, VALID, FIRST-REGISTER, FIRST-RELATION, ROOTS-END, LOW, HIGH, LEVEL}
+use Rattle.layout.specs.Places.{BITS, USED, VALID, FIRST-REGISTER, FIRST-RELATION, ROOTS-END, LOW, HIGH, LEVEL}
 use Rattle.layout.specs.View.{View}
 use Rattle.layout.specs.Arrows.{isRow, rowOf}
 use Rattle.layout.proofs.Arrows.{row-is, row-yes}
@@ -35,8 +35,8 @@ use Rattle.rows.specs.Roots.{Ref}
 use Rattle.rows.proofs.Roots.{ref-arrow}
 use Rattle.soundness.specs.Cells.{Disjoint}
 use Rattle.soundness.proofs.CellsLaws.{tables-tell}
-use Rattle.soundness.specs.Tables.{PLACES, Known, TablePre, TablePost}
-use Rattle.soundness.proofs.TablesLaws.{known-none}
+use Rattle.soundness.specs.Tables.{SETS, Known, Sets, TablePre, TablePost, SetsPre, SetsPost}
+use Rattle.soundness.proofs.TablesLaws.{known-none, sets-none}
 use Rattle.soundness.specs.Pairs.{Puts}
 use Rattle.soundness.proofs.PairsLaws.{right-puts}
 use Rattle.soundness.specs.Contained.{AllApart, Clear, RefApart, Lists, Asks, Against, ApartPre, Tells, Deep, TablesPre, TablesPost}
@@ -196,12 +196,12 @@ called-high p g k e =
 
 -- lists of the same lengths with right tables
 pub lists-on : {W : View} {s base : ℕ} {xs ys xs′ ys′ : List ℕ} → Lists W s base xs ys → length xs′ ≡ length xs → length ys′ ≡ length ys
-    → Known (2 * W .header BITS) (rowsOf W) base s 0 xs′ → Known (2 * W .header BITS) (rowsOf W) base s s ys′ → Lists W s base xs′ ys′
+    → Known W base s 0 xs′ → Sets W base s ys′ → Lists W s base xs′ ys′
 lists-on l ex ey f g = record {
   even-base = l .even-base;
   fit = l .fit;
   bound = l .bound;
-  room = λ h. let r = l .room h in (ex ∙ r .0, ey ∙ r .1);
+  room = let r = l .room in let r0 = r .0 in let r1 = r .1 in (omega arith, ey ∙ r1);
   first = f;
   second = g;
 }
@@ -237,63 +237,45 @@ deep-at W b g u t e f n =
     let q : W .cell (rowOf b) LEVEL ≡ _ = ap (λ (k : ℕ). W .cell k LEVEL) (sym e) ∙ sym f in
     record { level = omega arith }
 
--- a row from the base on is there only where the base is below the levels
-pub deep-room : {W : View} {s base a b : ℕ} {xs ys : List ℕ} → TablesPre W s base a b xs ys → (length xs ≡ PLACES) × (length ys ≡ PLACES)
-deep-room {W} {b = b} p =
-    let r = row-at W b (p .good) (p .against .arrow) (p .rows .1) in
-    let e = r .level in let h = r .shallow in let d = p .deep .level in p .lists .room (omega arith)
-
 pub table-first : {W : View} {s base a b : ℕ} {xs ys : List ℕ} → TablesPre W s base a b xs ys → TablePre W base s 0 a xs
 table-first p = let n = p .good .sizes .n-max in let h = p .lists .bound in record {
   good = p .good;
   low-base = omega arith;
   shift = p .shift;
   up = omega arith;
-  size = deep-room p .0;
+  size = p .lists .room .0;
   known = p .lists .first;
   arrow = p .left;
 }
 
-pub table-second : {W : View} {s base a b : ℕ} {xs ys : List ℕ} → TablesPre W s base a b xs ys → TablePre W base s s b ys
+pub table-second : {W : View} {s base a b : ℕ} {xs ys : List ℕ} → TablesPre W s base a b xs ys → SetsPre W base s b ys
 table-second p = let n = p .good .sizes .n-max in let h = p .lists .bound in record {
-  good = p .good;
-  low-base = omega arith;
-  shift = p .shift;
-  up = p .shift;
-  size = deep-room p .1;
-  known = p .lists .second;
-  arrow = p .against .arrow;
+  asked = record { good = p .good; low-base = omega arith; shift = p .shift; arrow = p .against .arrow };
+  is-row = p .rows .1;
+  size = p .lists .room .1;
+  sets = p .lists .second;
 }
 
 pub by-tables : {W : View} {s base a b x y : ℕ} {xs ys xs′ ys′ : List ℕ} {r : Bool} → TablesPre W s base a b xs ys
-    → TablePost W base s 0 a x xs′ → TablePost W base s s b y ys′
+    → TablePost W base s 0 a x xs′ → SetsPost W base s b y ys′
     → Says (Disjoint x y) r → TablesPost W s base a b xs′ ys′ r
 by-tables {W} {s} {base} {a} {b} p f g d = record {
   says = tables-tell (p .good .rows) base s (p .lists .even-base) (omega arith) (p .lists .fit) b (p .against .arrow) (p .deep .level)
-      (p .against .reads) (f .tabled) (g .tabled) d;
+      (p .against .reads) (f .tabled) (g .shown) d;
   first = f .known;
-  second = g .known;
+  second = g .sets;
 }
 
--- lists of zeros: none where the base is past all levels, and all for the last eight levels
-pub lists-none : {W : View} {s base : ℕ} → base ≡ 2 * W .header BITS → Lists W s base (replicate 1 0) (replicate 1 0)
-lists-none {W} e = record {
+-- lists of zeros, for the last ten levels
+pub lists-new : {W : View} {s base : ℕ} (n : ℕ) → W .header USED ≤ n → base ≡ 2 * W .header BITS - 10
+    → Lists W s base (replicate n 0) (replicate SETS 0)
+lists-new {W} n h e = record {
   even-base = omega arith;
   fit = omega arith;
   bound = omega arith;
-  room = λ h. absurd (omega arith);
-  first = known-none 1 (2 * W .header BITS) (rowsOf W);
-  second = known-none 1 (2 * W .header BITS) (rowsOf W);
-}
-
-pub lists-new : {W : View} {s base : ℕ} → base ≡ 2 * W .header BITS - 8 → Lists W s base (replicate PLACES 0) (replicate PLACES 0)
-lists-new {W} e = record {
-  even-base = omega arith;
-  fit = omega arith;
-  bound = omega arith;
-  room = λ h. (length-replicate {A = ℕ} PLACES 0, length-replicate {A = ℕ} PLACES 0);
-  first = known-none PLACES (2 * W .header BITS) (rowsOf W);
-  second = known-none PLACES (2 * W .header BITS) (rowsOf W);
+  room = (let z = length-replicate {A = ℕ} n 0 in omega arith, length-replicate {A = ℕ} SETS 0);
+  first = known-none n W;
+  second = sets-none SETS W;
 }
 
 -- an arrow with even levels only, and NOT of it

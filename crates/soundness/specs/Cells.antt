@@ -1,4 +1,4 @@
--- Tables of cells: which values of the last four tested levels an arrow has a valuation with, and which NOT of it has. Assumes nothing.
+-- Tables of cells: which values of the last five tested levels an arrow has a valuation with, and which NOT of it has. Assumes nothing.
 use mathlib.Core.Path.{_≡_}
 use mathlib.Core.Logic.{_≢_}
 use mathlib.Core.Bool.{Bool, true, false}
@@ -9,14 +9,14 @@ use Rattle.diagram.specs.Rows.{Rows, flip, den}
 use Rattle.soundness.specs.Apart.{lift}
 use Rattle.soundness.specs.Masks.{has, lowMask, highMask, bitOf}
 
--- v has the values of cell c, a number below 16, at the tested levels: base + s and each second level after it
+-- v has the values of cell c, a number below 32, at the tested levels: base + s and each second level after it
 pub record InCell (base s c : ℕ) (v : Val) : Type 0 where
-  pub at : (q : ℕ) → q < 4 → v (base + 2 * q + s) ≡ has c q
+  pub at : (q : ℕ) → q < 5 → v (base + 2 * q + s) ≡ has c q
 
 -- level l is the tested level k, or none of them
 pub record Classed (base s l k : ℕ) : Type 0 where
-  pub here : k < 4 → l ≡ base + 2 * k + s
-  pub past : 4 ≤ k → (q : ℕ) → q < 4 → l ≢ base + 2 * q + s
+  pub here : k < 5 → l ≡ base + 2 * k + s
+  pub past : 5 ≤ k → (q : ℕ) → q < 5 → l ≢ base + 2 * q + s
 
 -- arrow a, whose levels count t higher, has a valuation in cell c
 pub record Meets (m : ℕ) (rows : Rows) (base s t a c : ℕ) : Type 0 where
@@ -26,8 +26,8 @@ pub record Meets (m : ℕ) (rows : Rows) (base s t a c : ℕ) : Type 0 where
 
 -- half of a word has the cells that arrow a meets
 pub record Shown (m : ℕ) (rows : Rows) (base s t a w : ℕ) (side : Bool) : Type 0 where
-  pub yes : (c : ℕ) → c < 16 → has w (bitOf side c) ≡ true → Meets m rows base s t a c
-  pub no : (c : ℕ) → c < 16 → Meets m rows base s t a c → has w (bitOf side c) ≡ true
+  pub yes : (c : ℕ) → c < 32 → has w (bitOf side c) ≡ true → Meets m rows base s t a c
+  pub no : (c : ℕ) → c < 32 → Meets m rows base s t a c → has w (bitOf side c) ≡ true
 
 -- a word has the cells that arrow a meets, and those that NOT of it meets
 pub record Tabled (m : ℕ) (rows : Rows) (base s t a w : ℕ) : Type 0 where
@@ -40,4 +40,4 @@ joined k w0 w1 = bitOr (bitAnd w0 (lowMask k)) (bitAnd w1 (highMask k))
 
 -- no cell is in both words
 abbrev pub Disjoint : ℕ → ℕ → Type 0
-Disjoint x y = (c : ℕ) → c < 16 → has x c ≡ true → has y c ≡ true → ⊥
+Disjoint x y = (c : ℕ) → c < 32 → has x c ≡ true → has y c ≡ true → ⊥

@@ -6,7 +6,7 @@ use Prim.Native.Nat.{ℕ, suc, _+_, _*_, _%_, _≤_, _<_, min}
 use lib.ListN.{length}
 use Rattle.diagram.specs.Rows.{Rows, Arrow, levelOf, follow}
 use Rattle.diagram.specs.Even.{ReadsOn, even}
-use Rattle.layout.specs.Places.{HEADER, BITS, FIRST-REGISTER, FIRST-RELATION, ROOTS-END}
+use Rattle.layout.specs.Places.{HEADER, BITS, USED, FIRST-REGISTER, FIRST-RELATION, ROOTS-END}
 use Rattle.layout.specs.View.{View}
 use Rattle.layout.specs.Arrows.{isRow, rowOf}
 use Rattle.rows.specs.Used.{rowsOf}
@@ -17,7 +17,7 @@ use Rattle.soundness.specs.Apart.{Apart, Half}
 use Rattle.soundness.specs.declared.within.Pass.{Pass}
 use Rattle.soundness.specs.declared.within.Pass.the-variants.{Now, Next, Both}
 use Rattle.rows.specs.Roots.{Ref}
-use Rattle.soundness.specs.Tables.{PLACES, Known}
+use Rattle.soundness.specs.Tables.{SETS, Known, Sets}
 use Rattle.soundness.specs.Pairs.{PAIR-WORDS, Right}
 
 -- the roots from a word of the header up to, and not with, another are apart from arrow b
@@ -34,14 +34,14 @@ Clear W b Both = AllApart W 0 FIRST-REGISTER ROOTS-END b × AllApart W 1 FIRST-R
 abbrev pub RefApart : View → ℕ → ℕ → ℕ → Type 0
 RefApart W s r b = (a : ℕ) → r ≡ suc a → Apart (2 * W .header BITS) (rowsOf W) s a b
 
--- the base from which tables decide, and the lists of tables of both arrows' rows: there where the base is below the levels, and right
+-- the base from which tables decide, and the lists of tables: with a place for each used row, and those of V's arrows; both right
 pub record Lists (W : View) (s base : ℕ) (xs ys : List ℕ) : Type 0 where
   pub even-base : base % 2 ≡ 0
-  pub fit : 2 * W .header BITS ≤ base + 8
+  pub fit : 2 * W .header BITS ≤ base + 10
   pub bound : base ≤ 2 * W .header BITS
-  pub room : base < 2 * W .header BITS → (length xs ≡ PLACES) × (length ys ≡ PLACES)
-  pub first : Known (2 * W .header BITS) (rowsOf W) base s 0 xs
-  pub second : Known (2 * W .header BITS) (rowsOf W) base s s ys
+  pub room : (W .header USED ≤ length xs) × (length ys ≡ SETS)
+  pub first : Known W base s 0 xs
+  pub second : Sets W base s ys
 
 -- what the check asks: a good table, a shift of 0 or 1 levels, right pairs and tables
 pub record Asks (W : View) (s base : ℕ) (memo xs ys : List ℕ) : Type 0 where
@@ -65,8 +65,8 @@ pub record ApartPre (W : View) (s base a b : ℕ) (memo xs ys : List ℕ) : Type
 pub record Tells (W : View) (s base : ℕ) (memo xs ys : List ℕ) (P : Type 0) (r : Bool) : Type 0 where
   pub says : Says P r
   pub right : Right (2 * W .header BITS) (rowsOf W) s memo
-  pub first : Known (2 * W .header BITS) (rowsOf W) base s 0 xs
-  pub second : Known (2 * W .header BITS) (rowsOf W) base s s ys
+  pub first : Known W base s 0 xs
+  pub second : Sets W base s ys
 
 -- an arrow leads to a level from the base on
 pub record Deep (W : View) (base b : ℕ) : Type 0 where
@@ -83,8 +83,8 @@ pub record TablesPre (W : View) (s base a b : ℕ) (xs ys : List ℕ) : Type 0 w
 
 pub record TablesPost (W : View) (s base a b : ℕ) (xs ys : List ℕ) (r : Bool) : Type 0 where
   pub says : Says (Apart (2 * W .header BITS) (rowsOf W) s a b) r
-  pub first : Known (2 * W .header BITS) (rowsOf W) base s 0 xs
-  pub second : Known (2 * W .header BITS) (rowsOf W) base s s ys
+  pub first : Known W base s 0 xs
+  pub second : Sets W base s ys
 
 -- what the roots in some words of the header ask
 pub record RootsPre (W : View) (s start stop b : ℕ) : Type 0 where

@@ -6,8 +6,8 @@ use mathlib.Core.Bool.{Bool, true}
 use Prim.Native.Nat.{ℕ, _*_, _≤_, _<_}
 use lib.ListN.{length}
 use Rattle.diagram.specs.Rows.{Arrow, row}
-use Rattle.layout.specs.Places.{BITS, ROWS, LAYOUT, CURRENT}
-use Rattle.layout.specs.View.{view, headerOf}
+use Rattle.layout.specs.Places.{wordsFor, BITS, ROWS, LAYOUT, CURRENT, RANK}
+use Rattle.layout.specs.View.{view, headerOf, cellOf}
 use Rattle.layout.specs.Arrows.{isRow}
 use Rattle.rows.specs.Used.{Sizes, rowsOf}
 use Rattle.rows.specs.Roots.{Ref}
@@ -28,9 +28,17 @@ SizesIn words = Sizes (headerOf words BITS) (headerOf words ROWS) (length words)
 abbrev pub LaidPre : (rows : ℕ) (words : List ℕ) → Type 0
 LaidPre rows words = Sizes (headerOf words BITS) rows (length words) × (headerOf words ROWS ≡ rows) × (headerOf words LAYOUT ≡ CURRENT)
 
+-- a list has a place for the rank of row i
+abbrev pub RankPre : (rows : ℕ) (words memo : List ℕ) (i : ℕ) → Type 0
+RankPre rows words memo i = (i < rows) × (wordsFor rows ≤ length words) × (cellOf rows words i RANK < length memo)
+
 -- the cells of a row's function from the base on
 abbrev pub TabledIn : (rows : ℕ) (words : List ℕ) (base shift up i cells : ℕ) → Type 0
 TabledIn rows words base shift up i cells = Tabled (2 * view rows words .header BITS) (rowsOf (view rows words)) base shift up (row i) cells
+
+-- the cells of an arrow whose levels count higher by the shift
+abbrev pub SetTabledIn : (rows : ℕ) (words : List ℕ) (base shift b cells : ℕ) → Type 0
+SetTabledIn rows words base shift b cells = Tabled (2 * view rows words .header BITS) (rowsOf (view rows words)) base shift shift b cells
 
 -- two arrows to rows of a good table
 abbrev pub SplitPre : (rows : ℕ) (words : List ℕ) (shift a b : ℕ) → Type 0

@@ -2,6 +2,7 @@
 // Nothing is written but local lists of pairs and tables.
 use super::tables::disjoint;
 use super::tables::row_cells;
+use super::tables::set_cells;
 use layout::Table;
 use layout::carry;
 use layout::flip;
@@ -12,12 +13,13 @@ ghost use mathlib.Core.Path.{_≡_};
 ghost use mathlib.Core.Bool.{true};
 ghost use Prim.Native.Nat.{_*_, _+_, _-_, _≤_, _<_};
 ghost use lib.ListN.{length};
-ghost use Rattle.layout.specs.Places.{wordsFor};
-ghost use Rattle.layout.specs.View.{view};
+ghost use Rattle.layout.specs.Places.{wordsFor, USED};
+ghost use Rattle.layout.specs.View.{view, headerOf};
 ghost use Rattle.layout.specs.Arrows.{isRow, rowOf, flipArrow};
 ghost use Rattle.diagram.specs.Rows.{Arrow};
 ghost use Rattle.rows.specs.Used.{rowsOf};
 ghost use Rattle.rows.specs.Says.{Says};
+ghost use Rattle.soundness.specs.Tables.{FEW};
 ghost use Rattle.soundness.specs.Pairs.{PAIR-WORDS, Seen, Puts};
 ghost use Rattle.rows.specs.Within.{Within};
 ghost use Rattle.rows.specs.Sound.{Good};
@@ -25,24 +27,27 @@ ghost use Rattle.soundness.specs.Contained.{AllApart, Clear, ApartPre, D
 ghost use Rattle.soundness.specs.Contained.{Halved, Split};
 ghost use Rattle.soundness.specs.Posts.{SplitPre, ApartTold, RefApartPre, RefApartTold};
 
-// The remembered pairs: how many words they have, two for each of 4,096.
+// The remembered pairs: how many words they have, two for each of 1,024.
 struct Pairs;
 
 impl Pairs {
-    const WORDS: usize = 8192;
+    const WORDS: usize = 2048;
 
-    // A place for the table of each row, and how many rows go without.
+    // Places for the tables of rows, by rank: of all that a table may have, and of few.
     const PLACES: usize = 60000;
 
-    const FEW: u32 = 4096;
+    const FEW: usize = 2048;
+
+    // Places for the tables of V.
+    const SETS: usize = 2048;
 
     // How many levels the tables tell apart, with those between.
-    const LAST: u32 = 8;
+    const LAST: u32 = 10;
 }
 
-// The level from which tables decide: the last eight of an even number of levels, or all.
+// The level from which tables decide: the last ten of an even number of levels, or all.
 fn base_of(levels: u32) -> u32
-    ensures { λ r. ⌜ r ≡ levels - 8 ⌝ }
+    ensures { λ r. ⌜ r ≡ levels - 10 ⌝ }
 {
     if levels < Pairs::LAST {
         return 0;
@@ -57,7 +62,7 @@ fn place(a: u32, b: u32) -> u32
     let x = 2654435761 * (a as u64) % 4294967296;
     let y = 2246822519 * (b as u64) % 4294967296;
     let h = (x + y) % 4294967296;
-    (h / 1048576) as u32
+    (h / 4194304) as u32
 }
 
 // Whether a pair is remembered.
@@ -131,6 +136,38 @@ fn split(words: &[u32], rows: u32, shift: u32, a: u32, b: u32) -> Quarters
     }
 }
 
+// What a turn to the high arrow at an even level adds to a place: another power of 2 for each of the first eleven even levels.
+fn turn(level: u32) -> u32
+    ensures { λ r. ⌜ r ≤ 1024 ⌝ }
+{
+    match level {
+        0 => 1024,
+        2 => 512,
+        4 => 256,
+        6 => 128,
+        8 => 64,
+        10 => 32,
+        12 => 16,
+        14 => 8,
+        16 => 4,
+        18 => 2,
+        _ => 1,
+    }
+}
+
+// The place of the second arrow's high half: one for each way that leads to it.
+fn turned(words: &[u32], rows: u32, shift: u32, a: u32, b: u32, p: u32) -> u32
+    requires { ⌜ SplitPre rows (now words) shift a b ⌝ }
+    ensures { λ r. ⌜ r < 4096 ⌝ }
+{
+    let own = get(words, rows, row_of(b), Table::LEVEL);
+    let at = p % 2048;
+    if own + shift > get(words, rows, row_of(a), Table::LEVEL) {
+        return at;
+    }
+    at + turn(own)
+}
+
 // Whether one arrow is NOT of the other, with no shift.
 fn opposite(shift: u32, a: u32, b: u32) -> bool
     ensures { λ r. ⌜ (r ≡ true → ((shift ≡ 0) × (a ≡ flipArrow b))) ⌝ }
@@ -164,14 +201,15 @@ fn tables_apart(
     base: u32,
     a: u32,
     b: u32,
-    first: &mut [u32],
-    second: &mut [u32],
+    p: u32,
+    first: &mut [u64],
+    second: &mut [u64],
 ) -> bool
     requires { ⌜ TablesPre (view rows (now words)) shift base a b (now first) (now second) ⌝ }
     ensures { λ r. ⌜ TablesPost (view rows (now (words .entry))) shift base a b (now (first .exit)) (now (second .exit)) r ⌝ }
 {
     let x = row_cells(words, rows, base, shift, 0, a, first);
-    let y = row_cells(words, rows, base, shift, shift, b, second);
+    let y = set_cells(words, rows, base, shift, b, p, second);
     disjoint(x, y)
 }
 
@@ -184,9 +222,10 @@ fn apart(
     base: u32,
     a: u32,
     b: u32,
+    p: u32,
     memo: &mut [u32],
-    first: &mut [u32],
-    second: &mut [u32],
+    first: &mut [u64],
+    second: &mut [u64],
 ) -> bool
     requires { ⌜ ApartPre (view rows (now words)) shift base a b (now memo) (now first) (now second) ⌝ }
     ensures { λ r. ⌜ ApartTold rows (now (words .entry)) shift base a b (now (memo .exit)) (now (first .exit)) (now (second .exit)) r ⌝ }
@@ -207,16 +246,28 @@ fn apart(
         return true;
     }
     if deep(words, rows, base, b) {
-        return tables_apart(words, rows, shift, base, a, b, first, second);
+        return tables_apart(words, rows, shift, base, a, b, p, first, second);
     }
     if seen(memo, a, b) {
         return true;
     }
     let q = split(words, rows, shift, a, b);
-    if !apart(words, rows, shift, base, q.a0, q.b0, memo, first, second) {
+    let p1 = turned(words, rows, shift, a, b, p);
+    if !apart(words, rows, shift, base, q.a0, q.b0, p, memo, first, second) {
         return false;
     }
-    if !apart(words, rows, shift, base, q.a1, q.b1, memo, first, second) {
+    if !apart(
+        words,
+        rows,
+        shift,
+        base,
+        q.a1,
+        q.b1,
+        p1,
+        memo,
+        first,
+        second,
+    ) {
         return false;
     }
     remember(memo, a, b);
@@ -232,8 +283,8 @@ fn ref_apart(
     r: u32,
     b: u32,
     memo: &mut [u32],
-    first: &mut [u32],
-    second: &mut [u32],
+    first: &mut [u64],
+    second: &mut [u64],
 ) -> bool
     requires { ⌜ RefApartPre rows (now words) shift base r b (now memo) (now first) (now second) ⌝ }
     ensures { λ k. ⌜ RefApartTold rows (now (words .entry)) shift base r b (now (memo .exit)) (now (first .exit)) (now (second .exit)) k ⌝ }
@@ -241,7 +292,7 @@ fn ref_apart(
     if r == 0 {
         return true;
     }
-    apart(words, rows, shift, base, r - 1, b, memo, first, second)
+    apart(words, rows, shift, base, r - 1, b, 0, memo, first, second)
 }
 
 // Whether the roots in the header's words from `from` up to `to` have no valuation in common with an arrow.
@@ -253,8 +304,8 @@ fn refs_apart(
     from: usize,
     to: usize,
     b: u32,
-    first: &mut [u32],
-    second: &mut [u32],
+    first: &mut [u64],
+    second: &mut [u64],
 ) -> bool
     requires { ⌜ RefsAsked (view rows (now words)) shift base from to b (now first) (now second) ⌝ }
     ensures { λ r. ⌜ Says (AllApart (view rows (now (words .entry))) shift from to b) r ⌝ }
@@ -280,14 +331,14 @@ fn refs_apart(
     true
 }
 
-// The same with tables, for many rows.
+// The same with places for all rows.
 fn wide_apart(words: &[u32], rows: u32, shift: u32, from: usize, to: usize, b: u32) -> bool
     requires { ⌜ RootsPre (view rows (now words)) shift from to b ⌝ }
     ensures { λ r. ⌜ Says (AllApart (view rows (now (words .entry))) shift from to b) r ⌝ }
 {
     let levels = 2 * header_word(words, Table::BITS);
-    let mut first = [0u32; Pairs::PLACES];
-    let mut second = [0u32; Pairs::PLACES];
+    let mut first = [0u64; Pairs::PLACES];
+    let mut second = [0u64; Pairs::SETS];
     refs_apart(
         words,
         rows,
@@ -301,19 +352,19 @@ fn wide_apart(words: &[u32], rows: u32, shift: u32, from: usize, to: usize, b: u
     )
 }
 
-// The same with none, for few rows.
+// The same with places for few rows.
 fn narrow_apart(words: &[u32], rows: u32, shift: u32, from: usize, to: usize, b: u32) -> bool
-    requires { ⌜ RootsPre (view rows (now words)) shift from to b ⌝ }
+    requires { ⌜ RootsPre (view rows (now words)) shift from to b × (headerOf (now words) USED ≤ FEW) ⌝ }
     ensures { λ r. ⌜ Says (AllApart (view rows (now (words .entry))) shift from to b) r ⌝ }
 {
     let levels = 2 * header_word(words, Table::BITS);
-    let mut first = [0u32; 1];
-    let mut second = [0u32; 1];
+    let mut first = [0u64; Pairs::FEW];
+    let mut second = [0u64; Pairs::SETS];
     refs_apart(
         words,
         rows,
         shift,
-        levels,
+        base_of(levels),
         from,
         to,
         b,
@@ -329,7 +380,7 @@ pub enum Pass {
     Both,
 }
 
-// Whether a part of the check holds, for NOT of V: with tables. As it calls itself it is never inlined, and no caller's frame has the
+// Whether a part of the check holds, for NOT of V: for many rows. As it calls itself it is never inlined, and no caller's frame has the
 // lists.
 fn wide_ok(words: &[u32], rows: u32, b: u32, pass: Pass) -> bool
     requires { ⌜ PassPre (view rows (now words)) b ⌝ }
@@ -347,9 +398,9 @@ fn wide_ok(words: &[u32], rows: u32, b: u32, pass: Pass) -> bool
     }
 }
 
-// Whether a part of the check holds, for NOT of V: without. As it calls itself it is never inlined, and no caller's frame has the lists.
+// Whether a part of the check holds, for NOT of V: for few. As it calls itself it is never inlined, and no caller's frame has the lists.
 fn narrow_ok(words: &[u32], rows: u32, b: u32, pass: Pass) -> bool
-    requires { ⌜ PassPre (view rows (now words)) b ⌝ }
+    requires { ⌜ PassPre (view rows (now words)) b × (headerOf (now words) USED ≤ FEW) ⌝ }
     ensures { λ r. ⌜ Says (Clear (view rows (now (words .entry))) b pass) r ⌝ }
 {
     match pass {
@@ -373,7 +424,7 @@ pub fn all_within(words: &[u32], rows: u32, v: u32) -> bool
         return true;
     }
     let b = flip(v);
-    if header_word(words, Table::USED) > Pairs::FEW {
+    if (header_word(words, Table::USED) as usize) > Pairs::FEW {
         return wide_ok(words, rows, b, Pass::Both);
     }
     narrow_ok(words, rows, b, Pass::Both)

@@ -57,7 +57,9 @@ pub +table-of-spec : {M : Type 1} → statement M
     (λ c κs. row-yes _ (let x = c .before .if1 .left in let y = c .if2 .left in omega arith))
     (λ c κs. let r = led (c .before .before .before .before .before .before .pre .1) (c .before .before .before .if1 .left)
     (c .before .before .if2 .left) (c .before .row-of .ensures) in
-    let h = r .place in let e = c .before .before .before .before .before .before .pre .1 .size in omega arith)
+    let h = r .place in
+    let e = c .before .before .before .before .before .before .pre .1 .size in
+    (r .below, c .before .before .before .before .before .before .pre .1 .good .sizes .room, omega arith))
     (λ c κs. search needs)
     (λ c. search needs)
     (λ c. recalled (c .before .before .before .before .before .before .before .before .before .pre .1)
@@ -115,10 +117,10 @@ pub +table-of-spec : {M : Type 1} → statement M
     (c .before .before .before .before .before .before .before .before .before .before .before .before .before .before .before .row-of
     .ensures) in
     let h = r .place in
-    let e = c .before .before .before .before .table-of2 .kept .1 .1 .1 .1 .1 .1 .0
-    ∙ c .before .before .before .before .before .before .before .before .before .table-of .kept .1 .1 .1 .1 .1 .1 .0
-    ∙ c .before .before .before .before .before .before .before .before .before .before .before .before .before .before .before .before
-    .before .before .before .before .pre .1 .size in omega arith)
+    let e = c .before .before .before .before .table-of2 .kept .1 .1 .1 .1 .1 .1 .0 in
+    let f = c .before .before .before .before .before .before .before .before .before .table-of .kept .1 .1 .1 .1 .1 .1 .0 in
+    let g = c .before .before .before .before .before .before .before .before .before .before .before .before .before .before .before .before .before .before .before .before .pre .1 .size in
+    (r .below, c .before .before .before .before .before .before .before .before .before .before .before .before .before .before .before .before .before .before .before .before .pre .1 .good .sizes .room, omega arith))
     (λ c κs. search needs)
     (λ c. search needs)
     (λ c. let r =
@@ -131,10 +133,9 @@ pub +table-of-spec : {M : Type 1} → statement M
     (c .before .before .before .before .before .before .before .before .before .before .before .before .before .before .before .before
     .before .before .before .row-of .ensures) in
     let h = r .place in
-    let e = c .before .before .before .before .before .before .before .before .table-of2 .kept .1 .1 .1 .1 .1 .1 .0
-    ∙ c .before .before .before .before .before .before .before .before .before .before .before .before .before .table-of .kept .1 .1 .1
-    .1 .1 .1 .0
-    ∙ c .before .before .before .before .before .before .before .before .before .before .before .before .before .before .before .before
-    .before .before .before .before .before .before .before .before .pre .1 .size in
+    let e = c .before .before .before .before .before .before .before .before .table-of2 .kept .1 .1 .1 .1 .1 .1 .0 in
+    let f = c .before .before .before .before .before .before .before .before .before .before .before .before .before .table-of .kept .1 .1 .1
+    .1 .1 .1 .0 in
+    let g = c .before .before .before .before .before .before .before .before .before .before .before .before .before .before .before .before .before .before .before .before .before .before .before .before .pre .1 .size in
     made-table r (omega arith) (c .before .before .before .before .before .before .before .before .table-of2 .ensures .known)
     (c .before .before .before .before .before .row-table .ensures) (c .before .before .before .keep .ensures) (c .carried2 .ensures))

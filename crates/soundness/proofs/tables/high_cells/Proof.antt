@@ -9,5 +9,5 @@ use Rattle.soundness.proofs.tables.high_cells.Lts as lts
 pub high-cells-spec : {M : Type 1} → statement M
 high-cells-spec =
     tie.close
-    (tie.spec (λ c. search needs) (λ c. search needs) (λ c. search needs) (λ c. search needs)
-    (λ c. let r = c .match .rest in high-past _ (r .0 .0 .0 .1) (r .0 .0 .1) (r .0 .1) (r .1)))
+    (tie.spec (λ c. search needs) (λ c. search needs) (λ c. search needs) (λ c. search needs) (λ c. search needs)
+    (λ c. let r = c .match .rest in high-past _ (r .0 .0 .0 .0 .1) (r .0 .0 .0 .1) (r .0 .0 .1) (r .0 .1) (r .1)))

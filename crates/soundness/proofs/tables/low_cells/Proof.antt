@@ -9,5 +9,5 @@ use Rattle.soundness.proofs.tables.low_cells.Lts as lts
 pub low-cells-spec : {M : Type 1} → statement M
 low-cells-spec =
     tie.close
-    (tie.spec (λ c. search needs) (λ c. search needs) (λ c. search needs) (λ c. search needs)
-    (λ c. let r = c .match .rest in low-past _ (r .0 .0 .0 .1) (r .0 .0 .1) (r .0 .1) (r .1)))
+    (tie.spec (λ c. search needs) (λ c. search needs) (λ c. search needs) (λ c. search needs) (λ c. search needs)
+    (λ c. let r = c .match .rest in low-past _ (r .0 .0 .0 .0 .1) (r .0 .0 .0 .1) (r .0 .0 .1) (r .0 .1) (r .1)))

@@ -18,7 +18,8 @@ row-cells-spec =
     (λ c κs. c .before .before .before .pre .1)
     (λ c κs. let r = row-led _ (c .before .before .before .before .pre .0 .good) (c .before .before .before .before .pre .0 .arrow)
     (c .before .before .before .before .pre .1) (c .row-of .ensures) in
-    let h = r .place in let e = c .before .before .before .before .pre .0 .size in omega arith)
+    let h = r .place in let e = c .before .before .before .before .pre .0 .size in
+    (r .below, c .before .before .before .before .pre .0 .good .sizes .room, omega arith))
     (λ c κs. search needs)
     (λ c. search needs)
     (λ c. recalled (c .before .before .before .before .before .before .before .pre .0)

@@ -21,6 +21,7 @@ use Rattle.soundness.proofs.within.opposite.Reads as opposite-reads
 use Rattle.soundness.proofs.within.remember.Reads as remember-reads
 use Rattle.soundness.proofs.within.seen.Reads as seen-reads
 use Rattle.soundness.proofs.within.split.Reads as split-reads
+use Rattle.soundness.proofs.within.turned.Reads as turned-reads
 use Rattle.soundness.proofs.within.tables_apart.Reads as tables-apart-reads
 
 abbrev μ-apart : Measures 4 apart-kinds.ps ℕ
@@ -44,6 +45,8 @@ pub +apart-spec : {M : Type 1} → statement M
   seen-reads.Learnt,
   split-reads.Asked,
   split-reads.Learnt,
+  turned-reads.Asked,
+  turned-reads.Learnt,
   apart-below t,
   apart.Post,
   remember-reads.Asked,
@@ -119,50 +122,64 @@ pub +apart-spec : {M : Type 1} → statement M
       is-row _ (c .before .before .before .before .before .before .before .before .before .if2 .left)
           (c .before .before .before .before .before .before .before .if4 .left),
     ))
-    (λ c κs. called-low (c .before .before .before .split .ensures)
+    (λ c κs. (
+      c .before .before .before .before .before .before .before .before .before .before .before .before .before .before .before .before .pre .1
+          .asks .good,
+      c .before .before .before .before .before .before .before .before .before .before .before .before .before .before .before .before .pre .1
+          .asks .shift,
+      c .before .before .before .before .before .before .before .before .before .before .before .before .before .before .before .before .pre .1
+          .left,
+      c .before .before .before .before .before .before .before .before .before .before .before .before .before .before .before .before
+          .pre .1 .against .arrow,
+      is-row _ (c .before .before .before .before .before .before .before .before .before .before .before .if1 .left)
+          (c .before .before .before .before .before .before .before .before .before .if3 .left),
+      is-row _ (c .before .before .before .before .before .before .before .before .before .before .if2 .left)
+          (c .before .before .before .before .before .before .before .before .if4 .left),
+    ))
+    (λ c κs. called-low (c .before .before .before .before .split .ensures)
     (c .before .before .before .before .before .before .before .before .before .before .before .before .before .before .before .before
-    .before .before .before .pre .1 .against)
+    .before .before .before .before .pre .1 .against)
     (c .before .before .before .before .before .before .before .before .before .before .before .before .before .before .before .before
-    .before .before .before .pre .1 .asks)
+    .before .before .before .before .pre .1 .asks)
     (c .before .before .before .before .before .before .before .before .before .before .before .before .before .before .before .before
-    .before .before .before .pre .0))
+    .before .before .before .before .pre .0))
     (λ c. search needs)
     (λ c. search needs)
     (λ c. search needs)
-    (λ c. tells-low (c .before .before .before .before .before .before .before .before .before .before .before .split .ensures)
+    (λ c. tells-low (c .before .before .before .before .before .before .before .before .before .before .before .before .split .ensures)
     (c .if8 .taken) (c .before .before .before .before .before .before .before .apart .ensures))
     (λ c κs. called-high
-    (c .before .before .before .before .before .before .before .before .before .before .before .before .before .before .split .ensures)
+    (c .before .before .before .before .before .before .before .before .before .before .before .before .before .before .before .split .ensures)
     (c .before .before .before .before .before .before .before .before .before .before .before .before .before .before .before .before
-    .before .before .before .before .before .before .before .before .before .before .before .before .before .before .pre .1 .against)
+    .before .before .before .before .before .before .before .before .before .before .before .before .before .before .before .pre .1 .against)
     (asks-on
     (c .before .before .before .before .before .before .before .before .before .before .before .before .before .before .before .before
-    .before .before .before .before .before .before .before .before .before .before .before .before .before .before .pre .1 .asks)
-    (c .before .before .before .before .before .before .before .before .before .before .apart .kept .1 .1 .1 .1 .1 .1 .0)
+    .before .before .before .before .before .before .before .before .before .before .before .before .before .before .before .pre .1 .asks)
     (c .before .before .before .before .before .before .before .before .before .before .apart .kept .1 .1 .1 .1 .1 .1 .1 .0)
     (c .before .before .before .before .before .before .before .before .before .before .apart .kept .1 .1 .1 .1 .1 .1 .1 .1 .0)
+    (c .before .before .before .before .before .before .before .before .before .before .apart .kept .1 .1 .1 .1 .1 .1 .1 .1 .1 .0)
     (c .before .before .before .before .before .before .before .before .before .before .apart .ensures))
     (c .before .before .before .before .before .before .before .before .before .before .before .before .before .before .before .before
-    .before .before .before .before .before .before .before .before .before .before .before .before .before .before .pre .0))
+    .before .before .before .before .before .before .before .before .before .before .before .before .before .before .before .pre .0))
     (λ c. search needs)
     (λ c. search needs)
     (λ c. search needs)
     (λ c. tells-high
     (c .before .before .before .before .before .before .before .before .before .before .before .before .before .before .before .before
-    .before .before .before .before .before .before .split .ensures) (c .if9 .taken)
+    .before .before .before .before .before .before .before .split .ensures) (c .if9 .taken)
     (c .before .before .before .before .before .before .before .apart2 .ensures))
-    (λ c κs. c .before .before .before .before .before .before .before .before .apart2 .kept .1 .1 .1 .1 .1 .1 .0
+    (λ c κs. c .before .before .before .before .before .before .before .before .apart2 .kept .1 .1 .1 .1 .1 .1 .1 .0
     ∙ c .before .before .before .before .before .before .before .before .before .before .before .before .before .before .before .before
-    .before .before .before .apart .kept .1 .1 .1 .1 .1 .1 .0
+    .before .before .before .apart .kept .1 .1 .1 .1 .1 .1 .1 .0
     ∙ c .before .before .before .before .before .before .before .before .before .before .before .before .before .before .before .before
     .before .before .before .before .before .before .before .before .before .before .before .before .before .before .before .before
-    .before .before .before .before .before .before .before .pre .1 .asks .size)
+    .before .before .before .before .before .before .before .before .pre .1 .asks .size)
     (λ c. search needs)
     (λ c. search needs)
     (λ c. search needs)
     (λ c. tells-both
     (c .before .before .before .before .before .before .before .before .before .before .before .before .before .before .before .before
-    .before .before .before .before .before .before .before .before .before .before .split .ensures)
+    .before .before .before .before .before .before .before .before .before .before .before .split .ensures)
     (c .before .before .before .before .before .before .before .before .before .before .before .before .before .before .before .if8
     .left) (c .before .before .before .before .if9 .left)
     (c .before .before .before .before .before .before .before .before .before .before .before .before .before .before .before .before

@@ -32,18 +32,22 @@ pub +narrow-ok-spec : {M : Type 1} → statement M
     (narrow-ok-at t)
     narrow-ok.Post
     (λ c. c .match .keys1)
-    (λ c κs. let p = c .before .before .before .pre .1 in
-    record { good = p .good; shift = omega arith; against = p .against; order = omega arith; within = omega arith; refs = p .refs })
+    (λ c κs. let p = c .before .before .before .pre .1 .0 in (
+      record { good = p .good; shift = omega arith; against = p .against; order = omega arith; within = omega arith; refs = p .refs },
+      c .before .before .before .pre .1 .1,
+    ))
     (λ c. c .match .keys2)
-    (λ c κs. let p = c .before .before .before .pre .1 in
-    record {
-      good = p .good;
-      shift = omega arith;
-      against = p .against;
-      order = omega arith;
-      within = omega arith;
-      refs = λ h lo hi. p .refs h (omega arith) hi;
-    })
+    (λ c κs. let p = c .before .before .before .pre .1 .0 in (
+      record {
+        good = p .good;
+        shift = omega arith;
+        against = p .against;
+        order = omega arith;
+        within = omega arith;
+        refs = λ h lo hi. p .refs h (omega arith) hi;
+      },
+      c .before .before .before .pre .1 .1,
+    ))
     (λ c. c .match .keys3)
     (λ c κs. let e = rw (c .enum-told3 .given .1) at (c .before .before .before .pre .0) in
     (omega arith, c .before .before .before .pre .1))

@@ -23,6 +23,7 @@ all-within-spec =
     (c .if1 .taken)))
     (λ c κs. search needs)
     (λ c κs. let w = c .before .before .before .pre .good .sizes .room in (omega arith, omega arith))
+    (λ c. search needs)
     (λ c κs. let p = c .before .before .before .before .before .pre in
     record {
       good = p .good;
@@ -37,16 +38,18 @@ all-within-spec =
     (view (c .before .before .before .before .before .before .args .rows)
     (c .before .before .before .before .before .before .args .words .now)) (c .before .before .before .before .before .before .args .v)
     (rw (c .before .before .before .flip .ensures) at (c .wide-ok .ensures)))
-    (λ c κs. let p = c .before .before .before .before .before .pre in
-    record {
-      good = p .good;
-      against =
-          rw (c .before .before .flip .ensures)
-          (against-not
-          (view (c .before .before .before .before .before .args .rows) (c .before .before .before .before .before .args .words .now))
-          (c .before .before .before .before .before .args .v) (p .against));
-      refs = p .refs;
-    })
+    (λ c κs. let p = c .before .before .before .before .before .pre in (
+      record {
+        good = p .good;
+        against =
+            rw (c .before .before .flip .ensures)
+            (against-not
+            (view (c .before .before .before .before .before .args .rows) (c .before .before .before .before .before .args .words .now))
+            (c .before .before .before .before .before .args .v) (p .against));
+        refs = p .refs;
+      },
+      let e = c .before .header-word .ensures in let h = c .if2 .left in omega arith,
+    ))
     (λ c. both-tell
     (view (c .before .before .before .before .before .before .args .rows)
     (c .before .before .before .before .before .before .args .words .now)) (c .before .before .before .before .before .before .args .v)
