@@ -1,17 +1,25 @@
 -- Laws of what specs/Closed.antt defines. Assumes nothing.
-use mathlib.Core.Path.{_≡_, sym, ap, subst}
+use mathlib.Core.Path.{_≡_, refl, sym, ap, subst}
+use mathlib.Core.Bool.{Bool, true, false, _&&_}
 use mathlib.Core.List.{List, _++_}
-use Prim.Native.Nat.{ℕ, _≤_}
+use Prim.Native.Nat.{ℕ, _+_, _≤_}
+use native.Mathlib.Omega.{arith}
+use borrow.Author.Tests.{ne-eqb}
+use lib.Dec.{eqb}
 use lib.ListN.{length}
+use Rattle.layout.specs.Places.{USED, CURSOR, SLOTS, STORED, VALID, FIRST-REGISTER}
 use Rattle.rows.specs.Sound.{tableOf}
+use Rattle.book.specs.Book.{collect}
+use Rattle.book.specs.Table.{Reply}
 use Rattle.book.specs.BookOf.{bookOf}
 use Rattle.book.specs.Contract.{Answers, Implements}
 use Rattle.book.specs.Demand.{Event, calls, Session, Demand}
 use Rattle.book.proofs.Demand.{third-demand}
 use Rattle.book.specs.Raised.{AllRaised, AllZero, Upgrade, SameVerdicts, Cut}
 use Rattle.book.proofs.Raised.{after-each}
-use Rattle.contract.specs.Seen.{seen, SoundWords}
+use Rattle.contract.specs.Seen.{arrowIn, seen, SoundWords}
 use Rattle.contract.proofs.Seen.{sound-table}
+use Rattle.contract.specs.Kept.{changes, Kept}
 use Rattle.contract.specs.Closed.{makes, performs, rests, asks}
 
 -- the predicates of the functions' `ensures` implement the book
@@ -45,4 +53,23 @@ same-rests e = record {
   good = λ s. subst SoundWords (sym e) s;
   book = λ s. ap (λ (x : List ℕ). bookOf (seen x)) e;
   numbers = λ s r l. ap (λ (x : List ℕ). seen x .reg r) e;
+}
+
+-- a root's word is kept
+not-free : (h : ℕ) (y : Reply) → VALID ≤ h → changes collect y h ≡ false
+not-free h y l =
+    rw (ne-eqb h USED (omega arith), ne-eqb h CURSOR (omega arith), ne-eqb h SLOTS (omega arith), ne-eqb h STORED (omega arith))
+    (no-target (eqb (y .number) 0))
+  where
+    no-target : (x : Bool) → (x && false) ≡ false
+    no-target true = refl
+    no-target false = refl
+
+-- what any call gives that leaves sound words sound, the same book, and the words as `Kept` says them of collect, which has no target
+pub kept-rests : {y : Reply} {old new : List ℕ} → (SoundWords old → SoundWords new) → bookOf (seen new) ≡ bookOf (seen old)
+    → Kept collect y old new → rests old new
+kept-rests {y} sound book kept = record {
+  good = sound;
+  book = λ s. book;
+  numbers = λ s r l. ap arrowIn (kept .header (FIRST-REGISTER + r) (omega arith) (not-free (FIRST-REGISTER + r) y (omega arith)));
 }

@@ -1,5 +1,4 @@
--- "Bigger tables, same verdicts" for the shortest run: where the call is answered, it is answered alike in a book with more rows. Assumes
--- nothing.
+-- "Bigger tables, same verdicts" for the shortest run: where the call is not full, a book with more rows tells the same. Assumes nothing.
 use mathlib.Core.Path.{_≡_, refl}
 use mathlib.Core.Bool.{Bool, true, false, cond, _&&_}
 use mathlib.Core.List.{List, [], _∷_}
@@ -25,13 +24,13 @@ fit-more N M l (k ∷ ks) t =
 
 module _ (M : ℕ) (list : List ℕ) where
   -- the outcome decided by fitting alone
-  by-fit : (s t : Bool) (o : Outcome) → (T s → T t) → ends (cond s o full) list .reply .number ≡ 0
+  by-fit : (s t : Bool) (o : Outcome) → (T s → T t) → (ends (cond s o full) list .reply .number ≡ 8 → ⊥)
       → ends (cond t o full) list ≡ ends (cond s o full) list
   by-fit true true o h z = refl
   by-fit true false o h z = absurd (h tt)
-  by-fit false t o h z = absurd (omega arith)
+  by-fit false t o h z = absurd (z refl)
 
-  filled-more : (b : Book) → b .N ≤ M → (x y : Option (List Bool)) (r : Option Pairs) → overFilled b x y r list .reply .number ≡ 0
+  filled-more : (b : Book) → b .N ≤ M → (x y : Option (List Bool)) (r : Option Pairs) → (overFilled b x y r list .reply .number ≡ 8 → ⊥)
       → overFilled (withRowCount b M) x y r list ≡ overFilled b x y r list
   filled-more b l none y r z = refl
   filled-more b l (some A) none r z = refl
@@ -40,12 +39,12 @@ module _ (M : ℕ) (list : List ℕ) where
       by-fit (fit (b .N) (pathNeeds (b .n) (liveOf b) R A B)) (fit M (pathNeeds (b .n) (liveOf b) R A B)) _
       (fit-more (b .N) M l (pathNeeds (b .n) (liveOf b) R A B)) z
 
-  -- AN ANSWERED SHORTEST RUN is answered alike with more rows: the same number of states, and the same list
-  pub shortest-more : (b : Book) → b .N ≤ M → (x y t : ℕ) → shortest b x y t list .reply .number ≡ 0
+  -- A SHORTEST RUN THAT IS NOT FULL is told alike with more rows: the same reply, refusals 10 and 11 too, and the same list
+  pub shortest-more : (b : Book) → b .N ≤ M → (x y t : ℕ) → (shortest b x y t list .reply .number ≡ 8 → ⊥)
       → shortest (withRowCount b M) x y t list ≡ shortest b x y t list
   shortest-more b l x y t = go (ltb x registers && (ltb y registers && ltb t relations))
     where
-      go : (u : Bool) → cond u (overFilled b (b .reg x) (b .reg y) (b .rel t) list) (refuse 3 list) .reply .number ≡ 0
+      go : (u : Bool) → (cond u (overFilled b (b .reg x) (b .reg y) (b .rel t) list) (refuse 3 list) .reply .number ≡ 8 → ⊥)
           → cond u (overFilled (withRowCount b M) (b .reg x) (b .reg y) (b .rel t) list) (refuse 3 list)
           ≡ cond u (overFilled b (b .reg x) (b .reg y) (b .rel t) list) (refuse 3 list)
       go true z = filled-more b l (b .reg x) (b .reg y) (b .rel t) z

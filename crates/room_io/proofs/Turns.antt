@@ -229,18 +229,18 @@ module _ {p : Progress} (old new input output room : List ℕ) {r : Said} (place
   pub turned-room : {q : Progress} → r ≡ Room → WriteSays p q → Turned p q old new input input output written
   turned-room {q} e w = let a = ap (λ (x : Progress). x .start) (w .is) in let b = ap (λ (x : Progress). x .end) (w .is) in
       let c = ap (λ (x : Progress). x .pending) (w .is) in let d = ap (λ (x : Progress). x .ended) (w .is) in record {
-    placed =
-        record {
-          order =
-              omega (arith, placed .order);
-          within =
-              omega (arith, placed .within);
-          waiting = omega arith;
-          enough = placed .enough;
-          line = omega (arith, placed .line, same-size);
-        };
-    reply = Room;
-    room = room;
-    answered = in-room Room e;
-    after = (ap₂ (λ (i j : ℕ). take (j - i) (drop i input)) a b, ap (λ (k : ℕ). take k written) c, d, w);
-  }
+        placed =
+            record {
+              order =
+                  omega (arith, placed .order);
+              within =
+                  omega (arith, placed .within);
+              waiting = omega arith;
+              enough = placed .enough;
+              line = omega (arith, placed .line, same-size);
+            };
+        reply = Room;
+        room = room;
+        answered = in-room Room e;
+        after = (ap₂ (λ (i j : ℕ). take (j - i) (drop i input)) a b, ap (λ (k : ℕ). take k written) c, d, w);
+      }
