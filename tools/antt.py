@@ -3,7 +3,7 @@
 It knows the layout that `rt fmt` gives: a declaration begins at its section's indentation, with its marks; all that is indented deeper, its
 clauses and its `unfolding` line belong to it; comment lines directly above it are its comment. A name that is bound inside a declaration
 (an argument, a pattern, a `let`, a `where`) hides the declared one throughout that declaration."""
-import glob, os, re
+import functools, glob, os, re
 
 NAME = r'[^\s(){}\[\];,.]+'
 MARKS = r'((?:(?:unfoldable|abbrev|pub|axiom) )*)'
@@ -37,7 +37,7 @@ class Decl:
         self.lines, self.first, self.sections = lines, first, sections
         self.last = first + len(comment) + len(lines) - 1
 
-    @property
+    @functools.cached_property
     def constructors(self):
         deep = min((indent(x) for x in self.lines[1:] if x.strip()), default=0)
         found = [m.group(1).split() for x in self.lines[1:] if self.kind == 'data' and indent(x) == deep and (m := PARTS.match(x.strip()))]
@@ -182,7 +182,7 @@ class Tree:
     """The files of specs/ and proofs/ of all crates, by (crate, folder, module), and their declarations, by (crate, folder, module, name).
     Files of the proof of one function are left out."""
     def __init__(self, root='.'):
-        self.root, self.files, self.decls, self.where = root, {}, {}, {}
+        self.root, self.files, self.decls, self.where, self.known = root, {}, {}, {}, {}
         for path in sorted(glob.glob(os.path.join(root, 'crates/*/*/**/*.antt'), recursive=True)):
             crate, folder, *rest = os.path.relpath(path, os.path.join(root, 'crates')).split('/')
             if rest == ['Lib.antt'] or rest[-1] == 'Proof.antt' or 'Proof' in rest: continue
@@ -218,9 +218,10 @@ class Tree:
         return None
 
     def rests(self, text, scope, hidden=()):
-        """The declarations of ours that a text names."""
-        found = set()
-        for w in uses(text, hidden, [x for x, at in scope.items() if at and len(at) == 4 and at[3] != x]):
+        """The declarations of ours that a text names. An operator is named where all its parts are."""
+        told = uses(text, hidden, [x for x, at in scope.items() if at and len(at) == 4 and at[3] != x])
+        found = {at for x, at in scope.items() if at and len(at) == 4 and '_' in x and all(p in told for p in x.split('_') if p)}
+        for w in told:
             if isinstance(w, tuple):
                 there = scope.get(w[0]) or self.module(w[0])
                 at = self.home(there, w[1]) if there and len(there) == 3 else there
@@ -231,6 +232,10 @@ class Tree:
 
     def needs(self, key, statement=False):
         """The declarations that one names (or only its signature), in its sections' parameters too."""
+        if (key, statement) not in self.known: self.known[key, statement] = self.named(key, statement)
+        return self.known[key, statement]
+
+    def named(self, key, statement):
         d, scope, found = self.decls[key], self.where[key[:3]], set()
         params = set().union(*(bound(bare('\n'.join(x.header))) for x in d.sections))
         for section in d.sections: found |= self.rests(bare('\n'.join(section.header)), scope)

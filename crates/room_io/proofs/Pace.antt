@@ -17,6 +17,7 @@ use Rattle.rooms.specs.Replies.{Replies}
 use Rattle.rooms.proofs.Replies.{line-fits, more-fits, room-wanted}
 use Rattle.rooms.specs.Whole.{zeros}
 use Rattle.room_io.specs.declared.Progress.{Progress}
+use Rattle.room_io.specs.Calls.{WriteSays}
 use Rattle.room_io.specs.Places.{Placed, atHand, unwritten, Turned}
 use Rattle.room_io.specs.Served.{Way, going, State, start, wayAfter, Came, stateAfter, afterTurn, Turns, none, more, endless, Served}
 use Rattle.room_io.proofs.Text.{goes-on, done-ends, program-text, program-begins}
@@ -124,8 +125,8 @@ upto-next {w = w} {v = v} {i = i} {j = j} {o = o} {u = u} {p = p} {q = q} x h n 
 
 pub upto-served : {w₀ i₀ o₀ w i o : List ℕ} {left : ℕ} {p : Progress} → w₀ ≡ zeros → Placed start (length i₀) (length o₀)
     → Upto w₀ i₀ o₀ left p w i o
-    → (not (p .done) ≡ false) ⊎ (left ≤ 0) → Served w₀ w i₀ i o₀ o
-upto-served {w = w} {i = i} {o = o} {left = left} {p = p} e z x end = record {
+    → (not (p .done) ≡ false) ⊎ (left ≤ 0) → {q : Progress} → WriteSays p q → Served w₀ w i₀ i o₀ o q
+upto-served {w = w} {i = i} {o = o} {left = left} {p = p} e z x end says = record {
   turns = x .made;
   last = record { progress = p; words = w; input = i; output = o; brought = x .brought; handed = x .handed; way = x .way };
   chain = x .chain;
@@ -135,6 +136,7 @@ upto-served {w = w} {i = i} {o = o} {left = left} {p = p} e z x end = record {
   ended = spent end;
   begins = program-begins e (x .chain);
   whole = program-text e (x .chain);
+  flushed = says;
 }
   where
     spent : (not (p .done) ≡ false) ⊎ (left ≤ 0) → x .way ≡ going → endless ≤ length (x .brought)

@@ -9,6 +9,7 @@ use Rattle.book.specs.Program.{written}
 use Rattle.rooms.specs.declared.Said.{Said}
 use Rattle.rooms.specs.declared.Said.the-variants.{Line, End, More, Room}
 use Rattle.room_io.specs.declared.Progress.{Progress}
+use Rattle.room_io.specs.Calls.{WriteSays}
 use Rattle.room_io.specs.Places.{unwritten, After, Turned}
 
 -- how it stands with the turns: they go on; or the last one said the last line, or its read or its write failed
@@ -103,8 +104,8 @@ abbrev pub endless : ℕ
 endless = 4_611_686_018_427_387_904
 
 -- the turns went on until one was the last, unless 2^62 bytes and more were read; whatever ended them, no other text was handed on than the
--- book's
-pub record Served (w w′ i i′ o o′ : List ℕ) : Type 0 where
+-- book's; what was still pending then was written
+pub record Served (w w′ i i′ o o′ : List ℕ) (end : Progress) : Type 0 where
   pub turns : ℕ
   pub last : State
   pub chain : Turns w i o turns last
@@ -114,3 +115,4 @@ pub record Served (w w′ i i′ o o′ : List ℕ) : Type 0 where
   pub ended : last .way ≡ going → endless ≤ length (last .brought)
   pub begins : Begins last
   pub whole : last .way ≡ lastLine → Whole last
+  pub flushed : WriteSays (last .progress) end

@@ -184,11 +184,12 @@ fn turn(words: &mut [u32], input: &mut [u8], output: &mut [u8], p: Progress) -> 
     }
 }
 
-// Answers records until the last line is written, on the program's words, which are no sound table yet, and through buffers that are lent.
-fn serve(words: &mut [u32], input: &mut [u8], output: &mut [u8])
+// Answers records until the last line is written, on the program's words, which are no sound table yet, and through buffers that are lent;
+// how far it is after the write of what is pending then.
+fn serve(words: &mut [u32], input: &mut [u8], output: &mut [u8]) -> Progress
     requires { ⌜ (now words ≡ zeros) × (longest ≤ length (now input)) × (lineRoom ≤ length (now output)) ⌝ }
-    ensures { λ _. ⌜ Served (now (words .entry)) (now (words .exit)) (now (input .entry)) (now (input .exit))
-        (now (output .entry)) (now (output .exit)) ⌝ }
+    ensures { λ r. ⌜ Served (now (words .entry)) (now (words .exit)) (now (input .entry)) (now (input .exit))
+        (now (output .entry)) (now (output .exit)) r ⌝ }
 {
     let mut p = Progress {
         start: 0,
@@ -203,7 +204,7 @@ fn serve(words: &mut [u32], input: &mut [u8], output: &mut [u8])
         p = turn(words, input, output, p);
         turns -= 1;
     }
-    flush(output, p);
+    flush(output, p)
 }
 
 // Reads records from standard input to their end and writes their lines; 16,384 words of zeros are lent.

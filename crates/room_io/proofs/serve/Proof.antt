@@ -80,4 +80,4 @@ serve-spec =
       line =
           c .before .before .before .before .before .before .before .pre .2;
     }) (c .before .before .before .loop .inv .4)
-    (⊎-elim (λ w. inl (w .2 .left)) (λ w. inr (w .left)) (c .before .before .loop-test .came))))
+    (⊎-elim (λ w. inl (w .2 .left)) (λ w. inr (w .left)) (c .before .before .loop-test .came)) (c .flush .ensures)))
