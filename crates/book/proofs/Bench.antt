@@ -1,5 +1,5 @@
--- "Rooms on the test bench": the starred cases, from bytes, in one table that one theorem covers; the last three have no star.
--- Assumes nothing.
+-- "Rooms on the test bench", from bytes, in one table that one theorem covers: the starred cases are the first thirteen; then those without
+-- a star, and cases of document 02's requests. Assumes nothing.
 use mathlib.Core.Bool.{Bool, true, false}
 use mathlib.Core.List.{List, [], _∷_, List·Memᴰ}
 use mathlib.Core.Option.{none, some}

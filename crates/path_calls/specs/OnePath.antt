@@ -23,7 +23,7 @@ pub record OnePath (old v w k l : List ℕ) (y z : Reply) : Type 0 where
   pub rounds : y .rounds ≡ z .rounds
   pub peak : y .peak ≡ z .peak
   pub list : k ≡ l
-  -- n, N, registers and relations: what they hold, and their words
+  -- n, N, V, registers and relations: what they hold, and their words
   pub book : bookOf (seen v) ≡ bookOf (seen w)
   pub size : length v ≡ length w
   pub header : (h : ℕ) → h < HEADER → freeWord h ≡ false → headerOf v h ≡ headerOf w h
