@@ -56,15 +56,15 @@ tables-implement = record {
 
 -- ---- a list: set 0 to all states, clear 0
 
-abbrev noRows : Rows
+abbrev pub noRows : Rows
 noRows = record { used = λ i. false; level = λ i. 0; low = λ i. 0; high = λ i. 0 }
 
 -- nothing filled, n = 1 and N = 100
-abbrev blank : Table
+abbrev pub blank : Table
 blank = record { n = 1; N = 100; valid = 1; rows = noRows; reg = λ r. none; rel = λ q. none }
 
 -- register 0 as all states
-abbrev stored : Table
+abbrev pub stored : Table
 stored = storeReg blank 0 (some 1)
 
 abbrev emptied : Table
@@ -73,10 +73,10 @@ emptied = storeReg stored 0 none
 abbrev pub events : List Event
 events = (set alone 0 100 (frame (0x01 ∷ [])), valued 1) ∷ (clear 0, plain 0) ∷ []
 
-empty : Empty 1 100 blank
+pub empty : Empty 1 100 blank
 empty = record { bits = refl; size = refl; every = refl; unused = λ i. refl; reg = λ r l. refl; rel = λ q l. refl }
 
-blank-sound : SoundTable blank
+pub blank-sound : SoundTable blank
 blank-sound = sound-shows (fresh 1 100) blank (whole-fresh 1 100) (shows-fresh 1 100 blank empty)
 
 first : Performs SoundTable (λ x. x) (set alone 0 100 (frame (0x01 ∷ []))) blank stored (valued 1)
