@@ -4,7 +4,7 @@
 use mathlib.Core.Path.{_≡_, refl, ap, _∙_}
 use mathlib.Core.Bool.{Bool, true, false, true≢false, false≢true}
 use mathlib.Core.List.{List, [], _∷_}
-use mathlib.Core.Option.{none, some}
+use mathlib.Core.Option.{Option, none, some}
 use Prim.Native.Nat.{ℕ}
 use native.Mathlib.Omega.{arith}
 use Rattle.mucalculus.specs.Form.{filled}
@@ -18,8 +18,8 @@ use Rattle.book.proofs.Compute.{computing}
 use Rattle.book.proofs.Listed.{frame}
 use Rattle.book.proofs.Follow.{denotes-none, denotes-all}
 use Rattle.book.proofs.Leaves.{storeReg}
-use Rattle.book.proofs.Witness.{answers, noRows, blank, stored}
-use Rattle.book.proofs.Plays.{reply, Met, met-answers, denotes-bit, denotes-other, rowless, withBit, bit-first, bit-then}
+use Rattle.book.proofs.Witness.{answers, reply, noRows, blank, Met, met-answers, stored}
+use Rattle.book.proofs.OneBit.{denotes-bit, denotes-other, rowless, withBit, bit-first, bit-then}
 
 -- whatever stands behind the calls: words, which of them are sound, the table seen in them, the questions' contract, the words left
 pub record Builder : Type 1 where
@@ -36,6 +36,10 @@ Claim x l = Demand (x .sound) (x .view) (x .asks) 1 100 l (x .left)
 -- a question then gets a reply
 abbrev pub Says : Builder → Question → Reply → Type 0
 Says x q y = (w : x .Words) × x .asks (x .left) q w y
+
+-- the number in register r
+abbrev pub numberIn : Builder → ℕ → Option ℕ
+numberIn x r = x .view (x .left) .reg r
 
 -- the tables themselves
 abbrev pub tables : Table → Builder
@@ -70,12 +74,12 @@ unfolding computing
 always-eight x q p a d = let z : _≡_ {A = ℕ} 8 0 = d .agree .0 .number in absurd (omega arith)
 
 -- one that stores nothing
-pub stores-nothing : (x : Builder) (q p a : ℕ) → x .view (x .left) .reg 0 ≡ none → Claim x (everyone (reply 0 q p a)) → ⊥
+pub stores-nothing : (x : Builder) (q p a : ℕ) → numberIn x 0 ≡ none → Claim x (everyone (reply 0 q p a)) → ⊥
 unfolding computing
-stores-nothing x q p a e d = let z : true ≡ filled (x .view (x .left) .reg 0) = d .reg-filled 0 (omega arith) in true≢false (z ∙ ap filled e)
+stores-nothing x q p a e d = let z : true ≡ filled (numberIn x 0) = d .reg-filled 0 (omega arith) in true≢false (z ∙ ap filled e)
 
 -- the true end has it
-pub everyone-stored : tables stored .view (tables stored .left) .reg 0 ≡ some 1
+pub everyone-stored : numberIn (tables stored) 0 ≡ some 1
 everyone-stored = refl
 
 -- asked for a count later it answers 7
@@ -87,11 +91,7 @@ stores-nothing-seen x q p a (w, s) d =
 -- truly 2
 pub everyone-count : Says (tables stored) (count 0) (valued 2)
 unfolding computing
-everyone-count = (
-  stored,
-  met-answers everyone-met (count 0) (valued 2)
-      (record { agrees = record { number = refl; rounds = refl; peak = refl; value = refl }; nodeSays = tt }),
-)
+everyone-count = (stored, met-answers everyone-met (count 0) (some 2) 2 refl refl tt)
 
 -- ---- set 0 to false
 
@@ -160,11 +160,7 @@ other-number x q p a c (w, s) d = let e = d .questions w (node 0) (valued c) s .
 -- truly the same
 pub bit-node : Says (tables withBit) (node 0) (valued 3)
 unfolding computing
-bit-node = (
-  withBit,
-  met-answers bit-met (node 0) (valued 3)
-      (record { agrees = record { number = refl; rounds = refl; peak = refl; value = tt }; nodeSays = λ z. refl }),
-)
+bit-node = (withBit, met-answers bit-met (node 0) none 3 refl tt (λ z. refl))
 
 -- a state count can only be the definition's
 pub made-up-count : (x : Builder) (q p a k : ℕ) → Says x (count 0) (valued k) → Claim x (bit (reply 0 q p a)) → k ≡ 1
@@ -174,11 +170,7 @@ made-up-count x q p a k (w, s) d = d .questions w (count 0) (valued k) s .1 .agr
 -- truly 1
 pub bit-count : Says (tables withBit) (count 0) (valued 1)
 unfolding computing
-bit-count = (
-  withBit,
-  met-answers bit-met (count 0) (valued 1)
-      (record { agrees = record { number = refl; rounds = refl; peak = refl; value = refl }; nodeSays = tt }),
-)
+bit-count = (withBit, met-answers bit-met (count 0) (some 1) 1 refl refl tt)
 
 -- ---- set 0 to bit 0, set 1 to its complement
 
@@ -213,11 +205,7 @@ repeats x q p q′ p′ a c (w, s) d =
 -- truly 1
 pub both-member : Says (tables withBoth) (member 1 0) (valued 1)
 unfolding computing
-both-member = (
-  withBoth,
-  met-answers both-met (member 1 0) (valued 1)
-      (record { agrees = record { number = refl; rounds = refl; peak = refl; value = refl }; nodeSays = tt }),
-)
+both-member = (withBoth, met-answers both-met (member 1 0) (some 1) 1 refl refl tt)
 
 -- ---- set 0 to bit 0, set 1 to bit 0 and bit 0
 

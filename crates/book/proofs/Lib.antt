@@ -34,6 +34,6 @@ pub mod Compute
 pub mod Listed
 pub mod Bench
 pub mod Witness
-pub mod Plays
+pub mod OneBit
 pub mod Impostors
 pub mod Program
