@@ -33,6 +33,7 @@ pub mod Truthful
 pub mod Compute
 pub mod Listed
 pub mod Bench
-pub mod Impostors
 pub mod Witness
+pub mod OneBit
+pub mod Impostors
 pub mod Program
