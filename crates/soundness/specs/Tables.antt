@@ -14,10 +14,7 @@ use Rattle.rows.specs.Sound.{Good}
 use Rattle.soundness.specs.Masks.{swapped}
 use Rattle.soundness.specs.Cells.{Shown, Tabled}
 
--- how many used rows a table may have, and how many are few
-abbrev pub PLACES : ℕ
-PLACES = 60000
-
+-- how many used rows are few
 abbrev pub FEW : ℕ
 FEW = 2048
 

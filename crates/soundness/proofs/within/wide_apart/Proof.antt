@@ -1,6 +1,5 @@
 -- `wide_apart` meets its contract: lists of zeros have no wrong table. Assumes nothing.
 use Rattle.soundness.proofs.Contained.{lists-new}
-use Rattle.soundness.specs.Tables.{PLACES}
 use Prim.Native.Nat.{ℕ, _*_, _-_}
 use mathlib.Core.Path.{ap, _∙_}
 use native.Mathlib.Omega.{arith}
@@ -27,7 +26,7 @@ wide-apart-spec =
       roots =
           c .before .before .before .before .before .pre;
       lists =
-          lists-new PLACES
+          lists-new 60_000
           (let u = c .before .before .before .before .before .pre .good .ranked .count-le in
           let n = c .before .before .before .before .before .pre .good .sizes .N-max in omega arith)
           (c .before .before .base-of .ensures ∙ ap (λ (k : ℕ). 2 * k - 10) (c .before .before .before .header-word .ensures));
