@@ -25,7 +25,8 @@ use Rattle.witness.proofs.Made.{Roomy, fresh-done}
 -- ---- a list from fresh on
 
 module _ (n N k : ℕ) (z : Sizes n N k) where
-  pub session : {l : List Event} {ws : List ℕ} → Trace (List ℕ) performs rests (freshOf n N k) l ws → Session (List ℕ) makes performs rests n N l ws
+  pub session : {l : List Event} {ws : List ℕ} → Trace (List ℕ) performs rests (freshOf n N k) l ws
+      → Session (List ℕ) makes performs rests n N l ws
   session t =
       record { lent = zeros k; count = 1; made = freshOf n N k; reply = plain 0; start = fresh-done n N k z; answered = refl; rest = t }
 
@@ -75,11 +76,12 @@ module _ {N : ℕ} {ws : List ℕ} (s : Stands N ws) where
         valid = ap (λ (v : View). v .header VALID) e;
       }
 
-  -- after an answered relation t of no pairs
-  pub relation-stands : (t : ℕ) {bs : List ℕ} {y : Reply} → t < RELATIONS → CallPost (relation t bs) ws (write ws (FIRST-RELATION + t) 1) y
-      → Stands N (write ws (FIRST-RELATION + t) 1)
-  relation-stands t l p =
-      let e = view-header (headerOf ws ROWS) ws (s .sound .good .sizes .room) (FIRST-RELATION + t) 1 (omega arith) in
+  -- after an answered relation t without a new row
+  pub relation-stands : (t x : ℕ) {bs : List ℕ} {y : Reply} → t < RELATIONS
+      → CallPost (relation t bs) ws (write ws (FIRST-RELATION + t) x) y
+      → Stands N (write ws (FIRST-RELATION + t) x)
+  relation-stands t x l p =
+      let e = view-header (headerOf ws ROWS) ws (s .sound .good .sizes .room) (FIRST-RELATION + t) x (omega arith) in
       record {
         sound = p .performs .served (s .sound) .0;
         rows = ap (λ (v : View). v .header ROWS) e ∙ rw (ne-eqb ROWS (FIRST-RELATION + t) (omega arith)) (s .rows);

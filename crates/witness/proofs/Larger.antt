@@ -45,21 +45,21 @@ use Rattle.witness.proofs.Begun.{holds, Stands, fresh-stands, all-one, 
 
 -- ---- the list, n = 1: under the one account, with limits a and c, and R rounds
 
-abbrev lender : ℕ → ℕ → ℕ → List Account
+abbrev pub lender : ℕ → ℕ → ℕ → List Account
 lender a c t = record { rows = a; rounds = c; tally = t } ∷ []
 
-abbrev under : ℕ → ℕ → Terms
+abbrev pub under : ℕ → ℕ → Terms
 under a c = record { count = 1; place = 0; rows = a; rounds = c }
 
 -- 10: bit 0
-abbrev bit : List ℕ
+abbrev pub bit : List ℕ
 bit = frame (0x10 ∷ [])
 
 -- an answered set: one round and no step; or no round, and the table's row
-abbrev node : ℕ → Reply
+abbrev pub node : ℕ → Reply
 node a = record { number = 0; rounds = 1; peak = 0; value = a }
 
-abbrev row : Reply
+abbrev pub row : Reply
 row = record { number = 0; rounds = 0; peak = 1; value = 3 }
 
 -- up to the set that makes a row
@@ -92,10 +92,10 @@ events a c R = told a c R row
 -- ---- over a table of N rows in k words
 
 -- what the words are after each call
-abbrev made : ℕ → ℕ → List ℕ
+abbrev pub made : ℕ → ℕ → List ℕ
 made N k = freshOf 1 N k
 
-abbrev fixed : ℕ → ℕ → List ℕ
+abbrev pub fixed : ℕ → ℕ → List ℕ
 fixed N k = write (made N k) VALID ALL-STATES
 
 abbrev loaded : ℕ → ℕ → List ℕ
@@ -122,12 +122,12 @@ record Fits (b : Book) : Type 0 where
   needs : nothing ≡ relationCount (b .n) (liveOf b) (b .valid) bot nothing
 
 -- and the set of bit 0
-record Ready (b : Book) : Type 0 where
-  bits : b .n ≡ 1
-  passes : checks b Set bit ≡ 0
-  is : now 0 ≡ formulaIn b Set bit
-  needs : 1 ≡ stepNeed (2 * b .n) (liveOf b) (bitF 0)
-  again : 1 ≡ stepNeed (2 * b .n) (bitF 0 ∷ liveOf b) (bitF 0)
+pub record Ready (b : Book) : Type 0 where
+  pub bits : b .n ≡ 1
+  pub passes : checks b Set bit ≡ 0
+  pub is : now 0 ≡ formulaIn b Set bit
+  pub needs : 1 ≡ stepNeed (2 * b .n) (liveOf b) (bitF 0)
+  pub again : 1 ≡ stepNeed (2 * b .n) (bitF 0 ∷ liveOf b) (bitF 0)
 
 module _ (N k a c R : ℕ) (z : Sizes 1 N k) (rows : N ≤ a) (rounds : R ≤ c) (some-round : 0 < R)
     (fits : Fits (bookAfter 1 N ((valid every, plain 0) ∷ [])))
@@ -150,7 +150,7 @@ module _ (N k a c R : ℕ) (z : Sizes 1 N k) (rows : N ≤ a) (rounds : R ≤ c)
       noPairs-done (fixed N k) (fixed-stands .sound) 0 (omega arith) nothing (f .fits) (f .needs)
 
   loaded-stands : Stands N (loaded N k)
-  loaded-stands = relation-stands fixed-stands 0 (omega arith) relation-loaded
+  loaded-stands = relation-stands fixed-stands 0 1 (omega arith) relation-loaded
 
   set-first : CallPost (set (under a c) 0 R (self false)) (loaded N k) (once N k) (node 1)
   set-first =
@@ -200,7 +200,7 @@ module _ (N k a c R : ℕ) (z : Sizes 1 N k) (rows : N ≤ a) (rounds : R ≤ c)
 
 -- ---- with the account
 
-abbrev both : List ℕ → List Account → Lent
+abbrev pub both : List ℕ → List Account → Lent
 both ws l = record { words = ws; accounts = l }
 
 -- a call on the words, fed so, is one on both
@@ -208,7 +208,7 @@ with-account : (ws vs : List ℕ) (l : List Account) (c : Call) (y : Reply) → 
     → Step (both ws l) c (both vs (charged l c y)) y
 with-account ws vs l c y p f = (f, p, refl)
 
-with-accounts : {ws vs : List ℕ} {es : List Event} (l : List Account) → Trace (List ℕ) performs rests ws es vs → AllFed l es
+pub with-accounts : {ws vs : List ℕ} {es : List Event} (l : List Account) → Trace (List ℕ) performs rests ws es vs → AllFed l es
     → Trace Lent Step Rest (both ws l) es (both vs (accountsAfter l es))
 with-accounts l stop f = stop
 with-accounts l (go {w = ws} {v = ms} {c = c} {y = y} p t) f =
@@ -269,16 +269,20 @@ second = record {
       (tt, (tt, (refl, (refl, (tt, (refl, (refl, (tt, tt))))))));
 }
 
-raised : (t t′ : ℕ) → Looser (lender 1 1 t) (lender 5 7 t′)
-raised t t′ = record { length = refl; rows = rows; rounds = rounds }
+-- a list of one account, with its limits raised or equal
+pub looser-one : (a c t a′ c′ t′ : ℕ) → a ≤ a′ → c ≤ c′ → Looser (lender a c t) (lender a′ c′ t′)
+looser-one a c t a′ c′ t′ l m = record { length = refl; rows = rows; rounds = rounds }
   where
-    rows : (p : ℕ) → getD (lender 1 1 t) p noAccount .rows ≤ getD (lender 5 7 t′) p noAccount .rows
-    rows zero = omega arith
+    rows : (p : ℕ) → getD (lender a c t) p noAccount .rows ≤ getD (lender a′ c′ t′) p noAccount .rows
+    rows zero = l
     rows (suc p) = omega arith
 
-    rounds : (p : ℕ) → getD (lender 1 1 t) p noAccount .rounds ≤ getD (lender 5 7 t′) p noAccount .rounds
-    rounds zero = omega arith
+    rounds : (p : ℕ) → getD (lender a c t) p noAccount .rounds ≤ getD (lender a′ c′ t′) p noAccount .rounds
+    rounds zero = m
     rounds (suc p) = omega arith
+
+raised : (t t′ : ℕ) → Looser (lender 1 1 t) (lender 5 7 t′)
+raised t t′ = looser-one 1 1 t 5 7 t′ (omega arith) (omega arith)
 
 -- the first calls are the same, and answered
 again : (l l′ : List Event) → AllAgain (calls l) (calls l′) → AllAgain (calls (before 1 1 1 ++ l)) (calls (before 5 7 3 ++ l′))
@@ -345,3 +349,29 @@ module _ (y : Reply) (end′ : Lent) (u : SharedUpgrade 1 2 (told 5 7 3 y) end�
       let z : _≡_ {A = ℕ} 1 3 = same .table .numbers 0 3 (omega arith) (omega arith) 1 3 a b (number-of 0 1 (omega arith) refl)
       (number-of 3 3 (omega arith) refl) p q .1 e in
       omega arith
+
+-- ---- the true one: with the smaller table's reply the same list is met, so that the lie alone is refuted
+
+pub met : SharedUpgrade 1 2 (told 5 7 3 row) large
+met = second
+
+-- its calls were answered throughout, too
+pub met-session : SharedSession 1 2 (told 5 7 3 row) large
+unfolding second
+met-session = record {
+  lent = second .lent;
+  made = second .made;
+  reply = second .reply;
+  start = second .start;
+  answered = refl;
+  rest = second .rest;
+}
+
+-- registers 0 and 2, which have one set, have one number there, and 3 has another
+pub met-numbers : (seen (large .words) .reg 0 ≡ some 1) × (seen (large .words) .reg 2 ≡ some 1) × (seen (large .words) .reg 3 ≡ some 3)
+met-numbers = let d = shared-demand 1 2 met-session in (d .current 0 (omega arith), d .current 2 (omega arith), d .current 3 (omega arith))
+
+-- and what is said of any larger table holds of it
+pub met-reply : (row .number ≡ 0) × (row .rounds ≡ 0) × (row .peak ≡ 1)
+unfolding second met
+met-reply = same-reply row large met (raised 8 9)

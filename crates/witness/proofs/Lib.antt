@@ -2,7 +2,13 @@ pub mod Words
 pub mod Rounds
 pub mod Made
 pub mod Begun
+pub mod Anew
 pub mod Row
+pub mod Told
 pub mod Played
 pub mod Full
 pub mod Larger
+pub mod QuietList
+pub mod QuietCalls
+pub mod Quiet
+pub mod Later

@@ -95,7 +95,7 @@ relation-loaded =
     (subst (λ (b : Book). nothing ≡ relationCount (b .n) (liveOf b) (b .valid) bot nothing) e refl)
 
 loaded-stands : Stands 100 loaded
-loaded-stands = relation-stands fixed-stands 0 (omega arith) relation-loaded
+loaded-stands = relation-stands fixed-stands 0 1 (omega arith) relation-loaded
 
 -- the account is no limit
 free : {ws : List ℕ} → Stands 100 ws → (R : ℕ) → R ≤ 100 → Roomy (headerOf ws ROWS) R alone
