@@ -18,6 +18,8 @@ use Rattle.book.proofs.Stored.{none-some}
 use Rattle.book.specs.Demand.{Event, calls}
 use Rattle.book.specs.Raised.{withRowCount, AllZero, Looser, Cut}
 use Rattle.contract.specs.Seen.{seen, SoundWords}
+use Rattle.contract.specs.Closed.{rests}
+use Rattle.contract.proofs.Closed.{same-rests}
 use Rattle.contract.specs.Shared.{Lent, Step, Rest, SharedSession}
 use Rattle.contract.specs.Bigger.{AllAgain, SharedUpgrade}
 use Rattle.contract.proofs.Bigger.{shared-each, each-sound}
@@ -94,6 +96,11 @@ module _ {r : ℕ} (M : ℕ) (words words′ : List ℕ) (s : SoundWords words) 
   pub batch-again : (z .number ≡ y .number) × (b ≡ a)
   batch-again =
       (agree (ℕ-discrete (z .number) (y .number)) (λ o. o .number), agree (List-discrete ℕ-discrete b a) (λ o. o .answers))
+
+-- THE CALL STORES NOTHING: it gets the words to read
+pub batch-rests : {r : ℕ} {words states order order′ answers answers′ : List ℕ} {y : Reply}
+    → BatchPost r words states order order′ answers answers′ y → rests words words
+batch-rests p = same-rests refl
 
 -- ANSWERED ALIKE, at the same place of a list and of the same list with every limit raised or equal
 pub members-again : (n N M : ℕ) → N ≤ M → M ≤ 60_000

@@ -103,6 +103,19 @@ module _ (b : Book) (acc : Terms) (r R : ℕ) (bs : List ℕ) (y : Reply) (a : A
       let w = count-told (does b (set acc r R bs) .0) r x h i in
       subst (λ (A : List Bool). x .value ≡ weight true A) (some-inj (sym (w .1) ∙ set-leaves b acc r R bs y a z)) (w .2)
 
+-- ---- "Both change nothing", nor does a call that a check refuses
+
+pub refused-keeps : (b : Book) (c : Call) → (does b c .1 .number ≡ 0 → ⊥) → does b c .0 ≡ b
+refused-keeps b (relation t bs) =
+    relation-cases (λ (d : Done). (d .1 .number ≡ 0 → ⊥) → d .0 ≡ b) b t bs (λ k i j n. refl) (λ l p q n. absurd (n refl))
+refused-keeps b (set acc r R bs) =
+    set-cases (λ (d : Done). (d .1 .number ≡ 0 → ⊥) → d .0 ≡ b) b acc r R bs (λ k i j n. refl) (λ l p q n. absurd (n refl))
+refused-keeps b (valid bs) =
+    valid-cases (λ (d : Done). (d .1 .number ≡ 0 → ⊥) → d .0 ≡ b) b bs (λ k i j n. refl) (λ t p n. absurd (n refl))
+refused-keeps b (clear r) =
+    range-cases (λ (d : Done). (d .1 .number ≡ 0 → ⊥) → d .0 ≡ b) r registers _ _ (λ l n. absurd (n refl)) (λ l n. refl)
+refused-keeps b collect = λ n. refl
+
 -- ---- "Check 2 refuses none in such a list"
 
 pub never-two : (b : Book) (c : Call) → does b c .1 .number ≡ 2 → ⊥

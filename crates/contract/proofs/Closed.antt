@@ -1,7 +1,8 @@
 -- Laws of what specs/Closed.antt defines. Assumes nothing.
-use mathlib.Core.Path.{_≡_, refl, sym, ap, subst}
-use mathlib.Core.Bool.{Bool, true, false, _&&_}
+use mathlib.Core.Path.{_≡_, refl, sym, ap, _∙_, subst}
+use mathlib.Core.Bool.{Bool, true, false, cond, _&&_}
 use mathlib.Core.List.{List, _++_}
+use mathlib.Core.Option.{Option, none, some}
 use Prim.Native.Nat.{ℕ, _+_, _≤_}
 use native.Mathlib.Omega.{arith}
 use borrow.Author.Tests.{ne-eqb}
@@ -9,9 +10,12 @@ use lib.Dec.{eqb}
 use lib.ListN.{length}
 use Rattle.layout.specs.Places.{USED, CURSOR, SLOTS, STORED, VALID, FIRST-REGISTER}
 use Rattle.rows.specs.Sound.{tableOf}
-use Rattle.book.specs.Book.{collect}
-use Rattle.book.specs.Table.{Reply}
+use Rattle.book.specs.Book.{Call, collect, effect, stores, does}
+use Rattle.book.specs.Table.{Reply, noted}
 use Rattle.book.specs.BookOf.{bookOf}
+use Rattle.book.proofs.BookOf.{whole-bookOf, only-book}
+use Rattle.book.proofs.Stored.{whole-does}
+use Rattle.book.proofs.Truthful.{refused-keeps}
 use Rattle.book.specs.Contract.{Answers, Implements}
 use Rattle.book.specs.Demand.{Event, calls, Session, Demand}
 use Rattle.book.proofs.Demand.{third-demand}
@@ -20,6 +24,7 @@ use Rattle.book.proofs.Raised.{after-each}
 use Rattle.contract.specs.Seen.{arrowIn, seen, SoundWords}
 use Rattle.contract.proofs.Seen.{sound-table}
 use Rattle.contract.specs.Kept.{changes, Kept}
+use Rattle.contract.specs.Posts.{CallPost}
 use Rattle.contract.specs.Closed.{makes, performs, rests, asks}
 
 -- the predicates of the functions' `ensures` implement the book
@@ -72,4 +77,24 @@ kept-rests {y} sound book kept = record {
   good = sound;
   book = λ s. book;
   numbers = λ s r l. ap arrowIn (kept .header (FIRST-REGISTER + r) (omega arith) (not-free (FIRST-REGISTER + r) y (omega arith)));
+}
+
+-- a refused call leaves every register's number
+noted-refused : (x : Option ℕ) (c : Call) (y : Reply) (r : ℕ) → (y .number ≡ 0 → ⊥) → noted x c y r ≡ x
+noted-refused x c y r n = go (effect c .reg)
+  where
+    go : (o : Option ℕ) → cond (stores o (y .number) r) (cond (effect c .fills) (some (y .value)) none) x ≡ x
+    go none = refl
+    go (some q) = rw (ne-eqb (y .number) 0 n)
+
+-- A REFUSED CALL STORES NOTHING, whatever its number is
+pub refused-rests : {c : Call} {old new : List ℕ} {y : Reply} → CallPost c old new y → (y .number ≡ 0 → ⊥) → rests old new
+refused-rests {c} {old} {new} {y} p n = record {
+  good = λ s. p .performs .served s .0;
+  book = λ s.
+      let b = bookOf (seen old) in
+      let d = p .performs .served s .1 in
+      sym (only-book (does b c .0) (seen new) (whole-does b c (whole-bookOf (seen old) (sound-table (tableOf old) s))) (d .shows))
+      ∙ refused-keeps b c (λ e. n (d .agrees .number ∙ e));
+  numbers = λ s r l. p .performs .served s .1 .numbers r l ∙ noted-refused (seen old .reg r) c y r n;
 }

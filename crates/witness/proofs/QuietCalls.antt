@@ -28,11 +28,12 @@ use Rattle.contract.specs.Seen.{seen, SoundWords}
 use Rattle.contract.specs.Posts.{CallPost}
 use Rattle.contract.proofs.Checked.{call-refused}
 use Rattle.contract.specs.Closed.{performs, rests, asks}
-use Rattle.contract.proofs.Closed.{words-demand, same-rests}
+use Rattle.contract.proofs.Closed.{words-demand, same-rests, refused-rests}
 use Rattle.formula_steps.specs.Evaluated.{registerStored}
 use Rattle.batch.specs.Visits.{visits, visitsAll, distinct, rowReads}
 use Rattle.batch_calls.specs.Posts.{Fit, InRange, Rearranged, Answered, BatchPost}
 use Rattle.batch_calls.proofs.Facts.{as-member}
+use Rattle.batch_calls.proofs.Again.{batch-rests}
 use Rattle.paths.specs.Call.{refuse as refuseRun}
 use Rattle.path_calls.specs.Post.{PathPost}
 use Rattle.path_calls.proofs.Rests.{path-rests}
@@ -42,7 +43,7 @@ use Rattle.witness.proofs.Row.{bitIn, bitStored, view-bit, bit-done}
 use Rattle.witness.proofs.Begun.{session, sound, holds, Stands, fresh-stands, all-one, valid-stands, relation-stands}
 use Rattle.witness.proofs.Begun.{stored-stands}
 use Rattle.witness.proofs.Told.{value-done, pairs-done, all-pairs, other-arrow, path-told, path-remembers, members-told}
-use Rattle.witness.proofs.Told.{rememberedIn, batch-rests, refused-rests}
+use Rattle.witness.proofs.Told.{rememberedIn}
 use Rattle.witness.proofs.Larger.{under, bit, node, row, made, fixed, Ready}
 use Rattle.witness.proofs.QuietList.{notBit, broken, turned, opening, withBit, started, refusals, closing, answers, events}
 use Rattle.witness.proofs.QuietList.{related, filled, vacant, rowed, midway, afterRun, later, end, blank, twoStates, asked, order}
@@ -299,7 +300,7 @@ module _ {N k a c R : ℕ} (x : Setting N k a c R) where
 
   -- and without them: a refused call that keeps all words stores nothing
   pub from-after : Trace (List ℕ) performs rests (afterRun N k) (closing a c R) (end N k)
-  from-after = quiet (pause (refused-rests not-read tt) (pause (refused-rests not-there tt) further))
+  from-after = quiet (pause (refused-rests not-read (λ e. absurd (omega arith))) (pause (refused-rests not-there (λ e. absurd (omega arith))) further))
 
   -- and from the search on
   pub from-mid : Trace (List ℕ) performs rests (midway N k) (closing a c R) (end N k)

@@ -36,7 +36,7 @@ use Rattle.memory.proofs.Frame.{memo-value, memo-alike, rows-same}
 use Rattle.operations.proofs.Work.{op-refl, op-memo}
 use Rattle.book.specs.Bridge.{fnOf}
 use Rattle.book.specs.Over.{states}
-use Rattle.book.specs.Book.{Book, Call, registers, relation, set, modelOf, liveOf, checks, formulaIn}
+use Rattle.book.specs.Book.{Book, registers, relation, set, modelOf, liveOf, checks, formulaIn}
 use Rattle.book.specs.BookOf.{bookOf}
 use Rattle.book.specs.Table.{Reply, rootsOf}
 use Rattle.book.specs.Run.{value, run, pairF, relationFits, relationCount}
@@ -53,8 +53,6 @@ use Rattle.book.proofs.Stored.{some-inj, none-some}
 use Rattle.contract.specs.Seen.{seen, SoundWords}
 use Rattle.contract.proofs.Seen.{sound-shows-book}
 use Rattle.contract.specs.Posts.{CallPost}
-use Rattle.contract.specs.Closed.{rests}
-use Rattle.contract.proofs.Closed.{same-rests}
 use Rattle.formula_steps.specs.Evaluated.{as-it-was}
 use Rattle.formula_steps.proofs.Ends.{set-value, relation-value, through-done}
 use Rattle.paths.specs.Call.{Ended, shortest}
@@ -189,19 +187,3 @@ module _ (old : List ℕ) (s : SoundWords old) where
         (some-inj (sym eA ∙ eC)) d;
     kept = λ n. absurd (n (ap (λ (x : Reply). x .number) (d .reply)));
   }
-
--- ---- they store nothing
-
--- a question for many states gets the words to read
-pub batch-rests : {r : ℕ} {words asked order order′ answers answers′ : List ℕ} {y : Reply}
-    → BatchPost r words asked order order′ answers answers′ y
-    → rests words words
-batch-rests p = same-rests refl
-
--- a refused call that keeps all words
-pub refused-rests : {c : Call} {old new : List ℕ} {y : Reply} → CallPost c old new y → T (keepsAll (y .number)) → rests old new
-refused-rests {old = old} {new} p k = record {
-  good = λ s. same-rests (p .kept s .all k) .good s;
-  book = λ s. same-rests (p .kept s .all k) .book s;
-  numbers = λ s. same-rests (p .kept s .all k) .numbers s;
-}
