@@ -185,7 +185,7 @@ impl Scopes<'_> {
 
 /// The first empty register or relation that a formula names. Every byte of it is a token.
 fn empty(words: &[u32], bytes: &[u8]) -> Option<Fault> {
-    let is_empty = |first: usize, k: u32| !layout::is_filled(words, first + k as usize);
+    let is_empty = |first: usize, k: u32| layout::root(words, first + k as usize).is_none();
     bytes
         .iter()
         .enumerate()

@@ -1,6 +1,6 @@
 //! Formulas as text, written from their bytes.
 use crate::token::{self, MAX_DEPTH};
-use crate::Formula;
+use crate::{Formula, Names};
 use std::fmt;
 
 /// How tightly a text binds: a part is put in parentheses where its operator asks for more.
@@ -32,6 +32,7 @@ impl Text {
 /// Reads formulas in prefix order.
 struct Reader<'a> {
     tokens: &'a [u8],
+    names: &'a Names,
 }
 
 impl Reader<'_> {
@@ -44,8 +45,8 @@ impl Reader<'_> {
         match kind {
             token::FALSE => leaf("false".into()),
             token::TRUE => leaf("true".into()),
-            token::CURRENT => leaf(format!("bit{k}")),
-            token::NEXT => leaf(format!("bit{k}'")),
+            token::CURRENT => leaf(self.names.bit(k)),
+            token::NEXT => leaf(self.names.bit(k) + "'"),
             token::VARIABLE => leaf(format!("P{k}")),
             token::REGISTER => leaf(format!("set{k}")),
             token::NOT => self.prefix("!".into(), below),
@@ -91,10 +92,10 @@ fn leaf(text: String) -> Option<Text> {
     Some(Text { text, binding })
 }
 
-/// The text of a formula.
-fn text(formula: &Formula) -> String {
+/// The text of a formula, with names for its bits.
+pub fn text(formula: &Formula, names: &Names) -> String {
     let tokens = formula.tokens();
-    let read = (Reader { tokens }).formula(MAX_DEPTH);
+    let read = (Reader { tokens, names }).formula(MAX_DEPTH);
     let hex = || tokens.iter().map(|byte| format!(" {byte:02X}"));
     match read {
         Some(read) => read.text,
@@ -104,7 +105,7 @@ fn text(formula: &Formula) -> String {
 
 impl fmt::Display for Formula {
     fn fmt(&self, f: &mut fmt::Formatter<'_>) -> fmt::Result {
-        f.write_str(&text(self))
+        f.write_str(&text(self, &Names::default()))
     }
 }
 

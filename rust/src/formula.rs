@@ -38,6 +38,17 @@ const RUNS_VERSION: u8 = 2;
 /// in register 5; `[2] f` is box and `<2> f` diamond of relation 2; `mu P0. f` and `nu P0. f` go as
 /// far right as they can; `some2(f until g)` and `every2(f until g)` speak of relation 2's runs.
 /// Bytes that no call takes are written in hexadecimal after `no formula:`.
+///
+/// `parse` reads what `Display` writes, and some more, as [`ParseError`](crate::ParseError) tells.
+/// [`Names`](crate::Names) has texts with names for the bits.
+///
+/// ```
+/// use kudzuclamp::Formula;
+///
+/// let reach: Formula = "mu P0. bit0 & !bit1 | <0> P0".parse()?;
+/// assert_eq!(reach.as_bytes(), [0x00, 0x09, 0x01, 0x70, 0x04, 0x03, 0x10, 0x02, 0x11, 0x68, 0x30]);
+/// # Ok::<(), kudzuclamp::ParseError>(())
+/// ```
 #[must_use]
 #[derive(Clone, Debug, PartialEq, Eq, Hash)]
 pub struct Formula {
@@ -307,6 +318,19 @@ impl Formula {
         !self | other
     }
 
+    /// If this holds, then the first; else the other.
+    ///
+    /// ```
+    /// use kudzuclamp::Formula;
+    ///
+    /// let (song, mic, echo) = (Formula::current(0), Formula::current(1), Formula::current(2));
+    /// assert_eq!(song.ite(mic, echo).to_string(), "bit0 & bit1 | !bit0 & bit2");
+    /// ```
+    #[doc(alias = "if_then_else")]
+    pub fn ite(&self, then: impl Borrow<Formula>, other: impl Borrow<Formula>) -> Formula {
+        (self & then) | (!self & other)
+    }
+
     /// All of the formulas hold; [`truth`](Formula::truth) where there are none. They keep their
     /// order, and the ANDs are as few deep as they can be.
     ///
@@ -419,7 +443,7 @@ fn numbered(first: u8, count: u32, k: u32, missing: fn(u32) -> FaultKind) -> Wor
 }
 
 /// What is wrong with a bit that no table has.
-fn no_bit(bit: u32) -> FaultKind {
+pub(crate) fn no_bit(bit: u32) -> FaultKind {
     let bits = MAX_BITS;
     FaultKind::NoBit { bit, bits }
 }

@@ -34,9 +34,11 @@
 //! Callers may share a table under limits of their own: see [`Account`]. Relations and sets return
 //! how many rows they needed at most, to choose a table's size by: see [`Loaded`].
 //!
-//! Many states are asked at once by [`Table::members`]; [`Table::states`] gives all that a set has.
+//! Many states are asked at once by [`Table::members`]; [`Table::states`] gives all that a set has,
+//! [`Table::pick`] one of them, and [`Table::to_dot`] draws its rows.
 //!
-//! What is wrong with a formula is told with its place: see [`Fault`].
+//! [`Names`] has names for the bits: formulas are read from text and written as text with them. What
+//! is wrong with a formula is told with its place: see [`Fault`] and [`ParseError`].
 //!
 //! The static library is made by `rt staticlib exports` in the repository's root; [`PROVED`] tells
 //! whether the one that is linked was.
@@ -47,9 +49,12 @@ mod abi;
 mod account;
 mod check;
 mod display;
+mod dot;
 mod fault;
 mod formula;
 mod layout;
+mod names;
+mod parse;
 mod play;
 mod refusal;
 mod refused;
@@ -61,6 +66,8 @@ mod token;
 pub use account::{Account, MAX_ACCOUNTS};
 pub use fault::{Fault, FaultKind};
 pub use formula::{AsFormula, Formula};
+pub use names::{NameError, Names};
+pub use parse::{ParseError, ParseErrorKind};
 pub use play::{play, Outcome, Unreadable};
 pub use refusal::Refusal;
 pub use refused::Refused;

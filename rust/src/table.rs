@@ -1,7 +1,7 @@
 //! The table over lent or owned words.
 use crate::check::{self, Call};
 use crate::layout::{BITS, ROWS};
-use crate::{abi, Account, AsFormula, Refusal, Refused, States, Target};
+use crate::{abi, dot, Account, AsFormula, Names, Refusal, Refused, States, Target};
 
 /// The greatest number of state bits of a table.
 pub const MAX_BITS: u32 = 16;
@@ -621,6 +621,61 @@ impl<W: AsRef<[u32]>> Table<W> {
     pub fn check_relation(&self, formula: impl AsFormula) -> Result<(), Refused> {
         abi::check(self.words.as_ref(), true, formula.framed())
             .map_err(|refusal| self.refused(Call::Relation, &formula, refusal))
+    }
+
+    /// The least state of the set in register r; none where it has no state.
+    ///
+    /// # Errors
+    ///
+    /// [`Refusal::Unsound`], [`Refusal::Range`] or [`Refusal::Empty`].
+    ///
+    /// ```
+    /// use kudzuclamp::{Account, Formula, Refused, Table, Target};
+    ///
+    /// # fn main() -> Result<(), Refused> {
+    /// let mut accounts = [Account::unlimited()];
+    /// let mut table = Table::new(&mut accounts, 3, 10)?;
+    /// table.set(&mut accounts, Target::register(0), Formula::current(1) & !Formula::current(0))?;
+    /// table.set(&mut accounts, Target::register(1), Formula::falsity())?;
+    /// assert_eq!((table.pick(0)?, table.pick(1)?), (Some(2), None));
+    /// # Ok(())
+    /// # }
+    /// ```
+    #[doc(alias = "pick_cube")]
+    #[doc(alias = "sat_witness")]
+    pub fn pick(&self, r: u32) -> Result<Option<u32>, Refusal> {
+        Ok(self.states(r)?.next())
+    }
+
+    /// The rows of the set in register r as a graph in the DOT language, for `dot -Tsvg`.
+    ///
+    /// A row has the name of its bit. Its solid arrow is for the bit's value 1, the dashed one for 0;
+    /// they lead on to the box 0, no state. A ring at an arrow's head is a NOT of all that it leads
+    /// to.
+    ///
+    /// # Errors
+    ///
+    /// [`Refusal::Unsound`], [`Refusal::Range`] or [`Refusal::Empty`].
+    ///
+    /// ```
+    /// use kudzuclamp::{Account, Formula, Names, Refused, Table, Target};
+    ///
+    /// # fn main() -> Result<(), Refused> {
+    /// let mut accounts = [Account::unlimited()];
+    /// let mut table = Table::new(&mut accounts, 2, 10)?;
+    /// table.set(&mut accounts, Target::register(0), !Formula::current(1))?;
+    /// let names = Names::new(["mic", "echo"]).unwrap();
+    /// let dot = table.to_dot(0, &names)?;
+    /// assert!(dot.starts_with("digraph set0 {\n"));
+    /// assert!(dot.contains("[label=\"echo\"]") && !dot.contains("mic"));
+    /// # Ok(())
+    /// # }
+    /// ```
+    #[doc(alias = "to_dot_string")]
+    #[doc(alias = "dump")]
+    pub fn to_dot(&self, r: u32, names: &Names) -> Result<String, Refusal> {
+        self.node(r)?;
+        Ok(dot::register(self.words.as_ref(), r, names))
     }
 
     /// The words.

@@ -61,6 +61,18 @@ pub fn parts(kind: u8) -> usize {
     }
 }
 
+/// The depth of a whole formula; none where the bytes are no formula.
+pub fn depth(tokens: &[u8]) -> Option<usize> {
+    let mut depths: Vec<usize> = Vec::new();
+    for &token in tokens.iter().rev() {
+        let (kind, _) = taken_apart(token)?;
+        let below = depths.len().checked_sub(parts(kind))?;
+        let deepest = depths.drain(below..).max().unwrap_or(0);
+        depths.push(deepest + 1);
+    }
+    depths.pop().filter(|_| depths.is_empty())
+}
+
 /// A word of version 2.
 pub fn is_until(token: u8) -> bool {
     matches!(taken_apart(token), Some((SOME_RUN | EVERY_RUN, _)))
