@@ -3,7 +3,7 @@
 //! The entry points ask of their caller only what a Rust reference has: a pointer that is aligned
 //! and not null, to as many elements as the length says, and mutable memory that overlaps nothing
 //! else. Their contracts have no other precondition: any words, numbers and bytes are answered.
-use crate::{Account, Loaded, Refusal, Stored};
+use crate::{Account, Loaded, Refusal, Stored, Target};
 
 /// The declarations of `include/kudzuclamp.h`: a slice is a pointer and then a length.
 mod library {
@@ -154,12 +154,12 @@ pub fn relation(words: &mut [u32], t: u32, bytes: &[u8]) -> Result<Loaded, Refus
 pub fn set(
     words: &mut [u32],
     accounts: &mut [Account],
-    place: u32,
-    r: u32,
-    most: u32,
+    target: Target,
     bytes: &[u8],
 ) -> Result<Stored, Refusal> {
     let (mut node, mut rounds, mut peak) = (0, 0, 0);
+    // No list that is taken has a place that does not fit.
+    let place = u32::try_from(target.account).unwrap_or(u32::MAX);
     // SAFETY: pointers and lengths are those of slices; the mutable ones overlap nothing. The last
     // three pointers are three locals'.
     let number = unsafe {
@@ -169,8 +169,8 @@ pub fn set(
             accounts.as_mut_ptr(),
             accounts.len(),
             place,
-            r,
-            most,
+            target.register,
+            target.rounds,
             bytes.as_ptr(),
             bytes.len(),
             &mut node,
@@ -185,12 +185,7 @@ pub fn set(
 pub fn valid(words: &mut [u32], bytes: &[u8]) -> Result<(), Refusal> {
     // SAFETY: pointers and lengths are those of slices, the mutable one apart from the other.
     let number = unsafe {
-        library::kudzuclamp_valid(
-            words.as_mut_ptr(),
-            words.len(),
-            bytes.as_ptr(),
-            bytes.len(),
-        )
+        library::kudzuclamp_valid(words.as_mut_ptr(), words.len(), bytes.as_ptr(), bytes.len())
     };
     answered(number, ())
 }

@@ -12,22 +12,25 @@ pub const MAX_ACCOUNTS: usize = 8;
 /// changes an account.
 ///
 /// ```
-/// use kudzuclamp::{Account, Formula, Refusal, Table};
+/// use kudzuclamp::{Account, Formula, Refusal, Refused, Table, Target};
 ///
-/// # fn main() -> Result<(), Refusal> {
+/// # fn main() -> Result<(), Refused> {
 /// const TABLET: usize = 0;
 /// const PHONE: usize = 1;
 /// let mut accounts = [Account::unlimited(), Account::limited(2, 1)];
 /// let mut table = Table::new(&mut accounts, 2, 100)?;
 ///
 /// let both = Formula::current(0) & Formula::current(1);
-/// assert_eq!(table.set(&mut accounts, PHONE, 0, 9, &both), Err(Refusal::Full));
-/// table.set(&mut accounts, TABLET, 0, 9, &both)?;
+/// let full = table.set(&mut accounts, Target::register(0).account(PHONE), &both);
+/// assert_eq!(full.unwrap_err(), Refusal::Full);
+/// table.set(&mut accounts, Target::register(0).account(TABLET), &both)?;
 ///
 /// // The set above keeps two rows, which count for the phone too.
-/// assert_eq!(table.set(&mut accounts, PHONE, 1, 9, Formula::current(0)), Err(Refusal::Full));
+/// let phone = Target::register(1).account(PHONE);
+/// let full = table.set(&mut accounts, phone, Formula::current(0));
+/// assert_eq!(full.unwrap_err(), Refusal::Full);
 /// // Variables take no step, so this one needs no rows; it takes one round.
-/// table.set(&mut accounts, PHONE, 1, 9, Formula::nu(0, Formula::var(0)))?;
+/// table.set(&mut accounts, phone, Formula::nu(0, Formula::var(0)))?;
 /// assert_eq!((accounts[TABLET].tally, accounts[PHONE].tally), (0, 1));
 /// # Ok(())
 /// # }
@@ -47,6 +50,11 @@ pub struct Account {
 
 impl Account {
     /// An account with these limits, its tally at 0.
+    ///
+    /// ```
+    /// let phone = kudzuclamp::Account::limited(50, 4);
+    /// assert_eq!((phone.rows, phone.rounds, phone.tally), (50, 4, 0));
+    /// ```
     #[must_use]
     pub const fn limited(rows: u32, rounds: u32) -> Account {
         Account {

@@ -1,9 +1,7 @@
 //! Formulas as text, written from their bytes.
-use crate::{token, Formula};
+use crate::token::{self, MAX_DEPTH};
+use crate::{Formula, Names};
 use std::fmt;
-
-/// The greatest depth of a formula that a call takes.
-const MAX_DEPTH: usize = 64;
 
 /// How tightly a text binds: a part is put in parentheses where its operator asks for more.
 #[derive(Clone, Copy, PartialEq, Eq, PartialOrd, Ord)]
@@ -34,6 +32,7 @@ impl Text {
 /// Reads formulas in prefix order.
 struct Reader<'a> {
     tokens: &'a [u8],
+    names: &'a Names,
 }
 
 impl Reader<'_> {
@@ -42,30 +41,12 @@ impl Reader<'_> {
         let (&token, rest) = self.tokens.split_first()?;
         self.tokens = rest;
         let below = depth.checked_sub(1)?;
-        let kinds = [
-            (token::NU, 16),
-            (token::MU, 16),
-            (token::EVERY_RUN, 8),
-            (token::SOME_RUN, 8),
-            (token::DIAMOND, 8),
-            (token::BOX, 8),
-            (token::REGISTER, 32),
-            (token::VARIABLE, 16),
-            (token::NEXT, 16),
-            (token::CURRENT, 16),
-        ];
-        let (kind, k) = match token {
-            token::FALSE..=token::OR => (token, 0),
-            _ => kinds.into_iter().find_map(|(first, count)| {
-                let k = token.checked_sub(first)?;
-                (k < count).then_some((first, k))
-            })?,
-        };
+        let (kind, k) = token::taken_apart(token)?;
         match kind {
             token::FALSE => leaf("false".into()),
             token::TRUE => leaf("true".into()),
-            token::CURRENT => leaf(format!("bit{k}")),
-            token::NEXT => leaf(format!("bit{k}'")),
+            token::CURRENT => leaf(self.names.bit(k)),
+            token::NEXT => leaf(self.names.bit(k) + "'"),
             token::VARIABLE => leaf(format!("P{k}")),
             token::REGISTER => leaf(format!("set{k}")),
             token::NOT => self.prefix("!".into(), below),
@@ -111,14 +92,20 @@ fn leaf(text: String) -> Option<Text> {
     Some(Text { text, binding })
 }
 
+/// The text of a formula, with names for its bits.
+pub fn text(formula: &Formula, names: &Names) -> String {
+    let tokens = formula.tokens();
+    let read = (Reader { tokens, names }).formula(MAX_DEPTH);
+    let hex = || tokens.iter().map(|byte| format!(" {byte:02X}"));
+    match read {
+        Some(read) => read.text,
+        None => format!("no formula:{}", hex().collect::<String>()),
+    }
+}
+
 impl fmt::Display for Formula {
     fn fmt(&self, f: &mut fmt::Formatter<'_>) -> fmt::Result {
-        let tokens = self.tokens();
-        if let Some(text) = (Reader { tokens }).formula(MAX_DEPTH) {
-            return f.write_str(&text.text);
-        }
-        f.write_str("no formula:")?;
-        tokens.iter().try_for_each(|byte| write!(f, " {byte:02X}"))
+        f.write_str(&text(self, &Names::default()))
     }
 }
 
@@ -134,8 +121,8 @@ mod tests {
     fn every_kind() {
         let (f, g) = (bit(0), bit(15));
         let cases = [
-            (Formula::never(), "false"),
-            (Formula::always(), "true"),
+            (Formula::falsity(), "false"),
+            (Formula::truth(), "true"),
             (!&f, "!bit0"),
             (&f & &g, "bit0 & bit15"),
             (&f | &g, "bit0 | bit15"),

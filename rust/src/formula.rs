@@ -1,14 +1,9 @@
 //! Formulas as document 01's framed bytes.
-use crate::token;
-use crate::{MAX_BITS, REGISTERS, RELATIONS};
+use crate::token::{self, FRAME, VARIABLES};
+use crate::{Fault, FaultKind, MAX_BITS, REGISTERS, RELATIONS};
 use std::borrow::Borrow;
 use std::ops::{BitAnd, BitAndAssign, BitOr, BitOrAssign, BitXor, BitXorAssign, Not};
 
-/// How many variables have a byte.
-const VARIABLES: u32 = 16;
-
-/// Bytes before the formula: two of length and the version.
-const FRAME: usize = 3;
 const VERSION: u8 = 1;
 /// The version of formulas that speak of runs. Only set calls take it.
 const RUNS_VERSION: u8 = 2;
@@ -19,8 +14,8 @@ const RUNS_VERSION: u8 = 2;
 /// `!`, `&` and `|` are NOT, AND and OR, and `^` is "one of the two, not both"; they and all
 /// builders take formulas or references to them. A bit, variable, register or relation number that
 /// has no byte gives a formula that every call refuses with
-/// [`Refusal::Syntax`](crate::Refusal::Syntax), and so does a formula of more than 1,023 bytes or
-/// more than 64 deep.
+/// [`Refusal::Syntax`](crate::Refusal::Syntax) and the number ([`Refused`](crate::Refused)), and so
+/// does a formula of more than 1,023 bytes or more than 64 deep.
 ///
 /// ```
 /// use kudzuclamp::Formula;
@@ -43,64 +38,174 @@ const RUNS_VERSION: u8 = 2;
 /// in register 5; `[2] f` is box and `<2> f` diamond of relation 2; `mu P0. f` and `nu P0. f` go as
 /// far right as they can; `some2(f until g)` and `every2(f until g)` speak of relation 2's runs.
 /// Bytes that no call takes are written in hexadecimal after `no formula:`.
+///
+/// `parse` reads what `Display` writes, and some more, as [`ParseError`](crate::ParseError) tells.
+/// [`Names`](crate::Names) has texts with names for the bits.
+///
+/// ```
+/// use kudzuclamp::Formula;
+///
+/// let reach: Formula = "mu P0. bit0 & !bit1 | <0> P0".parse()?;
+/// assert_eq!(reach.as_bytes(), [0x00, 0x09, 0x01, 0x70, 0x04, 0x03, 0x10, 0x02, 0x11, 0x68, 0x30]);
+/// # Ok::<(), kudzuclamp::ParseError>(())
+/// ```
 #[must_use]
 #[derive(Clone, Debug, PartialEq, Eq, Hash)]
 pub struct Formula {
     framed: Vec<u8>,
+    /// The first number in it that has no byte.
+    missing: Option<Fault>,
+}
+
+/// What a call takes as a formula: a [`Formula`], or framed bytes from elsewhere (two length bytes,
+/// the version and the formula in prefix order), or a reference to either.
+///
+/// ```
+/// use kudzuclamp::{Account, AsFormula, Formula, Refused, Stored, Table, Target};
+///
+/// fn store(table: &mut Table<Vec<u32>>, f: impl AsFormula) -> Result<Stored, Refused> {
+///     table.set(&mut [Account::unlimited()], Target::register(0), f)
+/// }
+///
+/// let mut table = Table::new(&mut [Account::unlimited()], 1, 10).unwrap();
+/// assert_eq!(store(&mut table, Formula::current(0)), store(&mut table, [0, 2, 1, 0x10]));
+/// ```
+pub trait AsFormula {
+    /// The framed bytes.
+    fn framed(&self) -> &[u8];
+
+    /// The first number in it that has no byte; bytes have none such.
+    fn missing(&self) -> Option<Fault> {
+        None
+    }
 }
 
 impl Formula {
-    /// False, which holds in no state.
-    pub fn never() -> Formula {
+    /// False, which holds in no state; `Formula::from(false)` is the same.
+    ///
+    /// ```
+    /// assert_eq!(kudzuclamp::Formula::falsity().to_string(), "false");
+    /// ```
+    #[doc(alias = "false")]
+    pub fn falsity() -> Formula {
         Formula::leaf(token::FALSE)
     }
 
-    /// True, which holds in every state.
-    pub fn always() -> Formula {
+    /// True, which holds in every state; `Formula::from(true)` is the same.
+    ///
+    /// ```
+    /// assert_eq!(kudzuclamp::Formula::truth().to_string(), "true");
+    /// ```
+    #[doc(alias = "true")]
+    pub fn truth() -> Formula {
         Formula::leaf(token::TRUE)
     }
 
     /// Bit p of the current state, p from 0 to 15 and below the table's n.
+    ///
+    /// ```
+    /// assert_eq!(kudzuclamp::Formula::current(3).to_string(), "bit3");
+    /// ```
     pub fn current(p: u32) -> Formula {
-        Formula::leaf(numbered(token::CURRENT, MAX_BITS, p))
+        Formula::leaf(numbered(token::CURRENT, MAX_BITS, p, no_bit))
     }
 
     /// Bit p of the next state, p from 0 to 15 and below the table's n. Only relation calls take
     /// it.
+    ///
+    /// ```
+    /// assert_eq!(kudzuclamp::Formula::next(3).to_string(), "bit3'");
+    /// ```
     pub fn next(p: u32) -> Formula {
-        Formula::leaf(numbered(token::NEXT, MAX_BITS, p))
+        Formula::leaf(numbered(token::NEXT, MAX_BITS, p, no_bit))
     }
 
     /// Variable P, from 0 to 15, bound by [`mu`](Formula::mu) or [`nu`](Formula::nu).
+    ///
+    /// ```
+    /// assert_eq!(kudzuclamp::Formula::var(0).to_string(), "P0");
+    /// ```
     pub fn var(p: u32) -> Formula {
-        Formula::leaf(numbered(token::VARIABLE, VARIABLES, p))
+        Formula::leaf(numbered(
+            token::VARIABLE,
+            VARIABLES,
+            p,
+            FaultKind::NoVariable,
+        ))
     }
 
     /// The set in a register, from 0 to 31.
+    ///
+    /// ```
+    /// assert_eq!(kudzuclamp::Formula::register(5).to_string(), "set5");
+    /// ```
     pub fn register(r: u32) -> Formula {
-        Formula::leaf(numbered(token::REGISTER, REGISTERS, r))
+        Formula::leaf(numbered(
+            token::REGISTER,
+            REGISTERS,
+            r,
+            FaultKind::NoRegister,
+        ))
     }
 
     /// Box: the formula holds in every next state of relation t, from 0 to 7.
+    ///
+    /// ```
+    /// use kudzuclamp::Formula;
+    ///
+    /// assert_eq!(Formula::boxed(2, !Formula::current(0)).to_string(), "[2] !bit0");
+    /// ```
     pub fn boxed(t: u32, f: impl Borrow<Formula>) -> Formula {
-        Formula::operator(numbered(token::BOX, RELATIONS, t), &[f.borrow()])
+        Formula::operator(
+            numbered(token::BOX, RELATIONS, t, FaultKind::NoRelation),
+            &[f.borrow()],
+        )
     }
 
     /// Diamond: the formula holds in some next state of relation t, from 0 to 7.
+    ///
+    /// ```
+    /// use kudzuclamp::Formula;
+    ///
+    /// assert_eq!(Formula::diamond(2, Formula::register(1)).to_string(), "<2> set1");
+    /// ```
     pub fn diamond(t: u32, f: impl Borrow<Formula>) -> Formula {
-        Formula::operator(numbered(token::DIAMOND, RELATIONS, t), &[f.borrow()])
+        Formula::operator(
+            numbered(token::DIAMOND, RELATIONS, t, FaultKind::NoRelation),
+            &[f.borrow()],
+        )
     }
 
     /// The least set A that equals the formula with A as variable P, which stands somewhere in it:
     /// else the call is refused with [`Refusal::Vacuous`](crate::Refusal::Vacuous).
+    ///
+    /// ```
+    /// use kudzuclamp::Formula;
+    ///
+    /// let step = Formula::diamond(0, Formula::var(0));
+    /// assert_eq!(Formula::mu(0, Formula::register(1) | step).to_string(), "mu P0. set1 | <0> P0");
+    /// ```
     pub fn mu(p: u32, f: impl Borrow<Formula>) -> Formula {
-        Formula::operator(numbered(token::MU, VARIABLES, p), &[f.borrow()])
+        Formula::operator(
+            numbered(token::MU, VARIABLES, p, FaultKind::NoVariable),
+            &[f.borrow()],
+        )
     }
 
     /// The greatest set A that equals the formula with A as variable P, as for
     /// [`mu`](Formula::mu).
+    ///
+    /// ```
+    /// use kudzuclamp::Formula;
+    ///
+    /// let stays = Formula::boxed(0, Formula::var(0));
+    /// assert_eq!(Formula::nu(0, Formula::register(1) & stays).to_string(), "nu P0. set1 & [0] P0");
+    /// ```
     pub fn nu(p: u32, f: impl Borrow<Formula>) -> Formula {
-        Formula::operator(numbered(token::NU, VARIABLES, p), &[f.borrow()])
+        Formula::operator(
+            numbered(token::NU, VARIABLES, p, FaultKind::NoVariable),
+            &[f.borrow()],
+        )
     }
 
     /// Some run of relation t, from 0 to 7, comes to a state of g, and f holds in every state
@@ -108,7 +213,7 @@ impl Formula {
     /// none. The formula's version is 2, and only set calls take it.
     ///
     /// ```
-    /// use kudzuclamp::{Account, Formula, Refusal, Table};
+    /// use kudzuclamp::{Account, Formula, Refusal, Table, Target};
     ///
     /// # fn main() -> Result<(), Refusal> {
     /// // Presses can keep bit 1 set until bit 0 is set.
@@ -118,17 +223,17 @@ impl Formula {
     /// // A press may lead from any state to any: from 1 and 3 at once, from 2 by one press.
     /// let mut accounts = [Account::unlimited()];
     /// let mut room = Table::new(&mut accounts, 2, 100)?;
-    /// room.relation(0, Formula::always())?;
-    /// room.set(&mut accounts, 0, 0, 5, until.clone())?;
+    /// room.relation(0, Formula::truth())?;
+    /// room.set(&mut accounts, Target::register(0).rounds(5), until.clone())?;
     /// assert_eq!((room.count(0)?, room.member(0, 2)?), (3, true));
     /// // Relation calls refuse version 2.
-    /// assert_eq!(room.relation(1, until), Err(Refusal::Syntax));
+    /// assert_eq!(room.relation(1, until).unwrap_err(), Refusal::Syntax);
     /// # Ok(())
     /// # }
     /// ```
     pub fn until_some(t: u32, f: impl Borrow<Formula>, g: impl Borrow<Formula>) -> Formula {
         Formula::operator(
-            numbered(token::SOME_RUN, RELATIONS, t),
+            numbered(token::SOME_RUN, RELATIONS, t, FaultKind::NoRelation),
             &[f.borrow(), g.borrow()],
         )
     }
@@ -138,7 +243,7 @@ impl Formula {
     /// comes to g, or never comes there, does not do.
     ///
     /// ```
-    /// use kudzuclamp::{Account, Formula, Refusal, Table};
+    /// use kudzuclamp::{Account, Formula, Refusal, Table, Target};
     ///
     /// # fn main() -> Result<(), Refusal> {
     /// // Bit 0 is "microphone open", bit 1 is "song runs". The one press starts the song, which
@@ -151,14 +256,14 @@ impl Formula {
     /// // The microphone stays closed until the song starts.
     /// let until = Formula::until_every(0, !open, song);
     /// assert_eq!(until.as_bytes(), [0x00, 0x05, 0x02, 0x98, 0x02, 0x10, 0x11]);
-    /// room.set(&mut accounts, 0, 0, 5, until)?;
+    /// room.set(&mut accounts, Target::register(0).rounds(5), until)?;
     /// assert!(room.member(0, 0)? && !room.member(0, 1)?);
     /// # Ok(())
     /// # }
     /// ```
     pub fn until_every(t: u32, f: impl Borrow<Formula>, g: impl Borrow<Formula>) -> Formula {
         Formula::operator(
-            numbered(token::EVERY_RUN, RELATIONS, t),
+            numbered(token::EVERY_RUN, RELATIONS, t, FaultKind::NoRelation),
             &[f.borrow(), g.borrow()],
         )
     }
@@ -189,17 +294,44 @@ impl Formula {
     }
 
     /// Both hold, or neither.
+    ///
+    /// ```
+    /// use kudzuclamp::Formula;
+    ///
+    /// let both = Formula::current(0).iff(Formula::current(1));
+    /// assert_eq!(both.to_string(), "bit0 & bit1 | !bit0 & !bit1");
+    /// ```
     pub fn iff(&self, other: impl Borrow<Formula>) -> Formula {
         let other = other.borrow();
         (self & other) | (!self & !other)
     }
 
     /// Where this holds, the other does too.
+    ///
+    /// ```
+    /// use kudzuclamp::Formula;
+    ///
+    /// let then = Formula::current(0).implies(Formula::current(1));
+    /// assert_eq!(then.to_string(), "!bit0 | bit1");
+    /// ```
     pub fn implies(&self, other: impl Borrow<Formula>) -> Formula {
         !self | other
     }
 
-    /// All of the formulas hold; [`always`](Formula::always) where there are none. They keep their
+    /// If this holds, then the first; else the other.
+    ///
+    /// ```
+    /// use kudzuclamp::Formula;
+    ///
+    /// let (song, mic, echo) = (Formula::current(0), Formula::current(1), Formula::current(2));
+    /// assert_eq!(song.ite(mic, echo).to_string(), "bit0 & bit1 | !bit0 & bit2");
+    /// ```
+    #[doc(alias = "if_then_else")]
+    pub fn ite(&self, then: impl Borrow<Formula>, other: impl Borrow<Formula>) -> Formula {
+        (self & then) | (!self & other)
+    }
+
+    /// All of the formulas hold; [`truth`](Formula::truth) where there are none. They keep their
     /// order, and the ANDs are as few deep as they can be.
     ///
     /// ```
@@ -209,16 +341,28 @@ impl Formula {
     /// assert_eq!(off.to_string(), "!bit0 & !bit1 & (!bit2 & !bit3)");
     /// ```
     pub fn all<F: Borrow<Formula>>(parts: impl IntoIterator<Item = F>) -> Formula {
-        Formula::joined(token::AND, parts).unwrap_or_else(Formula::always)
+        Formula::joined(token::AND, parts).unwrap_or_else(Formula::truth)
     }
 
-    /// One of the formulas holds, or more; [`never`](Formula::never) where there are none. As
+    /// One of the formulas holds, or more; [`falsity`](Formula::falsity) where there are none. As
     /// [`all`](Formula::all).
+    ///
+    /// ```
+    /// use kudzuclamp::Formula;
+    ///
+    /// assert_eq!(Formula::any((0..3).map(Formula::current)).to_string(), "bit0 | bit1 | bit2");
+    /// ```
     pub fn any<F: Borrow<Formula>>(parts: impl IntoIterator<Item = F>) -> Formula {
-        Formula::joined(token::OR, parts).unwrap_or_else(Formula::never)
+        Formula::joined(token::OR, parts).unwrap_or_else(Formula::falsity)
     }
 
     /// The framed bytes.
+    ///
+    /// ```
+    /// use kudzuclamp::Formula;
+    ///
+    /// assert_eq!((!Formula::current(3)).as_bytes(), [0x00, 0x03, 0x01, 0x02, 0x13]);
+    /// ```
     #[must_use]
     pub fn as_bytes(&self) -> &[u8] {
         &self.framed
@@ -249,30 +393,59 @@ impl Formula {
         row.pop()
     }
 
-    fn leaf(token: u8) -> Formula {
-        Formula::operator(token, &[])
+    fn leaf(word: impl Into<Word>) -> Formula {
+        Formula::operator(word, &[])
     }
 
-    /// A token and the formulas below it.
-    fn operator(token: u8, parts: &[&Formula]) -> Formula {
+    /// A word and the formulas below it.
+    fn operator(word: impl Into<Word>, parts: &[&Formula]) -> Formula {
+        let Word { token, missing } = word.into();
         let size = 1 + parts.iter().map(|part| part.tokens().len()).sum::<usize>();
         let mut framed = Vec::with_capacity(FRAME + size);
         framed.extend(length_bytes(1 + size));
         framed.push((parts.iter().map(|part| part.version())).fold(version_of(token), u8::max));
+        let mut missing = missing.map(|kind| Fault { at: FRAME, kind });
         framed.push(token);
         for part in parts {
+            let moved = framed.len() - FRAME;
+            missing = missing.or(part.missing.map(|fault| Fault {
+                at: fault.at + moved,
+                ..fault
+            }));
             framed.extend_from_slice(part.tokens());
         }
-        Formula { framed }
+        Formula { framed, missing }
     }
 }
 
-/// The byte of number k in a range of tokens, or no token's where the range is too short.
-fn numbered(first: u8, count: u32, k: u32) -> u8 {
-    match u8::try_from(k) {
-        Ok(k) if u32::from(k) < count => first + k,
-        _ => token::NONE,
+/// A token, or no token's byte for a number that is missing.
+struct Word {
+    token: u8,
+    missing: Option<FaultKind>,
+}
+
+impl From<u8> for Word {
+    fn from(token: u8) -> Word {
+        let missing = None;
+        Word { token, missing }
     }
+}
+
+/// The word of number k in a range of tokens, or what is wrong where the range is too short.
+fn numbered(first: u8, count: u32, k: u32, missing: fn(u32) -> FaultKind) -> Word {
+    match u8::try_from(k) {
+        Ok(k) if u32::from(k) < count => (first + k).into(),
+        _ => Word {
+            token: token::NONE,
+            missing: Some(missing(k)),
+        },
+    }
+}
+
+/// What is wrong with a bit that no table has.
+pub(crate) fn no_bit(bit: u32) -> FaultKind {
+    let bits = MAX_BITS;
+    FaultKind::NoBit { bit, bits }
 }
 
 /// The least version that has the token.
@@ -295,12 +468,50 @@ impl AsRef<[u8]> for Formula {
     }
 }
 
+impl AsFormula for Formula {
+    fn framed(&self) -> &[u8] {
+        &self.framed
+    }
+
+    fn missing(&self) -> Option<Fault> {
+        self.missing
+    }
+}
+
+impl<F: AsFormula + ?Sized> AsFormula for &F {
+    fn framed(&self) -> &[u8] {
+        (**self).framed()
+    }
+
+    fn missing(&self) -> Option<Fault> {
+        (**self).missing()
+    }
+}
+
+impl AsFormula for [u8] {
+    fn framed(&self) -> &[u8] {
+        self
+    }
+}
+
+impl<const N: usize> AsFormula for [u8; N] {
+    fn framed(&self) -> &[u8] {
+        self
+    }
+}
+
+impl AsFormula for Vec<u8> {
+    fn framed(&self) -> &[u8] {
+        self
+    }
+}
+
 impl From<bool> for Formula {
     fn from(value: bool) -> Formula {
         if value {
-            Formula::always()
+            Formula::truth()
         } else {
-            Formula::never()
+            Formula::falsity()
         }
     }
 }
@@ -403,9 +614,9 @@ mod tests {
                 Formula::mu(0, Formula::mu(0, Formula::var(0))),
                 vec![0x70, 0x70, 0x30],
             ),
-            (Formula::boxed(0, Formula::always()), vec![0x60, 0x01]),
-            (Formula::boxed(0, Formula::never()), vec![0x60, 0x00]),
-            (Formula::diamond(0, Formula::always()), vec![0x68, 0x01]),
+            (Formula::boxed(0, Formula::truth()), vec![0x60, 0x01]),
+            (Formula::boxed(0, Formula::falsity()), vec![0x60, 0x00]),
+            (Formula::diamond(0, Formula::truth()), vec![0x68, 0x01]),
             (
                 Formula::current(0) & Formula::current(1),
                 vec![0x03, 0x10, 0x11],
@@ -420,14 +631,14 @@ mod tests {
 
     #[test]
     fn version_2_where_a_part_speaks_of_runs() {
-        let until = Formula::until_every(7, Formula::always(), Formula::current(0));
+        let until = Formula::until_every(7, Formula::truth(), Formula::current(0));
         assert_eq!(until.as_bytes(), [0, 4, 2, 0x9F, 0x01, 0x10]);
         let inside = Formula::var(0) & !until;
         assert_eq!(
             inside.as_bytes(),
             [0, 7, 2, 0x03, 0x30, 0x02, 0x9F, 0x01, 0x10]
         );
-        let none = Formula::until_some(8, Formula::always(), Formula::always());
+        let none = Formula::until_some(8, Formula::truth(), Formula::truth());
         assert_eq!(none.as_bytes(), [0, 4, 1, 0xFF, 0x01, 0x01]);
     }
 
@@ -441,8 +652,8 @@ mod tests {
             (Formula::register(31), vec![0x5F]),
             (Formula::boxed(7, Formula::from(true)), vec![0x67, 0x01]),
             (Formula::diamond(7, Formula::from(false)), vec![0x6F, 0x00]),
-            (Formula::mu(15, Formula::always()), vec![0x7F, 0x01]),
-            (Formula::nu(15, Formula::always()), vec![0x8F, 0x01]),
+            (Formula::mu(15, Formula::truth()), vec![0x7F, 0x01]),
+            (Formula::nu(15, Formula::truth()), vec![0x8F, 0x01]),
         ];
         for (formula, tokens) in cases {
             assert_eq!(formula.as_bytes(), framed(&tokens));
@@ -451,7 +662,7 @@ mod tests {
 
     #[test]
     fn numbers_without_a_byte() {
-        let x = Formula::always;
+        let x = Formula::truth;
         let past = [
             Formula::current(16),
             Formula::next(16),
@@ -471,7 +682,7 @@ mod tests {
 
     #[test]
     fn lengths() {
-        let mut formula = Formula::always();
+        let mut formula = Formula::truth();
         for _ in 0..1_022 {
             formula = !formula;
         }
@@ -532,15 +743,15 @@ mod tests {
     #[test]
     fn all_and_any() {
         let bits = |n: u32| (0..n).map(Formula::current);
-        assert_eq!(Formula::all(bits(0)), Formula::always());
-        assert_eq!(Formula::any(bits(0)), Formula::never());
+        assert_eq!(Formula::all(bits(0)), Formula::truth());
+        assert_eq!(Formula::any(bits(0)), Formula::falsity());
         assert_eq!(Formula::all(bits(1)), Formula::current(0));
         let three = [0x04, 0x04, 0x10, 0x11, 0x12];
         assert_eq!(Formula::any(bits(3)).as_bytes(), framed(&three));
         let list: Vec<Formula> = bits(5).collect();
         assert_eq!(Formula::all(&list), Formula::all(list.clone()));
         // 512 parts are 1,023 bytes, 10 deep.
-        let many = Formula::all((0..512).map(|_| Formula::always()));
+        let many = Formula::all((0..512).map(|_| Formula::truth()));
         assert_eq!(many.as_bytes().len(), 3 + 1_023);
         assert_eq!(many.as_bytes()[3..14], [3, 3, 3, 3, 3, 3, 3, 3, 3, 1, 1]);
     }

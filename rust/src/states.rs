@@ -1,5 +1,5 @@
 //! The states of a set, one after the other.
-use crate::table::BITS;
+use crate::layout::BITS;
 use crate::{abi, Refusal};
 
 /// How many states [`Table::members`](crate::Table::members) answers at once.

@@ -1,9 +1,7 @@
 //! The table over lent or owned words.
-use crate::{abi, Account, Refusal, States};
-
-/// The words of a sound table that have n and N.
-pub(crate) const BITS: usize = 0;
-const ROWS: usize = 1;
+use crate::check::{self, Call};
+use crate::layout::{BITS, ROWS};
+use crate::{abi, dot, Account, AsFormula, Names, Refusal, Refused, States, Target};
 
 /// The greatest number of state bits of a table.
 pub const MAX_BITS: u32 = 16;
@@ -55,11 +53,15 @@ pub struct Stored {
 /// from [`Table::fresh`]). Every call checks first that they are a sound table and refuses with
 /// [`Refusal::Unsound`] where they are none, so no words, numbers or bytes make a call misbehave.
 ///
+/// Memory is not wiped: lent words that the table does not need keep what they held before, and rows
+/// and results of earlier sets stay in the words until others are written over them. Lend none that
+/// hold what is not to be seen by those who get the words later.
+///
 /// The accounts, under which sets are made, are not the table's: they are lent at each call that
 /// takes them (see [`Account`]).
 ///
 /// ```
-/// use kudzuclamp::{Account, Formula, Refusal, Table};
+/// use kudzuclamp::{Account, Formula, Refusal, Table, Target};
 ///
 /// # fn main() -> Result<(), Refusal> {
 /// // One bit, the echo switch; each press turns it over.
@@ -70,7 +72,7 @@ pub struct Stored {
 /// // From which states can presses turn the echo on?
 /// let press = Formula::diamond(0, Formula::var(0));
 /// let reach = Formula::mu(0, Formula::current(0) | press);
-/// let stored = table.set(&mut accounts, 0, 0, 100, reach)?;
+/// let stored = table.set(&mut accounts, Target::register(0).rounds(100), reach)?;
 /// assert_eq!((stored.rounds, accounts[0].tally), (3, 3));
 /// assert_eq!(table.count(0)?, 2);
 /// // No step needed more than 4 rows: with 4 it is answered too, with 3 it is refused.
@@ -139,6 +141,20 @@ impl<W: AsRef<[u32]> + AsMut<[u32]>> Table<W> {
     /// # Errors
     ///
     /// As for [`Table::fresh`].
+    ///
+    /// ```
+    /// use kudzuclamp::{Account, Formula, Refusal, Refused, Table, Target};
+    ///
+    /// # fn main() -> Result<(), Refused> {
+    /// let mut accounts = [Account::unlimited()];
+    /// let mut table = Table::new(&mut accounts, 2, 10)?;
+    /// table.set(&mut accounts, Target::register(0), Formula::current(1))?;
+    /// table.restart(&mut accounts, 3, 5)?;
+    /// assert_eq!((table.bits()?, table.rows()?), (3, 5));
+    /// assert_eq!(table.count(0), Err(Refusal::Empty));
+    /// # Ok(())
+    /// # }
+    /// ```
     pub fn restart(&mut self, accounts: &mut [Account], n: u32, rows: u32) -> Result<(), Refusal> {
         abi::fresh(self.words.as_mut(), accounts, n, rows)
     }
@@ -151,7 +167,7 @@ impl<W: AsRef<[u32]> + AsMut<[u32]>> Table<W> {
     /// states.
     ///
     /// ```
-    /// use kudzuclamp::{Account, Formula, Refusal, Table};
+    /// use kudzuclamp::{Account, Formula, Refusal, Table, Target};
     ///
     /// # fn main() -> Result<(), Refusal> {
     /// let mut accounts = [Account::unlimited()];
@@ -159,9 +175,9 @@ impl<W: AsRef<[u32]> + AsMut<[u32]>> Table<W> {
     /// // A selector of three positions takes two bits, which are never both 1.
     /// let (low, high) = (Formula::current(0), Formula::current(1));
     /// table.valid(!(&low & &high))?;
-    /// table.set(&mut accounts, 0, 0, 0, !low)?;
+    /// table.set(&mut accounts, Target::register(0), !low)?;
     /// assert_eq!(table.count(0)?, 2);
-    /// assert_eq!(table.valid(Formula::always()), Err(Refusal::Occupied));
+    /// assert_eq!(table.valid(Formula::truth()).unwrap_err(), Refusal::Occupied);
     /// # Ok(())
     /// # }
     /// ```
@@ -169,8 +185,9 @@ impl<W: AsRef<[u32]> + AsMut<[u32]>> Table<W> {
     /// # Errors
     ///
     /// [`Refusal::Unsound`], [`Refusal::Occupied`], [`Refusal::Syntax`] or [`Refusal::Full`].
-    pub fn valid(&mut self, formula: impl AsRef<[u8]>) -> Result<(), Refusal> {
-        abi::valid(self.words.as_mut(), formula.as_ref())
+    pub fn valid(&mut self, formula: impl AsFormula) -> Result<(), Refused> {
+        abi::valid(self.words.as_mut(), formula.framed())
+            .map_err(|refusal| self.refused(Call::Valid, &formula, refusal))
     }
 
     /// Relation t, from 0 to 7, then holds exactly the pairs of states in which the formula holds.
@@ -192,38 +209,42 @@ impl<W: AsRef<[u32]> + AsMut<[u32]>> Table<W> {
     /// let Loaded { peak } = table.relation(0, &keeps)?;
     /// assert!(Table::new(&mut accounts, 1, peak)?.relation(0, &keeps).is_ok());
     /// let mut small = Table::new(&mut accounts, 1, peak - 1)?;
-    /// assert_eq!(small.relation(0, &keeps), Err(Refusal::Full));
+    /// assert_eq!(small.relation(0, &keeps).unwrap_err(), Refusal::Full);
     /// # Ok(())
     /// # }
     /// ```
-    pub fn relation(&mut self, t: u32, formula: impl AsRef<[u8]>) -> Result<Loaded, Refusal> {
-        abi::relation(self.words.as_mut(), t, formula.as_ref())
+    pub fn relation(&mut self, t: u32, formula: impl AsFormula) -> Result<Loaded, Refused> {
+        abi::relation(self.words.as_mut(), t, formula.framed())
+            .map_err(|refusal| self.refused(Call::Relation, &formula, refusal))
     }
 
-    /// Register r, from 0 to 31, then holds exactly the states in which the formula holds, found in
-    /// at most so many rounds and under the limits of the account at a place of the list. The rounds
-    /// are added to that account's tally; nothing else in the list is changed, and nothing at all
-    /// where the call is refused.
+    /// The [`Target`]'s register then holds exactly the states in which the formula holds, found in
+    /// at most its rounds and under the limits of its account, which it names by its place in the
+    /// list. The rounds made are added to that account's tally; nothing else in the list is changed,
+    /// and nothing at all where the call is refused.
     ///
     /// The formula is a [`Formula`](crate::Formula), or framed bytes from elsewhere.
     ///
     /// # Errors
     ///
-    /// [`Refusal::Unsound`], [`Refusal::Range`] (r is above 31), [`Refusal::Unlisted`],
+    /// [`Refusal::Unsound`], [`Refusal::Range`] (the register is above 31), [`Refusal::Unlisted`],
     /// [`Refusal::Syntax`], [`Refusal::Unbound`], [`Refusal::Vacuous`], [`Refusal::Odd`],
     /// [`Refusal::Empty`], [`Refusal::Full`] or [`Refusal::Spent`].
     ///
     /// ```
-    /// use kudzuclamp::{Account, Formula, Refusal, Table};
+    /// use kudzuclamp::{Account, Formula, Refusal, Refused, Table, Target};
     ///
-    /// # fn main() -> Result<(), Refusal> {
+    /// # fn main() -> Result<(), Refused> {
     /// let mut accounts = [Account::unlimited()];
     /// let mut table = Table::new(&mut accounts, 1, 100)?;
-    /// let all = table.set(&mut accounts, 0, 0, 1, [0, 3, 1, 0x80, 0x30])?;
+    /// let all = table.set(&mut accounts, Target::register(0).rounds(1), [0, 3, 1, 0x80, 0x30])?;
     /// assert_eq!((all.node, all.rounds, all.peak), (1, 1, 0));
+    ///
     /// let again = Formula::nu(0, Formula::var(0));
-    /// assert_eq!(table.set(&mut accounts, 0, 1, 0, &again), Err(Refusal::Spent));
-    /// assert_eq!(table.set(&mut accounts, 1, 1, 9, &again), Err(Refusal::Unlisted));
+    /// let spent = table.set(&mut accounts, Target::register(1).rounds(0), &again);
+    /// assert_eq!(spent.unwrap_err(), Refusal::Spent);
+    /// let unlisted = table.set(&mut accounts, Target::register(1).account(1), &again);
+    /// assert_eq!(unlisted.unwrap_err(), Refusal::Unlisted);
     /// assert_eq!(accounts[0].tally, 1);
     /// # Ok(())
     /// # }
@@ -231,21 +252,11 @@ impl<W: AsRef<[u32]> + AsMut<[u32]>> Table<W> {
     pub fn set(
         &mut self,
         accounts: &mut [Account],
-        place: usize,
-        r: u32,
-        most: u32,
-        formula: impl AsRef<[u8]>,
-    ) -> Result<Stored, Refusal> {
-        // No list that is taken has a place that does not fit.
-        let place = u32::try_from(place).unwrap_or(u32::MAX);
-        abi::set(
-            self.words.as_mut(),
-            accounts,
-            place,
-            r,
-            most,
-            formula.as_ref(),
-        )
+        target: Target,
+        formula: impl AsFormula,
+    ) -> Result<Stored, Refused> {
+        abi::set(self.words.as_mut(), accounts, target, formula.framed())
+            .map_err(|refusal| self.refused(Call::Set, &formula, refusal))
     }
 
     /// Empties register r; an empty one stays so.
@@ -253,6 +264,19 @@ impl<W: AsRef<[u32]> + AsMut<[u32]>> Table<W> {
     /// # Errors
     ///
     /// [`Refusal::Unsound`] or [`Refusal::Range`].
+    ///
+    /// ```
+    /// use kudzuclamp::{Account, Formula, Refusal, Refused, Table, Target};
+    ///
+    /// # fn main() -> Result<(), Refused> {
+    /// let mut accounts = [Account::unlimited()];
+    /// let mut table = Table::new(&mut accounts, 2, 10)?;
+    /// table.set(&mut accounts, Target::register(0), Formula::current(1))?;
+    /// table.clear(0)?;
+    /// assert_eq!(table.count(0), Err(Refusal::Empty));
+    /// # Ok(())
+    /// # }
+    /// ```
     pub fn clear(&mut self, r: u32) -> Result<(), Refusal> {
         abi::clear(self.words.as_mut(), r)
     }
@@ -262,6 +286,21 @@ impl<W: AsRef<[u32]> + AsMut<[u32]>> Table<W> {
     /// # Errors
     ///
     /// [`Refusal::Unsound`].
+    ///
+    /// ```
+    /// use kudzuclamp::{Account, Formula, Refusal, Refused, Table, Target};
+    ///
+    /// # fn main() -> Result<(), Refused> {
+    /// let mut accounts = [Account::unlimited()];
+    /// let mut table = Table::new(&mut accounts, 2, 10)?;
+    /// table.set(&mut accounts, Target::register(0), Formula::current(1))?;
+    /// // The bit takes one row.
+    /// assert_eq!(table.collect()?, 1);
+    /// table.clear(0)?;
+    /// assert_eq!(table.collect()?, 0);
+    /// # Ok(())
+    /// # }
+    /// ```
     pub fn collect(&mut self) -> Result<u32, Refusal> {
         abi::collect(self.words.as_mut())
     }
@@ -272,7 +311,7 @@ impl<W: AsRef<[u32]> + AsMut<[u32]>> Table<W> {
     /// no register, relation or account changes.
     ///
     /// ```
-    /// use kudzuclamp::{Account, Formula, Refusal, Table};
+    /// use kudzuclamp::{Account, Formula, Refusal, Table, Target};
     ///
     /// # fn main() -> Result<(), Refusal> {
     /// // Two switches; each press turns the second over, and the first where the second is on.
@@ -283,8 +322,8 @@ impl<W: AsRef<[u32]> + AsMut<[u32]>> Table<W> {
     /// let turned = !same(first.clone(), second.clone());
     /// table.relation(0, same(Formula::next(0), turned) & !same(Formula::next(1), second.clone()))?;
     /// // By which presses, from both off, are both on?
-    /// table.set(&mut accounts, 0, 0, 0, !(first.clone() | second.clone()))?;
-    /// table.set(&mut accounts, 0, 1, 0, first & second)?;
+    /// table.set(&mut accounts, Target::register(0), !(first.clone() | second.clone()))?;
+    /// table.set(&mut accounts, Target::register(1), first & second)?;
     /// assert_eq!(table.shortest(0, 1, 0)?, [0, 2, 1, 3]);
     /// # Ok(())
     /// # }
@@ -302,14 +341,14 @@ impl<W: AsRef<[u32]> + AsMut<[u32]>> Table<W> {
     /// with [`Refusal::Short`] where the list is too short for the run.
     ///
     /// ```
-    /// use kudzuclamp::{Account, Formula, Refusal, Table};
+    /// use kudzuclamp::{Account, Formula, Refusal, Table, Target};
     ///
     /// # fn main() -> Result<(), Refusal> {
     /// let mut accounts = [Account::unlimited()];
     /// let mut table = Table::new(&mut accounts, 1, 100)?;
     /// table.relation(0, Formula::next(0))?;
-    /// table.set(&mut accounts, 0, 0, 0, !Formula::current(0))?;
-    /// table.set(&mut accounts, 0, 1, 0, Formula::current(0))?;
+    /// table.set(&mut accounts, Target::register(0), !Formula::current(0))?;
+    /// table.set(&mut accounts, Target::register(1), Formula::current(0))?;
     /// let mut list = [7; 3];
     /// assert_eq!(table.write_shortest(&mut list[..1], 0, 1, 0), Err(Refusal::Short));
     /// assert_eq!(table.write_shortest(&mut list, 1, 0, 0), Err(Refusal::NoRun));
@@ -330,6 +369,19 @@ impl<W: AsRef<[u32]> + AsMut<[u32]>> Table<W> {
 
     /// The words, to change at will: the next call refuses with [`Refusal::Unsound`] where they are
     /// then no sound table.
+    ///
+    /// ```
+    /// use kudzuclamp::{Account, Formula, Refusal, Refused, Table, Target};
+    ///
+    /// # fn main() -> Result<(), Refused> {
+    /// let mut accounts = [Account::unlimited()];
+    /// let mut table = Table::new(&mut accounts, 2, 10)?;
+    /// table.set(&mut accounts, Target::register(0), Formula::current(1))?;
+    /// table.words_mut()[0] = 17;
+    /// assert_eq!(table.count(0), Err(Refusal::Unsound));
+    /// # Ok(())
+    /// # }
+    /// ```
     #[must_use]
     pub fn words_mut(&mut self) -> &mut [u32] {
         self.words.as_mut()
@@ -344,12 +396,12 @@ impl<W: AsRef<[u32]>> Table<W> {
     /// [`Refusal::Unsound`] where they are no sound table.
     ///
     /// ```
-    /// use kudzuclamp::{Account, Formula, Refusal, Table};
+    /// use kudzuclamp::{Account, Formula, Refusal, Table, Target};
     ///
     /// # fn main() -> Result<(), Refusal> {
     /// let mut accounts = [Account::unlimited()];
     /// let mut table = Table::new(&mut accounts, 2, 10)?;
-    /// table.set(&mut accounts, 0, 5, 0, Formula::current(1))?;
+    /// table.set(&mut accounts, Target::register(5), Formula::current(1))?;
     /// let words = table.into_words();
     /// assert_eq!(Table::over(words)?.count(5)?, 2);
     /// assert_eq!(Table::over(vec![0; 400]), Err(Refusal::Unsound));
@@ -360,6 +412,11 @@ impl<W: AsRef<[u32]>> Table<W> {
         let table = Table { words };
         table.sound()?;
         Ok(table)
+    }
+
+    /// The refusal of a call, with what is wrong with its formula.
+    fn refused(&self, call: Call, formula: &impl AsFormula, refusal: Refusal) -> Refused {
+        check::refused(self.words.as_ref(), call, formula, refusal)
     }
 
     /// The words, once the library has found that they are a sound table.
@@ -400,6 +457,20 @@ impl<W: AsRef<[u32]>> Table<W> {
     /// # Errors
     ///
     /// [`Refusal::Unsound`], [`Refusal::Range`] or [`Refusal::Empty`].
+    ///
+    /// ```
+    /// use kudzuclamp::{Account, Formula, Refusal, Refused, Table, Target};
+    ///
+    /// # fn main() -> Result<(), Refused> {
+    /// let mut accounts = [Account::unlimited()];
+    /// let mut table = Table::new(&mut accounts, 2, 10)?;
+    /// table.set(&mut accounts, Target::register(0), Formula::current(1))?;
+    /// // The same set has the same number.
+    /// table.set(&mut accounts, Target::register(1), !!Formula::current(1))?;
+    /// assert_eq!(table.node(0)?, table.node(1)?);
+    /// # Ok(())
+    /// # }
+    /// ```
     pub fn node(&self, r: u32) -> Result<u32, Refusal> {
         abi::node(self.words.as_ref(), r)
     }
@@ -409,6 +480,19 @@ impl<W: AsRef<[u32]>> Table<W> {
     /// # Errors
     ///
     /// [`Refusal::Unsound`], [`Refusal::Range`] (register or state) or [`Refusal::Empty`].
+    ///
+    /// ```
+    /// use kudzuclamp::{Account, Formula, Refusal, Refused, Table, Target};
+    ///
+    /// # fn main() -> Result<(), Refused> {
+    /// let mut accounts = [Account::unlimited()];
+    /// let mut table = Table::new(&mut accounts, 2, 10)?;
+    /// table.set(&mut accounts, Target::register(0), Formula::current(1))?;
+    /// assert!(table.member(0, 2)? && !table.member(0, 1)?);
+    /// assert_eq!(table.member(0, 4), Err(Refusal::Range));
+    /// # Ok(())
+    /// # }
+    /// ```
     pub fn member(&self, r: u32, state: u32) -> Result<bool, Refusal> {
         Ok(abi::member(self.words.as_ref(), r, state)? == 1)
     }
@@ -427,12 +511,12 @@ impl<W: AsRef<[u32]>> Table<W> {
     /// [`Refusal::Range`] (register or state) or [`Refusal::Empty`].
     ///
     /// ```
-    /// use kudzuclamp::{Account, Formula, Refusal, Table};
+    /// use kudzuclamp::{Account, Formula, Refusal, Table, Target};
     ///
     /// # fn main() -> Result<(), Refusal> {
     /// let mut accounts = [Account::unlimited()];
     /// let mut table = Table::new(&mut accounts, 2, 10)?;
-    /// table.set(&mut accounts, 0, 0, 0, Formula::current(1))?;
+    /// table.set(&mut accounts, Target::register(0), Formula::current(1))?;
     /// let (mut order, mut answers) = ([0; 4], [9; 4]);
     /// // Bit 0 is never asked, so one row is read once for all three.
     /// assert_eq!(table.members(0, &[3, 0, 3], &mut order, &mut answers)?, 1);
@@ -458,12 +542,12 @@ impl<W: AsRef<[u32]>> Table<W> {
     /// [`Refusal::Unsound`], [`Refusal::Range`] or [`Refusal::Empty`].
     ///
     /// ```
-    /// use kudzuclamp::{Account, Formula, Refusal, Table};
+    /// use kudzuclamp::{Account, Formula, Refusal, Table, Target};
     ///
     /// # fn main() -> Result<(), Refusal> {
     /// let mut accounts = [Account::unlimited()];
     /// let mut table = Table::new(&mut accounts, 3, 10)?;
-    /// table.set(&mut accounts, 0, 0, 0, Formula::current(0) & !Formula::current(1))?;
+    /// table.set(&mut accounts, Target::register(0), Formula::current(0) & !Formula::current(1))?;
     /// assert_eq!(table.states(0)?.collect::<Vec<u32>>(), [1, 5]);
     /// assert_eq!(table.states(1).err(), Some(Refusal::Empty));
     /// # Ok(())
@@ -478,6 +562,18 @@ impl<W: AsRef<[u32]>> Table<W> {
     /// # Errors
     ///
     /// [`Refusal::Unsound`], [`Refusal::Range`] or [`Refusal::Empty`].
+    ///
+    /// ```
+    /// use kudzuclamp::{Account, Formula, Refusal, Refused, Table, Target};
+    ///
+    /// # fn main() -> Result<(), Refused> {
+    /// let mut accounts = [Account::unlimited()];
+    /// let mut table = Table::new(&mut accounts, 2, 10)?;
+    /// table.set(&mut accounts, Target::register(0), Formula::current(1))?;
+    /// assert_eq!(table.count(0)?, 2);
+    /// # Ok(())
+    /// # }
+    /// ```
     pub fn count(&self, r: u32) -> Result<u32, Refusal> {
         abi::count(self.words.as_ref(), r)
     }
@@ -494,13 +590,16 @@ impl<W: AsRef<[u32]>> Table<W> {
     ///
     /// # fn main() -> Result<(), Refusal> {
     /// let table = Table::new(&mut [Account::unlimited()], 1, 100)?;
-    /// assert_eq!(table.check_set(Formula::mu(0, !Formula::var(0))), Err(Refusal::Odd));
-    /// assert_eq!(table.check_set(Formula::register(9)), Err(Refusal::Empty));
+    /// let refused = table.check_set(Formula::mu(0, !Formula::var(0))).unwrap_err();
+    /// assert_eq!(refused, Refusal::Odd);
+    /// let refused = table.check_set(Formula::register(9)).unwrap_err();
+    /// assert_eq!(refused.to_string(), "in the formula, byte 3: register 9 is empty");
     /// # Ok(())
     /// # }
     /// ```
-    pub fn check_set(&self, formula: impl AsRef<[u8]>) -> Result<(), Refusal> {
-        abi::check(self.words.as_ref(), false, formula.as_ref())
+    pub fn check_set(&self, formula: impl AsFormula) -> Result<(), Refused> {
+        abi::check(self.words.as_ref(), false, formula.framed())
+            .map_err(|refusal| self.refused(Call::Set, &formula, refusal))
     }
 
     /// The checks that a relation call makes of its formula, as [`Table::check_set`].
@@ -508,11 +607,90 @@ impl<W: AsRef<[u32]>> Table<W> {
     /// # Errors
     ///
     /// [`Refusal::Unsound`] or [`Refusal::Syntax`].
-    pub fn check_relation(&self, formula: impl AsRef<[u8]>) -> Result<(), Refusal> {
-        abi::check(self.words.as_ref(), true, formula.as_ref())
+    ///
+    /// ```
+    /// use kudzuclamp::{Account, Formula, Refusal, Table};
+    ///
+    /// # fn main() -> Result<(), Refusal> {
+    /// let table = Table::new(&mut [Account::unlimited()], 1, 100)?;
+    /// assert!(table.check_relation(Formula::turns(0)).is_ok());
+    /// assert_eq!(table.check_relation(Formula::var(0)).unwrap_err(), Refusal::Syntax);
+    /// # Ok(())
+    /// # }
+    /// ```
+    pub fn check_relation(&self, formula: impl AsFormula) -> Result<(), Refused> {
+        abi::check(self.words.as_ref(), true, formula.framed())
+            .map_err(|refusal| self.refused(Call::Relation, &formula, refusal))
+    }
+
+    /// The least state of the set in register r; none where it has no state.
+    ///
+    /// # Errors
+    ///
+    /// [`Refusal::Unsound`], [`Refusal::Range`] or [`Refusal::Empty`].
+    ///
+    /// ```
+    /// use kudzuclamp::{Account, Formula, Refused, Table, Target};
+    ///
+    /// # fn main() -> Result<(), Refused> {
+    /// let mut accounts = [Account::unlimited()];
+    /// let mut table = Table::new(&mut accounts, 3, 10)?;
+    /// table.set(&mut accounts, Target::register(0), Formula::current(1) & !Formula::current(0))?;
+    /// table.set(&mut accounts, Target::register(1), Formula::falsity())?;
+    /// assert_eq!((table.pick(0)?, table.pick(1)?), (Some(2), None));
+    /// # Ok(())
+    /// # }
+    /// ```
+    #[doc(alias = "pick_cube")]
+    #[doc(alias = "sat_witness")]
+    pub fn pick(&self, r: u32) -> Result<Option<u32>, Refusal> {
+        Ok(self.states(r)?.next())
+    }
+
+    /// The rows of the set in register r as a graph in the DOT language, for `dot -Tsvg`.
+    ///
+    /// A row has the name of its bit. Its solid arrow is for the bit's value 1, the dashed one for 0;
+    /// they lead on to the box 0, no state. A ring at an arrow's head is a NOT of all that it leads
+    /// to.
+    ///
+    /// # Errors
+    ///
+    /// [`Refusal::Unsound`], [`Refusal::Range`] or [`Refusal::Empty`].
+    ///
+    /// ```
+    /// use kudzuclamp::{Account, Formula, Names, Refused, Table, Target};
+    ///
+    /// # fn main() -> Result<(), Refused> {
+    /// let mut accounts = [Account::unlimited()];
+    /// let mut table = Table::new(&mut accounts, 2, 10)?;
+    /// table.set(&mut accounts, Target::register(0), !Formula::current(1))?;
+    /// let names = Names::new(["mic", "echo"]).unwrap();
+    /// let dot = table.to_dot(0, &names)?;
+    /// assert!(dot.starts_with("digraph set0 {\n"));
+    /// assert!(dot.contains("[label=\"echo\"]") && !dot.contains("mic"));
+    /// # Ok(())
+    /// # }
+    /// ```
+    #[doc(alias = "to_dot_string")]
+    #[doc(alias = "dump")]
+    pub fn to_dot(&self, r: u32, names: &Names) -> Result<String, Refusal> {
+        self.node(r)?;
+        Ok(dot::register(self.words.as_ref(), r, names))
     }
 
     /// The words.
+    ///
+    /// ```
+    /// use kudzuclamp::{Account, Formula, Refusal, Refused, Table, Target};
+    ///
+    /// # fn main() -> Result<(), Refused> {
+    /// let mut accounts = [Account::unlimited()];
+    /// let mut table = Table::new(&mut accounts, 2, 10)?;
+    /// table.set(&mut accounts, Target::register(0), Formula::current(1))?;
+    /// assert_eq!(table.words().len(), kudzuclamp::words_for(10));
+    /// # Ok(())
+    /// # }
+    /// ```
     #[must_use]
     pub fn words(&self) -> &[u32] {
         self.words.as_ref()

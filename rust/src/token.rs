@@ -18,10 +18,62 @@ pub const EVERY_RUN: u8 = 0x98;
 /// No token of the table: every call refuses it with 4.
 pub const NONE: u8 = 0xFF;
 
-/// A word of version 2.
-pub fn is_until(token: u8) -> bool {
-    (SOME_RUN..=LAST).contains(&token)
+/// How many variables have a byte.
+pub const VARIABLES: u32 = 16;
+
+/// Bytes before the formula: two of length and the version.
+pub const FRAME: usize = 3;
+/// The greatest number of bytes after the length, and the greatest depth, of a formula that a call takes.
+pub const MAX_LENGTH: usize = 1_024;
+pub const MAX_DEPTH: usize = 64;
+
+/// The tokens that have a number: the first, and how many follow each other.
+const NUMBERED: [(u8, u8); 10] = [
+    (CURRENT, 16),
+    (NEXT, 16),
+    (VARIABLE, 16),
+    (REGISTER, 32),
+    (BOX, 8),
+    (DIAMOND, 8),
+    (MU, 16),
+    (NU, 16),
+    (SOME_RUN, 8),
+    (EVERY_RUN, 8),
+];
+
+/// The kind of a token, by its first byte, and its number; none where no word has the byte.
+pub fn taken_apart(token: u8) -> Option<(u8, u32)> {
+    if token <= OR {
+        return Some((token, 0));
+    }
+    NUMBERED.into_iter().find_map(|(first, count)| {
+        let k = token.checked_sub(first)?;
+        (k < count).then_some((first, k.into()))
+    })
 }
 
-/// The last byte of the table.
-const LAST: u8 = 0x9F;
+/// How many formulas follow a token of a kind.
+pub fn parts(kind: u8) -> usize {
+    match kind {
+        AND | OR | SOME_RUN | EVERY_RUN => 2,
+        NOT | BOX | DIAMOND | MU | NU => 1,
+        _ => 0,
+    }
+}
+
+/// The depth of a whole formula; none where the bytes are no formula.
+pub fn depth(tokens: &[u8]) -> Option<usize> {
+    let mut depths: Vec<usize> = Vec::new();
+    for &token in tokens.iter().rev() {
+        let (kind, _) = taken_apart(token)?;
+        let below = depths.len().checked_sub(parts(kind))?;
+        let deepest = depths.drain(below..).max().unwrap_or(0);
+        depths.push(deepest + 1);
+    }
+    depths.pop().filter(|_| depths.is_empty())
+}
+
+/// A word of version 2.
+pub fn is_until(token: u8) -> bool {
+    matches!(taken_apart(token), Some((SOME_RUN | EVERY_RUN, _)))
+}

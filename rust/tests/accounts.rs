@@ -1,5 +1,5 @@
 //! Accounts through the library: limits, tallies, and what a refusal leaves.
-use kudzuclamp::{words_for, Account, Formula, Refusal, Stored, Table, MAX_ACCOUNTS};
+use kudzuclamp::{words_for, Account, Formula, Refusal, Stored, Table, Target, MAX_ACCOUNTS};
 
 /// n = 1 with relation 0 turning the bit over.
 fn turning(accounts: &mut [Account]) -> Table<Vec<u32>> {
@@ -22,7 +22,11 @@ fn rounds_go_to_the_account_that_is_named() {
     let mut table = turning(&mut accounts);
     for place in 0..MAX_ACCOUNTS {
         for _ in 0..=place {
-            let stored = table.set(&mut accounts, place, 0, 3, reach());
+            let stored = table.set(
+                &mut accounts,
+                Target::register(0).account(place).rounds(3),
+                reach(),
+            );
             let reached = Stored {
                 node: 1,
                 rounds: 3,
@@ -48,24 +52,52 @@ fn the_smaller_limits_hold() {
     let mut table = turning(&mut accounts);
     let before = accounts;
     assert_eq!(
-        table.set(&mut accounts, 1, 0, 9, reach()),
-        Err(Refusal::Full)
+        table
+            .set(
+                &mut accounts,
+                Target::register(0).account(1).rounds(9),
+                reach()
+            )
+            .unwrap_err(),
+        Refusal::Full
     );
     assert_eq!(
-        table.set(&mut accounts, 2, 0, 9, reach()),
-        Err(Refusal::Spent)
+        table
+            .set(
+                &mut accounts,
+                Target::register(0).account(2).rounds(9),
+                reach()
+            )
+            .unwrap_err(),
+        Refusal::Spent
     );
     assert_eq!(
-        table.set(&mut accounts, 0, 0, 2, reach()),
-        Err(Refusal::Spent)
+        table
+            .set(&mut accounts, Target::register(0).rounds(2), reach())
+            .unwrap_err(),
+        Refusal::Spent
     );
     assert_eq!(
-        table.set(&mut accounts, 3, 0, 9, Formula::current(0)),
-        Err(Refusal::Full)
+        table
+            .set(
+                &mut accounts,
+                Target::register(0).account(3).rounds(9),
+                Formula::current(0)
+            )
+            .unwrap_err(),
+        Refusal::Full
     );
     assert_eq!(accounts, before);
-    assert!(table.set(&mut accounts, 3, 0, 0, Formula::always()).is_ok());
-    assert!(table.set(&mut accounts, 0, 0, 9, reach()).is_ok());
+    assert!(table
+        .set(
+            &mut accounts,
+            Target::register(0).account(3),
+            Formula::truth()
+        )
+        .is_ok());
+    assert!(table
+        .set(&mut accounts, Target::register(0).rounds(9), reach())
+        .is_ok());
     assert_eq!(accounts.map(|account| account.tally), [3, 0, 0, 0]);
 }
 
@@ -79,13 +111,21 @@ fn lists_of_1_to_8_accounts() {
         let mut table = turning(&mut [Account::unlimited()]);
         for place in 0..count + 2 {
             let taken = fits && place < count;
-            let stored = table.set(&mut accounts, place, 0, 9, Formula::always());
+            let stored = table.set(
+                &mut accounts,
+                Target::register(0).account(place).rounds(9),
+                Formula::truth(),
+            );
             assert_eq!(stored.is_ok(), taken, "{count} accounts, place {place}");
-            assert!(taken || stored == Err(Refusal::Unlisted));
+            assert!(taken || stored == Err(Refusal::Unlisted.into()));
             assert_eq!(accounts, before);
         }
-        let far = table.set(&mut accounts, usize::MAX, 0, 9, Formula::always());
-        assert_eq!(far, Err(Refusal::Unlisted));
+        let far = table.set(
+            &mut accounts,
+            Target::register(0).account(usize::MAX).rounds(9),
+            Formula::truth(),
+        );
+        assert_eq!(far, Err(Refusal::Unlisted.into()));
         let fresh = table.restart(&mut accounts, 1, 100);
         assert_eq!(fresh.is_ok(), fits);
         let tally = if fits { 0 } else { 5 };
@@ -104,9 +144,23 @@ fn order_of_the_checks() {
     assert_eq!(words, vec![0; words_for(10)]);
 
     let mut table = turning(&mut accounts);
-    assert_eq!(table.set(&mut [], 0, 32, 0, []), Err(Refusal::Range));
-    assert_eq!(table.set(&mut [], 0, 31, 0, []), Err(Refusal::Unlisted));
-    assert_eq!(table.set(&mut accounts, 0, 31, 0, []), Err(Refusal::Syntax));
+    assert_eq!(
+        table.set(&mut [], Target::register(32), []).unwrap_err(),
+        Refusal::Range
+    );
+    assert_eq!(
+        table.set(&mut [], Target::register(31), []).unwrap_err(),
+        Refusal::Unlisted
+    );
+    assert_eq!(
+        table
+            .set(&mut accounts, Target::register(31), [])
+            .unwrap_err(),
+        Refusal::Syntax
+    );
     table.words_mut()[0] = 0;
-    assert_eq!(table.set(&mut [], 0, 32, 0, []), Err(Refusal::Unsound));
+    assert_eq!(
+        table.set(&mut [], Target::register(32), []).unwrap_err(),
+        Refusal::Unsound
+    );
 }

@@ -1,7 +1,7 @@
 //! The C header says the same as this crate: version, sizes, refusals and their texts.
 use kudzuclamp::{Refusal, MAX_ACCOUNTS, MAX_BITS, MAX_ROWS, REGISTERS, RELATIONS};
 
-const HEADER: &str = include_str!("../../include/kudzuclamp.h");
+const HEADER: &str = include_str!("../include/kudzuclamp.h");
 
 /// What a `#define` of a name without parameters stands for.
 fn defined(name: &str) -> &'static str {

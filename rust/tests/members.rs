@@ -1,11 +1,13 @@
 //! Many states asked at once, and the states of a set one after the other.
-use kudzuclamp::{Account, Formula, Refusal, Table, MAX_STATES};
+use kudzuclamp::{Account, Formula, Refusal, Table, Target, MAX_STATES};
 
 /// n bits with a set in register 0.
 fn holding(n: u32, formula: Formula) -> Table<Vec<u32>> {
     let mut accounts = [Account::unlimited()];
     let mut table = Table::new(&mut accounts, n, 1_000).unwrap();
-    table.set(&mut accounts, 0, 0, 0, formula).unwrap();
+    table
+        .set(&mut accounts, Target::register(0), formula)
+        .unwrap();
     table
 }
 
@@ -70,8 +72,8 @@ fn all_states_of_a_set() {
             (last.clone(), &is_last),
             (first.clone(), &|state| state % 2 == 1),
             (!first & last, &|state| state % 2 == 0 && is_last(state)),
-            (Formula::always(), &|_| true),
-            (Formula::never(), &|_| false),
+            (Formula::truth(), &|_| true),
+            (Formula::falsity(), &|_| false),
         ];
         for (formula, has) in cases {
             let table = holding(n, formula);

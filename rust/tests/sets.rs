@@ -1,27 +1,17 @@
 //! n, N and the states of sets, against the library's own answers; and the presses that `keeps` and
 //! `turns` write.
-use kudzuclamp::{Account, Formula, Refusal, Table, MAX_BITS, MAX_ROWS};
+mod common;
+
+use common::Drawn;
+use kudzuclamp::{Account, Formula, Refusal, Table, Target, MAX_BITS, MAX_ROWS};
 
 fn table(n: u32, rows: u32) -> Table<Vec<u32>> {
     Table::new(&mut [Account::unlimited()], n, rows).unwrap()
 }
 
 fn set(t: &mut Table<Vec<u32>>, r: u32, formula: &Formula) {
-    let stored = t.set(&mut [Account::unlimited()], 0, r, 1 << 20, formula);
+    let stored = t.set(&mut [Account::unlimited()], Target::register(r), formula);
     assert!(stored.is_ok(), "{formula}: {stored:?}");
-}
-
-/// Numbers of a small generator, each below a bound.
-struct Drawn(u64);
-
-impl Drawn {
-    fn below(&mut self, bound: u32) -> u32 {
-        self.0 = self
-            .0
-            .wrapping_mul(6364136223846793005)
-            .wrapping_add(1442695040888963407);
-        ((self.0 >> 33) % u64::from(bound)) as u32
-    }
 }
 
 /// A formula over current bits, so many operators deep at most.
@@ -62,8 +52,8 @@ fn states_are_the_members() {
             let members: Vec<u32> = (0..1 << n).filter(|&s| t.member(r, s).unwrap()).collect();
             assert!(t.states(r).unwrap().eq(members), "{formula}");
         }
-        set(&mut t, 0, &Formula::never());
-        set(&mut t, 1, &Formula::always());
+        set(&mut t, 0, &Formula::falsity());
+        set(&mut t, 1, &Formula::truth());
         assert_eq!(t.states(0).unwrap().count(), 0);
         assert!(t.states(1).unwrap().eq(0..1 << n));
     }
@@ -74,8 +64,8 @@ fn states_of_16_bits() {
     let mut t = table(16, MAX_ROWS);
     let odd = (0..16).map(Formula::current).reduce(|f, g| f ^ g);
     // Too long as one formula: 16 bits with `^` double at each.
-    assert_eq!(t.check_set(odd.unwrap()), Err(Refusal::Syntax));
-    set(&mut t, 0, &Formula::never());
+    assert_eq!(t.check_set(odd.unwrap()).unwrap_err(), Refusal::Syntax);
+    set(&mut t, 0, &Formula::falsity());
     for p in 0..16 {
         set(&mut t, 0, &(Formula::register(0) ^ Formula::current(p)));
     }

@@ -115,12 +115,38 @@ static void version(void)
     HOLDS(strcmp(parts, KUDZUCLAMP_VERSION) == 0);
 }
 
+/* "Memory is not wiped": words that fresh does not write keep what was there, and a set that is cleared leaves its rows. */
+static void memory(void)
+{
+    enum { ROWS = 10, BEFORE = 0x5EC2E7 };
+    static uint32_t words[KUDZUCLAMP_WORDS(ROWS)], cleared[KUDZUCLAMP_WORDS(ROWS)];
+    static const uint8_t bit[] = {0, 2, 1, KUDZUCLAMP_NOW(0)};
+    const size_t length = sizeof words / sizeof *words;
+    struct kudzuclamp_account account = {UINT32_MAX, UINT32_MAX, 0};
+    size_t i, kept = 0;
+    uint32_t node, rounds, peak;
+    for (i = 0; i < length; i++) {
+        words[i] = BEFORE;
+    }
+    HOLDS(kudzuclamp_fresh(words, length, &account, 1, 2, ROWS) == 0);
+    for (i = 0; i < length; i++) {
+        kept += words[i] == BEFORE;
+    }
+    HOLDS(kept > 0 && kept < length);
+    HOLDS(kudzuclamp_fresh(cleared, length, &account, 1, 2, ROWS) == 0);
+    memcpy(words, cleared, sizeof words);
+    HOLDS(kudzuclamp_set(cleared, length, &account, 1, 0, 0, 0, bit, sizeof bit, &node, &rounds, &peak) == 0);
+    HOLDS(kudzuclamp_clear(cleared, length, 0) == 0 && kudzuclamp_collect(cleared, length, &peak) == 0 && peak == 0);
+    HOLDS(memcmp(words, cleared, sizeof words) != 0);
+}
+
 int main(void)
 {
     tokens();
     frames();
     calls();
     texts();
+    memory();
     version();
     return failed;
 }

@@ -3,7 +3,7 @@ use crate::plan::{Asking, Plan, Store, ANSWER, FIRST, INNER, SECOND, START};
 use crate::room::{Asked, Question, Room, State};
 use crate::valid;
 use crate::walk::{members, Run, Set, Sets, Walk};
-use kudzuclamp::{Account, Refusal, Table};
+use kudzuclamp::{Account, Refusal, Refused, Table, Target};
 
 /// The states of the longest run that is asked of the library as well.
 const LONGEST: usize = 200;
@@ -54,6 +54,12 @@ pub struct Asker<'a> {
 enum Halt {
     Refused(Refusal),
     Differs(Difference),
+}
+
+impl From<Refused> for Halt {
+    fn from(refused: Refused) -> Halt {
+        Halt::from(refused.refusal())
+    }
 }
 
 impl From<Refusal> for Halt {
@@ -112,9 +118,8 @@ impl<'a> Asker<'a> {
 
     fn store(&mut self, set: &Store) -> Result<(), Halt> {
         let accounts = &mut [Account::unlimited()];
-        let stored = self
-            .table
-            .set(accounts, 0, set.place, self.limits.rounds, &set.formula)?;
+        let target = Target::register(set.place).rounds(self.limits.rounds);
+        let stored = self.table.set(accounts, target, &set.formula)?;
         self.peak = self.peak.max(stored.peak);
         Ok(())
     }

@@ -307,7 +307,7 @@ mod tests {
                 let found = formula_fault(&bytes, n, relation);
                 assert_eq!(
                     found.is_some(),
-                    checked == Err(Refusal::Syntax),
+                    checked.is_err_and(|refused| refused == Refusal::Syntax),
                     "{bytes:X?} {found:?} {checked:?}"
                 );
                 faults += usize::from(found.is_none());

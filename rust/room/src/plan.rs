@@ -170,7 +170,7 @@ fn until(relations: u32, f: &Formula, g: &Formula) -> Formula {
     if relations == 1 {
         return Formula::until_every(0, f, g);
     }
-    let goes_on = every(relations, &Formula::var(0)) & some(relations, &Formula::always());
+    let goes_on = every(relations, &Formula::var(0)) & some(relations, &Formula::truth());
     Formula::mu(0, g | (f & goes_on))
 }
 

@@ -57,7 +57,7 @@ fn at_most(part: &Part, most: u32, bit: fn(u32) -> Formula) -> Formula {
             (_, Some(rest)) => Some(!b & rest),
         };
     }
-    holds.unwrap_or_else(Formula::always)
+    holds.unwrap_or_else(Formula::truth)
 }
 
 #[cfg(test)]
@@ -65,13 +65,14 @@ mod tests {
     use super::{at_most, states};
     use crate::read::read;
     use crate::room::{width_of, Part};
-    use kudzuclamp::{Account, Formula, Table};
+    use kudzuclamp::{Account, Formula, Table, Target};
 
     /// The states of a formula, by the library.
     fn members(n: u32, formula: Formula) -> Vec<u32> {
         let mut accounts = [Account::unlimited()];
         let mut table = Table::new(&mut accounts, n, 10_000).unwrap();
-        table.set(&mut accounts, 0, 0, 0, formula).unwrap();
+        let target = Target::register(0);
+        table.set(&mut accounts, target, formula).unwrap();
         table.states(0).unwrap().collect()
     }
 

@@ -349,7 +349,7 @@ fn damaged_plans_are_found() {
         assert!(asked(&bad).is_err());
     }
     let mut bad = good.clone();
-    bad.relations[0].formula = kudzuclamp::Formula::never();
+    bad.relations[0].formula = kudzuclamp::Formula::falsity();
     assert!(asked(&bad).is_err());
     // What is no formula is told, too, and is no missing verdict.
     let mut bad = good.clone();

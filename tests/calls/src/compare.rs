@@ -3,7 +3,7 @@
 use crate::kept;
 use crate::sound::sound;
 use crate::words::{Words, FIRST_REGISTER, FIRST_RELATION, VALID};
-use kudzuclamp::{Loaded, Refusal, Stored, Table};
+use kudzuclamp::{Loaded, Refusal, Stored, Table, Target};
 use reference::accounts::Account;
 use reference::book::{Answer, Book, Call, REGISTERS};
 use reference::formula::{self, Kind};
@@ -50,18 +50,26 @@ pub fn make(
     let plain = |value: u32| Answer::plain(value.into());
     let none = |()| Answer::plain(0);
     let result = match call {
-        Call::Relation { t, formula } => table.relation(*t as u32, formula).map(loaded),
+        Call::Relation { t, formula } => {
+            let answer = table.relation(*t as u32, formula);
+            answer.map(loaded).map_err(Refusal::from)
+        }
         Call::Set {
             place,
             r,
             rounds,
             formula,
         } => {
-            let answer = table.set(accounts, *place as usize, *r as u32, *rounds, formula);
-            answer.map(stored)
+            let target = Target {
+                register: *r as u32,
+                account: *place as usize,
+                rounds: *rounds,
+            };
+            let answer = table.set(accounts, target, formula);
+            answer.map(stored).map_err(Refusal::from)
         }
         Call::Clear { r } => table.clear(*r as u32).map(none),
-        Call::Valid { formula } => table.valid(formula).map(none),
+        Call::Valid { formula } => table.valid(formula).map(none).map_err(Refusal::from),
         Call::Collect => table.collect().map(plain),
         Call::Node { r } => table.node(*r as u32).map(plain),
         Call::Member { r, state } => {
@@ -83,10 +91,10 @@ fn stored(stored: Stored) -> Answer {
     Answer::counted(stored.rounds, stored.peak as usize, node)
 }
 
-pub fn number_of<T>(result: &Result<T, Refusal>) -> u8 {
+pub fn number_of<T, R: Copy + Into<Refusal>>(result: &Result<T, R>) -> u8 {
     match result {
         Ok(_) => 0,
-        Err(refusal) => refusal.number() as u8,
+        Err(refusal) => (*refusal).into().number() as u8,
     }
 }
 

@@ -4,7 +4,7 @@
 use calls::call::draw_call;
 use calls::list::Step;
 use calls::run::Runner;
-use kudzuclamp::{Formula, Refusal, Table};
+use kudzuclamp::{Formula, Refusal, Table, Target};
 use reference::accounts::Account;
 use reference::book::{words_for, Call};
 use reference::formula::frame;
@@ -183,11 +183,23 @@ fn order_of_the_checks() {
         &mut accounts,
         &mut [kudzuclamp::Account::unlimited(); 9],
     ] {
-        let past = list.len();
-        assert_eq!(table.set(list, past, 32, 0, []), Err(Refusal::Range));
-        assert_eq!(table.set(list, past, 31, 0, []), Err(Refusal::Unlisted));
+        let past = Target::register(31).account(list.len());
+        let range = table.set(
+            list,
+            Target {
+                register: 32,
+                ..past
+            },
+            [],
+        );
+        assert_eq!(range.unwrap_err(), Refusal::Range);
+        assert_eq!(table.set(list, past, []).unwrap_err(), Refusal::Unlisted);
     }
-    let mut set = |bytes: &[u8]| table.set(&mut accounts, 0, 31, 0, bytes);
+    let target = Target::register(31).rounds(0);
+    let mut set = |bytes: &[u8]| {
+        let stored = table.set(&mut accounts, target, bytes);
+        stored.map_err(Refusal::from)
+    };
     assert_eq!(set(&[]), Err(Refusal::Syntax));
     assert_eq!(set(&frame(&[0x30])), Err(Refusal::Unbound));
     assert_eq!(set(&frame(&[0x70, 0x02, 0x30])), Err(Refusal::Odd));
@@ -218,7 +230,7 @@ fn only_an_answered_set_changes_an_account() {
         assert_eq!(set(&mut runner, place, rounds, body), number);
         assert_eq!(runner.accounts(), before, "{number}");
     }
-    let wide = Formula::always().as_bytes().to_vec();
+    let wide = Formula::truth().as_bytes().to_vec();
     for call in [
         Call::Set {
             place: 0,

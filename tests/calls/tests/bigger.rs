@@ -74,16 +74,24 @@ fn draw(random: &mut Random) -> Answered {
             calls.push(call);
         }
     }
-    Answered { n, rows, accounts, calls }
+    Answered {
+        n,
+        rows,
+        accounts,
+        calls,
+    }
 }
 
 /// What draws a call: the book that the words stand for, and the accounts.
 fn stood(unit: &Unit) -> (Book, Vec<reference::accounts::Account>) {
-    let lent = unit.accounts.iter().map(|account| reference::accounts::Account {
-        rows: account.rows,
-        rounds: account.rounds,
-        tally: account.tally,
-    });
+    let lent = unit
+        .accounts
+        .iter()
+        .map(|account| reference::accounts::Account {
+            rows: account.rows,
+            rounds: account.rounds,
+            tally: account.tally,
+        });
     (Words(unit.table.words()).book(), lent.collect())
 }
 
@@ -100,7 +108,12 @@ fn raised(random: &mut Random, limit: u32, most: u32) -> u32 {
 /// The same call with R raised or equal.
 fn eased(random: &mut Random, call: &Call) -> Call {
     match call.clone() {
-        Call::Set { place, r, rounds, formula } => Call::Set {
+        Call::Set {
+            place,
+            r,
+            rounds,
+            formula,
+        } => Call::Set {
             place,
             r,
             rounds: raised(random, rounds, u32::MAX),
@@ -143,7 +156,11 @@ fn answered_lists_in_larger_tables() {
             assert_eq!(wanted.number, 0, "drawn as answered: {call:?}");
             let again = eased(&mut random, call);
             let got = large.make(&again);
-            assert_eq!(told(call, got), told(call, wanted), "{call:?} with {rows} rows");
+            assert_eq!(
+                told(call, got),
+                told(call, wanted),
+                "{call:?} with {rows} rows"
+            );
             assert_eq!(large.same_nodes(), small.same_nodes(), "after {call:?}");
             compared += 1;
         }

@@ -4,7 +4,7 @@
 use calls::list::Step;
 use calls::run::Runner;
 use calls::writer::{frame, nots, tree, untils, write, Plan};
-use kudzuclamp::{Account, Refusal, Table};
+use kudzuclamp::{Account, Refusal, Table, Target};
 use reference::book::{words_for, Call};
 use reference::formula::{frame_as, Kind};
 use reference::random::Random;
@@ -308,11 +308,12 @@ fn order_of_the_checks() {
 fn range_before_formula() {
     let mut accounts = [Account::unlimited()];
     let mut table = Table::new(&mut accounts, 1, 10).unwrap();
-    let mut set = |table: &mut Table<Vec<u32>>, r| table.set(&mut accounts, 0, r, 0, []);
-    assert_eq!(set(&mut table, 32), Err(Refusal::Range));
-    assert_eq!(table.relation(8, []), Err(Refusal::Range));
-    assert_eq!(set(&mut table, 31), Err(Refusal::Syntax));
-    assert_eq!(table.relation(7, []), Err(Refusal::Syntax));
+    let mut set =
+        |table: &mut Table<Vec<u32>>, r| table.set(&mut accounts, Target::register(r), []);
+    assert_eq!(set(&mut table, 32).unwrap_err(), Refusal::Range);
+    assert_eq!(table.relation(8, []).unwrap_err(), Refusal::Range);
+    assert_eq!(set(&mut table, 31).unwrap_err(), Refusal::Syntax);
+    assert_eq!(table.relation(7, []).unwrap_err(), Refusal::Syntax);
     assert_eq!(table.member(0, 2), Err(Refusal::Range));
     assert_eq!(table.member(0, 1), Err(Refusal::Empty));
 }

@@ -90,7 +90,7 @@ fn refuses(words: &[u32]) {
             true => table.check_relation([]),
             false => table.check_set([]),
         };
-        assert_eq!(got, Err(Refusal::Unsound));
+        assert_eq!(got, Err(Refusal::Unsound.into()));
     }
 }
 

@@ -1,14 +1,14 @@
 //! Which words each refusal keeps: 8 and 9 the registers, the relations and every register's set and
 //! number; all others every word. Words past the table are never changed.
 
-use kudzuclamp::{words_for, Account, Formula, Refusal, Stored, Table};
+use kudzuclamp::{words_for, Account, AsFormula, Formula, Refusal, Refused, Stored, Table, Target};
 
 const GUARD: u32 = 0xFEED_BEEF;
 const PAST: usize = 50;
 
 /// n = 2 with so many rows, guard words past the table, registers 0 to 2 and relation 0 filled;
 /// refused where the rows are too few.
-fn try_room(rows: u32) -> Result<Table<Vec<u32>>, Refusal> {
+fn try_room(rows: u32) -> Result<Table<Vec<u32>>, Refused> {
     let words = vec![GUARD; words_for(rows) + PAST];
     let mut table = Table::fresh(words, &mut [Account::unlimited()], 2, rows)?;
     let (open, echo) = (Formula::current(0), Formula::current(1));
@@ -27,9 +27,10 @@ fn set(
     table: &mut Table<Vec<u32>>,
     r: u32,
     most: u32,
-    formula: impl AsRef<[u8]>,
-) -> Result<Stored, Refusal> {
-    table.set(&mut [Account::unlimited()], 0, r, most, formula)
+    formula: impl AsFormula,
+) -> Result<Stored, Refused> {
+    let target = Target::register(r).rounds(most);
+    table.set(&mut [Account::unlimited()], target, formula)
 }
 
 fn restart(table: &mut Table<Vec<u32>>, n: u32, rows: u32) -> Result<(), Refusal> {
@@ -58,13 +59,13 @@ fn assert_guards(table: &Table<Vec<u32>>, rows: u32) {
 }
 
 /// Makes a call that is refused and keeps all words.
-fn keeps_all<T: std::fmt::Debug + PartialEq>(
+fn keeps_all<T: std::fmt::Debug + PartialEq, R: Into<Refusal>>(
     refusal: Refusal,
-    call: impl Fn(&mut Table<Vec<u32>>) -> Result<T, Refusal>,
+    call: impl Fn(&mut Table<Vec<u32>>) -> Result<T, R>,
 ) {
     let mut table = room(100);
     let before = table.words().to_vec();
-    assert_eq!(call(&mut table), Err(refusal));
+    assert_eq!(call(&mut table).map_err(R::into), Err(refusal));
     assert_eq!(table.words(), before);
 }
 
@@ -87,10 +88,13 @@ fn fourteen() {
     for count in [0, 9, 100] {
         let accounts = || vec![Account::unlimited(); count];
         keeps_all(Refusal::Unlisted, |t| t.restart(&mut accounts(), 2, 5));
-        keeps_all(Refusal::Unlisted, |t| t.set(&mut accounts(), 0, 0, 9, []));
+        keeps_all(Refusal::Unlisted, |t| {
+            t.set(&mut accounts(), Target::register(0), [])
+        });
     }
     keeps_all(Refusal::Unlisted, |t| {
-        t.set(&mut [Account::unlimited(); 8], 8, 0, 9, Formula::always())
+        let past = Target::register(0).account(8);
+        t.set(&mut [Account::unlimited(); 8], past, Formula::truth())
     });
 }
 
@@ -102,10 +106,13 @@ fn two() {
         table.words_mut()[place] = value;
         let before = table.words().to_vec();
         assert_eq!(
-            set(&mut table, 0, 9, Formula::always()),
-            Err(Refusal::Unsound)
+            set(&mut table, 0, 9, Formula::truth()),
+            Err(Refusal::Unsound.into())
         );
-        assert_eq!(table.relation(0, Formula::never()), Err(Refusal::Unsound));
+        assert_eq!(
+            table.relation(0, Formula::falsity()),
+            Err(Refusal::Unsound.into())
+        );
         assert_eq!(table.clear(0), Err(Refusal::Unsound));
         assert_eq!(table.collect(), Err(Refusal::Unsound));
         assert_eq!(table.words(), before, "word {place}");
@@ -116,8 +123,8 @@ fn two() {
 #[test]
 fn three_to_seven_and_twelve() {
     let var = || Formula::var(0);
-    keeps_all(Refusal::Range, |t| set(t, 32, 9, Formula::always()));
-    keeps_all(Refusal::Range, |t| t.relation(8, Formula::always()));
+    keeps_all(Refusal::Range, |t| set(t, 32, 9, Formula::truth()));
+    keeps_all(Refusal::Range, |t| t.relation(8, Formula::truth()));
     keeps_all(Refusal::Range, |t| t.clear(32));
     keeps_all(Refusal::Range, |t| t.member(0, 4));
     keeps_all(Refusal::Syntax, |t| set(t, 0, 9, Formula::next(0)));
@@ -128,7 +135,7 @@ fn three_to_seven_and_twelve() {
     keeps_all(Refusal::Odd, |t| set(t, 0, 9, Formula::nu(0, !var())));
     keeps_all(Refusal::Empty, |t| set(t, 0, 9, Formula::register(9)));
     keeps_all(Refusal::Empty, |t| {
-        set(t, 0, 9, Formula::boxed(7, Formula::always()))
+        set(t, 0, 9, Formula::boxed(7, Formula::truth()))
     });
     keeps_all(Refusal::Empty, |t| t.count(9));
 }
@@ -149,7 +156,7 @@ fn large() -> (Formula, Formula) {
 /// Makes a call; where it is refused with 8 all contents are kept.
 fn full_keeps<T>(
     table: &mut Table<Vec<u32>>,
-    call: impl Fn(&mut Table<Vec<u32>>) -> Result<T, Refusal>,
+    call: impl Fn(&mut Table<Vec<u32>>) -> Result<T, Refused>,
 ) -> bool {
     let before = contents(table);
     match call(table) {
@@ -190,7 +197,7 @@ fn nine() {
     assert!(needed > 2);
     let before = contents(&table);
     for most in 0..needed {
-        assert_eq!(set(&mut table, 0, most, &reach), Err(Refusal::Spent));
+        assert_eq!(set(&mut table, 0, most, &reach), Err(Refusal::Spent.into()));
         assert_eq!(contents(&table), before);
     }
     assert_eq!(set(&mut table, 0, needed, &reach).unwrap().rounds, needed);

@@ -4,7 +4,7 @@
 
 use calls::draw::draw_and_run;
 use calls::run::empty_table;
-use kudzuclamp::{Account, Formula, Refusal, Table};
+use kudzuclamp::{Account, Formula, Refusal, Table, Target};
 use reference::book::{Book, REGISTERS, RELATIONS};
 use reference::members::{members, Members, MAX_STATES};
 use reference::random::Random;
@@ -109,10 +109,18 @@ fn draw_table(random: &mut Random, n: u32) -> (Table<Vec<u32>>, Book) {
     let (formula, set) = draw_set(random, n, size);
     let mut accounts = [Account::unlimited()];
     let mut table = Table::new(&mut accounts, n, 20_000).unwrap();
-    table.set(&mut accounts, 0, 3, 0, formula).unwrap();
+    table
+        .set(&mut accounts, Target::register(3), formula)
+        .unwrap();
     let mut registers = vec![None; REGISTERS];
     registers[3] = Some(set);
-    let book = Book::with(n, 20_000, StateSet::constant(n, true), registers, vec![None; RELATIONS]);
+    let book = Book::with(
+        n,
+        20_000,
+        StateSet::constant(n, true),
+        registers,
+        vec![None; RELATIONS],
+    );
     (table, book)
 }
 
@@ -221,10 +229,7 @@ fn all_states_at_once() {
             assert!(reads <= states.iter().map(singly).sum());
             let count: u32 = answers.iter().map(|&one| u32::from(one)).sum();
             assert_eq!(Ok(count), table.count(3));
-            assert!(table
-                .states(3)
-                .unwrap()
-                .all(|s| answers[s as usize] == 1));
+            assert!(table.states(3).unwrap().all(|s| answers[s as usize] == 1));
             if n < 10 {
                 states.extend_from_within(..);
                 let again = table.members(3, &states, &mut order, &mut answers);
@@ -241,7 +246,7 @@ fn only_bits_that_rows_ask_count() {
     let mut accounts = [Account::unlimited()];
     let mut table = Table::new(&mut accounts, 2, 10).unwrap();
     table
-        .set(&mut accounts, 0, 0, 0, Formula::current(1))
+        .set(&mut accounts, Target::register(0), Formula::current(1))
         .unwrap();
     let (mut order, mut answers) = ([0; 2], [9; 2]);
     assert_eq!(table.members(0, &[1, 0], &mut order, &mut answers), Ok(1));

@@ -6,7 +6,7 @@ use calls::kept;
 use calls::sound::sound;
 use calls::words::Words;
 use calls::writer::{counter, frame, rules, write, Plan};
-use kudzuclamp::{words_for, Account, Refusal, Table};
+use kudzuclamp::{words_for, Account, Refusal, Table, Target};
 use reference::book::Book;
 use reference::formula::Kind;
 use reference::random::Random;
@@ -55,13 +55,7 @@ impl Room {
     }
 
     /// The states that exist are those of a formula (Slip 6).
-    fn within(
-        n: u32,
-        rows: u64,
-        valid: &[u8],
-        relation: &[u8],
-        sets: [&[u8]; 2],
-    ) -> Option<Room> {
+    fn within(n: u32, rows: u64, valid: &[u8], relation: &[u8], sets: [&[u8]; 2]) -> Option<Room> {
         let mut accounts = [Account::unlimited()];
         let mut table = Table::new(&mut accounts, n, rows as u32).expect("sizes fit");
         let mut plenty = [reference::accounts::Account::LARGEST];
@@ -72,7 +66,9 @@ impl Room {
         table.relation(0, relation).ok()?;
         book.relation(0, relation).expect("as the table");
         for (r, set) in sets.into_iter().enumerate() {
-            table.set(&mut accounts, 0, r as u32, 0, set).ok()?;
+            table
+                .set(&mut accounts, Target::register(r as u32), set)
+                .ok()?;
             let stored = book.set(&mut plenty, 0, r as u64, 0, set);
             stored.expect("as the table");
         }
@@ -255,7 +251,14 @@ fn longest() {
     let relation = frame(&counter(4, true));
     let sets = [frame(&state(4, 0x10, 0)), frame(&state(4, 0x10, 15))];
     let all = frame(&[0x01]);
-    compare_room(&mut random, &mut seen, 4, &all, &relation, [&sets[0], &sets[1]]);
+    compare_room(
+        &mut random,
+        &mut seen,
+        4,
+        &all,
+        &relation,
+        [&sets[0], &sets[1]],
+    );
     assert_eq!(seen.longest, 16);
     let mut room = Room::new(4, 100, &relation, [&sets[0], &sets[1]]).unwrap();
     let all: Vec<u16> = (0..16).collect();

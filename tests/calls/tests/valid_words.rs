@@ -48,11 +48,11 @@ fn any_valid_set() {
             changed[VALID] = any_arrow(&mut random, &words) + 1;
             // Few roots, so that all of them may lie within V.
             let emptied = random.below(100);
-            for place in FIRST_REGISTER..ROOTS_END {
+            for word in &mut changed[FIRST_REGISTER..ROOTS_END] {
                 if random.below(100) < emptied {
-                    changed[place] = 0;
+                    *word = 0;
                 } else if random.chance(10) {
-                    changed[place] = any_arrow(&mut random, &words) + 1;
+                    *word = any_arrow(&mut random, &words) + 1;
                 }
             }
             judge(&changed, &mut counts);
@@ -113,7 +113,7 @@ impl Maker {
         self.words[HEADER + ROW * rows + row] = row as u32;
         self.words[USED] += 1;
         self.made.insert(key, 2 * (row as u32 + 1));
-        2 * (row as u32 + 1) ^ mark
+        (2 * (row as u32 + 1)) ^ mark
     }
 
     fn level(&self, at: u32) -> u32 {
@@ -149,10 +149,7 @@ impl Maker {
     /// Arrows over some of the levels, from the last up to the first.
     fn arrows(&mut self, random: &mut Random, step: usize, each: u64) -> Vec<u32> {
         let mut arrows = vec![0, 1];
-        for level in (0..2 * self.words[BITS])
-            .rev()
-            .filter(|l| *l as usize % step == 0)
-        {
+        for level in (0..2 * self.words[BITS]).step_by(step).rev() {
             let below = arrows.clone();
             for _ in 0..each {
                 let [low, high] = [(); 2].map(|()| random.pick(&below));

@@ -1,7 +1,7 @@
 //! "Returned: number, zeros": what a refused call writes into its answers. The wrapper gives no
 //! answers with a refusal, so the entry points of include/kudzuclamp.h are called directly.
 
-use kudzuclamp::{Account, Formula, Table};
+use kudzuclamp::{Account, Formula, Table, Target};
 use reference::formula::frame;
 
 extern "C" {
@@ -69,7 +69,7 @@ fn room() -> Vec<u32> {
     let mut accounts = [Account::unlimited()];
     let mut table = Table::new(&mut accounts, 2, 3).unwrap();
     let bit = Formula::current(0);
-    table.set(&mut accounts, 0, 0, 0, bit).unwrap();
+    table.set(&mut accounts, Target::register(0), bit).unwrap();
     table.into_words()
 }
 
@@ -258,7 +258,9 @@ fn refused_runs() {
     let mut table = Table::new(&mut accounts, 2, 6).unwrap();
     table.relation(0, frame(&[0x21])).unwrap();
     for (r, body) in (0..).zip([[0x10], [0x11], [0x00]]) {
-        table.set(&mut accounts, 0, r, 0, frame(&body)).unwrap();
+        table
+            .set(&mut accounts, Target::register(r), frame(&body))
+            .unwrap();
     }
     let mut words = table.into_words();
     assert_eq!(shortest(&mut words, 32, 9), [3, 0]);

@@ -59,7 +59,10 @@ fn relations() {
 fn refusals() {
     let mut book = selector(100);
     let valid = |book: &mut Book, bytes: &[u8]| book.make_valid(bytes);
-    assert_eq!(valid(&mut book, &frame_as(2, &[0x01])), Err(Refusal::NotAFormula));
+    assert_eq!(
+        valid(&mut book, &frame_as(2, &[0x01])),
+        Err(Refusal::NotAFormula)
+    );
     for body in [0x20, 0x30, 0x40, 0x12] {
         assert_eq!(valid(&mut book, &frame(&[body])), Err(Refusal::NotAFormula));
     }
@@ -78,7 +81,10 @@ fn needs() {
     assert_eq!(small.make_valid(&frame(&SELECTOR)), Err(Refusal::Full));
     // The old V is live while the new one is made, and true takes no step.
     let mut full = selector(3);
-    assert_eq!(full.make_valid(&frame(&[0x03, 0x11, 0x02, 0x10])), Err(Refusal::Full));
+    assert_eq!(
+        full.make_valid(&frame(&[0x03, 0x11, 0x02, 0x10])),
+        Err(Refusal::Full)
+    );
     assert_eq!(full.make_valid(&frame(&[0x01])), Ok(()));
     assert_eq!(full.collect(), 0);
 }
@@ -96,7 +102,10 @@ fn no_state_exists() {
 /// Sets drawn over drawn V: the rounds end at the meaning by sets.
 #[test]
 fn rounds_end_at_the_meaning() {
-    let limits = Limits { rows: usize::MAX, rounds: 200 };
+    let limits = Limits {
+        rows: usize::MAX,
+        rounds: 200,
+    };
     let mut random = Random::new(6);
     let mut compared = 0;
     for index in 0..400 {
