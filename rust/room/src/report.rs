@@ -114,17 +114,14 @@ fn shown(room: &Room, asked: &Asked, run: &Run, whole: bool) -> String {
 }
 
 fn introduction(run: &Run, presses: usize) -> String {
-    let number = match presses {
-        0 => return "At the start already:".to_string(),
-        1 => return "One press does it:".to_string(),
-        _ => format!("{} presses do it", grouped(presses as u32)),
-    };
-    match run.end {
-        End::Circle(_) => format!(
-            "{}, the shortest way into a circle of presses:",
-            number.replace("do it", "from the start")
+    let number = grouped(presses as u32);
+    match presses {
+        0 => "At the start already:".to_string(),
+        1 => "One press does it:".to_string(),
+        _ if run.least => format!("{number} presses do it, and no fewer:"),
+        _ => format!(
+            "{number} presses do it; fewer may do it too, by a circle that was not looked at:"
         ),
-        _ => format!("{number}, and no fewer:"),
     }
 }
 
@@ -135,9 +132,7 @@ fn closing(room: &Room, asked: &Asked, end: End) -> String {
         Asked::Until(x, y) | Asked::Unless(x, y) => (echo::cond(room, x), echo::cond(room, y)),
     };
     let again = |state: String| {
-        format!(
-            "  That is {state} again: so it can go on for ever, and \"{second}\" need not come.\n"
-        )
+        format!("  That is {state} again, and so on for ever: \"{second}\" need never come.\n")
     };
     match end {
         End::Reached => String::new(),
@@ -196,6 +191,25 @@ pub fn summary(verdicts: &[Verdict]) -> String {
         }
         _ => format!("NO VERDICT: {none} of {of} questions. Do not hand over.\n"),
     }
+}
+
+/// How many rows are enough, where every question has its verdict; else, which have none.
+pub fn rows_needed(room: &Room, verdicts: &[Verdict], peak: u32) -> String {
+    let open = |(_, verdict): &(&Question, &Verdict)| matches!(verdict, Verdict::None(_));
+    let without: Vec<(&Question, &Verdict)> =
+        room.questions.iter().zip(verdicts).filter(open).collect();
+    if without.is_empty() {
+        return format!(
+            "A table of {} rows is enough for these questions, and no smaller one.\n",
+            grouped(peak.max(1))
+        );
+    }
+    let mut text = "How many rows are enough is not known. Without a verdict:\n".to_string();
+    for (question, _) in without {
+        let asked = echo::asked(room, &question.asked);
+        text += &format!("  line {}: {asked}\n", question.line);
+    }
+    text
 }
 
 /// What is no mistake, but may not be meant.

@@ -1,5 +1,5 @@
 //! The same questions by a plain walk over all states: no formula, no table.
-use crate::circles::on_circles;
+use crate::circles::first_return;
 use crate::room::{Asked, Cond, Room, State};
 
 /// A set of states: whether each is in it.
@@ -43,7 +43,12 @@ pub enum End {
 pub struct Run {
     pub states: Vec<State>,
     pub end: End,
+    /// Whether no run with fewer presses shows it.
+    pub least: bool,
 }
+
+/// About so many steps are looked at to find the shortest run into a circle: well under a second.
+const MOST_STEPS: usize = 20_000_000;
 
 impl Walk {
     pub fn new(room: &Room) -> Walk {
@@ -190,7 +195,8 @@ impl Walk {
     pub fn trouble(&self, start: State, asked: &Asked, sets: &Sets) -> Option<Run> {
         let into = |set: &Set, end: End| {
             let states = self.shortest_run(start, set, &self.exists)?;
-            Some(Run { states, end })
+            let least = true;
+            Some(Run { states, end, least })
         };
         match (asked, &sets.inner, &sets.second) {
             (Asked::AlwaysPossible(_), Some(possible), _) => {
@@ -238,39 +244,47 @@ impl Walk {
         let waits = self.without(g);
         let lost: Set = (waits.iter().zip(f)).map(|(w, f)| *w && !f).collect();
         let states = self.shortest_run(start, &lost, &waits)?;
-        let end = End::Lost;
-        Some(Run { states, end })
+        let (end, least) = (End::Lost, true);
+        Some(Run { states, end, least })
     }
 
-    /// A run on which f does not hold until g: a shortest one that loses f or has no next press; else, a shortest way to a state
-    /// from which presses lead round, and the shortest way round.
+    /// A shortest run on which f does not hold until g: it loses f or has no next press, or it comes to a state for the second
+    /// time, from where the same presses can go on for ever.
     fn never_comes(&self, start: State, f: &Set, g: &Set) -> Option<Run> {
         let waits = self.without(g);
-        let pick = |wanted: &dyn Fn(usize) -> bool| -> Set {
-            (0..waits.len()).map(|s| waits[s] && wanted(s)).collect()
+        let ends = (0..waits.len())
+            .map(|s| waits[s] && (!f[s] || self.next[s].is_empty()))
+            .collect();
+        let ending = self.shortest_run(start, &ends, &waits);
+        let presses = ending
+            .as_ref()
+            .map_or(usize::MAX, |states| states.len() - 1);
+        let circle = self.into_circle(start, &waits, presses);
+        let (Some(states), least) = (ending, circle.as_ref().is_none_or(|run| run.least)) else {
+            return circle;
         };
-        let ends = pick(&|s| !f[s] || self.next[s].is_empty());
-        if let Some(states) = self.shortest_run(start, &ends, &waits) {
-            let last = *states.last()?;
-            let end = if f[last as usize] {
-                End::Stuck
-            } else {
-                End::Lost
-            };
-            return Some(Run { states, end });
+        match circle {
+            Some(run) if run.states.len() < states.len() => Some(run),
+            _ => {
+                let holds = f[*states.last()? as usize];
+                let end = if holds { End::Stuck } else { End::Lost };
+                Some(Run { states, end, least })
+            }
         }
-        let round = on_circles(&self.next, &waits);
-        let mut states = self.shortest_run(start, &round, &waits)?;
-        let (place, first) = (states.len() - 1, *states.last()?);
-        let mut only = vec![false; waits.len()];
-        only[first as usize] = true;
-        let steps = self.next[first as usize]
-            .iter()
-            .filter(|&&to| waits[to as usize]);
-        let ways = steps.filter_map(|&to| self.shortest_run(to, &only, &waits));
+    }
+
+    /// A run inside a set that comes to a state for the second time: a shortest one, where that has fewer presses than so many.
+    fn into_circle(&self, start: State, inside: &Set, below: usize) -> Option<Run> {
+        let found = first_return(&self.next, inside, start, below, MOST_STEPS)?;
+        let mut only = vec![false; inside.len()];
+        only[found.state as usize] = true;
+        let mut states = self.shortest_run(start, &only, inside)?;
+        let end = End::Circle(states.len() - 1);
+        let steps = (self.next[found.state as usize].iter()).filter(|&&to| inside[to as usize]);
+        let ways = steps.filter_map(|&to| self.shortest_run(to, &only, inside));
         states.extend(ways.min_by_key(Vec::len)?);
-        let end = End::Circle(place);
-        Some(Run { states, end })
+        let least = found.least;
+        Some(Run { states, end, least })
     }
 }
 

@@ -193,6 +193,94 @@ fn peaks() {
     }
 }
 
+/// Where a question has no verdict, no number of rows is called enough, be another one broken or not.
+#[test]
+fn peaks_without_a_verdict() {
+    let text =
+        "things: a b c\nstart: all off\npress A: a turns over\npress B: b turns over when a\n\
+                press C: c turns over when b\nnever a\nnever c\nalways possible: c\n";
+    let (printed, _, status) = given(&["--peak", "--rounds", "3", "-"], text.as_bytes());
+    assert!(
+        printed.contains("BROKEN      never a\n") && status == 1,
+        "{printed}"
+    );
+    let expected = "BROKEN: 1 of 3 questions, and 2 without a verdict. Do not hand over.\n\
+                    How many rows are enough is not known. Without a verdict:\n  line 7: never c\n  line 8: always possible: c\n";
+    assert!(printed.ends_with(expected), "{printed}");
+    let (printed, _, status) = run(&["--peak", "--rows", "100", "mended.room"]);
+    assert!(
+        printed.ends_with("  line 29: always possible: song\n") && status == 3,
+        "{printed}"
+    );
+    assert!(
+        !printed.contains("is enough for these questions"),
+        "{printed}"
+    );
+}
+
+/// A run that goes round breaks an until as one does that comes to a bad state: the shorter one is shown.
+#[test]
+fn circles() {
+    let room = |lamp: &str| {
+        format!(
+            "things: lamp a b c song\nstart: all off\n{lamp}press A: a on when not a\npress B: b on when a and not b\n\
+             press C: c on when b\npress START: song on\nnot c until song\n"
+        )
+    };
+    let (printed, _, status) = given(&["-"], room("press LAMP: lamp turns over\n").as_bytes());
+    let expected = "BROKEN      not c until song\n  2 presses do it, and no fewer:\n     start  all off\n  1  LAMP   lamp\n  2  LAMP   all off\n  \
+                    That is the start again, and so on for ever: \"song\" need never come.\nBROKEN: 1 of 1 questions. Do not hand over.\n";
+    assert!(printed.ends_with(expected) && status == 1, "{printed}");
+    // Without the lamp, C comes sooner than any state comes again.
+    let (printed, _, _) = given(&["-"], room("").as_bytes());
+    let expected = "  3 presses do it, and no fewer:\n     start  all off\n  1  A      a\n  2  B      a, b\n  3  C      a, b, c\n  \
+                    There \"c\" does not hold"
+        .replace("\"c\"", "\"not c\"");
+    assert!(printed.contains(&expected), "{printed}");
+    // A circle farther on: the state after a press comes again.
+    let later =
+        room("press LAMP: lamp turns over when b\n").replace("c on when b", "c on when b and c");
+    let (printed, _, _) = given(&["-"], later.as_bytes());
+    let expected = "  4 presses do it, and no fewer:\n     start  all off\n  1  A      a\n  2  B      a, b\n  3  LAMP   lamp, a, b\n  4  LAMP   a, b\n  \
+                    That is the state after press 2 again, and so on for ever: \"song\" need never come.\n";
+    assert!(printed.contains(expected), "{printed}");
+}
+
+/// An answer that cannot be written is not taken for one that was; where nobody reads on, nothing is said.
+#[test]
+fn answers_that_cannot_be_written() {
+    let full = || {
+        std::fs::OpenOptions::new()
+            .write(true)
+            .open("/dev/full")
+            .unwrap()
+    };
+    let cases: [&[&str]; 5] = [
+        &["hall.room"],
+        &["mended.room"],
+        &["--echo", "hall.room"],
+        &["--records", "hall.room"],
+        &["--help"],
+    ];
+    for arguments in cases {
+        let (_, errors, status) = said(room(arguments).stdout(full()).output().unwrap());
+        assert!(
+            errors.starts_with("room: the answer cannot be written: "),
+            "{errors}"
+        );
+        assert_eq!((errors.lines().count(), status), (1, 2));
+        // Where the message cannot be written either, the status is still there.
+        let status = room(arguments)
+            .stdout(full())
+            .stderr(full())
+            .status()
+            .unwrap();
+        assert_eq!(status.code(), Some(2));
+    }
+    let status = room(&["none.room"]).stderr(full()).status().unwrap();
+    assert_eq!(status.code(), Some(2));
+}
+
 #[test]
 fn bad_files() {
     let (printed, errors, status) = given(
@@ -361,9 +449,14 @@ fn differences() {
 #[test]
 fn pipes() {
     assert_eq!(run(&["hall.room"]).1, "");
-    let mut child = room(&["hall.room"]).stdout(Stdio::piped()).spawn().unwrap();
+    let mut child = room(&["hall.room"])
+        .stdout(Stdio::piped())
+        .stderr(Stdio::piped())
+        .spawn()
+        .unwrap();
     drop(child.stdout.take());
-    assert_eq!(child.wait().unwrap().code(), Some(1));
+    let output = child.wait_with_output().unwrap();
+    assert_eq!((output.stderr.len(), output.status.code()), (0, Some(1)));
 }
 
 /// Things that are no mistakes, but may not be meant.
