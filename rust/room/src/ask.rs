@@ -31,6 +31,13 @@ pub enum Verdict {
     None(Refusal),
 }
 
+/// A verdict, and the room with its parts in another order in the table, where that gave it (`orders`).
+#[derive(Clone, Debug, PartialEq, Eq)]
+pub struct Answer {
+    pub verdict: Verdict,
+    pub ordered: Option<Room>,
+}
+
 /// What the table and the plain walk do not agree on. No verdict is given then.
 #[derive(Clone, Debug, PartialEq, Eq)]
 pub struct Difference {
@@ -93,6 +100,11 @@ impl<'a> Asker<'a> {
                 Ok(asker)
             }
         }
+    }
+
+    /// Whether the presses and the start fit into the table.
+    pub fn is_loaded(&self) -> bool {
+        self.refused.is_none()
     }
 
     fn load(&mut self) -> Result<(), Halt> {

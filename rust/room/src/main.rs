@@ -1,9 +1,11 @@
 //! The command `room`.
 mod options;
 
+use kudzuclamp::Refusal;
 use options::{Mode, Options};
-use room::ask::{Asker, Difference, Verdict};
+use room::ask::{Answer, Asker, Difference, Limits, Verdict};
 use room::mistake::Mistake;
+use room::orders::Others;
 use room::plan::{self, Plan};
 use room::report::{self, Outcome};
 use room::room::Room;
@@ -15,6 +17,9 @@ use std::process::ExitCode;
 
 /// At most so many mistakes are shown.
 const MOST_SHOWN: usize = 20;
+
+/// The most bytes of a file.
+const MOST_BYTES: u64 = 1_000_000;
 
 fn main() -> ExitCode {
     let done = match options::command(std::env::args().skip(1)) {
@@ -68,10 +73,7 @@ fn run(options: &Options) -> io::Result<Outcome> {
     match understood(&bytes, name) {
         Ok((room, plan)) => match options.mode {
             Mode::Echo => print(&echo::echo(&room), Outcome::Safe),
-            Mode::Records => print(
-                &records::records(&room, &plan, options.limits(), name),
-                Outcome::Safe,
-            ),
+            Mode::Records => write_records(&room, &plan, options, name),
             _ => ask(&room, &plan, options),
         },
         Err(says) => {
@@ -81,12 +83,18 @@ fn run(options: &Options) -> io::Result<Outcome> {
     }
 }
 
+/// The bytes of a file that is not too large; no more of it are read.
 fn contents(name: &str) -> io::Result<Vec<u8>> {
     let mut bytes = Vec::new();
     match name {
-        "-" => io::stdin().read_to_end(&mut bytes)?,
-        _ => File::open(name)?.read_to_end(&mut bytes)?,
+        "-" => io::stdin().take(MOST_BYTES + 1).read_to_end(&mut bytes)?,
+        _ => (File::open(name)?.take(MOST_BYTES + 1)).read_to_end(&mut bytes)?,
     };
+    if bytes.len() as u64 > MOST_BYTES {
+        return Err(io::Error::other(
+            "it has more than 1 MB, as no room and no list of records has",
+        ));
+    }
     Ok(bytes)
 }
 
@@ -125,6 +133,21 @@ fn refused(mistakes: &[Mistake], name: &str, text: &str) -> String {
     said
 }
 
+/// Prints the records, where `roomrules` answers them.
+fn write_records(room: &Room, plan: &Plan, options: &Options, name: &str) -> io::Result<Outcome> {
+    let limits = Limits {
+        rows: options.rows.unwrap_or(records::ROOMRULES_ROWS),
+        rounds: options.rounds,
+    };
+    match records::records(room, plan, limits, name) {
+        Ok(text) => print(&text, Outcome::Safe),
+        Err(says) => {
+            tell(&format!("room: {says}"));
+            Ok(Outcome::NoVerdict)
+        }
+    }
+}
+
 /// What is printed where table and walk differ.
 fn differs(difference: &Difference, asked: &str) -> io::Result<Outcome> {
     print(&report::difference(difference, asked), Outcome::Differs)
@@ -141,52 +164,101 @@ fn ask(room: &Room, plan: &Plan, options: &Options) -> io::Result<Outcome> {
     progress.says("loading the presses");
     let loaded = Asker::new(room, &walk, plan, options.limits());
     progress.done();
-    let mut asker = match loaded {
+    let asker = match loaded {
         Ok(asker) => asker,
         Err(difference) => return differs(&difference, "all questions"),
     };
     print(&report::heading(room), Outcome::Safe)?;
-    let mut verdicts: Vec<Verdict> = Vec::new();
-    for (place, question) in room.questions.iter().enumerate() {
-        let asked = echo::asked(room, &question.asked);
-        progress.says(&format!(
-            "question {} of {}: {asked}",
-            place + 1,
-            room.questions.len()
-        ));
-        let verdict = asker.ask(place);
-        progress.done();
-        match verdict {
-            Ok(verdict) => {
-                let text = report::verdict(
-                    room,
-                    question,
-                    &verdict,
-                    options.limits(),
-                    options.whole_run,
-                );
+    let mut questions = Questions {
+        room,
+        asker,
+        others: None,
+        options,
+        progress,
+    };
+    let mut answers: Vec<Answer> = Vec::new();
+    for place in 0..room.questions.len() {
+        match questions.ask(place) {
+            Ok((answer, text)) => {
                 print(&text, Outcome::Safe)?;
-                verdicts.push(verdict);
+                answers.push(answer);
             }
-            Err(difference) => return differs(&difference, &asked),
+            Err(difference) => {
+                return differs(
+                    &difference,
+                    &echo::asked(room, &room.questions[place].asked),
+                )
+            }
         }
     }
-    let peak = options.peak.then_some(asker.peak);
+    let peak = options.peak.then_some(questions.asker.peak);
     print(
-        &closing(room, &walk, &verdicts, peak),
-        report::outcome(&verdicts),
+        &closing(room, &walk, &answers, peak),
+        report::outcome(&answers),
     )
 }
 
+/// The questions of a room, which are asked one by one.
+struct Questions<'a> {
+    room: &'a Room,
+    asker: Asker<'a>,
+    /// Other orders of the things, once they are needed.
+    others: Option<Others>,
+    options: &'a Options,
+    progress: Progress,
+}
+
+impl Questions<'_> {
+    /// The answer to a question, and its lines.
+    fn ask(&mut self, place: usize) -> Result<(Answer, String), Difference> {
+        let question = &self.room.questions[place];
+        self.progress.says(&format!(
+            "question {} of {}: {}",
+            place + 1,
+            self.room.questions.len(),
+            echo::asked(self.room, &question.asked)
+        ));
+        let verdict = self.asker.ask(place)?;
+        let limits = self.options.limits();
+        let full = verdict == Verdict::None(Refusal::Full) && limits.rows == Limits::LARGEST.rows;
+        let own = Answer {
+            verdict,
+            ordered: None,
+        };
+        let answer = match full {
+            true => self.in_another_order(place)?.unwrap_or(own),
+            false => own,
+        };
+        self.progress.done();
+        let room = answer.ordered.as_ref().unwrap_or(self.room);
+        let whole = self.options.whole_run;
+        let mut text = report::verdict(room, question, &answer.verdict, limits, whole);
+        if full {
+            text += &report::order(&answer);
+        }
+        Ok((answer, text))
+    }
+
+    /// The answer by another order of the things, where one gives a verdict.
+    fn in_another_order(&mut self, place: usize) -> Result<Option<Answer>, Difference> {
+        self.progress
+            .says("the table is full: trying other orders of the things");
+        let limits = self.options.limits();
+        (self.others)
+            .get_or_insert_with(|| Others::new(self.room, limits))
+            .ask(place)
+    }
+}
+
 /// What is said below all verdicts.
-fn closing(room: &Room, walk: &Walk, verdicts: &[Verdict], peak: Option<u32>) -> String {
+fn closing(room: &Room, walk: &Walk, answers: &[Answer], peak: Option<u32>) -> String {
     let mut text = String::new();
     for note in report::notes(room, walk) {
         text += &format!("Note: {note}\n");
     }
-    text += &report::summary(verdicts);
+    text += &report::summary(answers);
     if let Some(peak) = peak {
-        text += &report::rows_needed(room, verdicts, peak);
+        text += &report::rows_needed(room, answers, peak);
     }
     if !kudzuclamp::PROVED {
         text += "(A quick build: the library in this room command is not proved. README tells how to build the proved one.)\n";

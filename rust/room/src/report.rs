@@ -1,9 +1,9 @@
 //! Verdicts in words.
-use crate::ask::{press, Difference, Limits, Verdict};
+use crate::ask::{press, Answer, Difference, Limits, Verdict};
 use crate::echo::{self, grouped};
 use crate::room::{Asked, Question, Room, Rule};
-use crate::sense;
 use crate::walk::{members, End, Run, Walk};
+use crate::{orders, sense};
 use kudzuclamp::Refusal;
 
 /// The steps of a long run that are shown from its start and from its end.
@@ -27,8 +27,8 @@ impl Outcome {
 }
 
 /// The worst outcome of all verdicts: broken, else no verdict, else safe.
-pub fn outcome(verdicts: &[Verdict]) -> Outcome {
-    let is = |wanted: fn(&Verdict) -> bool| verdicts.iter().any(wanted);
+pub fn outcome(answers: &[Answer]) -> Outcome {
+    let is = |wanted: fn(&Verdict) -> bool| answers.iter().any(|answer| wanted(&answer.verdict));
     if is(|verdict| matches!(verdict, Verdict::Broken(_))) {
         Outcome::Broken
     } else if is(|verdict| matches!(verdict, Verdict::None(_))) {
@@ -174,13 +174,16 @@ pub fn heading(room: &Room) -> String {
 }
 
 /// The last line.
-pub fn summary(verdicts: &[Verdict]) -> String {
-    let count =
-        |wanted: fn(&Verdict) -> bool| verdicts.iter().filter(|verdict| wanted(verdict)).count();
+pub fn summary(answers: &[Answer]) -> String {
+    let count = |wanted: fn(&Verdict) -> bool| {
+        (answers.iter())
+            .filter(|answer| wanted(&answer.verdict))
+            .count()
+    };
     let broken = count(|verdict| matches!(verdict, Verdict::Broken(_)));
     let none = count(|verdict| matches!(verdict, Verdict::None(_)));
-    let of = verdicts.len();
-    match outcome(verdicts) {
+    let of = answers.len();
+    match outcome(answers) {
         Outcome::Safe if of == 1 => "SAFE.\n".to_string(),
         Outcome::Safe => format!("SAFE: all {of} questions.\n"),
         Outcome::Broken if none == 0 => {
@@ -193,23 +196,37 @@ pub fn summary(verdicts: &[Verdict]) -> String {
     }
 }
 
-/// How many rows are enough, where every question has its verdict; else, which have none.
-pub fn rows_needed(room: &Room, verdicts: &[Verdict], peak: u32) -> String {
-    let open = |(_, verdict): &(&Question, &Verdict)| matches!(verdict, Verdict::None(_));
-    let without: Vec<(&Question, &Verdict)> =
-        room.questions.iter().zip(verdicts).filter(open).collect();
-    if without.is_empty() {
+/// How many rows are enough, where every question has its verdict in the file's order; else, which have none.
+pub fn rows_needed(room: &Room, answers: &[Answer], peak: u32) -> String {
+    let mut open = String::new();
+    for (question, answer) in room.questions.iter().zip(answers) {
+        let how = match (&answer.verdict, &answer.ordered) {
+            (Verdict::None(_), _) => "",
+            (_, Some(_)) => " (answered in another order of the things)",
+            _ => continue,
+        };
+        let asked = echo::asked(room, &question.asked);
+        open += &format!("  line {}: {asked}{how}\n", question.line);
+    }
+    if open.is_empty() {
         return format!(
             "A table of {} rows is enough for these questions, and no smaller one.\n",
             grouped(peak.max(1))
         );
     }
-    let mut text = "How many rows are enough is not known. Without a verdict:\n".to_string();
-    for (question, _) in without {
-        let asked = echo::asked(room, &question.asked);
-        text += &format!("  line {}: {asked}\n", question.line);
-    }
-    text
+    format!("How many rows are enough is not known. Without a verdict in the file's order:\n{open}")
+}
+
+/// In which order of the things a verdict was found, or that none was.
+pub fn order(answer: &Answer) -> String {
+    let says = match &answer.ordered {
+        Some(room) => format!(
+            "In the file's order of things the table is full. This verdict is by the order: {}",
+            orders::names(room)
+        ),
+        None => "Other orders of the things in the table do not help.".to_string(),
+    };
+    format!("            {says}\n")
 }
 
 /// What is no mistake, but may not be meant.

@@ -104,6 +104,16 @@ pub enum Asked {
     Unless(Cond, Cond),
 }
 
+impl Asked {
+    /// The conditions that it names.
+    pub fn conditions(&self) -> Vec<&Cond> {
+        match self {
+            Asked::Never(x) | Asked::AlwaysPossible(x) => vec![x],
+            Asked::Until(x, y) | Asked::Unless(x, y) => vec![x, y],
+        }
+    }
+}
+
 #[derive(Clone, Debug, PartialEq, Eq)]
 pub struct Question {
     pub line: usize,

@@ -59,13 +59,7 @@ pub fn mistakes(room: &Room) -> Vec<Mistake> {
 pub fn uses(room: &Room, place: usize) -> bool {
     let named = room.named.iter().map(|named| &named.means);
     let when = room.rules.iter().filter_map(|rule| rule.when.as_ref());
-    let asked = room
-        .questions
-        .iter()
-        .flat_map(|question| match &question.asked {
-            Asked::Never(x) | Asked::AlwaysPossible(x) => vec![x],
-            Asked::Until(x, y) | Asked::Unless(x, y) => vec![x, y],
-        });
+    let asked = (room.questions.iter()).flat_map(|question| question.asked.conditions());
     named
         .chain(when)
         .chain(asked)

@@ -205,7 +205,7 @@ fn peaks_without_a_verdict() {
         "{printed}"
     );
     let expected = "BROKEN: 1 of 3 questions, and 2 without a verdict. Do not hand over.\n\
-                    How many rows are enough is not known. Without a verdict:\n  line 7: never c\n  line 8: always possible: c\n";
+                    How many rows are enough is not known. Without a verdict in the file's order:\n  line 7: never c\n  line 8: always possible: c\n";
     assert!(printed.ends_with(expected), "{printed}");
     let (printed, _, status) = run(&["--peak", "--rows", "100", "mended.room"]);
     assert!(
@@ -279,6 +279,123 @@ fn answers_that_cannot_be_written() {
     }
     let status = room(&["none.room"]).stderr(full()).status().unwrap();
     assert_eq!(status.code(), Some(2));
+}
+
+/// Two rows of eight lamps that are compared as numbers, and presses that change both; the rows one after the other, or the
+/// lamps in pairs.
+fn two_rows(pairs: bool) -> String {
+    let mut names: Vec<String> = (0..16)
+        .map(|k| format!("{}{}", ["a", "b"][k / 8], k % 8))
+        .collect();
+    if pairs {
+        names.sort_by_key(|name| name[1..].to_string());
+    }
+    let mut text = format!("things: {}\nstart: all off\n", names.join(" "));
+    for k in 0..8 {
+        text += &format!("d{k} means (a{k} and not b{k}) or (b{k} and not a{k})\n");
+        text += &match k {
+            0 => "g0 means a0 and not b0\n".to_string(),
+            _ => format!(
+                "g{k} means (a{k} and not b{k}) or (not d{k} and g{})\n",
+                k - 1
+            ),
+        };
+    }
+    for k in 0..8 {
+        let next = (k + 1) % 8;
+        text += &format!("press A{k}: a{k} turns over, b{next} turns over when not g7\n");
+        text += &format!("press B{k}: b{k} turns over, a{next} off when g7\n");
+    }
+    text + "never a0 and a1 and b2 and not (d0 or d1 or d2 or d3 or d4 or d5 or d6 or d7)\n"
+}
+
+/// In the order of the file the largest table is full. Another order gives the verdict that the file gives when it is written so.
+#[test]
+fn another_order() {
+    let (printed, errors, status) = given(&["--peak", "-"], two_rows(false).as_bytes());
+    let order = "\n            In the file's order of things the table is full. This verdict is by the order: a0 b0 a1 b1 a2 b2 a3 b3 a4 \
+                 b4 a5 b5 a6 b6 a7 b7\n";
+    assert!(printed.contains(order), "{printed}");
+    let peak = "How many rows are enough is not known. Without a verdict in the file's order:\n  line 35: never ";
+    assert!(printed.contains(peak), "{printed}");
+    assert!(
+        printed.ends_with(" (answered in another order of the things)\n"),
+        "{printed}"
+    );
+    assert_eq!((errors.as_str(), status), ("", 1));
+    let (written, _, status) = given(&["-"], two_rows(true).as_bytes());
+    let presses = |printed: &str| -> Vec<String> {
+        let lines = printed
+            .lines()
+            .filter(|line| line.starts_with("  ") && !line.contains("order"));
+        lines.map(|line| line.chars().take(7).collect()).collect()
+    };
+    assert!(!written.contains("order") && status == 1, "{written}");
+    assert_eq!(presses(&printed), presses(&written));
+}
+
+/// Records that roomrules must refuse are not written.
+#[test]
+fn records_that_do_not_fit() {
+    let says = |arguments: &[&str]| {
+        let (printed, errors, status) = run(arguments);
+        assert_eq!((printed.as_str(), status), ("", 3), "{errors}");
+        errors
+    };
+    let rows = says(&["--records", "--rows", "2000", "hall.room"]);
+    assert_eq!(
+        rows,
+        "room: roomrules has a table of 1,344 rows at most, and 2,000 are asked for. Nothing was written.\n"
+    );
+    let few = says(&["--records", "--rows", "100", "hall.room"]);
+    let refused = "room: roomrules must refuse records of this room, so nothing was written:\n";
+    let expected = "  relation 0: the presses\n      a step needs more than 100 rows. Take more: --rows, 1,344 at most\n";
+    assert_eq!(few, format!("{refused}{expected}"));
+    let rounds = says(&["--records", "--rounds", "7", "hall.room"]);
+    let expected = "  line 27: never howl\n      the 7 rounds are used up\n";
+    assert_eq!(rounds, format!("{refused}{expected}"));
+    // The same number of rows as by --peak: with one fewer a record is refused.
+    let (printed, _, _) = run(&["--peak", "mended.room"]);
+    let rows = printed.lines().last().unwrap().split(' ').nth(3).unwrap();
+    let rows: u32 = rows.parse().unwrap();
+    assert_eq!(
+        run(&["--records", "--rows", &rows.to_string(), "mended.room"]).2,
+        0
+    );
+    assert_eq!(
+        run(&[
+            "--records",
+            "--rows",
+            &(rows - 1).to_string(),
+            "mended.room"
+        ])
+        .2,
+        3
+    );
+    // A room that needs more rows than roomrules has.
+    let (printed, errors, status) = given(&["--records", "-"], two_rows(true).as_bytes());
+    assert_eq!((printed.as_str(), status), ("", 3));
+    assert!(errors.starts_with(refused), "{errors}");
+    assert!(
+        errors.ends_with("\n      a step needs more than 1,344 rows, and roomrules has no more\n"),
+        "{errors}"
+    );
+}
+
+/// No more of a file is read than a room can have.
+#[test]
+fn large_files() {
+    let says = "cannot be read: it has more than 1 MB, as no room and no list of records has\n";
+    for arguments in [["--echo", "/dev/zero"], ["--explain", "/dev/zero"]] {
+        let expected = format!("room: /dev/zero {says}");
+        assert_eq!(run(&arguments), (String::new(), expected, 2));
+    }
+    let mut text = "things: a\nstart: all off\npress A: a on\nnever a\n".to_string();
+    text += &format!("#{}\n", " ".repeat(1_000_000 - 2 - text.len()));
+    assert_eq!(given(&["-"], text.as_bytes()).2, 1);
+    text += "\n";
+    let expected = format!("room: standard input {says}");
+    assert_eq!(given(&["-"], text.as_bytes()), (String::new(), expected, 2));
 }
 
 #[test]

@@ -4,7 +4,7 @@ use room::ask::{press, Asker, Difference, Limits, Verdict};
 use room::echo::echo;
 use room::plan::{plan, Plan, ANSWER, START_IN_ANSWER};
 use room::read::read;
-use room::records::records;
+use room::records::{records, ROOMRULES_ROWS, ROOMRULES_WORDS};
 use room::room::{Asked, Change, Cond, Room};
 use room::sense;
 use room::walk::{End, Run, Walk};
@@ -324,13 +324,17 @@ fn read_back() {
 fn records_say_the_same() {
     for room in rooms(3, 200) {
         let plan = plan(&room).unwrap();
-        let text = records(&room, &plan, Limits::LARGEST, "a room");
+        let limits = Limits {
+            rows: ROOMRULES_ROWS,
+            ..Limits::LARGEST
+        };
+        let text = records(&room, &plan, limits, "a room").unwrap();
         let hex = text.lines().map(|line| line.split('#').next().unwrap());
         let bytes: Vec<u8> = hex
             .flat_map(str::split_whitespace)
             .map(|byte| u8::from_str_radix(byte, 16).unwrap())
             .collect();
-        let outcomes = kudzuclamp::play(&mut vec![0; 16_384], &bytes).unwrap();
+        let outcomes = kudzuclamp::play(&mut vec![0; ROOMRULES_WORDS], &bytes).unwrap();
         assert!(outcomes.iter().all(|outcome| outcome.refusal.is_none()));
         let mut at = 1 + plan.relations.len() + plan.sets.len();
         for (asking, verdict) in plan.questions.iter().zip(own(&room)) {
