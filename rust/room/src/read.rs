@@ -24,10 +24,13 @@ pub fn read(text: &str) -> Result<Room, Vec<Mistake>> {
         ..Reader::default()
     };
     for words in &lines {
-        // A line that is given up leaves its mistake; the next ones are read all the same.
-        let _ = reader.line(Line { words, at: 0 });
+        for words in reader.apart(words) {
+            // A line that is given up leaves its mistake; the next ones are read all the same.
+            let _ = reader.line(Line { words, at: 0 });
+        }
     }
     reader.whole();
+    reader.mistakes.sort_by_key(|m| (m.line, m.column));
     if reader.mistakes.is_empty() {
         Ok(reader.room)
     } else {
@@ -102,6 +105,26 @@ impl<'a> Reader<'a> {
         Err(GivenUp)
     }
 
+    /// The words of a line, in pieces: a line of its own that begins with a blank is told, and read by itself.
+    fn apart<'w>(&mut self, words: &'w [Word<'a>]) -> Vec<&'w [Word<'a>]> {
+        let mut pieces = Vec::new();
+        let mut from = 0;
+        for at in 1..words.len() {
+            let new_line = words[at].line > words[at - 1].line;
+            if new_line && begins_a_line(&words[at..]) && words[at - 1].text != "always" {
+                let says = format!(
+                    "\"{}\" begins a line of its own, at the left edge: take the blanks before it away",
+                    words[at].text
+                );
+                self.mistakes.push(Mistake::at(&words[at], says));
+                pieces.push(&words[from..at]);
+                from = at;
+            }
+        }
+        pieces.push(&words[from..]);
+        pieces
+    }
+
     fn line(&mut self, mut line: Line<'a, '_>) -> Read<()> {
         let first = line.words[0];
         let second = line.words.get(1).map_or("", |word| word.text);
@@ -113,7 +136,9 @@ impl<'a> Reader<'a> {
             "never" => self.never(&mut line),
             "always" => self.always_possible(&mut line),
             _ if second == "means" => self.means(&mut line),
-            _ if line.words.iter().any(|word| joins_two(word.text)) => self.until(&mut line),
+            _ if (line.words.iter()).any(|word| joins_two(&word.text.to_lowercase())) => {
+                self.until(&mut line)
+            }
             _ => self.no_line(&line),
         }
     }
@@ -150,6 +175,9 @@ impl<'a> Reader<'a> {
         if !first.is_name() && !first.text.is_ascii() {
             return self.wrong(&first, strange(first.text));
         }
+        if let Some(says) = implies(line.words) {
+            return self.wrong(&first, says);
+        }
         if let Some(word) = similar(first.text, FIRST_WORDS.into_iter()) {
             return self.wrong(
                 &first,
@@ -161,10 +189,7 @@ impl<'a> Reader<'a> {
         }
         if let Some(second) = line.words.get(1) {
             if similar(second.text, ["means"].into_iter()).is_some() {
-                return self.wrong(
-                    second,
-                    format!("\"{}\" is not understood. Is \"means\" meant?", second.text),
-                );
+                return self.wrong(second, not_understood(second.text, "means"));
             }
         }
         let says = "a line begins with things, selector, start, press, never or always possible, or it is \
@@ -192,6 +217,7 @@ impl<'a> Reader<'a> {
         let text = word.text;
         let says = match text {
             ")" => "this ) has no ( before it".to_string(),
+            _ if meant(text).is_some() => not_understood(text, meant(text).unwrap_or_default()),
             _ if joins_two(text) => {
                 format!("one line asks one \"{text}\", outside all parentheses")
             }
@@ -353,7 +379,9 @@ impl<'a> Reader<'a> {
         let keyword = line.words[0];
         line.next();
         if !line.take("possible") {
-            return self.wrong(&keyword, "write \"always possible: ...\"".to_string());
+            let says = "write \"always possible: ...\" for what presses can always lead to, or \"never not ...\" for what must hold in \
+                        every state";
+            return self.wrong(&keyword, says.to_string());
         }
         self.colon(line, "always possible")?;
         let (cond, _) = self.condition(line)?;
@@ -384,6 +412,58 @@ impl<'a> Reader<'a> {
     }
 }
 
+/// What to write for "whenever X: Y", in whatever words: the opposite must never be.
+fn implies(words: &[Word]) -> Option<String> {
+    let first = words[0].text.to_lowercase();
+    if !["whenever", "when", "if", "while"].contains(&first.as_str()) {
+        return None;
+    }
+    let middle = (words.iter()).position(|word| matches!(word.text, ":" | "," | "then"));
+    let example = match middle {
+        Some(at) if at > 1 && at + 1 < words.len() => {
+            let (x, y) = (quoted(&words[1..at]), quoted(&words[at + 1..]));
+            format!("never {x} and not {y}")
+        }
+        _ => "never X and not Y".to_string(),
+    };
+    Some(format!(
+        "\"{}\" begins no line. What must hold in such states: write \"{example}\"",
+        words[0].text
+    ))
+}
+
+/// Whether words can only be the beginning of a line.
+fn begins_a_line(words: &[Word]) -> bool {
+    let second = words.get(1).map_or("", |word| word.text);
+    FIRST_WORDS.contains(&words[0].text) || second == "means"
+}
+
+/// The word that is meant by a sign of other languages, or by capitals.
+fn meant(text: &str) -> Option<&'static str> {
+    let small = text.to_lowercase();
+    match small.as_str() {
+        "&" => Some("and"),
+        "|" => Some("or"),
+        "!" => Some("not"),
+        _ => (RESERVED.into_iter()).find(|word| *word == small && *word != text),
+    }
+}
+
+/// Words as they stand, one blank between those that do not touch; in parentheses where there are several.
+fn quoted(words: &[Word]) -> String {
+    let mut text = String::new();
+    for (at, word) in words.iter().enumerate() {
+        if at > 0 && !words[at - 1].touches(word) {
+            text.push(' ');
+        }
+        text += word.text;
+    }
+    match words.len() {
+        1 => text,
+        _ => format!("({text})"),
+    }
+}
+
 /// The words between the two conditions of a question.
 fn joins_two(word: &str) -> bool {
     matches!(word, "until" | "unless")
@@ -400,6 +480,11 @@ fn no_name(text: &str) -> String {
         return format!("\"{text}\" can be no name: a name begins with a letter");
     }
     strange(text)
+}
+
+/// A word that has another one in its place here.
+fn not_understood(text: &str, meant: &str) -> String {
+    format!("\"{text}\" is not understood. Is \"{meant}\" meant?")
 }
 
 /// A character that means nothing.
