@@ -1,5 +1,7 @@
 //! The library's answers to a room's questions, given only where the plain walk finds the same.
-use crate::plan::{Asking, Plan, Store, ANSWER, FIRST, INNER, SECOND, START};
+use crate::plan::{
+    Asking, Plan, Store, ANSWER, FIRST, INNER, SECOND, START, START_IN_ANSWER, THIRD,
+};
 use crate::room::{Asked, Question, Room, State};
 use crate::valid;
 use crate::walk::{members, Run, Set, Sets, Walk};
@@ -24,7 +26,8 @@ impl Limits {
 
 #[derive(Clone, Debug, PartialEq, Eq)]
 pub enum Verdict {
-    Safe,
+    /// With a run that shows it, where the question asks for one.
+    Safe(Option<Run>),
     /// With a run that shows it.
     Broken(Run),
     /// The library refused: the table is full, or the rounds are used up.
@@ -116,10 +119,8 @@ impl<'a> Asker<'a> {
         for set in &self.plan.sets {
             self.store(set)?;
         }
-        let mut start = vec![false; self.walk.exists.len()];
-        start[self.room.start as usize] = true;
         self.same(valid::REGISTER, &self.walk.exists)?;
-        self.same(START, &start)
+        self.same(START, &self.walk.starts)
     }
 
     fn store(&mut self, set: &Store) -> Result<(), Halt> {
@@ -164,17 +165,27 @@ impl<'a> Asker<'a> {
         }
         let sets = self.walk.sets(self.room, &question.asked);
         self.compare(&sets)?;
-        let start = self.room.start;
-        let found = self.table.member(ANSWER, start)?;
-        if found != sets.answer[start as usize] {
-            return differs("the start is in one answer and not in the other".to_string());
+        let inside: Set = (self.walk.starts.iter().zip(&sets.answer))
+            .map(|(start, inside)| *start && *inside)
+            .collect();
+        self.same(START_IN_ANSWER, &inside)?;
+        let found = self.table.count(START_IN_ANSWER)?;
+        // All starts are among the states in which it holds; or none is among those in which it is broken.
+        let safe = match asking.holds {
+            true => found == self.table.count(START)?,
+            false => found == 0,
+        };
+        let trouble = self.walk.trouble(&question.asked, &sets);
+        let way = self.walk.way(&question.asked, &sets);
+        match question.asked {
+            Asked::Never(_) | Asked::Works(..) => self.same_run(trouble.as_ref())?,
+            Asked::Possible(_) if !self.room.any_start => self.same_run(way.as_ref())?,
+            _ => {}
         }
-        let trouble = self.walk.trouble(start, &question.asked, &sets);
-        if let Asked::Never(_) = question.asked {
-            self.same_run(trouble.as_ref())?;
-        }
-        match (found == asking.holds, trouble) {
-            (true, None) => Ok(Verdict::Safe),
+        match (safe, trouble) {
+            (true, None) if way.as_ref().is_none_or(|run| self.is_run(&run.states)) => {
+                Ok(Verdict::Safe(way))
+            }
             (false, Some(run)) if self.is_run(&run.states) => Ok(Verdict::Broken(run)),
             _ => differs("a run into trouble is there, or is not, against the answer".to_string()),
         }
@@ -184,13 +195,17 @@ impl<'a> Asker<'a> {
     fn compare(&self, sets: &Sets) -> Result<(), Halt> {
         self.same(FIRST, &sets.first)?;
         self.same(ANSWER, &sets.answer)?;
-        if let Some(second) = &sets.second {
-            self.same(SECOND, second)?;
+        let more = [
+            (SECOND, &sets.second),
+            (THIRD, &sets.third),
+            (INNER, &sets.inner),
+        ];
+        for (register, set) in more {
+            if let Some(set) = set {
+                self.same(register, set)?;
+            }
         }
-        match &sets.inner {
-            Some(inner) => self.same(INNER, inner),
-            None => Ok(()),
-        }
+        Ok(())
     }
 
     /// Where all presses are one relation the library finds the shortest run too, or that there is none. It works out its
@@ -218,7 +233,8 @@ impl<'a> Asker<'a> {
     /// Whether every step of a run is a press, by the rules as read.
     fn is_run(&self, states: &[State]) -> bool {
         let pressed = |pair: &[State]| press(self.room, pair[0], pair[1]).is_some();
-        states.first() == Some(&self.room.start) && states.windows(2).all(pressed)
+        (states.first()).is_some_and(|&first| self.room.is_start(first))
+            && states.windows(2).all(pressed)
     }
 }
 

@@ -110,19 +110,19 @@ struct Returns<'a> {
     steps: usize,
 }
 
-/// The state that a run from the start inside a set meets twice after the fewest presses, where these are fewer than so many; else
+/// The state that a run from some start inside a set meets twice after the fewest presses, where these are fewer than so many; else
 /// some such state. The search looks at about so many steps at most, and says whether that was enough.
 pub fn first_return(
     next: &[Vec<State>],
     inside: &Set,
-    start: State,
+    starts: &Set,
     below: usize,
     steps: usize,
 ) -> Option<Return> {
     let mut returns = Returns {
         next,
         components: components(next, inside),
-        distance: distances(next, inside, start),
+        distance: distances(next, inside, starts),
         seen: vec![0; inside.len()],
         searches: 0,
         steps: usize::MAX,
@@ -147,13 +147,13 @@ pub fn first_return(
     Some(best)
 }
 
-/// How many steps inside a set lead from a start to each state.
-fn distances(next: &[Vec<State>], inside: &Set, start: State) -> Vec<Option<usize>> {
+/// How many steps inside a set lead from some start to each state.
+pub fn distances(next: &[Vec<State>], inside: &Set, starts: &Set) -> Vec<Option<usize>> {
     let mut found = vec![None; inside.len()];
     let mut open = VecDeque::new();
-    if inside[start as usize] {
-        found[start as usize] = Some(0);
-        open.push_back((start, 0));
+    for start in (0..inside.len()).filter(|&state| starts[state] && inside[state]) {
+        found[start] = Some(0);
+        open.push_back((start as State, 0));
     }
     while let Some((state, steps)) = open.pop_front() {
         for &to in &next[state as usize] {
@@ -261,10 +261,15 @@ mod tests {
         (0..count).map(|_| graph()).collect()
     }
 
+    /// The set of one state.
+    fn only(next: &Steps, state: State) -> Set {
+        (0..next.len()).map(|s| s == state as usize).collect()
+    }
+
     /// The fewest steps from a state to another inside a set, one at least.
     fn steps(next: &Steps, inside: &Set, from: usize, to: usize) -> Option<usize> {
         let starts = next[from].iter().filter(|&&state| inside[state as usize]);
-        let ways = starts.filter_map(|&state| distances(next, inside, state)[to]);
+        let ways = starts.filter_map(|&state| distances(next, inside, &only(next, state))[to]);
         ways.min().map(|steps| steps + 1)
     }
 
@@ -284,8 +289,8 @@ mod tests {
     }
 
     /// The fewest presses up to a state that was met before, by trying each state.
-    fn plain(next: &Steps, inside: &Set, start: State) -> Option<usize> {
-        let from_start = distances(next, inside, start);
+    fn plain(next: &Steps, inside: &Set, starts: &Set) -> Option<usize> {
+        let from_start = distances(next, inside, starts);
         (0..next.len())
             .filter_map(|state| Some(from_start[state]? + steps(next, inside, state, state)?))
             .min()
@@ -295,8 +300,11 @@ mod tests {
     fn first_returns_as_by_trying_each_state() {
         let mut met = [0; 12];
         for (next, inside) in graphs(8, 3_000, 40, &[1, 1, 1, 2]) {
-            let found = first_return(&next, &inside, 0, usize::MAX, usize::MAX);
-            assert_eq!(found.map(|r| r.presses), plain(&next, &inside, 0));
+            // One start, or two.
+            let starts = (0..next.len()).map(|s| s == 0 || s == next.len() / 3);
+            let starts: Set = starts.collect();
+            let found = first_return(&next, &inside, &starts, usize::MAX, usize::MAX);
+            assert_eq!(found.map(|r| r.presses), plain(&next, &inside, &starts));
             if let Some(Return {
                 state,
                 presses,
@@ -315,14 +323,15 @@ mod tests {
     fn a_search_that_is_cut_short() {
         let (mut cut, mut later) = (0, 0);
         for (next, inside) in graphs(9, 3_000, 40, &[1, 1, 1, 2]) {
-            let whole = first_return(&next, &inside, 0, usize::MAX, usize::MAX);
-            let found = first_return(&next, &inside, 0, usize::MAX, 3);
+            let start = only(&next, 0);
+            let whole = first_return(&next, &inside, &start, usize::MAX, usize::MAX);
+            let found = first_return(&next, &inside, &start, usize::MAX, 3);
             assert_eq!(found.is_some(), whole.is_some());
             let (Some(found), Some(whole)) = (found, whole) else {
                 continue;
             };
             let round = steps(&next, &inside, found.state as usize, found.state as usize);
-            let there = distances(&next, &inside, 0)[found.state as usize];
+            let there = distances(&next, &inside, &start)[found.state as usize];
             assert_eq!(Some(found.presses), there.zip(round).map(|(a, b)| a + b));
             assert!(found.presses == whole.presses || !found.least);
             cut += usize::from(!found.least);
@@ -341,7 +350,13 @@ mod tests {
                 false => vec![state - n, (state + 1) % (2 * n)],
             })
             .collect();
-        let found = first_return(&next, &vec![true; next.len()], 0, usize::MAX, 1_000_000);
+        let found = first_return(
+            &next,
+            &vec![true; next.len()],
+            &only(&next, 0),
+            usize::MAX,
+            1_000_000,
+        );
         let (presses, least) = (n as usize + 1, true);
         assert_eq!(
             found,

@@ -4,7 +4,7 @@ use room::ask::Limits;
 pub const HELP: &str = "\
 room FILE             reads a room's switching rules in words and answers its questions
 room --echo FILE      prints the rules as understood, and asks nothing
-room --records FILE   prints the questions as records for roomrules
+room --records FILE   prints the questions as records for roomrules, where it can answer them
 room --explain FILE   FILE has records: plays them, and says why one is refused
 
   --rows N            a table of N rows, 1 to 60000 (60000)
@@ -18,7 +18,7 @@ FILE is - for standard input. A room file:
   # what is behind a # is for people
   things: mic echo song             each is on or off
   selector send: desk hall booth    stands at one of its positions
-  start: all off                    or what is on: start: song on, send = hall
+  start: all off                    or what is on: start: song on, send = hall; or any state: start: any
   howl means mic and echo and send = booth
   press MIC: mic turns over
   press ECHO: echo on when song and not mic
@@ -27,6 +27,9 @@ FILE is - for standard input. A room file:
   always possible: not song         after any presses, some presses lead there
   not echo until song               whatever is pressed, song comes, and no echo before
   not echo unless song              no echo as long as song has not come, which it need not
+  possible: mic                     some presses lead there from the start; the fewest are shown
+  whenever mic: not song unless echo   from every such state on, no song as long as echo has not come
+  ECHO works whenever song and not mic   in every such state that presses lead to, the button does something
 
 A press works only where its condition holds, and what it does not name keeps its value. A press may have several lines.
 Conditions have: and, or, not, parentheses, names, SELECTOR = POSITION. A line that begins with a blank goes on with the one before.

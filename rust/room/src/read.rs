@@ -8,7 +8,9 @@ use crate::words::{self, Word, RESERVED};
 use std::collections::HashMap;
 
 /// The words that begin a line.
-const FIRST_WORDS: [&str; 6] = ["things", "selector", "start", "press", "never", "always"];
+const FIRST_WORDS: [&str; 8] = [
+    "things", "selector", "start", "press", "never", "always", "possible", "whenever",
+];
 
 /// What a line's reading gives; a line that is given up has told its mistake already.
 type Read<T> = Result<T, GivenUp>;
@@ -29,6 +31,7 @@ pub fn read(text: &str) -> Result<Room, Vec<Mistake>> {
             let _ = reader.line(Line { words, at: 0 });
         }
     }
+    reader.known_presses();
     reader.whole();
     reader.mistakes.sort_by_key(|m| (m.line, m.column));
     if reader.mistakes.is_empty() {
@@ -95,6 +98,9 @@ struct Reader<'a> {
     /// The bytes that each named set takes.
     sizes: Vec<usize>,
     started: bool,
+    /// The buttons that presses name, and those that questions name.
+    presses: Vec<String>,
+    asked_presses: Vec<(Word<'a>, String)>,
     declared: HashMap<&'a str, usize>,
     mistakes: Vec<Mistake>,
 }
@@ -135,7 +141,10 @@ impl<'a> Reader<'a> {
             "press" => self.press(&mut line),
             "never" => self.never(&mut line),
             "always" => self.always_possible(&mut line),
+            "possible" => self.possible(&mut line),
+            "whenever" => self.whenever(&mut line),
             _ if second == "means" => self.means(&mut line),
+            _ if line.words.iter().any(|word| word.text == "whenever") => self.works(&mut line),
             _ if (line.words.iter()).any(|word| joins_two(&word.text.to_lowercase())) => {
                 self.until(&mut line)
             }
@@ -170,13 +179,28 @@ impl<'a> Reader<'a> {
         }
     }
 
+    /// Tells the buttons that a question names and no press does.
+    fn known_presses(&mut self) {
+        for (word, label) in std::mem::take(&mut self.asked_presses) {
+            if self.presses.contains(&label) {
+                continue;
+            }
+            let mut says = format!("no press is called \"{label}\"");
+            if let Some(other) = similar(&label, self.presses.iter().map(String::as_str)) {
+                says += &format!(". Is \"{other}\" meant?");
+            }
+            self.mistakes.push(Mistake::at(&word, says));
+        }
+    }
+
     fn no_line(&mut self, line: &Line) -> Read<()> {
         let first = line.words[0];
         if !first.is_name() && !first.text.is_ascii() {
             return self.wrong(&first, strange(first.text));
         }
-        if let Some(says) = implies(line.words) {
-            return self.wrong(&first, says);
+        if ["when", "if", "while"].contains(&first.text.to_lowercase().as_str()) {
+            let lacks = format!("\"{}\" begins no line", first.text);
+            return self.wrong(&first, implies(line.words, &lacks));
         }
         if let Some(word) = similar(first.text, FIRST_WORDS.into_iter()) {
             return self.wrong(
@@ -192,8 +216,8 @@ impl<'a> Reader<'a> {
                 return self.wrong(second, not_understood(second.text, "means"));
             }
         }
-        let says = "a line begins with things, selector, start, press, never or always possible, or it is \
-                    \"NAME means ...\", \"... until ...\" or \"... unless ...\"";
+        let says = "a line begins with things, selector, start, press, never, possible, always possible or whenever, or it is \
+                    \"NAME means ...\", \"... until ...\", \"... unless ...\" or \"BUTTON works whenever ...\"";
         self.wrong(&first, says.to_string())
     }
 
@@ -388,6 +412,56 @@ impl<'a> Reader<'a> {
         self.question(line, Asked::AlwaysPossible(cond))
     }
 
+    fn possible(&mut self, line: &mut Line<'a, '_>) -> Read<()> {
+        line.next();
+        self.colon(line, "possible")?;
+        let (cond, _) = self.condition(line)?;
+        self.question(line, Asked::Possible(cond))
+    }
+
+    /// `whenever X: Y unless Z`.
+    fn whenever(&mut self, line: &mut Line<'a, '_>) -> Read<()> {
+        let keyword = line.words[0];
+        let joins = line.words.iter().find(|word| joins_two(word.text));
+        match joins {
+            None => return self.wrong(&keyword, implies(line.words, "\"unless\" is missing")),
+            Some(until) if until.text == "until" => {
+                return self.wrong(until, not_understood(until.text, "unless"))
+            }
+            Some(_) => {}
+        }
+        line.next();
+        let (begins, _) = self.condition(line)?;
+        let last = line.last();
+        self.colon(line, last.text)?;
+        let (holds, _) = self.condition(line)?;
+        if !line.take("unless") {
+            return self.end(line);
+        }
+        let (comes, _) = self.condition(line)?;
+        self.question(line, Asked::Whenever(begins, holds, comes))
+    }
+
+    /// `BUTTON works whenever X`.
+    fn works(&mut self, line: &mut Line<'a, '_>) -> Read<()> {
+        let words = line.words;
+        let whenever = words.iter().position(|word| word.text == "whenever");
+        let whenever = whenever.unwrap_or_default();
+        let verb = words[whenever.max(1) - 1];
+        if verb.text != "works" {
+            return self.wrong(&verb, not_understood(verb.text, "works"));
+        }
+        if whenever < 2 {
+            let says = "say which button: BUTTON works whenever ...";
+            return self.wrong(&verb, says.to_string());
+        }
+        let press = self.label(&words[..whenever - 1])?;
+        self.asked_presses.push((words[0], press.clone()));
+        line.at = whenever + 1;
+        let (cond, _) = self.condition(line)?;
+        self.question(line, Asked::Works(press, cond))
+    }
+
     fn until(&mut self, line: &mut Line<'a, '_>) -> Read<()> {
         let (before, _) = self.condition(line)?;
         let weak = line.take("unless");
@@ -412,12 +486,8 @@ impl<'a> Reader<'a> {
     }
 }
 
-/// What to write for "whenever X: Y", in whatever words: the opposite must never be.
-fn implies(words: &[Word]) -> Option<String> {
-    let first = words[0].text.to_lowercase();
-    if !["whenever", "when", "if", "while"].contains(&first.as_str()) {
-        return None;
-    }
+/// What to write for "whenever X: Y", in whatever words, where something is lacking: the opposite must never be.
+fn implies(words: &[Word], lacks: &str) -> String {
     let middle = (words.iter()).position(|word| matches!(word.text, ":" | "," | "then"));
     let example = match middle {
         Some(at) if at > 1 && at + 1 < words.len() => {
@@ -426,10 +496,7 @@ fn implies(words: &[Word]) -> Option<String> {
         }
         _ => "never X and not Y".to_string(),
     };
-    Some(format!(
-        "\"{}\" begins no line. What must hold in such states: write \"{example}\"",
-        words[0].text
-    ))
+    format!("{lacks}. What must hold in every such state: write \"{example}\"")
 }
 
 /// Whether words can only be the beginning of a line.

@@ -48,7 +48,11 @@ pub fn verdict(
 ) -> String {
     let asked = echo::asked(room, &question.asked);
     match verdict {
-        Verdict::Safe => format!("SAFE        {asked}\n"),
+        Verdict::Safe(None) => format!("SAFE        {asked}\n"),
+        Verdict::Safe(Some(run)) => format!(
+            "SAFE        {asked}\n{}",
+            shown(room, &question.asked, run, whole)
+        ),
         Verdict::Broken(run) => format!(
             "BROKEN      {asked}\n{}",
             shown(room, &question.asked, run, whole)
@@ -93,7 +97,11 @@ fn shown(room: &Room, asked: &Asked, run: &Run, whole: bool) -> String {
     let line = |number: &str, name: &str, state: &str| {
         format!("  {number:>digits$}  {name:widest$}  {state}\n")
     };
-    let mut text = format!("  {}\n", introduction(run, presses));
+    let from = match (room.any_start, run.end, asked) {
+        (true, End::Reached, Asked::Possible(_)) => " from the start that is farthest from there",
+        _ => "",
+    };
+    let mut text = format!("  {}\n", introduction(run, presses, from));
     text += &line("", "start", &echo::state(room, run.states[0]));
     let hidden = match whole || presses <= FIRST_STEPS + LAST_STEPS {
         true => presses..presses,
@@ -113,12 +121,12 @@ fn shown(room: &Room, asked: &Asked, run: &Run, whole: bool) -> String {
     text + &closing(room, asked, run.end)
 }
 
-fn introduction(run: &Run, presses: usize) -> String {
+fn introduction(run: &Run, presses: usize, from: &str) -> String {
     let number = grouped(presses as u32);
     match presses {
         0 => "At the start already:".to_string(),
-        1 => "One press does it:".to_string(),
-        _ if run.least => format!("{number} presses do it, and no fewer:"),
+        1 => format!("One press does it{from}:"),
+        _ if run.least => format!("{number} presses do it{from}, and no fewer:"),
         _ => format!(
             "{number} presses do it; fewer may do it too, by a circle that was not looked at:"
         ),
@@ -127,22 +135,38 @@ fn introduction(run: &Run, presses: usize) -> String {
 
 /// What is wrong at the end of a run, where the question does not say it by itself.
 fn closing(room: &Room, asked: &Asked, end: End) -> String {
-    let (first, second) = match asked {
-        Asked::Never(x) | Asked::AlwaysPossible(x) => (echo::cond(room, x), String::new()),
-        Asked::Until(x, y) | Asked::Unless(x, y) => (echo::cond(room, x), echo::cond(room, y)),
+    let mut conds = asked.conditions().into_iter();
+    let mut said = || conds.next().map_or(String::new(), |c| echo::cond(room, c));
+    let (first, second, third) = (said(), said(), said());
+    let lost = |holds: &str, comes: &str| {
+        format!("  There \"{holds}\" does not hold, and \"{comes}\" has not come.\n")
     };
-    let again = |state: String| {
-        format!("  That is {state} again, and so on for ever: \"{second}\" need never come.\n")
-    };
-    match end {
-        End::Reached => String::new(),
-        End::NoWay => format!("  From there no presses lead to \"{first}\".\n"),
-        End::Lost => {
-            format!("  There \"{first}\" does not hold, and \"{second}\" has not come.\n")
+    match (end, asked) {
+        (End::Reached, _) => String::new(),
+        (End::NoWay, _) => format!("  From there no presses lead to \"{first}\".\n"),
+        (End::Lost, _) => lost(&first, &second),
+        (End::LostSince(place), _) => {
+            let since = format!("  \"{first}\" holds {}.\n", at_place(place));
+            since + &lost(&second, &third)
         }
-        End::Stuck => format!("  There no press works, and \"{second}\" has not come.\n"),
-        End::Circle(0) => again("the start".to_string()),
-        End::Circle(place) => again(format!("the state after press {place}")),
+        (End::DoesNotWork, Asked::Works(press, _)) => format!("  There {press} does not work.\n"),
+        (End::DoesNotWork, _) => String::new(),
+        (End::Stuck, _) => format!("  There no press works, and \"{second}\" has not come.\n"),
+        (End::Circle(place), _) => {
+            let state = match place {
+                0 => "the start".to_string(),
+                _ => format!("the state {}", at_place(place)),
+            };
+            format!("  That is {state} again, and so on for ever: \"{second}\" need never come.\n")
+        }
+    }
+}
+
+/// Where in a run a state stands.
+fn at_place(place: usize) -> String {
+    match place {
+        0 => "at the start".to_string(),
+        _ => format!("after press {}", grouped(place as u32)),
     }
 }
 
@@ -169,7 +193,7 @@ pub fn heading(room: &Room) -> String {
         "{}, {}. Start: {}.\n",
         count(room.states() as usize, "state", "states"),
         count(presses.len(), "press", "presses"),
-        echo::state(room, room.start)
+        echo::beginning(room)
     )
 }
 
@@ -250,8 +274,7 @@ pub fn notes(room: &Room, walk: &Walk) -> Vec<String> {
             ));
         }
     }
-    let reached = walk.reached(room.start);
-    let states = members(&reached);
+    let states = members(&walk.reached());
     for rule in &room.rules {
         if !states.iter().any(|&state| room.works(rule, state)) {
             notes.push(format!(

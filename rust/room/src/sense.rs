@@ -42,8 +42,14 @@ pub fn mistakes(room: &Room) -> Vec<Mistake> {
     for question in &room.questions {
         let says = "there is nothing to ask";
         match &question.asked {
-            Asked::Never(cond) | Asked::AlwaysPossible(cond) => {
+            Asked::Never(cond) | Asked::AlwaysPossible(cond) | Asked::Possible(cond) => {
                 look(question.line, cond, says, true)
+            }
+            Asked::Works(_, cond) => look(question.line, cond, says, false),
+            Asked::Whenever(begins, holds, comes) => {
+                look(question.line, begins, says, false);
+                look(question.line, holds, says, true);
+                look(question.line, comes, says, true);
             }
             Asked::Until(before, comes) | Asked::Unless(before, comes) => {
                 look(question.line, before, says, false);

@@ -83,7 +83,12 @@ BROKEN: 1 of 3 questions. Do not hand over.
 fn as_documented() {
     let documents = ["../README.md", "README.md"]
         .map(|name| std::fs::read_to_string(format!("{EXAMPLES}/{name}")).unwrap());
-    for (name, status) in [("hall.room", 1), ("mended.room", 0), ("booth.room", 0)] {
+    for (name, status) in [
+        ("hall.room", 1),
+        ("mended.room", 0),
+        ("booth.room", 0),
+        ("bar.room", 0),
+    ] {
         let (printed, errors, found) = run(&[name]);
         assert_eq!((errors.as_str(), found), ("", status));
         let shown: String = printed
@@ -174,10 +179,82 @@ fn no_verdict() {
     assert_eq!(status, 1);
 }
 
+/// Questions that ask for a way, for what holds from a state on, and for a button; with one start, and with any.
+#[test]
+fn other_questions() {
+    let room = |start: &str| {
+        format!(
+            "things: mic song lock\nstart: {start}\npress START: song on when not song and not lock\npress STOP: song off when song\n\
+             press MIC: mic turns over when song\npress LOCK: lock turns over\npossible: mic and lock\npossible: mic and not song\n\
+             START works whenever not song\nwhenever lock: not mic unless song\nwhenever mic: mic unless not song\n"
+        )
+    };
+    let expected = "\
+8 states, 4 presses. Start: all off.
+SAFE        possible: mic and lock
+  3 presses do it, and no fewer:
+     start  all off
+  1  START  song
+  2  MIC    mic, song
+  3  LOCK   mic, song, lock
+SAFE        possible: mic and not song
+  3 presses do it, and no fewer:
+     start  all off
+  1  START  song
+  2  MIC    mic, song
+  3  STOP   mic
+BROKEN      START works whenever not song
+  One press does it:
+     start  all off
+  1  LOCK   lock
+  There START does not work.
+BROKEN      whenever lock: not mic unless song
+  4 presses do it, and no fewer:
+     start  all off
+  1  START  song
+  2  MIC    mic, song
+  3  STOP   mic
+  4  LOCK   mic, lock
+  \"lock\" holds after press 4.
+  There \"not mic\" does not hold, and \"song\" has not come.
+BROKEN      whenever mic: mic unless not song
+  3 presses do it, and no fewer:
+     start  all off
+  1  START  song
+  2  MIC    mic, song
+  3  MIC    song
+  \"mic\" holds after press 2.
+  There \"mic\" does not hold, and \"not song\" has not come.
+BROKEN: 3 of 5 questions. Do not hand over.
+";
+    let (printed, errors, status) = given(&["-"], room("all off").as_bytes());
+    assert_eq!(
+        (printed.as_str(), errors.as_str(), status),
+        (expected, "", 1)
+    );
+    let (printed, _, _) = given(&["-"], room("any").as_bytes());
+    let lines = [
+        "8 states, 4 presses. Start: any state.\n",
+        "  4 presses do it from the start that is farthest from there, and no fewer:\n     start  lock\n",
+        "BROKEN      START works whenever not song\n  At the start already:\n     start  lock\n  There START does not work.\n",
+    ];
+    assert!(lines.iter().all(|line| printed.contains(line)), "{printed}");
+    // What no presses lead to is told from the start.
+    let text = "things: mic song\nstart: mic on\npress MIC: mic turns over\npossible: song\n";
+    let (printed, _, status) = given(&["-"], text.as_bytes());
+    let expected = "BROKEN      possible: song\n  At the start already:\n     start  mic\n  From there no presses lead to \"song\".\n";
+    assert!(printed.contains(expected) && status == 1, "{printed}");
+}
+
 /// The peak is enough, and one row fewer is not.
 #[test]
 fn peaks() {
-    for (name, status) in [("hall.room", 1), ("mended.room", 0), ("booth.room", 0)] {
+    for (name, status) in [
+        ("hall.room", 1),
+        ("mended.room", 0),
+        ("booth.room", 0),
+        ("bar.room", 0),
+    ] {
         let (printed, _, _) = run(&["--peak", name]);
         let last = printed.lines().last().unwrap();
         let rows = last.strip_prefix("A table of ").and_then(|rest| {

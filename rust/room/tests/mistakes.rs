@@ -67,8 +67,8 @@ fn no_mistake() {
 #[test]
 fn lines() {
     let kinds =
-        "a line begins with things, selector, start, press, never or always possible, or it is \
-                 \"NAME means ...\", \"... until ...\" or \"... unless ...\"";
+        "a line begins with things, selector, start, press, never, possible, always possible or whenever, or it is \
+                 \"NAME means ...\", \"... until ...\", \"... unless ...\" or \"BUTTON works whenever ...\"";
     all(&[
         (
             "pres MIC: mic on",
@@ -229,7 +229,7 @@ fn starts() {
         (
             "start:",
             "start",
-            "say what is on at the start, or \"all off\"",
+            "say what is on at the start, or \"all off\", or \"any\"",
         ),
         ("start: all", "all", "write \"all off\", or name what is on"),
         (
@@ -263,6 +263,16 @@ fn starts() {
             "\"and\", \"or\" or a comma is missing before \"echo\"",
         ),
         ("start: mic on, mic off", "mic", "\"mic\" stands here twice"),
+        (
+            "start: any, mic on",
+            ",",
+            "\"any\" stands alone: the evening may begin in every state",
+        ),
+        (
+            "start: Any",
+            "Any",
+            "\"Any\" is not understood. Is \"any\" meant?",
+        ),
         (
             "start: mick on",
             "mick",
@@ -593,7 +603,94 @@ fn questions() {
         ("mic and not mic until song", "", nothing),
         ("mic until song and not song", "", nothing),
         ("mic until song or not song", "", every),
+        (
+            "possible song",
+            "possible",
+            "a colon is missing after \"possible\"",
+        ),
+        ("possible:", ":", "a condition is missing after \":\""),
+        (
+            "Possible: song",
+            "Possible",
+            "no line begins with \"Possible\". Is \"possible\" meant?",
+        ),
+        ("possible: mic and not mic", "", nothing),
+        ("possible: mic or not mic", "", every),
+        (
+            "whenever song mic unless echo",
+            "song",
+            "a colon is missing after \"song\"",
+        ),
+        (
+            "whenever song unless echo",
+            "song",
+            "a colon is missing after \"song\"",
+        ),
+        (
+            "whenever song: unless echo",
+            "unless",
+            "a condition is missing before \"unless\"",
+        ),
+        (
+            "whenever : mic unless echo",
+            ":",
+            "\":\" means nothing here",
+        ),
+        (
+            "whenever song: mic unless",
+            "unless",
+            "a condition is missing after \"unless\"",
+        ),
+        (
+            "whenever song: mic until echo",
+            "until",
+            "\"until\" is not understood. Is \"unless\" meant?",
+        ),
+        (
+            "whenever song: mic unless echo unless howl",
+            "unless",
+            "one line asks one \"unless\", outside all parentheses",
+        ),
+        ("whenever mic and not mic: song unless echo", "", nothing),
+        ("whenever mic: song or not song unless echo", "", every),
+        ("whenever mic: song unless echo and not echo", "", nothing),
+        (
+            "START work whenever song",
+            "work",
+            "\"work\" is not understood. Is \"works\" meant?",
+        ),
+        (
+            "works whenever song",
+            "works",
+            "say which button: BUTTON works whenever ...",
+        ),
+        (
+            "START works whenever",
+            "whenever",
+            "a condition is missing after \"whenever\"",
+        ),
+        (
+            "START works whenever mick",
+            "mick",
+            "nothing here is called \"mick\". Is \"mic\" meant?",
+        ),
+        ("START works whenever mic and not mic", "", nothing),
+        (
+            "STRT works whenever song",
+            "STRT",
+            "no press is called \"STRT\". Is \"START\" meant?",
+        ),
+        (
+            "THE BELL works whenever song",
+            "THE",
+            "no press is called \"THE BELL\"",
+        ),
     ]);
+    // A press may stand below the question; one whose line is given up for another mistake is not missed.
+    let text =
+        |press: &str| format!("{BEFORE}GO on works whenever song\npress GO on: {press}\n{AFTER}");
+    assert_eq!(mistakes(&text("mic on")), []);
+    assert_eq!(only(&text("mick on")).1, "mick");
 }
 
 /// Words of other languages, and of every day: the word that is meant here is told.
@@ -603,9 +700,10 @@ fn the_word_that_is_meant() {
         |text: &str, meant: &str| format!("\"{text}\" is not understood. Is \"{meant}\" meant?");
     let first = |write: &str| format!("the name comes first: write \"{write}\"");
     let write = |text: &str| format!("write \"{text}\"");
-    let whenever = |word: &str, text: &str| {
-        format!("\"{word}\" begins no line. What must hold in such states: write \"{text}\"")
+    let lacks = |what: &str, text: &str| {
+        format!("{what}. What must hold in every such state: write \"{text}\"")
     };
+    let whenever = |text: &str| lacks("\"unless\" is missing", text);
     let two_ways = "a press does all that its line names: write a comma, or a second line of the same press for the other way";
     let position = "\"hall\" is a position of \"send\": write \"send = hall\"";
     let cases = [
@@ -613,30 +711,23 @@ fn the_word_that_is_meant() {
         (
             "whenever song: mic",
             "whenever",
-            whenever("whenever", "never song and not mic"),
+            whenever("never song and not mic"),
         ),
         (
-            "Whenever mic or echo: song and not howl",
-            "Whenever",
-            whenever(
-                "Whenever",
-                "never (mic or echo) and not (song and not howl)",
-            ),
+            "whenever mic or echo: song and not howl",
+            "whenever",
+            whenever("never (mic or echo) and not (song and not howl)"),
         ),
+        ("whenever song", "whenever", whenever("never X and not Y")),
         (
             "if song then mic",
             "if",
-            whenever("if", "never song and not mic"),
+            lacks("\"if\" begins no line", "never song and not mic"),
         ),
         (
-            "when song, mic",
-            "when",
-            whenever("when", "never song and not mic"),
-        ),
-        (
-            "whenever song",
-            "whenever",
-            whenever("whenever", "never X and not Y"),
+            "When song, mic",
+            "When",
+            lacks("\"When\" begins no line", "never song and not mic"),
         ),
         // Presses.
         ("press ECHO: echo on or mic on", "or", two_ways.to_string()),
@@ -734,7 +825,7 @@ fn positions_of_two_selectors() {
         |selector: &str| format!("\"q\" is a position of \"{selector}\": write \"{selector} = q\"");
     assert_eq!(says, [of("t"), of("s")]);
     let text = "things: mic\nstart: mic on or mic off\npress A: mic on\nnever mic\n";
-    let says = "the evening begins in one state: write a comma, or choose";
+    let says = "the evening begins in one state: write a comma; or \"start: any\" for every state";
     assert_eq!(only(text), (2, "or".to_string(), says.to_string()));
 }
 
@@ -884,9 +975,9 @@ fn names_that_double() {
 fn any_words() {
     let words = [
         "things", "selector", "start", "press", "means", "never", "always", "possible", "until",
-        "unless", "when", "and", "or", "not", "on", "off", "turns", "over", "all", "mic", "echo",
-        "send", "desk", "hall", "howl", "x", ":", ",", "=", "(", ")", "\n", "\n", "\n", "\n ", "#",
-        "1", ";", "é", "\u{200b}", "-",
+        "unless", "whenever", "works", "any", "when", "and", "or", "not", "on", "off", "turns",
+        "over", "all", "mic", "echo", "send", "X", "desk", "hall", "howl", "x", ":", ",", "=", "(",
+        ")", "\n", "\n", "\n", "\n ", "#", "1", ";", "é", "\u{200b}", "-",
     ];
     let starts = [
         "things: mic echo\n",

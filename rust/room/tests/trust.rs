@@ -5,7 +5,7 @@ use room::echo::echo;
 use room::plan::{plan, Plan, ANSWER, START_IN_ANSWER};
 use room::read::read;
 use room::records::{records, ROOMRULES_ROWS, ROOMRULES_WORDS};
-use room::room::{Asked, Change, Cond, Room};
+use room::room::{Asked, Change, Cond, Room, Rule};
 use room::sense;
 use room::walk::{End, Run, Walk};
 use std::collections::VecDeque;
@@ -42,17 +42,6 @@ impl Drawn {
         }
     }
 
-    /// A condition that one state meets.
-    fn one_state(&mut self, things: usize, selectors: usize) -> String {
-        let things: Vec<String> = (0..things)
-            .map(|k| format!("{}t{k}", ["", "not "][self.below(2)]))
-            .collect();
-        let selectors: Vec<String> = (0..selectors)
-            .map(|k| format!("s{k} = p{}", self.below(3)))
-            .collect();
-        [things, selectors].concat().join(" and ")
-    }
-
     fn effect(&mut self, at: usize, things: usize) -> String {
         if at >= things {
             return format!("s{} = p{}", at - things, self.below(3));
@@ -70,7 +59,10 @@ impl Drawn {
             let positions = ["p0 p1 p2", "p0 p1 p2 p3 p4", "p0 p1 p2 p3"][self.below(3)];
             text += &format!("selector s{k}: {positions}\n");
         }
-        text += &format!("start: {}\n", ["all off", "t0 on"][self.below(2)]);
+        text += &format!(
+            "start: {}\n",
+            ["all off", "all off", "t0 on", "t0 on", "any"][self.below(5)]
+        );
         for k in 0..1 + self.below(6) {
             let first = self.below(things + selectors);
             let mut effects = vec![self.effect(first, things)];
@@ -89,13 +81,15 @@ impl Drawn {
                 self.cond(things, selectors, 2),
                 self.cond(things, selectors, 2),
             );
-            text += &match self.below(4) {
+            text += &match self.below(7) {
+                4 => format!("possible: {f}\n"),
+                5 => {
+                    let h = self.cond(things, selectors, 2);
+                    format!("whenever {f}: {g} unless {h}\n")
+                }
+                6 => format!("B0 works whenever {f}\n"),
                 0 => format!("never {f}\n"),
                 1 => format!("always possible: {f}\n"),
-                // What holds in all states but one: so that some runs that lose it are long.
-                2 if self.below(2) == 0 => {
-                    format!("not ({}) until {g}\n", self.one_state(things, selectors))
-                }
                 2 => format!("{f} until {g}\n"),
                 _ => format!("{f} unless {g}\n"),
             };
@@ -142,9 +136,11 @@ fn presses_to(
     goal: impl Fn(u32) -> bool,
     through: impl Fn(u32) -> bool,
 ) -> Option<usize> {
-    let mut seen = vec![false; room.patterns() as usize];
-    seen[room.start as usize] = true;
-    let mut open = VecDeque::from([(room.start, 0)]);
+    let mut seen: Vec<bool> = (0..room.patterns())
+        .map(|state| room.is_start(state))
+        .collect();
+    let starts = (0..room.patterns()).filter(|&state| room.is_start(state));
+    let mut open: VecDeque<(u32, usize)> = starts.map(|state| (state, 0)).collect();
     while let Some((state, presses)) = open.pop_front() {
         if goal(state) {
             return Some(presses);
@@ -188,7 +184,7 @@ fn presses_to_a_return(room: &Room, through: impl Fn(u32) -> bool, most: usize) 
         }
         None
     };
-    let there = |state: u32| match state == room.start {
+    let there = |state: u32| match room.is_start(state) {
         true => Some(0),
         false => leads(room.start, state, most),
     };
@@ -200,21 +196,59 @@ fn presses_to_a_return(room: &Room, through: impl Fn(u32) -> bool, most: usize) 
     states.filter_map(round).min()
 }
 
+/// The room with another start.
+fn begins(room: &Room, start: u32) -> Room {
+    Room {
+        start,
+        any_start: false,
+        ..room.clone()
+    }
+}
+
+/// The fewest presses to a state that meets the first, and from there on to one in which the second does not hold, with the third
+/// in none of them from there on.
+fn presses_since(room: &Room, [x, y, z]: [&Cond; 3]) -> Option<usize> {
+    let waits = |state: u32| !room.holds(z, state);
+    let lost = |state: u32| waits(state) && !room.holds(y, state);
+    let states = room.all_states().into_iter();
+    let ways = states
+        .filter(|&state| room.holds(x, state))
+        .filter_map(|since| {
+            let there = presses_to(room, |state| state == since, |_| true)?;
+            Some(there + presses_to(&begins(room, since), lost, waits)?)
+        });
+    ways.min()
+}
+
+/// A way to where it must be possible to come is a shortest one, from the farthest start.
+fn check_way(room: &Room, cond: &Cond, run: &Run) {
+    let presses = run.states.len() - 1;
+    let there = |state| room.holds(cond, state);
+    let from = |start: u32| presses_to(&begins(room, start), there, |_| true);
+    assert!(run.end == End::Reached && there(run.states[presses]));
+    assert_eq!(from(run.states[0]), Some(presses));
+    let starts = (room.all_states().into_iter()).filter(|&state| room.is_start(state));
+    assert!(starts
+        .map(from)
+        .all(|found| found.is_some_and(|found| found <= presses)));
+}
+
 /// A run into trouble shows what it says, and no shorter one does.
 fn check(room: &Room, asked: &Asked, run: &Run) {
     let presses = run.states.len() - 1;
     let last = run.states[presses];
-    assert_eq!(run.states[0], room.start);
+    assert!(room.is_start(run.states[0]) && run.least);
     assert!(run
         .states
         .windows(2)
         .all(|pair| press(room, pair[0], pair[1]).is_some()));
     let leads = |cond, from: u32| {
-        let there = Room {
-            start: from,
-            ..room.clone()
-        };
-        presses_to(&there, |state| room.holds(cond, state), |_| true).is_some()
+        presses_to(
+            &begins(room, from),
+            |state| room.holds(cond, state),
+            |_| true,
+        )
+        .is_some()
     };
     let stuck = |state: u32| {
         room.rules
@@ -245,7 +279,7 @@ fn check(room: &Room, asked: &Asked, run: &Run) {
                 |state: u32| !room.holds(y, state) && (!room.holds(x, state) || stuck(state));
             let ends = presses_to(room, lost, |state| !room.holds(y, state));
             let returns = presses_to_a_return(room, |state| !room.holds(y, state), presses);
-            assert!(run.least && ends.is_none_or(|ends| ends >= presses));
+            assert!(ends.is_none_or(|ends| ends >= presses));
             match run.end {
                 End::Lost => assert!(!room.holds(x, last) && ends == Some(presses)),
                 End::Stuck => assert!(stuck(last) && ends == Some(presses)),
@@ -262,18 +296,27 @@ fn check(room: &Room, asked: &Asked, run: &Run) {
             let shortest = presses_to(room, lost, |state| !room.holds(y, state));
             assert!(run.end == End::Lost && lost(last) && shortest == Some(presses));
         }
+        Asked::Possible(x) => {
+            assert!(run.end == End::NoWay && presses == 0 && !leads(x, last));
+        }
+        Asked::Whenever(x, y, z) => {
+            let End::LostSince(place) = run.end else {
+                panic!("a whenever does not end so");
+            };
+            assert!(room.holds(x, run.states[place]) && !room.holds(y, last));
+            let after = &run.states[place..];
+            assert!(after.iter().all(|&state| !room.holds(z, state)));
+            assert_eq!(presses_since(room, [x, y, z]), Some(presses));
+        }
+        Asked::Works(press, x) => {
+            let works = |rule: &Rule, state| rule.press == *press && room.works(rule, state);
+            let fails = |state: u32| {
+                room.holds(x, state) && !room.rules.iter().any(|rule| works(rule, state))
+            };
+            assert!(run.end == End::DoesNotWork && fails(last));
+            assert_eq!(presses_to(room, fails, |_| true), Some(presses));
+        }
     }
-}
-
-/// Whether some run loses what must hold until the other comes.
-fn loses(room: &Room, holds: &Cond, comes: &Cond) -> bool {
-    let waits = |state: u32| !room.holds(comes, state);
-    presses_to(
-        room,
-        |state| waits(state) && !room.holds(holds, state),
-        waits,
-    )
-    .is_some()
 }
 
 #[test]
@@ -282,11 +325,6 @@ fn the_library_and_the_walk_agree() {
     for room in rooms(1, 1_500) {
         for (question, verdict) in room.questions.iter().zip(own(&room)) {
             let kind = match (&question.asked, &verdict) {
-                (Asked::Until(x, y), Verdict::Broken(run))
-                    if matches!(run.end, End::Circle(_)) && loses(&room, x, y) =>
-                {
-                    "a circle, sooner than what is lost".to_string()
-                }
                 (_, Verdict::Broken(run)) => format!("{:?}", run.end)
                     .split('(')
                     .next()
@@ -296,17 +334,65 @@ fn the_library_and_the_walk_agree() {
                 (Asked::AlwaysPossible(_), _) => "always possible: safe".to_string(),
                 (Asked::Until(..), _) => "until: safe".to_string(),
                 (Asked::Unless(..), _) => "unless: safe".to_string(),
+                (Asked::Possible(_), _) => "possible: safe".to_string(),
+                (Asked::Whenever(..), _) => "whenever: safe".to_string(),
+                (Asked::Works(..), _) => "works: safe".to_string(),
             };
             *kinds.entry(kind).or_insert(0) += 1;
-            if let Verdict::Broken(run) = &verdict {
-                check(&room, &question.asked, run);
+            match (&verdict, &question.asked) {
+                (Verdict::Broken(run), asked) => check(&room, asked, run),
+                (Verdict::Safe(Some(run)), Asked::Possible(x)) => check_way(&room, x, run),
+                (verdict, asked) => {
+                    assert_eq!(*verdict, Verdict::Safe(None));
+                    assert!(!matches!(asked, Asked::Possible(_)));
+                }
             }
         }
     }
     println!("{kinds:?}");
     assert!(
-        kinds.len() == 10 && kinds.values().all(|&count| count > 5),
+        kinds.len() == 14 && kinds.values().all(|&count| count > 20),
         "{kinds:?}"
+    );
+}
+
+/// The condition that a state alone meets.
+fn only(room: &Room, state: u32) -> Cond {
+    let parts = room.parts.iter().enumerate();
+    Cond::All(
+        parts
+            .map(|(k, part)| Cond::Is(k, part.value(state)))
+            .collect(),
+    )
+}
+
+/// What must hold in all states but one until another state comes: many runs into that one are longer than a way round.
+#[test]
+fn the_shorter_of_two_runs() {
+    let mut draw = Drawn(7);
+    let (mut lost, mut round, mut sooner) = (0, 0, 0);
+    for mut room in rooms(7, 500) {
+        let states = room.all_states();
+        let mut state = || only(&room, states[draw.below(states.len())]);
+        let (bad, comes) = (state(), state());
+        let asked = Asked::Until(Cond::Not(Box::new(bad.clone())), comes.clone());
+        room.questions.truncate(1);
+        room.questions[0].asked = asked.clone();
+        if let Verdict::Broken(run) = &own(&room)[0] {
+            check(&room, &asked, run);
+            let waits = |state: u32| !room.holds(&comes, state);
+            let loses = |state: u32| waits(state) && room.holds(&bad, state);
+            match run.end {
+                End::Circle(_) if presses_to(&room, loses, waits).is_some() => sooner += 1,
+                End::Circle(_) => round += 1,
+                _ => lost += 1,
+            }
+        }
+    }
+    println!("{lost} lost or stuck, {round} round, {sooner} sooner round than lost");
+    assert!(
+        lost > 20 && round > 20 && sooner > 5,
+        "{lost} {round} {sooner}"
     );
 }
 
@@ -340,8 +426,14 @@ fn records_say_the_same() {
         for (asking, verdict) in plan.questions.iter().zip(own(&room)) {
             at += asking.sets.len();
             assert_eq!(asking.sets.last().unwrap().place, START_IN_ANSWER);
-            let found = outcomes[at - 1].value == 1;
-            assert_eq!(found == asking.holds, verdict == Verdict::Safe);
+            let value = outcomes[at - 1].value;
+            let all = if room.any_start { room.states() } else { 1 };
+            let safe = if asking.holds {
+                value == all
+            } else {
+                value == 0
+            };
+            assert_eq!(safe, matches!(verdict, Verdict::Safe(_)));
         }
         assert_eq!(at, outcomes.len());
     }
@@ -385,7 +477,7 @@ fn differences_are_found() {
         let safe = |verdicts: &[Verdict]| -> Vec<bool> {
             verdicts
                 .iter()
-                .map(|verdict| *verdict == Verdict::Safe)
+                .map(|verdict| matches!(verdict, Verdict::Safe(_)))
                 .collect()
         };
         let (one, two) = (safe(&own(&room)), safe(&own(&other)));
@@ -411,8 +503,8 @@ fn damaged_plans_are_found() {
     let room = read(text).unwrap();
     let good = plan(&room).unwrap();
     let asked = |plan: &Plan| verdicts(&room, plan, &Walk::new(&room), Limits::LARGEST);
-    assert_eq!(asked(&good), Ok(vec![Verdict::Safe]));
-    let sets = good.questions[0].sets.len() - 1;
+    assert_eq!(asked(&good), Ok(vec![Verdict::Safe(None)]));
+    let sets = good.questions[0].sets.len();
     for at in 0..sets {
         let mut bad = good.clone();
         let set = &mut bad.questions[0].sets[at];
@@ -438,7 +530,7 @@ fn damaged_plans_are_found() {
     let mut bad = good.clone();
     bad.questions[0].holds = !bad.questions[0].holds;
     assert!(asked(&bad).is_err());
-    assert_eq!(good.questions[0].sets[sets - 1].place, ANSWER);
+    assert_eq!(good.questions[0].sets[sets - 2].place, ANSWER);
 }
 
 /// A small table or few rounds give no verdict, and never a wrong one.

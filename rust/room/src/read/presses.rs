@@ -27,8 +27,18 @@ impl<'a> Reader<'a> {
         if line.peek().is_none() {
             return self.wrong(
                 &keyword,
-                "say what is on at the start, or \"all off\"".to_string(),
+                "say what is on at the start, or \"all off\", or \"any\"".to_string(),
             );
+        }
+        if line.take("any") {
+            self.room.any_start = true;
+            return match line.peek() {
+                None => Ok(()),
+                Some(word) => {
+                    let says = "\"any\" stands alone: the evening may begin in every state";
+                    self.wrong(&word, says.to_string())
+                }
+            };
         }
         if line.is("all") && self.all_off(line)? {
             return Ok(());
@@ -80,6 +90,7 @@ impl<'a> Reader<'a> {
             );
         }
         let press = self.label(&line.words[1..colon])?;
+        self.presses.push(press.clone());
         line.at = colon + 1;
         if line.peek().is_none() || line.is("when") {
             let last = line.last();
@@ -130,7 +141,7 @@ impl<'a> Reader<'a> {
     }
 
     /// A button's name: any words, one blank between those that do not touch.
-    fn label(&mut self, words: &[Word]) -> Read<String> {
+    pub(super) fn label(&mut self, words: &[Word]) -> Read<String> {
         let mut label = String::new();
         for (at, word) in words.iter().enumerate() {
             let plain = |c: char| c.is_alphanumeric() || c.is_ascii_graphic();
@@ -172,7 +183,9 @@ impl<'a> Reader<'a> {
         let at_start = line.words[0].text == "start";
         let says = match word.text.to_lowercase().as_str() {
             "and" | "&" | "+" => "write a comma between two things that happen",
-            "or" | "|" if at_start => "the evening begins in one state: write a comma, or choose",
+            "or" | "|" if at_start => {
+                "the evening begins in one state: write a comma; or \"start: any\" for every state"
+            }
             "or" | "|" => {
                 "a press does all that its line names: write a comma, or a second line of the same press for the other way"
             }
