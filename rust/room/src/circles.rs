@@ -1,239 +1,197 @@
-//! Circles of presses: which states lie on one, by Tarjan's search for strongly connected components, and which state is met
-//! a second time after the fewest presses.
+//! Circles of presses: which state a run meets a second time after the fewest presses.
 use crate::room::State;
-use crate::walk::Set;
-use std::collections::VecDeque;
+use crate::walk::{members, Set};
 
-/// The circles that a state lies on, by the number of their component; none where it lies on no circle.
-type Components = Vec<Option<usize>>;
-
-struct Search<'a> {
-    next: &'a [Vec<State>],
-    inside: &'a Set,
-    /// When a state was met, from 1; the least such number that it is known to lead back to; whether its component is open.
-    met: Vec<usize>,
-    back: Vec<usize>,
-    open: Set,
-    component: Vec<State>,
-    met_so_far: usize,
-    found: Components,
+/// Steps between states, both ways, and the set that runs stay in.
+#[derive(Clone, Copy)]
+pub struct Steps<'a> {
+    pub next: &'a [Vec<State>],
+    pub before: &'a [Vec<State>],
+    pub inside: &'a Set,
 }
 
-/// The states of a set that lie on a circle of steps inside it: two have the same number where each leads to the other.
-fn components(next: &[Vec<State>], inside: &Set) -> Components {
-    let size = inside.len();
-    let mut search = Search {
-        next,
-        inside,
-        met: vec![0; size],
-        back: vec![0; size],
-        open: vec![false; size],
-        component: Vec::new(),
-        met_so_far: 0,
-        found: vec![None; size],
-    };
-    for state in 0..size {
-        if inside[state] && search.met[state] == 0 {
-            search.visit(state);
-        }
-    }
-    search.found
-}
-
-impl Search<'_> {
-    /// Meets all states that a state leads to. The way that leads there is a list, since it may be long.
-    fn visit(&mut self, first: usize) {
-        let mut way: Vec<(usize, usize)> = vec![(first, 0)];
-        self.meet(first);
-        while let Some((state, step)) = way.pop() {
-            let Some(&to) = self.next[state].get(step) else {
-                self.leave(state);
-                if let Some((before, _)) = way.last() {
-                    self.back[*before] = self.back[*before].min(self.back[state]);
-                }
-                continue;
-            };
-            way.push((state, step + 1));
-            let to = to as usize;
-            if self.inside[to] && self.met[to] == 0 {
-                self.meet(to);
-                way.push((to, 0));
-            } else if self.inside[to] && self.open[to] {
-                self.back[state] = self.back[state].min(self.met[to]);
-            }
-        }
-    }
-
-    fn meet(&mut self, state: usize) {
-        self.met_so_far += 1;
-        self.met[state] = self.met_so_far;
-        self.back[state] = self.met_so_far;
-        self.open[state] = true;
-        self.component.push(state as State);
-    }
-
-    /// Closes the component of a state that leads back to none before it.
-    fn leave(&mut self, state: usize) {
-        if self.back[state] != self.met[state] {
-            return;
-        }
-        let from = (self.component.iter()).rposition(|&member| member as usize == state);
-        let members = self.component.split_off(from.unwrap_or_default());
-        let circle = members.len() > 1 || self.next[state].contains(&(state as State));
-        for member in members {
-            self.open[member as usize] = false;
-            self.found[member as usize] = circle.then_some(state);
-        }
-    }
-}
-
-/// A state that a run from the start meets twice.
+/// A state that a run from some start meets twice.
 #[derive(Clone, Copy, Debug, PartialEq, Eq)]
 pub struct Return {
     pub state: State,
     /// The presses up to the second time.
     pub presses: usize,
-    /// Whether no run with fewer presses meets a state twice.
-    pub least: bool,
 }
 
-/// What is known about the runs from a start inside a set.
-struct Returns<'a> {
-    next: &'a [Vec<State>],
-    components: Components,
-    /// How many presses a state is from the start.
-    distance: Vec<Option<usize>>,
-    /// In which search a state was seen last.
-    seen: Vec<usize>,
-    searches: usize,
-    /// How many steps may still be looked at.
-    steps: usize,
-}
-
-/// The state that a run from some start inside a set meets twice after the fewest presses, where these are fewer than so many; else
-/// some such state. The search looks at about so many steps at most, and says whether that was enough.
+/// The state that a run from some start meets twice after the fewest presses, where these are fewer than so many. With it,
+/// whether all circles that could be nearer were looked at: the search ends after about so many steps.
 pub fn first_return(
-    next: &[Vec<State>],
-    inside: &Set,
+    steps: Steps,
     starts: &Set,
     below: usize,
-    steps: usize,
-) -> Option<Return> {
-    let mut returns = Returns {
-        next,
-        components: components(next, inside),
-        distance: distances(next, inside, starts),
-        seen: vec![0; inside.len()],
-        searches: 0,
-        steps: usize::MAX,
+    most: usize,
+) -> (Option<Return>, bool) {
+    let mut from_start = Spread::new(steps.inside.len());
+    let begins: Vec<State> = (members(starts).into_iter())
+        .filter(|&start| steps.inside[start as usize])
+        .collect();
+    from_start.over(steps.next, steps.inside, &begins, usize::MAX);
+    let far = |state: State| from_start.distance(state).unwrap_or(usize::MAX);
+    let mut back = back_steps(steps, &begins);
+    back.sort_unstable_by_key(|&(from, to)| (far(from), from, to));
+    let mut search = Search {
+        steps,
+        from_start: &from_start,
+        out: Spread::new(steps.inside.len()),
+        home: Spread::new(steps.inside.len()),
     };
-    let nearest = (0..inside.len())
-        .filter(|&state| returns.components[state].is_some())
-        .filter_map(|state| Some((returns.distance[state]?, state)))
-        .min()?;
-    let mut best = returns.round(nearest.1, usize::MAX)?;
-    returns.steps = steps;
-    for (least, state) in returns.candidates() {
-        let below = below.min(best.presses);
-        if least >= below {
+    let mut best: Option<Return> = None;
+    for (at, &(from, to)) in back.iter().enumerate() {
+        let below = best.map_or(below, |best| best.presses);
+        // A run comes to the step's first state before it goes round.
+        if far(from).saturating_add(1) >= below {
             break;
         }
-        best = returns.round(state, below).unwrap_or(best);
-        if returns.steps == 0 {
-            best.least = false;
-            break;
+        if at > 0 && search.looked() > most {
+            return (best, false);
+        }
+        best = search.round(from, to, below).or(best);
+    }
+    (best, true)
+}
+
+/// The steps that lead back to a state on the way there, in a search in depth from some starts: every circle of steps
+/// has one of them.
+fn back_steps(steps: Steps, starts: &[State]) -> Vec<(State, State)> {
+    let mut met = vec![false; steps.inside.len()];
+    let mut on_way = met.clone();
+    let mut back = Vec::new();
+    // The way, and for each state on it how many of its steps were taken.
+    let mut way: Vec<(State, usize)> = Vec::new();
+    for &start in starts {
+        if !met[start as usize] {
+            way.push((start, 0));
+        }
+        while let Some((state, taken)) = way.pop() {
+            met[state as usize] = true;
+            let next = steps.next[state as usize].get(taken);
+            on_way[state as usize] = next.is_some();
+            let Some(&to) = next else {
+                continue;
+            };
+            way.push((state, taken + 1));
+            if on_way[to as usize] {
+                back.push((state, to));
+            } else if steps.inside[to as usize] && !met[to as usize] {
+                way.push((to, 0));
+            }
         }
     }
-    Some(best)
+    back
+}
+
+/// What is at hand to look for the shortest circle through a step.
+struct Search<'a> {
+    steps: Steps<'a>,
+    from_start: &'a Spread,
+    out: Spread,
+    home: Spread,
+}
+
+impl Search<'_> {
+    /// The steps that were looked at so far.
+    fn looked(&self) -> usize {
+        self.out.looked + self.home.looked
+    }
+
+    /// The first return of a run round a circle with a step in it, where that has fewer presses than so many: from the start to
+    /// some state, on to the step, and from its end to the same state again.
+    fn round(&mut self, from: State, to: State, below: usize) -> Option<Return> {
+        let Steps {
+            next,
+            before,
+            inside,
+        } = self.steps;
+        // The step itself is one press.
+        self.out.over(next, inside, &[to], below - 1);
+        self.home.over(before, inside, &[from], below - 1);
+        let presses = |&state: &State| {
+            let there = self.from_start.distance(state)? + self.home.distance(state)?;
+            Some((there + 1 + self.out.distance(state)?, state))
+        };
+        let (presses, state) = self.out.met.iter().filter_map(presses).min()?;
+        (presses < below).then_some(Return { state, presses })
+    }
+}
+
+/// How far states are from others. It is used again and again, and forgets the last time at once.
+struct Spread {
+    /// When a state was met last, and how far it was.
+    times: Vec<(usize, usize)>,
+    time: usize,
+    /// The states that were met, the nearest first.
+    met: Vec<State>,
+    looked: usize,
+}
+
+impl Spread {
+    fn new(states: usize) -> Spread {
+        Spread {
+            times: vec![(0, 0); states],
+            time: 0,
+            met: Vec::new(),
+            looked: 0,
+        }
+    }
+
+    fn meet(&mut self, state: State, far: usize) {
+        let time = (self.time, far);
+        if std::mem::replace(&mut self.times[state as usize], time).0 < self.time {
+            self.met.push(state);
+        }
+    }
+
+    fn distance(&self, state: State) -> Option<usize> {
+        let (time, far) = self.times[state as usize];
+        (time == self.time).then_some(far)
+    }
+
+    /// Meets all states that so many steps inside a set lead to, at most.
+    fn over(&mut self, steps: &[Vec<State>], inside: &Set, from: &[State], most: usize) {
+        self.time += 1;
+        self.met.clear();
+        from.iter().for_each(|&state| self.meet(state, 0));
+        let mut at = 0;
+        while let Some(&state) = self.met.get(at) {
+            at += 1;
+            let far = 1 + self.distance(state).unwrap_or_default();
+            if far > most {
+                break;
+            }
+            self.looked += 1 + steps[state as usize].len();
+            for &to in &steps[state as usize] {
+                if inside[to as usize] && self.distance(to).is_none() {
+                    self.meet(to, far);
+                }
+            }
+        }
+    }
 }
 
 /// How many steps inside a set lead from some start to each state.
 pub fn distances(next: &[Vec<State>], inside: &Set, starts: &Set) -> Vec<Option<usize>> {
-    let mut found = vec![None; inside.len()];
-    let mut open = VecDeque::new();
-    for start in (0..inside.len()).filter(|&state| starts[state] && inside[state]) {
-        found[start] = Some(0);
-        open.push_back((start as State, 0));
-    }
-    while let Some((state, steps)) = open.pop_front() {
-        for &to in &next[state as usize] {
-            if inside[to as usize] && found[to as usize].is_none() {
-                found[to as usize] = Some(steps + 1);
-                open.push_back((to, steps + 1));
-            }
-        }
-    }
-    found
-}
-
-impl Returns<'_> {
-    /// Whether a step stays on circles through a state and leads to none that is nearer to the start.
-    fn stays(&self, circle: usize, nearest: usize, to: usize) -> bool {
-        self.components[to] == Some(circle) && self.distance[to].is_some_and(|d| d >= nearest)
-    }
-
-    /// The states at which a circle may be nearest to the start, each with the fewest presses that a run round such a circle
-    /// can have: a last step leads there from a state that is as far or farther. Least first.
-    fn candidates(&self) -> Vec<(usize, usize)> {
-        let mut least: Vec<Option<usize>> = vec![None; self.seen.len()];
-        for (from, distance) in self.distance.iter().enumerate() {
-            let (Some(distance), Some(circle)) = (*distance, self.components[from]) else {
-                continue;
-            };
-            for &to in &self.next[from] {
-                let to = to as usize;
-                let nearer = self.distance[to].is_some_and(|d| d <= distance);
-                if nearer && self.components[to] == Some(circle) {
-                    let presses = least[to].unwrap_or(usize::MAX).min(distance + 1);
-                    least[to] = Some(presses);
-                }
-            }
-        }
-        let states = least.iter().enumerate();
-        let mut found: Vec<(usize, usize)> = states
-            .filter_map(|(state, presses)| Some(((*presses)?, state)))
-            .collect();
-        found.sort_unstable();
-        found
-    }
-
-    /// The shortest way round through a state that is the nearest of its circle, where that takes fewer presses than so many.
-    fn round(&mut self, state: usize, below: usize) -> Option<Return> {
-        let (circle, nearest) = (self.components[state]?, self.distance[state]?);
-        self.searches += 1;
-        let mut open = VecDeque::from([(state, nearest)]);
-        while let Some((from, presses)) = open.pop_front() {
-            let presses = presses + 1;
-            if presses >= below || self.steps == 0 {
-                return None;
-            }
-            for &to in &self.next[from] {
-                self.steps = self.steps.saturating_sub(1);
-                if to as usize == state {
-                    return Some(Return {
-                        state: to,
-                        presses,
-                        least: true,
-                    });
-                }
-                let to = to as usize;
-                if self.stays(circle, nearest, to) && self.seen[to] != self.searches {
-                    self.seen[to] = self.searches;
-                    open.push_back((to, presses));
-                }
-            }
-        }
-        None
-    }
+    let mut spread = Spread::new(inside.len());
+    let begins: Vec<State> = (members(starts).into_iter())
+        .filter(|&start| inside[start as usize])
+        .collect();
+    spread.over(next, inside, &begins, usize::MAX);
+    (0..inside.len())
+        .map(|state| spread.distance(state as State))
+        .collect()
 }
 
 #[cfg(test)]
 mod tests {
-    use super::{components, distances, first_return, Return};
+    use super::{back_steps, distances, first_return, Return, Steps};
     use crate::room::State;
-    use crate::walk::Set;
+    use crate::walk::{members, Set};
 
-    type Steps = Vec<Vec<State>>;
+    type Next = Vec<Vec<State>>;
 
     /// Numbers of a small generator, each below a bound.
     fn drawn(mut seed: u64) -> impl FnMut(usize) -> usize {
@@ -246,7 +204,7 @@ mod tests {
     }
 
     /// Steps between a few states, as many from each as one of these numbers says, and a set of them.
-    fn graphs(seed: u64, count: usize, size: usize, steps: &[usize]) -> Vec<(Steps, Set)> {
+    fn graphs(seed: u64, count: usize, size: usize, steps: &[usize]) -> Vec<(Next, Set)> {
         let mut draw = drawn(seed);
         let mut graph = || {
             let size = 1 + draw(size);
@@ -261,39 +219,67 @@ mod tests {
         (0..count).map(|_| graph()).collect()
     }
 
+    /// The steps the other way.
+    fn before(next: &Next) -> Next {
+        let mut before = vec![Vec::new(); next.len()];
+        for (from, list) in next.iter().enumerate() {
+            list.iter()
+                .for_each(|&to| before[to as usize].push(from as State));
+        }
+        before
+    }
+
     /// The set of one state.
-    fn only(next: &Steps, state: State) -> Set {
+    fn only(next: &Next, state: State) -> Set {
         (0..next.len()).map(|s| s == state as usize).collect()
     }
 
+    fn found(next: &Next, inside: &Set, starts: &Set, most: usize) -> (Option<Return>, bool) {
+        let steps = Steps {
+            next,
+            before: &before(next),
+            inside,
+        };
+        first_return(steps, starts, usize::MAX, most)
+    }
+
     /// The fewest steps from a state to another inside a set, one at least.
-    fn steps(next: &Steps, inside: &Set, from: usize, to: usize) -> Option<usize> {
+    fn steps(next: &Next, inside: &Set, from: usize, to: usize) -> Option<usize> {
         let starts = next[from].iter().filter(|&&state| inside[state as usize]);
         let ways = starts.filter_map(|&state| distances(next, inside, &only(next, state))[to]);
         ways.min().map(|steps| steps + 1)
     }
 
-    #[test]
-    fn circles_as_by_trying_each_state() {
-        for (next, inside) in graphs(7, 500, 12, &[0, 1, 2]) {
-            let found = components(&next, &inside);
-            for a in 0..next.len() {
-                let round = inside[a] && steps(&next, &inside, a, a).is_some();
-                assert_eq!(found[a].is_some(), round);
-                for b in (0..next.len()).filter(|&b| inside[b] && round && found[b].is_some()) {
-                    let leads = |a, b| a == b || steps(&next, &inside, a, b).is_some();
-                    assert_eq!(found[a] == found[b], leads(a, b) && leads(b, a));
-                }
-            }
-        }
+    /// The presses up to a state for the second time, at least.
+    fn presses(next: &Next, inside: &Set, starts: &Set, state: usize) -> Option<usize> {
+        Some(distances(next, inside, starts)[state]? + steps(next, inside, state, state)?)
     }
 
-    /// The fewest presses up to a state that was met before, by trying each state.
-    fn plain(next: &Steps, inside: &Set, starts: &Set) -> Option<usize> {
-        let from_start = distances(next, inside, starts);
-        (0..next.len())
-            .filter_map(|state| Some(from_start[state]? + steps(next, inside, state, state)?))
-            .min()
+    /// Without its back steps a graph has no circle, and each of them lies on one.
+    #[test]
+    fn every_circle_has_a_back_step() {
+        for (next, inside) in graphs(7, 500, 12, &[0, 1, 2]) {
+            let starts: Vec<State> = members(&inside);
+            let all = Steps {
+                next: &next,
+                before: &next,
+                inside: &inside,
+            };
+            let back = back_steps(all, &starts);
+            let mut without = next.clone();
+            for &(from, to) in &back {
+                let leads =
+                    from == to || steps(&next, &inside, to as usize, from as usize).is_some();
+                assert!(leads && next[from as usize].contains(&to));
+                without[from as usize].retain(|&other| other != to);
+            }
+            for state in starts {
+                assert_eq!(
+                    steps(&without, &inside, state as usize, state as usize),
+                    None
+                );
+            }
+        }
     }
 
     #[test]
@@ -303,16 +289,15 @@ mod tests {
             // One start, or two.
             let starts = (0..next.len()).map(|s| s == 0 || s == next.len() / 3);
             let starts: Set = starts.collect();
-            let found = first_return(&next, &inside, &starts, usize::MAX, usize::MAX);
-            assert_eq!(found.map(|r| r.presses), plain(&next, &inside, &starts));
-            if let Some(Return {
-                state,
-                presses,
-                least,
-            }) = found
-            {
-                assert!(least && inside[state as usize]);
-                met[presses.min(11)] += 1;
+            let (first, whole) = found(&next, &inside, &starts, usize::MAX);
+            let states = 0..next.len();
+            let plain = states.filter_map(|state| presses(&next, &inside, &starts, state));
+            assert_eq!(first.map(|first| first.presses), plain.min());
+            assert!(whole);
+            if let Some(first) = first {
+                let own = presses(&next, &inside, &starts, first.state as usize);
+                assert_eq!(own, Some(first.presses));
+                met[first.presses.min(11)] += 1;
             }
         }
         assert!(met[1..10].iter().all(|&count| count > 5), "{met:?}");
@@ -322,20 +307,19 @@ mod tests {
     #[test]
     fn a_search_that_is_cut_short() {
         let (mut cut, mut later) = (0, 0);
-        for (next, inside) in graphs(9, 3_000, 40, &[1, 1, 1, 2]) {
+        for (next, inside) in graphs(9, 3_000, 40, &[1, 2, 2]) {
             let start = only(&next, 0);
-            let whole = first_return(&next, &inside, &start, usize::MAX, usize::MAX);
-            let found = first_return(&next, &inside, &start, usize::MAX, 3);
-            assert_eq!(found.is_some(), whole.is_some());
-            let (Some(found), Some(whole)) = (found, whole) else {
+            let (best, _) = found(&next, &inside, &start, usize::MAX);
+            let (first, whole) = found(&next, &inside, &start, 0);
+            assert_eq!(first.is_some(), best.is_some());
+            let (Some(first), Some(best)) = (first, best) else {
                 continue;
             };
-            let round = steps(&next, &inside, found.state as usize, found.state as usize);
-            let there = distances(&next, &inside, &start)[found.state as usize];
-            assert_eq!(Some(found.presses), there.zip(round).map(|(a, b)| a + b));
-            assert!(found.presses == whole.presses || !found.least);
-            cut += usize::from(!found.least);
-            later += usize::from(found.presses > whole.presses);
+            let own = presses(&next, &inside, &start, first.state as usize);
+            assert!(own.is_some_and(|own| own <= first.presses));
+            assert!(first.presses == best.presses || !whole);
+            cut += usize::from(!whole);
+            later += usize::from(first.presses > best.presses);
         }
         assert!(cut > 50 && later > 5, "{cut} {later}");
     }
@@ -344,27 +328,32 @@ mod tests {
     #[test]
     fn long_circles() {
         let n = 1 << 15;
-        let next: Steps = (0..2 * n)
+        let next: Next = (0..2 * n)
             .map(|state| match state < n {
                 true => vec![state + 1],
                 false => vec![state - n, (state + 1) % (2 * n)],
             })
             .collect();
-        let found = first_return(
-            &next,
-            &vec![true; next.len()],
-            &only(&next, 0),
-            usize::MAX,
-            1_000_000,
-        );
-        let (presses, least) = (n as usize + 1, true);
-        assert_eq!(
-            found,
-            Some(Return {
-                state: 0,
-                presses,
-                least
-            })
-        );
+        let all = vec![true; next.len()];
+        let (first, whole) = found(&next, &all, &only(&next, 0), 1_000_000);
+        assert_eq!(first.map(|first| first.presses), Some(n as usize + 1));
+        assert!(whole);
+    }
+
+    /// Ways that only lead on, in any order, and one back from the end: that one step is on every circle.
+    #[test]
+    fn one_way_back() {
+        let n = 1 << 12;
+        let on = |state: State| {
+            let one = (0..12).map(move |k| state | 1 << k);
+            let two = (0..11).map(move |k| state | 3 << k);
+            one.chain(two).filter(move |&to| to != state)
+        };
+        let mut next: Next = (0..n).map(|state| on(state).collect()).collect();
+        next[n as usize - 1] = vec![0];
+        let all = vec![true; next.len()];
+        let (first, whole) = found(&next, &all, &only(&next, 0), 1_000_000);
+        assert_eq!(first.map(|first| first.presses), Some(7));
+        assert!(whole);
     }
 }

@@ -1,5 +1,5 @@
 //! The same questions by a plain walk over all states: no formula, no table.
-use crate::circles::{distances, first_return};
+use crate::circles::{distances, first_return, Steps};
 use crate::room::{Asked, Cond, Room, State};
 
 /// A set of states: whether each is in it.
@@ -54,7 +54,7 @@ pub struct Run {
 }
 
 /// About so many steps are looked at to find the shortest run into a circle: well under a second.
-const MOST_STEPS: usize = 20_000_000;
+const MOST_STEPS: usize = 40_000_000;
 
 impl Walk {
     pub fn new(room: &Room) -> Walk {
@@ -343,34 +343,40 @@ impl Walk {
         let presses = ending
             .as_ref()
             .map_or(usize::MAX, |states| states.len() - 1);
-        let circle = self.into_circle(&waits, presses);
-        let (Some(states), least) = (ending, circle.as_ref().is_none_or(|run| run.least)) else {
-            return circle;
-        };
-        match circle {
-            Some(run) if run.states.len() < states.len() => Some(run),
-            _ => {
-                let holds = f[*states.last()? as usize];
-                let end = if holds { End::Stuck } else { End::Lost };
-                Some(Run { states, end, least })
-            }
+        let (circle, least) = self.into_circle(&waits, presses);
+        if let Some((states, end)) = circle {
+            return Some(Run { states, end, least });
         }
+        let states = ending?;
+        let holds = f[*states.last()? as usize];
+        let end = if holds { End::Stuck } else { End::Lost };
+        Some(Run { states, end, least })
     }
 
-    /// A run inside a set that comes to a state for the second time: a shortest one, where that has fewer presses than so many.
-    fn into_circle(&self, inside: &Set, below: usize) -> Option<Run> {
-        let found = first_return(&self.next, inside, &self.starts, below, MOST_STEPS)?;
-        let back = self.distances_to(&self.only(found.state as usize), inside);
+    /// A shortest run inside a set that comes to a state for the second time, where that has fewer presses than so many; with it,
+    /// whether all circles that could be nearer were looked at.
+    fn into_circle(&self, inside: &Set, below: usize) -> (Option<(Vec<State>, End)>, bool) {
+        let steps = Steps {
+            next: &self.next,
+            before: &self.before,
+            inside,
+        };
+        let (found, whole) = first_return(steps, &self.starts, below, MOST_STEPS);
+        let run = found.and_then(|found| self.round(found.state, inside));
+        (run, whole)
+    }
+
+    /// A shortest run inside a set to a state, and round to it again.
+    fn round(&self, state: State, inside: &Set) -> Option<(Vec<State>, End)> {
+        let back = self.distances_to(&self.only(state as usize), inside);
         let (_, first) = self.nearest(&self.starts, &back)?;
         let mut states = self.downhill(first, &back);
         let end = End::Circle(states.len() - 1);
-        let steps = (self.next[found.state as usize].iter()).filter(|&&to| inside[to as usize]);
-        let (_, step) = steps
-            .filter_map(|&to| Some((back[to as usize]?, to)))
-            .min()?;
+        let steps = (self.next[state as usize].iter()).filter(|&&to| inside[to as usize]);
+        let near = steps.filter_map(|&to| Some((back[to as usize]?, to)));
+        let (_, step) = near.min()?;
         states.extend(self.downhill(step, &back));
-        let least = found.least;
-        Some(Run { states, end, least })
+        Some((states, end))
     }
 
     /// The set of one state.
