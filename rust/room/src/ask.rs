@@ -61,7 +61,7 @@ pub struct Asker<'a> {
 }
 
 /// Why a call gives nothing to compare.
-enum Halt {
+pub(crate) enum Halt {
     Refused(Refusal),
     Differs(Difference),
 }
@@ -132,18 +132,8 @@ impl<'a> Asker<'a> {
         Ok(())
     }
 
-    /// Whether a register has exactly the states that the walk found: all of them, and as many as the library counts.
     fn same(&self, register: u32, set: &Set) -> Result<(), Halt> {
-        let found = members(set);
-        let states: Vec<u32> = self.table.states(register)?.collect();
-        if states == found && self.table.count(register)? as usize == found.len() {
-            return Ok(());
-        }
-        differs(format!(
-            "the table finds {} states, the walk {}",
-            states.len(),
-            found.len()
-        ))
+        same(&self.table, register, set)
     }
 
     /// The verdict on a question, by its place.
@@ -238,6 +228,20 @@ impl<'a> Asker<'a> {
     }
 }
 
+/// Whether a register has exactly the states that the walk found: all of them, and as many as the library counts.
+pub(crate) fn same(table: &Table<Vec<u32>>, register: u32, set: &Set) -> Result<(), Halt> {
+    let found = members(set);
+    let states: Vec<u32> = table.states(register)?.collect();
+    if states == found && table.count(register)? as usize == found.len() {
+        return Ok(());
+    }
+    differs(format!(
+        "the table finds {} states, the walk {}",
+        states.len(),
+        found.len()
+    ))
+}
+
 /// The first press in the file that leads from one state to another.
 pub fn press(room: &Room, from: State, to: State) -> Option<&str> {
     let rule = room
@@ -248,7 +252,7 @@ pub fn press(room: &Room, from: State, to: State) -> Option<&str> {
 }
 
 /// A refusal that ends a question without a verdict; any other shows that the calls are not what they should be.
-fn ending(refusal: Refusal, of: &str) -> Result<Refusal, Difference> {
+pub(crate) fn ending(refusal: Refusal, of: &str) -> Result<Refusal, Difference> {
     match refusal {
         Refusal::Full | Refusal::Spent => Ok(refusal),
         _ => Err(unforeseen(refusal, of)),

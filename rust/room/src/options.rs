@@ -6,6 +6,7 @@ room FILE             reads a room's switching rules in words and answers its qu
 room --echo FILE      prints the rules as understood, and asks nothing
 room --records FILE   prints the questions as records for roomrules, where it can answer them
 room --explain FILE   FILE has records: plays them, and says why one is refused
+room --diff OLD NEW   says what a change of the rules changes: verdicts, states that can come, what a press does
 
   --rows N            a table of N rows, 1 to 60000 (60000)
   --rounds R          at most R rounds for each answer (4294967295)
@@ -35,7 +36,7 @@ A press works only where its condition holds, and what it does not name keeps it
 Conditions have: and, or, not, parentheses, names, SELECTOR = POSITION. A line that begins with a blank goes on with the one before.
 
 Exit status: 0 all SAFE, 1 one BROKEN, 2 a mistake in the file or the command line, or an answer that cannot be written,
-3 NO VERDICT, 4 the table and the plain walk differ.
+3 NO VERDICT, 4 the table and the plain walk differ. Of two rooms it is that of NEW.
 ";
 
 #[derive(Clone, Copy, PartialEq, Eq)]
@@ -44,20 +45,24 @@ pub enum Mode {
     Echo,
     Records,
     Explain,
+    Diff,
 }
 
 impl Mode {
     /// The options that choose what is done with the file.
-    const CHOICES: [(&'static str, Mode); 3] = [
+    const CHOICES: [(&'static str, Mode); 4] = [
         ("--echo", Mode::Echo),
         ("--records", Mode::Records),
         ("--explain", Mode::Explain),
+        ("--diff", Mode::Diff),
     ];
 }
 
 pub struct Options {
     pub mode: Mode,
     pub file: String,
+    /// The file that it is compared with: the room as it is after a change.
+    pub after: Option<String>,
     /// The rows that were asked for, if a number was named.
     pub rows: Option<u32>,
     pub rounds: u32,
@@ -84,6 +89,7 @@ pub fn command(mut words: impl Iterator<Item = String>) -> Result<Command, Strin
     let mut options = Options {
         mode: Mode::Ask,
         file: String::new(),
+        after: None,
         rows: None,
         rounds: Limits::LARGEST.rounds,
         whole_run: false,
@@ -104,11 +110,16 @@ pub fn command(mut words: impl Iterator<Item = String>) -> Result<Command, Strin
             _ => files.push(word),
         }
     }
-    if files.len() > 1 {
-        return Err("one file at a time".to_string());
+    let diff = options.mode == Mode::Diff;
+    let mut files = files.into_iter();
+    options.file = files.next().ok_or("no file is named")?;
+    options.after = files.next();
+    match (&options.after, files.next()) {
+        (Some(_), None) if diff => Ok(Command::Run(options)),
+        (None, _) if !diff => Ok(Command::Run(options)),
+        _ if diff => Err("--diff needs two files, the old one and the new one".to_string()),
+        _ => Err("one file at a time".to_string()),
     }
-    options.file = files.pop().ok_or("no file is named")?;
-    Ok(Command::Run(options))
 }
 
 /// The mode after an option that chooses one.
@@ -116,7 +127,7 @@ fn chosen(before: Mode, word: &str) -> Result<Mode, String> {
     let known = Mode::CHOICES.iter().find(|(text, _)| *text == word);
     let (_, mode) = known.ok_or(format!("{word} is no option"))?;
     if before != Mode::Ask && before != *mode {
-        return Err("one of --echo, --records and --explain at a time".to_string());
+        return Err("one of --echo, --records, --explain and --diff at a time".to_string());
     }
     Ok(*mode)
 }

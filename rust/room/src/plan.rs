@@ -3,6 +3,7 @@ use crate::mistake::Mistake;
 use crate::room::{Asked, Cond, Room};
 use crate::{echo, rules, valid};
 use kudzuclamp::Formula;
+use std::ops::Range;
 
 /// The registers: states that exist, the start, a question's first two sets, its inner and its last answer, what of the start
 /// is in that answer, and a question's third set.
@@ -82,7 +83,7 @@ pub fn plan(room: &Room) -> Result<Plan, Vec<Mistake>> {
 }
 
 /// The states in which the evening may begin.
-fn start(room: &Room) -> Formula {
+pub fn start(room: &Room) -> Formula {
     let parts = room.parts.iter();
     match room.any_start {
         true => valid::states(room),
@@ -171,9 +172,9 @@ fn closed(room: &Room, mut sets: Vec<Store>, answer: Store, holds: bool) -> Aski
     Asking { sets, holds }
 }
 
-/// Some press leads into a set.
-fn some(relations: u32, f: &Formula) -> Formula {
-    Formula::any((0..relations).map(|t| Formula::diamond(t, f)))
+/// Some press of these relations leads into a set.
+pub fn some(relations: Range<u32>, f: &Formula) -> Formula {
+    Formula::any(relations.map(|t| Formula::diamond(t, f)))
 }
 
 /// Every press leads into a set.
@@ -183,7 +184,7 @@ fn every(relations: u32, f: &Formula) -> Formula {
 
 /// Some presses, or none, lead into a set.
 fn leads_to(relations: u32, f: &Formula) -> Formula {
-    Formula::mu(0, f | some(relations, &Formula::var(0)))
+    Formula::mu(0, f | some(0..relations, &Formula::var(0)))
 }
 
 /// Every run of presses comes to g, and f holds before. Until has one relation; over several it is the binder that it
@@ -192,7 +193,7 @@ fn until(relations: u32, f: &Formula, g: &Formula) -> Formula {
     if relations == 1 {
         return Formula::until_every(0, f, g);
     }
-    let goes_on = every(relations, &Formula::var(0)) & some(relations, &Formula::always());
+    let goes_on = every(relations, &Formula::var(0)) & some(0..relations, &Formula::always());
     Formula::mu(0, g | (f & goes_on))
 }
 

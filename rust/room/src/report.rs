@@ -241,6 +241,15 @@ pub fn rows_needed(room: &Room, answers: &[Answer], peak: u32) -> String {
     format!("How many rows are enough is not known. Without a verdict in the file's order:\n{open}")
 }
 
+/// How many presses of two rooms do the same.
+pub fn same_presses(count: usize) -> String {
+    match count {
+        0 => String::new(),
+        1 => "1 press does the same as before.\n".to_string(),
+        _ => format!("{} presses do the same as before.\n", grouped(count as u32)),
+    }
+}
+
 /// In which order of the things a verdict was found, or that none was.
 pub fn order(answer: &Answer) -> String {
     let says = match &answer.ordered {

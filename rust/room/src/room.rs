@@ -111,6 +111,19 @@ pub enum Asked {
 }
 
 impl Asked {
+    /// The same question with other conditions.
+    pub fn with(&self, change: impl Fn(&Cond) -> Cond) -> Asked {
+        match self {
+            Asked::Never(x) => Asked::Never(change(x)),
+            Asked::AlwaysPossible(x) => Asked::AlwaysPossible(change(x)),
+            Asked::Until(x, y) => Asked::Until(change(x), change(y)),
+            Asked::Unless(x, y) => Asked::Unless(change(x), change(y)),
+            Asked::Possible(x) => Asked::Possible(change(x)),
+            Asked::Whenever(x, y, z) => Asked::Whenever(change(x), change(y), change(z)),
+            Asked::Works(press, x) => Asked::Works(press.clone(), change(x)),
+        }
+    }
+
     /// The conditions that it names.
     pub fn conditions(&self) -> Vec<&Cond> {
         match self {

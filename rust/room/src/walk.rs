@@ -343,7 +343,7 @@ impl Walk {
         let presses = ending
             .as_ref()
             .map_or(usize::MAX, |states| states.len() - 1);
-        let (circle, least) = self.into_circle(&waits, presses);
+        let (circle, least) = self.circle(&waits, presses);
         if let Some((states, end)) = circle {
             return Some(Run { states, end, least });
         }
@@ -355,7 +355,7 @@ impl Walk {
 
     /// A shortest run inside a set that comes to a state for the second time, where that has fewer presses than so many; with it,
     /// whether all circles that could be nearer were looked at.
-    fn into_circle(&self, inside: &Set, below: usize) -> (Option<(Vec<State>, End)>, bool) {
+    fn circle(&self, inside: &Set, below: usize) -> (Option<(Vec<State>, End)>, bool) {
         let steps = Steps {
             next: &self.next,
             before: &self.before,

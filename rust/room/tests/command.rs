@@ -246,6 +246,104 @@ BROKEN: 3 of 5 questions. Do not hand over.
     assert!(printed.contains(expected) && status == 1, "{printed}");
 }
 
+/// What the mending of the hall changes, as examples/README.md shows it.
+#[test]
+fn two_rooms() {
+    let (printed, errors, status) = run(&["--diff", "hall.room", "mended.room"]);
+    let expected = "\
+hall.room before, mended.room after.
+BROKEN -> SAFE           never howl
+SAFE                     always possible: quiet
+SAFE                     always possible: song
+States that can come: 32 before, 38 after (2 gone, 8 new).
+  gone, such as: mic-B, echo, song, monitor, latch
+  new, such as:  song, latch
+START does something else in 4 states, of which 2 can come, such as: mic-B, monitor, latch
+    before: echo on, song on
+    after:  song on
+5 presses do the same as before.
+After: SAFE: all 3 questions.
+";
+    assert_eq!(
+        (printed.as_str(), errors.as_str(), status),
+        (expected, "", 0)
+    );
+    let shown: String = expected
+        .lines()
+        .map(|line| format!("    {line}\n"))
+        .collect();
+    let document = std::fs::read_to_string(format!("{EXAMPLES}/README.md")).unwrap();
+    assert!(document.contains(&shown));
+    // The other way round the status is that of the broken one.
+    assert_eq!(run(&["--diff", "mended.room", "hall.room"]).2, 1);
+    let (printed, _, _) = run(&["--diff", "booth.room", "booth.room"]);
+    assert!(
+        printed.contains("(0 gone, 0 new).\n9 presses do the same as before.\nAfter: SAFE"),
+        "{printed}"
+    );
+}
+
+/// Presses and questions that come and go, another start; things in another order are the same things.
+#[test]
+fn two_rooms_by_names() {
+    let old = "things: mic song\nselector send: desk hall booth\nstart: all off, send = hall\npress MIC: mic turns over when not send = desk\n\
+               press SEND: send = booth\npress OLD: mic off\npress TWO: mic on\npress TWO: song on\nnever mic\nnever song and mic\n";
+    let new = "selector send: booth hall desk\nthings: song mic\nstart: any\npress MIC: mic turns over when send = hall\n\
+               press SEND: send = booth\npress NEW: mic off\npress TWO: mic on\nnever mic\npossible: song\n";
+    let folder = std::env::temp_dir().join(format!("room-diff-{}", std::process::id()));
+    std::fs::create_dir_all(&folder).unwrap();
+    let file = |name: &str, text: &str| {
+        let path = folder.join(name);
+        std::fs::write(&path, text).unwrap();
+        path.to_str().unwrap().to_string()
+    };
+    let (a, b) = (file("a.room", old), file("b.room", new));
+    let (printed, errors, status) = run(&["--diff", &a, &b]);
+    let expected = "\
+BROKEN                   never mic
+asked now: BROKEN        possible: song
+asked before: BROKEN     never song and mic
+Start: all off, send = hall before, any state after.
+States that can come: 8 before, 12 after (0 gone, 4 new).
+  new, such as:  all off, send = desk
+MIC does something else in 4 states, of which 4 can come, such as: all off, send = booth
+    before: mic on
+    after:  does not work
+OLD is gone.
+TWO does something else in 9 states, of which 9 can come, such as: all off, send = booth
+    before: song on or mic on
+    after:  mic on
+NEW is new.
+1 press does the same as before.
+After: BROKEN: 2 of 2 questions. Do not hand over.
+";
+    assert_eq!(printed, format!("{a} before, {b} after.\n{expected}"));
+    assert_eq!((errors.as_str(), status), ("", 1));
+    // Other things: states are not compared. A mistake in either file is told.
+    let (printed, _, status) = run(&["--diff", &a, "hall.room"]);
+    let expected = "The rooms do not have the same things, so states and presses are not compared.\n  only before: mic, send\n  \
+                    only after: mic-A, mic-B, echo, monitor, latch\n";
+    assert!(printed.contains(expected) && status == 1, "{printed}");
+    let bad = file("bad.room", &new.replace("things", "thinks"));
+    let (printed, errors, status) = run(&["--diff", &bad, &bad]);
+    assert_eq!(
+        (
+            printed.as_str(),
+            errors.matches("bad.room, line 2: ").count(),
+            status
+        ),
+        ("", 2, 2)
+    );
+    // With a small table, what is found is by the walk alone.
+    let (printed, _, _) = run(&["--diff", "--rows", "20", &a, &b]);
+    assert!(
+        printed
+            .contains("\nFound by the walk alone, and not checked with the table: states before, "),
+        "{printed}"
+    );
+    std::fs::remove_dir_all(&folder).unwrap();
+}
+
 /// The peak is enough, and one row fewer is not.
 #[test]
 fn peaks() {
@@ -508,13 +606,22 @@ fn bad_files() {
 
 #[test]
 fn command_lines() {
-    let cases: [(&[&str], &str); 8] = [
+    let cases: [(&[&str], &str); 11] = [
         (&[], "no file is named"),
         (&["--perfect", "hall.room"], "--perfect is no option"),
         (&["hall.room", "mended.room"], "one file at a time"),
         (
             &["--echo", "--records", "hall.room"],
-            "one of --echo, --records and --explain at a time",
+            "one of --echo, --records, --explain and --diff at a time",
+        ),
+        (&["--diff"], "no file is named"),
+        (
+            &["--diff", "hall.room"],
+            "--diff needs two files, the old one and the new one",
+        ),
+        (
+            &["--diff", "hall.room", "hall.room", "hall.room"],
+            "--diff needs two files, the old one and the new one",
         ),
         (&["--rows"], "--rows needs a number from 1 to 60000"),
         (

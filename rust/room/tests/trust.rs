@@ -6,8 +6,8 @@ use room::plan::{plan, Plan, ANSWER, START_IN_ANSWER};
 use room::read::read;
 use room::records::{records, ROOMRULES_ROWS, ROOMRULES_WORDS};
 use room::room::{Asked, Change, Cond, Room, Rule};
-use room::sense;
 use room::walk::{End, Run, Walk};
+use room::{compare, diff, sense};
 use std::collections::VecDeque;
 
 /// Numbers of a small generator, each below a bound.
@@ -494,6 +494,78 @@ fn differences_are_found() {
     }
     println!("{told} told, {differ} with other verdicts");
     assert!(differ > 100 && told > differ);
+}
+
+/// Two rooms side by side: the library finds the same states that can come, and the same in which a press does something else;
+/// another set than the walk's is told.
+#[test]
+fn comparisons() {
+    let mut draw = Drawn(8);
+    let (mut same, mut other, mut told) = (0, 0, 0);
+    for room in rooms(8, 200) {
+        let changed = changed(&room, &mut draw);
+        for room in [&room, &changed] {
+            assert_eq!(
+                compare::reached(room, &Walk::new(room), Limits::LARGEST),
+                Ok(true)
+            );
+        }
+        for press in diff::presses(&room, &changed) {
+            let mut differs = diff::changed(&room, &changed, press);
+            let check =
+                |set: &Vec<bool>| compare::press(&room, &changed, press, set, Limits::LARGEST);
+            assert_eq!(check(&differs), Ok(true));
+            match differs.contains(&true) {
+                true => other += 1,
+                false => same += 1,
+            }
+            let at = room.start as usize;
+            differs[at] = !differs[at];
+            told += usize::from(check(&differs).is_err());
+        }
+        let aligned = diff::aligned(&room, &room);
+        assert_eq!(aligned, Some(room.clone()));
+        let walk = Walk::new(&changed);
+        let wrong = compare::reached(&room, &walk, Limits::LARGEST).is_err();
+        assert_eq!(wrong, walk.reached() != Walk::new(&room).reached());
+    }
+    println!("{same} the same, {other} others, {told} told");
+    assert!(same > 50 && other > 50 && told == same + other);
+}
+
+/// A press whose conditions are too long for one relation of both rooms is compared bit by bit; where it leads to two states as
+/// well, the library is not asked.
+#[test]
+fn comparisons_of_long_presses() {
+    let things: Vec<String> = (0..16).map(|k| format!("t{k}")).collect();
+    let all = |joint: &str, first: usize| things[first..].join(joint);
+    let room = |press: &str| {
+        let long = format!(
+            "({}) or not ({}) or ({})",
+            all(" and ", 1),
+            all(" or ", 2),
+            all(" and ", 3)
+        );
+        let text = format!(
+            "things: {}\nstart: all off\npress A: {press}\n",
+            things.join(" ")
+        );
+        let more = format!("press A: t1 on when t0 and not t1 and not t2 and ({long})\nnever t0\n");
+        read(&(text.replace("LONG", &long) + &more)).unwrap()
+    };
+    let old = room("t0 turns over, t1 off when not t0 and (LONG)");
+    let new = room("t0 turns over when not t0 and (LONG)");
+    let mut set = diff::changed(&old, &new, "A");
+    let check = |new: &Room, set: &Vec<bool>| compare::press(&old, new, "A", set, Limits::LARGEST);
+    assert!(set.contains(&true) && set.contains(&false));
+    assert_eq!(check(&new, &set), Ok(true));
+    set[5] = !set[5];
+    assert!(check(&new, &set).is_err());
+    let two_ways = room("t0 turns over when LONG");
+    assert_eq!(
+        check(&two_ways, &diff::changed(&old, &two_ways, "A")),
+        Ok(false)
+    );
 }
 
 /// Answers that are damaged on the way: each set of the last question is another one.
