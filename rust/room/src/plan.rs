@@ -108,50 +108,46 @@ fn asking(room: &Room, asked: &Asked, relations: u32) -> Asking {
         let says = format!("where {}", echo::cond(room, cond));
         store(register, formula, says)
     };
+    let two = |x: &Cond, y: &Cond| vec![set(FIRST, x), set(SECOND, y)];
     let [first, second, third, inner] = [FIRST, SECOND, THIRD, INNER].map(Formula::register);
-    let answer = |formula: Formula, says: &str| store(ANSWER, formula, says.to_string());
     let there = leads_to(relations, &first);
-    let leads = "from where presses lead there";
-    let passes = "from where every run of presses passes";
-    let (sets, answer, holds) = match asked {
-        Asked::Never(x) => (vec![set(FIRST, x)], answer(there, leads), false),
-        Asked::Possible(x) => (vec![set(FIRST, x)], answer(there, leads), true),
+    let (leads, passes) = (
+        "from where presses lead there",
+        "from where every run of presses passes",
+    );
+    let (sets, (formula, says), holds) = match asked {
+        Asked::Never(x) => (vec![set(FIRST, x)], (there, leads), false),
+        Asked::Possible(x) => (vec![set(FIRST, x)], (there, leads), true),
         Asked::Works(press, x) => {
             let fails = set(FIRST, &room.fails(press, x));
-            (vec![fails], answer(there, leads), false)
+            (vec![fails], (there, leads), false)
         }
         Asked::AlwaysPossible(x) => {
             let formula = Formula::nu(0, inner & every(relations, &Formula::var(0)));
             let sets = vec![set(FIRST, x), store(INNER, there, leads.to_string())];
             let says = "from where they still do after any presses";
-            (sets, answer(formula, says), true)
+            (sets, (formula, says), true)
         }
-        Asked::Until(x, y) => {
-            let formula = until(relations, &first, &second);
-            (
-                vec![set(FIRST, x), set(SECOND, y)],
-                answer(formula, passes),
-                true,
-            )
-        }
-        Asked::Unless(x, y) => {
-            let formula = unless(relations, &first, &second);
-            (
-                vec![set(FIRST, x), set(SECOND, y)],
-                answer(formula, passes),
-                true,
-            )
-        }
+        Asked::Until(x, y) => (two(x, y), (until(relations, &first, &second), passes), true),
+        Asked::Unless(x, y) => (
+            two(x, y),
+            (unless(relations, &first, &second), passes),
+            true,
+        ),
         Asked::Whenever(x, y, z) => {
-            let formula = unless(relations, &second, &third);
             let fails = leads_to(relations, &(first & !inner));
+            let formula = unless(relations, &second, &third);
             let inner = store(INNER, formula, passes.to_string());
-            let sets = vec![set(FIRST, x), set(SECOND, y), set(THIRD, z), inner];
             let says =
                 "from where presses lead to the first, and some run from there does not pass";
-            (sets, answer(fails, says), false)
+            (
+                vec![set(FIRST, x), set(SECOND, y), set(THIRD, z), inner],
+                (fails, says),
+                false,
+            )
         }
     };
+    let answer = store(ANSWER, formula, says.to_string());
     closed(room, sets, answer, holds)
 }
 

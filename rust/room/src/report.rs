@@ -97,11 +97,8 @@ fn shown(room: &Room, asked: &Asked, run: &Run, whole: bool) -> String {
     let line = |number: &str, name: &str, state: &str| {
         format!("  {number:>digits$}  {name:widest$}  {state}\n")
     };
-    let from = match (room.any_start, run.end, asked) {
-        (true, End::Reached, Asked::Possible(_)) => " from the start that is farthest from there",
-        _ => "",
-    };
-    let mut text = format!("  {}\n", introduction(run, presses, from));
+    let farthest = room.any_start && matches!(asked, Asked::Possible(_));
+    let mut text = format!("  {}\n", introduction(run, presses, farthest));
     text += &line("", "start", &echo::state(room, run.states[0]));
     let hidden = match whole || presses <= FIRST_STEPS + LAST_STEPS {
         true => presses..presses,
@@ -121,7 +118,11 @@ fn shown(room: &Room, asked: &Asked, run: &Run, whole: bool) -> String {
     text + &closing(room, asked, run.end)
 }
 
-fn introduction(run: &Run, presses: usize, from: &str) -> String {
+fn introduction(run: &Run, presses: usize, farthest: bool) -> String {
+    let from = match farthest && run.end == End::Reached {
+        true => " from the start that is farthest from there",
+        false => "",
+    };
     let number = grouped(presses as u32);
     match presses {
         0 => "At the start already:".to_string(),

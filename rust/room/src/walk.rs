@@ -154,22 +154,17 @@ impl Walk {
     /// The sets of a question.
     pub fn sets(&self, room: &Room, asked: &Asked) -> Sets {
         let set = |cond: &Cond| self.set(room, cond);
+        let lead_to = |first: Set| {
+            let answer = self.leads_to(&first);
+            (first, answer)
+        };
         let (mut second, mut third, mut inner) = (None, None, None);
         let (first, answer) = match asked {
-            Asked::Never(x) | Asked::Possible(x) => {
-                let first = set(x);
-                let answer = self.leads_to(&first);
-                (first, answer)
-            }
-            Asked::Works(press, x) => {
-                let first = set(&room.fails(press, x));
-                let answer = self.leads_to(&first);
-                (first, answer)
-            }
+            Asked::Never(x) | Asked::Possible(x) => lead_to(set(x)),
+            Asked::Works(press, x) => lead_to(set(&room.fails(press, x))),
             Asked::AlwaysPossible(x) => {
-                let first = set(x);
-                let possible = inner.insert(self.leads_to(&first));
-                let outside = self.leads_to(&self.without(possible));
+                let (first, possible) = lead_to(set(x));
+                let outside = self.leads_to(&self.without(inner.insert(possible)));
                 (first, self.without(&outside))
             }
             Asked::Until(x, y) => {
@@ -288,8 +283,8 @@ impl Walk {
     }
 
     /// The states of a shortest run from some states into a set, through states of another set before: at each place the
-    /// least state that lies on a shortest run. None where no run leads there. This is the one place that finds such
-    /// runs; where all presses are one relation the library's answer is held against it (`Asker::same_run`).
+    /// least state that lies on a shortest run. None where no run leads there. Where all presses are one relation the library's
+    /// answer is held against it (`Asker::same_run`).
     pub fn shortest_run(&self, from: &Set, into: &Set, through: &Set) -> Option<Vec<State>> {
         let distance = self.distances_to(into, through);
         let (_, first) = self.nearest(from, &distance)?;

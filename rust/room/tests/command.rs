@@ -506,6 +506,12 @@ fn another_order() {
         lines.map(|line| line.chars().take(7).collect()).collect()
     };
     assert!(!written.contains("order") && status == 1, "{written}");
+    let none = room::ask::Answer {
+        verdict: room::ask::Verdict::None(kudzuclamp::Refusal::Full),
+        ordered: None,
+    };
+    let says = "            Other orders of the things in the table do not help.\n";
+    assert_eq!(room::report::order(&none), says);
     assert_eq!(presses(&printed), presses(&written));
 }
 

@@ -115,6 +115,11 @@ impl<'a> Reader<'a> {
             }
             return Ok(Cond::All(Vec::new()));
         };
+        self.part_is(line, part, name)
+    }
+
+    /// A part in a condition, with the value that it must have.
+    fn part_is(&mut self, line: &mut Line<'a, '_>, part: usize, name: &Word) -> Read<Cond> {
         self.other_signs(line, part, name)?;
         if line.take("=") {
             let value = self.position(Some(part), name, line)?;

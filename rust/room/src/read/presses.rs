@@ -32,13 +32,7 @@ impl<'a> Reader<'a> {
         }
         if line.take("any") {
             self.room.any_start = true;
-            return match line.peek() {
-                None => Ok(()),
-                Some(word) => {
-                    let says = "\"any\" stands alone: the evening may begin in every state";
-                    self.wrong(&word, says.to_string())
-                }
-            };
+            return self.alone(line);
         }
         if line.is("all") && self.all_off(line)? {
             return Ok(());
@@ -56,6 +50,17 @@ impl<'a> Reader<'a> {
             }
         }
         Ok(())
+    }
+
+    /// Tells that nothing stands behind `any`.
+    fn alone(&mut self, line: &Line<'a, '_>) -> Read<()> {
+        match line.peek() {
+            None => Ok(()),
+            Some(word) => {
+                let says = "\"any\" stands alone: the evening may begin in every state";
+                self.wrong(&word, says.to_string())
+            }
+        }
     }
 
     /// Reads `all off`, and the comma after it; whether that is all.
