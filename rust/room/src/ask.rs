@@ -1,5 +1,7 @@
 //! The library's answers to a room's questions, given only where the plain walk finds the same.
-use crate::plan::{Asking, Plan, Store, ANSWER, FIRST, INNER, SECOND, START};
+use crate::plan::{
+    Asking, Plan, Store, ANSWER, FIRST, INNER, SECOND, START, START_IN_ANSWER, THIRD,
+};
 use crate::room::{Asked, Question, Room, State};
 use crate::valid;
 use crate::walk::{members, Run, Set, Sets, Walk};
@@ -24,11 +26,19 @@ impl Limits {
 
 #[derive(Clone, Debug, PartialEq, Eq)]
 pub enum Verdict {
-    Safe,
+    /// With a run that shows it, where the question asks for one.
+    Safe(Option<Run>),
     /// With a run that shows it.
     Broken(Run),
     /// The library refused: the table is full, or the rounds are used up.
     None(Refusal),
+}
+
+/// A verdict, and the room with its parts in another order in the table, where that gave it (`orders`).
+#[derive(Clone, Debug, PartialEq, Eq)]
+pub struct Answer {
+    pub verdict: Verdict,
+    pub ordered: Option<Room>,
 }
 
 /// What the table and the plain walk do not agree on. No verdict is given then.
@@ -51,7 +61,7 @@ pub struct Asker<'a> {
 }
 
 /// Why a call gives nothing to compare.
-enum Halt {
+pub(crate) enum Halt {
     Refused(Refusal),
     Differs(Difference),
 }
@@ -101,6 +111,11 @@ impl<'a> Asker<'a> {
         }
     }
 
+    /// Whether the presses and the start fit into the table.
+    pub fn is_loaded(&self) -> bool {
+        self.refused.is_none()
+    }
+
     fn load(&mut self) -> Result<(), Halt> {
         self.table.valid(valid::states(self.room))?;
         for relation in &self.plan.relations {
@@ -110,10 +125,8 @@ impl<'a> Asker<'a> {
         for set in &self.plan.sets {
             self.store(set)?;
         }
-        let mut start = vec![false; self.walk.exists.len()];
-        start[self.room.start as usize] = true;
         self.same(valid::REGISTER, &self.walk.exists)?;
-        self.same(START, &start)
+        self.same(START, &self.walk.starts)
     }
 
     fn store(&mut self, set: &Store) -> Result<(), Halt> {
@@ -124,18 +137,8 @@ impl<'a> Asker<'a> {
         Ok(())
     }
 
-    /// Whether a register has exactly the states that the walk found: all of them, and as many as the library counts.
     fn same(&self, register: u32, set: &Set) -> Result<(), Halt> {
-        let found = members(set);
-        let states: Vec<u32> = self.table.states(register)?.collect();
-        if states == found && self.table.count(register)? as usize == found.len() {
-            return Ok(());
-        }
-        differs(format!(
-            "the table finds {} states, the walk {}",
-            states.len(),
-            found.len()
-        ))
+        same(&self.table, register, set)
     }
 
     /// The verdict on a question, by its place.
@@ -157,17 +160,27 @@ impl<'a> Asker<'a> {
         }
         let sets = self.walk.sets(self.room, &question.asked);
         self.compare(&sets)?;
-        let start = self.room.start;
-        let found = self.table.member(ANSWER, start)?;
-        if found != sets.answer[start as usize] {
-            return differs("the start is in one answer and not in the other".to_string());
+        let inside: Set = (self.walk.starts.iter().zip(&sets.answer))
+            .map(|(start, inside)| *start && *inside)
+            .collect();
+        self.same(START_IN_ANSWER, &inside)?;
+        let found = self.table.count(START_IN_ANSWER)?;
+        // All starts are among the states in which it holds; or none is among those in which it is broken.
+        let safe = match asking.holds {
+            true => found == self.table.count(START)?,
+            false => found == 0,
+        };
+        let trouble = self.walk.trouble(&question.asked, &sets);
+        let way = self.walk.way(&question.asked, &sets);
+        match question.asked {
+            Asked::Never(_) | Asked::Works(..) => self.same_run(trouble.as_ref())?,
+            Asked::Possible(_) if !self.room.any_start => self.same_run(way.as_ref())?,
+            _ => {}
         }
-        let trouble = self.walk.trouble(start, &question.asked, &sets);
-        if let Asked::Never(_) = question.asked {
-            self.same_run(trouble.as_ref())?;
-        }
-        match (found == asking.holds, trouble) {
-            (true, None) => Ok(Verdict::Safe),
+        match (safe, trouble) {
+            (true, None) if way.as_ref().is_none_or(|run| self.is_run(&run.states)) => {
+                Ok(Verdict::Safe(way))
+            }
             (false, Some(run)) if self.is_run(&run.states) => Ok(Verdict::Broken(run)),
             _ => differs("a run into trouble is there, or is not, against the answer".to_string()),
         }
@@ -177,13 +190,17 @@ impl<'a> Asker<'a> {
     fn compare(&self, sets: &Sets) -> Result<(), Halt> {
         self.same(FIRST, &sets.first)?;
         self.same(ANSWER, &sets.answer)?;
-        if let Some(second) = &sets.second {
-            self.same(SECOND, second)?;
+        let more = [
+            (SECOND, &sets.second),
+            (THIRD, &sets.third),
+            (INNER, &sets.inner),
+        ];
+        for (register, set) in more {
+            if let Some(set) = set {
+                self.same(register, set)?;
+            }
         }
-        match &sets.inner {
-            Some(inner) => self.same(INNER, inner),
-            None => Ok(()),
-        }
+        Ok(())
     }
 
     /// Where all presses are one relation the library finds the shortest run too, or that there is none. It works out its
@@ -211,8 +228,23 @@ impl<'a> Asker<'a> {
     /// Whether every step of a run is a press, by the rules as read.
     fn is_run(&self, states: &[State]) -> bool {
         let pressed = |pair: &[State]| press(self.room, pair[0], pair[1]).is_some();
-        states.first() == Some(&self.room.start) && states.windows(2).all(pressed)
+        (states.first()).is_some_and(|&first| self.room.is_start(first))
+            && states.windows(2).all(pressed)
     }
+}
+
+/// Whether a register has exactly the states that the walk found: all of them, and as many as the library counts.
+pub(crate) fn same(table: &Table<Vec<u32>>, register: u32, set: &Set) -> Result<(), Halt> {
+    let found = members(set);
+    let states: Vec<u32> = table.states(register)?.collect();
+    if states == found && table.count(register)? as usize == found.len() {
+        return Ok(());
+    }
+    differs(format!(
+        "the table finds {} states, the walk {}",
+        states.len(),
+        found.len()
+    ))
 }
 
 /// The first press in the file that leads from one state to another.
@@ -225,7 +257,7 @@ pub fn press(room: &Room, from: State, to: State) -> Option<&str> {
 }
 
 /// A refusal that ends a question without a verdict; any other shows that the calls are not what they should be.
-fn ending(refusal: Refusal, of: &str) -> Result<Refusal, Difference> {
+pub(crate) fn ending(refusal: Refusal, of: &str) -> Result<Refusal, Difference> {
     match refusal {
         Refusal::Full | Refusal::Spent => Ok(refusal),
         _ => Err(unforeseen(refusal, of)),

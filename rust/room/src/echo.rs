@@ -47,6 +47,9 @@ fn grouped_things(parts: &[Part]) -> Vec<String> {
 }
 
 fn start(room: &Room) -> String {
+    if room.any_start {
+        return "any".to_string();
+    }
     let values = room
         .parts
         .iter()
@@ -93,6 +96,12 @@ pub fn asked(room: &Room, asked: &Asked) -> String {
         Asked::AlwaysPossible(x) => format!("always possible: {}", cond(room, x)),
         Asked::Until(x, y) => format!("{} until {}", cond(room, x), cond(room, y)),
         Asked::Unless(x, y) => format!("{} unless {}", cond(room, x), cond(room, y)),
+        Asked::Possible(x) => format!("possible: {}", cond(room, x)),
+        Asked::Whenever(x, y, z) => {
+            let [x, y, z] = [x, y, z].map(|c| cond(room, c));
+            format!("whenever {x}: {y} unless {z}")
+        }
+        Asked::Works(press, x) => format!("{press} works whenever {}", cond(room, x)),
     }
 }
 
@@ -143,6 +152,14 @@ pub fn state(room: &Room, state: State) -> String {
     let selectors = room.parts.iter().filter(|part| part.is_selector());
     said.extend(selectors.map(|part| value(part, part.value(state))));
     said.join(", ")
+}
+
+/// The state in which the evening begins.
+pub fn beginning(room: &Room) -> String {
+    match room.any_start {
+        true => "any state".to_string(),
+        false => state(room, room.start),
+    }
 }
 
 /// A number with commas: 65,536.

@@ -1,8 +1,6 @@
 //! What is wrong with records: the byte at which a formula can no longer be read, and why.
+use crate::records::ROOMRULES_WORDS;
 use kudzuclamp::{play, Refusal, Table};
-
-/// The words that `roomrules` lends.
-const WORDS: usize = 16_384;
 
 /// What document 01 says of a formula's bytes.
 const MAX_LENGTH: usize = 1_024;
@@ -184,7 +182,7 @@ pub fn explain(file: &[u8]) -> (String, bool) {
         Ok(source) => source,
         Err(says) => return (says + "\n", false),
     };
-    let mut words = vec![0; WORDS];
+    let mut words = vec![0; ROOMRULES_WORDS];
     let mut text = String::new();
     let (mut at, mut count, mut refused) = (0, 0, 0);
     while at < source.bytes.len() {

@@ -1,213 +1,164 @@
-//! The command line of `room`.
-use room::ask::{Asker, Limits, Verdict};
+//! The command `room`.
+mod options;
+
+use kudzuclamp::Refusal;
+use options::{Mode, Options};
+use room::ask::{Answer, Asker, Difference, Limits, Verdict};
+use room::diff::{self, Side};
 use room::mistake::Mistake;
+use room::orders::Others;
+use room::plan::{self, Plan};
 use room::report::{self, Outcome};
 use room::room::Room;
 use room::walk::Walk;
-use room::{echo, explain, plan, read, records, sense};
-use std::fs;
+use room::{compare, echo, explain, read, records, sense};
+use std::fs::File;
 use std::io::{self, IsTerminal, Read, Write};
 use std::process::ExitCode;
-
-const HELP: &str = "\
-room FILE             reads a room's switching rules in words and answers its questions
-room --echo FILE      prints the rules as understood, and asks nothing
-room --records FILE   prints the questions as records for roomrules
-room --explain FILE   FILE has records: plays them, and says why one is refused
-
-  --rows N            a table of N rows, 1 to 60000 (60000)
-  --rounds R          at most R rounds for each answer (4294967295)
-  --peak              says how many rows the table needs
-  --whole-run         shows every press of a long run
-  --help, --version
-
-FILE is - for standard input. A room file:
-
-  # what is behind a # is for people
-  things: mic echo song             each is on or off
-  selector send: desk hall booth    stands at one of its positions
-  start: all off                    or what is on: start: song on, send = hall
-  howl means mic and echo and send = booth
-  press MIC: mic turns over
-  press ECHO: echo on when song and not mic
-  press STOP: song off, echo off when song
-  never howl                        no presses lead there from the start
-  always possible: not song         after any presses, some presses lead there
-  not echo until song               whatever is pressed, song comes, and no echo before
-  not echo unless song              no echo as long as song has not come, which it need not
-
-A press works only where its condition holds, and what it does not name keeps its value. A press may have several lines.
-Conditions have: and, or, not, parentheses, names, SELECTOR = POSITION. A line that begins with a blank goes on with the one before.
-
-Exit status: 0 all SAFE, 1 one BROKEN, 2 a mistake in the file or the command line, 3 NO VERDICT, 4 the table and the plain walk differ.
-";
 
 /// At most so many mistakes are shown.
 const MOST_SHOWN: usize = 20;
 
-#[derive(Clone, Copy, PartialEq, Eq)]
-enum Mode {
-    Ask,
-    Echo,
-    Records,
-    Explain,
+/// The most bytes of a file.
+const MOST_BYTES: u64 = 1_000_000;
+
+/// Why a command ends before its end.
+enum Stop {
+    Unwritten(io::Error),
+    /// Table and walk differ on a question.
+    Differs(Difference, String),
 }
 
-struct Options {
-    mode: Mode,
-    file: String,
-    limits: Limits,
-    whole_run: bool,
-    peak: bool,
-}
-
-enum Command {
-    Run(Options),
-    Print(String),
+impl From<io::Error> for Stop {
+    fn from(error: io::Error) -> Stop {
+        Stop::Unwritten(error)
+    }
 }
 
 fn main() -> ExitCode {
-    let outcome = match command(std::env::args().skip(1)) {
-        Ok(Command::Run(options)) => run(&options),
-        Ok(Command::Print(text)) => print(&text, Outcome::Safe),
+    let done = match options::command(std::env::args().skip(1)) {
+        Ok(options::Command::Run(options)) => run(&options),
+        Ok(options::Command::Print(text)) => print(&text, Outcome::Safe),
         Err(says) => {
-            eprintln!("room: {says}. See room --help");
-            Outcome::BadFile
+            tell(&format!("room: {says}. See room --help\n"));
+            Ok(Outcome::BadFile)
         }
     };
+    let done = match done {
+        Err(Stop::Differs(difference, asked)) => {
+            print(&report::difference(&difference, &asked), Outcome::Differs)
+        }
+        done => done,
+    };
+    let outcome = done.unwrap_or_else(|stop| {
+        if let Stop::Unwritten(error) = stop {
+            tell(&format!("room: the answer cannot be written: {error}\n"));
+        }
+        Outcome::BadFile
+    });
     ExitCode::from(outcome.status())
 }
 
-fn command(words: impl Iterator<Item = String>) -> Result<Command, String> {
-    let (mut mode, mut file, mut limits) = (Mode::Ask, None, Limits::LARGEST);
-    let (mut whole_run, mut peak) = (false, false);
-    let mut words = words;
-    while let Some(word) = words.next() {
-        let mut number = |least: u32, most: u32| {
-            let value = words.next().and_then(|text| text.parse().ok());
-            let value = value.filter(|value| (least..=most).contains(value));
-            value.ok_or(format!("{word} needs a number from {least} to {most}"))
-        };
-        let chosen = match word.as_str() {
-            "--help" | "-h" => return Ok(Command::Print(HELP.to_string())),
-            "--version" => return Ok(Command::Print(version())),
-            "--rows" => {
-                limits.rows = number(1, Limits::LARGEST.rows)?;
-                continue;
-            }
-            "--rounds" => {
-                limits.rounds = number(0, u32::MAX)?;
-                continue;
-            }
-            "--whole-run" => {
-                whole_run = true;
-                continue;
-            }
-            "--peak" => {
-                peak = true;
-                continue;
-            }
-            "--echo" => Mode::Echo,
-            "--records" => Mode::Records,
-            "--explain" => Mode::Explain,
-            _ if word.starts_with('-') && word != "-" => {
-                return Err(format!("{word} is no option"))
-            }
-            _ if file.is_some() => return Err("one file at a time".to_string()),
-            _ => {
-                file = Some(word);
-                continue;
-            }
-        };
-        if mode != Mode::Ask && mode != chosen {
-            return Err("one of --echo, --records and --explain at a time".to_string());
-        }
-        mode = chosen;
-    }
-    let file = file.ok_or("no file is named")?;
-    Ok(Command::Run(Options {
-        mode,
-        file,
-        limits,
-        whole_run,
-        peak,
-    }))
-}
-
-fn version() -> String {
-    let library = match kudzuclamp::PROVED {
-        true => "the library in it is proved, the reading of files and the words are not",
-        false => "a quick build: the library in it is NOT proved",
-    };
-    format!("room {} ({library})\n", env!("CARGO_PKG_VERSION"))
-}
-
-/// Writes to standard output. Where nobody reads it any more, the status is all that is left to say.
-fn print(text: &str, outcome: Outcome) -> Outcome {
+/// Writes to standard output. Where nobody reads on, as with `room FILE | head`, the status is all that is left to say.
+fn print(text: &str, outcome: Outcome) -> Result<Outcome, Stop> {
     let mut out = io::stdout().lock();
-    let _ = out.write_all(text.as_bytes()).and_then(|()| out.flush());
-    outcome
+    match out.write_all(text.as_bytes()).and_then(|()| out.flush()) {
+        Err(error) if error.kind() != io::ErrorKind::BrokenPipe => Err(error.into()),
+        _ => Ok(outcome),
+    }
 }
 
-fn run(options: &Options) -> Outcome {
-    let name = match options.file.as_str() {
+/// Writes to standard error, where that can be.
+fn tell(text: &str) {
+    let _ = io::stderr().write_all(text.as_bytes());
+}
+
+fn run(options: &Options) -> Result<Outcome, Stop> {
+    match options.mode {
+        Mode::Explain => match contents(&options.file) {
+            Ok(bytes) => {
+                let (text, answered) = explain::explain(&bytes);
+                print(
+                    &text,
+                    [Outcome::BadFile, Outcome::Safe][usize::from(answered)],
+                )
+            }
+            Err(says) => refuse(&says),
+        },
+        Mode::Diff => {
+            let after = options.after.as_deref().unwrap_or_default();
+            match (understood(&options.file), understood(after)) {
+                (Ok(old), Ok(new)) => compare(&old.0, &new, options),
+                (old, new) => refuse(
+                    &[old.err(), new.err()]
+                        .map(Option::unwrap_or_default)
+                        .concat(),
+                ),
+            }
+        }
+        _ => match understood(&options.file) {
+            Ok((room, plan)) => answer(&room, &plan, options),
+            Err(says) => refuse(&says),
+        },
+    }
+}
+
+/// What is wanted of one room.
+fn answer(room: &Room, plan: &Plan, options: &Options) -> Result<Outcome, Stop> {
+    match options.mode {
+        Mode::Echo => print(&echo::echo(room), Outcome::Safe),
+        Mode::Records => write_records(room, plan, options, shown_name(&options.file)),
+        _ => ask(room, plan, options),
+    }
+}
+
+fn refuse(says: &str) -> Result<Outcome, Stop> {
+    tell(says);
+    Ok(Outcome::BadFile)
+}
+
+/// A file's name as messages say it.
+fn shown_name(name: &str) -> &str {
+    match name {
         "-" => "standard input",
         name => name,
-    };
-    let bytes = match contents(&options.file) {
-        Ok(bytes) => bytes,
-        Err(error) => {
-            eprintln!("room: {name} cannot be read: {error}");
-            return Outcome::BadFile;
-        }
-    };
-    if options.mode == Mode::Explain {
-        let (text, answered) = explain::explain(&bytes);
-        return print(
-            &text,
-            if answered {
-                Outcome::Safe
-            } else {
-                Outcome::BadFile
-            },
-        );
-    }
-    let text = match String::from_utf8(bytes) {
-        Ok(text) => text,
-        Err(error) => {
-            let before = &error.as_bytes()[..error.utf8_error().valid_up_to()];
-            let line = 1 + before.iter().filter(|byte| **byte == b'\n').count();
-            eprintln!("{name}, line {line}: this is no text (UTF-8)");
-            return Outcome::BadFile;
-        }
-    };
-    match understood(&text) {
-        Ok((room, plan)) => match options.mode {
-            Mode::Echo => print(&echo::echo(&room), Outcome::Safe),
-            Mode::Records => print(
-                &records::records(&room, &plan, options.limits, name),
-                Outcome::Safe,
-            ),
-            _ => ask(&room, &plan, options),
-        },
-        Err(mistakes) => {
-            eprint!("{}", refused(&mistakes, name, &text));
-            Outcome::BadFile
-        }
     }
 }
 
-fn contents(name: &str) -> io::Result<Vec<u8>> {
-    if name != "-" {
-        return fs::read(name);
-    }
+/// The bytes of a file, or why there are none.
+fn contents(name: &str) -> Result<Vec<u8>, String> {
+    let read = match name {
+        "-" => limited(io::stdin()),
+        _ => File::open(name).and_then(limited),
+    };
+    read.map_err(|error| format!("room: {} cannot be read: {error}\n", shown_name(name)))
+}
+
+/// All bytes, where they are not too many; no more of them are read.
+fn limited(from: impl Read) -> io::Result<Vec<u8>> {
     let mut bytes = Vec::new();
-    io::stdin().read_to_end(&mut bytes)?;
-    Ok(bytes)
+    from.take(MOST_BYTES + 1).read_to_end(&mut bytes)?;
+    match bytes.len() as u64 > MOST_BYTES {
+        true => Err(io::Error::other(
+            "it has more than 1 MB, as no room and no list of records has",
+        )),
+        false => Ok(bytes),
+    }
 }
 
-/// The room and its calls, or what is wrong.
-fn understood(text: &str) -> Result<(Room, plan::Plan), Vec<Mistake>> {
+/// The room in a file and its calls, or what is wrong with the file.
+fn understood(file: &str) -> Result<(Room, Plan), String> {
+    let (bytes, name) = (contents(file)?, shown_name(file));
+    let text = std::str::from_utf8(&bytes).map_err(|error| {
+        let before = &bytes[..error.valid_up_to()];
+        let line = 1 + before.iter().filter(|byte| **byte == b'\n').count();
+        format!("{name}, line {line}: this is no text (UTF-8)\n")
+    })?;
+    planned(text).map_err(|mistakes| refused(&mistakes, name, text))
+}
+
+/// The room and its calls, or every mistake in the text.
+fn planned(text: &str) -> Result<(Room, Plan), Vec<Mistake>> {
     let room = read::read(text)?;
     let mistakes = sense::mistakes(&room);
     if !mistakes.is_empty() {
@@ -231,64 +182,209 @@ fn refused(mistakes: &[Mistake], name: &str, text: &str) -> String {
     said
 }
 
-fn ask(room: &Room, plan: &plan::Plan, options: &Options) -> Outcome {
-    let progress = Progress {
-        on: io::stderr().is_terminal(),
+/// Prints the records, where `roomrules` answers them.
+fn write_records(room: &Room, plan: &Plan, options: &Options, name: &str) -> Result<Outcome, Stop> {
+    let limits = Limits {
+        rows: options.rows.unwrap_or(records::ROOMRULES_ROWS),
+        rounds: options.rounds,
     };
-    progress.says(&format!(
-        "walking through {} states",
-        echo::grouped(room.states())
-    ));
-    let walk = Walk::new(room);
-    progress.says("loading the presses");
-    let mut asker = match Asker::new(room, &walk, plan, options.limits) {
-        Ok(asker) => asker,
-        Err(difference) => {
-            progress.done();
-            let text = report::difference(&difference, "all questions");
-            return print(&text, Outcome::Differs);
-        }
-    };
-    progress.done();
-    print(&report::heading(room), Outcome::Safe);
-    let mut verdicts: Vec<Verdict> = Vec::new();
-    for (place, question) in room.questions.iter().enumerate() {
-        let asked = echo::asked(room, &question.asked);
-        progress.says(&format!(
-            "question {} of {}: {asked}",
-            place + 1,
-            room.questions.len()
-        ));
-        let verdict = asker.ask(place);
-        progress.done();
-        match verdict {
-            Ok(verdict) => {
-                let text =
-                    report::verdict(room, question, &verdict, options.limits, options.whole_run);
-                print(&text, Outcome::Safe);
-                verdicts.push(verdict);
-            }
-            Err(difference) => {
-                let text = report::difference(&difference, &asked);
-                return print(&text, Outcome::Differs);
-            }
+    match records::records(room, plan, limits, name) {
+        Ok(text) => print(&text, Outcome::Safe),
+        Err(says) => {
+            tell(&format!("room: {says}"));
+            Ok(Outcome::NoVerdict)
         }
     }
+}
+
+/// Asks all questions; each verdict is printed as soon as it is there.
+fn ask(room: &Room, plan: &Plan, options: &Options) -> Result<Outcome, Stop> {
+    let walk = walked(room);
+    let mut questions = Questions::new(room, &walk, plan, options)?;
+    print(&report::heading(room), Outcome::Safe)?;
+    let answers = questions.all(|text| print(text, Outcome::Safe).map(drop))?;
     let mut text = String::new();
     for note in report::notes(room, &walk) {
         text += &format!("Note: {note}\n");
     }
-    text += &report::summary(&verdicts);
-    if options.peak && report::outcome(&verdicts) != Outcome::NoVerdict {
+    text += &report::summary(&answers);
+    if options.peak {
+        text += &report::rows_needed(room, &answers, questions.asker.peak);
+    }
+    print(&(text + quick()), report::outcome(&answers))
+}
+
+/// A line for builds whose library is not proved.
+fn quick() -> &'static str {
+    match kudzuclamp::PROVED {
+        true => "",
+        false => {
+            "(A quick build: the library in this room command is not proved. README tells how to build the proved one.)\n"
+        }
+    }
+}
+
+fn walked(room: &Room) -> Walk {
+    let progress = Progress::at_terminal();
+    let states = echo::grouped(room.states());
+    progress.says(&format!("walking through {states} states"));
+    let walk = Walk::new(room);
+    progress.done();
+    walk
+}
+
+/// Says what differs between a room and the same room after a change. The outcome is that of the changed one.
+fn compare(before: &Room, after: &(Room, Plan), options: &Options) -> Result<Outcome, Stop> {
+    let (new, new_plan) = after;
+    let aligned = diff::aligned(before, new);
+    let old = aligned.as_ref().unwrap_or(before);
+    let old_plan = match plan::plan(old) {
+        Ok(plan) => plan,
+        Err(mistakes) => return refuse(&refused(&mistakes, &options.file, "")),
+    };
+    let (old_walk, new_walk) = (walked(old), walked(new));
+    let old_answers = Questions::new(old, &old_walk, &old_plan, options)?.all(|_| Ok(()))?;
+    let new_answers = Questions::new(new, &new_walk, new_plan, options)?.all(|_| Ok(()))?;
+    let side = |name, room, walk, answers| Side {
+        name,
+        room,
+        walk,
+        answers,
+    };
+    let old = side(&options.file, old, &old_walk, &old_answers[..]);
+    let after = options.after.as_deref().unwrap_or_default();
+    let new = side(after, new, &new_walk, &new_answers[..]);
+    let things = match aligned.is_some() {
+        true => compared(&old, &new, options.limits())?,
+        false => diff::other_things(before, new.room),
+    };
+    let text = format!(
+        "{} before, {} after.\n{}{things}After: {}{}",
+        shown_name(old.name),
+        shown_name(new.name),
+        diff::verdicts(&old, &new),
+        report::summary(&new_answers),
+        quick()
+    );
+    print(&text, report::outcome(&new_answers))
+}
+
+/// States that can come and what presses do, of two rooms with the same things, each held against the library.
+fn compared(old: &Side, new: &Side, limits: Limits) -> Result<String, Stop> {
+    let differs = |what: &str| {
+        let what = what.to_string();
+        move |difference| Stop::Differs(difference, what)
+    };
+    let mut unchecked: Vec<&str> = Vec::new();
+    for (side, what) in [(old, "states before"), (new, "states after")] {
+        if !compare::reached(side.room, side.walk, limits).map_err(differs(what))? {
+            unchecked.push(what);
+        }
+    }
+    let mut text = diff::states(old, new);
+    let mut same = 0;
+    for press in diff::presses(old.room, new.room) {
+        let changed = diff::changed(old.room, new.room, press);
+        if !compare::press(old.room, new.room, press, &changed, limits).map_err(differs(press))? {
+            unchecked.push(press);
+        }
+        let says = diff::press(old, new, press, &changed);
+        same += usize::from(says.is_empty());
+        text += &says;
+    }
+    text += &report::same_presses(same);
+    if !unchecked.is_empty() {
         text += &format!(
-            "A table of {} rows is enough for these questions, and no smaller one.\n",
-            echo::grouped(asker.peak.max(1))
+            "Found by the walk alone, and not checked with the table: {}.\n",
+            unchecked.join(", ")
         );
     }
-    if !kudzuclamp::PROVED {
-        text += "(A quick build: the library in this room command is not proved. README tells how to build the proved one.)\n";
+    Ok(text)
+}
+
+/// The questions of a room, which are asked one by one.
+struct Questions<'a> {
+    room: &'a Room,
+    asker: Asker<'a>,
+    /// Other orders of the things, once they are needed.
+    others: Option<Others>,
+    options: &'a Options,
+    progress: Progress,
+}
+
+impl<'a> Questions<'a> {
+    fn new(
+        room: &'a Room,
+        walk: &'a Walk,
+        plan: &'a Plan,
+        options: &'a Options,
+    ) -> Result<Questions<'a>, Stop> {
+        let progress = Progress::at_terminal();
+        progress.says("loading the presses");
+        let loaded = Asker::new(room, walk, plan, options.limits());
+        progress.done();
+        let all = |difference| Stop::Differs(difference, "all questions".to_string());
+        Ok(Questions {
+            room,
+            asker: loaded.map_err(all)?,
+            others: None,
+            options,
+            progress,
+        })
     }
-    print(&text, report::outcome(&verdicts))
+
+    /// The answers to all questions; the lines of each are given away at once.
+    fn all(&mut self, mut give: impl FnMut(&str) -> Result<(), Stop>) -> Result<Vec<Answer>, Stop> {
+        let mut answers = Vec::new();
+        for (place, question) in self.room.questions.iter().enumerate() {
+            let (answer, text) = self.ask(place).map_err(|difference| {
+                Stop::Differs(difference, echo::asked(self.room, &question.asked))
+            })?;
+            give(&text)?;
+            answers.push(answer);
+        }
+        Ok(answers)
+    }
+
+    /// The answer to a question, and its lines.
+    fn ask(&mut self, place: usize) -> Result<(Answer, String), Difference> {
+        let question = &self.room.questions[place];
+        self.progress.says(&format!(
+            "question {} of {}: {}",
+            place + 1,
+            self.room.questions.len(),
+            echo::asked(self.room, &question.asked)
+        ));
+        let verdict = self.asker.ask(place)?;
+        let limits = self.options.limits();
+        let full = verdict == Verdict::None(Refusal::Full) && limits.rows == Limits::LARGEST.rows;
+        let own = Answer {
+            verdict,
+            ordered: None,
+        };
+        let answer = match full {
+            true => self.in_another_order(place)?.unwrap_or(own),
+            false => own,
+        };
+        self.progress.done();
+        let room = answer.ordered.as_ref().unwrap_or(self.room);
+        let whole = self.options.whole_run;
+        let mut text = report::verdict(room, question, &answer.verdict, limits, whole);
+        if full {
+            text += &report::order(&answer);
+        }
+        Ok((answer, text))
+    }
+
+    /// The answer by another order of the things, where one gives a verdict.
+    fn in_another_order(&mut self, place: usize) -> Result<Option<Answer>, Difference> {
+        self.progress
+            .says("the table is full: trying other orders of the things");
+        let limits = self.options.limits();
+        (self.others)
+            .get_or_insert_with(|| Others::new(self.room, limits))
+            .ask(place)
+    }
 }
 
 /// A line on standard error that says what is being done, where somebody looks at it.
@@ -300,16 +396,22 @@ struct Progress {
 const PROGRESS: usize = 70;
 
 impl Progress {
+    fn at_terminal() -> Progress {
+        Progress {
+            on: io::stderr().is_terminal(),
+        }
+    }
+
     fn says(&self, text: &str) {
         if self.on {
             let text: String = text.chars().take(PROGRESS).collect();
-            eprint!("\r\x1b[K{text} ...");
+            tell(&format!("\r\x1b[K{text} ..."));
         }
     }
 
     fn done(&self) {
         if self.on {
-            eprint!("\r\x1b[K");
+            tell("\r\x1b[K");
         }
     }
 }

@@ -63,11 +63,17 @@ impl Mistake {
     }
 }
 
+/// The longest word that is compared with names.
+const LONGEST: usize = 40;
+
 /// The name among those given that is most like the word, and so may be meant: up to half of the characters are others, and
 /// three at most.
 pub fn similar<'a>(word: &str, names: impl Iterator<Item = &'a str>) -> Option<&'a str> {
-    let most = (word.chars().count().max(4) / 2).min(3);
-    let near = names.map(|name| (distance(word, name), name));
+    let length = word.chars().count();
+    let most = (length.max(4) / 2).min(3);
+    let near = names
+        .filter(|name| length <= LONGEST && name.chars().count().abs_diff(length) <= most)
+        .map(|name| (distance(word, name), name));
     let (apart, name) = near.min_by_key(|&(apart, _)| apart)?;
     (apart <= most).then_some(name)
 }
@@ -120,6 +126,9 @@ mod tests {
         assert_eq!(similar("ecko", names()), Some("echo"));
         assert_eq!(similar("trumpet", names()), None);
         assert_eq!(similar("mic_B", names()), Some("mic-B"));
+        assert_eq!(similar("mic", names()), Some("mic-A"));
+        let long = "a".repeat(500_000);
+        assert_eq!(similar(&long, [long.as_str()].into_iter()), None);
     }
 
     #[test]

@@ -3,15 +3,17 @@ use crate::mistake::Mistake;
 use crate::room::{Asked, Cond, Room};
 use crate::{echo, rules, valid};
 use kudzuclamp::Formula;
+use std::ops::Range;
 
-/// The registers: states that exist, the start state, a question's two sets, its inner and its last answer, and
-/// the start state if it is in that answer.
+/// The registers: states that exist, the start, a question's first two sets, its inner and its last answer, what of the start
+/// is in that answer, and a question's third set.
 pub const START: u32 = 1;
 pub const FIRST: u32 = 2;
 pub const SECOND: u32 = 3;
 pub const INNER: u32 = 4;
 pub const ANSWER: u32 = 5;
 pub const START_IN_ANSWER: u32 = 6;
+pub const THIRD: u32 = 7;
 
 /// A relation or a set to store, with a line that says what it is.
 #[derive(Clone, Debug, PartialEq, Eq)]
@@ -55,10 +57,6 @@ pub fn plan(room: &Room) -> Result<Plan, Vec<Mistake>> {
     if !too_long.is_empty() {
         return Err(too_long);
     }
-    let start = room
-        .parts
-        .iter()
-        .map(|part| rules::value_is(part, part.value(room.start), Formula::current));
     let presses = |k: usize| match count {
         1 => "relation 0: the presses".to_string(),
         _ => format!("relation {k}: the presses, part {} of {count}", k + 1),
@@ -76,12 +74,23 @@ pub fn plan(room: &Room) -> Result<Plan, Vec<Mistake>> {
             ),
             store(
                 START,
-                Formula::all(start),
-                format!("the start: {}", echo::state(room, room.start)),
+                start(room),
+                format!("the start: {}", echo::beginning(room)),
             ),
         ],
         questions,
     })
+}
+
+/// The states in which the evening may begin.
+pub fn start(room: &Room) -> Formula {
+    let parts = room.parts.iter();
+    match room.any_start {
+        true => valid::states(room),
+        false => Formula::all(
+            parts.map(|part| rules::value_is(part, part.value(room.start), Formula::current)),
+        ),
+    }
 }
 
 fn store(place: u32, formula: Formula, says: String) -> Store {
@@ -94,64 +103,74 @@ fn store(place: u32, formula: Formula, says: String) -> Store {
 
 /// The calls of a question over so many relations.
 fn asking(room: &Room, asked: &Asked, relations: u32) -> Asking {
-    let first = Formula::register(FIRST);
     let set = |register: u32, cond: &Cond| {
         let formula = valid::within(room, rules::condition(room, cond));
-        store(
-            register,
-            formula,
-            format!("where {}", echo::cond(room, cond)),
-        )
+        let says = format!("where {}", echo::cond(room, cond));
+        store(register, formula, says)
     };
-    let leads = |says: &str| store(INNER, leads_to(relations, &first), says.to_string());
-    let (mut sets, answer, holds) = match asked {
-        Asked::Never(x) => {
-            let answer = store(
-                ANSWER,
-                leads_to(relations, &first),
-                "from where presses lead there".to_string(),
-            );
-            (vec![set(FIRST, x)], answer, false)
+    let two = |x: &Cond, y: &Cond| vec![set(FIRST, x), set(SECOND, y)];
+    let [first, second, third, inner] = [FIRST, SECOND, THIRD, INNER].map(Formula::register);
+    let there = leads_to(relations, &first);
+    let (leads, passes) = (
+        "from where presses lead there",
+        "from where every run of presses passes",
+    );
+    let (sets, (formula, says), holds) = match asked {
+        Asked::Never(x) => (vec![set(FIRST, x)], (there, leads), false),
+        Asked::Possible(x) => (vec![set(FIRST, x)], (there, leads), true),
+        Asked::Works(press, x) => {
+            let fails = set(FIRST, &room.fails(press, x));
+            (vec![fails], (there, leads), false)
         }
         Asked::AlwaysPossible(x) => {
-            let inner = Formula::register(INNER);
             let formula = Formula::nu(0, inner & every(relations, &Formula::var(0)));
-            let says = "from where they still do after any presses".to_string();
-            let sets = vec![set(FIRST, x), leads("from where presses lead there")];
-            (sets, store(ANSWER, formula, says), true)
+            let sets = vec![set(FIRST, x), store(INNER, there, leads.to_string())];
+            let says = "from where they still do after any presses";
+            (sets, (formula, says), true)
         }
-        Asked::Until(x, y) | Asked::Unless(x, y) => {
-            let comes = Formula::register(SECOND);
-            let formula = match asked {
-                Asked::Until(..) => until(relations, &first, &comes),
-                _ => unless(relations, &first, &comes),
-            };
-            let says = "from where every run of presses passes".to_string();
+        Asked::Until(x, y) => (two(x, y), (until(relations, &first, &second), passes), true),
+        Asked::Unless(x, y) => (
+            two(x, y),
+            (unless(relations, &first, &second), passes),
+            true,
+        ),
+        Asked::Whenever(x, y, z) => {
+            let fails = leads_to(relations, &(first & !inner));
+            let formula = unless(relations, &second, &third);
+            let inner = store(INNER, formula, passes.to_string());
+            let says =
+                "from where presses lead to the first, and some run from there does not pass";
             (
-                vec![set(FIRST, x), set(SECOND, y)],
-                store(ANSWER, formula, says),
-                true,
+                vec![set(FIRST, x), set(SECOND, y), set(THIRD, z), inner],
+                (fails, says),
+                false,
             )
         }
     };
-    let found = Formula::register(START) & Formula::register(ANSWER);
-    let counts = if holds {
-        "1 state: SAFE, 0: BROKEN"
-    } else {
-        "0 states: SAFE, 1: BROKEN"
+    let answer = store(ANSWER, formula, says.to_string());
+    closed(room, sets, answer, holds)
+}
+
+/// The calls with the answer, and what of the start is in it.
+fn closed(room: &Room, mut sets: Vec<Store>, answer: Store, holds: bool) -> Asking {
+    let says = match (room.any_start, holds) {
+        (false, true) => "is the start among them? 1 state: SAFE, 0: BROKEN".to_string(),
+        (false, false) => "is the start among them? 0 states: SAFE, 1: BROKEN".to_string(),
+        (true, true) => format!(
+            "which starts are among them? All {}: SAFE, fewer: BROKEN",
+            echo::grouped(room.states())
+        ),
+        (true, false) => "which starts are among them? None: SAFE, some: BROKEN".to_string(),
     };
+    let found = Formula::register(START) & Formula::register(ANSWER);
     sets.push(answer);
-    sets.push(store(
-        START_IN_ANSWER,
-        found,
-        format!("is the start among them? {counts}"),
-    ));
+    sets.push(store(START_IN_ANSWER, found, says));
     Asking { sets, holds }
 }
 
-/// Some press leads into a set.
-fn some(relations: u32, f: &Formula) -> Formula {
-    Formula::any((0..relations).map(|t| Formula::diamond(t, f)))
+/// Some press of these relations leads into a set.
+pub fn some(relations: Range<u32>, f: &Formula) -> Formula {
+    Formula::any(relations.map(|t| Formula::diamond(t, f)))
 }
 
 /// Every press leads into a set.
@@ -161,7 +180,7 @@ fn every(relations: u32, f: &Formula) -> Formula {
 
 /// Some presses, or none, lead into a set.
 fn leads_to(relations: u32, f: &Formula) -> Formula {
-    Formula::mu(0, f | some(relations, &Formula::var(0)))
+    Formula::mu(0, f | some(0..relations, &Formula::var(0)))
 }
 
 /// Every run of presses comes to g, and f holds before. Until has one relation; over several it is the binder that it
@@ -170,7 +189,7 @@ fn until(relations: u32, f: &Formula, g: &Formula) -> Formula {
     if relations == 1 {
         return Formula::until_every(0, f, g);
     }
-    let goes_on = every(relations, &Formula::var(0)) & some(relations, &Formula::truth());
+    let goes_on = every(relations, &Formula::var(0)) & some(0..relations, &Formula::truth());
     Formula::mu(0, g | (f & goes_on))
 }
 

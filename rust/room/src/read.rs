@@ -8,7 +8,9 @@ use crate::words::{self, Word, RESERVED};
 use std::collections::HashMap;
 
 /// The words that begin a line.
-const FIRST_WORDS: [&str; 6] = ["things", "selector", "start", "press", "never", "always"];
+const FIRST_WORDS: [&str; 8] = [
+    "things", "selector", "start", "press", "never", "always", "possible", "whenever",
+];
 
 /// What a line's reading gives; a line that is given up has told its mistake already.
 type Read<T> = Result<T, GivenUp>;
@@ -24,10 +26,14 @@ pub fn read(text: &str) -> Result<Room, Vec<Mistake>> {
         ..Reader::default()
     };
     for words in &lines {
-        // A line that is given up leaves its mistake; the next ones are read all the same.
-        let _ = reader.line(Line { words, at: 0 });
+        for words in reader.apart(words) {
+            // A line that is given up leaves its mistake; the next ones are read all the same.
+            let _ = reader.line(Line { words, at: 0 });
+        }
     }
+    reader.known_presses();
     reader.whole();
+    reader.mistakes.sort_by_key(|m| (m.line, m.column));
     if reader.mistakes.is_empty() {
         Ok(reader.room)
     } else {
@@ -92,6 +98,9 @@ struct Reader<'a> {
     /// The bytes that each named set takes.
     sizes: Vec<usize>,
     started: bool,
+    /// The buttons that presses name, and those that questions name.
+    presses: Vec<String>,
+    asked_presses: Vec<(Word<'a>, String)>,
     declared: HashMap<&'a str, usize>,
     mistakes: Vec<Mistake>,
 }
@@ -100,6 +109,26 @@ impl<'a> Reader<'a> {
     fn wrong<T>(&mut self, word: &Word, says: String) -> Read<T> {
         self.mistakes.push(Mistake::at(word, says));
         Err(GivenUp)
+    }
+
+    /// The words of a line, in pieces: a line of its own that begins with a blank is told, and read by itself.
+    fn apart<'w>(&mut self, words: &'w [Word<'a>]) -> Vec<&'w [Word<'a>]> {
+        let mut pieces = Vec::new();
+        let mut from = 0;
+        for at in 1..words.len() {
+            let new_line = words[at].line > words[at - 1].line;
+            if new_line && begins_a_line(&words[at..]) && words[at - 1].text != "always" {
+                let says = format!(
+                    "\"{}\" begins a line of its own, at the left edge: take the blanks before it away",
+                    words[at].text
+                );
+                self.mistakes.push(Mistake::at(&words[at], says));
+                pieces.push(&words[from..at]);
+                from = at;
+            }
+        }
+        pieces.push(&words[from..]);
+        pieces
     }
 
     fn line(&mut self, mut line: Line<'a, '_>) -> Read<()> {
@@ -112,8 +141,13 @@ impl<'a> Reader<'a> {
             "press" => self.press(&mut line),
             "never" => self.never(&mut line),
             "always" => self.always_possible(&mut line),
+            "possible" => self.possible(&mut line),
+            "whenever" => self.whenever(&mut line),
             _ if second == "means" => self.means(&mut line),
-            _ if line.words.iter().any(|word| joins_two(word.text)) => self.until(&mut line),
+            _ if line.words.iter().any(|word| word.text == "whenever") => self.works(&mut line),
+            _ if (line.words.iter()).any(|word| joins_two(&word.text.to_lowercase())) => {
+                self.until(&mut line)
+            }
             _ => self.no_line(&line),
         }
     }
@@ -145,10 +179,28 @@ impl<'a> Reader<'a> {
         }
     }
 
+    /// Tells the buttons that a question names and no press does.
+    fn known_presses(&mut self) {
+        for (word, label) in std::mem::take(&mut self.asked_presses) {
+            if self.presses.contains(&label) {
+                continue;
+            }
+            let mut says = format!("no press is called \"{label}\"");
+            if let Some(other) = similar(&label, self.presses.iter().map(String::as_str)) {
+                says += &format!(". Is \"{other}\" meant?");
+            }
+            self.mistakes.push(Mistake::at(&word, says));
+        }
+    }
+
     fn no_line(&mut self, line: &Line) -> Read<()> {
         let first = line.words[0];
         if !first.is_name() && !first.text.is_ascii() {
             return self.wrong(&first, strange(first.text));
+        }
+        if ["when", "if", "while"].contains(&first.text.to_lowercase().as_str()) {
+            let lacks = format!("\"{}\" begins no line", first.text);
+            return self.wrong(&first, implies(line.words, &lacks));
         }
         if let Some(word) = similar(first.text, FIRST_WORDS.into_iter()) {
             return self.wrong(
@@ -161,14 +213,11 @@ impl<'a> Reader<'a> {
         }
         if let Some(second) = line.words.get(1) {
             if similar(second.text, ["means"].into_iter()).is_some() {
-                return self.wrong(
-                    second,
-                    format!("\"{}\" is not understood. Is \"means\" meant?", second.text),
-                );
+                return self.wrong(second, not_understood(second.text, "means"));
             }
         }
-        let says = "a line begins with things, selector, start, press, never or always possible, or it is \
-                    \"NAME means ...\", \"... until ...\" or \"... unless ...\"";
+        let says = "a line begins with things, selector, start, press, never, possible, always possible or whenever, or it is \
+                    \"NAME means ...\", \"... until ...\", \"... unless ...\" or \"BUTTON works whenever ...\"";
         self.wrong(&first, says.to_string())
     }
 
@@ -192,6 +241,7 @@ impl<'a> Reader<'a> {
         let text = word.text;
         let says = match text {
             ")" => "this ) has no ( before it".to_string(),
+            _ if meant(text).is_some() => not_understood(text, meant(text).unwrap_or_default()),
             _ if joins_two(text) => {
                 format!("one line asks one \"{text}\", outside all parentheses")
             }
@@ -353,11 +403,63 @@ impl<'a> Reader<'a> {
         let keyword = line.words[0];
         line.next();
         if !line.take("possible") {
-            return self.wrong(&keyword, "write \"always possible: ...\"".to_string());
+            let says = "write \"always possible: ...\" for what presses can always lead to, or \"never not ...\" for what must hold in \
+                        every state";
+            return self.wrong(&keyword, says.to_string());
         }
         self.colon(line, "always possible")?;
         let (cond, _) = self.condition(line)?;
         self.question(line, Asked::AlwaysPossible(cond))
+    }
+
+    fn possible(&mut self, line: &mut Line<'a, '_>) -> Read<()> {
+        line.next();
+        self.colon(line, "possible")?;
+        let (cond, _) = self.condition(line)?;
+        self.question(line, Asked::Possible(cond))
+    }
+
+    /// `whenever X: Y unless Z`.
+    fn whenever(&mut self, line: &mut Line<'a, '_>) -> Read<()> {
+        let keyword = line.words[0];
+        let joins = line.words.iter().find(|word| joins_two(word.text));
+        match joins {
+            None => return self.wrong(&keyword, implies(line.words, "\"unless\" is missing")),
+            Some(until) if until.text == "until" => {
+                return self.wrong(until, not_understood(until.text, "unless"))
+            }
+            Some(_) => {}
+        }
+        line.next();
+        let (begins, _) = self.condition(line)?;
+        let last = line.last();
+        self.colon(line, last.text)?;
+        let (holds, _) = self.condition(line)?;
+        if !line.take("unless") {
+            return self.end(line);
+        }
+        let (comes, _) = self.condition(line)?;
+        self.question(line, Asked::Whenever(begins, holds, comes))
+    }
+
+    /// `BUTTON works whenever X`.
+    fn works(&mut self, line: &mut Line<'a, '_>) -> Read<()> {
+        let words = line.words;
+        let whenever = words.iter().position(|word| word.text == "whenever");
+        let whenever = whenever.unwrap_or_default();
+        let verb = words[whenever.max(1) - 1];
+        if verb.text != "works" {
+            return self.wrong(&verb, not_understood(verb.text, "works"));
+        }
+        if whenever < 2 {
+            let says = "say which button: BUTTON works whenever ...";
+            return self.wrong(&verb, says.to_string());
+        }
+        let press = self.label(&words[..whenever - 1])?;
+        self.asked_presses.push((words[0], press.clone()));
+        line.at = whenever + 1;
+        let (cond, _) = self.condition(line)?;
+        self.question(line, Asked::Works(press, cond))
     }
 
     fn until(&mut self, line: &mut Line<'a, '_>) -> Read<()> {
@@ -384,6 +486,51 @@ impl<'a> Reader<'a> {
     }
 }
 
+/// What to write for "whenever X: Y", in whatever words, where something is lacking: the opposite must never be.
+fn implies(words: &[Word], lacks: &str) -> String {
+    let middle = (words.iter()).position(|word| matches!(word.text, ":" | "," | "then"));
+    let example = match middle {
+        Some(at) if at > 1 && at + 1 < words.len() => {
+            let (x, y) = (quoted(&words[1..at]), quoted(&words[at + 1..]));
+            format!("never {x} and not {y}")
+        }
+        _ => "never X and not Y".to_string(),
+    };
+    format!("{lacks}. What must hold in every such state: write \"{example}\"")
+}
+
+/// Whether words can only be the beginning of a line.
+fn begins_a_line(words: &[Word]) -> bool {
+    let second = words.get(1).map_or("", |word| word.text);
+    FIRST_WORDS.contains(&words[0].text) || second == "means"
+}
+
+/// The word that is meant by a sign of other languages, or by capitals.
+fn meant(text: &str) -> Option<&'static str> {
+    let small = text.to_lowercase();
+    match small.as_str() {
+        "&" => Some("and"),
+        "|" => Some("or"),
+        "!" => Some("not"),
+        _ => (RESERVED.into_iter()).find(|word| *word == small && *word != text),
+    }
+}
+
+/// Words as they stand, one blank between those that do not touch; in parentheses where there are several.
+fn quoted(words: &[Word]) -> String {
+    let mut text = String::new();
+    for (at, word) in words.iter().enumerate() {
+        if at > 0 && !words[at - 1].touches(word) {
+            text.push(' ');
+        }
+        text += word.text;
+    }
+    match words.len() {
+        1 => text,
+        _ => format!("({text})"),
+    }
+}
+
 /// The words between the two conditions of a question.
 fn joins_two(word: &str) -> bool {
     matches!(word, "until" | "unless")
@@ -400,6 +547,11 @@ fn no_name(text: &str) -> String {
         return format!("\"{text}\" can be no name: a name begins with a letter");
     }
     strange(text)
+}
+
+/// A word that has another one in its place here.
+fn not_understood(text: &str, meant: &str) -> String {
+    format!("\"{text}\" is not understood. Is \"{meant}\" meant?")
 }
 
 /// A character that means nothing.

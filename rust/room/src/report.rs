@@ -1,9 +1,9 @@
 //! Verdicts in words.
-use crate::ask::{press, Difference, Limits, Verdict};
+use crate::ask::{press, Answer, Difference, Limits, Verdict};
 use crate::echo::{self, grouped};
 use crate::room::{Asked, Question, Room, Rule};
-use crate::sense;
 use crate::walk::{members, End, Run, Walk};
+use crate::{orders, sense};
 use kudzuclamp::Refusal;
 
 /// The steps of a long run that are shown from its start and from its end.
@@ -27,8 +27,8 @@ impl Outcome {
 }
 
 /// The worst outcome of all verdicts: broken, else no verdict, else safe.
-pub fn outcome(verdicts: &[Verdict]) -> Outcome {
-    let is = |wanted: fn(&Verdict) -> bool| verdicts.iter().any(wanted);
+pub fn outcome(answers: &[Answer]) -> Outcome {
+    let is = |wanted: fn(&Verdict) -> bool| answers.iter().any(|answer| wanted(&answer.verdict));
     if is(|verdict| matches!(verdict, Verdict::Broken(_))) {
         Outcome::Broken
     } else if is(|verdict| matches!(verdict, Verdict::None(_))) {
@@ -48,7 +48,11 @@ pub fn verdict(
 ) -> String {
     let asked = echo::asked(room, &question.asked);
     match verdict {
-        Verdict::Safe => format!("SAFE        {asked}\n"),
+        Verdict::Safe(None) => format!("SAFE        {asked}\n"),
+        Verdict::Safe(Some(run)) => format!(
+            "SAFE        {asked}\n{}",
+            shown(room, &question.asked, run, whole)
+        ),
         Verdict::Broken(run) => format!(
             "BROKEN      {asked}\n{}",
             shown(room, &question.asked, run, whole)
@@ -93,7 +97,8 @@ fn shown(room: &Room, asked: &Asked, run: &Run, whole: bool) -> String {
     let line = |number: &str, name: &str, state: &str| {
         format!("  {number:>digits$}  {name:widest$}  {state}\n")
     };
-    let mut text = format!("  {}\n", introduction(run, presses));
+    let farthest = room.any_start && matches!(asked, Asked::Possible(_));
+    let mut text = format!("  {}\n", introduction(run, presses, farthest));
     text += &line("", "start", &echo::state(room, run.states[0]));
     let hidden = match whole || presses <= FIRST_STEPS + LAST_STEPS {
         true => presses..presses,
@@ -113,41 +118,56 @@ fn shown(room: &Room, asked: &Asked, run: &Run, whole: bool) -> String {
     text + &closing(room, asked, run.end)
 }
 
-fn introduction(run: &Run, presses: usize) -> String {
-    let number = match presses {
-        0 => return "At the start already:".to_string(),
-        1 => return "One press does it:".to_string(),
-        _ => format!("{} presses do it", grouped(presses as u32)),
+fn introduction(run: &Run, presses: usize, farthest: bool) -> String {
+    let from = match farthest && run.end == End::Reached {
+        true => " from the start that is farthest from there",
+        false => "",
     };
-    match run.end {
-        End::Circle(_) => format!(
-            "{}, the shortest way into a circle of presses:",
-            number.replace("do it", "from the start")
+    let number = grouped(presses as u32);
+    match presses {
+        0 => "At the start already:".to_string(),
+        1 => format!("One press does it{from}:"),
+        _ if run.least => format!("{number} presses do it{from}, and no fewer:"),
+        _ => format!(
+            "{number} presses do it; fewer may do it too, by a circle that was not looked at:"
         ),
-        _ => format!("{number}, and no fewer:"),
     }
 }
 
 /// What is wrong at the end of a run, where the question does not say it by itself.
 fn closing(room: &Room, asked: &Asked, end: End) -> String {
-    let (first, second) = match asked {
-        Asked::Never(x) | Asked::AlwaysPossible(x) => (echo::cond(room, x), String::new()),
-        Asked::Until(x, y) | Asked::Unless(x, y) => (echo::cond(room, x), echo::cond(room, y)),
+    let mut conds = asked.conditions().into_iter();
+    let mut said = || conds.next().map_or(String::new(), |c| echo::cond(room, c));
+    let (first, second, third) = (said(), said(), said());
+    let lost = |holds: &str, comes: &str| {
+        format!("  There \"{holds}\" does not hold, and \"{comes}\" has not come.\n")
     };
-    let again = |state: String| {
-        format!(
-            "  That is {state} again: so it can go on for ever, and \"{second}\" need not come.\n"
-        )
-    };
-    match end {
-        End::Reached => String::new(),
-        End::NoWay => format!("  From there no presses lead to \"{first}\".\n"),
-        End::Lost => {
-            format!("  There \"{first}\" does not hold, and \"{second}\" has not come.\n")
+    match (end, asked) {
+        (End::Reached, _) => String::new(),
+        (End::NoWay, _) => format!("  From there no presses lead to \"{first}\".\n"),
+        (End::Lost, _) => lost(&first, &second),
+        (End::LostSince(place), _) => {
+            let since = format!("  \"{first}\" holds {}.\n", at_place(place));
+            since + &lost(&second, &third)
         }
-        End::Stuck => format!("  There no press works, and \"{second}\" has not come.\n"),
-        End::Circle(0) => again("the start".to_string()),
-        End::Circle(place) => again(format!("the state after press {place}")),
+        (End::DoesNotWork, Asked::Works(press, _)) => format!("  There {press} does not work.\n"),
+        (End::DoesNotWork, _) => String::new(),
+        (End::Stuck, _) => format!("  There no press works, and \"{second}\" has not come.\n"),
+        (End::Circle(place), _) => {
+            let state = match place {
+                0 => "the start".to_string(),
+                _ => format!("the state {}", at_place(place)),
+            };
+            format!("  That is {state} again, and so on for ever: \"{second}\" need never come.\n")
+        }
+    }
+}
+
+/// Where in a run a state stands.
+fn at_place(place: usize) -> String {
+    match place {
+        0 => "at the start".to_string(),
+        _ => format!("after press {}", grouped(place as u32)),
     }
 }
 
@@ -174,18 +194,21 @@ pub fn heading(room: &Room) -> String {
         "{}, {}. Start: {}.\n",
         count(room.states() as usize, "state", "states"),
         count(presses.len(), "press", "presses"),
-        echo::state(room, room.start)
+        echo::beginning(room)
     )
 }
 
 /// The last line.
-pub fn summary(verdicts: &[Verdict]) -> String {
-    let count =
-        |wanted: fn(&Verdict) -> bool| verdicts.iter().filter(|verdict| wanted(verdict)).count();
+pub fn summary(answers: &[Answer]) -> String {
+    let count = |wanted: fn(&Verdict) -> bool| {
+        (answers.iter())
+            .filter(|answer| wanted(&answer.verdict))
+            .count()
+    };
     let broken = count(|verdict| matches!(verdict, Verdict::Broken(_)));
     let none = count(|verdict| matches!(verdict, Verdict::None(_)));
-    let of = verdicts.len();
-    match outcome(verdicts) {
+    let of = answers.len();
+    match outcome(answers) {
         Outcome::Safe if of == 1 => "SAFE.\n".to_string(),
         Outcome::Safe => format!("SAFE: all {of} questions.\n"),
         Outcome::Broken if none == 0 => {
@@ -196,6 +219,48 @@ pub fn summary(verdicts: &[Verdict]) -> String {
         }
         _ => format!("NO VERDICT: {none} of {of} questions. Do not hand over.\n"),
     }
+}
+
+/// How many rows are enough, where every question has its verdict in the file's order; else, which have none.
+pub fn rows_needed(room: &Room, answers: &[Answer], peak: u32) -> String {
+    let mut open = String::new();
+    for (question, answer) in room.questions.iter().zip(answers) {
+        let how = match (&answer.verdict, &answer.ordered) {
+            (Verdict::None(_), _) => "",
+            (_, Some(_)) => " (answered in another order of the things)",
+            _ => continue,
+        };
+        let asked = echo::asked(room, &question.asked);
+        open += &format!("  line {}: {asked}{how}\n", question.line);
+    }
+    if open.is_empty() {
+        return format!(
+            "A table of {} rows is enough for these questions, and no smaller one.\n",
+            grouped(peak.max(1))
+        );
+    }
+    format!("How many rows are enough is not known. Without a verdict in the file's order:\n{open}")
+}
+
+/// How many presses of two rooms do the same.
+pub fn same_presses(count: usize) -> String {
+    match count {
+        0 => String::new(),
+        1 => "1 press does the same as before.\n".to_string(),
+        _ => format!("{} presses do the same as before.\n", grouped(count as u32)),
+    }
+}
+
+/// In which order of the things a verdict was found, or that none was.
+pub fn order(answer: &Answer) -> String {
+    let says = match &answer.ordered {
+        Some(room) => format!(
+            "In the file's order of things the table is full. This verdict is by the order: {}",
+            orders::names(room)
+        ),
+        None => "Other orders of the things in the table do not help.".to_string(),
+    };
+    format!("            {says}\n")
 }
 
 /// What is no mistake, but may not be meant.
@@ -219,8 +284,7 @@ pub fn notes(room: &Room, walk: &Walk) -> Vec<String> {
             ));
         }
     }
-    let reached = walk.reached(room.start);
-    let states = members(&reached);
+    let states = members(&walk.reached());
     for rule in &room.rules {
         if !states.iter().any(|&state| room.works(rule, state)) {
             notes.push(format!(

@@ -102,6 +102,37 @@ pub enum Asked {
     Until(Cond, Cond),
     /// Whatever is pressed from the start, the first holds as long as the second has not come. It need not come.
     Unless(Cond, Cond),
+    /// Some presses lead from the start to such a state.
+    Possible(Cond),
+    /// After any presses from the start: where the first holds, the second holds from there on as long as the third has not come.
+    Whenever(Cond, Cond, Cond),
+    /// After any presses from the start: where the condition holds, a line of the press works.
+    Works(String, Cond),
+}
+
+impl Asked {
+    /// The same question with other conditions.
+    pub fn with(&self, change: impl Fn(&Cond) -> Cond) -> Asked {
+        match self {
+            Asked::Never(x) => Asked::Never(change(x)),
+            Asked::AlwaysPossible(x) => Asked::AlwaysPossible(change(x)),
+            Asked::Until(x, y) => Asked::Until(change(x), change(y)),
+            Asked::Unless(x, y) => Asked::Unless(change(x), change(y)),
+            Asked::Possible(x) => Asked::Possible(change(x)),
+            Asked::Whenever(x, y, z) => Asked::Whenever(change(x), change(y), change(z)),
+            Asked::Works(press, x) => Asked::Works(press.clone(), change(x)),
+        }
+    }
+
+    /// The conditions that it names.
+    pub fn conditions(&self) -> Vec<&Cond> {
+        match self {
+            Asked::Never(x) | Asked::AlwaysPossible(x) => vec![x],
+            Asked::Possible(x) | Asked::Works(_, x) => vec![x],
+            Asked::Until(x, y) | Asked::Unless(x, y) => vec![x, y],
+            Asked::Whenever(x, y, z) => vec![x, y, z],
+        }
+    }
 }
 
 #[derive(Clone, Debug, PartialEq, Eq)]
@@ -114,6 +145,8 @@ pub struct Question {
 pub struct Room {
     pub parts: Vec<Part>,
     pub start: State,
+    /// Whether the evening may begin in any state, as after a power cut: `start` says nothing then.
+    pub any_start: bool,
     pub start_line: usize,
     pub named: Vec<Named>,
     pub rules: Vec<Rule>,
@@ -146,6 +179,27 @@ impl Room {
         (0..self.patterns())
             .filter(|&state| self.exists(state))
             .collect()
+    }
+
+    /// Whether the evening may begin in a state.
+    pub fn is_start(&self, state: State) -> bool {
+        match self.any_start {
+            true => self.exists(state),
+            false => state == self.start,
+        }
+    }
+
+    /// The states that meet a condition and in which no line of a press works.
+    pub fn fails(&self, press: &str, cond: &Cond) -> Cond {
+        let lines = self.rules.iter().filter(|rule| rule.press == press);
+        let works: Option<Vec<Cond>> = lines.map(|rule| rule.when.clone()).collect();
+        let works = match works {
+            Some(whens) if whens.len() > 1 => Cond::Any(whens),
+            Some(mut whens) if !whens.is_empty() => whens.remove(0),
+            // A line without a condition always works.
+            _ => cond.clone(),
+        };
+        Cond::All(vec![cond.clone(), Cond::Not(Box::new(works))])
     }
 
     pub fn holds(&self, cond: &Cond, state: State) -> bool {

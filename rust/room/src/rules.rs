@@ -8,19 +8,27 @@ use kudzuclamp::{Formula, RELATIONS};
 const MAX_FRAMED: usize = 3 + 1_023;
 const MAX_DEPTH: usize = 64;
 
+/// The bit of a state by its number: of the current one, or of the next.
+type Bit = fn(u32) -> Formula;
+
 /// A condition on the current state.
 pub fn condition(room: &Room, cond: &Cond) -> Formula {
+    condition_on(room, cond, Formula::current)
+}
+
+fn condition_on(room: &Room, cond: &Cond, bit: Bit) -> Formula {
+    let of = |cond: &Cond| condition_on(room, cond, bit);
     match cond {
-        Cond::Is(part, value) => value_is(&room.parts[*part], *value, Formula::current),
-        Cond::Named(place) => condition(room, &room.named[*place].means),
-        Cond::Not(cond) => !condition(room, cond),
-        Cond::All(conds) => Formula::all(conds.iter().map(|cond| condition(room, cond))),
-        Cond::Any(conds) => Formula::any(conds.iter().map(|cond| condition(room, cond))),
+        Cond::Is(part, value) => value_is(&room.parts[*part], *value, bit),
+        Cond::Named(place) => of(&room.named[*place].means),
+        Cond::Not(cond) => !of(cond),
+        Cond::All(conds) => Formula::all(conds.iter().map(of)),
+        Cond::Any(conds) => Formula::any(conds.iter().map(of)),
     }
 }
 
 /// A part's bits show a value.
-pub fn value_is(part: &Part, value: u32, bit: fn(u32) -> Formula) -> Formula {
+pub fn value_is(part: &Part, value: u32, bit: Bit) -> Formula {
     Formula::all((0..part.width).map(|k| match value >> k & 1 {
         1 => bit(part.low + k),
         _ => !bit(part.low + k),
@@ -34,12 +42,12 @@ struct Changes<'a> {
     named: u32,
 }
 
-fn changes<'a>(room: &Room, rule: &'a Rule) -> Changes<'a> {
-    let when = rule.when.iter().map(|when| condition(room, when));
+fn changes<'a>(room: &Room, rule: &'a Rule, [now, then]: [Bit; 2]) -> Changes<'a> {
+    let when = (rule.when.iter()).map(|when| condition_on(room, when, now));
     let effects = rule.effects.iter().map(|effect| {
         let part = &room.parts[effect.part];
         match effect.change {
-            Change::Becomes(value) => value_is(part, value, Formula::next),
+            Change::Becomes(value) => value_is(part, value, then),
             Change::TurnsOver => Formula::turns(part.low),
         }
     });
@@ -73,7 +81,18 @@ fn relation(room: &Room, rules: &[Changes]) -> Formula {
 
 /// The presses as relations, as few as the order of the lines allows; or why they do not fit.
 pub fn relations(room: &Room) -> Result<Vec<Formula>, Mistake> {
-    let rules: Vec<Changes> = room.rules.iter().map(|rule| changes(room, rule)).collect();
+    packed(room, [Formula::current, Formula::next])
+}
+
+/// The same, turned round: from where a press leads to where it was pressed.
+pub fn turned(room: &Room) -> Result<Vec<Formula>, Mistake> {
+    packed(room, [Formula::next, Formula::current])
+}
+
+fn packed(room: &Room, bits: [Bit; 2]) -> Result<Vec<Formula>, Mistake> {
+    let rules: Vec<Changes> = (room.rules.iter())
+        .map(|rule| changes(room, rule, bits))
+        .collect();
     let mut relations: Vec<Formula> = Vec::new();
     let mut first = 0;
     for end in 1..=rules.len() {

@@ -1,5 +1,5 @@
 //! The same questions by a plain walk over all states: no formula, no table.
-use crate::circles::on_circles;
+use crate::circles::{distances, first_return, Steps};
 use crate::room::{Asked, Cond, Room, State};
 
 /// A set of states: whether each is in it.
@@ -7,8 +7,9 @@ pub type Set = Vec<bool>;
 
 /// The states of a room and where presses lead from each.
 pub struct Walk {
-    /// Which patterns are states.
+    /// Which patterns are states, and in which of them the evening may begin.
     pub exists: Set,
+    pub starts: Set,
     /// The states that presses lead to, least first, for each state; and those that they come from.
     next: Vec<Vec<State>>,
     before: Vec<Vec<State>>,
@@ -19,6 +20,7 @@ pub struct Walk {
 pub struct Sets {
     pub first: Set,
     pub second: Option<Set>,
+    pub third: Option<Set>,
     pub inner: Option<Set>,
     pub answer: Set,
 }
@@ -26,12 +28,16 @@ pub struct Sets {
 /// How a run goes wrong at its end.
 #[derive(Clone, Copy, Debug, PartialEq, Eq)]
 pub enum End {
-    /// It comes to a state that must never be.
+    /// It comes to a state that must never be, or that must be possible.
     Reached,
     /// It comes to a state from which no presses lead where it must be possible to come.
     NoWay,
     /// What must hold until then, or unless that, does not hold, and the other has not come.
     Lost,
+    /// The same, and it must hold since the state at this place of the run.
+    LostSince(usize),
+    /// The press that must work does not.
+    DoesNotWork,
     /// No press works, and what must come has not come.
     Stuck,
     /// From the state at this place of the run the presses can be repeated for ever, and what must come never does.
@@ -43,7 +49,12 @@ pub enum End {
 pub struct Run {
     pub states: Vec<State>,
     pub end: End,
+    /// Whether no run with fewer presses shows it.
+    pub least: bool,
 }
+
+/// About so many steps are looked at to find the shortest run into a circle: well under a second.
+const MOST_STEPS: usize = 40_000_000;
 
 impl Walk {
     pub fn new(room: &Room) -> Walk {
@@ -62,8 +73,10 @@ impl Walk {
             }
             next[state as usize] = to;
         }
+        let starts = (0..patterns).map(|state| room.is_start(state)).collect();
         Walk {
             exists,
+            starts,
             next,
             before,
         }
@@ -90,11 +103,10 @@ impl Walk {
         found
     }
 
-    /// The states that presses, or none, lead to.
-    pub fn reached(&self, start: State) -> Set {
-        let mut found = vec![false; self.next.len()];
-        found[start as usize] = true;
-        let mut open = vec![start];
+    /// The states that presses, or none, lead to from the start.
+    pub fn reached(&self) -> Set {
+        let mut found = self.starts.clone();
+        let mut open = members(&found);
         while let Some(state) = open.pop() {
             for &to in &self.next[state as usize] {
                 if !found[to as usize] {
@@ -126,8 +138,7 @@ impl Walk {
 
     /// The states from which f holds on every run of presses as long as g has not come.
     fn unless(&self, f: &Set, g: &Set) -> Set {
-        let waits = self.without(g);
-        let mut lost: Set = (waits.iter().zip(f)).map(|(w, f)| *w && !f).collect();
+        let (mut lost, waits) = self.lost(f, g);
         let mut open = members(&lost);
         while let Some(state) = open.pop() {
             for &from in &self.before[state as usize] {
@@ -142,41 +153,44 @@ impl Walk {
 
     /// The sets of a question.
     pub fn sets(&self, room: &Room, asked: &Asked) -> Sets {
-        match asked {
-            Asked::Never(x) => {
-                let first = self.set(room, x);
-                let answer = self.leads_to(&first);
-                Sets {
-                    first,
-                    second: None,
-                    inner: None,
-                    answer,
-                }
-            }
+        let set = |cond: &Cond| self.set(room, cond);
+        let lead_to = |first: Set| {
+            let answer = self.leads_to(&first);
+            (first, answer)
+        };
+        let (mut second, mut third, mut inner) = (None, None, None);
+        let (first, answer) = match asked {
+            Asked::Never(x) | Asked::Possible(x) => lead_to(set(x)),
+            Asked::Works(press, x) => lead_to(set(&room.fails(press, x))),
             Asked::AlwaysPossible(x) => {
-                let first = self.set(room, x);
-                let inner = self.leads_to(&first);
-                let outside = self.leads_to(&self.without(&inner));
-                Sets {
-                    first,
-                    second: None,
-                    answer: self.without(&outside),
-                    inner: Some(inner),
-                }
+                let (first, possible) = lead_to(set(x));
+                let outside = self.leads_to(&self.without(inner.insert(possible)));
+                (first, self.without(&outside))
             }
-            Asked::Until(x, y) | Asked::Unless(x, y) => {
-                let (first, second) = (self.set(room, x), self.set(room, y));
-                let answer = match asked {
-                    Asked::Until(..) => self.until(&first, &second),
-                    _ => self.unless(&first, &second),
-                };
-                Sets {
-                    first,
-                    second: Some(second),
-                    inner: None,
-                    answer,
-                }
+            Asked::Until(x, y) => {
+                let (first, comes) = (set(x), second.insert(set(y)));
+                let answer = self.until(&first, comes);
+                (first, answer)
             }
+            Asked::Unless(x, y) => {
+                let (first, comes) = (set(x), second.insert(set(y)));
+                let answer = self.unless(&first, comes);
+                (first, answer)
+            }
+            Asked::Whenever(x, y, z) => {
+                let (first, holds, comes) = (set(x), second.insert(set(y)), third.insert(set(z)));
+                let passes = inner.insert(self.unless(holds, comes));
+                let fails = (first.iter().zip(&*passes)).map(|(x, p)| *x && !p);
+                let answer = self.leads_to(&fails.collect());
+                (first, answer)
+            }
+        };
+        Sets {
+            first,
+            second,
+            third,
+            inner,
+            answer,
         }
     }
 
@@ -186,34 +200,53 @@ impl Walk {
         self.exists.iter().zip(set).map(outside).collect()
     }
 
-    /// A run from the start that shows why a question is broken.
-    pub fn trouble(&self, start: State, asked: &Asked, sets: &Sets) -> Option<Run> {
-        let into = |set: &Set, end: End| {
-            let states = self.shortest_run(start, set, &self.exists)?;
-            Some(Run { states, end })
-        };
-        match (asked, &sets.inner, &sets.second) {
-            (Asked::AlwaysPossible(_), Some(possible), _) => {
-                into(&self.without(possible), End::NoWay)
+    /// A shortest run from the start that shows why a question is broken.
+    pub fn trouble(&self, asked: &Asked, sets: &Sets) -> Option<Run> {
+        let Sets { first, .. } = sets;
+        match (asked, &sets.second, &sets.third, &sets.inner) {
+            (Asked::Never(_), ..) => self.run_into(first, End::Reached),
+            (Asked::Works(..), ..) => self.run_into(first, End::DoesNotWork),
+            (Asked::AlwaysPossible(_), _, _, Some(possible)) => {
+                self.run_into(&self.without(possible), End::NoWay)
             }
-            (Asked::Until(..), _, Some(comes)) => self.never_comes(start, &sets.first, comes),
-            (Asked::Unless(..), _, Some(comes)) => self.loses(start, &sets.first, comes),
-            _ => into(&sets.first, End::Reached),
+            (Asked::Until(..), Some(comes), ..) => self.never_comes(first, comes),
+            (Asked::Unless(..), Some(comes), ..) => self.loses(first, comes),
+            (Asked::Whenever(..), Some(holds), Some(comes), _) => {
+                self.loses_since(first, holds, comes)
+            }
+            // A start from which no presses lead there.
+            _ => {
+                let outside = self.without(&sets.answer);
+                let starts = (0..outside.len()).map(|s| self.starts[s] && outside[s]);
+                self.run_into(&starts.collect(), End::NoWay)
+            }
         }
     }
 
-    /// The states of a shortest run from the start into a set, through states of another set before: at each place the
-    /// least state that lies on a shortest run. None where no run leads there. This is the one place that finds such
-    /// runs; where all presses are one relation the library's answer is held against it (`Asker::same_run`).
-    pub fn shortest_run(&self, start: State, into: &Set, through: &Set) -> Option<Vec<State>> {
+    /// A shortest run to where it must be possible to come, from the start that is farthest from there.
+    pub fn way(&self, asked: &Asked, sets: &Sets) -> Option<Run> {
+        let Asked::Possible(_) = asked else {
+            return None;
+        };
+        let distance = self.distances_to(&sets.first, &self.exists);
+        let starts = members(&self.starts).into_iter();
+        let farthest = starts.rev().max_by_key(|&start| distance[start as usize])?;
+        distance[farthest as usize]?;
+        Some(Run {
+            states: self.downhill(farthest, &distance),
+            end: End::Reached,
+            least: true,
+        })
+    }
+
+    /// For each state, the fewest presses into a set, through states of another set before; none where no presses lead there.
+    fn distances_to(&self, into: &Set, through: &Set) -> Vec<Option<usize>> {
         let mut distance: Vec<Option<usize>> = vec![None; self.next.len()];
         let mut layer = members(into);
-        layer
-            .iter()
-            .for_each(|&state| distance[state as usize] = Some(0));
-        let mut steps = 0;
-        while distance[start as usize].is_none() && !layer.is_empty() {
-            steps += 1;
+        for &state in &layer {
+            distance[state as usize] = Some(0);
+        }
+        for steps in 1.. {
             let mut wider = Vec::new();
             for &from in layer.iter().flat_map(|&state| &self.before[state as usize]) {
                 if distance[from as usize].is_none() && through[from as usize] {
@@ -221,56 +254,131 @@ impl Walk {
                     wider.push(from);
                 }
             }
+            if wider.is_empty() {
+                break;
+            }
             layer = wider;
         }
-        let mut run = vec![start];
-        let mut state = start;
-        for left in (0..distance[start as usize]?).rev() {
+        distance
+    }
+
+    /// The run from a state down to distance 0: at each place the least state that is nearer.
+    fn downhill(&self, from: State, distance: &[Option<usize>]) -> Vec<State> {
+        let mut run = vec![from];
+        let mut state = from;
+        for left in (0..distance[from as usize].unwrap_or(0)).rev() {
             let nearer = |to: &&State| distance[**to as usize] == Some(left);
-            state = *self.next[state as usize].iter().find(nearer)?;
+            let next = self.next[state as usize].iter().find(nearer);
+            state = *next.expect("a state at a distance has a nearer one next to it");
             run.push(state);
         }
-        Some(run)
+        run
+    }
+
+    /// The nearest of some states, the least of these, and how far it is.
+    fn nearest(&self, states: &Set, distance: &[Option<usize>]) -> Option<(usize, State)> {
+        let near = members(states).into_iter();
+        near.filter_map(|state| Some((distance[state as usize]?, state)))
+            .min()
+    }
+
+    /// The states of a shortest run from some states into a set, through states of another set before: at each place the
+    /// least state that lies on a shortest run. None where no run leads there. Where all presses are one relation the library's
+    /// answer is held against it (`Asker::same_run`).
+    pub fn shortest_run(&self, from: &Set, into: &Set, through: &Set) -> Option<Vec<State>> {
+        let distance = self.distances_to(into, through);
+        let (_, first) = self.nearest(from, &distance)?;
+        Some(self.downhill(first, &distance))
+    }
+
+    fn run_into(&self, into: &Set, end: End) -> Option<Run> {
+        let states = self.shortest_run(&self.starts, into, &self.exists)?;
+        let least = true;
+        Some(Run { states, end, least })
+    }
+
+    /// The states where f does not hold and g has not come, and those where g has not come.
+    fn lost(&self, f: &Set, g: &Set) -> (Set, Set) {
+        let waits = self.without(g);
+        let lost = (waits.iter().zip(f)).map(|(w, f)| *w && !f).collect();
+        (lost, waits)
     }
 
     /// A shortest run on which f does not hold and g has not come.
-    fn loses(&self, start: State, f: &Set, g: &Set) -> Option<Run> {
-        let waits = self.without(g);
-        let lost: Set = (waits.iter().zip(f)).map(|(w, f)| *w && !f).collect();
-        let states = self.shortest_run(start, &lost, &waits)?;
-        let end = End::Lost;
-        Some(Run { states, end })
+    fn loses(&self, f: &Set, g: &Set) -> Option<Run> {
+        let (lost, waits) = self.lost(f, g);
+        let states = self.shortest_run(&self.starts, &lost, &waits)?;
+        let (end, least) = (End::Lost, true);
+        Some(Run { states, end, least })
     }
 
-    /// A run on which f does not hold until g: a shortest one that loses f or has no next press; else, a shortest way to a state
-    /// from which presses lead round, and the shortest way round.
-    fn never_comes(&self, start: State, f: &Set, g: &Set) -> Option<Run> {
+    /// A shortest run that comes to x, from where on f does not hold and g has not come.
+    fn loses_since(&self, x: &Set, f: &Set, g: &Set) -> Option<Run> {
+        let (lost, waits) = self.lost(f, g);
+        let after = self.distances_to(&lost, &waits);
+        let before = distances(&self.next, &self.exists, &self.starts);
+        let presses = |s: usize| Some(before[s]? + after[s]?);
+        let begins = (0..x.len()).filter(|&s| x[s]);
+        let (_, since) = begins.filter_map(|s| Some((presses(s)?, s))).min()?;
+        let mut states = self.shortest_run(&self.starts, &self.only(since), &self.exists)?;
+        let end = End::LostSince(states.len() - 1);
+        states.extend(&self.downhill(since as State, &after)[1..]);
+        let least = true;
+        Some(Run { states, end, least })
+    }
+
+    /// A shortest run on which f does not hold until g: it loses f or has no next press, or it comes to a state for the second
+    /// time, from where the same presses can go on for ever.
+    fn never_comes(&self, f: &Set, g: &Set) -> Option<Run> {
         let waits = self.without(g);
-        let pick = |wanted: &dyn Fn(usize) -> bool| -> Set {
-            (0..waits.len()).map(|s| waits[s] && wanted(s)).collect()
-        };
-        let ends = pick(&|s| !f[s] || self.next[s].is_empty());
-        if let Some(states) = self.shortest_run(start, &ends, &waits) {
-            let last = *states.last()?;
-            let end = if f[last as usize] {
-                End::Stuck
-            } else {
-                End::Lost
-            };
-            return Some(Run { states, end });
+        let ends = (0..waits.len())
+            .map(|s| waits[s] && (!f[s] || self.next[s].is_empty()))
+            .collect();
+        let ending = self.shortest_run(&self.starts, &ends, &waits);
+        let presses = ending
+            .as_ref()
+            .map_or(usize::MAX, |states| states.len() - 1);
+        let (circle, least) = self.circle(&waits, presses);
+        if let Some((states, end)) = circle {
+            return Some(Run { states, end, least });
         }
-        let round = on_circles(&self.next, &waits);
-        let mut states = self.shortest_run(start, &round, &waits)?;
-        let (place, first) = (states.len() - 1, *states.last()?);
-        let mut only = vec![false; waits.len()];
-        only[first as usize] = true;
-        let steps = self.next[first as usize]
-            .iter()
-            .filter(|&&to| waits[to as usize]);
-        let ways = steps.filter_map(|&to| self.shortest_run(to, &only, &waits));
-        states.extend(ways.min_by_key(Vec::len)?);
-        let end = End::Circle(place);
-        Some(Run { states, end })
+        let states = ending?;
+        let holds = f[*states.last()? as usize];
+        let end = if holds { End::Stuck } else { End::Lost };
+        Some(Run { states, end, least })
+    }
+
+    /// A shortest run inside a set that comes to a state for the second time, where that has fewer presses than so many; with it,
+    /// whether all circles that could be nearer were looked at.
+    fn circle(&self, inside: &Set, below: usize) -> (Option<(Vec<State>, End)>, bool) {
+        let steps = Steps {
+            next: &self.next,
+            before: &self.before,
+            inside,
+        };
+        let (found, whole) = first_return(steps, &self.starts, below, MOST_STEPS);
+        let run = found.and_then(|found| self.round(found.state, inside));
+        (run, whole)
+    }
+
+    /// A shortest run inside a set to a state, and round to it again.
+    fn round(&self, state: State, inside: &Set) -> Option<(Vec<State>, End)> {
+        let back = self.distances_to(&self.only(state as usize), inside);
+        let (_, first) = self.nearest(&self.starts, &back)?;
+        let mut states = self.downhill(first, &back);
+        let end = End::Circle(states.len() - 1);
+        let steps = (self.next[state as usize].iter()).filter(|&&to| inside[to as usize]);
+        let near = steps.filter_map(|&to| Some((back[to as usize]?, to)));
+        let (_, step) = near.min()?;
+        states.extend(self.downhill(step, &back));
+        Some((states, end))
+    }
+
+    /// The set of one state.
+    fn only(&self, state: usize) -> Set {
+        let mut set = vec![false; self.exists.len()];
+        set[state] = true;
+        set
     }
 }
 

@@ -27,9 +27,9 @@ impl Word<'_> {
 }
 
 /// Words that have a meaning of their own, and can be no names.
-pub const RESERVED: [&str; 19] = [
+pub const RESERVED: [&str; 21] = [
     "things", "selector", "start", "press", "means", "never", "always", "possible", "until",
-    "unless", "when", "and", "or", "not", "on", "off", "turns", "over", "all",
+    "unless", "whenever", "when", "and", "or", "not", "on", "off", "turns", "over", "all", "any",
 ];
 
 /// Begins a comment, up to the end of its line.

@@ -5,6 +5,8 @@ use room::{plan, read, sense};
 /// A room without a mistake, to which lines are added.
 const BEFORE: &str = "things: mic echo song\nselector send: desk hall booth\nstart: all off\nhowl means mic and echo\n";
 const AFTER: &str = "press MIC: mic turns over\npress START: song on\nnever howl\n";
+/// What is told where "possible" is missing.
+const ALWAYS: &str = "write \"always possible: ...\" for what presses can always lead to, or \"never not ...\" for what must hold in every state";
 /// The line that is added.
 const LINE: usize = 5;
 
@@ -65,8 +67,8 @@ fn no_mistake() {
 #[test]
 fn lines() {
     let kinds =
-        "a line begins with things, selector, start, press, never or always possible, or it is \
-                 \"NAME means ...\", \"... until ...\" or \"... unless ...\"";
+        "a line begins with things, selector, start, press, never, possible, always possible or whenever, or it is \
+                 \"NAME means ...\", \"... until ...\", \"... unless ...\" or \"BUTTON works whenever ...\"";
     all(&[
         (
             "pres MIC: mic on",
@@ -180,11 +182,7 @@ fn declarations() {
             "mic",
             "\"mic\" has been named already, on line 1",
         ),
-        (
-            "always means song",
-            "always",
-            "write \"always possible: ...\"",
-        ),
+        ("always means song", "always", ALWAYS),
         (
             "or means song",
             "or",
@@ -231,7 +229,7 @@ fn starts() {
         (
             "start:",
             "start",
-            "say what is on at the start, or \"all off\"",
+            "say what is on at the start, or \"all off\", or \"any\"",
         ),
         ("start: all", "all", "write \"all off\", or name what is on"),
         (
@@ -265,6 +263,16 @@ fn starts() {
             "\"and\", \"or\" or a comma is missing before \"echo\"",
         ),
         ("start: mic on, mic off", "mic", "\"mic\" stands here twice"),
+        (
+            "start: any, mic on",
+            ",",
+            "\"any\" stands alone: the evening may begin in every state",
+        ),
+        (
+            "start: Any",
+            "Any",
+            "\"Any\" is not understood. Is \"any\" meant?",
+        ),
         (
             "start: mick on",
             "mick",
@@ -386,7 +394,7 @@ fn presses() {
         (
             "press ECHO: echo on whan song",
             "whan",
-            "\"and\", \"or\" or a comma is missing before \"whan\"",
+            "\"whan\" is not understood. Is \"when\" meant?",
         ),
         (
             "press ECHO: echo on when",
@@ -492,7 +500,11 @@ fn conditions() {
             "when",
             "\"and\", \"or\" or a comma is missing before \"when\"",
         ),
-        ("loud means mic & song", "&", "\"&\" means nothing here"),
+        (
+            "loud means mic & song",
+            "&",
+            "\"&\" is not understood. Is \"and\" meant?",
+        ),
         (
             "loud means \u{feff}mic",
             "\u{feff}",
@@ -541,7 +553,7 @@ fn questions() {
             "nothing here is called \"hole\". Is \"howl\" meant?",
         ),
         ("never: howl", ":", "\":\" means nothing here"),
-        ("always howl", "always", "write \"always possible: ...\""),
+        ("always howl", "always", ALWAYS),
         (
             "always possible howl",
             "possible",
@@ -591,7 +603,230 @@ fn questions() {
         ("mic and not mic until song", "", nothing),
         ("mic until song and not song", "", nothing),
         ("mic until song or not song", "", every),
+        (
+            "possible song",
+            "possible",
+            "a colon is missing after \"possible\"",
+        ),
+        ("possible:", ":", "a condition is missing after \":\""),
+        (
+            "Possible: song",
+            "Possible",
+            "no line begins with \"Possible\". Is \"possible\" meant?",
+        ),
+        ("possible: mic and not mic", "", nothing),
+        ("possible: mic or not mic", "", every),
+        (
+            "whenever song mic unless echo",
+            "song",
+            "a colon is missing after \"song\"",
+        ),
+        (
+            "whenever song unless echo",
+            "song",
+            "a colon is missing after \"song\"",
+        ),
+        (
+            "whenever song: unless echo",
+            "unless",
+            "a condition is missing before \"unless\"",
+        ),
+        (
+            "whenever : mic unless echo",
+            ":",
+            "\":\" means nothing here",
+        ),
+        (
+            "whenever song: mic unless",
+            "unless",
+            "a condition is missing after \"unless\"",
+        ),
+        (
+            "whenever song: mic until echo",
+            "until",
+            "\"until\" is not understood. Is \"unless\" meant?",
+        ),
+        (
+            "whenever song: mic unless echo unless howl",
+            "unless",
+            "one line asks one \"unless\", outside all parentheses",
+        ),
+        ("whenever mic and not mic: song unless echo", "", nothing),
+        ("whenever mic: song or not song unless echo", "", every),
+        ("whenever mic: song unless echo and not echo", "", nothing),
+        (
+            "START work whenever song",
+            "work",
+            "\"work\" is not understood. Is \"works\" meant?",
+        ),
+        (
+            "works whenever song",
+            "works",
+            "say which button: BUTTON works whenever ...",
+        ),
+        (
+            "START works whenever",
+            "whenever",
+            "a condition is missing after \"whenever\"",
+        ),
+        (
+            "START works whenever mick",
+            "mick",
+            "nothing here is called \"mick\". Is \"mic\" meant?",
+        ),
+        ("START works whenever mic and not mic", "", nothing),
+        (
+            "STRT works whenever song",
+            "STRT",
+            "no press is called \"STRT\". Is \"START\" meant?",
+        ),
+        (
+            "THE BELL works whenever song",
+            "THE",
+            "no press is called \"THE BELL\"",
+        ),
     ]);
+    // A press may stand below the question; one whose line is given up for another mistake is not missed.
+    let text =
+        |press: &str| format!("{BEFORE}GO on works whenever song\npress GO on: {press}\n{AFTER}");
+    assert_eq!(mistakes(&text("mic on")), []);
+    assert_eq!(only(&text("mick on")).1, "mick");
+}
+
+/// Words of other languages, and of every day: the word that is meant here is told.
+#[test]
+fn the_word_that_is_meant() {
+    let not_understood =
+        |text: &str, meant: &str| format!("\"{text}\" is not understood. Is \"{meant}\" meant?");
+    let first = |write: &str| format!("the name comes first: write \"{write}\"");
+    let write = |text: &str| format!("write \"{text}\"");
+    let lacks = |what: &str, text: &str| {
+        format!("{what}. What must hold in every such state: write \"{text}\"")
+    };
+    let whenever = |text: &str| lacks("\"unless\" is missing", text);
+    let two_ways = "a press does all that its line names: write a comma, or a second line of the same press for the other way";
+    let position = "\"hall\" is a position of \"send\": write \"send = hall\"";
+    let cases = [
+        // The opposite of what must hold must never be.
+        (
+            "whenever song: mic",
+            "whenever",
+            whenever("never song and not mic"),
+        ),
+        (
+            "whenever mic or echo: song and not howl",
+            "whenever",
+            whenever("never (mic or echo) and not (song and not howl)"),
+        ),
+        ("whenever song", "whenever", whenever("never X and not Y")),
+        (
+            "if song then mic",
+            "if",
+            lacks("\"if\" begins no line", "never song and not mic"),
+        ),
+        (
+            "When song, mic",
+            "When",
+            lacks("\"When\" begins no line", "never song and not mic"),
+        ),
+        // Presses.
+        ("press ECHO: echo on or mic on", "or", two_ways.to_string()),
+        ("press ECHO: echo on | mic on", "|", two_ways.to_string()),
+        (
+            "press ECHO: echo on AND mic on",
+            "AND",
+            "write a comma between two things that happen".to_string(),
+        ),
+        (
+            "press ECHO: echo on if song",
+            "if",
+            not_understood("if", "when"),
+        ),
+        (
+            "press ECHO: echo on only when song",
+            "only",
+            not_understood("only", "when"),
+        ),
+        (
+            "press ECHO: echo on WHEN song",
+            "WHEN",
+            not_understood("WHEN", "when"),
+        ),
+        (
+            "press ECHO: echo on unless song",
+            "unless",
+            "a press works or does not: write \"when not song\"".to_string(),
+        ),
+        (
+            "press ECHO: echo on unless song or mic",
+            "unless",
+            "a press works or does not: write \"when not (song or mic)\"".to_string(),
+        ),
+        (
+            "press ECHO: toggle echo",
+            "toggle",
+            first("echo turns over"),
+        ),
+        (
+            "press ECHO: mic on, flip echo",
+            "flip",
+            first("echo turns over"),
+        ),
+        ("press ECHO: turn echo off", "turn", first("echo off")),
+        ("press ECHO: Turn on echo", "Turn", first("echo on")),
+        ("press ECHO: set echo", "set", first("echo on")),
+        ("press ECHO: toggle", "toggle", first("NAME turns over")),
+        (
+            "press ECHO: echo toggles",
+            "toggles",
+            write("echo turns over"),
+        ),
+        // Conditions.
+        (
+            "loud means mic AND echo",
+            "AND",
+            not_understood("AND", "and"),
+        ),
+        ("loud means mic Or echo", "Or", not_understood("Or", "or")),
+        ("loud means NOT mic", "NOT", not_understood("NOT", "not")),
+        ("loud means mic && echo", "&", not_understood("&", "and")),
+        ("loud means mic || echo", "|", not_understood("|", "or")),
+        ("loud means !mic", "!", not_understood("!", "not")),
+        ("loud means mic ON", "ON", not_understood("ON", "on")),
+        ("loud means send != hall", "!", write("not send = hall")),
+        ("loud means send <> hall", "<", write("not send = hall")),
+        ("loud means mic != on", "!", write("not mic")),
+        ("loud means send is hall", "is", write("send = hall")),
+        ("loud means mic is off", "is", write("mic off")),
+        (
+            "loud means send == hall",
+            "=",
+            "write one \"=\"".to_string(),
+        ),
+        (
+            "loud means send = desk or hall",
+            "hall",
+            position.to_string(),
+        ),
+        ("never hall and mic", "hall", position.to_string()),
+        ("mic UNTIL song", "UNTIL", not_understood("UNTIL", "until")),
+    ];
+    for (line, word, says) in cases {
+        assert_eq!(told(line), (word.to_string(), says), "{line}");
+    }
+}
+
+/// The selector that was named last is meant, where several have a position of that name.
+#[test]
+fn positions_of_two_selectors() {
+    let text = "selector s: p q\nselector t: q p\nstart: all off\npress A: s = q when t = p and q\nnever s = p or q\n";
+    let says: Vec<String> = (mistakes(text).iter()).map(|m| m.says.clone()).collect();
+    let of =
+        |selector: &str| format!("\"q\" is a position of \"{selector}\": write \"{selector} = q\"");
+    assert_eq!(says, [of("t"), of("s")]);
+    let text = "things: mic\nstart: mic on or mic off\npress A: mic on\nnever mic\n";
+    let says = "the evening begins in one state: write a comma; or \"start: any\" for every state";
+    assert_eq!(only(text), (2, "or".to_string(), says.to_string()));
 }
 
 #[test]
@@ -625,10 +860,47 @@ fn names_further_down() {
 #[test]
 fn lines_that_go_on() {
     let text = "things: mic\nstart: all off\npress MIC: mic on\n  never mic\n";
-    let says = "\"never\" begins a line of its own, at the left edge";
+    let says =
+        "\"never\" begins a line of its own, at the left edge: take the blanks before it away";
     assert_eq!(only(text), (4, "never".to_string(), says.to_string()));
     let text = "things: mic\nstart: all off\npress MIC:\n  mic on\n  when mick\nnever mic\n";
     assert_eq!(only(text).0, 5);
+    // Wherever a line of its own begins with a blank, that is told, and it is read all the same.
+    let edge = |word: &str| {
+        format!(
+            "\"{word}\" begins a line of its own, at the left edge: take the blanks before it away"
+        )
+    };
+    let indented = [
+        (
+            "things: mic\n press A: mic on\nstart: all off\nnever mic\n",
+            2,
+            "press",
+        ),
+        (
+            "things: mic\nstart: all off\n\tpress A: mic on\nnever mic\n",
+            3,
+            "press",
+        ),
+        (
+            "things: mic\nstart: all off\npress A: mic on\n  loud means mic\nnever loud\n",
+            4,
+            "loud",
+        ),
+        (
+            "things: mic\n  selector s: p q\nstart: all off\npress A: mic on\nnever mic\n",
+            2,
+            "selector",
+        ),
+    ];
+    for (text, line, word) in indented {
+        assert_eq!(only(text), (line, word.to_string(), edge(word)), "{text}");
+    }
+    let text = "  things: mic\n  start: all off\n  press A: mik on\n  never mic\n  always\n  possible: mic\n";
+    let lines: Vec<usize> = mistakes(text).iter().map(|mistake| mistake.line).collect();
+    assert_eq!(lines, [2, 3, 3, 4, 5]);
+    let text = "things: mic\nstart: all off\npress A: mic on\nalways\n  possible: mic\n";
+    assert_eq!(mistakes(text), []);
 }
 
 /// Every line with a mistake is told, and each unknown name of a line.
@@ -703,9 +975,9 @@ fn names_that_double() {
 fn any_words() {
     let words = [
         "things", "selector", "start", "press", "means", "never", "always", "possible", "until",
-        "unless", "when", "and", "or", "not", "on", "off", "turns", "over", "all", "mic", "echo",
-        "send", "desk", "hall", "howl", "x", ":", ",", "=", "(", ")", "\n", "\n", "\n", "\n ", "#",
-        "1", ";", "é", "\u{200b}", "-",
+        "unless", "whenever", "works", "any", "when", "and", "or", "not", "on", "off", "turns",
+        "over", "all", "mic", "echo", "send", "X", "desk", "hall", "howl", "x", ":", ",", "=", "(",
+        ")", "\n", "\n", "\n", "\n ", "#", "1", ";", "é", "\u{200b}", "-",
     ];
     let starts = [
         "things: mic echo\n",

@@ -4,10 +4,10 @@ use room::ask::{press, Asker, Difference, Limits, Verdict};
 use room::echo::echo;
 use room::plan::{plan, Plan, ANSWER, START_IN_ANSWER};
 use room::read::read;
-use room::records::records;
-use room::room::{Asked, Change, Room};
-use room::sense;
+use room::records::{records, ROOMRULES_ROWS, ROOMRULES_WORDS};
+use room::room::{Asked, Change, Cond, Room, Rule};
 use room::walk::{End, Run, Walk};
+use room::{compare, diff, sense};
 use std::collections::VecDeque;
 
 /// Numbers of a small generator, each below a bound.
@@ -59,7 +59,10 @@ impl Drawn {
             let positions = ["p0 p1 p2", "p0 p1 p2 p3 p4", "p0 p1 p2 p3"][self.below(3)];
             text += &format!("selector s{k}: {positions}\n");
         }
-        text += &format!("start: {}\n", ["all off", "t0 on"][self.below(2)]);
+        text += &format!(
+            "start: {}\n",
+            ["all off", "all off", "t0 on", "t0 on", "any"][self.below(5)]
+        );
         for k in 0..1 + self.below(6) {
             let first = self.below(things + selectors);
             let mut effects = vec![self.effect(first, things)];
@@ -78,7 +81,13 @@ impl Drawn {
                 self.cond(things, selectors, 2),
                 self.cond(things, selectors, 2),
             );
-            text += &match self.below(4) {
+            text += &match self.below(7) {
+                4 => format!("possible: {f}\n"),
+                5 => {
+                    let h = self.cond(things, selectors, 2);
+                    format!("whenever {f}: {g} unless {h}\n")
+                }
+                6 => format!("B0 works whenever {f}\n"),
                 0 => format!("never {f}\n"),
                 1 => format!("always possible: {f}\n"),
                 2 => format!("{f} until {g}\n"),
@@ -127,9 +136,11 @@ fn presses_to(
     goal: impl Fn(u32) -> bool,
     through: impl Fn(u32) -> bool,
 ) -> Option<usize> {
-    let mut seen = vec![false; room.patterns() as usize];
-    seen[room.start as usize] = true;
-    let mut open = VecDeque::from([(room.start, 0)]);
+    let mut seen: Vec<bool> = (0..room.patterns())
+        .map(|state| room.is_start(state))
+        .collect();
+    let starts = (0..room.patterns()).filter(|&state| room.is_start(state));
+    let mut open: VecDeque<(u32, usize)> = starts.map(|state| (state, 0)).collect();
     while let Some((state, presses)) = open.pop_front() {
         if goal(state) {
             return Some(presses);
@@ -148,21 +159,96 @@ fn presses_to(
     None
 }
 
+/// The fewest presses, up to so many, after which a run through states that a test admits is in a state where it was before: for
+/// each state, the presses to it and those round to it.
+fn presses_to_a_return(room: &Room, through: impl Fn(u32) -> bool, most: usize) -> Option<usize> {
+    // How many presses a state is from another, one at least, and so many at most.
+    let leads = |from: u32, to: u32, most: usize| {
+        let mut layer = vec![from];
+        let mut seen = vec![false; room.patterns() as usize];
+        for presses in 1..=most {
+            let mut wider = Vec::new();
+            for (state, rule) in layer
+                .iter()
+                .flat_map(|state| room.rules.iter().map(move |rule| (*state, rule)))
+            {
+                match room.pressed(rule, state).filter(|&next| through(next)) {
+                    Some(next) if next == to => return Some(presses),
+                    Some(next) if !std::mem::replace(&mut seen[next as usize], true) => {
+                        wider.push(next)
+                    }
+                    _ => {}
+                }
+            }
+            layer = wider;
+        }
+        None
+    };
+    let there = |state: u32| match room.is_start(state) {
+        true => Some(0),
+        false => leads(room.start, state, most),
+    };
+    let states = room.all_states().into_iter().filter(|&s| through(s));
+    let round = |state: u32| {
+        let before = there(state)?;
+        Some(before + leads(state, state, most - before)?)
+    };
+    states.filter_map(round).min()
+}
+
+/// The room with another start.
+fn begins(room: &Room, start: u32) -> Room {
+    Room {
+        start,
+        any_start: false,
+        ..room.clone()
+    }
+}
+
+/// The fewest presses to a state that meets the first, and from there on to one in which the second does not hold, with the third
+/// in none of them from there on.
+fn presses_since(room: &Room, [x, y, z]: [&Cond; 3]) -> Option<usize> {
+    let waits = |state: u32| !room.holds(z, state);
+    let lost = |state: u32| waits(state) && !room.holds(y, state);
+    let states = room.all_states().into_iter();
+    let ways = states
+        .filter(|&state| room.holds(x, state))
+        .filter_map(|since| {
+            let there = presses_to(room, |state| state == since, |_| true)?;
+            Some(there + presses_to(&begins(room, since), lost, waits)?)
+        });
+    ways.min()
+}
+
+/// A way to where it must be possible to come is a shortest one, from the farthest start.
+fn check_way(room: &Room, cond: &Cond, run: &Run) {
+    let presses = run.states.len() - 1;
+    let there = |state| room.holds(cond, state);
+    let from = |start: u32| presses_to(&begins(room, start), there, |_| true);
+    assert!(run.end == End::Reached && there(run.states[presses]));
+    assert_eq!(from(run.states[0]), Some(presses));
+    let starts = (room.all_states().into_iter()).filter(|&state| room.is_start(state));
+    assert!(starts
+        .map(from)
+        .all(|found| found.is_some_and(|found| found <= presses)));
+}
+
 /// A run into trouble shows what it says, and no shorter one does.
 fn check(room: &Room, asked: &Asked, run: &Run) {
     let presses = run.states.len() - 1;
     let last = run.states[presses];
-    assert_eq!(run.states[0], room.start);
+    assert!(room.is_start(run.states[0]) && run.least);
     assert!(run
         .states
         .windows(2)
         .all(|pair| press(room, pair[0], pair[1]).is_some()));
     let leads = |cond, from: u32| {
-        let there = Room {
-            start: from,
-            ..room.clone()
-        };
-        presses_to(&there, |state| room.holds(cond, state), |_| true).is_some()
+        presses_to(
+            &begins(room, from),
+            |state| room.holds(cond, state),
+            |_| true,
+        )
+        .is_some()
     };
     let stuck = |state: u32| {
         room.rules
@@ -191,20 +277,44 @@ fn check(room: &Room, asked: &Asked, run: &Run) {
                 .all(|&state| room.holds(x, state)));
             let lost =
                 |state: u32| !room.holds(y, state) && (!room.holds(x, state) || stuck(state));
-            let shortest = presses_to(room, lost, |state| !room.holds(y, state));
+            let ends = presses_to(room, lost, |state| !room.holds(y, state));
+            let returns = presses_to_a_return(room, |state| !room.holds(y, state), presses);
+            assert!(ends.is_none_or(|ends| ends >= presses));
             match run.end {
-                End::Lost => assert!(!room.holds(x, last) && shortest == Some(presses)),
-                End::Stuck => assert!(stuck(last) && shortest == Some(presses)),
+                End::Lost => assert!(!room.holds(x, last) && ends == Some(presses)),
+                End::Stuck => assert!(stuck(last) && ends == Some(presses)),
                 End::Circle(place) => {
-                    assert!(run.states[place] == last && place < presses && shortest.is_none())
+                    assert!(run.states[place] == last && place < presses);
+                    assert!(returns == Some(presses) && ends != Some(presses));
                 }
                 _ => panic!("an until does not end so"),
             }
+            assert!(returns.is_none_or(|returns| returns >= presses));
         }
         Asked::Unless(x, y) => {
             let lost = |state: u32| !room.holds(y, state) && !room.holds(x, state);
             let shortest = presses_to(room, lost, |state| !room.holds(y, state));
             assert!(run.end == End::Lost && lost(last) && shortest == Some(presses));
+        }
+        Asked::Possible(x) => {
+            assert!(run.end == End::NoWay && presses == 0 && !leads(x, last));
+        }
+        Asked::Whenever(x, y, z) => {
+            let End::LostSince(place) = run.end else {
+                panic!("a whenever does not end so");
+            };
+            assert!(room.holds(x, run.states[place]) && !room.holds(y, last));
+            let after = &run.states[place..];
+            assert!(after.iter().all(|&state| !room.holds(z, state)));
+            assert_eq!(presses_since(room, [x, y, z]), Some(presses));
+        }
+        Asked::Works(press, x) => {
+            let works = |rule: &Rule, state| rule.press == *press && room.works(rule, state);
+            let fails = |state: u32| {
+                room.holds(x, state) && !room.rules.iter().any(|rule| works(rule, state))
+            };
+            assert!(run.end == End::DoesNotWork && fails(last));
+            assert_eq!(presses_to(room, fails, |_| true), Some(presses));
         }
     }
 }
@@ -224,17 +334,65 @@ fn the_library_and_the_walk_agree() {
                 (Asked::AlwaysPossible(_), _) => "always possible: safe".to_string(),
                 (Asked::Until(..), _) => "until: safe".to_string(),
                 (Asked::Unless(..), _) => "unless: safe".to_string(),
+                (Asked::Possible(_), _) => "possible: safe".to_string(),
+                (Asked::Whenever(..), _) => "whenever: safe".to_string(),
+                (Asked::Works(..), _) => "works: safe".to_string(),
             };
             *kinds.entry(kind).or_insert(0) += 1;
-            if let Verdict::Broken(run) = &verdict {
-                check(&room, &question.asked, run);
+            match (&verdict, &question.asked) {
+                (Verdict::Broken(run), asked) => check(&room, asked, run),
+                (Verdict::Safe(Some(run)), Asked::Possible(x)) => check_way(&room, x, run),
+                (verdict, asked) => {
+                    assert_eq!(*verdict, Verdict::Safe(None));
+                    assert!(!matches!(asked, Asked::Possible(_)));
+                }
             }
         }
     }
     println!("{kinds:?}");
     assert!(
-        kinds.len() == 9 && kinds.values().all(|&count| count > 20),
+        kinds.len() == 14 && kinds.values().all(|&count| count > 20),
         "{kinds:?}"
+    );
+}
+
+/// The condition that a state alone meets.
+fn only(room: &Room, state: u32) -> Cond {
+    let parts = room.parts.iter().enumerate();
+    Cond::All(
+        parts
+            .map(|(k, part)| Cond::Is(k, part.value(state)))
+            .collect(),
+    )
+}
+
+/// What must hold in all states but one until another state comes: many runs into that one are longer than a way round.
+#[test]
+fn the_shorter_of_two_runs() {
+    let mut draw = Drawn(7);
+    let (mut lost, mut round, mut sooner) = (0, 0, 0);
+    for mut room in rooms(7, 500) {
+        let states = room.all_states();
+        let mut state = || only(&room, states[draw.below(states.len())]);
+        let (bad, comes) = (state(), state());
+        let asked = Asked::Until(Cond::Not(Box::new(bad.clone())), comes.clone());
+        room.questions.truncate(1);
+        room.questions[0].asked = asked.clone();
+        if let Verdict::Broken(run) = &own(&room)[0] {
+            check(&room, &asked, run);
+            let waits = |state: u32| !room.holds(&comes, state);
+            let loses = |state: u32| waits(state) && room.holds(&bad, state);
+            match run.end {
+                End::Circle(_) if presses_to(&room, loses, waits).is_some() => sooner += 1,
+                End::Circle(_) => round += 1,
+                _ => lost += 1,
+            }
+        }
+    }
+    println!("{lost} lost or stuck, {round} round, {sooner} sooner round than lost");
+    assert!(
+        lost > 20 && round > 20 && sooner > 5,
+        "{lost} {round} {sooner}"
     );
 }
 
@@ -252,20 +410,30 @@ fn read_back() {
 fn records_say_the_same() {
     for room in rooms(3, 200) {
         let plan = plan(&room).unwrap();
-        let text = records(&room, &plan, Limits::LARGEST, "a room");
+        let limits = Limits {
+            rows: ROOMRULES_ROWS,
+            ..Limits::LARGEST
+        };
+        let text = records(&room, &plan, limits, "a room").unwrap();
         let hex = text.lines().map(|line| line.split('#').next().unwrap());
         let bytes: Vec<u8> = hex
             .flat_map(str::split_whitespace)
             .map(|byte| u8::from_str_radix(byte, 16).unwrap())
             .collect();
-        let outcomes = kudzuclamp::play(&mut vec![0; 16_384], &bytes).unwrap();
+        let outcomes = kudzuclamp::play(&mut vec![0; ROOMRULES_WORDS], &bytes).unwrap();
         assert!(outcomes.iter().all(|outcome| outcome.refusal.is_none()));
         let mut at = 1 + plan.relations.len() + plan.sets.len();
         for (asking, verdict) in plan.questions.iter().zip(own(&room)) {
             at += asking.sets.len();
             assert_eq!(asking.sets.last().unwrap().place, START_IN_ANSWER);
-            let found = outcomes[at - 1].value == 1;
-            assert_eq!(found == asking.holds, verdict == Verdict::Safe);
+            let value = outcomes[at - 1].value;
+            let all = if room.any_start { room.states() } else { 1 };
+            let safe = if asking.holds {
+                value == all
+            } else {
+                value == 0
+            };
+            assert_eq!(safe, matches!(verdict, Verdict::Safe(_)));
         }
         assert_eq!(at, outcomes.len());
     }
@@ -309,7 +477,7 @@ fn differences_are_found() {
         let safe = |verdicts: &[Verdict]| -> Vec<bool> {
             verdicts
                 .iter()
-                .map(|verdict| *verdict == Verdict::Safe)
+                .map(|verdict| matches!(verdict, Verdict::Safe(_)))
                 .collect()
         };
         let (one, two) = (safe(&own(&room)), safe(&own(&other)));
@@ -328,6 +496,78 @@ fn differences_are_found() {
     assert!(differ > 100 && told > differ);
 }
 
+/// Two rooms side by side: the library finds the same states that can come, and the same in which a press does something else;
+/// another set than the walk's is told.
+#[test]
+fn comparisons() {
+    let mut draw = Drawn(8);
+    let (mut same, mut other, mut told) = (0, 0, 0);
+    for room in rooms(8, 200) {
+        let changed = changed(&room, &mut draw);
+        for room in [&room, &changed] {
+            assert_eq!(
+                compare::reached(room, &Walk::new(room), Limits::LARGEST),
+                Ok(true)
+            );
+        }
+        for press in diff::presses(&room, &changed) {
+            let mut differs = diff::changed(&room, &changed, press);
+            let check =
+                |set: &Vec<bool>| compare::press(&room, &changed, press, set, Limits::LARGEST);
+            assert_eq!(check(&differs), Ok(true));
+            match differs.contains(&true) {
+                true => other += 1,
+                false => same += 1,
+            }
+            let at = room.start as usize;
+            differs[at] = !differs[at];
+            told += usize::from(check(&differs).is_err());
+        }
+        let aligned = diff::aligned(&room, &room);
+        assert_eq!(aligned, Some(room.clone()));
+        let walk = Walk::new(&changed);
+        let wrong = compare::reached(&room, &walk, Limits::LARGEST).is_err();
+        assert_eq!(wrong, walk.reached() != Walk::new(&room).reached());
+    }
+    println!("{same} the same, {other} others, {told} told");
+    assert!(same > 50 && other > 50 && told == same + other);
+}
+
+/// A press whose conditions are too long for one relation of both rooms is compared bit by bit; where it leads to two states as
+/// well, the library is not asked.
+#[test]
+fn comparisons_of_long_presses() {
+    let things: Vec<String> = (0..16).map(|k| format!("t{k}")).collect();
+    let all = |joint: &str, first: usize| things[first..].join(joint);
+    let room = |press: &str| {
+        let long = format!(
+            "({}) or not ({}) or ({})",
+            all(" and ", 1),
+            all(" or ", 2),
+            all(" and ", 3)
+        );
+        let text = format!(
+            "things: {}\nstart: all off\npress A: {press}\n",
+            things.join(" ")
+        );
+        let more = format!("press A: t1 on when t0 and not t1 and not t2 and ({long})\nnever t0\n");
+        read(&(text.replace("LONG", &long) + &more)).unwrap()
+    };
+    let old = room("t0 turns over, t1 off when not t0 and (LONG)");
+    let new = room("t0 turns over when not t0 and (LONG)");
+    let mut set = diff::changed(&old, &new, "A");
+    let check = |new: &Room, set: &Vec<bool>| compare::press(&old, new, "A", set, Limits::LARGEST);
+    assert!(set.contains(&true) && set.contains(&false));
+    assert_eq!(check(&new, &set), Ok(true));
+    set[5] = !set[5];
+    assert!(check(&new, &set).is_err());
+    let two_ways = room("t0 turns over when LONG");
+    assert_eq!(
+        check(&two_ways, &diff::changed(&old, &two_ways, "A")),
+        Ok(false)
+    );
+}
+
 /// Answers that are damaged on the way: each set of the last question is another one.
 #[test]
 fn damaged_plans_are_found() {
@@ -335,8 +575,8 @@ fn damaged_plans_are_found() {
     let room = read(text).unwrap();
     let good = plan(&room).unwrap();
     let asked = |plan: &Plan| verdicts(&room, plan, &Walk::new(&room), Limits::LARGEST);
-    assert_eq!(asked(&good), Ok(vec![Verdict::Safe]));
-    let sets = good.questions[0].sets.len() - 1;
+    assert_eq!(asked(&good), Ok(vec![Verdict::Safe(None)]));
+    let sets = good.questions[0].sets.len();
     for at in 0..sets {
         let mut bad = good.clone();
         let set = &mut bad.questions[0].sets[at];
@@ -362,7 +602,7 @@ fn damaged_plans_are_found() {
     let mut bad = good.clone();
     bad.questions[0].holds = !bad.questions[0].holds;
     assert!(asked(&bad).is_err());
-    assert_eq!(good.questions[0].sets[sets - 1].place, ANSWER);
+    assert_eq!(good.questions[0].sets[sets - 2].place, ANSWER);
 }
 
 /// A small table or few rounds give no verdict, and never a wrong one.

@@ -8,6 +8,18 @@ use room::walk::{members, Walk};
 
 const TEXT: &str = include_str!("../../../examples/booth.room");
 
+/// A room with the kinds of lines that the booth has not.
+const SHORT: &str = "\
+things: mic song
+start: any
+press ON: song on when not mic
+press MIC: mic turns over
+possible: mic and song
+whenever mic: mic unless song
+mic unless song
+ON works whenever not (mic or song)
+";
+
 /// What may be typed: all of ASCII that has a key, and some more.
 fn typed() -> impl Iterator<Item = char> {
     (' '..='~').chain(['\t', '\n', 'é', '\u{a0}', '\u{200b}'])
@@ -21,8 +33,8 @@ fn meaning(room: &Room) -> String {
         .iter()
         .map(|part| (part.name.as_str(), part.positions.as_slice()))
         .collect();
-    let mut said = format!("{parts:?} {}\n", room.start);
     let walk = Walk::new(room);
+    let mut said = format!("{parts:?} {:?}\n", members(&walk.starts));
     for rule in &room.rules {
         let steps: Vec<(u32, u32)> = (members(&walk.exists).into_iter())
             .filter_map(|state| Some((state, room.pressed(rule, state)?)))
@@ -36,6 +48,11 @@ fn meaning(room: &Room) -> String {
             Asked::AlwaysPossible(x) => format!("always possible {:?}\n", set(x)),
             Asked::Until(x, y) => format!("{:?} until {:?}\n", set(x), set(y)),
             Asked::Unless(x, y) => format!("{:?} unless {:?}\n", set(x), set(y)),
+            Asked::Possible(x) => format!("possible {:?}\n", set(x)),
+            Asked::Whenever(x, y, z) => {
+                format!("whenever {:?} {:?} unless {:?}\n", set(x), set(y), set(z))
+            }
+            Asked::Works(press, x) => format!("{press} works {:?}\n", set(x)),
         };
     }
     said
@@ -62,12 +79,24 @@ struct Counts {
 
 /// The room, its reading back and what it says.
 struct Original {
+    text: &'static str,
     room: Room,
     reading: String,
     meant: String,
 }
 
 impl Original {
+    fn new(text: &'static str) -> Original {
+        let room = unplaced(read(text).expect("the room is a good one"));
+        let (reading, meant) = (echo(&room), meaning(&room));
+        Original {
+            text,
+            room,
+            reading,
+            meant,
+        }
+    }
+
     /// What comes of a changed text.
     fn look(&self, changed: &str, counts: &mut Counts) {
         let room = match read(changed) {
@@ -89,7 +118,7 @@ impl Original {
 
     /// Every change at one character: it is taken out, another is put before it, or it is exchanged.
     fn changes(&self, at: usize, c: char, counts: &mut Counts) {
-        let (before, after) = (&TEXT[..at], &TEXT[at + c.len_utf8()..]);
+        let (before, after) = (&self.text[..at], &self.text[at + c.len_utf8()..]);
         self.look(&format!("{before}{after}"), counts);
         for new in typed() {
             self.look(&format!("{before}{new}{c}{after}"), counts);
@@ -100,17 +129,10 @@ impl Original {
     }
 }
 
-#[test]
-fn single_characters() {
-    assert_eq!(TEXT.lines().count(), 40);
-    let room = unplaced(read(TEXT).expect("the room is a good one"));
-    let (reading, meant) = (echo(&room), meaning(&room));
-    let original = Original {
-        room,
-        reading,
-        meant,
-    };
-    let places: Vec<(usize, char)> = TEXT.char_indices().collect();
+/// What comes of every change of one character.
+fn all_changes(text: &'static str) -> Counts {
+    let original = Original::new(text);
+    let places: Vec<(usize, char)> = text.char_indices().collect();
     let threads = std::thread::available_parallelism().map_or(1, usize::from);
     let work = |first: usize| {
         let mut counts = Counts::default();
@@ -119,13 +141,9 @@ fn single_characters() {
         counts
     };
     let counts = std::thread::scope(|scope| {
+        let work = &work;
         let started: Vec<_> = (0..threads)
-            .map(|first| {
-                scope.spawn({
-                    let work = &work;
-                    move || work(first)
-                })
-            })
+            .map(|first| scope.spawn(move || work(first)))
             .collect();
         let done = started
             .into_iter()
@@ -137,9 +155,26 @@ fn single_characters() {
         })
     });
     println!("{counts:?}");
+    counts
+}
+
+#[test]
+fn single_characters() {
+    assert_eq!(TEXT.lines().count(), 40);
+    let counts = all_changes(TEXT);
     // Most of what changes nothing stands in comments.
     assert!(
         counts.refused > counts.seen && counts.seen > 1_000,
+        "{counts:?}"
+    );
+}
+
+/// The same for a short room with every kind of line that the booth has not.
+#[test]
+fn single_characters_of_other_lines() {
+    let counts = all_changes(SHORT);
+    assert!(
+        counts.refused > counts.seen && counts.seen > 500,
         "{counts:?}"
     );
 }
@@ -151,6 +186,8 @@ fn read_back() {
         TEXT,
         include_str!("../../../examples/hall.room"),
         include_str!("../../../examples/mended.room"),
+        include_str!("../../../examples/bar.room"),
+        SHORT,
     ] {
         let room = read(text).expect("the room is a good one");
         let again = read(&echo(&room)).expect("what is read back can be read");

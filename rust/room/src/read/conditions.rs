@@ -1,7 +1,7 @@
 //! Conditions.
-use super::{one_of, Line, Read, Reader, FIRST_WORDS};
+use super::{joins_two, meant, not_understood, one_of, Line, Read, Reader, FIRST_WORDS};
 use crate::mistake::{similar, Mistake};
-use crate::room::Cond;
+use crate::room::{Cond, Part};
 use crate::words::{Word, RESERVED};
 
 /// The most parentheses and nots inside one another.
@@ -84,7 +84,7 @@ impl<'a> Reader<'a> {
             return Ok(cond);
         }
         match line.peek() {
-            Some(word) if word.text != "until" => self.unexpected(&word),
+            Some(word) if !joins_two(word.text) => self.unexpected(&word),
             _ => self.wrong(opened, "this ( has no ) after it".to_string()),
         }
     }
@@ -105,6 +105,7 @@ impl<'a> Reader<'a> {
             .iter()
             .position(|part| part.name == name.text)
         else {
+            self.no_position(line, name)?;
             self.unknown(name)?;
             // What may follow a name is passed over, so that later words get their own say.
             if line.take("=") {
@@ -114,6 +115,12 @@ impl<'a> Reader<'a> {
             }
             return Ok(Cond::All(Vec::new()));
         };
+        self.part_is(line, part, name)
+    }
+
+    /// A part in a condition, with the value that it must have.
+    fn part_is(&mut self, line: &mut Line<'a, '_>, part: usize, name: &Word) -> Read<Cond> {
+        self.other_signs(line, part, name)?;
         if line.take("=") {
             let value = self.position(Some(part), name, line)?;
             return Ok(Cond::Is(part, value));
@@ -138,6 +145,50 @@ impl<'a> Reader<'a> {
         Ok(Cond::Is(part, 1))
     }
 
+    /// Tells what to write for "NAME != ..." and "NAME is ...".
+    fn other_signs(&mut self, line: &Line<'a, '_>, part: usize, name: &Word) -> Read<()> {
+        let Some(sign) = line.peek() else {
+            return Ok(());
+        };
+        let after = line.words.get(line.at + 1);
+        let unequal = match (sign.text, after) {
+            ("!" | "<", Some(second)) => sign.touches(second) && matches!(second.text, "=" | ">"),
+            _ => false,
+        };
+        if !unequal && sign.text != "is" {
+            return Ok(());
+        }
+        let value = line.words.get(line.at + 1 + usize::from(unequal));
+        let value = value.map_or("...", |word| word.text);
+        let plain = match self.room.parts[part].is_selector() {
+            true => format!("{} = {value}", name.text),
+            false if value == "off" => format!("{} off", name.text),
+            false => name.text.to_string(),
+        };
+        let not = if unequal { "not " } else { "" };
+        self.wrong(&sign, format!("write \"{not}{plain}\""))
+    }
+
+    /// Tells that a word is a position of the selector named last, or else of some selector.
+    fn no_position(&mut self, line: &Line<'a, '_>, name: &Word) -> Read<()> {
+        let has = |part: &&Part| part.positions.iter().any(|position| position == name.text);
+        let before = line.words[..line.at - 1].iter().rev();
+        let last = before
+            .filter_map(|word| self.room.parts.iter().find(|part| part.name == word.text))
+            .find(has);
+        match last.or(self.room.parts.iter().find(has)) {
+            None => Ok(()),
+            Some(part) => {
+                let selector = &part.name;
+                let says = format!(
+                    "\"{0}\" is a position of \"{selector}\": write \"{selector} = {0}\"",
+                    name.text
+                );
+                self.wrong(name, says)
+            }
+        }
+    }
+
     /// Tells that a name is unknown, and which one may be meant. The line is read on.
     pub(super) fn unknown(&mut self, name: &Word) -> Read<()> {
         if !name.is_name() || RESERVED.contains(&name.text) {
@@ -146,6 +197,9 @@ impl<'a> Reader<'a> {
         let parts = self.room.parts.iter().map(|part| part.name.as_str());
         let names = parts.chain(self.room.named.iter().map(|named| named.name.as_str()));
         let mut says = format!("nothing here is called \"{}\"", name.text);
+        if let Some(word) = meant(name.text) {
+            return self.wrong(name, not_understood(name.text, word));
+        }
         match (self.declared.get(name.text), similar(name.text, names)) {
             (Some(line), _) if *line > name.line => {
                 says = format!(

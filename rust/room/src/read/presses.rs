@@ -1,7 +1,14 @@
 //! The start and the presses.
-use super::{one_of, strange, Line, Read, Reader};
+use super::{not_understood, one_of, quoted, strange, Line, Read, Reader};
+use crate::mistake::similar;
 use crate::room::{Change, Effect, Rule};
 use crate::words::Word;
+
+/// Words that people use where "turns over", "on" or "off" is meant.
+const VERBS: [&str; 12] = [
+    "turn", "turns", "toggle", "toggles", "flip", "flips", "switch", "switches", "invert",
+    "inverts", "set", "sets",
+];
 
 impl<'a> Reader<'a> {
     pub(super) fn start(&mut self, line: &mut Line<'a, '_>) -> Read<()> {
@@ -20,8 +27,12 @@ impl<'a> Reader<'a> {
         if line.peek().is_none() {
             return self.wrong(
                 &keyword,
-                "say what is on at the start, or \"all off\"".to_string(),
+                "say what is on at the start, or \"all off\", or \"any\"".to_string(),
             );
+        }
+        if line.take("any") {
+            self.room.any_start = true;
+            return self.alone(line);
         }
         if line.is("all") && self.all_off(line)? {
             return Ok(());
@@ -39,6 +50,17 @@ impl<'a> Reader<'a> {
             }
         }
         Ok(())
+    }
+
+    /// Tells that nothing stands behind `any`.
+    fn alone(&mut self, line: &Line<'a, '_>) -> Read<()> {
+        match line.peek() {
+            None => Ok(()),
+            Some(word) => {
+                let says = "\"any\" stands alone: the evening may begin in every state";
+                self.wrong(&word, says.to_string())
+            }
+        }
     }
 
     /// Reads `all off`, and the comma after it; whether that is all.
@@ -73,6 +95,7 @@ impl<'a> Reader<'a> {
             );
         }
         let press = self.label(&line.words[1..colon])?;
+        self.presses.push(press.clone());
         line.at = colon + 1;
         if line.peek().is_none() || line.is("when") {
             let last = line.last();
@@ -82,6 +105,7 @@ impl<'a> Reader<'a> {
             );
         }
         let effects = self.effects(line)?;
+        self.no_when(line)?;
         let when = match line.take("when") {
             true => Some(self.condition(line)?.0),
             false => None,
@@ -96,8 +120,33 @@ impl<'a> Reader<'a> {
         Ok(())
     }
 
+    /// Tells what to write for "if" and its like behind what a press does.
+    fn no_when(&mut self, line: &Line<'a, '_>) -> Read<()> {
+        let Some(word) = line.peek().filter(|word| word.text != "when") else {
+            return Ok(());
+        };
+        let text = word.text.to_lowercase();
+        let others = ["if", "only", "while", "where", "whenever"];
+        if text == "unless" {
+            let rest = &line.words[line.at + 1..];
+            let cond = if rest.is_empty() {
+                "...".to_string()
+            } else {
+                quoted(rest)
+            };
+            return self.wrong(
+                &word,
+                format!("a press works or does not: write \"when not {cond}\""),
+            );
+        }
+        if others.contains(&text.as_str()) || similar(&text, ["when"].into_iter()).is_some() {
+            return self.wrong(&word, not_understood(word.text, "when"));
+        }
+        Ok(())
+    }
+
     /// A button's name: any words, one blank between those that do not touch.
-    fn label(&mut self, words: &[Word]) -> Read<String> {
+    pub(super) fn label(&mut self, words: &[Word]) -> Read<String> {
         let mut label = String::new();
         for (at, word) in words.iter().enumerate() {
             let plain = |c: char| c.is_alphanumeric() || c.is_ascii_graphic();
@@ -124,17 +173,50 @@ impl<'a> Reader<'a> {
                 }
                 effects.push(effect);
             }
-            if line.is("and") {
-                let and = line.words[line.at];
-                return self.wrong(
-                    &and,
-                    "write a comma between two things that happen".to_string(),
-                );
-            }
+            self.no_comma(line)?;
             if !line.take(",") {
                 return Ok(effects);
             }
         }
+    }
+
+    /// Tells that a comma stands between two things that happen.
+    fn no_comma(&mut self, line: &Line<'a, '_>) -> Read<()> {
+        let Some(word) = line.peek() else {
+            return Ok(());
+        };
+        let at_start = line.words[0].text == "start";
+        let says = match word.text.to_lowercase().as_str() {
+            "and" | "&" | "+" => "write a comma between two things that happen",
+            "or" | "|" if at_start => {
+                "the evening begins in one state: write a comma; or \"start: any\" for every state"
+            }
+            "or" | "|" => {
+                "a press does all that its line names: write a comma, or a second line of the same press for the other way"
+            }
+            _ => return Ok(()),
+        };
+        self.wrong(&word, says.to_string())
+    }
+
+    /// Tells that the name comes first in "toggle NAME", "turn NAME on" and "turn on NAME".
+    fn verb_first(&mut self, verb: &Word, line: &Line<'a, '_>) -> Read<()> {
+        let text = verb.text.to_lowercase();
+        let rest: Vec<&str> = line.words[line.at..].iter().map(|word| word.text).collect();
+        let on_or_off = |text: &&str| matches!(*text, "on" | "off");
+        let (name, does) = match rest[..] {
+            _ if on_or_off(&text.as_str()) => (rest.first(), text.as_str()),
+            _ if !VERBS.contains(&text.as_str()) => return Ok(()),
+            [does, name, ..] if on_or_off(&does) => (Some(&rest[1]).filter(|_| name != ","), does),
+            [_, does, ..] if on_or_off(&does) => (rest.first(), does),
+            _ if text.starts_with("set") => (rest.first(), "on"),
+            _ => (rest.first(), "turns over"),
+        };
+        let name = name.copied().unwrap_or("NAME");
+        self.wrong(
+            verb,
+            format!("the name comes first: write \"{name} {does}\""),
+        )
     }
 
     /// One thing that happens; nothing where its name is unknown, which is told.
@@ -146,17 +228,8 @@ impl<'a> Reader<'a> {
                 "something is missing here, such as \"echo on\"".to_string(),
             );
         };
-        let verb = match name.text {
-            "on" | "off" => Some(name.text),
-            "turn" | "turns" => Some("turns over"),
-            _ => None,
-        };
-        if let Some(verb) = verb {
-            let thing = line.peek().map_or("NAME", |word| word.text);
-            return self.wrong(
-                &name,
-                format!("the name comes first: write \"{thing} {verb}\""),
-            );
+        if !self.room.parts.iter().any(|part| part.name == name.text) {
+            self.verb_first(&name, line)?;
         }
         let part = self.place_of(&name)?;
         let change = match line.peek().map(|word| word.text) {
@@ -189,6 +262,9 @@ impl<'a> Reader<'a> {
                     part.positions[0],
                     one_of(part)
                 )
+            }
+            _ if VERBS.contains(&marked.text.to_lowercase().as_str()) => {
+                format!("write \"{} turns over\"", name.text)
             }
             _ => format!(
                 "say what happens to \"{0}\": {0} on, {0} off or {0} turns over",
@@ -255,6 +331,7 @@ impl<'a> Reader<'a> {
         }
         match part.positions.iter().position(|text| text == word.text) {
             Some(value) => Ok(value as u32),
+            None if word.text == "=" => self.wrong(&word, "write one \"=\"".to_string()),
             None => {
                 let says = format!(
                     "\"{}\" has no position \"{}\". It has {}",
