@@ -246,7 +246,7 @@ unfolding computing
 ready-large = record { bits = refl; passes = refl; is = refl; needs = refl; again = refl }
 
 -- the list, answered throughout
-unfoldable pub first : SharedSession 1 1 (events 1 1 1) small
+pub first : SharedSession 1 1 (events 1 1 1) small
 first = record {
   lent = both (zeros 268) (lender 1 1 8);
   made = both (freshOf 1 1 268) (lender 1 1 0);
@@ -258,7 +258,7 @@ first = record {
 }
 
 -- the list again
-unfoldable pub second : SharedUpgrade 1 2 (events 5 7 3) large
+pub second : SharedUpgrade 1 2 (events 5 7 3) large
 second = record {
   lent = both (zeros 300) (lender 5 7 9);
   enough = let e = length-zeros 300 in omega arith;
