@@ -134,7 +134,7 @@ fn introduction(run: &Run, presses: usize, farthest: bool) -> String {
 }
 
 /// What is wrong at the end of a run, where the question does not say it by itself.
-fn closing(room: &Room, asked: &Asked, end: End) -> String {
+pub(crate) fn closing(room: &Room, asked: &Asked, end: End) -> String {
     let mut conds = asked.conditions().into_iter();
     let mut said = || conds.next().map_or(String::new(), |c| echo::cond(room, c));
     let (first, second, third) = (said(), said(), said());
@@ -143,6 +143,9 @@ fn closing(room: &Room, asked: &Asked, end: End) -> String {
     };
     match (end, asked) {
         (End::Reached, _) => String::new(),
+        (End::NoWay, Asked::Until(..)) => {
+            format!("  From there no presses lead to \"{second}\" with \"{first}\" up to it.\n")
+        }
         (End::NoWay, _) => format!("  From there no presses lead to \"{first}\".\n"),
         (End::Lost, _) => lost(&first, &second),
         (End::LostSince(place), _) => {
