@@ -13,8 +13,7 @@ const HINT: &str = "\
 A press by its name, the beginning of it, or its number; or: undo, restart, list, help, quit.
 ";
 
-const HELP: &str = "\
-  NAME           makes the press; the beginning of its name is enough, in any case, and so is its number.
+const WALK_HELP: &str = "  NAME           makes the press; the beginning of its name is enough, in any case, and so is its number.
                  Several presses stand on one line with commas between them
   undo           takes the last press back
   restart        goes back to the start (also: back to start)
@@ -180,7 +179,7 @@ impl<'a> Stepper<'a> {
                 (text + &self.starts(start), Did::Moved)
             }
             Ok(Wanted::List) => (self.read("list") + &self.list(), Did::Nothing),
-            Ok(Wanted::Help) => (self.read("help") + HELP, Did::Nothing),
+            Ok(Wanted::Help) => (self.read("help") + WALK_HELP, Did::Nothing),
             Ok(Wanted::Quit) => (self.read("quit"), Did::Ended),
             Err(says) => self.mistaken(piece, &says),
         }
@@ -198,7 +197,7 @@ impl<'a> Stepper<'a> {
     fn before_start(&mut self, piece: &str, wanted: Result<Wanted, String>) -> (String, Did) {
         match wanted {
             _ if read::state(self.room, piece).is_ok() => self.choose(piece),
-            Ok(Wanted::Help) => (self.read("help") + HELP, Did::Nothing),
+            Ok(Wanted::Help) => (self.read("help") + WALK_HELP, Did::Nothing),
             Ok(Wanted::Quit) => (self.read("quit"), Did::Ended),
             _ => self.choose(piece),
         }
