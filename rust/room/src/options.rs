@@ -37,7 +37,8 @@ A press works only where its condition holds, and what it does not name keeps it
 Conditions have: and, or, not, parentheses, names, SELECTOR = POSITION. A line that begins with a blank goes on with the one before.
 
 Exit status: 0 all SAFE, 1 one BROKEN, 2 a mistake in the file or the command line, or an answer that cannot be written,
-3 NO VERDICT, 4 the table and the plain walk differ. Of two rooms it is that of NEW.
+3 NO VERDICT, 4 the table and the plain walk differ. Of two rooms it is that of NEW. Of --walk: 1 a question was broken on the
+way, 2 also where a line was not understood that nobody typed.
 ";
 
 #[derive(Clone, Copy, PartialEq, Eq)]

@@ -54,6 +54,8 @@ pub struct Stepper<'a> {
     typing: bool,
     /// The questions that were said to be broken, by their places, in that order.
     broken: Vec<usize>,
+    /// The questions that presses were said to break if they are repeated for ever.
+    rounds: Vec<usize>,
     mistakes: usize,
 }
 
@@ -65,6 +67,7 @@ impl<'a> Stepper<'a> {
             steps: Steps::new(room, walk),
             typing,
             broken: Vec::new(),
+            rounds: Vec::new(),
             mistakes: 0,
         }
     }
@@ -303,12 +306,15 @@ impl<'a> Stepper<'a> {
                     text += &format!("  !! {said} is broken here, {}.\n", after(place));
                     let closing = report::closing(self.room, asked, end);
                     text.extend(closing.lines().map(|line| format!("   {line}\n")));
-                    if !self.broken.contains(&at) {
-                        self.broken.push(at);
-                    }
+                    note(&mut self.broken, at);
                 }
                 Standing::Broken(..) if by_state(asked) => still.push(said),
-                Standing::Open if matches!(asked, Asked::Until(..)) => text += &self.round(&said),
+                Standing::Open if matches!(asked, Asked::Until(..)) => {
+                    if let Some(then) = self.steps.same_as().filter(|_| note(&mut self.rounds, at))
+                    {
+                        text += &round(&said, then);
+                    }
+                }
                 _ => {}
             }
         }
@@ -317,14 +323,23 @@ impl<'a> Stepper<'a> {
             false => text + &format!("  !! Still broken: {}.\n", still.join(", ")),
         }
     }
+}
 
-    /// That presses that lead back to a state break an until, where they are repeated for ever.
-    fn round(&self, until: &str) -> String {
-        self.steps.same_as().map_or(String::new(), |place| {
-            let then = after(place);
-            format!("  This is as it was {then}: the presses since then, repeated for ever, break {until}.\n")
-        })
+/// That presses since a place, which lead back to the same state, break an until if they are repeated for ever.
+fn round(until: &str, place: usize) -> String {
+    let then = after(place);
+    format!(
+        "  This is as it was {then}: the presses since then, repeated for ever, break {until}.\n"
+    )
+}
+
+/// Adds a number to a list, where it is not there already; whether it was not.
+fn note(list: &mut Vec<usize>, number: usize) -> bool {
+    let new = !list.contains(&number);
+    if new {
+        list.push(number);
     }
+    new
 }
 
 /// A place in a run, in words.

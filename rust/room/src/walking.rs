@@ -1,7 +1,7 @@
 //! `room --walk`: press by press, as the lines of standard input say.
 use crate::options::Options;
 use crate::{quick, tell, walked, Stop};
-use room::ask::{Asker, Verdict};
+use room::ask::{Asker, Limits};
 use room::echo;
 use room::plan::Plan;
 use room::report::Outcome;
@@ -21,33 +21,28 @@ pub fn walk(room: &Room, plan: &Plan, options: &Options) -> Result<Outcome, Stop
         room,
         walk: &walk,
         plan,
-        options,
+        limits: options.limits(),
+        asker: None,
         asked: 0,
     };
-    let mut text = stepper.begin();
+    let (mut text, mut then) = (stepper.begin(), Then::GoesOn);
     let mut input = io::stdin().lock();
     loop {
         library.agrees(stepper.broken())?;
-        if typing {
+        if typing && then == Then::GoesOn {
             text += stepper.prompt();
         }
-        if !written(&text)? {
-            return Ok(outcome(&stepper, typing));
+        if !written(&text)? || then == Then::Ends {
+            break;
         }
-        let line = match line(&mut input) {
-            Ok(Some(line)) => line,
+        (text, then) = match line(&mut input) {
+            Ok(Some(line)) => stepper.line(&line),
             Ok(None) => break,
             Err(error) => {
                 tell(&format!("room: standard input cannot be read: {error}\n"));
                 return Ok(Outcome::BadFile);
             }
         };
-        let (said, then) = stepper.line(&line);
-        text = said;
-        if then == Then::Ends {
-            written(&text)?;
-            break;
-        }
     }
     let blank = if typing { "\n" } else { "" };
     written(&(blank.to_string() + &stepper.end() + quick()))?;
@@ -89,7 +84,8 @@ struct Library<'a> {
     room: &'a Room,
     walk: &'a Walk,
     plan: &'a Plan,
-    options: &'a Options,
+    limits: Limits,
+    asker: Option<Asker<'a>>,
     /// How many broken questions it was asked about.
     asked: usize,
 }
@@ -98,18 +94,16 @@ impl Library<'_> {
     /// No question that the presses break is safe by the library.
     fn agrees(&mut self, broken: &[usize]) -> Result<(), Stop> {
         for &place in &broken[self.asked..] {
-            let differs = |difference| {
-                let asked = &self.room.questions[place].asked;
-                Stop::Differs(difference, echo::asked(self.room, asked))
+            let asked = &self.room.questions[place].asked;
+            let differs = |difference| Stop::Differs(difference, echo::asked(self.room, asked));
+            let asker = match &mut self.asker {
+                Some(asker) => asker,
+                none => {
+                    let made = Asker::new(self.room, self.walk, self.plan, self.limits);
+                    none.insert(made.map_err(differs)?)
+                }
             };
-            let limits = self.options.limits();
-            let mut asker = Asker::new(self.room, self.walk, self.plan, limits).map_err(differs)?;
-            if let Verdict::Safe(_) = asker.ask(place).map_err(differs)? {
-                let says = "the presses made break it, and the table says that it is safe";
-                return Err(differs(room::ask::Difference {
-                    says: says.to_string(),
-                }));
-            }
+            asker.is_broken_too(place).map_err(differs)?;
         }
         self.asked = broken.len();
         Ok(())

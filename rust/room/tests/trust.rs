@@ -735,6 +735,23 @@ fn walks_break_what_they_are_said_to_break() {
     );
 }
 
+/// A question that is said to be broken, and is safe by the library, is told.
+#[test]
+fn a_safe_question_is_not_broken() {
+    let (mut told, mut broken) = (0, 0);
+    for room in rooms(13, 100) {
+        let (walk, plan) = (Walk::new(&room), plan(&room).unwrap());
+        let mut asker = Asker::new(&room, &walk, &plan, Limits::LARGEST).unwrap();
+        for (place, verdict) in own(&room).iter().enumerate() {
+            let differs = asker.is_broken_too(place).is_err();
+            assert_eq!(differs, matches!(verdict, Verdict::Safe(_)));
+            told += usize::from(differs);
+            broken += usize::from(!differs);
+        }
+    }
+    assert!(told > 20 && broken > 20, "{told} {broken}");
+}
+
 /// The run into trouble that a verdict shows breaks its question in its last state, and not before; an until may be lost sooner, or
 /// its last state was there before.
 #[test]
