@@ -7,12 +7,15 @@
 //! - `room`: what was read; `echo`: the same as text again; `sense`: conditions that no state meets;
 //! - `valid`, `rules`, `plan`: formulas of selectors, of presses, and the calls that answer the questions;
 //! - `walk` (with `circles`), `ask`, `report`: the plain walk, the library's answers held against it, and the words for both;
+//! - `changes`: what a press changes, or what is missing for it, in words;
+//! - `stepper` (with `typed`, `steps`, `standing`): a walk press by press, what is typed, and which questions the presses break;
 //! - `diff`, `compare`: two rooms side by side, by the walk and by the library;
 //! - `orders`: other orders of the things in the table, where it is full;
 //! - `records`, `explain`: the same calls as records for `roomrules`, and what is wrong with records.
 #![deny(unsafe_code)]
 
 pub mod ask;
+pub mod changes;
 mod circles;
 pub mod compare;
 pub mod diff;
@@ -27,6 +30,10 @@ pub mod report;
 pub mod room;
 pub mod rules;
 pub mod sense;
+pub mod standing;
+pub mod stepper;
+pub mod steps;
+pub mod typed;
 pub mod valid;
 pub mod walk;
 pub mod words;

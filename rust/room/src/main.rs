@@ -1,5 +1,6 @@
 //! The command `room`.
 mod options;
+mod walking;
 
 use kudzuclamp::Refusal;
 use options::{Mode, Options};
@@ -108,6 +109,7 @@ fn answer(room: &Room, plan: &Plan, options: &Options) -> Result<Outcome, Stop> 
     match options.mode {
         Mode::Echo => print(&echo::echo(room), Outcome::Safe),
         Mode::Records => write_records(room, plan, options, shown_name(&options.file)),
+        Mode::Walk => walking::walk(room, plan, options),
         _ => ask(room, plan, options),
     }
 }

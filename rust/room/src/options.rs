@@ -7,6 +7,7 @@ room --echo FILE      prints the rules as understood, and asks nothing
 room --records FILE   prints the questions as records for roomrules, where it can answer them
 room --explain FILE   FILE has records: plays them, and says why one is refused
 room --diff OLD NEW   says what a change of the rules changes: verdicts, states that can come, what a press does
+room --walk FILE      goes through the room press by press, as you type them: what each does, and which questions break
 
   --rows N            a table of N rows, 1 to 60000 (60000)
   --rounds R          at most R rounds for each answer (4294967295)
@@ -36,7 +37,8 @@ A press works only where its condition holds, and what it does not name keeps it
 Conditions have: and, or, not, parentheses, names, SELECTOR = POSITION. A line that begins with a blank goes on with the one before.
 
 Exit status: 0 all SAFE, 1 one BROKEN, 2 a mistake in the file or the command line, or an answer that cannot be written,
-3 NO VERDICT, 4 the table and the plain walk differ. Of two rooms it is that of NEW.
+3 NO VERDICT, 4 the table and the plain walk differ. Of two rooms it is that of NEW. Of --walk: 1 a question was broken on the
+way, 2 also where a line was not understood that nobody typed.
 ";
 
 #[derive(Clone, Copy, PartialEq, Eq)]
@@ -46,15 +48,17 @@ pub enum Mode {
     Records,
     Explain,
     Diff,
+    Walk,
 }
 
 impl Mode {
     /// The options that choose what is done with the file.
-    const CHOICES: [(&'static str, Mode); 4] = [
+    const CHOICES: [(&'static str, Mode); 5] = [
         ("--echo", Mode::Echo),
         ("--records", Mode::Records),
         ("--explain", Mode::Explain),
         ("--diff", Mode::Diff),
+        ("--walk", Mode::Walk),
     ];
 }
 
@@ -114,6 +118,11 @@ pub fn command(mut words: impl Iterator<Item = String>) -> Result<Command, Strin
     let mut files = files.into_iter();
     options.file = files.next().ok_or("no file is named")?;
     options.after = files.next();
+    if options.mode == Mode::Walk && options.file == "-" {
+        return Err(
+            "--walk reads presses from standard input, so the room must be in a file".to_string(),
+        );
+    }
     match (&options.after, files.next()) {
         (Some(_), None) if diff => Ok(Command::Run(options)),
         (None, _) if !diff => Ok(Command::Run(options)),
@@ -127,7 +136,7 @@ fn chosen(before: Mode, word: &str) -> Result<Mode, String> {
     let known = Mode::CHOICES.iter().find(|(text, _)| *text == word);
     let (_, mode) = known.ok_or(format!("{word} is no option"))?;
     if before != Mode::Ask && before != *mode {
-        return Err("one of --echo, --records, --explain and --diff at a time".to_string());
+        return Err("one of --echo, --records, --explain, --diff and --walk at a time".to_string());
     }
     Ok(*mode)
 }
