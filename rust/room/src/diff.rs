@@ -1,5 +1,6 @@
 //! Two rooms side by side: what a change of the rules changes.
 use crate::ask::{Answer, Verdict};
+use crate::changes;
 use crate::echo::{self, grouped};
 use crate::room::{Change, Cond, Effect, Named, Part, Question, Room, Rule, State};
 use crate::walk::{members, Set, Walk};
@@ -212,15 +213,7 @@ pub fn press(old: &Side, new: &Side, press: &str, changed: &Set) -> String {
 
 /// What a press does in a state, by what it leads to.
 fn outcome(room: &Room, from: State, results: &[State]) -> String {
-    let change = |to: &State| {
-        let parts = room.parts.iter();
-        let other = parts.filter(|part| part.value(from) != part.value(*to));
-        let said: Vec<String> = other.map(|p| echo::value(p, p.value(*to))).collect();
-        match said.is_empty() {
-            true => "nothing changes".to_string(),
-            false => said.join(", "),
-        }
-    };
+    let change = |to: &State| changes::said(room, from, *to);
     match results {
         [] => "does not work".to_string(),
         _ => results.iter().map(change).collect::<Vec<_>>().join(" or "),

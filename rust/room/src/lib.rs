@@ -7,12 +7,14 @@
 //! - `room`: what was read; `echo`: the same as text again; `sense`: conditions that no state meets;
 //! - `valid`, `rules`, `plan`: formulas of selectors, of presses, and the calls that answer the questions;
 //! - `walk` (with `circles`), `ask`, `report`: the plain walk, the library's answers held against it, and the words for both;
+//! - `changes`: what a press changes, in words;
 //! - `diff`, `compare`: two rooms side by side, by the walk and by the library;
 //! - `orders`: other orders of the things in the table, where it is full;
 //! - `records`, `explain`: the same calls as records for `roomrules`, and what is wrong with records.
 #![deny(unsafe_code)]
 
 pub mod ask;
+pub mod changes;
 mod circles;
 pub mod compare;
 pub mod diff;
