@@ -618,7 +618,7 @@ fn command_lines() {
         (&["hall.room", "mended.room"], "one file at a time"),
         (
             &["--echo", "--records", "hall.room"],
-            "one of --echo, --records, --explain and --diff at a time",
+            "one of --echo, --records, --explain, --diff and --sheet at a time",
         ),
         (&["--diff"], "no file is named"),
         (
