@@ -239,9 +239,10 @@ fn shown(room: &Room, question: &Question, run: &Run, (good, whole): (bool, bool
         html += &(element("p", "still", &format!("Not drawn, since it stays: {still}")) + "\n");
     }
     let closing = report::closing(room, &question.asked, run.end);
+    let closing: Vec<&str> = closing.lines().map(str::trim).collect();
     html += &format!(
         "<figcaption>\n<ol class=\"run\">\n{words}</ol>\n{}\n</figcaption>\n</figure>\n",
-        element("p", "", closing.trim())
+        element("p", "", &closing.join(" "))
     );
     html
 }

@@ -221,14 +221,12 @@ impl<'a> Picture<'a> {
         let (x, end) = (self.x(band, states.start), self.x(band, states.end));
         let (class, says) = self.look(part, states.start, changed);
         let mut svg = match class {
-            "off" => {
-                // The word stands in a gap of the line.
-                let (gap, on) = match changed {
-                    true => (x + 6, x + 11 + LETTER * says.len()),
-                    false => (x, x),
-                };
+            // The word stands in a gap of the line.
+            "off" if changed => {
+                let (gap, on) = (x + 6, x + 11 + LETTER * says.len());
                 format!("<path class=\"off\" d=\"M{x} {middle}H{gap}M{on} {middle}H{end}\"/>\n")
             }
+            "off" => format!("<path class=\"off\" d=\"M{x} {middle}H{end}\"/>\n"),
             _ => format!(
                 "<rect class=\"{class}\" x=\"{x}\" y=\"{}\" width=\"{}\" height=\"{BAR}\"/>\n",
                 middle - BAR / 2,

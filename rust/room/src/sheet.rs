@@ -76,7 +76,7 @@ impl Sheet {
             Found::Unread(why) => return format!("{}{why}\n", self.begins(widest)),
             Found::Mistakes(count, _) => {
                 let mistakes = counted(*count, "mistake", "mistakes");
-                format!("{:<41}", format!("{mistakes:>15}. Nothing was asked."))
+                format!("{:<41}", format!("{mistakes:>13}. Nothing was asked."))
             }
             Found::Differs(..) => format!("{:<41}", "   table and walk differ"),
             Found::Answered(answered) => columns(answered),

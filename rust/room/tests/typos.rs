@@ -189,6 +189,7 @@ fn read_back() {
         include_str!("../../../examples/hall.room"),
         include_str!("../../../examples/mended.room"),
         include_str!("../../../examples/bar.room"),
+        include_str!("../../../examples/stage.room"),
         SHORT,
     ] {
         let room = read(text).expect("the room is a good one");
