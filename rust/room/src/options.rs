@@ -126,12 +126,17 @@ pub fn command(mut words: impl Iterator<Item = String>) -> Result<Command, Strin
             _ => files.push(word),
         }
     }
-    if options.mode == Mode::Sheet {
-        return sheet(options, files);
+    match options.mode {
+        Mode::Sheet => sheet(options, files),
+        _ if options.page.is_some() || options.date.is_some() => {
+            Err("--page and --date belong to --sheet".to_string())
+        }
+        _ => one_or_two(options, files),
     }
-    if options.page.is_some() || options.date.is_some() {
-        return Err("--page and --date belong to --sheet".to_string());
-    }
+}
+
+/// One file, or the two of a comparison.
+fn one_or_two(mut options: Options, files: Vec<String>) -> Result<Command, String> {
     let diff = options.mode == Mode::Diff;
     let mut files = files.into_iter();
     options.file = files.next().ok_or("no file is named")?;
@@ -151,6 +156,12 @@ fn sheet(mut options: Options, files: Vec<String>) -> Result<Command, String> {
     }
     if options.date.is_some() && options.page.is_none() {
         return Err("--date stands on the page: name it with --page OUT.html".to_string());
+    }
+    if let Some(name) = files
+        .iter()
+        .find(|file| Some(*file) == options.page.as_ref())
+    {
+        return Err(format!("{name} is a room, and the page would overwrite it"));
     }
     options.files = files;
     Ok(Command::Run(options))

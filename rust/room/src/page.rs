@@ -59,6 +59,16 @@ fn badge(word: &str) -> String {
     element("span", class, word)
 }
 
+/// The columns of the table of all rooms, with their classes.
+const COLUMNS: [(&str, &str); 6] = [
+    ("Verdict", ""),
+    ("Room", ""),
+    ("Questions", "figure"),
+    ("States", "figure"),
+    ("Rows", "figure"),
+    ("SHA-256 begins", ""),
+];
+
 /// The head of the page: all rooms in a table.
 fn cover(sheets: &[Sheet], wanted: &Wanted) -> String {
     let mut html = "<header>\n<h1>Hand-over sheet: switching rules</h1>\n".to_string();
@@ -70,9 +80,14 @@ fn cover(sheets: &[Sheet], wanted: &Wanted) -> String {
         _ => "summary bad",
     };
     html += &(element("p", class, &sheet::summary(sheets)) + "\n");
-    html += "<div class=\"scroll\" tabindex=\"0\" role=\"group\" aria-label=\"All rooms\">\n<table>\n<thead><tr>\
-             <th scope=\"col\">Verdict</th><th scope=\"col\">Room</th><th scope=\"col\" class=\"figure\">Questions</th>\
-             <th scope=\"col\" class=\"figure\">States</th><th scope=\"col\" class=\"figure\">Rows</th><th scope=\"col\">SHA-256 begins</th></tr></thead>\n<tbody>\n";
+    let heads: String = COLUMNS
+        .iter()
+        .map(|(head, class)| element("th scope=\"col\"", class, head))
+        .collect();
+    html += &format!(
+        "<div class=\"scroll\" tabindex=\"0\" role=\"group\" aria-label=\"All rooms\">\n<table>\n\
+         <thead><tr>{heads}</tr></thead>\n<tbody>\n"
+    );
     for (at, sheet) in sheets.iter().enumerate() {
         html += &overview(at + 1, sheet);
     }
@@ -239,12 +254,12 @@ fn shown(room: &Room, question: &Question, run: &Run, (good, whole): (bool, bool
         html += &(element("p", "still", &format!("Not drawn, since it stays: {still}")) + "\n");
     }
     let closing = report::closing(room, &question.asked, run.end);
-    let closing: Vec<&str> = closing.lines().map(str::trim).collect();
-    html += &format!(
-        "<figcaption>\n<ol class=\"run\">\n{words}</ol>\n{}\n</figcaption>\n</figure>\n",
-        element("p", "", &closing.join(" "))
-    );
-    html
+    let closing: String = closing
+        .lines()
+        .map(|line| element("p", "", line.trim()) + "\n")
+        .collect();
+    let words = format!("<ol class=\"run\">\n{words}</ol>\n{closing}");
+    format!("{html}<figcaption>\n{words}</figcaption>\n</figure>\n")
 }
 
 /// Which part of a run a picture shows.

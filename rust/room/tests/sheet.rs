@@ -8,7 +8,7 @@ use room::sheet::{outcome, summary, Answered, Found, Sheet};
 use room::walk::Walk;
 use room::{orders, sha256};
 use std::path::PathBuf;
-use std::process::Command;
+use std::process::{Command, Stdio};
 
 const EXAMPLES: &str = concat!(env!("CARGO_MANIFEST_DIR"), "/../../examples");
 
@@ -475,7 +475,9 @@ fn other_pictures() {
         "{html}"
     );
     assert!(
-        html.contains("&quot;a&quot; holds after press 1. There &quot;not b&quot; does not hold"),
+        html.contains(
+            "<p>&quot;a&quot; holds after press 1.</p>\n<p>There &quot;not b&quot; does not hold"
+        ),
         "{html}"
     );
     folder.write("room", &format!("{lamp}lamp unless song\n"));
@@ -713,8 +715,12 @@ fn another_order() {
 #[test]
 fn command_lines() {
     let needs = "--page needs the page's file, with a name that ends in .html";
-    let cases: [(&[&str], &str); 8] = [
+    let cases: [(&[&str], &str); 9] = [
         (&["--sheet"], "no file is named"),
+        (
+            &["--sheet", "--page", "a.html", "b.room", "a.html"],
+            "a.html is a room, and the page would overwrite it",
+        ),
         (&["--sheet", "--page"], needs),
         // The page is forgotten, and a room would be overwritten.
         (&["--sheet", "--page", "hall.room", "mended.room"], needs),
@@ -760,5 +766,6 @@ fn pages_that_cannot_be_written() {
         .unwrap();
     let mut command = Command::new(env!("CARGO_BIN_EXE_room"));
     let command = command.args(["--sheet", "safe"]).current_dir(&folder.0);
-    assert_eq!(command.stdout(full).status().unwrap().code(), Some(2));
+    let status = command.stdout(full).stderr(Stdio::null()).status();
+    assert_eq!(status.unwrap().code(), Some(2));
 }
