@@ -17,14 +17,13 @@ const LAST: usize = 8;
 const WIDEST: usize = 700;
 const LEAST: usize = 300;
 
-/// Sizes in pixels: a letter, the least column, a line of text, the heading, a row, what is drawn in it, and the foot.
+/// Sizes in pixels: a letter, the least column, a line of text, the heading, a row, and what is drawn in it.
 const LETTER: usize = 8;
 const NARROWEST: usize = 60;
 const LINE: usize = 16;
 const HEAD: usize = 2 * LINE + 8;
 const ROW: usize = 28;
 const BAR: usize = 18;
-const FOOT: usize = 2 * LINE + 8;
 
 /// The most letters of a name; the words beside the picture have all of them.
 const MOST_LETTERS: usize = 16;
@@ -157,7 +156,9 @@ impl<'a> Picture<'a> {
         let bottom = HEAD + self.rows.len() * ROW;
         let wide = LEAST.max(self.x(band, band.to + 1) + 2);
         let foot = self.foot(band, bottom);
-        let high = bottom + if foot.is_empty() { 2 } else { FOOT };
+        // Two lines where an arrow or a second text stands there.
+        let lines = foot.matches("<text").count() + foot.matches("\"back\"").count();
+        let high = bottom + lines * LINE + if lines > 0 { 8 } else { 2 };
         let mut svg = format!(
             "<svg xmlns=\"http://www.w3.org/2000/svg\" role=\"img\" width=\"{wide}\" height=\"{high}\" \
              viewBox=\"0 0 {wide} {high}\">\n<title>{}</title>\n",
