@@ -154,6 +154,16 @@ impl<'a> Asker<'a> {
         }
     }
 
+    /// Tells where the library finds a question safe that presses were seen to break.
+    pub fn is_broken_too(&mut self, place: usize) -> Result<(), Difference> {
+        match self.ask(place)? {
+            Verdict::Safe(_) => Err(Difference {
+                says: "the presses made break it, and the table says that it is safe".to_string(),
+            }),
+            _ => Ok(()),
+        }
+    }
+
     fn answer(&mut self, question: &Question, asking: &Asking) -> Result<Verdict, Halt> {
         for set in &asking.sets {
             self.store(set)?;

@@ -1,6 +1,7 @@
 //! The command `room`.
 mod handover;
 mod options;
+mod walking;
 
 use kudzuclamp::Refusal;
 use options::{Mode, Options};
@@ -110,6 +111,7 @@ fn answer(room: &Room, plan: &Plan, options: &Options) -> Result<Outcome, Stop> 
     match options.mode {
         Mode::Echo => print(&echo::echo(room), Outcome::Safe),
         Mode::Records => write_records(room, plan, options, shown_name(&options.file)),
+        Mode::Walk => walking::walk(room, plan, options),
         _ => ask(room, plan, options),
     }
 }

@@ -8,6 +8,7 @@ room --records FILE   prints the questions as records for roomrules, where it ca
 room --explain FILE   FILE has records: plays them, and says why one is refused
 room --diff OLD NEW   says what a change of the rules changes: verdicts, states that can come, what a press does
 room --sheet FILE...  for the hand-over: asks every room, and prints a line for each
+room --walk FILE      goes through the room press by press, as you type them: what each does, and which questions break
 
   --page OUT.html     with --sheet: writes a page too, with the rules, the answers and each run as a picture
   --date TEXT         with --page: the date that stands on it
@@ -41,7 +42,7 @@ Conditions have: and, or, not, parentheses, names, SELECTOR = POSITION. A line t
 
 Exit status: 0 all SAFE, 1 one BROKEN, 2 a mistake in the file or the command line, or an answer that cannot be written,
 3 NO VERDICT, 4 the table and the plain walk differ. Of two rooms it is that of NEW. Of a sheet's rooms: 4 where one has 4, else 1,
-else 2, else 3.
+else 2, else 3. Of --walk: 1 a question was broken on the way, 2 also where a line was not understood that nobody typed.
 ";
 
 #[derive(Clone, Copy, PartialEq, Eq)]
@@ -52,16 +53,18 @@ pub enum Mode {
     Explain,
     Diff,
     Sheet,
+    Walk,
 }
 
 impl Mode {
     /// The options that choose what is done with the file.
-    const CHOICES: [(&'static str, Mode); 5] = [
+    const CHOICES: [(&'static str, Mode); 6] = [
         ("--echo", Mode::Echo),
         ("--records", Mode::Records),
         ("--explain", Mode::Explain),
         ("--diff", Mode::Diff),
         ("--sheet", Mode::Sheet),
+        ("--walk", Mode::Walk),
     ];
 }
 
@@ -141,6 +144,11 @@ fn one_or_two(mut options: Options, files: Vec<String>) -> Result<Command, Strin
     let mut files = files.into_iter();
     options.file = files.next().ok_or("no file is named")?;
     options.after = files.next();
+    if options.mode == Mode::Walk && options.file == "-" {
+        return Err(
+            "--walk reads presses from standard input, so the room must be in a file".to_string(),
+        );
+    }
     match (&options.after, files.next()) {
         (Some(_), None) if diff => Ok(Command::Run(options)),
         (None, _) if !diff => Ok(Command::Run(options)),
@@ -179,7 +187,7 @@ fn chosen(before: Mode, word: &str) -> Result<Mode, String> {
     let (_, mode) = known.ok_or(format!("{word} is no option"))?;
     if before != Mode::Ask && before != *mode {
         return Err(
-            "one of --echo, --records, --explain, --diff and --sheet at a time".to_string(),
+            "one of --echo, --records, --explain, --diff, --sheet and --walk at a time".to_string(),
         );
     }
     Ok(*mode)

@@ -7,7 +7,7 @@ use crate::finding::Finding;
 use crate::html::escaped;
 use crate::picture::{still, Band, Picture};
 use crate::report::{self, Outcome};
-use crate::room::{Asked, Part, Question, Room, Rule};
+use crate::room::{Part, Question, Room, Rule};
 use crate::sheet::{self, counted, library, Answered, Found, Sheet};
 use crate::walk::Run;
 
@@ -227,8 +227,7 @@ fn asked(answered: &Answered, question: &Question, answer: &Answer, wanted: &Wan
 
 /// A run: a picture, and the same in words.
 fn shown(room: &Room, question: &Question, run: &Run, (good, whole): (bool, bool)) -> String {
-    let farthest = room.any_start && matches!(question.asked, Asked::Possible(_));
-    let begins = report::introduction(run, run.states.len() - 1, farthest);
+    let begins = report::introduction(room, &question.asked, run);
     let mut html = element("p", "", &begins) + "\n<figure>\n";
     let picture = Picture::new(room, run, good);
     let mut words = String::new();

@@ -4,7 +4,7 @@ mod expected;
 mod presses;
 
 use crate::mistake::{similar, Mistake};
-use crate::room::{width_of, Asked, Named, Part, Question, Room, MAX_BITS};
+use crate::room::{width_of, Asked, Named, Part, Question, Room, State, MAX_BITS};
 use crate::words::{self, Word, RESERVED};
 use expected::awaits_a_question;
 use std::collections::HashMap;
@@ -40,6 +40,35 @@ pub fn read(text: &str) -> Result<Room, Vec<Mistake>> {
         Ok(reader.room)
     } else {
         Err(reader.mistakes)
+    }
+}
+
+/// The state that a text says as the line `start:` would, of a room that was read; a thing's name alone says that it is on.
+pub fn state(room: &Room, text: &str) -> Result<State, Vec<Mistake>> {
+    let on = |item: &str| match room.parts.iter().find(|part| part.name == item.trim()) {
+        Some(part) if !part.is_selector() => format!("{item} on"),
+        _ => item.to_string(),
+    };
+    let items: Vec<String> = text.split(',').map(on).collect();
+    let line = format!("start: {}", items.join(","));
+    let mut reader = Reader {
+        room: Room {
+            parts: room.parts.clone(),
+            named: room.named.clone(),
+            ..Room::default()
+        },
+        ..Reader::default()
+    };
+    for words in &words::lines(&line) {
+        let _ = reader.line(Line { words, at: 0 });
+    }
+    if reader.room.any_start {
+        let says = "say one state, such as \"all off\"".to_string();
+        reader.mistakes.push(Mistake::line(1, says));
+    }
+    match reader.mistakes.is_empty() {
+        true => Ok(reader.room.start),
+        false => Err(reader.mistakes),
     }
 }
 

@@ -1,5 +1,6 @@
 //! Verdicts in words.
 use crate::ask::{press, Answer, Difference, Limits, Verdict};
+use crate::changes;
 use crate::echo::{self, grouped};
 use crate::finding::{findings, worst, Finding};
 use crate::room::{Asked, Question, Room, Rule};
@@ -82,48 +83,47 @@ pub fn cause(refusal: Refusal, limits: Limits) -> String {
     }
 }
 
-/// A run, a line for each press.
+/// A run, a line for each press with what it changes. The state stands in whole at the start, at the end, and behind presses that
+/// are left out.
 fn shown(room: &Room, asked: &Asked, run: &Run, whole: bool) -> String {
     let presses = run.states.len() - 1;
-    let steps: Vec<(String, String)> = (run.states.windows(2))
-        .map(|pair| {
-            let name = press(room, pair[0], pair[1]).unwrap_or("?");
-            (name.to_string(), echo::state(room, pair[1]))
-        })
+    let names: Vec<&str> = (run.states.windows(2))
+        .map(|pair| press(room, pair[0], pair[1]).unwrap_or("?"))
         .collect();
-    let widest = steps
-        .iter()
-        .map(|(name, _)| name.chars().count())
-        .max()
-        .unwrap_or(0)
-        .max("start".len());
+    let lengths = names.iter().map(|name| name.chars().count());
+    let widest = lengths.max().unwrap_or(0).max("start".len());
     let digits = presses.to_string().len();
-    let line = |number: &str, name: &str, state: &str| {
-        format!("  {number:>digits$}  {name:widest$}  {state}\n")
+    let line = |number: &str, name: &str, says: &str| {
+        format!("  {number:>digits$}  {name:widest$}  {says}\n")
     };
-    let farthest = room.any_start && matches!(asked, Asked::Possible(_));
-    let mut text = format!("  {}\n", introduction(run, presses, farthest));
-    text += &line("", "start", &echo::state(room, run.states[0]));
+    let state = |name: &str, at: usize| line("", name, &echo::state(room, run.states[at]));
+    let step = |at: usize| {
+        let change = changes::said(room, run.states[at], run.states[at + 1]);
+        line(&(at + 1).to_string(), names[at], &change)
+    };
+    let mut text = format!("  {}\n", introduction(room, asked, run));
+    text += &state("start", 0);
     let hidden = match whole || presses <= FIRST_STEPS + LAST_STEPS {
         true => presses..presses,
         false => FIRST_STEPS..presses - LAST_STEPS,
     };
-    for (at, (name, state)) in steps.iter().enumerate() {
-        if at == hidden.start && !hidden.is_empty() {
-            text += &format!(
-                "  ... {} presses more; --whole-run shows them\n",
-                grouped(hidden.len() as u32)
-            );
-        }
-        if !hidden.contains(&at) {
-            text += &line(&(at + 1).to_string(), name, state);
-        }
+    text.extend((0..hidden.start).map(step));
+    if !hidden.is_empty() {
+        let count = grouped(hidden.len() as u32);
+        text += &format!("  ... {count} presses more; --whole-run shows them\n");
+        text += &state("then", hidden.end);
+    }
+    text.extend((hidden.end..presses).map(step));
+    if presses > 0 {
+        text += &state("end", presses);
     }
     text + &closing(room, asked, run.end)
 }
 
 /// The line above a run.
-pub fn introduction(run: &Run, presses: usize, farthest: bool) -> String {
+pub fn introduction(room: &Room, asked: &Asked, run: &Run) -> String {
+    let presses = run.states.len() - 1;
+    let farthest = room.any_start && matches!(asked, Asked::Possible(_));
     let from = match farthest && run.end == End::Reached {
         true => " from the start that is farthest from there",
         false => "",
@@ -149,6 +149,9 @@ pub fn closing(room: &Room, asked: &Asked, end: End) -> String {
     };
     match (end, asked) {
         (End::Reached, _) => String::new(),
+        (End::NoWay, Asked::Until(..)) => {
+            format!("  From there no presses lead to \"{second}\" with \"{first}\" up to it.\n")
+        }
         (End::NoWay, _) => format!("  From there no presses lead to \"{first}\".\n"),
         (End::Lost, _) => lost(&first, &second),
         (End::LostSince(place), _) => {

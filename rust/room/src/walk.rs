@@ -240,7 +240,7 @@ impl Walk {
     }
 
     /// For each state, the fewest presses into a set, through states of another set before; none where no presses lead there.
-    fn distances_to(&self, into: &Set, through: &Set) -> Vec<Option<usize>> {
+    pub(crate) fn distances_to(&self, into: &Set, through: &Set) -> Vec<Option<usize>> {
         let mut distance: Vec<Option<usize>> = vec![None; self.next.len()];
         let mut layer = members(into);
         for &state in &layer {

@@ -739,7 +739,7 @@ fn command_lines() {
         ),
         (
             &["--sheet", "--echo", "hall.room"],
-            "one of --echo, --records, --explain, --diff and --sheet at a time",
+            "one of --echo, --records, --explain, --diff, --sheet and --walk at a time",
         ),
     ];
     for (arguments, says) in cases {
