@@ -737,7 +737,17 @@ fn another_order() {
     let (own, other) = (html(false), html(true));
     well_formed(&other);
     assert!(other.contains("This verdict is by the order: latch monitor song echo mic-B mic-A"));
-    assert!(other.contains("Start: all off") && drawn(&other).1 == drawn(&own).1);
+    // Each step is a press of the room, and the last one starts the song under the open microphone.
+    let (texts, changes) = drawn(&other);
+    assert!(
+        !texts.contains(&"?") && changes == drawn(&own).1,
+        "{texts:?}"
+    );
+    assert!(other.contains("Start: all off</li>"), "{other}");
+    assert!(
+        other.contains("<b>START</b> echo on, song on</li>\n</ol>"),
+        "{other}"
+    );
 }
 
 #[test]
