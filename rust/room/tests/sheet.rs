@@ -254,6 +254,34 @@ fn expected_faults() {
     assert_eq!(status, 1);
 }
 
+/// With these words before every question of the examples each verdict is the other way round, and so is the status.
+#[test]
+fn every_verdict_turned_round() {
+    let folder = Folder::new("turned");
+    for name in ["hall", "mended", "booth", "bar", "stage"] {
+        let room = examples().room(&["--echo", &format!("{name}.room")]).0;
+        let (rules, questions) = room.rsplit_once("\n\n").unwrap();
+        let plain = questions.replace("expect BROKEN: ", "");
+        let turned: String = (plain.lines())
+            .map(|line| format!("expect BROKEN: {line}\n"))
+            .collect();
+        folder.write("plain", &format!("{rules}\n{plain}"));
+        folder.write("turned", &format!("{rules}\n{turned}"));
+        let (one, other) = (folder.room(&["plain"]).0, folder.room(&["turned"]).0);
+        for question in plain.lines() {
+            let safe = one.contains(&format!("\nSAFE        {question}\n"));
+            let broken = one.contains(&format!("\nBROKEN      {question}\n"));
+            assert!(safe != broken, "{one}");
+            let expected = match safe {
+                true => format!("\nUNEXPECTED  SAFE: {question}\n"),
+                false => format!("\nAS EXPECTED BROKEN: {question}\n"),
+            };
+            assert!(other.contains(&expected), "{other}");
+        }
+        assert_eq!(folder.room(&["turned"]).2, 1);
+    }
+}
+
 /// The reading back has it, the records have it, and of two rooms it is the same question.
 #[test]
 fn expected_faults_elsewhere() {
@@ -709,7 +737,17 @@ fn another_order() {
     let (own, other) = (html(false), html(true));
     well_formed(&other);
     assert!(other.contains("This verdict is by the order: latch monitor song echo mic-B mic-A"));
-    assert!(other.contains("Start: all off") && drawn(&other).1 == drawn(&own).1);
+    // Each step is a press of the room, and the last one starts the song under the open microphone.
+    let (texts, changes) = drawn(&other);
+    assert!(
+        !texts.contains(&"?") && changes == drawn(&own).1,
+        "{texts:?}"
+    );
+    assert!(other.contains("Start: all off</li>"), "{other}");
+    assert!(
+        other.contains("<b>START</b> echo on, song on</li>\n</ol>"),
+        "{other}"
+    );
 }
 
 #[test]
