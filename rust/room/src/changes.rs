@@ -113,3 +113,61 @@ fn joined(each: Vec<Cond>, parts: fn(&Cond) -> &[Cond], join: fn(Vec<Cond>) -> C
         _ => join(kept),
     }
 }
+
+#[cfg(test)]
+mod tests {
+    use super::{missing, said};
+    use crate::{echo, read};
+
+    const ROOM: &str = "\
+things: a b c d
+selector s: low high
+start: all off
+both means a and b
+many means a and b and c and d
+press B: b on when a
+press NOT: b on when not (a or b or c)
+press TWO: b on when not d and a
+press TWO: b off when not d and a and c
+press NAMED: c on when both and not d
+press MANY: c on when many
+press HIGH: c on when s = high or not not (a and c)
+press ALL: c on when (a or b) and b
+never d
+";
+
+    fn needs(press: &str, state: u32) -> Option<String> {
+        let room = read::read(ROOM).unwrap();
+        missing(&room, press, state).map(|cond| echo::cond(&room, &cond))
+    }
+
+    #[test]
+    fn what_is_missing() {
+        let cases = [
+            ("B", 0b0000, "a"),
+            ("NOT", 0b0100, "not c"),
+            ("NOT", 0b0101, "not a and not c"),
+            ("TWO", 0b1000, "not d and a"),
+            ("TWO", 0b1001, "not d"),
+            ("NAMED", 0b0001, "b"),
+            ("NAMED", 0b1000, "a and b and not d"),
+            ("MANY", 0b0001, "b and c and d"),
+            ("MANY", 0b0000, "many"),
+            ("HIGH", 0b0001, "s = high or c"),
+            ("ALL", 0b0001, "b"),
+            ("ALL", 0b0000, "b"),
+        ];
+        for (press, state, text) in cases {
+            assert_eq!(needs(press, state).as_deref(), Some(text), "{press}");
+        }
+        assert_eq!(needs("B", 0b0001), None);
+        assert_eq!(needs("HIGH", 0b10000), None);
+    }
+
+    #[test]
+    fn what_changes() {
+        let room = read::read(ROOM).unwrap();
+        assert_eq!(said(&room, 0b00011, 0b10101), "b off, c on, s = high");
+        assert_eq!(said(&room, 0b00011, 0b00011), "nothing changes");
+    }
+}

@@ -13,16 +13,19 @@ const HINT: &str = "\
 A press by its name, the beginning of it, or its number; or: undo, restart, list, help, quit.
 ";
 
-const WALK_HELP: &str = "  NAME           makes the press; the beginning of its name is enough, in any case, and so is its number.
+const WALK_HELP: &str = "  NAME           makes the press; the beginning of its name is enough, in any case, or its number.
                  Several presses stand on one line with commas between them
   undo           takes the last press back
   restart        goes back to the start (also: back to start)
   list           shows the state, and what each press would do now
-  start: STATE   begins in another state, such as start: all off, where the evening may begin in any state
+  start: STATE   begins in another state, where the evening may begin in any: start: all off
   quit           ends the walk, and prints the presses made
-  Where a button is called like one of these words, the button is meant; the word with a colon before it: :undo
-  \"does nothing\": no line of the press works, and it is not counted. \"nothing changes\": a line works, and all is so already.
-  Broken by the state: never, always possible, works. By the presses so far: until, unless, whenever. At the start: possible.
+  Where a button is called like one of these words, the button is meant. The word has a colon
+  before it then: :undo
+  \"does nothing\": no line of the press works, and it is not counted as a press.
+  \"nothing changes\": a line works, and all is so already.
+  Broken by the state: never, always possible, works. By the presses so far: until, unless,
+  whenever. At the start: possible.
   A question that is not broken here may be broken by other presses: room without --walk tells.
 ";
 
@@ -99,8 +102,8 @@ impl<'a> Stepper<'a> {
         if self.typing {
             let example = echo::value(&self.room.parts[0], 1);
             text += &format!(
-                "Say in which state it begins, such as: {example}; or: all off. What is not named is off, a selector at its first \
-                 position.\n"
+                "Say in which state it begins, such as: {example}; or: all off.\n\
+                 What is not named is off, a selector at its first position.\n"
             );
         }
         text

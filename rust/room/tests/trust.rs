@@ -8,9 +8,10 @@ use room::records::{records, ROOMRULES_ROWS, ROOMRULES_WORDS};
 use room::room::{Asked, Change, Cond, Room, Rule};
 use room::standing::{Judge, Standing};
 use room::stepper::Stepper;
+use room::steps::Steps;
 use room::walk::{End, Run, Walk};
 use room::{changes, compare, diff, sense};
-use std::collections::VecDeque;
+use std::collections::{BTreeMap, VecDeque};
 
 /// Numbers of a small generator, each below a bound.
 struct Drawn(u64);
@@ -323,7 +324,7 @@ fn check(room: &Room, asked: &Asked, run: &Run) {
 
 #[test]
 fn the_library_and_the_walk_agree() {
-    let mut kinds = std::collections::BTreeMap::new();
+    let mut kinds = BTreeMap::new();
     for room in rooms(1, 1_500) {
         for (question, verdict) in room.questions.iter().zip(own(&room)) {
             let kind = match (&question.asked, &verdict) {
@@ -701,38 +702,120 @@ fn is_broken(standing: &Standing) -> bool {
     matches!(standing, Standing::Broken(..))
 }
 
+/// The way in which a run is said to break a question, in its last state, and in none before unless the state alone does.
+fn said_rightly(room: &Room, asked: &Asked, states: &[u32], end: End) {
+    let (last, before) = states.split_last().unwrap();
+    assert!(breaks(room, asked, states));
+    assert!(before.is_empty() || !breaks(room, asked, before));
+    let holds = |cond: &Cond| room.holds(cond, *last);
+    let works = room.rules.iter().any(|rule| room.works(rule, *last));
+    match (end, asked) {
+        (End::Lost, Asked::Until(x, y) | Asked::Unless(x, y)) => assert!(!holds(x) && !holds(y)),
+        (End::Stuck, Asked::Until(x, _)) => assert!(!works && holds(x)),
+        (End::NoWay, Asked::Until(x, _)) => assert!(works && holds(x)),
+        (End::LostSince(place), Asked::Whenever(x, y, z)) => {
+            let since = &states[place..];
+            assert!(room.holds(x, since[0]) && !holds(y));
+            assert!(since.iter().all(|&state| !room.holds(z, state)));
+        }
+        (End::Reached, Asked::Never(_)) | (End::DoesNotWork, Asked::Works(..)) => {}
+        (End::NoWay, Asked::AlwaysPossible(_) | Asked::Possible(_)) => {}
+        _ => panic!("{asked:?} is not broken so"),
+    }
+}
+
+/// Walks through a room: how often a question is open, and how often it is broken, in which way.
+fn judged(room: &Room, draw: &mut Drawn, kinds: &mut BTreeMap<String, usize>) {
+    let (walk, verdicts) = (Walk::new(room), own(room));
+    let judge = Judge::new(room, &walk);
+    for _ in 0..4 {
+        let states = drawn_walk(room, draw, 12);
+        for (place, standings) in standings(&judge, &states).iter().enumerate() {
+            for (at, standing) in standings.iter().enumerate() {
+                let asked = &room.questions[at].asked;
+                let broken = breaks(room, asked, &states[..=place]);
+                assert_eq!(is_broken(standing), broken, "{asked:?}\n{}", echo(room));
+                assert!(!broken || matches!(verdicts[at], Verdict::Broken(_)));
+                let how = match standing {
+                    Standing::Broken(since, end) => {
+                        said_rightly(room, asked, &states[..=*since], *end);
+                        variant(end)
+                    }
+                    _ => "open".to_string(),
+                };
+                *kinds.entry(variant(asked) + " " + &how).or_insert(0) += 1;
+            }
+        }
+    }
+}
+
 /// A walk is said to break a question exactly where its state, or its run so far, breaks it; and no question that the library finds
 /// safe is ever said to be broken.
 #[test]
 fn walks_break_what_they_are_said_to_break() {
     let mut draw = Drawn(9);
-    let mut kinds = std::collections::BTreeMap::new();
+    let mut kinds = BTreeMap::new();
     for room in rooms(9, 600) {
-        let (walk, verdicts) = (Walk::new(&room), own(&room));
-        let judge = Judge::new(&room, &walk);
-        for _ in 0..4 {
-            let states = drawn_walk(&room, &mut draw, 12);
-            for (place, standings) in standings(&judge, &states).iter().enumerate() {
-                for (at, standing) in standings.iter().enumerate() {
-                    let asked = &room.questions[at].asked;
-                    let broken = breaks(&room, asked, &states[..=place]);
-                    assert_eq!(is_broken(standing), broken, "{asked:?}\n{}", echo(&room));
-                    assert!(!broken || matches!(verdicts[at], Verdict::Broken(_)));
-                    let how = match standing {
-                        Standing::Broken(_, end) => variant(end),
-                        _ => "open".to_string(),
-                    };
-                    *kinds.entry(variant(asked) + " " + &how).or_insert(0) += 1;
-                }
-            }
-        }
+        judged(&room, &mut draw, &mut kinds);
     }
     println!("{kinds:?}");
     // Seven kinds of questions, open or broken; an until in three ways.
     assert!(
-        kinds.len() == 16 && kinds.values().all(|&n| n > 20),
+        kinds.len() == 16 && kinds.values().all(|&count| count > 20),
         "{kinds:?}"
     );
+}
+
+/// The same of untils whose end can come, but not with what must hold up to it: half of the states are bad, and one is the end.
+#[test]
+fn walks_that_can_only_lose() {
+    let mut draw = Drawn(14);
+    let mut kinds = BTreeMap::new();
+    let mut barred = 0;
+    for mut room in rooms(14, 300) {
+        let states = room.all_states();
+        // The condition of more states would be too long for a formula.
+        if states.len() > 24 {
+            continue;
+        }
+        let comes = only(&room, states[draw.below(states.len())]);
+        let bad = states.iter().filter(|_| draw.below(2) == 0);
+        let bad = Cond::Any(bad.map(|&state| only(&room, state)).collect());
+        room.questions.truncate(1);
+        room.questions[0].asked = Asked::Until(Cond::Not(Box::new(bad.clone())), comes.clone());
+        judged(&room, &mut draw, &mut kinds);
+        let start = begins(&room, room.start);
+        let leads = |through: &dyn Fn(u32) -> bool| {
+            presses_to(&start, |state| room.holds(&comes, state), through).is_some()
+        };
+        let waits = !room.holds(&bad, room.start);
+        barred += usize::from(waits && leads(&|_| true) && !leads(&|s| !room.holds(&bad, s)));
+    }
+    println!("{kinds:?}, {barred} from the start on");
+    assert!(kinds.len() == 4 && barred > 5, "{kinds:?} {barred}");
+}
+
+/// Presses that are taken back leave nothing behind.
+#[test]
+fn presses_taken_back() {
+    let mut draw = Drawn(15);
+    let mut undone = 0;
+    for room in rooms(15, 200) {
+        let walk = Walk::new(&room);
+        let (judge, mut steps) = (Judge::new(&room, &walk), Steps::new(&room, &walk));
+        steps.begin(drawn_walk(&room, &mut draw, 1)[0]);
+        for _ in 0..40 {
+            let rule = &room.rules[draw.below(room.rules.len())];
+            match room.pressed(rule, steps.state()) {
+                Some(to) if draw.below(3) > 0 => steps.press((0, None), to),
+                _ => undone += usize::from(steps.undo().is_some()),
+            }
+            let found = standings(&judge, steps.states());
+            assert_eq!(Some(steps.standings()), found.last().map(Vec::as_slice));
+            assert_eq!(steps.states().len(), steps.place() + 1);
+        }
+    }
+    assert!(undone > 1_000, "{undone}");
 }
 
 /// A question that is said to be broken, and is safe by the library, is told.

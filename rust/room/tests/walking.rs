@@ -247,7 +247,8 @@ Nothing was broken on the way. That is no verdict: room without --walk gives one
     let printed = through(text, "quit\nmic\n:quit\n", true);
     let expected = "\
 A press by its name, the beginning of it, or its number; or: undo, restart, list, help, quit.
-Say in which state it begins, such as: quit on; or: all off. What is not named is off, a selector at its first position.
+Say in which state it begins, such as: quit on; or: all off.
+What is not named is off, a selector at its first position.
   !! \"never quit\" is broken here, at the start.
 
 at the start: quit, send = desk
@@ -333,6 +334,9 @@ fn broken_questions() {
             "{questions}\n{printed}\n{expected}"
         );
     }
+    // That presses go round is said once.
+    let printed = through(&room("not mic until song"), "lock, lock, lock, lock", false);
+    assert_eq!(printed.matches("repeated for ever").count(), 1, "{printed}");
     let text = "things: mic song\nstart: all off\npress MIC: mic on when not mic\npossible: song\nnot song until song\n";
     let expected = "  !! \"possible: song\" is broken here, at the start.\n     From there no presses lead to \"song\".\n  !! \"not song until \
                     song\" is broken here, at the start.\n     From there no presses lead to \"song\" with \"not song\" up to it.\n> MIC: mic on\nafter";
