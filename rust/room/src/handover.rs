@@ -76,7 +76,7 @@ fn answered(room: Room, plan: &Plan, options: &Options) -> Result<Answered, Stop
     Ok(Answered {
         comes: members(&walk.reached()).len() as u32,
         checked: compare::reached(&room, &walk, limits).map_err(differs)?,
-        rows: sheet::all_in_order(&answers).then_some(peak),
+        rows: sheet::all_in_order(&answers).then_some(peak.max(1)),
         notes: report::notes(&room, &walk),
         answers,
         limits,

@@ -164,10 +164,19 @@ fn answered_room(sheet: &Sheet, answered: &Answered, wanted: &Wanted) -> String 
         counted(room.states() as usize, "state", "states")
     );
     let rows = match answered.rows {
-        Some(rows) => format!("{} rows are enough, and no fewer", grouped(rows.max(1))),
+        Some(rows) => format!("{} rows are enough, and no fewer", grouped(rows)),
         None => "how many rows are enough is not known".to_string(),
     };
-    let mut html = facts(sheet, &[("States that can come", comes), ("Table", rows)]);
+    let library = match kudzuclamp::PROVED {
+        true => "proved; its answers are held against a plain walk through all states",
+        false => "quick build, NOT proved; its answers are held against a plain walk",
+    };
+    let more = [
+        ("States that can come", comes),
+        ("Table", rows),
+        ("Library", library.to_string()),
+    ];
+    let mut html = facts(sheet, &more);
     html += "<h3>Questions</h3>\n";
     for (question, answer) in room.questions.iter().zip(&answered.answers) {
         html += &asked(answered, question, answer, wanted);
@@ -183,16 +192,11 @@ fn answered_room(sheet: &Sheet, answered: &Answered, wanted: &Wanted) -> String 
     html
 }
 
-/// What the file is, and by which library it was asked.
+/// What the file is, and what is known besides.
 fn facts(sheet: &Sheet, more: &[(&str, String)]) -> String {
-    let library = match kudzuclamp::PROVED {
-        true => "proved; its answers are held against a plain walk through all states".to_string(),
-        false => "quick build, NOT proved; its answers are held against a plain walk".to_string(),
-    };
     let hash = sheet.hash.clone().unwrap_or("none".to_string());
     let mut list = vec![("File", sheet.name.clone()), ("SHA-256 of the file", hash)];
     list.extend_from_slice(more);
-    list.push(("Library", library));
     let mut html = "<dl class=\"facts\">\n".to_string();
     for (name, value) in list {
         html += &format!("{}{}\n", element("dt", "", name), element("dd", "", &value));
@@ -355,20 +359,25 @@ fn rule(name: &str, lines: &[(String, String)]) -> String {
     format!("<div>{html}</div>\n")
 }
 
-/// How to read the page, and what made it.
+/// How to read the page: the verdicts, the pictures, and what made it.
+const HOW: [&str; 3] = [
+    "SAFE: no presses break what is asked, or presses lead to what must be possible. BROKEN: the presses shown break it. AS EXPECTED: \
+     BROKEN, and the room file says so: a known fault, kept as a test. UNEXPECTED: that fault is gone. NO VERDICT: neither, and not \
+     known.",
+    "In a picture time goes to the right, a column for each press. A bar: on. A thin line: off. A box: where a selector stands. A \
+     dot: it has just changed. The framed column at the end is the moment that the question is about. Things that stay as they are \
+     are not drawn.",
+    "Rows are those of the table that the library needs for the questions of a room. A verdict is given only where the library and a \
+     plain walk through all states find the same. The SHA-256 is that of the room file: another file has another one.",
+];
+
 fn foot() -> String {
-    let how = "In a picture time goes to the right, a column for each press. A bar: on. A thin line: off. A box: where a selector \
-               stands. A dot: it has just changed. The framed column at the end is the moment that the question is about. Things \
-               that stay as they are are not drawn.";
     let made = format!(
-        "Made by room {} over the {} library. A verdict is given only where the library and a plain walk through all states find \
-         the same. The SHA-256 is that of the room file: another file has another one.",
+        "Made by room {} over the {} library.",
         env!("CARGO_PKG_VERSION"),
         library()
     );
-    format!(
-        "<footer>\n<h2>How to read this page</h2>\n{}\n{}\n</footer>\n",
-        element("p", "", how),
-        element("p", "", &made)
-    )
+    let texts = HOW.into_iter().chain([made.as_str()]);
+    let texts: String = texts.map(|text| element("p", "", text) + "\n").collect();
+    format!("<footer>\n<h2>How to read this page</h2>\n{texts}</footer>\n")
 }
