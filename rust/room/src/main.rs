@@ -1,4 +1,5 @@
 //! The command `room`.
+mod handover;
 mod options;
 mod walking;
 
@@ -97,6 +98,7 @@ fn run(options: &Options) -> Result<Outcome, Stop> {
                 ),
             }
         }
+        Mode::Sheet => handover::sheet(options),
         _ => match understood(&options.file) {
             Ok((room, plan)) => answer(&room, &plan, options),
             Err(says) => refuse(&says),
@@ -127,13 +129,17 @@ fn shown_name(name: &str) -> &str {
     }
 }
 
-/// The bytes of a file, or why there are none.
-fn contents(name: &str) -> Result<Vec<u8>, String> {
-    let read = match name {
+/// The bytes of a file.
+fn bytes_of(name: &str) -> io::Result<Vec<u8>> {
+    match name {
         "-" => limited(io::stdin()),
         _ => File::open(name).and_then(limited),
-    };
-    read.map_err(|error| format!("room: {} cannot be read: {error}\n", shown_name(name)))
+    }
+}
+
+/// The bytes of a file, or that there are none.
+fn contents(name: &str) -> Result<Vec<u8>, String> {
+    bytes_of(name).map_err(|error| format!("room: {} cannot be read: {error}\n", shown_name(name)))
 }
 
 /// All bytes, where they are not too many; no more of them are read.
@@ -150,13 +156,17 @@ fn limited(from: impl Read) -> io::Result<Vec<u8>> {
 
 /// The room in a file and its calls, or what is wrong with the file.
 fn understood(file: &str) -> Result<(Room, Plan), String> {
-    let (bytes, name) = (contents(file)?, shown_name(file));
-    let text = std::str::from_utf8(&bytes).map_err(|error| {
+    room_in(&contents(file)?, shown_name(file)).map_err(|(_, says)| says)
+}
+
+/// The room in the bytes of a file and its calls; or how many mistakes there are, and what they are.
+fn room_in(bytes: &[u8], name: &str) -> Result<(Room, Plan), (usize, String)> {
+    let text = std::str::from_utf8(bytes).map_err(|error| {
         let before = &bytes[..error.valid_up_to()];
         let line = 1 + before.iter().filter(|byte| **byte == b'\n').count();
-        format!("{name}, line {line}: this is no text (UTF-8)\n")
+        (1, format!("{name}, line {line}: this is no text (UTF-8)\n"))
     })?;
-    planned(text).map_err(|mistakes| refused(&mistakes, name, text))
+    planned(text).map_err(|mistakes| (mistakes.len(), refused(&mistakes, name, text)))
 }
 
 /// The room and its calls, or every mistake in the text.
@@ -209,11 +219,11 @@ fn ask(room: &Room, plan: &Plan, options: &Options) -> Result<Outcome, Stop> {
     for note in report::notes(room, &walk) {
         text += &format!("Note: {note}\n");
     }
-    text += &report::summary(&answers);
+    text += &report::summary(room, &answers);
     if options.peak {
         text += &report::rows_needed(room, &answers, questions.asker.peak);
     }
-    print(&(text + quick()), report::outcome(&answers))
+    print(&(text + quick()), report::outcome(room, &answers))
 }
 
 /// A line for builds whose library is not proved.
@@ -265,10 +275,10 @@ fn compare(before: &Room, after: &(Room, Plan), options: &Options) -> Result<Out
         shown_name(old.name),
         shown_name(new.name),
         diff::verdicts(&old, &new),
-        report::summary(&new_answers),
+        report::summary(new.room, &new_answers),
         quick()
     );
-    print(&text, report::outcome(&new_answers))
+    print(&text, report::outcome(new.room, &new_answers))
 }
 
 /// States that can come and what presses do, of two rooms with the same things, each held against the library.

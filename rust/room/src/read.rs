@@ -1,15 +1,17 @@
 //! What the words of a room file say.
 mod conditions;
+mod expected;
 mod presses;
 
 use crate::mistake::{similar, Mistake};
 use crate::room::{width_of, Asked, Named, Part, Question, Room, State, MAX_BITS};
 use crate::words::{self, Word, RESERVED};
+use expected::awaits_a_question;
 use std::collections::HashMap;
 
 /// The words that begin a line.
-const FIRST_WORDS: [&str; 8] = [
-    "things", "selector", "start", "press", "never", "always", "possible", "whenever",
+const FIRST_WORDS: [&str; 9] = [
+    "things", "selector", "start", "press", "never", "always", "possible", "whenever", "expect",
 ];
 
 /// What a line's reading gives; a line that is given up has told its mistake already.
@@ -146,7 +148,8 @@ impl<'a> Reader<'a> {
         let mut from = 0;
         for at in 1..words.len() {
             let new_line = words[at].line > words[at - 1].line;
-            if new_line && begins_a_line(&words[at..]) && words[at - 1].text != "always" {
+            let begins = begins_a_line(&words[at..]) && !awaits_a_question(&words[from..at]);
+            if new_line && begins && words[at - 1].text != "always" {
                 let says = format!(
                     "\"{}\" begins a line of its own, at the left edge: take the blanks before it away",
                     words[at].text
@@ -172,6 +175,7 @@ impl<'a> Reader<'a> {
             "always" => self.always_possible(&mut line),
             "possible" => self.possible(&mut line),
             "whenever" => self.whenever(&mut line),
+            "expect" => self.expect(&mut line),
             _ if second == "means" => self.means(&mut line),
             _ if line.words.iter().any(|word| word.text == "whenever") => self.works(&mut line),
             _ if (line.words.iter()).any(|word| joins_two(&word.text.to_lowercase())) => {
@@ -245,7 +249,7 @@ impl<'a> Reader<'a> {
                 return self.wrong(second, not_understood(second.text, "means"));
             }
         }
-        let says = "a line begins with things, selector, start, press, never, possible, always possible or whenever, or it is \
+        let says = "a line begins with things, selector, start, press, never, possible, always possible, whenever or expect, or it is \
                     \"NAME means ...\", \"... until ...\", \"... unless ...\" or \"BUTTON works whenever ...\"";
         self.wrong(&first, says.to_string())
     }
@@ -510,7 +514,11 @@ impl<'a> Reader<'a> {
     fn question(&mut self, line: &Line, asked: Asked) -> Read<()> {
         self.end(line)?;
         let line = line.words[0].line;
-        self.room.questions.push(Question { line, asked });
+        self.room.questions.push(Question {
+            line,
+            asked,
+            expect_broken: false,
+        });
         Ok(())
     }
 }

@@ -2,6 +2,7 @@
 use crate::ask::{press, Answer, Difference, Limits, Verdict};
 use crate::changes;
 use crate::echo::{self, grouped};
+use crate::finding::{findings, worst, Finding};
 use crate::room::{Asked, Question, Room, Rule};
 use crate::walk::{members, End, Run, Walk};
 use crate::{orders, sense};
@@ -27,15 +28,12 @@ impl Outcome {
     }
 }
 
-/// The worst outcome of all verdicts: broken, else no verdict, else safe.
-pub fn outcome(answers: &[Answer]) -> Outcome {
-    let is = |wanted: fn(&Verdict) -> bool| answers.iter().any(|answer| wanted(&answer.verdict));
-    if is(|verdict| matches!(verdict, Verdict::Broken(_))) {
-        Outcome::Broken
-    } else if is(|verdict| matches!(verdict, Verdict::None(_))) {
-        Outcome::NoVerdict
-    } else {
-        Outcome::Safe
+/// The worst outcome of all verdicts: not as it should be, else no verdict, else safe.
+pub fn outcome(room: &Room, answers: &[Answer]) -> Outcome {
+    match worst(&findings(room, answers)) {
+        Finding::Broken | Finding::Unexpected => Outcome::Broken,
+        Finding::NoVerdict => Outcome::NoVerdict,
+        Finding::Safe | Finding::AsExpected => Outcome::Safe,
     }
 }
 
@@ -47,25 +45,31 @@ pub fn verdict(
     limits: Limits,
     whole: bool,
 ) -> String {
+    let found = Finding::new(question, verdict);
     let asked = echo::asked(room, &question.asked);
+    let mut text = format!("{:<12}{}{asked}\n", found.word(), found.verdict());
+    if found == Finding::Unexpected {
+        text += &format!("            {}\n", gone(question));
+    }
     match verdict {
-        Verdict::Safe(None) => format!("SAFE        {asked}\n"),
-        Verdict::Safe(Some(run)) => format!(
-            "SAFE        {asked}\n{}",
-            shown(room, &question.asked, run, whole)
-        ),
-        Verdict::Broken(run) => format!(
-            "BROKEN      {asked}\n{}",
-            shown(room, &question.asked, run, whole)
-        ),
-        Verdict::None(refusal) => format!(
-            "NO VERDICT  {asked}\n            {}\n",
-            cause(*refusal, limits)
-        ),
+        Verdict::Safe(None) => text,
+        Verdict::Safe(Some(run)) | Verdict::Broken(run) => {
+            text + &shown(room, &question.asked, run, whole)
+        }
+        Verdict::None(refusal) => text + &format!("            {}\n", cause(*refusal, limits)),
     }
 }
 
-fn cause(refusal: Refusal, limits: Limits) -> String {
+/// What to do where a fault that is expected is not there.
+pub fn gone(question: &Question) -> String {
+    format!(
+        "Line {} expects it to be BROKEN: that fault is gone. If it is mended, take \"expect BROKEN:\" away.",
+        question.line
+    )
+}
+
+/// Why there is no verdict.
+pub fn cause(refusal: Refusal, limits: Limits) -> String {
     match refusal {
         Refusal::Full => format!(
             "The table is full: a step needs more than its {} rows. Not safe, not broken: unknown.{}",
@@ -97,8 +101,7 @@ fn shown(room: &Room, asked: &Asked, run: &Run, whole: bool) -> String {
         let change = changes::said(room, run.states[at], run.states[at + 1]);
         line(&(at + 1).to_string(), names[at], &change)
     };
-    let farthest = room.any_start && matches!(asked, Asked::Possible(_));
-    let mut text = format!("  {}\n", introduction(run, presses, farthest));
+    let mut text = format!("  {}\n", introduction(room, asked, run));
     text += &state("start", 0);
     let hidden = match whole || presses <= FIRST_STEPS + LAST_STEPS {
         true => presses..presses,
@@ -117,7 +120,10 @@ fn shown(room: &Room, asked: &Asked, run: &Run, whole: bool) -> String {
     text + &closing(room, asked, run.end)
 }
 
-fn introduction(run: &Run, presses: usize, farthest: bool) -> String {
+/// The line above a run.
+pub fn introduction(room: &Room, asked: &Asked, run: &Run) -> String {
+    let presses = run.states.len() - 1;
+    let farthest = room.any_start && matches!(asked, Asked::Possible(_));
     let from = match farthest && run.end == End::Reached {
         true => " from the start that is farthest from there",
         false => "",
@@ -134,7 +140,7 @@ fn introduction(run: &Run, presses: usize, farthest: bool) -> String {
 }
 
 /// What is wrong at the end of a run, where the question does not say it by itself.
-pub(crate) fn closing(room: &Room, asked: &Asked, end: End) -> String {
+pub fn closing(room: &Room, asked: &Asked, end: End) -> String {
     let mut conds = asked.conditions().into_iter();
     let mut said = || conds.next().map_or(String::new(), |c| echo::cond(room, c));
     let (first, second, third) = (said(), said(), said());
@@ -201,27 +207,34 @@ pub fn heading(room: &Room) -> String {
 }
 
 /// The last line.
-pub fn summary(answers: &[Answer]) -> String {
-    let count = |wanted: fn(&Verdict) -> bool| {
-        (answers.iter())
-            .filter(|answer| wanted(&answer.verdict))
-            .count()
+pub fn summary(room: &Room, answers: &[Answer]) -> String {
+    let found = findings(room, answers);
+    let count = |wanted: Finding| found.iter().filter(|finding| **finding == wanted).count();
+    let (worst, of) = (worst(&found), answers.len());
+    let said = match (worst, count(worst)) {
+        (Finding::Safe, 1) => return "SAFE.\n".to_string(),
+        (Finding::Safe, _) => return format!("SAFE: all {of} questions.\n"),
+        (Finding::AsExpected, broken) if broken < of => {
+            return format!("AS EXPECTED: {broken} of {of} questions BROKEN, the others SAFE.\n")
+        }
+        (Finding::AsExpected, _) => return "AS EXPECTED: BROKEN.\n".to_string(),
+        (Finding::Unexpected, gone) => format!("{gone} of {of} questions{GONE}"),
+        (_, bad) => format!("{bad} of {of} questions"),
     };
-    let broken = count(|verdict| matches!(verdict, Verdict::Broken(_)));
-    let none = count(|verdict| matches!(verdict, Verdict::None(_)));
-    let of = answers.len();
-    match outcome(answers) {
-        Outcome::Safe if of == 1 => "SAFE.\n".to_string(),
-        Outcome::Safe => format!("SAFE: all {of} questions.\n"),
-        Outcome::Broken if none == 0 => {
-            format!("BROKEN: {broken} of {of} questions. Do not hand over.\n")
-        }
-        Outcome::Broken => {
-            format!("BROKEN: {broken} of {of} questions, and {none} without a verdict. Do not hand over.\n")
-        }
-        _ => format!("NO VERDICT: {none} of {of} questions. Do not hand over.\n"),
-    }
+    let also = |wanted: Finding, says: &str| match count(wanted) {
+        number if number > 0 && wanted < worst => format!(", and {number}{says}"),
+        _ => String::new(),
+    };
+    format!(
+        "{}: {said}{}{}. Do not hand over.\n",
+        worst.word(),
+        also(Finding::Unexpected, GONE),
+        also(Finding::NoVerdict, " without a verdict")
+    )
 }
+
+/// Said of a known fault that is not there.
+const GONE: &str = " SAFE and expected BROKEN";
 
 /// How many rows are enough, where every question has its verdict in the file's order; else, which have none.
 pub fn rows_needed(room: &Room, answers: &[Answer], peak: u32) -> String {

@@ -293,8 +293,8 @@ impl<'a> Stepper<'a> {
 
     /// A question, by its place, in quotes.
     fn quoted(&self, question: usize) -> String {
-        let asked = &self.room.questions[question].asked;
-        format!("\"{}\"", echo::asked(self.room, asked))
+        let question = &self.room.questions[question];
+        format!("\"{}\"", echo::question(self.room, question))
     }
 
     /// The questions that are broken in this place: those that were not in the place before, with the reason, and those that still

@@ -46,14 +46,15 @@ pub fn walk(room: &Room, plan: &Plan, options: &Options) -> Result<Outcome, Stop
     }
     let blank = if typing { "\n" } else { "" };
     written(&(blank.to_string() + &stepper.end() + quick()))?;
-    Ok(outcome(&stepper, typing))
+    Ok(outcome(room, &stepper, typing))
 }
 
-/// A line that was not understood counts where nobody could see it and type it anew.
-fn outcome(stepper: &Stepper, typing: bool) -> Outcome {
-    match (stepper.mistakes(), stepper.broken()) {
-        (1.., _) if !typing => Outcome::BadFile,
-        (_, []) => Outcome::Safe,
+/// A line that was not understood counts where nobody could see it and type it anew. A fault that the file expects does not count.
+fn outcome(room: &Room, stepper: &Stepper, typing: bool) -> Outcome {
+    let expected = |&place: &usize| room.questions[place].expect_broken;
+    match stepper.mistakes() {
+        1.. if !typing => Outcome::BadFile,
+        _ if stepper.broken().iter().all(expected) => Outcome::Safe,
         _ => Outcome::Broken,
     }
 }

@@ -631,7 +631,7 @@ fn command_lines() {
         (&["hall.room", "mended.room"], "one file at a time"),
         (
             &["--echo", "--records", "hall.room"],
-            "one of --echo, --records, --explain, --diff and --walk at a time",
+            "one of --echo, --records, --explain, --diff, --sheet and --walk at a time",
         ),
         (&["--diff"], "no file is named"),
         (

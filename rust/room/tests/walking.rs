@@ -55,6 +55,17 @@ fn through(room: &str, lines: &str, typing: bool) -> String {
     text.split_once('\n').unwrap().1.to_string()
 }
 
+/// A fault that the file expects is told on the way, and does not count.
+#[test]
+fn expected_faults() {
+    let (printed, errors, status) = walk("stage.room", b"mic, filter, monitors, up, up, blink\n");
+    assert_eq!((errors.as_str(), status), ("", 0));
+    let here = "  !! \"expect BROKEN: never howl\" is broken here, after 6 presses.\n";
+    assert!(printed.contains(here), "{printed}");
+    let last = "Broken on the way: \"expect BROKEN: never howl\".\n";
+    assert!(printed.ends_with(last), "{printed}");
+}
+
 /// The hall's presses into the howl, as examples/README.md shows them.
 #[test]
 fn the_hall() {
