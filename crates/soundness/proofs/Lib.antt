@@ -12,3 +12,4 @@ pub mod Contained
 pub mod Masks
 pub mod CellsLaws
 pub mod TablesLaws
+pub mod ListsLaws
