@@ -13,3 +13,5 @@ pub mod Masks
 pub mod CellsLaws
 pub mod TablesLaws
 pub mod ListsLaws
+pub mod LaidLaws
+pub mod WalkLaws

@@ -1,6 +1,6 @@
 -- What the check of registers and relations against V asks and tells: to lie within V is to be apart from NOT V. Assumes nothing.
 use mathlib.Core.Path.{_≡_}
-use mathlib.Core.List.{List, List·Memᴰ·head as here}
+use mathlib.Core.List.{List}
 use mathlib.Core.Bool.{Bool, true, false}
 use Prim.Native.Nat.{ℕ, suc, _+_, _-_, _*_, _≤_, _<_}
 use lib.ListN.{length}
@@ -8,7 +8,7 @@ use Rattle.diagram.specs.Rows.{Rows, Arrow, levelOf, follow}
 use Rattle.diagram.specs.Even.{ReadsOn, even}
 use Rattle.layout.specs.Places.{HEADER, BITS, USED, FIRST-REGISTER, FIRST-RELATION, ROOTS-END}
 use Rattle.layout.specs.View.{View}
-use Rattle.layout.specs.Arrows.{isRow, rowOf}
+use Rattle.layout.specs.Arrows.{rowOf}
 use Rattle.rows.specs.Used.{rowsOf}
 use Rattle.rows.specs.Says.{Says}
 use Rattle.rows.specs.Within.{denOf}

@@ -102,7 +102,7 @@ halfBy true false h a = a
 halfBy false e h a = a
 
 -- the half of arrow a where level l, at most its own, is 0 (k is LOW) or 1 (k is HIGH)
-abbrev pub halfOf : View → ℕ → ℕ → ℕ → ℕ
+unfoldable pub halfOf : View → ℕ → ℕ → ℕ → ℕ
 halfOf W l k a = halfBy (isRow a) (eqb (W .cell (rowOf a) LEVEL) l) (carry (marked a) (W .cell (rowOf a) k)) a
 
 -- h is such a half of an arrow that stands between two places of a list

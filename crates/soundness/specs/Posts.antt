@@ -2,16 +2,13 @@
 -- view. Assumes nothing.
 use mathlib.Core.Path.{_≡_}
 use mathlib.Core.List.{List}
-use mathlib.Core.Bool.{Bool, true}
-use Prim.Native.Nat.{ℕ, _*_, _≤_, _<_}
+use Prim.Native.Nat.{ℕ, _+_, _*_, _≤_, _<_}
 use lib.ListN.{length}
 use Rattle.diagram.specs.Rows.{row, levelOf}
 use Rattle.layout.specs.Places.{HEADER, wordsFor, BITS, ROWS, LAYOUT, CURRENT, RANK}
 use Rattle.layout.specs.View.{view, headerOf, cellOf}
-use Rattle.layout.specs.Arrows.{isRow}
 use Rattle.rows.specs.Used.{Sizes, rowsOf}
 use Rattle.rows.specs.Roots.{Ref}
-use Rattle.rows.specs.Sound.{Good}
 use Rattle.soundness.specs.Cells.{Tabled}
 use Rattle.soundness.specs.Contained.{MANY}
 use Rattle.soundness.specs.Lists.{ROOM, FOUND}

@@ -169,11 +169,12 @@ fn known(memo: &[u32], shift: u32, a: u32, b: u32) -> bool
     seen(memo, a, b)
 }
 
-// Whether an arrow stands at place k of a list.
-fn stands(list: &[u32], k: usize, from: usize, to: usize, a: u32) -> bool
+// Whether an arrow stands at a place of a list.
+fn stands(list: &[u32], at: u32, from: usize, to: usize, a: u32) -> bool
     requires { ⌜ to ≤ length (now list) ⌝ }
-    ensures { λ r. ⌜ (r ≡ true → ((from ≤ k) × (k < to) × (getD (now (list .entry)) k 0 ≡ a))) ⌝ }
+    ensures { λ r. ⌜ (r ≡ true → ((from ≤ at) × (at < to) × (getD (now (list .entry)) at 0 ≡ a))) ⌝ }
 {
+    let k = at as usize;
     if k < from {
         return false;
     }
@@ -202,7 +203,7 @@ fn push(list: &mut [u32], found: &mut [u32], from: usize, to: usize, a: u32) -> 
         return to;
     }
     let h = slot(a);
-    if stands(list, found[h] as usize, from, to, a) {
+    if stands(list, found[h], from, to, a) {
         return to;
     }
     list[to] = a;
@@ -247,7 +248,8 @@ fn keep_all_open(
     let mut m = from;
     let mut k = from;
     while k < to {
-        m = keep_open(shift, b, m, list[k], list, memo);
+        let a = list[k];
+        m = keep_open(shift, b, m, a, list, memo);
         k += 1;
     }
     m
@@ -330,13 +332,8 @@ fn halves(
     let mut stop = end;
     let mut k = from;
     while k < to {
-        stop = push(
-            list,
-            found,
-            start,
-            stop,
-            half(words, rows, level, side, list[k]),
-        );
+        let h = half(words, rows, level, side, list[k]);
+        stop = push(list, found, start, stop, h);
         k += 1;
     }
     stop

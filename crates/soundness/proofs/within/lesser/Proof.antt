@@ -1,0 +1,16 @@
+-- `lesser` meets its contract: an arrow's level is its row's, and everything is past all levels. Assumes nothing.
+use native.Mathlib.Omega.{arith}
+use borrow.Author.Needs.{needs}
+use Rattle.layout.specs.View.{view}
+use Rattle.soundness.proofs.Contained.{is-row, row-at, level-read}
+use Rattle.soundness.proofs.ListsLaws.{lesser-all}
+use Rattle.soundness.proofs.within.lesser.Statement.{statement}
+use Rattle.soundness.proofs.within.lesser.Tie as tie
+use Rattle.soundness.proofs.within.lesser.Reads as reads
+use Rattle.soundness.proofs.within.lesser.Lts as lts
+use Rattle.layout.proofs.get.Reads as get-reads
+use Rattle.layout.proofs.row_of.Reads as row-of-reads
+
+
+pub lesser-spec : {M : Type 1} → statement M
+lesser-spec = tie.close (tie.spec (λ c. lesser-all (view (c .before .before .args .rows) (c .before .before .args .words .now)) (c .if1 .taken) (c .before .before .pre .2)) (λ c κs. is-row _ (c .before .before .pre .1 .some) (c .if1 .left)) (λ c κs. let r = row-at (view (c .before .before .before .args .rows) (c .before .before .before .args .words .now)) _ (c .before .before .before .pre .0) (c .before .before .before .pre .1 .arrow) (is-row _ (c .before .before .before .pre .1 .some) (c .before .if1 .left)) in let h = r .row in let e = c .row-of .ensures in (omega arith, omega arith, c .before .before .before .pre .0 .sizes .room)) (λ c. let z = level-read (view (c .before .before .before .before .before .args .rows) (c .before .before .before .before .before .args .words .now)) _ (c .before .before .before .before .before .pre .0) (c .before .before .before .before .before .pre .1 .arrow) (is-row _ (c .before .before .before .before .before .pre .1 .some) (c .before .before .before .if1 .left)) (c .before .before .row-of .ensures) (c .before .get .ensures) in let t = c .if2 .taken in omega arith) (λ c. let z = level-read (view (c .before .before .before .before .before .args .rows) (c .before .before .before .before .before .args .words .now)) _ (c .before .before .before .before .before .pre .0) (c .before .before .before .before .before .pre .1 .arrow) (is-row _ (c .before .before .before .before .before .pre .1 .some) (c .before .before .before .if1 .left)) (c .before .before .row-of .ensures) (c .before .get .ensures) in let t = c .if2 .left in omega arith))
