@@ -149,7 +149,8 @@ lists-new {W} {s} {xs = xs} p e = record {
 }
 
 -- a list of zeros has no wrong table of a row
-pub refs-asked : {W : View} {s start stop b : ℕ} (n : ℕ) → RootsPre W s start stop b → W .header USED ≤ n → RefsPre W s start stop b (replicate n 0)
+pub refs-asked : {W : View} {s start stop b : ℕ} (n : ℕ) → RootsPre W s start stop b → W .header USED ≤ n
+    → RefsPre W s start stop b (replicate n 0)
 refs-asked {W} n p h =
     record { roots = p; room = let z = length-replicate {A = ℕ} n 0 in omega arith; first = known-none n W }
 

@@ -94,15 +94,15 @@ module _ {W : View} {s l b top b0 b1 : ℕ} {list found : List ℕ} {from to end
   laid-whole {list1} {list2} {m} {mid} {stop} lt x y o0 o1 o2 o3 =
       let e = h .past lt in
       let q : Half (2 * W .header BITS) (rowsOf W) s l b b b =
-          subst (λ (z : ℕ). Half (2 * W .header BITS) (rowsOf W) s l b z b) (e .0)
-          (subst (λ (z : ℕ). Half (2 * W .header BITS) (rowsOf W) s l b b0 z) (e .1) second-half) in
+      subst (λ (z : ℕ). Half (2 * W .header BITS) (rowsOf W) s l b z b) (e .0)
+      (subst (λ (z : ℕ). Half (2 * W .header BITS) (rowsOf W) s l b b0 z) (e .1) second-half) in
       let all : ListApart W s list from to b → ListApart W s list2 end stop b =
-          (λ f j lo hi. by-cases (decLt j m)
-          (λ u. low-apart p x y q f j lo u) (λ u. high-apart p x y q f j (omega arith) hi)) in
+      (λ f j lo hi. by-cases (decLt j m)
+      (λ u. low-apart p x y q f j lo u) (λ u. high-apart p x y q f j (omega arith) hi)) in
       let one : ListApart W s list2 end mid b → ListApart W s list2 mid stop b
-          → (a : ℕ) → Among list2 end stop a → Apart (2 * W .header BITS) (rowsOf W) s a b =
-          (λ f g a k. rw (sym (k .is)) (by-cases (decLt (k .at) mid)
-          (λ u. f (k .at) (k .lo) u) (λ u. g (k .at) (omega arith) (k .hi)))) in
+      → (a : ℕ) → Among list2 end stop a → Apart (2 * W .header BITS) (rowsOf W) s a b =
+      (λ f g a k. rw (sym (k .is)) (by-cases (decLt (k .at) mid)
+      (λ u. f (k .at) (k .lo) u) (λ u. g (k .at) (omega arith) (k .hi)))) in
       record {
         half = second-half;
         order = (o0, o1, o2, o3);

@@ -22,8 +22,8 @@ use Rattle.soundness.proofs.ApartLaws.{apart-not, half-past, half-here}
 use Rattle.soundness.specs.Pairs.{Right, Puts}
 use Rattle.soundness.proofs.PairsLaws.{seen-apart, right-puts}
 use Rattle.soundness.proofs.Contained.{row-at}
-use Rattle.soundness.specs.Lists.{Same, Among, ListApart, Listed, AllListed, Pushed, Told, KeptOne, left-out, put, KeptOpen, StaysRight}
-use Rattle.soundness.specs.Lists.{Least, halfBy, halfOf, Halves, RefsListed}
+use Rattle.soundness.specs.Lists.{Same, Among, ListApart, Listed, AllListed, Pushed, Told, KeptOne, left-out, put}
+use Rattle.soundness.specs.Lists.{KeptOpen, StaysRight, Least, halfBy, halfOf, Halves, RefsListed}
 
 -- words that are as they were
 pub among-same : {list list′ : List ℕ} {start stop stop′ end a : ℕ} → Same list list′ 0 end → stop ≤ end → stop ≤ stop′
@@ -150,7 +150,7 @@ pub least-more : {W : View} {list : List ℕ} {start k top r r′ a : ℕ} → L
 least-more {W} {list} {start} {k} {top} {r} {r′} {a} p h e q =
     let n = p .most in
     let e′ : levelOf (2 * W .header BITS) (rowsOf W) (getD list k 0) ≡ levelOf (2 * W .header BITS) (rowsOf W) a =
-        ap (levelOf (2 * W .header BITS) (rowsOf W)) (sym e) in
+    ap (levelOf (2 * W .header BITS) (rowsOf W)) (sym e) in
     record {
       most = omega arith;
       each = λ j lo hi. by-cases (decLt j k)
@@ -214,7 +214,7 @@ half-is {W} {l} {a} g h p = by (isRow a) refl
     by : (x : Bool) → isRow a ≡ x → Half (2 * W .header BITS) (rowsOf W) 0 l a (halfOf W l LOW a) (halfOf W l HIGH a)
     by false e =
         let z : levelOf (2 * W .header BITS) (rowsOf W) a ≡ 2 * W .header BITS =
-            ap (levelTo (2 * W .header BITS) (rowsOf W)) (no-row-leads a e) in
+        ap (levelTo (2 * W .header BITS) (rowsOf W)) (no-row-leads a e) in
         rw (half-stays W l LOW a e, half-stays W l HIGH a e) (half-past (g .rows) 0 l a (p .arrow) (omega arith))
     by true e =
         let r = row-at W a g (p .arrow) e in
@@ -265,8 +265,8 @@ pub halves-listed : {W : View} {l k start i into end r stop : ℕ} {list list′
     → AllListed W l list start stop → start ≤ i → i < stop → stop ≤ end → Listed W 0 (getD list′ i 0)
 halves-listed {i = i} p f lo hi h = rw (p .kept i (omega arith) (omega arith)) (listed-from (f i lo hi))
 
-pub halves-done : {W : View} {l k start i stop into end r : ℕ} {list list′ : List ℕ} → Halves W l k list list′ start i into end r → i ≤ stop
-    → stop ≤ i → Halves W l k list list′ start stop into end r
+pub halves-done : {W : View} {l k start i stop into end r : ℕ} {list list′ : List ℕ} → Halves W l k list list′ start i into end r
+    → i ≤ stop → stop ≤ i → Halves W l k list list′ start stop into end r
 halves-done {W} {l} {k} {start} {i} {stop} {into} {end} {r} {list} {list′} p h g =
     let z : i ≡ stop = omega arith in subst (λ (x : ℕ). Halves W l k list list′ start x into end r) z p
 

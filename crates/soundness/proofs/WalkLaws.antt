@@ -29,8 +29,8 @@ use Rattle.soundness.specs.Lists.{LayPre, Laid, TablesPre, TablesPost, W
 use Rattle.soundness.proofs.ListsLaws.{apart-same, listed-same, same-back, listed-from, kept-listed, kept-forth, kept-back}
 
 -- by tables: what is asked of an arrow's and of b's, and what they tell
-pub table-first : {W : View} {s base b from to a k : ℕ} {list xs ys xs′ : List ℕ} → TablesPre W s base b list from to xs ys → from ≤ k → k < to
-    → a ≡ getD list k 0 → length xs′ ≡ length xs → Known W base s 0 xs′ → TablePre W base s 0 a xs′
+pub table-first : {W : View} {s base b from to a k : ℕ} {list xs ys xs′ : List ℕ} → TablesPre W s base b list from to xs ys
+    → from ≤ k → k < to → a ≡ getD list k 0 → length xs′ ≡ length xs → Known W base s 0 xs′ → TablePre W base s 0 a xs′
 table-first {k = k} p lo hi e z f =
     let n = p .good .sizes .n-max in
     let h = p .lists .last in
@@ -45,7 +45,8 @@ table-first {k = k} p lo hi e z f =
       arrow = rw e (p .arrows k lo hi);
     }
 
-pub table-second : {W : View} {s base b from to : ℕ} {list xs ys : List ℕ} → TablesPre W s base b list from to xs ys → SetsPre W base s b ys
+pub table-second : {W : View} {s base b from to : ℕ} {list xs ys : List ℕ} → TablesPre W s base b list from to xs ys
+    → SetsPre W base s b ys
 table-second p =
     let n = p .good .sizes .n-max in
     let h = p .lists .last in
@@ -57,7 +58,8 @@ table-second p =
     }
 
 pub by-tables : {W : View} {s base b from to a x y : ℕ} {list xs ys xs′ ys′ : List ℕ} {r : Bool} → TablesPre W s base b list from to xs ys
-    → TablePost W base s 0 a x xs′ → SetsPost W base s b y ys′ → Says (Disjoint x y) r → Says (Apart (2 * W .header BITS) (rowsOf W) s a b) r
+    → TablePost W base s 0 a x xs′ → SetsPost W base s b y ys′ → Says (Disjoint x y) r
+    → Says (Apart (2 * W .header BITS) (rowsOf W) s a b) r
 by-tables {W} {s} {base} {b} p f g d =
     let h = p .lists .last in
     let n = p .shift in
@@ -72,6 +74,10 @@ pub apart-more : {s start k a b : ℕ} (W : View) (list : List ℕ) → ListApar
 apart-more {s} {start} {k} {a} {b} W list p e q j lo hi = by-cases (decLt j k)
     (λ u. p j lo u)
     (λ u. let z : j ≡ k = omega arith in rw (z, sym e) q)
+
+before-base : {base : ℕ} (W : View) (b : ℕ) → (Deep W base b → ⊥) → levelOf (2 * W .header BITS) (rowsOf W) b < base
+before-base {base} W b d = by-cases (decLt (levelOf (2 * W .header BITS) (rowsOf W) b) base) (λ h. h)
+    (λ h. absurd (d (record { level = omega arith })))
 
 -- the walk where nothing is laid
 module _ {W : View} {s base level b from to end : ℕ} {list found memo xs ys : List ℕ}
@@ -129,7 +135,7 @@ module _ {W : View} {s base level b from to end : ℕ} {list found memo xs ys : 
       let x = p .lists .room .0 in
       let w = p .asks .lists .last in
       let sh = p .asks .shift in
-      let n : levelOf (2 * W .header BITS) (rowsOf W) b < base = not-deep d in
+      let n = before-base W b d in
       record {
         good = p .asks .good;
         each = kept-listed k (λ j lo hi. listed-from (p .lists .each j lo hi));
@@ -137,10 +143,6 @@ module _ {W : View} {s base level b from to end : ℕ} {list found memo xs ys : 
         within = omega arith;
         most = omega arith;
       }
-    where
-      not-deep : (Deep W base b → ⊥) → levelOf (2 * W .header BITS) (rowsOf W) b < base
-      not-deep d = by-cases (decLt (levelOf (2 * W .header BITS) (rowsOf W) b) base) (λ h. h)
-          (λ h. absurd (d (record { level = omega arith })))
 
   pub lay-asked : {last top l : ℕ} {list1 : List ℕ} → isRow b ≡ true → (Deep W base b → ⊥) → KeptOpen memo s b list list1 from to last
       → top ≡ levelOf (2 * W .header BITS) (rowsOf W) b + s → length list1 ≡ length list → Least W list1 from last top l
@@ -156,13 +158,11 @@ module _ {W : View} {s base level b from to end : ℕ} {list found memo xs ys : 
       let n16 = p .asks .good .sizes .n-max in
       let sh = p .asks .shift in
       let bel = p .below in
-      let n : levelOf (2 * W .header BITS) (rowsOf W) b < base =
-          by-cases (decLt (levelOf (2 * W .header BITS) (rowsOf W) b) base) (λ h. h) (λ h. absurd (d (record { level = omega arith }))) in
+      let n = before-base W b d in
       let t = q .most in
       let own = kept-listed k (p .lists .each) in
       let above : level ≤ l = q .low level (omega arith) own in
-      let below : l ≤ 22 = omega arith in
-      (
+      let below : l ≤ 22 = omega arith in (
         record {
           lists = record {
             good = p .asks .good;
@@ -212,8 +212,7 @@ module _ {W : View} {s base level b from to end last l b0 b1 mid stop : ℕ} {li
       let v = p .below in
       let y = p .pre .room in
       let x = p .pre .lists .room in
-      let d = p .laid .half .low-deeper in
-      (
+      let d = p .laid .half .low-deeper in (
         omega arith,
         record {
           asks = p .pre .asks;
@@ -268,8 +267,7 @@ module _ {W : View} {s base level b from to end last l b0 b1 mid stop : ℕ} {li
         let v = p .below in
         let y = p .pre .room in
         let x = p .pre .lists .room in
-        let d = p .laid .half .high-deeper in
-        (
+        let d = p .laid .half .high-deeper in (
           omega arith,
           record {
             asks = asks-on (p .pre .asks) zm zx zy (t .tells);
@@ -305,8 +303,8 @@ module _ {W : View} {s base level b from to end last l b0 b1 mid stop : ℕ} {li
           let o1 = o .1 in
           let m = p .kept .most in
           let q : ListApart W s list1 from last b =
-              p .laid .back (says-pass e (t .tells .says))
-              (apart-same W list3 list2 (same-back list2 list3 (t .between)) (says-pass e1 (t1 .tells .says))) in
+          p .laid .back (says-pass e (t .tells .says))
+          (apart-same W list3 list2 (same-back list2 list3 (t .between)) (says-pass e1 (t1 .tells .says))) in
           back-to list4 since-both (record {
             says = holds (kept-back W (p .kept) (p .pre .asks .right) q);
             right = h .right (2 * W .header BITS) (rowsOf W) s
@@ -316,8 +314,8 @@ module _ {W : View} {s base level b from to end last l b0 b1 mid stop : ℕ} {li
           })
 
 -- the walk of the roots' arrows
-pub walk-asked : {W : View} {s start stop b base r : ℕ} {xs list found : List ℕ} → RefsPre W s start stop b xs → base ≡ 2 * W .header BITS - 10
-    → RefsListed (W .header) list start stop r → length list ≡ ROOM → length found ≡ FOUND
+pub walk-asked : {W : View} {s start stop b base r : ℕ} {xs list found : List ℕ} → RefsPre W s start stop b xs
+    → base ≡ 2 * W .header BITS - 10 → RefsListed (W .header) list start stop r → length list ≡ ROOM → length found ≡ FOUND
     → WalkPre W s base 0 b list found 0 r r (replicate PAIR-WORDS 0) xs (replicate SETS 0)
 walk-asked {W} {list = list} p e q z zf =
     let m = q .most in
@@ -350,8 +348,8 @@ walk-asked {W} {list = list} p e q z zf =
       room = omega arith;
     }
 
-pub refs-told : {W : View} {s start stop b base r : ℕ} {list list′ memo xs ys : List ℕ} {k : Bool} → RefsListed (W .header) list start stop r
-    → WalkTold W s base b list list′ 0 r r memo xs ys k → Says (AllApart W s start stop b) k
+pub refs-told : {W : View} {s start stop b base r : ℕ} {list list′ memo xs ys : List ℕ} {k : Bool}
+    → RefsListed (W .header) list start stop r → WalkTold W s base b list list′ 0 r r memo xs ys k → Says (AllApart W s start stop b) k
 refs-told {W} {s} {b = b} {list = list} q t = says-map
     (λ f h lo hi a e. by-cases (ℕ-discrete a 0) (λ z. zero-left _ _ z)
     (λ n. let i = q .all h lo hi (λ z. omega arith) in

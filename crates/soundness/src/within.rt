@@ -1,5 +1,9 @@
 // Whether registers lie within the set V of states that exist, and relations within V and SHIFT of V.
-// Nothing is written but local lists of pairs and tables.
+// Nothing is written but local lists of arrows, pairs and tables.
+use super::arrows::keep_all_open;
+use super::arrows::push;
+use super::arrows::push_ref;
+use super::arrows::remember_all;
 use super::tables::arrow_cells;
 use super::tables::disjoint;
 use super::tables::set_cells;
@@ -12,97 +16,55 @@ use layout::row_of;
 ghost use mathlib.Core.Path.{_≡_};
 ghost use mathlib.Core.Bool.{true};
 ghost use Prim.Native.Nat.{_*_, _+_, _-_, _≤_, _<_, min};
-ghost use lib.ListN.{length, getD};
+ghost use lib.ListN.{length};
 ghost use Rattle.layout.specs.Places.{wordsFor, BITS, USED};
 ghost use Rattle.layout.specs.View.{view, headerOf};
-ghost use Rattle.layout.specs.Arrows.{isRow, rowOf, flipArrow};
+ghost use Rattle.layout.specs.Arrows.{isRow, rowOf};
 ghost use Rattle.diagram.specs.Rows.{Arrow};
 ghost use Rattle.rows.specs.Used.{rowsOf};
 ghost use Rattle.rows.specs.Says.{Says};
 ghost use Rattle.rows.specs.Within.{Within};
 ghost use Rattle.rows.specs.Sound.{Good};
 ghost use Rattle.soundness.specs.Tables.{FEW};
-ghost use Rattle.soundness.specs.Pairs.{PAIR-WORDS, Seen, Puts};
-ghost use Rattle.soundness.specs.Contained.{AllApart, Clear, Deep, RootsPre, RefsPre, PassPre, Halved};
-ghost use Rattle.soundness.specs.Lists.{ROOM, FOUND, Told, Pushed, KeptOne, KeptOpen, StaysRight, Listed, LeastPre, Least, halfOf};
-ghost use Rattle.soundness.specs.Lists.{HalvesPre, Halves, LayPre, Laid, TablesPre, TablesPost, WalkPre, WalkTold, RefsListed};
+ghost use Rattle.soundness.specs.Contained.{MANY, AllApart, Clear, Deep, RootsPre, RefsPre, PassPre, Halved};
+ghost use Rattle.soundness.specs.Lists.{ROOM, Listed, LeastPre, Least, halfOf, HalvesPre, Halves, LayPre, Laid, TablesPre};
+ghost use Rattle.soundness.specs.Lists.{TablesPost, WalkPre, WalkTold, RefsListed};
 ghost use Rattle.soundness.specs.Posts.{levelIn, ListRefsPre};
 
-// The remembered pairs: how many words they have, two for each of 512.
-struct Pairs;
+// Sizes of the local lists.
+struct Sizes;
 
-impl Pairs {
-    const WORDS: usize = 1024;
+impl Sizes {
+    // The remembered pairs, two words for each of 512.
+    const PAIRS: usize = 1024;
 
     // Places for the tables of rows, by rank: of all that a table may have, and of few.
-    const PLACES: usize = 60000;
+    const ROWS: usize = 60000;
 
     const FEW: usize = 2048;
 
     // Places for the tables of V.
     const SETS: usize = 1024;
 
-    // How many levels the tables tell apart, with those between.
-    const LAST: u32 = 10;
-}
-
-// The lists of arrows: how many one has at most and how many are so few that pairs are remembered, places for all lists on the way, and
-// places by which an arrow is found again.
-struct Arrows;
-
-impl Arrows {
+    // Arrows of one list, at most; places for all lists on the way, and places by which an arrow is found again.
     const MANY: usize = 64;
-
-    const SHORT: usize = 16;
 
     const ROOM: usize = 3008;
 
     const FOUND: usize = 512;
+
+    // Levels that the tables tell apart, with those between.
+    const LAST: u32 = 10;
 }
 
 // The level from which tables decide: the last ten of an even number of levels, or all.
 fn base_of(levels: u32) -> u32
     ensures { λ r. ⌜ r ≡ levels - 10 ⌝ }
 {
-    if levels < Pairs::LAST {
+    if levels < Sizes::LAST {
         return 0;
     }
-    levels - Pairs::LAST
-}
-
-// The place of a pair of arrows.
-fn place(a: u32, b: u32) -> u32
-    ensures { λ r. ⌜ 2 * r + 1 < PAIR-WORDS ⌝ }
-{
-    let x = 2654435761 * (a as u64) % 4294967296;
-    let y = 2246822519 * (b as u64) % 4294967296;
-    let h = (x + y) % 4294967296;
-    (h / 8388608) as u32
-}
-
-// Whether a pair is remembered.
-fn seen(memo: &[u32], a: u32, b: u32) -> bool
-    requires { ⌜ length (now memo) ≡ PAIR-WORDS ⌝ }
-    ensures { λ r. ⌜ (r ≡ true → Seen (now (memo .entry)) a b) ⌝ }
-{
-    let at = 2 * (place(a, b) as usize);
-    if memo[at] != a {
-        return false;
-    }
-    if memo[at + 1] != b {
-        return false;
-    }
-    true
-}
-
-// Remembers a pair.
-fn remember(memo: &mut [u32], a: u32, b: u32)
-    requires { ⌜ length (now memo) ≡ PAIR-WORDS ⌝ }
-    ensures { λ _. ⌜ Puts (now (memo .entry)) (now (memo .exit)) a b ⌝ }
-{
-    let at = 2 * (place(a, b) as usize);
-    memo[at] = a;
-    memo[at + 1] = b;
+    levels - Sizes::LAST
 }
 
 // Two arrows.
@@ -126,19 +88,6 @@ fn halve(words: &[u32], rows: u32, a: u32, own: u32, other: u32) -> Cofactors
     }
 }
 
-// Whether one arrow is NOT of the other, with no shift.
-fn opposite(shift: u32, a: u32, b: u32) -> bool
-    ensures { λ r. ⌜ (r ≡ true → ((shift ≡ 0) × (a ≡ flipArrow b))) ⌝ }
-{
-    if shift != 0 {
-        return false;
-    }
-    if a != flip(b) {
-        return false;
-    }
-    true
-}
-
 // Whether the row that an arrow leads to is at a level from the base on.
 fn deep(words: &[u32], rows: u32, base: u32, b: u32) -> bool
     requires { ⌜ Good (view rows (now words)) × Arrow (rowsOf (view rows (now words))) b × (isRow b ≡ true) ⌝ }
@@ -156,117 +105,6 @@ fn top_of(words: &[u32], rows: u32, shift: u32, b: u32) -> u32
     ensures { λ r. ⌜ r ≡ levelIn rows (now (words .entry)) b + shift ⌝ }
 {
     get(words, rows, row_of(b), Table::LEVEL) + shift
-}
-
-// Whether two arrows are known to have no valuation in common.
-fn known(memo: &[u32], shift: u32, a: u32, b: u32) -> bool
-    requires { ⌜ length (now memo) ≡ PAIR-WORDS ⌝ }
-    ensures { λ r. ⌜ (r ≡ true → Told (now (memo .entry)) shift a b) ⌝ }
-{
-    if opposite(shift, a, b) {
-        return true;
-    }
-    seen(memo, a, b)
-}
-
-// Whether an arrow stands at a place of a list.
-fn stands(list: &[u32], at: u32, from: usize, to: usize, a: u32) -> bool
-    requires { ⌜ to ≤ length (now list) ⌝ }
-    ensures { λ r. ⌜ (r ≡ true → ((from ≤ at) × (at < to) × (getD (now (list .entry)) at 0 ≡ a))) ⌝ }
-{
-    let k = at as usize;
-    if k < from {
-        return false;
-    }
-    if k >= to {
-        return false;
-    }
-    if list[k] != a {
-        return false;
-    }
-    true
-}
-
-// Where to look for an arrow's place.
-fn slot(a: u32) -> usize
-    ensures { λ r. ⌜ r < FOUND ⌝ }
-{
-    (2654435761 * (a as u64) % 4294967296 / 8388608) as usize
-}
-
-// Puts an arrow at the end of a list, where it is not nothing and is not found there.
-fn push(list: &mut [u32], found: &mut [u32], from: usize, to: usize, a: u32) -> usize
-    requires { ⌜ (from ≤ to) × (to < length (now list)) × (length (now list) ≡ ROOM) × (length (now found) ≡ FOUND) ⌝ }
-    ensures { λ r. ⌜ Pushed (now (list .entry)) (now (list .exit)) from to a r ⌝ }
-{
-    if a == Table::NOTHING {
-        return to;
-    }
-    let h = slot(a);
-    if stands(list, found[h], from, to, a) {
-        return to;
-    }
-    list[to] = a;
-    found[h] = to as u32;
-    to + 1
-}
-
-// Moves an arrow to place m of a list, where it is not known to be apart from b.
-fn keep_open(
-    shift: u32,
-    b: u32,
-    m: usize,
-    a: u32,
-    list: &mut [u32],
-    memo: &[u32],
-) -> usize
-    requires { ⌜ (length (now memo) ≡ PAIR-WORDS) × (m < length (now list)) ⌝ }
-    ensures { λ r. ⌜ KeptOne (Told (now (memo .entry)) shift a b) (now (list .entry)) m a (now (list .exit)) r ⌝ }
-{
-    if known(memo, shift, a, b) {
-        return m;
-    }
-    list[m] = a;
-    m + 1
-}
-
-// Leaves in a short list the arrows that are not known to be apart from b.
-fn keep_all_open(
-    shift: u32,
-    b: u32,
-    from: usize,
-    to: usize,
-    list: &mut [u32],
-    memo: &[u32],
-) -> usize
-    requires { ⌜ (length (now memo) ≡ PAIR-WORDS) × (from ≤ to) × (to ≤ length (now list)) ⌝ }
-    ensures { λ r. ⌜ KeptOpen (now (memo .entry)) shift b (now (list .entry)) (now (list .exit)) from to r ⌝ }
-{
-    if to - from >= Arrows::SHORT {
-        return to;
-    }
-    let mut m = from;
-    let mut k = from;
-    while k < to {
-        let a = list[k];
-        m = keep_open(shift, b, m, a, list, memo);
-        k += 1;
-    }
-    m
-}
-
-// Remembers the arrows of a short list with b.
-fn remember_all(b: u32, from: usize, to: usize, list: &[u32], memo: &mut [u32])
-    requires { ⌜ (length (now memo) ≡ PAIR-WORDS) × (from ≤ to) × (to ≤ length (now list)) ⌝ }
-    ensures { λ _. ⌜ StaysRight (now (list .entry)) from to b (now (memo .entry)) (now (memo .exit)) ⌝ }
-{
-    if to - from < Arrows::SHORT {
-        let mut k = from;
-        while k < to {
-            remember(memo, list[k], b);
-            k += 1;
-        }
-    }
 }
 
 // The lesser of a level and of that of the row that an arrow leads to.
@@ -326,7 +164,8 @@ fn halves(
     list: &mut [u32],
     found: &mut [u32],
 ) -> usize
-    requires { ⌜ HalvesPre (view rows (now words)) level (now list) (now found) from to end × (start ≤ end) × (end + (to - from) ≤ ROOM) × (side ≤ 1) ⌝ }
+    requires { ⌜ HalvesPre (view rows (now words)) level (now list) (now found) from to end × (start ≤ end) × (end + (to - from) ≤ ROOM)
+        × (side ≤ 1) ⌝ }
     ensures { λ r. ⌜ Halves (view rows (now (words .entry))) level side (now (list .entry)) (now (list .exit)) from to start end r ⌝ }
 {
     let mut stop = end;
@@ -347,13 +186,24 @@ struct Parts {
     stop: usize,
 }
 
-// Lays a list's halves at a level: all against b where b is past the level, in two parts of at most MANY; else the low ones against the low
-// half of b, and the high ones against the high half.
+// Where a list is cut, so that each part has at most MANY.
+fn cut(end: usize, stop: usize) -> usize
+    requires { ⌜ (end ≤ stop) × (stop ≤ end + 2 * MANY) × (stop ≤ ROOM) ⌝ }
+    ensures { λ r. ⌜ (end ≤ r) × (r ≤ stop) × (r ≤ end + MANY) × (stop ≤ r + MANY) ⌝ }
+{
+    if stop - end > Sizes::MANY {
+        return end + Sizes::MANY;
+    }
+    stop
+}
+
+// Lays a list's halves at level l: all against b where b is past the level, cut in two; else the low ones against the low half of b, and
+// the high ones against the high half.
 fn lay(
     words: &[u32],
     rows: u32,
     shift: u32,
-    level: u32,
+    l: u32,
     b: u32,
     from: usize,
     to: usize,
@@ -361,54 +211,29 @@ fn lay(
     list: &mut [u32],
     found: &mut [u32],
 ) -> Parts
-    requires { ⌜ LayPre (view rows (now words)) shift level b (now list) (now found) from to end ⌝ }
-    ensures { λ r. ⌜ Laid (view rows (now (words .entry))) shift level b (now (list .entry)) (now (list .exit)) from to end (r .low) (r .high) (r .mid) (r .stop) ⌝ }
+    requires { ⌜ LayPre (view rows (now words)) shift l b (now list) (now found) from to end ⌝ }
+    ensures { λ r. ⌜ Laid (view rows (now (words .entry))) shift l b (now (list .entry)) (now (list .exit)) from to end (r .low) (r .high)
+        (r .mid) (r .stop) ⌝ }
 {
     let top = top_of(words, rows, shift, b);
-    let h = halve(words, rows, b, top, level);
-    let mid = halves(
-        words,
-        rows,
-        level,
-        Table::LOW,
-        from,
-        to,
-        end,
-        end,
-        list,
-        found,
-    );
-    if level < top {
-        let stop = halves(
-            words,
-            rows,
-            level,
-            Table::HIGH,
-            from,
-            to,
-            end,
-            mid,
-            list,
-            found,
-        );
-        if stop - end > Arrows::MANY {
-            return Parts { low: h.low, high: h.high, mid: end + Arrows::MANY, stop: stop };
-        }
-        return Parts { low: h.low, high: h.high, mid: stop, stop: stop };
+    let h = halve(words, rows, b, top, l);
+    let mid = halves(words, rows, l, Table::LOW, from, to, end, end, list, found);
+    if l < top {
+        let stop = halves(words, rows, l, Table::HIGH, from, to, end, mid, list, found);
+        return Parts {
+            low: h.low,
+            high: h.high,
+            mid: cut(end, stop),
+            stop: stop,
+        };
     }
-    let stop = halves(
-        words,
-        rows,
-        level,
-        Table::HIGH,
-        from,
-        to,
-        mid,
-        mid,
-        list,
-        found,
-    );
-    Parts { low: h.low, high: h.high, mid: mid, stop: stop }
+    let stop = halves(words, rows, l, Table::HIGH, from, to, mid, mid, list, found);
+    Parts {
+        low: h.low,
+        high: h.high,
+        mid: mid,
+        stop: stop,
+    }
 }
 
 // Whether no arrow of a list has a valuation in common with b, of even levels from the base on, which count higher by the shift: by their
@@ -426,7 +251,8 @@ fn tables_apart(
     second: &mut [u64],
 ) -> bool
     requires { ⌜ TablesPre (view rows (now words)) shift base b (now list) from to (now first) (now second) ⌝ }
-    ensures { λ r. ⌜ TablesPost (view rows (now (words .entry))) shift base b (now (list .entry)) from to (now (first .exit)) (now (second .exit)) r ⌝ }
+    ensures { λ r. ⌜ TablesPost (view rows (now (words .entry))) shift base b (now (list .entry)) from to (now (first .exit))
+        (now (second .exit)) r ⌝ }
 {
     let y = set_cells(words, rows, base, shift, b, row_of(b), second);
     let mut k = from;
@@ -440,9 +266,9 @@ fn tables_apart(
     true
 }
 
-// Whether no arrow of a list has a valuation in common with b, whose levels count higher by the shift. `level` is at most that of each, and
-// the list may be written between `from` and `to` and from `end` on.
-// It ends at the first one in common, and where b comes to the base its tables decide.
+// Whether no arrow of a list has a valuation in common with b, whose levels count higher by the shift. It ends at the first one in common,
+// and where b comes to the base its tables decide. `level`, at most that of each arrow, bounds the room past `end` for more lists; the list
+// may be written over.
 fn apart(
     words: &[u32],
     rows: u32,
@@ -459,9 +285,10 @@ fn apart(
     first: &mut [u64],
     second: &mut [u64],
 ) -> bool
-    requires { ⌜ WalkPre (view rows (now words)) shift base level b (now list) (now found) from to end (now memo) (now first) (now second) ⌝ }
-    ensures { λ r. ⌜ WalkTold (view rows (now (words .entry))) shift base b (now (list .entry)) (now (list .exit)) from to end (now (memo .exit))
-        (now (first .exit)) (now (second .exit)) r ⌝ }
+    requires { ⌜ WalkPre (view rows (now words)) shift base level b (now list) (now found) from to end (now memo) (now first)
+        (now second) ⌝ }
+    ensures { λ r. ⌜ WalkTold (view rows (now (words .entry))) shift base b (now (list .entry)) (now (list .exit)) from to end
+        (now (memo .exit)) (now (first .exit)) (now (second .exit)) r ⌝ }
 {
     if from == to {
         return true;
@@ -518,17 +345,6 @@ fn apart(
     true
 }
 
-// Puts a root's arrow at the end of a list, where the root is not empty.
-fn push_ref(list: &mut [u32], found: &mut [u32], to: usize, r: u32) -> usize
-    requires { ⌜ (to < length (now list)) × (length (now list) ≡ ROOM) × (length (now found) ≡ FOUND) ⌝ }
-    ensures { λ k. ⌜ Pushed (now (list .entry)) (now (list .exit)) 0 to (r - 1) k ⌝ }
-{
-    if r == 0 {
-        return to;
-    }
-    push(list, found, 0, to, r - 1)
-}
-
 // Puts the arrows of the roots in the header's words from `from` up to `to` into a list, and says where it ends.
 fn list_refs(words: &[u32], from: usize, to: usize, list: &mut [u32], found: &mut [u32]) -> usize
     requires { ⌜ ListRefsPre (now words) (now list) (now found) from to ⌝ }
@@ -557,10 +373,10 @@ fn refs_apart(
     ensures { λ r. ⌜ Says (AllApart (view rows (now (words .entry))) shift from to b) r ⌝ }
 {
     let base = base_of(2 * header_word(words, Table::BITS));
-    let mut memo = [0u32; Pairs::WORDS];
-    let mut second = [0u64; Pairs::SETS];
-    let mut list = [0u32; Arrows::ROOM];
-    let mut found = [0u32; Arrows::FOUND];
+    let mut memo = [0u32; Sizes::PAIRS];
+    let mut second = [0u64; Sizes::SETS];
+    let mut list = [0u32; Sizes::ROOM];
+    let mut found = [0u32; Sizes::FOUND];
     let stop = list_refs(words, from, to, &mut list, &mut found);
     apart(
         words,
@@ -585,7 +401,7 @@ fn wide_apart(words: &[u32], rows: u32, shift: u32, from: usize, to: usize, b: u
     requires { ⌜ RootsPre (view rows (now words)) shift from to b ⌝ }
     ensures { λ r. ⌜ Says (AllApart (view rows (now (words .entry))) shift from to b) r ⌝ }
 {
-    let mut first = [0u64; Pairs::PLACES];
+    let mut first = [0u64; Sizes::ROWS];
     refs_apart(words, rows, shift, from, to, b, &mut first)
 }
 
@@ -594,7 +410,7 @@ fn narrow_apart(words: &[u32], rows: u32, shift: u32, from: usize, to: usize, b:
     requires { ⌜ RootsPre (view rows (now words)) shift from to b × (headerOf (now words) USED ≤ FEW) ⌝ }
     ensures { λ r. ⌜ Says (AllApart (view rows (now (words .entry))) shift from to b) r ⌝ }
 {
-    let mut first = [0u64; Pairs::FEW];
+    let mut first = [0u64; Sizes::FEW];
     refs_apart(words, rows, shift, from, to, b, &mut first)
 }
 
@@ -649,7 +465,7 @@ pub fn all_within(words: &[u32], rows: u32, v: u32) -> bool
         return true;
     }
     let b = flip(v);
-    if (header_word(words, Table::USED) as usize) > Pairs::FEW {
+    if (header_word(words, Table::USED) as usize) > Sizes::FEW {
         return wide_ok(words, rows, b, Pass::Both);
     }
     narrow_ok(words, rows, b, Pass::Both)

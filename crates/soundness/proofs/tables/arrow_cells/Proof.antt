@@ -12,7 +12,6 @@ use Rattle.soundness.proofs.tables.carried.Reads as carried-reads
 use Rattle.soundness.proofs.tables.recall.Reads as recall-reads
 use Rattle.soundness.proofs.tables.table_of.Reads as table-of-reads
 
-
 pub arrow-cells-spec : {M : Type 1} → statement M
 arrow-cells-spec =
     tie.close
@@ -21,10 +20,14 @@ arrow-cells-spec =
     (λ c. search needs)
     (λ c. search needs)
     (λ c κs. let t = c .before .if1 .left in row-yes _ (omega arith))
-    (λ c κs. let t = c .before .before .if1 .left in let r = row-led _ (c .before .before .before .before .before .pre .good) (c .before .before .before .before .before .pre .arrow) (row-yes _ (omega arith)) (c .row-of .ensures) in let h = r .place in let e = c .before .before .before .before .before .pre .size in (r .below, c .before .before .before .before .before .pre .good .sizes .room, omega arith))
+    (λ c κs. let c1 = c .before .before .before .before .before in let t = c .before .before .if1 .left in
+    let r = row-led _ (c1 .pre .good) (c1 .pre .arrow) (row-yes _ (omega arith)) (c .row-of .ensures) in let h = r .place in
+    let e = c1 .pre .size in (r .below, c1 .pre .good .sizes .room, omega arith))
     (λ c κs. search needs)
     (λ c. search needs)
-    (λ c. let t = c .before .before .before .before .before .if1 .left in recalled (c .before .before .before .before .before .before .before .before .pre) (row-led _ (c .before .before .before .before .before .before .before .before .pre .good) (c .before .before .before .before .before .before .before .before .pre .arrow) (row-yes _ (omega arith)) (c .before .before .before .row-of .ensures)) (c .before .before .recall .ensures) (c .before .if2 .taken) (c .carried .ensures))
+    (λ c. let c1 = c .before .before .before .before .before in let c2 = c1 .before .before .before in let t = c1 .if1 .left in
+    recalled (c2 .pre) (row-led _ (c2 .pre .good) (c2 .pre .arrow) (row-yes _ (omega arith))
+    (c .before .before .before .row-of .ensures)) (c .before .before .recall .ensures) (c .before .if2 .taken) (c .carried .ensures))
     (λ c κs. search needs)
     (λ c. search needs)
     (λ c. search needs))

@@ -15,10 +15,10 @@ use Rattle.soundness.proofs.within.apart.Reads as apart
 use Rattle.soundness.proofs.within.apart.Kinds as apart-kinds
 use Rattle.soundness.proofs.within.+apart.Lts-apart as apart-lts
 use Rattle.soundness.proofs.within.deep.Reads as deep-reads
-use Rattle.soundness.proofs.within.keep_all_open.Reads as keep-all-open-reads
+use Rattle.soundness.proofs.arrows.keep_all_open.Reads as keep-all-open-reads
 use Rattle.soundness.proofs.within.lay.Reads as lay-reads
 use Rattle.soundness.proofs.within.least.Reads as least-reads
-use Rattle.soundness.proofs.within.remember_all.Reads as remember-all-reads
+use Rattle.soundness.proofs.arrows.remember_all.Reads as remember-all-reads
 use Rattle.soundness.proofs.within.tables_apart.Reads as tables-apart-reads
 use Rattle.soundness.proofs.within.top_of.Reads as top-of-reads
 
@@ -54,37 +54,159 @@ pub +apart-spec : {M : Type 1} → statement M
     apart.Post
     (λ c. walk-none (c .before .before .before .before .before .before .before .pre .1) (c .if1 .taken))
     (λ c. walk-nothing (c .before .before .before .before .before .before .before .before .pre .1) (c .if2 .taken))
-    (λ c. walk-everything (c .before .before .before .before .before .before .before .before .before .pre .1) (c .before .before .if1 .left) (c .if3 .taken))
-    (λ c κs. (c .before .before .before .before .before .before .before .before .before .pre .1 .asks .good, c .before .before .before .before .before .before .before .before .before .pre .1 .against .arrow, (is-row _ (c .before .if2 .left) (c .if3 .left))))
-    (λ c κs. tables-asked (c .before .before .before .before .before .before .before .before .before .before .before .before .before .before .pre .1) (is-row _ (c .before .before .before .before .before .before .if2 .left) (c .before .before .before .before .before .if3 .left)) (says-yes (c .before .before .before .if4 .taken) (c .before .before .before .before .deep .ensures)))
+    (λ c. let c1 = c .before .before .before .before .before .before .before .before .before in
+    walk-everything (c1 .pre .1) (c .before .before .if1 .left) (c .if3 .taken))
+    (λ c κs. let c1 = c .before .before .before .before .before .before .before .before .before in
+    (c1 .pre .1 .asks .good, c1 .pre .1 .against .arrow, (is-row _ (c .before .if2 .left) (c .if3 .left))))
+    (λ c κs. let c1 = c .before .before .before .before in let c2 = c1 .before .before .before .before .before .before .before .before
+    .before .before in tables-asked (c2 .pre .1) (is-row _ (c1 .before .before .if2 .left) (c1 .before .if3 .left)) (says-yes
+    (c .before .before .before .if4 .taken) (c1 .deep .ensures)))
     (λ c. search needs)
     (λ c. search needs)
     (λ c. search needs)
-    (λ c. walk-tables (c .before .before .before .before .before .before .before .before .before .before .before .before .before .before .before .before .before .before .before .pre .1) (c .before .before .before .before .tables-apart .ensures))
-    (λ c κs. let o = c .before .before .before .before .before .before .before .before .before .before .before .before .before .pre .1 .lists .order in let o1 = o .1 in let z = c .before .before .before .before .before .before .before .before .before .before .before .before .before .pre .1 .lists .room .0 in let y = c .before .before .before .before .before .before .before .before .before .before .before .before .before .pre .1 .room in (c .before .before .before .before .before .before .before .before .before .before .before .before .before .pre .1 .asks .size, o .0, omega arith))
-    (λ c κs. (c .before .before .before .before .before .before .before .before .before .before .before .before .before .before .before .before .pre .1 .asks .good, c .before .before .before .before .before .before .before .before .before .before .before .before .before .before .before .before .pre .1 .against .arrow, (is-row _ (c .before .before .before .before .before .before .before .before .if2 .left) (c .before .before .before .before .before .before .before .if3 .left)), c .before .before .before .before .before .before .before .before .before .before .before .before .before .before .before .before .pre .1 .asks .shift))
-    (λ c κs. least-asked (c .before .before .before .before .before .before .before .before .before .before .before .before .before .before .before .before .before .before .pre .1) (says-no (c .before .before .before .before .before .before .before .if4 .left) (c .before .before .before .before .before .before .before .before .deep .ensures)) (c .before .before .before .before .keep-all-open .ensures) (c .before .top-of .ensures) (c .before .before .before .before .keep-all-open .kept .1 .1 .1 .1 .0))
-    (λ c κs. lay-asked (c .before .before .before .before .before .before .before .before .before .before .before .before .before .before .before .before .before .before .before .before .before .pre .1) (is-row _ (c .before .before .before .before .before .before .before .before .before .before .before .before .before .if2 .left) (c .before .before .before .before .before .before .before .before .before .before .before .before .if3 .left)) (says-no (c .before .before .before .before .before .before .before .before .before .before .if4 .left) (c .before .before .before .before .before .before .before .before .before .before .before .deep .ensures)) (c .before .before .before .before .before .before .before .keep-all-open .ensures) (c .before .before .before .before .top-of .ensures) (c .before .before .before .before .before .before .before .keep-all-open .kept .1 .1 .1 .1 .0) (c .before .before .least .ensures) .0)
-    (λ c. let x = lay-asked (c .before .before .before .before .before .before .before .before .before .before .before .before .before .before .before .before .before .before .before .before .before .before .before .before .before .before .pre .1) (is-row _ (c .before .before .before .before .before .before .before .before .before .before .before .before .before .before .before .before .before .before .if2 .left) (c .before .before .before .before .before .before .before .before .before .before .before .before .before .before .before .before .before .if3 .left)) (says-no (c .before .before .before .before .before .before .before .before .before .before .before .before .before .before .before .if4 .left) (c .before .before .before .before .before .before .before .before .before .before .before .before .before .before .before .before .deep .ensures)) (c .before .before .before .before .before .before .before .before .before .before .before .before .keep-all-open .ensures) (c .before .before .before .before .before .before .before .before .before .top-of .ensures) (c .before .before .before .before .before .before .before .before .before .before .before .before .keep-all-open .kept .1 .1 .1 .1 .0) (c .before .before .before .before .before .before .before .least .ensures) .2 in omega arith)
-    (λ c κs. call-low (walk-at (c .before .before .before .before .before .before .before .before .before .before .before .before .before .before .before .before .before .before .before .before .before .before .before .before .before .before .before .before .before .before .before .pre .1) (is-row _ (c .before .before .before .before .before .before .before .before .before .before .before .before .before .before .before .before .before .before .before .before .before .before .before .if2 .left) (c .before .before .before .before .before .before .before .before .before .before .before .before .before .before .before .before .before .before .before .before .before .before .if3 .left)) (says-no (c .before .before .before .before .before .before .before .before .before .before .before .before .before .before .before .before .before .before .before .before .if4 .left) (c .before .before .before .before .before .before .before .before .before .before .before .before .before .before .before .before .before .before .before .before .before .deep .ensures)) (c .before .before .before .before .before .before .before .before .before .before .before .before .before .before .before .before .before .keep-all-open .ensures) (c .before .before .before .before .before .before .before .before .before .before .before .before .before .before .top-of .ensures) (c .before .before .before .before .before .before .before .before .before .before .before .before .before .before .before .before .before .keep-all-open .kept .1 .1 .1 .1 .0) (c .before .before .before .before .before .before .before .before .before .before .before .before .least .ensures) (c .before .before .before .before .before .before .before .before .before .lay .ensures)) (c .before .before .before .before .before .before .before .before .before .before .before .before .before .before .before .before .before .before .before .before .before .before .before .before .before .before .before .before .before .before .before .pre .0) (c .before .before .before .before .before .before .before .before .before .lay .kept .1 .1 .1 .1 .1 .1 .1 .1 .0 ∙ c .before .before .before .before .before .before .before .before .before .before .before .before .before .before .before .before .before .keep-all-open .kept .1 .1 .1 .1 .0) (c .before .before .before .before .before .before .before .before .before .lay .kept .1 .1 .1 .1 .1 .1 .1 .1 .1 .0))
-    (λ c. c .before .before .before .before .before .before .before .before .before .before .before .apart .kept .1 .1 .1 .1 .1 .1 .1 .1 .1 .0 ∙ c .before .before .before .before .before .before .before .before .before .before .before .before .before .before .before .before .before .before .before .before .before .lay .kept .1 .1 .1 .1 .1 .1 .1 .1 .0 ∙ c .before .before .before .before .before .before .before .before .before .before .before .before .before .before .before .before .before .before .before .before .before .before .before .before .before .before .before .before .before .keep-all-open .kept .1 .1 .1 .1 .0)
-    (λ c. c .before .before .before .before .before .before .before .before .before .before .before .apart .kept .1 .1 .1 .1 .1 .1 .1 .1 .1 .1 .0 ∙ c .before .before .before .before .before .before .before .before .before .before .before .before .before .before .before .before .before .before .before .before .before .lay .kept .1 .1 .1 .1 .1 .1 .1 .1 .1 .0)
-    (λ c. c .before .before .before .before .before .before .before .before .before .before .before .apart .kept .1 .1 .1 .1 .1 .1 .1 .1 .1 .1 .1 .0)
-    (λ c. c .before .before .before .before .before .before .before .before .before .before .before .apart .kept .1 .1 .1 .1 .1 .1 .1 .1 .1 .1 .1 .1 .0)
-    (λ c. c .before .before .before .before .before .before .before .before .before .before .before .apart .kept .1 .1 .1 .1 .1 .1 .1 .1 .1 .1 .1 .1 .1 .0)
-    (λ c. low-fails (walk-at (c .before .before .before .before .before .before .before .before .before .before .before .before .before .before .before .before .before .before .before .before .before .before .before .before .before .before .before .before .before .before .before .before .before .before .before .before .before .before .before .before .before .before .before .pre .1) (is-row _ (c .before .before .before .before .before .before .before .before .before .before .before .before .before .before .before .before .before .before .before .before .before .before .before .before .before .before .before .before .before .before .before .before .before .before .before .if2 .left) (c .before .before .before .before .before .before .before .before .before .before .before .before .before .before .before .before .before .before .before .before .before .before .before .before .before .before .before .before .before .before .before .before .before .before .if3 .left)) (says-no (c .before .before .before .before .before .before .before .before .before .before .before .before .before .before .before .before .before .before .before .before .before .before .before .before .before .before .before .before .before .before .before .before .if4 .left) (c .before .before .before .before .before .before .before .before .before .before .before .before .before .before .before .before .before .before .before .before .before .before .before .before .before .before .before .before .before .before .before .before .before .deep .ensures)) (c .before .before .before .before .before .before .before .before .before .before .before .before .before .before .before .before .before .before .before .before .before .before .before .before .before .before .before .before .before .keep-all-open .ensures) (c .before .before .before .before .before .before .before .before .before .before .before .before .before .before .before .before .before .before .before .before .before .before .before .before .before .before .top-of .ensures) (c .before .before .before .before .before .before .before .before .before .before .before .before .before .before .before .before .before .before .before .before .before .before .before .before .before .before .before .before .before .keep-all-open .kept .1 .1 .1 .1 .0) (c .before .before .before .before .before .before .before .before .before .before .before .before .before .before .before .before .before .before .before .before .before .before .before .before .least .ensures) (c .before .before .before .before .before .before .before .before .before .before .before .before .before .before .before .before .before .before .before .before .before .lay .ensures)) (c .before .before .before .before .before .before .before .before .before .before .before .apart .ensures) (c .if5 .taken))
-    (λ c. let x = lay-asked (c .before .before .before .before .before .before .before .before .before .before .before .before .before .before .before .before .before .before .before .before .before .before .before .before .before .before .before .before .before .before .before .before .before .before .before .before .before .before .before .before .before .before .before .pre .1) (is-row _ (c .before .before .before .before .before .before .before .before .before .before .before .before .before .before .before .before .before .before .before .before .before .before .before .before .before .before .before .before .before .before .before .before .before .before .before .if2 .left) (c .before .before .before .before .before .before .before .before .before .before .before .before .before .before .before .before .before .before .before .before .before .before .before .before .before .before .before .before .before .before .before .before .before .before .if3 .left)) (says-no (c .before .before .before .before .before .before .before .before .before .before .before .before .before .before .before .before .before .before .before .before .before .before .before .before .before .before .before .before .before .before .before .before .if4 .left) (c .before .before .before .before .before .before .before .before .before .before .before .before .before .before .before .before .before .before .before .before .before .before .before .before .before .before .before .before .before .before .before .before .before .deep .ensures)) (c .before .before .before .before .before .before .before .before .before .before .before .before .before .before .before .before .before .before .before .before .before .before .before .before .before .before .before .before .before .keep-all-open .ensures) (c .before .before .before .before .before .before .before .before .before .before .before .before .before .before .before .before .before .before .before .before .before .before .before .before .before .before .top-of .ensures) (c .before .before .before .before .before .before .before .before .before .before .before .before .before .before .before .before .before .before .before .before .before .before .before .before .before .before .before .before .before .keep-all-open .kept .1 .1 .1 .1 .0) (c .before .before .before .before .before .before .before .before .before .before .before .before .before .before .before .before .before .before .before .before .before .before .before .before .least .ensures) .2 in omega arith)
-    (λ c κs. call-high (walk-at (c .before .before .before .before .before .before .before .before .before .before .before .before .before .before .before .before .before .before .before .before .before .before .before .before .before .before .before .before .before .before .before .before .before .before .before .before .before .before .before .before .before .before .before .before .before .before .before .before .pre .1) (is-row _ (c .before .before .before .before .before .before .before .before .before .before .before .before .before .before .before .before .before .before .before .before .before .before .before .before .before .before .before .before .before .before .before .before .before .before .before .before .before .before .before .before .if2 .left) (c .before .before .before .before .before .before .before .before .before .before .before .before .before .before .before .before .before .before .before .before .before .before .before .before .before .before .before .before .before .before .before .before .before .before .before .before .before .before .before .if3 .left)) (says-no (c .before .before .before .before .before .before .before .before .before .before .before .before .before .before .before .before .before .before .before .before .before .before .before .before .before .before .before .before .before .before .before .before .before .before .before .before .before .if4 .left) (c .before .before .before .before .before .before .before .before .before .before .before .before .before .before .before .before .before .before .before .before .before .before .before .before .before .before .before .before .before .before .before .before .before .before .before .before .before .before .deep .ensures)) (c .before .before .before .before .before .before .before .before .before .before .before .before .before .before .before .before .before .before .before .before .before .before .before .before .before .before .before .before .before .before .before .before .before .before .keep-all-open .ensures) (c .before .before .before .before .before .before .before .before .before .before .before .before .before .before .before .before .before .before .before .before .before .before .before .before .before .before .before .before .before .before .before .top-of .ensures) (c .before .before .before .before .before .before .before .before .before .before .before .before .before .before .before .before .before .before .before .before .before .before .before .before .before .before .before .before .before .before .before .before .before .before .keep-all-open .kept .1 .1 .1 .1 .0) (c .before .before .before .before .before .before .before .before .before .before .before .before .before .before .before .before .before .before .before .before .before .before .before .before .before .before .before .before .before .least .ensures) (c .before .before .before .before .before .before .before .before .before .before .before .before .before .before .before .before .before .before .before .before .before .before .before .before .before .before .lay .ensures)) (c .before .before .before .before .before .before .before .before .before .before .before .before .before .before .before .before .apart .ensures) (c .before .before .before .before .before .before .before .before .before .before .before .before .before .before .before .before .before .before .before .before .before .before .before .before .before .before .before .before .before .before .before .before .before .before .before .before .before .before .before .before .before .before .before .before .before .before .before .before .pre .0) (c .before .before .before .before .before .before .before .before .before .before .before .before .before .before .before .before .apart .kept .1 .1 .1 .1 .1 .1 .1 .1 .1 .0 ∙ c .before .before .before .before .before .before .before .before .before .before .before .before .before .before .before .before .before .before .before .before .before .before .before .before .before .before .lay .kept .1 .1 .1 .1 .1 .1 .1 .1 .0 ∙ c .before .before .before .before .before .before .before .before .before .before .before .before .before .before .before .before .before .before .before .before .before .before .before .before .before .before .before .before .before .before .before .before .before .before .keep-all-open .kept .1 .1 .1 .1 .0) (c .before .before .before .before .before .before .before .before .before .before .before .before .before .before .before .before .apart .kept .1 .1 .1 .1 .1 .1 .1 .1 .1 .1 .0 ∙ c .before .before .before .before .before .before .before .before .before .before .before .before .before .before .before .before .before .before .before .before .before .before .before .before .before .before .lay .kept .1 .1 .1 .1 .1 .1 .1 .1 .1 .0) (c .before .before .before .before .before .before .before .before .before .before .before .before .before .before .before .before .apart .kept .1 .1 .1 .1 .1 .1 .1 .1 .1 .1 .1 .0) (c .before .before .before .before .before .before .before .before .before .before .before .before .before .before .before .before .apart .kept .1 .1 .1 .1 .1 .1 .1 .1 .1 .1 .1 .1 .0) (c .before .before .before .before .before .before .before .before .before .before .before .before .before .before .before .before .apart .kept .1 .1 .1 .1 .1 .1 .1 .1 .1 .1 .1 .1 .1 .0))
-    (λ c. c .before .before .before .before .before .before .before .before .before .before .before .apart2 .kept .1 .1 .1 .1 .1 .1 .1 .1 .1 .0 ∙ c .before .before .before .before .before .before .before .before .before .before .before .before .before .before .before .before .before .before .before .before .before .before .before .before .before .before .before .before .apart .kept .1 .1 .1 .1 .1 .1 .1 .1 .1 .0 ∙ c .before .before .before .before .before .before .before .before .before .before .before .before .before .before .before .before .before .before .before .before .before .before .before .before .before .before .before .before .before .before .before .before .before .before .before .before .before .before .lay .kept .1 .1 .1 .1 .1 .1 .1 .1 .0 ∙ c .before .before .before .before .before .before .before .before .before .before .before .before .before .before .before .before .before .before .before .before .before .before .before .before .before .before .before .before .before .before .before .before .before .before .before .before .before .before .before .before .before .before .before .before .before .before .keep-all-open .kept .1 .1 .1 .1 .0)
-    (λ c. c .before .before .before .before .before .before .before .before .before .before .before .apart2 .kept .1 .1 .1 .1 .1 .1 .1 .1 .1 .1 .0 ∙ c .before .before .before .before .before .before .before .before .before .before .before .before .before .before .before .before .before .before .before .before .before .before .before .before .before .before .before .before .apart .kept .1 .1 .1 .1 .1 .1 .1 .1 .1 .1 .0 ∙ c .before .before .before .before .before .before .before .before .before .before .before .before .before .before .before .before .before .before .before .before .before .before .before .before .before .before .before .before .before .before .before .before .before .before .before .before .before .before .lay .kept .1 .1 .1 .1 .1 .1 .1 .1 .1 .0)
-    (λ c. c .before .before .before .before .before .before .before .before .before .before .before .apart2 .kept .1 .1 .1 .1 .1 .1 .1 .1 .1 .1 .1 .0 ∙ c .before .before .before .before .before .before .before .before .before .before .before .before .before .before .before .before .before .before .before .before .before .before .before .before .before .before .before .before .apart .kept .1 .1 .1 .1 .1 .1 .1 .1 .1 .1 .1 .0)
-    (λ c. c .before .before .before .before .before .before .before .before .before .before .before .apart2 .kept .1 .1 .1 .1 .1 .1 .1 .1 .1 .1 .1 .1 .0 ∙ c .before .before .before .before .before .before .before .before .before .before .before .before .before .before .before .before .before .before .before .before .before .before .before .before .before .before .before .before .apart .kept .1 .1 .1 .1 .1 .1 .1 .1 .1 .1 .1 .1 .0)
-    (λ c. c .before .before .before .before .before .before .before .before .before .before .before .apart2 .kept .1 .1 .1 .1 .1 .1 .1 .1 .1 .1 .1 .1 .1 .0 ∙ c .before .before .before .before .before .before .before .before .before .before .before .before .before .before .before .before .before .before .before .before .before .before .before .before .before .before .before .before .apart .kept .1 .1 .1 .1 .1 .1 .1 .1 .1 .1 .1 .1 .1 .0)
-    (λ c. high-fails (walk-at (c .before .before .before .before .before .before .before .before .before .before .before .before .before .before .before .before .before .before .before .before .before .before .before .before .before .before .before .before .before .before .before .before .before .before .before .before .before .before .before .before .before .before .before .before .before .before .before .before .before .before .before .before .before .before .before .before .before .before .before .before .pre .1) (is-row _ (c .before .before .before .before .before .before .before .before .before .before .before .before .before .before .before .before .before .before .before .before .before .before .before .before .before .before .before .before .before .before .before .before .before .before .before .before .before .before .before .before .before .before .before .before .before .before .before .before .before .before .before .before .if2 .left) (c .before .before .before .before .before .before .before .before .before .before .before .before .before .before .before .before .before .before .before .before .before .before .before .before .before .before .before .before .before .before .before .before .before .before .before .before .before .before .before .before .before .before .before .before .before .before .before .before .before .before .before .if3 .left)) (says-no (c .before .before .before .before .before .before .before .before .before .before .before .before .before .before .before .before .before .before .before .before .before .before .before .before .before .before .before .before .before .before .before .before .before .before .before .before .before .before .before .before .before .before .before .before .before .before .before .before .before .if4 .left) (c .before .before .before .before .before .before .before .before .before .before .before .before .before .before .before .before .before .before .before .before .before .before .before .before .before .before .before .before .before .before .before .before .before .before .before .before .before .before .before .before .before .before .before .before .before .before .before .before .before .before .deep .ensures)) (c .before .before .before .before .before .before .before .before .before .before .before .before .before .before .before .before .before .before .before .before .before .before .before .before .before .before .before .before .before .before .before .before .before .before .before .before .before .before .before .before .before .before .before .before .before .before .keep-all-open .ensures) (c .before .before .before .before .before .before .before .before .before .before .before .before .before .before .before .before .before .before .before .before .before .before .before .before .before .before .before .before .before .before .before .before .before .before .before .before .before .before .before .before .before .before .before .top-of .ensures) (c .before .before .before .before .before .before .before .before .before .before .before .before .before .before .before .before .before .before .before .before .before .before .before .before .before .before .before .before .before .before .before .before .before .before .before .before .before .before .before .before .before .before .before .before .before .before .keep-all-open .kept .1 .1 .1 .1 .0) (c .before .before .before .before .before .before .before .before .before .before .before .before .before .before .before .before .before .before .before .before .before .before .before .before .before .before .before .before .before .before .before .before .before .before .before .before .before .before .before .before .before .least .ensures) (c .before .before .before .before .before .before .before .before .before .before .before .before .before .before .before .before .before .before .before .before .before .before .before .before .before .before .before .before .before .before .before .before .before .before .before .before .before .before .lay .ensures)) (c .before .before .before .before .before .before .before .before .before .before .before .before .before .before .before .before .before .before .before .before .before .before .before .before .before .before .before .before .apart .ensures) (c .before .before .before .before .before .before .before .before .before .before .before .apart2 .ensures) (c .if6 .taken))
-    (λ c κs. let o = c .before .before .before .before .before .before .before .before .before .before .before .before .before .before .before .before .before .before .before .before .before .before .before .before .before .before .before .before .before .before .before .before .before .before .before .before .before .before .before .before .before .before .before .before .before .before .before .before .before .before .before .before .before .before .before .before .before .before .before .before .before .before .pre .1 .lists .order in let o1 = o .1 in let z = c .before .before .before .before .before .before .before .before .before .before .before .before .before .before .before .before .before .before .before .before .before .before .before .before .before .before .before .before .before .before .before .before .before .before .before .before .before .before .before .before .before .before .before .before .before .before .before .before .before .before .before .before .before .before .before .before .before .before .before .before .before .before .pre .1 .lists .room .0 in let y = c .before .before .before .before .before .before .before .before .before .before .before .before .before .before .before .before .before .before .before .before .before .before .before .before .before .before .before .before .before .before .before .before .before .before .before .before .before .before .before .before .before .before .before .before .before .before .before .before .before .before .before .before .before .before .before .before .before .before .before .before .before .before .pre .1 .room in let g = c .before .before .before .before .before .before .before .before .before .before .before .before .before .before .before .before .before .before .before .before .before .before .before .before .before .before .before .before .before .before .before .before .before .before .before .before .before .before .before .before .before .before .before .before .before .before .before .before .keep-all-open .ensures in let g1 = g .most in let e = c .before .before .before .before .before .before .before .before .before .before .before .before .before .apart2 .kept .1 .1 .1 .1 .1 .1 .1 .1 .1 .0 ∙ c .before .before .before .before .before .before .before .before .before .before .before .before .before .before .before .before .before .before .before .before .before .before .before .before .before .before .before .before .before .before .apart .kept .1 .1 .1 .1 .1 .1 .1 .1 .1 .0 ∙ c .before .before .before .before .before .before .before .before .before .before .before .before .before .before .before .before .before .before .before .before .before .before .before .before .before .before .before .before .before .before .before .before .before .before .before .before .before .before .before .before .lay .kept .1 .1 .1 .1 .1 .1 .1 .1 .0 ∙ c .before .before .before .before .before .before .before .before .before .before .before .before .before .before .before .before .before .before .before .before .before .before .before .before .before .before .before .before .before .before .before .before .before .before .before .before .before .before .before .before .before .before .before .before .before .before .before .before .keep-all-open .kept .1 .1 .1 .1 .0 in (c .before .before .before .before .before .before .before .before .before .before .before .before .before .apart2 .kept .1 .1 .1 .1 .1 .1 .1 .1 .1 .1 .1 .0 ∙ c .before .before .before .before .before .before .before .before .before .before .before .before .before .before .before .before .before .before .before .before .before .before .before .before .before .before .before .before .before .before .apart .kept .1 .1 .1 .1 .1 .1 .1 .1 .1 .1 .1 .0 ∙ c .before .before .before .before .before .before .before .before .before .before .before .before .before .before .before .before .before .before .before .before .before .before .before .before .before .before .before .before .before .before .before .before .before .before .before .before .before .before .before .before .before .before .before .before .before .before .before .before .before .before .before .before .before .before .before .before .before .before .before .before .before .before .pre .1 .asks .size, g .least, omega arith))
-    (λ c. c .before .before .before .before .before .before .before .before .before .before .before .before .before .before .before .before .apart2 .kept .1 .1 .1 .1 .1 .1 .1 .1 .1 .0 ∙ c .before .before .before .before .before .before .before .before .before .before .before .before .before .before .before .before .before .before .before .before .before .before .before .before .before .before .before .before .before .before .before .before .before .apart .kept .1 .1 .1 .1 .1 .1 .1 .1 .1 .0 ∙ c .before .before .before .before .before .before .before .before .before .before .before .before .before .before .before .before .before .before .before .before .before .before .before .before .before .before .before .before .before .before .before .before .before .before .before .before .before .before .before .before .before .before .before .lay .kept .1 .1 .1 .1 .1 .1 .1 .1 .0 ∙ c .before .before .before .before .before .before .before .before .before .before .before .before .before .before .before .before .before .before .before .before .before .before .before .before .before .before .before .before .before .before .before .before .before .before .before .before .before .before .before .before .before .before .before .before .before .before .before .before .before .before .before .keep-all-open .kept .1 .1 .1 .1 .0)
-    (λ c. c .before .before .before .before .before .before .before .before .before .before .before .before .before .before .before .before .apart2 .kept .1 .1 .1 .1 .1 .1 .1 .1 .1 .1 .0 ∙ c .before .before .before .before .before .before .before .before .before .before .before .before .before .before .before .before .before .before .before .before .before .before .before .before .before .before .before .before .before .before .before .before .before .apart .kept .1 .1 .1 .1 .1 .1 .1 .1 .1 .1 .0 ∙ c .before .before .before .before .before .before .before .before .before .before .before .before .before .before .before .before .before .before .before .before .before .before .before .before .before .before .before .before .before .before .before .before .before .before .before .before .before .before .before .before .before .before .before .lay .kept .1 .1 .1 .1 .1 .1 .1 .1 .1 .0)
-    (λ c. c .before .before .remember-all .kept .1 .1 .1 .1 .0 ∙ c .before .before .before .before .before .before .before .before .before .before .before .before .before .before .before .before .apart2 .kept .1 .1 .1 .1 .1 .1 .1 .1 .1 .1 .1 .0 ∙ c .before .before .before .before .before .before .before .before .before .before .before .before .before .before .before .before .before .before .before .before .before .before .before .before .before .before .before .before .before .before .before .before .before .apart .kept .1 .1 .1 .1 .1 .1 .1 .1 .1 .1 .1 .0)
-    (λ c. c .before .before .before .before .before .before .before .before .before .before .before .before .before .before .before .before .apart2 .kept .1 .1 .1 .1 .1 .1 .1 .1 .1 .1 .1 .1 .0 ∙ c .before .before .before .before .before .before .before .before .before .before .before .before .before .before .before .before .before .before .before .before .before .before .before .before .before .before .before .before .before .before .before .before .before .apart .kept .1 .1 .1 .1 .1 .1 .1 .1 .1 .1 .1 .1 .0)
-    (λ c. c .before .before .before .before .before .before .before .before .before .before .before .before .before .before .before .before .apart2 .kept .1 .1 .1 .1 .1 .1 .1 .1 .1 .1 .1 .1 .1 .0 ∙ c .before .before .before .before .before .before .before .before .before .before .before .before .before .before .before .before .before .before .before .before .before .before .before .before .before .before .before .before .before .before .before .before .before .apart .kept .1 .1 .1 .1 .1 .1 .1 .1 .1 .1 .1 .1 .1 .0)
-    (λ c. both-pass (walk-at (c .before .before .before .before .before .before .before .before .before .before .before .before .before .before .before .before .before .before .before .before .before .before .before .before .before .before .before .before .before .before .before .before .before .before .before .before .before .before .before .before .before .before .before .before .before .before .before .before .before .before .before .before .before .before .before .before .before .before .before .before .before .before .before .before .before .pre .1) (is-row _ (c .before .before .before .before .before .before .before .before .before .before .before .before .before .before .before .before .before .before .before .before .before .before .before .before .before .before .before .before .before .before .before .before .before .before .before .before .before .before .before .before .before .before .before .before .before .before .before .before .before .before .before .before .before .before .before .before .before .if2 .left) (c .before .before .before .before .before .before .before .before .before .before .before .before .before .before .before .before .before .before .before .before .before .before .before .before .before .before .before .before .before .before .before .before .before .before .before .before .before .before .before .before .before .before .before .before .before .before .before .before .before .before .before .before .before .before .before .before .if3 .left)) (says-no (c .before .before .before .before .before .before .before .before .before .before .before .before .before .before .before .before .before .before .before .before .before .before .before .before .before .before .before .before .before .before .before .before .before .before .before .before .before .before .before .before .before .before .before .before .before .before .before .before .before .before .before .before .before .before .if4 .left) (c .before .before .before .before .before .before .before .before .before .before .before .before .before .before .before .before .before .before .before .before .before .before .before .before .before .before .before .before .before .before .before .before .before .before .before .before .before .before .before .before .before .before .before .before .before .before .before .before .before .before .before .before .before .before .before .deep .ensures)) (c .before .before .before .before .before .before .before .before .before .before .before .before .before .before .before .before .before .before .before .before .before .before .before .before .before .before .before .before .before .before .before .before .before .before .before .before .before .before .before .before .before .before .before .before .before .before .before .before .before .before .before .keep-all-open .ensures) (c .before .before .before .before .before .before .before .before .before .before .before .before .before .before .before .before .before .before .before .before .before .before .before .before .before .before .before .before .before .before .before .before .before .before .before .before .before .before .before .before .before .before .before .before .before .before .before .before .top-of .ensures) (c .before .before .before .before .before .before .before .before .before .before .before .before .before .before .before .before .before .before .before .before .before .before .before .before .before .before .before .before .before .before .before .before .before .before .before .before .before .before .before .before .before .before .before .before .before .before .before .before .before .before .before .keep-all-open .kept .1 .1 .1 .1 .0) (c .before .before .before .before .before .before .before .before .before .before .before .before .before .before .before .before .before .before .before .before .before .before .before .before .before .before .before .before .before .before .before .before .before .before .before .before .before .before .before .before .before .before .before .before .before .before .least .ensures) (c .before .before .before .before .before .before .before .before .before .before .before .before .before .before .before .before .before .before .before .before .before .before .before .before .before .before .before .before .before .before .before .before .before .before .before .before .before .before .before .before .before .before .before .lay .ensures)) (c .before .before .before .before .before .before .before .before .before .before .before .before .before .before .before .before .before .before .before .before .before .before .before .before .before .before .before .before .before .before .before .before .before .apart .ensures) (c .before .before .before .before .before .before .before .before .before .before .before .before .before .before .before .before .apart2 .ensures) (c .before .before .before .before .before .before .before .before .before .before .before .before .before .before .before .before .before .before .before .before .before .before .if5 .left) (c .before .before .before .before .before .if6 .left) (c .before .before .remember-all .ensures))
+    (λ c. let c1 = c .before .before .before .before in let c2 = c1 .before .before .before .before .before .before .before .before
+    .before .before .before .before .before .before .before in walk-tables (c2 .pre .1) (c1 .tables-apart .ensures))
+    (λ c κs. let c1 = c .before .before .before .before .before .before .before .before .before .before .before .before .before in
+    let o = c1 .pre .1 .lists .order in let o1 = o .1 in let z = c1 .pre .1 .lists .room .0 in let y = c1 .pre .1 .room in
+    (c1 .pre .1 .asks .size, o .0, omega arith))
+    (λ c κs. let c1 = c .before .before .before .before .before .before .before in
+    let c2 = c1 .before .before .before .before .before .before .before .before .before in
+    (c2 .pre .1 .asks .good, c2 .pre .1 .against .arrow, (is-row _ (c1 .before .if2 .left) (c1 .if3 .left)), c2 .pre .1 .asks .shift))
+    (λ c κs. let c1 = c .before .before .before .before in let c2 = c1 .before .before .before .before in
+    let c3 = c2 .before .before .before .before .before .before .before .before .before .before in
+    least-asked (c3 .pre .1) (says-no (c1 .before .before .before .if4 .left) (c2 .deep .ensures)) (c1 .keep-all-open .ensures)
+    (c .before .top-of .ensures) (c1 .keep-all-open .kept .1 .1 .1 .1 .0))
+    (λ c κs. let c1 = c .before .before .before .before in let c2 = c1 .before .before .before in
+    let c3 = c2 .before .before .before .before in let c4 = c3 .before .before .before .before .before .before .before .before .before
+    .before in lay-asked (c4 .pre .1) (is-row _ (c3 .before .before .if2 .left) (c3 .before .if3 .left)) (says-no
+    (c2 .before .before .before .if4 .left) (c3 .deep .ensures)) (c2 .keep-all-open .ensures) (c1 .top-of .ensures)
+    (c2 .keep-all-open .kept .1 .1 .1 .1 .0) (c .before .before .least .ensures) .0)
+    (λ c. let c1 = c .before .before .before .before .before .before .before in let c2 = c1 .before .before .before .before .before in
+    let c3 = c2 .before .before .before .before in let c4 = c3 .before .before .before .before .before .before .before .before .before
+    .before in let x = lay-asked (c4 .pre .1) (is-row _ (c3 .before .before .if2 .left) (c3 .before .if3 .left)) (says-no
+    (c2 .before .before .before .if4 .left) (c3 .deep .ensures)) (c2 .keep-all-open .ensures) (c1 .before .before .top-of .ensures)
+    (c2 .keep-all-open .kept .1 .1 .1 .1 .0) (c1 .least .ensures) .2 in omega arith)
+    (λ c κs. let c1 = c .before .before .before .before .before .before .before .before .before in
+    let c2 = c1 .before .before .before .before .before in let c3 = c2 .before .before .before in
+    let c4 = c3 .before .before .before .before in let c5 = c4 .before .before .before .before .before .before .before .before .before
+    .before in call-low (walk-at (c5 .pre .1) (is-row _ (c4 .before .before .if2 .left) (c4 .before .if3 .left)) (says-no
+    (c3 .before .before .before .if4 .left) (c4 .deep .ensures)) (c3 .keep-all-open .ensures) (c2 .top-of .ensures)
+    (c3 .keep-all-open .kept .1 .1 .1 .1 .0) (c1 .before .before .before .least .ensures) (c1 .lay .ensures)) (c5 .pre .0)
+    (c1 .lay .kept .1 .1 .1 .1 .1 .1 .1 .1 .0 ∙ c3 .keep-all-open .kept .1 .1 .1 .1 .0) (c1 .lay .kept .1 .1 .1 .1 .1 .1 .1 .1 .1 .0))
+    (λ c. let c1 = c .before .before .before .before .before .before .before .before .before .before .before in
+    let c2 = c1 .before .before .before .before .before .before .before .before .before .before in
+    let c3 = c2 .before .before .before .before .before .before .before .before in
+    c1 .apart .kept .1 .1 .1 .1 .1 .1 .1 .1 .1 .0 ∙ c2 .lay .kept .1 .1 .1 .1 .1 .1 .1 .1 .0 ∙ c3 .keep-all-open .kept .1 .1 .1 .1 .0)
+    (λ c. let c1 = c .before .before .before .before .before .before .before .before .before .before .before in
+    let c2 = c1 .before .before .before .before .before .before .before .before .before .before in
+    c1 .apart .kept .1 .1 .1 .1 .1 .1 .1 .1 .1 .1 .0 ∙ c2 .lay .kept .1 .1 .1 .1 .1 .1 .1 .1 .1 .0)
+    (λ c. let c1 = c .before .before .before .before .before .before .before .before .before .before .before in
+    c1 .apart .kept .1 .1 .1 .1 .1 .1 .1 .1 .1 .1 .1 .0)
+    (λ c. let c1 = c .before .before .before .before .before .before .before .before .before .before .before in
+    c1 .apart .kept .1 .1 .1 .1 .1 .1 .1 .1 .1 .1 .1 .1 .0)
+    (λ c. let c1 = c .before .before .before .before .before .before .before .before .before .before .before in
+    c1 .apart .kept .1 .1 .1 .1 .1 .1 .1 .1 .1 .1 .1 .1 .1 .0)
+    (λ c. let c1 = c .before .before .before .before .before .before .before .before .before .before .before in
+    let c2 = c1 .before .before .before .before .before .before .before .before .before .before in
+    let c3 = c2 .before .before .before .before .before in let c4 = c3 .before .before .before in
+    let c5 = c4 .before .before .before .before in let c6 = c5 .before .before .before .before .before .before .before .before .before
+    .before in low-fails (walk-at (c6 .pre .1) (is-row _ (c5 .before .before .if2 .left) (c5 .before .if3 .left)) (says-no
+    (c4 .before .before .before .if4 .left) (c5 .deep .ensures)) (c4 .keep-all-open .ensures) (c3 .top-of .ensures)
+    (c4 .keep-all-open .kept .1 .1 .1 .1 .0) (c2 .before .before .before .least .ensures) (c2 .lay .ensures)) (c1 .apart .ensures)
+    (c .if5 .taken))
+    (λ c. let c1 = c .before .before .before .before .before .before .before .before .before .before .before .before .before .before
+    .before .before .before .before .before .before .before .before .before .before in
+    let c2 = c1 .before .before .before .before .before in let c3 = c2 .before .before .before .before in
+    let c4 = c3 .before .before .before .before .before .before .before .before .before .before in
+    let x = lay-asked (c4 .pre .1) (is-row _ (c3 .before .before .if2 .left) (c3 .before .if3 .left)) (says-no
+    (c2 .before .before .before .if4 .left) (c3 .deep .ensures)) (c2 .keep-all-open .ensures) (c1 .before .before .top-of .ensures)
+    (c2 .keep-all-open .kept .1 .1 .1 .1 .0) (c1 .least .ensures) .2 in omega arith)
+    (λ c κs. let c1 = c .before .before .before .before .before .before .before .before .before .before .before .before .before .before
+    .before .before in let c2 = c1 .before .before .before .before .before .before .before .before .before .before in
+    let c3 = c2 .before .before .before .before .before in let c4 = c3 .before .before .before in
+    let c5 = c4 .before .before .before .before in let c6 = c5 .before .before .before .before .before .before .before .before .before
+    .before in call-high (walk-at (c6 .pre .1) (is-row _ (c5 .before .before .if2 .left) (c5 .before .if3 .left)) (says-no
+    (c4 .before .before .before .if4 .left) (c5 .deep .ensures)) (c4 .keep-all-open .ensures) (c3 .top-of .ensures)
+    (c4 .keep-all-open .kept .1 .1 .1 .1 .0) (c2 .before .before .before .least .ensures) (c2 .lay .ensures)) (c1 .apart .ensures)
+    (c6 .pre .0) (c1 .apart .kept .1 .1 .1 .1 .1 .1 .1 .1 .1 .0 ∙ c2 .lay .kept .1 .1 .1 .1 .1 .1 .1 .1 .0 ∙ c4 .keep-all-open .kept .1
+    .1 .1 .1 .0) (c1 .apart .kept .1 .1 .1 .1 .1 .1 .1 .1 .1 .1 .0 ∙ c2 .lay .kept .1 .1 .1 .1 .1 .1 .1 .1 .1 .0)
+    (c1 .apart .kept .1 .1 .1 .1 .1 .1 .1 .1 .1 .1 .1 .0) (c1 .apart .kept .1 .1 .1 .1 .1 .1 .1 .1 .1 .1 .1 .1 .0)
+    (c1 .apart .kept .1 .1 .1 .1 .1 .1 .1 .1 .1 .1 .1 .1 .1 .0))
+    (λ c. let c1 = c .before .before .before .before .before .before .before .before .before .before .before in
+    let c2 = c1 .before .before .before .before .before .before .before .before .before .before .before .before .before .before .before
+    .before .before in let c3 = c2 .before .before .before .before .before .before .before .before .before .before in
+    let c4 = c3 .before .before .before .before .before .before .before .before in
+    c1 .apart2 .kept .1 .1 .1 .1 .1 .1 .1 .1 .1 .0 ∙ c2 .apart .kept .1 .1 .1 .1 .1 .1 .1 .1 .1 .0 ∙ c3 .lay .kept .1 .1 .1 .1 .1 .1 .1
+    .1 .0 ∙ c4 .keep-all-open .kept .1 .1 .1 .1 .0)
+    (λ c. let c1 = c .before .before .before .before .before .before .before .before .before .before .before in
+    let c2 = c1 .before .before .before .before .before .before .before .before .before .before .before .before .before .before .before
+    .before .before in let c3 = c2 .before .before .before .before .before .before .before .before .before .before in
+    c1 .apart2 .kept .1 .1 .1 .1 .1 .1 .1 .1 .1 .1 .0 ∙ c2 .apart .kept .1 .1 .1 .1 .1 .1 .1 .1 .1 .1 .0 ∙ c3 .lay .kept .1 .1 .1 .1 .1
+    .1 .1 .1 .1 .0)
+    (λ c. let c1 = c .before .before .before .before .before .before .before .before .before .before .before in
+    let c2 = c1 .before .before .before .before .before .before .before .before .before .before .before .before .before .before .before
+    .before .before in c1 .apart2 .kept .1 .1 .1 .1 .1 .1 .1 .1 .1 .1 .1 .0 ∙ c2 .apart .kept .1 .1 .1 .1 .1 .1 .1 .1 .1 .1 .1 .0)
+    (λ c. let c1 = c .before .before .before .before .before .before .before .before .before .before .before in
+    let c2 = c1 .before .before .before .before .before .before .before .before .before .before .before .before .before .before .before
+    .before .before in c1 .apart2 .kept .1 .1 .1 .1 .1 .1 .1 .1 .1 .1 .1 .1 .0 ∙ c2 .apart .kept .1 .1 .1 .1 .1 .1 .1 .1 .1 .1 .1 .1 .0)
+    (λ c. let c1 = c .before .before .before .before .before .before .before .before .before .before .before in
+    let c2 = c1 .before .before .before .before .before .before .before .before .before .before .before .before .before .before .before
+    .before .before in c1 .apart2 .kept .1 .1 .1 .1 .1 .1 .1 .1 .1 .1 .1 .1 .1 .0 ∙ c2 .apart .kept .1 .1 .1 .1 .1 .1 .1 .1 .1 .1 .1 .1
+    .1 .0)
+    (λ c. let c1 = c .before .before .before .before .before .before .before .before .before .before .before in
+    let c2 = c1 .before .before .before .before .before .before .before .before .before .before .before .before .before .before .before
+    .before .before in let c3 = c2 .before .before .before .before .before .before .before .before .before .before in
+    let c4 = c3 .before .before .before .before .before in let c5 = c4 .before .before .before in
+    let c6 = c5 .before .before .before .before in let c7 = c6 .before .before .before .before .before .before .before .before .before
+    .before in high-fails (walk-at (c7 .pre .1) (is-row _ (c6 .before .before .if2 .left) (c6 .before .if3 .left)) (says-no
+    (c5 .before .before .before .if4 .left) (c6 .deep .ensures)) (c5 .keep-all-open .ensures) (c4 .top-of .ensures)
+    (c5 .keep-all-open .kept .1 .1 .1 .1 .0) (c3 .before .before .before .least .ensures) (c3 .lay .ensures)) (c2 .apart .ensures)
+    (c1 .apart2 .ensures) (c .if6 .taken))
+    (λ c κs. let c1 = c .before .before .before .before .before .before .before .before .before .before .before .before .before in
+    let c2 = c1 .before .before .before .before .before .before .before .before .before .before .before .before .before .before .before
+    .before .before in let c3 = c2 .before .before .before .before .before .before .before .before .before .before in
+    let c4 = c3 .before .before .before .before .before .before .before .before in
+    let c5 = c4 .before .before .before .before .before .before .before .before .before .before .before .before .before .before in
+    let o = c5 .pre .1 .lists .order in let o1 = o .1 in let z = c5 .pre .1 .lists .room .0 in let y = c5 .pre .1 .room in
+    let g = c4 .keep-all-open .ensures in let g1 = g .most in
+    let e = c1 .apart2 .kept .1 .1 .1 .1 .1 .1 .1 .1 .1 .0 ∙ c2 .apart .kept .1 .1 .1 .1 .1 .1 .1 .1 .1 .0 ∙ c3 .lay .kept .1 .1 .1 .1
+    .1 .1 .1 .1 .0 ∙ c4 .keep-all-open .kept .1 .1 .1 .1 .0 in (
+      c1 .apart2 .kept .1 .1 .1 .1 .1 .1 .1 .1 .1 .1 .1 .0 ∙ c2 .apart .kept .1 .1 .1 .1 .1 .1 .1 .1 .1 .1 .1 .0 ∙ c5 .pre .1 .asks
+          .size,
+      g .least,
+      omega arith,
+    ))
+    (λ c. let c1 = c .before .before .before .before .before .before .before .before .before .before .before .before .before .before
+    .before .before in let c2 = c1 .before .before .before .before .before .before .before .before .before .before .before .before
+    .before .before .before .before .before in let c3 = c2 .before .before .before .before .before .before .before .before .before
+    .before in let c4 = c3 .before .before .before .before .before .before .before .before in
+    c1 .apart2 .kept .1 .1 .1 .1 .1 .1 .1 .1 .1 .0 ∙ c2 .apart .kept .1 .1 .1 .1 .1 .1 .1 .1 .1 .0 ∙ c3 .lay .kept .1 .1 .1 .1 .1 .1 .1
+    .1 .0 ∙ c4 .keep-all-open .kept .1 .1 .1 .1 .0)
+    (λ c. let c1 = c .before .before .before .before .before .before .before .before .before .before .before .before .before .before
+    .before .before in let c2 = c1 .before .before .before .before .before .before .before .before .before .before .before .before
+    .before .before .before .before .before in let c3 = c2 .before .before .before .before .before .before .before .before .before
+    .before in c1 .apart2 .kept .1 .1 .1 .1 .1 .1 .1 .1 .1 .1 .0 ∙ c2 .apart .kept .1 .1 .1 .1 .1 .1 .1 .1 .1 .1 .0 ∙ c3 .lay .kept .1
+    .1 .1 .1 .1 .1 .1 .1 .1 .0)
+    (λ c. let c1 = c .before .before .before .before .before .before .before .before .before .before .before .before .before .before
+    .before .before in let c2 = c1 .before .before .before .before .before .before .before .before .before .before .before .before
+    .before .before .before .before .before in c .before .before .remember-all .kept .1 .1 .1 .1 .0 ∙ c1 .apart2 .kept .1 .1 .1 .1 .1
+    .1 .1 .1 .1 .1 .1 .0 ∙ c2 .apart .kept .1 .1 .1 .1 .1 .1 .1 .1 .1 .1 .1 .0)
+    (λ c. let c1 = c .before .before .before .before .before .before .before .before .before .before .before .before .before .before
+    .before .before in let c2 = c1 .before .before .before .before .before .before .before .before .before .before .before .before
+    .before .before .before .before .before in c1 .apart2 .kept .1 .1 .1 .1 .1 .1 .1 .1 .1 .1 .1 .1 .0 ∙ c2 .apart .kept .1 .1 .1 .1 .1
+    .1 .1 .1 .1 .1 .1 .1 .0)
+    (λ c. let c1 = c .before .before .before .before .before .before .before .before .before .before .before .before .before .before
+    .before .before in let c2 = c1 .before .before .before .before .before .before .before .before .before .before .before .before
+    .before .before .before .before .before in c1 .apart2 .kept .1 .1 .1 .1 .1 .1 .1 .1 .1 .1 .1 .1 .1 .0 ∙ c2 .apart .kept .1 .1 .1 .1
+    .1 .1 .1 .1 .1 .1 .1 .1 .1 .0)
+    (λ c. let c1 = c .before .before .before .before .before in
+    let c2 = c1 .before .before .before .before .before .before .before .before .before .before .before in
+    let c3 = c2 .before .before .before .before .before .before in
+    let c4 = c3 .before .before .before .before .before .before .before .before .before .before .before in
+    let c5 = c4 .before .before .before .before .before .before .before .before .before .before in
+    let c6 = c5 .before .before .before .before .before in let c7 = c6 .before .before .before in
+    let c8 = c7 .before .before .before .before in let c9 = c8 .before .before .before .before .before .before .before .before .before
+    .before in both-pass (walk-at (c9 .pre .1) (is-row _ (c8 .before .before .if2 .left) (c8 .before .if3 .left)) (says-no
+    (c7 .before .before .before .if4 .left) (c8 .deep .ensures)) (c7 .keep-all-open .ensures) (c6 .top-of .ensures)
+    (c7 .keep-all-open .kept .1 .1 .1 .1 .0) (c5 .before .before .before .least .ensures) (c5 .lay .ensures)) (c4 .apart .ensures)
+    (c2 .apart2 .ensures) (c3 .if5 .left) (c1 .if6 .left) (c .before .before .remember-all .ensures))

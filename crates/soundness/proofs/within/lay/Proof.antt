@@ -11,26 +11,49 @@ use Rattle.soundness.proofs.within.lay.Reads as reads
 use Rattle.soundness.proofs.within.lay.Lts as lts
 use Rattle.soundness.proofs.within.halve.Reads as halve-reads
 use Rattle.soundness.proofs.within.halves.Reads as halves-reads
+use Rattle.soundness.proofs.within.cut.Reads as cut-reads
 use Rattle.soundness.proofs.within.top_of.Reads as top-of-reads
-
 
 pub lay-spec : {M : Type 1} → statement M
 lay-spec =
     tie.close
     (tie.spec
-    (λ c κs. (c .before .before .before .pre .lists .good, c .before .before .before .pre .arrow, c .before .before .before .pre .is-row, c .before .before .before .pre .shift))
-    (λ c κs. let r = row-at (view (c .before .before .before .before .args .rows) (c .before .before .before .before .args .words .now)) _ (c .before .before .before .before .pre .lists .good) (c .before .before .before .before .pre .arrow) (c .before .before .before .before .pre .is-row) in (c .before .before .before .before .pre .is-row, r .row, c .before .before .before .before .pre .lists .good .sizes .room))
-    (λ c κs. let o = c .before .before .before .before .before .before .before .pre .lists .order .2 in let m = c .before .before .before .before .before .before .before .pre .room in (c .before .before .before .before .before .before .before .pre .lists, omega arith, omega arith, omega arith))
-    (λ c κs. let o = c .before .before .before .before .before .before .before .before .before .before .before .before .before .before .before .pre .lists .order .2 in let m = c .before .before .before .before .before .before .before .before .before .before .before .before .before .before .before .pre .room in let h = c .before .before .before .before .before .before .before .halves .ensures in let n = h .least in let u = h .most in (halves-again (c .before .before .before .before .before .before .before .before .before .before .before .before .before .before .before .pre .lists) h (c .before .before .before .before .before .before .before .halves .kept .1 .1 .1 .1 .1 .1 .1 .1 .0) (c .before .before .before .before .before .before .before .halves .kept .1 .1 .1 .1 .1 .1 .1 .1 .1 .0), n, omega arith, omega arith))
-    (λ c. let n = c .before .before .before .before .before .before .before .before .before .before .before .before .halves .ensures .least in let u = c .before .before .before .before .halves2 .ensures .least in omega arith)
-    (λ c. let m = c .before .before .before .before .before .before .before .before .before .before .before .before .before .before .before .before .before .before .before .before .before .pre .room in omega arith)
+    (λ c κs. let c1 = c .before .before .before in (c1 .pre .lists .good, c1 .pre .arrow, c1 .pre .is-row, c1 .pre .shift))
+    (λ c κs. let c1 = c .before .before .before .before in let r = row-at (view (c1 .args .rows) (c1 .args .words .now)) _
+    (c1 .pre .lists .good) (c1 .pre .arrow) (c1 .pre .is-row) in (c1 .pre .is-row, r .row, c1 .pre .lists .good .sizes .room))
+    (λ c κs. let c1 = c .before .before .before .before .before .before .before in let o = c1 .pre .lists .order .2 in
+    let m = c1 .pre .room in (c1 .pre .lists, omega arith, omega arith, omega arith))
+    (λ c κs. let c1 = c .before .before .before .before .before .before .before in
+    let c2 = c1 .before .before .before .before .before .before .before .before in let o = c2 .pre .lists .order .2 in
+    let m = c2 .pre .room in let h = c1 .halves .ensures in let n = h .least in let u = h .most in (
+      halves-again (c2 .pre .lists) h (c1 .halves .kept .1 .1 .1 .1 .1 .1 .1 .1 .0)
+          (c1 .halves .kept .1 .1 .1 .1 .1 .1 .1 .1 .1 .0),
+      n,
+      omega arith,
+      omega arith,
+    ))
+    (λ c κs. let c1 = c .before .before .before .before in let c2 = c1 .before .before .before .before .before .before .before .before
+    in let c3 = c2 .before .before .before .before .before .before .before .before in let o = c3 .pre .lists .order .2 in
+    let m = c3 .pre .room in let h = c2 .halves .ensures in let h1 = h .least in let h2 = h .most in let g = c1 .halves2 .ensures in
+    let g1 = g .least in let g2 = g .most in (omega arith, omega arith, omega arith))
     (λ c. search needs)
     (λ c. search needs)
-    (λ c. let o = c .before .before .before .before .before .before .before .before .before .before .before .before .before .before .before .before .before .before .before .before .before .pre .lists .order .2 in let h = c .before .before .before .before .before .before .before .before .before .before .before .before .before .halves .ensures in let h1 = h .least in let h2 = h .most in let g = c .before .before .before .before .before .halves2 .ensures in let g1 = g .least in let g2 = g .most in let t = c .if2 .taken in laid-whole (c .before .before .before .before .before .before .before .before .before .before .before .before .before .before .before .before .before .before .before .before .before .pre) (c .before .before .before .before .before .before .before .before .before .before .before .before .before .before .before .before .before .top-of .ensures) (c .before .before .before .before .before .before .before .before .before .before .before .before .before .before .before .before .halve .ensures) (c .before .before .before .before .before .before .before .before .if1 .taken) h g (omega arith) (omega arith) (omega arith) (omega arith))
+    (λ c. let c1 = c .before .before .before .before .before in
+    let c2 = c1 .before .before .before .before .before .before .before .before in let c3 = c2 .before .before .before .before in
+    let c4 = c3 .before .before .before .before in let e = c .cut .ensures in
+    laid-whole (c4 .pre) (c3 .top-of .ensures) (c2 .before .before .before .halve .ensures) (c1 .before .before .before .if1 .taken)
+    (c2 .halves .ensures) (c1 .halves2 .ensures) (e .0) (e .1) (e .2) (e .3))
+    (λ c κs. let c1 = c .before .before .before .before .before .before .before in
+    let c2 = c1 .before .before .before .before .before .before .before .before in let o = c2 .pre .lists .order .2 in
+    let m = c2 .pre .room in let h = c1 .halves .ensures in let n = h .least in let u = h .most in (
+      halves-again (c2 .pre .lists) h (c1 .halves .kept .1 .1 .1 .1 .1 .1 .1 .1 .0)
+          (c1 .halves .kept .1 .1 .1 .1 .1 .1 .1 .1 .1 .0),
+      omega arith,
+      omega arith,
+      omega arith,
+    ))
     (λ c. search needs)
     (λ c. search needs)
-    (λ c. let o = c .before .before .before .before .before .before .before .before .before .before .before .before .before .before .before .before .before .before .before .before .before .pre .lists .order .2 in let h = c .before .before .before .before .before .before .before .before .before .before .before .before .before .halves .ensures in let h1 = h .least in let h2 = h .most in let g = c .before .before .before .before .before .halves2 .ensures in let g1 = g .least in let g2 = g .most in let t = c .if2 .left in laid-whole (c .before .before .before .before .before .before .before .before .before .before .before .before .before .before .before .before .before .before .before .before .before .pre) (c .before .before .before .before .before .before .before .before .before .before .before .before .before .before .before .before .before .top-of .ensures) (c .before .before .before .before .before .before .before .before .before .before .before .before .before .before .before .before .halve .ensures) (c .before .before .before .before .before .before .before .before .if1 .taken) h g (omega arith) (omega arith) (omega arith) (omega arith))
-    (λ c κs. let o = c .before .before .before .before .before .before .before .before .before .before .before .before .before .before .before .pre .lists .order .2 in let m = c .before .before .before .before .before .before .before .before .before .before .before .before .before .before .before .pre .room in let h = c .before .before .before .before .before .before .before .halves .ensures in let n = h .least in let u = h .most in (halves-again (c .before .before .before .before .before .before .before .before .before .before .before .before .before .before .before .pre .lists) h (c .before .before .before .before .before .before .before .halves .kept .1 .1 .1 .1 .1 .1 .1 .1 .0) (c .before .before .before .before .before .before .before .halves .kept .1 .1 .1 .1 .1 .1 .1 .1 .1 .0), omega arith, omega arith, omega arith))
-    (λ c. search needs)
-    (λ c. search needs)
-    (λ c. laid-halves (c .before .before .before .before .before .before .before .before .before .before .before .before .before .before .before .before .before .before .before .before .pre) (c .before .before .before .before .before .before .before .before .before .before .before .before .before .before .before .before .top-of .ensures) (c .before .before .before .before .before .before .before .before .before .before .before .before .before .before .before .halve .ensures) (c .before .before .before .before .before .before .before .before .before .before .before .before .halves .ensures) (c .before .before .before .before .halves3 .ensures)))
+    (λ c. let c1 = c .before .before .before .before in let c2 = c1 .before .before .before .before .before .before .before .before in
+    let c3 = c2 .before .before .before .before in let c4 = c3 .before .before .before .before in
+    laid-halves (c4 .pre) (c3 .top-of .ensures) (c2 .before .before .before .halve .ensures) (c2 .halves .ensures) (c1 .halves3 .ensures)))

@@ -27,8 +27,14 @@ least-spec =
     (λ c. (omega arith, c .before .before .pre .order, least-none))
     (λ c. search needs)
     (λ c. let t = c .before .loop-test .taken in let p = c .before .before .before .before .before .pre .within in omega arith)
-    (λ c κs. (c .before .before .before .before .before .pre .good, c .before .before .before .before .before .pre .each _ (c .before .before .loop .inv .0) (c .before .loop-test .taken), let m = c .before .before .before .before .before .pre .most in let o = c .before .before .loop .inv .2 in let n = o .most in omega arith))
+    (λ c κs. let c1 = c .before .before in let c2 = c1 .before .before .before in (
+      c2 .pre .good,
+      c2 .pre .each _ (c1 .loop .inv .0) (c .before .loop-test .taken),
+      let m = c2 .pre .most in
+          let o = c1 .loop .inv .2 in let n = o .most in omega arith,
+    ))
     (λ c. let t = c .before .before .loop-test .taken in omega arith)
     (λ c. let t = c .before .before .loop-test .taken in omega arith)
-    (λ c. let t = c .before .before .loop-test .taken in let h = c .before .before .before .loop .inv .0 in (omega arith, omega arith, least-more (c .before .before .before .loop .inv .2) h refl (c .lesser .ensures)))
+    (λ c. let c1 = c .before .before .before in let t = c .before .before .loop-test .taken in let h = c1 .loop .inv .0 in
+    (omega arith, omega arith, least-more (c1 .loop .inv .2) h refl (c .lesser .ensures)))
     (λ c. let t = c .loop-test .left in least-done (c .before .loop .inv .2) (c .before .loop .inv .1) (omega arith)))

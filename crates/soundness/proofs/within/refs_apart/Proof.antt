@@ -15,7 +15,6 @@ use Rattle.soundness.proofs.within.apart.Reads as apart-reads
 use Rattle.soundness.proofs.within.base_of.Reads as base-of-reads
 use Rattle.soundness.proofs.within.list_refs.Reads as list-refs-reads
 
-
 pub refs-apart-spec : {M : Type 1} → statement M
 refs-apart-spec =
     tie.close
@@ -25,11 +24,24 @@ refs-apart-spec =
     (λ c κs. search needs)
     (λ c. search needs)
     (λ c. search needs)
-    (λ c κs. let w = c .before .before .before .before .before .before .pre .roots .good .sizes .room in (c .before .before .before .before .before .before .pre .roots .order, c .before .before .before .before .before .before .pre .roots .some, c .before .before .before .before .before .before .pre .roots .within, omega arith, length-replicate {A = ℕ} ROOM 0, length-replicate {A = ℕ} FOUND 0))
+    (λ c κs. let c1 = c .before .before .before .before .before .before in let w = c1 .pre .roots .good .sizes .room in (
+      c1 .pre .roots .order,
+      c1 .pre .roots .some,
+      c1 .pre .roots .within,
+      omega arith,
+      length-replicate {A = ℕ} ROOM 0,
+      length-replicate {A = ℕ} FOUND 0,
+    ))
     (λ c. search needs)
     (λ c. search needs)
     (λ c. search needs)
     (λ c. search needs)
-    (λ c κs. walk-asked (c .before .before .before .before .before .before .before .before .before .before .before .before .before .before .pre) (c .before .before .before .before .before .before .before .before .before .before .base-of .ensures ∙ ap (λ (k : ℕ). 2 * k - 10) (c .before .before .before .before .before .before .before .before .before .before .before .header-word .ensures)) (c .before .before .before .before .before .before .before .list-refs .ensures) (c .before .before .before .before .before .before .before .list-refs .kept .1 .1 .1 .0 ∙ length-replicate {A = ℕ} ROOM 0) (c .before .before .before .before .before .before .before .list-refs .kept .1 .1 .1 .1 .0 ∙ length-replicate {A = ℕ} FOUND 0))
+    (λ c κs. let c1 = c .before .before .before .before .before .before .before in let c2 = c1 .before .before .before .before in
+    let c3 = c2 .before .before .before in walk-asked (c3 .pre) (c1 .before .before .before .base-of .ensures ∙ ap (λ
+    (k : ℕ). 2 * k - 10) (c2 .header-word .ensures)) (c1 .list-refs .ensures)
+    (c1 .list-refs .kept .1 .1 .1 .0 ∙ length-replicate {A = ℕ} ROOM 0)
+    (c1 .list-refs .kept .1 .1 .1 .1 .0 ∙ length-replicate {A = ℕ} FOUND 0))
     (λ c. c .before .before .before .before .before .before .apart .kept .1 .1 .1 .1 .1 .1 .1 .1 .1 .1 .1 .1 .0)
-    (λ c. refs-told (c .before .before .before .before .before .before .before .before .before .before .before .before .before .before .list-refs .ensures) (c .before .before .before .before .before .before .apart .ensures)))
+    (λ c. let c1 = c .before .before .before .before .before .before in
+    let c2 = c1 .before .before .before .before .before .before .before .before in
+    refs-told (c2 .list-refs .ensures) (c1 .apart .ensures)))

@@ -20,7 +20,8 @@ use Rattle.soundness.proofs.tables.disjoint.Reads as disjoint-reads
 use Rattle.soundness.proofs.tables.set_cells.Reads as set-cells-reads
 
 abbrev Inv-loop : tie.InvT-loop
-Inv-loop words rows shift base b from to list first₀ second y k₀ first k = (from ≤ k) × (k ≤ to) × (length first ≡ length first₀) × Known (view rows words) base shift 0 first × ListApart (view rows words) shift list from k b
+Inv-loop words rows shift base b from to list first₀ second y k₀ first k = (from ≤ k) × (k ≤ to) ×
+    (length first ≡ length first₀) × Known (view rows words) base shift 0 first × ListApart (view rows words) shift list from k b
 
 abbrev μ-loop : tie.MeasureT-loop
 μ-loop words rows shift base b from to list first₀ second y k₀ first k = to - k
@@ -33,17 +34,49 @@ tables-apart-spec =
     μ-loop
     (λ c κs. c .before .before .before .before .pre .is-row)
     (λ c κs. table-second (c .before .before .before .before .before .before .pre))
-    (λ c. (omega arith, c .before .before .before .before .before .before .before .before .before .pre .order, refl, c .before .before .before .before .before .before .before .before .before .pre .lists .first, apart-none (view (c .before .before .before .before .before .before .before .before .before .args .rows) (c .before .before .before .before .before .before .before .before .before .args .words .now)) (c .before .before .before .before .before .before .before .before .before .args .list .now)))
+    (λ c. let c1 = c .before .before .before .before .before .before .before .before .before in (
+      omega arith,
+      c1 .pre .order,
+      refl,
+      c1 .pre .lists .first,
+      apart-none (view (c1 .args .rows) (c1 .args .words .now))
+          (c1 .args .list .now),
+    ))
     (λ c. search needs)
-    (λ c. let t = c .before .loop-test .taken in let p = c .before .before .before .before .before .before .before .before .before .before .before .before .pre .within in omega arith)
-    (λ c κs. table-first (c .before .before .before .before .before .before .before .before .before .before .before .before .before .pre) (c .before .before .before .loop .inv .0) (c .before .before .loop-test .taken) refl (c .before .before .before .loop .inv .2) (c .before .before .before .loop .inv .3))
+    (λ c. let c1 = c .before .before .before .before .before .before .before .before .before .before .before .before in
+    let t = c .before .loop-test .taken in let p = c1 .pre .within in omega arith)
+    (λ c κs. let c1 = c .before .before .before in let c2 = c1 .before .before .before .before .before .before .before .before .before
+    .before in table-first (c2 .pre) (c1 .loop .inv .0) (c .before .before .loop-test .taken) refl (c1 .loop .inv .2) (c1 .loop .inv .3))
     (λ c κs. search needs)
-    (λ c. c .before .before .before .before .arrow-cells .kept .1 .1 .1 .1 .1 .1 .0 ∙ c .before .before .before .before .before .before .before .before .loop .inv .2)
+    (λ c. let c1 = c .before .before .before .before in let c2 = c1 .before .before .before .before in
+    c1 .arrow-cells .kept .1 .1 .1 .1 .1 .1 .0 ∙ c2 .loop .inv .2)
     (λ c. c .before .before .before .before .before .before .before .before .before .before .before .set-cells .kept .1 .1 .1 .1 .1 .1 .0)
-    (λ c. record { says = fails (λ q. says-fail (c .if1 .taken) (by-tables (c .before .before .before .before .before .before .before .before .before .before .before .before .before .before .before .before .before .before .pre) (c .before .before .before .before .arrow-cells .ensures) (c .before .before .before .before .before .before .before .before .before .before .before .set-cells .ensures) (c .before .disjoint .ensures)) (q _ (c .before .before .before .before .before .before .before .before .loop .inv .0) (c .before .before .before .before .before .before .before .loop-test .taken))); first = c .before .before .before .before .arrow-cells .ensures .known; second = c .before .before .before .before .before .before .before .before .before .before .before .set-cells .ensures .sets })
+    (λ c. let c1 = c .before .before .before .before in let c2 = c1 .before .before .before .before in
+    let c3 = c2 .before .before .before in let c4 = c3 .before .before .before .before .before .before .before in
+    record {
+      says = fails (λ q. says-fail (c .if1 .taken) (by-tables (c4 .pre) (c1 .arrow-cells .ensures) (c3 .set-cells .ensures)
+          (c .before .disjoint .ensures)) (q _ (c2 .loop .inv .0)
+          (c1 .before .before .before .loop-test .taken)));
+      first = c1 .arrow-cells .ensures .known;
+      second = c3 .set-cells .ensures .sets;
+    })
     (λ c. let t = c .before .before .before .before .before .before .before .loop-test .taken in omega arith)
     (λ c. let t = c .before .before .before .before .before .before .before .loop-test .taken in omega arith)
-    (λ c. let t = c .before .before .before .before .before .before .before .loop-test .taken in let h = c .before .before .before .before .before .before .before .before .loop .inv .0 in (omega arith, omega arith, c .before .before .before .before .arrow-cells .kept .1 .1 .1 .1 .1 .1 .0 ∙ c .before .before .before .before .before .before .before .before .loop .inv .2, c .before .before .before .before .arrow-cells .ensures .known, apart-more (view (c .before .before .before .before .before .before .before .before .before .before .before .before .before .before .before .before .before .before .args .rows) (c .before .before .before .before .before .before .before .before .before .before .before .before .before .before .before .before .before .before .args .words .now)) (c .before .before .before .before .before .before .before .before .before .before .before .before .before .before .before .before .before .before .args .list .now) (c .before .before .before .before .before .before .before .before .loop .inv .4) refl (says-pass (c .if1 .left) (by-tables (c .before .before .before .before .before .before .before .before .before .before .before .before .before .before .before .before .before .before .pre) (c .before .before .before .before .arrow-cells .ensures) (c .before .before .before .before .before .before .before .before .before .before .before .set-cells .ensures) (c .before .disjoint .ensures)))))
+    (λ c. let c1 = c .before .before .before .before in let c2 = c1 .before .before .before .before in
+    let c3 = c2 .before .before .before .before .before .before .before .before .before .before in
+    let t = c1 .before .before .before .loop-test .taken in let h = c2 .loop .inv .0 in (
+      omega arith,
+      omega arith,
+      c1 .arrow-cells .kept .1 .1 .1 .1 .1 .1 .0 ∙ c2 .loop .inv .2,
+      c1 .arrow-cells .ensures .known,
+      apart-more (view (c3 .args .rows) (c3 .args .words .now)) (c3 .args .list .now) (c2 .loop .inv .4) refl (says-pass (c .if1 .left)
+          (by-tables (c3 .pre) (c1 .arrow-cells .ensures) (c2 .before .before .before .set-cells .ensures) (c .before .disjoint .ensures))),
+    ))
     (λ c. c .before .loop .inv .2)
     (λ c. c .before .before .before .before .set-cells .kept .1 .1 .1 .1 .1 .1 .0)
-    (λ c. record { says = holds (λ j lo hi. let t = c .loop-test .left in c .before .loop .inv .4 j lo (omega arith)); first = c .before .loop .inv .3; second = c .before .before .before .before .set-cells .ensures .sets }))
+    (λ c. let c1 = c .before in let c2 = c1 .before .before .before in record {
+      says = holds (λ j lo hi. let t = c .loop-test .left in
+          c1 .loop .inv .4 j lo (omega arith));
+      first = c1 .loop .inv .3;
+      second = c2 .set-cells .ensures .sets;
+    }))

@@ -2,13 +2,12 @@
 use native.Mathlib.Omega.{arith}
 use Rattle.soundness.proofs.ListsLaws.{pushed-not, pushed-new}
 use borrow.Author.Needs.{needs}
-use Rattle.soundness.proofs.within.push.Statement.{statement}
-use Rattle.soundness.proofs.within.push.Tie as tie
-use Rattle.soundness.proofs.within.push.Reads as reads
-use Rattle.soundness.proofs.within.push.Lts as lts
-use Rattle.soundness.proofs.within.slot.Reads as slot-reads
-use Rattle.soundness.proofs.within.stands.Reads as stands-reads
-
+use Rattle.soundness.proofs.arrows.push.Statement.{statement}
+use Rattle.soundness.proofs.arrows.push.Tie as tie
+use Rattle.soundness.proofs.arrows.push.Reads as reads
+use Rattle.soundness.proofs.arrows.push.Lts as lts
+use Rattle.soundness.proofs.arrows.slot.Reads as slot-reads
+use Rattle.soundness.proofs.arrows.stands.Reads as stands-reads
 
 pub push-spec : {M : Type 1} → statement M
 push-spec =
@@ -29,4 +28,5 @@ push-spec =
     (λ c. search needs)
     (λ c. search needs)
     (λ c. search needs)
-    (λ c. pushed-new _ (c .before .before .before .before .before .before .before .before .pre .0) (c .before .before .before .before .before .before .before .before .pre .1) (c .before .before .before .before .before .if1 .left)))
+    (λ c. let c1 = c .before .before .before .before .before in let c2 = c1 .before .before .before in
+    pushed-new _ (c2 .pre .0) (c2 .pre .1) (c1 .if1 .left)))
