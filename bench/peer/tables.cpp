@@ -3,7 +3,8 @@
 //   tiny, few, mid, random   drawn states, and relations of drawn pairs of them (n 4, 8, 10, 16)
 //   below, parity, onehot    n 16, few rows
 //   tree, tree2, xor         relations that branch on the bits that V leaves out, on V's bits, and on both: they meet the bound of the walk
-//   layers [SEED TURNS R V]  R drawn rows on each level of the relations, V on each of V's
+//   layers SEED TURNS R V    R drawn rows on each level of the relations, V on each of V's
+//   together SEED TURNS R V  the same, and rows stand where their arrows have the same place by which a list finds them
 #include "list.h"
 #include "own.h"
 #include <algorithm>
@@ -18,16 +19,18 @@ const u32 ROWS = 60000, USED = 3, VALID = 15, REGISTER = 16, RELATION = 48, NO_R
 static std::mt19937 random_bits;
 static u32 draw(u32 below) { return random_bits() % below; }
 
-// A table whose rows stand at mixed places.
+// A table whose rows stand at mixed places, or at those whose arrows fall together (`slot` in crates/soundness/src/arrows.rt).
 struct Built {
     u32 bits, used = 0;
     std::vector<u32> words, places;
     Account account;
 
-    Built(u32 n) : bits(n), words(256 + 12 * (size_t)ROWS), places(ROWS) {
+    Built(u32 n, bool together = false) : bits(n), words(256 + 12 * (size_t)ROWS), places(ROWS) {
         if (kudzuclamp_fresh(words.data(), words.size(), &account, 1, n, ROWS)) exit(1);
         std::iota(places.begin(), places.end(), 0);
         std::shuffle(places.begin(), places.end(), random_bits);
+        auto slot = [](u32 i) { return 2654435761u * (2 * i + 2) >> 23; };
+        if (together) std::sort(places.begin(), places.end(), [&](u32 i, u32 j) { return slot(i) < slot(j); });
     }
     u32 *row(u32 i) { return &words[256 + 8 * (size_t)i]; }
 
@@ -147,8 +150,8 @@ static Built branching(bool own, bool both) {
     return t;
 }
 
-static Built layers(u32 of_relations, u32 of_v) {
-    Built t(16);
+static Built layers(bool together, u32 of_relations, u32 of_v) {
+    Built t(16, together);
     u32 last = t.arrow(30, 0, 1), e = both_on(t);
     std::vector<u32> pool = {1, last};
     for (int level = 28; level >= 0; level -= 2) pool = layer(t, level, level ? of_v : 1, pool, {1, last});
@@ -170,7 +173,7 @@ static Built make(const std::string &kind, int count, char **argv) {
     if (kind == "tree") return branching(false, false);
     if (kind == "tree2") return branching(true, false);
     if (kind == "xor") return branching(false, true);
-    if (kind == "layers" && count == 6) return layers(atoi(argv[4]), atoi(argv[5]));
+    if ((kind == "layers" || kind == "together") && count == 6) return layers(kind == "together", atoi(argv[4]), atoi(argv[5]));
     fprintf(stderr, "no such kind\n");
     exit(2);
 }

@@ -1,5 +1,5 @@
 -- Laws of the walk of a list against one arrow: by tables, by halves, and what it tells. Assumes nothing.
-use mathlib.Core.Path.{_≡_, refl, sym, _∙_}
+use mathlib.Core.Path.{_≡_, refl, sym, _∙_, subst}
 use mathlib.Core.Logic.{_≢_, by-cases}
 use mathlib.Core.List.{List}
 use mathlib.Core.Bool.{Bool, true, false, not}
@@ -24,8 +24,8 @@ use Rattle.soundness.specs.Pairs.{PAIR-WORDS}
 use Rattle.soundness.proofs.PairsLaws.{right-none}
 use Rattle.soundness.specs.Contained.{AllApart, Deep, Tells, RefsPre}
 use Rattle.soundness.proofs.Contained.{low-reads, high-reads, lists-new, asks-on, told}
-use Rattle.soundness.specs.Lists.{ROOM, FOUND, Same, ListApart, KeptOpen, StaysRight, LeastPre, Least}
-use Rattle.soundness.specs.Lists.{LayPre, Laid, TablesPre, TablesPost, WalkPre, WalkTold, RefsListed}
+use Rattle.soundness.specs.Lists.{ROOM, FOUND, Same, ListApart, AllListed, KeptOpen, StaysRight, LeastPre, Least, LayPre, Laid}
+use Rattle.soundness.specs.Lists.{StepPre, Stepped, TablesPre, TablesPost, WalkPre, WalkTold, RefsListed}
 use Rattle.soundness.proofs.ListsLaws.{apart-same, listed-same, same-back, listed-from, kept-listed, kept-forth, kept-back}
 
 -- by tables: what is asked of an arrow's and of b's, and what they tell
@@ -125,85 +125,111 @@ module _ {W : View} {s base level b from to end : ℕ} {list found memo xs ys : 
     between = λ k lo hi. refl;
   }
 
-  pub least-asked : {last top : ℕ} {list1 : List ℕ} → (Deep W base b → ⊥) → KeptOpen memo s b list list1 from to last
-      → top ≡ levelOf (2 * W .header BITS) (rowsOf W) b + s → length list1 ≡ length list → LeastPre W list1 from last top
-  least-asked d k e z =
-      let o = p .lists .order in
-      let o1 = o .1 in
-      let m = k .most in
-      let y = p .room in
-      let x = p .lists .room .0 in
-      let w = p .asks .lists .last in
-      let sh = p .asks .shift in
+  pub step-asked : isRow b ≡ true → (Deep W base b → ⊥) → StepPre W s b list found from to end memo
+  step-asked u d =
       let n = before-base W b d in
+      let w = p .asks .lists .last in
+      let m = p .asks .good .sizes .n-max in
+      let sh = p .asks .shift in
+      let y = p .room in
+      let e = p .below in
       record {
-        good = p .asks .good;
-        each = kept-listed k (λ j lo hi. listed-from (p .lists .each j lo hi));
-        order = k .least;
-        within = omega arith;
-        most = omega arith;
+        lists = record {
+          good = p .asks .good;
+          each = λ k lo hi. listed-from (p .lists .each k lo hi);
+          order = p .lists .order;
+          room = p .lists .room;
+        };
+        room = omega arith;
+        size = p .asks .size;
+        shift = sh;
+        arrow = p .against .arrow;
+        is-row = u;
+        shallow = omega arith;
       }
 
-  pub lay-asked : {last top l : ℕ} {list1 : List ℕ} → isRow b ≡ true → (Deep W base b → ⊥) → KeptOpen memo s b list list1 from to last
-      → top ≡ levelOf (2 * W .header BITS) (rowsOf W) b + s → length list1 ≡ length list → Least W list1 from last top l
-      → LayPre W s l b list1 found from last end × (level ≤ l) × (l ≤ 22)
-  lay-asked {last} {top} {l} {list1} u d k e z q =
-      let o = p .lists .order in
-      let o1 = o .1 in
-      let o2 = o .2 in
+-- as `step` makes it
+module _ {W : View} {s b from to end last top : ℕ} {list found memo list1 : List ℕ} (p : StepPre W s b list found from to end memo)
+    (k : KeptOpen memo s b list list1 from to last) (e : top ≡ levelOf (2 * W .header BITS) (rowsOf W) b + s) where
+  pub least-asked : length list1 ≡ length list → LeastPre W list1 from last top
+  least-asked z =
+      let o = p .lists .order .1 in
       let m = k .most in
+      let x = p .lists .room .0 in
       let y = p .room in
-      let x = p .lists .room in
-      let w = p .asks .lists .last in
-      let n16 = p .asks .good .sizes .n-max in
-      let sh = p .asks .shift in
-      let bel = p .below in
-      let n = before-base W b d in
+      let w = p .shallow in
+      record { good = p .lists .good; each = kept-listed k (p .lists .each); order = k .least; within = omega arith; most = omega arith }
+
+  pub lay-asked : {l : ℕ} → length list1 ≡ length list → Least W list1 from last top l → LayPre W s l b list1 found from last end
+  lay-asked z q =
+      let o1 = p .lists .order .1 in
+      let o2 = p .lists .order .2 in
+      let m = k .most in
+      let w = p .shallow in
       let t = q .most in
       let own = kept-listed k (p .lists .each) in
-      let above : level ≤ l = q .low level (omega arith) own in
-      let below : l ≤ 22 = omega arith in (
-        record {
-          lists = record {
-            good = p .asks .good;
-            each = λ j lo hi. record { arrow = own j lo hi .arrow; some = own j lo hi .some; level = q .each j lo hi };
-            order = (k .least, omega arith, omega arith);
-            room = (z ∙ x .0, x .1);
-          };
-          room = omega arith;
-          shift = sh;
-          arrow = p .against .arrow;
-          is-row = u;
-          level = omega arith;
-          shallow = omega arith;
-        },
-        above,
-        below,
-      )
+      record {
+        lists = record {
+          good = p .lists .good;
+          each = λ j lo hi. record { arrow = own j lo hi .arrow; some = own j lo hi .some; level = q .each j lo hi };
+          order = (k .least, omega arith, omega arith);
+          room = (z ∙ p .lists .room .0, p .lists .room .1);
+        };
+        room = p .room;
+        shift = p .shift;
+        arrow = p .arrow;
+        is-row = p .is-row;
+        level = omega arith;
+        shallow = omega arith;
+      }
 
--- where the walk stands when its list is laid out: list1 is what is kept of it, list2 has the halves too
-pub record WalkAt (W : View) (s base level b : ℕ) (list found : List ℕ) (from to end : ℕ) (memo xs ys list1 list2 : List ℕ)
-    (last l b0 b1 mid stop : ℕ) : Type 0 where
+  pub stepped : {l last′ next b0 b1 mid stop : ℕ} {list2 : List ℕ} → Least W list1 from last top l
+      → Laid W s l b list1 list2 from last end b0 b1 mid stop × (last′ ≡ last) × (next ≡ l + 1)
+      → Stepped W s b memo list list2 from to end last′ next b0 b1 mid stop
+  stepped {l} {last′} {next} {b0} {b1} {mid} {stop} {list2} q g =
+      let t = q .most in
+      subst (λ (x : ℕ). Stepped W s b memo list list2 from to end x next b0 b1 mid stop) (sym (g .1)) (record {
+        list1 = list1;
+        l = l;
+        kept = k;
+        laid = g .0;
+        above = λ x h f. q .low x (omega arith) (kept-listed k f);
+        below = omega arith;
+        after = g .2;
+      })
+
+-- where the walk stands after a step: list2 has the halves too
+pub record WalkAt (W : View) (s base level b : ℕ) (list found : List ℕ) (from to end : ℕ) (memo xs ys list2 : List ℕ)
+    (last next b0 b1 mid stop : ℕ) : Type 0 where
   pub pre : WalkPre W s base level b list found from to end memo xs ys
-  pub kept : KeptOpen memo s b list list1 from to last
-  pub laid : Laid W s l b list1 list2 from last end b0 b1 mid stop
-  pub above : level ≤ l
-  pub below : l ≤ 22
+  pub step : Stepped W s b memo list list2 from to end last next b0 b1 mid stop
+  pub above : level < next
+  pub below : next ≤ 23
 
-pub walk-at : {W : View} {s base level b from to end last top l b0 b1 mid stop : ℕ} {list found memo xs ys list1 list2 : List ℕ}
-    → WalkPre W s base level b list found from to end memo xs ys → isRow b ≡ true → (Deep W base b → ⊥)
-    → KeptOpen memo s b list list1 from to last → top ≡ levelOf (2 * W .header BITS) (rowsOf W) b + s → length list1 ≡ length list
-    → Least W list1 from last top l → Laid W s l b list1 list2 from last end b0 b1 mid stop
-    → WalkAt W s base level b list found from to end memo xs ys list1 list2 last l b0 b1 mid stop
-walk-at p u d k e z q g = let x = lay-asked p u d k e z q in record { pre = p; kept = k; laid = g; above = x .1; below = x .2 }
+pub walk-at : {W : View} {s base level b from to end last next b0 b1 mid stop : ℕ} {list found memo xs ys list2 : List ℕ}
+    → WalkPre W s base level b list found from to end memo xs ys → (Deep W base b → ⊥)
+    → Stepped W s b memo list list2 from to end last next b0 b1 mid stop
+    → WalkAt W s base level b list found from to end memo xs ys list2 last next b0 b1 mid stop
+walk-at {W} {level = level} {b} p d g =
+    let n = before-base W b d in
+    let w = p .asks .lists .last in
+    let m = p .asks .good .sizes .n-max in
+    let sh = p .asks .shift in
+    let h = g .above level (p .below) (p .lists .each) in
+    let y = g .below in
+    let z = g .after in
+    record { pre = p; step = g; above = omega arith; below = omega arith }
 
-module _ {W : View} {s base level b from to end last l b0 b1 mid stop : ℕ} {list found memo xs ys list1 list2 : List ℕ}
-    (p : WalkAt W s base level b list found from to end memo xs ys list1 list2 last l b0 b1 mid stop) where
+module _ {W : View} {s base level b from to end last next b0 b1 mid stop : ℕ} {list found memo xs ys list2 : List ℕ}
+    (p : WalkAt W s base level b list found from to end memo xs ys list2 last next b0 b1 mid stop) where
+  laid-each : AllListed W next list2 end stop
+  laid-each = subst (λ (x : ℕ). AllListed W x list2 end stop) (sym (p .step .after)) (p .step .laid .each)
+
   -- the first call
   pub call-low : {found2 : List ℕ} {t : ℕ} → 64 - level ≡ t → length list2 ≡ length list → length found2 ≡ length found
-      → (64 - (l + 1) < t) × WalkPre W s base (l + 1) b0 list2 found2 end mid stop memo xs ys
+      → (64 - next < t) × WalkPre W s base next b0 list2 found2 end mid stop memo xs ys
   call-low e z zf =
-      let o = p .laid .order in
+      let o = p .step .laid .order in
       let o0 = o .0 in
       let o1 = o .1 in
       let o2 = o .2 in
@@ -212,15 +238,16 @@ module _ {W : View} {s base level b from to end last l b0 b1 mid stop : ℕ} {li
       let v = p .below in
       let y = p .pre .room in
       let x = p .pre .lists .room in
-      let d = p .laid .half .low-deeper in (
+      let d = p .step .laid .half .low-deeper in
+      let f = p .step .after in (
         omega arith,
         record {
           asks = p .pre .asks;
-          against = record { arrow = p .laid .half .low-arrow; reads = low-reads (p .laid .half) (p .pre .against .reads) };
+          against = record { arrow = p .step .laid .half .low-arrow; reads = low-reads (p .step .laid .half) (p .pre .against .reads) };
           below = omega arith;
           lists = record {
             good = p .pre .asks .good;
-            each = λ k lo hi. p .laid .each k lo (omega arith);
+            each = λ k lo hi. laid-each k lo (omega arith);
             order = (o0, o1, o2);
             room = (z ∙ x .0, zf ∙ x .1);
           };
@@ -229,11 +256,11 @@ module _ {W : View} {s base level b from to end last l b0 b1 mid stop : ℕ} {li
       )
 
   module _ {list3 memo3 xs3 ys3 : List ℕ} {r : Bool} (t : WalkTold W s base b0 list2 list3 end mid stop memo3 xs3 ys3 r) where
-    since : Same list1 list3 0 end
-    since k lo hi = t .before k lo hi ∙ p .laid .kept k lo hi
+    since : Same (p .step .list1) list3 0 end
+    since k lo hi = t .before k lo hi ∙ p .step .laid .kept k lo hi
 
-    -- a list that differs from list1 past `end` only
-    back-to : {memo4 xs4 ys4 : List ℕ} {r4 : Bool} (list4 : List ℕ) → Same list1 list4 0 end
+    -- a list that differs from the kept one past `end` only
+    back-to : {memo4 xs4 ys4 : List ℕ} {r4 : Bool} (list4 : List ℕ) → Same (p .step .list1) list4 0 end
         → Tells W s base memo4 xs4 ys4 (ListApart W s list from to b) r4 → WalkTold W s base b list list4 from to end memo4 xs4 ys4 r4
     back-to list4 f g =
         let o = p .pre .lists .order in
@@ -241,13 +268,13 @@ module _ {W : View} {s base level b from to end last l b0 b1 mid stop : ℕ} {li
         let o1 = o .1 in
         record {
           tells = g;
-          before = λ k lo hi. f k lo (omega arith) ∙ p .kept .before k lo hi;
-          between = λ k lo hi. f k (omega arith) hi ∙ p .kept .after k lo;
+          before = λ k lo hi. f k lo (omega arith) ∙ p .step .kept .before k lo hi;
+          between = λ k lo hi. f k (omega arith) hi ∙ p .step .kept .after k lo;
         }
 
     pub low-fails : not r ≡ true → WalkTold W s base b list list3 from to end memo3 xs3 ys3 false
     low-fails e = back-to list3 since (record {
-      says = fails (λ q. says-fail e (t .tells .says) (p .laid .forth (kept-forth W (p .kept) q) .0));
+      says = fails (λ q. says-fail e (t .tells .says) (p .step .laid .forth (kept-forth W (p .step .kept) q) .0));
       right = t .tells .right;
       first = t .tells .first;
       second = t .tells .second;
@@ -256,9 +283,9 @@ module _ {W : View} {s base level b from to end last l b0 b1 mid stop : ℕ} {li
     -- the second call
     pub call-high : {found3 : List ℕ} {m : ℕ} → 64 - level ≡ m → length list3 ≡ length list → length found3 ≡ length found
         → length memo3 ≡ length memo → length xs3 ≡ length xs → length ys3 ≡ length ys
-        → (64 - (l + 1) < m) × WalkPre W s base (l + 1) b1 list3 found3 mid stop stop memo3 xs3 ys3
+        → (64 - next < m) × WalkPre W s base next b1 list3 found3 mid stop stop memo3 xs3 ys3
     call-high e z zf zm zx zy =
-        let o = p .laid .order in
+        let o = p .step .laid .order in
         let o0 = o .0 in
         let o1 = o .1 in
         let o2 = o .2 in
@@ -267,15 +294,16 @@ module _ {W : View} {s base level b from to end last l b0 b1 mid stop : ℕ} {li
         let v = p .below in
         let y = p .pre .room in
         let x = p .pre .lists .room in
-        let d = p .laid .half .high-deeper in (
+        let d = p .step .laid .half .high-deeper in
+        let f = p .step .after in (
           omega arith,
           record {
             asks = asks-on (p .pre .asks) zm zx zy (t .tells);
-            against = record { arrow = p .laid .half .high-arrow; reads = high-reads (p .laid .half) (p .pre .against .reads) };
+            against = record { arrow = p .step .laid .half .high-arrow; reads = high-reads (p .step .laid .half) (p .pre .against .reads) };
             below = omega arith;
             lists = record {
               good = p .pre .asks .good;
-              each = listed-same list2 list3 (t .between) (λ k lo hi. p .laid .each k (omega arith) hi);
+              each = listed-same list2 list3 (t .between) (λ k lo hi. laid-each k (omega arith) hi);
               order = (o1, omega arith, o3);
               room = (z ∙ x .0, zf ∙ x .1);
             };
@@ -284,13 +312,22 @@ module _ {W : View} {s base level b from to end last l b0 b1 mid stop : ℕ} {li
         )
 
     module _ {list4 memo4 xs4 ys4 : List ℕ} {r1 : Bool} (t1 : WalkTold W s base b1 list3 list4 mid stop stop memo4 xs4 ys4 r1) where
-      since-both : Same list1 list4 0 end
-      since-both k lo hi = let o = p .laid .order .0 in t1 .before k lo (omega arith) ∙ since k lo hi
+      -- what remembering the list asks
+      pub remember-asked : length list4 ≡ length list → length memo4 ≡ length memo
+          → (length memo4 ≡ PAIR-WORDS) × (from ≤ last) × (last ≤ length list4)
+      remember-asked z zm =
+          let o = p .pre .lists .order .1 in
+          let x = p .pre .lists .room .0 in
+          let y = p .pre .room in
+          let m = p .step .kept .most in (zm ∙ p .pre .asks .size, p .step .kept .least, omega arith)
+
+      since-both : Same (p .step .list1) list4 0 end
+      since-both k lo hi = let o = p .step .laid .order .0 in t1 .before k lo (omega arith) ∙ since k lo hi
 
       pub high-fails : not r1 ≡ true → WalkTold W s base b list list4 from to end memo4 xs4 ys4 false
       high-fails e = back-to list4 since-both (record {
         says = fails (λ q. says-fail e (t1 .tells .says)
-            (apart-same W list2 list3 (t .between) (p .laid .forth (kept-forth W (p .kept) q) .1)));
+            (apart-same W list2 list3 (t .between) (p .step .laid .forth (kept-forth W (p .step .kept) q) .1)));
         right = t1 .tells .right;
         first = t1 .tells .first;
         second = t1 .tells .second;
@@ -301,14 +338,14 @@ module _ {W : View} {s base level b from to end last l b0 b1 mid stop : ℕ} {li
       both-pass e e1 h =
           let o = p .pre .lists .order in
           let o1 = o .1 in
-          let m = p .kept .most in
-          let q : ListApart W s list1 from last b =
-          p .laid .back (says-pass e (t .tells .says))
+          let m = p .step .kept .most in
+          let q : ListApart W s (p .step .list1) from last b =
+          p .step .laid .back (says-pass e (t .tells .says))
           (apart-same W list3 list2 (same-back list2 list3 (t .between)) (says-pass e1 (t1 .tells .says))) in
           back-to list4 since-both (record {
-            says = holds (kept-back W (p .kept) (p .pre .asks .right) q);
+            says = holds (kept-back W (p .step .kept) (p .pre .asks .right) q);
             right = h .right (2 * W .header BITS) (rowsOf W) s
-                (apart-same W list1 list4 (λ k lo hi. since-both k (omega arith) (omega arith)) q) (t1 .tells .right);
+                (apart-same W (p .step .list1) list4 (λ k lo hi. since-both k (omega arith) (omega arith)) q) (t1 .tells .right);
             first = t1 .tells .first;
             second = t1 .tells .second;
           })

@@ -15,7 +15,7 @@ use Rattle.rows.specs.Says.{Says}
 use Rattle.rows.specs.Sound.{Good}
 use Rattle.soundness.specs.Apart.{Apart, Half}
 use Rattle.soundness.specs.Tables.{Known, Sets}
-use Rattle.soundness.specs.Pairs.{Right, Seen}
+use Rattle.soundness.specs.Pairs.{PAIR-WORDS, Right, Seen}
 use Rattle.soundness.specs.Contained.{MANY, Lists, Asks, Against, Deep, Tells}
 
 -- how many words the lists have together: the first list, and two for each level before the base and for the one after
@@ -145,6 +145,26 @@ pub record LayPre (W : View) (s l b : ℕ) (list found : List ℕ) (from to end 
   pub is-row : isRow b ≡ true
   pub level : l ≤ levelOf (2 * W .header BITS) (rowsOf W) b + s
   pub shallow : l < 2 * W .header BITS
+
+-- what a step of the walk asks
+pub record StepPre (W : View) (s b : ℕ) (list found : List ℕ) (from to end : ℕ) (memo : List ℕ) : Type 0 where
+  pub lists : HalvesPre W 0 list found from to end
+  pub room : end + 2 * MANY ≤ ROOM
+  pub size : length memo ≡ PAIR-WORDS
+  pub shift : s ≤ 1
+  pub arrow : Arrow (rowsOf W) b
+  pub is-row : isRow b ≡ true
+  pub shallow : levelOf (2 * W .header BITS) (rowsOf W) b + s < 2 * W .header BITS
+
+-- what it leaves: a list that keeps some of the arrows is laid out at a level l, from which on all are; `next` is the one after
+pub record Stepped (W : View) (s b : ℕ) (memo list list′ : List ℕ) (from to end last next b0 b1 mid stop : ℕ) : Type 0 where
+  pub list1 : List ℕ
+  pub l : ℕ
+  pub kept : KeptOpen memo s b list list1 from to last
+  pub laid : Laid W s l b list1 list′ from last end b0 b1 mid stop
+  pub above : (k : ℕ) → k ≤ levelOf (2 * W .header BITS) (rowsOf W) b + s → AllListed W k list from to → k ≤ l
+  pub below : l ≤ levelOf (2 * W .header BITS) (rowsOf W) b + s
+  pub after : next ≡ l + 1
 
 -- what the tables of a list's arrows and of b ask
 pub record TablesPre (W : View) (s base b : ℕ) (list : List ℕ) (from to : ℕ) (xs ys : List ℕ) : Type 0 where

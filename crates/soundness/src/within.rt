@@ -27,8 +27,8 @@ ghost use Rattle.rows.specs.Within.{Within};
 ghost use Rattle.rows.specs.Sound.{Good};
 ghost use Rattle.soundness.specs.Tables.{FEW};
 ghost use Rattle.soundness.specs.Contained.{MANY, AllApart, Clear, Deep, RootsPre, RefsPre, PassPre, Halved};
-ghost use Rattle.soundness.specs.Lists.{ROOM, Listed, LeastPre, Least, halfOf, HalvesPre, Halves, LayPre, Laid, TablesPre};
-ghost use Rattle.soundness.specs.Lists.{TablesPost, WalkPre, WalkTold, RefsListed};
+ghost use Rattle.soundness.specs.Lists.{ROOM, Listed, LeastPre, Least, halfOf, HalvesPre, Halves, LayPre, Laid, StepPre, Stepped};
+ghost use Rattle.soundness.specs.Lists.{TablesPre, TablesPost, WalkPre, WalkTold, RefsListed};
 ghost use Rattle.soundness.specs.Posts.{levelIn, ListRefsPre};
 
 // Sizes of the local lists.
@@ -178,8 +178,11 @@ fn halves(
     stop
 }
 
-// Two lists, up to `mid` and from there up to `stop`, and an arrow against each.
+// What a walk goes on with: two lists, up to `mid` and from there up to `stop`, an arrow against each, and the level that all are at, or
+// past it. `last` is where the list ends of which these are the halves.
 struct Parts {
+    last: usize,
+    level: u32,
     low: u32,
     high: u32,
     mid: usize,
@@ -213,7 +216,7 @@ fn lay(
 ) -> Parts
     requires { ⌜ LayPre (view rows (now words)) shift l b (now list) (now found) from to end ⌝ }
     ensures { λ r. ⌜ Laid (view rows (now (words .entry))) shift l b (now (list .entry)) (now (list .exit)) from to end (r .low) (r .high)
-        (r .mid) (r .stop) ⌝ }
+        (r .mid) (r .stop) × (r .last ≡ to) × (r .level ≡ l + 1) ⌝ }
 {
     let top = top_of(words, rows, shift, b);
     let h = halve(words, rows, b, top, l);
@@ -221,6 +224,8 @@ fn lay(
     if l < top {
         let stop = halves(words, rows, l, Table::HIGH, from, to, end, mid, list, found);
         return Parts {
+            last: to,
+            level: l + 1,
             low: h.low,
             high: h.high,
             mid: cut(end, stop),
@@ -229,11 +234,35 @@ fn lay(
     }
     let stop = halves(words, rows, l, Table::HIGH, from, to, mid, mid, list, found);
     Parts {
+        last: to,
+        level: l + 1,
         low: h.low,
         high: h.high,
         mid: mid,
         stop: stop,
     }
+}
+
+// Leaves out of a list what is known to be apart from b, and lays the rest out at its least level or b's.
+fn step(
+    words: &[u32],
+    rows: u32,
+    shift: u32,
+    b: u32,
+    from: usize,
+    to: usize,
+    end: usize,
+    list: &mut [u32],
+    found: &mut [u32],
+    memo: &[u32],
+) -> Parts
+    requires { ⌜ StepPre (view rows (now words)) shift b (now list) (now found) from to end (now memo) ⌝ }
+    ensures { λ r. ⌜ Stepped (view rows (now (words .entry))) shift b (now (memo .entry)) (now (list .entry)) (now (list .exit)) from to end
+        (r .last) (r .level) (r .low) (r .high) (r .mid) (r .stop) ⌝ }
+{
+    let last = keep_all_open(shift, b, from, to, list, memo);
+    let l = least(words, rows, top_of(words, rows, shift, b), from, last, list);
+    lay(words, rows, shift, l, b, from, last, end, list, found)
 }
 
 // Whether no arrow of a list has a valuation in common with b, of even levels from the base on, which count higher by the shift: by their
@@ -302,15 +331,13 @@ fn apart(
     if deep(words, rows, base, b) {
         return tables_apart(words, rows, shift, base, b, from, to, list, first, second);
     }
-    let last = keep_all_open(shift, b, from, to, list, memo);
-    let l = least(words, rows, top_of(words, rows, shift, b), from, last, list);
-    let q = lay(words, rows, shift, l, b, from, last, end, list, found);
+    let q = step(words, rows, shift, b, from, to, end, list, found, memo);
     if !apart(
         words,
         rows,
         shift,
         base,
-        l + 1,
+        q.level,
         q.low,
         end,
         q.mid,
@@ -328,7 +355,7 @@ fn apart(
         rows,
         shift,
         base,
-        l + 1,
+        q.level,
         q.high,
         q.mid,
         q.stop,
@@ -341,7 +368,7 @@ fn apart(
     ) {
         return false;
     }
-    remember_all(b, from, last, list, memo);
+    remember_all(b, from, q.last, list, memo);
     true
 }
 

@@ -6,7 +6,7 @@ use native.Mathlib.Omega.{arith}
 use borrow.Author.Needs.{needs}
 use Rattle.rows.proofs.Says.{says-yes, says-no}
 use Rattle.soundness.proofs.Contained.{is-row}
-use Rattle.soundness.proofs.WalkLaws.{walk-none, walk-nothing, walk-everything, tables-asked, walk-tables, least-asked, lay-asked, walk-at, call-low, low-fails, call-high, high-fails, both-pass}
+use Rattle.soundness.proofs.WalkLaws.{walk-none, walk-nothing, walk-everything, tables-asked, walk-tables, step-asked, walk-at, call-low, low-fails, call-high, high-fails, remember-asked, both-pass}
 use borrow.Fn.Kinds.{In}
 use borrow.Fn.PlainCycle.{Measures, is, falls, and}
 use Rattle.soundness.proofs.within.+apart.{statement}
@@ -15,12 +15,9 @@ use Rattle.soundness.proofs.within.apart.Reads as apart
 use Rattle.soundness.proofs.within.apart.Kinds as apart-kinds
 use Rattle.soundness.proofs.within.+apart.Lts-apart as apart-lts
 use Rattle.soundness.proofs.within.deep.Reads as deep-reads
-use Rattle.soundness.proofs.arrows.keep_all_open.Reads as keep-all-open-reads
-use Rattle.soundness.proofs.within.lay.Reads as lay-reads
-use Rattle.soundness.proofs.within.least.Reads as least-reads
 use Rattle.soundness.proofs.arrows.remember_all.Reads as remember-all-reads
+use Rattle.soundness.proofs.within.step.Reads as step-reads
 use Rattle.soundness.proofs.within.tables_apart.Reads as tables-apart-reads
-use Rattle.soundness.proofs.within.top_of.Reads as top-of-reads
 
 abbrev μ-apart : Measures 6 apart-kinds.ps ℕ
 μ-apart κs a = 64 - a .1 .1 .1 .1 .0
@@ -37,14 +34,8 @@ pub +apart-spec : {M : Type 1} → statement M
   deep-reads.Learnt,
   tables-apart-reads.Asked,
   tables-apart-reads.Learnt,
-  keep-all-open-reads.Asked,
-  keep-all-open-reads.Learnt,
-  top-of-reads.Asked,
-  top-of-reads.Learnt,
-  least-reads.Asked,
-  least-reads.Learnt,
-  lay-reads.Asked,
-  lay-reads.Learnt,
+  step-reads.Asked,
+  step-reads.Learnt,
   apart-below t,
   apart.Post,
   remember-all-reads.Asked,
@@ -66,40 +57,19 @@ pub +apart-spec : {M : Type 1} → statement M
     (λ c. search needs)
     (λ c. let c1 = c .before .before .before .before in let c2 = c1 .before .before .before .before .before .before .before .before
     .before .before .before .before .before .before .before in walk-tables (c2 .pre .1) (c1 .tables-apart .ensures))
-    (λ c κs. let c1 = c .before .before .before .before .before .before .before .before .before .before .before .before .before in
-    let o = c1 .pre .1 .lists .order in let o1 = o .1 in let z = c1 .pre .1 .lists .room .0 in let y = c1 .pre .1 .room in
-    (c1 .pre .1 .asks .size, o .0, omega arith))
-    (λ c κs. let c1 = c .before .before .before .before .before .before .before in
-    let c2 = c1 .before .before .before .before .before .before .before .before .before in
-    (c2 .pre .1 .asks .good, c2 .pre .1 .against .arrow, (is-row _ (c1 .before .if2 .left) (c1 .if3 .left)), c2 .pre .1 .asks .shift))
-    (λ c κs. let c1 = c .before .before .before .before in let c2 = c1 .before .before .before .before in
-    let c3 = c2 .before .before .before .before .before .before .before .before .before .before in
-    least-asked (c3 .pre .1) (says-no (c1 .before .before .before .if4 .left) (c2 .deep .ensures)) (c1 .keep-all-open .ensures)
-    (c .before .top-of .ensures) (c1 .keep-all-open .kept .1 .1 .1 .1 .0))
-    (λ c κs. let c1 = c .before .before .before .before in let c2 = c1 .before .before .before in
-    let c3 = c2 .before .before .before .before in let c4 = c3 .before .before .before .before .before .before .before .before .before
-    .before in lay-asked (c4 .pre .1) (is-row _ (c3 .before .before .if2 .left) (c3 .before .if3 .left)) (says-no
-    (c2 .before .before .before .if4 .left) (c3 .deep .ensures)) (c2 .keep-all-open .ensures) (c1 .top-of .ensures)
-    (c2 .keep-all-open .kept .1 .1 .1 .1 .0) (c .before .before .least .ensures) .0)
-    (λ c. let c1 = c .before .before .before .before .before .before .before in let c2 = c1 .before .before .before .before .before in
-    let c3 = c2 .before .before .before .before in let c4 = c3 .before .before .before .before .before .before .before .before .before
-    .before in let x = lay-asked (c4 .pre .1) (is-row _ (c3 .before .before .if2 .left) (c3 .before .if3 .left)) (says-no
-    (c2 .before .before .before .if4 .left) (c3 .deep .ensures)) (c2 .keep-all-open .ensures) (c1 .before .before .top-of .ensures)
-    (c2 .keep-all-open .kept .1 .1 .1 .1 .0) (c1 .least .ensures) .2 in omega arith)
+    (λ c κs. let c1 = c .before .before .before .before in let c2 = c1 .before .before .before .before .before .before .before .before
+    .before .before in step-asked (c2 .pre .1) (is-row _ (c1 .before .before .if2 .left) (c1 .before .if3 .left)) (says-no
+    (c .before .before .before .if4 .left) (c1 .deep .ensures)))
     (λ c κs. let c1 = c .before .before .before .before .before .before .before .before .before in
-    let c2 = c1 .before .before .before .before .before in let c3 = c2 .before .before .before in
-    let c4 = c3 .before .before .before .before in let c5 = c4 .before .before .before .before .before .before .before .before .before
-    .before in call-low (walk-at (c5 .pre .1) (is-row _ (c4 .before .before .if2 .left) (c4 .before .if3 .left)) (says-no
-    (c3 .before .before .before .if4 .left) (c4 .deep .ensures)) (c3 .keep-all-open .ensures) (c2 .top-of .ensures)
-    (c3 .keep-all-open .kept .1 .1 .1 .1 .0) (c1 .before .before .before .least .ensures) (c1 .lay .ensures)) (c5 .pre .0)
-    (c1 .lay .kept .1 .1 .1 .1 .1 .1 .1 .1 .0 ∙ c3 .keep-all-open .kept .1 .1 .1 .1 .0) (c1 .lay .kept .1 .1 .1 .1 .1 .1 .1 .1 .1 .0))
+    let c2 = c1 .before .before .before .before in let c3 = c2 .before .before .before .before .before .before .before .before .before
+    .before .before in call-low (walk-at (c3 .pre .1) (says-no (c2 .if4 .left) (c2 .before .deep .ensures)) (c1 .step .ensures))
+    (c3 .pre .0) (c1 .step .kept .1 .1 .1 .1 .1 .1 .1 .0) (c1 .step .kept .1 .1 .1 .1 .1 .1 .1 .1 .0))
     (λ c. let c1 = c .before .before .before .before .before .before .before .before .before .before .before in
     let c2 = c1 .before .before .before .before .before .before .before .before .before .before in
-    let c3 = c2 .before .before .before .before .before .before .before .before in
-    c1 .apart .kept .1 .1 .1 .1 .1 .1 .1 .1 .1 .0 ∙ c2 .lay .kept .1 .1 .1 .1 .1 .1 .1 .1 .0 ∙ c3 .keep-all-open .kept .1 .1 .1 .1 .0)
+    c1 .apart .kept .1 .1 .1 .1 .1 .1 .1 .1 .1 .0 ∙ c2 .step .kept .1 .1 .1 .1 .1 .1 .1 .0)
     (λ c. let c1 = c .before .before .before .before .before .before .before .before .before .before .before in
     let c2 = c1 .before .before .before .before .before .before .before .before .before .before in
-    c1 .apart .kept .1 .1 .1 .1 .1 .1 .1 .1 .1 .1 .0 ∙ c2 .lay .kept .1 .1 .1 .1 .1 .1 .1 .1 .1 .0)
+    c1 .apart .kept .1 .1 .1 .1 .1 .1 .1 .1 .1 .1 .0 ∙ c2 .step .kept .1 .1 .1 .1 .1 .1 .1 .1 .0)
     (λ c. let c1 = c .before .before .before .before .before .before .before .before .before .before .before in
     c1 .apart .kept .1 .1 .1 .1 .1 .1 .1 .1 .1 .1 .1 .0)
     (λ c. let c1 = c .before .before .before .before .before .before .before .before .before .before .before in
@@ -108,40 +78,26 @@ pub +apart-spec : {M : Type 1} → statement M
     c1 .apart .kept .1 .1 .1 .1 .1 .1 .1 .1 .1 .1 .1 .1 .1 .0)
     (λ c. let c1 = c .before .before .before .before .before .before .before .before .before .before .before in
     let c2 = c1 .before .before .before .before .before .before .before .before .before .before in
-    let c3 = c2 .before .before .before .before .before in let c4 = c3 .before .before .before in
-    let c5 = c4 .before .before .before .before in let c6 = c5 .before .before .before .before .before .before .before .before .before
-    .before in low-fails (walk-at (c6 .pre .1) (is-row _ (c5 .before .before .if2 .left) (c5 .before .if3 .left)) (says-no
-    (c4 .before .before .before .if4 .left) (c5 .deep .ensures)) (c4 .keep-all-open .ensures) (c3 .top-of .ensures)
-    (c4 .keep-all-open .kept .1 .1 .1 .1 .0) (c2 .before .before .before .least .ensures) (c2 .lay .ensures)) (c1 .apart .ensures)
-    (c .if5 .taken))
-    (λ c. let c1 = c .before .before .before .before .before .before .before .before .before .before .before .before .before .before
-    .before .before .before .before .before .before .before .before .before .before in
-    let c2 = c1 .before .before .before .before .before in let c3 = c2 .before .before .before .before in
-    let c4 = c3 .before .before .before .before .before .before .before .before .before .before in
-    let x = lay-asked (c4 .pre .1) (is-row _ (c3 .before .before .if2 .left) (c3 .before .if3 .left)) (says-no
-    (c2 .before .before .before .if4 .left) (c3 .deep .ensures)) (c2 .keep-all-open .ensures) (c1 .before .before .top-of .ensures)
-    (c2 .keep-all-open .kept .1 .1 .1 .1 .0) (c1 .least .ensures) .2 in omega arith)
+    let c3 = c2 .before .before .before .before in let c4 = c3 .before .before .before .before .before .before .before .before .before
+    .before .before in low-fails (walk-at (c4 .pre .1) (says-no (c3 .if4 .left) (c3 .before .deep .ensures)) (c2 .step .ensures))
+    (c1 .apart .ensures) (c .if5 .taken))
     (λ c κs. let c1 = c .before .before .before .before .before .before .before .before .before .before .before .before .before .before
     .before .before in let c2 = c1 .before .before .before .before .before .before .before .before .before .before in
-    let c3 = c2 .before .before .before .before .before in let c4 = c3 .before .before .before in
-    let c5 = c4 .before .before .before .before in let c6 = c5 .before .before .before .before .before .before .before .before .before
-    .before in call-high (walk-at (c6 .pre .1) (is-row _ (c5 .before .before .if2 .left) (c5 .before .if3 .left)) (says-no
-    (c4 .before .before .before .if4 .left) (c5 .deep .ensures)) (c4 .keep-all-open .ensures) (c3 .top-of .ensures)
-    (c4 .keep-all-open .kept .1 .1 .1 .1 .0) (c2 .before .before .before .least .ensures) (c2 .lay .ensures)) (c1 .apart .ensures)
-    (c6 .pre .0) (c1 .apart .kept .1 .1 .1 .1 .1 .1 .1 .1 .1 .0 ∙ c2 .lay .kept .1 .1 .1 .1 .1 .1 .1 .1 .0 ∙ c4 .keep-all-open .kept .1
-    .1 .1 .1 .0) (c1 .apart .kept .1 .1 .1 .1 .1 .1 .1 .1 .1 .1 .0 ∙ c2 .lay .kept .1 .1 .1 .1 .1 .1 .1 .1 .1 .0)
+    let c3 = c2 .before .before .before .before in let c4 = c3 .before .before .before .before .before .before .before .before .before
+    .before .before in call-high (walk-at (c4 .pre .1) (says-no (c3 .if4 .left) (c3 .before .deep .ensures)) (c2 .step .ensures))
+    (c1 .apart .ensures) (c4 .pre .0) (c1 .apart .kept .1 .1 .1 .1 .1 .1 .1 .1 .1 .0 ∙ c2 .step .kept .1 .1 .1 .1 .1 .1 .1 .0)
+    (c1 .apart .kept .1 .1 .1 .1 .1 .1 .1 .1 .1 .1 .0 ∙ c2 .step .kept .1 .1 .1 .1 .1 .1 .1 .1 .0)
     (c1 .apart .kept .1 .1 .1 .1 .1 .1 .1 .1 .1 .1 .1 .0) (c1 .apart .kept .1 .1 .1 .1 .1 .1 .1 .1 .1 .1 .1 .1 .0)
     (c1 .apart .kept .1 .1 .1 .1 .1 .1 .1 .1 .1 .1 .1 .1 .1 .0))
     (λ c. let c1 = c .before .before .before .before .before .before .before .before .before .before .before in
     let c2 = c1 .before .before .before .before .before .before .before .before .before .before .before .before .before .before .before
     .before .before in let c3 = c2 .before .before .before .before .before .before .before .before .before .before in
-    let c4 = c3 .before .before .before .before .before .before .before .before in
-    c1 .apart2 .kept .1 .1 .1 .1 .1 .1 .1 .1 .1 .0 ∙ c2 .apart .kept .1 .1 .1 .1 .1 .1 .1 .1 .1 .0 ∙ c3 .lay .kept .1 .1 .1 .1 .1 .1 .1
-    .1 .0 ∙ c4 .keep-all-open .kept .1 .1 .1 .1 .0)
+    c1 .apart2 .kept .1 .1 .1 .1 .1 .1 .1 .1 .1 .0 ∙ c2 .apart .kept .1 .1 .1 .1 .1 .1 .1 .1 .1 .0 ∙ c3 .step .kept .1 .1 .1 .1 .1 .1
+    .1 .0)
     (λ c. let c1 = c .before .before .before .before .before .before .before .before .before .before .before in
     let c2 = c1 .before .before .before .before .before .before .before .before .before .before .before .before .before .before .before
     .before .before in let c3 = c2 .before .before .before .before .before .before .before .before .before .before in
-    c1 .apart2 .kept .1 .1 .1 .1 .1 .1 .1 .1 .1 .1 .0 ∙ c2 .apart .kept .1 .1 .1 .1 .1 .1 .1 .1 .1 .1 .0 ∙ c3 .lay .kept .1 .1 .1 .1 .1
+    c1 .apart2 .kept .1 .1 .1 .1 .1 .1 .1 .1 .1 .1 .0 ∙ c2 .apart .kept .1 .1 .1 .1 .1 .1 .1 .1 .1 .1 .0 ∙ c3 .step .kept .1 .1 .1 .1
     .1 .1 .1 .1 .0)
     (λ c. let c1 = c .before .before .before .before .before .before .before .before .before .before .before in
     let c2 = c1 .before .before .before .before .before .before .before .before .before .before .before .before .before .before .before
@@ -156,37 +112,27 @@ pub +apart-spec : {M : Type 1} → statement M
     (λ c. let c1 = c .before .before .before .before .before .before .before .before .before .before .before in
     let c2 = c1 .before .before .before .before .before .before .before .before .before .before .before .before .before .before .before
     .before .before in let c3 = c2 .before .before .before .before .before .before .before .before .before .before in
-    let c4 = c3 .before .before .before .before .before in let c5 = c4 .before .before .before in
-    let c6 = c5 .before .before .before .before in let c7 = c6 .before .before .before .before .before .before .before .before .before
-    .before in high-fails (walk-at (c7 .pre .1) (is-row _ (c6 .before .before .if2 .left) (c6 .before .if3 .left)) (says-no
-    (c5 .before .before .before .if4 .left) (c6 .deep .ensures)) (c5 .keep-all-open .ensures) (c4 .top-of .ensures)
-    (c5 .keep-all-open .kept .1 .1 .1 .1 .0) (c3 .before .before .before .least .ensures) (c3 .lay .ensures)) (c2 .apart .ensures)
-    (c1 .apart2 .ensures) (c .if6 .taken))
+    let c4 = c3 .before .before .before .before in let c5 = c4 .before .before .before .before .before .before .before .before .before
+    .before .before in high-fails (walk-at (c5 .pre .1) (says-no (c4 .if4 .left) (c4 .before .deep .ensures)) (c3 .step .ensures))
+    (c2 .apart .ensures) (c1 .apart2 .ensures) (c .if6 .taken))
     (λ c κs. let c1 = c .before .before .before .before .before .before .before .before .before .before .before .before .before in
     let c2 = c1 .before .before .before .before .before .before .before .before .before .before .before .before .before .before .before
     .before .before in let c3 = c2 .before .before .before .before .before .before .before .before .before .before in
-    let c4 = c3 .before .before .before .before .before .before .before .before in
-    let c5 = c4 .before .before .before .before .before .before .before .before .before .before .before .before .before .before in
-    let o = c5 .pre .1 .lists .order in let o1 = o .1 in let z = c5 .pre .1 .lists .room .0 in let y = c5 .pre .1 .room in
-    let g = c4 .keep-all-open .ensures in let g1 = g .most in
-    let e = c1 .apart2 .kept .1 .1 .1 .1 .1 .1 .1 .1 .1 .0 ∙ c2 .apart .kept .1 .1 .1 .1 .1 .1 .1 .1 .1 .0 ∙ c3 .lay .kept .1 .1 .1 .1
-    .1 .1 .1 .1 .0 ∙ c4 .keep-all-open .kept .1 .1 .1 .1 .0 in (
-      c1 .apart2 .kept .1 .1 .1 .1 .1 .1 .1 .1 .1 .1 .1 .0 ∙ c2 .apart .kept .1 .1 .1 .1 .1 .1 .1 .1 .1 .1 .1 .0 ∙ c5 .pre .1 .asks
-          .size,
-      g .least,
-      omega arith,
-    ))
+    let c4 = c3 .before .before .before .before in let c5 = c4 .before .before .before .before .before .before .before .before .before
+    .before .before in remember-asked (walk-at (c5 .pre .1) (says-no (c4 .if4 .left) (c4 .before .deep .ensures)) (c3 .step .ensures))
+    (c2 .apart .ensures) (c1 .apart2 .ensures) (c1 .apart2 .kept .1 .1 .1 .1 .1 .1 .1 .1 .1 .0 ∙ c2 .apart .kept .1 .1 .1 .1 .1 .1 .1
+    .1 .1 .0 ∙ c3 .step .kept .1 .1 .1 .1 .1 .1 .1 .0)
+    (c1 .apart2 .kept .1 .1 .1 .1 .1 .1 .1 .1 .1 .1 .1 .0 ∙ c2 .apart .kept .1 .1 .1 .1 .1 .1 .1 .1 .1 .1 .1 .0))
     (λ c. let c1 = c .before .before .before .before .before .before .before .before .before .before .before .before .before .before
     .before .before in let c2 = c1 .before .before .before .before .before .before .before .before .before .before .before .before
     .before .before .before .before .before in let c3 = c2 .before .before .before .before .before .before .before .before .before
-    .before in let c4 = c3 .before .before .before .before .before .before .before .before in
-    c1 .apart2 .kept .1 .1 .1 .1 .1 .1 .1 .1 .1 .0 ∙ c2 .apart .kept .1 .1 .1 .1 .1 .1 .1 .1 .1 .0 ∙ c3 .lay .kept .1 .1 .1 .1 .1 .1 .1
-    .1 .0 ∙ c4 .keep-all-open .kept .1 .1 .1 .1 .0)
+    .before in c1 .apart2 .kept .1 .1 .1 .1 .1 .1 .1 .1 .1 .0 ∙ c2 .apart .kept .1 .1 .1 .1 .1 .1 .1 .1 .1 .0 ∙ c3 .step .kept .1 .1 .1
+    .1 .1 .1 .1 .0)
     (λ c. let c1 = c .before .before .before .before .before .before .before .before .before .before .before .before .before .before
     .before .before in let c2 = c1 .before .before .before .before .before .before .before .before .before .before .before .before
     .before .before .before .before .before in let c3 = c2 .before .before .before .before .before .before .before .before .before
-    .before in c1 .apart2 .kept .1 .1 .1 .1 .1 .1 .1 .1 .1 .1 .0 ∙ c2 .apart .kept .1 .1 .1 .1 .1 .1 .1 .1 .1 .1 .0 ∙ c3 .lay .kept .1
-    .1 .1 .1 .1 .1 .1 .1 .1 .0)
+    .before in c1 .apart2 .kept .1 .1 .1 .1 .1 .1 .1 .1 .1 .1 .0 ∙ c2 .apart .kept .1 .1 .1 .1 .1 .1 .1 .1 .1 .1 .0 ∙ c3 .step .kept .1
+    .1 .1 .1 .1 .1 .1 .1 .0)
     (λ c. let c1 = c .before .before .before .before .before .before .before .before .before .before .before .before .before .before
     .before .before in let c2 = c1 .before .before .before .before .before .before .before .before .before .before .before .before
     .before .before .before .before .before in c .before .before .remember-all .kept .1 .1 .1 .1 .0 ∙ c1 .apart2 .kept .1 .1 .1 .1 .1
@@ -204,9 +150,6 @@ pub +apart-spec : {M : Type 1} → statement M
     let c3 = c2 .before .before .before .before .before .before in
     let c4 = c3 .before .before .before .before .before .before .before .before .before .before .before in
     let c5 = c4 .before .before .before .before .before .before .before .before .before .before in
-    let c6 = c5 .before .before .before .before .before in let c7 = c6 .before .before .before in
-    let c8 = c7 .before .before .before .before in let c9 = c8 .before .before .before .before .before .before .before .before .before
-    .before in both-pass (walk-at (c9 .pre .1) (is-row _ (c8 .before .before .if2 .left) (c8 .before .if3 .left)) (says-no
-    (c7 .before .before .before .if4 .left) (c8 .deep .ensures)) (c7 .keep-all-open .ensures) (c6 .top-of .ensures)
-    (c7 .keep-all-open .kept .1 .1 .1 .1 .0) (c5 .before .before .before .least .ensures) (c5 .lay .ensures)) (c4 .apart .ensures)
-    (c2 .apart2 .ensures) (c3 .if5 .left) (c1 .if6 .left) (c .before .before .remember-all .ensures))
+    let c6 = c5 .before .before .before .before in let c7 = c6 .before .before .before .before .before .before .before .before .before
+    .before .before in both-pass (walk-at (c7 .pre .1) (says-no (c6 .if4 .left) (c6 .before .deep .ensures)) (c5 .step .ensures))
+    (c4 .apart .ensures) (c2 .apart2 .ensures) (c3 .if5 .left) (c1 .if6 .left) (c .before .before .remember-all .ensures))
