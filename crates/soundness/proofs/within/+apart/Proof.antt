@@ -70,12 +70,9 @@ pub +apart-spec : {M : Type 1} → statement M
     (λ c. let c1 = c .before .before .before .before .before .before .before .before .before .before .before in
     let c2 = c1 .before .before .before .before .before .before .before .before .before .before in
     c1 .apart .kept .1 .1 .1 .1 .1 .1 .1 .1 .1 .1 .0 ∙ c2 .step .kept .1 .1 .1 .1 .1 .1 .1 .1 .0)
-    (λ c. let c1 = c .before .before .before .before .before .before .before .before .before .before .before in
-    c1 .apart .kept .1 .1 .1 .1 .1 .1 .1 .1 .1 .1 .1 .0)
-    (λ c. let c1 = c .before .before .before .before .before .before .before .before .before .before .before in
-    c1 .apart .kept .1 .1 .1 .1 .1 .1 .1 .1 .1 .1 .1 .1 .0)
-    (λ c. let c1 = c .before .before .before .before .before .before .before .before .before .before .before in
-    c1 .apart .kept .1 .1 .1 .1 .1 .1 .1 .1 .1 .1 .1 .1 .1 .0)
+    (λ c. search needs)
+    (λ c. search needs)
+    (λ c. search needs)
     (λ c. let c1 = c .before .before .before .before .before .before .before .before .before .before .before in
     let c2 = c1 .before .before .before .before .before .before .before .before .before .before in
     let c3 = c2 .before .before .before .before in let c4 = c3 .before .before .before .before .before .before .before .before .before
@@ -99,16 +96,9 @@ pub +apart-spec : {M : Type 1} → statement M
     .before .before in let c3 = c2 .before .before .before .before .before .before .before .before .before .before in
     c1 .apart2 .kept .1 .1 .1 .1 .1 .1 .1 .1 .1 .1 .0 ∙ c2 .apart .kept .1 .1 .1 .1 .1 .1 .1 .1 .1 .1 .0 ∙ c3 .step .kept .1 .1 .1 .1
     .1 .1 .1 .1 .0)
-    (λ c. let c1 = c .before .before .before .before .before .before .before .before .before .before .before in
-    let c2 = c1 .before .before .before .before .before .before .before .before .before .before .before .before .before .before .before
-    .before .before in c1 .apart2 .kept .1 .1 .1 .1 .1 .1 .1 .1 .1 .1 .1 .0 ∙ c2 .apart .kept .1 .1 .1 .1 .1 .1 .1 .1 .1 .1 .1 .0)
-    (λ c. let c1 = c .before .before .before .before .before .before .before .before .before .before .before in
-    let c2 = c1 .before .before .before .before .before .before .before .before .before .before .before .before .before .before .before
-    .before .before in c1 .apart2 .kept .1 .1 .1 .1 .1 .1 .1 .1 .1 .1 .1 .1 .0 ∙ c2 .apart .kept .1 .1 .1 .1 .1 .1 .1 .1 .1 .1 .1 .1 .0)
-    (λ c. let c1 = c .before .before .before .before .before .before .before .before .before .before .before in
-    let c2 = c1 .before .before .before .before .before .before .before .before .before .before .before .before .before .before .before
-    .before .before in c1 .apart2 .kept .1 .1 .1 .1 .1 .1 .1 .1 .1 .1 .1 .1 .1 .0 ∙ c2 .apart .kept .1 .1 .1 .1 .1 .1 .1 .1 .1 .1 .1 .1
-    .1 .0)
+    (λ c. search needs)
+    (λ c. search needs)
+    (λ c. search needs)
     (λ c. let c1 = c .before .before .before .before .before .before .before .before .before .before .before in
     let c2 = c1 .before .before .before .before .before .before .before .before .before .before .before .before .before .before .before
     .before .before in let c3 = c2 .before .before .before .before .before .before .before .before .before .before in
@@ -137,14 +127,8 @@ pub +apart-spec : {M : Type 1} → statement M
     .before .before in let c2 = c1 .before .before .before .before .before .before .before .before .before .before .before .before
     .before .before .before .before .before in c .before .before .remember-all .kept .1 .1 .1 .1 .0 ∙ c1 .apart2 .kept .1 .1 .1 .1 .1
     .1 .1 .1 .1 .1 .1 .0 ∙ c2 .apart .kept .1 .1 .1 .1 .1 .1 .1 .1 .1 .1 .1 .0)
-    (λ c. let c1 = c .before .before .before .before .before .before .before .before .before .before .before .before .before .before
-    .before .before in let c2 = c1 .before .before .before .before .before .before .before .before .before .before .before .before
-    .before .before .before .before .before in c1 .apart2 .kept .1 .1 .1 .1 .1 .1 .1 .1 .1 .1 .1 .1 .0 ∙ c2 .apart .kept .1 .1 .1 .1 .1
-    .1 .1 .1 .1 .1 .1 .1 .0)
-    (λ c. let c1 = c .before .before .before .before .before .before .before .before .before .before .before .before .before .before
-    .before .before in let c2 = c1 .before .before .before .before .before .before .before .before .before .before .before .before
-    .before .before .before .before .before in c1 .apart2 .kept .1 .1 .1 .1 .1 .1 .1 .1 .1 .1 .1 .1 .1 .0 ∙ c2 .apart .kept .1 .1 .1 .1
-    .1 .1 .1 .1 .1 .1 .1 .1 .1 .0)
+    (λ c. search needs)
+    (λ c. search needs)
     (λ c. let c1 = c .before .before .before .before .before in
     let c2 = c1 .before .before .before .before .before .before .before .before .before .before .before in
     let c3 = c2 .before .before .before .before .before .before in
