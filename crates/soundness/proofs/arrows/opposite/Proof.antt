@@ -2,10 +2,10 @@
 use mathlib.Core.Path.{sym}
 use mathlib.Core.Bool.{true≢false}
 use borrow.Author.Needs.{needs}
-use Rattle.soundness.proofs.within.opposite.Statement.{statement}
-use Rattle.soundness.proofs.within.opposite.Tie as tie
-use Rattle.soundness.proofs.within.opposite.Reads as reads
-use Rattle.soundness.proofs.within.opposite.Lts as lts
+use Rattle.soundness.proofs.arrows.opposite.Statement.{statement}
+use Rattle.soundness.proofs.arrows.opposite.Tie as tie
+use Rattle.soundness.proofs.arrows.opposite.Reads as reads
+use Rattle.soundness.proofs.arrows.opposite.Lts as lts
 use Rattle.layout.proofs.flip.Reads as flip-reads
 
 pub opposite-spec : {M : Type 1} → statement M

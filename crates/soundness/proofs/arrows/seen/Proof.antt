@@ -2,11 +2,11 @@
 use mathlib.Core.Path.{sym}
 use mathlib.Core.Bool.{true≢false}
 use borrow.Author.Needs.{needs}
-use Rattle.soundness.proofs.within.seen.Statement.{statement}
-use Rattle.soundness.proofs.within.seen.Tie as tie
-use Rattle.soundness.proofs.within.seen.Reads as reads
-use Rattle.soundness.proofs.within.seen.Lts as lts
-use Rattle.soundness.proofs.within.place.Reads as place-reads
+use Rattle.soundness.proofs.arrows.seen.Statement.{statement}
+use Rattle.soundness.proofs.arrows.seen.Tie as tie
+use Rattle.soundness.proofs.arrows.seen.Reads as reads
+use Rattle.soundness.proofs.arrows.seen.Lts as lts
+use Rattle.soundness.proofs.arrows.place.Reads as place-reads
 
 pub seen-spec : {M : Type 1} → statement M
 seen-spec =

@@ -3,11 +3,11 @@ use native.Mathlib.Omega.{arith}
 use lib.ListN.{length-set}
 use Rattle.soundness.proofs.PairsLaws.{puts}
 use borrow.Author.Needs.{needs}
-use Rattle.soundness.proofs.within.remember.Statement.{statement}
-use Rattle.soundness.proofs.within.remember.Tie as tie
-use Rattle.soundness.proofs.within.remember.Reads as reads
-use Rattle.soundness.proofs.within.remember.Lts as lts
-use Rattle.soundness.proofs.within.place.Reads as place-reads
+use Rattle.soundness.proofs.arrows.remember.Statement.{statement}
+use Rattle.soundness.proofs.arrows.remember.Tie as tie
+use Rattle.soundness.proofs.arrows.remember.Reads as reads
+use Rattle.soundness.proofs.arrows.remember.Lts as lts
+use Rattle.soundness.proofs.arrows.place.Reads as place-reads
 
 pub remember-spec : {M : Type 1} → statement M
 remember-spec =
