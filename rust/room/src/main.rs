@@ -5,7 +5,7 @@ use kudzuclamp::Refusal;
 use options::{Mode, Options};
 use room::ask::{Answer, Asker, Difference, Limits, Verdict};
 use room::diff::{self, Side};
-use room::mistake::Mistake;
+use room::mistake::{Mistake, MOST_SHOWN};
 use room::orders::Others;
 use room::plan::{self, Plan};
 use room::report::{self, Outcome};
@@ -15,9 +15,6 @@ use room::{compare, echo, explain, read, records, sense};
 use std::fs::File;
 use std::io::{self, IsTerminal, Read, Write};
 use std::process::ExitCode;
-
-/// At most so many mistakes are shown.
-const MOST_SHOWN: usize = 20;
 
 /// The most bytes of a file.
 const MOST_BYTES: u64 = 1_000_000;

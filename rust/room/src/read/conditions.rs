@@ -1,6 +1,6 @@
 //! Conditions.
 use super::{joins_two, meant, not_understood, one_of, Line, Read, Reader, FIRST_WORDS};
-use crate::mistake::{similar, Mistake};
+use crate::mistake::Mistake;
 use crate::room::{Cond, Part};
 use crate::words::{Word, RESERVED};
 
@@ -200,7 +200,7 @@ impl<'a> Reader<'a> {
         if let Some(word) = meant(name.text) {
             return self.wrong(name, not_understood(name.text, word));
         }
-        match (self.declared.get(name.text), similar(name.text, names)) {
+        match (self.declared.get(name.text), self.similar(name.text, names)) {
             (Some(line), _) if *line > name.line => {
                 says = format!(
                     "\"{}\" is named further down, on line {line}: move that line up",
