@@ -268,7 +268,7 @@ uint32_t kudzuclamp_relation(uint32_t *words, size_t words_len, uint32_t t, cons
  * Register r (0 to 31) then holds exactly the states of V in which the formula holds, found under the limits of the account at `place` (0 to
  * accounts_len - 1), whose tally grows by the rounds made. Each evaluation of a binder's body is one round, and so is one of until's f and g; a
  * round beyond `most` (R) or beyond the account's round limit is refused. With one binder or until in the formula 2^n + 1 rounds are enough.
- * *node is the set's node number: two registers hold the same set exactly where their node numbers are equal; 0 is no state, 1 is every state.
+ * *node is the set's node number: two registers hold the same set exactly where their node numbers are equal; 0 is no state, 1 is all 2^n states.
  * *rounds is how many rounds were made, and *peak the call's peak. It returns 0, 2 to 9, KUDZUCLAMP_VACUOUS or KUDZUCLAMP_UNLISTED.
  */
 KUDZUCLAMP_USE_RESULT
