@@ -1,4 +1,5 @@
 //! The command `room`.
+mod closed;
 mod options;
 
 use kudzuclamp::Refusal;
@@ -33,7 +34,7 @@ impl From<io::Error> for Stop {
 }
 
 fn main() -> ExitCode {
-    let done = match options::command(std::env::args().skip(1)) {
+    let done = match words().and_then(options::command) {
         Ok(options::Command::Run(options)) => run(&options),
         Ok(options::Command::Print(text)) => print(&text, Outcome::Safe),
         Err(says) => {
@@ -56,9 +57,21 @@ fn main() -> ExitCode {
     ExitCode::from(outcome.status())
 }
 
+/// The words of the command line. A word that is no text is refused, as it could not be told in messages.
+fn words() -> Result<std::vec::IntoIter<String>, String> {
+    let words: Result<Vec<String>, _> = (std::env::args_os().skip(1))
+        .map(std::ffi::OsString::into_string)
+        .collect();
+    match words {
+        Ok(words) => Ok(words.into_iter()),
+        Err(word) => Err(format!("{} is no text (UTF-8)", word.to_string_lossy())),
+    }
+}
+
 /// Writes to standard output. Where nobody reads on, as with `room FILE | head`, the status is all that is left to say.
 fn print(text: &str, outcome: Outcome) -> Result<Outcome, Stop> {
     let mut out = io::stdout().lock();
+    closed::check()?;
     match out.write_all(text.as_bytes()).and_then(|()| out.flush()) {
         Err(error) if error.kind() != io::ErrorKind::BrokenPipe => Err(error.into()),
         _ => Ok(outcome),

@@ -104,6 +104,7 @@ pub fn command(mut words: impl Iterator<Item = String>) -> Result<Command, Strin
             "--rounds" => options.rounds = number(&word, words.next(), 0, u32::MAX)?,
             "--whole-run" => options.whole_run = true,
             "--peak" => options.peak = true,
+            "--" => files.extend(words.by_ref()),
             text if text.starts_with('-') && text != "-" => {
                 options.mode = chosen(options.mode, text)?
             }

@@ -1,7 +1,7 @@
 //! Verdicts in words.
 use crate::ask::{press, Answer, Difference, Limits, Verdict};
 use crate::echo::{self, grouped};
-use crate::room::{Asked, Question, Room, Rule};
+use crate::room::{Asked, Cond, Question, Room, Rule, State};
 use crate::walk::{members, End, Run, Walk};
 use crate::{orders, sense};
 use kudzuclamp::Refusal;
@@ -258,9 +258,37 @@ pub fn order(answer: &Answer) -> String {
             "In the file's order of things the table is full. This verdict is by the order: {}",
             orders::names(room)
         ),
-        None => "Other orders of the things in the table do not help.".to_string(),
+        None => "No other order of the things in the table was found to help.".to_string(),
     };
     format!("            {says}\n")
+}
+
+/// Questions that are SAFE whatever the presses do: what they speak of does not come, or has come at the start.
+fn empty_questions(room: &Room, walk: &Walk, states: &[State]) -> Vec<String> {
+    let starts = members(&walk.starts);
+    let holds = |cond: &Cond, state: &State| room.holds(cond, *state);
+    let mut notes = Vec::new();
+    for question in &room.questions {
+        let said = |cond: &Cond| format!("\"{}\"", echo::cond(room, cond));
+        let (empty, why) = match &question.asked {
+            Asked::Works(_, x) | Asked::Whenever(x, ..) => (
+                !states.iter().any(|state| holds(x, state)),
+                format!("no presses lead to {}", said(x)),
+            ),
+            Asked::Until(_, y) | Asked::Unless(_, y) => (
+                starts.iter().all(|state| holds(y, state)),
+                format!("{} holds at the start already", said(y)),
+            ),
+            _ => continue,
+        };
+        if empty {
+            notes.push(format!(
+                "line {}: {why}, so this says nothing.",
+                question.line
+            ));
+        }
+    }
+    notes
 }
 
 /// What is no mistake, but may not be meant.
@@ -308,5 +336,6 @@ pub fn notes(room: &Room, walk: &Walk) -> Vec<String> {
             ));
         }
     }
+    notes.extend(empty_questions(room, walk, &states));
     notes
 }
