@@ -8,7 +8,7 @@ room --records FILE   prints the questions as records for roomrules, where it ca
 room --explain FILE   FILE has records: plays them, and says why one is refused
 room --diff OLD NEW   says what a change of the rules changes: verdicts, states that can come, what a press does
 
-  --rows N            a table of N rows, 1 to 60000 (60000)
+  --rows N            a table of N rows, 1 to 60000 (60000); with --records at most 1344 (1344)
   --rounds R          at most R rounds for each answer (4294967295)
   --peak              says how many rows the table needs
   --whole-run         shows every press of a long run
@@ -36,7 +36,7 @@ A press works only where its condition holds, and what it does not name keeps it
 Conditions have: and, or, not, parentheses, names, SELECTOR = POSITION. A line that begins with a blank goes on with the one before.
 
 Exit status: 0 all SAFE, 1 one BROKEN, 2 a mistake in the file or the command line, or an answer that cannot be written,
-3 NO VERDICT, 4 the table and the plain walk differ. Of two rooms it is that of NEW.
+or with --explain a record that is refused, 3 NO VERDICT, 4 the table and the plain walk differ. Of two rooms it is that of NEW.
 ";
 
 #[derive(Clone, Copy, PartialEq, Eq)]

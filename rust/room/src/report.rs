@@ -293,11 +293,22 @@ fn empty_questions(room: &Room, walk: &Walk, states: &[State]) -> Vec<String> {
 
 /// What is no mistake, but may not be meant.
 pub fn notes(room: &Room, walk: &Walk) -> Vec<String> {
+    let states = members(&walk.reached());
+    let mut notes = unused(room);
+    notes.extend(presses(room, &states));
+    notes.extend(empty_questions(room, walk, &states));
+    notes
+}
+
+/// Parts that nothing changes, and names that nothing uses.
+fn unused(room: &Room) -> Vec<String> {
+    let changed = |place: usize| {
+        let mut effects = room.rules.iter().flat_map(|rule| &rule.effects);
+        effects.any(|effect| effect.part == place)
+    };
     let mut notes = Vec::new();
-    for part in &room.parts {
-        let place = room.parts.iter().position(|other| other.name == part.name);
-        let changes = |rule: &Rule| rule.effects.iter().any(|effect| Some(effect.part) == place);
-        if !room.rules.iter().any(changes) {
+    for (place, part) in room.parts.iter().enumerate() {
+        if !changed(place) {
             notes.push(format!(
                 "no press changes {}: it stays as it is at the start.",
                 part.name
@@ -312,7 +323,12 @@ pub fn notes(room: &Room, walk: &Walk) -> Vec<String> {
             ));
         }
     }
-    let states = members(&walk.reached());
+    notes
+}
+
+/// Lines of presses that work in none of some states, and such that do one or the other.
+fn presses(room: &Room, states: &[State]) -> Vec<String> {
+    let mut notes = Vec::new();
     for rule in &room.rules {
         if !states.iter().any(|&state| room.works(rule, state)) {
             notes.push(format!(
@@ -322,12 +338,12 @@ pub fn notes(room: &Room, walk: &Walk) -> Vec<String> {
         }
     }
     for (at, rule) in room.rules.iter().enumerate() {
+        let differ = |other: &Rule, state: u32| {
+            let (one, two) = (room.pressed(other, state), room.pressed(rule, state));
+            one.is_some() && two.is_some() && one != two
+        };
         let both = room.rules[..at].iter().find(|other| {
-            let differ = |state: u32| {
-                let (one, two) = (room.pressed(other, state), room.pressed(rule, state));
-                one.is_some() && two.is_some() && one != two
-            };
-            other.press == rule.press && states.iter().any(|&state| differ(state))
+            other.press == rule.press && states.iter().any(|&state| differ(other, state))
         });
         if let Some(other) = both {
             notes.push(format!(
@@ -336,6 +352,5 @@ pub fn notes(room: &Room, walk: &Walk) -> Vec<String> {
             ));
         }
     }
-    notes.extend(empty_questions(room, walk, &states));
     notes
 }
