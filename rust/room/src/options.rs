@@ -5,7 +5,7 @@ pub const HELP: &str = "\
 room FILE             reads a room's switching rules in words and answers its questions
 room --echo FILE      prints the rules as understood, and asks nothing
 room --records FILE   prints the questions as records for roomrules, where it can answer them
-room --explain FILE   FILE has records: plays them, and says why one is refused
+room --explain FILE   FILE has records: plays them, and says why one is refused (exit status 2)
 room --diff OLD NEW   says what a change of the rules changes: verdicts, states that can come, what a press does
 
   --rows N            a table of N rows, 1 to 60000 (60000); with --records at most 1344 (1344)
@@ -36,7 +36,7 @@ A press works only where its condition holds, and what it does not name keeps it
 Conditions have: and, or, not, parentheses, names, SELECTOR = POSITION. A line that begins with a blank goes on with the one before.
 
 Exit status: 0 all SAFE, 1 one BROKEN, 2 a mistake in the file or the command line, or an answer that cannot be written,
-or with --explain a record that is refused, 3 NO VERDICT, 4 the table and the plain walk differ. Of two rooms it is that of NEW.
+3 NO VERDICT, 4 the table and the plain walk differ. Of two rooms it is that of NEW.
 ";
 
 #[derive(Clone, Copy, PartialEq, Eq)]
