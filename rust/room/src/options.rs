@@ -100,11 +100,11 @@ pub fn command(mut words: impl Iterator<Item = String>) -> Result<Command, Strin
         match word.as_str() {
             "--help" | "-h" => return Ok(Command::Print(HELP.to_string())),
             "--version" => return Ok(Command::Print(version())),
+            "--" => files.extend(words.by_ref()),
             "--rows" => options.rows = Some(number(&word, words.next(), 1, Limits::LARGEST.rows)?),
             "--rounds" => options.rounds = number(&word, words.next(), 0, u32::MAX)?,
             "--whole-run" => options.whole_run = true,
             "--peak" => options.peak = true,
-            "--" => files.extend(words.by_ref()),
             text if text.starts_with('-') && text != "-" => {
                 options.mode = chosen(options.mode, text)?
             }
