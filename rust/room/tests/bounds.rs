@@ -31,6 +31,19 @@ fn unknown_words() {
     assert_eq!(says("no press is called \"A1\""), MOST_SHOWN + 10);
 }
 
+/// Positions too.
+#[test]
+fn unknown_positions() {
+    let text = "selector s: p q\nstart: all off\npress A: s = q\n".to_string();
+    let found = read(&(text + &"never q\n".repeat(MOST_SHOWN + 10))).unwrap_err();
+    let says = |told: &str| found.iter().filter(|m| m.says == told).count();
+    assert_eq!(
+        says("\"q\" is a position of \"s\": write \"s = q\""),
+        MOST_SHOWN
+    );
+    assert_eq!(says("nothing here is called \"q\""), 10);
+}
+
 #[test]
 fn at_most_so_many_names() {
     let room = read(&names(MOST_NAMES)).unwrap();
