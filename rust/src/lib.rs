@@ -53,6 +53,7 @@ mod dot;
 mod fault;
 mod formula;
 mod layout;
+mod least;
 mod names;
 mod parse;
 mod play;

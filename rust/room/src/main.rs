@@ -1,4 +1,5 @@
 //! The command `room`.
+mod closed;
 mod handover;
 mod options;
 mod walking;
@@ -7,7 +8,7 @@ use kudzuclamp::Refusal;
 use options::{Mode, Options};
 use room::ask::{Answer, Asker, Difference, Limits, Verdict};
 use room::diff::{self, Side};
-use room::mistake::Mistake;
+use room::mistake::{Mistake, MOST_SHOWN};
 use room::orders::Others;
 use room::plan::{self, Plan};
 use room::report::{self, Outcome};
@@ -17,9 +18,6 @@ use room::{compare, echo, explain, read, records, sense};
 use std::fs::File;
 use std::io::{self, IsTerminal, Read, Write};
 use std::process::ExitCode;
-
-/// At most so many mistakes are shown.
-const MOST_SHOWN: usize = 20;
 
 /// The most bytes of a file.
 const MOST_BYTES: u64 = 1_000_000;
@@ -38,7 +36,7 @@ impl From<io::Error> for Stop {
 }
 
 fn main() -> ExitCode {
-    let done = match options::command(std::env::args().skip(1)) {
+    let done = match words().and_then(options::command) {
         Ok(options::Command::Run(options)) => run(&options),
         Ok(options::Command::Print(text)) => print(&text, Outcome::Safe),
         Err(says) => {
@@ -61,9 +59,21 @@ fn main() -> ExitCode {
     ExitCode::from(outcome.status())
 }
 
+/// The words of the command line. A word that is no text is refused, as it could not be told in messages.
+fn words() -> Result<std::vec::IntoIter<String>, String> {
+    let words: Result<Vec<String>, _> = (std::env::args_os().skip(1))
+        .map(std::ffi::OsString::into_string)
+        .collect();
+    match words {
+        Ok(words) => Ok(words.into_iter()),
+        Err(word) => Err(format!("{} is no text (UTF-8)", word.to_string_lossy())),
+    }
+}
+
 /// Writes to standard output. Where nobody reads on, as with `room FILE | head`, the status is all that is left to say.
 fn print(text: &str, outcome: Outcome) -> Result<Outcome, Stop> {
     let mut out = io::stdout().lock();
+    closed::check()?;
     match out.write_all(text.as_bytes()).and_then(|()| out.flush()) {
         Err(error) if error.kind() != io::ErrorKind::BrokenPipe => Err(error.into()),
         _ => Ok(outcome),

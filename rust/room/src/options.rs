@@ -5,14 +5,14 @@ pub const HELP: &str = "\
 room FILE             reads a room's switching rules in words and answers its questions
 room --echo FILE      prints the rules as understood, and asks nothing
 room --records FILE   prints the questions as records for roomrules, where it can answer them
-room --explain FILE   FILE has records: plays them, and says why one is refused
+room --explain FILE   FILE has records: plays them, and says why one is refused (exit status 2)
 room --diff OLD NEW   says what a change of the rules changes: verdicts, states that can come, what a press does
 room --sheet FILE...  for the hand-over: asks every room, and prints a line for each
 room --walk FILE      goes through the room press by press, as you type them: what each does, and which questions break
 
   --page OUT.html     with --sheet: writes a page too, with the rules, the answers and each run as a picture
   --date TEXT         with --page: the date that stands on it
-  --rows N            a table of N rows, 1 to 60000 (60000)
+  --rows N            a table of N rows, 1 to 60000 (60000); with --records at most 1344 (1344)
   --rounds R          at most R rounds for each answer (4294967295)
   --peak              says how many rows the table needs
   --whole-run         shows every press of a long run
@@ -117,6 +117,7 @@ pub fn command(mut words: impl Iterator<Item = String>) -> Result<Command, Strin
         match word.as_str() {
             "--help" | "-h" => return Ok(Command::Print(HELP.to_string())),
             "--version" => return Ok(Command::Print(version())),
+            "--" => files.extend(words.by_ref()),
             "--rows" => options.rows = Some(number(&word, words.next(), 1, Limits::LARGEST.rows)?),
             "--rounds" => options.rounds = number(&word, words.next(), 0, u32::MAX)?,
             "--whole-run" => options.whole_run = true,

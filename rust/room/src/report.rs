@@ -3,7 +3,7 @@ use crate::ask::{press, Answer, Difference, Limits, Verdict};
 use crate::changes;
 use crate::echo::{self, grouped};
 use crate::finding::{findings, worst, Finding};
-use crate::room::{Asked, Question, Room, Rule};
+use crate::room::{Asked, Cond, Question, Room, Rule, State};
 use crate::walk::{members, End, Run, Walk};
 use crate::{orders, sense};
 use kudzuclamp::Refusal;
@@ -273,18 +273,57 @@ pub fn order(answer: &Answer) -> String {
             "In the file's order of things the table is full. This verdict is by the order: {}",
             orders::names(room)
         ),
-        None => "Other orders of the things in the table do not help.".to_string(),
+        None => "No other order of the things in the table was found to help.".to_string(),
     };
     format!("            {says}\n")
 }
 
+/// Questions that are SAFE whatever the presses do: what they speak of does not come, or has come at the start.
+fn empty_questions(room: &Room, walk: &Walk, states: &[State]) -> Vec<String> {
+    let starts = members(&walk.starts);
+    let holds = |cond: &Cond, state: &State| room.holds(cond, *state);
+    let mut notes = Vec::new();
+    for question in &room.questions {
+        let said = |cond: &Cond| format!("\"{}\"", echo::cond(room, cond));
+        let (empty, why) = match &question.asked {
+            Asked::Works(_, x) | Asked::Whenever(x, ..) => (
+                !states.iter().any(|state| holds(x, state)),
+                format!("no presses lead to {}", said(x)),
+            ),
+            Asked::Until(_, y) | Asked::Unless(_, y) => (
+                starts.iter().all(|state| holds(y, state)),
+                format!("{} holds at the start already", said(y)),
+            ),
+            _ => continue,
+        };
+        if empty {
+            notes.push(format!(
+                "line {}: {why}, so this says nothing.",
+                question.line
+            ));
+        }
+    }
+    notes
+}
+
 /// What is no mistake, but may not be meant.
 pub fn notes(room: &Room, walk: &Walk) -> Vec<String> {
+    let states = members(&walk.reached());
+    let mut notes = unused(room);
+    notes.extend(presses(room, &states));
+    notes.extend(empty_questions(room, walk, &states));
+    notes
+}
+
+/// Parts that nothing changes, and names that nothing uses.
+fn unused(room: &Room) -> Vec<String> {
+    let changed = |place: usize| {
+        let mut effects = room.rules.iter().flat_map(|rule| &rule.effects);
+        effects.any(|effect| effect.part == place)
+    };
     let mut notes = Vec::new();
-    for part in &room.parts {
-        let place = room.parts.iter().position(|other| other.name == part.name);
-        let changes = |rule: &Rule| rule.effects.iter().any(|effect| Some(effect.part) == place);
-        if !room.rules.iter().any(changes) {
+    for (place, part) in room.parts.iter().enumerate() {
+        if !changed(place) {
             notes.push(format!(
                 "no press changes {}: it stays as it is at the start.",
                 part.name
@@ -299,7 +338,12 @@ pub fn notes(room: &Room, walk: &Walk) -> Vec<String> {
             ));
         }
     }
-    let states = members(&walk.reached());
+    notes
+}
+
+/// Lines of presses that work in none of some states, and such that do one or the other.
+fn presses(room: &Room, states: &[State]) -> Vec<String> {
+    let mut notes = Vec::new();
     for rule in &room.rules {
         if !states.iter().any(|&state| room.works(rule, state)) {
             notes.push(format!(
@@ -309,12 +353,12 @@ pub fn notes(room: &Room, walk: &Walk) -> Vec<String> {
         }
     }
     for (at, rule) in room.rules.iter().enumerate() {
+        let differ = |other: &Rule, state: u32| {
+            let (one, two) = (room.pressed(other, state), room.pressed(rule, state));
+            one.is_some() && two.is_some() && one != two
+        };
         let both = room.rules[..at].iter().find(|other| {
-            let differ = |state: u32| {
-                let (one, two) = (room.pressed(other, state), room.pressed(rule, state));
-                one.is_some() && two.is_some() && one != two
-            };
-            other.press == rule.press && states.iter().any(|&state| differ(state))
+            other.press == rule.press && states.iter().any(|&state| differ(other, state))
         });
         if let Some(other) = both {
             notes.push(format!(

@@ -523,7 +523,7 @@ fn another_order() {
         verdict: room::ask::Verdict::None(kudzuclamp::Refusal::Full),
         ordered: None,
     };
-    let says = "            Other orders of the things in the table do not help.\n";
+    let says = "            No other order of the things in the table was found to help.\n";
     assert_eq!(room::report::order(&none), says);
     assert_eq!(presses(&printed), presses(&written));
 }

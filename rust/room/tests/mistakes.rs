@@ -545,7 +545,7 @@ fn questions() {
         (
             "never howl until song",
             "until",
-            "one line asks one \"until\", outside all parentheses",
+            "without \"never\": write \"not howl until song\"; or \"not howl unless song\", where that need not come",
         ),
         (
             "never hole",
