@@ -13,8 +13,8 @@ use Rattle.soundness.proofs.arrows.keep_all_open.Lts as lts
 use Rattle.soundness.proofs.arrows.keep_open.Reads as keep-open-reads
 
 abbrev Inv-loop : tie.InvT-loop
-Inv-loop shift b from to list₀ memo m₀ k₀ list m k = (from ≤ k) × (k ≤ to) ×
-    (length list ≡ length list₀) × KeptOpen memo shift b list₀ list from k m
+Inv-loop shift b from to list₀ memo m₀ k₀ list m k = (from ≤ k) × (k ≤ to) × (length list ≡ length list₀)
+    × KeptOpen memo shift b list₀ list from k m
 
 abbrev μ-loop : tie.MeasureT-loop
 μ-loop shift b from to list₀ memo m₀ k₀ list m k = to - k

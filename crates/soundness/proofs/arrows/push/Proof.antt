@@ -1,5 +1,4 @@
 -- `push` meets its contract: the arrow is nothing, is found, or is written. Assumes nothing.
-use native.Mathlib.Omega.{arith}
 use Rattle.soundness.proofs.ListsLaws.{pushed-not, pushed-new}
 use borrow.Author.Needs.{needs}
 use Rattle.soundness.proofs.arrows.push.Statement.{statement}

@@ -4,7 +4,6 @@ use Prim.Native.Nat.{_-_, _≤_}
 use native.Mathlib.Omega.{arith}
 use lib.ListN.{length}
 use borrow.Author.Needs.{needs}
-use Rattle.soundness.specs.Pairs.{PAIR-WORDS}
 use Rattle.soundness.specs.Lists.{StaysRight}
 use Rattle.soundness.proofs.ListsLaws.{stays-none, stays-more}
 use Rattle.soundness.proofs.arrows.remember_all.Statement.{statement}

@@ -2,7 +2,6 @@
 use native.Mathlib.Omega.{arith}
 use Rattle.layout.specs.View.{view}
 use Rattle.soundness.proofs.Contained.{row-at, level-read, deep-yes, deep-no}
-use borrow.Author.Needs.{needs}
 use Rattle.soundness.proofs.within.deep.Statement.{statement}
 use Rattle.soundness.proofs.within.deep.Tie as tie
 use Rattle.soundness.proofs.within.deep.Reads as reads

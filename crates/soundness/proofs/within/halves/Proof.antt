@@ -15,8 +15,8 @@ use Rattle.soundness.proofs.within.half.Reads as half-reads
 use Rattle.soundness.proofs.arrows.push.Reads as push-reads
 
 abbrev Inv-loop : tie.InvT-loop
-Inv-loop words rows level side from to start end list₀ found₀ stop₀ k₀ list found stop k = (from ≤ k) × (k ≤ to) ×
-    (length list ≡ length list₀) × (length found ≡ length found₀) × Halves (view rows words) level side list₀ list from k start end stop
+Inv-loop words rows level side from to start end list₀ found₀ stop₀ k₀ list found stop k = (from ≤ k) × (k ≤ to)
+    × (length list ≡ length list₀) × (length found ≡ length found₀) × Halves (view rows words) level side list₀ list from k start end stop
 
 abbrev μ-loop : tie.MeasureT-loop
 μ-loop words rows level side from to start end list₀ found₀ stop₀ k₀ list found stop k = to - k
@@ -50,9 +50,10 @@ halves-spec =
       omega arith,
       omega arith,
       c1 .push .kept .0 ∙ c3 .loop .inv .2,
-      c1 .push .kept .1 .0 ∙ c3 .loop .inv
-          .3,
-      halves-more (c3 .loop .inv .4) f (omega arith) refl (c1 .before .before .before .half .ensures) (c1 .push .ensures),
+      c1 .push .kept .1 .0
+          ∙ c3 .loop .inv .3,
+      halves-more (c3 .loop .inv .4) f (omega arith) refl (c1 .before .before .before .half .ensures)
+          (c1 .push .ensures),
     ))
     (λ c. c .before .loop .inv .2)
     (λ c. c .before .loop .inv .3)

@@ -26,8 +26,7 @@ lay-spec =
     (λ c κs. let c1 = c .before .before .before .before .before .before .before in
     let c2 = c1 .before .before .before .before .before .before .before .before in let o = c2 .pre .lists .order .2 in
     let m = c2 .pre .room in let h = c1 .halves .ensures in let n = h .least in let u = h .most in (
-      halves-again (c2 .pre .lists) h (c1 .halves .kept .1 .1 .1 .1 .1 .1 .1 .1 .0)
-          (c1 .halves .kept .1 .1 .1 .1 .1 .1 .1 .1 .1 .0),
+      halves-again (c2 .pre .lists) h (c1 .halves .kept .1 .1 .1 .1 .1 .1 .1 .1 .0) (c1 .halves .kept .1 .1 .1 .1 .1 .1 .1 .1 .1 .0),
       n,
       omega arith,
       omega arith,
@@ -52,8 +51,7 @@ lay-spec =
     (λ c κs. let c1 = c .before .before .before .before .before .before .before in
     let c2 = c1 .before .before .before .before .before .before .before .before in let o = c2 .pre .lists .order .2 in
     let m = c2 .pre .room in let h = c1 .halves .ensures in let n = h .least in let u = h .most in (
-      halves-again (c2 .pre .lists) h (c1 .halves .kept .1 .1 .1 .1 .1 .1 .1 .1 .0)
-          (c1 .halves .kept .1 .1 .1 .1 .1 .1 .1 .1 .1 .0),
+      halves-again (c2 .pre .lists) h (c1 .halves .kept .1 .1 .1 .1 .1 .1 .1 .1 .0) (c1 .halves .kept .1 .1 .1 .1 .1 .1 .1 .1 .1 .0),
       omega arith,
       omega arith,
       omega arith,

@@ -1,6 +1,5 @@
 -- `lesser` meets its contract: an arrow's level is its row's, and everything is past all levels. Assumes nothing.
 use native.Mathlib.Omega.{arith}
-use borrow.Author.Needs.{needs}
 use Rattle.layout.specs.View.{view}
 use Rattle.soundness.proofs.Contained.{is-row, row-at, level-read}
 use Rattle.soundness.proofs.ListsLaws.{lesser-all}

@@ -2,7 +2,6 @@
 use Prim.Native.Nat.{_-_, _≤_}
 use mathlib.Core.Path.{_≡_, refl, _∙_}
 use native.Mathlib.Omega.{arith}
-use borrow.Author.Needs.{needs}
 use lib.ListN.{length}
 use Rattle.layout.specs.View.{headerOf}
 use Rattle.soundness.specs.Lists.{RefsListed}
@@ -15,8 +14,8 @@ use Rattle.layout.proofs.header_word.Reads as header-word-reads
 use Rattle.soundness.proofs.arrows.push_ref.Reads as push-ref-reads
 
 abbrev Inv-loop : tie.InvT-loop
-Inv-loop words from to list₀ found₀ stop₀ k₀ list found stop k = (from ≤ k) × (k ≤ to) × (length list ≡ length list₀) ×
-    (length found ≡ length found₀) × RefsListed (headerOf words) list from k stop
+Inv-loop words from to list₀ found₀ stop₀ k₀ list found stop k = (from ≤ k) × (k ≤ to) × (length list ≡ length list₀)
+    × (length found ≡ length found₀) × RefsListed (headerOf words) list from k stop
 
 abbrev μ-loop : tie.MeasureT-loop
 μ-loop words from to list₀ found₀ stop₀ k₀ list found stop k = to - k

@@ -38,9 +38,8 @@ refs-apart-spec =
     (λ c. search needs)
     (λ c κs. let c1 = c .before .before .before .before .before .before .before in let c2 = c1 .before .before .before .before in
     let c3 = c2 .before .before .before in walk-asked (c3 .pre) (c1 .before .before .before .base-of .ensures ∙ ap (λ
-    (k : ℕ). 2 * k - 10) (c2 .header-word .ensures)) (c1 .list-refs .ensures)
-    (c1 .list-refs .kept .1 .1 .1 .0 ∙ length-replicate {A = ℕ} ROOM 0)
-    (c1 .list-refs .kept .1 .1 .1 .1 .0 ∙ length-replicate {A = ℕ} FOUND 0))
+    (k : ℕ). 2 * k - 10) (c2 .header-word .ensures)) (c1 .list-refs .ensures) (c1 .list-refs .kept .1 .1 .1 .0
+    ∙ length-replicate {A = ℕ} ROOM 0) (c1 .list-refs .kept .1 .1 .1 .1 .0 ∙ length-replicate {A = ℕ} FOUND 0))
     (λ c. c .before .before .before .before .before .before .apart .kept .1 .1 .1 .1 .1 .1 .1 .1 .1 .1 .1 .1 .0)
     (λ c. let c1 = c .before .before .before .before .before .before in
     let c2 = c1 .before .before .before .before .before .before .before .before in

@@ -2,7 +2,6 @@
 use mathlib.Core.Path.{_∙_}
 use native.Mathlib.Omega.{arith}
 use Rattle.soundness.proofs.WalkLaws.{least-asked, lay-asked, stepped}
-use borrow.Author.Needs.{needs}
 use Rattle.soundness.proofs.within.step.Statement.{statement}
 use Rattle.soundness.proofs.within.step.Tie as tie
 use Rattle.soundness.proofs.within.step.Reads as reads

@@ -20,8 +20,8 @@ use Rattle.soundness.proofs.tables.disjoint.Reads as disjoint-reads
 use Rattle.soundness.proofs.tables.set_cells.Reads as set-cells-reads
 
 abbrev Inv-loop : tie.InvT-loop
-Inv-loop words rows shift base b from to list first₀ second y k₀ first k = (from ≤ k) × (k ≤ to) ×
-    (length first ≡ length first₀) × Known (view rows words) base shift 0 first × ListApart (view rows words) shift list from k b
+Inv-loop words rows shift base b from to list first₀ second y k₀ first k = (from ≤ k) × (k ≤ to) × (length first ≡ length first₀)
+    × Known (view rows words) base shift 0 first × ListApart (view rows words) shift list from k b
 
 abbrev μ-loop : tie.MeasureT-loop
 μ-loop words rows shift base b from to list first₀ second y k₀ first k = to - k
@@ -45,8 +45,9 @@ tables-apart-spec =
     (λ c. search needs)
     (λ c. let c1 = c .before .before .before .before .before .before .before .before .before .before .before .before in
     let t = c .before .loop-test .taken in let p = c1 .pre .within in omega arith)
-    (λ c κs. let c1 = c .before .before .before in let c2 = c1 .before .before .before .before .before .before .before .before .before
-    .before in table-first (c2 .pre) (c1 .loop .inv .0) (c .before .before .loop-test .taken) refl (c1 .loop .inv .2) (c1 .loop .inv .3))
+    (λ c κs. let c1 = c .before .before .before in let c2 =
+    c1 .before .before .before .before .before .before .before .before .before .before in
+    table-first (c2 .pre) (c1 .loop .inv .0) (c .before .before .loop-test .taken) refl (c1 .loop .inv .2) (c1 .loop .inv .3))
     (λ c κs. search needs)
     (λ c. let c1 = c .before .before .before .before in let c2 = c1 .before .before .before .before in
     c1 .arrow-cells .kept .1 .1 .1 .1 .1 .1 .0 ∙ c2 .loop .inv .2)
