@@ -39,8 +39,13 @@
  * are all answered.
  *
  * STACK. A call takes less than 160 KB of it, and more than 120 KB only on words whose lookup chains are longer than 32 rows (seen: 111 KB, a formula
- * of the greatest depth at n = 16). Where V is not every state about 32 KB more, and then in a table of more than 4,096 used rows about 512 KB more. Measured
- * on the compiled code and, for V, by the sizes of its lists; not proved.
+ * of the greatest depth at n = 16). Where V is not every state and more than 2,048 rows are used, the check of the table takes up to 560 KB (seen: 522
+ * KB). Measured on the compiled code, not proved.
+ *
+ * TIME. No contract speaks of it. Every call first checks the whole table: some 50 instructions for each used row, and more where V is not every state
+ * (2 ms for 28,736 rows of an ordinary table; 0.65 s for the worst table found, which was made for it). So where many records are at hand, give them to
+ * one kudzuclamp_play, which checks once. R and an account's round limit stop a set that goes on for long; a single round may still take long in a
+ * large table, and a row limit bounds that.
  *
  * POINTERS. A slice is a pointer and its number of elements. No pointer may be null, not even with 0 elements. Words and lists that are not const,
  * the accounts, and each answer must overlap nothing else that is lent to the call, and no other thread may use them meanwhile; nor may one write
