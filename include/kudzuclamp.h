@@ -43,7 +43,7 @@
  * KB). Measured on the compiled code, not proved.
  *
  * TIME. No contract speaks of it. Every call first checks the whole table: some 50 instructions for each used row, and more where V is not every state
- * (2 ms for 28,736 rows of an ordinary table; 0.65 s for the worst table found, which was made for it). So where many records are at hand, give them to
+ * (2 ms for 28,736 rows of an ordinary table; 0.6 s for the worst table found, which was made for it). So where many records are at hand, give them to
  * one kudzuclamp_play, which checks once. R and an account's round limit stop a set that goes on for long; a single round may still take long in a
  * large table, and a row limit bounds that.
  *
