@@ -44,8 +44,8 @@
  *
  * TIME. No contract speaks of it. Every call first checks the whole table: some 50 instructions for each used row, and more where V is not every state
  * (2 ms for 28,736 rows of an ordinary table; 0.6 s for the worst table found, which was made for it). So where many records are at hand, give them to
- * one kudzuclamp_play, which checks once. R and an account's round limit stop a set that goes on for long; a single round may still take long in a
- * large table, and a row limit bounds that.
+ * one kudzuclamp_play, which checks once. R and an account's round limit bound the rounds of a set, and no more than these: a formula without binders
+ * has no round, and its steps may still take long in a large table.
  *
  * POINTERS. A slice is a pointer and its number of elements. No pointer may be null, not even with 0 elements. Words and lists that are not const,
  * the accounts, and each answer must overlap nothing else that is lent to the call, and no other thread may use them meanwhile; nor may one write

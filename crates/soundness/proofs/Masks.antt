@@ -81,7 +81,8 @@ pub has-swapped-low : (w k : ℕ) → k < 32 → has (swapped w) k ≡ has w (32
 has-swapped-low w k h =
     let x : ℕ = w / 4294967296 % 4294967296 in
     let e : swapped w % 4294967296 ≡ x = low (w % 4294967296) 32 {lo = x} (omega arith) in
-    sym (has-low (swapped w) k h) ∙ ap (λ (z : ℕ). has z k) e ∙ has-low (w / 4294967296) k h ∙ ap (λ (z : ℕ). eqb (z % 2) 1) (shr-shr w 32 k)
+    sym (has-low (swapped w) k h) ∙ ap (λ (z : ℕ). has z k) e ∙ has-low (w / 4294967296) k h
+    ∙ ap (λ (z : ℕ). eqb (z % 2) 1) (shr-shr w 32 k)
 
 pub has-swapped-high : (w k : ℕ) → k < 32 → has (swapped w) (32 + k) ≡ has w k
 has-swapped-high w k h =

@@ -84,7 +84,8 @@ pub known-more : {base s t w : ℕ} {memo : List ℕ} (W : View) (i : ℕ) → r
     → Tabled (2 * W .header BITS) (rowsOf W) base s t (row i) w → Known W base s t (set memo (W .cell i RANK) w)
 known-more {base} {s} {t} {w} {memo} W i u h k p = record {
   at = λ j v q. by-cases (ℕ-discrete (W .cell j RANK) (W .cell i RANK))
-      (λ e. subst (λ (x : ℕ). Tabled (2 * W .header BITS) (rowsOf W) base s t (row x) (getD (set memo (W .cell i RANK) w) (W .cell x RANK) 0))
+      (λ e. subst
+      (λ (x : ℕ). Tabled (2 * W .header BITS) (rowsOf W) base s t (row x) (getD (set memo (W .cell i RANK) w) (W .cell x RANK) 0))
       (sym (same-rank W i j u v e))
       (subst (Tabled (2 * W .header BITS) (rowsOf W) base s t (row i)) (sym (getD-set-same memo (W .cell i RANK) w 0 h)) p))
       (λ n. let z = getD-set-other memo (W .cell i RANK) (W .cell j RANK) w 0 n in
@@ -136,7 +137,8 @@ asked-arrow {W} {base} {s} {t} {a} {i} {x} {k} p r f c e n =
 pub led : {W : View} {base s t a i : ℕ} {memo : List ℕ} → TablePre W base s t a memo → a ≢ 0 → a ≢ 1 → i ≡ rowOf a → RowOf W a i
 led {a = a} p n k e = row-led a (p .good) (p .arrow) (row-yes a (omega arith)) e
 
-pub recalled : {W : View} {base s t a i w r : ℕ} {memo : List ℕ} → TablePre W base s t a memo → RowOf W a i → w ≡ getD memo (W .cell i RANK) 0
+pub recalled : {W : View} {base s t a i w r : ℕ} {memo : List ℕ} → TablePre W base s t a memo → RowOf W a i
+    → w ≡ getD memo (W .cell i RANK) 0
     → w ≢ 0
     → r ≡ carriedCells (marked a) w
     → TablePost W base s t a r memo
@@ -241,7 +243,9 @@ set-more {W} {base} {s} {b} {k} {w} {r} {memo} p h t e f =
     more : Shown (2 * W .header BITS) (rowsOf W) base s s b r false → r / 4294967296 ≡ b → Sets W base s (set memo k r)
     more x q = record {
       at = λ j n. by-cases (ℕ-discrete j k)
-          (λ z. subst (λ (i : ℕ). Shown (2 * W .header BITS) (rowsOf W) base s s (getD (set memo k r) i 0 / 4294967296) (getD (set memo k r) i 0) false)
+          (λ z. subst
+          (λ (i : ℕ).
+          Shown (2 * W .header BITS) (rowsOf W) base s s (getD (set memo k r) i 0 / 4294967296) (getD (set memo k r) i 0) false)
           (sym z)
           (subst (λ (y : ℕ). Shown (2 * W .header BITS) (rowsOf W) base s s (y / 4294967296) y false) (sym (getD-set-same memo k r 0 h))
           (subst (λ (y : ℕ). Shown (2 * W .header BITS) (rowsOf W) base s s y r false) (sym q) x)))

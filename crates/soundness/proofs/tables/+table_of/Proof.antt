@@ -119,8 +119,13 @@ pub +table-of-spec : {M : Type 1} → statement M
     let h = r .place in
     let e = c .before .before .before .before .table-of2 .kept .1 .1 .1 .1 .1 .1 .0 in
     let f = c .before .before .before .before .before .before .before .before .before .table-of .kept .1 .1 .1 .1 .1 .1 .0 in
-    let g = c .before .before .before .before .before .before .before .before .before .before .before .before .before .before .before .before .before .before .before .before .pre .1 .size in
-    (r .below, c .before .before .before .before .before .before .before .before .before .before .before .before .before .before .before .before .before .before .before .before .pre .1 .good .sizes .room, omega arith))
+    let g = c .before .before .before .before .before .before .before .before .before .before .before .before .before .before .before
+    .before .before .before .before .before .pre .1 .size in (
+      r .below,
+      c .before .before .before .before .before .before .before .before .before .before .before .before .before .before
+          .before .before .before .before .before .before .pre .1 .good .sizes .room,
+      omega arith,
+    ))
     (λ c κs. search needs)
     (λ c. search needs)
     (λ c. let r =
@@ -134,8 +139,10 @@ pub +table-of-spec : {M : Type 1} → statement M
     .before .before .before .row-of .ensures) in
     let h = r .place in
     let e = c .before .before .before .before .before .before .before .before .table-of2 .kept .1 .1 .1 .1 .1 .1 .0 in
-    let f = c .before .before .before .before .before .before .before .before .before .before .before .before .before .table-of .kept .1 .1 .1
+    let f = c .before .before .before .before .before .before .before .before .before .before .before .before .before .table-of .kept
+    .1 .1 .1
     .1 .1 .1 .0 in
-    let g = c .before .before .before .before .before .before .before .before .before .before .before .before .before .before .before .before .before .before .before .before .before .before .before .before .pre .1 .size in
+    let g = c .before .before .before .before .before .before .before .before .before .before .before .before .before .before .before
+    .before .before .before .before .before .before .before .before .before .pre .1 .size in
     made-table r (omega arith) (c .before .before .before .before .before .before .before .before .table-of2 .ensures .known)
     (c .before .before .before .before .before .row-table .ensures) (c .before .before .before .keep .ensures) (c .carried2 .ensures))
