@@ -27,7 +27,7 @@ use Rattle.book.proofs.Stored.{none-some}
 use Rattle.contract.specs.Seen.{arrowIn, seen, SoundWords}
 use Rattle.seek.specs.Walk.{HoldsPre}
 use Rattle.coins.specs.Runs.{leadsIn}
-use Rattle.coins.specs.Post.{Reply, refused, Told, no-run, InRange, FarePost}
+use Rattle.coins.specs.Post.{FareReply, fareRefused, FareTold, told-none, BothThere, FareBy, FarePost}
 use Rattle.coin_search.specs.Hall.{rootAt, filledAt, leadsAt, inSet, Hall}
 use Rattle.coin_search.proofs.Hall.{hall-moved, filled-below, filled-some}
 use Rattle.coin_search.specs.Search.{SearchPre, SearchPost}
@@ -38,96 +38,86 @@ use Rattle.coin_calls.proofs.Moved.{told-moved, words-agree}
 
 module _ (a b : ℕ) (words prices work states relations : List ℕ) where
   -- the price list
-  pub fare-prices : (length prices ≡ 8 → ⊥) → FarePost a b words prices work work states states relations relations (refused 1)
+  pub fare-prices : (length prices ≡ 8 → ⊥) → FarePost a b words prices work work states states relations relations (fareRefused 1)
   fare-prices n = record {
     prices-fit = λ _. refl;
     unsound = λ e. absurd (n e);
-    work-fits = λ e. absurd (n e);
-    range = λ e. absurd (n e);
-    empty = λ e. absurd (n e);
-    told = λ e. absurd (n e);
+    by-book = λ e. absurd (n e);
     kept = λ _. (refl, refl);
     size = refl;
     work-kept = λ _. refl;
   }
 
   module _ (e : length prices ≡ 8) where
-    pub fare-unsound : (SoundWords words → ⊥) → FarePost a b words prices work work states states relations relations (refused 2)
+    pub fare-unsound : (SoundWords words → ⊥) → FarePost a b words prices work work states states relations relations (fareRefused 2)
     fare-unsound n = record {
       prices-fit = λ q. absurd (q e);
       unsound = λ _ _. refl;
-      work-fits = λ _ s. absurd (n s);
-      range = λ _ s. absurd (n s);
-      empty = λ _ s. absurd (n s);
-      told = λ _ s. absurd (n s);
+      by-book = λ _ s. absurd (n s);
       kept = λ _. (refl, refl);
       size = refl;
       work-kept = λ _. refl;
     }
 
     module _ (s : SoundWords words) where
-      -- the work list
-      pub fare-work : length work < 2 ^ headerOf words BITS
-          → FarePost a b words prices work work states states relations relations (refused 1)
-      fare-work h = record {
+      -- a refusal by the book
+      fare-refused : (k : ℕ) → FareBy (bookOf (seen words)) a b prices work states states relations relations (fareRefused k)
+          → FarePost a b words prices work work states states relations relations (fareRefused k)
+      fare-refused k y = record {
         prices-fit = λ q. absurd (q e);
         unsound = λ _ n. absurd (n s);
-        work-fits = λ _ _ _. refl;
-        range = λ _ _ l. absurd (omega arith);
-        empty = λ _ _ l. absurd (omega arith);
-        told = λ _ _ l. absurd (omega arith);
+        by-book = λ _ _. y;
         kept = λ _. (refl, refl);
         size = refl;
         work-kept = λ _. refl;
       }
 
+      -- the work list
+      pub fare-work : length work < 2 ^ headerOf words BITS
+          → FarePost a b words prices work work states states relations relations (fareRefused 1)
+      fare-work h = fare-refused 1 (record {
+        work-fits = λ _. refl;
+        range = λ l. absurd (omega arith);
+        empty = λ l. absurd (omega arith);
+        told = λ l. absurd (omega arith);
+      })
+
       module _ (w : 2 ^ headerOf words BITS ≤ length work) where
-        pub fare-range : (InRange a b → ⊥) → FarePost a b words prices work work states states relations relations (refused 3)
-        fare-range n = record {
-          prices-fit = λ q. absurd (q e);
-          unsound = λ _ n. absurd (n s);
-          work-fits = λ _ _ l. absurd (omega arith);
-          range = λ _ _ _ _. refl;
-          empty = λ _ _ _ r. absurd (n r);
-          told = λ _ _ _ r. absurd (n r);
-          kept = λ _. (refl, refl);
-          size = refl;
-          work-kept = λ _. refl;
-        }
+        pub fare-range : (BothThere a b → ⊥) → FarePost a b words prices work work states states relations relations (fareRefused 3)
+        fare-range n = fare-refused 3 (record {
+          work-fits = λ l. absurd (omega arith);
+          range = λ _ _. refl;
+          empty = λ _ r. absurd (n r);
+          told = λ _ r. absurd (n r);
+        })
 
-        module _ (r : InRange a b) where
+        module _ (r : BothThere a b) where
           -- an empty register stands for no set
-          nothing : {i : ℕ} {A : List Bool} → i < registers → seen words .reg i ≡ none → bookOf (seen words) .reg i ≡ some A → ⊥
-          nothing {i} l z h =
-              none-some (sym (in-range _ none i registers l
-              ∙ ap (standsFor (setOf (seen words .n)) (den (2 * seen words .n) (seen words .rows))) z) ∙ h)
+          stands-none : {i : ℕ} → i < registers → seen words .reg i ≡ none → bookOf (seen words) .reg i ≡ none
+          stands-none {i} l z =
+              in-range _ none i registers l ∙ ap (standsFor (setOf (seen words .n)) (den (2 * seen words .n) (seen words .rows))) z
 
-          fare-empty : (seen words .reg a ≡ none) ⊎ (seen words .reg b ≡ none)
-              → FarePost a b words prices work work states states relations relations (refused 7)
-          fare-empty z = record {
-            prices-fit = λ q. absurd (q e);
-            unsound = λ _ n. absurd (n s);
-            work-fits = λ _ _ l. absurd (omega arith);
-            range = λ _ _ _ n. absurd (n r);
-            empty = λ _ _ _ _ _. refl;
-            told = λ _ _ _ _ A B ha hb. absurd (go A B ha hb z);
-            kept = λ _. (refl, refl);
-            size = refl;
-            work-kept = λ _. refl;
-          }
+          fare-empty : (bookOf (seen words) .reg a ≡ none) ⊎ (bookOf (seen words) .reg b ≡ none)
+              → FarePost a b words prices work work states states relations relations (fareRefused 7)
+          fare-empty z = fare-refused 7 (record {
+            work-fits = λ l. absurd (omega arith);
+            range = λ _ n. absurd (n r);
+            empty = λ _ _ _. refl;
+            told = λ _ _ A B ha hb. absurd (go z ha hb);
+          })
             where
-              go : (A B : List Bool) → bookOf (seen words) .reg a ≡ some A → bookOf (seen words) .reg b ≡ some B
-                  → (seen words .reg a ≡ none) ⊎ (seen words .reg b ≡ none) → ⊥
-              go A B ha hb (inl y) = nothing (r .first) y ha
-              go A B ha hb (inr y) = nothing (r .second) y hb
+              go : {A B : List Bool} → (bookOf (seen words) .reg a ≡ none) ⊎ (bookOf (seen words) .reg b ≡ none)
+                  → bookOf (seen words) .reg a ≡ some A → bookOf (seen words) .reg b ≡ some B → ⊥
+              go (inl y) ha hb = none-some (sym y ∙ ha)
+              go (inr y) ha hb = none-some (sym y ∙ hb)
 
           pub fare-first : {x : ℕ} → x ≡ headerOf words (FIRST-REGISTER + a) → x ≡ 0
-              → FarePost a b words prices work work states states relations relations (refused 7)
-          fare-first ex z = fare-empty (inl (ap arrowIn (sym ex ∙ z)))
+              → FarePost a b words prices work work states states relations relations (fareRefused 7)
+          fare-first ex z = fare-empty (inl (stands-none (r .first) (ap arrowIn (sym ex ∙ z))))
 
           pub fare-second : {y : ℕ} → y ≡ headerOf words (FIRST-REGISTER + b) → y ≡ 0
-              → FarePost a b words prices work work states states relations relations (refused 7)
-          fare-second ey z = fare-empty (inr (ap arrowIn (sym ey ∙ z)))
+              → FarePost a b words prices work work states states relations relations (fareRefused 7)
+          fare-second ey z = fare-empty (inr (stands-none (r .second) (ap arrowIn (sym ey ∙ z))))
 
 -- ---- the search
 
@@ -163,13 +153,19 @@ walks {W} s h l k y = record {
   bits = s .good .sizes .n-max;
 }
 
--- a register's word is not its arrow + 1 = 0
-filled-not : (x : ℕ) → (x ≡ 0 → ⊥) → arrowIn x ≡ none → ⊥
-filled-not zero f e = f refl
-filled-not (suc k) f e = none-some (sym e)
+-- a filled register stands for a set
+stands-some : (words : List ℕ) {i z : ℕ} → i < registers → z ≡ headerOf words (FIRST-REGISTER + i) → (z ≡ 0 → ⊥)
+    → bookOf (seen words) .reg i ≡ none → ⊥
+stands-some words {i} {z} l ez f h =
+    go z f (ap (λ (k : ℕ). standsFor (setOf (seen words .n)) (den (2 * seen words .n) (seen words .rows)) (arrowIn k)) ez
+    ∙ sym (in-range _ none i registers l) ∙ h)
+  where
+    go : (z : ℕ) → (z ≡ 0 → ⊥) → standsFor (setOf (seen words .n)) (den (2 * seen words .n) (seen words .rows)) (arrowIn z) ≡ none → ⊥
+    go zero f h = f refl
+    go (suc k) f h = none-some (sym h)
 
 module _ {a b : ℕ} (words prices work : List ℕ) (e : length prices ≡ 8) (s : SoundWords words)
-    (w : 2 ^ headerOf words BITS ≤ length work) (r : InRange a b) {rows bits x y : ℕ} (er : rows ≡ headerOf words ROWS)
+    (w : 2 ^ headerOf words BITS ≤ length work) (r : BothThere a b) {rows bits x y : ℕ} (er : rows ≡ headerOf words ROWS)
     (eb : bits ≡ headerOf words BITS) (ex : x ≡ headerOf words (FIRST-REGISTER + a)) (ey : y ≡ headerOf words (FIRST-REGISTER + b))
     (fx : x ≡ 0 → ⊥) (fy : y ≡ 0 → ⊥) where
   -- by the words' own sizes, and by what the code read
@@ -211,43 +207,46 @@ module _ {a b : ℕ} (words prices work : List ℕ) (e : length prices ≡ 8) (s
       found = v .found q;
     }
 
-    told-book : {states states′ relations relations′ : List ℕ} {o : Reply}
-        → Told (2 ^ bits) (leadsAt (view rows words)) (inSet (view rows words) (x - 1)) (inSet (view rows words) (y - 1)) prices states
+    told-book : {states states′ relations relations′ : List ℕ} {o : FareReply}
+        → FareTold (2 ^ bits) (leadsAt (view rows words)) (inSet (view rows words) (x - 1)) (inSet (view rows words) (y - 1)) prices states
         states′ relations relations′ o
         → (A B : List Bool) → bookOf (seen words) .reg a ≡ some A → bookOf (seen words) .reg b ≡ some B
-        → Told (2 ^ headerOf words BITS) (leadsIn (bookOf (seen words) .rel)) (mem A) (mem B) prices states states′ relations relations′ o
+        → FareTold (2 ^ headerOf words BITS) (leadsIn (bookOf (seen words) .rel)) (mem A) (mem B) prices states states′
+        relations relations′ o
     told-book {states} {states′} {relations} {relations′} {o} t A B ha hb =
         told-moved (words-agree words (r .first) (r .second) ex ey fx fy ha hb)
-        (owned (λ W n. Told (2 ^ n) (leadsAt W) (inSet W (x - 1)) (inSet W (y - 1)) prices states states′ relations relations′ o) t)
+        (owned (λ W n. FareTold (2 ^ n) (leadsAt W) (inSet W (x - 1)) (inSet W (y - 1)) prices states states′ relations relations′ o) t)
 
-    fare-told : {states states′ relations relations′ : List ℕ} {o : Reply}
-        → Told (2 ^ bits) (leadsAt (view rows words)) (inSet (view rows words) (x - 1)) (inSet (view rows words) (y - 1)) prices states
+    fare-told : {states states′ relations relations′ : List ℕ} {o : FareReply}
+        → FareTold (2 ^ bits) (leadsAt (view rows words)) (inSet (view rows words) (x - 1)) (inSet (view rows words) (y - 1)) prices states
         states′ relations relations′ o
         → ((o .number ≡ 0 → ⊥) → (states′ ≡ states) × (relations′ ≡ relations)) → (T (keepsAll (o .number)) → ⊥)
         → FarePost a b words prices work work′ states states′ relations relations′ o
     fare-told t k l = record {
       prices-fit = λ q. absurd (q e);
       unsound = λ _ n. absurd (n s);
-      work-fits = λ _ _ h. absurd (omega arith);
-      range = λ _ _ _ n. absurd (n r);
-      empty = λ _ _ _ _ z. absurd (filled z);
-      told = λ _ _ _ _ A B ha hb. told-book t A B ha hb;
+      by-book = λ _ _. record {
+        work-fits = λ h. absurd (omega arith);
+        range = λ _ n. absurd (n r);
+        empty = λ _ _ z. absurd (filled z);
+        told = λ _ _ A B ha hb. told-book t A B ha hb;
+      };
       kept = k;
       size = same;
       work-kept = λ h. absurd (l h);
     }
       where
-        filled : (seen words .reg a ≡ none) ⊎ (seen words .reg b ≡ none) → ⊥
-        filled (inl z) = filled-not x fx (ap arrowIn ex ∙ z)
-        filled (inr z) = filled-not y fy (ap arrowIn ey ∙ z)
+        filled : (bookOf (seen words) .reg a ≡ none) ⊎ (bookOf (seen words) .reg b ≡ none) → ⊥
+        filled (inl z) = stands-some words (r .first) ex fx z
+        filled (inr z) = stands-some words (r .second) ey fy z
 
     -- there is no run
     pub fare-none : {states relations : List ℕ} → f ≡ 65_536
-        → FarePost a b words prices work work′ states states relations relations (refused 10)
-    fare-none q = fare-told (no-run (v .none q)) (λ _. (refl, refl)) (λ h. h)
+        → FarePost a b words prices work work′ states states relations relations (fareRefused 10)
+    fare-none q = fare-told (told-none (v .none q)) (λ _. (refl, refl)) (λ h. h)
 
     -- a run is written, or a list is too short for it
-    pub fare-ends : {states states′ relations relations′ : List ℕ} (o : Reply) → (f ≡ 65_536 → ⊥)
+    pub fare-ends : {states states′ relations relations′ : List ℕ} (o : FareReply) → (f ≡ 65_536 → ⊥)
         → PayPost (view rows words) bits prices work′ states states′ relations relations′ f o
         → FarePost a b words prices work work′ states states′ relations relations′ o
     fare-ends o q p = fare-told (p .told (x - 1) (y - 1) (v .found q)) (p .kept) (p .late)

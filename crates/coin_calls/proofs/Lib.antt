@@ -4,3 +4,4 @@ pub mod Paid
 pub mod Moved
 pub mod Checks
 pub mod Example
+pub mod Rests

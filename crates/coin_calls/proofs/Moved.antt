@@ -23,27 +23,28 @@ use Rattle.book.specs.BookOf.{standsFor, bookOf}
 use Rattle.book.proofs.Stored.{some-inj}
 use Rattle.contract.specs.Seen.{arrowIn, seen}
 use Rattle.seek.specs.Walk.{holdsAt}
-use Rattle.coins.specs.Runs.{Leads, Step, leadsBy, leadsIn, runsInto, isRun, Cheapest}
+use Rattle.coins.specs.Runs.{Transitions, PricedStep, leadsBy, leadsIn, mixedInto, isMixedRun, Cheapest}
 use Rattle.coins.proofs.Marks.{run-below}
-use Rattle.coins.specs.Post.{Reply, Told, no-run, short, run}
+use Rattle.coins.specs.Post.{FareReply, FareTold, told-none, told-short, told-run}
 use Rattle.coin_search.specs.Hall.{leadsAt, inSet}
 
 -- ---- relations and sets that agree on k states
 
-pub record Agree (k : ℕ) (leads leads′ : Leads) (A A′ B B′ : ℕ → Bool) : Type 0 where
+pub record Agree (k : ℕ) (leads leads′ : Transitions) (A A′ B B′ : ℕ → Bool) : Type 0 where
   pub by-steps : (r s t : ℕ) → s < k → t < k → leads r s t ≡ leads′ r s t
   pub by-from : (s : ℕ) → s < k → A s ≡ A′ s
   pub by-into : (s : ℕ) → s < k → B s ≡ B′ s
 
-pub agree-sym : {k : ℕ} {leads leads′ : Leads} {A A′ B B′ : ℕ → Bool} → Agree k leads leads′ A A′ B B′ → Agree k leads′ leads A′ A B′ B
+pub agree-sym : {k : ℕ} {leads leads′ : Transitions} {A A′ B B′ : ℕ → Bool}
+    → Agree k leads leads′ A A′ B B′ → Agree k leads′ leads A′ A B′ B
 agree-sym g = record {
   by-steps = λ r s t l h. sym (g .by-steps r s t l h);
   by-from = λ s l. sym (g .by-from s l);
   by-into = λ s l. sym (g .by-into s l);
 }
 
-module _ {k : ℕ} {leads leads′ : Leads} {A A′ B B′ : ℕ → Bool} (g : Agree k leads leads′ A A′ B B′) where
-  runs-moved : (s : ℕ) (l : List Step) → T (runsInto k leads B s l) → T (runsInto k leads′ B′ s l)
+module _ {k : ℕ} {leads leads′ : Transitions} {A A′ B B′ : ℕ → Bool} (g : Agree k leads leads′ A A′ B B′) where
+  runs-moved : (s : ℕ) (l : List PricedStep) → T (mixedInto k leads B s l) → T (mixedInto k leads′ B′ s l)
   runs-moved s [] t =
       let w = and-out (ltb s k) _ t in and-in (ltb s k) _ (w .0) (subst T (g .by-into s (ltb→lt s k (w .0))) (w .1))
   runs-moved s (p ∷ l) t =
@@ -54,12 +55,12 @@ module _ {k : ℕ} {leads leads′ : Leads} {A A′ B B′ : ℕ → Bool} (g : 
       (subst T (g .by-steps (p .relation) s (p .state) (ltb→lt s k (w .0)) (run-below k leads B (p .state) l (v .1))) (v .0))
       (runs-moved (p .state) l (v .1)))
 
-  pub run-moved : (s : ℕ) (l : List Step) → T (isRun k leads A B s l) → T (isRun k leads′ A′ B′ s l)
+  pub run-moved : (s : ℕ) (l : List PricedStep) → T (isMixedRun k leads A B s l) → T (isMixedRun k leads′ A′ B′ s l)
   run-moved s l t =
       let w = and-out (A s) _ t in
       and-in (A′ s) _ (subst T (g .by-from s (run-below k leads B s l (w .1))) (w .0)) (runs-moved s l (w .1))
 
-cheapest-moved : {k : ℕ} {leads leads′ : Leads} {A A′ B B′ : ℕ → Bool} {prices : List ℕ} (s : ℕ) (l : List Step)
+cheapest-moved : {k : ℕ} {leads leads′ : Transitions} {A A′ B B′ : ℕ → Bool} {prices : List ℕ} (s : ℕ) (l : List PricedStep)
     → Agree k leads leads′ A A′ B B′ → Cheapest k leads A B prices s l → Cheapest k leads′ A′ B′ prices s l
 cheapest-moved s l g c = record {
   run = run-moved g s l (c .run);
@@ -67,12 +68,13 @@ cheapest-moved s l g c = record {
   fewest = λ t m h e. c .fewest t m (run-moved (agree-sym g) t m h) e;
 }
 
-pub told-moved : {k : ℕ} {leads leads′ : Leads} {A A′ B B′ : ℕ → Bool} {prices states states′ relations relations′ : List ℕ} {y : Reply}
-    → Agree k leads leads′ A A′ B B′ → Told k leads A B prices states states′ relations relations′ y
-    → Told k leads′ A′ B′ prices states states′ relations relations′ y
-told-moved g (no-run n) = no-run (λ s l t. n s l (run-moved (agree-sym g) s l t))
-told-moved g (short s l c n) = short s l (cheapest-moved s l g c) n
-told-moved g (run s l c r w) = run s l (cheapest-moved s l g c) r w
+pub told-moved : {k : ℕ} {leads leads′ : Transitions} {A A′ B B′ : ℕ → Bool} {prices states states′ relations relations′ : List ℕ}
+    {y : FareReply}
+    → Agree k leads leads′ A A′ B B′ → FareTold k leads A B prices states states′ relations relations′ y
+    → FareTold k leads′ A′ B′ prices states states′ relations relations′ y
+told-moved g (told-none n) = told-none (λ s l t. n s l (run-moved (agree-sym g) s l t))
+told-moved g (told-short s l c n) = told-short s l (cheapest-moved s l g c) n
+told-moved g (told-run s l c r w) = told-run s l (cheapest-moved s l g c) r w
 
 -- ---- the words and the book
 

@@ -9,27 +9,27 @@ use lib.Dec.{T, ltb, lt→ltb}
 use lib.ListN.{length}
 use Rattle.mucalculus.proofs.Sets.{and-in}
 use Rattle.layout.specs.View.{View}
-use Rattle.coins.specs.Runs.{Leads, Step, priceOf, total, runsInto, Cheapest, coins}
+use Rattle.coins.specs.Runs.{Transitions, PricedStep, priceOf, total, mixedInto, Cheapest, coins}
 use Rattle.coins.specs.Cost.{CREDIT, cost}
 use Rattle.coins.specs.Marks.{Marks, Reason, Standing}
-use Rattle.coins.specs.Post.{Reply, refused, paid, Room, Told, short, run}
+use Rattle.coins.specs.Post.{FareReply, fareRefused, paid, RunFits, FareTold, told-short, told-run}
 use Rattle.coins.proofs.Found.{found-cheapest, credits-are}
 use Rattle.coin_search.specs.Words.{markOf, marksOf}
 use Rattle.coin_search.specs.Hall.{leadsAt, inSet, Hall}
 use Rattle.coin_search.specs.Search.{FoundAt}
-use Rattle.coin_calls.specs.Write.{WritePre, RunWritten, WriteGives}
+use Rattle.coin_calls.specs.Write.{WriteRunPre, RunWritten, WriteRunGives}
 use Rattle.coin_calls.proofs.Write.{steps-below, one-more}
 use Rattle.coin_calls.specs.Asks.{PayPre, PayPost}
 
 -- ---- the run that a mark stands for, written or not
 
-pub record Reaches (k : ℕ) (leads : Leads) (B : ℕ → Bool) (prices : List ℕ) (M : Marks) (s d : ℕ) : Type 0 where
-  pub steps : List Step
-  pub is-run : T (runsInto k leads B s steps)
+pub record Reaches (k : ℕ) (leads : Transitions) (B : ℕ → Bool) (prices : List ℕ) (M : Marks) (s d : ℕ) : Type 0 where
+  pub steps : List PricedStep
+  pub is-run : T (mixedInto k leads B s steps)
   pub exact : M .mark s ≡ cost prices steps + 1
   pub length-is : length steps ≡ d
 
-module _ {k : ℕ} {leads : Leads} {B : ℕ → Bool} {prices : List ℕ} {M : Marks} (S : Standing k leads B prices M) where
+module _ {k : ℕ} {leads : Transitions} {B : ℕ → Bool} {prices : List ℕ} {M : Marks} (S : Standing k leads B prices M) where
   abbrev Reached : ℕ → Type 0
   Reached d = (s : ℕ) → s < k → 1 ≤ M .mark s → (M .mark s - 1) % CREDIT ≡ d → Reaches k leads B prices M s d
 
@@ -85,7 +85,7 @@ module _ {k : ℕ} {leads : Leads} {B : ℕ → Bool} {prices : List ℕ} {M : M
 
 -- ---- the call
 
-abbrev reply : ℕ → ℕ → ℕ → Reply
+abbrev reply : ℕ → ℕ → ℕ → FareReply
 reply t c k = record { number = 0; total = t; charge = c; states = k }
 
 module _ {W : View} {n : ℕ} {prices w : List ℕ} {f : ℕ} (a : PayPre W n prices w f) where
@@ -107,25 +107,25 @@ module _ {W : View} {n : ℕ} {prices w : List ℕ} {f : ℕ} (a : PayPre W n pr
 
     -- some list is too short
     pub pay-short : {states relations : List ℕ} → (length states ≤ (m - 1) % 131_072) ⊎ (length relations < (m - 1) % 131_072)
-        → PayPost W n prices w states states relations relations f (refused 11)
+        → PayPost W n prices w states states relations relations f (fareRefused 11)
     pay-short {states} {relations} no-room = record { told = told-of; kept = λ _. (refl, refl); late = λ h. h }
       where
-        too-short : (l : List Step) → length l ≡ (m - 1) % 131_072
-            → (length states ≤ (m - 1) % 131_072) ⊎ (length relations < (m - 1) % 131_072) → Room l states relations → ⊥
+        too-short : (l : List PricedStep) → length l ≡ (m - 1) % 131_072
+            → (length states ≤ (m - 1) % 131_072) ⊎ (length relations < (m - 1) % 131_072) → RunFits l states relations → ⊥
         too-short l e (inl h) r = let x = r .for-states in absurd (omega arith)
         too-short l e (inr h) r = let x = r .for-steps in absurd (omega arith)
 
         told-of : (x y : ℕ) → FoundAt W n prices w x y f
-            → Told (2 ^ n) (leadsAt W) (inSet W x) (inSet W y) prices states states relations relations (refused 11)
+            → FareTold (2 ^ n) (leadsAt W) (inSet W x) (inSet W y) prices states states relations relations (fareRefused 11)
         told-of x y g =
             let q = reaches (g .standing) ((m - 1) % 131_072) f (g .below) (g .marked) steps-eq in
-            short f (q .steps)
+            told-short f (q .steps)
             (found-cheapest f (q .steps) (g .no-less) (and-in (inSet W x f) _ (g .from) (q .is-run)) (q .exact)
             (let e = q .length-is in let s = steps-small in omega arith))
             (too-short (q .steps) (q .length-is) no-room)
 
     module _ {states relations : List ℕ} (ls : (m - 1) % 131_072 < length states) (lr : (m - 1) % 131_072 ≤ length relations) where
-      pub write-asks : WritePre W n prices w states relations f ((m - 1) % 131_072)
+      pub write-asks : WriteRunPre W n prices w states relations f ((m - 1) % 131_072)
       write-asks = record {
         hall = a .hall;
         goal = inSet W (a .into);
@@ -139,12 +139,12 @@ module _ {W : View} {n : ℕ} {prices w : List ℕ} {f : ℕ} (a : PayPre W n pr
       }
 
       pub pay-paid : {states′ relations′ : List ℕ} {c : ℕ} → c ≡ coins ((m - 1) / 131_072)
-          → WriteGives W n prices w states states′ relations relations′ f ((m - 1) % 131_072)
+          → WriteRunGives W n prices w states states′ relations relations′ f ((m - 1) % 131_072)
           → PayPost W n prices w states states′ relations relations′ f
           (record { number = 0; total = (m - 1) / 131_072; charge = c; states = (m - 1) % 131_072 + 1 })
       pay-paid {states′} {relations′} {c} ec v = record { told = told-of; kept = λ q. absurd (q refl); late = λ h. h }
         where
-          same-reply : (l : List Step) → (m - 1) / 131_072 ≡ total prices l → length l ≡ (m - 1) % 131_072
+          same-reply : (l : List PricedStep) → (m - 1) / 131_072 ≡ total prices l → length l ≡ (m - 1) % 131_072
               → paid prices l ≡ reply ((m - 1) / 131_072) c ((m - 1) % 131_072 + 1)
           same-reply l et el =
               let q : suc (length l) ≡ (m - 1) % 131_072 + 1 = omega arith in
@@ -153,14 +153,14 @@ module _ {W : View} {n : ℕ} {prices w : List ℕ} {f : ℕ} (a : PayPre W n pr
               ∙ ap (λ (k : ℕ). reply ((m - 1) / 131_072) k ((m - 1) % 131_072 + 1)) (sym ec)
 
           told-of : (x y : ℕ) → FoundAt W n prices w x y f
-              → Told (2 ^ n) (leadsAt W) (inSet W x) (inSet W y) prices states states′ relations relations′
+              → FareTold (2 ^ n) (leadsAt W) (inSet W x) (inSet W y) prices states states′ relations relations′
               (reply ((m - 1) / 131_072) c ((m - 1) % 131_072 + 1))
           told-of x y g =
               let q = v (inSet W y) (g .count) (g .standing) in
               let e = q .length-is in
               let s = steps-small in
               let few : length (q .run) < CREDIT = omega arith in
-              subst (Told (2 ^ n) (leadsAt W) (inSet W x) (inSet W y) prices states states′ relations relations′)
+              subst (FareTold (2 ^ n) (leadsAt W) (inSet W x) (inSet W y) prices states states′ relations relations′)
               (same-reply (q .run) (credits-are prices (q .run) (em ∙ q .exact) few) e)
-              (run f (q .run) (found-cheapest f (q .run) (g .no-less) (and-in (inSet W x f) _ (g .from) (q .is-run)) (q .exact) few)
+              (told-run f (q .run) (found-cheapest f (q .run) (g .no-less) (and-in (inSet W x f) _ (g .from) (q .is-run)) (q .exact) few)
               (record { for-states = omega arith; for-steps = omega arith }) (q .lists))

@@ -15,7 +15,7 @@ use Rattle.coins.specs.Cost.{stepCost}
 use Rattle.coin_search.specs.Words.{markOf, stateAt}
 use Rattle.coin_search.specs.Hall.{rootAt, filledAt, leadsAt, Hall}
 use Rattle.coin_search.proofs.Hall.{filled-used, filled-in, not-filled, filled-below}
-use Rattle.coin_calls.specs.Steps.{Exact, IsExact, RelationTo, Ahead, StepBelow}
+use Rattle.coin_calls.specs.Steps.{ExactStep, IsExact, RelationTo, Ahead, StepBelow}
 
 -- ---- one relation
 
@@ -26,7 +26,7 @@ module _ {W : View} {n : ℕ} {prices w : List ℕ} (h : Hall W n prices w) (s t
   pub in-words : {u : ℕ} → u < 2 ^ n → u < length w
   in-words l = let g = h .room in omega arith
 
-  not-exact : (Exact W n prices w s r t → ⊥) → IsExact W n prices w s t r false
+  not-exact : (ExactStep W n prices w s r t → ⊥) → IsExact W n prices w s t r false
   not-exact d = record { yes = λ e. absurd (false-true refl e); no = λ _. d }
 
   pub exact-empty : {x : ℕ} → x ≡ rootAt (W .header) r → x ≡ 0 → IsExact W n prices w s t r false
@@ -67,7 +67,7 @@ module _ {W : View} {n : ℕ} {prices w : List ℕ} (h : Hall W n prices w) (s t
 
 -- none below r is one
 abbrev pub Passed : View → ℕ → List ℕ → List ℕ → ℕ → ℕ → ℕ → Type 0
-Passed W n prices w s t r = (q : ℕ) → q < r → Exact W n prices w s q t → ⊥
+Passed W n prices w s t r = (q : ℕ) → q < r → ExactStep W n prices w s q t → ⊥
 
 pub passed-start : {W : View} {n : ℕ} {prices w : List ℕ} {s t : ℕ} → Passed W n prices w s t 0
 passed-start q l = absurd (omega arith)
@@ -85,7 +85,7 @@ module _ {W : View} {n : ℕ} {prices w : List ℕ} {s t r : ℕ} where
 
         go : (q < r) ⊎ (q ≡ r) → ⊥
         go (inl h) = p q h y
-        go (inr h) = x .no e (subst (λ (k : ℕ). Exact W n prices w s k t) h y)
+        go (inr h) = x .no e (subst (λ (k : ℕ). ExactStep W n prices w s k t) h y)
 
     pub passed-all : 8 ≤ r → RelationTo W n prices w s t 8
     passed-all l = record {
@@ -99,16 +99,16 @@ module _ {W : View} {n : ℕ} {prices w : List ℕ} {s t r : ℕ} where
 
 module _ {W : View} {n : ℕ} {prices w : List ℕ} {s i : ℕ} (l : 0 < i) (a : Ahead W n prices w s i) where
   -- what stands at the place before is none: it stands before that
-  ahead-less : ((q : ℕ) → Exact W n prices w s q (stateAt w (i - 1)) → ⊥) → Ahead W n prices w s (i - 1)
+  ahead-less : ((q : ℕ) → ExactStep W n prices w s q (stateAt w (i - 1)) → ⊥) → Ahead W n prices w s (i - 1)
   ahead-less d = by-cases (decLt (a .place) (i - 1))
       (λ h. record { place = a .place; relation = a .relation; before = h; step = a .step })
       (λ h. let b = a .before in
       let e : a .place ≡ i - 1 = omega arith in
-      absurd (d (a .relation) (subst (λ (k : ℕ). Exact W n prices w s (a .relation) (stateAt w k)) e (a .step))))
+      absurd (d (a .relation) (subst (λ (k : ℕ). ExactStep W n prices w s (a .relation) (stateAt w k)) e (a .step))))
 
   -- no relation leads there
   pub ahead-none : {t r : ℕ} → t ≡ stateAt w (i - 1) → RelationTo W n prices w s t r → r ≡ 8 → Ahead W n prices w s (i - 1)
-  ahead-none e x z = ahead-less (λ q y. x .none z q (subst (Exact W n prices w s q) (sym e) y))
+  ahead-none e x z = ahead-less (λ q y. x .none z q (subst (ExactStep W n prices w s q) (sym e) y))
 
   -- it is no state
   pub ahead-out : {t k : ℕ} → t ≡ stateAt w (i - 1) → k ≡ 2 ^ n → k ≤ t → Ahead W n prices w s (i - 1)

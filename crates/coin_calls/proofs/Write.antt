@@ -12,27 +12,27 @@ use lib.Pow.{pow-mono}
 use Rattle.mucalculus.proofs.Sets.{and-in}
 use Rattle.layout.specs.View.{View}
 use Rattle.paths.specs.Runs.{written}
-use Rattle.coins.specs.Runs.{Leads, Step, priceOf, runsInto, statesOf, relationsOf}
+use Rattle.coins.specs.Runs.{Transitions, PricedStep, priceOf, mixedInto, statesAlong, relationsAlong}
 use Rattle.coins.specs.Cost.{CREDIT, stepCost, cost}
 use Rattle.coins.specs.Marks.{Marks, Backed, Standing}
 use Rattle.coin_search.specs.Words.{markOf, stateAt, marksOf}
 use Rattle.coin_search.specs.Hall.{leadsAt, Hall}
 use Rattle.coin_search.proofs.Hall.{filled-used, filled-below}
-use Rattle.coin_calls.specs.Steps.{Exact, Ahead}
-use Rattle.coin_calls.specs.Write.{WritePre, RunWritten}
+use Rattle.coin_calls.specs.Steps.{ExactStep, Ahead}
+use Rattle.coin_calls.specs.Write.{WriteRunPre, RunWritten}
 
 -- ---- lists
 
 -- one place more is written
-put-next : (g : Step → ℕ) (l : List Step) (p : Step) (k : List ℕ)
+put-next : (g : PricedStep → ℕ) (l : List PricedStep) (p : PricedStep) (k : List ℕ)
     → set (written (map g l) k) (length l) (g p) ≡ written (map g (l ++ (p ∷ []))) k
 put-next g [] p [] = refl
 put-next g [] p (y ∷ k) = refl
 put-next g (q ∷ l) p [] = refl
 put-next g (q ∷ l) p (y ∷ k) = ap (λ (m : List ℕ). g q ∷ m) (put-next g l p k)
 
-put-state : (f : ℕ) (l : List Step) (p : Step) (k : List ℕ)
-    → set (written (statesOf f l) k) (suc (length l)) (p .state) ≡ written (statesOf f (l ++ (p ∷ []))) k
+put-state : (f : ℕ) (l : List PricedStep) (p : PricedStep) (k : List ℕ)
+    → set (written (statesAlong f l) k) (suc (length l)) (p .state) ≡ written (statesAlong f (l ++ (p ∷ []))) k
 put-state f l p [] = refl
 put-state f l p (y ∷ k) = ap (λ (m : List ℕ). f ∷ m) (put-next (λ q. q .state) l p k)
 
@@ -45,18 +45,19 @@ first-over : (f : ℕ) (l : List ℕ) (k : List ℕ) → written (f ∷ l) (set 
 first-over f l [] = refl
 first-over f l (y ∷ k) = refl
 
-cost-more : (prices : List ℕ) (l : List Step) (p : Step) → cost prices (l ++ (p ∷ [])) ≡ cost prices l + stepCost prices (p .relation)
+cost-more : (prices : List ℕ) (l : List PricedStep) (p : PricedStep)
+    → cost prices (l ++ (p ∷ [])) ≡ cost prices l + stepCost prices (p .relation)
 cost-more prices [] p = omega arith
 cost-more prices (q ∷ l) p = let e = cost-more prices l p in omega arith
 
-length-more : (l : List Step) (p : Step) → length (l ++ (p ∷ [])) ≡ length l + 1
+length-more : (l : List PricedStep) (p : PricedStep) → length (l ++ (p ∷ [])) ≡ length l + 1
 length-more [] p = refl
 length-more (q ∷ l) p = let e = length-more l p in omega arith
 
 -- ---- marks
 
 -- a marked state has fewer steps to go than there are states
-module _ {k : ℕ} {leads : Leads} {B : ℕ → Bool} {prices : List ℕ} {M : Marks} (S : Standing k leads B prices M) where
+module _ {k : ℕ} {leads : Transitions} {B : ℕ → Bool} {prices : List ℕ} {M : Marks} (S : Standing k leads B prices M) where
   pub steps-below : (s : ℕ) → s < k → 1 ≤ M .mark s → (M .mark s - 1) % CREDIT < 65_536
   steps-below s l y = go (S .order .placed s l y)
     where
@@ -75,17 +76,18 @@ one-more m p x y f e = omega arith
 
 -- so many steps are written, and s is the last state
 pub record Writing (W : View) (n : ℕ) (prices w states states′ relations relations′ : List ℕ) (f steps s at : ℕ) : Type 0 where
-  pub run : List Step
-  pub onward : (B : ℕ → Bool) (l : List Step) → T (runsInto (2 ^ n) (leadsAt W) B s l) → T (runsInto (2 ^ n) (leadsAt W) B f (run ++ l))
+  pub run : List PricedStep
+  pub onward : (B : ℕ → Bool) (l : List PricedStep) → T (mixedInto (2 ^ n) (leadsAt W) B s l)
+      → T (mixedInto (2 ^ n) (leadsAt W) B f (run ++ l))
   pub exact : markOf w f ≡ cost prices run + markOf w s
   pub length-is : length run ≡ at
-  pub of-states : states′ ≡ written (statesOf f run) states
-  pub of-steps : relations′ ≡ written (relationsOf run) relations
+  pub of-states : states′ ≡ written (statesAlong f run) states
+  pub of-steps : relations′ ≡ written (relationsAlong run) relations
   pub below : s < 2 ^ n
   pub marked : 1 ≤ markOf w s
   pub left : (markOf w s - 1) % CREDIT + at ≡ steps
 
-module _ {W : View} {n : ℕ} {prices w st rel : List ℕ} {f steps : ℕ} (a : WritePre W n prices w st rel f steps) where
+module _ {W : View} {n : ℕ} {prices w st rel : List ℕ} {f steps : ℕ} (a : WriteRunPre W n prices w st rel f steps) where
   pub few-states : (s : ℕ) → s < 2 ^ n → s < 65_536
   few-states s l = let p : 2 ^ n ≤ 2 ^ 16 = pow-mono {i = n} {j = 16} (a .hall .small) in omega arith
 
@@ -130,7 +132,7 @@ module _ {W : View} {n : ℕ} {prices w st rel : List ℕ} {f steps : ℕ} (a : 
           place = j;
           relation = b .relation;
           before = by-cases (decLt j i) (λ k. k) (λ k. absurd (late k));
-          step = subst (λ (t : ℕ). Exact W n prices w s (b .relation) t) (sym e)
+          step = subst (λ (t : ℕ). ExactStep W n prices w s (b .relation) t) (sym e)
               (record { below = b .below; leads = b .step; marked = b .marked; exact = b .exact });
         }
           where
@@ -145,17 +147,17 @@ module _ {W : View} {n : ℕ} {prices w st rel : List ℕ} {f steps : ℕ} (a : 
         go : Backed (2 ^ n) (leadsAt W) prices (marksOf w (a .count)) s (markOf w s) → Ahead W n prices w s i
         go b = place b (a .standing .order .placed (b .state) (b .below) (b .marked))
 
-    module _ {r t : ℕ} (e : Exact W n prices w s r t) where
+    module _ {r t : ℕ} (e : ExactStep W n prices w s r t) where
       pub relation-small : r < 8
       relation-small = filled-below (W .header) r (filled-used W r s t (e .leads))
 
-      abbrev step : Step
+      abbrev step : PricedStep
       step = record { relation = r; state = t }
 
       pub write-turns : Writing W n prices w states (set states′ (at + 1) t) relations (set relations′ at r) f steps t (at + 1)
       write-turns = record {
         run = x .run ++ (step ∷ []);
-        onward = λ B l g. subst (λ (m : List Step). T (runsInto (2 ^ n) (leadsAt W) B f m)) (sym (append-assoc (x .run) (step ∷ []) l))
+        onward = λ B l g. subst (λ (m : List PricedStep). T (mixedInto (2 ^ n) (leadsAt W) B f m)) (sym (append-assoc (x .run) (step ∷ []) l))
             (x .onward B (step ∷ l) (and-in (ltb s (2 ^ n)) _ (lt→ltb s (2 ^ n) (x .below)) (and-in (leadsAt W r s t) _ (e .leads) g)));
         exact = let c = cost-more prices (x .run) step in let h = x .exact in let g = e .exact in omega arith;
         length-is = let c = length-more (x .run) step in let h = x .length-is in omega arith;
@@ -187,7 +189,7 @@ module _ {W : View} {n : ℕ} {prices w st rel : List ℕ} {f steps : ℕ} (a : 
             → RunWritten W n B prices w st states′ rel relations′ f steps
         go (inl (g, e)) = record {
           run = x .run;
-          is-run = subst (λ (m : List Step). T (runsInto (2 ^ n) (leadsAt W) B f m)) (append-nil (x .run))
+          is-run = subst (λ (m : List PricedStep). T (mixedInto (2 ^ n) (leadsAt W) B f m)) (append-nil (x .run))
               (x .onward B [] (and-in (ltb s (2 ^ n)) _ (lt→ltb s (2 ^ n) (x .below)) g));
           exact = let h = x .exact in omega arith;
           length-is = let h = x .length-is in let k = x .left in omega arith;

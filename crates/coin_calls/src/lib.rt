@@ -14,7 +14,7 @@ use soundness::sound;
 ghost use Prim.Native.Nat.{_<_, _^_, _≤_};
 ghost use Rattle.coin_calls.specs.Asks.{PayPost, PayPre};
 ghost use Rattle.coin_calls.specs.Steps.{Ahead, IsExact, RelationTo, StepBelow};
-ghost use Rattle.coin_calls.specs.Write.{WriteGives, WritePre};
+ghost use Rattle.coin_calls.specs.Write.{WriteRunGives, WriteRunPre};
 ghost use Rattle.coin_search.specs.Hall.{Hall};
 ghost use Rattle.coins.specs.Post.{FarePost, fareReply};
 ghost use Rattle.layout.specs.Places.{HEADER};
@@ -23,7 +23,7 @@ ghost use lib.ListN.{length};
 ghost use mathlib.Core.Path.{_≡_};
 
 // A step of a run: its relation, the state it leads to, and a place of the order at which that state stands.
-struct Step {
+struct PlacedStep {
     pub relation: u32,
     pub state: u32,
     pub place: u32,
@@ -93,7 +93,7 @@ fn step_below(
     work: &[u64],
     s: u32,
     from: u32,
-) -> Step
+) -> PlacedStep
     requires { ⌜ Hall (view rows (now words)) bits (now prices) (now work) × (s < 2 ^ bits) × (from ≤ 2 ^ bits)
         × Ahead (view rows (now words)) bits (now prices) (now work) s from × (HEADER ≤ length (now words)) ⌝ }
     ensures { λ p. ⌜ StepBelow (view rows (now (words .entry))) bits (now (prices .entry)) (now (work .entry)) s from (p .relation)
@@ -107,7 +107,7 @@ fn step_below(
         if t < states {
             let r = relation_to(words, rows, bits, prices, work, s, t);
             if r != Table::RELATIONS {
-                return Step {
+                return PlacedStep {
                     relation: r,
                     state: t,
                     place: i,
@@ -115,7 +115,7 @@ fn step_below(
             }
         }
     }
-    Step {
+    PlacedStep {
         relation: 0,
         state: s,
         place: 0,
@@ -134,9 +134,9 @@ fn write_run(
     first: u32,
     steps: u32,
 )
-    requires { ⌜ WritePre (view rows (now words)) bits (now prices) (now work) (now states) (now relations) first steps
+    requires { ⌜ WriteRunPre (view rows (now words)) bits (now prices) (now work) (now states) (now relations) first steps
         × (HEADER ≤ length (now words)) ⌝ }
-    ensures { λ _. ⌜ WriteGives (view rows (now (words .entry))) bits (now (prices .entry)) (now (work .entry)) (now (states .entry))
+    ensures { λ _. ⌜ WriteRunGives (view rows (now (words .entry))) bits (now (prices .entry)) (now (work .entry)) (now (states .entry))
         (now (states .exit)) (now (relations .entry)) (now (relations .exit)) first steps ⌝ }
 {
     states[0] = first as u16;

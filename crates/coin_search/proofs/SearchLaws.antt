@@ -10,7 +10,7 @@ use lib.Dec.{T}
 use lib.ListN.{length, getD, set, replicate, length-set}
 use lib.Seq.{getD-set-same, getD-set-other}
 use Rattle.layout.specs.View.{View}
-use Rattle.coins.specs.Runs.{Step, priceOf, isRun, total}
+use Rattle.coins.specs.Runs.{PricedStep, priceOf, isMixedRun, total}
 use Rattle.coins.specs.Cost.{CREDIT, cost}
 use Rattle.coins.proofs.Marks.{Least}
 use Rattle.coins.proofs.Turns.{Searching, OneMore, none-less, no-run, turned}
@@ -216,7 +216,7 @@ module _ {W : View} {n : ℕ} {prices w done : List ℕ} {a b count r : ℕ} (t 
                 });
               }
             where
-              less : (u : ℕ) (k : List Step) → T (isRun (2 ^ n) (leadsAt W) (inSet W a) (inSet W b) u k)
+              less : (u : ℕ) (k : List PricedStep) → T (isMixedRun (2 ^ n) (leadsAt W) (inSet W a) (inSet W b) u k)
                   → (key ≤ cost prices k + 1) × ((key - 1) / CREDIT ≤ total prices k)
               less = none-less (2 ^ n) (leadsAt W) (filledAt (W .header)) (inSet W a) (inSet W b) prices (marksOf w count)
                   (λ q. getD done q 0) (filled-used W) (t .searching) key least

@@ -9,7 +9,7 @@ use Rattle.layout.specs.Places.{FIRST-RELATION}
 use Rattle.layout.specs.View.{View}
 use Rattle.book.specs.Book.{relations}
 use Rattle.seek.specs.Walk.{HoldsPre, holdsAt}
-use Rattle.coins.specs.Runs.{Leads}
+use Rattle.coins.specs.Runs.{Transitions}
 
 -- the word of relation r: 0 where it is empty, else its arrow + 1
 abbrev pub rootAt : (ℕ → ℕ) → ℕ → ℕ
@@ -19,7 +19,7 @@ abbrev pub filledAt : (ℕ → ℕ) → ℕ → Bool
 filledAt header r = ltb r relations && not (eqb (rootAt header r) 0)
 
 -- the steps of filled relations
-abbrev pub leadsAt : View → Leads
+abbrev pub leadsAt : View → Transitions
 leadsAt W r s t = filledAt (W .header) r && holdsAt W (rootAt (W .header) r - 1) s t
 
 -- a set's states

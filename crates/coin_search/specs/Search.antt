@@ -6,7 +6,7 @@ use Prim.Native.Nat.{ℕ, _^_, _≤_, _<_}
 use lib.Dec.{T}
 use Rattle.layout.specs.View.{View}
 use Rattle.seek.specs.Walk.{HoldsPre}
-use Rattle.coins.specs.Runs.{Step, isRun}
+use Rattle.coins.specs.Runs.{PricedStep, isMixedRun}
 use Rattle.coins.specs.Marks.{Standing}
 use Rattle.coins.specs.Found.{NoLess}
 use Rattle.coin_search.specs.Words.{markOf, marksOf}
@@ -29,4 +29,4 @@ pub record FoundAt (W : View) (n : ℕ) (prices v : List ℕ) (a b f : ℕ) : Ty
 
 pub record SearchPost (W : View) (n : ℕ) (prices v : List ℕ) (a b f : ℕ) : Type 0 where
   pub found : f ≢ 65_536 → FoundAt W n prices v a b f
-  pub none : f ≡ 65_536 → (s : ℕ) (l : List Step) → T (isRun (2 ^ n) (leadsAt W) (inSet W a) (inSet W b) s l) → ⊥
+  pub none : f ≡ 65_536 → (s : ℕ) (l : List PricedStep) → T (isMixedRun (2 ^ n) (leadsAt W) (inSet W a) (inSet W b) s l) → ⊥

@@ -5,10 +5,10 @@ use Prim.Native.Nat.{ℕ, suc, _+_, _*_}
 use native.Mathlib.Nat.{le-antisymm}
 use native.Mathlib.Omega.{arith}
 use lib.ListN.{length}
-use Rattle.coins.specs.Runs.{Leads, Step, priceOf, total, Cheapest}
+use Rattle.coins.specs.Runs.{Transitions, PricedStep, priceOf, total, Cheapest}
 use Rattle.coins.specs.Cost.{CREDIT, cost}
 
-pub cost-is : (prices : List ℕ) (l : List Step) → cost prices l ≡ total prices l * CREDIT + length l
+pub cost-is : (prices : List ℕ) (l : List PricedStep) → cost prices l ≡ total prices l * CREDIT + length l
 cost-is prices [] = omega arith
 cost-is prices (p ∷ l) = let e = cost-is prices l in joined (priceOf prices (p .relation)) (cost prices l) (total prices l) (length l) e
   where
@@ -17,7 +17,7 @@ cost-is prices (p ∷ l) = let e = cost-is prices l in joined (priceOf prices (p
 
 -- ---- two cheapest runs agree in credits and in steps
 
-module _ {k : ℕ} {leads : Leads} {A B : ℕ → _} {prices : List ℕ} {s t : ℕ} {l m : List Step}
+module _ {k : ℕ} {leads : Transitions} {A B : ℕ → _} {prices : List ℕ} {s t : ℕ} {l m : List PricedStep}
     (p : Cheapest k leads A B prices s l) (q : Cheapest k leads A B prices t m) where
   pub same-total : total prices l ≡ total prices m
   same-total = le-antisymm (p .least t m (q .run)) (q .least s l (p .run))

@@ -6,22 +6,22 @@ use Prim.Native.Nat.{ℕ, _+_, _-_, _/_, _%_, _<_}
 use native.Mathlib.Omega.{arith}
 use lib.Dec.{T}
 use lib.ListN.{length}
-use Rattle.coins.specs.Runs.{Leads, Step, total, isRun, Cheapest}
+use Rattle.coins.specs.Runs.{Transitions, PricedStep, total, isMixedRun, Cheapest}
 use Rattle.coins.specs.Cost.{CREDIT, cost}
 use Rattle.coins.proofs.Cost.{cost-is}
 use Rattle.coins.specs.Found.{NoLess}
 
 -- a mark's credits and steps are those of a run that costs what it says
-module _ (prices : List ℕ) {m : ℕ} (l : List Step) (is : m ≡ cost prices l + 1) (short : length l < CREDIT) where
+module _ (prices : List ℕ) {m : ℕ} (l : List PricedStep) (is : m ≡ cost prices l + 1) (short : length l < CREDIT) where
   pub credits-are : (m - 1) / CREDIT ≡ total prices l
   credits-are = let e = cost-is prices l in omega arith
 
   pub steps-are : (m - 1) % CREDIT ≡ length l
   steps-are = let e = cost-is prices l in omega arith
 
-pub found-cheapest : {k : ℕ} {leads : Leads} {A B : ℕ → Bool} {prices : List ℕ} {m : ℕ} (s : ℕ) (l : List Step)
+pub found-cheapest : {k : ℕ} {leads : Transitions} {A B : ℕ → Bool} {prices : List ℕ} {m : ℕ} (s : ℕ) (l : List PricedStep)
     → NoLess k leads A B prices m
-    → T (isRun k leads A B s l) → m ≡ cost prices l + 1 → length l < CREDIT → Cheapest k leads A B prices s l
+    → T (isMixedRun k leads A B s l) → m ≡ cost prices l + 1 → length l < CREDIT → Cheapest k leads A B prices s l
 found-cheapest {prices = prices} {m = m} s l n t e h = record {
   run = t;
   least = λ u q r. let c = credits-are prices l e h in let b = n .by-total u q r in omega arith;

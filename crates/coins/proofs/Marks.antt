@@ -8,7 +8,7 @@ use native.Mathlib.Decide.{decLt}
 use native.Mathlib.Omega.{arith}
 use lib.Dec.{T, ltb, ltb→lt}
 use Rattle.mucalculus.proofs.Sets.{and-out}
-use Rattle.coins.specs.Runs.{Leads, Step, priceOf, total, runsInto}
+use Rattle.coins.specs.Runs.{Transitions, PricedStep, priceOf, total, mixedInto}
 use Rattle.coins.specs.Cost.{CREDIT, stepCost, cost}
 use Rattle.coins.specs.Marks.{Marks, Standing}
 
@@ -17,7 +17,7 @@ abbrev pub Goal : ℕ → (ℕ → Bool) → Marks → Type 0
 Goal k B M = (s : ℕ) → s < k → T (B s) → M .mark s ≡ 1
 
 -- the states that relation r has done: whatever leads to them by r is marked, and costs at most the step more
-abbrev pub Done : ℕ → Leads → List ℕ → Marks → (ℕ → ℕ) → Type 0
+abbrev pub Done : ℕ → Transitions → List ℕ → Marks → (ℕ → ℕ) → Type 0
 Done k leads prices M done =
     (r i s : ℕ) → i < done r → s < k → T (leads r s (M .at i)) → (1 ≤ M .mark s) × (M .mark s ≤ M .mark (M .at i) + stepCost prices r)
 
@@ -28,11 +28,11 @@ Least filled prices M done m = (r i : ℕ) → T (filled r) → done r ≤ i →
 -- ---- what the marks say of runs
 
 -- a run's first state is one of k
-pub run-below : (k : ℕ) (leads : Leads) (B : ℕ → Bool) (s : ℕ) (l : List Step) → T (runsInto k leads B s l) → s < k
+pub run-below : (k : ℕ) (leads : Transitions) (B : ℕ → Bool) (s : ℕ) (l : List PricedStep) → T (mixedInto k leads B s l) → s < k
 run-below k leads B s [] t = ltb→lt s k (and-out (ltb s k) _ t .0)
 run-below k leads B s (p ∷ l) t = ltb→lt s k (and-out (ltb s k) _ t .0)
 
-module _ (k : ℕ) (leads : Leads) (filled : ℕ → Bool) (B : ℕ → Bool) (prices : List ℕ) (M : Marks) (done : ℕ → ℕ) (m : ℕ)
+module _ (k : ℕ) (leads : Transitions) (filled : ℕ → Bool) (B : ℕ → Bool) (prices : List ℕ) (M : Marks) (done : ℕ → ℕ) (m : ℕ)
     (used : (r s t : ℕ) → T (leads r s t) → T (filled r))
     (S : Standing k leads B prices M) (G : Goal k B M) (D : Done k leads prices M done) (L : Least filled prices M done m) where
   -- one step back from a marked state t: where the step's mark is below m, s is marked and costs at most the step more
@@ -62,7 +62,7 @@ module _ (k : ℕ) (leads : Leads) (filled : ℕ → Bool) (B : ℕ → Bool) (p
           omega arith
 
   -- a state with a run that costs less than m has a mark, and it says at most what the run costs
-  pub cost-marked : (s : ℕ) (l : List Step) → T (runsInto k leads B s l) → cost prices l + 1 < m
+  pub cost-marked : (s : ℕ) (l : List PricedStep) → T (mixedInto k leads B s l) → cost prices l + 1 < m
       → (1 ≤ M .mark s) × (M .mark s ≤ cost prices l + 1)
   cost-marked s [] t c =
       let w = and-out (ltb s k) _ t in
@@ -70,10 +70,10 @@ module _ (k : ℕ) (leads : Leads) (filled : ℕ → Bool) (B : ℕ → Bool) (p
       (omega arith, omega arith)
   cost-marked s (p ∷ l) t c = go (cost-marked (p .state) l (v .1) (omega arith))
     where
-      w : T (ltb s k) × T (leads (p .relation) s (p .state) && runsInto k leads B (p .state) l)
+      w : T (ltb s k) × T (leads (p .relation) s (p .state) && mixedInto k leads B (p .state) l)
       w = and-out (ltb s k) _ t
 
-      v : T (leads (p .relation) s (p .state)) × T (runsInto k leads B (p .state) l)
+      v : T (leads (p .relation) s (p .state)) × T (mixedInto k leads B (p .state) l)
       v = and-out (leads (p .relation) s (p .state)) _ (w .1)
 
       go : (1 ≤ M .mark (p .state)) × (M .mark (p .state) ≤ cost prices l + 1)
@@ -83,7 +83,7 @@ module _ (k : ℕ) (leads : Leads) (filled : ℕ → Bool) (B : ℕ → Bool) (p
           (b .0, let u = b .1 in omega arith)
 
   -- the same of credits alone: a state with a run of so many credits costs no more credits, whatever its steps
-  pub total-marked : (s : ℕ) (l : List Step) → T (runsInto k leads B s l) → (total prices l + 1) * CREDIT < m
+  pub total-marked : (s : ℕ) (l : List PricedStep) → T (mixedInto k leads B s l) → (total prices l + 1) * CREDIT < m
       → (1 ≤ M .mark s) × ((M .mark s - 1) / CREDIT ≤ total prices l)
   total-marked s [] t c =
       let w = and-out (ltb s k) _ t in
@@ -91,10 +91,10 @@ module _ (k : ℕ) (leads : Leads) (filled : ℕ → Bool) (B : ℕ → Bool) (p
       (omega arith, omega arith)
   total-marked s (p ∷ l) t c = go (total-marked (p .state) l (v .1) (omega arith))
     where
-      w : T (ltb s k) × T (leads (p .relation) s (p .state) && runsInto k leads B (p .state) l)
+      w : T (ltb s k) × T (leads (p .relation) s (p .state) && mixedInto k leads B (p .state) l)
       w = and-out (ltb s k) _ t
 
-      v : T (leads (p .relation) s (p .state)) × T (runsInto k leads B (p .state) l)
+      v : T (leads (p .relation) s (p .state)) × T (mixedInto k leads B (p .state) l)
       v = and-out (leads (p .relation) s (p .state)) _ (w .1)
 
       below : p .state < k

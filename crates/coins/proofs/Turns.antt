@@ -8,7 +8,7 @@ use native.Mathlib.Decide.{ℕ-discrete, decLt, decLe}
 use native.Mathlib.Omega.{arith}
 use lib.Dec.{T}
 use Rattle.mucalculus.proofs.Sets.{and-out}
-use Rattle.coins.specs.Runs.{Leads, Step, priceOf, total, runsInto, isRun}
+use Rattle.coins.specs.Runs.{Transitions, PricedStep, priceOf, total, mixedInto, isMixedRun}
 use Rattle.coins.specs.Cost.{CREDIT, stepCost, cost}
 use Rattle.coins.specs.Marks.{Marks, Reason, MOST, Listed, Standing}
 use Rattle.coins.proofs.Marks.{Goal, Done, Least, run-below, cost-marked, total-marked}
@@ -48,7 +48,7 @@ grown-more {M} {N} {O} {m} g h marked = record {
 }
 
 -- what is added has the greatest mark so far and a reason for it: the search stands as before
-module _ {k : ℕ} {leads : Leads} {B : ℕ → Bool} {prices : List ℕ} {M : Marks} (S : Standing k leads B prices M)
+module _ {k : ℕ} {leads : Transitions} {B : ℕ → Bool} {prices : List ℕ} {M : Marks} (S : Standing k leads B prices M)
     (cheap : (r : ℕ) → priceOf prices r ≤ 255) where
   reason-steps : (s m : ℕ) → Reason k leads B prices M s m → (m - 1) % CREDIT ≤ M .count
   reason-steps s m (inl g) = let e = g .1 in omega arith
@@ -120,7 +120,8 @@ module _ {k : ℕ} {leads : Leads} {B : ℕ → Bool} {prices : List ℕ} {M : M
     }
 
 -- where the search stands: relation r has done the first `done r` of the order, no state of A is at one of the first `seen` places
-pub record Searching (k : ℕ) (leads : Leads) (filled A B : ℕ → Bool) (prices : List ℕ) (M : Marks) (done : ℕ → ℕ) (seen : ℕ) : Type 0 where
+pub record Searching (k : ℕ) (leads : Transitions) (filled A B : ℕ → Bool) (prices : List ℕ) (M : Marks) (done : ℕ → ℕ) (seen : ℕ)
+    : Type 0 where
   pub standing : Standing k leads B prices M
   pub goal : Goal k B M
   pub over : Done k leads prices M done
@@ -136,15 +137,15 @@ pub record Searching (k : ℕ) (leads : Leads) (filled A B : ℕ → Bool) (pric
 abbrev pub OneMore : (ℕ → ℕ) → (ℕ → ℕ) → ℕ → Type 0
 OneMore done next r = (next r ≡ suc (done r)) × ((q : ℕ) → q ≢ r → next q ≡ done q)
 
-module _ (k : ℕ) (leads : Leads) (filled A B : ℕ → Bool) (prices : List ℕ) (M : Marks) (done : ℕ → ℕ)
+module _ (k : ℕ) (leads : Transitions) (filled A B : ℕ → Bool) (prices : List ℕ) (M : Marks) (done : ℕ → ℕ)
     (used : (r s t : ℕ) → T (leads r s t) → T (filled r))
     (S : Searching k leads filled A B prices M done (M .count)) where
   -- no run costs less than the least mark that is left, as none of its first states is in A
-  pub none-less : (m : ℕ) → Least filled prices M done m → (s : ℕ) (l : List Step) → T (isRun k leads A B s l)
+  pub none-less : (m : ℕ) → Least filled prices M done m → (s : ℕ) (l : List PricedStep) → T (isMixedRun k leads A B s l)
       → (m ≤ cost prices l + 1) × ((m - 1) / CREDIT ≤ total prices l)
   none-less m L s l t = (by-cost, by-total)
     where
-      w : T (A s) × T (runsInto k leads B s l)
+      w : T (A s) × T (mixedInto k leads B s l)
       w = and-out (A s) _ t
 
       not-marked : 1 ≤ M .mark s → ⊥
@@ -169,7 +170,7 @@ module _ (k : ℕ) (leads : Leads) (filled A B : ℕ → Bool) (prices : List �
           (λ n. omega arith)
 
   -- where nothing is left, there is no run
-  pub no-run : ((r : ℕ) → T (filled r) → M .count ≤ done r) → (s : ℕ) (l : List Step) → T (isRun k leads A B s l) → ⊥
+  pub no-run : ((r : ℕ) → T (filled r) → M .count ≤ done r) → (s : ℕ) (l : List PricedStep) → T (isMixedRun k leads A B s l) → ⊥
   no-run over s l t =
       let h = none-less (cost prices l + 2) (λ r i f g y. absurd (let o = over r f in omega arith)) s l t .0 in
       omega arith

@@ -6,7 +6,7 @@ use mathlib.Core.Bool.{Bool}
 use mathlib.Core.List.{List}
 use Prim.Native.Nat.{ℕ, _+_, _-_, _*_, _%_, _≤_, _<_}
 use lib.Dec.{T}
-use Rattle.coins.specs.Runs.{Leads}
+use Rattle.coins.specs.Runs.{Transitions}
 use Rattle.coins.specs.Cost.{CREDIT, stepCost}
 
 -- the states at the places of the order, how many there are, and the mark of each state, 0 where it has none
@@ -16,7 +16,7 @@ pub record Marks : Type 0 where
   pub mark : ℕ → ℕ
 
 -- from s a step of a relation leads to a marked state, and m is that state's mark and what the step costs
-pub record Backed (k : ℕ) (leads : Leads) (prices : List ℕ) (M : Marks) (s m : ℕ) : Type 0 where
+pub record Backed (k : ℕ) (leads : Transitions) (prices : List ℕ) (M : Marks) (s m : ℕ) : Type 0 where
   pub relation : ℕ
   pub state : ℕ
   pub below : state < k
@@ -25,7 +25,7 @@ pub record Backed (k : ℕ) (leads : Leads) (prices : List ℕ) (M : Marks) (s m
   pub exact : m ≡ M .mark state + stepCost prices relation
 
 -- why state s has the mark m: it is in the goal, or such a step leads from it
-abbrev pub Reason : ℕ → Leads → (ℕ → Bool) → List ℕ → Marks → ℕ → ℕ → Type 0
+abbrev pub Reason : ℕ → Transitions → (ℕ → Bool) → List ℕ → Marks → ℕ → ℕ → Type 0
 Reason k leads B prices M s m = (T (B s) × (m ≡ 1)) ⊎ Backed k leads prices M s m
 
 -- no step costs more
@@ -41,7 +41,7 @@ pub record Listed (k : ℕ) (M : Marks) : Type 0 where
   pub once : (i j : ℕ) → i < M .count → j < M .count → M .at i ≡ M .at j → i ≡ j
 
 -- they stand by their marks, and each mark has its reason
-pub record Standing (k : ℕ) (leads : Leads) (B : ℕ → Bool) (prices : List ℕ) (M : Marks) : Type 0 where
+pub record Standing (k : ℕ) (leads : Transitions) (B : ℕ → Bool) (prices : List ℕ) (M : Marks) : Type 0 where
   pub order : Listed k M
   pub ordered : (i j : ℕ) → i ≤ j → j < M .count → M .mark (M .at i) ≤ M .mark (M .at j)
   pub reason : (s : ℕ) → s < k → 1 ≤ M .mark s → Reason k leads B prices M s (M .mark s)

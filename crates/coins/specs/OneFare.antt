@@ -5,10 +5,10 @@ use mathlib.Core.Logic.{_≢_}
 use mathlib.Core.List.{List}
 use Prim.Native.Nat.{ℕ, _-_}
 use lib.ListN.{length, drop}
-use Rattle.coins.specs.Post.{Reply}
+use Rattle.coins.specs.Post.{FareReply}
 
 -- two replies y, z; two ends s, t of the states and q, r of the relations
-pub record OneFare (s t q r : List ℕ) (y z : Reply) : Type 0 where
+pub record OneFare (s t q r : List ℕ) (y z : FareReply) : Type 0 where
   pub reply : y ≡ z
   -- the lists are of one length and agree past the run, and everywhere where the call is refused
   pub states-size : length s ≡ length t

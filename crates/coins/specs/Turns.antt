@@ -3,7 +3,7 @@
 use mathlib.Core.Path.{_≡_}
 use Prim.Native.Nat.{ℕ, _≤_, _<_}
 use lib.Dec.{T}
-use Rattle.coins.specs.Runs.{Leads}
+use Rattle.coins.specs.Runs.{Transitions}
 use Rattle.coins.specs.Marks.{Marks, Listed}
 
 -- some states more at the end, each with the mark m
@@ -15,7 +15,7 @@ pub record Grown (M N : Marks) (m : ℕ) : Type 0 where
   pub late : (i : ℕ) → M .count ≤ i → i < N .count → N .mark (N .at i) ≡ m
 
 -- the order has got exactly those more that had no mark and from which r leads to t
-pub record Expanded (k : ℕ) (leads : Leads) (M N : Marks) (r t m : ℕ) : Type 0 where
+pub record Expanded (k : ℕ) (leads : Transitions) (M N : Marks) (r t m : ℕ) : Type 0 where
   pub order : Listed k N
   pub grown : Grown M N m
   pub only : (u : ℕ) → u < k → M .mark u ≡ 0 → 1 ≤ N .mark u → T (leads r u t)

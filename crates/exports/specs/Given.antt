@@ -9,7 +9,7 @@ use Rattle.book.specs.Tallies.{freshened}
 use Rattle.contract.specs.Posts.{FreshPost}
 use Rattle.calls.specs.Fresh.{FreshWords}
 use Rattle.calls.specs.declared.Started.the-variants.{Ready}
-use Rattle.coins.specs.Post.{Reply as FareReply}
+use Rattle.coins.specs.Post.{FareReply}
 
 -- the returned number, and the rounds, the peak and the value that are written
 abbrev pub given : ℕ → ℕ → ℕ → ℕ → Reply

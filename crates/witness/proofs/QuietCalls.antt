@@ -37,6 +37,8 @@ use Rattle.batch_calls.proofs.Again.{batch-rests}
 use Rattle.paths.specs.Call.{refuse as refuseRun}
 use Rattle.path_calls.specs.Post.{PathPost}
 use Rattle.path_calls.proofs.Rests.{path-rests}
+use Rattle.coins.specs.Post.{paid, FarePost}
+use Rattle.coin_calls.proofs.Rests.{fare-rests}
 use Rattle.witness.proofs.Words.{storedIn, put-header, put-cell}
 use Rattle.witness.proofs.Made.{Roomy, every, self, every-done, self-done, empty-done}
 use Rattle.witness.proofs.Row.{bitIn, bitStored, view-bit, bit-done}
@@ -45,9 +47,10 @@ use Rattle.witness.proofs.Begun.{stored-stands}
 use Rattle.witness.proofs.Told.{value-done, pairs-done, all-pairs, other-arrow, path-told, path-remembers, members-told}
 use Rattle.witness.proofs.Told.{rememberedIn}
 use Rattle.witness.proofs.Larger.{under, bit, node, row, made, fixed, Ready}
+use Rattle.witness.proofs.Pressed.{press, priced, Fares, fare-by}
 use Rattle.witness.proofs.QuietList.{notBit, broken, turned, opening, withBit, started, refusals, closing, answers, events}
 use Rattle.witness.proofs.QuietList.{related, filled, vacant, rowed, midway, afterRun, later, end, blank, twoStates, asked, order}
-use Rattle.witness.proofs.QuietList.{order′, bytes, bytes′, Relates, Turns, Tells, Setting}
+use Rattle.witness.proofs.QuietList.{order′, bytes, bytes′, spare, spare′, labels, labels′, Relates, Turns, Tells, Setting}
 
 -- ---- the question for many states
 
@@ -259,6 +262,19 @@ module _ {N k a c R : ℕ} (x : Setting N k a c R) where
   pub no-register : PathPost 5 3 0 (afterRun N k) (afterRun N k) blank blank (plain 7)
   no-register = path-told (afterRun N k) after-sound 5 3 0 blank (refuseRun 7 blank) (told .unfilled-first)
 
+  -- ANSWERED, and no word changes: a cheapest run of one press, for p credits
+  pub fare-paid : (p : ℕ) → FarePost 4 3 (afterRun N k) (priced p) spare spare′ blank (twoStates .list) labels labels′
+      (paid (priced p) (press ∷ []))
+  fare-paid p = record {
+    prices-fit = λ n. absurd (n refl);
+    unsound = λ _ n. absurd (n after-sound);
+    by-book = λ _ _. fare-by (bookOf (seen (afterRun N k))) (subst Fares (sym (holds 1 N k z to-after)) (x .fares)) p (omega arith)
+        (record { for-states = omega arith; for-steps = omega arith });
+    kept = λ n. absurd (n refl);
+    size = refl;
+    work-kept = λ h. absurd h;
+  }
+
   -- bytes that are no formula
   pub not-read : CallPost (set (under a c) 5 R broken) (afterRun N k) (afterRun N k) (plain 4)
   not-read = call-refused (afterRun N k) after-sound 3 (set (under a c) 5 R broken) (told .unread)
@@ -287,12 +303,13 @@ module _ {N k a c R : ℕ} (x : Setting N k a c R) where
 
   -- ---- the lists
 
-  -- the questions and the refused searches before other calls
+  -- the questions, the refused searches and the cheapest run before other calls
   quiet : {l : List Event} {ws : List ℕ} → Trace (List ℕ) performs rests (afterRun N k) l ws
       → Trace (List ℕ) performs rests (afterRun N k) l ws
   quiet t =
       pause (batch-rests members-asked)
-      (pause (same-rests (member-asked .0)) (pause (path-rests no-run) (pause (path-rests no-register) t)))
+      (pause (same-rests (member-asked .0))
+      (pause (path-rests no-run) (pause (path-rests no-register) (pause (fare-rests (fare-paid 11)) t))))
 
   -- from the search for a run on, with the refused calls as events
   from-refusals : Trace (List ℕ) performs rests (midway N k) (refusals a c R ++ closing a c R) (end N k)

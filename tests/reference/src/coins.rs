@@ -1,21 +1,41 @@
-//! The cheapest run from one set of states into another (document 02, Slip 13),
-//! by relaxing every pair until nothing changes (Bellman and Ford).
+//! The fewest coins (document 02, Slip 13): runs over explicit steps, relaxed
+//! until no cost falls.
 
+use crate::book::{REGISTERS, RELATIONS};
+use crate::formula::Formula;
 use crate::refusal::Refusal;
-use crate::states::{state_count, PairSet, StateSet};
-
-/// How many relations have a price.
-pub const PRICES: usize = 8;
-
-/// "A list of 8 bytes gives every relation a price of 0 to 255 credits"; the
-/// relations, filled or not.
-pub struct Hall<'a> {
-    pub prices: &'a [u8],
-    pub relations: &'a [Option<PairSet>],
-}
+use crate::states::{bit_of, state_count, StateSet};
+use std::collections::VecDeque;
 
 /// Credits, then steps: "of those that cost the same none has fewer states".
-pub type Cost = (u32, u32);
+pub type Cost = (u32, usize);
+
+/// What the call is lent and asked; of the lists their lengths.
+#[derive(Clone, Copy, Debug)]
+pub struct Asked<'a> {
+    pub prices: &'a [u8],
+    pub work: usize,
+    pub states: usize,
+    pub relations: usize,
+    pub a: u32,
+    pub b: u32,
+}
+
+/// A step that leads to a state: "the relation of each step", and from where.
+#[derive(Clone, Copy, Debug, PartialEq, Eq)]
+struct Step {
+    relation: usize,
+    now: usize,
+}
+
+/// A sound table's sets, and the steps of its filled relations by the state that
+/// they lead to.
+#[derive(Clone, Debug)]
+pub struct Hall {
+    n: u32,
+    registers: Vec<Option<StateSet>>,
+    steps: Vec<Vec<Step>>,
+}
 
 /// "The charge is the total's coins, one for every ten credits begun, none for 0".
 pub fn coins(total: u32) -> u32 {
@@ -28,70 +48,109 @@ pub fn coins(total: u32) -> u32 {
     coins
 }
 
-impl Hall<'_> {
-    /// Whether the relation is filled and leads from one state to the other.
-    pub fn leads(&self, r: usize, now: usize, next: usize) -> bool {
-        let relation = self.relations.get(r).and_then(Option::as_ref);
-        relation.is_some_and(|pairs| pairs.contains(now, next))
+/// Whether a formula of bits holds in a pair.
+pub fn holds(formula: &Formula, now: usize, next: usize) -> bool {
+    match formula {
+        Formula::Constant(value) => *value,
+        Formula::NowBit(p) => bit_of(now, *p),
+        Formula::NextBit(p) => bit_of(next, *p),
+        Formula::Not(f) => !holds(f, now, next),
+        Formula::And(f, g) => holds(f, now, next) && holds(g, now, next),
+        Formula::Or(f, g) => holds(f, now, next) || holds(g, now, next),
+        _ => panic!("not of bits: {formula:?}"),
     }
+}
 
-    /// The least credits and then steps from each state into the goal.
-    pub fn costs(&self, goal: &StateSet) -> Vec<Option<Cost>> {
-        let states = state_count(goal.n());
-        let start = |s: usize| goal.contains(s).then_some((0, 0));
-        let mut costs: Vec<Option<Cost>> = (0..states).map(start).collect();
-        while self.relax(&mut costs) {}
-        costs
-    }
-
-    /// Each pair of each relation once; whether some cost fell.
-    fn relax(&self, costs: &mut [Option<Cost>]) -> bool {
-        let mut fell = false;
-        for now in 0..costs.len() {
-            for next in 0..costs.len() {
-                let Some((credits, steps)) = costs[next] else {
-                    continue;
-                };
-                for r in (0..PRICES).filter(|&r| self.leads(r, now, next)) {
-                    let cost = (credits + u32::from(self.prices[r]), steps + 1);
-                    if costs[now].is_none_or(|old| cost < old) {
-                        costs[now] = Some(cost);
-                        fell = true;
-                    }
-                }
-            }
+impl Hall {
+    /// Nothing is filled.
+    pub fn new(n: u32) -> Hall {
+        Hall {
+            n,
+            registers: vec![None; REGISTERS],
+            steps: vec![Vec::new(); state_count(n)],
         }
-        fell
+    }
+
+    pub fn fill(&mut self, r: usize, set: StateSet) {
+        self.registers[r] = Some(set);
+    }
+
+    /// The relation has these pairs (now, next).
+    pub fn lead(&mut self, relation: usize, pairs: impl IntoIterator<Item = (usize, usize)>) {
+        for (now, next) in pairs {
+            self.steps[next].push(Step { relation, now });
+        }
+    }
+
+    /// The call, of which `None` gets words that are no sound table: its checks
+    /// in order, and the least cost.
+    pub fn answer(hall: Option<&Hall>, asked: Asked) -> Result<Cost, Refusal> {
+        // "A price list of another length gives 1".
+        if asked.prices.len() != RELATIONS {
+            return Err(Refusal::BadSizes);
+        }
+        let hall = hall.ok_or(Refusal::Unsound)?;
+        // "and so, directly after 2, does a shorter work list".
+        if asked.work < state_count(hall.n) {
+            return Err(Refusal::BadSizes);
+        }
+        let (a, b) = (asked.a as usize, asked.b as usize);
+        if a >= REGISTERS || b >= REGISTERS {
+            return Err(Refusal::OutOfRange);
+        }
+        let (Some(from), Some(goal)) = (&hall.registers[a], &hall.registers[b]) else {
+            return Err(Refusal::Empty);
+        };
+        let (total, steps) = hall.cheapest(asked.prices, from, goal)?;
+        // "Refusals 10 and 11, for either list".
+        match steps < asked.states && steps <= asked.relations {
+            true => Ok((total, steps)),
+            false => Err(Refusal::ListTooShort),
+        }
     }
 
     /// The least cost of a run from one set into the other.
-    pub fn cheapest(&self, from: &StateSet, goal: &StateSet) -> Result<Cost, Refusal> {
-        let costs = self.costs(goal);
+    fn cheapest(&self, prices: &[u8], from: &StateSet, goal: &StateSet) -> Result<Cost, Refusal> {
+        let costs = self.costs(prices, goal);
         let starts = (0..costs.len()).filter(|&s| from.contains(s));
         starts.filter_map(|s| costs[s]).min().ok_or(Refusal::NoRun)
     }
 
-    /// What a run costs, where the lists are one: a state of the first set, steps each of a filled
-    /// relation, and a state of the goal at the end.
-    pub fn cost_of(
-        &self,
-        from: &StateSet,
-        goal: &StateSet,
-        run: &[u16],
-        steps: &[u8],
-    ) -> Option<Cost> {
-        let states: Vec<usize> = run.iter().map(|&s| s.into()).collect();
-        let (first, last) = (*states.first()?, *states.last()?);
-        if steps.len() + 1 != run.len() || !from.contains(first) || !goal.contains(last) {
-            return None;
-        }
-        let mut total = 0;
-        for (pair, &r) in states.windows(2).zip(steps) {
-            if !self.leads(r.into(), pair[0], pair[1]) {
-                return None;
+    /// The least credits and then steps from each state into the goal: whenever
+    /// a state's cost falls, those that lead to it are looked at again.
+    fn costs(&self, prices: &[u8], goal: &StateSet) -> Vec<Option<Cost>> {
+        let states = state_count(self.n);
+        let start = |s: usize| goal.contains(s).then_some((0, 0));
+        let mut costs: Vec<Option<Cost>> = (0..states).map(start).collect();
+        let mut fallen: VecDeque<usize> = (0..states).filter(|&s| goal.contains(s)).collect();
+        while let Some(next) = fallen.pop_front() {
+            let (credits, steps) = costs[next].expect("it fell");
+            for step in &self.steps[next] {
+                let cost = (credits + u32::from(prices[step.relation]), steps + 1);
+                if costs[step.now].is_none_or(|old| cost < old) {
+                    costs[step.now] = Some(cost);
+                    fallen.push_back(step.now);
+                }
             }
-            total += u32::from(self.prices[usize::from(r)]);
         }
-        Some((total, steps.len() as u32))
+        costs
+    }
+
+    /// What the run costs that stands in two lists: a state of register a, steps
+    /// each of a filled relation, and a state of register b at the end.
+    pub fn cost_of(&self, asked: Asked, states: &[u16], relations: &[u8]) -> Option<Cost> {
+        let holds = |r: u32, state: u16| {
+            let set = self.registers[r as usize].as_ref();
+            set.is_some_and(|set| set.contains(state.into()))
+        };
+        let ends = holds(asked.a, *states.first()?) && holds(asked.b, *states.last()?);
+        let leads = |(pair, &relation): (&[u16], &u8)| {
+            let (now, relation) = (pair[0].into(), relation.into());
+            self.steps[usize::from(pair[1])].contains(&Step { relation, now })
+        };
+        let fits = relations.len() + 1 == states.len();
+        let run = ends && fits && states.windows(2).zip(relations).all(leads);
+        let price = |&relation: &u8| u32::from(asked.prices[usize::from(relation)]);
+        run.then(|| (relations.iter().map(price).sum(), relations.len()))
     }
 }

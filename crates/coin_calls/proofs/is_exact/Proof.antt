@@ -1,4 +1,4 @@
--- `is_exact` meets its contract: an empty relation, one that costs too much and another mark are none, else the pair decides. Assumes nothing.
+-- `is_exact` meets its contract: an empty relation, a cost too high and another mark are none, else the pair decides. Assumes nothing.
 use borrow.Author.Needs.{needs}
 use Rattle.coin_calls.proofs.Steps.{exact-empty, exact-cheap, exact-other, exact-asks, exact-says}
 use Rattle.coin_calls.proofs.is_exact.Statement.{statement}

@@ -1,6 +1,6 @@
 -- `kudzuclamp_cheapest` meets its contract, which is its call's over the numbers that the answer is taken apart into. Assumes nothing.
 use mathlib.Core.Path.{sym, ap, _∙_, subst}
-use Rattle.coins.specs.Post.{refused, fareReply, FarePost}
+use Rattle.coins.specs.Post.{fareRefused, fareReply, FarePost}
 use borrow.Author.Needs.{needs}
 use Rattle.exports.proofs.kudzuclamp_cheapest.Statement.{statement}
 use Rattle.exports.proofs.kudzuclamp_cheapest.Tie as tie
@@ -26,5 +26,5 @@ kudzuclamp-cheapest-spec =
     (λ c. search needs)
     (λ c. search needs)
     (λ c. subst (FarePost _ _ _ _ _ _ _ _ _ _)
-    (ap fareReply (c .before .before .x2 .given .1) ∙ ap refused (sym (c .refusal-number .ensures)))
+    (ap fareReply (c .before .before .x2 .given .1) ∙ ap fareRefused (sym (c .refusal-number .ensures)))
     (c .before .before .before .before .before .before .before .before .before .before .cheapest .ensures)))

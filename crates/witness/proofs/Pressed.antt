@@ -1,0 +1,99 @@
+-- A CHEAPEST RUN OF ONE PRESS by a book of two states: relation 0 alone is filled and leads from the state of register 4 to that of register
+-- 3, at any price. Assumes nothing.
+use mathlib.Core.Path.{_≡_, refl, sym, ap, _∙_, subst, subst₂}
+use mathlib.Core.Logic.{_⊎_, inl, inr}
+use mathlib.Core.Bool.{Bool, true, false, _&&_}
+use mathlib.Core.List.{List, [], _∷_}
+use mathlib.Core.Option.{none, some}
+use Prim.Native.Nat.{ℕ, zero, suc, _^_, _≤_}
+use native.Mathlib.Omega.{arith}
+use lib.Dec.{T, ltb}
+use lib.ListN.{length}
+use Rattle.mucalculus.specs.Sets.{mem}
+use Rattle.mucalculus.proofs.Sets.{and-in, and-out}
+use Rattle.book.specs.Book.{Book, relations}
+use Rattle.book.proofs.Stored.{some-inj, none-some}
+use Rattle.paths.specs.Runs.{written}
+use Rattle.coins.specs.Runs.{Transitions, PricedStep, priceOf, leadsBy, leadsIn, isMixedRun, total, Cheapest}
+use Rattle.coins.specs.Post.{FareReply, RunFits, paid, FareTold, told-run, FareBy}
+
+-- the press
+abbrev pub press : PricedStep
+press = record { relation = 0; state = 1 }
+
+-- it costs p credits
+abbrev pub priced : ℕ → List ℕ
+priced p = p ∷ 0 ∷ 0 ∷ 0 ∷ 0 ∷ 0 ∷ 0 ∷ 0 ∷ []
+
+-- register 4 holds state 0
+abbrev pub before : List Bool
+before = true ∷ false ∷ []
+
+-- and register 3 state 1
+abbrev pub after : List Bool
+after = false ∷ true ∷ []
+
+-- such a book
+pub record Fares (c : Book) : Type 0 where
+  pub bits : c .n ≡ 1
+  pub from : c .reg 4 ≡ some before
+  pub into : c .reg 3 ≡ some after
+  pub leads : T (leadsIn (c .rel) 0 0 1)
+  pub empty : (r : ℕ) → c .rel (suc r) ≡ none
+
+-- only relation 0 leads anywhere
+only-first : (c : Book) → Fares c → (r s t : ℕ) → T (leadsIn (c .rel) r s t) → r ≡ 0
+only-first c f zero s t h = refl
+only-first c f (suc r) s t h =
+    absurd (subst (λ (o : _). T (leadsBy o s t)) (f .empty r) (and-out (ltb (suc r) relations) (leadsBy (c .rel (suc r)) s t) h .1))
+
+-- no state is in both
+apart : (s : ℕ) → T (mem before s) → T (mem after s) → ⊥
+apart zero a b = b
+apart (suc zero) a b = a
+apart (suc (suc s)) a b = a
+
+module _ {k : ℕ} {leads : Transitions} (only : (r s t : ℕ) → T (leads r s t) → r ≡ 0) (p : ℕ) where
+  -- every run has a press, for p credits
+  some-press : (s : ℕ) (l : List PricedStep) → T (isMixedRun k leads (mem before) (mem after) s l)
+      → (p ≤ total (priced p) l) × (1 ≤ length l)
+  some-press s [] t =
+      let (a, r) = and-out (mem before s) (ltb s k && mem after s) t in
+      absurd (apart s a (and-out (ltb s k) (mem after s) r .1))
+  some-press s (x ∷ l) t =
+      let (a, r) = and-out (mem before s) _ t in
+      let (b, q) = and-out (ltb s k) _ r in
+      let e : priceOf (priced p) (x .relation) ≡ p =
+      ap (priceOf (priced p)) (only (x .relation) s (x .state) (and-out (leads (x .relation) s (x .state)) _ q .0)) in
+      (omega arith, omega arith)
+
+  one-press : T (isMixedRun k leads (mem before) (mem after) 0 (press ∷ []))
+      → Cheapest k leads (mem before) (mem after) (priced p) 0 (press ∷ [])
+  one-press t = record {
+    run = t;
+    least = λ s m h. let e = some-press s m h .0 in omega arith;
+    fewest = λ s m h _. some-press s m h .1;
+  }
+
+-- ANSWERED: the states and the relation of the press are written
+pub fare-by : (c : Book) → Fares c → (p : ℕ) {work states relations : List ℕ} → 2 ≤ length work → RunFits (press ∷ []) states relations
+    → FareBy c 4 3 (priced p) work states (written (0 ∷ 1 ∷ []) states) relations (written (0 ∷ []) relations)
+    (paid (priced p) (press ∷ []))
+fare-by c f p {work} {states} {relations} w room = record {
+  work-fits = λ l. let e : 2 ^ c .n ≡ 2 = ap (λ (n : ℕ). 2 ^ n) (f .bits) in absurd (omega arith);
+  range = λ _ n. absurd (n (record { first = omega arith; second = omega arith }));
+  empty = λ _ _ z. absurd (filled z);
+  told = λ _ _ A B ha hb.
+      subst₂ (λ (X Y : List Bool). FareTold (2 ^ c .n) (leadsIn (c .rel)) (mem X) (mem Y) (priced p) states (written (0 ∷ 1 ∷ []) states)
+      relations (written (0 ∷ []) relations) (paid (priced p) (press ∷ [])))
+      (some-inj (sym (f .from) ∙ ha)) (some-inj (sym (f .into) ∙ hb))
+      (told-run 0 (press ∷ []) (one-press (only-first c f) p is-run) room (record { of-states = refl; of-steps = refl }));
+}
+  where
+    filled : (c .reg 4 ≡ none) ⊎ (c .reg 3 ≡ none) → ⊥
+    filled (inl z) = none-some (sym z ∙ f .from)
+    filled (inr z) = none-some (sym z ∙ f .into)
+
+    is-run : T (isMixedRun (2 ^ c .n) (leadsIn (c .rel)) (mem before) (mem after) 0 (press ∷ []))
+    is-run = subst (λ (n : ℕ). T (isMixedRun (2 ^ n) (leadsIn (c .rel)) (mem before) (mem after) 0 (press ∷ []))) (sym (f .bits))
+        (and-in (leadsIn (c .rel) 0 0 1) true (f .leads) tt)
