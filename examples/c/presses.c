@@ -1,7 +1,6 @@
 /*
  * Reads the records of examples/hall.records from standard input, plays them up to the first relation (the rules as first written), and prints the
- * shortest presses from the start state (set 0) into the howl (set 1), and what they cost in a hall where each press costs credits:
- * sh examples/records-to-bytes examples/hall.records | presses
+ * shortest presses from the start state (set 0) into the howl (set 1): sh examples/records-to-bytes examples/hall.records | presses
  */
 #include "kudzuclamp.h"
 
@@ -11,7 +10,7 @@
 enum { MIC_A, MIC_B, ECHO, SONG, MONITOR, LATCH, BITS };
 enum { START_STATE, HOWL };
 enum { RULES };
-enum { ROWS = 1344, BYTES = 65536, RECORDS = 100, STATES = 1 << BITS, RELATION = 2, RELATIONS = 8, PRICE = 3 };
+enum { ROWS = 1344, BYTES = 65536, RECORDS = 100, STATES = 1 << BITS, RELATION = 2 };
 
 static const char *const names[BITS] = {"mic A", "mic B", "echo", "song", "monitor", "latch"};
 
@@ -20,9 +19,6 @@ static const size_t words_len = sizeof words / sizeof *words;
 static uint8_t bytes[BYTES];
 static uint32_t list[RECORDS * KUDZUCLAMP_PLAY_WORDS];
 static uint16_t states[STATES];
-static uint8_t relations[STATES];
-static uint64_t work[STATES];
-static const uint8_t prices[RELATIONS] = {PRICE};
 
 /* The length of the records up to the first relation, that one included. */
 static size_t first_rules(size_t length)
@@ -68,7 +64,7 @@ static void print_state(unsigned state)
 int main(void)
 {
     size_t count;
-    uint32_t found, total, charge;
+    uint32_t found;
     size_t length = first_rules(fread(bytes, 1, BYTES, stdin));
     if (length == 0 || kudzuclamp_play(words, words_len, bytes, length, list, sizeof list / sizeof *list, &count) != 0) {
         fprintf(stderr, "no records up to a relation\n");
@@ -89,12 +85,5 @@ int main(void)
         printf("%-8s", press(states[k - 1], states[k]));
         print_state(states[k]);
     }
-    number = kudzuclamp_cheapest(words, words_len, prices, RELATIONS, work, STATES, states, STATES, relations, STATES, START_STATE, HOWL, &total,
-                                 &charge, &found);
-    if (number != KUDZUCLAMP_ANSWERED) {
-        fprintf(stderr, "refused with %u\n", (unsigned)number);
-        return EXIT_FAILURE;
-    }
-    printf("at %d credits a press: %u presses, %u credits, %u coins\n", PRICE, (unsigned)found - 1, (unsigned)total, (unsigned)charge);
     return EXIT_SUCCESS;
 }

@@ -9,7 +9,7 @@ use Rattle.book.specs.Book.{Book}
 use Rattle.book.specs.BookOf.{bookOf}
 use Rattle.book.specs.Demand.{Event, calls, bookAfter, Session}
 use Rattle.book.specs.Raised.{withRowCount, AllZero, Looser, Cut}
-use Rattle.contract.specs.Seen.{seen}
+use Rattle.contract.specs.Seen.{seen, SoundWords}
 use Rattle.contract.specs.Closed.{makes, performs, rests}
 use Rattle.contract.proofs.Closed.{words-demand, same-rests}
 use Rattle.contract.specs.Shared.{Lent, Step, Rest, SharedSession}
@@ -33,11 +33,18 @@ fare-listed n N x a b {prices} {work} {states = states} {states′} {relations} 
     let d = words-demand n N x in
     subst (λ (c : Book). FareBy c a b prices work states states′ relations relations′ y) (d .holds) (p .by-book e (d .good))
 
--- how many rows the table has plays no part
-rows-free : (c : Book) (M : ℕ) {a b : ℕ} {prices work states states′ relations relations′ : List ℕ} {y : FareReply}
-    → FareBy (withRowCount c M) a b prices work states states′ relations relations′ y
-    → FareBy c a b prices work states states′ relations relations′ y
-rows-free c M p = record { work-fits = p .work-fits; range = p .range; empty = p .empty; told = p .told }
+-- on two sound tables whose books differ in their rows alone, which play no part
+module _ {a b : ℕ} (M : ℕ) (words words′ : List ℕ) (o : SoundWords words) (o′ : SoundWords words′)
+    (book : bookOf (seen words′) ≡ withRowCount (bookOf (seen words)) M) {prices work v w states s t relations q r : List ℕ} {y z : FareReply}
+    (f : FarePost a b words prices work v states s relations q y) (g : FarePost a b words′ prices work w states t relations r z) where
+  rows-free : FareBy (withRowCount (bookOf (seen words)) M) a b prices work states t relations r z
+      → FareBy (bookOf (seen words)) a b prices work states t relations r z
+  rows-free p = record { work-fits = p .work-fits; range = p .range; empty = p .empty; told = p .told }
+
+  fare-alike : Dec (length prices ≡ 8) → OneFare s t q r y z
+  fare-alike (no d) = refused-one (f .kept) (g .kept) 0 (f .prices-fit d) (g .prices-fit d)
+  fare-alike (yes e) = by-one (f .kept) (g .kept) (bookOf (seen words)) a b (f .by-book e o)
+      (rows-free (subst (λ (c : Book). FareBy c a b prices work states t relations r z) book (g .by-book e o′)))
 
 -- ALIKE: at the same place of a list and of the same list with every limit raised or equal, one reply, and lists that differ in nothing but
 -- the run
@@ -48,14 +55,7 @@ pub fare-again : (n N M : ℕ) → N ≤ M → M ≤ 60_000
     → (a b : ℕ) {prices work v w states s t relations q r : List ℕ} {y z : FareReply}
     → FarePost a b (c .mid .words) prices work v states s relations q y
     → FarePost a b (c′ .mid .words) prices work w states t relations r z → OneFare s t q r y z
-fare-again n N M more most l k l′ k′ x u loose again zeros c c′ a b {prices} {work} {v} {w} {states} {s} {t} {relations} {q} {r} {y} {z} f g =
-    go (ℕ-discrete (length prices) 8)
-  where
-    go : Dec (length prices ≡ 8) → OneFare s t q r y z
-    go (no d) = refused-one (f .kept) (g .kept) 0 (f .prices-fit d) (g .prices-fit d)
-    go (yes e) =
-        let (o, o′) = each-sound n N M more most l k l′ k′ x u loose again zeros c c′ in
-        let same = shared-each n N M more most l k l′ k′ x u loose again zeros c c′ .table .sets in
-        by-one (f .kept) (g .kept) (bookOf (seen (c .mid .words))) a b (f .by-book e o)
-        (rows-free (bookOf (seen (c .mid .words))) M
-        (subst (λ (d : Book). FareBy d a b prices work states t relations r z) same (g .by-book e o′)))
+fare-again n N M more most l k l′ k′ x u loose again zeros c c′ a b {prices} f g =
+    let (o, o′) = each-sound n N M more most l k l′ k′ x u loose again zeros c c′ in
+    let book = shared-each n N M more most l k l′ k′ x u loose again zeros c c′ .table .sets in
+    fare-alike M (c .mid .words) (c′ .mid .words) o o′ book f g (ℕ-discrete (length prices) 8)

@@ -157,7 +157,8 @@ module _ {W : View} {n : ℕ} {prices w st rel : List ℕ} {f steps : ℕ} (a : 
       pub write-turns : Writing W n prices w states (set states′ (at + 1) t) relations (set relations′ at r) f steps t (at + 1)
       write-turns = record {
         run = x .run ++ (step ∷ []);
-        onward = λ B l g. subst (λ (m : List PricedStep). T (mixedInto (2 ^ n) (leadsAt W) B f m)) (sym (append-assoc (x .run) (step ∷ []) l))
+        onward = λ B l g.
+            subst (λ (m : List PricedStep). T (mixedInto (2 ^ n) (leadsAt W) B f m)) (sym (append-assoc (x .run) (step ∷ []) l))
             (x .onward B (step ∷ l) (and-in (ltb s (2 ^ n)) _ (lt→ltb s (2 ^ n) (x .below)) (and-in (leadsAt W r s t) _ (e .leads) g)));
         exact = let c = cost-more prices (x .run) step in let h = x .exact in let g = e .exact in omega arith;
         length-is = let c = length-more (x .run) step in let h = x .length-is in omega arith;

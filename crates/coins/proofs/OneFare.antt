@@ -139,6 +139,9 @@ module _ {states relations s t q r : List ℕ} {y z : FareReply} (f : y .number 
 
 module _ {a b : ℕ} {words prices work : List ℕ} {states relations : List ℕ} {v w s t q r : List ℕ} {y z : FareReply}
     (f : FarePost a b words prices work v states s relations q y) (g : FarePost a b words prices work w states t relations r z) where
+  sound-one : length prices ≡ 8 → SoundWords words → OneFare s t q r y z
+  sound-one e o = by-one (f .kept) (g .kept) (bookOf (seen words)) a b (f .by-book e o) (g .by-book e o)
+
   -- whether the words are sound is not decided
   not-two : (OneFare s t q r y z → ⊥) → ⊥
   not-two n = go (ℕ-discrete (length prices) 8)
@@ -146,7 +149,7 @@ module _ {a b : ℕ} {words prices work : List ℕ} {states relations : List ℕ
       go : Dec (length prices ≡ 8) → ⊥
       go (no d) = n (refused-one (f .kept) (g .kept) 0 (f .prices-fit d) (g .prices-fit d))
       go (yes e) =
-          let sound : SoundWords words → ⊥ = λ o. n (by-one (f .kept) (g .kept) (bookOf (seen words)) a b (f .by-book e o) (g .by-book e o)) in
+          let sound : SoundWords words → ⊥ = λ o. n (sound-one e o) in
           n (refused-one (f .kept) (g .kept) 1 (f .unsound e sound) (g .unsound e sound))
 
   -- what can be told apart agrees

@@ -28,7 +28,7 @@ pub record FareReply : Type 0 where
 abbrev pub fareRefused : ℕ → FareReply
 fareRefused k = record { number = k; total = 0; charge = 0; states = 0 }
 
--- this paper's number and values for each case of the code's answer
+-- the number and the values of each case of the code's answer
 abbrev pub fareReply : Fare → FareReply
 fareReply (Paid t c k) = record { number = 0; total = t; charge = c; states = k }
 fareReply (Refused e) = fareRefused (refusalNumber e)

@@ -1,5 +1,5 @@
--- A CHEAPEST RUN OF ONE PRESS by a book of two states: relation 0 alone is filled and leads from the state of register 4 to that of register
--- 3, at any price. Assumes nothing.
+-- A CHEAPEST RUN OF ONE PRESS by a book of two states: relation 0 alone is filled, and leads from the state of register 4 to that of
+-- register 3, at any price. Assumes nothing.
 use mathlib.Core.Path.{_≡_, refl, sym, ap, _∙_, subst, subst₂}
 use mathlib.Core.Logic.{_⊎_, inl, inr}
 use mathlib.Core.Bool.{Bool, true, false, _&&_}

@@ -7,7 +7,8 @@ use lib.ListN.{length, length-set}
 use Rattle.layout.specs.View.{view}
 use Rattle.coin_search.proofs.Nodes.{power-is}
 use Rattle.coin_calls.specs.Steps.{Ahead}
-use Rattle.coin_calls.proofs.Write.{Writing, few-states, write-starts, step-ahead, order-ends, relation-small, write-turns, write-ends}
+use Rattle.coin_calls.proofs.Write.{Writing, few-states, write-starts, step-ahead, order-ends, relation-small}
+use Rattle.coin_calls.proofs.Write.{write-turns, write-ends}
 use Rattle.coin_calls.proofs.write_run.Statement.{statement}
 use Rattle.coin_calls.proofs.write_run.Tie as tie
 use Rattle.coin_calls.proofs.write_run.Reads as reads
