@@ -406,11 +406,17 @@ impl Press {
     }
 }
 
-/// Rooms of up to 16 bits: presses, a counter and single pairs.
+/// The pairs of the counter.
+fn counted(n: u32) -> Vec<(usize, usize)> {
+    let last = (1 << n) - 1;
+    (0..=last).map(|now| (now, (now + 1) & last)).collect()
+}
+
+/// Rooms of up to 16 bits: presses, single pairs, and in every other one the counter.
 #[test]
 fn large_rooms() {
     let (mut random, mut seen) = (Random::new(114), Seen::default());
-    for n in [6, 7, 8, 9, 10, 11, 12, 13, 14, 15, 16, 16, 16] {
+    for n in [6, 7, 8, 9, 10, 11, 12, 13, 14, 14, 15, 15, 16, 16] {
         let valid = match random.chance(30) {
             true => vec![0x04, 0x10, 0x11],
             false => vec![0x01],
@@ -423,13 +429,17 @@ fn large_rooms() {
         let pairs = some_pairs(&mut random, n, 4);
         let formula = either(pairs.iter().map(|&known| pair(n, known)).collect());
         room.relation_of(6, &frame(&formula), pairs);
+        if random.chance(50) {
+            room.relation_of(7, &frame(&short_counter(n)), counted(n));
+        }
         for r in 0..3 {
             room.set(r, &some_states(&mut random, n));
         }
         room.compare_runs(&mut random, &mut seen, &[(0, 1), (1, 0), (2, 2)]);
         room.compare_wrong(&mut random, &mut seen);
     }
-    assert!(seen.numbers[0] > 20 && seen.numbers[10] > 3, "{seen:?}");
+    assert!(seen.numbers[0] > 40 && seen.numbers[10] > 5, "{seen:?}");
+    assert!(seen.longest > 100, "{seen:?}");
     eprintln!("{seen:?}");
 }
 
@@ -438,11 +448,9 @@ fn large_rooms() {
 fn longest() {
     let (mut random, mut seen) = (Random::new(115), Seen::default());
     let mut room = Room::new(16, &frame(&[0x01]));
-    let last = 0xFFFF;
-    let pairs = (0..=last).map(|now| (now, (now + 1) & last)).collect();
-    room.relation_of(7, &frame(&short_counter(16)), pairs);
+    room.relation_of(7, &frame(&short_counter(16)), counted(16));
     room.set(0, &frame(&state(16, 0x10, 0)));
-    room.set(1, &frame(&state(16, 0x10, last)));
+    room.set(1, &frame(&state(16, 0x10, 0xFFFF)));
     room.compare_runs(&mut random, &mut seen, &[(0, 1)]);
     assert_eq!(seen.longest, 65_536);
 }

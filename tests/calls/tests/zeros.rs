@@ -208,9 +208,10 @@ fn refused_fares() {
     let mut accounts = [Account::unlimited()];
     let mut table = Table::new(&mut accounts, 2, 9).unwrap();
     let bit = Formula::current;
-    table.set(&mut accounts, 0, 0, 0, bit(0) & !bit(1)).unwrap();
-    table.set(&mut accounts, 0, 1, 0, bit(1)).unwrap();
-    table.set(&mut accounts, 0, 2, 0, !bit(0)).unwrap();
+    for (r, set) in (0..).zip([bit(0) & !bit(1), bit(1), Formula::falsity()]) {
+        let stored = table.set(&mut accounts, Target::register(r), set);
+        stored.unwrap();
+    }
     table.relation(0, bit(0) & Formula::next(1)).unwrap();
     let words = table.into_words();
     let mut unsound = words.clone();
@@ -220,6 +221,7 @@ fn refused_fares() {
     assert_eq!(cheapest(&words, 1, 8, 3, 9), [1, 0, 0, 0]);
     assert_eq!(cheapest(&words, 32, 8, 4, 9), [3, 0, 0, 0]);
     assert_eq!(cheapest(&words, 3, 8, 4, 9), [7, 0, 0, 0]);
+    assert_eq!(cheapest(&words, 2, 8, 4, 9), [10, 0, 0, 0]);
     assert_eq!(cheapest(&words, 1, 8, 4, 1), [11, 0, 0, 0]);
     assert_eq!(cheapest(&words, 1, 8, 4, 2), [0, 3, 1, 2]);
     assert_eq!(cheapest(&words, 0, 8, 4, 1), [0, 0, 0, 1]);
