@@ -74,5 +74,5 @@ coin-for-nothing f = let e : _≡_ {A = ℕ} 1 0 = ap (λ (y : FareReply). y .ch
 -- a place past the run is written
 pub past-the-run : Claims 11 (0 ∷ 1 ∷ 8 ∷ []) (0 ∷ 9 ∷ []) (gives 11 2 2) → ⊥
 past-the-run f =
-    let e : 8 ∷ [] ≡ 7 ∷ [] = coins-one f eleven .states-past in
+    let e : _≡_ {A = List ℕ} (8 ∷ []) (7 ∷ []) = coins-one f eleven .states-past in
     let h : _≡_ {A = ℕ} 8 7 = ap (λ (l : List ℕ). getD l 0 0) e in absurd (omega arith)

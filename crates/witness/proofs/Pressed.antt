@@ -4,11 +4,12 @@ use mathlib.Core.Path.{_≡_, refl, sym, ap, _∙_, subst, subst₂}
 use mathlib.Core.Logic.{_⊎_, inl, inr}
 use mathlib.Core.Bool.{Bool, true, false, _&&_}
 use mathlib.Core.List.{List, [], _∷_}
-use mathlib.Core.Option.{none, some}
-use Prim.Native.Nat.{ℕ, zero, suc, _^_, _≤_}
+use mathlib.Core.Option.{Option, none, some}
+use Prim.Native.Nat.{ℕ, zero, suc, _^_, _≤_, _<_}
 use native.Mathlib.Omega.{arith}
-use lib.Dec.{T, ltb}
-use lib.ListN.{length}
+use lib.Dec.{T, ltb, ltb→lt}
+use lib.ListN.{length, getD, replicate}
+use Rattle.mucalculus.specs.Form.{Pairs}
 use Rattle.mucalculus.specs.Sets.{mem}
 use Rattle.mucalculus.proofs.Sets.{and-in, and-out}
 use Rattle.book.specs.Book.{Book, relations}
@@ -39,13 +40,25 @@ pub record Fares (c : Book) : Type 0 where
   pub from : c .reg 4 ≡ some before
   pub into : c .reg 3 ≡ some after
   pub leads : T (leadsIn (c .rel) 0 0 1)
-  pub empty : (r : ℕ) → c .rel (suc r) ≡ none
+  pub empty : (c .rel 1 ∷ c .rel 2 ∷ c .rel 3 ∷ c .rel 4 ∷ c .rel 5 ∷ c .rel 6 ∷ c .rel 7 ∷ []) ≡ replicate 7 none
 
 -- only relation 0 leads anywhere
+vacant : (c : Book) → Fares c → (r : ℕ) → r < 7 → c .rel (suc r) ≡ none
+vacant c f zero l = ap (λ (m : List (Option Pairs)). getD m 0 none) (f .empty)
+vacant c f (suc zero) l = ap (λ (m : List (Option Pairs)). getD m 1 none) (f .empty)
+vacant c f (suc (suc zero)) l = ap (λ (m : List (Option Pairs)). getD m 2 none) (f .empty)
+vacant c f (suc (suc (suc zero))) l = ap (λ (m : List (Option Pairs)). getD m 3 none) (f .empty)
+vacant c f (suc (suc (suc (suc zero)))) l = ap (λ (m : List (Option Pairs)). getD m 4 none) (f .empty)
+vacant c f (suc (suc (suc (suc (suc zero))))) l = ap (λ (m : List (Option Pairs)). getD m 5 none) (f .empty)
+vacant c f (suc (suc (suc (suc (suc (suc zero)))))) l = ap (λ (m : List (Option Pairs)). getD m 6 none) (f .empty)
+vacant c f (suc (suc (suc (suc (suc (suc (suc r))))))) l = absurd (omega arith)
+
 only-first : (c : Book) → Fares c → (r s t : ℕ) → T (leadsIn (c .rel) r s t) → r ≡ 0
 only-first c f zero s t h = refl
 only-first c f (suc r) s t h =
-    absurd (subst (λ (o : _). T (leadsBy o s t)) (f .empty r) (and-out (ltb (suc r) relations) (leadsBy (c .rel (suc r)) s t) h .1))
+    let (l, y) = and-out (ltb (suc r) relations) (leadsBy (c .rel (suc r)) s t) h in
+    let i = ltb→lt (suc r) relations l in
+    absurd (subst (λ (o : Option Pairs). T (leadsBy o s t)) (vacant c f r (omega arith)) y)
 
 -- no state is in both
 apart : (s : ℕ) → T (mem before s) → T (mem after s) → ⊥
@@ -53,7 +66,7 @@ apart zero a b = b
 apart (suc zero) a b = a
 apart (suc (suc s)) a b = a
 
-module _ {k : ℕ} {leads : Transitions} (only : (r s t : ℕ) → T (leads r s t) → r ≡ 0) (p : ℕ) where
+module _ (k : ℕ) (leads : Transitions) (only : (r s t : ℕ) → T (leads r s t) → r ≡ 0) (p : ℕ) where
   -- every run has a press, for p credits
   some-press : (s : ℕ) (l : List PricedStep) → T (isMixedRun k leads (mem before) (mem after) s l)
       → (p ≤ total (priced p) l) × (1 ≤ length l)
@@ -87,7 +100,7 @@ fare-by c f p {work} {states} {relations} w room = record {
       subst₂ (λ (X Y : List Bool). FareTold (2 ^ c .n) (leadsIn (c .rel)) (mem X) (mem Y) (priced p) states (written (0 ∷ 1 ∷ []) states)
       relations (written (0 ∷ []) relations) (paid (priced p) (press ∷ [])))
       (some-inj (sym (f .from) ∙ ha)) (some-inj (sym (f .into) ∙ hb))
-      (told-run 0 (press ∷ []) (one-press (only-first c f) p is-run) room (record { of-states = refl; of-steps = refl }));
+      (told-run 0 (press ∷ []) (one-press (2 ^ c .n) (leadsIn (c .rel)) (only-first c f) p is-run) room (record { of-states = refl; of-steps = refl }));
 }
   where
     filled : (c .reg 4 ≡ none) ⊎ (c .reg 3 ≡ none) → ⊥

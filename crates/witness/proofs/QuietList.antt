@@ -209,7 +209,7 @@ small = record {
   ready = record { bits = refl; passes = refl; is = refl; needs = refl; again = refl };
   turns = record { bits = refl; held = refl; passes = refl; is = refl };
   tells = record { bits = refl; rows = refl; held = refl; found = refl; none-left = refl; unfilled-first = refl; unread = refl };
-  fares = record { bits = refl; from = refl; into = refl; leads = tt; empty = λ r. refl };
+  fares = record { bits = refl; from = refl; into = refl; leads = tt; empty = refl };
 }
 
 -- three rows, three rounds at most, and the account's limits 5 and 7
@@ -224,5 +224,5 @@ large = record {
   ready = record { bits = refl; passes = refl; is = refl; needs = refl; again = refl };
   turns = record { bits = refl; held = refl; passes = refl; is = refl };
   tells = record { bits = refl; rows = refl; held = refl; found = refl; none-left = refl; unfilled-first = refl; unread = refl };
-  fares = record { bits = refl; from = refl; into = refl; leads = tt; empty = λ r. refl };
+  fares = record { bits = refl; from = refl; into = refl; leads = tt; empty = refl };
 }
