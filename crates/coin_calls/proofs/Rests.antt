@@ -35,7 +35,8 @@ fare-listed n N x a b {prices} {work} {states = states} {states′} {relations} 
 
 -- on two sound tables whose books differ in their rows alone, which play no part
 module _ {a b : ℕ} (M : ℕ) (words words′ : List ℕ) (o : SoundWords words) (o′ : SoundWords words′)
-    (book : bookOf (seen words′) ≡ withRowCount (bookOf (seen words)) M) {prices work v w states s t relations q r : List ℕ} {y z : FareReply}
+    (book : bookOf (seen words′) ≡ withRowCount (bookOf (seen words)) M)
+    {prices work v w states s t relations q r : List ℕ} {y z : FareReply}
     (f : FarePost a b words prices work v states s relations q y) (g : FarePost a b words′ prices work w states t relations r z) where
   rows-free : FareBy (withRowCount (bookOf (seen words)) M) a b prices work states t relations r z
       → FareBy (bookOf (seen words)) a b prices work states t relations r z

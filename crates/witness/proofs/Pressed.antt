@@ -100,7 +100,8 @@ fare-by c f p {work} {states} {relations} w room = record {
       subst₂ (λ (X Y : List Bool). FareTold (2 ^ c .n) (leadsIn (c .rel)) (mem X) (mem Y) (priced p) states (written (0 ∷ 1 ∷ []) states)
       relations (written (0 ∷ []) relations) (paid (priced p) (press ∷ [])))
       (some-inj (sym (f .from) ∙ ha)) (some-inj (sym (f .into) ∙ hb))
-      (told-run 0 (press ∷ []) (one-press (2 ^ c .n) (leadsIn (c .rel)) (only-first c f) p is-run) room (record { of-states = refl; of-steps = refl }));
+      (told-run 0 (press ∷ []) (one-press (2 ^ c .n) (leadsIn (c .rel)) (only-first c f) p is-run) room
+      (record { of-states = refl; of-steps = refl }));
 }
   where
     filled : (c .reg 4 ≡ none) ⊎ (c .reg 3 ≡ none) → ⊥

@@ -40,7 +40,8 @@ write-run-spec =
       refl,
       omega arith,
       write-starts (c .before .before .before .before .before .pre .0),
-      λ l. step-ahead (c .before .before .before .before .before .pre .0) (write-starts (c .before .before .before .before .before .pre .0)) l
+      λ l. step-ahead (c .before .before .before .before .before .pre .0)
+          (write-starts (c .before .before .before .before .before .pre .0)) l
           (λ k. absurd (order-ends (c .before .before .before .before .before .pre .0) e k)),
     ))
     (λ c κs. (
