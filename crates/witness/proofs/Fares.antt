@@ -5,14 +5,14 @@ use mathlib.Core.List.{List, [], _∷_}
 use Prim.Native.Nat.{ℕ}
 use native.Mathlib.Omega.{arith}
 use lib.ListN.{getD}
-use Rattle.coins.specs.Post.{FareReply, FareBy, FarePost}
+use Rattle.coins.specs.Post.{FareReply, fareRefused, FareBy, FarePost}
 use Rattle.coins.proofs.OneFare.{coins-one}
 use Rattle.book.specs.Demand.{bookAfter}
 use Rattle.coin_calls.proofs.Rests.{fare-listed, fare-again}
 use Rattle.witness.proofs.Begun.{session}
 use Rattle.witness.proofs.Pressed.{priced}
-use Rattle.witness.proofs.QuietList.{started, closing, afterRun, blank, spare, spare′, labels, small, large}
-use Rattle.witness.proofs.QuietCalls.{to-after, fare-paid}
+use Rattle.witness.proofs.QuietList.{started, closing, afterRun, blank, spare, spare′, single, labels, small, large}
+use Rattle.witness.proofs.QuietCalls.{to-after, fare-paid, fare-none, fare-short}
 use Rattle.witness.proofs.Quiet.{first, second, loose, again-started, zero-started, next, next′}
 
 -- total, charge and number of states of an answer
@@ -36,6 +36,20 @@ for-free = fare-paid small 0
 -- WHATEVER THE CONTRACT ALLOWS THERE: 11 credits, two coins, two states
 pub eleven-is : {v s q : List ℕ} {y : FareReply} → FarePost 4 3 (afterRun 2 280) (priced 11) spare v blank s labels q y → y ≡ gives 11 2 2
 eleven-is f = coins-one f eleven .reply
+
+-- 10 from register 1, which has no state, and the lists are kept
+pub no-run-is : {v s q : List ℕ} {y : FareReply} → FarePost 1 3 (afterRun 2 280) (priced 11) spare v blank s labels q y
+    → (y ≡ fareRefused 10) × (s ≡ blank) × (q ≡ labels)
+no-run-is f =
+    let o = coins-one f (fare-none small 11) in
+    let ten = ap (λ (y : FareReply). y .number) (o .reply) in
+    let kept = o .refusal (λ e. let h : _≡_ {A = ℕ} 10 0 = sym ten ∙ e in absurd (omega arith)) in
+    (o .reply, kept .0, kept .1)
+
+-- 11 with a place for one state
+pub too-short-is : {v s q : List ℕ} {y : FareReply} → FarePost 4 3 (afterRun 2 280) (priced 11) spare v single s labels q y
+    → y ≡ fareRefused 11
+too-short-is f = coins-one f (fare-short small 11) .reply
 
 -- by the book of the calls before it
 pub by-calls : FareBy (bookAfter 1 2 (started 2 1 1)) 4 3 (priced 11) spare blank (0 ∷ 1 ∷ 7 ∷ []) labels (0 ∷ 9 ∷ []) (gives 11 2 2)
@@ -70,6 +84,10 @@ longer f = let e : _≡_ {A = ℕ} 3 2 = ap (λ (y : FareReply). y .states) (coi
 -- for nothing, and a coin
 pub coin-for-nothing : Claims 0 (0 ∷ 1 ∷ 7 ∷ []) (0 ∷ 9 ∷ []) (gives 0 1 2) → ⊥
 coin-for-nothing f = let e : _≡_ {A = ℕ} 1 0 = ap (λ (y : FareReply). y .charge) (coins-one f for-free .reply) in absurd (omega arith)
+
+-- 11 in the place of 10: a list may be too short for no run
+pub short-for-none : {v s q : List ℕ} → FarePost 1 3 (afterRun 2 280) (priced 11) spare v blank s labels q (fareRefused 11) → ⊥
+short-for-none f = let e : _≡_ {A = ℕ} 11 10 = ap (λ (y : FareReply). y .number) (no-run-is f .0) in absurd (omega arith)
 
 -- a place past the run is written
 pub past-the-run : Claims 11 (0 ∷ 1 ∷ 8 ∷ []) (0 ∷ 9 ∷ []) (gives 11 2 2) → ⊥

@@ -1,5 +1,5 @@
 -- A CHEAPEST RUN OF ONE PRESS by a book of two states: relation 0 alone is filled, and leads from the state of register 4 to that of
--- register 3, at any price. Assumes nothing.
+-- register 3, at any price; none from register 1, which has no state. Assumes nothing.
 use mathlib.Core.Path.{_≡_, refl, sym, ap, _∙_, subst, subst₂}
 use mathlib.Core.Logic.{_⊎_, inl, inr}
 use mathlib.Core.Bool.{Bool, true, false, _&&_}
@@ -16,7 +16,7 @@ use Rattle.book.specs.Book.{Book, relations}
 use Rattle.book.proofs.Stored.{some-inj, none-some}
 use Rattle.paths.specs.Runs.{written}
 use Rattle.coins.specs.Runs.{Transitions, PricedStep, priceOf, leadsBy, leadsIn, isMixedRun, total, Cheapest}
-use Rattle.coins.specs.Post.{FareReply, RunFits, paid, FareTold, told-run, FareBy}
+use Rattle.coins.specs.Post.{FareReply, fareRefused, RunFits, paid, FareTold, told-none, told-short, told-run, BothThere, FareBy}
 
 -- the press
 abbrev pub press : PricedStep
@@ -34,11 +34,16 @@ before = true ∷ false ∷ []
 abbrev pub after : List Bool
 after = false ∷ true ∷ []
 
+-- and register 1 none
+abbrev pub nobody : List Bool
+nobody = false ∷ false ∷ []
+
 -- such a book
 pub record Fares (c : Book) : Type 0 where
   pub bits : c .n ≡ 1
   pub from : c .reg 4 ≡ some before
   pub into : c .reg 3 ≡ some after
+  pub without : c .reg 1 ≡ some nobody
   pub leads : T (leadsIn (c .rel) 0 0 1)
   pub empty : (c .rel 1 ∷ c .rel 2 ∷ c .rel 3 ∷ c .rel 4 ∷ c .rel 5 ∷ c .rel 6 ∷ c .rel 7 ∷ []) ≡ replicate 7 none
 
@@ -60,7 +65,13 @@ only-first c f (suc r) s t h =
     let i = ltb→lt (suc r) relations l in
     absurd (subst (λ (o : Option Pairs). T (leadsBy o s t)) (vacant c f r (omega arith)) y)
 
--- no state is in both
+-- no state is in register 1
+out : (s : ℕ) → T (mem nobody s) → ⊥
+out zero a = a
+out (suc zero) a = a
+out (suc (suc s)) a = a
+
+-- nor in both others
 apart : (s : ℕ) → T (mem before s) → T (mem after s) → ⊥
 apart zero a b = b
 apart (suc zero) a b = a
@@ -88,26 +99,44 @@ module _ (k : ℕ) (leads : Transitions) (only : (r s t : ℕ) → T (leads r s 
     fewest = λ s m h _. some-press s m h .1;
   }
 
--- ANSWERED: the states and the relation of the press are written
-pub fare-by : (c : Book) → Fares c → (p : ℕ) {work states relations : List ℕ} → 2 ≤ length work → RunFits (press ∷ []) states relations
-    → FareBy c 4 3 (priced p) work states (written (0 ∷ 1 ∷ []) states) relations (written (0 ∷ []) relations)
-    (paid (priced p) (press ∷ []))
-fare-by c f p {work} {states} {relations} w room = record {
-  work-fits = λ l. let e : 2 ^ c .n ≡ 2 = ap (λ (n : ℕ). 2 ^ n) (f .bits) in absurd (omega arith);
-  range = λ _ n. absurd (n (record { first = omega arith; second = omega arith }));
-  empty = λ _ _ z. absurd (filled z);
-  told = λ _ _ A B ha hb.
-      subst₂ (λ (X Y : List Bool). FareTold (2 ^ c .n) (leadsIn (c .rel)) (mem X) (mem Y) (priced p) states (written (0 ∷ 1 ∷ []) states)
-      relations (written (0 ∷ []) relations) (paid (priced p) (press ∷ [])))
-      (some-inj (sym (f .from) ∙ ha)) (some-inj (sym (f .into) ∙ hb))
-      (told-run 0 (press ∷ []) (one-press (2 ^ c .n) (leadsIn (c .rel)) (only-first c f) p is-run) room
-      (record { of-states = refl; of-steps = refl }));
-}
-  where
-    filled : (c .reg 4 ≡ none) ⊎ (c .reg 3 ≡ none) → ⊥
-    filled (inl z) = none-some (sym z ∙ f .from)
-    filled (inr z) = none-some (sym z ∙ f .into)
+cheapest : (c : Book) → Fares c → (p : ℕ)
+    → Cheapest (2 ^ c .n) (leadsIn (c .rel)) (mem before) (mem after) (priced p) 0 (press ∷ [])
+cheapest c f p = one-press (2 ^ c .n) (leadsIn (c .rel)) (only-first c f) p
+    (subst (λ (n : ℕ). T (isMixedRun (2 ^ n) (leadsIn (c .rel)) (mem before) (mem after) 0 (press ∷ []))) (sym (f .bits))
+    (and-in (leadsIn (c .rel) 0 0 1) true (f .leads) tt))
 
-    is-run : T (isMixedRun (2 ^ c .n) (leadsIn (c .rel)) (mem before) (mem after) 0 (press ∷ []))
-    is-run = subst (λ (n : ℕ). T (isMixedRun (2 ^ n) (leadsIn (c .rel)) (mem before) (mem after) 0 (press ∷ []))) (sym (f .bits))
-        (and-in (leadsIn (c .rel) 0 0 1) true (f .leads) tt)
+module _ (c : Book) (f : Fares c) (p : ℕ) {work states relations : List ℕ} (w : 2 ≤ length work) where
+  -- what is told of two filled registers
+  told-by : {a b : ℕ} {A B : List Bool} {s q : List ℕ} {y : FareReply} → BothThere a b → c .reg a ≡ some A → c .reg b ≡ some B
+      → FareTold (2 ^ c .n) (leadsIn (c .rel)) (mem A) (mem B) (priced p) states s relations q y
+      → FareBy c a b (priced p) work states s relations q y
+  told-by {a} {b} {A} {B} {s} {q} {y} there ea eb t = record {
+    work-fits = λ l. let e : 2 ^ c .n ≡ 2 = ap (λ (n : ℕ). 2 ^ n) (f .bits) in absurd (omega arith);
+    range = λ _ n. absurd (n there);
+    empty = λ _ _ z. absurd (filled z);
+    told = λ _ _ X Y ha hb.
+        subst₂ (λ (X Y : List Bool). FareTold (2 ^ c .n) (leadsIn (c .rel)) (mem X) (mem Y) (priced p) states s relations q y)
+        (some-inj (sym ea ∙ ha)) (some-inj (sym eb ∙ hb)) t;
+  }
+    where
+      filled : (c .reg a ≡ none) ⊎ (c .reg b ≡ none) → ⊥
+      filled (inl z) = none-some (sym z ∙ ea)
+      filled (inr z) = none-some (sym z ∙ eb)
+
+  -- ANSWERED: the states and the relation of the press are written
+  pub fare-by : RunFits (press ∷ []) states relations
+      → FareBy c 4 3 (priced p) work states (written (0 ∷ 1 ∷ []) states) relations (written (0 ∷ []) relations)
+      (paid (priced p) (press ∷ []))
+  fare-by fits = told-by (record { first = omega arith; second = omega arith }) (f .from) (f .into)
+      (told-run 0 (press ∷ []) (cheapest c f p) fits (record { of-states = refl; of-steps = refl }))
+
+  -- REFUSED: a list is too short for the press
+  pub short-by : (RunFits (press ∷ []) states relations → ⊥)
+      → FareBy c 4 3 (priced p) work states states relations relations (fareRefused 11)
+  short-by n = told-by (record { first = omega arith; second = omega arith }) (f .from) (f .into)
+      (told-short 0 (press ∷ []) (cheapest c f p) n)
+
+  -- REFUSED: there is no run from no state
+  pub none-by : FareBy c 1 3 (priced p) work states states relations relations (fareRefused 10)
+  none-by = told-by (record { first = omega arith; second = omega arith }) (f .without) (f .into)
+      (told-none (λ s l t. out s (and-out (mem nobody s) _ t .0)))

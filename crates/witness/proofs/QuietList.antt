@@ -149,6 +149,10 @@ spare = 5 ∷ 6 ∷ []
 abbrev pub spare′ : List ℕ
 spare′ = 4 ∷ 4 ∷ []
 
+-- a list with a place for one state
+abbrev pub single : List ℕ
+single = 7 ∷ []
+
 -- the list for its relations, before
 abbrev pub labels : List ℕ
 labels = 9 ∷ 9 ∷ []
@@ -209,7 +213,7 @@ small = record {
   ready = record { bits = refl; passes = refl; is = refl; needs = refl; again = refl };
   turns = record { bits = refl; held = refl; passes = refl; is = refl };
   tells = record { bits = refl; rows = refl; held = refl; found = refl; none-left = refl; unfilled-first = refl; unread = refl };
-  fares = record { bits = refl; from = refl; into = refl; leads = tt; empty = refl };
+  fares = record { bits = refl; from = refl; into = refl; without = refl; leads = tt; empty = refl };
 }
 
 -- three rows, three rounds at most, and the account's limits 5 and 7
@@ -224,5 +228,5 @@ large = record {
   ready = record { bits = refl; passes = refl; is = refl; needs = refl; again = refl };
   turns = record { bits = refl; held = refl; passes = refl; is = refl };
   tells = record { bits = refl; rows = refl; held = refl; found = refl; none-left = refl; unfilled-first = refl; unread = refl };
-  fares = record { bits = refl; from = refl; into = refl; leads = tt; empty = refl };
+  fares = record { bits = refl; from = refl; into = refl; without = refl; leads = tt; empty = refl };
 }
