@@ -23,6 +23,7 @@ abbrev pub leadsBy : Option Pairs → ℕ → ℕ → Bool
 leadsBy none s t = false
 leadsBy (some R) s t = pair R s t
 
+-- a table's relations, of which there are eight
 abbrev pub leadsIn : (ℕ → Option Pairs) → Transitions
 leadsIn rel r s t = ltb r relations && leadsBy (rel r) s t
 
@@ -49,6 +50,7 @@ total prices (p ∷ l) = priceOf prices (p .relation) + total prices l
 abbrev pub statesAlong : ℕ → List PricedStep → List ℕ
 statesAlong s l = s ∷ map (λ p. p .state) l
 
+-- "with the relation of each step"
 abbrev pub relationsAlong : List PricedStep → List ℕ
 relationsAlong l = map (λ p. p .relation) l
 
