@@ -336,8 +336,7 @@ uint32_t kudzuclamp_shortest(uint32_t *words, size_t words_len, uint16_t *list, 
  * are one fewer than the states. Later places of both lists are never written, and none where the call is refused. `work` is lent for the search, at
  * least 2^n words; what they hold afterwards is free, but 1, 2, 3 and 7 keep them. The table is only read, and no row is made. It returns 0, 1 where
  * there are not 8 prices, 2, 1 where there are too few work words, 3, 7, KUDZUCLAMP_NO_RUN, or KUDZUCLAMP_SHORT where one of the lists is too short.
- * At n = 16 presses and counters take milliseconds; the worst that was found is half a minute, for each relation that tells states apart only by
- * their last bit (docs/BENCHMARKS.md).
+ * At n = 16 presses and counters take milliseconds; the worst that was found is 0.7 s for each relation (docs/BENCHMARKS.md).
  */
 KUDZUCLAMP_USE_RESULT
 uint32_t kudzuclamp_cheapest(const uint32_t *words, size_t words_len, const uint8_t *prices, size_t prices_len, uint64_t *work, size_t work_len,

@@ -139,7 +139,7 @@ module _ {W : View} {n : ℕ} {w : List ℕ} {m x p s count : ℕ} (a : ExpandPr
         }
 
 -- the same marks and the same order
-marks-same : (w v : List ℕ) (c : ℕ) → ((i : ℕ) → stateAt v i ≡ stateAt w i) → ((t : ℕ) → markOf v t ≡ markOf w t)
+pub marks-same : (w v : List ℕ) (c : ℕ) → ((i : ℕ) → stateAt v i ≡ stateAt w i) → ((t : ℕ) → markOf v t ≡ markOf w t)
     → marksOf w c ≡ marksOf v c
 marks-same w v c e f =
     let at = fun-ext (λ i. sym (e i)) in let mark = fun-ext (λ t. sym (f t)) in λ i. record { count = c; at = at i; mark = mark i }

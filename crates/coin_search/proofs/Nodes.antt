@@ -107,28 +107,19 @@ node-bits p q s t l k e h =
     let d = power-next p in
     omega arith
 
-node-same : (p q s t : ℕ) → s < 2 ^ p → t < 2 ^ q → s + 2 ^ p ≡ t + 2 ^ q → p ≡ q
+pub node-same : (p q s t : ℕ) → s < 2 ^ p → t < 2 ^ q → s + 2 ^ p ≡ t + 2 ^ q → p ≡ q
 node-same p q s t l k e = by-cases (decLt p q) (λ h. absurd (node-bits p q s t l k e h))
     (λ n. by-cases (decLt q p) (λ h. absurd (node-bits q p t s k l (sym e) h)) (λ m. omega arith))
 
--- both halves are marked, so the node is
-pub joined-full : {n : ℕ} {w v : List ℕ} (p s : ℕ) → s < 2 ^ p → Hints n w → AllMarked n w (p + 1) s → AllMarked n w (p + 1) (s + 2 ^ p)
-    → FullPut w v (s + 2 ^ p)
-    → Joined n w v
-joined-full {n} {w} {v} p s l h low high f = record {
+-- all states of a node are marked
+pub joined-at : {n : ℕ} {w v : List ℕ} (p s : ℕ) → s < 2 ^ p → Hints n w → AllMarked n w p s → FullPut w v (s + 2 ^ p) → Joined n w v
+joined-at {n} {w} {v} p s l h all f = record {
   size = f .size;
   marks = f .marks;
   states = f .states;
   hints = λ q t lq lt e u lu eu. let m = f .marks u in let y = here q t lq lt e u lu eu in omega arith;
 }
   where
-    all : AllMarked n w p s
-    all u lu e = go (bit p u) refl
-      where
-        go : (b : Bool) → bit p u ≡ b → 1 ≤ markOf w u
-        go true g = high u lu (high-in u p e g)
-        go false g = low u lu (low-in u p e g)
-
     here : (q t : ℕ) → q < n → t < 2 ^ q → fullAt v (t + 2 ^ q) ≡ true → AllMarked n w q t
     here q t lq lt e = by-cases (ℕ-discrete (t + 2 ^ q) (s + 2 ^ p)) this (λ d. h q t lq lt (sym (f .others (t + 2 ^ q) d) ∙ e))
       where
@@ -138,6 +129,16 @@ joined-full {n} {w} {v} p s l h low high f = record {
             let z : 2 ^ p ≡ 2 ^ q = ap (λ (c : ℕ). 2 ^ c) x in
             let a : s ≡ t = omega arith in
             subst (λ (c : ℕ). AllMarked n w c t) x (subst (λ (c : ℕ). AllMarked n w p c) a all)
+
+-- both halves are marked, so the node is
+pub joined-full : {n : ℕ} {w v : List ℕ} (p s : ℕ) → s < 2 ^ p → Hints n w → AllMarked n w (p + 1) s → AllMarked n w (p + 1) (s + 2 ^ p)
+    → FullPut w v (s + 2 ^ p)
+    → Joined n w v
+joined-full {n} {w} {v} p s l h low high f = joined-at p s l h (λ u lu e. go u lu e (bit p u) refl) f
+  where
+    go : (u : ℕ) → u < 2 ^ n → u % 2 ^ p ≡ s → (b : Bool) → bit p u ≡ b → 1 ≤ markOf w u
+    go u lu e true g = high u lu (high-in u p e g)
+    go u lu e false g = low u lu (low-in u p e g)
 
 -- ---- the returns of `all_marked`
 

@@ -1,4 +1,5 @@
 pub mod Expand
+pub mod Notes
 pub mod Words
 pub mod Nodes
 pub mod Hall

@@ -1,15 +1,19 @@
 // The search for the cheapest run into a set: states are put into an order by what it costs to come from them into the set, with no row
 // made.
 // All that it keeps stands in lent words of 64 bits, one for each state.
+use coin_masks::Notes;
+use coin_masks::mask_of;
 use layout::Table;
 use layout::header_word;
 use seek::follow_at;
 use seek::holds;
+use seek::level_of;
 use states::bit;
-ghost use Prim.Native.Nat.{_*_, _+_, _<_, _^_, _≤_};
+ghost use Prim.Native.Nat.{_*_, _+_, _/_, _<_, _^_, _≤_};
 ghost use Rattle.coin_search.specs.Choice.{Best, NextMark, Placed};
 ghost use Rattle.coin_search.specs.Expand.{ExpandPre, Expands};
 ghost use Rattle.coin_search.specs.Nodes.{Joined, Known, NodePre};
+ghost use Rattle.coin_search.specs.Notes.{Adds, Bitmap, KeyMet, KeyPut, LowBits, Noted, NotesHold, SpentPre, AtBit, InMask, spentKey};
 ghost use Rattle.coin_search.specs.Search.{SearchPost, SearchPre};
 ghost use Rattle.coin_search.specs.Start.{Bare, Cleared, FirstIn, Started};
 ghost use Rattle.coin_search.specs.Turn.{TurnPost, TurnPre};
@@ -17,8 +21,10 @@ ghost use Rattle.coin_search.specs.Words.{AddPost, FullPut, MarkPut, Sta
 ghost use Rattle.coins.specs.Cost.{stepCost};
 ghost use Rattle.layout.specs.Places.{HEADER};
 ghost use Rattle.layout.specs.View.{headerOf, view};
+ghost use Rattle.seek.specs.Apart.{levelAt};
 ghost use Rattle.seek.specs.Walk.{HoldsPre};
 ghost use lib.ListN.{length};
+ghost use mathlib.Core.Bool.{true};
 ghost use mathlib.Core.Path.{_≡_};
 
 // The parts of a work word: in the low 16 bits the state at a place of the order; then a bit that says of the states with some lower bits
@@ -38,6 +44,12 @@ impl Work {
 
     // No state of 16 bits.
     pub const NO_STATE: u32 = 65536;
+
+    // The bits of which a walk over single states is as fast as one over words.
+    const FEW: u32 = 7;
+
+    // How many bits an arrow must skip to be remembered as spent: from fewer on there are too many keys.
+    const SKIPPED: u32 = 5;
 }
 
 // The mark of state s.
@@ -137,20 +149,202 @@ fn join(work: &mut [u64], bits: u32, p: u32, s: u32, node: u32)
     put_full(work, node);
 }
 
-// What is the same in the whole walk for one state and one relation: the table's sizes, the state and the mark.
+// What is the same in the whole walk for one state and one relation: the table's sizes, how many bits are below the six that a word of the
+// notes has, the state and the mark.
 struct Wave {
     pub rows: u32,
     pub bits: u32,
+    pub low: u32,
     pub state: u32,
     pub mark: u64,
 }
 
-// Adds each state whose lower p bits are those of s and from which arrow x leads to the wave's state.
-fn expand(words: &[u32], work: &mut [u64], wave: Wave, x: u32, p: u32, s: u32, count: u32) -> u32
-    requires { ⌜ ExpandPre (view (wave .rows) (now words)) (wave .bits) (now work) (wave .mark) x p s count ⌝ }
+// Adds state s where it has no mark and arrow x leads from it to the wave's state.
+fn admit(words: &[u32], work: &mut [u64], wave: Wave, x: u32, s: u32, count: u32) -> u32
+    requires { ⌜ ExpandPre (view (wave .rows) (now words)) (wave .bits) (now work) (wave .mark) x (wave .bits) s count ⌝ }
     ensures { λ r.
         ⌜ Expands (view (wave .rows) (now (words .entry))) (wave .bits) (now (work .entry)) (now (work .exit)) (wave .mark) (wave .state) x
-        p s count r ⌝ }
+        (wave .bits) s count r ⌝ }
+{
+    if all_marked(work, wave.bits, wave.bits, s) {
+        return count;
+    }
+    if holds(words, wave.rows, x, s, wave.state) {
+        return add(work, s, wave.mark, count);
+    }
+    count
+}
+
+// Notes that state s, which is bit j of word i, is marked.
+fn note_mark(work: &[u64], notes: &mut [u64], s: u32, i: u32, j: u32)
+    requires { ⌜ (s < length (now work)) × (i < length (now notes)) × (j < 64) ⌝ }
+    ensures { λ _. ⌜ Noted (now (work .entry)) (now (notes .entry)) (now (notes .exit)) s i j ⌝ }
+{
+    if mark_of(work, s) == 0 {
+        return;
+    }
+    let at = i as usize;
+    notes[at] = notes[at] | (1u64 << j);
+}
+
+// Adds the state of bit j of word i where `left` is odd, and notes that it is marked.
+fn settle(
+    words: &[u32],
+    work: &mut [u64],
+    notes: &mut [u64],
+    wave: Wave,
+    x: u32,
+    i: u32,
+    j: u32,
+    left: u64,
+    count: u32,
+) -> u32
+    requires { ⌜ ExpandPre (view (wave .rows) (now words)) (wave .bits) (now work) (wave .mark) x (wave .low) i count
+        × NotesHold (view (wave .rows) (now words)) (wave .bits) (wave .low) (now work) (now notes) × (j < 64) ⌝ }
+    ensures { λ r.
+        ⌜ Adds (view (wave .rows) (now (words .entry))) (wave .bits) (now (work .entry)) (now (work .exit)) (wave .mark) (wave .state) x
+        (wave .low) i count r (AtBit (wave .low) left j)
+        × NotesHold (view (wave .rows) (now (words .entry))) (wave .bits) (wave .low) (now (work .exit)) (now (notes .exit)) ⌝ }
+{
+    if left % 2 == 0 {
+        return count;
+    }
+    let s = i + (j << wave.low);
+    if s >= 1u32 << wave.bits {
+        return count;
+    }
+    let most = admit(words, work, wave, x, s, count);
+    note_mark(work, notes, s, i, j);
+    most
+}
+
+// Adds the states of word i that a mask has.
+fn add_all(
+    words: &[u32],
+    work: &mut [u64],
+    notes: &mut [u64],
+    wave: Wave,
+    x: u32,
+    i: u32,
+    mask: u64,
+    count: u32,
+) -> u32
+    requires { ⌜ ExpandPre (view (wave .rows) (now words)) (wave .bits) (now work) (wave .mark) x (wave .low) i count
+        × NotesHold (view (wave .rows) (now words)) (wave .bits) (wave .low) (now work) (now notes) ⌝ }
+    ensures { λ r.
+        ⌜ Adds (view (wave .rows) (now (words .entry))) (wave .bits) (now (work .entry)) (now (work .exit)) (wave .mark) (wave .state) x
+        (wave .low) i count r (InMask (wave .low) mask)
+        × NotesHold (view (wave .rows) (now (words .entry))) (wave .bits) (wave .low) (now (work .exit)) (now (notes .exit)) ⌝ }
+{
+    let mut left = mask;
+    let mut j = 0;
+    let mut most = count;
+    while left != 0 {
+        most = settle(words, work, notes, wave, x, i, j, left, most);
+        left = left / 2;
+        j += 1;
+    }
+    most
+}
+
+// Remembers of the states of word i that all are marked, where it says so.
+fn note_full(work: &mut [u64], notes: &[u64], wave: Wave, i: u32)
+    requires { ⌜ NodePre (wave .bits) (now work) (wave .low) i × Bitmap (wave .bits) (wave .low) (now work) (now notes)
+        × LowBits (wave .bits) (wave .low) ⌝ }
+    ensures { λ _. ⌜ Joined (wave .bits) (now (work .entry)) (now (work .exit)) ⌝ }
+{
+    let at = i as usize;
+    if notes[at] != Notes::ALL {
+        return;
+    }
+    put_full(work, i + (1u32 << wave.low));
+}
+
+// Adds each state of word i from which arrow x leads to the wave's state.
+fn sweep(
+    words: &[u32],
+    work: &mut [u64],
+    notes: &mut [u64],
+    wave: Wave,
+    x: u32,
+    i: u32,
+    count: u32,
+) -> u32
+    requires { ⌜ ExpandPre (view (wave .rows) (now words)) (wave .bits) (now work) (wave .mark) x (wave .low) i count
+        × NotesHold (view (wave .rows) (now words)) (wave .bits) (wave .low) (now work) (now notes) ⌝ }
+    ensures { λ r.
+        ⌜ Expands (view (wave .rows) (now (words .entry))) (wave .bits) (now (work .entry)) (now (work .exit)) (wave .mark) (wave .state) x
+        (wave .low) i count r
+        × NotesHold (view (wave .rows) (now (words .entry))) (wave .bits) (wave .low) (now (work .exit)) (now (notes .exit)) ⌝ }
+{
+    let mask = mask_of(words, wave.rows, notes, wave.low, x, wave.state);
+    let at = i as usize;
+    let known = notes[at];
+    let new = (mask | known) ^ known;
+    let most = add_all(words, work, notes, wave, x, i, new, count);
+    note_full(work, notes, wave, i);
+    most
+}
+
+// What says that an arrow is spent at a node for a state: the arrow, the node, and the part of the state that the arrow can read.
+fn spent_key(wave: Wave, level: u32, x: u32, node: u32) -> u64
+    requires { ⌜ (level ≤ 32) × (wave .state < 65_536) × (node < 65_536) ⌝ }
+    ensures { λ r. ⌜ r ≡ spentKey x node (wave .state / 2 ^ (level / 2)) ⌝ }
+{
+    let part = wave.state >> (level / 2);
+    (x as u64) * 4294967296 + (node as u64) * 65536 + (part as u64)
+}
+
+// Whether it is remembered that all states of a node, of p bits, from which arrow x leads to the wave's state are marked. Only of an arrow
+// that skips some bits is it.
+fn is_spent(words: &[u32], notes: &[u64], wave: Wave, x: u32, p: u32, node: u32) -> bool
+    requires { ⌜ HoldsPre (view (wave .rows) (now words)) x × SpentPre (now notes) (wave .state) node × (p ≤ 16) ⌝ }
+    ensures { λ r. ⌜ (r ≡ true → KeyMet (now (notes .entry))
+        (spentKey x node (wave .state / 2 ^ (levelAt (view (wave .rows) (now (words .entry))) x / 2)))) ⌝ }
+{
+    let level = level_of(words, wave.rows, x);
+    if level / 2 < p + Work::SKIPPED {
+        return false;
+    }
+    let key = spent_key(wave, level, x, node);
+    let at = Notes::SPENT + ((key % Notes::SLOTS) as usize);
+    notes[at] == key
+}
+
+// Remembers it of such an arrow.
+fn put_spent(words: &[u32], notes: &mut [u64], wave: Wave, x: u32, p: u32, node: u32)
+    requires { ⌜ HoldsPre (view (wave .rows) (now words)) x × SpentPre (now notes) (wave .state) node × (p ≤ 16) ⌝ }
+    ensures { λ _.
+        ⌜ KeyPut (now (notes .entry)) (spentKey x node (wave .state / 2 ^ (levelAt (view (wave .rows) (now (words .entry))) x / 2)))
+        (now (notes .exit)) ⌝ }
+{
+    let level = level_of(words, wave.rows, x);
+    if level / 2 < p + Work::SKIPPED {
+        return;
+    }
+    let key = spent_key(wave, level, x, node);
+    let at = Notes::SPENT + ((key % Notes::SLOTS) as usize);
+    notes[at] = key;
+}
+
+// Adds each state whose lower p bits are those of s and from which arrow x leads to the wave's state.
+fn expand(
+    words: &[u32],
+    work: &mut [u64],
+    notes: &mut [u64],
+    wave: Wave,
+    x: u32,
+    p: u32,
+    s: u32,
+    count: u32,
+) -> u32
+    requires { ⌜ ExpandPre (view (wave .rows) (now words)) (wave .bits) (now work) (wave .mark) x p s count
+        × NotesHold (view (wave .rows) (now words)) (wave .bits) (wave .low) (now work) (now notes) × (p ≤ wave .low)
+        × (wave .state < 65_536) ⌝ }
+    ensures { λ r.
+        ⌜ Expands (view (wave .rows) (now (words .entry))) (wave .bits) (now (work .entry)) (now (work .exit)) (wave .mark) (wave .state) x
+        p s count r
+        × NotesHold (view (wave .rows) (now (words .entry))) (wave .bits) (wave .low) (now (work .exit)) (now (notes .exit)) ⌝ }
 {
     if x == Table::NOTHING {
         return count;
@@ -159,23 +353,27 @@ fn expand(words: &[u32], work: &mut [u64], wave: Wave, x: u32, p: u32, s: u32, c
         return count;
     }
     if p == wave.bits {
-        if holds(words, wave.rows, x, s, wave.state) {
-            return add(work, s, wave.mark, count);
-        }
-        return count;
+        return admit(words, work, wave, x, s, count);
+    }
+    if p == wave.low {
+        return sweep(words, work, notes, wave, x, s, count);
     }
     let next = p + 1;
     let level = 2 * p;
     let then = level + 1;
     let node = s + (1u32 << p);
+    if is_spent(words, notes, wave, x, p, node) {
+        return count;
+    }
     let side = bit(wave.state, p);
     let y = follow_at(words, wave.rows, x, level, false);
     let low = follow_at(words, wave.rows, y, then, side);
-    let more = expand(words, work, wave, low, next, s, count);
+    let more = expand(words, work, notes, wave, low, next, s, count);
     let z = follow_at(words, wave.rows, x, level, true);
     let high = follow_at(words, wave.rows, z, then, side);
-    let most = expand(words, work, wave, high, next, node, more);
+    let most = expand(words, work, notes, wave, high, next, node, more);
     join(work, wave.bits, p, s, node);
+    put_spent(words, notes, wave, x, p, node);
     most
 }
 
@@ -313,6 +511,17 @@ fn choose(words: &[u32], prices: &[u8], work: &[u64], done: &[u32], count: u32) 
     best
 }
 
+// How many bits are below the six that a word of the notes has; all where the states are few, as no word is used then.
+fn low_bits(bits: u32) -> u32
+    requires { ⌜ bits ≤ 16 ⌝ }
+    ensures { λ r. ⌜ LowBits bits r ⌝ }
+{
+    if bits > Work::FEW {
+        return bits - 6;
+    }
+    bits
+}
+
 // One turn: the next state of relation r in the order gives marks to those from which r leads to it.
 fn turn(
     words: &[u32],
@@ -320,25 +529,30 @@ fn turn(
     bits: u32,
     prices: &[u8],
     work: &mut [u64],
+    notes: &mut [u64],
+    low: u32,
     r: u32,
     done: u32,
     count: u32,
 ) -> u32
-    requires { ⌜ TurnPre (view rows (now words)) bits (now prices) (now work) r done count × (HEADER ≤ length (now words)) ⌝ }
+    requires { ⌜ TurnPre (view rows (now words)) bits (now prices) (now work) r done count × (HEADER ≤ length (now words))
+        × NotesHold (view rows (now words)) bits low (now work) (now notes) ⌝ }
     ensures { λ x.
-        ⌜ TurnPost (view rows (now (words .entry))) bits (now (prices .entry)) (now (work .entry)) (now (work .exit)) r done count x ⌝ }
+        ⌜ TurnPost (view rows (now (words .entry))) bits (now (prices .entry)) (now (work .entry)) (now (work .exit)) r done count x
+        × NotesHold (view rows (now (words .entry))) bits low (now (work .exit)) (now (notes .exit)) ⌝ }
 {
     let t = state_at(work, done);
     let mark = mark_of(work, t) + step_cost(prices, r);
     let wave = Wave {
         rows: rows,
         bits: bits,
+        low: low,
         state: t,
         mark: mark,
     };
     let at = Table::FIRST_RELATION + (r as usize);
     let root = header_word(words, at);
-    expand(words, work, wave, root - 1, 0, 0, count)
+    expand(words, work, notes, wave, root - 1, 0, 0, count)
 }
 
 // A state of arrow a's set from which it costs least to come into arrow b's, its mark standing in the work words; none where there is no
@@ -362,11 +576,24 @@ pub fn search(
     if first != Work::NO_STATE {
         return first;
     }
+    let low = low_bits(bits);
+    let mut notes = [0u64; Notes::WORDS];
     let mut done = [0u32; 8];
     let mut r = choose(words, prices, work, &done, count);
     while r != Table::RELATIONS {
         let at = r as usize;
-        let more = turn(words, rows, bits, prices, work, r, done[at], count);
+        let more = turn(
+            words,
+            rows,
+            bits,
+            prices,
+            work,
+            &mut notes,
+            low,
+            r,
+            done[at],
+            count,
+        );
         done[at] = done[at] + 1;
         let s = first_in(words, rows, a, work, count, more);
         if s != Work::NO_STATE {
