@@ -80,32 +80,32 @@ leading-asks f a b l e q = (let g = f .less (λ z. omega arith) e in omega arith
 
 -- the words with one more mask
 abbrev kept : List ℕ → ℕ → ℕ → ℕ → List ℕ
-kept N i key mask = set (set N (1_024 + i) key) (2_048 + i) mask
+kept N i key mask = set (set N (1_024 + i) key) (1_280 + i) mask
 
-kept-other : (N : List ℕ) (i key mask j : ℕ) → j ≢ 1_024 + i → j ≢ 2_048 + i → getD (kept N i key mask) j 0 ≡ getD N j 0
-kept-other N i key mask j a b = getD-set-other (set N (1_024 + i) key) (2_048 + i) j mask 0 b ∙ getD-set-other N (1_024 + i) j key 0 a
+kept-other : (N : List ℕ) (i key mask j : ℕ) → j ≢ 1_024 + i → j ≢ 1_280 + i → getD (kept N i key mask) j 0 ≡ getD N j 0
+kept-other N i key mask j a b = getD-set-other (set N (1_024 + i) key) (1_280 + i) j mask 0 b ∙ getD-set-other N (1_024 + i) j key 0 a
 
 module _ {W : View} {low : ℕ} {N : List ℕ} (m : Masked W low N) where
   -- a key that stands there is the mask's
-  pub mask-met : (i x h : ℕ) → i < 1_024 → h < 64 → getD N (1_024 + i) 0 ≡ x * 64 + h → Covers W low h x (getD N (2_048 + i) 0)
+  pub mask-met : (i x h : ℕ) → i < 256 → h < 64 → getD N (1_024 + i) 0 ≡ x * 64 + h → Covers W low h x (getD N (1_280 + i) 0)
   mask-met i x h l s e =
       let key : getD N (1_024 + i) 0 / 64 ≡ x = omega arith in
       let six : getD N (1_024 + i) 0 % 64 ≡ h = omega arith in
-      subst (λ (y : ℕ). Covers W low h y (getD N (2_048 + i) 0)) key
-      (subst (λ (y : ℕ). Covers W low y (getD N (1_024 + i) 0 / 64) (getD N (2_048 + i) 0)) six (m .covers i l))
+      subst (λ (y : ℕ). Covers W low h y (getD N (1_280 + i) 0)) key
+      (subst (λ (y : ℕ). Covers W low y (getD N (1_024 + i) 0 / 64) (getD N (1_280 + i) 0)) six (m .covers i l))
 
   -- one more is remembered
-  module _ (i x h : ℕ) {mask : ℕ} (l : i < 1_024) (s : h < 64) (c : Covers W low h x mask) where
-    kept-size : length (kept N i (x * 64 + h) mask) ≡ 5_111
-    kept-size = length-set (set N (1_024 + i) (x * 64 + h)) (2_048 + i) mask ∙ length-set N (1_024 + i) (x * 64 + h) ∙ m .size
+  module _ (i x h : ℕ) {mask : ℕ} (l : i < 256) (s : h < 64) (c : Covers W low h x mask) where
+    kept-size : length (kept N i (x * 64 + h) mask) ≡ 3_575
+    kept-size = length-set (set N (1_024 + i) (x * 64 + h)) (1_280 + i) mask ∙ length-set N (1_024 + i) (x * 64 + h) ∙ m .size
 
     kept-key : getD (kept N i (x * 64 + h) mask) (1_024 + i) 0 ≡ x * 64 + h
     kept-key =
-        getD-set-other (set N (1_024 + i) (x * 64 + h)) (2_048 + i) (1_024 + i) mask 0 (λ e. omega arith)
+        getD-set-other (set N (1_024 + i) (x * 64 + h)) (1_280 + i) (1_024 + i) mask 0 (λ e. omega arith)
         ∙ getD-set-same N (1_024 + i) (x * 64 + h) 0 (let z = m .size in omega arith)
 
-    kept-mask : getD (kept N i (x * 64 + h) mask) (2_048 + i) 0 ≡ mask
-    kept-mask = getD-set-same (set N (1_024 + i) (x * 64 + h)) (2_048 + i) mask 0
+    kept-mask : getD (kept N i (x * 64 + h) mask) (1_280 + i) 0 ≡ mask
+    kept-mask = getD-set-same (set N (1_024 + i) (x * 64 + h)) (1_280 + i) mask 0
         (let z = m .size in let y = length-set N (1_024 + i) (x * 64 + h) in omega arith)
 
     here : (j : ℕ) → j ≡ i → (key held : ℕ) → key ≡ x * 64 + h → held ≡ mask → Covers W low (key % 64) (key / 64) held
@@ -115,13 +115,13 @@ module _ {W : View} {low : ℕ} {N : List ℕ} (m : Masked W low N) where
         subst (λ (y : ℕ). Covers W low (key % 64) y held) a
         (subst (λ (y : ℕ). Covers W low y x held) b (subst (λ (y : ℕ). Covers W low h x y) (sym em) c))
 
-    there : (j : ℕ) → j < 1_024 → j ≢ i
+    there : (j : ℕ) → j < 256 → j ≢ i
         → Covers W low (getD (kept N i (x * 64 + h) mask) (1_024 + j) 0 % 64) (getD (kept N i (x * 64 + h) mask) (1_024 + j) 0 / 64)
-        (getD (kept N i (x * 64 + h) mask) (2_048 + j) 0)
+        (getD (kept N i (x * 64 + h) mask) (1_280 + j) 0)
     there j lj n =
         let a = kept-other N i (x * 64 + h) mask (1_024 + j) (λ e. n (omega arith)) (λ e. omega arith) in
-        let b = kept-other N i (x * 64 + h) mask (2_048 + j) (λ e. omega arith) (λ e. n (omega arith)) in
-        subst (λ (y : ℕ). Covers W low (y % 64) (y / 64) (getD (kept N i (x * 64 + h) mask) (2_048 + j) 0)) (sym a)
+        let b = kept-other N i (x * 64 + h) mask (1_280 + j) (λ e. omega arith) (λ e. n (omega arith)) in
+        subst (λ (y : ℕ). Covers W low (y % 64) (y / 64) (getD (kept N i (x * 64 + h) mask) (1_280 + j) 0)) (sym a)
         (subst (λ (y : ℕ). Covers W low (getD N (1_024 + j) 0 % 64) (getD N (1_024 + j) 0 / 64) y) (sym b) (m .covers j lj))
 
     pub mask-kept : {M : List ℕ} → M ≡ kept N i (x * 64 + h) mask → Masked W low M × Beside N M
@@ -129,9 +129,9 @@ module _ {W : View} {low : ℕ} {N : List ℕ} (m : Masked W low N) where
       record {
         size = kept-size;
         covers = λ j lj. by-cases (ℕ-discrete j i)
-            (λ q. here j q (getD (kept N i (x * 64 + h) mask) (1_024 + j) 0) (getD (kept N i (x * 64 + h) mask) (2_048 + j) 0)
+            (λ q. here j q (getD (kept N i (x * 64 + h) mask) (1_024 + j) 0) (getD (kept N i (x * 64 + h) mask) (1_280 + j) 0)
             (ap (λ (y : ℕ). getD (kept N i (x * 64 + h) mask) (1_024 + y) 0) q ∙ kept-key)
-            (ap (λ (y : ℕ). getD (kept N i (x * 64 + h) mask) (2_048 + y) 0) q ∙ kept-mask))
+            (ap (λ (y : ℕ). getD (kept N i (x * 64 + h) mask) (1_280 + y) 0) q ∙ kept-mask))
             (λ n. there j lj n);
       },
       record {
@@ -144,11 +144,11 @@ pub beside-none : (N : List ℕ) → Beside N N
 beside-none N = record { below = λ i l. refl; above = λ i l. refl }
 
 -- nothing is remembered
-pub masked-start : {W : View} {low : ℕ} {N : List ℕ} → length N ≡ 5_111 → ((i : ℕ) → getD N i 0 ≡ 0) → Masked W low N
+pub masked-start : {W : View} {low : ℕ} {N : List ℕ} → length N ≡ 3_575 → ((i : ℕ) → getD N i 0 ≡ 0) → Masked W low N
 masked-start {W} {low} {N} e z = record {
   size = e;
   covers = λ i l.
       let k = z (1_024 + i) in
       let x : getD N (1_024 + i) 0 / 64 ≡ 0 = omega arith in
-      covers-nothing W low (getD N (1_024 + i) 0 % 64) (getD N (2_048 + i) 0) x;
+      covers-nothing W low (getD N (1_024 + i) 0 % 64) (getD N (1_280 + i) 0) x;
 }

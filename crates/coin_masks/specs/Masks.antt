@@ -27,10 +27,10 @@ pub record Covers (W : View) (low h x mask : ℕ) : Type 0 where
 
 -- what is remembered is true: a key is an arrow and six bits of a state
 pub record Masked (W : View) (low : ℕ) (N : List ℕ) : Type 0 where
-  pub size : length N ≡ 5_111
-  pub covers : (i : ℕ) → i < 1_024 → Covers W low (getD N (1_024 + i) 0 % 64) (getD N (1_024 + i) 0 / 64) (getD N (2_048 + i) 0)
+  pub size : length N ≡ 3_575
+  pub covers : (i : ℕ) → i < 256 → Covers W low (getD N (1_024 + i) 0 % 64) (getD N (1_024 + i) 0 / 64) (getD N (1_280 + i) 0)
 
 -- only keys and masks changed
 pub record Beside (N M : List ℕ) : Type 0 where
   pub below : (i : ℕ) → i < 1_024 → getD M i 0 ≡ getD N i 0
-  pub above : (i : ℕ) → 3_072 ≤ i → getD M i 0 ≡ getD N i 0
+  pub above : (i : ℕ) → 1_536 ≤ i → getD M i 0 ≡ getD N i 0

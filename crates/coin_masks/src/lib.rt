@@ -17,14 +17,14 @@ pub struct Notes;
 impl Notes {
     pub const KEYS: usize = 1024;
 
-    pub const MASKS: usize = 2048;
+    pub const MASKS: usize = 1280;
 
-    pub const SPENT: usize = 3072;
+    pub const SPENT: usize = 1536;
 
-    pub const WORDS: usize = 5111;
+    pub const WORDS: usize = 3575;
 
     // How many masks are remembered, and how many spent arrows.
-    pub const KEPT: u64 = 1024;
+    pub const KEPT: u64 = 256;
 
     pub const SLOTS: u64 = 2039;
 
@@ -84,8 +84,8 @@ fn leading(words: &[u32], rows: u32, low: u32, x: u32, t: u32) -> u64
 
 // The mask is remembered at place `at`, with its key.
 fn keep_mask(notes: &mut [u64], at: usize, key: u64, mask: u64)
-    requires { ⌜ (at < 1_024) × (length (now notes) ≡ 5_111) ⌝ }
-    ensures { λ _. ⌜ now (notes .exit) ≡ set (set (now (notes .entry)) (1_024 + at) key) (2_048 + at) mask ⌝ }
+    requires { ⌜ (at < 256) × (length (now notes) ≡ 3_575) ⌝ }
+    ensures { λ _. ⌜ now (notes .exit) ≡ set (set (now (notes .entry)) (1_024 + at) key) (1_280 + at) mask ⌝ }
 {
     let place = Notes::KEYS + at;
     let there = Notes::MASKS + at;
@@ -103,7 +103,7 @@ pub fn mask_of(words: &[u32], rows: u32, notes: &mut [u64], low: u32, x: u32, t:
     let part = ((t >> low) % 64) as u64;
     let arrow = x as u64;
     let key = arrow * 64 + part;
-    let at = ((arrow + part * 16) % Notes::KEPT) as usize;
+    let at = ((arrow + part * 4) % Notes::KEPT) as usize;
     let place = Notes::KEYS + at;
     let there = Notes::MASKS + at;
     if notes[place] == key {

@@ -268,8 +268,8 @@ pub spent-now : {W : View} {n k : ℕ} {w v N M : List ℕ} {m x p s count most 
     → NotesHold W n k v N
     → node ≡ s + 2 ^ p → t < 65_536 → node < 65_536 → Expands W n w v m t x p s count most
     → KeyPut N (spentKey x node (t / 2 ^ (levelAt W x / 2))) M → NotesHold W n k v M
-spent-now {W} {n} {k} {w} {v} {N} {M} {m} {x} {p} {s} {count} {most} {node} {t} a h en lt ln E put =
-    notes-put h (spent-in x node (t / 2 ^ (levelAt W x / 2)) (part-small t (levelAt W x / 2) lt) ln (record { all = all })) put
+spent-now {W} {n} {k} {w} {v} {N} {M} {m} {x} {p} {s} {count} {most} {node} {t} a h en lt ln E d =
+    notes-put h (spent-in x node (t / 2 ^ (levelAt W x / 2)) (part-small t (levelAt W x / 2) lt) ln (record { all = all })) d
   where
     all : (q r u c : ℕ) → r < 2 ^ q → r + 2 ^ q ≡ node → u < 2 ^ n → u % 2 ^ q ≡ r
         → c / 2 ^ (levelAt W x / 2) ≡ t / 2 ^ (levelAt W x / 2) → holdsAt W x u c ≡ true → 1 ≤ markOf v u

@@ -125,7 +125,7 @@ module _ {W : View} {n k : ℕ} {w N : List ℕ} (h : NotesHold W n k w N) where
       marked = λ i j l q e. h .bitmap .marked i j l q (ap (bit j) (sym (b .below i (let f = few-words (h .bits) in omega arith))) ∙ e);
     };
     masks = m;
-    spent = λ q l. subst (SpentAt W n w) (sym (b .above (3_072 + q) (omega arith))) (h .spent q l);
+    spent = λ q l. subst (SpentAt W n w) (sym (b .above (1_536 + q) (omega arith))) (h .spent q l);
   }
 
   -- a state was noted
@@ -135,11 +135,11 @@ module _ {W : View} {n k : ℕ} {w N : List ℕ} (h : NotesHold W n k w N) where
     bitmap = record { size = d .size ∙ h .bitmap .size; marked = here };
     masks = record {
       size = d .size ∙ h .bitmap .size;
-      covers = λ q l. subst (λ (y : ℕ). Covers W k (y % 64) (y / 64) (getD M (2_048 + q) 0)) (sym (other (1_024 + q) (omega arith)))
-          (subst (λ (y : ℕ). Covers W k (getD N (1_024 + q) 0 % 64) (getD N (1_024 + q) 0 / 64) y) (sym (other (2_048 + q) (omega arith)))
+      covers = λ q l. subst (λ (y : ℕ). Covers W k (y % 64) (y / 64) (getD M (1_280 + q) 0)) (sym (other (1_024 + q) (omega arith)))
+          (subst (λ (y : ℕ). Covers W k (getD N (1_024 + q) 0 % 64) (getD N (1_024 + q) 0 / 64) y) (sym (other (1_280 + q) (omega arith)))
           (h .masks .covers q l));
     };
-    spent = λ q l. subst (SpentAt W n w) (sym (other (3_072 + q) (omega arith))) (h .spent q l);
+    spent = λ q l. subst (SpentAt W n w) (sym (other (1_536 + q) (omega arith))) (h .spent q l);
   }
     where
       other : (q : ℕ) → 1_024 ≤ q → getD M q 0 ≡ getD N q 0
@@ -233,26 +233,26 @@ module _ {W : View} {n k : ℕ} {w N : List ℕ} (h : NotesHold W n k w N) where
   notes-put {key = key} s (put q l) = record {
     bits = h .bits;
     bitmap = record {
-      size = length-set N (3_072 + q) key ∙ h .bitmap .size;
+      size = length-set N (1_536 + q) key ∙ h .bitmap .size;
       marked = λ i j li lj e. h .bitmap .marked i j li lj
           (ap (bit j) (sym (other i (let f = few-words (h .bits) in omega arith))) ∙ e);
     };
     masks = record {
-      size = length-set N (3_072 + q) key ∙ h .bitmap .size;
-      covers = λ c lc. subst (λ (y : ℕ). Covers W k (y % 64) (y / 64) (getD (set N (3_072 + q) key) (2_048 + c) 0))
+      size = length-set N (1_536 + q) key ∙ h .bitmap .size;
+      covers = λ c lc. subst (λ (y : ℕ). Covers W k (y % 64) (y / 64) (getD (set N (1_536 + q) key) (1_280 + c) 0))
           (sym (other (1_024 + c) (omega arith)))
-          (subst (λ (y : ℕ). Covers W k (getD N (1_024 + c) 0 % 64) (getD N (1_024 + c) 0 / 64) y) (sym (other (2_048 + c) (omega arith)))
+          (subst (λ (y : ℕ). Covers W k (getD N (1_024 + c) 0 % 64) (getD N (1_024 + c) 0 / 64) y) (sym (other (1_280 + c) (omega arith)))
           (h .masks .covers c lc));
     };
     spent = λ c lc. by-cases (ℕ-discrete c q)
         (λ e. subst (SpentAt W n w)
-        (sym (ap (λ (y : ℕ). getD (set N (3_072 + q) key) (3_072 + y) 0) e
-        ∙ getD-set-same N (3_072 + q) key 0 (let z = h .bitmap .size in omega arith))) s)
-        (λ e. subst (SpentAt W n w) (sym (getD-set-other N (3_072 + q) (3_072 + c) key 0 (λ y. e (omega arith)))) (h .spent c lc));
+        (sym (ap (λ (y : ℕ). getD (set N (1_536 + q) key) (1_536 + y) 0) e
+        ∙ getD-set-same N (1_536 + q) key 0 (let z = h .bitmap .size in omega arith))) s)
+        (λ e. subst (SpentAt W n w) (sym (getD-set-other N (1_536 + q) (1_536 + c) key 0 (λ y. e (omega arith)))) (h .spent c lc));
   }
     where
-      other : (i : ℕ) → i < 3_072 → getD (set N (3_072 + q) key) i 0 ≡ getD N i 0
-      other i li = getD-set-other N (3_072 + q) i key 0 (λ e. omega arith)
+      other : (i : ℕ) → i < 1_536 → getD (set N (1_536 + q) key) i 0 ≡ getD N i 0
+      other i li = getD-set-other N (1_536 + q) i key 0 (λ e. omega arith)
 
   -- what is asked of a node
   pub spent-pre : {t node : ℕ} → t < 65_536 → node < 65_536 → SpentPre N t node
@@ -268,26 +268,26 @@ module _ (W : View) (x node t : ℕ) {level key : ℕ} (el : level ≡ levelAt W
   key-is : key ≡ spentKey x node (t / 2 ^ (levelAt W x / 2))
   key-is = ek ∙ ap (λ (y : ℕ). spentKey x node (t / 2 ^ (y / 2))) el
 
-  pub key-met : (N : List ℕ) → eqb (getD N (3_072 + key % 2_039) 0) key ≡ true → KeyMet N (spentKey x node (t / 2 ^ (levelAt W x / 2)))
+  pub key-met : (N : List ℕ) → eqb (getD N (1_536 + key % 2_039) 0) key ≡ true → KeyMet N (spentKey x node (t / 2 ^ (levelAt W x / 2)))
   key-met N e = record {
     at = key % 2_039;
     slot = omega arith;
-    is = eqb→eq (getD N (3_072 + key % 2_039) 0) key (subst T (sym e) tt) ∙ key-is;
+    is = eqb→eq (getD N (1_536 + key % 2_039) 0) key (subst T (sym e) tt) ∙ key-is;
   }
 
-  pub key-put : (N : List ℕ) → KeyPut N (spentKey x node (t / 2 ^ (levelAt W x / 2))) (set N (3_072 + key % 2_039) key)
-  key-put N = subst (λ (y : ℕ). KeyPut N y (set N (3_072 + key % 2_039) key)) key-is (put (key % 2_039) (omega arith))
+  pub key-put : (N : List ℕ) → KeyPut N (spentKey x node (t / 2 ^ (levelAt W x / 2))) (set N (1_536 + key % 2_039) key)
+  key-put N = subst (λ (y : ℕ). KeyPut N y (set N (1_536 + key % 2_039) key)) key-is (put (key % 2_039) (omega arith))
 
 -- ---- the start
 
-pub notes-start : {W : View} {n k : ℕ} {w N : List ℕ} → LowBits n k → length N ≡ 5_111 → ((i : ℕ) → getD N i 0 ≡ 0) → NotesHold W n k w N
+pub notes-start : {W : View} {n k : ℕ} {w N : List ℕ} → LowBits n k → length N ≡ 3_575 → ((i : ℕ) → getD N i 0 ≡ 0) → NotesHold W n k w N
 notes-start {W} {n} {k} {w} {N} b e z = record {
   bits = b;
   bitmap = record { size = e; marked = λ i j l m t. absurd (true≢false (sym t ∙ ap (bit j) (z i) ∙ no-bit j)) };
   masks = masked-start e z;
   spent = λ q l. record {
     all = λ p s u t ls es lu eu et y.
-        let a : getD N (3_072 + q) 0 / 4_294_967_296 ≡ 0 = (let c = z (3_072 + q) in omega arith) in
+        let a : getD N (1_536 + q) 0 / 4_294_967_296 ≡ 0 = (let c = z (1_536 + q) in omega arith) in
         absurd (true≢false (sym y ∙ ap (λ (c : ℕ). holdsAt W c u t) a ∙ den-zero (2 * W .header BITS) (rowsOf W) (pairVal u t)));
   };
 }

@@ -23,7 +23,7 @@ pub record LowBits (n low : ℕ) : Type 0 where
 
 -- bit j of word i says of state i + j · 2^low that it is marked
 pub record Bitmap (n low : ℕ) (w N : List ℕ) : Type 0 where
-  pub size : length N ≡ 5_111
+  pub size : length N ≡ 3_575
   pub marked : (i j : ℕ) → i < 2 ^ low → j < 64 → bit j (getD N i 0) ≡ true
       → (i + j * 2 ^ low < 2 ^ n) × (1 ≤ markOf w (i + j * 2 ^ low))
 
@@ -50,23 +50,23 @@ SpentAt W n w key = Spent W n w (key / 4_294_967_296) (key / 65_536 % 65_536) (k
 pub record KeyMet (N : List ℕ) (key : ℕ) : Type 0 where
   pub at : ℕ
   pub slot : at < 2_039
-  pub is : getD N (3_072 + at) 0 ≡ key
+  pub is : getD N (1_536 + at) 0 ≡ key
 
 -- nothing changed, or a key is remembered
 pub data KeyPut (N : List ℕ) (key : ℕ) : List ℕ → Type 0 where
   none : KeyPut N key N
-  put : (k : ℕ) → k < 2_039 → KeyPut N key (set N (3_072 + k) key)
+  put : (k : ℕ) → k < 2_039 → KeyPut N key (set N (1_536 + k) key)
 
 -- all that is noted is true
 pub record NotesHold (W : View) (n low : ℕ) (w N : List ℕ) : Type 0 where
   pub bits : LowBits n low
   pub bitmap : Bitmap n low w N
   pub masks : Masked W low N
-  pub spent : (k : ℕ) → k < 2_039 → SpentAt W n w (getD N (3_072 + k) 0)
+  pub spent : (k : ℕ) → k < 2_039 → SpentAt W n w (getD N (1_536 + k) 0)
 
 -- what `is_spent` and `put_spent` ask
 pub record SpentPre (N : List ℕ) (t node : ℕ) : Type 0 where
-  pub size : length N ≡ 5_111
+  pub size : length N ≡ 3_575
   pub state : t < 65_536
   pub node-small : node < 65_536
 

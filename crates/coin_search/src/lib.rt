@@ -187,7 +187,7 @@ fn note_mark(work: &[u64], notes: &mut [u64], s: u32, i: u32, j: u32)
     notes[at] = notes[at] | (1u64 << j);
 }
 
-// Adds the state of bit j of word i where `left` is odd, and notes that it is marked.
+// Adds the state of bit j of word i where `left` is odd and arrow x leads from it to the wave's state, and notes that it is marked.
 fn settle(
     words: &[u32],
     work: &mut [u64],
@@ -218,7 +218,7 @@ fn settle(
     most
 }
 
-// Adds the states of word i that a mask has.
+// Adds the states of word i that a mask has and from which arrow x leads to the wave's state.
 fn add_all(
     words: &[u32],
     work: &mut [u64],

@@ -29,7 +29,7 @@ mask-of-spec =
     (λ c. (
       let h : ℕ = c .before .before .before .before .before .args .t / 2 ^ c .before .before .before .before .before
           .args .low % 64 in mask-met (c .before .before .before .before .before .pre .2) ((c .before .before .before .before
-          .before .args .x + h * 16) % 1024) (c .before .before .before .before .before .args .x) h (omega arith) (omega arith) (c
+          .before .args .x + h * 4) % 256) (c .before .before .before .before .before .args .x) h (omega arith) (omega arith) (c
           .before .if1 .taken),
       c .before .before .before .before .before .pre .2,
       beside-none _,
@@ -40,6 +40,6 @@ mask-of-spec =
     (λ c. let h : ℕ = c .before .before .before .before .before .before .before .before .before .args .t / 2 ^ c .before
     .before .before .before .before .before .before .before .before .args .low % 64 in let k = mask-kept (c .before .before
     .before .before .before .before .before .before .before .pre .2) ((c .before .before .before .before .before .before
-    .before .before .before .args .x + h * 16) % 1024) (c .before .before .before .before .before .before .before .before
+    .before .before .before .args .x + h * 4) % 256) (c .before .before .before .before .before .before .before .before
     .before .args .x) h (omega arith) (omega arith) (c .before .before .before .before .leading .ensures) (c .before .before
     .keep-mask .ensures) in (c .before .before .before .before .leading .ensures, k .0, k .1)))
