@@ -11,9 +11,9 @@
  * registers, each empty or holding a set of states, and 8 relations, each empty or holding a set of pairs. Its words may be copied, stored and
  * lent again. A call on words that are no sound table is refused with KUDZUCLAMP_UNSOUND.
  *
- * MEMORY IS NOT WIPED. fresh writes few of the words, and all others keep what the memory held before, until some call needs them: most of a table's
- * words are such free ones, and no answer depends on them. Nor does clear, collect or a refusal wipe anything: rows that nothing needs any more, and
- * results that were remembered, stay in the words until others are written over them. So whoever gets the words, by a copy or a file, gets that too.
+ * MEMORY IS NOT WIPED. fresh writes 256 + N of a table's 256 + 12 N words, and all others keep what the memory held before, until some call needs
+ * them; no answer depends on them. Nor does clear, collect or a refusal wipe anything: rows that nothing needs any more, and results that were
+ * remembered, stay in the words until others are written over them. So whoever gets the words, by a copy or a file, gets that too.
  * Lend no memory with secrets or with what is not yours to show, and set words to 0 yourself, before fresh, where they are to be handed on.
  *
  * VALID STATES. V is the set of states that exist; after fresh it is every state, and kudzuclamp_valid fixes another one while nothing is filled.
@@ -39,8 +39,13 @@
  * are all answered.
  *
  * STACK. A call takes less than 160 KB of it, and more than 120 KB only on words whose lookup chains are longer than 32 rows (seen: 111 KB, a formula
- * of the greatest depth at n = 16). Where V is not every state about 32 KB more, and then in a table of more than 4,096 used rows about 512 KB more. Measured
- * on the compiled code and, for V, by the sizes of its lists; not proved.
+ * of the greatest depth at n = 16). Where V is not every state and more than 2,048 rows are used, the check of the table takes up to 560 KB (seen: 522
+ * KB). Measured on the compiled code, not proved.
+ *
+ * TIME. No contract speaks of it. Every call first checks the whole table: some 50 instructions for each used row, and more where V is not every state
+ * (2 ms for 28,736 rows of an ordinary table; 0.65 s for the worst table found, which was made for it). So where many records are at hand, give them to
+ * one kudzuclamp_play, which checks once. R and an account's round limit stop a set that goes on for long; a single round may still take long in a
+ * large table, and a row limit bounds that.
  *
  * POINTERS. A slice is a pointer and its number of elements. No pointer may be null, not even with 0 elements. Words and lists that are not const,
  * the accounts, and each answer must overlap nothing else that is lent to the call, and no other thread may use them meanwhile; nor may one write
@@ -270,7 +275,7 @@ uint32_t kudzuclamp_relation(uint32_t *words, size_t words_len, uint32_t t, cons
  * Register r (0 to 31) then holds exactly the states of V in which the formula holds, found under the limits of the account at `place` (0 to
  * accounts_len - 1), whose tally grows by the rounds made. Each evaluation of a binder's body is one round, and so is one of until's f and g; a
  * round beyond `most` (R) or beyond the account's round limit is refused. With one binder or until in the formula 2^n + 1 rounds are enough.
- * *node is the set's node number: two registers hold the same set exactly where their node numbers are equal; 0 is no state, 1 is every state.
+ * *node is the set's node number: two registers hold the same set exactly where their node numbers are equal; 0 is no state, 1 is all 2^n states.
  * *rounds is how many rounds were made, and *peak the call's peak. It returns 0, 2 to 9, KUDZUCLAMP_VACUOUS or KUDZUCLAMP_UNLISTED.
  */
 KUDZUCLAMP_USE_RESULT

@@ -2,7 +2,9 @@
 
 It knows the layout that `rt fmt` gives: a declaration begins at its section's indentation, with its marks; all that is indented deeper, its
 clauses and its `unfolding` line belong to it; comment lines directly above it are its comment. A name that is bound inside a declaration
-(an argument, a pattern, a `let`, a `where`) hides the declared one throughout that declaration."""
+(an argument, a pattern, a `let`, a `where`) hides the declared one throughout that declaration. What it would read otherwise than the prover
+does, it refuses with a ValueError: block comments, quoted names, globs, modules inside a file, a name that is declared twice or that covers
+the head of an import's path, lines that are neither a clause nor an `unfolding` line of the declaration that they follow."""
 import functools, glob, os, re
 
 NAME = r'[^\s(){}\[\];,.]+'
@@ -10,6 +12,7 @@ MARKS = r'((?:(?:unfoldable|abbrev|pub|axiom) )*)'
 SIGNATURE = re.compile(rf'{MARKS}({NAME})(?: \{{[^}}]*\}})? :(?: |$)')
 PARTS = re.compile(rf'(?:pub )?((?:{NAME} )+):(?: |$)')
 TYPE = re.compile(rf'{MARKS}(data|record) ({NAME})')
+REFUSED = re.compile(r'(?m)\{-|«|^.*\buse .*\.\*')
 USE = re.compile(r'((?:unfoldable |pub )*)(?:ghost )?use ([^{\s;]+?)(?:\.\{(.*)\}|(?: as (\S+?))?);?$')
 
 
@@ -62,7 +65,9 @@ class File:
     """items: declarations, sections and free comments (lists of lines), in order."""
     def __init__(self, path):
         self.path = path
-        lines = open(path).read().split('\n')
+        text = open(path).read()
+        if m := REFUSED.search(bare(text)): raise ValueError(f'{path}: `{m.group().strip()}` is not read')
+        lines = text.split('\n')
         head = [i for i, x in enumerate(lines) if re.match(r'(unfoldable |pub )*(use|mod) ', x)]
         at = head[-1] + 1 if head else lines.index('') if '' in lines and lines[0].startswith('--') else 0
         self.header, self.uses, self.mods = [x for x in lines[:at] if x.startswith('--')], [], []
@@ -71,6 +76,22 @@ class File:
             if re.match(r'(pub )?mod ', x): self.mods.append(x.split()[-1])
         self.items, _ = self.read(lines, at, 0, ())
         self.decls = list(self.walk(self.items))
+        self.refuse()
+
+    def refuse(self):
+        """Names that would stand for something else than is read, and lines that belong to no declaration."""
+        if self.mods: raise ValueError(f'{self.path}: a module inside a file is not read')
+        names, heads = [d.name for d in self.decls], {x.module.split('.')[0] for x in self.uses}
+        here = names + [x for use in self.uses for x in ([use.alias] if use.alias else use.items)]
+        for name in here:
+            if names.count(name) > 1 or name in heads: raise ValueError(f'{self.path}: {name} stands for two things')
+        for d in self.decls:
+            own, deep = [p for p in d.name.split('_') if p], indent(d.lines[0])
+            for x in d.lines[1:]:
+                text = x.strip()
+                if not text or d.kind or indent(x) > deep or text.startswith(('--', 'unfolding ')) or text[0] in ')}]': continue
+                if text.split()[0] != d.name and ('_' not in d.name or not all(p in text for p in own)):
+                    raise ValueError(f'{self.path}: this belongs to no declaration: {text}')
 
     def walk(self, items):
         for x in items:
@@ -256,7 +277,8 @@ class Tree:
 
 def clauses(text):
     """The contracts of a Rattle file: (function, last line, what stands in the braces) of each clause; and its `ghost use` lines."""
-    found = []
+    if '/*' in text: raise ValueError('block comments are not read')
+    found, text = [], re.sub(r'//.*', '', text)
     for m in re.finditer(r'(?m)^\s*(?:requires|ensures|ghost)\s*\{', text):
         depth, at = 1, m.end()
         while depth:

@@ -63,7 +63,7 @@ impl Reader<'_> {
         };
         let said = usize::from(u16::from_be_bytes([high, low]));
         let follow = self.bytes.len() - 2;
-        if said > MAX_LENGTH {
+        if follow > MAX_LENGTH {
             return Err(fault(0, FaultKind::TooLong(follow - 1)));
         }
         if said != follow || said < 2 {

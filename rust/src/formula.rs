@@ -37,10 +37,16 @@ const RUNS_VERSION: u8 = 2;
 /// different texts. `bit3` is current bit 3, `bit3'` the next one, `P0` a variable, `set5` the set
 /// in register 5; `[2] f` is box and `<2> f` diamond of relation 2; `mu P0. f` and `nu P0. f` go as
 /// far right as they can; `some2(f until g)` and `every2(f until g)` speak of relation 2's runs.
-/// Bytes that no call takes are written in hexadecimal after `no formula:`.
+/// Bytes that are no formula, or one more than 64 deep, are written in hexadecimal after `no formula:`.
 ///
-/// `parse` reads what `Display` writes, and some more, as [`ParseError`](crate::ParseError) tells.
-/// [`Names`](crate::Names) has texts with names for the bits.
+/// `parse` reads what `Display` writes as that formula, where a call takes one of its length. Besides,
+/// `f ^ g` is "one of the two, not both", `f => g` "where f holds, g does", `f <=> g` "both or neither"
+/// and `ite(f, g, h)` "if f then g else h"; they are written out as `^`, `implies`, `iff` and `ite` do,
+/// so `^`, `<=>` and the f of `ite` have each part twice: 8 bits with `^` between them make a formula
+/// of 1,017 bytes, and 9 bits one that is too long. `!` binds tightest, then `&`, `^`, `|`, `=>` (taken from the
+/// right) and `<=>`. A binder may stand wherever a formula may, and goes as far right as it can.
+/// Blanks and line ends may stand between words. [`ParseError`](crate::ParseError) tells why a text is
+/// no formula, and [`Names`](crate::Names) has texts with names for the bits.
 ///
 /// ```
 /// use kudzuclamp::Formula;
@@ -70,10 +76,14 @@ pub struct Formula {
 /// let mut table = Table::new(&mut [Account::unlimited()], 1, 10).unwrap();
 /// assert_eq!(store(&mut table, Formula::current(0)), store(&mut table, [0, 2, 1, 0x10]));
 /// ```
-pub trait AsFormula {
+pub trait AsFormula: Missing {
     /// The framed bytes.
     fn framed(&self) -> &[u8];
+}
 
+/// What a [`Formula`] knows besides its bytes. Nobody outside can name it, so only the types of this
+/// crate and bytes are [`AsFormula`].
+pub trait Missing {
     /// The first number in it that has no byte; bytes have none such.
     fn missing(&self) -> Option<Fault> {
         None
@@ -472,7 +482,9 @@ impl AsFormula for Formula {
     fn framed(&self) -> &[u8] {
         &self.framed
     }
+}
 
+impl Missing for Formula {
     fn missing(&self) -> Option<Fault> {
         self.missing
     }
@@ -482,11 +494,17 @@ impl<F: AsFormula + ?Sized> AsFormula for &F {
     fn framed(&self) -> &[u8] {
         (**self).framed()
     }
+}
 
+impl<F: Missing + ?Sized> Missing for &F {
     fn missing(&self) -> Option<Fault> {
         (**self).missing()
     }
 }
+
+impl Missing for [u8] {}
+impl<const N: usize> Missing for [u8; N] {}
+impl Missing for Vec<u8> {}
 
 impl AsFormula for [u8] {
     fn framed(&self) -> &[u8] {

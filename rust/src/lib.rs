@@ -55,6 +55,7 @@ mod dot;
 mod fault;
 mod formula;
 mod layout;
+mod least;
 mod names;
 mod parse;
 mod play;

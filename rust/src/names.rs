@@ -205,17 +205,17 @@ impl Names {
         display::text(formula, self)
     }
 
-    /// The names of the bits that are 1 in a state, the first bit's first.
+    /// The names of the bits that are 1 in a state, the first bit's first, as [`Names::bit`] has them.
     ///
     /// ```
     /// let names = kudzuclamp::Names::new(["mic", "echo", "song"])?;
     /// assert_eq!(names.on(0b101), ["mic", "song"]);
+    /// assert_eq!(names.on(0b1001), ["mic", "bit3"]);
     /// # Ok::<(), kudzuclamp::NameError>(())
     /// ```
     #[must_use]
-    pub fn on(&self, state: u32) -> Vec<&str> {
-        let bits = self.names.iter().enumerate();
-        let on = bits.filter(|(p, _)| state >> p & 1 == 1);
-        on.map(|(_, name)| name.as_str()).collect()
+    pub fn on(&self, state: u32) -> Vec<String> {
+        let on = (0..MAX_BITS).filter(|p| state >> p & 1 == 1);
+        on.map(|p| self.bit(p)).collect()
     }
 }

@@ -7,11 +7,7 @@ use std::str::FromStr;
 
 /// Why a text is no formula, and where.
 ///
-/// What a formula's `Display` writes is read as that formula. Besides, `f ^ g` is "one of the two, not
-/// both", `f => g` "where f holds, g does", `f <=> g` "both or neither" and `ite(f, g, h)` "if f then
-/// g else h"; they are written out as [`Formula`]'s `^`, `implies`, `iff` and `ite` do. `!` binds
-/// tightest, then `&`, `^`, `|`, `=>` (taken from the right) and `<=>`. A binder may stand wherever a
-/// formula may, and goes as far right as it can. Blanks and line ends may stand between words.
+/// [`Formula`] has what texts are read.
 ///
 /// ```
 /// use kudzuclamp::{FaultKind, Formula, ParseError, ParseErrorKind};
@@ -51,6 +47,9 @@ pub enum ParseErrorKind {
     /// A bit, variable, register or relation that is not there, or a formula that is too long or too
     /// deep for a call.
     Fault(FaultKind),
+    /// More than 256 parts are open here: formulas in parentheses, and parts of operators and words
+    /// that are not complete.
+    TooManyOpen,
 }
 
 impl fmt::Display for ParseErrorKind {
@@ -59,6 +58,7 @@ impl fmt::Display for ParseErrorKind {
             ParseErrorKind::Missing(what) => write!(f, "{what} is missing"),
             ParseErrorKind::Unknown(name) => write!(f, "no bit has the name {name:?}"),
             ParseErrorKind::Fault(kind) => kind.fmt(f),
+            ParseErrorKind::TooManyOpen => write!(f, "more than {MAX_OPEN} parts are open here"),
         }
     }
 }
@@ -253,7 +253,7 @@ impl<'a> Parser<'a> {
     /// One more part is open from a place on, until it is read.
     fn enter(&mut self, at: usize) -> Result<(), ParseError> {
         if self.open == MAX_OPEN {
-            return self.fault(at, FaultKind::TooDeep);
+            return self.error(at, ParseErrorKind::TooManyOpen);
         }
         self.open += 1;
         Ok(())

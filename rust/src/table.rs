@@ -1,7 +1,7 @@
 //! The table over lent or owned words.
 use crate::check::{self, Call};
-use crate::layout::{BITS, ROWS};
-use crate::{abi, dot, Account, AsFormula, Names, Refusal, Refused, States, Target};
+use crate::layout::{self, BITS, FIRST_REGISTER, ROWS};
+use crate::{abi, dot, least, Account, AsFormula, Names, Refusal, Refused, States, Target};
 
 /// The greatest number of state bits of a table.
 pub const MAX_BITS: u32 = 16;
@@ -36,7 +36,7 @@ pub struct Loaded {
 #[derive(Clone, Copy, Debug, PartialEq, Eq, Hash)]
 pub struct Stored {
     /// The set's node number: two registers hold the same set exactly where their node numbers are
-    /// equal; 0 is no state, 1 is every state.
+    /// equal; 0 is no state, 1 is all 2^n states.
     pub node: u32,
     /// How many times a binder's body was evaluated.
     pub rounds: u32,
@@ -753,7 +753,15 @@ impl<W: AsRef<[u32]>> Table<W> {
     #[doc(alias = "pick_cube")]
     #[doc(alias = "sat_witness")]
     pub fn pick(&self, r: u32) -> Result<Option<u32>, Refusal> {
-        Ok(self.states(r)?.next())
+        let node = self.node(r)?;
+        let words = self.words.as_ref();
+        let root = layout::root(words, FIRST_REGISTER + r as usize);
+        // The rows are read by code that is not proved, so the library is asked about what they tell.
+        match root.and_then(|root| least::state(words, root)) {
+            Some(state) if self.member(r, state)? => Ok(Some(state)),
+            None if node == 0 => Ok(None),
+            _ => Ok(self.states(r)?.next()),
+        }
     }
 
     /// The rows of the set in register r as a graph in the DOT language, for `dot -Tsvg`.

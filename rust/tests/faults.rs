@@ -98,12 +98,19 @@ fn lengths_and_depth() {
     assert_eq!(of_set(deep(64)), (67, FaultKind::TooDeep));
     let wide = Formula::all((0..513).map(|_| Formula::truth()));
     assert_eq!(of_set(&wide), (0, FaultKind::TooLong(1_025)));
-    assert_eq!(of_relation(wide), (0, FaultKind::TooLong(1_025)));
+    assert_eq!(of_relation(&wide), (0, FaultKind::TooLong(1_025)));
     let wider = Formula::all((0..40_000).map(|_| Formula::truth()));
     assert_eq!(of_set(wider), (0, FaultKind::TooLong(79_999)));
     let length = |said, follow| (0, FaultKind::Length { said, follow });
     assert_eq!(of_set([0, 3, 1, 0x10]), length(3, 2));
     assert_eq!(of_set([0, 1, 1]), length(1, 1));
+    // More is said than a call takes, and few bytes follow.
+    assert_eq!(of_set([0xFF, 0xFF, 1, 0x10]), length(0xFFFF, 2));
+    assert_eq!(of_set([0x10, 0, 1]), length(0x1000, 1));
+    // What follows is too long, whatever is said.
+    let mut short = wide.as_bytes().to_vec();
+    short[..2].copy_from_slice(&[0, 2]);
+    assert_eq!(of_set(short), (0, FaultKind::TooLong(1_025)));
     assert_eq!(of_set([]), (0, FaultKind::Incomplete));
     assert_eq!(of_set(vec![0, 2]), (2, FaultKind::Incomplete));
     assert_eq!(of_set([0, 3, 1, 0x03, 0x10]), (5, FaultKind::Incomplete));

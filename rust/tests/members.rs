@@ -1,4 +1,6 @@
 //! Many states asked at once, and the states of a set one after the other.
+mod common;
+
 use kudzuclamp::{Account, Formula, Refusal, Table, Target, MAX_STATES};
 
 /// n bits with a set in register 0.
@@ -82,6 +84,58 @@ fn all_states_of_a_set() {
             let wanted = (0..1 << n).filter(|&state| has(state));
             assert!(states.eq(wanted), "n = {n}");
         }
+    }
+}
+
+/// The least state of sets of many shapes, with every NOT on the way.
+#[test]
+fn the_least_state() {
+    let mut draw = common::Drawn(3);
+    let mut empty = 0;
+    for turn in 0..600 {
+        let n = 1 + draw.below(16);
+        let tokens = 1 + draw.below(40);
+        let formula = (0..tokens).fold(Formula::from(turn % 2 == 0), |f, _| {
+            let bit = Formula::current(draw.below(n));
+            match draw.below(4) {
+                0 => !f,
+                1 => f & bit,
+                2 => f | bit,
+                _ => !(f & !bit),
+            }
+        });
+        let table = holding(n, formula);
+        let least = table.states(0).unwrap().next();
+        assert_eq!(table.pick(0), Ok(least));
+        empty += u32::from(least.is_none());
+    }
+    assert!((1..200).contains(&empty), "{empty}");
+    let both = differ(3, 15) & !Formula::current(3);
+    assert_eq!(holding(16, both).pick(0), Ok(Some(1 << 15)));
+    assert_eq!(holding(2, differ(0, 1)).pick(32), Err(Refusal::Range));
+    assert_eq!(holding(2, differ(0, 1)).pick(1), Err(Refusal::Empty));
+}
+
+/// V is part of every set, also where NOT is read.
+#[test]
+fn the_least_state_that_exists() {
+    let mut accounts = [Account::unlimited()];
+    let mut table = Table::new(&mut accounts, 4, 100).unwrap();
+    table
+        .valid(Formula::current(1) | Formula::current(3))
+        .unwrap();
+    for (formula, least) in [
+        (Formula::truth(), Some(2)),
+        (!Formula::current(1), Some(8)),
+        (!Formula::current(1) & !Formula::current(3), None),
+    ] {
+        let stored = table
+            .set(&mut accounts, Target::register(0), formula)
+            .unwrap();
+        assert_eq!(table.pick(0), Ok(least));
+        // Node 1 is all 2^n states, also those that do not exist.
+        assert_eq!(stored.node == 0, least.is_none());
+        assert_ne!(stored.node, 1);
     }
 }
 

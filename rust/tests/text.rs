@@ -156,16 +156,22 @@ fn sizes() {
     let deep = |nots: usize| "!".repeat(nots) + "bit0";
     assert!(deep(63).parse::<Formula>().is_ok());
     assert_eq!(error(&deep(64)).1, FaultKind::TooDeep.to_string());
-    assert_eq!(error(&deep(100_000)).1, FaultKind::TooDeep.to_string());
+    let too_many = "more than 256 parts are open here";
+    assert_eq!(error(&deep(100_000)), (255, too_many.to_string()));
     for open in [
         "(", "[1]", "mu P0.", "some0(", "ite(", "<0>(", "a | (", "bit0 => ",
     ] {
         let text = open.repeat(50_000).replace('a', "bit0");
-        assert_eq!(error(&text).1, FaultKind::TooDeep.to_string());
+        assert_eq!(error(&text).1, too_many);
     }
+    // Parentheses make no formula deeper.
+    let closed = |count: usize| "(".repeat(count) + "bit0" + &")".repeat(count);
+    assert_eq!(parsed(&closed(127)), Formula::current(0));
+    assert_eq!(error(&closed(128)), (128, too_many.to_string()));
     let many = |sign: &str, parts: usize| vec!["bit0"; parts].join(sign);
     assert!(many(" & ", 64).parse::<Formula>().is_ok());
-    for sign in ["&", "|", "^", "=>", "<=>"] {
+    assert_eq!(error(&many("=>", 5_000)).1, too_many);
+    for sign in ["&", "|", "^", "<=>"] {
         let ParseError { kind, .. } = many(sign, 5_000).parse::<Formula>().unwrap_err();
         assert!(matches!(
             kind,
@@ -177,6 +183,18 @@ fn sizes() {
         |parts: usize| (0..9).fold(many(" & ", parts), |text, _| format!("({text}) | ({text})"));
     assert_eq!(parsed(&halves(1)).as_bytes().len(), 3 + 1_023);
     assert_eq!(error(&halves(2)).1, FaultKind::TooLong(2_047).to_string());
+    assert_eq!(parsed(&many(" ^ ", 8)).as_bytes().len(), 3 + 1_017);
+    assert_eq!(
+        error(&many(" ^ ", 9)).1,
+        FaultKind::TooLong(2_041).to_string()
+    );
+    // Display writes every formula that is not too deep, and those that no call takes are not read.
+    let long = Formula::all((0..600).map(|p| Formula::current(p % 16)));
+    assert!(!long.to_string().starts_with("no formula:"));
+    assert_eq!(
+        error(&long.to_string()).1,
+        FaultKind::TooLong(1_199).to_string()
+    );
 }
 
 /// However much a text opens, a small stack is enough for it.

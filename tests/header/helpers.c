@@ -132,7 +132,8 @@ static void memory(void)
     for (i = 0; i < length; i++) {
         kept += words[i] == BEFORE;
     }
-    HOLDS(kept > 0 && kept < length);
+    /* fresh writes 256 + N words. */
+    HOLDS(kept == 11 * ROWS && length - kept == 256 + ROWS);
     HOLDS(kudzuclamp_fresh(cleared, length, &account, 1, 2, ROWS) == 0);
     memcpy(words, cleared, sizeof words);
     HOLDS(kudzuclamp_set(cleared, length, &account, 1, 0, 0, 0, bit, sizeof bit, &node, &rounds, &peak) == 0);

@@ -27,8 +27,8 @@ use Rattle.book.proofs.Held.{denotes-same}
 use Rattle.book.proofs.Bits.{valid-fn, valid-bits}
 use Rattle.book.proofs.Verdicts.{settle, run-ticks}
 use Rattle.book.proofs.Effects.{does-set, does-relation, does-valid}
-use Rattle.book.specs.Book.{formulaIn, Book, relation, set, valid, stores, unfilled, statesOf, validDone, registers, relations, modelOf}
-use Rattle.book.specs.Book.{liveOf, checks, Done, refuse, ended, relationDone, setDone, relationSteps, setSteps, does}
+use Rattle.book.specs.Book.{formulaIn, Book, relation, set, valid, stores, unfilled, statesOf, validDone, registers, relations}
+use Rattle.book.specs.Book.{modelOf, liveOf, checks, Done, refuse, ended, relationDone, setDone, relationSteps, setSteps, does}
 use Rattle.book.proofs.Stored.{checks-passed}
 use Rattle.book.proofs.ByRun.{relation-by-run, validByRun, valid-by-run}
 use Rattle.book.proofs.Nodes.{node-settled}

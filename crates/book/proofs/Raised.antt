@@ -67,7 +67,8 @@ module _ (M : ℕ) where
   named-same acc acc′ r = ap (λ (x : ℕ). listFits x (acc′ .place)) (r .count) ∙ ap (listFits (acc .count)) (r .place)
 
   -- A CALL THAT IS ANSWERED is answered alike under raised limits
-  pub does-more : (b : Book) → b .N ≤ M → {c d : Call} → SameCall Eased c d → does b c .1 .number ≡ 0 → Same (does b c) (does (withRowCount b M) d)
+  pub does-more : (b : Book) → b .N ≤ M → {c d : Call} → SameCall Eased c d → does b c .1 .number ≡ 0
+      → Same (does b c) (does (withRowCount b M) d)
   does-more b l (same-relation t bs) z =
       let f = formulaIn b Relation bs in
       let B = withRowCount b M in

@@ -57,7 +57,8 @@ counted-bound a q = omega arith
 length-charged : (l : List Account) (c : Call) (y : Reply) → length (charged l c y) ≡ length l
 length-charged l c y = by (effect c .account)
   where
-    go : (acc : Terms) (t : Bool) → length (cond t (place l (acc .place) (counted (getD l (acc .place) noAccount) (y .rounds))) l) ≡ length l
+    go : (acc : Terms) (t : Bool)
+        → length (cond t (place l (acc .place) (counted (getD l (acc .place) noAccount) (y .rounds))) l) ≡ length l
     go acc true = length-set l (acc .place) (counted (getD l (acc .place) noAccount) (y .rounds))
     go acc false = refl
 

@@ -384,7 +384,8 @@ mixed-not t e =
     let h = and-true (has false (map not t)) (has true (map not t)) e in
     let (x, mx, ex) = mem-of-map not t (has-mem false (map not t) (h .0)) in
     let (y, my, ey) = mem-of-map not t (has-mem true (map not t) (h .1)) in
-    rw (mem-has false t (mem-cast (sym (ap not ey) ∙ turn-back true y) my)) (mem-has true t (mem-cast (sym (ap not ex) ∙ turn-back true x) mx))
+    let low = mem-has false t (mem-cast (sym (ap not ey) ∙ turn-back true y) my) in
+    rw low (mem-has true t (mem-cast (sym (ap not ex) ∙ turn-back true x) mx))
 
 -- The classes of a complement are those of the function.
 not-within : (m : ℕ) (f : Fn) (fs : List Fn) → Mem f fs → Within (classes m (notF f ∷ fs)) (classes m fs)

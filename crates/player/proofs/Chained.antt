@@ -193,6 +193,6 @@ pub play-again : (bs w w′ l l′ : List ℕ) (x : Played) (p : PlayPost bs w w
     → Demand SoundWords seen asks (s .n) (s .N) (s .events) w″
 play-again bs w w′ l l′ x p v r cs w″ m m′ y q before h s e =
     let first = entriesOf bs w w′ l l′ x p in
-    let h′ = play-stands cs v w″ m m′ y q (since before first) (standing-rests (since before first) (play-stands bs w w′ l l′ x p before h) r)
-    in
+    let h₁ = standing-rests (since before first) (play-stands bs w w′ l l′ x p before h) r in
+    let h′ = play-stands cs v w″ m m′ y q (since before first) h₁ in
     standing-demand s h′ (since-both before first (entriesOf cs v w″ m m′ y q) ∙ e)

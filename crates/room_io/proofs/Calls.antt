@@ -87,6 +87,6 @@ sound-read p held Failed = refl
 pub write-sound : {p q : Progress} → WriteSays p q → q .sound ≡ p .sound
 write-sound w = ap (λ (x : Progress). x .sound) (w .is)
 
--- no program that leaves bytes pending at its end has written them: a serve without its last write does not meet its contract
+-- a serve that answers how far it was before its last write does not meet its contract where bytes were pending
 pub unwritten-left : {p : Progress} → 0 < p .pending → WriteSays p p → ⊥
 unwritten-left {p} some says = let e : p .pending ≡ 0 = ap (λ (q : Progress). q .pending) (says .is) in omega arith

@@ -15,7 +15,7 @@ broughtOf (pos zero) room = End
 broughtOf (pos (suc k)) room = Bytes (min (suc k) room)
 broughtOf (negsuc k) room = Failed
 
--- what a read brought is what C's read answered
+-- what a read brought is what some answer of C's read says
 pub record ReadSays (room : ℕ) (b : Brought) : Type 0 where
   pub got : ℤ
   pub moved : Moved room got
@@ -39,7 +39,7 @@ abbrev pub afterWrite : Progress → Bool → Progress
 afterWrite p isWritten =
     record { start = p .start; end = p .end; pending = 0; ended = p .ended; done = not isWritten; sound = p .sound }
 
--- how far the program is after a write is what the write answered
+-- how far the program is after a write is what some answer of a write leaves
 pub record WriteSays (p q : Progress) : Type 0 where
   pub isWritten : Bool
   pub is : q ≡ afterWrite p isWritten

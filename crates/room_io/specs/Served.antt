@@ -104,7 +104,7 @@ abbrev pub endless : ℕ
 endless = 4_611_686_018_427_387_904
 
 -- the turns went on until one was the last, unless 2^62 bytes and more were read; whatever ended them, no other text was handed on than the
--- book's; how it stands at the end is what a write of what was pending then answered
+-- book's; how it stands at the end is what some answer of a write leaves
 pub record Served (w w′ i i′ o o′ : List ℕ) (end : Progress) : Type 0 where
   pub turns : ℕ
   pub last : State

@@ -57,15 +57,6 @@ module _ {m N : ℕ} {rows : Rows} (wf : WellFormed m N rows) where
     }
 
   -- the short cases
-  pub one-left : {s a b : ℕ} → Arrow rows b → b ≢ 0 → a ≡ 1 → Apart m rows s a b → ⊥
-  one-left {s} {a} {b} u n e p =
-      let d = differ wf b 0 u tt n in
-      let w : Val = d .at in
-      let v : Val = (λ l. w (l - s)) in
-      let back : lift s v ≡ w = fun-ext (λ l. ap w (let z : (l + s) - s ≡ l = omega arith in z)) in
-      let on : den m rows b w ≡ true = not-false _ (λ q. d .apart (q ∙ sym (den-zero m rows w))) in
-      p .none v (ap (λ (x : ℕ). den m rows x v) e ∙ den-one m rows v) (ap (den m rows b) back ∙ on)
-
   pub one-right : {s a b : ℕ} → Arrow rows a → a ≢ 0 → b ≡ 1 → Apart m rows s a b → ⊥
   one-right {s} {a} {b} u n e p =
       let d = differ wf a 0 u tt n in

@@ -12,3 +12,6 @@ pub mod Contained
 pub mod Masks
 pub mod CellsLaws
 pub mod TablesLaws
+pub mod ListsLaws
+pub mod LaidLaws
+pub mod WalkLaws

@@ -1,19 +1,19 @@
 -- What the check of registers and relations against V asks and tells: to lie within V is to be apart from NOT V. Assumes nothing.
 use mathlib.Core.Path.{_≡_}
-use mathlib.Core.List.{List, List·Memᴰ·head as here}
+use mathlib.Core.List.{List}
 use mathlib.Core.Bool.{Bool, true, false}
-use Prim.Native.Nat.{ℕ, suc, _+_, _*_, _%_, _≤_, _<_, min}
+use Prim.Native.Nat.{ℕ, suc, _+_, _-_, _*_, _≤_, _<_}
 use lib.ListN.{length}
 use Rattle.diagram.specs.Rows.{Rows, Arrow, levelOf, follow}
 use Rattle.diagram.specs.Even.{ReadsOn, even}
 use Rattle.layout.specs.Places.{HEADER, BITS, USED, FIRST-REGISTER, FIRST-RELATION, ROOTS-END}
 use Rattle.layout.specs.View.{View}
-use Rattle.layout.specs.Arrows.{isRow, rowOf}
+use Rattle.layout.specs.Arrows.{rowOf}
 use Rattle.rows.specs.Used.{rowsOf}
 use Rattle.rows.specs.Says.{Says}
 use Rattle.rows.specs.Within.{denOf}
 use Rattle.rows.specs.Sound.{Good}
-use Rattle.soundness.specs.Apart.{Apart, Half}
+use Rattle.soundness.specs.Apart.{Apart}
 use Rattle.soundness.specs.declared.within.Pass.{Pass}
 use Rattle.soundness.specs.declared.within.Pass.the-variants.{Now, Next, Both}
 use Rattle.rows.specs.Roots.{Ref}
@@ -30,15 +30,10 @@ Clear W b Now = AllApart W 0 FIRST-REGISTER ROOTS-END b
 Clear W b Next = AllApart W 1 FIRST-RELATION ROOTS-END b
 Clear W b Both = AllApart W 0 FIRST-REGISTER ROOTS-END b × AllApart W 1 FIRST-RELATION ROOTS-END b
 
--- a root is empty or apart from arrow b
-abbrev pub RefApart : View → ℕ → ℕ → ℕ → Type 0
-RefApart W s r b = (a : ℕ) → r ≡ suc a → Apart (2 * W .header BITS) (rowsOf W) s a b
-
--- the base from which tables decide, and the lists of tables: with a place for each used row, and those of V's arrows; both right
+-- the base from which tables decide, that of the last ten levels, and the lists of tables: with a place for each used row, and those of
+-- V's arrows; both right
 pub record Lists (W : View) (s base : ℕ) (xs ys : List ℕ) : Type 0 where
-  pub even-base : base % 2 ≡ 0
-  pub fit : 2 * W .header BITS ≤ base + 10
-  pub bound : base ≤ 2 * W .header BITS
+  pub last : base ≡ 2 * W .header BITS - 10
   pub room : (W .header USED ≤ length xs) × (length ys ≡ SETS)
   pub first : Known W base s 0 xs
   pub second : Sets W base s ys
@@ -56,11 +51,6 @@ pub record Against (W : View) (b : ℕ) : Type 0 where
   pub arrow : Arrow (rowsOf W) b
   pub reads : ReadsOn even (denOf W b)
 
-pub record ApartPre (W : View) (s base a b : ℕ) (memo xs ys : List ℕ) : Type 0 where
-  pub asks : Asks W s base memo xs ys
-  pub left : Arrow (rowsOf W) a
-  pub against : Against W b
-
 -- what it tells of P, with the pairs and tables that it leaves
 pub record Tells (W : View) (s base : ℕ) (memo xs ys : List ℕ) (P : Type 0) (r : Bool) : Type 0 where
   pub says : Says P r
@@ -72,19 +62,9 @@ pub record Tells (W : View) (s base : ℕ) (memo xs ys : List ℕ) (P : Type 0) 
 pub record Deep (W : View) (base b : ℕ) : Type 0 where
   pub level : base ≤ levelOf (2 * W .header BITS) (rowsOf W) b
 
-pub record TablesPre (W : View) (s base a b : ℕ) (xs ys : List ℕ) : Type 0 where
-  pub good : Good W
-  pub shift : s ≤ 1
-  pub lists : Lists W s base xs ys
-  pub left : Arrow (rowsOf W) a
-  pub against : Against W b
-  pub rows : (isRow a ≡ true) × (isRow b ≡ true)
-  pub deep : Deep W base b
-
-pub record TablesPost (W : View) (s base a b : ℕ) (xs ys : List ℕ) (r : Bool) : Type 0 where
-  pub says : Says (Apart (2 * W .header BITS) (rowsOf W) s a b) r
-  pub first : Known W base s 0 xs
-  pub second : Sets W base s ys
+-- how many arrows a list has at most
+abbrev pub MANY : ℕ
+MANY = 64
 
 -- what the roots in some words of the header ask
 pub record RootsPre (W : View) (s start stop b : ℕ) : Type 0 where
@@ -92,12 +72,15 @@ pub record RootsPre (W : View) (s start stop b : ℕ) : Type 0 where
   pub shift : s ≤ 1
   pub against : Against W b
   pub order : start ≤ stop
+  pub some : stop ≤ start + MANY
   pub within : stop ≤ HEADER
   pub refs : (h : ℕ) → start ≤ h → h < stop → Ref (rowsOf W) (W .header h)
 
-pub record RefsAsked (W : View) (s base start stop b : ℕ) (xs ys : List ℕ) : Type 0 where
+-- the same with tables of rows, none or right ones
+pub record RefsPre (W : View) (s start stop b : ℕ) (xs : List ℕ) : Type 0 where
   pub roots : RootsPre W s start stop b
-  pub lists : Lists W s base xs ys
+  pub room : W .header USED ≤ length xs
+  pub first : Known W (2 * W .header BITS - 10) s 0 xs
 
 pub record PassPre (W : View) (b : ℕ) : Type 0 where
   pub good : Good W
@@ -108,11 +91,3 @@ pub record PassPre (W : View) (b : ℕ) : Type 0 where
 pub record Halved (rows : Rows) (a own other lo hi : ℕ) : Type 0 where
   pub here : own ≤ other → (lo ≡ follow rows a (rowOf a) false) × (hi ≡ follow rows a (rowOf a) true)
   pub past : other < own → (lo ≡ a) × (hi ≡ a)
-
--- the halves of both, at the lesser level
-pub record Split (W : View) (s a b a0 b0 a1 b1 : ℕ) : Type 0 where
-  pub level : ℕ
-  pub lesser : level ≡ min (levelOf (2 * W .header BITS) (rowsOf W) a) (levelOf (2 * W .header BITS) (rowsOf W) b + s)
-  pub shallow : level < 2 * W .header BITS
-  pub of-left : Half (2 * W .header BITS) (rowsOf W) 0 level a a0 a1
-  pub of-second : Half (2 * W .header BITS) (rowsOf W) s level b b0 b1

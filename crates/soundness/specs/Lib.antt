@@ -10,4 +10,5 @@ pub mod Contained
 pub mod Masks
 pub mod Cells
 pub mod Tables
+pub mod Lists
 pub mod Posts

@@ -9,7 +9,7 @@ use Rattle.soundness.specs.Apart.{Apart}
 
 -- how many words the remembered pairs have
 abbrev pub PAIR-WORDS : ℕ
-PAIR-WORDS = 2048
+PAIR-WORDS = 1024
 
 -- each remembered pair is apart
 pub record Right (m : ℕ) (rows : Rows) (s : ℕ) (memo : List ℕ) : Type 0 where

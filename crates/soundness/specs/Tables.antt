@@ -20,7 +20,7 @@ FEW = 2048
 
 -- how many places the tables of V have
 abbrev pub SETS : ℕ
-SETS = 2048
+SETS = 1024
 
 -- NOT where b
 abbrev pub carriedCells : Bool → ℕ → ℕ

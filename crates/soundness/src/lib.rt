@@ -1,4 +1,5 @@
 // Whether words are a sound table.
+mod arrows;
 pub mod chains;
 mod tables;
 mod within;

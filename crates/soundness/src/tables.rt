@@ -10,7 +10,7 @@ ghost use Prim.Native.Nat.{_*_, _+_, _≤_};
 ghost use lib.ListN.{getD, set};
 ghost use Rattle.layout.specs.Places.{RANK};
 ghost use Rattle.layout.specs.View.{view, cellOf};
-ghost use Rattle.layout.specs.Arrows.{isRow, isMarked};
+ghost use Rattle.layout.specs.Arrows.{isMarked};
 ghost use Rattle.rows.specs.Says.{Says};
 ghost use Rattle.soundness.specs.Masks.{lowMask, highMask};
 ghost use Rattle.soundness.specs.Cells.{Classed, Disjoint, joined};
@@ -175,8 +175,8 @@ fn table_of(
     carried(a, table)
 }
 
-// The table of an arrow to a row. It is apart, so that it is inlined: a remembered table costs no call.
-pub fn row_cells(
+// The same where most tables are remembered. It is apart, so that it is inlined: a remembered table costs no call.
+pub fn arrow_cells(
     words: &[u32],
     rows: u32,
     base: u32,
@@ -185,9 +185,12 @@ pub fn row_cells(
     a: u32,
     memo: &mut [u64],
 ) -> u64
-    requires { ⌜ TablePre (view rows (now words)) base shift up a (now memo) × (isRow a ≡ true) ⌝ }
+    requires { ⌜ TablePre (view rows (now words)) base shift up a (now memo) ⌝ }
     ensures { λ r. ⌜ TablePost (view rows (now (words .entry))) base shift up a r (now (memo .exit)) ⌝ }
 {
+    if a < 2 {
+        return table_of(words, rows, base, shift, up, a, memo);
+    }
     let known = recall(words, rows, memo, row_of(a));
     if known != 0 {
         return carried(a, known);
@@ -226,7 +229,7 @@ pub fn set_cells(
     requires { ⌜ SetsPre (view rows (now words)) base shift b (now memo) ⌝ }
     ensures { λ r. ⌜ SetsPost (view rows (now (words .entry))) base shift b r (now (memo .exit)) ⌝ }
 {
-    let k = (at % 2048) as usize;
+    let k = (at % 1024) as usize;
     let known = memo[k];
     if known / Cells::HALF == b as u64 {
         return known;

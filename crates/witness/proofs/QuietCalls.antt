@@ -341,7 +341,9 @@ module _ {N k a c R : ℕ} (x : Setting N k a c R) where
 
   -- and without them: a refused call that keeps all words stores nothing
   pub from-after : Trace (List ℕ) performs rests (afterRun N k) (closing a c R) (end N k)
-  from-after = quiet (pause (refused-rests not-read (λ e. absurd (omega arith))) (pause (refused-rests not-there (λ e. absurd (omega arith))) further))
+  from-after =
+      quiet (pause (refused-rests not-read (λ e. absurd (omega arith)))
+      (pause (refused-rests not-there (λ e. absurd (omega arith))) further))
 
   -- and from the search on
   pub from-mid : Trace (List ℕ) performs rests (midway N k) (closing a c R) (end N k)

@@ -92,15 +92,7 @@ impl<'a> Asker<'a> {
     ) -> Result<Asker<'a>, Difference> {
         let made = Table::new(&mut [Account::unlimited()], room.bits(), limits.rows);
         let table = made.map_err(|refusal| unforeseen(refusal, "the empty table"))?;
-        let mut asker = Asker {
-            room,
-            walk,
-            plan,
-            limits,
-            table,
-            refused: None,
-            peak: 0,
-        };
+        let mut asker = Asker::again(room, walk, plan, limits, table);
         match asker.load() {
             Ok(()) => Ok(asker),
             Err(Halt::Differs(difference)) => Err(difference),
@@ -111,9 +103,28 @@ impl<'a> Asker<'a> {
         }
     }
 
-    /// Whether the presses and the start fit into the table.
-    pub fn is_loaded(&self) -> bool {
-        self.refused.is_none()
+    /// Goes on with a table that an asker of the same room has loaded.
+    pub fn again(
+        room: &'a Room,
+        walk: &'a Walk,
+        plan: &'a Plan,
+        limits: Limits,
+        table: Table<Vec<u32>>,
+    ) -> Asker<'a> {
+        Asker {
+            room,
+            walk,
+            plan,
+            limits,
+            table,
+            refused: None,
+            peak: 0,
+        }
+    }
+
+    /// The table with the presses and the start; none where they do not fit into it.
+    pub fn loaded(self) -> Option<Table<Vec<u32>>> {
+        self.refused.is_none().then_some(self.table)
     }
 
     fn load(&mut self) -> Result<(), Halt> {
@@ -151,6 +162,16 @@ impl<'a> Asker<'a> {
             Ok(verdict) => Ok(verdict),
             Err(Halt::Differs(difference)) => Err(difference),
             Err(Halt::Refused(refusal)) => Ok(Verdict::None(ending(refusal, "the question")?)),
+        }
+    }
+
+    /// Tells where the library finds a question safe that presses were seen to break.
+    pub fn is_broken_too(&mut self, place: usize) -> Result<(), Difference> {
+        match self.ask(place)? {
+            Verdict::Safe(_) => Err(Difference {
+                says: "the presses made break it, and the table says that it is safe".to_string(),
+            }),
+            _ => Ok(()),
         }
     }
 

@@ -1,5 +1,6 @@
 //! Two rooms side by side: what a change of the rules changes.
 use crate::ask::{Answer, Verdict};
+use crate::changes;
 use crate::echo::{self, grouped};
 use crate::room::{Change, Cond, Effect, Named, Part, Question, Room, Rule, State};
 use crate::walk::{members, Set, Walk};
@@ -212,15 +213,7 @@ pub fn press(old: &Side, new: &Side, press: &str, changed: &Set) -> String {
 
 /// What a press does in a state, by what it leads to.
 fn outcome(room: &Room, from: State, results: &[State]) -> String {
-    let change = |to: &State| {
-        let parts = room.parts.iter();
-        let other = parts.filter(|part| part.value(from) != part.value(*to));
-        let said: Vec<String> = other.map(|p| echo::value(p, p.value(*to))).collect();
-        match said.is_empty() {
-            true => "nothing changes".to_string(),
-            false => said.join(", "),
-        }
-    };
+    let change = |to: &State| changes::said(room, from, *to);
     match results {
         [] => "does not work".to_string(),
         _ => results.iter().map(change).collect::<Vec<_>>().join(" or "),
@@ -238,28 +231,31 @@ fn word(verdict: &Verdict) -> &'static str {
 
 /// The verdicts before and after; one that is the same stands once.
 pub fn verdicts(old: &Side, new: &Side) -> String {
-    let list = |side: &Side| -> Vec<(String, &'static str)> {
+    // What is asked, the verdict, and the question's line: one that is now expected to be broken is the same question.
+    let list = |side: &Side| -> Vec<(String, &'static str, String)> {
         let questions = side.room.questions.iter().zip(side.answers);
-        questions
-            .map(|(q, answer)| (echo::asked(side.room, &q.asked), word(&answer.verdict)))
-            .collect()
+        let words = |(q, answer): (&Question, &Answer)| {
+            let asked = echo::asked(side.room, &q.asked);
+            (asked, word(&answer.verdict), echo::question(side.room, q))
+        };
+        questions.map(words).collect()
     };
     let (before, after) = (list(old), list(new));
-    let find = |list: &[(String, &'static str)], asked: &str| {
-        (list.iter().find(|(other, _)| other == asked)).map(|(_, word)| *word)
+    let find = |list: &[(String, &'static str, String)], asked: &str| {
+        (list.iter().find(|(other, ..)| other == asked)).map(|(_, word, _)| *word)
     };
     let mut text = String::new();
-    for (asked, now) in &after {
+    for (asked, now, line) in &after {
         let says = match find(&before, asked) {
             Some(then) if then == *now => now.to_string(),
             Some(then) => format!("{then} -> {now}"),
             None => format!("asked now: {now}"),
         };
-        text += &format!("{says:<25}{asked}\n");
+        text += &format!("{says:<25}{line}\n");
     }
-    for (asked, then) in &before {
+    for (asked, then, line) in &before {
         if find(&after, asked).is_none() {
-            text += &format!("{:<25}{asked}\n", format!("asked before: {then}"));
+            text += &format!("{:<25}{line}\n", format!("asked before: {then}"));
         }
     }
     text

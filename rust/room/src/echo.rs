@@ -1,5 +1,5 @@
 //! A room as text: what was understood, as a room file that reads the same.
-use crate::room::{Asked, Change, Cond, Effect, Part, Room, Rule, State};
+use crate::room::{Asked, Change, Cond, Effect, Part, Question, Room, Rule, State};
 use crate::sense;
 
 /// The text of a room, with what each press keeps and how many states each condition has.
@@ -20,7 +20,7 @@ pub fn echo(room: &Room) -> String {
     }
     text.push('\n');
     for question in &room.questions {
-        text += &(asked(room, &question.asked) + "\n");
+        text += &(self::question(room, question) + "\n");
     }
     text
 }
@@ -58,18 +58,29 @@ fn start(room: &Room) -> String {
 }
 
 fn rule_lines(room: &Room, states: &[State], rule: &Rule) -> String {
-    let effects: Vec<String> = rule.effects.iter().map(|e| effect(room, e)).collect();
-    let mut text = format!("press {}: {}", rule.press, effects.join(", "));
+    let mut text = format!("press {}: {}", rule.press, effects(room, rule));
     if let Some(when) = &rule.when {
         text += &format!(" when {}{}", cond(room, when), counted(room, states, when));
     }
+    let kept = kept(room, rule);
+    match kept.is_empty() {
+        true => text + "\n",
+        false => text + &format!("\n    # keeps {kept}\n"),
+    }
+}
+
+/// What a line of a press does.
+pub fn effects(room: &Room, rule: &Rule) -> String {
+    let effects: Vec<String> = rule.effects.iter().map(|e| effect(room, e)).collect();
+    effects.join(", ")
+}
+
+/// The names of what a line of a press keeps.
+pub fn kept(room: &Room, rule: &Rule) -> String {
     let named = |at: usize| rule.effects.iter().any(|effect| effect.part == at);
     let kept = (room.parts.iter().enumerate()).filter(|(at, _)| !named(*at));
     let kept: Vec<&str> = kept.map(|(_, part)| part.name.as_str()).collect();
-    match kept.is_empty() {
-        true => text + "\n",
-        false => text + &format!("\n    # keeps {}\n", kept.join(", ")),
-    }
+    kept.join(", ")
 }
 
 fn effect(room: &Room, effect: &Effect) -> String {
@@ -89,7 +100,17 @@ pub fn value(part: &Part, value: u32) -> String {
     }
 }
 
-/// A question, as its line says it.
+/// A question's whole line.
+pub fn question(room: &Room, question: &Question) -> String {
+    let expected = if question.expect_broken {
+        "expect BROKEN: "
+    } else {
+        ""
+    };
+    format!("{expected}{}", asked(room, &question.asked))
+}
+
+/// What a question asks, as its line says it.
 pub fn asked(room: &Room, asked: &Asked) -> String {
     match asked {
         Asked::Never(x) => format!("never {}", cond(room, x)),
@@ -132,12 +153,13 @@ fn inner(room: &Room, c: &Cond) -> String {
 
 /// How many states meet a condition, as a comment.
 fn counted(room: &Room, states: &[State], c: &Cond) -> String {
+    format!("   # {}", count(room, states, c))
+}
+
+/// How many states meet a condition.
+pub fn count(room: &Room, states: &[State], c: &Cond) -> String {
     let count = sense::count(room, states, c);
-    format!(
-        "   # {} of {} states",
-        grouped(count),
-        grouped(room.states())
-    )
+    format!("{} of {} states", grouped(count), grouped(room.states()))
 }
 
 /// What is on in a state, and where the selectors stand.

@@ -1,11 +1,14 @@
 //! The command `room`.
+mod closed;
+mod handover;
 mod options;
+mod walking;
 
 use kudzuclamp::Refusal;
 use options::{Mode, Options};
 use room::ask::{Answer, Asker, Difference, Limits, Verdict};
 use room::diff::{self, Side};
-use room::mistake::Mistake;
+use room::mistake::{Mistake, MOST_SHOWN};
 use room::orders::Others;
 use room::plan::{self, Plan};
 use room::report::{self, Outcome};
@@ -15,9 +18,6 @@ use room::{compare, echo, explain, read, records, sense};
 use std::fs::File;
 use std::io::{self, IsTerminal, Read, Write};
 use std::process::ExitCode;
-
-/// At most so many mistakes are shown.
-const MOST_SHOWN: usize = 20;
 
 /// The most bytes of a file.
 const MOST_BYTES: u64 = 1_000_000;
@@ -36,7 +36,7 @@ impl From<io::Error> for Stop {
 }
 
 fn main() -> ExitCode {
-    let done = match options::command(std::env::args().skip(1)) {
+    let done = match words().and_then(options::command) {
         Ok(options::Command::Run(options)) => run(&options),
         Ok(options::Command::Print(text)) => print(&text, Outcome::Safe),
         Err(says) => {
@@ -59,9 +59,21 @@ fn main() -> ExitCode {
     ExitCode::from(outcome.status())
 }
 
+/// The words of the command line. A word that is no text is refused, as it could not be told in messages.
+fn words() -> Result<std::vec::IntoIter<String>, String> {
+    let words: Result<Vec<String>, _> = (std::env::args_os().skip(1))
+        .map(std::ffi::OsString::into_string)
+        .collect();
+    match words {
+        Ok(words) => Ok(words.into_iter()),
+        Err(word) => Err(format!("{} is no text (UTF-8)", word.to_string_lossy())),
+    }
+}
+
 /// Writes to standard output. Where nobody reads on, as with `room FILE | head`, the status is all that is left to say.
 fn print(text: &str, outcome: Outcome) -> Result<Outcome, Stop> {
     let mut out = io::stdout().lock();
+    closed::check()?;
     match out.write_all(text.as_bytes()).and_then(|()| out.flush()) {
         Err(error) if error.kind() != io::ErrorKind::BrokenPipe => Err(error.into()),
         _ => Ok(outcome),
@@ -96,6 +108,7 @@ fn run(options: &Options) -> Result<Outcome, Stop> {
                 ),
             }
         }
+        Mode::Sheet => handover::sheet(options),
         _ => match understood(&options.file) {
             Ok((room, plan)) => answer(&room, &plan, options),
             Err(says) => refuse(&says),
@@ -108,6 +121,7 @@ fn answer(room: &Room, plan: &Plan, options: &Options) -> Result<Outcome, Stop> 
     match options.mode {
         Mode::Echo => print(&echo::echo(room), Outcome::Safe),
         Mode::Records => write_records(room, plan, options, shown_name(&options.file)),
+        Mode::Walk => walking::walk(room, plan, options),
         _ => ask(room, plan, options),
     }
 }
@@ -125,13 +139,17 @@ fn shown_name(name: &str) -> &str {
     }
 }
 
-/// The bytes of a file, or why there are none.
-fn contents(name: &str) -> Result<Vec<u8>, String> {
-    let read = match name {
+/// The bytes of a file.
+fn bytes_of(name: &str) -> io::Result<Vec<u8>> {
+    match name {
         "-" => limited(io::stdin()),
         _ => File::open(name).and_then(limited),
-    };
-    read.map_err(|error| format!("room: {} cannot be read: {error}\n", shown_name(name)))
+    }
+}
+
+/// The bytes of a file, or that there are none.
+fn contents(name: &str) -> Result<Vec<u8>, String> {
+    bytes_of(name).map_err(|error| format!("room: {} cannot be read: {error}\n", shown_name(name)))
 }
 
 /// All bytes, where they are not too many; no more of them are read.
@@ -148,13 +166,17 @@ fn limited(from: impl Read) -> io::Result<Vec<u8>> {
 
 /// The room in a file and its calls, or what is wrong with the file.
 fn understood(file: &str) -> Result<(Room, Plan), String> {
-    let (bytes, name) = (contents(file)?, shown_name(file));
-    let text = std::str::from_utf8(&bytes).map_err(|error| {
+    room_in(&contents(file)?, shown_name(file)).map_err(|(_, says)| says)
+}
+
+/// The room in the bytes of a file and its calls; or how many mistakes there are, and what they are.
+fn room_in(bytes: &[u8], name: &str) -> Result<(Room, Plan), (usize, String)> {
+    let text = std::str::from_utf8(bytes).map_err(|error| {
         let before = &bytes[..error.valid_up_to()];
         let line = 1 + before.iter().filter(|byte| **byte == b'\n').count();
-        format!("{name}, line {line}: this is no text (UTF-8)\n")
+        (1, format!("{name}, line {line}: this is no text (UTF-8)\n"))
     })?;
-    planned(text).map_err(|mistakes| refused(&mistakes, name, text))
+    planned(text).map_err(|mistakes| (mistakes.len(), refused(&mistakes, name, text)))
 }
 
 /// The room and its calls, or every mistake in the text.
@@ -207,11 +229,11 @@ fn ask(room: &Room, plan: &Plan, options: &Options) -> Result<Outcome, Stop> {
     for note in report::notes(room, &walk) {
         text += &format!("Note: {note}\n");
     }
-    text += &report::summary(&answers);
+    text += &report::summary(room, &answers);
     if options.peak {
         text += &report::rows_needed(room, &answers, questions.asker.peak);
     }
-    print(&(text + quick()), report::outcome(&answers))
+    print(&(text + quick()), report::outcome(room, &answers))
 }
 
 /// A line for builds whose library is not proved.
@@ -263,10 +285,10 @@ fn compare(before: &Room, after: &(Room, Plan), options: &Options) -> Result<Out
         shown_name(old.name),
         shown_name(new.name),
         diff::verdicts(&old, &new),
-        report::summary(&new_answers),
+        report::summary(new.room, &new_answers),
         quick()
     );
-    print(&text, report::outcome(&new_answers))
+    print(&text, report::outcome(new.room, &new_answers))
 }
 
 /// States that can come and what presses do, of two rooms with the same things, each held against the library.

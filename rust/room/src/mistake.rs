@@ -1,6 +1,9 @@
 //! What is wrong with a room file: the line, the word, and what to do.
 use crate::words::Word;
 
+/// At most so many mistakes are shown.
+pub const MOST_SHOWN: usize = 20;
+
 #[derive(Clone, Debug, PartialEq, Eq)]
 pub struct Mistake {
     /// The line and column, counted from 1, and how many characters are meant; line 0 is the whole

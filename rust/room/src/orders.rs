@@ -1,10 +1,10 @@
 //! Other orders of a room's parts in the table. How many rows a set needs hangs on that order alone: parts that conditions
 //! name together should stand together. A room whose bits are in another order has the same states, presses and names.
 use crate::ask::{Answer, Asker, Difference, Limits, Verdict};
-use crate::plan::plan;
+use crate::plan::{plan, Plan};
 use crate::room::{Cond, Room};
 use crate::walk::Walk;
-use kudzuclamp::Refusal;
+use kudzuclamp::Table;
 
 /// The parts, by their places, from the lowest bits on.
 pub type Order = Vec<usize>;
@@ -174,7 +174,7 @@ fn moved(groups: &[Order], order: &[usize]) -> Order {
 
 /// The other orders of a room that may still help, that of the last verdict first.
 pub struct Others {
-    rooms: Vec<Room>,
+    orders: Vec<Tried>,
     limits: Limits,
 }
 
@@ -182,7 +182,7 @@ impl Others {
     pub fn new(room: &Room, limits: Limits) -> Others {
         let rooms = orders(room).into_iter().map(|order| ordered(room, &order));
         Others {
-            rooms: rooms.collect(),
+            orders: rooms.map(Tried::new).collect(),
             limits,
         }
     }
@@ -190,47 +190,90 @@ impl Others {
     /// The verdict on a question by the first order in which the table is large enough, and the room in that order.
     pub fn ask(&mut self, place: usize) -> Result<Option<Answer>, Difference> {
         let mut at = 0;
-        while at < self.rooms.len() {
-            match asked(&self.rooms[at], place, self.limits)? {
-                Tried::Answered(verdict) => {
-                    self.rooms[..=at].rotate_right(1);
-                    let ordered = Some(self.rooms[0].clone());
-                    return Ok(Some(Answer { verdict, ordered }));
-                }
-                Tried::Full => at += 1,
-                // Nor will it for another question.
-                Tried::DoesNotLoad => drop(self.rooms.remove(at)),
+        while at < self.orders.len() {
+            let order = &mut self.orders[at];
+            if let Some(verdict) = order.ask(place, self.limits)? {
+                let ordered = Some(order.room.clone());
+                self.orders[..=at].rotate_right(1);
+                return Ok(Some(Answer { verdict, ordered }));
+            }
+            match order.may_help() {
+                true => at += 1,
+                false => drop(self.orders.remove(at)),
             }
         }
         Ok(None)
     }
 }
 
-/// What comes of a question in an order.
-enum Tried {
-    Answered(Verdict),
-    Full,
-    DoesNotLoad,
+/// An order, and what came of it so far.
+struct Tried {
+    room: Room,
+    /// What it takes to ask, kept where the order has given a verdict.
+    loaded: Option<Loaded>,
+    does_not_load: bool,
+    answered: usize,
+    unanswered: usize,
 }
 
-fn asked(room: &Room, place: usize, limits: Limits) -> Result<Tried, Difference> {
-    let Ok(plan) = plan(room) else {
-        return Ok(Tried::DoesNotLoad);
-    };
-    let walk = Walk::new(room);
-    let mut asker = Asker::new(room, &walk, &plan, limits)?;
-    if !asker.is_loaded() {
-        return Ok(Tried::DoesNotLoad);
+struct Loaded {
+    walk: Walk,
+    plan: Plan,
+    table: Table<Vec<u32>>,
+}
+
+impl Tried {
+    fn new(room: Room) -> Tried {
+        Tried {
+            room,
+            loaded: None,
+            does_not_load: false,
+            answered: 0,
+            unanswered: 0,
+        }
     }
-    Ok(match asker.ask(place)? {
-        Verdict::None(Refusal::Full) => Tried::Full,
-        verdict => Tried::Answered(verdict),
-    })
+
+    /// Whether it is worth another question. So a room's questions are asked in other orders at most twice each, and sixteen
+    /// times more.
+    fn may_help(&self) -> bool {
+        !self.does_not_load && self.unanswered < self.answered + 2
+    }
+
+    /// The verdict on a question, where this order gives one.
+    fn ask(&mut self, place: usize, limits: Limits) -> Result<Option<Verdict>, Difference> {
+        let Some(loaded) = self.load(limits)? else {
+            self.does_not_load = true;
+            return Ok(None);
+        };
+        let Loaded { walk, plan, table } = loaded;
+        let mut asker = Asker::again(&self.room, &walk, &plan, limits, table);
+        let verdict = Some(asker.ask(place)?).filter(|found| !matches!(found, Verdict::None(_)));
+        match verdict {
+            Some(_) => self.answered += 1,
+            None => self.unanswered += 1,
+        }
+        let table = asker.loaded().filter(|_| self.answered > 0);
+        self.loaded = table.map(|table| Loaded { walk, plan, table });
+        Ok(verdict)
+    }
+
+    /// What it takes to ask; none where the presses do not fit into the table.
+    fn load(&mut self, limits: Limits) -> Result<Option<Loaded>, Difference> {
+        if let Some(loaded) = self.loaded.take() {
+            return Ok(Some(loaded));
+        }
+        let Ok(plan) = plan(&self.room) else {
+            return Ok(None);
+        };
+        let walk = Walk::new(&self.room);
+        let table = Asker::new(&self.room, &walk, &plan, limits)?.loaded();
+        Ok(table.map(|table| Loaded { walk, plan, table }))
+    }
 }
 
 #[cfg(test)]
 mod tests {
-    use super::{ordered, orders, Others, MOST_TRIED};
+    use super::{ordered, orders, Others, Tried, MOST_TRIED};
     use crate::ask::{Asker, Limits, Verdict};
     use crate::plan::plan;
     use crate::read::read;
@@ -313,9 +356,46 @@ mod tests {
         for (place, good) in kinds(&good).iter().enumerate() {
             let answer = others.ask(place).unwrap().expect("another order helps");
             assert_eq!(kinds(&[answer.verdict])[0], *good);
-            assert_eq!(answer.ordered.as_ref(), Some(&others.rooms[0]));
+            assert_eq!(answer.ordered.as_ref(), Some(&others.orders[0].room));
         }
         // A table that is too small for every order gives no verdict.
         assert!(Others::new(&room, limits(30)).ask(0).unwrap().is_none());
+        // Rounds that are used up are no verdict either.
+        let (rows, rounds) = (rows - 1, 1);
+        let mut others = Others::new(&room, Limits { rows, rounds });
+        assert!(others.ask(0).unwrap().is_none() && !others.orders.is_empty());
+    }
+
+    /// An order that gives no verdict twice is not tried again; one that gives some is, as often.
+    #[test]
+    fn orders_are_given_up() {
+        let room = alike(5);
+        let (_, fewest) = verdicts(&ordered(&room, &orders(&room)[0]), 60_000);
+        let limits = Limits {
+            rows: fewest - 1,
+            rounds: u32::MAX,
+        };
+        let mut others = Others::new(&room, limits);
+        let left: Vec<usize> = (0..3)
+            .map(|_| {
+                assert!(others.ask(0).unwrap().is_none());
+                others.orders.len()
+            })
+            .collect();
+        assert!(left[0] > 0 && left[1..] == [0, 0], "{left:?}");
+        let mut others = Others::new(
+            &room,
+            Limits {
+                rows: fewest,
+                ..limits
+            },
+        );
+        for place in [0, 1, 2, 0, 1, 2] {
+            assert!(others.ask(place).unwrap().is_some());
+        }
+        // What a verdict took is kept for the next question, and nothing else.
+        let kept = |order: &Tried| order.loaded.is_some();
+        assert!((others.orders.iter()).all(|order| kept(order) == (order.answered > 0)));
+        assert!(kept(&others.orders[0]));
     }
 }

@@ -103,52 +103,62 @@ fn store(place: u32, formula: Formula, says: String) -> Store {
 
 /// The calls of a question over so many relations.
 fn asking(room: &Room, asked: &Asked, relations: u32) -> Asking {
-    let set = |register: u32, cond: &Cond| {
+    let mut sets = conditions(room, asked);
+    let (inner, answer, holds) = answers(asked, relations);
+    sets.extend(inner);
+    closed(room, sets, answer, holds)
+}
+
+/// The sets that a question names.
+fn conditions(room: &Room, asked: &Asked) -> Vec<Store> {
+    let set = |(register, cond): (u32, &Cond)| {
         let formula = valid::within(room, rules::condition(room, cond));
         let says = format!("where {}", echo::cond(room, cond));
         store(register, formula, says)
     };
-    let two = |x: &Cond, y: &Cond| vec![set(FIRST, x), set(SECOND, y)];
+    match asked {
+        Asked::Works(press, x) => vec![set((FIRST, &room.fails(press, x)))],
+        _ => {
+            let registers = [FIRST, SECOND, THIRD].into_iter();
+            registers.zip(asked.conditions()).map(set).collect()
+        }
+    }
+}
+
+/// The inner answer of a question, where it has one, and its answer; and whether that has the states in which the question holds.
+fn answers(asked: &Asked, relations: u32) -> (Option<Store>, Store, bool) {
     let [first, second, third, inner] = [FIRST, SECOND, THIRD, INNER].map(Formula::register);
+    let before = |formula: Formula, says: &str| Some(store(INNER, formula, says.to_string()));
+    let answer = |formula: Formula, says: &str| store(ANSWER, formula, says.to_string());
     let there = leads_to(relations, &first);
     let (leads, passes) = (
         "from where presses lead there",
         "from where every run of presses passes",
     );
-    let (sets, (formula, says), holds) = match asked {
-        Asked::Never(x) => (vec![set(FIRST, x)], (there, leads), false),
-        Asked::Possible(x) => (vec![set(FIRST, x)], (there, leads), true),
-        Asked::Works(press, x) => {
-            let fails = set(FIRST, &room.fails(press, x));
-            (vec![fails], (there, leads), false)
-        }
-        Asked::AlwaysPossible(x) => {
+    match asked {
+        Asked::Never(_) | Asked::Works(..) => (None, answer(there, leads), false),
+        Asked::Possible(_) => (None, answer(there, leads), true),
+        Asked::AlwaysPossible(_) => {
             let formula = Formula::nu(0, inner & every(relations, &Formula::var(0)));
-            let sets = vec![set(FIRST, x), store(INNER, there, leads.to_string())];
             let says = "from where they still do after any presses";
-            (sets, (formula, says), true)
+            (before(there, leads), answer(formula, says), true)
         }
-        Asked::Until(x, y) => (two(x, y), (until(relations, &first, &second), passes), true),
-        Asked::Unless(x, y) => (
-            two(x, y),
-            (unless(relations, &first, &second), passes),
-            true,
-        ),
-        Asked::Whenever(x, y, z) => {
+        Asked::Until(..) => {
+            let formula = until(relations, &first, &second);
+            (None, answer(formula, passes), true)
+        }
+        Asked::Unless(..) => {
+            let formula = unless(relations, &first, &second);
+            (None, answer(formula, passes), true)
+        }
+        Asked::Whenever(..) => {
             let fails = leads_to(relations, &(first & !inner));
-            let formula = unless(relations, &second, &third);
-            let inner = store(INNER, formula, passes.to_string());
             let says =
                 "from where presses lead to the first, and some run from there does not pass";
-            (
-                vec![set(FIRST, x), set(SECOND, y), set(THIRD, z), inner],
-                (fails, says),
-                false,
-            )
+            let formula = unless(relations, &second, &third);
+            (before(formula, passes), answer(fails, says), false)
         }
-    };
-    let answer = store(ANSWER, formula, says.to_string());
-    closed(room, sets, answer, holds)
+    }
 }
 
 /// The calls with the answer, and what of the start is in it.

@@ -1,16 +1,23 @@
 //! What the words of a room file say.
+mod advice;
 mod conditions;
+mod expected;
 mod presses;
 
 use crate::mistake::{similar, Mistake};
-use crate::room::{width_of, Asked, Named, Part, Question, Room, MAX_BITS};
+use crate::room::{width_of, Asked, Named, Part, Question, Room, State, MAX_BITS};
 use crate::words::{self, Word, RESERVED};
-use std::collections::HashMap;
+use advice::{implies, no_works, works_whenever};
+use expected::awaits_a_question;
+use std::collections::{HashMap, HashSet};
 
 /// The words that begin a line.
-const FIRST_WORDS: [&str; 8] = [
-    "things", "selector", "start", "press", "never", "always", "possible", "whenever",
+const FIRST_WORDS: [&str; 9] = [
+    "things", "selector", "start", "press", "never", "always", "possible", "whenever", "expect",
 ];
+
+/// The most names that lines with "means" give.
+pub const MOST_NAMES: usize = 1_000;
 
 /// What a line's reading gives; a line that is given up has told its mistake already.
 type Read<T> = Result<T, GivenUp>;
@@ -23,6 +30,7 @@ pub fn read(text: &str) -> Result<Room, Vec<Mistake>> {
     let lines = words::lines(text.strip_prefix('\u{feff}').unwrap_or(text));
     let mut reader = Reader {
         declared: declared(&lines),
+        buttons: buttons(&lines),
         ..Reader::default()
     };
     for words in &lines {
@@ -41,6 +49,35 @@ pub fn read(text: &str) -> Result<Room, Vec<Mistake>> {
     }
 }
 
+/// The state that a text says as the line `start:` would, of a room that was read; a thing's name alone says that it is on.
+pub fn state(room: &Room, text: &str) -> Result<State, Vec<Mistake>> {
+    let on = |item: &str| match room.parts.iter().find(|part| part.name == item.trim()) {
+        Some(part) if !part.is_selector() => format!("{item} on"),
+        _ => item.to_string(),
+    };
+    let items: Vec<String> = text.split(',').map(on).collect();
+    let line = format!("start: {}", items.join(","));
+    let mut reader = Reader {
+        room: Room {
+            parts: room.parts.clone(),
+            named: room.named.clone(),
+            ..Room::default()
+        },
+        ..Reader::default()
+    };
+    for words in &words::lines(&line) {
+        let _ = reader.line(Line { words, at: 0 });
+    }
+    if reader.room.any_start {
+        let says = "say one state, such as \"all off\"".to_string();
+        reader.mistakes.push(Mistake::line(1, says));
+    }
+    match reader.mistakes.is_empty() {
+        true => Ok(reader.room.start),
+        false => Err(reader.mistakes),
+    }
+}
+
 /// Every name that some line seems to declare, with that line.
 fn declared<'a>(lines: &[Vec<Word<'a>>]) -> HashMap<&'a str, usize> {
     let mut found = HashMap::new();
@@ -56,6 +93,16 @@ fn declared<'a>(lines: &[Vec<Word<'a>>]) -> HashMap<&'a str, usize> {
         }
     }
     found
+}
+
+/// Every button that some line seems to press.
+fn buttons(lines: &[Vec<Word>]) -> HashSet<String> {
+    let presses = lines.iter().filter(|words| words[0].text == "press");
+    let named = presses.filter_map(|words| {
+        let colon = words.iter().position(|word| word.text == ":")?;
+        Some(joined(&words[1..colon]))
+    });
+    named.collect()
 }
 
 /// The words of a line, and how far they are read.
@@ -102,6 +149,7 @@ struct Reader<'a> {
     presses: Vec<String>,
     asked_presses: Vec<(Word<'a>, String)>,
     declared: HashMap<&'a str, usize>,
+    buttons: HashSet<String>,
     mistakes: Vec<Mistake>,
 }
 
@@ -117,7 +165,8 @@ impl<'a> Reader<'a> {
         let mut from = 0;
         for at in 1..words.len() {
             let new_line = words[at].line > words[at - 1].line;
-            if new_line && begins_a_line(&words[at..]) && words[at - 1].text != "always" {
+            let begins = begins_a_line(&words[at..]) && !awaits_a_question(&words[from..at]);
+            if new_line && begins && words[at - 1].text != "always" {
                 let says = format!(
                     "\"{}\" begins a line of its own, at the left edge: take the blanks before it away",
                     words[at].text
@@ -135,6 +184,8 @@ impl<'a> Reader<'a> {
         let first = line.words[0];
         let second = line.words.get(1).map_or("", |word| word.text);
         match first.text {
+            // A button may be called like a word that begins a line.
+            _ if works_whenever(line.words).is_some() => self.works(&mut line),
             "things" => self.things(&mut line),
             "selector" => self.selector(&mut line),
             "start" => self.start(&mut line),
@@ -143,6 +194,7 @@ impl<'a> Reader<'a> {
             "always" => self.always_possible(&mut line),
             "possible" => self.possible(&mut line),
             "whenever" => self.whenever(&mut line),
+            "expect" => self.expect(&mut line),
             _ if second == "means" => self.means(&mut line),
             _ if line.words.iter().any(|word| word.text == "whenever") => self.works(&mut line),
             _ if (line.words.iter()).any(|word| joins_two(&word.text.to_lowercase())) => {
@@ -181,19 +233,16 @@ impl<'a> Reader<'a> {
 
     /// Tells the buttons that a question names and no press does.
     fn known_presses(&mut self) {
+        let known: HashSet<String> = self.presses.iter().cloned().collect();
         for (word, label) in std::mem::take(&mut self.asked_presses) {
-            if self.presses.contains(&label) {
-                continue;
+            if !known.contains(&label) {
+                let says = self.no_press(&label);
+                self.mistakes.push(Mistake::at(&word, says));
             }
-            let mut says = format!("no press is called \"{label}\"");
-            if let Some(other) = similar(&label, self.presses.iter().map(String::as_str)) {
-                says += &format!(". Is \"{other}\" meant?");
-            }
-            self.mistakes.push(Mistake::at(&word, says));
         }
     }
 
-    fn no_line(&mut self, line: &Line) -> Read<()> {
+    fn no_line(&mut self, line: &Line<'a, '_>) -> Read<()> {
         let first = line.words[0];
         if !first.is_name() && !first.text.is_ascii() {
             return self.wrong(&first, strange(first.text));
@@ -202,21 +251,13 @@ impl<'a> Reader<'a> {
             let lacks = format!("\"{}\" begins no line", first.text);
             return self.wrong(&first, implies(line.words, &lacks));
         }
-        if let Some(word) = similar(first.text, FIRST_WORDS.into_iter()) {
-            return self.wrong(
-                &first,
-                format!(
-                    "no line begins with \"{}\". Is \"{word}\" meant?",
-                    first.text
-                ),
-            );
-        }
+        self.other_line(line)?;
         if let Some(second) = line.words.get(1) {
             if similar(second.text, ["means"].into_iter()).is_some() {
                 return self.wrong(second, not_understood(second.text, "means"));
             }
         }
-        let says = "a line begins with things, selector, start, press, never, possible, always possible or whenever, or it is \
+        let says = "a line begins with things, selector, start, press, never, possible, always possible, whenever or expect, or it is \
                     \"NAME means ...\", \"... until ...\", \"... unless ...\" or \"BUTTON works whenever ...\"";
         self.wrong(&first, says.to_string())
     }
@@ -285,9 +326,10 @@ impl<'a> Reader<'a> {
             );
         }
         let mut texts: Vec<String> = Vec::new();
+        let mut known = HashSet::new();
         for word in positions {
             self.reserved(&word)?;
-            if texts.iter().any(|text| text == word.text) {
+            if !known.insert(word.text) {
                 return self.wrong(
                     &word,
                     format!("\"{}\" has the position \"{}\" twice", name.text, word.text),
@@ -379,6 +421,10 @@ impl<'a> Reader<'a> {
     fn means(&mut self, line: &mut Line<'a, '_>) -> Read<()> {
         let name = line.words[0];
         line.at = 2;
+        if self.room.named.len() == MOST_NAMES {
+            let says = "this name does not fit: a room has at most 1,000 of them";
+            return self.wrong(&name, says.to_string());
+        }
         self.free(&name)?;
         let (means, size) = self.condition(line)?;
         self.end(line)?;
@@ -395,13 +441,20 @@ impl<'a> Reader<'a> {
 
     fn never(&mut self, line: &mut Line<'a, '_>) -> Read<()> {
         line.next();
+        if line.is("possible") {
+            return self.never_instead(line.words, 1);
+        }
         let (cond, _) = self.condition(line)?;
+        self.never_until(line)?;
         self.question(line, Asked::Never(cond))
     }
 
     fn always_possible(&mut self, line: &mut Line<'a, '_>) -> Read<()> {
         let keyword = line.words[0];
         line.next();
+        if line.is("impossible") {
+            return self.never_instead(line.words, 1);
+        }
         if !line.take("possible") {
             let says = "write \"always possible: ...\" for what presses can always lead to, or \"never not ...\" for what must hold in \
                         every state";
@@ -445,11 +498,13 @@ impl<'a> Reader<'a> {
     /// `BUTTON works whenever X`.
     fn works(&mut self, line: &mut Line<'a, '_>) -> Read<()> {
         let words = line.words;
-        let whenever = words.iter().position(|word| word.text == "whenever");
+        let after = works_whenever(words).map(|works| works + 1);
+        let whenever = after.or(words.iter().position(|word| word.text == "whenever"));
         let whenever = whenever.unwrap_or_default();
         let verb = words[whenever.max(1) - 1];
         if verb.text != "works" {
-            return self.wrong(&verb, not_understood(verb.text, "works"));
+            let says = no_works(&words[..whenever.max(1) - 1], verb.text);
+            return self.wrong(&verb, says);
         }
         if whenever < 2 {
             let says = "say which button: BUTTON works whenever ...";
@@ -481,22 +536,13 @@ impl<'a> Reader<'a> {
     fn question(&mut self, line: &Line, asked: Asked) -> Read<()> {
         self.end(line)?;
         let line = line.words[0].line;
-        self.room.questions.push(Question { line, asked });
+        self.room.questions.push(Question {
+            line,
+            asked,
+            expect_broken: false,
+        });
         Ok(())
     }
-}
-
-/// What to write for "whenever X: Y", in whatever words, where something is lacking: the opposite must never be.
-fn implies(words: &[Word], lacks: &str) -> String {
-    let middle = (words.iter()).position(|word| matches!(word.text, ":" | "," | "then"));
-    let example = match middle {
-        Some(at) if at > 1 && at + 1 < words.len() => {
-            let (x, y) = (quoted(&words[1..at]), quoted(&words[at + 1..]));
-            format!("never {x} and not {y}")
-        }
-        _ => "never X and not Y".to_string(),
-    };
-    format!("{lacks}. What must hold in every such state: write \"{example}\"")
 }
 
 /// Whether words can only be the beginning of a line.
@@ -516,8 +562,8 @@ fn meant(text: &str) -> Option<&'static str> {
     }
 }
 
-/// Words as they stand, one blank between those that do not touch; in parentheses where there are several.
-fn quoted(words: &[Word]) -> String {
+/// Words as they stand, one blank between those that do not touch.
+fn joined(words: &[Word]) -> String {
     let mut text = String::new();
     for (at, word) in words.iter().enumerate() {
         if at > 0 && !words[at - 1].touches(word) {
@@ -525,9 +571,14 @@ fn quoted(words: &[Word]) -> String {
         }
         text += word.text;
     }
+    text
+}
+
+/// The same, in parentheses where there are several.
+fn quoted(words: &[Word]) -> String {
     match words.len() {
-        1 => text,
-        _ => format!("({text})"),
+        1 => joined(words),
+        _ => format!("({})", joined(words)),
     }
 }
 

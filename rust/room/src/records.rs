@@ -2,7 +2,7 @@
 use crate::ask::Limits;
 use crate::echo::{self, grouped};
 use crate::plan::{Plan, Store};
-use crate::room::{Question, Room};
+use crate::room::Room;
 use kudzuclamp::Refusal;
 
 /// The words that `roomrules` lends, and the most rows for which they are enough.
@@ -124,8 +124,9 @@ fn text(room: &Room, list: &[Record], name: &str) -> String {
     let mut question = None;
     for record in list {
         if let Some(place) = record.question.filter(|_| question != record.question) {
-            let Question { line, asked } = &room.questions[place];
-            text += &format!("\n# line {line}: {}\n", echo::asked(room, asked));
+            let question = &room.questions[place];
+            let asked = echo::question(room, question);
+            text += &format!("\n# line {}: {asked}\n", question.line);
         }
         question = record.question;
         text += &format!("# {}\n", record.says);

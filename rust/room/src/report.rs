@@ -1,7 +1,9 @@
 //! Verdicts in words.
 use crate::ask::{press, Answer, Difference, Limits, Verdict};
+use crate::changes;
 use crate::echo::{self, grouped};
-use crate::room::{Asked, Question, Room, Rule};
+use crate::finding::{findings, worst, Finding};
+use crate::room::{Asked, Cond, Question, Room, Rule, State};
 use crate::walk::{members, End, Run, Walk};
 use crate::{orders, sense};
 use kudzuclamp::Refusal;
@@ -26,15 +28,12 @@ impl Outcome {
     }
 }
 
-/// The worst outcome of all verdicts: broken, else no verdict, else safe.
-pub fn outcome(answers: &[Answer]) -> Outcome {
-    let is = |wanted: fn(&Verdict) -> bool| answers.iter().any(|answer| wanted(&answer.verdict));
-    if is(|verdict| matches!(verdict, Verdict::Broken(_))) {
-        Outcome::Broken
-    } else if is(|verdict| matches!(verdict, Verdict::None(_))) {
-        Outcome::NoVerdict
-    } else {
-        Outcome::Safe
+/// The worst outcome of all verdicts: not as it should be, else no verdict, else safe.
+pub fn outcome(room: &Room, answers: &[Answer]) -> Outcome {
+    match worst(&findings(room, answers)) {
+        Finding::Broken | Finding::Unexpected => Outcome::Broken,
+        Finding::NoVerdict => Outcome::NoVerdict,
+        Finding::Safe | Finding::AsExpected => Outcome::Safe,
     }
 }
 
@@ -46,25 +45,31 @@ pub fn verdict(
     limits: Limits,
     whole: bool,
 ) -> String {
+    let found = Finding::new(question, verdict);
     let asked = echo::asked(room, &question.asked);
+    let mut text = format!("{:<12}{}{asked}\n", found.word(), found.verdict());
+    if found == Finding::Unexpected {
+        text += &format!("            {}\n", gone(question));
+    }
     match verdict {
-        Verdict::Safe(None) => format!("SAFE        {asked}\n"),
-        Verdict::Safe(Some(run)) => format!(
-            "SAFE        {asked}\n{}",
-            shown(room, &question.asked, run, whole)
-        ),
-        Verdict::Broken(run) => format!(
-            "BROKEN      {asked}\n{}",
-            shown(room, &question.asked, run, whole)
-        ),
-        Verdict::None(refusal) => format!(
-            "NO VERDICT  {asked}\n            {}\n",
-            cause(*refusal, limits)
-        ),
+        Verdict::Safe(None) => text,
+        Verdict::Safe(Some(run)) | Verdict::Broken(run) => {
+            text + &shown(room, &question.asked, run, whole)
+        }
+        Verdict::None(refusal) => text + &format!("            {}\n", cause(*refusal, limits)),
     }
 }
 
-fn cause(refusal: Refusal, limits: Limits) -> String {
+/// What to do where a fault that is expected is not there.
+pub fn gone(question: &Question) -> String {
+    format!(
+        "Line {} expects it to be BROKEN: that fault is gone. If it is mended, take \"expect BROKEN:\" away.",
+        question.line
+    )
+}
+
+/// Why there is no verdict.
+pub fn cause(refusal: Refusal, limits: Limits) -> String {
     match refusal {
         Refusal::Full => format!(
             "The table is full: a step needs more than its {} rows. Not safe, not broken: unknown.{}",
@@ -78,47 +83,47 @@ fn cause(refusal: Refusal, limits: Limits) -> String {
     }
 }
 
-/// A run, a line for each press.
+/// A run, a line for each press with what it changes. The state stands in whole at the start, at the end, and behind presses that
+/// are left out.
 fn shown(room: &Room, asked: &Asked, run: &Run, whole: bool) -> String {
     let presses = run.states.len() - 1;
-    let steps: Vec<(String, String)> = (run.states.windows(2))
-        .map(|pair| {
-            let name = press(room, pair[0], pair[1]).unwrap_or("?");
-            (name.to_string(), echo::state(room, pair[1]))
-        })
+    let names: Vec<&str> = (run.states.windows(2))
+        .map(|pair| press(room, pair[0], pair[1]).unwrap_or("?"))
         .collect();
-    let widest = steps
-        .iter()
-        .map(|(name, _)| name.chars().count())
-        .max()
-        .unwrap_or(0)
-        .max("start".len());
+    let lengths = names.iter().map(|name| name.chars().count());
+    let widest = lengths.max().unwrap_or(0).max("start".len());
     let digits = presses.to_string().len();
-    let line = |number: &str, name: &str, state: &str| {
-        format!("  {number:>digits$}  {name:widest$}  {state}\n")
+    let line = |number: &str, name: &str, says: &str| {
+        format!("  {number:>digits$}  {name:widest$}  {says}\n")
     };
-    let farthest = room.any_start && matches!(asked, Asked::Possible(_));
-    let mut text = format!("  {}\n", introduction(run, presses, farthest));
-    text += &line("", "start", &echo::state(room, run.states[0]));
+    let state = |name: &str, at: usize| line("", name, &echo::state(room, run.states[at]));
+    let step = |at: usize| {
+        let change = changes::said(room, run.states[at], run.states[at + 1]);
+        line(&(at + 1).to_string(), names[at], &change)
+    };
+    let mut text = format!("  {}\n", introduction(room, asked, run));
+    text += &state("start", 0);
     let hidden = match whole || presses <= FIRST_STEPS + LAST_STEPS {
         true => presses..presses,
         false => FIRST_STEPS..presses - LAST_STEPS,
     };
-    for (at, (name, state)) in steps.iter().enumerate() {
-        if at == hidden.start && !hidden.is_empty() {
-            text += &format!(
-                "  ... {} presses more; --whole-run shows them\n",
-                grouped(hidden.len() as u32)
-            );
-        }
-        if !hidden.contains(&at) {
-            text += &line(&(at + 1).to_string(), name, state);
-        }
+    text.extend((0..hidden.start).map(step));
+    if !hidden.is_empty() {
+        let count = grouped(hidden.len() as u32);
+        text += &format!("  ... {count} presses more; --whole-run shows them\n");
+        text += &state("then", hidden.end);
+    }
+    text.extend((hidden.end..presses).map(step));
+    if presses > 0 {
+        text += &state("end", presses);
     }
     text + &closing(room, asked, run.end)
 }
 
-fn introduction(run: &Run, presses: usize, farthest: bool) -> String {
+/// The line above a run.
+pub fn introduction(room: &Room, asked: &Asked, run: &Run) -> String {
+    let presses = run.states.len() - 1;
+    let farthest = room.any_start && matches!(asked, Asked::Possible(_));
     let from = match farthest && run.end == End::Reached {
         true => " from the start that is farthest from there",
         false => "",
@@ -135,7 +140,7 @@ fn introduction(run: &Run, presses: usize, farthest: bool) -> String {
 }
 
 /// What is wrong at the end of a run, where the question does not say it by itself.
-fn closing(room: &Room, asked: &Asked, end: End) -> String {
+pub fn closing(room: &Room, asked: &Asked, end: End) -> String {
     let mut conds = asked.conditions().into_iter();
     let mut said = || conds.next().map_or(String::new(), |c| echo::cond(room, c));
     let (first, second, third) = (said(), said(), said());
@@ -144,6 +149,9 @@ fn closing(room: &Room, asked: &Asked, end: End) -> String {
     };
     match (end, asked) {
         (End::Reached, _) => String::new(),
+        (End::NoWay, Asked::Until(..)) => {
+            format!("  From there no presses lead to \"{second}\" with \"{first}\" up to it.\n")
+        }
         (End::NoWay, _) => format!("  From there no presses lead to \"{first}\".\n"),
         (End::Lost, _) => lost(&first, &second),
         (End::LostSince(place), _) => {
@@ -199,27 +207,34 @@ pub fn heading(room: &Room) -> String {
 }
 
 /// The last line.
-pub fn summary(answers: &[Answer]) -> String {
-    let count = |wanted: fn(&Verdict) -> bool| {
-        (answers.iter())
-            .filter(|answer| wanted(&answer.verdict))
-            .count()
+pub fn summary(room: &Room, answers: &[Answer]) -> String {
+    let found = findings(room, answers);
+    let count = |wanted: Finding| found.iter().filter(|finding| **finding == wanted).count();
+    let (worst, of) = (worst(&found), answers.len());
+    let said = match (worst, count(worst)) {
+        (Finding::Safe, 1) => return "SAFE.\n".to_string(),
+        (Finding::Safe, _) => return format!("SAFE: all {of} questions.\n"),
+        (Finding::AsExpected, broken) if broken < of => {
+            return format!("AS EXPECTED: {broken} of {of} questions BROKEN, the others SAFE.\n")
+        }
+        (Finding::AsExpected, _) => return "AS EXPECTED: BROKEN.\n".to_string(),
+        (Finding::Unexpected, gone) => format!("{gone} of {of} questions{GONE}"),
+        (_, bad) => format!("{bad} of {of} questions"),
     };
-    let broken = count(|verdict| matches!(verdict, Verdict::Broken(_)));
-    let none = count(|verdict| matches!(verdict, Verdict::None(_)));
-    let of = answers.len();
-    match outcome(answers) {
-        Outcome::Safe if of == 1 => "SAFE.\n".to_string(),
-        Outcome::Safe => format!("SAFE: all {of} questions.\n"),
-        Outcome::Broken if none == 0 => {
-            format!("BROKEN: {broken} of {of} questions. Do not hand over.\n")
-        }
-        Outcome::Broken => {
-            format!("BROKEN: {broken} of {of} questions, and {none} without a verdict. Do not hand over.\n")
-        }
-        _ => format!("NO VERDICT: {none} of {of} questions. Do not hand over.\n"),
-    }
+    let also = |wanted: Finding, says: &str| match count(wanted) {
+        number if number > 0 && wanted < worst => format!(", and {number}{says}"),
+        _ => String::new(),
+    };
+    format!(
+        "{}: {said}{}{}. Do not hand over.\n",
+        worst.word(),
+        also(Finding::Unexpected, GONE),
+        also(Finding::NoVerdict, " without a verdict")
+    )
 }
+
+/// Said of a known fault that is not there.
+const GONE: &str = " SAFE and expected BROKEN";
 
 /// How many rows are enough, where every question has its verdict in the file's order; else, which have none.
 pub fn rows_needed(room: &Room, answers: &[Answer], peak: u32) -> String {
@@ -258,18 +273,57 @@ pub fn order(answer: &Answer) -> String {
             "In the file's order of things the table is full. This verdict is by the order: {}",
             orders::names(room)
         ),
-        None => "Other orders of the things in the table do not help.".to_string(),
+        None => "No other order of the things in the table was found to help.".to_string(),
     };
     format!("            {says}\n")
 }
 
+/// Questions that are SAFE whatever the presses do: what they speak of does not come, or has come at the start.
+fn empty_questions(room: &Room, walk: &Walk, states: &[State]) -> Vec<String> {
+    let starts = members(&walk.starts);
+    let holds = |cond: &Cond, state: &State| room.holds(cond, *state);
+    let mut notes = Vec::new();
+    for question in &room.questions {
+        let said = |cond: &Cond| format!("\"{}\"", echo::cond(room, cond));
+        let (empty, why) = match &question.asked {
+            Asked::Works(_, x) | Asked::Whenever(x, ..) => (
+                !states.iter().any(|state| holds(x, state)),
+                format!("no presses lead to {}", said(x)),
+            ),
+            Asked::Until(_, y) | Asked::Unless(_, y) => (
+                starts.iter().all(|state| holds(y, state)),
+                format!("{} holds at the start already", said(y)),
+            ),
+            _ => continue,
+        };
+        if empty {
+            notes.push(format!(
+                "line {}: {why}, so this says nothing.",
+                question.line
+            ));
+        }
+    }
+    notes
+}
+
 /// What is no mistake, but may not be meant.
 pub fn notes(room: &Room, walk: &Walk) -> Vec<String> {
+    let states = members(&walk.reached());
+    let mut notes = unused(room);
+    notes.extend(presses(room, &states));
+    notes.extend(empty_questions(room, walk, &states));
+    notes
+}
+
+/// Parts that nothing changes, and names that nothing uses.
+fn unused(room: &Room) -> Vec<String> {
+    let changed = |place: usize| {
+        let mut effects = room.rules.iter().flat_map(|rule| &rule.effects);
+        effects.any(|effect| effect.part == place)
+    };
     let mut notes = Vec::new();
-    for part in &room.parts {
-        let place = room.parts.iter().position(|other| other.name == part.name);
-        let changes = |rule: &Rule| rule.effects.iter().any(|effect| Some(effect.part) == place);
-        if !room.rules.iter().any(changes) {
+    for (place, part) in room.parts.iter().enumerate() {
+        if !changed(place) {
             notes.push(format!(
                 "no press changes {}: it stays as it is at the start.",
                 part.name
@@ -284,7 +338,12 @@ pub fn notes(room: &Room, walk: &Walk) -> Vec<String> {
             ));
         }
     }
-    let states = members(&walk.reached());
+    notes
+}
+
+/// Lines of presses that work in none of some states, and such that do one or the other.
+fn presses(room: &Room, states: &[State]) -> Vec<String> {
+    let mut notes = Vec::new();
     for rule in &room.rules {
         if !states.iter().any(|&state| room.works(rule, state)) {
             notes.push(format!(
@@ -294,12 +353,12 @@ pub fn notes(room: &Room, walk: &Walk) -> Vec<String> {
         }
     }
     for (at, rule) in room.rules.iter().enumerate() {
+        let differ = |other: &Rule, state: u32| {
+            let (one, two) = (room.pressed(other, state), room.pressed(rule, state));
+            one.is_some() && two.is_some() && one != two
+        };
         let both = room.rules[..at].iter().find(|other| {
-            let differ = |state: u32| {
-                let (one, two) = (room.pressed(other, state), room.pressed(rule, state));
-                one.is_some() && two.is_some() && one != two
-            };
-            other.press == rule.press && states.iter().any(|&state| differ(state))
+            other.press == rule.press && states.iter().any(|&state| differ(other, state))
         });
         if let Some(other) = both {
             notes.push(format!(

@@ -139,6 +139,8 @@ impl Asked {
 pub struct Question {
     pub line: usize,
     pub asked: Asked,
+    /// Whether the file expects it to be broken: a known fault, kept as a test.
+    pub expect_broken: bool,
 }
 
 #[derive(Clone, Debug, Default, PartialEq, Eq)]

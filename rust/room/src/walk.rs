@@ -154,43 +154,41 @@ impl Walk {
     /// The sets of a question.
     pub fn sets(&self, room: &Room, asked: &Asked) -> Sets {
         let set = |cond: &Cond| self.set(room, cond);
-        let lead_to = |first: Set| {
-            let answer = self.leads_to(&first);
-            (first, answer)
-        };
-        let (mut second, mut third, mut inner) = (None, None, None);
-        let (first, answer) = match asked {
-            Asked::Never(x) | Asked::Possible(x) => lead_to(set(x)),
-            Asked::Works(press, x) => lead_to(set(&room.fails(press, x))),
-            Asked::AlwaysPossible(x) => {
-                let (first, possible) = lead_to(set(x));
-                let outside = self.leads_to(&self.without(inner.insert(possible)));
-                (first, self.without(&outside))
-            }
-            Asked::Until(x, y) => {
-                let (first, comes) = (set(x), second.insert(set(y)));
-                let answer = self.until(&first, comes);
-                (first, answer)
-            }
-            Asked::Unless(x, y) => {
-                let (first, comes) = (set(x), second.insert(set(y)));
-                let answer = self.unless(&first, comes);
-                (first, answer)
-            }
-            Asked::Whenever(x, y, z) => {
-                let (first, holds, comes) = (set(x), second.insert(set(y)), third.insert(set(z)));
-                let passes = inner.insert(self.unless(holds, comes));
-                let fails = (first.iter().zip(&*passes)).map(|(x, p)| *x && !p);
-                let answer = self.leads_to(&fails.collect());
-                (first, answer)
-            }
-        };
+        let mut named = match asked {
+            Asked::Works(press, x) => vec![set(&room.fails(press, x))],
+            _ => asked.conditions().into_iter().map(set).collect(),
+        }
+        .into_iter();
+        let (first, second, third) = (named.next().unwrap_or_default(), named.next(), named.next());
+        let none = Set::new();
+        let [y, z] = [&second, &third].map(|set| set.as_ref().unwrap_or(&none));
+        let (inner, answer) = self.answers(asked, &first, y, z);
         Sets {
             first,
             second,
             third,
             inner,
             answer,
+        }
+    }
+
+    /// The inner answer of a question by the sets that it names, where it has one, and its answer.
+    fn answers(&self, asked: &Asked, first: &Set, second: &Set, third: &Set) -> (Option<Set>, Set) {
+        match asked {
+            Asked::Never(_) | Asked::Possible(_) | Asked::Works(..) => (None, self.leads_to(first)),
+            Asked::AlwaysPossible(_) => {
+                let possible = self.leads_to(first);
+                let outside = self.leads_to(&self.without(&possible));
+                (Some(possible), self.without(&outside))
+            }
+            Asked::Until(..) => (None, self.until(first, second)),
+            Asked::Unless(..) => (None, self.unless(first, second)),
+            Asked::Whenever(..) => {
+                let passes = self.unless(second, third);
+                let fails = (first.iter().zip(&passes)).map(|(x, p)| *x && !p);
+                let answer = self.leads_to(&fails.collect());
+                (Some(passes), answer)
+            }
         }
     }
 
@@ -240,7 +238,7 @@ impl Walk {
     }
 
     /// For each state, the fewest presses into a set, through states of another set before; none where no presses lead there.
-    fn distances_to(&self, into: &Set, through: &Set) -> Vec<Option<usize>> {
+    pub(crate) fn distances_to(&self, into: &Set, through: &Set) -> Vec<Option<usize>> {
         let mut distance: Vec<Option<usize>> = vec![None; self.next.len()];
         let mut layer = members(into);
         for &state in &layer {

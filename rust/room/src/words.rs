@@ -27,9 +27,10 @@ impl Word<'_> {
 }
 
 /// Words that have a meaning of their own, and can be no names.
-pub const RESERVED: [&str; 21] = [
+pub const RESERVED: [&str; 22] = [
     "things", "selector", "start", "press", "means", "never", "always", "possible", "until",
     "unless", "whenever", "when", "and", "or", "not", "on", "off", "turns", "over", "all", "any",
+    "expect",
 ];
 
 /// Begins a comment, up to the end of its line.

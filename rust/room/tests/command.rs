@@ -65,12 +65,13 @@ fn the_hall() {
 BROKEN      never howl
   6 presses do it, and no fewer:
      start    all off
-  1  MIC B    mic-B
-  2  START    mic-B, song
-  3  ECHO     mic-B, echo, song, latch
-  4  STOP     mic-B, latch
-  5  MONITOR  mic-B, monitor, latch
-  6  START    mic-B, echo, song, monitor, latch
+  1  MIC B    mic-B on
+  2  START    song on
+  3  ECHO     echo on, latch on
+  4  STOP     echo off, song off
+  5  MONITOR  monitor on
+  6  START    echo on, song on
+     end      mic-B, echo, song, monitor, latch
 SAFE        always possible: quiet
 SAFE        always possible: song
 BROKEN: 1 of 3 questions. Do not hand over.
@@ -137,7 +138,10 @@ fn a_long_run_is_shortened() {
         printed.contains("255 presses do it, and no fewer:"),
         "{printed}"
     );
-    assert!(printed.contains("\n  ... 230 presses more; --whole-run shows them\n"));
+    // The state behind the presses that are left out, and the changes from there on.
+    let rest = "  ... 230 presses more; --whole-run shows them\n       then   t0, t1, t2, t7\n  251  T0     t0 off\n  252  T2     t2 off\n  \
+                253  T0     t0 on\n  254  T1     t1 off\n  255  T0     t0 off\n       end    t7\n";
+    assert!(printed.contains(rest), "{printed}");
     assert_eq!(
         printed.lines().filter(|line| line.contains("  T")).count(),
         25
@@ -194,35 +198,40 @@ fn other_questions() {
 SAFE        possible: mic and lock
   3 presses do it, and no fewer:
      start  all off
-  1  START  song
-  2  MIC    mic, song
-  3  LOCK   mic, song, lock
+  1  START  song on
+  2  MIC    mic on
+  3  LOCK   lock on
+     end    mic, song, lock
 SAFE        possible: mic and not song
   3 presses do it, and no fewer:
      start  all off
-  1  START  song
-  2  MIC    mic, song
-  3  STOP   mic
+  1  START  song on
+  2  MIC    mic on
+  3  STOP   song off
+     end    mic
 BROKEN      START works whenever not song
   One press does it:
      start  all off
-  1  LOCK   lock
+  1  LOCK   lock on
+     end    lock
   There START does not work.
 BROKEN      whenever lock: not mic unless song
   4 presses do it, and no fewer:
      start  all off
-  1  START  song
-  2  MIC    mic, song
-  3  STOP   mic
-  4  LOCK   mic, lock
+  1  START  song on
+  2  MIC    mic on
+  3  STOP   song off
+  4  LOCK   lock on
+     end    mic, lock
   \"lock\" holds after press 4.
   There \"not mic\" does not hold, and \"song\" has not come.
 BROKEN      whenever mic: mic unless not song
   3 presses do it, and no fewer:
      start  all off
-  1  START  song
-  2  MIC    mic, song
-  3  MIC    song
+  1  START  song on
+  2  MIC    mic on
+  3  MIC    mic off
+     end    song
   \"mic\" holds after press 2.
   There \"mic\" does not hold, and \"not song\" has not come.
 BROKEN: 3 of 5 questions. Do not hand over.
@@ -403,12 +412,12 @@ fn circles() {
         )
     };
     let (printed, _, status) = given(&["-"], room("press LAMP: lamp turns over\n").as_bytes());
-    let expected = "BROKEN      not c until song\n  2 presses do it, and no fewer:\n     start  all off\n  1  LAMP   lamp\n  2  LAMP   all off\n  \
+    let expected = "BROKEN      not c until song\n  2 presses do it, and no fewer:\n     start  all off\n  1  LAMP   lamp on\n  2  LAMP   lamp off\n     end    all off\n  \
                     That is the start again, and so on for ever: \"song\" need never come.\nBROKEN: 1 of 1 questions. Do not hand over.\n";
     assert!(printed.ends_with(expected) && status == 1, "{printed}");
     // Without the lamp, C comes sooner than any state comes again.
     let (printed, _, _) = given(&["-"], room("").as_bytes());
-    let expected = "  3 presses do it, and no fewer:\n     start  all off\n  1  A      a\n  2  B      a, b\n  3  C      a, b, c\n  \
+    let expected = "  3 presses do it, and no fewer:\n     start  all off\n  1  A      a on\n  2  B      b on\n  3  C      c on\n     end    a, b, c\n  \
                     There \"c\" does not hold"
         .replace("\"c\"", "\"not c\"");
     assert!(printed.contains(&expected), "{printed}");
@@ -416,8 +425,12 @@ fn circles() {
     let later =
         room("press LAMP: lamp turns over when b\n").replace("c on when b", "c on when b and c");
     let (printed, _, _) = given(&["-"], later.as_bytes());
-    let expected = "  4 presses do it, and no fewer:\n     start  all off\n  1  A      a\n  2  B      a, b\n  3  LAMP   lamp, a, b\n  4  LAMP   a, b\n  \
+    let expected = "  4 presses do it, and no fewer:\n     start  all off\n  1  A      a on\n  2  B      b on\n  3  LAMP   lamp on\n  4  LAMP   lamp off\n     end    a, b\n  \
                     That is the state after press 2 again, and so on for ever: \"song\" need never come.\n";
+    assert!(printed.contains(expected), "{printed}");
+    // A press that works and changes nothing is a way round by itself.
+    let (printed, _, _) = given(&["-"], room("press DARK: lamp off\n").as_bytes());
+    let expected = "  One press does it:\n     start  all off\n  1  DARK   nothing changes\n     end    all off\n  That is the start again";
     assert!(printed.contains(expected), "{printed}");
 }
 
@@ -510,7 +523,7 @@ fn another_order() {
         verdict: room::ask::Verdict::None(kudzuclamp::Refusal::Full),
         ordered: None,
     };
-    let says = "            Other orders of the things in the table do not help.\n";
+    let says = "            No other order of the things in the table was found to help.\n";
     assert_eq!(room::report::order(&none), says);
     assert_eq!(presses(&printed), presses(&written));
 }
@@ -618,7 +631,7 @@ fn command_lines() {
         (&["hall.room", "mended.room"], "one file at a time"),
         (
             &["--echo", "--records", "hall.room"],
-            "one of --echo, --records, --explain and --diff at a time",
+            "one of --echo, --records, --explain, --diff, --sheet and --walk at a time",
         ),
         (&["--diff"], "no file is named"),
         (

@@ -7,6 +7,9 @@ const BEFORE: &str = "things: mic echo song\nselector send: desk hall booth\nsta
 const AFTER: &str = "press MIC: mic turns over\npress START: song on\nnever howl\n";
 /// What is told where "possible" is missing.
 const ALWAYS: &str = "write \"always possible: ...\" for what presses can always lead to, or \"never not ...\" for what must hold in every state";
+/// What is told of a line that is none.
+const LINES: &str = "a line begins with things, selector, start, press, never, possible, always possible, whenever or expect, or it is \
+                     \"NAME means ...\", \"... until ...\", \"... unless ...\" or \"BUTTON works whenever ...\"";
 /// The line that is added.
 const LINE: usize = 5;
 
@@ -66,9 +69,6 @@ fn no_mistake() {
 
 #[test]
 fn lines() {
-    let kinds =
-        "a line begins with things, selector, start, press, never, possible, always possible or whenever, or it is \
-                 \"NAME means ...\", \"... until ...\", \"... unless ...\" or \"BUTTON works whenever ...\"";
     all(&[
         (
             "pres MIC: mic on",
@@ -85,8 +85,8 @@ fn lines() {
             "maens",
             "\"maens\" is not understood. Is \"means\" meant?",
         ),
-        ("mic and echo", "mic", kinds),
-        ("; mic", ";", kinds),
+        ("mic and echo", "mic", LINES),
+        ("; mic", ";", LINES),
         (
             "\u{200b}mic and echo",
             "\u{200b}",
@@ -545,7 +545,7 @@ fn questions() {
         (
             "never howl until song",
             "until",
-            "one line asks one \"until\", outside all parentheses",
+            "without \"never\": write \"not howl until song\"; or \"not howl unless song\", where that need not come",
         ),
         (
             "never hole",
@@ -903,6 +903,103 @@ fn lines_that_go_on() {
     assert_eq!(mistakes(text), []);
 }
 
+/// `expect BROKEN:` stands before a question, on its line or above it.
+#[test]
+fn expected_faults() {
+    let question = "\"expect BROKEN:\" stands before a question, such as \"never howl\"";
+    let write = "write \"expect BROKEN: ...\", with the question behind it";
+    let safe = "every question is expected to be SAFE: leave these words away";
+    let broken = "\"broken\" is not understood. Is \"BROKEN\" meant?";
+    all(&[
+        ("expect", "expect", write),
+        ("expect never howl", "never", write),
+        (
+            "expect BROKEN",
+            "BROKEN",
+            "a colon is missing after \"BROKEN\"",
+        ),
+        (
+            "expect BROKEN never howl",
+            "BROKEN",
+            "a colon is missing after \"BROKEN\"",
+        ),
+        ("expect BROKEN:", ":", "a question is missing after this"),
+        ("expect broken: never howl", "broken", broken),
+        (
+            "expect BRKEN: never howl",
+            "BRKEN",
+            &broken.replace("broken", "BRKEN"),
+        ),
+        ("expect SAFE: never howl", "SAFE", safe),
+        ("expect safe: never howl", "safe", safe),
+        (
+            "expect BROKEN: expect BROKEN: never howl",
+            "expect",
+            question,
+        ),
+        ("expect BROKEN: press ECHO: echo on", "press", question),
+        ("expect BROKEN: loud means mic", "loud", question),
+        ("expect BROKEN: things: lamp", "things", question),
+        ("expect BROKEN: start: all off", "start", question),
+        (
+            "Expect BROKEN: never howl",
+            "Expect",
+            "no line begins with \"Expect\". Is \"expect\" meant?",
+        ),
+        (
+            "expected BROKEN: never howl",
+            "expected",
+            "no line begins with \"expected\". Is \"expect\" meant?",
+        ),
+        (
+            "Expect BROKEN: mic until song",
+            "Expect",
+            "\"Expect\" is not understood. Is \"expect\" meant?",
+        ),
+        (
+            "expect BROKEN: never howel",
+            "howel",
+            "nothing here is called \"howel\". Is \"howl\" meant?",
+        ),
+        ("expect BROKEN: howl", "howl", LINES),
+        (
+            "never expect",
+            "expect",
+            "\"expect\" begins a line of its own, at the left edge",
+        ),
+        (
+            "never mic and howl expect",
+            "expect",
+            "\"expect\" begins a line of its own, at the left edge",
+        ),
+    ]);
+    let (_, says) = told("things: expect");
+    assert_eq!(
+        says,
+        "\"expect\" has a meaning of its own here and can be no name"
+    );
+    for line in [
+        "expect BROKEN: never song",
+        "expect BROKEN:\n  never song",
+        "expect\n  BROKEN:\n\tnot mic until song",
+        "expect BROKEN: always\n  possible: song",
+        "expect BROKEN: MIC works whenever song",
+        "expect BROKEN: whenever mic: not song unless echo",
+    ] {
+        let room = read::read(&format!("{BEFORE}{line}\n{AFTER}")).expect(line);
+        let expected: Vec<(usize, bool)> = (room.questions.iter())
+            .map(|question| (question.line, question.expect_broken))
+            .collect();
+        let last = LINE + line.lines().count() + 2;
+        assert_eq!(expected, [(LINE, true), (last, false)], "{line}");
+    }
+    // Any other line of its own that begins with a blank is told as before.
+    let text = format!("{BEFORE}{AFTER}  expect BROKEN: never mic\n");
+    let says =
+        "\"expect\" begins a line of its own, at the left edge: take the blanks before it away";
+    assert_eq!(only(&text), (8, "expect".to_string(), says.to_string()));
+}
+
 /// Every line with a mistake is told, and each unknown name of a line.
 #[test]
 fn several_mistakes() {
@@ -976,8 +1073,8 @@ fn any_words() {
     let words = [
         "things", "selector", "start", "press", "means", "never", "always", "possible", "until",
         "unless", "whenever", "works", "any", "when", "and", "or", "not", "on", "off", "turns",
-        "over", "all", "mic", "echo", "send", "X", "desk", "hall", "howl", "x", ":", ",", "=", "(",
-        ")", "\n", "\n", "\n", "\n ", "#", "1", ";", "é", "\u{200b}", "-",
+        "over", "all", "expect", "BROKEN", "mic", "echo", "send", "X", "desk", "hall", "howl", "x",
+        ":", ",", "=", "(", ")", "\n", "\n", "\n", "\n ", "#", "1", ";", "é", "\u{200b}", "-",
     ];
     let starts = [
         "things: mic echo\n",

@@ -6,9 +6,12 @@ use room::plan::{plan, Plan, ANSWER, START_IN_ANSWER};
 use room::read::read;
 use room::records::{records, ROOMRULES_ROWS, ROOMRULES_WORDS};
 use room::room::{Asked, Change, Cond, Room, Rule};
+use room::standing::{Judge, Standing};
+use room::stepper::Stepper;
+use room::steps::Steps;
 use room::walk::{End, Run, Walk};
-use room::{compare, diff, sense};
-use std::collections::VecDeque;
+use room::{changes, compare, diff, sense};
+use std::collections::{BTreeMap, VecDeque};
 
 /// Numbers of a small generator, each below a bound.
 struct Drawn(u64);
@@ -321,7 +324,7 @@ fn check(room: &Room, asked: &Asked, run: &Run) {
 
 #[test]
 fn the_library_and_the_walk_agree() {
-    let mut kinds = std::collections::BTreeMap::new();
+    let mut kinds = BTreeMap::new();
     for room in rooms(1, 1_500) {
         for (question, verdict) in room.questions.iter().zip(own(&room)) {
             let kind = match (&question.asked, &verdict) {
@@ -625,4 +628,332 @@ fn limits() {
         }
     }
     assert!(full > 100 && spent > 100, "{full} {spent}");
+}
+
+/// Whether the states of a run break a question by what it means, however the run goes on, and also if it does not.
+fn breaks(room: &Room, asked: &Asked, states: &[u32]) -> bool {
+    let last = states[states.len() - 1];
+    let all = |cond: &Cond, states: &[u32]| states.iter().all(|&state| room.holds(cond, state));
+    let first = |cond: &Cond, states: &[u32]| {
+        let comes = states.iter().position(|&state| room.holds(cond, state));
+        comes.unwrap_or(states.len())
+    };
+    let leads = |from: u32, to: &Cond, through: Option<&Cond>| {
+        let passes = |state| through.is_none_or(|cond| room.holds(cond, state));
+        presses_to(&begins(room, from), |state| room.holds(to, state), passes).is_some()
+    };
+    match asked {
+        Asked::Never(x) => room.holds(x, last),
+        Asked::Works(press, x) => {
+            let mut lines = room.rules.iter().filter(|rule| rule.press == *press);
+            room.holds(x, last) && !lines.any(|rule| room.works(rule, last))
+        }
+        Asked::AlwaysPossible(x) => !leads(last, x, None),
+        Asked::Possible(x) => !leads(states[0], x, None),
+        Asked::Until(x, y) => {
+            let came = first(y, states);
+            let waits = came == states.len();
+            !all(x, &states[..came]) || (waits && !leads(last, y, Some(x)))
+        }
+        Asked::Unless(x, y) => !all(x, &states[..first(y, states)]),
+        Asked::Whenever(x, y, z) => (0..states.len()).any(|since| {
+            let from = &states[since..];
+            room.holds(x, from[0]) && !all(y, &from[..first(z, from)])
+        }),
+    }
+}
+
+/// The states of drawn presses from a start.
+fn drawn_walk(room: &Room, draw: &mut Drawn, most: usize) -> Vec<u32> {
+    let all = room.all_states();
+    let starts: Vec<u32> = all.into_iter().filter(|&s| room.is_start(s)).collect();
+    let mut states = vec![starts[draw.below(starts.len())]];
+    for _ in 0..draw.below(most) {
+        let state = states[states.len() - 1];
+        let next = room
+            .rules
+            .iter()
+            .filter_map(|rule| room.pressed(rule, state));
+        let next: Vec<u32> = next.collect();
+        if next.is_empty() {
+            break;
+        }
+        states.push(next[draw.below(next.len())]);
+    }
+    states
+}
+
+/// The standings in every place of a run.
+fn standings(judge: &Judge, states: &[u32]) -> Vec<Vec<Standing>> {
+    let mut found = vec![judge.start(states[0])];
+    for (at, &state) in states.iter().enumerate().skip(1) {
+        found.push(judge.next(&found[at - 1], at, state));
+    }
+    found
+}
+
+/// The name of an enum's variant.
+fn variant(of: &impl std::fmt::Debug) -> String {
+    let text = format!("{of:?}");
+    text.split('(').next().unwrap_or_default().to_string()
+}
+
+fn is_broken(standing: &Standing) -> bool {
+    matches!(standing, Standing::Broken(..))
+}
+
+/// The way in which a run is said to break a question, in its last state, and in none before unless the state alone does.
+fn said_rightly(room: &Room, asked: &Asked, states: &[u32], end: End) {
+    let (last, before) = states.split_last().unwrap();
+    assert!(breaks(room, asked, states));
+    assert!(before.is_empty() || !breaks(room, asked, before));
+    let holds = |cond: &Cond| room.holds(cond, *last);
+    let works = room.rules.iter().any(|rule| room.works(rule, *last));
+    match (end, asked) {
+        (End::Lost, Asked::Until(x, y) | Asked::Unless(x, y)) => assert!(!holds(x) && !holds(y)),
+        (End::Stuck, Asked::Until(x, _)) => assert!(!works && holds(x)),
+        (End::NoWay, Asked::Until(x, _)) => assert!(works && holds(x)),
+        (End::LostSince(place), Asked::Whenever(x, y, z)) => {
+            let since = &states[place..];
+            assert!(room.holds(x, since[0]) && !holds(y));
+            assert!(since.iter().all(|&state| !room.holds(z, state)));
+        }
+        (End::Reached, Asked::Never(_)) | (End::DoesNotWork, Asked::Works(..)) => {}
+        (End::NoWay, Asked::AlwaysPossible(_) | Asked::Possible(_)) => {}
+        _ => panic!("{asked:?} is not broken so"),
+    }
+}
+
+/// Walks through a room: how often a question is open, and how often it is broken, in which way.
+fn judged(room: &Room, draw: &mut Drawn, kinds: &mut BTreeMap<String, usize>) {
+    let (walk, verdicts) = (Walk::new(room), own(room));
+    let judge = Judge::new(room, &walk);
+    for _ in 0..4 {
+        let states = drawn_walk(room, draw, 12);
+        for (place, standings) in standings(&judge, &states).iter().enumerate() {
+            for (at, standing) in standings.iter().enumerate() {
+                let asked = &room.questions[at].asked;
+                let broken = breaks(room, asked, &states[..=place]);
+                assert_eq!(is_broken(standing), broken, "{asked:?}\n{}", echo(room));
+                assert!(!broken || matches!(verdicts[at], Verdict::Broken(_)));
+                let how = match standing {
+                    Standing::Broken(since, end) => {
+                        said_rightly(room, asked, &states[..=*since], *end);
+                        variant(end)
+                    }
+                    _ => "open".to_string(),
+                };
+                *kinds.entry(variant(asked) + " " + &how).or_insert(0) += 1;
+            }
+        }
+    }
+}
+
+/// A walk is said to break a question exactly where its state, or its run so far, breaks it; and no question that the library finds
+/// safe is ever said to be broken.
+#[test]
+fn walks_break_what_they_are_said_to_break() {
+    let mut draw = Drawn(9);
+    let mut kinds = BTreeMap::new();
+    for room in rooms(9, 600) {
+        judged(&room, &mut draw, &mut kinds);
+    }
+    println!("{kinds:?}");
+    // Seven kinds of questions, open or broken; an until in three ways.
+    assert!(
+        kinds.len() == 16 && kinds.values().all(|&count| count > 20),
+        "{kinds:?}"
+    );
+}
+
+/// The same of untils whose end can come, but not with what must hold up to it: half of the states are bad, and one is the end.
+#[test]
+fn walks_that_can_only_lose() {
+    let mut draw = Drawn(14);
+    let mut kinds = BTreeMap::new();
+    let mut barred = 0;
+    for mut room in rooms(14, 300) {
+        let states = room.all_states();
+        // The condition of more states would be too long for a formula.
+        if states.len() > 24 {
+            continue;
+        }
+        let comes = only(&room, states[draw.below(states.len())]);
+        let bad = states.iter().filter(|_| draw.below(2) == 0);
+        let bad = Cond::Any(bad.map(|&state| only(&room, state)).collect());
+        room.questions.truncate(1);
+        room.questions[0].asked = Asked::Until(Cond::Not(Box::new(bad.clone())), comes.clone());
+        judged(&room, &mut draw, &mut kinds);
+        let start = begins(&room, room.start);
+        let leads = |through: &dyn Fn(u32) -> bool| {
+            presses_to(&start, |state| room.holds(&comes, state), through).is_some()
+        };
+        let waits = !room.holds(&bad, room.start);
+        barred += usize::from(waits && leads(&|_| true) && !leads(&|s| !room.holds(&bad, s)));
+    }
+    println!("{kinds:?}, {barred} from the start on");
+    assert!(kinds.len() == 4 && barred > 5, "{kinds:?} {barred}");
+}
+
+/// Presses that are taken back leave nothing behind.
+#[test]
+fn presses_taken_back() {
+    let mut draw = Drawn(15);
+    let mut undone = 0;
+    for room in rooms(15, 200) {
+        let walk = Walk::new(&room);
+        let (judge, mut steps) = (Judge::new(&room, &walk), Steps::new(&room, &walk));
+        steps.begin(drawn_walk(&room, &mut draw, 1)[0]);
+        for _ in 0..40 {
+            let rule = &room.rules[draw.below(room.rules.len())];
+            match room.pressed(rule, steps.state()) {
+                Some(to) if draw.below(3) > 0 => steps.press((0, None), to),
+                _ => undone += usize::from(steps.undo().is_some()),
+            }
+            let found = standings(&judge, steps.states());
+            assert_eq!(Some(steps.standings()), found.last().map(Vec::as_slice));
+            assert_eq!(steps.states().len(), steps.place() + 1);
+        }
+    }
+    assert!(undone > 1_000, "{undone}");
+}
+
+/// A question that is said to be broken, and is safe by the library, is told.
+#[test]
+fn a_safe_question_is_not_broken() {
+    let (mut told, mut broken) = (0, 0);
+    for room in rooms(13, 100) {
+        let (walk, plan) = (Walk::new(&room), plan(&room).unwrap());
+        let mut asker = Asker::new(&room, &walk, &plan, Limits::LARGEST).unwrap();
+        for (place, verdict) in own(&room).iter().enumerate() {
+            let differs = asker.is_broken_too(place).is_err();
+            assert_eq!(differs, matches!(verdict, Verdict::Safe(_)));
+            told += usize::from(differs);
+            broken += usize::from(!differs);
+        }
+    }
+    assert!(told > 20 && broken > 20, "{told} {broken}");
+}
+
+/// The run into trouble that a verdict shows breaks its question in its last state, and not before; an until may be lost sooner, or
+/// its last state was there before.
+#[test]
+fn runs_into_trouble_are_said_to_break_at_their_end() {
+    let (mut sooner, mut round) = (0, 0);
+    for room in rooms(10, 1_500) {
+        let walk = Walk::new(&room);
+        let judge = Judge::new(&room, &walk);
+        for (at, verdict) in own(&room).iter().enumerate() {
+            let Verdict::Broken(run) = verdict else {
+                continue;
+            };
+            let found = standings(&judge, &run.states);
+            let first = found.iter().position(|standings| is_broken(&standings[at]));
+            let last = run.states.len() - 1;
+            match (&room.questions[at].asked, run.end) {
+                (Asked::Until(..), End::Circle(place)) => {
+                    round += usize::from(first.is_none());
+                    assert!(run.states[place] == run.states[last]);
+                }
+                (Asked::Until(..), _) => {
+                    sooner += usize::from(first < Some(last));
+                    assert!(first.is_some());
+                }
+                _ => assert_eq!(first, Some(last), "{}", echo(&room)),
+            }
+        }
+    }
+    assert!(sooner > 10 && round > 10, "{sooner} {round}");
+}
+
+/// What is said to be missing for a press does not hold, and no line of the press works anywhere without it.
+#[test]
+fn what_is_missing_for_a_press() {
+    let (mut missing, mut shorter) = (0, 0);
+    for room in rooms(11, 300) {
+        let states = room.all_states();
+        for press in diff::presses(&room, &room) {
+            let works = |state: u32| !diff::results(&room, press, state).is_empty();
+            for &state in &states {
+                let found = changes::missing(&room, press, state);
+                assert_eq!(found.is_none(), works(state));
+                let Some(cond) = found else {
+                    continue;
+                };
+                missing += 1;
+                assert!(!room.holds(&cond, state));
+                let mut working = states.iter().filter(|&&other| works(other));
+                assert!(working.all(|&other| room.holds(&cond, other)));
+                let without = states
+                    .iter()
+                    .filter(|&&s| room.holds(&cond, s) && !works(s));
+                shorter += usize::from(without.count() > 0);
+            }
+        }
+    }
+    assert!(missing > 1_000 && shorter > 100, "{missing} {shorter}");
+}
+
+/// A press is said by its name or number, some beginning, or something else.
+fn drawn_line(draw: &mut Drawn, buttons: &[&str]) -> String {
+    let button = draw.below(buttons.len());
+    let word = [
+        "undo",
+        "restart",
+        "list",
+        "help",
+        "b",
+        "B9",
+        ",",
+        "t0 on",
+        "start: t0",
+        "9.9",
+    ];
+    match draw.below(8) {
+        0..=2 => buttons[button].to_lowercase(),
+        3 => (button + 1).to_string(),
+        4 | 5 => format!("{}.{}", button + 1, draw.below(4)),
+        6 => format!("{}, {}", button + 1, buttons[draw.below(buttons.len())]),
+        _ => word[draw.below(word.len())].to_string(),
+    }
+}
+
+/// Whatever is typed, the states are a run; and the presses that are printed at the end lead through the same states again.
+#[test]
+fn walks_can_be_repeated() {
+    let mut draw = Drawn(12);
+    let (mut presses, mut choices) = (0, 0);
+    for room in rooms(12, 300) {
+        let walk = Walk::new(&room);
+        let mut stepper = Stepper::new(&room, &walk, draw.below(2) == 0);
+        let mut text = stepper.begin();
+        let buttons = diff::presses(&room, &room);
+        for _ in 0..30 {
+            text += &stepper.line(&drawn_line(&mut draw, &buttons)).0;
+        }
+        let states = stepper.states().to_vec();
+        choices += text.matches("it can do one or the other here").count();
+        let end = stepper.end();
+        let Some((_, pasted)) = end.split_once("to be pasted into a walk:\n") else {
+            continue;
+        };
+        presses += states.len() - 1;
+        assert!(room.is_start(states[0]));
+        let pressed = |pair: &[u32]| press(&room, pair[0], pair[1]).is_some();
+        assert!(states.windows(2).all(pressed));
+        let mut again = Stepper::new(&room, &walk, false);
+        again.begin();
+        let lines = pasted
+            .lines()
+            .take_while(|line| !line.contains("on the way"));
+        lines.for_each(|line| {
+            again.line(line);
+        });
+        assert_eq!(
+            (again.states(), again.mistakes()),
+            (&states[..], 0),
+            "{end}"
+        );
+    }
+    assert!(presses > 1_000 && choices > 20, "{presses} {choices}");
 }

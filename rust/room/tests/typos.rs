@@ -18,6 +18,7 @@ possible: mic and song
 whenever mic: mic unless song
 mic unless song
 ON works whenever not (mic or song)
+expect BROKEN: never mic
 ";
 
 /// What may be typed: all of ASCII that has a key, and some more.
@@ -43,6 +44,7 @@ fn meaning(room: &Room) -> String {
     }
     for question in &room.questions {
         let set = |cond| members(&walk.set(room, cond));
+        said += &format!("expect broken: {} ", question.expect_broken);
         said += &match &question.asked {
             Asked::Never(x) => format!("never {:?}\n", set(x)),
             Asked::AlwaysPossible(x) => format!("always possible {:?}\n", set(x)),
@@ -187,6 +189,7 @@ fn read_back() {
         include_str!("../../../examples/hall.room"),
         include_str!("../../../examples/mended.room"),
         include_str!("../../../examples/bar.room"),
+        include_str!("../../../examples/stage.room"),
         SHORT,
     ] {
         let room = read(text).expect("the room is a good one");

@@ -10,6 +10,7 @@ brought-of-spec =
     tie.close
     (tie.spec
     (λ c κs. search needs)
-    (λ c. says-some (c .before .before .before .args .got) _ (c .before .before .before .fits .got) (c .before .if1 .taken) (c .count .ensures .1))
+    (λ c. says-some (c .before .before .before .args .got) _ (c .before .before .before .fits .got) (c .before .if1 .taken)
+    (c .count .ensures .1))
     (λ c. says-failed (c .before .before .before .args .got) _ (c .before .before .before .fits .got) (c .if2 .taken))
     (λ c. says-end (c .before .before .before .args .got) _ (c .before .before .before .fits .got) (c .before .if1 .left) (c .if2 .left)))

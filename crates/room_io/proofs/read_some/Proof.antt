@@ -12,5 +12,8 @@ read-some-spec =
     (λ c κs. search needs)
     (λ c κs. search needs)
     (λ c. search needs)
-    (λ c. read-says (c .before .before .before .before .read .result) _ (record { sfits = c .before .before .before .before .read .ok }) (c .before .before .before .before .read .ensures) (c .before .before .before .before .read .kept .1 .0)
+    (λ c. read-says (c .before .before .before .before .read .result) _
+    (record { sfits = c .before .before .before .before .read .ok })
+    (c .before .before .before .before .read .ensures)
+    (c .before .before .before .before .read .kept .1 .0)
     (c .brought-of .ensures)))

@@ -24,7 +24,17 @@ refill-spec =
       c .before .before .before .before .before .before .to-front .kept .0,
     )))
     (λ c. search needs)
-    (λ c. let f = refilled (c .before .before .before .before .before .before .before .before .before .before .args .p) (c .before .before .before .before .before .before .before .before .before .before .args .input .now) (c .before .before .before .before .before .before .before .to-front .last .0) (c .before .before .before .read-some .last .0)
-    (omega (arith, c .before .before .before .before .before .before .before .to-front .ensures .0, c .before .before .before .before .before .before .before .to-front .kept .0))
-    (c .before .before .before .before .before .before .before .to-front .ensures .0) (c .before .before .before .before .before .before .before .to-front .ensures .1) (c .before .before .before .read-some .kept .0) (c .before .before .before .read-some .ensures)
+    (λ c. let f = refilled (c .before .before .before .before .before .before .before .before .before .before .args .p)
+    (c .before .before .before .before .before .before .before .before .before .before .args .input .now)
+    (c .before .before .before .before .before .before .before .to-front .last .0)
+    (c .before .before .before .read-some .last .0)
+    (omega (
+      arith,
+      c .before .before .before .before .before .before .before .to-front .ensures .0,
+      c .before .before .before .before .before .before .before .to-front .kept .0,
+    ))
+    (c .before .before .before .before .before .before .before .to-front .ensures .0)
+    (c .before .before .before .before .before .before .before .to-front .ensures .1)
+    (c .before .before .before .read-some .kept .0)
+    (c .before .before .before .read-some .ensures)
     (c .after-read .ensures) in (f, read-sound f)))

@@ -1,6 +1,6 @@
 //! Conditions.
 use super::{joins_two, meant, not_understood, one_of, Line, Read, Reader, FIRST_WORDS};
-use crate::mistake::{similar, Mistake};
+use crate::mistake::{Mistake, MOST_SHOWN};
 use crate::room::{Cond, Part};
 use crate::words::{Word, RESERVED};
 
@@ -171,6 +171,10 @@ impl<'a> Reader<'a> {
 
     /// Tells that a word is a position of the selector named last, or else of some selector.
     fn no_position(&mut self, line: &Line<'a, '_>, name: &Word) -> Read<()> {
+        // A selector may have very many positions, and later mistakes are only counted.
+        if self.mistakes.len() >= MOST_SHOWN {
+            return Ok(());
+        }
         let has = |part: &&Part| part.positions.iter().any(|position| position == name.text);
         let before = line.words[..line.at - 1].iter().rev();
         let last = before
@@ -200,7 +204,7 @@ impl<'a> Reader<'a> {
         if let Some(word) = meant(name.text) {
             return self.wrong(name, not_understood(name.text, word));
         }
-        match (self.declared.get(name.text), similar(name.text, names)) {
+        match (self.declared.get(name.text), self.similar(name.text, names)) {
             (Some(line), _) if *line > name.line => {
                 says = format!(
                     "\"{}\" is named further down, on line {line}: move that line up",

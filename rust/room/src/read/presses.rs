@@ -1,5 +1,5 @@
 //! The start and the presses.
-use super::{not_understood, one_of, quoted, strange, Line, Read, Reader};
+use super::{joined, not_understood, one_of, quoted, strange, Line, Read, Reader};
 use crate::mistake::similar;
 use crate::room::{Change, Effect, Rule};
 use crate::words::Word;
@@ -147,18 +147,11 @@ impl<'a> Reader<'a> {
 
     /// A button's name: any words, one blank between those that do not touch.
     pub(super) fn label(&mut self, words: &[Word]) -> Read<String> {
-        let mut label = String::new();
-        for (at, word) in words.iter().enumerate() {
-            let plain = |c: char| c.is_alphanumeric() || c.is_ascii_graphic();
-            if !word.text.chars().all(plain) {
-                return self.wrong(word, strange(word.text));
-            }
-            if at > 0 && !words[at - 1].touches(word) {
-                label.push(' ');
-            }
-            label += word.text;
+        let plain = |c: char| c.is_alphanumeric() || c.is_ascii_graphic();
+        match words.iter().find(|word| !word.text.chars().all(plain)) {
+            Some(word) => self.wrong(word, strange(word.text)),
+            None => Ok(joined(words)),
         }
-        Ok(label)
     }
 
     /// What happens, with commas between.

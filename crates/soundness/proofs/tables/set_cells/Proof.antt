@@ -17,7 +17,7 @@ set-cells-spec =
     (λ c. search needs)
     (λ c. search needs)
     (λ c. let h = c .before .before .before .pre .size in omega arith)
-    (λ c. set-found (c .before .before .before .before .args .at % 2048) (c .before .before .before .before .pre) refl (c .if1 .taken))
+    (λ c. set-found (c .before .before .before .before .args .at % 1024) (c .before .before .before .before .pre) refl (c .if1 .taken))
     (λ c κs. c .before .before .before .before .pre .asked)
     (λ c. search needs)
     (λ c. search needs)

@@ -33,7 +33,16 @@ pub +narrow-ok-spec : {M : Type 1} → statement M
     narrow-ok.Post
     (λ c. c .match .keys1)
     (λ c κs. let p = c .before .before .before .pre .1 .0 in (
-      record { good = p .good; shift = omega arith; against = p .against; order = omega arith; within = omega arith; refs = p .refs },
+      record {
+        good = p .good;
+        shift = omega arith;
+        against = p .against;
+        order = omega arith;
+        some = omega arith;
+        within = omega
+            arith;
+        refs = p .refs;
+      },
       c .before .before .before .pre .1 .1,
     ))
     (λ c. c .match .keys2)
@@ -43,6 +52,7 @@ pub +narrow-ok-spec : {M : Type 1} → statement M
         shift = omega arith;
         against = p .against;
         order = omega arith;
+        some = omega arith;
         within = omega arith;
         refs = λ h lo hi. p .refs h (omega arith) hi;
       },

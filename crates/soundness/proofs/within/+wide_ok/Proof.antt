@@ -33,7 +33,15 @@ pub +wide-ok-spec : {M : Type 1} → statement M
     wide-ok.Post
     (λ c. c .match .keys1)
     (λ c κs. let p = c .before .before .before .pre .1 in
-    record { good = p .good; shift = omega arith; against = p .against; order = omega arith; within = omega arith; refs = p .refs })
+    record {
+      good = p .good;
+      shift = omega arith;
+      against = p .against;
+      order = omega arith;
+      some = omega arith;
+      within = omega arith;
+      refs = p .refs;
+    })
     (λ c. c .match .keys2)
     (λ c κs. let p = c .before .before .before .pre .1 in
     record {
@@ -41,6 +49,7 @@ pub +wide-ok-spec : {M : Type 1} → statement M
       shift = omega arith;
       against = p .against;
       order = omega arith;
+      some = omega arith;
       within = omega arith;
       refs = λ h lo hi. p .refs h (omega arith) hi;
     })

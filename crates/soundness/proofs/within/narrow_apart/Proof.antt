@@ -1,33 +1,14 @@
--- `narrow_apart` meets its contract: lists of zeros have no wrong table. Assumes nothing.
-use Rattle.soundness.proofs.Contained.{lists-new}
+-- `narrow_apart` meets its contract: a list of zeros has no wrong table. Assumes nothing.
 use Rattle.soundness.specs.Tables.{FEW}
-use Prim.Native.Nat.{ℕ, _*_, _-_}
-use mathlib.Core.Path.{ap, _∙_}
-use native.Mathlib.Omega.{arith}
+use Rattle.soundness.proofs.Contained.{refs-asked}
 use borrow.Author.Needs.{needs}
 use Rattle.soundness.proofs.within.narrow_apart.Statement.{statement}
 use Rattle.soundness.proofs.within.narrow_apart.Tie as tie
 use Rattle.soundness.proofs.within.narrow_apart.Reads as reads
 use Rattle.soundness.proofs.within.narrow_apart.Lts as lts
-use Rattle.layout.proofs.header_word.Reads as header-word-reads
-use Rattle.soundness.proofs.within.base_of.Reads as base-of-reads
 use Rattle.soundness.proofs.within.refs_apart.Reads as refs-apart-reads
 
 pub narrow-apart-spec : {M : Type 1} → statement M
 narrow-apart-spec =
     tie.close
-    (tie.spec
-    (λ c κs. let w = c .before .pre .0 .good .sizes .room in (omega arith, omega arith))
-    (λ c. let w = c .before .before .pre .0 .good .sizes .n-max in let e = c .header-word .ensures in omega arith)
-    (λ c κs. search needs)
-    (λ c. search needs)
-    (λ c. search needs)
-    (λ c κs.
-    record {
-      roots =
-          c .before .before .before .before .before .pre .0;
-      lists =
-          lists-new FEW (c .before .before .before .before .before .pre .1)
-          (c .before .before .base-of .ensures ∙ ap (λ (k : ℕ). 2 * k - 10) (c .before .before .before .header-word .ensures));
-    })
-    (λ c. search needs))
+    (tie.spec (λ c. search needs) (λ c κs. refs-asked FEW (c .before .before .pre .0) (c .before .before .pre .1)) (λ c. search needs))
