@@ -27,10 +27,10 @@
  *
  * REFUSALS. Each function returns 0 where it answers, else the number of its refusal. Checks 1 to 7 run in the order of their numbers, 4 to 7
  * each over the whole formula, and KUDZUCLAMP_VACUOUS (12) so directly after 5; KUDZUCLAMP_OCCUPIED (13) is checked directly after 2,
- * KUDZUCLAMP_UNLISTED (14) directly after 3, in fresh after 1. Of 8 and 9 the one that evaluation meets first is returned; KUDZUCLAMP_NO_RUN (10)
- * and then KUDZUCLAMP_SHORT (11) come after 8. A refused call writes 0 into every answer, and no refusal changes an account or a list of states.
- * KUDZUCLAMP_FULL, KUDZUCLAMP_SPENT, KUDZUCLAMP_NO_RUN and KUDZUCLAMP_SHORT keep V, registers, relations and the rows that these need; every other
- * refusal keeps all words.
+ * KUDZUCLAMP_UNLISTED (14) directly after 3, in fresh after 1; the work words of kudzuclamp_cheapest (1) are checked directly after 2. Of 8 and 9 the
+ * one that evaluation meets first is returned; KUDZUCLAMP_NO_RUN (10) and then KUDZUCLAMP_SHORT (11) come after 8. A refused call writes 0 into every
+ * answer, and no refusal changes an account or a list of states or relations. KUDZUCLAMP_FULL, KUDZUCLAMP_SPENT, KUDZUCLAMP_NO_RUN and
+ * KUDZUCLAMP_SHORT keep V, registers, relations and the rows that these need; every other refusal keeps all words.
  *
  * PEAK. Where relation and set are answered they also return their peak: the largest number of rows that a step of the call needed, of its
  * result and of all that was live at it, V and what registers and relations hold included; 0 where the formula takes no step. It does not depend on N.
@@ -49,8 +49,9 @@
  *
  * POINTERS. A slice is a pointer and its number of elements. No pointer may be null, not even with 0 elements. Words and lists that are not const,
  * the accounts, and each answer must overlap nothing else that is lent to the call, and no other thread may use them meanwhile; nor may one write
- * the rest. Words, accounts and answers are aligned as their types are, to 4 bytes, lists of 16-bit numbers to 2, and *count of
- * kudzuclamp_play to 8; bytes stand anywhere. So words that come from a byte buffer or a file are copied into an array of uint32_t first.
+ * the rest. Words, accounts and answers are aligned as their types are, to 4 bytes, lists of 16-bit numbers to 2, the work words of
+ * kudzuclamp_cheapest and *count of kudzuclamp_play to 8; bytes stand anywhere. So words that come from a byte buffer or a file are copied into an
+ * array of uint32_t first.
  */
 #ifndef KUDZUCLAMP_H
 #define KUDZUCLAMP_H
@@ -104,7 +105,8 @@ struct kudzuclamp_account {
 /* What a function returns. */
 enum kudzuclamp_number {
     KUDZUCLAMP_ANSWERED = 0,
-    KUDZUCLAMP_SIZES = 1,     /* fresh: n, N or the number of words out of range; members: too many states, or too short a list */
+    KUDZUCLAMP_SIZES = 1,     /* fresh: n, N or the number of words out of range; members: too many states, or too short a list; cheapest: not 8
+                                 prices, or too few work words */
     KUDZUCLAMP_UNSOUND = 2,   /* the words are no sound table */
     KUDZUCLAMP_RANGE = 3,     /* register, relation or state number out of range */
     KUDZUCLAMP_SYNTAX = 4,    /* the bytes are no formula for this call */
@@ -114,7 +116,7 @@ enum kudzuclamp_number {
     KUDZUCLAMP_FULL = 8,      /* a step needs more rows than N, or than the account's row limit */
     KUDZUCLAMP_SPENT = 9,     /* the rounds are used up: R's, or the account's */
     KUDZUCLAMP_NO_RUN = 10,   /* there is no run from the one set into the other */
-    KUDZUCLAMP_SHORT = 11,    /* the list is too short for the run */
+    KUDZUCLAMP_SHORT = 11,    /* a list is too short for the run */
     KUDZUCLAMP_VACUOUS = 12,  /* a binder's variable occurs nowhere free in its body */
     KUDZUCLAMP_OCCUPIED = 13, /* valid: a register or relation is filled */
     KUDZUCLAMP_UNLISTED = 14  /* the list is not 1 to 8 accounts long, or has no account at that place */
@@ -131,7 +133,7 @@ static inline const char *kudzuclamp_text(uint32_t number)
     case KUDZUCLAMP_ANSWERED:
         return "answered";
     case KUDZUCLAMP_SIZES:
-        return "the number of bits, rows or states is out of range, or there are too few words or places";
+        return "the number of bits, rows, states or prices is out of range, or there are too few words or places";
     case KUDZUCLAMP_UNSOUND:
         return "the words are no sound table";
     case KUDZUCLAMP_RANGE:
@@ -151,7 +153,7 @@ static inline const char *kudzuclamp_text(uint32_t number)
     case KUDZUCLAMP_NO_RUN:
         return "there is no run from the one set into the other";
     case KUDZUCLAMP_SHORT:
-        return "the list is too short for the run";
+        return "a list is too short for the run";
     case KUDZUCLAMP_VACUOUS:
         return "a binder's variable occurs nowhere free in its body";
     case KUDZUCLAMP_OCCUPIED:
@@ -330,6 +332,21 @@ uint32_t kudzuclamp_count(const uint32_t *words, size_t words_len, uint32_t r, u
  */
 KUDZUCLAMP_USE_RESULT
 uint32_t kudzuclamp_shortest(uint32_t *words, size_t words_len, uint16_t *list, size_t list_len, uint32_t a, uint32_t b, uint32_t t, uint32_t *states);
+
+/*
+ * Writes the states of a cheapest run from the set in register a into the set in register b over any mix of filled relations, and the relation of
+ * each step, to the first places of the two lists. A step of relation r costs prices[r] credits; there are 8 prices. No run from a into b costs
+ * fewer credits, and of those that cost as many none has fewer states; which of the runs that are left is written is free. *total is its credits;
+ * *charge its coins, one for every ten credits begun; *count how many states it has, at most 2^n, and 1 where the sets share a state. The relations
+ * are one fewer than the states. Later places of both lists are never written, and none where the call is refused. `work` is lent for the search, at
+ * least 2^n words; what they hold afterwards is free, but 1, 2, 3 and 7 keep them. The table is only read, and no row is made. It returns 0, 1 where
+ * there are not 8 prices, 2, 1 where there are too few work words, 3, 7, KUDZUCLAMP_NO_RUN, or KUDZUCLAMP_SHORT where one of the lists is too short.
+ * At n = 16 presses and counters take milliseconds; the worst that was found is 0.7 s for each relation (docs/BENCHMARKS.md).
+ */
+KUDZUCLAMP_USE_RESULT
+uint32_t kudzuclamp_cheapest(const uint32_t *words, size_t words_len, const uint8_t *prices, size_t prices_len, uint64_t *work, size_t work_len,
+                             uint16_t *states, size_t states_len, uint8_t *relations, size_t relations_len, uint32_t a, uint32_t b,
+                             uint32_t *total, uint32_t *charge, uint32_t *count);
 
 /*
  * Checks formula bytes for a set call, or for a relation call where `relation` is not 0, and takes no step. It returns 2, or the number of 4 to 7

@@ -3,7 +3,7 @@
 //! The entry points ask of their caller only what a Rust reference has: a pointer that is aligned
 //! and not null, to as many elements as the length says, and mutable memory that overlaps nothing
 //! else. Their contracts have no other precondition: any words, numbers and bytes are answered.
-use crate::{Account, Loaded, Refusal, Stored, Target};
+use crate::{Account, Fare, Loaded, Refusal, Stored, Target};
 
 /// The declarations of `include/kudzuclamp.h`: a slice is a pointer and then a length.
 mod library {
@@ -83,6 +83,23 @@ mod library {
             b: u32,
             t: u32,
             states: *mut u32,
+        ) -> u32;
+        pub fn kudzuclamp_cheapest(
+            words: *const u32,
+            words_len: usize,
+            prices: *const u8,
+            prices_len: usize,
+            work: *mut u64,
+            work_len: usize,
+            states: *mut u16,
+            states_len: usize,
+            relations: *mut u8,
+            relations_len: usize,
+            a: u32,
+            b: u32,
+            total: *mut u32,
+            charge: *mut u32,
+            count: *mut u32,
         ) -> u32;
         pub fn kudzuclamp_check(
             words: *const u32,
@@ -275,6 +292,44 @@ pub fn shortest(
         )
     };
     answered(number, states)
+}
+
+/// What a cheapest run costs, whose states and relations were written to the lists.
+pub fn cheapest(
+    words: &[u32],
+    prices: &[u8],
+    work: &mut [u64],
+    (states, relations): (&mut [u16], &mut [u8]),
+    a: u32,
+    b: u32,
+) -> Result<Fare, Refusal> {
+    let (mut total, mut charge, mut count) = (0, 0, 0);
+    // SAFETY: pointers and lengths are those of slices and locals; they overlap nothing.
+    let number = unsafe {
+        library::kudzuclamp_cheapest(
+            words.as_ptr(),
+            words.len(),
+            prices.as_ptr(),
+            prices.len(),
+            work.as_mut_ptr(),
+            work.len(),
+            states.as_mut_ptr(),
+            states.len(),
+            relations.as_mut_ptr(),
+            relations.len(),
+            a,
+            b,
+            &mut total,
+            &mut charge,
+            &mut count,
+        )
+    };
+    let fare = Fare {
+        total,
+        charge,
+        states: count as usize,
+    };
+    answered(number, fare)
 }
 
 /// The checks of formula bytes for a relation call, or else for a set call.

@@ -35,7 +35,9 @@
 //! how many rows they needed at most, to choose a table's size by: see [`Loaded`].
 //!
 //! Many states are asked at once by [`Table::members`]; [`Table::states`] gives all that a set has,
-//! [`Table::pick`] one of them, and [`Table::to_dot`] draws its rows.
+//! [`Table::pick`] one of them, and [`Table::to_dot`] draws its rows. [`Table::shortest`] tells by
+//! which states a relation leads from one set into another, [`Table::cheapest`] by which presses of
+//! several relations it costs least.
 //!
 //! [`Names`] has names for the bits: formulas are read from text and written as text with them. What
 //! is wrong with a formula is told with its place: see [`Fault`] and [`ParseError`].
@@ -73,7 +75,9 @@ pub use play::{play, Outcome, Unreadable};
 pub use refusal::Refusal;
 pub use refused::Refused;
 pub use states::{States, MAX_STATES};
-pub use table::{words_for, Loaded, Stored, Table, MAX_BITS, MAX_ROWS, REGISTERS, RELATIONS};
+pub use table::{
+    words_for, Fare, Loaded, Run, Stored, Table, MAX_BITS, MAX_ROWS, REGISTERS, RELATIONS,
+};
 pub use target::Target;
 
 /// Whether the linked library is one that `rt staticlib` made, which checks all proofs first. It is

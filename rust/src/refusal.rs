@@ -5,8 +5,8 @@ use std::fmt;
 /// Why a call is refused, with document 01's numbers.
 ///
 /// `Full`, `Spent`, `NoRun` and `Short` keep V, registers, relations and the rows that they need;
-/// every other refusal keeps all words. No refusal changes an account or a list of states. Later versions
-/// may have more of them.
+/// every other refusal keeps all words. No refusal changes an account or a list of states or
+/// relations. Later versions may have more of them.
 ///
 /// ```
 /// use kudzuclamp::Refusal;
@@ -18,8 +18,9 @@ use std::fmt;
 #[non_exhaustive]
 #[derive(Clone, Copy, Debug, PartialEq, Eq, Hash, PartialOrd, Ord)]
 pub enum Refusal {
-    /// 1: fresh was given a number of bits or rows out of range, or too few words; or a question for
-    /// many states too many of them, or too short a list.
+    /// 1: fresh was given a number of bits or rows out of range, or too few words; a question for
+    /// many states too many of them, or too short a list; or one for a cheapest run not eight prices,
+    /// or, directly after 2, too few work words.
     Sizes = 1,
     /// 2: the words are no sound table.
     Unsound = 2,
@@ -39,7 +40,7 @@ pub enum Refusal {
     Spent = 9,
     /// 10: there is no run from the one set into the other.
     NoRun = 10,
-    /// 11: the list is too short for the run.
+    /// 11: a list is too short for the run.
     Short = 11,
     /// 12: a binder's variable occurs nowhere free in its body. Checked directly after 5.
     Vacuous = 12,
@@ -96,7 +97,7 @@ impl fmt::Display for Refusal {
     fn fmt(&self, f: &mut fmt::Formatter<'_>) -> fmt::Result {
         f.write_str(match self {
             Refusal::Sizes => {
-                "the number of bits, rows or states is out of range, or there are too few words or places"
+                "the number of bits, rows, states or prices is out of range, or there are too few words or places"
             }
             Refusal::Unsound => "the words are no sound table",
             Refusal::Range => "a register, relation or state number is out of range",
@@ -107,7 +108,7 @@ impl fmt::Display for Refusal {
             Refusal::Full => "a step needs more rows than the table has or the account may use",
             Refusal::Spent => "the rounds are used up",
             Refusal::NoRun => "there is no run from the one set into the other",
-            Refusal::Short => "the list is too short for the run",
+            Refusal::Short => "a list is too short for the run",
             Refusal::Vacuous => "a binder's variable occurs nowhere free in its body",
             Refusal::Occupied => "a register or relation is filled",
             Refusal::Unlisted => {

@@ -46,6 +46,28 @@ pub struct Stored {
     pub peak: u32,
 }
 
+/// What an answered [`Table::write_cheapest`] gives.
+#[derive(Clone, Copy, Debug, PartialEq, Eq, Hash)]
+pub struct Fare {
+    /// The credits of the run's steps.
+    pub total: u32,
+    /// The coins for them: one for every ten credits begun.
+    pub charge: u32,
+    /// How many states the run has, one more than steps.
+    pub states: usize,
+}
+
+/// What an answered [`Table::cheapest`] gives: a run, and what it costs.
+#[derive(Clone, Debug, PartialEq, Eq, Hash)]
+pub struct Run {
+    /// Its credits, its coins and how many states it has.
+    pub fare: Fare,
+    /// Its states.
+    pub states: Vec<u16>,
+    /// The relation of each step, from one state to the next.
+    pub relations: Vec<u8>,
+}
+
 /// A table of decision-diagram rows with 32 registers, each empty or holding a set of states, and 8
 /// relations, each empty or holding a set of pairs of states.
 ///
@@ -555,6 +577,93 @@ impl<W: AsRef<[u32]>> Table<W> {
     /// ```
     pub fn states(&self, r: u32) -> Result<States<'_>, Refusal> {
         States::new(self.words.as_ref(), r)
+    }
+
+    /// A cheapest run from the set in register a into the set in register b over any mix of filled
+    /// relations, of which relation r costs `prices[r]` credits a step: no run costs fewer credits,
+    /// and of those that cost as many none has fewer states. Which of the runs that are left it is
+    /// may be another one in another version. The table is only read.
+    ///
+    /// # Errors
+    ///
+    /// [`Refusal::Unsound`], [`Refusal::Range`] (a or b is above 31), [`Refusal::Empty`] (register a
+    /// or b is), or [`Refusal::NoRun`].
+    ///
+    /// ```
+    /// use kudzuclamp::{Account, Formula, Refusal, Table, Target};
+    ///
+    /// # fn main() -> Result<(), Refusal> {
+    /// let mut accounts = [Account::unlimited()];
+    /// let mut table = Table::new(&mut accounts, 2, 100)?;
+    /// // One press turns the first switch on, another the second, a third both.
+    /// table.relation(0, Formula::next(0) & Formula::keeps(1))?;
+    /// table.relation(1, Formula::next(1) & Formula::keeps(0))?;
+    /// table.relation(2, Formula::next(0) & Formula::next(1))?;
+    /// let (first, second) = (Formula::current(0), Formula::current(1));
+    /// table.set(&mut accounts, Target::register(0), !(&first | &second))?;
+    /// table.set(&mut accounts, Target::register(1), first & second)?;
+    /// // Two presses for 9 credits are cheaper than one for 12, by a coin.
+    /// let run = table.cheapest(&[4, 5, 12, 0, 0, 0, 0, 0], 0, 1)?;
+    /// assert_eq!((run.fare.total, run.fare.charge, run.relations.len()), (9, 1, 2));
+    /// // Where both cost the same, the run with fewer states.
+    /// let run = table.cheapest(&[4, 5, 9, 0, 0, 0, 0, 0], 0, 1)?;
+    /// assert_eq!((run.states, run.relations), (vec![0, 3], vec![2]));
+    /// assert_eq!(table.cheapest(&[0; 8], 1, 0), Err(Refusal::NoRun));
+    /// # Ok(())
+    /// # }
+    /// ```
+    pub fn cheapest(&self, prices: &[u8; 8], a: u32, b: u32) -> Result<Run, Refusal> {
+        // No cheapest run has a state twice: what lies between could be left out.
+        let mut work = vec![0; 1 << MAX_BITS];
+        let (mut states, mut relations) = (vec![0; 1 << MAX_BITS], vec![0; 1 << MAX_BITS]);
+        let fare = self.write_cheapest(prices, &mut work, (&mut states, &mut relations), a, b)?;
+        states.truncate(fare.states);
+        relations.truncate(fare.states - 1);
+        Ok(Run {
+            fare,
+            states,
+            relations,
+        })
+    }
+
+    /// Writes the states and the relations that [`Table::cheapest`] gives to the first places of two
+    /// lists; later places are never written, and none where the call is refused. At least 2^n work
+    /// words are lent; what they hold afterwards is of no use.
+    ///
+    /// # Errors
+    ///
+    /// [`Refusal::Sizes`] where there are not eight prices, [`Refusal::Unsound`], [`Refusal::Sizes`]
+    /// where there are fewer than 2^n work words, [`Refusal::Range`], [`Refusal::Empty`],
+    /// [`Refusal::NoRun`], or [`Refusal::Short`] where one of the lists is too short for the run.
+    ///
+    /// ```
+    /// use kudzuclamp::{Account, Fare, Formula, Refusal, Table, Target};
+    ///
+    /// # fn main() -> Result<(), Refusal> {
+    /// let mut accounts = [Account::unlimited()];
+    /// let mut table = Table::new(&mut accounts, 1, 100)?;
+    /// table.relation(3, Formula::next(0))?;
+    /// table.set(&mut accounts, Target::register(0), !Formula::current(0))?;
+    /// table.set(&mut accounts, Target::register(1), Formula::current(0))?;
+    /// let (prices, mut work) = ([0, 0, 0, 11, 0, 0, 0, 0], [0; 2]);
+    /// let (mut states, mut relations) = ([7; 3], [7; 2]);
+    /// let short = table.write_cheapest(&prices, &mut work, (&mut states, &mut []), 0, 1);
+    /// assert_eq!(short, Err(Refusal::Short));
+    /// let fare = table.write_cheapest(&prices, &mut work, (&mut states, &mut relations), 0, 1)?;
+    /// assert_eq!(fare, Fare { total: 11, charge: 2, states: 2 });
+    /// assert_eq!((states, relations), ([0, 1, 7], [3, 7]));
+    /// # Ok(())
+    /// # }
+    /// ```
+    pub fn write_cheapest(
+        &self,
+        prices: &[u8],
+        work: &mut [u64],
+        lists: (&mut [u16], &mut [u8]),
+        a: u32,
+        b: u32,
+    ) -> Result<Fare, Refusal> {
+        abi::cheapest(self.words.as_ref(), prices, work, lists, a, b)
     }
 
     /// How many states the set in register r has, from 0 to 2^n.

@@ -4,6 +4,7 @@ use calls::Answer;
 use calls::Cleared;
 use calls::Collected;
 use calls::Started;
+use coins::Fare;
 use formula::Checked;
 use formula::check_formula;
 use formula_steps::Confined;
@@ -21,10 +22,11 @@ ghost use mathlib.Core.Path.{_≡_};
 ghost use Rattle.book.specs.Book as book;
 ghost use Rattle.batch_calls.specs.Posts.{BatchPost};
 ghost use Rattle.calls.specs.Replies.{answerReply, startedReply};
+ghost use Rattle.coins.specs.Post.{FarePost};
 ghost use Rattle.contract.specs.Posts.{CallPost, AskPost, SetAllPost};
 ghost use Rattle.formula_steps.specs.Replies.{storedReply};
 ghost use Rattle.path_calls.specs.Post.{PathPost};
-ghost use Rattle.exports.specs.Given.{given, FreshGiven};
+ghost use Rattle.exports.specs.Given.{given, fareGiven, FreshGiven};
 ghost use Rattle.exports.specs.Check.{kindOf, CheckPost};
 ghost use Rattle.exports.specs.Playing.{PlayGiven};
 
@@ -243,6 +245,46 @@ pub extern "C" fn kudzuclamp_shortest(
         }
         Found::Refused(e) => {
             *states = 0;
+            refusal_number(e)
+        }
+    }
+}
+
+// Writes the states of a cheapest run from register a into register b over any mix of filled relations, and the relation of each step, to
+// the lists; gives its total of prices, its coins and how many states it has. The work words, one for each state, are lent for the search.
+#[no_mangle]
+pub extern "C" fn kudzuclamp_cheapest(
+    words: &[u32],
+    prices: &[u8],
+    work: &mut [u64],
+    states: &mut [u16],
+    relations: &mut [u8],
+    a: u32,
+    b: u32,
+    total: &mut u32,
+    charge: &mut u32,
+    count: &mut u32,
+) -> u32
+    ensures { λ k. ⌜ FarePost a b (now (words .entry)) (now (prices .entry)) (now (work .entry)) (now (work .exit)) (now (states .entry))
+        (now (states .exit)) (now (relations .entry)) (now (relations .exit))
+        (fareGiven k (now (total .exit)) (now (charge .exit)) (now (count .exit))) ⌝ }
+{
+    let x = coin_calls::cheapest(words, prices, work, states, relations, a, b);
+    match x {
+        Fare::Paid {
+            total: t,
+            charge: c,
+            states: s,
+        } => {
+            *total = t;
+            *charge = c;
+            *count = s;
+            0
+        }
+        Fare::Refused(e) => {
+            *total = 0;
+            *charge = 0;
+            *count = 0;
             refusal_number(e)
         }
     }

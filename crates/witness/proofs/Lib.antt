@@ -8,7 +8,9 @@ pub mod Told
 pub mod Played
 pub mod Full
 pub mod Larger
+pub mod Pressed
 pub mod QuietList
 pub mod QuietCalls
 pub mod Quiet
+pub mod Fares
 pub mod Later

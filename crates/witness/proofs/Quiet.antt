@@ -182,7 +182,7 @@ place′ = record {
 }
 
 -- before the question for many states, in the smaller table
-abbrev next : Cut Lent Step Rest (both (freshOf 1 2 280) (lender 2 1 0)) (started 2 1 1) (closing 2 1 1) smaller
+abbrev pub next : Cut Lent Step Rest (both (freshOf 1 2 280) (lender 2 1 0)) (started 2 1 1) (closing 2 1 1) smaller
 next = record {
   mid = both (afterRun 2 280) (lender 2 1 2);
   first = with-accounts (lender 2 1 0) (to-after small) (tt, (tt, (refl, (refl, (refl, (refl, tt))))));
@@ -190,7 +190,7 @@ next = record {
 }
 
 -- and in the larger one
-abbrev next′ : Cut Lent Step Rest (both (freshOf 1 3 300) (lender 5 7 0)) (started 5 7 3) (closing 5 7 3) larger
+abbrev pub next′ : Cut Lent Step Rest (both (freshOf 1 3 300) (lender 5 7 0)) (started 5 7 3) (closing 5 7 3) larger
 next′ = record {
   mid = both (afterRun 3 300) (lender 5 7 2);
   first = with-accounts (lender 5 7 0) (to-after large) (tt, (tt, (refl, (refl, (refl, (refl, tt))))));

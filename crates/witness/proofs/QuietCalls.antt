@@ -12,6 +12,7 @@ use Rattle.accounts.specs.Count.{nothing}
 use Rattle.mucalculus.specs.Form.{Form}
 use Rattle.mucalculus.specs.Means.{compl}
 use Rattle.layout.specs.Places.{BITS, ROWS, VALID, ALL-STATES, FIRST-REGISTER, MEMO-VALUE, wordsFor}
+use Rattle.layout.specs.Refusals.{keepsAll}
 use Rattle.layout.specs.View.{View, view, headerOf, putCell}
 use Rattle.diagram.specs.Post.{Denotes}
 use Rattle.rows.specs.Used.{Sizes, rowsOf}
@@ -37,6 +38,8 @@ use Rattle.batch_calls.proofs.Again.{batch-rests}
 use Rattle.paths.specs.Call.{refuse as refuseRun}
 use Rattle.path_calls.specs.Post.{PathPost}
 use Rattle.path_calls.proofs.Rests.{path-rests}
+use Rattle.coins.specs.Post.{FareReply, fareRefused, paid, FareBy, FarePost}
+use Rattle.coin_calls.proofs.Rests.{fare-rests}
 use Rattle.witness.proofs.Words.{storedIn, put-header, put-cell}
 use Rattle.witness.proofs.Made.{Roomy, every, self, every-done, self-done, empty-done}
 use Rattle.witness.proofs.Row.{bitIn, bitStored, view-bit, bit-done}
@@ -45,9 +48,10 @@ use Rattle.witness.proofs.Begun.{stored-stands}
 use Rattle.witness.proofs.Told.{value-done, pairs-done, all-pairs, other-arrow, path-told, path-remembers, members-told}
 use Rattle.witness.proofs.Told.{rememberedIn}
 use Rattle.witness.proofs.Larger.{under, bit, node, row, made, fixed, Ready}
+use Rattle.witness.proofs.Pressed.{press, priced, Fares, fare-by, short-by, none-by}
 use Rattle.witness.proofs.QuietList.{notBit, broken, turned, opening, withBit, started, refusals, closing, answers, events}
 use Rattle.witness.proofs.QuietList.{related, filled, vacant, rowed, midway, afterRun, later, end, blank, twoStates, asked, order}
-use Rattle.witness.proofs.QuietList.{order′, bytes, bytes′, Relates, Turns, Tells, Setting}
+use Rattle.witness.proofs.QuietList.{order′, bytes, bytes′, spare, spare′, single, labels, labels′, Relates, Turns, Tells, Setting}
 
 -- ---- the question for many states
 
@@ -259,6 +263,41 @@ module _ {N k a c R : ℕ} (x : Setting N k a c R) where
   pub no-register : PathPost 5 3 0 (afterRun N k) (afterRun N k) blank blank (plain 7)
   no-register = path-told (afterRun N k) after-sound 5 3 0 blank (refuseRun 7 blank) (told .unfilled-first)
 
+  -- the book has a cheapest run
+  pressed : Fares (bookOf (seen (afterRun N k)))
+  pressed = subst Fares (sym (holds 1 N k z to-after)) (x .fares)
+
+  -- what the book tells of one is the contract; the work words end as they like
+  fare-asked : {r q p : ℕ} {lent left names labels : List ℕ} {y : FareReply}
+      → FareBy (bookOf (seen (afterRun N k))) r q (priced p) spare lent left names labels y
+      → ((y .number ≡ 0 → ⊥) → (left ≡ lent) × (labels ≡ names)) → (T (keepsAll (y .number)) → ⊥)
+      → FarePost r q (afterRun N k) (priced p) spare spare′ lent left names labels y
+  fare-asked f kept late = record {
+    prices-fit = λ n. absurd (n refl);
+    unsound = λ _ n. absurd (n after-sound);
+    by-book = λ _ _. f;
+    kept = kept;
+    size = refl;
+    work-kept = λ h. absurd (late h);
+  }
+
+  -- ANSWERED, and no word changes: a cheapest run of one press, for p credits
+  pub fare-paid : (p : ℕ) → FarePost 4 3 (afterRun N k) (priced p) spare spare′ blank (twoStates .list) labels labels′
+      (paid (priced p) (press ∷ []))
+  fare-paid p = fare-asked
+      (fare-by (bookOf (seen (afterRun N k))) pressed p (omega arith) (record { for-states = omega arith; for-steps = omega arith }))
+      (λ n. absurd (n refl)) (λ h. h)
+
+  -- REFUSED: no run from no state
+  pub fare-none : (p : ℕ) → FarePost 1 3 (afterRun N k) (priced p) spare spare′ blank blank labels labels (fareRefused 10)
+  fare-none p = fare-asked (none-by (bookOf (seen (afterRun N k))) pressed p (omega arith)) (λ _. (refl, refl)) (λ h. h)
+
+  -- and a place too few
+  pub fare-short : (p : ℕ) → FarePost 4 3 (afterRun N k) (priced p) spare spare′ single single labels labels (fareRefused 11)
+  fare-short p = fare-asked
+      (short-by (bookOf (seen (afterRun N k))) pressed p (omega arith) (λ fits. let h = fits .for-states in absurd (omega arith)))
+      (λ _. (refl, refl)) (λ h. h)
+
   -- bytes that are no formula
   pub not-read : CallPost (set (under a c) 5 R broken) (afterRun N k) (afterRun N k) (plain 4)
   not-read = call-refused (afterRun N k) after-sound 3 (set (under a c) 5 R broken) (told .unread)
@@ -287,12 +326,14 @@ module _ {N k a c R : ℕ} (x : Setting N k a c R) where
 
   -- ---- the lists
 
-  -- the questions and the refused searches before other calls
+  -- the questions, the refused searches and the cheapest run before other calls
   quiet : {l : List Event} {ws : List ℕ} → Trace (List ℕ) performs rests (afterRun N k) l ws
       → Trace (List ℕ) performs rests (afterRun N k) l ws
   quiet t =
       pause (batch-rests members-asked)
-      (pause (same-rests (member-asked .0)) (pause (path-rests no-run) (pause (path-rests no-register) t)))
+      (pause (same-rests (member-asked .0))
+      (pause (path-rests no-run)
+      (pause (path-rests no-register) (pause (fare-rests (fare-paid 11)) (pause (fare-rests (fare-none 11)) t)))))
 
   -- from the search for a run on, with the refused calls as events
   from-refusals : Trace (List ℕ) performs rests (midway N k) (refusals a c R ++ closing a c R) (end N k)

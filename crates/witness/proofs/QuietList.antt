@@ -29,6 +29,7 @@ use Rattle.witness.proofs.Made.{every, self}
 use Rattle.witness.proofs.Row.{bitIn}
 use Rattle.witness.proofs.Told.{rememberedIn}
 use Rattle.witness.proofs.Larger.{under, bit, node, row, fixed, Ready}
+use Rattle.witness.proofs.Pressed.{Fares}
 
 -- ---- the list, n = 1: under the one account, with limits a and c, and R rounds
 
@@ -140,6 +141,26 @@ bytes = 5 ∷ 5 ∷ 5 ∷ 5 ∷ []
 abbrev pub bytes′ : List ℕ
 bytes′ = 1 ∷ 0 ∷ 1 ∷ 5 ∷ []
 
+-- the work words for a cheapest run, before
+abbrev pub spare : List ℕ
+spare = 5 ∷ 6 ∷ []
+
+-- and after: their contents are free
+abbrev pub spare′ : List ℕ
+spare′ = 4 ∷ 4 ∷ []
+
+-- a list with a place for one state
+abbrev pub single : List ℕ
+single = 7 ∷ []
+
+-- the list for its relations, before
+abbrev pub labels : List ℕ
+labels = 9 ∷ 9 ∷ []
+
+-- and after: relation 0 is written, and the last place is not
+abbrev pub labels′ : List ℕ
+labels′ = 0 ∷ 9 ∷ []
+
 -- ---- what is computed of the book
 
 -- the relation of all pairs: its three steps within V fit, and need no row
@@ -178,6 +199,7 @@ pub record Setting (N k a c R : ℕ) : Type 0 where
   pub ready : Ready (bookAfter 1 N (opening a c R))
   pub turns : Turns (under a c) R (bookAfter 1 N (withBit a c R))
   pub tells : Tells N (under a c) R (bookAfter 1 N (started a c R))
+  pub fares : Fares (bookAfter 1 N (started a c R))
 
 -- two rows, one round at most, and the account's limits 2 and 1
 pub small : Setting 2 280 2 1 1
@@ -191,6 +213,7 @@ small = record {
   ready = record { bits = refl; passes = refl; is = refl; needs = refl; again = refl };
   turns = record { bits = refl; held = refl; passes = refl; is = refl };
   tells = record { bits = refl; rows = refl; held = refl; found = refl; none-left = refl; unfilled-first = refl; unread = refl };
+  fares = record { bits = refl; from = refl; into = refl; without = refl; leads = tt; empty = refl };
 }
 
 -- three rows, three rounds at most, and the account's limits 5 and 7
@@ -205,4 +228,5 @@ large = record {
   ready = record { bits = refl; passes = refl; is = refl; needs = refl; again = refl };
   turns = record { bits = refl; held = refl; passes = refl; is = refl };
   tells = record { bits = refl; rows = refl; held = refl; found = refl; none-left = refl; unfilled-first = refl; unread = refl };
+  fares = record { bits = refl; from = refl; into = refl; without = refl; leads = tt; empty = refl };
 }

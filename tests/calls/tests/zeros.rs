@@ -59,6 +59,23 @@ extern "C" {
         t: u32,
         states: *mut u32,
     ) -> u32;
+    fn kudzuclamp_cheapest(
+        words: *const u32,
+        words_len: usize,
+        prices: *const u8,
+        prices_len: usize,
+        work: *mut u64,
+        work_len: usize,
+        states: *mut u16,
+        states_len: usize,
+        relations: *mut u8,
+        relations_len: usize,
+        a: u32,
+        b: u32,
+        total: *mut u32,
+        charge: *mut u32,
+        count: *mut u32,
+    ) -> u32;
 }
 
 /// What stands in an answer before the call.
@@ -156,6 +173,58 @@ fn shortest(words: &mut [u32], b: u32, places: usize) -> [u32; 2] {
         )
     };
     [number, states]
+}
+
+/// Number, total, charge and states of a cheapest run from register 0 into register b, for so many prices, work words and
+/// places for states.
+fn cheapest(words: &[u32], b: u32, prices: usize, work: usize, places: usize) -> [u32; 4] {
+    let (mut lent, mut states, mut relations) = ([7; 9], [7; 9], [7; 9]);
+    let (mut total, mut charge, mut count) = (BEFORE, BEFORE, BEFORE);
+    // SAFETY: pointers and lengths are those of slices, arrays and locals.
+    let number = unsafe {
+        kudzuclamp_cheapest(
+            words.as_ptr(),
+            words.len(),
+            [3; 9].as_ptr(),
+            prices,
+            lent.as_mut_ptr(),
+            work,
+            states.as_mut_ptr(),
+            places,
+            relations.as_mut_ptr(),
+            relations.len(),
+            0,
+            b,
+            &mut total,
+            &mut charge,
+            &mut count,
+        )
+    };
+    [number, total, charge, count]
+}
+
+#[test]
+fn refused_fares() {
+    let mut accounts = [Account::unlimited()];
+    let mut table = Table::new(&mut accounts, 2, 9).unwrap();
+    let bit = Formula::current;
+    for (r, set) in (0..).zip([bit(0) & !bit(1), bit(1), Formula::falsity()]) {
+        let stored = table.set(&mut accounts, Target::register(r), set);
+        stored.unwrap();
+    }
+    table.relation(0, bit(0) & Formula::next(1)).unwrap();
+    let words = table.into_words();
+    let mut unsound = words.clone();
+    unsound[0] = 0;
+    assert_eq!(cheapest(&words, 1, 7, 4, 9), [1, 0, 0, 0]);
+    assert_eq!(cheapest(&unsound, 1, 8, 4, 9), [2, 0, 0, 0]);
+    assert_eq!(cheapest(&words, 1, 8, 3, 9), [1, 0, 0, 0]);
+    assert_eq!(cheapest(&words, 32, 8, 4, 9), [3, 0, 0, 0]);
+    assert_eq!(cheapest(&words, 3, 8, 4, 9), [7, 0, 0, 0]);
+    assert_eq!(cheapest(&words, 2, 8, 4, 9), [10, 0, 0, 0]);
+    assert_eq!(cheapest(&words, 1, 8, 4, 1), [11, 0, 0, 0]);
+    assert_eq!(cheapest(&words, 1, 8, 4, 2), [0, 3, 1, 2]);
+    assert_eq!(cheapest(&words, 0, 8, 4, 1), [0, 0, 0, 1]);
 }
 
 #[test]

@@ -8,6 +8,7 @@
 
 pub mod accounts;
 pub mod book;
+pub mod coins;
 pub mod evaluate;
 pub mod formula;
 pub mod lists;

@@ -1,0 +1,9 @@
+pub mod Expand
+pub mod Notes
+pub mod Words
+pub mod Nodes
+pub mod Hall
+pub mod Start
+pub mod Choice
+pub mod Turn
+pub mod Search

@@ -1,0 +1,6 @@
+pub mod Cost
+pub mod OneFare
+pub mod Marks
+pub mod Added
+pub mod Turns
+pub mod Found
