@@ -145,6 +145,28 @@ static Relation one_and_one(u32 p, u32 q) {
     return {both(here(p), there(q)), [p, q](u32 s, u32 t) { return (s >> p & 1) && (t >> q & 1); }, {}};
 }
 
+// A low bit is on, or turns over, with two of the six highest on: each low bit has two others. The formula's arrows differ in every one of the low
+// bits, so that no memory of the search is large enough.
+static Relation low_with_two(bool turning, bool next_parity) {
+    u32 first = n > 7 ? n - 6 : n / 2;
+    std::vector<std::pair<u32, u32>> list;
+    for (u32 a = first; a < n; a++)
+        for (u32 b = a + 1; b < n && list.size() < first; b++) list.push_back({list.size(), 1u << a | 1u << b});
+    Bytes some = {0};
+    for (auto [i, two] : list) {
+        Bytes part = turning ? turns(i) : here(i);
+        for (u32 p = first; p < n; p++)
+            if (two >> p & 1) part = both(part, here(p));
+        some = either(part, some);
+    }
+    Holds holds = [=](u32 s, u32 t) {
+        bool any = false;
+        for (auto [i, two] : list) any = any || (((turning ? s ^ t : s) >> i & 1) && (s & two) == two);
+        return any && (!next_parity || odd(t >> first));
+    };
+    return {next_parity ? both(some, parity(0x20 + first, n - first)) : some, holds, {}};
+}
+
 // ---- the search over explicit edges
 
 // The states before each state; false where they are too many.
@@ -339,6 +361,9 @@ static std::vector<Case> cases() {
         {"counter down, half of the states; next last bit", {there_bit(high), counter(false)}, ones, one(half), one(0)},
         {"counter down, half of the states; seven of next last bit", seven, rise, one(half), one(0)},
         {"eight of now last bit and parity of next; no run", eight, mixed, nothing(), one(last ^ 1)},
+        {"a low bit with two high ones; no run", {low_with_two(false, false)}, mixed, nothing(), one(last)},
+        {"a low bit turns with two high ones; no run", {low_with_two(true, false)}, mixed, nothing(), one(last)},
+        {"the same and parity of next high bits; no run", {low_with_two(true, true)}, mixed, nothing(), one(last ^ 1u << high)},
     };
 }
 
