@@ -339,10 +339,11 @@ uint32_t kudzuclamp_shortest(uint32_t *words, size_t words_len, uint16_t *list, 
  * fewer credits, and of those that cost as many none has fewer states; which of the runs that are left is written is free. *total is its credits;
  * *charge its coins, one for every ten credits begun; *count how many states it has, at most 2^n, and 1 where the sets share a state. The relations
  * are one fewer than the states. Later places of both lists are never written, and none where the call is refused. `work` is lent for the search, at
- * least 2^n words; what they hold afterwards is free, but 1, 2, 3 and 7 keep them. The table is only read, and no row is made. It returns 0, 1 where
- * there are not 8 prices, 2, 1 where there are too few work words, 3, 7, KUDZUCLAMP_NO_RUN, or KUDZUCLAMP_SHORT where one of the lists is too short.
- * At n = 16 a room of presses takes 1 ms and a run of all states 25 ms. Relations that lead from most states to many others take up to 0.6 s each, and
- * the worst found, a formula of 247 bytes made for it, 12 s (docs/BENCHMARKS.md); a limit of rounds does not bound it.
+ * least 2^n numbers of 64 bits; what the first 2^n hold afterwards is free, but 1, 2, 3 and 7 keep them, and later ones are never written. The table is
+ * only read, and no row is made. It returns 0, 1 where there are not 8 prices, 2, 1 where there are too few work words, 3, 7, KUDZUCLAMP_NO_RUN, or
+ * KUDZUCLAMP_SHORT where one of the lists is too short.
+ * At n = 16 a room of presses takes 1 ms and a run of all states 25 ms; a relation that leads from most states to many others takes up to 0.6 s, and
+ * the worst found, made for it, 16 s, eight of them two minutes (docs/BENCHMARKS.md). No limit of rounds bounds it.
  */
 KUDZUCLAMP_USE_RESULT
 uint32_t kudzuclamp_cheapest(const uint32_t *words, size_t words_len, const uint8_t *prices, size_t prices_len, uint64_t *work, size_t work_len,

@@ -3,6 +3,7 @@
 // tell the same total and number of states, and the run that is written must be one. Thread times in ms.
 #include "list.h"
 #include "own.h"
+#include <algorithm>
 #include <cstdio>
 #include <cstdlib>
 #include <cstring>
@@ -165,6 +166,26 @@ static Relation low_with_two(bool turning, bool next_parity) {
         return any && (!next_parity || odd(t >> first));
     };
     return {next_parity ? both(some, parity(0x20 + first, n - first)) : some, holds, {}};
+}
+
+// The last bit is on, and an odd number of pairs: a high bit of now with a low one of now or a high one of next, or a high bit of next with a low one
+// of now.
+static Relation odd_pairs() {
+    u32 first = n > 7 ? n - 6 : n / 2, some = std::min(5u, n - first);
+    std::vector<Bytes> parts;
+    for (u32 p = 0; p < std::min(first, some); p++) parts.push_back(both(here(first + p), either(here(p), there(first + p))));
+    for (u32 p = 0; p < some && some + p < first; p++) parts.push_back(both(there(first + p), here(some + p)));
+    Holds holds = [=](u32 s, u32 t) {
+        u32 pairs = 0;
+        for (u32 p = 0; p < std::min(first, some); p++) pairs += (s >> (first + p) & 1) && ((s >> p & 1) || (t >> (first + p) & 1));
+        for (u32 p = 0; p < some && some + p < first; p++) pairs += (t >> (first + p) & 1) && (s >> (some + p) & 1);
+        return (s >> high & 1) && pairs % 2;
+    };
+    std::function<Bytes(size_t, size_t)> sum = [&](size_t from, size_t count) {
+        if (count == 1) return parts[from];
+        return no(same(sum(from, count / 2), sum(from + count / 2, count - count / 2)));
+    };
+    return {both(here(high), sum(0, parts.size())), holds, {}};
 }
 
 // ---- the search over explicit edges
@@ -364,6 +385,8 @@ static std::vector<Case> cases() {
         {"a low bit with two high ones; no run", {low_with_two(false, false)}, mixed, nothing(), one(last)},
         {"a low bit turns with two high ones; no run", {low_with_two(true, false)}, mixed, nothing(), one(last)},
         {"the same and parity of next high bits; no run", {low_with_two(true, true)}, mixed, nothing(), one(last ^ 1u << high)},
+        {"odd pairs; no run", {odd_pairs()}, mixed, nothing(), bit(high, true)},
+        {"eight of odd pairs; no run", std::vector<Relation>(8, odd_pairs()), mixed, nothing(), bit(high, true)},
     };
 }
 

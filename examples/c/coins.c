@@ -1,6 +1,6 @@
 /*
  * A booth in a coin hall: each press costs credits, and a coin is taken for every ten credits begun. By which presses does it cost least to come
- * from all off to all on, at the evening's prices, and at those of the late hour?
+ * from all off to all on, at the evening's prices, at those of the late hour, and on a birthday?
  */
 #include "kudzuclamp.h"
 

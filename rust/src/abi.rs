@@ -299,7 +299,8 @@ pub fn cheapest(
     words: &[u32],
     prices: &[u8],
     work: &mut [u64],
-    (states, relations): (&mut [u16], &mut [u8]),
+    states: &mut [u16],
+    relations: &mut [u8],
     a: u32,
     b: u32,
 ) -> Result<Fare, Refusal> {
@@ -327,7 +328,7 @@ pub fn cheapest(
     let fare = Fare {
         total,
         charge,
-        states: count as usize,
+        count: count as usize,
     };
     answered(number, fare)
 }

@@ -54,7 +54,7 @@ pub struct Fare {
     /// The coins for them: one for every ten credits begun.
     pub charge: u32,
     /// How many states the run has, one more than steps.
-    pub states: usize,
+    pub count: usize,
 }
 
 /// What an answered [`Table::cheapest`] gives: a run, and what it costs.
@@ -616,9 +616,9 @@ impl<W: AsRef<[u32]>> Table<W> {
         // No cheapest run has a state twice: what lies between could be left out.
         let mut work = vec![0; 1 << MAX_BITS];
         let (mut states, mut relations) = (vec![0; 1 << MAX_BITS], vec![0; 1 << MAX_BITS]);
-        let fare = self.write_cheapest(prices, &mut work, (&mut states, &mut relations), a, b)?;
-        states.truncate(fare.states);
-        relations.truncate(fare.states - 1);
+        let fare = self.write_cheapest(prices, &mut work, &mut states, &mut relations, a, b)?;
+        states.truncate(fare.count);
+        relations.truncate(fare.count - 1);
         Ok(Run {
             fare,
             states,
@@ -628,7 +628,8 @@ impl<W: AsRef<[u32]>> Table<W> {
 
     /// Writes the states and the relations that [`Table::cheapest`] gives to the first places of two
     /// lists; later places are never written, and none where the call is refused. At least 2^n work
-    /// words are lent; what they hold afterwards is of no use.
+    /// words are lent; what the first 2^n hold afterwards is of no use, but the refusals
+    /// [`Refusal::Sizes`] to [`Refusal::Empty`] keep them.
     ///
     /// # Errors
     ///
@@ -647,10 +648,10 @@ impl<W: AsRef<[u32]>> Table<W> {
     /// table.set(&mut accounts, Target::register(1), Formula::current(0))?;
     /// let (prices, mut work) = ([0, 0, 0, 11, 0, 0, 0, 0], [0; 2]);
     /// let (mut states, mut relations) = ([7; 3], [7; 2]);
-    /// let short = table.write_cheapest(&prices, &mut work, (&mut states, &mut []), 0, 1);
+    /// let short = table.write_cheapest(&prices, &mut work, &mut states, &mut [], 0, 1);
     /// assert_eq!(short, Err(Refusal::Short));
-    /// let fare = table.write_cheapest(&prices, &mut work, (&mut states, &mut relations), 0, 1)?;
-    /// assert_eq!(fare, Fare { total: 11, charge: 2, states: 2 });
+    /// let fare = table.write_cheapest(&prices, &mut work, &mut states, &mut relations, 0, 1)?;
+    /// assert_eq!(fare, Fare { total: 11, charge: 2, count: 2 });
     /// assert_eq!((states, relations), ([0, 1, 7], [3, 7]));
     /// # Ok(())
     /// # }
@@ -659,11 +660,12 @@ impl<W: AsRef<[u32]>> Table<W> {
         &self,
         prices: &[u8],
         work: &mut [u64],
-        lists: (&mut [u16], &mut [u8]),
+        states: &mut [u16],
+        relations: &mut [u8],
         a: u32,
         b: u32,
     ) -> Result<Fare, Refusal> {
-        abi::cheapest(self.words.as_ref(), prices, work, lists, a, b)
+        abi::cheapest(self.words.as_ref(), prices, work, states, relations, a, b)
     }
 
     /// How many states the set in register r has, from 0 to 2^n.

@@ -42,11 +42,11 @@ fn the_way_that_costs_less() {
     let up = table.cheapest(&prices(1, 255, 0), 0, 1).unwrap();
     assert_eq!(up.states, [0, 1, 2, 3, 4, 5, 6, 7]);
     assert_eq!(up.relations, [0; 7]);
-    let states = 8;
+    let count = 8;
     let fare = |total, charge| Fare {
         total,
         charge,
-        states,
+        count,
     };
     assert_eq!(up.fare, fare(7, 1));
     assert_eq!(
@@ -74,10 +74,7 @@ fn fewer_states_where_the_total_is_the_same() {
 fn a_state_of_both_sets_costs_nothing() {
     let run = counting(2).cheapest(&[255; 8], 1, 1).unwrap();
     assert_eq!((run.states, run.relations.len()), (vec![3], 0));
-    assert_eq!(
-        (run.fare.total, run.fare.charge, run.fare.states),
-        (0, 0, 1)
-    );
+    assert_eq!((run.fare.total, run.fare.charge, run.fare.count), (0, 0, 1));
 }
 
 #[test]
@@ -117,8 +114,7 @@ fn refusals_keep_the_lists() {
     let kept = |table: &Table<Vec<u32>>, prices: &[u8], work: usize, places, (a, b), wanted| {
         let (mut lent, mut states, mut relations) =
             (vec![7; work], vec![7; places], vec![7; places]);
-        let lists = (&mut states[..], &mut relations[..]);
-        let refused = table.write_cheapest(prices, &mut lent, lists, a, b);
+        let refused = table.write_cheapest(prices, &mut lent, &mut states, &mut relations, a, b);
         assert_eq!(refused, Err(wanted));
         assert_eq!((states, relations), (vec![7; places], vec![7; places]));
         assert!(wanted.number() > 7 || lent == vec![7; work]);
@@ -139,10 +135,17 @@ fn refusals_keep_the_lists() {
 #[test]
 fn places_past_the_run_are_kept() {
     let table = counting(2);
-    let (mut work, mut states, mut relations) = ([0; 9], [7; 6], [7; 6]);
-    let lists = (&mut states[..], &mut relations[..]);
-    let fare = table.write_cheapest(&prices(1, 9, 9), &mut work, lists, 0, 1);
-    assert_eq!(fare.map(|fare| fare.states), Ok(4));
+    let (mut work, mut states, mut relations) = ([7; 9], [7; 6], [7; 6]);
+    let fare = table.write_cheapest(
+        &prices(1, 9, 9),
+        &mut work,
+        &mut states,
+        &mut relations,
+        0,
+        1,
+    );
+    assert_eq!(fare.map(|fare| fare.count), Ok(4));
+    assert_eq!(work[4..], [7; 5]);
     assert_eq!(
         (states, relations),
         ([0, 1, 2, 3, 7, 7], [0, 0, 0, 7, 7, 7])

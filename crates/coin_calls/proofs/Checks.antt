@@ -2,13 +2,14 @@
 use mathlib.Core.Path.{_≡_, refl, sym, ap, _∙_, subst}
 use mathlib.Core.Logic.{_⊎_, inl, inr}
 use mathlib.Core.Bool.{Bool}
-use mathlib.Core.List.{List}
+use mathlib.Core.List.{List, _++_}
 use mathlib.Core.Option.{Option, none, some}
 use Prim.Native.Nat.{ℕ, zero, suc, _+_, _-_, _*_, _%_, _^_, _≤_, _<_}
 use native.Mathlib.Nat.{one-mul, mod-eq-of-lt}
 use native.Mathlib.Omega.{arith}
 use lib.Dec.{T}
-use lib.ListN.{length}
+use lib.ListN.{length, take, drop}
+use lib.Seq.{length-take-le, length-front, drop-append-seam}
 use lib.Pow.{pow-mono}
 use Rattle.mucalculus.specs.Sets.{mem}
 use Rattle.layout.specs.Refusals.{keepsAll}
@@ -27,11 +28,11 @@ use Rattle.book.proofs.Stored.{none-some}
 use Rattle.contract.specs.Seen.{arrowIn, seen, SoundWords}
 use Rattle.seek.specs.Walk.{HoldsPre}
 use Rattle.coins.specs.Runs.{leadsIn}
-use Rattle.coins.specs.Post.{FareReply, fareRefused, FareTold, told-none, BothThere, FareBy, FarePost}
+use Rattle.coins.specs.Post.{FareReply, fareRefused, FareTold, BothThere, FareBy, FarePost}
 use Rattle.coin_search.specs.Hall.{rootAt, filledAt, leadsAt, inSet, Hall}
-use Rattle.coin_search.proofs.Hall.{hall-moved, filled-below, filled-some}
-use Rattle.coin_search.specs.Search.{SearchPre, SearchPost}
-use Rattle.coin_calls.specs.Asks.{PayPre, PayPost}
+use Rattle.coin_search.proofs.Hall.{filled-below, filled-some}
+use Rattle.coin_search.specs.Search.{SearchPre}
+use Rattle.coin_calls.specs.Asks.{BetweenPost}
 use Rattle.coin_calls.proofs.Moved.{told-moved, words-agree}
 
 -- ---- refusals by the checks
@@ -46,6 +47,7 @@ module _ (a b : ℕ) (words prices work states relations : List ℕ) where
     kept = λ _. (refl, refl);
     size = refl;
     work-kept = λ _. refl;
+    work-past = λ _. refl;
   }
 
   module _ (e : length prices ≡ 8) where
@@ -57,6 +59,7 @@ module _ (a b : ℕ) (words prices work states relations : List ℕ) where
       kept = λ _. (refl, refl);
       size = refl;
       work-kept = λ _. refl;
+      work-past = λ _. refl;
     }
 
     module _ (s : SoundWords words) where
@@ -70,6 +73,7 @@ module _ (a b : ℕ) (words prices work states relations : List ℕ) where
         kept = λ _. (refl, refl);
         size = refl;
         work-kept = λ _. refl;
+        work-past = λ _. refl;
       }
 
       -- the work list
@@ -133,7 +137,7 @@ module _ (words : List ℕ) (s : SoundWords words) {bits : ℕ} (eb : bits ≡ h
   pub few-bits : bits ≤ 16
   few-bits = let l = s .good .sizes .n-max in omega arith
 
-  states-eq : 1 * 2 ^ bits % 18_446_744_073_709_551_616 ≡ 2 ^ headerOf words BITS
+  pub states-eq : 1 * 2 ^ bits % 18_446_744_073_709_551_616 ≡ 2 ^ headerOf words BITS
   states-eq = states-are bits few-bits ∙ ap (λ (k : ℕ). 2 ^ k) eb
 
   pub work-short : {m : ℕ} → m < 1 * 2 ^ bits % 18_446_744_073_709_551_616 → m < 2 ^ headerOf words BITS
@@ -176,11 +180,11 @@ module _ {a b : ℕ} (words prices work : List ℕ) (e : length prices ≡ 8) (s
   read P p =
       subst (λ (k : ℕ). P (view rows words) k) (sym eb) (subst (λ (k : ℕ). P (view k words) (headerOf words BITS)) (sym er) p)
 
-  hall : Hall (tableOf words) (headerOf words BITS) prices work
-  hall = record {
+  hall : {part : List ℕ} → 2 ^ headerOf words BITS ≤ length part → Hall (tableOf words) (headerOf words BITS) prices part
+  hall room = record {
     small = s .good .sizes .n-max;
     priced = e;
-    room = w;
+    room = room;
     arrows = λ q f. let l = filled-below (headerOf words) q f in
         walks s (FIRST-RELATION + q) (omega arith) (omega arith) (filled-some (headerOf words) q f);
   }
@@ -193,60 +197,47 @@ module _ {a b : ℕ} (words prices work : List ℕ) (e : length prices ≡ 8) (s
       some-word : (z i : ℕ) → z ≡ i → (z ≡ 0 → ⊥) → 1 ≤ i
       some-word z i ez f = omega arith
 
-  pub call-asks : SearchPre (view rows words) bits prices work (x - 1) (y - 1)
-  call-asks = read (λ W n. SearchPre W n prices work (x - 1) (y - 1))
-      (record { hall = hall; from = register-walks (r .first) ex fx; into = register-walks (r .second) ey fy })
+  -- the first of the work words are enough
+  pub call-asks : (k : ℕ) → k ≡ 2 ^ headerOf words BITS → SearchPre (view rows words) bits prices (take k work) (x - 1) (y - 1)
+  call-asks k ek = read (λ W n. SearchPre W n prices (take k work) (x - 1) (y - 1)) (record {
+    hall = hall (let l = length-take-le k work (omega arith) in omega arith);
+    from = register-walks (r .first) ex fx;
+    into = register-walks (r .second) ey fy;
+  })
 
-  module _ {work′ : List ℕ} {f : ℕ} (same : length work′ ≡ length work)
-      (v : SearchPost (view rows words) bits prices work′ (x - 1) (y - 1) f) where
-    pub pay-asks : (f ≡ 65_536 → ⊥) → PayPre (view rows words) bits prices work′ f
-    pay-asks q = record {
-      hall = hall-moved (read (λ W n. Hall W n prices work) hall) same;
-      from = x - 1;
-      into = y - 1;
-      found = v .found q;
-    }
+  told-book : {states states′ relations relations′ : List ℕ} {o : FareReply}
+      → FareTold (2 ^ bits) (leadsAt (view rows words)) (inSet (view rows words) (x - 1)) (inSet (view rows words) (y - 1)) prices states
+      states′ relations relations′ o
+      → (A B : List Bool) → bookOf (seen words) .reg a ≡ some A → bookOf (seen words) .reg b ≡ some B
+      → FareTold (2 ^ headerOf words BITS) (leadsIn (bookOf (seen words) .rel)) (mem A) (mem B) prices states states′ relations relations′ o
+  told-book {states} {states′} {relations} {relations′} {o} t A B ha hb =
+      told-moved (words-agree words (r .first) (r .second) ex ey fx fy ha hb)
+      (owned (λ W n. FareTold (2 ^ n) (leadsAt W) (inSet W (x - 1)) (inSet W (y - 1)) prices states states′ relations relations′ o) t)
 
-    told-book : {states states′ relations relations′ : List ℕ} {o : FareReply}
-        → FareTold (2 ^ bits) (leadsAt (view rows words)) (inSet (view rows words) (x - 1)) (inSet (view rows words) (y - 1)) prices states
-        states′ relations relations′ o
-        → (A B : List Bool) → bookOf (seen words) .reg a ≡ some A → bookOf (seen words) .reg b ≡ some B
-        → FareTold (2 ^ headerOf words BITS) (leadsIn (bookOf (seen words) .rel)) (mem A) (mem B) prices states states′
-        relations relations′ o
-    told-book {states} {states′} {relations} {relations′} {o} t A B ha hb =
-        told-moved (words-agree words (r .first) (r .second) ex ey fx fy ha hb)
-        (owned (λ W n. FareTold (2 ^ n) (leadsAt W) (inSet W (x - 1)) (inSet W (y - 1)) prices states states′ relations relations′ o) t)
+  filled : (bookOf (seen words) .reg a ≡ none) ⊎ (bookOf (seen words) .reg b ≡ none) → ⊥
+  filled (inl z) = stands-some words (r .first) ex fx z
+  filled (inr z) = stands-some words (r .second) ey fy z
 
-    fare-told : {states states′ relations relations′ : List ℕ} {o : FareReply}
-        → FareTold (2 ^ bits) (leadsAt (view rows words)) (inSet (view rows words) (x - 1)) (inSet (view rows words) (y - 1)) prices states
-        states′ relations relations′ o
-        → ((o .number ≡ 0 → ⊥) → (states′ ≡ states) × (relations′ ≡ relations)) → (T (keepsAll (o .number)) → ⊥)
-        → FarePost a b words prices work work′ states states′ relations relations′ o
-    fare-told t k l = record {
+  -- the first of the work words came back as others, those past them as they were
+  module _ {k : ℕ} (ek : k ≡ 2 ^ headerOf words BITS) {part states states′ relations relations′ : List ℕ} {o : FareReply}
+      (p : BetweenPost (view rows words) bits prices (take k work) part states states′ relations relations′ (x - 1) (y - 1) o) where
+    past : drop (2 ^ headerOf words BITS) (part ++ drop k work) ≡ drop (2 ^ headerOf words BITS) work
+    past =
+        let l : length part ≡ 2 ^ headerOf words BITS = p .size ∙ length-take-le k work (omega arith) ∙ ek in
+        ap (λ (j : ℕ). drop j (part ++ drop k work)) (sym l) ∙ drop-append-seam part (drop k work) ∙ ap (λ (j : ℕ). drop j work) ek
+
+    pub fare-ends : FarePost a b words prices work (part ++ drop k work) states states′ relations relations′ o
+    fare-ends = record {
       prices-fit = λ q. absurd (q e);
       unsound = λ _ n. absurd (n s);
       by-book = λ _ _. record {
         work-fits = λ h. absurd (omega arith);
         range = λ _ n. absurd (n r);
         empty = λ _ _ z. absurd (filled z);
-        told = λ _ _ A B ha hb. told-book t A B ha hb;
+        told = λ _ _ A B ha hb. told-book (p .told) A B ha hb;
       };
-      kept = k;
-      size = same;
-      work-kept = λ h. absurd (l h);
+      kept = p .kept;
+      size = length-front work part k (p .size);
+      work-kept = λ h. absurd (p .late h);
+      work-past = λ _. past;
     }
-      where
-        filled : (bookOf (seen words) .reg a ≡ none) ⊎ (bookOf (seen words) .reg b ≡ none) → ⊥
-        filled (inl z) = stands-some words (r .first) ex fx z
-        filled (inr z) = stands-some words (r .second) ey fy z
-
-    -- there is no run
-    pub fare-none : {states relations : List ℕ} → f ≡ 65_536
-        → FarePost a b words prices work work′ states states relations relations (fareRefused 10)
-    fare-none q = fare-told (told-none (v .none q)) (λ _. (refl, refl)) (λ h. h)
-
-    -- a run is written, or a list is too short for it
-    pub fare-ends : {states states′ relations relations′ : List ℕ} (o : FareReply) → (f ≡ 65_536 → ⊥)
-        → PayPost (view rows words) bits prices work′ states states′ relations relations′ f o
-        → FarePost a b words prices work work′ states states′ relations relations′ o
-    fare-ends o q p = fare-told (p .told (x - 1) (y - 1) (v .found q)) (p .kept) (p .late)

@@ -12,10 +12,11 @@ use layout::header_word;
 use seek::holds;
 use soundness::sound;
 ghost use Prim.Native.Nat.{_<_, _^_, _≤_};
-ghost use Rattle.coin_calls.specs.Asks.{PayPost, PayPre};
+ghost use Rattle.coin_calls.specs.Asks.{BetweenPost, PayPost, PayPre};
 ghost use Rattle.coin_calls.specs.Steps.{Ahead, IsExact, RelationTo, StepBelow};
 ghost use Rattle.coin_calls.specs.Write.{WriteRunGives, WriteRunPre};
 ghost use Rattle.coin_search.specs.Hall.{Hall};
+ghost use Rattle.coin_search.specs.Search.{SearchPre};
 ghost use Rattle.coins.specs.Post.{FarePost, fareReply};
 ghost use Rattle.layout.specs.Places.{HEADER};
 ghost use Rattle.layout.specs.View.{view};
@@ -195,10 +196,33 @@ fn pay(
     }
 }
 
+// Searches for a cheapest run from arrow a's set into arrow b's and writes it; 10 where there is none, 11 where a list is too short.
+fn between(
+    words: &[u32],
+    rows: u32,
+    bits: u32,
+    prices: &[u8],
+    work: &mut [u64],
+    states: &mut [u16],
+    relations: &mut [u8],
+    a: u32,
+    b: u32,
+) -> Fare
+    requires { ⌜ SearchPre (view rows (now words)) bits (now prices) (now work) a b × (HEADER ≤ length (now words)) ⌝ }
+    ensures { λ r. ⌜ BetweenPost (view rows (now (words .entry))) bits (now (prices .entry)) (now (work .entry)) (now (work .exit))
+        (now (states .entry)) (now (states .exit)) (now (relations .entry)) (now (relations .exit)) a b (fareReply r) ⌝ }
+{
+    let first = search(words, rows, bits, prices, work, a, b);
+    if first == Work::NO_STATE {
+        return Fare::Refused(Refusal::NoRun);
+    }
+    pay(words, rows, bits, prices, work, states, relations, first)
+}
+
 // Writes the states and the relations of a cheapest run from register a into register b to the lists, and answers its total, its coins and
-// how many states it has. The work words are lent for the search. 1 where the prices are not eight, 2 on unsound words, 1 where there are
-// fewer work words than states, 3 where there is no such register, 7 where one is empty, 10 where there is no run, 11 where a list is too
-// short.
+// how many states it has. The first work words, one for each state, are lent for the search. 1 where the prices are not eight, 2 on unsound
+// words, 1 where there are fewer work words than states, 3 where there is no such register, 7 where one is empty, 10 where there is no run,
+// 11 where a list is too short.
 pub fn cheapest(
     words: &[u32],
     prices: &[u8],
@@ -219,7 +243,8 @@ pub fn cheapest(
     }
     let rows = header_word(words, Table::ROWS);
     let bits = header_word(words, Table::BITS);
-    if work.len() < 1usize << bits {
+    let all = 1usize << bits;
+    if work.len() < all {
         return Fare::Refused(Refusal::Sizes);
     }
     if a >= Table::REGISTERS {
@@ -236,9 +261,15 @@ pub fn cheapest(
     if y == 0 {
         return Fare::Refused(Refusal::Empty);
     }
-    let first = search(words, rows, bits, prices, work, x - 1, y - 1);
-    if first == Work::NO_STATE {
-        return Fare::Refused(Refusal::NoRun);
-    }
-    pay(words, rows, bits, prices, work, states, relations, first)
+    between(
+        words,
+        rows,
+        bits,
+        prices,
+        &mut work[..all],
+        states,
+        relations,
+        x - 1,
+        y - 1,
+    )
 }

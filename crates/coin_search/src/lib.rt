@@ -1,6 +1,5 @@
 // The search for the cheapest run into a set: states are put into an order by what it costs to come from them into the set, with no row
-// made.
-// All that it keeps stands in lent words of 64 bits, one for each state.
+// made. Order and marks stand in lent words of 64 bits, one for each state; what only saves time stands in 28 KB of the stack.
 use coin_masks::Notes;
 use coin_masks::mask_of;
 use layout::Table;
@@ -45,7 +44,7 @@ impl Work {
     // No state of 16 bits.
     pub const NO_STATE: u32 = 65536;
 
-    // The bits of which a walk over single states is as fast as one over words.
+    // Up to so many bits single states are walked, and no words of 64 (chosen by trial).
     const FEW: u32 = 7;
 
     // How many bits an arrow must skip to be remembered as spent: from fewer on there are too many keys.

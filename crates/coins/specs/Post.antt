@@ -6,7 +6,7 @@ use mathlib.Core.List.{List}
 use mathlib.Core.Option.{none, some}
 use Prim.Native.Nat.{ℕ, suc, _^_, _≤_, _<_}
 use lib.Dec.{T}
-use lib.ListN.{length}
+use lib.ListN.{length, drop}
 use Rattle.mucalculus.specs.Sets.{mem}
 use Rattle.layout.specs.Refusals.{keepsAll, refusalNumber}
 use Rattle.book.specs.Book.{Book, registers}
@@ -85,3 +85,5 @@ pub record FarePost (a b : ℕ) (words prices work work′ states states′ rela
   -- "whose contents afterwards are free unless 1 to 7 is given"
   pub size : length work′ ≡ length work
   pub work-kept : T (keepsAll (y .number)) → work′ ≡ work
+  -- "a work list of 2^n 64-bit numbers": what a longer list has past them stays
+  pub work-past : SoundWords words → drop (2 ^ bookOf (seen words) .n) work′ ≡ drop (2 ^ bookOf (seen words) .n) work

@@ -2,9 +2,9 @@
 -- true answers. From register 4 into 3 at p credits a press; relation 0 leads from each state to each. Assumes nothing.
 use mathlib.Core.Path.{_≡_, refl, sym, ap, _∙_}
 use mathlib.Core.List.{List, [], _∷_}
-use Prim.Native.Nat.{ℕ}
+use Prim.Native.Nat.{ℕ, _^_}
 use native.Mathlib.Omega.{arith}
-use lib.ListN.{getD}
+use lib.ListN.{getD, drop}
 use Rattle.coins.specs.Post.{FareReply, fareRefused, FareBy, FarePost}
 use Rattle.coins.proofs.OneFare.{coins-one}
 use Rattle.book.specs.Demand.{bookAfter}
@@ -12,7 +12,7 @@ use Rattle.coin_calls.proofs.Rests.{fare-listed, fare-again}
 use Rattle.witness.proofs.Begun.{session}
 use Rattle.witness.proofs.Pressed.{priced}
 use Rattle.witness.proofs.QuietList.{started, closing, afterRun, blank, spare, spare′, single, labels, small, large}
-use Rattle.witness.proofs.QuietCalls.{to-after, fare-paid, fare-none, fare-short}
+use Rattle.witness.proofs.QuietCalls.{to-after, after-sound, pressed, fare-paid, fare-none, fare-short}
 use Rattle.witness.proofs.Quiet.{first, second, loose, again-started, zero-started, next, next′}
 
 -- total, charge and number of states of an answer
@@ -94,3 +94,11 @@ pub past-the-run : Claims 11 (0 ∷ 1 ∷ 8 ∷ []) (0 ∷ 9 ∷ []) (gives 11 2
 past-the-run f =
     let e : _≡_ {A = List ℕ} (8 ∷ []) (7 ∷ []) = coins-one f eleven .states-past in
     let h : _≡_ {A = ℕ} 8 7 = ap (λ (l : List ℕ). getD l 0 0) e in absurd (omega arith)
+
+-- a work word past the states is written
+pub past-the-work : {s q : List ℕ} {y : FareReply} → FarePost 4 3 (afterRun 2 280) (priced 11) spare (4 ∷ 4 ∷ 9 ∷ []) blank s labels q y → ⊥
+past-the-work f =
+    let n = pressed small .bits in
+    let e : _≡_ {A = List ℕ} (9 ∷ []) (8 ∷ []) =
+    sym (ap (λ (n : ℕ). drop (2 ^ n) (4 ∷ 4 ∷ 9 ∷ [])) n) ∙ f .work-past (after-sound small) ∙ ap (λ (n : ℕ). drop (2 ^ n) spare) n in
+    let h : _≡_ {A = ℕ} 9 8 = ap (λ (l : List ℕ). getD l 0 0) e in absurd (omega arith)

@@ -7,7 +7,7 @@ use mathlib.Core.Option.{some}
 use Prim.Native.Nat.{ℕ, zero, suc, _+_, _*_, _^_, _≤_, _<_}
 use native.Mathlib.Omega.{arith}
 use lib.Dec.{T}
-use lib.ListN.{length, getD}
+use lib.ListN.{length, getD, drop}
 use Rattle.accounts.specs.Count.{nothing}
 use Rattle.mucalculus.specs.Form.{Form}
 use Rattle.mucalculus.specs.Means.{compl}
@@ -208,7 +208,7 @@ module _ {N k a c R : ℕ} (x : Setting N k a c R) where
       go valid-fixed (go relation-done (go set-filled (go set-vacant (go set-bit (go set-turned (pause (path-rests run-told) stop))))))
 
   -- the words are sound
-  after-sound : SoundWords (afterRun N k)
+  pub after-sound : SoundWords (afterRun N k)
   after-sound = sound 1 N k z to-after
 
   -- and stand for the same book
@@ -264,7 +264,7 @@ module _ {N k a c R : ℕ} (x : Setting N k a c R) where
   no-register = path-told (afterRun N k) after-sound 5 3 0 blank (refuseRun 7 blank) (told .unfilled-first)
 
   -- the book has a cheapest run
-  pressed : Fares (bookOf (seen (afterRun N k)))
+  pub pressed : Fares (bookOf (seen (afterRun N k)))
   pressed = subst Fares (sym (holds 1 N k z to-after)) (x .fares)
 
   -- what the book tells of one is the contract; the work words end as they like
@@ -279,6 +279,8 @@ module _ {N k a c R : ℕ} (x : Setting N k a c R) where
     kept = kept;
     size = refl;
     work-kept = λ h. absurd (late h);
+    work-past = λ _.
+        ap (λ (n : ℕ). drop (2 ^ n) spare′) (pressed .bits) ∙ sym (ap (λ (n : ℕ). drop (2 ^ n) spare) (pressed .bits));
   }
 
   -- ANSWERED, and no word changes: a cheapest run of one press, for p credits

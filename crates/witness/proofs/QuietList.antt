@@ -141,13 +141,13 @@ bytes = 5 ∷ 5 ∷ 5 ∷ 5 ∷ []
 abbrev pub bytes′ : List ℕ
 bytes′ = 1 ∷ 0 ∷ 1 ∷ 5 ∷ []
 
--- the work words for a cheapest run, before
+-- the work words for a cheapest run, one more than there are states, before
 abbrev pub spare : List ℕ
-spare = 5 ∷ 6 ∷ []
+spare = 5 ∷ 6 ∷ 8 ∷ []
 
--- and after: their contents are free
+-- and after: the contents of the first two are free
 abbrev pub spare′ : List ℕ
-spare′ = 4 ∷ 4 ∷ []
+spare′ = 4 ∷ 4 ∷ 8 ∷ []
 
 -- a list with a place for one state
 abbrev pub single : List ℕ

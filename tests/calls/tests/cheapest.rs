@@ -104,7 +104,8 @@ impl Room {
     /// The states that exist are those of a formula (Slip 6).
     fn new(n: u32, valid: &[u8]) -> Room {
         let mut accounts = [Account::unlimited()];
-        let mut table = Table::new(&mut accounts, n, MAX_ROWS).expect("sizes fit");
+        let rows = if n < 8 { 4_000 } else { MAX_ROWS };
+        let mut table = Table::new(&mut accounts, n, rows).expect("sizes fit");
         table.valid(valid).expect("rows in plenty");
         let exists = read(n, valid);
         Room {
@@ -144,15 +145,15 @@ impl Room {
 
     /// Makes the call and compares it; the number of steps where it is answered.
     fn compare(&self, seen: &mut Seen, asked: Asked) -> Option<usize> {
-        let words = self.table.words();
-        let (got, lists) = ask(words, asked);
-        assert_eq!(words, self.table.words());
+        let before = self.table.words().to_vec();
+        let (got, lists) = ask(self.table.words(), asked);
+        assert_eq!(before, self.table.words());
         seen.numbers[got[0] as usize] += 1;
         let before = Lists::guards(asked);
         let (total, steps) = match Hall::answer(Some(&self.hall), asked) {
             Ok(cost) => cost,
             Err(refusal) => {
-                refused(got, &lists, refusal.number().into(), asked);
+                refused(self.n, got, &lists, refusal.number().into(), asked);
                 return None;
             }
         };
@@ -162,7 +163,8 @@ impl Room {
         assert_eq!(self.hall.cost_of(asked, run, by), Some((total, steps)));
         assert_eq!(lists.states[states..], before.states[states..]);
         assert_eq!(lists.relations[steps..], before.relations[steps..]);
-        assert_eq!(lists.work.len(), asked.work);
+        let all = 1 << self.n;
+        assert_eq!(lists.work[all..], before.work[all..]);
         seen.single += u64::from(steps == 0);
         seen.free += u64::from(total == 0 && steps > 0);
         seen.longest = seen.longest.max(states as u32);
@@ -224,25 +226,25 @@ impl Room {
         }
         let mut broken = self.table.words().to_vec();
         broken[0] = 17;
+        let before = broken.clone();
         let (got, lists) = ask(&broken, asked);
+        assert_eq!(before, broken);
         seen.numbers[got[0] as usize] += 1;
         let refusal = Hall::answer(None, asked).expect_err("no sound table");
-        refused(got, &lists, refusal.number().into(), asked);
+        refused(self.n, got, &lists, refusal.number().into(), asked);
     }
 }
 
-/// A refused call gives zeros and keeps both lists; 1 to 7 keep the work words too.
-fn refused(got: [u32; 4], lists: &Lists, number: u32, asked: Asked) {
+/// A refused call gives zeros and keeps both lists; 1 to 7 keep the work words too, 10 and 11 those past the first 2^n.
+fn refused(n: u32, got: [u32; 4], lists: &Lists, number: u32, asked: Asked) {
     assert_eq!(got, [number, 0, 0, 0], "{asked:?}");
     let before = Lists::guards(asked);
     assert_eq!(
         (&lists.states, &lists.relations),
         (&before.states, &before.relations)
     );
-    assert!(
-        number > 7 || lists.work == before.work,
-        "work words changed"
-    );
+    let free = if number > 7 { 1 << n } else { 0 };
+    assert_eq!(lists.work[free..], before.work[free..]);
 }
 
 /// The state, as an AND of its bits from `base` on.
@@ -306,7 +308,7 @@ fn drawn_rooms() {
     for round in 0..400 {
         let n = [1, 2, 3, 3, 4, 4, 4, 5][round % 8];
         let valid = match round % 3 {
-            0 => vec![0x04, 0x10, random.below(2) as u8],
+            0 => vec![0x04, 0x10, 0x10 + random.below(n.into()) as u8],
             _ => vec![0x01],
         };
         let mut room = Room::new(n, &frame(&valid));
@@ -412,6 +414,62 @@ fn counted(n: u32) -> Vec<(usize, usize)> {
     (0..=last).map(|now| (now, (now + 1) & last)).collect()
 }
 
+/// Rooms of 8 and 9 bits, where the search takes 64 states at once: relations that lead from most states to many, a rule
+/// for each switch, and the counter.
+#[test]
+fn dense_rooms() {
+    let (mut random, mut seen) = (Random::new(116), Seen::default());
+    for round in 0..60 {
+        let n = [8, 8, 8, 8, 9][round % 5];
+        let valid = match round % 3 {
+            0 => vec![0x04, 0x10, 0x10 + random.below(n.into()) as u8],
+            _ => vec![0x01],
+        };
+        let mut room = Room::new(n, &frame(&valid));
+        for t in (0..7).filter(|_| random.chance(30)).collect::<Vec<_>>() {
+            let formula = match random.below(3) {
+                0 => rules(&mut random, n as u8),
+                _ => dense(&mut random, n),
+            };
+            room.relation(t, &frame(&formula));
+        }
+        if random.chance(70) {
+            room.relation_of(7, &frame(&short_counter(n)), counted(n));
+        }
+        for r in 0..3 {
+            room.set(r, &some_states(&mut random, n));
+        }
+        room.compare_runs(&mut random, &mut seen, &[(0, 1), (1, 0), (2, 1)]);
+    }
+    assert!(seen.numbers[0] > 100 && seen.numbers[10] > 20, "{seen:?}");
+    assert!(seen.longest > 50, "{seen:?}");
+    eprintln!("{seen:?}");
+}
+
+/// A few bits, of the current state or the next one, each as it is or not: all of them, one of them, or an odd number.
+fn dense(random: &mut Random, n: u32) -> Vec<u8> {
+    let bit = |random: &mut Random| {
+        let token = random.pick(&[0x10, 0x20]) + random.below(n.into()) as u8;
+        match random.chance(30) {
+            true => vec![0x02, token],
+            false => vec![token],
+        }
+    };
+    let bits: Vec<Vec<u8>> = (0..random.below(4) + 1).map(|_| bit(random)).collect();
+    match random.below(3) {
+        0 => both(bits),
+        1 => either(bits),
+        _ => bits
+            .into_iter()
+            .fold(vec![0x00], |odd, bit| differ(&odd, &bit)),
+    }
+}
+
+/// One of the two, and not both.
+fn differ(f: &[u8], g: &[u8]) -> Vec<u8> {
+    [&[0x03, 0x04], f, g, &[0x02, 0x03], f, g].concat()
+}
+
 /// Rooms of up to 16 bits: presses, single pairs, and in every other one the counter.
 #[test]
 fn large_rooms() {
@@ -476,7 +534,7 @@ fn checks() {
     let lent = Asked { work: 4, ..few };
     let gives = |words: &[u32], number: u32, asked: Asked| {
         let (got, lists) = ask(words, asked);
-        refused(got, &lists, number, asked);
+        refused(2, got, &lists, number, asked);
     };
     for prices in [&[1; 7][..], &[1; 9], &[]] {
         gives(&broken, 1, Asked { prices, ..few });
