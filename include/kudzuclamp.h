@@ -343,7 +343,7 @@ uint32_t kudzuclamp_shortest(uint32_t *words, size_t words_len, uint16_t *list, 
  * only read, and no row is made. It returns 0, 1 where there are not 8 prices, 2, 1 where there are too few work words, 3, 7, KUDZUCLAMP_NO_RUN, or
  * KUDZUCLAMP_SHORT where one of the lists is too short.
  * At n = 16 a room of presses takes 1 ms and a run of all states 25 ms; a relation that leads from most states to many others takes up to 0.6 s, and
- * the worst found, made for it, 16 s, eight of them two minutes (docs/BENCHMARKS.md). No limit of rounds bounds it.
+ * the worst found, made for it, half a minute, so that eight take minutes (docs/BENCHMARKS.md). No limit of rounds bounds it.
  */
 KUDZUCLAMP_USE_RESULT
 uint32_t kudzuclamp_cheapest(const uint32_t *words, size_t words_len, const uint8_t *prices, size_t prices_len, uint64_t *work, size_t work_len,

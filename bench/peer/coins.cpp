@@ -168,6 +168,14 @@ static Relation low_with_two(bool turning, bool next_parity) {
     return {next_parity ? both(some, parity(0x20 + first, n - first)) : some, holds, {}};
 }
 
+// A relation, where the next state is a lesser number.
+static Relation falling(const Relation &relation) {
+    Bytes less = both(here(0), no(there(0)));
+    for (u32 p = 1; p < n; p++) less = either(both(here(p), no(there(p))), both(either(here(p), no(there(p))), less));
+    Holds holds = relation.holds;
+    return {both(relation.formula, less), [holds](u32 s, u32 t) { return s > t && holds(s, t); }, {}};
+}
+
 // The last bit is on, and an odd number of pairs: a high bit of now with a low one of now or a high one of next, or a high bit of next with a low one
 // of now.
 static Relation odd_pairs() {
@@ -385,6 +393,7 @@ static std::vector<Case> cases() {
         {"a low bit with two high ones; no run", {low_with_two(false, false)}, mixed, nothing(), one(last)},
         {"a low bit turns with two high ones; no run", {low_with_two(true, false)}, mixed, nothing(), one(last)},
         {"the same and parity of next high bits; no run", {low_with_two(true, true)}, mixed, nothing(), one(last ^ 1u << high)},
+        {"counter; a low bit with two high ones, falling; no run", {counter(true), falling(low_with_two(false, false))}, ones, nothing(), one(last)},
         {"odd pairs; no run", {odd_pairs()}, mixed, nothing(), bit(high, true)},
         {"eight of odd pairs; no run", std::vector<Relation>(8, odd_pairs()), mixed, nothing(), bit(high, true)},
     };
