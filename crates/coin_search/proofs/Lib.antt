@@ -1,7 +1,6 @@
 pub mod ExpandLaws
 pub mod Words
 pub mod Nodes
-pub mod ReadsLaws
 pub mod NotesLaws
 pub mod AddsLaws
 pub mod Hall

@@ -1,8 +1,8 @@
 -- What an arrow reads of a state: no bit below half its level. Assumes nothing.
 use mathlib.Core.Path.{_≡_, refl, sym, ap, _∙_}
 use mathlib.Core.Logic.{by-cases}
-use mathlib.Core.Bool.{Bool, true, false, cond}
-use Prim.Native.Nat.{ℕ, _-_, _*_, _/_, _%_, _^_, _≤_}
+use mathlib.Core.Bool.{Bool, true, false, cond, true≢false}
+use Prim.Native.Nat.{ℕ, zero, suc, _-_, _*_, _/_, _%_, _^_, _≤_, _<_}
 use native.Mathlib.Decide.{ℕ-discrete}
 use native.Mathlib.Omega.{arith}
 use Rattle.mucalculus.specs.Means.{bit}
@@ -13,11 +13,19 @@ use Rattle.layout.specs.View.{View}
 use Rattle.layout.specs.Arrows.{isRow, rowOf}
 use Rattle.layout.proofs.Arrows.{row-is}
 use Rattle.rows.specs.Used.{rowsOf}
+use Rattle.rows.specs.Mark.{depth}
 use Rattle.book.specs.States.{pairVal}
 use Rattle.seek.specs.Walk.{HoldsPre, holdsAt}
-use Rattle.seek.specs.Apart.{levelAt}
+use Rattle.seek.specs.Apart.{levelAt, Followed}
 use Rattle.seek.proofs.Walk.{even-level, odd-level, walk-row, walk-end}
 use Rattle.coin_masks.proofs.Bits.{bit-above}
+
+-- an arrow to no row
+none-is : (a : ℕ) → isRow a ≡ false → a / 2 ≡ 0
+unfolding isRow
+none-is zero e = refl
+none-is (suc zero) e = refl
+none-is (suc (suc i)) e = absurd (true≢false e)
 
 module _ (W : View) (x : ℕ) (a : HoldsPre W x) where
   level-here : isRow x ≡ true → levelAt W x ≡ W .cell (rowOf x) LEVEL
@@ -53,3 +61,41 @@ module _ (W : View) (x : ℕ) (a : HoldsPre W x) where
             ap (levelTo (2 * W .header BITS) (rowsOf W)) (row-is x e) in
             omega arith))
         go false e = sym (walk-end W u s x e) ∙ walk-end W u t x e
+
+  -- of a row it is less
+  pub row-level : isRow x ≡ true → levelAt W x < 32
+  row-level e = let l = walk-row W x a e refl .1 in let h = level-here e in let b = a .bits in omega arith
+
+  -- as depth sees it
+  row-depth : isRow x ≡ true → (depth W x ≡ 2 * W .header BITS - levelAt W x) × (levelAt W x < 2 * W .header BITS)
+  row-depth e =
+      let h = level-here e in
+      let o : levelOf (2 * W .header BITS) (rowsOf W) x ≡ W .cell (rowOf x) LEVEL =
+      ap (levelTo (2 * W .header BITS) (rowsOf W)) (row-is x e) in
+      let l = walk-row W x a e refl .1 in
+      (ap (λ (y : ℕ). 2 * W .header BITS - y) (o ∙ sym h), omega arith)
+
+  none-depth : isRow x ≡ false → (depth W x ≡ 0) × (levelAt W x ≡ 32)
+  none-depth e = (
+    (let o : levelOf (2 * W .header BITS) (rowsOf W) x ≡ 2 * W .header BITS =
+    ap (levelTo (2 * W .header BITS) (rowsOf W)) (none-is x e) in omega arith),
+    ap (λ (r : Bool). cond r (W .cell (rowOf x) LEVEL) 32) e,
+  )
+
+-- an arrow that is followed at a level that is not behind it reads only later ones
+pub level-later : {W : View} {a l x : ℕ} {side : Bool} → Followed W a l side x → HoldsPre W a → l ≤ levelAt W a → l < 32 → l < levelAt W x
+level-later {W} {a} {l} {x} f h le lt = go (isRow x) refl (isRow a) refl
+  where
+    go : (r : Bool) → isRow x ≡ r → (q : Bool) → isRow a ≡ q → l < levelAt W x
+    go false ex q ea = let z = none-depth W x (f .pre) ex .1 in omega arith
+    go true ex true ea =
+        let (dx, lx) = row-depth W x (f .pre) ex in
+        let (da, la) = row-depth W a h ea in
+        by-cases (ℕ-discrete l (levelAt W a))
+        (λ e. let g = f .less (λ z. omega arith) e in omega arith)
+        (λ n. let g = f .most in omega arith)
+    go true ex false ea =
+        let (dx, lx) = row-depth W x (f .pre) ex in
+        let (da, la) = none-depth W a h ea in
+        let g = f .most in
+        absurd (omega arith)
