@@ -68,7 +68,7 @@ word-bit j x l e = by-cases (decLt j 64) (λ y. y) (λ n.
     let a = at-least j x e in
     absurd (omega arith))
 
-and-true : (x y : Bool) → (x && y) ≡ true → (x ≡ true) × (y ≡ true)
+pub and-true : (x y : Bool) → (x && y) ≡ true → (x ≡ true) × (y ≡ true)
 and-true true true e = (refl, refl)
 and-true true false e = absurd (true≢false (sym e))
 and-true false y e = absurd (true≢false (sym e))

@@ -62,6 +62,29 @@ module _ (W : View) (x : ℕ) (a : HoldsPre W x) where
             omega arith))
         go false e = sym (walk-end W u s x e) ∙ walk-end W u t x e
 
+  -- an arrow that reads no bit below `low`, at two pairs that agree from there on
+  pub reads-both : (low u v s t : ℕ) → 2 * low ≤ levelAt W x → u / 2 ^ low ≡ v / 2 ^ low → s / 2 ^ low ≡ t / 2 ^ low
+      → holdsAt W x u s ≡ holdsAt W x v t
+  reads-both low u v s t d eu es = go (isRow x) refl
+    where
+      part : (a b k : ℕ) → low ≤ k → a / 2 ^ low ≡ b / 2 ^ low → bit k a ≡ bit k b
+      part a b k l e = bit-above low k a l ∙ ap (bit (k - low)) e ∙ sym (bit-above low k b l)
+
+      agree : (k : ℕ) → levelAt W x ≤ k → pairVal u s k ≡ pairVal v t k
+      agree k l = by-cases (ℕ-discrete (k % 2) 0)
+          (λ e. sym (even-level u s k e) ∙ part u v (k / 2) (omega arith) eu ∙ even-level v t k e)
+          (λ e. sym (odd-level u s k e) ∙ part s t (k / 2) (omega arith) es ∙ odd-level v t k e)
+
+      go : (r : Bool) → isRow x ≡ r → holdsAt W x u s ≡ holdsAt W x v t
+      go true e =
+          den-reads (a .mark .base .rows) (2 * W .header BITS) x (a .mark .arrow) (pairVal u s) (pairVal v t)
+          (λ k l _. agree k (
+          let h = level-here e in
+          let o : levelOf (2 * W .header BITS) (rowsOf W) x ≡ W .cell (rowOf x) LEVEL =
+          ap (levelTo (2 * W .header BITS) (rowsOf W)) (row-is x e) in
+          omega arith))
+      go false e = sym (walk-end W u s x e) ∙ walk-end W v t x e
+
   -- of a row it is less
   pub row-level : isRow x ≡ true → levelAt W x < 32
   row-level e = let l = walk-row W x a e refl .1 in let h = level-here e in let b = a .bits in omega arith

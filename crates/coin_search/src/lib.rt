@@ -1,5 +1,5 @@
 // The search for the cheapest run into a set: states are put into an order by what it costs to come from them into the set, with no row
-// made. Order and marks stand in lent words of 64 bits, one for each state; what only saves time stands in 28 KB of the stack.
+// made. Order and marks stand in lent words of 64 bits, one for each state; what only saves time stands in 40 KB of the stack.
 use coin_masks::Notes;
 use coin_masks::mask_of;
 use layout::Table;
@@ -8,31 +8,33 @@ use seek::follow_at;
 use seek::holds;
 use seek::level_of;
 use states::bit;
-ghost use Prim.Native.Nat.{_*_, _+_, _/_, _<_, _^_, _≤_};
+ghost use Prim.Native.Nat.{_*_, _+_, _-_, _/_, _<_, _^_, _≤_};
+ghost use Rattle.coin_search.specs.Adds.{Adds, AddsPre, AtBit, InMask, One};
 ghost use Rattle.coin_search.specs.Choice.{Best, NextMark, Placed};
-ghost use Rattle.coin_search.specs.Expand.{ExpandPre, Expands};
-ghost use Rattle.coin_search.specs.Nodes.{Joined, Known, NodePre};
-ghost use Rattle.coin_search.specs.Notes.{Adds, Bitmap, KeyMet, KeyPut, LowBits, Noted, NotesHold, SpentPre, AtBit, InMask, spentKey};
+ghost use Rattle.coin_search.specs.Expand.{ExpandPre, Reached, Stepped};
+ghost use Rattle.coin_search.specs.Gather.{Gathered, GatherPre, GoalBit, Goals, OwnState};
+ghost use Rattle.coin_search.specs.Notes.{DoneMet, KeyMet, KeyPut, LowBits, NewBits, NewBitsPre, Noted, NotesHold, SpentPre, spentKey};
 ghost use Rattle.coin_search.specs.Search.{SearchPost, SearchPre};
 ghost use Rattle.coin_search.specs.Start.{Bare, Cleared, FirstIn, Started};
 ghost use Rattle.coin_search.specs.Turn.{TurnPost, TurnPre};
-ghost use Rattle.coin_search.specs.Words.{AddPost, FullPut, MarkPut, StatePut, fullAt, markOf, stateAt};
+ghost use Rattle.coin_search.specs.Words.{AddPost, MarkPut, StatePut, markOf, stateAt};
 ghost use Rattle.coins.specs.Cost.{stepCost};
 ghost use Rattle.layout.specs.Places.{HEADER};
 ghost use Rattle.layout.specs.View.{headerOf, view};
 ghost use Rattle.seek.specs.Apart.{levelAt};
 ghost use Rattle.seek.specs.Walk.{HoldsPre};
-ghost use lib.ListN.{length};
+ghost use lib.Bits.{bitAnd};
+ghost use lib.ListN.{getD, length, set};
 ghost use mathlib.Core.Bool.{true};
 ghost use mathlib.Core.Path.{_≡_};
 
-// The parts of a work word: in the low 16 bits the state at a place of the order; then a bit that says of the states with some lower bits
-// that all are marked; above it the mark of a state, which is 0 where it has none, else one more than what it costs.
+// The parts of a work word: in the low 16 bits the state at a place of the order; from bit 17 on the mark of a state, which is 0 where it has
+// none, else one more than what it costs.
 // A cost is 2^17 times the credits and one for each step, so that fewer steps win among equal credits.
 pub struct Work;
 
 impl Work {
-    pub const FULL: u64 = 65536;
+    pub const STATES: u64 = 65536;
 
     pub const MARK: u64 = 131072;
 
@@ -63,7 +65,7 @@ pub fn state_at(work: &[u64], i: u32) -> u32
     ensures { λ r. ⌜ r ≡ stateAt (now (work .entry)) i ⌝ }
 {
     let at = i as usize;
-    (work[at] % Work::FULL) as u32
+    (work[at] % Work::STATES) as u32
 }
 
 // State s, which has no mark, has the mark m.
@@ -83,7 +85,7 @@ fn put_state(work: &mut [u64], i: u32, s: u32)
 {
     let at = i as usize;
     let word = work[at];
-    work[at] = word - word % Work::FULL + (s as u64);
+    work[at] = word - word % Work::STATES + (s as u64);
 }
 
 // Puts state s, which has no mark, at the end of an order of `count` states with the mark m; answers how many there are then.
@@ -98,12 +100,16 @@ fn add(work: &mut [u64], s: u32, m: u64, count: u32) -> u32
 
 // What is known of both halves of a node of p bits is known of it.
 fn join(notes: &mut [u64], p: u32, node: u32)
+    requires { ⌜ (p < 10) × (node < 1_024) × (length (now notes) ≡ 5_103) ⌝ }
+    ensures { λ _.
+        ⌜ now (notes .exit) ≡ set (now (notes .entry)) node
+        (bitAnd (getD (now (notes .entry)) (node + 2 ^ p) 0) (getD (now (notes .entry)) (node + 2 * 2 ^ p) 0)) ⌝ }
 {
     let half = 1u32 << p;
-    let first = (node + half) as usize;
-    let second = (node + 2 * half) as usize;
+    let first = notes[(node + half) as usize];
+    let second = notes[(node + 2 * half) as usize];
     let at = node as usize;
-    notes[at] = notes[first] & notes[second];
+    notes[at] = first & second;
 }
 
 // What is the same in the whole walk for some goals and one relation: the table's sizes, how many bits are below the six that a word of the
@@ -119,6 +125,8 @@ struct Wave {
 
 // Adds state s where it has no mark.
 fn admit(work: &mut [u64], wave: Wave, s: u32, count: u32) -> u32
+    requires { ⌜ AddsPre (wave .bits) (now work) (wave .mark) count × (s < 2 ^ (wave .bits)) ⌝ }
+    ensures { λ r. ⌜ Adds (wave .bits) (now (work .entry)) (now (work .exit)) (wave .mark) count r (One s) ⌝ }
 {
     if mark_of(work, s) != 0 {
         return count;
@@ -139,7 +147,21 @@ fn note_mark(work: &[u64], notes: &mut [u64], s: u32, i: u32, j: u32)
 }
 
 // Adds the state of bit j where `left` is odd, of those with the lower bits s, and notes that it is marked.
-fn settle(work: &mut [u64], notes: &mut [u64], wave: Wave, s: u32, j: u32, left: u64, count: u32) -> u32
+fn settle(
+    words: &[u32],
+    work: &mut [u64],
+    notes: &mut [u64],
+    wave: Wave,
+    s: u32,
+    j: u32,
+    left: u64,
+    count: u32,
+) -> u32
+    requires { ⌜ AddsPre (wave .bits) (now work) (wave .mark) count
+        × NotesHold (view (wave .rows) (now words)) (wave .bits) (wave .low) (now work) (now notes) × (s < 2 ^ (wave .low)) × (j < 64) ⌝ }
+    ensures { λ r.
+        ⌜ Adds (wave .bits) (now (work .entry)) (now (work .exit)) (wave .mark) count r (AtBit (wave .low) s left j)
+        × NotesHold (view (wave .rows) (now (words .entry))) (wave .bits) (wave .low) (now (work .exit)) (now (notes .exit)) ⌝ }
 {
     if left % 2 == 0 {
         return count;
@@ -154,13 +176,26 @@ fn settle(work: &mut [u64], notes: &mut [u64], wave: Wave, s: u32, j: u32, left:
 }
 
 // Adds the states that a mask has, of those with the lower bits s.
-fn add_all(work: &mut [u64], notes: &mut [u64], wave: Wave, s: u32, mask: u64, count: u32) -> u32
+fn add_all(
+    words: &[u32],
+    work: &mut [u64],
+    notes: &mut [u64],
+    wave: Wave,
+    s: u32,
+    mask: u64,
+    count: u32,
+) -> u32
+    requires { ⌜ AddsPre (wave .bits) (now work) (wave .mark) count
+        × NotesHold (view (wave .rows) (now words)) (wave .bits) (wave .low) (now work) (now notes) × (s < 2 ^ (wave .low)) ⌝ }
+    ensures { λ r.
+        ⌜ Adds (wave .bits) (now (work .entry)) (now (work .exit)) (wave .mark) count r (InMask (wave .low) s mask)
+        × NotesHold (view (wave .rows) (now (words .entry))) (wave .bits) (wave .low) (now (work .exit)) (now (notes .exit)) ⌝ }
 {
     let mut left = mask;
     let mut j = 0;
     let mut most = count;
     while left != 0 {
-        most = settle(work, notes, wave, s, j, left, most);
+        most = settle(words, work, notes, wave, s, j, left, most);
         left = left / 2;
         j += 1;
     }
@@ -170,6 +205,9 @@ fn add_all(work: &mut [u64], notes: &mut [u64], wave: Wave, s: u32, mask: u64, c
 // Of the classes of a node those that are not known to be marked and may hold a state from which arrow x leads to a goal: exactly those with
 // one where x reads six bits only.
 fn new_bits(words: &[u32], notes: &mut [u64], wave: Wave, x: u32, node: u32) -> u64
+    requires { ⌜ NewBitsPre (view (wave .rows) (now words)) (wave .low) x (now notes) node ⌝ }
+    ensures { λ r.
+        ⌜ NewBits (view (wave .rows) (now (words .entry))) (wave .low) x (wave .goals) (now (notes .entry)) (now (notes .exit)) node r ⌝ }
 {
     let at = node as usize;
     let known = notes[at];
@@ -186,6 +224,8 @@ fn new_bits(words: &[u32], notes: &mut [u64], wave: Wave, x: u32, node: u32) -> 
 
 // What says that an arrow is spent at a node for some goals: the arrow, the node, and the part of the goals' lower bits that it can read.
 fn spent_key(wave: Wave, level: u32, x: u32, node: u32) -> u64
+    requires { ⌜ (level ≤ 32) × (wave .lower < 65_536) × (node < 65_536) ⌝ }
+    ensures { λ r. ⌜ r ≡ spentKey x node (wave .lower / 2 ^ (level / 2)) ⌝ }
 {
     let part = wave.lower >> (level / 2);
     (x as u64) * 4294967296 + (node as u64) * 65536 + (part as u64)
@@ -194,6 +234,9 @@ fn spent_key(wave: Wave, level: u32, x: u32, node: u32) -> u64
 // Whether it is remembered that all states of a node, of p bits, from which arrow x leads to the goals are marked. Only of an arrow that skips
 // some bits is it.
 fn is_spent(words: &[u32], notes: &[u64], wave: Wave, x: u32, p: u32, node: u32) -> bool
+    requires { ⌜ HoldsPre (view (wave .rows) (now words)) x × SpentPre (now notes) (wave .lower) node × (p ≤ 16) ⌝ }
+    ensures { λ r. ⌜ (r ≡ true → KeyMet (now (notes .entry))
+        (spentKey x node (wave .lower / 2 ^ (levelAt (view (wave .rows) (now (words .entry))) x / 2))) (wave .goals)) ⌝ }
 {
     let level = level_of(words, wave.rows, x);
     if level / 2 < p + Work::SKIPPED {
@@ -209,8 +252,21 @@ fn is_spent(words: &[u32], notes: &[u64], wave: Wave, x: u32, p: u32, node: u32)
     notes[there] | wave.goals == notes[there]
 }
 
+// Stores two words.
+fn put_pair(notes: &mut [u64], at: usize, there: usize, x: u64, y: u64)
+    requires { ⌜ (at < length (now notes)) × (there < length (now notes)) ⌝ }
+    ensures { λ _. ⌜ now (notes .exit) ≡ set (set (now (notes .entry)) at x) there y ⌝ }
+{
+    notes[at] = x;
+    notes[there] = y;
+}
+
 // Remembers it of such an arrow.
 fn put_spent(words: &[u32], notes: &mut [u64], wave: Wave, x: u32, p: u32, node: u32)
+    requires { ⌜ HoldsPre (view (wave .rows) (now words)) x × SpentPre (now notes) (wave .lower) node × (p ≤ 16) ⌝ }
+    ensures { λ _.
+        ⌜ KeyPut (now (notes .entry)) (spentKey x node (wave .lower / 2 ^ (levelAt (view (wave .rows) (now (words .entry))) x / 2)))
+        (wave .goals) (now (notes .exit)) ⌝ }
 {
     let level = level_of(words, wave.rows, x);
     if level / 2 < p + Work::SKIPPED {
@@ -218,18 +274,17 @@ fn put_spent(words: &[u32], notes: &mut [u64], wave: Wave, x: u32, p: u32, node:
     }
     let key = spent_key(wave, level, x, node);
     let slot = (key % Notes::SLOTS) as usize;
-    let at = Notes::SPENT + slot;
-    let there = Notes::SPENT_GOALS + slot;
-    notes[at] = key;
-    notes[there] = wave.goals;
+    put_pair(notes, Notes::SPENT + slot, Notes::SPENT_GOALS + slot, key, wave.goals);
 }
 
 // The arrow that is followed from x where current bit p and next bit p are known.
-fn step(words: &[u32], rows: u32, x: u32, p: u32, now: bool, next: bool) -> u32
+fn step(words: &[u32], rows: u32, x: u32, p: u32, here: bool, there: bool) -> u32
+    requires { ⌜ HoldsPre (view rows (now words)) x × (p < 16) ⌝ }
+    ensures { λ r. ⌜ Stepped (view rows (now (words .entry))) x p here there r ⌝ }
 {
     let level = 2 * p;
-    let y = follow_at(words, rows, x, level, now);
-    follow_at(words, rows, y, level + 1, next)
+    let y = follow_at(words, rows, x, level, here);
+    follow_at(words, rows, y, level + 1, there)
 }
 
 // Adds each state whose lower p bits are those of s and from which arrow x leads to a goal.
@@ -243,6 +298,12 @@ fn expand(
     s: u32,
     count: u32,
 ) -> u32
+    requires { ⌜ ExpandPre (view (wave .rows) (now words)) (wave .bits) (wave .low) (now work) (now notes) (wave .lower) (wave .mark) x p s
+        count ⌝ }
+    ensures { λ r.
+        ⌜ Adds (wave .bits) (now (work .entry)) (now (work .exit)) (wave .mark) count r
+        (Reached (view (wave .rows) (now (words .entry))) (wave .low) (wave .lower) (wave .goals) x p s)
+        × NotesHold (view (wave .rows) (now (words .entry))) (wave .bits) (wave .low) (now (work .exit)) (now (notes .exit)) ⌝ }
 {
     if x == Table::NOTHING {
         return count;
@@ -253,7 +314,7 @@ fn expand(
         return count;
     }
     if p == wave.low {
-        return add_all(work, notes, wave, s, new, count);
+        return add_all(words, work, notes, wave, s, new, count);
     }
     if is_spent(words, notes, wave, x, p, node) {
         return count;
@@ -278,7 +339,7 @@ pub fn step_cost(prices: &[u8], r: u32) -> u64
     (prices[at] as u64) * Work::CREDIT + 1
 }
 
-// The first words are 0: no state has a mark, and nothing is known of nodes.
+// The first words are 0: no state has a mark.
 fn clear(work: &mut [u64], states: u32)
     requires { ⌜ (states ≤ 65_536) × (states ≤ length (now work)) ⌝ }
     ensures { λ _. ⌜ Cleared (now (work .entry)) (now (work .exit)) states ⌝ }
@@ -416,6 +477,8 @@ fn low_bits(bits: u32) -> u32
 
 // Bit j where state s has the mark m.
 fn goal_bit(work: &[u64], s: u32, m: u64, j: u32) -> u64
+    requires { ⌜ (s < length (now work)) × (j < 64) ⌝ }
+    ensures { λ r. ⌜ GoalBit (now (work .entry)) s m j r ⌝ }
 {
     if mark_of(work, s) == m {
         return 1u64 << j;
@@ -425,6 +488,8 @@ fn goal_bit(work: &[u64], s: u32, m: u64, j: u32) -> u64
 
 // Of the states with the lower bits q those with the mark m, as bits of a word.
 fn goals_of(work: &[u64], bits: u32, low: u32, q: u32, m: u64) -> u64
+    requires { ⌜ GatherPre bits low (now work) q ⌝ }
+    ensures { λ r. ⌜ Gathered low (now (work .entry)) q m (2 ^ (bits - low)) r ⌝ }
 {
     let most = 1u32 << (bits - low);
     let mut goals = 0u64;
@@ -438,6 +503,7 @@ fn goals_of(work: &[u64], bits: u32, low: u32, q: u32, m: u64) -> u64
 
 // Whether the state at a place is the last one in the order with its mark, m.
 fn is_last(work: &[u64], done: u32, count: u32, m: u64) -> bool
+    requires { ⌜ Placed (now work) count × (count ≤ 65_536) × (done < 65_536) ⌝ }
 {
     let next = done + 1;
     if next >= count {
@@ -449,6 +515,8 @@ fn is_last(work: &[u64], done: u32, count: u32, m: u64) -> bool
 // The goals of a turn: the state t at a place of the order, with the mark m, and where more of this mark follow all of it with the lower bits
 // q of t.
 fn gather(work: &[u64], bits: u32, low: u32, q: u32, j: u32, m: u64, done: u32, count: u32) -> u64
+    requires { ⌜ GatherPre bits low (now work) q × OwnState bits low (now work) q j m count × (done < 65_536) ⌝ }
+    ensures { λ r. ⌜ Goals bits low (now (work .entry)) q j m r ⌝ }
 {
     if is_last(work, done, count, m) {
         return 1u64 << j;
@@ -458,6 +526,8 @@ fn gather(work: &[u64], bits: u32, low: u32, q: u32, j: u32, m: u64, done: u32, 
 
 // Whether arrow x has done the goal j of the lower bits q.
 fn is_done(notes: &[u64], x: u32, q: u32, j: u32) -> bool
+    requires { ⌜ (length (now notes) ≡ 5_103) × (q < 1_024) × (j < 64) ⌝ }
+    ensures { λ r. ⌜ (r ≡ true → DoneMet (now (notes .entry)) x q j) ⌝ }
 {
     let at = Notes::DONE + (q as usize);
     if notes[at] != (x as u64) {
@@ -469,11 +539,10 @@ fn is_done(notes: &[u64], x: u32, q: u32, j: u32) -> bool
 
 // Arrow x has done some goals of the lower bits q.
 fn put_done(notes: &mut [u64], x: u32, q: u32, goals: u64)
+    requires { ⌜ (length (now notes) ≡ 5_103) × (q < 1_024) ⌝ }
+    ensures { λ _. ⌜ now (notes .exit) ≡ set (set (now (notes .entry)) (2_048 + q) x) (3_072 + q) goals ⌝ }
 {
-    let at = Notes::DONE + (q as usize);
-    let there = Notes::DONE_GOALS + (q as usize);
-    notes[at] = x as u64;
-    notes[there] = goals;
+    put_pair(notes, Notes::DONE + (q as usize), Notes::DONE_GOALS + (q as usize), x as u64, goals);
 }
 
 // One turn: the next state of relation r in the order, and all of its mark that have its lower bits, give marks to those from which r leads
@@ -490,6 +559,11 @@ fn turn(
     done: u32,
     count: u32,
 ) -> u32
+    requires { ⌜ TurnPre (view rows (now words)) bits (now prices) (now work) r done count × (HEADER ≤ length (now words))
+        × NotesHold (view rows (now words)) bits low (now work) (now notes) ⌝ }
+    ensures { λ x.
+        ⌜ TurnPost (view rows (now (words .entry))) bits (now (prices .entry)) (now (work .entry)) (now (work .exit)) r done count x
+        × NotesHold (view rows (now (words .entry))) bits low (now (work .exit)) (now (notes .exit)) ⌝ }
 {
     let t = state_at(work, done);
     let at = Table::FIRST_RELATION + (r as usize);
