@@ -10,7 +10,7 @@ use native.Mathlib.Omega.{arith}
 use lib.Dec.{eqb}
 use lib.ListN.{length, getD, set}
 use lib.Bits.{bitAnd}
-use lib.Pow.{pow-pos, pow-add, mod-mod-pow, field, shl-shr, shr-shr, split}
+use lib.Pow.{pow-mono, mod-mod-pow, field, shl-shr, shr-shr, split}
 use Rattle.mucalculus.specs.Means.{bit}
 use Rattle.layout.specs.Places.{BITS}
 use Rattle.layout.specs.View.{View}
@@ -28,7 +28,7 @@ use Rattle.coin_search.specs.Adds.{AddsPre, Adds, InMask}
 use Rattle.coin_search.proofs.AddsLaws.{adds-none, adds-on, adds-as, adds-then, grown-marks}
 use Rattle.coin_search.specs.Notes.{Goal, Led, Spent, SpentAt, spentKey, NotesHold, KeyMet, KeyPut, NewBitsPre, NewBits}
 use Rattle.coin_search.specs.Expand.{Stepped, ExpandPre, Reached}
-use Rattle.coin_search.proofs.Nodes.{low-in, high-in, low-out, high-out, node-same, node-few, node-fewer, power-next, state-bit, state-word, state-place}
+use Rattle.coin_search.proofs.Nodes.{low-in, high-in, low-out, high-out, node-same, node-is, node-few, node-fewer, power-next, state-bit, state-word, state-place}
 use Rattle.coin_search.proofs.NotesLaws.{notes-kept, notes-masked, notes-joined, notes-put, spent-in, spent-out, part-small}
 
 -- ---- the return of `step`
@@ -62,6 +62,23 @@ lower-bit low p t l =
 -- the state of the 64 that has the same six bits
 six : (low u : ℕ) → u / 2 ^ low * 2 ^ low / 2 ^ low ≡ u / 2 ^ low
 six low u = shl-shr (u / 2 ^ low) low
+
+-- the node's number, as it is made
+module _ {W : View} {n low : ℕ} {w N : List ℕ} {q m x p s count : ℕ} (a : ExpandPre W n low w N q m x p s count) where
+  pub few-bits : p ≤ 10
+  few-bits = let d = a .depth in let b = a .notes .bits .small in omega arith
+
+  pub made-node : s + 1 * 2 ^ p % 4_294_967_296 ≡ s + 2 ^ p
+  made-node = node-is p s (a .lower) (let f = few-bits in omega arith)
+
+  pub made-few : s + 1 * 2 ^ p % 4_294_967_296 < 2_048
+  made-few = let e = made-node in let f = node-few p s (a .lower) few-bits in omega arith
+
+  pub made-small : s + 1 * 2 ^ p % 4_294_967_296 < 65_536
+  made-small = let f = made-few in omega arith
+
+  pub lower-few : q < 65_536
+  lower-few = let m : 2 ^ low ≤ 2 ^ 10 = pow-mono {i = low} {j = 10} (a .notes .bits .small) in let g = a .goal in omega arith
 
 module _ {W : View} {n low : ℕ} {w N : List ℕ} {q m x p s count : ℕ} (a : ExpandPre W n low w N q m x p s count) (goals : ℕ) where
   -- the arrow leads nowhere
@@ -220,6 +237,10 @@ module _ {W : View} {n low : ℕ} {w N : List ℕ} {q m x p s count : ℕ} (a : 
       let l = before in
       let f = node-fewer p s (a .lower) (omega arith) in
       (omega arith, omega arith, h .masks .size)
+
+  pub joined-notes : {v M O : List ℕ} {node : ℕ} → node ≡ s + 2 ^ p → NotesHold W n low v M
+      → O ≡ set M node (bitAnd (getD M (node + 2 ^ p) 0) (getD M (node + 2 * 2 ^ p) 0)) → NotesHold W n low v O
+  joined-notes e h j = notes-joined h before (a .lower) e refl j
 
   -- both halves
   module _ {v z : List ℕ} {y o more most node : ℕ} {side : Bool} (goals : ℕ) (en : node ≡ s + 2 ^ p) (es : side ≡ bit p q)

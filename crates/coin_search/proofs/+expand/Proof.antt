@@ -1,0 +1,93 @@
+-- `expand` meets its contract: a word at the end of the lower bits, else both halves, unless nothing is new or the arrow is spent. Assumes nothing.
+use mathlib.Core.Path.{_∙_}
+use Prim.Native.Nat.{_-_}
+use native.Mathlib.Omega.{arith}
+use Rattle.coin_search.proofs.NotesLaws.{spent-pre}
+use Rattle.coin_search.proofs.ExpandLaws.{few-bits, made-node, made-few, made-small, lower-few, expands-nothing, new-asks, new-notes}
+use Rattle.coin_search.proofs.ExpandLaws.{expands-known, word-asks, expands-word, expands-spent, step-asks, low-asks, high-asks}
+use Rattle.coin_search.proofs.ExpandLaws.{join-asks, joined-notes, expands-halves}
+use Prim.Native.Nat.{ℕ, _<_}
+use borrow.Author.Needs.{needs}
+use borrow.Fn.Kinds.{In}
+use borrow.Fn.PlainCycle.{Measures, is, falls, and}
+use Rattle.coin_search.proofs.+expand.{statement}
+use Rattle.coin_search.proofs.+expand.Tie.{close}
+use Rattle.coin_search.proofs.expand.Reads as expand
+use Rattle.coin_search.proofs.expand.Kinds as expand-kinds
+use Rattle.coin_search.proofs.+expand.Lts-expand as expand-lts
+use Rattle.coin_search.proofs.add_all.Reads as add-all-reads
+use Rattle.coin_search.proofs.is_spent.Reads as is-spent-reads
+use Rattle.coin_search.proofs.join.Reads as join-reads
+use Rattle.coin_search.proofs.new_bits.Reads as new-bits-reads
+use Rattle.coin_search.proofs.put_spent.Reads as put-spent-reads
+use Rattle.states.proofs.bit.Reads as bit-reads
+use Rattle.coin_search.proofs.step.Reads as step-reads
+
+abbrev μ-expand : Measures 3 expand-kinds.ps ℕ
+μ-expand κs a = a .1 .1 .1 .0 .low - a .1 .1 .1 .1 .1 .0
+
+abbrev expand-at : ℕ → In 3 expand-kinds.ps
+expand-at t = and 3 expand-kinds.ps (is 3 expand-kinds.ps μ-expand t) expand.Pre
+
+abbrev expand-below : ℕ → In 3 expand-kinds.ps
+expand-below t = and 3 expand-kinds.ps (falls 3 expand-kinds.ps _<_ μ-expand t) expand.Pre
+
+pub +expand-spec : {M : Type 1} → statement M
++expand-spec = close μ-expand
+    (λ t. expand-lts.spec
+    (new-bits-reads.Asked,
+    new-bits-reads.Learnt,
+    add-all-reads.Asked,
+    add-all-reads.Learnt,
+    is-spent-reads.Asked,
+    is-spent-reads.Learnt,
+    bit-reads.Asked,
+    bit-reads.Learnt,
+    step-reads.Asked,
+    step-reads.Learnt,
+    expand-below t,
+    expand.Post,
+    join-reads.Asked,
+    join-reads.Learnt,
+    put-spent-reads.Asked,
+    put-spent-reads.Learnt)
+    (expand-at t)
+    expand.Post
+    (λ c. (expands-nothing (c .before .before .before .before .pre .1) (c .before .before .before .before .args .wave .goals) (c .if1 .taken), c .before .before .before .before .pre .1 .notes))
+    (λ c. let f = few-bits (c .before .before .before .before .pre .1) in omega arith)
+    (λ c. let f = made-few (c .before .before .before .before .pre .1) in record { fits = omega arith })
+    (λ c κs. new-asks (c .before .before .before .before .before .pre .1) 0 (made-node (c .before .before .before .before .before .pre .1)))
+    (λ c. c .before .before .before .new-bits .kept .1 .0)
+    (λ c. expands-known (c .before .before .before .before .before .before .before .before .before .pre .1) (c .before .before .before .before .before .before .before .before .before .args .wave .goals) (omega arith) (made-node (c .before .before .before .before .before .before .before .before .before .pre .1)) (c .before .before .before .new-bits .ensures) (c .if2 .taken))
+    (λ c κs. (c .before .before .before .before .before .before .before .before .before .before .before .before .before .pre .1 .adds,
+    new-notes (c .before .before .before .before .before .before .before .before .before .before .before .before .before .pre .1) (c .before .before .before .before .before .before .before .before .before .before .before .before .before .args .wave .goals) (omega arith) (made-node (c .before .before .before .before .before .before .before .before .before .before .before .before .before .pre .1)) (c .before .before .before .before .before .before .before .new-bits .ensures),
+    word-asks (c .before .before .before .before .before .before .before .before .before .before .before .before .before .pre .1) (c .before .before .before .before .before .before .before .before .before .before .before .before .before .args .wave .goals) (omega arith) (made-node (c .before .before .before .before .before .before .before .before .before .before .before .before .before .pre .1)) (c .before .before .before .before .before .before .before .new-bits .ensures) (c .before .before .if3 .taken)))
+    (λ c. c .before .before .before .before .add-all .kept .1 .0)
+    (λ c. c .before .before .before .before .add-all .kept .1 .1 .0 ∙ c .before .before .before .before .before .before .before .before .before .before .before .before .new-bits .kept .1 .0)
+    (λ c. expands-word (c .before .before .before .before .before .before .before .before .before .before .before .before .before .before .before .before .before .before .pre .1) (c .before .before .before .before .before .before .before .before .before .before .before .before .before .before .before .before .before .before .args .wave .goals) (omega arith) (made-node (c .before .before .before .before .before .before .before .before .before .before .before .before .before .before .before .before .before .before .pre .1)) (c .before .before .before .before .before .before .before .before .before .before .before .before .new-bits .ensures) (c .before .before .before .before .before .before .before .if3 .taken)
+    (c .before .before .before .before .add-all .ensures))
+    (λ c κs. (c .before .before .before .before .before .before .before .before .before .before .before .before .pre .1 .arrow,
+    spent-pre (new-notes (c .before .before .before .before .before .before .before .before .before .before .before .before .pre .1) (c .before .before .before .before .before .before .before .before .before .before .before .before .args .wave .goals) (omega arith) (made-node (c .before .before .before .before .before .before .before .before .before .before .before .before .pre .1)) (c .before .before .before .before .before .before .new-bits .ensures)) (c .before .before .before .before .before .before .before .before .before .before .before .before .pre .1 .goal)
+    (made-few (c .before .before .before .before .before .before .before .before .before .before .before .before .pre .1)), let f = few-bits (c .before .before .before .before .before .before .before .before .before .before .before .before .pre .1) in omega arith))
+    (λ c. c .before .before .before .before .before .before .before .before .new-bits .kept .1 .0)
+    (λ c. expands-spent (c .before .before .before .before .before .before .before .before .before .before .before .before .before .before .pre .1) (c .before .before .before .before .before .before .before .before .before .before .before .before .before .before .args .wave .goals)
+    (new-notes (c .before .before .before .before .before .before .before .before .before .before .before .before .before .before .pre .1) (c .before .before .before .before .before .before .before .before .before .before .before .before .before .before .args .wave .goals) (omega arith) (made-node (c .before .before .before .before .before .before .before .before .before .before .before .before .before .before .pre .1)) (c .before .before .before .before .before .before .before .before .new-bits .ensures)) (made-node (c .before .before .before .before .before .before .before .before .before .before .before .before .before .before .pre .1))
+    (made-small (c .before .before .before .before .before .before .before .before .before .before .before .before .before .before .pre .1)) (lower-few (c .before .before .before .before .before .before .before .before .before .before .before .before .before .before .pre .1)) (c .before .is-spent .ensures) (c .if4 .taken))
+    (λ c. let f = few-bits (c .before .before .before .before .before .before .before .before .before .before .before .before .before .before .pre .1) in record { fits = omega arith })
+    (λ c κs. let f = few-bits (c .before .before .before .before .before .before .before .before .before .before .before .before .before .before .pre .1) in omega arith)
+    (λ c κs. step-asks (c .before .before .before .before .before .before .before .before .before .before .before .before .before .before .before .pre .1) (c .before .before .before .before .if3 .left))
+    (λ c κs. (let q = c .before .before .before .before .before .before .before .before .before .before .before .before .before .before .before .before .before .before .pre .0 in let d = c .before .before .before .before .before .before .before .before .before .before .before .before .before .before .before .before .before .before .pre .1 .depth in let e = c .before .before .before .before .before .before .before .if3 .left in omega arith,
+    low-asks (c .before .before .before .before .before .before .before .before .before .before .before .before .before .before .before .before .before .before .pre .1) (c .before .before .before .before .before .before .before .if3 .left)
+    (new-notes (c .before .before .before .before .before .before .before .before .before .before .before .before .before .before .before .before .before .before .pre .1) (c .before .before .before .before .before .before .before .before .before .before .before .before .before .before .before .before .before .before .args .wave .goals) (omega arith) (made-node (c .before .before .before .before .before .before .before .before .before .before .before .before .before .before .before .before .before .before .pre .1)) (c .before .before .before .before .before .before .before .before .before .before .before .before .new-bits .ensures)) (c .before .before .step .ensures)))
+    (λ c κs. step-asks (c .before .before .before .before .before .before .before .before .before .before .before .before .before .before .before .before .before .before .before .before .before .before .before .pre .1) (c .before .before .before .before .before .before .before .before .before .before .before .before .if3 .left))
+    (λ c κs. (let q = c .before .before .before .before .before .before .before .before .before .before .before .before .before .before .before .before .before .before .before .before .before .before .before .before .before .before .pre .0 in let d = c .before .before .before .before .before .before .before .before .before .before .before .before .before .before .before .before .before .before .before .before .before .before .before .before .before .before .pre .1 .depth in let e = c .before .before .before .before .before .before .before .before .before .before .before .before .before .before .before .if3 .left in omega arith,
+    high-asks (c .before .before .before .before .before .before .before .before .before .before .before .before .before .before .before .before .before .before .before .before .before .before .before .before .before .before .pre .1) (c .before .before .before .before .before .before .before .before .before .before .before .before .before .before .before .if3 .left) (made-node (c .before .before .before .before .before .before .before .before .before .before .before .before .before .before .before .before .before .before .before .before .before .before .before .before .before .before .pre .1)) (c .before .before .before .before .before .before .before .expand .ensures) (c .before .before .step2 .ensures)))
+    (λ c κs. join-asks (c .before .before .before .before .before .before .before .before .before .before .before .before .before .before .before .before .before .before .before .before .before .before .before .before .before .before .before .before .before .before .before .before .pre .1) (c .before .before .before .before .before .before .before .before .before .before .before .before .before .before .before .before .before .before .before .before .before .if3 .left) (made-node (c .before .before .before .before .before .before .before .before .before .before .before .before .before .before .before .before .before .before .before .before .before .before .before .before .before .before .before .before .before .before .before .before .pre .1)) (c .before .before .before .before .before .expand2 .ensures .1))
+    (λ c κs. (c .before .before .before .before .before .before .before .before .before .before .before .before .before .before .before .before .before .before .before .before .before .before .before .before .before .before .before .before .before .before .before .before .before .before .before .before .pre .1 .arrow,
+    spent-pre (joined-notes (c .before .before .before .before .before .before .before .before .before .before .before .before .before .before .before .before .before .before .before .before .before .before .before .before .before .before .before .before .before .before .before .before .before .before .before .before .pre .1) (c .before .before .before .before .before .before .before .before .before .before .before .before .before .before .before .before .before .before .before .before .before .before .before .before .before .if3 .left) (made-node (c .before .before .before .before .before .before .before .before .before .before .before .before .before .before .before .before .before .before .before .before .before .before .before .before .before .before .before .before .before .before .before .before .before .before .before .before .pre .1)) (c .before .before .before .before .before .before .before .before .before .expand2 .ensures .1) (c .before .before .before .join .ensures)) (c .before .before .before .before .before .before .before .before .before .before .before .before .before .before .before .before .before .before .before .before .before .before .before .before .before .before .before .before .before .before .before .before .before .before .before .before .pre .1 .goal)
+    (made-few (c .before .before .before .before .before .before .before .before .before .before .before .before .before .before .before .before .before .before .before .before .before .before .before .before .before .before .before .before .before .before .before .before .before .before .before .before .pre .1)), let f = few-bits (c .before .before .before .before .before .before .before .before .before .before .before .before .before .before .before .before .before .before .before .before .before .before .before .before .before .before .before .before .before .before .before .before .before .before .before .before .pre .1) in omega arith))
+    (λ c. c .before .before .before .before .before .before .before .before .before .before .before .before .expand2 .kept .1 .0 ∙ c .before .before .before .before .before .before .before .before .before .before .before .before .before .before .before .before .before .before .before .before .expand .kept .1 .0)
+    (λ c. c .before .before .put-spent .kept .1 .0 ∙ c .before .before .before .before .before .before .join .kept .0 ∙ c .before .before .before .before .before .before .before .before .before .before .before .before .expand2 .kept .1 .1 .0 ∙ c .before .before .before .before .before .before .before .before .before .before .before .before .before .before .before .before .before .before .before .before .expand .kept .1 .1 .0 ∙ c .before .before .before .before .before .before .before .before .before .before .before .before .before .before .before .before .before .before .before .before .before .before .before .before .before .before .before .before .before .before .before .before .before .new-bits .kept .1 .0)
+    (λ c. expands-halves (c .before .before .before .before .before .before .before .before .before .before .before .before .before .before .before .before .before .before .before .before .before .before .before .before .before .before .before .before .before .before .before .before .before .before .before .before .before .before .before .pre .1) (c .before .before .before .before .before .before .before .before .before .before .before .before .before .before .before .before .before .before .before .before .before .before .before .before .before .before .before .before .if3 .left) (c .before .before .before .before .before .before .before .before .before .before .before .before .before .before .before .before .before .before .before .before .before .before .before .before .before .before .before .before .before .before .before .before .before .before .before .before .before .before .before .args .wave .goals) (made-node (c .before .before .before .before .before .before .before .before .before .before .before .before .before .before .before .before .before .before .before .before .before .before .before .before .before .before .before .before .before .before .before .before .before .before .before .before .before .before .before .pre .1)) (c .before .before .before .before .before .before .before .before .before .before .before .before .before .before .before .before .before .before .before .before .before .before .before .before .bit .ensures) (c .before .before .before .before .before .before .before .before .before .before .before .before .before .before .before .before .before .before .before .before .before .before .before .step .ensures)
+    (c .before .before .before .before .before .before .before .before .before .before .before .before .before .before .before .step2 .ensures) (c .before .before .before .before .before .before .before .before .before .before .before .before .before .before .before .before .before .before .before .before .expand .ensures .0) (c .before .before .before .before .before .before .before .before .before .before .before .before .expand2 .ensures .0) (made-small (c .before .before .before .before .before .before .before .before .before .before .before .before .before .before .before .before .before .before .before .before .before .before .before .before .before .before .before .before .before .before .before .before .before .before .before .before .before .before .before .pre .1)) (lower-few (c .before .before .before .before .before .before .before .before .before .before .before .before .before .before .before .before .before .before .before .before .before .before .before .before .before .before .before .before .before .before .before .before .before .before .before .before .before .before .before .pre .1)) (c .before .before .before .before .before .before .before .before .before .before .before .before .expand2 .ensures .1)
+    (c .before .before .before .before .before .before .join .ensures) (c .before .before .put-spent .ensures)))
