@@ -23,7 +23,7 @@ use Rattle.book.specs.States.{pairVal}
 use Rattle.seek.specs.Walk.{HoldsPre, holdsAt}
 use Rattle.seek.specs.Apart.{levelAt, Followed}
 use Rattle.seek.proofs.Walk.{even-level, odd-level}
-use Rattle.coin_masks.specs.Masks.{columnOf, Chosen, Lower, Upper, LeadsTo, Mask, Masked, MaskPre, Beside, MaskPost}
+use Rattle.coin_masks.specs.Masks.{columnOf, Chosen, Lower, Upper, LeadsTo, Mask, Masked, MaskPre, MaskPost}
 use Rattle.coin_masks.proofs.Bits.{either, bit-and, bit-or, bit-xor, bit-above, bit-all, column-has}
 use Rattle.coin_masks.proofs.ReadsLaws.{reads-high, row-level, level-later}
 
@@ -34,17 +34,25 @@ no-bit j = let q : 0 / 2 ^ j ≡ 0 = zero-div (2 ^ j) in ap (λ (y : ℕ). eqb (
 pub some-bit : (n g : ℕ) → g < 2 ^ n → (g ≡ 0 → ⊥) → (j : ℕ) × (j < n) × (bit j g ≡ true)
 some-bit zero g l z = let o : 2 ^ 0 ≡ 1 = refl in absurd (z (omega arith))
 some-bit (suc n) g l z = by-cases (ℕ-discrete (g % 2) 1)
-    (λ o. (0, omega arith, (let q : g / 2 ^ 0 ≡ g = (let u : 2 ^ 0 ≡ 1 = refl in ap (λ (y : ℕ). g / y) u ∙ omega arith) in
-    ap (λ (y : ℕ). eqb (y % 2) 1) q ∙ ap (λ (y : ℕ). eqb y 1) o)))
+    (λ o. (
+      0,
+      omega arith,
+      (let q : g / 2 ^ 0 ≡ g = (let u : 2 ^ 0 ≡ 1 = refl in ap (λ (y : ℕ). g / y) u ∙ omega arith) in
+          ap (λ (y : ℕ). eqb (y % 2) 1) q ∙ ap (λ (y : ℕ). eqb y 1) o),
+    ))
     (λ o. go (some-bit n (g / 2) (half n g l) (λ e. z (omega arith))))
   where
     half : (n g : ℕ) → g < 2 ^ suc n → g / 2 < 2 ^ n
     half n g l = let e : suc n ≡ n + 1 = omega arith in let q : g < 2 ^ (n + 1) = subst (λ (y : ℕ). g < 2 ^ y) e l in shr-lt n 1 q
 
     go : (j : ℕ) × (j < n) × (bit j (g / 2) ≡ true) → (j : ℕ) × (j < suc n) × (bit j g ≡ true)
-    go (j, h, b) = (suc j, omega arith, (let e : 1 + j ≡ suc j = omega arith in
-        let q : g / 2 / 2 ^ j ≡ g / 2 ^ suc j = shr-shr g 1 j ∙ ap (λ (y : ℕ). g / 2 ^ y) e in
-        ap (λ (y : ℕ). eqb (y % 2) 1) (sym q) ∙ b))
+    go (j, h, b) = (
+      suc j,
+      omega arith,
+      (let e : 1 + j ≡ suc j = omega arith in
+          let q : g / 2 / 2 ^ j ≡ g / 2 ^ suc j = shr-shr g 1 j ∙ ap (λ (y : ℕ). g / 2 ^ y) e in
+          ap (λ (y : ℕ). eqb (y % 2) 1) (sym q) ∙ b),
+    )
 
 -- a number with bit p is at least 2^p
 pub at-least : (p u : ℕ) → bit p u ≡ true → 2 ^ p ≤ u
@@ -85,7 +93,9 @@ module _ (k goals : ℕ) {c : ℕ} (l : k < 6) (ec : c ≡ columnOf k) where
   }
     where
       cell : (j : ℕ) → j < 64 → bit j (bitXor goals (bitAnd goals c)) ≡ either (bit j goals) (bit j goals && bit k j)
-      cell j h = bit-xor j goals (bitAnd goals c) ∙ ap (either (bit j goals)) (bit-and j goals c ∙ ap (λ (y : Bool). bit j goals && y) (column-bit j h))
+      cell j h =
+          bit-xor j goals (bitAnd goals c)
+          ∙ ap (either (bit j goals)) (bit-and j goals c ∙ ap (λ (y : Bool). bit j goals && y) (column-bit j h))
 
       from : (x y : Bool) → either x (x && y) ≡ true → (y ≡ false) × (x ≡ true)
       from true true e = absurd (true≢false (sym e))
@@ -129,7 +139,8 @@ module _ (low : ℕ) where
       let e : 2 ^ low ≡ 2 ^ suc (low - suc p) * 2 ^ p = ap (λ (y : ℕ). 2 ^ y) (sym d) ∙ pow-add 2 (suc (low - suc p)) p in
       let c : suc (low - suc p) ≡ (low - suc p) + 1 = omega arith in
       let r : 2 ^ suc (low - suc p) ≡ 2 ^ (low - suc p) * 2 = ap (λ (y : ℕ). 2 ^ y) c ∙ pow-add 2 (low - suc p) 1 in
-      let f : i * 2 ^ low ≡ (i * 2 ^ (low - suc p)) * 2 * 2 ^ p = parts i (2 ^ low) (2 ^ suc (low - suc p)) (2 ^ (low - suc p)) (2 ^ p) e r in
+      let f : i * 2 ^ low ≡ (i * 2 ^ (low - suc p)) * 2 * 2 ^ p =
+      parts i (2 ^ low) (2 ^ suc (low - suc p)) (2 ^ (low - suc p)) (2 ^ p) e r in
       let q : i * 2 ^ low / 2 ^ p ≡ i * 2 ^ (low - suc p) * 2 = ap (λ (y : ℕ). y / 2 ^ p) f ∙ shl-shr (i * 2 ^ (low - suc p) * 2) p in
       off (i * 2 ^ low / 2 ^ p) (i * 2 ^ (low - suc p)) q
     where
@@ -145,7 +156,8 @@ module _ (low : ℕ) where
   -- a higher one too
   pub bit-higher : (p i : ℕ) → low ≤ p → 5 < p - low → i < 64 → bit p (i * 2 ^ low) ≡ false
   bit-higher p i l h s =
-      let m : 2 ^ 6 ≤ 2 ^ (0 + (p - low)) = pow-mono {i = 6} {j = 0 + (p - low)} (let q : 0 + (p - low) ≡ p - low = omega arith in omega arith) in
+      let m : 2 ^ 6 ≤ 2 ^ (0 + (p - low)) =
+      pow-mono {i = 6} {j = 0 + (p - low)} (let q : 0 + (p - low) ≡ p - low = omega arith in omega arith) in
       let q : i / 2 ^ (p - low) < 2 ^ 0 = shr-lt 0 (p - low) (omega arith) in
       let z : i / 2 ^ (p - low) ≡ 0 = (let o : 2 ^ 0 ≡ 1 = refl in omega arith) in
       bit-six-of p i l ∙ ap (λ (y : ℕ). eqb (y % 2) 1) z
@@ -213,7 +225,10 @@ module _ {W : View} {low level x : ℕ} where
     pub mask-now : {goals a b r : ℕ} {N M O : List ℕ} → level % 2 ≡ 0 → MaskPost W low y goals N M a → MaskPost W low z goals M O b
         → Chosen (level / 2 - low) a b r → MaskPost W low x goals N O r
     mask-now {goals} {a} {b} {r} e c d o = record {
-      is = record { only = λ i li h. only i li h (bit (level / 2 - low) i) refl; has = λ i li t. has i li t (bit (level / 2 - low) i) refl };
+      is = record {
+        only = λ i li h. only i li h (bit (level / 2 - low) i) refl;
+        has = λ i li t. has i li t (bit (level / 2 - low) i) refl;
+      };
       masked = d .masked;
       beside = λ i li. d .beside i li ∙ c .beside i li;
     }
@@ -366,9 +381,10 @@ module _ {W : View} {low x goals : ℕ} {N : List ℕ} (a : MaskPre W low x N) w
   })
 
   -- it was remembered
-  pub mask-met : (i : ℕ) → i < 251 → getD N (4_350 + i) 0 ≡ x → getD N (4_601 + i) 0 ≡ goals → MaskPost W low x goals N N (getD N (4_852 + i) 0)
-  mask-met i l ex eg = kept-all (subst (λ (y : ℕ). Mask W low y goals (getD N (4_852 + i) 0)) ex
-      (subst (λ (y : ℕ). Mask W low (getD N (4_350 + i) 0) y (getD N (4_852 + i) 0)) eg (a .masked .holds i l)))
+  pub mask-met : (i : ℕ) → i < 409 → getD N (4_350 + i) 0 ≡ x → getD N (4_759 + i) 0 ≡ goals
+      → MaskPost W low x goals N N (getD N (5_168 + i) 0)
+  mask-met i l ex eg = kept-all (subst (λ (y : ℕ). Mask W low y goals (getD N (5_168 + i) 0)) ex
+      (subst (λ (y : ℕ). Mask W low (getD N (4_350 + i) 0) y (getD N (5_168 + i) 0)) eg (a .masked .holds i l)))
 
 -- an arrow that is none of the two constants leads to a row
 pub row-of : (x : ℕ) → (x ≡ 0 → ⊥) → (x ≡ 1 → ⊥) → isRow x ≡ true
@@ -379,33 +395,33 @@ row-of (suc (suc x)) a b = refl
 
 -- the words with one more mask
 abbrev kept : List ℕ → ℕ → ℕ → ℕ → ℕ → List ℕ
-kept N i x goals mask = set (set (set N (4_350 + i) x) (4_601 + i) goals) (4_852 + i) mask
+kept N i x goals mask = set (set (set N (4_350 + i) x) (4_759 + i) goals) (5_168 + i) mask
 
-module _ {W : View} {low : ℕ} {N : List ℕ} (m : Masked W low N) (i x goals mask : ℕ) (l : i < 251) (c : Mask W low x goals mask) where
-  kept-other : (j : ℕ) → j ≢ 4_350 + i → j ≢ 4_601 + i → j ≢ 4_852 + i → getD (kept N i x goals mask) j 0 ≡ getD N j 0
+module _ {W : View} {low : ℕ} {N : List ℕ} (m : Masked W low N) (i x goals mask : ℕ) (l : i < 409) (c : Mask W low x goals mask) where
+  kept-other : (j : ℕ) → j ≢ 4_350 + i → j ≢ 4_759 + i → j ≢ 5_168 + i → getD (kept N i x goals mask) j 0 ≡ getD N j 0
   kept-other j a b d =
-      getD-set-other (set (set N (4_350 + i) x) (4_601 + i) goals) (4_852 + i) j mask 0 d
-      ∙ getD-set-other (set N (4_350 + i) x) (4_601 + i) j goals 0 b ∙ getD-set-other N (4_350 + i) j x 0 a
+      getD-set-other (set (set N (4_350 + i) x) (4_759 + i) goals) (5_168 + i) j mask 0 d
+      ∙ getD-set-other (set N (4_350 + i) x) (4_759 + i) j goals 0 b ∙ getD-set-other N (4_350 + i) j x 0 a
 
-  first-size : length (set N (4_350 + i) x) ≡ 5_103
+  first-size : length (set N (4_350 + i) x) ≡ 5_577
   first-size = length-set N (4_350 + i) x ∙ m .size
 
-  second-size : length (set (set N (4_350 + i) x) (4_601 + i) goals) ≡ 5_103
-  second-size = length-set (set N (4_350 + i) x) (4_601 + i) goals ∙ first-size
+  second-size : length (set (set N (4_350 + i) x) (4_759 + i) goals) ≡ 5_577
+  second-size = length-set (set N (4_350 + i) x) (4_759 + i) goals ∙ first-size
 
   kept-arrow : getD (kept N i x goals mask) (4_350 + i) 0 ≡ x
   kept-arrow =
-      getD-set-other (set (set N (4_350 + i) x) (4_601 + i) goals) (4_852 + i) (4_350 + i) mask 0 (λ e. omega arith)
-      ∙ getD-set-other (set N (4_350 + i) x) (4_601 + i) (4_350 + i) goals 0 (λ e. omega arith)
+      getD-set-other (set (set N (4_350 + i) x) (4_759 + i) goals) (5_168 + i) (4_350 + i) mask 0 (λ e. omega arith)
+      ∙ getD-set-other (set N (4_350 + i) x) (4_759 + i) (4_350 + i) goals 0 (λ e. omega arith)
       ∙ getD-set-same N (4_350 + i) x 0 (let z = m .size in omega arith)
 
-  kept-goals : getD (kept N i x goals mask) (4_601 + i) 0 ≡ goals
+  kept-goals : getD (kept N i x goals mask) (4_759 + i) 0 ≡ goals
   kept-goals =
-      getD-set-other (set (set N (4_350 + i) x) (4_601 + i) goals) (4_852 + i) (4_601 + i) mask 0 (λ e. omega arith)
-      ∙ getD-set-same (set N (4_350 + i) x) (4_601 + i) goals 0 (let z = first-size in omega arith)
+      getD-set-other (set (set N (4_350 + i) x) (4_759 + i) goals) (5_168 + i) (4_759 + i) mask 0 (λ e. omega arith)
+      ∙ getD-set-same (set N (4_350 + i) x) (4_759 + i) goals 0 (let z = first-size in omega arith)
 
-  kept-mask : getD (kept N i x goals mask) (4_852 + i) 0 ≡ mask
-  kept-mask = getD-set-same (set (set N (4_350 + i) x) (4_601 + i) goals) (4_852 + i) mask 0 (let z = second-size in omega arith)
+  kept-mask : getD (kept N i x goals mask) (5_168 + i) 0 ≡ mask
+  kept-mask = getD-set-same (set (set N (4_350 + i) x) (4_759 + i) goals) (5_168 + i) mask 0 (let z = second-size in omega arith)
 
   -- three words that are the same
   moved : {a b d : ℕ} (a′ b′ d′ : ℕ) → a′ ≡ a → b′ ≡ b → d′ ≡ d → Mask W low a b d → Mask W low a′ b′ d′
@@ -415,23 +431,23 @@ module _ {W : View} {low : ℕ} {N : List ℕ} (m : Masked W low N) (i x goals m
 
   pub kept-masked : Masked W low (kept N i x goals mask)
   kept-masked = record {
-    size = length-set (set (set N (4_350 + i) x) (4_601 + i) goals) (4_852 + i) mask ∙ second-size;
+    size = length-set (set (set N (4_350 + i) x) (4_759 + i) goals) (5_168 + i) mask ∙ second-size;
     holds = λ j lj. by-cases (ℕ-discrete j i)
-        (λ q. moved (getD (kept N i x goals mask) (4_350 + j) 0) (getD (kept N i x goals mask) (4_601 + j) 0)
-        (getD (kept N i x goals mask) (4_852 + j) 0)
+        (λ q. moved (getD (kept N i x goals mask) (4_350 + j) 0) (getD (kept N i x goals mask) (4_759 + j) 0)
+        (getD (kept N i x goals mask) (5_168 + j) 0)
         (ap (λ (y : ℕ). getD (kept N i x goals mask) (4_350 + y) 0) q ∙ kept-arrow)
-        (ap (λ (y : ℕ). getD (kept N i x goals mask) (4_601 + y) 0) q ∙ kept-goals)
-        (ap (λ (y : ℕ). getD (kept N i x goals mask) (4_852 + y) 0) q ∙ kept-mask) c)
-        (λ n. moved (getD (kept N i x goals mask) (4_350 + j) 0) (getD (kept N i x goals mask) (4_601 + j) 0)
-        (getD (kept N i x goals mask) (4_852 + j) 0)
+        (ap (λ (y : ℕ). getD (kept N i x goals mask) (4_759 + y) 0) q ∙ kept-goals)
+        (ap (λ (y : ℕ). getD (kept N i x goals mask) (5_168 + y) 0) q ∙ kept-mask) c)
+        (λ n. moved (getD (kept N i x goals mask) (4_350 + j) 0) (getD (kept N i x goals mask) (4_759 + j) 0)
+        (getD (kept N i x goals mask) (5_168 + j) 0)
         (kept-other (4_350 + j) (λ e. n (omega arith)) (λ e. omega arith) (λ e. omega arith))
-        (kept-other (4_601 + j) (λ e. omega arith) (λ e. n (omega arith)) (λ e. omega arith))
-        (kept-other (4_852 + j) (λ e. omega arith) (λ e. omega arith) (λ e. n (omega arith))) (m .holds j lj));
+        (kept-other (4_759 + j) (λ e. omega arith) (λ e. n (omega arith)) (λ e. omega arith))
+        (kept-other (5_168 + j) (λ e. omega arith) (λ e. omega arith) (λ e. n (omega arith))) (m .holds j lj));
   }
 
 -- a new one is remembered
-pub mask-kept : {W : View} {low x goals mask : ℕ} {N M O : List ℕ} (i : ℕ) → i < 251 → MaskPost W low x goals N M mask
-    → O ≡ set (set (set M (4_350 + i) x) (4_601 + i) goals) (4_852 + i) mask → MaskPost W low x goals N O mask
+pub mask-kept : {W : View} {low x goals mask : ℕ} {N M O : List ℕ} (i : ℕ) → i < 409 → MaskPost W low x goals N M mask
+    → O ≡ set (set (set M (4_350 + i) x) (4_759 + i) goals) (5_168 + i) mask → MaskPost W low x goals N O mask
 mask-kept {W} {low} {x} {goals} {mask} {N} {M} {O} i l d e = subst (λ (L : List ℕ). MaskPost W low x goals N L mask) (sym e) (record {
   is = d .is;
   masked = kept-masked (d .masked) i x goals mask l (d .is);
@@ -440,22 +456,22 @@ mask-kept {W} {low} {x} {goals} {mask} {N} {M} {O} i l d e = subst (λ (L : List
 })
 
 -- nothing is remembered
-pub masked-start : {W : View} {low : ℕ} {N : List ℕ} → length N ≡ 5_103 → ((i : ℕ) → getD N i 0 ≡ 0) → Masked W low N
+pub masked-start : {W : View} {low : ℕ} {N : List ℕ} → length N ≡ 5_577 → ((i : ℕ) → getD N i 0 ≡ 0) → Masked W low N
 masked-start {W} {low} {N} e z = record {
   size = e;
   holds = λ i l. record {
-    only = λ j lj b. absurd (true≢false (sym b ∙ ap (bit j) (z (4_852 + i)) ∙ no-bit j));
-    has = λ j lj t. absurd (true≢false (sym (t .is) ∙ ap (bit (t .goal)) (z (4_601 + i)) ∙ no-bit (t .goal)));
+    only = λ j lj b. absurd (true≢false (sym b ∙ ap (bit j) (z (5_168 + i)) ∙ no-bit j));
+    has = λ j lj t. absurd (true≢false (sym (t .is) ∙ ap (bit (t .goal)) (z (4_759 + i)) ∙ no-bit (t .goal)));
   };
 }
 
 -- other words changed
-pub masked-beside : {W : View} {low : ℕ} {N M : List ℕ} → Masked W low N → length M ≡ 5_103
+pub masked-beside : {W : View} {low : ℕ} {N M : List ℕ} → Masked W low N → length M ≡ 5_577
     → ((i : ℕ) → 4_350 ≤ i → getD M i 0 ≡ getD N i 0) → Masked W low M
 masked-beside {W} {low} {N} {M} m e f = record {
   size = e;
   holds = λ i l.
-      subst (λ (y : ℕ). Mask W low y (getD M (4_601 + i) 0) (getD M (4_852 + i) 0)) (sym (f (4_350 + i) (omega arith)))
-      (subst (λ (y : ℕ). Mask W low (getD N (4_350 + i) 0) y (getD M (4_852 + i) 0)) (sym (f (4_601 + i) (omega arith)))
-      (subst (λ (y : ℕ). Mask W low (getD N (4_350 + i) 0) (getD N (4_601 + i) 0) y) (sym (f (4_852 + i) (omega arith))) (m .holds i l)));
+      subst (λ (y : ℕ). Mask W low y (getD M (4_759 + i) 0) (getD M (5_168 + i) 0)) (sym (f (4_350 + i) (omega arith)))
+      (subst (λ (y : ℕ). Mask W low (getD N (4_350 + i) 0) y (getD M (5_168 + i) 0)) (sym (f (4_759 + i) (omega arith)))
+      (subst (λ (y : ℕ). Mask W low (getD N (4_350 + i) 0) (getD N (4_759 + i) 0) y) (sym (f (5_168 + i) (omega arith))) (m .holds i l)));
 }

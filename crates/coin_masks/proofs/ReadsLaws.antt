@@ -101,7 +101,7 @@ module _ (W : View) (x : ℕ) (a : HoldsPre W x) where
   none-depth : isRow x ≡ false → (depth W x ≡ 0) × (levelAt W x ≡ 32)
   none-depth e = (
     (let o : levelOf (2 * W .header BITS) (rowsOf W) x ≡ 2 * W .header BITS =
-    ap (levelTo (2 * W .header BITS) (rowsOf W)) (none-is x e) in omega arith),
+        ap (levelTo (2 * W .header BITS) (rowsOf W)) (none-is x e) in omega arith),
     ap (λ (r : Bool). cond r (W .cell (rowOf x) LEVEL) 32) e,
   )
 

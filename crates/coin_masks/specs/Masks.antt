@@ -45,8 +45,8 @@ pub record Mask (W : View) (low x goals mask : ℕ) : Type 0 where
 
 -- what is remembered is true: arrows, goals and masks
 pub record Masked (W : View) (low : ℕ) (N : List ℕ) : Type 0 where
-  pub size : length N ≡ 5_103
-  pub holds : (i : ℕ) → i < 251 → Mask W low (getD N (4_350 + i) 0) (getD N (4_601 + i) 0) (getD N (4_852 + i) 0)
+  pub size : length N ≡ 5_577
+  pub holds : (i : ℕ) → i < 409 → Mask W low (getD N (4_350 + i) 0) (getD N (4_759 + i) 0) (getD N (5_168 + i) 0)
 
 -- what a mask of arrow x asks
 pub record MaskPre (W : View) (low x : ℕ) (N : List ℕ) : Type 0 where

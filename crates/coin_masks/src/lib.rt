@@ -28,14 +28,14 @@ impl Notes {
     // Arrows, goals and masks.
     pub const ARROWS: usize = 4350;
 
-    pub const GOALS: usize = 4601;
+    pub const GOALS: usize = 4759;
 
-    pub const MASKS: usize = 4852;
+    pub const MASKS: usize = 5168;
 
-    pub const WORDS: usize = 5103;
+    pub const WORDS: usize = 5577;
 
     // How many masks are remembered, and how many spent arrows.
-    pub const KEPT: u64 = 251;
+    pub const KEPT: u64 = 409;
 
     pub const SLOTS: u64 = 127;
 
@@ -111,9 +111,9 @@ fn leading(words: &[u32], rows: u32, notes: &mut [u64], low: u32, x: u32, goals:
 
 // The mask is remembered at place `at`, with its arrow and goals.
 fn keep_mask(notes: &mut [u64], at: usize, x: u64, goals: u64, mask: u64)
-    requires { ⌜ (at < 251) × (length (now notes) ≡ 5_103) ⌝ }
+    requires { ⌜ (at < 409) × (length (now notes) ≡ 5_577) ⌝ }
     ensures { λ _.
-        ⌜ now (notes .exit) ≡ set (set (set (now (notes .entry)) (4_350 + at) x) (4_601 + at) goals) (4_852 + at) mask ⌝ }
+        ⌜ now (notes .exit) ≡ set (set (set (now (notes .entry)) (4_350 + at) x) (4_759 + at) goals) (5_168 + at) mask ⌝ }
 {
     let place = Notes::ARROWS + at;
     let there = Notes::GOALS + at;

@@ -3,7 +3,7 @@ use mathlib.Core.Path.{_≡_, refl, sym, ap, _∙_, subst}
 use mathlib.Core.Logic.{_⊎_, inl, inr, by-cases}
 use mathlib.Core.Bool.{true, true≢false}
 use mathlib.Core.List.{List}
-use Prim.Native.Nat.{ℕ, suc, _+_, _-_, _*_, _/_, _%_, _^_, _≤_, _<_}
+use Prim.Native.Nat.{ℕ, suc, _+_, _-_, _/_, _%_, _^_, _≤_, _<_}
 use native.Mathlib.Decide.{ℕ-discrete, decLt, decLe}
 use native.Mathlib.Omega.{arith}
 use lib.Dec.{eqb}
@@ -31,7 +31,13 @@ module _ {n : ℕ} {w : List ℕ} {m count : ℕ} (a : AddsPre n w m count) wher
   -- where the walk goes on
   pub adds-on : {v : List ℕ} {most : ℕ} {P : ℕ → Type 0} → Adds n w v m count most P → AddsPre n v m most
   adds-on b =
-      record { small = a .small; room = (let r = a .room in let z = b .size in omega arith); order = b .order; some = a .some; fits = a .fits }
+      record {
+        small = a .small;
+        room = (let r = a .room in let z = b .size in omega arith);
+        order = b .order;
+        some = a .some;
+        fits = a .fits;
+      }
 
   -- ---- the returns of `admit`
 
@@ -123,7 +129,8 @@ below-next {n} low s mask j {left} ls e b c = adds-as (adds-then b c) to (λ u l
         let y : u / 2 ^ low ≡ j = omega arith in
         inr (ap (λ (c : ℕ). c % 2) e ∙ odd-bit j mask (ap (λ (c : ℕ). bit c mask) (sym y) ∙ q .1), state-of low u (q .0) y))
 
-pub below-end : {n : ℕ} (low s mask j : ℕ) {w v : List ℕ} {m count most : ℕ} → Adds n w v m count most (Below low s mask j) → mask / 2 ^ j ≡ 0
+pub below-end : {n : ℕ} (low s mask j : ℕ) {w v : List ℕ} {m count most : ℕ} → Adds n w v m count most (Below low s mask j)
+    → mask / 2 ^ j ≡ 0
     → Adds n w v m count most (InMask low s mask)
 below-end low s mask j b e = adds-as b (λ u l q. q .1) (λ u l q. inr (below (u / 2 ^ low) (q .1), q))
   where

@@ -4,7 +4,6 @@ use mathlib.Core.Logic.{_⊎_, inl, inr, by-cases}
 use mathlib.Core.Bool.{Bool, true, false, true≢false}
 use mathlib.Core.List.{List}
 use Prim.Native.Nat.{ℕ, suc, _+_, _-_, _*_, _/_, _%_, _^_, _≤_, _<_}
-use native.Mathlib.Nat.{mod-lt, mod-eq-of-lt}
 use native.Mathlib.Decide.{decLe}
 use native.Mathlib.Omega.{arith}
 use lib.Dec.{eqb}
@@ -24,12 +23,13 @@ use Rattle.coin_masks.specs.Masks.{LeadsTo}
 use Rattle.coin_masks.proofs.MasksLaws.{no-bit, word-bit}
 use Rattle.coin_masks.proofs.ReadsLaws.{reads-both, reads-high, level-later}
 use Rattle.coin_search.specs.Words.{markOf}
-use Rattle.coin_search.specs.Adds.{AddsPre, Adds, InMask}
-use Rattle.coin_search.proofs.AddsLaws.{adds-none, adds-on, adds-as, adds-then, grown-marks}
+use Rattle.coin_search.specs.Adds.{Adds, InMask}
+use Rattle.coin_search.proofs.AddsLaws.{adds-none, adds-on, adds-as, adds-then}
 use Rattle.coin_search.specs.Notes.{Goal, Led, Spent, SpentAt, spentKey, NotesHold, KeyMet, KeyPut, NewBitsPre, NewBits}
 use Rattle.coin_search.specs.Expand.{Stepped, ExpandPre, Reached}
-use Rattle.coin_search.proofs.Nodes.{low-in, high-in, low-out, high-out, node-same, node-is, node-few, node-fewer, power-next, state-bit, state-word, state-place}
-use Rattle.coin_search.proofs.NotesLaws.{notes-kept, notes-masked, notes-joined, notes-put, spent-in, spent-out, part-small}
+use Rattle.coin_search.proofs.Nodes.{low-in, high-in, low-out, high-out, node-same, node-is, node-few, node-fewer, power-next}
+use Rattle.coin_search.proofs.Nodes.{state-bit, state-word, state-place}
+use Rattle.coin_search.proofs.NotesLaws.{notes-masked, notes-joined, notes-put, spent-in, spent-out, part-small}
 
 -- ---- the return of `step`
 
@@ -166,8 +166,11 @@ module _ {W : View} {n low : ℕ} {w N : List ℕ} {q m x p s count : ℕ} (a : 
   module _ {M : List ℕ} {node : ℕ} (h : NotesHold W n low w M) (en : node ≡ s + 2 ^ p) (ln : node < 65_536) (lq : q < 65_536) where
     pub expands-spent : {b : Bool} → (b ≡ true → KeyMet M (spentKey x node (q / 2 ^ (levelAt W x / 2))) goals) → b ≡ true
         → Adds n w w m count count (Reached W low q goals x p s) × NotesHold W n low w M
-    expands-spent f e = (adds-none (a .adds) (λ u l d. spent .all p s u (d .1 .goal) (a .lower) (sym en) l (d .0)
-        (ap (λ (y : ℕ). y / 2 ^ (levelAt W x / 2)) (d .1 .is .lower)) (f e .has (d .1 .goal / 2 ^ low) (d .1 .is .upper)) (d .1 .step)), h)
+    expands-spent f e = (
+      adds-none (a .adds) (λ u l d. spent .all p s u (d .1 .goal) (a .lower) (sym en) l (d .0)
+          (ap (λ (y : ℕ). y / 2 ^ (levelAt W x / 2)) (d .1 .is .lower)) (f e .has (d .1 .goal / 2 ^ low) (d .1 .is .upper)) (d .1 .step)),
+      h,
+    )
       where
         spent : Spent W n low w x node (q / 2 ^ (levelAt W x / 2)) (getD M (4_223 + f e .at) 0)
         spent =
@@ -195,7 +198,8 @@ part-agrees low l t c q et ec eh = by-cases (decLe l low) below above
     above : (l ≤ low → ⊥) → c / 2 ^ l ≡ t / 2 ^ l
     above h =
         let o : low + (l - low) ≡ l = omega arith in
-        let g : (y : ℕ) → y / 2 ^ l ≡ y / 2 ^ low / 2 ^ (l - low) = (λ y. ap (λ (z : ℕ). y / 2 ^ z) (sym o) ∙ sym (shr-shr y low (l - low))) in
+        let g : (y : ℕ) → y / 2 ^ l ≡ y / 2 ^ low / 2 ^ (l - low) =
+        (λ y. ap (λ (z : ℕ). y / 2 ^ z) (sym o) ∙ sym (shr-shr y low (l - low))) in
         g c ∙ ap (λ (y : ℕ). y / 2 ^ (l - low)) (sym ec) ∙ sym (g t)
 
 -- ---- the two halves
@@ -231,7 +235,7 @@ module _ {W : View} {n low : ℕ} {w N : List ℕ} {q m x p s count : ℕ} (a : 
     goal = a .goal;
   }
 
-  pub join-asks : {v M : List ℕ} {node : ℕ} → node ≡ s + 2 ^ p → NotesHold W n low v M → (p < 10) × (node < 1_024) × (length M ≡ 5_103)
+  pub join-asks : {v M : List ℕ} {node : ℕ} → node ≡ s + 2 ^ p → NotesHold W n low v M → (p < 10) × (node < 1_024) × (length M ≡ 5_577)
   join-asks e h =
       let b = a .notes .bits .small in
       let l = before in
@@ -245,55 +249,57 @@ module _ {W : View} {n low : ℕ} {w N : List ℕ} {q m x p s count : ℕ} (a : 
   -- both halves
   module _ {v z : List ℕ} {y o more most node : ℕ} {side : Bool} (goals : ℕ) (en : node ≡ s + 2 ^ p) (es : side ≡ bit p q)
       (f : Stepped W x p false side y) (g : Stepped W x p true side o)
-      (E : Adds n w v m count more (Reached W low q goals y (p + 1) s)) (F : Adds n v z m more most (Reached W low q goals o (p + 1) node)) where
-    goal-bit : {t : ℕ} → Goal low q goals t → bit p t ≡ side
-    goal-bit {t} i = sym (lower-bit low p t before) ∙ ap (bit p) (i .lower) ∙ sym es
+      (E : Adds n w v m count more (Reached W low q goals y (p + 1) s)) (F : Adds n v z m more most (Reached W low q goals o (p + 1) node))
+    where
+      goal-bit : {t : ℕ} → Goal low q goals t → bit p t ≡ side
+      goal-bit {t} i = sym (lower-bit low p t before) ∙ ap (bit p) (i .lower) ∙ sym es
 
-    pub expands-both : Adds n w z m count most (Reached W low q goals x p s)
-    expands-both = adds-as (adds-then E F) to (λ u l d. inr (from u d (bit p u) refl))
-      where
-        to : (u : ℕ) → u < 2 ^ n → Reached W low q goals y (p + 1) s u ⊎ Reached W low q goals o (p + 1) node u → Reached W low q goals x p s u
-        to u l (inl (e, d)) =
-            let (r, b) = low-out u p (a .lower) e in
-            (r, record { goal = d .goal; is = d .is; step = sym (f .same u (d .goal) b (goal-bit (d .is))) ∙ d .step })
-        to u l (inr (e, d)) =
-            let (r, b) = high-out u p (a .lower) (e ∙ en) in
-            (r, record { goal = d .goal; is = d .is; step = sym (g .same u (d .goal) b (goal-bit (d .is))) ∙ d .step })
+      pub expands-both : Adds n w z m count most (Reached W low q goals x p s)
+      expands-both = adds-as (adds-then E F) to (λ u l d. inr (from u d (bit p u) refl))
+        where
+          to : (u : ℕ) → u < 2 ^ n → Reached W low q goals y (p + 1) s u ⊎ Reached W low q goals o (p + 1) node u
+              → Reached W low q goals x p s u
+          to u l (inl (e, d)) =
+              let (r, b) = low-out u p (a .lower) e in
+              (r, record { goal = d .goal; is = d .is; step = sym (f .same u (d .goal) b (goal-bit (d .is))) ∙ d .step })
+          to u l (inr (e, d)) =
+              let (r, b) = high-out u p (a .lower) (e ∙ en) in
+              (r, record { goal = d .goal; is = d .is; step = sym (g .same u (d .goal) b (goal-bit (d .is))) ∙ d .step })
 
-        from : (u : ℕ) → Reached W low q goals x p s u → (b : Bool) → bit p u ≡ b
-            → Reached W low q goals y (p + 1) s u ⊎ Reached W low q goals o (p + 1) node u
-        from u (e, d) false b =
-            inl (low-in u p e b, record { goal = d .goal; is = d .is; step = f .same u (d .goal) b (goal-bit (d .is)) ∙ d .step })
-        from u (e, d) true b =
-            inr
-            (high-in u p e b ∙ sym en, record { goal = d .goal; is = d .is; step = g .same u (d .goal) b (goal-bit (d .is)) ∙ d .step })
+          from : (u : ℕ) → Reached W low q goals x p s u → (b : Bool) → bit p u ≡ b
+              → Reached W low q goals y (p + 1) s u ⊎ Reached W low q goals o (p + 1) node u
+          from u (e, d) false b =
+              inl (low-in u p e b, record { goal = d .goal; is = d .is; step = f .same u (d .goal) b (goal-bit (d .is)) ∙ d .step })
+          from u (e, d) true b =
+              inr
+              (high-in u p e b ∙ sym en, record { goal = d .goal; is = d .is; step = g .same u (d .goal) b (goal-bit (d .is)) ∙ d .step })
 
-    -- and it is spent now
-    spent-now : node < 65_536 → q < 65_536 → SpentAt W n low z (spentKey x node (q / 2 ^ (levelAt W x / 2))) goals
-    spent-now ln lq = spent-in x node (q / 2 ^ (levelAt W x / 2)) goals (part-small q (levelAt W x / 2) lq) ln (record { all = all })
-      where
-        all : (i r u c : ℕ) → r < 2 ^ i → r + 2 ^ i ≡ node → u < 2 ^ n → u % 2 ^ i ≡ r
-            → c % 2 ^ low / 2 ^ (levelAt W x / 2) ≡ q / 2 ^ (levelAt W x / 2) → bit (c / 2 ^ low) goals ≡ true → holdsAt W x u c ≡ true
-            → 1 ≤ markOf z u
-        all i r u c lr er lu eu ec b h =
-            let d : i ≡ p = node-same i p r s lr (a .lower) (er ∙ en) in
-            let k : 2 ^ i ≡ 2 ^ p = ap (λ (j : ℕ). 2 ^ j) d in
-            let same : r ≡ s = omega arith in
-            let t : ℕ = q + c / 2 ^ low * 2 ^ low in
-            let lower : (q + c / 2 ^ low * 2 ^ low) % 2 ^ low ≡ q = state-word low q (c / 2 ^ low) (a .goal) in
-            let upper : (q + c / 2 ^ low * 2 ^ low) / 2 ^ low ≡ c / 2 ^ low = state-place low q (c / 2 ^ low) (a .goal) in
-            expands-both .complete u lu (
-              ap (λ (j : ℕ). u % j) (sym k) ∙ eu ∙ same,
-              record {
-                goal = q + c / 2 ^ low * 2 ^ low;
-                is = record { lower = lower; upper = ap (λ (j : ℕ). bit j goals) upper ∙ b };
-                step = sym (reads-high W x (a .arrow) u c (q + c / 2 ^ low * 2 ^ low)
-                    (part-agrees low (levelAt W x / 2) (q + c / 2 ^ low * 2 ^ low) c q lower upper ec)) ∙ h;
-              },
-            )
+      -- and it is spent now
+      spent-now : node < 65_536 → q < 65_536 → SpentAt W n low z (spentKey x node (q / 2 ^ (levelAt W x / 2))) goals
+      spent-now ln lq = spent-in x node (q / 2 ^ (levelAt W x / 2)) goals (part-small q (levelAt W x / 2) lq) ln (record { all = all })
+        where
+          all : (i r u c : ℕ) → r < 2 ^ i → r + 2 ^ i ≡ node → u < 2 ^ n → u % 2 ^ i ≡ r
+              → c % 2 ^ low / 2 ^ (levelAt W x / 2) ≡ q / 2 ^ (levelAt W x / 2) → bit (c / 2 ^ low) goals ≡ true → holdsAt W x u c ≡ true
+              → 1 ≤ markOf z u
+          all i r u c lr er lu eu ec b h =
+              let d : i ≡ p = node-same i p r s lr (a .lower) (er ∙ en) in
+              let k : 2 ^ i ≡ 2 ^ p = ap (λ (j : ℕ). 2 ^ j) d in
+              let same : r ≡ s = omega arith in
+              let t : ℕ = q + c / 2 ^ low * 2 ^ low in
+              let lower : (q + c / 2 ^ low * 2 ^ low) % 2 ^ low ≡ q = state-word low q (c / 2 ^ low) (a .goal) in
+              let upper : (q + c / 2 ^ low * 2 ^ low) / 2 ^ low ≡ c / 2 ^ low = state-place low q (c / 2 ^ low) (a .goal) in
+              expands-both .complete u lu (
+                ap (λ (j : ℕ). u % j) (sym k) ∙ eu ∙ same,
+                record {
+                  goal = q + c / 2 ^ low * 2 ^ low;
+                  is = record { lower = lower; upper = ap (λ (j : ℕ). bit j goals) upper ∙ b };
+                  step = sym (reads-high W x (a .arrow) u c (q + c / 2 ^ low * 2 ^ low)
+                      (part-agrees low (levelAt W x / 2) (q + c / 2 ^ low * 2 ^ low) c q lower upper ec)) ∙ h;
+                },
+              )
 
-    pub expands-halves : {M O R : List ℕ} → node < 65_536 → q < 65_536 → NotesHold W n low z M
-        → O ≡ set M node (bitAnd (getD M (node + 2 ^ p) 0) (getD M (node + 2 * 2 ^ p) 0))
-        → KeyPut O (spentKey x node (q / 2 ^ (levelAt W x / 2))) goals R
-        → Adds n w z m count most (Reached W low q goals x p s) × NotesHold W n low z R
-    expands-halves ln lq h j k = (expands-both, notes-put (notes-joined h before (a .lower) en refl j) (spent-now ln lq) k)
+      pub expands-halves : {M O R : List ℕ} → node < 65_536 → q < 65_536 → NotesHold W n low z M
+          → O ≡ set M node (bitAnd (getD M (node + 2 ^ p) 0) (getD M (node + 2 * 2 ^ p) 0))
+          → KeyPut O (spentKey x node (q / 2 ^ (levelAt W x / 2))) goals R
+          → Adds n w z m count most (Reached W low q goals x p s) × NotesHold W n low z R
+      expands-halves ln lq h j k = (expands-both, notes-put (notes-joined h before (a .lower) en refl j) (spent-now ln lq) k)

@@ -15,7 +15,6 @@ use Rattle.mucalculus.specs.Means.{bit}
 use Rattle.coin_masks.proofs.Bits.{bit-or}
 use Rattle.coin_masks.proofs.MasksLaws.{no-bit, or-true}
 use Rattle.coin_search.specs.Words.{markOf}
-use Rattle.coin_search.specs.Notes.{LowBits}
 use Rattle.coin_search.specs.Gather.{GoalBit, Gathered, GatherPre, OwnState, Goals}
 use Rattle.coin_search.proofs.Nodes.{bit-power, power-wide, power-is, shift-is}
 

@@ -164,4 +164,3 @@ state-of k u {i} {j} a b =
     let e = split u k in
     let f : u / 2 ^ k * 2 ^ k ≡ j * 2 ^ k = ap (λ (y : ℕ). y * 2 ^ k) b in
     omega arith
-

@@ -1,7 +1,7 @@
 -- Laws of what specs/Notes.antt defines: nodes, goals that are done, spent arrows and masks. Assumes nothing.
 use mathlib.Core.Path.{_≡_, refl, sym, ap, _∙_, subst}
 use mathlib.Core.Logic.{_≢_, _⊎_, inl, inr, by-cases}
-use mathlib.Core.Bool.{Bool, true, false, _&&_, _||_, true≢false}
+use mathlib.Core.Bool.{Bool, true, false, _||_, true≢false}
 use mathlib.Core.List.{List}
 use Prim.Native.Nat.{ℕ, _+_, _*_, _/_, _%_, _^_, _≤_, _<_}
 use native.Mathlib.Decide.{ℕ-discrete}
@@ -13,7 +13,6 @@ use lib.Pow.{pow-mono, shr-le}
 use lib.Seq.{getD-set-same, getD-set-other}
 use Rattle.mucalculus.specs.Means.{bit}
 use Rattle.layout.specs.View.{View}
-use Rattle.seek.specs.Walk.{holdsAt}
 use Rattle.seek.specs.Apart.{levelAt}
 use Rattle.coin_masks.specs.Masks.{Masked, Beside, MaskPost}
 use Rattle.coin_masks.proofs.Bits.{either, bit-and, bit-or, bit-xor, bit-all}
@@ -21,10 +20,10 @@ use Rattle.coin_masks.proofs.MasksLaws.{no-bit, or-true, and-true, masked-start
 use Rattle.coin_search.specs.Words.{markOf}
 use Rattle.coin_search.specs.Adds.{AddsPre, Adds, One, AtBit}
 use Rattle.coin_search.proofs.AddsLaws.{adds-none, adds-as, grown-marks}
-use Rattle.coin_search.specs.Notes.{LowBits, Goal, Bitmap, Noted, DoneAt, Spent, spentKey, SpentAt, NotesHold, DoneMet, KeyMet, KeyPut}
-use Rattle.coin_search.specs.Notes.{none, put, SpentPre, NewBitsPre, NewBits}
+use Rattle.coin_search.specs.Notes.{LowBits, Bitmap, Noted, DoneAt, Spent, spentKey, SpentAt, NotesHold, DoneMet}
+use Rattle.coin_search.specs.Notes.{KeyMet, KeyPut, none, put, SpentPre, NewBitsPre, NewBits}
 use Rattle.coin_search.proofs.Nodes.{power-next, low-in, high-in, node-same, node-few, power-is, bit-power, power-wide, shift-is}
-use Rattle.coin_search.proofs.Nodes.{state-small, state-of, state-word, state-place}
+use Rattle.coin_search.proofs.Nodes.{state-small, state-of}
 
 -- ---- what stays true
 
@@ -65,7 +64,7 @@ module _ {W : View} {n low : ℕ} {w : List ℕ} where
     }
 
     -- words of nodes changed
-    nodes-changed : {M : List ℕ} → length M ≡ 5_103 → Bitmap n low w M → ((i : ℕ) → 2_048 ≤ i → getD M i 0 ≡ getD N i 0)
+    nodes-changed : {M : List ℕ} → length M ≡ 5_577 → Bitmap n low w M → ((i : ℕ) → 2_048 ≤ i → getD M i 0 ≡ getD N i 0)
         → NotesHold W n low w M
     nodes-changed {M} e m f = record {
       bits = h .bits;
@@ -145,9 +144,11 @@ module _ {W : View} {n low : ℕ} {w : List ℕ} where
         → M ≡ set (set N (2_048 + q) x) (3_072 + q) goals → NotesHold W n low w M
     notes-done {M} {x} {q} {goals} lq d em = subst (NotesHold W n low w) (sym em) (record {
       bits = h .bits;
-      bitmap = bitmap-same n low w N (set (set N (2_048 + q) x) (3_072 + q) goals) (h .bits .small) (h .bitmap) (λ i l. other i (λ e. omega arith) (λ e. omega arith));
+      bitmap = bitmap-same n low w N (set (set N (2_048 + q) x) (3_072 + q) goals) (h .bits .small) (h .bitmap)
+          (λ i l. other i (λ e. omega arith) (λ e. omega arith));
       done = λ r l. by-cases (ℕ-discrete r q)
-          (λ e. subst (λ (y : ℕ). DoneAt W n low w (getD (set (set N (2_048 + q) x) (3_072 + q) goals) (2_048 + y) 0) y (getD (set (set N (2_048 + q) x) (3_072 + q) goals) (3_072 + y) 0)) (sym e) (done-same first second d))
+          (λ e. subst (λ (y : ℕ). DoneAt W n low w (getD (set (set N (2_048 + q) x) (3_072 + q) goals) (2_048 + y) 0) y
+          (getD (set (set N (2_048 + q) x) (3_072 + q) goals) (3_072 + y) 0)) (sym e) (done-same first second d))
           (λ e. done-same (other (2_048 + r) (λ z. e (omega arith)) (λ z. omega arith))
           (other (3_072 + r) (λ z. omega arith) (λ z. e (omega arith))) (h .done r l));
       spent = λ k l. spent-same (other (4_096 + k) (λ e. omega arith) (λ e. omega arith))
@@ -173,7 +174,8 @@ module _ {W : View} {n low : ℕ} {w : List ℕ} where
     notes-put s none = h
     notes-put {key = key} {goals} s (put q lq) = record {
       bits = h .bits;
-      bitmap = bitmap-same n low w N (set (set N (4_096 + q) key) (4_223 + q) goals) (h .bits .small) (h .bitmap) (λ i l. other i (λ e. omega arith) (λ e. omega arith));
+      bitmap = bitmap-same n low w N (set (set N (4_096 + q) key) (4_223 + q) goals) (h .bits .small) (h .bitmap)
+          (λ i l. other i (λ e. omega arith) (λ e. omega arith));
       done = λ r l. done-same (other (2_048 + r) (λ e. omega arith) (λ e. omega arith))
           (other (3_072 + r) (λ e. omega arith) (λ e. omega arith)) (h .done r l);
       spent = λ k l. by-cases (ℕ-discrete k q)
@@ -385,7 +387,7 @@ done-met N x q j e b = record { is = e; has = b }
 
 -- ---- the start
 
-pub notes-start : {W : View} {n low : ℕ} {w N : List ℕ} → LowBits n low → length N ≡ 5_103 → ((i : ℕ) → getD N i 0 ≡ 0)
+pub notes-start : {W : View} {n low : ℕ} {w N : List ℕ} → LowBits n low → length N ≡ 5_577 → ((i : ℕ) → getD N i 0 ≡ 0)
     → NotesHold W n low w N
 notes-start {W} {n} {low} {w} {N} b e z = record {
   bits = b;

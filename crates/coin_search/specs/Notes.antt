@@ -44,7 +44,7 @@ pub record Noted (w N M : List ℕ) (s i j : ℕ) : Type 0 where
 pub record DoneAt (W : View) (n low : ℕ) (w : List ℕ) (x q goals : ℕ) : Type 0 where
   pub all : (u t : ℕ) → u < 2 ^ n → Goal low q goals t → holdsAt W x u t ≡ true → 1 ≤ markOf w u
 
--- arrow x is spent at a node for some goals, of whose lower bits it can read h: all states of the node from which it leads to one are marked
+-- arrow x is spent at a node for some goals, of whose lower bits it can read h: all states of the node that lead to one are marked
 pub record Spent (W : View) (n low : ℕ) (w : List ℕ) (x node h goals : ℕ) : Type 0 where
   pub all : (p s u t : ℕ) → s < 2 ^ p → s + 2 ^ p ≡ node → u < 2 ^ n → u % 2 ^ p ≡ s → t % 2 ^ low / 2 ^ (levelAt W x / 2) ≡ h
       → bit (t / 2 ^ low) goals ≡ true → holdsAt W x u t ≡ true → 1 ≤ markOf w u
@@ -84,7 +84,7 @@ pub data KeyPut (N : List ℕ) (key goals : ℕ) : List ℕ → Type 0 where
 
 -- what `is_spent` and `put_spent` ask
 pub record SpentPre (N : List ℕ) (q node : ℕ) : Type 0 where
-  pub size : length N ≡ 5_103
+  pub size : length N ≡ 5_577
   pub lower : q < 65_536
   pub node-small : node < 65_536
 

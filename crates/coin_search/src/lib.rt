@@ -1,5 +1,5 @@
 // The search for the cheapest run into a set: states are put into an order by what it costs to come from them into the set, with no row
-// made. Order and marks stand in lent words of 64 bits, one for each state; what only saves time stands in 40 KB of the stack.
+// made. Order and marks stand in lent words of 64 bits, one for each state; what only saves time stands in 45 KB of the stack.
 use coin_masks::Notes;
 use coin_masks::mask_of;
 use layout::Table;
@@ -13,7 +13,8 @@ ghost use Rattle.coin_search.specs.Adds.{Adds, AddsPre, AtBit, InMask, O
 ghost use Rattle.coin_search.specs.Choice.{Best, NextMark, Placed};
 ghost use Rattle.coin_search.specs.Expand.{ExpandPre, Reached, Stepped};
 ghost use Rattle.coin_search.specs.Gather.{Gathered, GatherPre, GoalBit, Goals, OwnState};
-ghost use Rattle.coin_search.specs.Notes.{DoneMet, KeyMet, KeyPut, LowBits, NewBits, NewBitsPre, Noted, NotesHold, SpentPre, spentKey};
+ghost use Rattle.coin_search.specs.Notes.{DoneMet, KeyMet, KeyPut, LowBits, NewBits, NewBitsPre, Noted, NotesHold};
+ghost use Rattle.coin_search.specs.Notes.{SpentPre, spentKey};
 ghost use Rattle.coin_search.specs.Search.{SearchPost, SearchPre};
 ghost use Rattle.coin_search.specs.Start.{Bare, Cleared, FirstIn, Started};
 ghost use Rattle.coin_search.specs.Turn.{TurnPost, TurnPre};
@@ -28,8 +29,8 @@ ghost use lib.ListN.{getD, length, set};
 ghost use mathlib.Core.Bool.{true};
 ghost use mathlib.Core.Path.{_≡_};
 
-// The parts of a work word: in the low 16 bits the state at a place of the order; from bit 17 on the mark of a state, which is 0 where it has
-// none, else one more than what it costs.
+// The parts of a work word: in the low 16 bits the state at a place of the order; from bit 17 on the mark of a state, which is 0 where it
+// has none, else one more than what it costs.
 // A cost is 2^17 times the credits and one for each step, so that fewer steps win among equal credits.
 pub struct Work;
 
@@ -100,7 +101,7 @@ fn add(work: &mut [u64], s: u32, m: u64, count: u32) -> u32
 
 // What is known of both halves of a node of p bits is known of it.
 fn join(notes: &mut [u64], p: u32, node: u32)
-    requires { ⌜ (p < 10) × (node < 1_024) × (length (now notes) ≡ 5_103) ⌝ }
+    requires { ⌜ (p < 10) × (node < 1_024) × (length (now notes) ≡ 5_577) ⌝ }
     ensures { λ _.
         ⌜ now (notes .exit) ≡ set (now (notes .entry)) node
         (bitAnd (getD (now (notes .entry)) (node + 2 ^ p) 0) (getD (now (notes .entry)) (node + 2 * 2 ^ p) 0)) ⌝ }
@@ -202,8 +203,8 @@ fn add_all(
     most
 }
 
-// Of the classes of a node those that are not known to be marked and may hold a state from which arrow x leads to a goal: exactly those with
-// one where x reads six bits only.
+// Of the classes of a node those that are not known to be marked and may hold a state from which arrow x leads to a goal: exactly those
+// with one where x reads six bits only.
 fn new_bits(words: &[u32], notes: &mut [u64], wave: Wave, x: u32, node: u32) -> u64
     requires { ⌜ NewBitsPre (view (wave .rows) (now words)) (wave .low) x (now notes) node ⌝ }
     ensures { λ r.
@@ -231,8 +232,8 @@ fn spent_key(wave: Wave, level: u32, x: u32, node: u32) -> u64
     (x as u64) * 4294967296 + (node as u64) * 65536 + (part as u64)
 }
 
-// Whether it is remembered that all states of a node, of p bits, from which arrow x leads to the goals are marked. Only of an arrow that skips
-// some bits is it.
+// Whether it is remembered that all states of a node, of p bits, from which arrow x leads to the goals are marked. Only of an arrow that
+// skips some bits is it.
 fn is_spent(words: &[u32], notes: &[u64], wave: Wave, x: u32, p: u32, node: u32) -> bool
     requires { ⌜ HoldsPre (view (wave .rows) (now words)) x × SpentPre (now notes) (wave .lower) node × (p ≤ 16) ⌝ }
     ensures { λ r. ⌜ (r ≡ true → KeyMet (now (notes .entry))
@@ -274,7 +275,13 @@ fn put_spent(words: &[u32], notes: &mut [u64], wave: Wave, x: u32, p: u32, node:
     }
     let key = spent_key(wave, level, x, node);
     let slot = (key % Notes::SLOTS) as usize;
-    put_pair(notes, Notes::SPENT + slot, Notes::SPENT_GOALS + slot, key, wave.goals);
+    put_pair(
+        notes,
+        Notes::SPENT + slot,
+        Notes::SPENT_GOALS + slot,
+        key,
+        wave.goals,
+    );
 }
 
 // The arrow that is followed from x where current bit p and next bit p are known.
@@ -512,8 +519,8 @@ fn is_last(work: &[u64], done: u32, count: u32, m: u64) -> bool
     mark_of(work, state_at(work, next)) != m
 }
 
-// The goals of a turn: the state t at a place of the order, with the mark m, and where more of this mark follow all of it with the lower bits
-// q of t.
+// The goals of a turn: the state at a place of the order, with the mark m and the lower bits q, and where more of this mark follow all of
+// it with these lower bits.
 fn gather(work: &[u64], bits: u32, low: u32, q: u32, j: u32, m: u64, done: u32, count: u32) -> u64
     requires { ⌜ GatherPre bits low (now work) q × OwnState bits low (now work) q j m count × (done < 65_536) ⌝ }
     ensures { λ r. ⌜ Goals bits low (now (work .entry)) q j m r ⌝ }
@@ -526,7 +533,7 @@ fn gather(work: &[u64], bits: u32, low: u32, q: u32, j: u32, m: u64, done: u32, 
 
 // Whether arrow x has done the goal j of the lower bits q.
 fn is_done(notes: &[u64], x: u32, q: u32, j: u32) -> bool
-    requires { ⌜ (length (now notes) ≡ 5_103) × (q < 1_024) × (j < 64) ⌝ }
+    requires { ⌜ (length (now notes) ≡ 5_577) × (q < 1_024) × (j < 64) ⌝ }
     ensures { λ r. ⌜ (r ≡ true → DoneMet (now (notes .entry)) x q j) ⌝ }
 {
     let at = Notes::DONE + (q as usize);
@@ -539,10 +546,16 @@ fn is_done(notes: &[u64], x: u32, q: u32, j: u32) -> bool
 
 // Arrow x has done some goals of the lower bits q.
 fn put_done(notes: &mut [u64], x: u32, q: u32, goals: u64)
-    requires { ⌜ (length (now notes) ≡ 5_103) × (q < 1_024) ⌝ }
+    requires { ⌜ (length (now notes) ≡ 5_577) × (q < 1_024) ⌝ }
     ensures { λ _. ⌜ now (notes .exit) ≡ set (set (now (notes .entry)) (2_048 + q) x) (3_072 + q) goals ⌝ }
 {
-    put_pair(notes, Notes::DONE + (q as usize), Notes::DONE_GOALS + (q as usize), x as u64, goals);
+    put_pair(
+        notes,
+        Notes::DONE + (q as usize),
+        Notes::DONE_GOALS + (q as usize),
+        x as u64,
+        goals,
+    );
 }
 
 // One turn: the next state of relation r in the order, and all of its mark that have its lower bits, give marks to those from which r leads

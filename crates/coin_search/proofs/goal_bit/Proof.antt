@@ -12,5 +12,5 @@ goal-bit-spec =
     (tie.spec
     (λ c κs. search needs)
     (λ c. search needs)
-    (λ c. bit-met _ _ _ _ (c .before .before .before .pre .1) (c .before .mark-of .ensures) (c .if1 .taken))
-    (λ c. bit-missed _ _ _ _ (c .before .before .before .pre .1) (c .before .mark-of .ensures) (c .if1 .left)))
+    (λ c. let c1 = c .before .before .before in bit-met _ _ _ _ (c1 .pre .1) (c .before .mark-of .ensures) (c .if1 .taken))
+    (λ c. let c1 = c .before .before .before in bit-missed _ _ _ _ (c1 .pre .1) (c .before .mark-of .ensures) (c .if1 .left)))

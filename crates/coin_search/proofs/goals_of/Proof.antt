@@ -2,9 +2,8 @@
 use Prim.Native.Nat.{_-_, _^_, _≤_}
 use native.Mathlib.Omega.{arith}
 use Rattle.coin_search.specs.Gather.{Gathered}
-use Rattle.coin_search.proofs.GatherLaws.{gathered-none, upper-is, upper-few, goal-is, goal-below, goal-asks, gathered-next, gathered-end}
+use Rattle.coin_search.proofs.GatherLaws.{gathered-none, upper-is, goal-is, goal-below, goal-asks, gathered-next, gathered-end}
 use Rattle.coin_search.proofs.StartLaws.{few-states}
-use borrow.Author.Needs.{needs}
 use Rattle.coin_search.proofs.goals_of.Statement.{statement}
 use Rattle.coin_search.proofs.goals_of.Tie as tie
 use Rattle.coin_search.proofs.goals_of.Reads as reads
@@ -25,14 +24,20 @@ goals-of-spec =
     (λ c. c .before .pre .bits .depth)
     (λ c. let f = c .before .pre .few in omega arith)
     (λ c. (gathered-none _ _ _ _, omega arith))
-    (λ c. let b = c .before .before .before .pre .bits .small in omega arith)
-    (λ c. record {
-    fits = let t = c .loop-test .taken in let u = upper-is (c .before .before .before .pre) in let e = goal-is (c .before .before .before .pre) (c .before .loop .j) (omega arith) in
-    let b = goal-below (c .before .before .before .pre) (c .before .loop .j) (omega arith) in let g = few-states (c .before .before .before .args .bits) (c .before .before .before .pre .few) in omega arith;
+    (λ c. let c1 = c .before .before .before in let b = c1 .pre .bits .small in omega arith)
+    (λ c. let c1 = c .before .before .before in record {
+      fits = let t = c .loop-test .taken in let u = upper-is (c1 .pre) in let
+          e = goal-is (c1 .pre) (c .before .loop .j) (omega arith) in let b = goal-below (c1 .pre) (c .before .loop .j) (omega arith)
+          in let g = few-states (c1 .args .bits) (c1 .pre .few) in omega arith;
     })
-    (λ c κs. goal-asks (c .before .before .before .pre) (c .before .loop .j) (let t = c .loop-test .taken in let u = upper-is (c .before .before .before .pre) in omega arith))
+    (λ c κs. let c1 = c .before .before .before in goal-asks (c1 .pre) (c .before .loop .j) (let t = c .loop-test .taken in let
+    u = upper-is (c1 .pre) in omega arith))
     (λ c. record { fits = let t = c .before .loop-test .taken in omega arith })
     (λ c. let t = c .before .loop-test .taken in omega arith)
-    (λ c. (gathered-next (c .before .before .before .before .pre) (c .before .before .loop .j) (let t = c .before .loop-test .taken in let u = upper-is (c .before .before .before .before .pre) in omega arith) (c .before .before .loop .inv .0)
-    (c .goal-bit .ensures), let t = c .before .loop-test .taken in let u = upper-is (c .before .before .before .before .pre) in omega arith))
-    (λ c. gathered-end (c .before .before .before .pre) (c .before .loop .inv .0) (let t = c .loop-test .left in let l = c .before .loop .inv .1 in let u = upper-is (c .before .before .before .pre) in omega arith)))
+    (λ c. let c1 = c .before .before .before .before in (
+      gathered-next (c1 .pre) (c .before .before .loop .j) (let t = c .before
+          .loop-test .taken in let u = upper-is (c1 .pre) in omega arith) (c .before .before .loop .inv .0) (c .goal-bit .ensures),
+      let t = c .before .loop-test .taken in let u = upper-is (c1 .pre) in omega arith,
+    ))
+    (λ c. let c1 = c .before .before .before in gathered-end (c1 .pre) (c .before .loop .inv .0) (let t = c .loop-test .left in
+    let l = c .before .loop .inv .1 in let u = upper-is (c1 .pre) in omega arith)))

@@ -19,6 +19,6 @@ is-done-spec =
     (λ c. λ e. absurd (true≢false (sym e)))
     (λ c. search needs)
     (λ c. search needs)
-    (λ c. let s = c .before .before .before .pre .0 in let q = c .before .before .before .pre .1 in omega arith)
-    (λ c. let q = c .before .before .before .pre .2 in omega arith)
+    (λ c. let c1 = c .before .before .before in let s = c1 .pre .0 in let q = c1 .pre .1 in omega arith)
+    (λ c. let c1 = c .before .before .before in let q = c1 .pre .2 in omega arith)
     (λ c. λ e. done-met _ _ _ _ (c .before .if1 .left) e))

@@ -13,5 +13,6 @@ is-last-spec =
     (λ c. search needs)
     (λ c. search needs)
     (λ c κs. let t = c .if1 .left in let p = c .before .before .pre .0 .places in omega arith)
-    (λ c κs. let e = c .state-at .ensures in let s = c .before .before .before .pre .0 .states _ (c .before .if1 .left) in omega arith)
+    (λ c κs. let c1 = c .before .before .before in let e = c .state-at .ensures in let s = c1 .pre .0 .states _ (c .before .if1
+    .left) in omega arith)
     (λ c. search needs))

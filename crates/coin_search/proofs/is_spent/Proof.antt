@@ -18,16 +18,23 @@ is-spent-spec =
     (λ c κs. c .before .before .pre .0)
     (λ c. search needs)
     (λ c. λ e. absurd (true≢false (sym e)))
-    (λ c κs. (let m = level-most (view (c .before .before .before .before .args .wave .rows) (c .before .before .before .before .args .words .now)) (c .before .before .before .before .args .x) (c .before .before .before .before .pre .0) in
-    let e = c .before .level-of .ensures in omega arith, c .before .before .before .before .pre .1 .lower, c .before .before .before .before .pre .1 .node-small))
+    (λ c κs. let c1 = c .before .before .before .before in (
+      let m = level-most (view (c1 .args .wave .rows) (c1 .args .words
+          .now)) (c1 .args .x) (c1 .pre .0) in let e = c .before .level-of .ensures in omega arith,
+      c1 .pre .1 .lower,
+      c1 .pre .1
+          .node-small,
+    ))
     (λ c. search needs)
     (λ c. search needs)
-    (λ c. let s = c .before .before .before .before .before .before .pre .1 .size in omega arith)
+    (λ c. let c1 = c .before .before .before .before .before .before in let s = c1 .pre .1 .size in omega arith)
     (λ c. λ e. absurd (true≢false (sym e)))
     (λ c. search needs)
     (λ c. search needs)
-    (λ c. let s = c .before .before .before .before .before .before .before .before .pre .1 .size in omega arith)
+    (λ c. let c1 = c .before .before .before .before .before .before .before .before in let s = c1 .pre .1 .size in omega arith)
     (λ c. search needs)
-    (λ c. let s = c .before .before .before .before .before .before .before .before .before .before .pre .1 .size in omega arith)
-    (λ c. λ e. key-met (view (c .before .before .before .before .before .before .before .before .before .before .args .wave .rows) (c .before .before .before .before .before .before .before .before .before .before .args .words .now)) (c .before .before .before .before .before .before .before .before .before .before .args .x) (c .before .before .before .before .before .before .before .before .before .before .args .node) (c .before .before .before .before .before .before .before .before .before .before .args .wave .lower)
-    (c .before .before .before .before .before .before .before .level-of .ensures) (c .before .before .before .before .before .spent-key .ensures) _ _ (c .before .before .before .if2 .left) e))
+    (λ c. let c1 = c .before .before .before .before .before .before .before .before .before .before in let s = c1 .pre .1 .size
+    in omega arith)
+    (λ c. let c1 = c .before .before .before in let c2 = c1 .before .before in let c3 = c2 .before .before in let c4 = c3
+    .before .before .before in λ e. key-met (view (c4 .args .wave .rows) (c4 .args .words .now)) (c4 .args .x) (c4 .args .node)
+    (c4 .args .wave .lower) (c3 .level-of .ensures) (c2 .spent-key .ensures) _ _ (c1 .if2 .left) e))

@@ -16,13 +16,19 @@ join-spec =
     (λ c. let (e, l) = half-few (c .args .p) (c .pre .0) in let n = c .pre .1 in record { fits = omega arith })
     (λ c. search needs)
     (λ c. search needs)
-    (λ c. let (e, l) = half-few (c .before .args .p) (c .before .pre .0) in let n = c .before .pre .1 in let z = c .before .pre .2 in omega arith)
+    (λ c. let (e, l) = half-few (c .before .args .p) (c .before .pre .0) in let n = c .before .pre .1 in let z = c .before .pre
+    .2 in omega arith)
     (λ c. let (e, l) = half-few (c .before .args .p) (c .before .pre .0) in record { fits = omega arith })
-    (λ c. let (e, l) = half-few (c .before .args .p) (c .before .pre .0) in let n = c .before .pre .1 in record { fits = omega arith })
+    (λ c. let (e, l) = half-few (c .before .args .p) (c .before .pre .0) in let n = c .before .pre .1 in record {
+      fits = omega
+          arith;
+    })
     (λ c. search needs)
     (λ c. search needs)
-    (λ c. let (e, l) = half-few (c .before .before .args .p) (c .before .before .pre .0) in let n = c .before .before .pre .1 in let z = c .before .before .pre .2 in omega arith)
+    (λ c. let (e, l) = half-few (c .before .before .args .p) (c .before .before .pre .0) in let n = c .before .before .pre .1 in
+    let z = c .before .before .pre .2 in omega arith)
     (λ c. search needs)
     (λ c. let n = c .before .before .pre .1 in let z = c .before .before .pre .2 in omega arith)
     (λ c. search needs)
-    (λ c. join-is (c .before .before .args .notes .now) (c .before .before .args .node) (c .before .before .args .p) (half-few (c .before .before .args .p) (c .before .before .pre .0) .0) refl))
+    (λ c. join-is (c .before .before .args .notes .now) (c .before .before .args .node) (c .before .before .args .p) (half-few
+    (c .before .before .args .p) (c .before .before .pre .0) .0) refl))

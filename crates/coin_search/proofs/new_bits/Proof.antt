@@ -13,11 +13,18 @@ new-bits-spec =
     tie.close
     (tie.spec
     (λ c. search needs)
-    (λ c. let p = c .before .before .before .pre .place in let z = c .before .before .before .pre .masked .size in omega arith)
-    (λ c. new-none (c .before .before .before .before .pre) refl (c .if1 .taken))
-    (λ c κs. c .before .before .before .before .pre .arrow)
-    (λ c. record { fits = let s = c .before .before .before .before .before .before .pre .small in omega arith })
-    (λ c. new-all (c .before .before .before .before .before .before .before .pre) refl (let e = c .before .before .level-of .ensures in let t = c .if2 .taken in omega arith))
-    (λ c κs. record { arrow = c .before .before .before .before .before .before .before .before .pre .arrow; small = c .before .before .before .before .before .before .before .before .pre .small; masked = c .before .before .before .before .before .before .before .before .pre .masked })
+    (λ c. let c1 = c .before .before .before in let p = c1 .pre .place in let z = c1 .pre .masked .size in omega arith)
+    (λ c. let c1 = c .before .before .before .before in new-none (c1 .pre) refl (c .if1 .taken))
+    (λ c κs. let c1 = c .before .before .before .before in c1 .pre .arrow)
+    (λ c. let c1 = c .before .before .before .before .before .before in record { fits = let s = c1 .pre .small in omega arith })
+    (λ c. let c1 = c .before .before .before .before .before .before .before in new-all (c1 .pre) refl (let e = c .before
+    .before .level-of .ensures in let t = c .if2 .taken in omega arith))
+    (λ c κs. let c1 = c .before .before .before .before .before .before .before .before in record {
+      arrow = c1 .pre .arrow;
+      small = c1 .pre .small;
+      masked = c1 .pre .masked;
+    })
     (λ c. search needs)
-    (λ c. new-mask (c .before .before .before .before .before .before .before .before .before .before .before .pre) refl (let e = c .before .before .before .before .before .before .level-of .ensures in let t = c .before .before .before .before .if2 .left in omega arith) (c .before .before .mask-of .ensures)))
+    (λ c. let c1 = c .before .before .before .before in let c2 = c1 .before .before in let c3 = c2 .before .before .before
+    .before .before in new-mask (c3 .pre) refl (let e = c2 .level-of .ensures in let t = c1 .if2 .left in omega arith) (c
+    .before .before .mask-of .ensures)))

@@ -16,7 +16,12 @@ spent-key-spec =
     (λ c. search needs)
     (λ c. search needs)
     (λ c. search needs)
-    (λ c. record { fits = let m = shr-le (c .before .args .wave .lower) (c .before .args .level / 2) in let l = c .before .pre .1 in omega arith })
-    (λ c. record { fits = let m = shr-le (c .before .args .wave .lower) (c .before .args .level / 2) in let l = c .before .pre .1 in let n = c .before .pre .2 in
-    omega arith })
+    (λ c. record {
+      fits = let m = shr-le (c .before .args .wave .lower) (c .before .args .level / 2) in let l = c .before .pre
+          .1 in omega arith;
+    })
+    (λ c. record {
+      fits = let m = shr-le (c .before .args .wave .lower) (c .before .args .level / 2) in let l = c .before .pre
+          .1 in let n = c .before .pre .2 in omega arith;
+    })
     (λ c. search needs))

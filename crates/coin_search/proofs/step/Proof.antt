@@ -15,4 +15,5 @@ step-spec =
     (λ c κs. search needs)
     (λ c. search needs)
     (λ c κs. search needs)
-    (λ c. step-ends (c .before .before .before .pre .0) (c .before .before .before .pre .1) refl (c .before .follow-at .ensures) (c .follow-at2 .ensures)))
+    (λ c. let c1 = c .before .before .before in step-ends (c1 .pre .0) (c1 .pre .1) refl (c .before .follow-at .ensures) (c
+    .follow-at2 .ensures)))
