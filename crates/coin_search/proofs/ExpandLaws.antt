@@ -249,57 +249,57 @@ module _ {W : View} {n low : ℕ} {w N : List ℕ} {q m x p s count : ℕ} (a : 
   -- both halves
   module _ {v z : List ℕ} {y o more most node : ℕ} {side : Bool} (goals : ℕ) (en : node ≡ s + 2 ^ p) (es : side ≡ bit p q)
       (f : Stepped W x p false side y) (g : Stepped W x p true side o)
-      (E : Adds n w v m count more (Reached W low q goals y (p + 1) s)) (F : Adds n v z m more most (Reached W low q goals o (p + 1) node))
-    where
-      goal-bit : {t : ℕ} → Goal low q goals t → bit p t ≡ side
-      goal-bit {t} i = sym (lower-bit low p t before) ∙ ap (bit p) (i .lower) ∙ sym es
+      (E : Adds n w v m count more (Reached W low q goals y (p + 1) s))
+      (F : Adds n v z m more most (Reached W low q goals o (p + 1) node)) where
+    goal-bit : {t : ℕ} → Goal low q goals t → bit p t ≡ side
+    goal-bit {t} i = sym (lower-bit low p t before) ∙ ap (bit p) (i .lower) ∙ sym es
 
-      pub expands-both : Adds n w z m count most (Reached W low q goals x p s)
-      expands-both = adds-as (adds-then E F) to (λ u l d. inr (from u d (bit p u) refl))
-        where
-          to : (u : ℕ) → u < 2 ^ n → Reached W low q goals y (p + 1) s u ⊎ Reached W low q goals o (p + 1) node u
-              → Reached W low q goals x p s u
-          to u l (inl (e, d)) =
-              let (r, b) = low-out u p (a .lower) e in
-              (r, record { goal = d .goal; is = d .is; step = sym (f .same u (d .goal) b (goal-bit (d .is))) ∙ d .step })
-          to u l (inr (e, d)) =
-              let (r, b) = high-out u p (a .lower) (e ∙ en) in
-              (r, record { goal = d .goal; is = d .is; step = sym (g .same u (d .goal) b (goal-bit (d .is))) ∙ d .step })
+    pub expands-both : Adds n w z m count most (Reached W low q goals x p s)
+    expands-both = adds-as (adds-then E F) to (λ u l d. inr (from u d (bit p u) refl))
+      where
+        to : (u : ℕ) → u < 2 ^ n → Reached W low q goals y (p + 1) s u ⊎ Reached W low q goals o (p + 1) node u
+            → Reached W low q goals x p s u
+        to u l (inl (e, d)) =
+            let (r, b) = low-out u p (a .lower) e in
+            (r, record { goal = d .goal; is = d .is; step = sym (f .same u (d .goal) b (goal-bit (d .is))) ∙ d .step })
+        to u l (inr (e, d)) =
+            let (r, b) = high-out u p (a .lower) (e ∙ en) in
+            (r, record { goal = d .goal; is = d .is; step = sym (g .same u (d .goal) b (goal-bit (d .is))) ∙ d .step })
 
-          from : (u : ℕ) → Reached W low q goals x p s u → (b : Bool) → bit p u ≡ b
-              → Reached W low q goals y (p + 1) s u ⊎ Reached W low q goals o (p + 1) node u
-          from u (e, d) false b =
-              inl (low-in u p e b, record { goal = d .goal; is = d .is; step = f .same u (d .goal) b (goal-bit (d .is)) ∙ d .step })
-          from u (e, d) true b =
-              inr
-              (high-in u p e b ∙ sym en, record { goal = d .goal; is = d .is; step = g .same u (d .goal) b (goal-bit (d .is)) ∙ d .step })
+        from : (u : ℕ) → Reached W low q goals x p s u → (b : Bool) → bit p u ≡ b
+            → Reached W low q goals y (p + 1) s u ⊎ Reached W low q goals o (p + 1) node u
+        from u (e, d) false b =
+            inl (low-in u p e b, record { goal = d .goal; is = d .is; step = f .same u (d .goal) b (goal-bit (d .is)) ∙ d .step })
+        from u (e, d) true b =
+            inr
+            (high-in u p e b ∙ sym en, record { goal = d .goal; is = d .is; step = g .same u (d .goal) b (goal-bit (d .is)) ∙ d .step })
 
-      -- and it is spent now
-      spent-now : node < 65_536 → q < 65_536 → SpentAt W n low z (spentKey x node (q / 2 ^ (levelAt W x / 2))) goals
-      spent-now ln lq = spent-in x node (q / 2 ^ (levelAt W x / 2)) goals (part-small q (levelAt W x / 2) lq) ln (record { all = all })
-        where
-          all : (i r u c : ℕ) → r < 2 ^ i → r + 2 ^ i ≡ node → u < 2 ^ n → u % 2 ^ i ≡ r
-              → c % 2 ^ low / 2 ^ (levelAt W x / 2) ≡ q / 2 ^ (levelAt W x / 2) → bit (c / 2 ^ low) goals ≡ true → holdsAt W x u c ≡ true
-              → 1 ≤ markOf z u
-          all i r u c lr er lu eu ec b h =
-              let d : i ≡ p = node-same i p r s lr (a .lower) (er ∙ en) in
-              let k : 2 ^ i ≡ 2 ^ p = ap (λ (j : ℕ). 2 ^ j) d in
-              let same : r ≡ s = omega arith in
-              let t : ℕ = q + c / 2 ^ low * 2 ^ low in
-              let lower : (q + c / 2 ^ low * 2 ^ low) % 2 ^ low ≡ q = state-word low q (c / 2 ^ low) (a .goal) in
-              let upper : (q + c / 2 ^ low * 2 ^ low) / 2 ^ low ≡ c / 2 ^ low = state-place low q (c / 2 ^ low) (a .goal) in
-              expands-both .complete u lu (
-                ap (λ (j : ℕ). u % j) (sym k) ∙ eu ∙ same,
-                record {
-                  goal = q + c / 2 ^ low * 2 ^ low;
-                  is = record { lower = lower; upper = ap (λ (j : ℕ). bit j goals) upper ∙ b };
-                  step = sym (reads-high W x (a .arrow) u c (q + c / 2 ^ low * 2 ^ low)
-                      (part-agrees low (levelAt W x / 2) (q + c / 2 ^ low * 2 ^ low) c q lower upper ec)) ∙ h;
-                },
-              )
+    -- and it is spent now
+    spent-now : node < 65_536 → q < 65_536 → SpentAt W n low z (spentKey x node (q / 2 ^ (levelAt W x / 2))) goals
+    spent-now ln lq = spent-in x node (q / 2 ^ (levelAt W x / 2)) goals (part-small q (levelAt W x / 2) lq) ln (record { all = all })
+      where
+        all : (i r u c : ℕ) → r < 2 ^ i → r + 2 ^ i ≡ node → u < 2 ^ n → u % 2 ^ i ≡ r
+            → c % 2 ^ low / 2 ^ (levelAt W x / 2) ≡ q / 2 ^ (levelAt W x / 2) → bit (c / 2 ^ low) goals ≡ true → holdsAt W x u c ≡ true
+            → 1 ≤ markOf z u
+        all i r u c lr er lu eu ec b h =
+            let d : i ≡ p = node-same i p r s lr (a .lower) (er ∙ en) in
+            let k : 2 ^ i ≡ 2 ^ p = ap (λ (j : ℕ). 2 ^ j) d in
+            let same : r ≡ s = omega arith in
+            let t : ℕ = q + c / 2 ^ low * 2 ^ low in
+            let lower : (q + c / 2 ^ low * 2 ^ low) % 2 ^ low ≡ q = state-word low q (c / 2 ^ low) (a .goal) in
+            let upper : (q + c / 2 ^ low * 2 ^ low) / 2 ^ low ≡ c / 2 ^ low = state-place low q (c / 2 ^ low) (a .goal) in
+            expands-both .complete u lu (
+              ap (λ (j : ℕ). u % j) (sym k) ∙ eu ∙ same,
+              record {
+                goal = q + c / 2 ^ low * 2 ^ low;
+                is = record { lower = lower; upper = ap (λ (j : ℕ). bit j goals) upper ∙ b };
+                step = sym (reads-high W x (a .arrow) u c (q + c / 2 ^ low * 2 ^ low)
+                    (part-agrees low (levelAt W x / 2) (q + c / 2 ^ low * 2 ^ low) c q lower upper ec)) ∙ h;
+              },
+            )
 
-      pub expands-halves : {M O R : List ℕ} → node < 65_536 → q < 65_536 → NotesHold W n low z M
-          → O ≡ set M node (bitAnd (getD M (node + 2 ^ p) 0) (getD M (node + 2 * 2 ^ p) 0))
-          → KeyPut O (spentKey x node (q / 2 ^ (levelAt W x / 2))) goals R
-          → Adds n w z m count most (Reached W low q goals x p s) × NotesHold W n low z R
-      expands-halves ln lq h j k = (expands-both, notes-put (notes-joined h before (a .lower) en refl j) (spent-now ln lq) k)
+    pub expands-halves : {M O R : List ℕ} → node < 65_536 → q < 65_536 → NotesHold W n low z M
+        → O ≡ set M node (bitAnd (getD M (node + 2 ^ p) 0) (getD M (node + 2 * 2 ^ p) 0))
+        → KeyPut O (spentKey x node (q / 2 ^ (levelAt W x / 2))) goals R
+        → Adds n w z m count most (Reached W low q goals x p s) × NotesHold W n low z R
+    expands-halves ln lq h j k = (expands-both, notes-put (notes-joined h before (a .lower) en refl j) (spent-now ln lq) k)

@@ -146,30 +146,30 @@ module _ {W : View} {n : ℕ} {prices w : List ℕ} {r done count : ℕ} (a : Tu
       }
 
       module _ {v M : List ℕ} {goals most : ℕ} (g : Goals n low w (t % (1 * 2 ^ low % 4_294_967_296)) (t / 2 ^ low) m goals)
-          (e : Adds n w v (m + c) count most (Reached W low (t % (1 * 2 ^ low % 4_294_967_296)) goals (x - 1) 0 0) × NotesHold W n low v M)
-        where
-          pub turn-ends : {O : List ℕ}
-              → O ≡ set (set M (2_048 + t % (1 * 2 ^ low % 4_294_967_296)) (x - 1)) (3_072 + t % (1 * 2 ^ low % 4_294_967_296)) goals
-              → TurnPost W n prices w v r done count most × NotesHold W n low v O
-          turn-ends d = (
-            record {
-              size = e .0 .size;
-              expanded = expanded-from v most (e .0 .order) (e .0 .grown) (λ u l z y. like u (e .0 .only u l z y .1))
-                  (λ u l y. e .0 .complete u l (omega arith, record { goal = t; is = own-goal (g .has); step = y }));
-            },
-            notes-done (e .1) (done-asks .1)
-                (record { all = λ u k l i y. e .0 .complete u l (omega arith, record { goal = k; is = i; step = y }) }) d,
-          )
-            where
-              like : (u : ℕ) → Led W low (t % (1 * 2 ^ low % 4_294_967_296)) goals (x - 1) u
-                  → LeadsLike (2 ^ n) (leadsAt W) (marksOf w count) r t u
-              like u b =
-                  let k = state-of low (b .goal) (b .is .lower) refl in
-                  let (l, y) = g .from (b .goal / 2 ^ low) (b .is .upper) in
-                  record {
-                    state = b .goal;
-                    below = omega arith;
-                    like = ap (markOf w) k ∙ y ∙ em;
-                    step = and-in (filledAt (W .header) r) _ (a .filled)
-                        (subst T (sym (ap (λ (j : ℕ). holdsAt W j u (b .goal)) arrow-is ∙ b .step)) tt);
-                  }
+          (e : Adds n w v (m + c) count most (Reached W low (t % (1 * 2 ^ low % 4_294_967_296)) goals (x - 1) 0 0)
+          × NotesHold W n low v M) where
+        pub turn-ends : {O : List ℕ}
+            → O ≡ set (set M (2_048 + t % (1 * 2 ^ low % 4_294_967_296)) (x - 1)) (3_072 + t % (1 * 2 ^ low % 4_294_967_296)) goals
+            → TurnPost W n prices w v r done count most × NotesHold W n low v O
+        turn-ends d = (
+          record {
+            size = e .0 .size;
+            expanded = expanded-from v most (e .0 .order) (e .0 .grown) (λ u l z y. like u (e .0 .only u l z y .1))
+                (λ u l y. e .0 .complete u l (omega arith, record { goal = t; is = own-goal (g .has); step = y }));
+          },
+          notes-done (e .1) (done-asks .1)
+              (record { all = λ u k l i y. e .0 .complete u l (omega arith, record { goal = k; is = i; step = y }) }) d,
+        )
+          where
+            like : (u : ℕ) → Led W low (t % (1 * 2 ^ low % 4_294_967_296)) goals (x - 1) u
+                → LeadsLike (2 ^ n) (leadsAt W) (marksOf w count) r t u
+            like u b =
+                let k = state-of low (b .goal) (b .is .lower) refl in
+                let (l, y) = g .from (b .goal / 2 ^ low) (b .is .upper) in
+                record {
+                  state = b .goal;
+                  below = omega arith;
+                  like = ap (markOf w) k ∙ y ∙ em;
+                  step = and-in (filledAt (W .header) r) _ (a .filled)
+                      (subst T (sym (ap (λ (j : ℕ). holdsAt W j u (b .goal)) arrow-is ∙ b .step)) tt);
+                }
