@@ -92,7 +92,7 @@ module _ {W : View} {n : ℕ} {prices w : List ℕ} {r done count : ℕ} (a : Tu
       upper-few : t / 2 ^ low < 64
       upper-few = state-bit (h .bits) t state-below
 
-      pub done-asks : (length N ≡ 5_577) × (t % (1 * 2 ^ low % 4_294_967_296) < 1_024) × (t / 2 ^ low < 64)
+      pub done-asks : (length N ≡ 7_365) × (t % (1 * 2 ^ low % 4_294_967_296) < 1_024) × (t / 2 ^ low < 64)
       done-asks = (
         h .masks .size,
         (let l = lower-below in let m : 2 ^ low ≤ 2 ^ 10 = pow-mono {i = low} {j = 10} (h .bits .small) in omega arith),
