@@ -252,8 +252,8 @@ struct Sum {
 // From such states: two sums agree, or of the low bits all but bit r are on, so that each r has a root of its own. The arrows differ for each choice of
 // the low bits, and each leads to a diagram of its own.
 static Relation sums(u32 r) {
-    std::minstd_rand numbers(8);
-    Sum a(16, numbers), b(16, numbers);
+    std::minstd_rand numbers(18);
+    Sum a(20, numbers), b(20, numbers);
     u32 low = (1u << lower()) - 1, kept = low & ~(1u << r);
     Bytes one = kept & 1 ? here(0) : no(here(0));
     for (u32 p = 1; p < lower(); p++) one = both(kept >> p & 1 ? here(p) : no(here(p)), one);
@@ -263,7 +263,7 @@ static Relation sums(u32 r) {
 
 // From such states: the parity of the low bits is odd, and a high bit of now or one of next is on.
 static Relation low_parity(u32 r) {
-    u32 p = lower() + r % (n - lower()), q = lower() + r / (n - lower());
+    u32 upper = n - lower(), p = lower() + r % upper, q = lower() + r / upper % upper;
     return {both(no_top(), both(parity(0x10, lower()), either(here(p), there(q)))),
             [=](u32 s, u32 t) { return !is_top(s) && odd(s & ((1u << lower()) - 1)) && ((s >> p & 1) || (t >> q & 1)); }, {}};
 }
