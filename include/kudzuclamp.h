@@ -40,7 +40,8 @@
  *
  * STACK. A call takes less than 160 KB of it, and more than 120 KB only on words whose lookup chains are longer than 32 rows (seen: 111 KB, a formula
  * of the greatest depth at n = 16). Where V is not every state and more than 2,048 rows are used, the check of the table takes up to 560 KB (seen: 522
- * KB). Measured on the compiled code, not proved.
+ * KB). kudzuclamp_cheapest takes 45 KB more than this, with all that its search notes (seen: 182 KB on such chains, 566 KB). Measured on the compiled
+ * code, not proved.
  *
  * TIME. No contract speaks of it. Every call first checks the whole table: some 50 instructions for each used row, and more where V is not every state
  * (2 ms for 28,736 rows of an ordinary table; 0.6 s for the worst table found, which was made for it). So where many records are at hand, give them to

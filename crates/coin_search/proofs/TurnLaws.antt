@@ -36,9 +36,6 @@ module _ {W : View} {n : ℕ} {prices w : List ℕ} {r done count : ℕ} (a : Tu
   pub state-in : {t : ℕ} → t ≡ stateAt w done → t < length w
   state-in e = let (l, y) = a .order .listed done (a .next) in let r = a .hall .room in omega arith
 
-  pub state-few : {t : ℕ} → t ≡ stateAt w done → t < 65_536
-  state-few e = omega arith
-
   pub below-eight : r < 8
   below-eight = filled-below (W .header) r (a .filled)
 

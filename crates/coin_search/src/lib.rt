@@ -534,7 +534,8 @@ fn goals_of(work: &[u64], bits: u32, low: u32, q: u32, m: u64) -> u64
     goals
 }
 
-// Whether the state at a place is the last one in the order with its mark, m.
+// Whether the state at a place is the last one in the order with its mark, m. Nothing rests on it: it saves looking for more goals where there
+// are none.
 fn is_last(work: &[u64], done: u32, count: u32, m: u64) -> bool
     requires { ⌜ Placed (now work) count × (count ≤ 65_536) × (done < 65_536) ⌝ }
 {
