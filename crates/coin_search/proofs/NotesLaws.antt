@@ -192,7 +192,7 @@ module _ {W : View} {n low : ℕ} {w : List ℕ} where
         -- what stood at the place with this key is true as well
         kept : SpentAt W n low w key all
         kept = record {
-          all = λ p r u t lr er lu eu et b y. go p r u t lr er lu eu et y (g (t / 2 ^ low) b);
+          all = λ p r u t lr er lu eu et b y. go p r u t lr er lu eu et y (g .from (t / 2 ^ low) b);
         }
           where
             go : (p r u t : ℕ) → r < 2 ^ p → r + 2 ^ p ≡ key / 65_536 % 65_536 → u < 2 ^ n → u % 2 ^ p ≡ r
@@ -355,16 +355,18 @@ module _ (W : View) (x node q : ℕ) {level key : ℕ} (el : level ≡ levelAt W
 -- ---- the returns of `goals_with`
 
 pub with-none : (N : List ℕ) (k key goals : ℕ) → GoalsWith N k key goals goals
-with-none N k key goals j e = inl e
+with-none N k key goals = record { from = λ j e. inl e }
 
 pub with-kept : (N : List ℕ) (k key goals : ℕ) → getD N (4_096 + k) 0 ≡ key
     → GoalsWith N k key goals (bitOr (getD N (5_117 + k) 0) goals)
-with-kept N k key goals e j b = go (bit j (getD N (5_117 + k) 0)) refl (sym (bit-or j (getD N (5_117 + k) 0) goals) ∙ b)
+with-kept N k key goals e = record {
+  from = λ j b. go j (bit j (getD N (5_117 + k) 0)) refl (sym (bit-or j (getD N (5_117 + k) 0) goals) ∙ b);
+}
   where
-    go : (a : Bool) → bit j (getD N (5_117 + k) 0) ≡ a → (bit j (getD N (5_117 + k) 0) || bit j goals) ≡ true
+    go : (j : ℕ) (a : Bool) → bit j (getD N (5_117 + k) 0) ≡ a → (bit j (getD N (5_117 + k) 0) || bit j goals) ≡ true
         → (bit j goals ≡ true) ⊎ ((getD N (4_096 + k) 0 ≡ key) × (bit j (getD N (5_117 + k) 0) ≡ true))
-    go true q _ = inr (e, q)
-    go false q o = inl (ap (λ (y : Bool). y || bit j goals) (sym q) ∙ o)
+    go j true q _ = inr (e, q)
+    go j false q o = inl (ap (λ (y : Bool). y || bit j goals) (sym q) ∙ o)
 
 -- ---- the returns of `new_bits`
 

@@ -77,10 +77,9 @@ pub record KeyMet (N : List ℕ) (key goals : ℕ) : Type 0 where
   pub is : getD N (4_096 + at) 0 ≡ key
   pub has : (j : ℕ) → bit j goals ≡ true → bit j (getD N (5_117 + at) 0) ≡ true
 
--- each is one of the goals, or of those at place k, where the key stands
-abbrev pub GoalsWith : List ℕ → ℕ → ℕ → ℕ → ℕ → Type 0
-GoalsWith N k key goals all = (j : ℕ) → bit j all ≡ true
-    → (bit j goals ≡ true) ⊎ ((getD N (4_096 + k) 0 ≡ key) × (bit j (getD N (5_117 + k) 0) ≡ true))
+-- goals that are remembered at place k: each is one of these goals, or stands there with the key
+pub record GoalsWith (N : List ℕ) (k key goals all : ℕ) : Type 0 where
+  pub from : (j : ℕ) → bit j all ≡ true → (bit j goals ≡ true) ⊎ ((getD N (4_096 + k) 0 ≡ key) × (bit j (getD N (5_117 + k) 0) ≡ true))
 
 -- nothing changed, or a key is remembered with its goals
 pub data KeyPut (N : List ℕ) (key goals : ℕ) : List ℕ → Type 0 where
