@@ -440,7 +440,10 @@ static std::vector<Case> cases() {
     u32 last = all - 1, half = last >> 1, below_top = last - (1u << lower());
     Bytes mixed = {3, 5, 7, 0, 11, 13, 0, 255}, dear = {1, 255, 1, 1, 1, 1, 1, 1}, ones = {1, 1, 1, 1, 1, 1, 1, 1}, rise = {1, 2, 3, 4, 5, 6, 7, 1};
     Bytes free_counter = {0, 255, 255, 255, 255, 255, 255, 255};
-    std::vector<Relation> presses, alike, seven, eight, agreeing = {short_counter()}, odd_low = agreeing;
+    std::vector<Relation> presses, alike, seven, eight, agreeing = {short_counter()}, odd_low = agreeing, falls = {counter(true)};
+    for (const Relation &relation : {low_with_two(false, false), low_with_two(true, false), low_with_two(false, true), low_with_two(true, true), odd_pairs(),
+                                     here_parity(), here_and_parity()})
+        falls.push_back(falling(relation));
     for (u32 r = 0; r < 8; r++) {
         presses.push_back(press(r % n));
         alike.push_back(one_and_one(high - r % 4, r % n));
@@ -469,6 +472,9 @@ static std::vector<Case> cases() {
         {"a low bit turns with two high ones; no run", {low_with_two(true, false)}, mixed, nothing(), one(last)},
         {"the same and parity of next high bits; no run", {low_with_two(true, true)}, mixed, nothing(), one(last ^ 1u << high)},
         {"counter; a low bit with two high ones, falling; no run", {counter(true), falling(low_with_two(false, false))}, ones, nothing(), one(last)},
+        {"counter; a low bit turns with two high ones, falling; no run", {counter(true), falling(low_with_two(true, false))}, ones, nothing(), one(last)},
+        {"counter; odd pairs, falling; no run", {counter(true), falling(odd_pairs())}, ones, nothing(), one(last)},
+        {"counter; seven of these and others, falling; no run", falls, ones, nothing(), one(last)},
         {"odd pairs; no run", {odd_pairs()}, mixed, nothing(), bit(high, true)},
         {"eight of odd pairs; no run", std::vector<Relation>(8, odd_pairs()), mixed, nothing(), bit(high, true)},
         {"short counter; parity of the low bits; no run", {short_counter(), low_parity(1)}, free_counter, nothing(), one(below_top)},

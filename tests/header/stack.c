@@ -9,7 +9,7 @@
 #define PAINT 0xA5
 #define SIZE (4u << 20)
 #define STATES 65536u
-#define NOTES 45000
+#define NOTES 59000
 
 static uint32_t words[KUDZUCLAMP_WORDS(ROWS)];
 
