@@ -5,3 +5,4 @@ pub mod Formula
 pub mod Call
 pub mod Meaning
 pub mod Example
+pub mod Raised
