@@ -366,7 +366,17 @@ pub extern "C" fn kudzuclamp_react(
         (now (accounts .entry)) (given k 0 0 (now (answer .exit))) ⌝ }
 {
     let terms = terms_at(accounts, place);
-    react_under(words, terms, most, goal, guest, machine, state, press, answer)
+    react_under(
+        words,
+        terms,
+        most,
+        goal,
+        guest,
+        machine,
+        state,
+        press,
+        answer,
+    )
 }
 
 // The call that formula bytes are for: set at 0, else relation.

@@ -112,7 +112,8 @@ module _ (acc : Terms) (R goal guest machine s t : ℕ) (ws : List ℕ) where
       far : (near (bookOf (seen ws)) acc R goal guest machine s t ≡ true → ⊥) → ReactPost acc R goal guest machine s t ws ws (plain 3)
       far h =
           refused 2 (reacts-three (bookOf (seen ws)) acc R goal guest machine s t
-          (false-of (near (bookOf (seen ws)) acc R goal guest machine s t) (λ p. h (true-of (near (bookOf (seen ws)) acc R goal guest machine s t) p))))
+          (false-of (near (bookOf (seen ws)) acc R goal guest machine s t) (λ p. h (true-of (near (bookOf
+          (seen ws)) acc R goal guest machine s t) p))))
 
       parts : near (bookOf (seen ws)) acc R goal guest machine s t ≡ true → (s < states) × (t < states)
       parts e =
@@ -147,7 +148,8 @@ module _ (acc : Terms) (R goal guest machine s t : ℕ) (ws : List ℕ) where
           empty : (allFilled (bookOf (seen ws)) goal guest machine ≡ true → ⊥) → ReactPost acc R goal guest machine s t ws ws (plain 7)
           empty h =
               refused 6 (reacts-empty (bookOf (seen ws)) acc R goal guest machine s t is-near l
-              (false-of (allFilled (bookOf (seen ws)) goal guest machine) (λ p. h (true-of (allFilled (bookOf (seen ws)) goal guest machine) p))))
+              (false-of (allFilled (bookOf (seen ws)) goal guest machine) (λ p. h (true-of (allFilled (bookOf
+              (seen ws)) goal guest machine) p))))
 
           -- all are filled only if each is
           each : allFilled (bookOf (seen ws)) goal guest machine ≡ true
@@ -161,11 +163,13 @@ module _ (acc : Terms) (R goal guest machine s t : ℕ) (ws : List ℕ) where
                 and-out (ltb machine relations) _ (y .1) .1,
               )
 
-          pub react-goal : {x : ℕ} → x ≡ headerOf ws (FIRST-REGISTER + goal) → x ≡ 0 → ReactPost acc R goal guest machine s t ws ws (plain 7)
+          pub react-goal : {x : ℕ} → x ≡ headerOf ws (FIRST-REGISTER + goal) → x ≡ 0 → ReactPost acc R goal guest machine s t ws ws
+              (plain 7)
           react-goal e z = empty (λ h.
               subst T (ap hasContent (register-is ws (ranges-out goal guest machine r .goal-in) (sym z ∙ e))) (each h .0))
 
-          pub react-guest : {x : ℕ} → x ≡ headerOf ws (FIRST-RELATION + guest) → x ≡ 0 → ReactPost acc R goal guest machine s t ws ws (plain 7)
+          pub react-guest : {x : ℕ} → x ≡ headerOf ws (FIRST-RELATION + guest) → x ≡ 0 → ReactPost acc R goal guest machine s t ws ws
+              (plain 7)
           react-guest e z = empty (λ h.
               subst T (ap hasContent (relation-is ws (ranges-out goal guest machine r .guest-in) (sym z ∙ e))) (each h .1))
 

@@ -116,7 +116,8 @@ module _ (ok : Bool) (n : ℕ) where
     told-by : toldOf ok n w ≡ cond (ltb u (2 ^ n)) (answer.State u) (answer.Refused refusal.NoAnswer)
     told-by = ap (toldOf ok n) e ∙ go ok t
       where
-        go : (ok : Bool) → not ok ≡ false → toldOf ok n (watched.Made u) ≡ cond (ltb u (2 ^ n)) (answer.State u) (answer.Refused refusal.NoAnswer)
+        go : (ok : Bool) → not ok ≡ false → toldOf ok n (watched.Made u) ≡ cond (ltb u (2 ^ n)) (answer.State u)
+            (answer.Refused refusal.NoAnswer)
         go true t = refl
         go false t = absurd (subst T t tt)
 
@@ -151,7 +152,8 @@ module _ (b : Book) (goal guest machine : ℕ) (k : ℕ) (G M : Pairs) (B : List
   made-is p x h true true q i =
       let w = h .found (subst T (sym (fair-by true true i q)) tt) in
       let l = w .1 in
-      ap (λ (c : Bool). reactedReply (cond c (answer.State x) (answer.Refused refusal.NoAnswer))) (true-of (ltb x (2 ^ n)) (lt→ltb x (2 ^ n) (omega arith)))
+      ap (λ (c : Bool). reactedReply (cond c (answer.State x) (answer.Refused refusal.NoAnswer))) (true-of (ltb x (2 ^ n)) (lt→ltb x
+      (2 ^ n) (omega arith)))
       ∙ ap valued (w .0)
       ∙ sym (ap (λ (c : Bool). reacted b goal guest machine (counted p) c (answerTo k G M B s t)) (fair-by true true i q))
 
@@ -202,7 +204,11 @@ module _ {old : List ℕ} {goal guest machine x y z s t : ℕ} (p : ReactingPre 
   walk u = record { mark = record { base = sound-base (p .sound); arrow = u }; bits = p .sound .good .sizes .n-max }
 
   pub fair-asks : {rows : ℕ} → rows ≡ headerOf old ROWS → HoldsPre (view rows old) x × HoldsPre (view rows old) y
-  fair-asks {rows} er = subst (λ (N : ℕ). HoldsPre (view N old) x × HoldsPre (view N old) y) (sym er) (walk (goal-denotes .arrow), walk (guest-denotes .arrow))
+  fair-asks {rows} er = subst (λ (N : ℕ). HoldsPre (view N old) x × HoldsPre (view N old) y) (sym er) (
+    walk (goal-denotes .arrow),
+    walk
+        (guest-denotes .arrow),
+  )
 
   fair-is : {rows : ℕ} {ok : Bool} → rows ≡ headerOf old ROWS → ok ≡ fairAt (view rows old) x y s t
       → ok ≡ (not (mem (goals bk goal guest machine) s) && pair (presses bk goal guest machine) s t)
@@ -249,7 +255,8 @@ module _ {old : List ℕ} {goal guest machine x y z s t : ℕ} (p : ReactingPre 
     })
 
     module _ {Y : View} {w : Watched} (v : RoundsPost (limitsOf bits rows limit rounds) (view rows old) Y bs (askedOf z s t) w) where
-      post : RoundsPost (limitsOf bits (headerOf old ROWS) (rowsUnder (headerOf old ROWS) acc) (roundsUnder R acc)) W Y bs (askedOf z s t) w
+      post : RoundsPost (limitsOf bits (headerOf old ROWS) (rowsUnder (headerOf old ROWS) acc) (roundsUnder R acc)) W Y bs
+          (askedOf z s t) w
       post = rw er at (rw (el, em) at v)
 
       pub freeing : Sound Y
@@ -259,7 +266,8 @@ module _ {old : List ℕ} {goal guest machine x y z s t : ℕ} (p : ReactingPre 
           → {r : Reacted} → r ≡ toldOf ok bits w → Reacting acc R goal guest machine s t old new (reactedReply r)
       game-done {new} {ok} ef f {r} e =
           let q = post goal guest machine (given eb es) in
-          let a : After W (view (headerOf old ROWS) new) = freed (record { sound = q .sound; frame = q .frame; kept = q .kept }) (rw er at f) in
+          let a : After W (view (headerOf old ROWS) new) = freed (record { sound = q .sound; frame = q .frame; kept = q .kept })
+          (rw er at f) in
           record {
             sound = a .sound;
             frame = a .frame;

@@ -50,8 +50,7 @@ react-again n N M more most l k l′ k′ x u loose again zeros c c′ place R R
     (λ d. reacts d goal guest machine (termsOf (c .mid .accounts) place) R s t)
     (λ d. reacts d goal guest machine (termsOf (c′ .mid .accounts) place) R′ s t) Firm
     (λ d h f. reacts-more M d h (termsOf (c .mid .accounts) place) (termsOf (c′ .mid .accounts) place) (eased-list still place) R R′ i
-    goal guest machine s t f)
-    (
+    goal guest machine s t f) (
       (λ e. rows (ap (λ (r : Reply). r .number) (p .told o .reply) ∙ e)),
       (λ e. rounds (ap (λ (r : Reply). r .number) (p .told o .reply) ∙ e)),
     ) in

@@ -18,8 +18,8 @@ pub record Told (acc : Terms) (R goal guest machine s t : ℕ) (old new : List �
   pub sound : SoundWords new
   pub rows : Keeps (seen old .rows) (seen new .rows) (rootsOf (seen old))
 
--- the state s and the press t in the game of goal, guest and machine, under an account and R, with the words `old` before the call and `new`
--- after it
+-- the state s and the press t in the game of goal, guest and machine, under an account and R, with the words `old` before the call and
+-- `new` after it
 pub record ReactPost (acc : Terms) (R goal guest machine s t : ℕ) (old new : List ℕ) (y : Reply) : Type 0 where
   -- "table unsound"
   pub unsound : (SoundWords old → ⊥) → Refusal 2 y × (new ≡ old)

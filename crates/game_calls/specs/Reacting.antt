@@ -40,7 +40,8 @@ fairAt W goal guest s t = not (holdsAt W goal s 0) && holdsAt W guest s t
 abbrev pub toldOf : Bool → ℕ → Watched → Reacted
 toldOf ok n watched.Full = answer.Refused refusal.Full
 toldOf ok n watched.Spent = answer.Refused refusal.Spent
-toldOf ok n (watched.Made u) = cond ok (cond (ltb u (2 ^ n)) (answer.State u) (answer.Refused refusal.NoAnswer)) (answer.Refused refusal.NoAnswer)
+toldOf ok n (watched.Made u) = cond ok (cond (ltb u (2 ^ n)) (answer.State u) (answer.Refused refusal.NoAnswer))
+    (answer.Refused refusal.NoAnswer)
 
 -- a sound table, whose goal, guest and machine have these arrows, and a state and a press of it
 pub record ReactingPre (old : List ℕ) (goal guest machine x y z s t : ℕ) : Type 0 where
@@ -62,5 +63,6 @@ pub record Reacting (acc : Terms) (R goal guest machine s t : ℕ) (old new : Li
   pub reply : y ≡ reacted (bookOf (seen old)) goal guest machine (gameVerdict (bookOf (seen old)) goal guest machine acc R)
       (fair (2 ^ bookOf (seen old) .n) (presses (bookOf (seen old)) goal guest machine) (reactions (bookOf (seen old)) goal guest machine)
       (goals (bookOf (seen old)) goal guest machine) s t)
-      (answerTo (2 ^ bookOf (seen old) .n) (presses (bookOf (seen old)) goal guest machine) (reactions (bookOf (seen old)) goal guest machine)
+      (answerTo (2 ^ bookOf (seen old) .n) (presses (bookOf (seen old)) goal guest machine) (reactions (bookOf
+      (seen old)) goal guest machine)
       (goals (bookOf (seen old)) goal guest machine) s t)

@@ -67,7 +67,17 @@ pub fn force(
     let at = place as usize;
     let count = accounts.len();
     if at < count {
-        let x = force_named(words, count, place, accounts[at], r, most, goal, guest, machine);
+        let x = force_named(
+            words,
+            count,
+            place,
+            accounts[at],
+            r,
+            most,
+            goal,
+            guest,
+            machine,
+        );
         add_rounds(accounts, at, rounds_of(x));
         return x;
     }

@@ -60,7 +60,8 @@ use Rattle.games.specs.Game.{forcing, forced, after as sets, answerTo, fair}
 use Rattle.games.specs.Call.{bodyForm, gameForm}
 use Rattle.games.proofs.Rounds.{Noted, noted-none, noting, noted-next, after-size, after-found, still-below, not-out}
 use Rattle.games.proofs.Formula.{body-steady, body-means}
-use Rattle.game_steps.specs.Watch.{noteBy, NotePre, haltedOf, Plays, WatchPre, Heard, AnswerOf, is-made, is-full, is-spent, Watches, WatchPost}
+use Rattle.game_steps.specs.Watch.{noteBy, NotePre, haltedOf, Plays, WatchPre, Heard, AnswerOf, is-made, is-full, is-spent, Watches}
+use Rattle.game_steps.specs.Watch.{WatchPost}
 use Rattle.game_steps.specs.declared.Asked.{Asked}
 use Rattle.game_steps.specs.declared.Watched.{Watched}
 use Rattle.game_steps.specs.declared.Watched.the-variants as watched
@@ -118,7 +119,8 @@ pub record Standing (L : Limits) (W X : View) (stack now : List ℕ)
   pub round : ℕ
   pub set-is : bound .turning .A
       ≡ sets (2 ^ L .bits) (inside (σ .rel guest)) (inside (σ .rel machine)) (inside (σ .reg goal)) round
-  pub noted-is : Noted (2 ^ L .bits) (inside (σ .rel guest)) (inside (σ .rel machine)) (inside (σ .reg goal)) (a .state) (a .press) round noted
+  pub noted-is : Noted (2 ^ L .bits) (inside (σ .rel guest)) (inside (σ .rel machine)) (inside (σ .reg goal)) (a .state)
+      (a .press) round noted
 
 module _ {L : Limits} {W : View} {stack bs : List ℕ} {a : Asked} {σ : Scene} {goal guest machine : ℕ}
     (P : Plays L W stack bs a σ goal guest machine) where
@@ -213,7 +215,8 @@ module _ {L : Limits} {W : View} {stack bs : List ℕ} {a : Asked} {σ : Scene} 
           go Spent h = is-spent
 
       module _ {b j : ℕ} {q : Count} (is : r ≡ Value b j q) where
-        evals : EvalsBy (fnOf (L .bits)) (L .bits) (L .rows) (rowsOf X) (rowsOf Y) (current ∷ σ .roots) (runIn true L σ′ f (another count))
+        evals : EvalsBy (fnOf (L .bits)) (L .bits) (L .rows) (rowsOf X) (rowsOf Y) (current ∷ σ .roots) (runIn true L σ′ f
+            (another count))
             (ends b q)
         evals = subst (λ (y : Evaluated). EvalsBy (fnOf (L .bits)) (L .bits) (L .rows) (rowsOf X) (rowsOf Y) (current ∷ σ .roots)
             (runIn true L σ′ f (another count)) (endedOf y)) is (answered .evals)
@@ -227,7 +230,8 @@ module _ {L : Limits} {W : View} {stack bs : List ℕ} {a : Asked} {σ : Scene} 
             let e : w .0 ≡ sets k G M B (suc (S .round)) = settle-value
             (means (modelIn (L .bits) σ) (put (σ .env) 0 (S .bound .turning .A)) f)
             (verdict (L .limit) (L .rounds) (another count)
-            (ticks (states (modelIn (L .bits) σ) (put (σ .env) 0 (S .bound .turning .A))) (fnOf (L .bits) (S .bound .turning .A) ∷ σ .fns) f))
+            (ticks (states (modelIn (L .bits) σ) (put (σ .env) 0 (S .bound .turning .A))) (fnOf (L .bits)
+            (S .bound .turning .A) ∷ σ .fns) f))
             (sym t ∙ w .1) ∙ round-means (S .bound .turning .A)
             ∙ ap (forcing k G M B) (S .set-is) in
             subst (λ (A : List Bool). Denotes (2 * L .bits) (rowsOf Y) b (fnOf (L .bits) A)) e (w .2)
@@ -249,7 +253,8 @@ module _ {L : Limits} {W : View} {stack bs : List ℕ} {a : Asked} {σ : Scene} 
           where
             rests : sets k G M B (suc (S .round)) ≡ sets k G M B (S .round)
             rests =
-                one-set (L .bits) _ _ (subst (λ (x : ℕ). Denotes (2 * L .bits) (rowsOf Y) x (fnOf (L .bits) (sets k G M B (suc (S .round))))) h
+                one-set (L .bits) _ _ (subst (λ (x : ℕ). Denotes (2 * L .bits) (rowsOf Y) x (fnOf (L .bits) (sets k G M B (suc
+                (S .round))))) h
                 next-denotes) last-denotes (after-size k G M B (suc (S .round))) (after-size k G M B (S .round))
 
             done : sets k G M B (S .round) ≡ forced k G M B
@@ -303,16 +308,19 @@ module _ {L : Limits} {W : View} {stack bs : List ℕ} {a : Asked} {σ : Scene} 
               bound = bound′;
               round = suc (S .round);
               set-is =
-                  one-set (L .bits) _ _ (bound′ .turning .denotes) next-denotes (bound′ .turning .sized) (after-size k G M B (suc (S .round)));
+                  one-set (L .bits) _ _ (bound′ .turning .denotes) next-denotes (bound′ .turning .sized) (after-size k G M B (suc
+                  (S .round)));
               noted-is = subst (Noted k G M B (a .state) (a .press) (suc (S .round))) (sym (ex ∙ note-is))
                   (noted-next k G M B (S .noted-is) (still-below k G M B (S .round) grew));
             }
               where
                 grew : sets k G M B (suc (S .round)) ≢ sets k G M B (S .round)
                 grew same-set =
-                    let d = arrow-apart (L .bits) (L .rows) (evals .wf) (sets k G M B (S .round)) (sets k G M B (suc (S .round))) last-denotes
+                    let d = arrow-apart (L .bits) (L .rows) (evals .wf) (sets k G M B (S .round)) (sets k G M B (suc
+                    (S .round))) last-denotes
                     next-denotes differs in
-                    subst T d (subst (λ (A : List Bool). T (same A (sets k G M B (S .round)))) (sym same-set) (same-refl (sets k G M B (S .round))))
+                    subst T d (subst (λ (A : List Bool). T (same A (sets k G M B (S .round)))) (sym same-set) (same-refl (sets k G M B
+                    (S .round))))
 
             pub watch-less : count .rounds < q .rounds
             watch-less = bind-less (P .ready) (S .bound) z room answered more is
@@ -378,7 +386,8 @@ loop-starts C e = record {
 module _ {L : Limits} {words₀ words counts₀ counts stack₀ stack bs : List ℕ} {a : Asked} {noted current : ℕ} {count : Count}
     (P : WatchPre L (view (L .rows) words₀) stack₀ bs a)
     (I : Looping L words₀ words counts₀ counts stack₀ stack bs a noted current count) where
-  own : Standing L (view (L .rows) words₀) (view (L .rows) words) stack₀ stack a (P .scene) (P .goal) (P .guest) (P .machine) noted current count
+  own : Standing L (view (L .rows) words₀) (view (L .rows) words) stack₀ stack a (P .scene) (P .goal) (P .guest)
+      (P .machine) noted current count
   own = I .stands (P .scene) (P .goal) (P .guest) (P .machine) (P .plays)
 
   pub turn-asks : count .rounds < L .rounds → L .rounds < 2 ^ 32 → OncePre L (view (L .rows) words) stack bs current count

@@ -103,7 +103,8 @@ module _ {L : Limits} {W : View} {bs : List ℕ} {a : Asked} (p : RoundsPre L W 
       let same = run-ticks (L .limit) (L .rounds) (modelIn (L .bits) (sceneIn W)) noEnv (liveOf (bookIn W)) form nothing steadily in
       let v : Says (Heard (2 ^ L .bits) (inside (bookIn W .rel guest)) (inside (bookIn W .rel machine)) (inside (bookIn W .reg goal))
       (a .state) (a .press))
-      (verdict (L .limit) (L .rounds) nothing (ticks (states (modelIn (L .bits) (sceneIn W)) noEnv) (liveOf (bookIn W)) form)) r = says-verdict
+      (verdict (L .limit) (L .rounds) nothing (ticks (states (modelIn (L .bits) (sceneIn W)) noEnv) (liveOf
+      (bookIn W)) form)) r = says-verdict
       (valueIn true (L .bits) (sceneIn W)) (L .bits) (rowsOf Y) (means (modelIn (L .bits) (sceneIn W)) noEnv form)
       (verdict (L .limit) (L .rounds) nothing (ticks (states (modelIn (L .bits) (sceneIn W)) noEnv) (liveOf (bookIn W)) form)) (w .told)
       (subst (λ (o : Outcome). MatchesBy (valueIn true (L .bits) (sceneIn W)) (L .bits) (rowsOf Y) o (endedOf (w .value))) same
@@ -114,6 +115,8 @@ module _ {L : Limits} {W : View} {bs : List ℕ} {a : Asked} (p : RoundsPre L W 
         kept = keeps-within (filled-root W)
             (subst (λ (t : Rows). Keeps t (rowsOf Y) (rootsOf (seenIn W))) (rows-same (f .frame)) (w .answers .evals .kept));
         says = subst (λ (n : ℕ). Says
-            (Heard (2 ^ n) (inside (bookIn W .rel guest)) (inside (bookIn W .rel machine)) (inside (bookIn W .reg goal)) (a .state) (a .press))
-            (verdict (L .limit) (L .rounds) nothing (ticks (states (modelIn n (sceneIn W)) noEnv) (liveOf (bookIn W)) form)) r) (p .bits) v;
+            (Heard (2 ^ n) (inside (bookIn W .rel guest)) (inside (bookIn W .rel machine)) (inside (bookIn W .reg goal)) (a .state)
+            (a .press))
+            (verdict (L .limit) (L .rounds) nothing (ticks (states (modelIn n (sceneIn W)) noEnv) (liveOf (bookIn W)) form)) r)
+            (p .bits) v;
       }

@@ -78,7 +78,8 @@ pub data AnswerOf (P : ℕ → Type 0) : Evaluated → Watched → Type 0 where
   is-spent : AnswerOf P answer.Spent watched.Spent
 
 -- the rounds are those of the game's formula
-pub record Watches (L : Limits) (W X : View) (stack : List ℕ) (a : Asked) (σ : Scene) (goal guest machine : ℕ) (r : Watched) : Type 0 where
+pub record Watches (L : Limits) (W X : View) (stack : List ℕ) (a : Asked) (σ : Scene) (goal guest machine : ℕ)
+    (r : Watched) : Type 0 where
   pub value : Evaluated
   pub last : List ℕ
   pub answers : Answers true L W X stack last 0 nothing σ (gameForm goal guest machine) 12 value

@@ -59,7 +59,8 @@ pub record Rounds (L : Limits) (W X : View) (a : Asked) (goal guest machine : �
   pub says : Says
       (Heard (2 ^ bookIn W .n) (presses (bookIn W) goal guest machine) (reactions (bookIn W) goal guest machine)
       (goals (bookIn W) goal guest machine) (a .state) (a .press))
-      (verdict (L .limit) (L .rounds) nothing (ticks (states (modelOf (bookIn W)) noEnv) (liveOf (bookIn W)) (gameForm goal guest machine))) r
+      (verdict (L .limit) (L .rounds) nothing (ticks (states (modelOf (bookIn W)) noEnv) (liveOf (bookIn W))
+      (gameForm goal guest machine))) r
 
 abbrev pub RoundsPost : Limits → View → View → List ℕ → Asked → Watched → Type 0
 RoundsPost L W X bs a r = (goal guest machine : ℕ) → Given L W bs a goal guest machine → Rounds L W X a goal guest machine r

@@ -1,4 +1,4 @@
--- The calls by the book: the set call on the game's bytes does what the first call is said to do, and what the second answers by its checks.
+-- The calls by the book: the set call on the game's bytes does what the first call is said to do; what the second answers by its checks.
 -- Assumes nothing.
 use mathlib.Core.Path.{_≡_, refl, sym, ap, ap₂, _∙_, subst}
 use mathlib.Core.Bool.{Bool, true, false, cond, _&&_}
@@ -14,7 +14,8 @@ use Rattle.mucalculus.specs.Order.{Below, start}
 use Rattle.mucalculus.proofs.Fixpoint.{iter, fix-iter}
 use Rattle.mucalculus.specs.Binder.{body}
 use Rattle.mucalculus.proofs.Binder.{body-length, body-in, body-mono}
-use Rattle.mucalculus.specs.Form.{Form, mu, Pairs, Model, Env, noEnv, put, inside, steady, reads, bound, noneOpen, mentioned, filled as hasContent}
+use Rattle.mucalculus.specs.Form.{Form, mu, Pairs, Model, Env, noEnv, put, inside, steady, reads, bound, noneOpen, mentioned}
+use Rattle.mucalculus.specs.Form.{filled as hasContent}
 use Rattle.mucalculus.specs.Means.{pair, size, exist, clip, means}
 use Rattle.mucalculus.specs.Exist.{Inside}
 use Rattle.mucalculus.proofs.Laws.{getD-table}
@@ -23,13 +24,15 @@ use Rattle.formula.specs.Parse.{Got, got, formOf, formulaOf}
 use Rattle.formula.specs.Checks.{filled, firstOf, refusalOf, firstRefusal}
 use Rattle.accounts.specs.declared.Terms.{Terms}
 use Rattle.accounts.specs.Terms.{named}
-use Rattle.book.specs.Book.{Book, Done, registers, relations, modelOf, regFilled, relFilled, checks, formulaIn, refuse, setDone, setSteps, ended}
+use Rattle.book.specs.Book.{Book, Done, registers, relations, modelOf, regFilled, relFilled, checks, formulaIn, refuse, setDone, setSteps}
+use Rattle.book.specs.Book.{ended}
 use Rattle.book.specs.Book.{passing, formulaCall, does}
 use Rattle.book.specs.Table.{Reply}
 use Rattle.book.specs.Leaves.{plain}
 use Rattle.book.specs.Stored.{Whole}
 use Rattle.games.specs.Game.{forcing, forced, after, fair, answerTo}
-use Rattle.games.specs.Call.{bodyForm, gameForm, gameBytes, inRange, gameCall, presses, reactions, goals, forcedIn, gameVerdict, allFilled}
+use Rattle.games.specs.Call.{bodyForm, gameForm, gameBytes, inRange, gameCall, presses, reactions, goals, forcedIn, gameVerdict}
+use Rattle.games.specs.Call.{allFilled}
 use Rattle.games.specs.Call.{forces, reacted, reacts}
 use Rattle.games.proofs.Rounds.{after-all}
 use Rattle.games.proofs.Formula.{game-read, game-bound, game-mentioned, game-steady, body-means}
@@ -37,7 +40,8 @@ use Rattle.games.proofs.Formula.{game-read, game-bound, game-mentioned,
 -- ---- the set of the game is the formula's
 
 module _ (m : Model) (goal guest machine : ℕ) (in-goal : Below (inside (m .reg goal)) (exist m))
-    (in-guest : Inside (size m) (exist m) (inside (m .rel guest))) (in-machine : Inside (size m) (exist m) (inside (m .rel machine))) where
+    (in-guest : Inside (size m) (exist m) (inside (m .rel guest))) (in-machine : Inside (size m) (exist m) (inside
+    (m .rel machine))) where
   -- the sets of its rounds are those of the game's
   pub rounds-mean : (e : Env) (i : ℕ) → iter (body m e 0 (bodyForm goal guest machine)) i (start true (size m) (exist m))
       ≡ after (size m) (inside (m .rel guest)) (inside (m .rel machine)) (inside (m .reg goal)) i
@@ -92,7 +96,12 @@ pub ranges-out : (goal guest machine : ℕ) → inRange goal guest machine ≡ t
 ranges-out goal guest machine e =
     let x = and-out (ltb goal registers) _ (subst T (sym e) tt) in
     let y = and-out (ltb guest relations) _ (x .1) in
-    record { goal-in = ltb→lt goal registers (x .0); guest-in = ltb→lt guest relations (y .0); machine-in = ltb→lt machine relations (y .1) }
+    record {
+      goal-in = ltb→lt goal registers (x .0);
+      guest-in = ltb→lt guest relations (y .0);
+      machine-in = ltb→lt machine relations
+          (y .1);
+    }
 
 module _ (b : Book) (goal guest machine : ℕ) where
   -- check 7 of the body, which is that of the formula
@@ -142,9 +151,11 @@ module _ (b : Book) (w : Whole b) (acc : Terms) (r R goal guest machine : ℕ) w
       ≡ cond (allFilled b goal guest machine)
       (ended b (gameVerdict b goal guest machine acc R) (λ q. setDone b r (forcedIn b goal guest machine) q)) (refuse b 7)
   after-checks i =
-      ap₂ (λ (n : ℕ) (f : Form). passing b n (setSteps b acc r R f)) (game-checks b goal guest machine i) (game-form b goal guest machine i)
+      ap₂ (λ (n : ℕ) (f : Form). passing b n (setSteps b acc r R f)) (game-checks b goal guest machine i)
+      (game-form b goal guest machine i)
       ∙ ap (passing b (cond (allFilled b goal guest machine) 0 7)) stored-same
-      ∙ go (allFilled b goal guest machine) (ended b (gameVerdict b goal guest machine acc R) (λ q. setDone b r (forcedIn b goal guest machine) q))
+      ∙ go (allFilled b goal guest machine) (ended b (gameVerdict b goal guest machine acc R) (λ q. setDone b r
+      (forcedIn b goal guest machine) q))
     where
       go : (a : Bool) (d : Done) → passing b (cond a 0 7) d ≡ cond a d (refuse b 7)
       go true d = refl
@@ -185,13 +196,15 @@ module _ (b : Book) (acc : Terms) (R goal guest machine s t : ℕ) where
   module _ (in-range : near ≡ true) where
     pub reacts-unlisted : named acc ≡ false → reacts b goal guest machine acc R s t ≡ plain 14
     reacts-unlisted e =
-        ap (λ (c : Bool). cond c (cond (named acc) (cond (allFilled b goal guest machine) toldIn (plain 7)) (plain 14)) (plain 3)) in-range
+        ap (λ (c : Bool). cond c (cond (named acc) (cond (allFilled b goal guest machine) toldIn (plain 7)) (plain 14))
+        (plain 3)) in-range
         ∙ ap (λ (c : Bool). cond c (cond (allFilled b goal guest machine) toldIn (plain 7)) (plain 14)) e
 
     module _ (listed : named acc ≡ true) where
       later : reacts b goal guest machine acc R s t ≡ cond (allFilled b goal guest machine) toldIn (plain 7)
       later =
-          ap (λ (c : Bool). cond c (cond (named acc) (cond (allFilled b goal guest machine) toldIn (plain 7)) (plain 14)) (plain 3)) in-range
+          ap (λ (c : Bool). cond c (cond (named acc) (cond (allFilled b goal guest machine) toldIn (plain 7)) (plain 14))
+          (plain 3)) in-range
           ∙ ap (λ (c : Bool). cond c (cond (allFilled b goal guest machine) toldIn (plain 7)) (plain 14)) listed
 
       pub reacts-empty : allFilled b goal guest machine ≡ false → reacts b goal guest machine acc R s t ≡ plain 7

@@ -32,7 +32,12 @@ use Rattle.games.specs.Call.{bodyForm, gameForm, gameBytes}
 module _ (goal guest machine : ℕ) (n : ℕ) (g-in : goal < 32) (p-in : guest < 8) (m-in : machine < 8) where
   body-takes : takes n Runs (bodyForm goal guest machine) ≡ true
   unfolding takes
-  body-takes = rw (true-of (ltb goal 32) (lt→ltb goal 32 g-in), true-of (ltb guest 8) (lt→ltb guest 8 p-in), true-of (ltb machine 8) (lt→ltb machine 8 m-in)) refl
+  body-takes = rw (
+    true-of (ltb goal 32) (lt→ltb goal 32 g-in),
+    true-of (ltb guest 8) (lt→ltb guest 8 p-in),
+    true-of (ltb machine 8)
+        (lt→ltb machine 8 m-in),
+  ) refl
 
   -- the body stands at place 4
   pub body-read : parse n Runs 63 (gameBytes goal guest machine) 4 ≡ got (bodyForm goal guest machine) 12
@@ -42,7 +47,12 @@ module _ (goal guest machine : ℕ) (n : ℕ) (g-in : goal < 32) (p-in : guest <
 
   whole-takes : takes n States (gameForm goal guest machine) ≡ true
   unfolding takes
-  whole-takes = rw (true-of (ltb goal 32) (lt→ltb goal 32 g-in), true-of (ltb guest 8) (lt→ltb guest 8 p-in), true-of (ltb machine 8) (lt→ltb machine 8 m-in)) refl
+  whole-takes = rw (
+    true-of (ltb goal 32) (lt→ltb goal 32 g-in),
+    true-of (ltb guest 8) (lt→ltb guest 8 p-in),
+    true-of (ltb machine 8)
+        (lt→ltb machine 8 m-in),
+  ) refl
 
   framing : Framing Set n (gameBytes goal guest machine) (gameForm goal guest machine)
   unfolding bytesOf depth
@@ -90,7 +100,8 @@ and-both false true = refl
 and-both false false = refl
 
 module _ (m : Model) (goal guest machine : ℕ) (in-goal : Below (inside (m .reg goal)) (exist m))
-    (in-guest : Inside (size m) (exist m) (inside (m .rel guest))) (in-machine : Inside (size m) (exist m) (inside (m .rel machine))) where
+    (in-guest : Inside (size m) (exist m) (inside (m .rel guest))) (in-machine : Inside (size m) (exist m) (inside
+    (m .rel machine))) where
   abbrev k : ℕ
   k = size m
 

@@ -21,7 +21,8 @@ use Rattle.book.specs.Table.{Reply}
 use Rattle.book.specs.Leaves.{plain}
 use Rattle.games.specs.Game.{forcing, forced, enters, answerTo, fair}
 use Rattle.games.specs.Plays.{Forces, Stays}
-use Rattle.games.specs.Call.{inRange, gameCall, presses, reactions, goals, forcedIn, gameVerdict, allFilled, forces, reacted, reacts}
+use Rattle.games.specs.Call.{inRange, gameCall, presses, reactions, goals, forcedIn, gameVerdict, allFilled, forces, reacted}
+use Rattle.games.specs.Call.{reacts}
 use Rattle.games.specs.Meaning.{ForcedSet, AnswerIs}
 use Rattle.games.proofs.Rounds.{forced-least, not-out, answer-good, answer-least}
 use Rattle.games.proofs.Plays.{machine, machine-forces, guest, guest-stays}

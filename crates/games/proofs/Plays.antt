@@ -17,7 +17,8 @@ use Rattle.paths.specs.Runs.{firstOf}
 use Rattle.paths.proofs.First.{first-found, first-least}
 use Rattle.games.specs.Game.{moves, answers, forcing, forced, after, enters, answerTo}
 use Rattle.games.specs.Plays.{Turn, isPlay, endOf, meets, byGuest, byMachine, Forces, Stays}
-use Rattle.games.proofs.Rounds.{some-out, not-in, not-out, answers-in, forcing-out, forcing-goal, forcing-moves, forced-least, enters-some}
+use Rattle.games.proofs.Rounds.{some-out, not-in, not-out, answers-in, forcing-out, forcing-goal, forcing-moves, forced-least}
+use Rattle.games.proofs.Rounds.{enters-some}
 use Rattle.games.proofs.Rounds.{answer-good, Good}
 
 or-false : (a b : Bool) → (a || b) ≡ false → (a ≡ false) × (b ≡ false)
@@ -60,7 +61,8 @@ module _ (k : ℕ) (G M : Pairs) (B : List Bool) where
   ends-in s [] i p q out = (i, out)
   ends-in s (x ∷ l) i p q out =
       let o = or-false (mem B s) (meets B (x .answer) l) out in
-      ends-in (x .answer) l (next s x l i p q (o .0) .in-set) (played k G M s x l p .rest) (and-out (eqb (x .answer) (machine s (x .press))) _ q .1)
+      ends-in (x .answer) l (next s x l i p q (o .0) .in-set) (played k G M s x l p .rest) (and-out (eqb (x .answer) (machine s
+      (x .press))) _ q .1)
       (o .1)
 
   shorter : (s : ℕ) (l : List Turn) → T (mem (forced k G M B) s) → T (isPlay k G M s l) → T (byMachine machine s l) → meets B s l ≡ false
@@ -70,7 +72,8 @@ module _ (k : ℕ) (G M : Pairs) (B : List Bool) where
       let o = or-false (mem B s) (meets B (x .answer) l) out in
       let g = next s x l i p q (o .0) in
       let sooner = g .earlier in
-      let h = shorter (x .answer) l (g .in-set) (played k G M s x l p .rest) (and-out (eqb (x .answer) (machine s (x .press))) _ q .1) (o .1) in
+      let h = shorter (x .answer) l (g .in-set) (played k G M s x l p .rest) (and-out (eqb (x .answer) (machine s (x .press))) _ q .1)
+      (o .1) in
       omega arith
 
   -- "the set of states from which the machine can force the goal": from each of them, by the answers of the second call, in fewer turns
@@ -88,7 +91,8 @@ module _ (k : ℕ) (G M : Pairs) (B : List Bool) where
         λ t l g. let w = answer-good k G M B e t l (λ b. subst T out b) g j in (w .state, w .move),
       )
         where
-          can : T (mem B e) ⊎ (T (moves k G e) × ((t : ℕ) → t < k → T (pair G e t) → T (answers k M (forced k G M B) t))) → T (moves k G e)
+          can : T (mem B e) ⊎ (T (moves k G e) × ((t : ℕ) → t < k → T (pair G e t) → T (answers k M (forced k G M B) t))) → T
+              (moves k G e)
           can (inl b) = absurd (subst T out b)
           can (inr (m, r)) = m
 
@@ -125,7 +129,8 @@ module _ (k : ℕ) (G M : Pairs) (B : List Bool) where
       let no-answer = and-out (pair G s (guest s)) _ (first-found k (λ t. pair G s t && not (answers k M (forced k G M B) t)) lt) .1 in
       false-of (mem (forced k G M B) (x .answer)) (λ i.
       not-out (answers k M (forced k G M B) (guest s)) no-answer
-      (answers-in k M (forced k G M B) (guest s) (x .answer) (w .answer-lt) (subst (λ (t : ℕ). T (pair M t (x .answer))) e (w .answer)) i))
+      (answers-in k M (forced k G M B) (guest s) (x .answer) (w .answer-lt) (subst (λ (t : ℕ). T (pair M t (x .answer))) e
+      (w .answer)) i))
 
   stays-out : (s : ℕ) (l : List Turn) → s < k → mem (forced k G M B) s ≡ false → T (isPlay k G M s l) → T (byGuest guest s l)
       → (meets (forced k G M B) s l ≡ false) × (endOf s l < k) × (mem (forced k G M B) (endOf s l) ≡ false)

@@ -1,5 +1,5 @@
--- "Bigger tables, same verdicts" for the second call: where it is neither full nor out of rounds, a book with more rows, under limits raised
--- or equal, tells the same. Assumes nothing.
+-- "Bigger tables, same verdicts" for the second call: where it is neither full nor out of rounds, a book with more rows, under limits
+-- raised or equal, tells the same. Assumes nothing.
 use mathlib.Core.Path.{_≡_, refl, ap, ap₂, _∙_}
 use mathlib.Core.Bool.{Bool, true, false, cond, _&&_}
 use Prim.Native.Nat.{ℕ, _^_, _≤_}
@@ -55,12 +55,17 @@ reacts-more M b l acc acc′ e R R′ i goal guest machine s t f =
     let near = inRange goal guest machine && (ltb s k && ltb t k) in
     let less = e .rows in
     let fewer = e .rounds in
-    let kept : (q : Count) → gameVerdict b goal guest machine acc R ≡ counted q → gameVerdict (withRowCount b M) goal guest machine acc′ R′ ≡ counted q
-    = λ q. verdict-more (rowsUnder (b .N) acc) (rowsUnder M acc′) (roundsUnder R acc) (roundsUnder R′ acc′) (omega arith) (omega arith) nothing
+    let kept : (q : Count) → gameVerdict b goal guest machine acc R ≡ counted q → gameVerdict
+    (withRowCount b M) goal guest machine acc′ R′ ≡ counted q
+    = λ q. verdict-more (rowsUnder (b .N) acc) (rowsUnder M acc′) (roundsUnder R acc) (roundsUnder R′ acc′) (omega arith)
+    (omega arith) nothing
     (ticks (states (modelOf b) noEnv) (liveOf b) (gameForm goal guest machine)) q in
     ap (λ (x : Bool). cond near (cond x (cond (allFilled b goal guest machine)
-    (reacted (withRowCount b M) goal guest machine (gameVerdict (withRowCount b M) goal guest machine acc′ R′) ok u) (plain 7)) (plain 14)) (plain 3))
+    (reacted (withRowCount b M) goal guest machine (gameVerdict (withRowCount b M) goal guest machine acc′ R′) ok u) (plain 7))
+    (plain 14)) (plain 3))
     (ap₂ listFits (e .count) (e .place))
-    ∙ checked near (named acc) (allFilled b goal guest machine) (reacted b goal guest machine (gameVerdict b goal guest machine acc R) ok u)
+    ∙ checked near (named acc) (allFilled b goal guest machine) (reacted b goal guest machine
+    (gameVerdict b goal guest machine acc R) ok u)
     (reacted (withRowCount b M) goal guest machine (gameVerdict (withRowCount b M) goal guest machine acc′ R′) ok u)
-    (told-more M b goal guest machine (gameVerdict b goal guest machine acc R) (gameVerdict (withRowCount b M) goal guest machine acc′ R′) ok u kept) f
+    (told-more M b goal guest machine (gameVerdict b goal guest machine acc R) (gameVerdict
+    (withRowCount b M) goal guest machine acc′ R′) ok u kept) f

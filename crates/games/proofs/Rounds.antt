@@ -145,7 +145,8 @@ module _ (k : ℕ) (G M : Pairs) (B : List Bool) where
   pub after-found : (i : ℕ) → after k G M B (suc i) ≡ after k G M B i → after k G M B i ≡ forced k G M B
   after-found i e =
       after-iter i
-      ∙ iter-found k (allStates k) (forcing k G M B) forcing-size forcing-into forcing-mono true i (sym (after-iter (suc i)) ∙ e ∙ after-iter i)
+      ∙ iter-found k (allStates k) (forcing k G M B) forcing-size forcing-into forcing-mono true i (sym (after-iter
+      (suc i)) ∙ e ∙ after-iter i)
 
   pub after-all : after k G M B k ≡ forced k G M B
   after-all = after-found k after-rests

@@ -62,7 +62,8 @@ module _ (b : Book) (goal guest machine : ℕ) where
   -- "The steps are those of mu P (goal or (box guest of diamond machine of P, and diamond guest of true))", under both limits
   abbrev pub gameVerdict : Terms → ℕ → Verdict
   gameVerdict acc R =
-      verdict (rowsUnder (b .N) acc) (roundsUnder R acc) nothing (ticks (states (modelOf b) noEnv) (liveOf b) (gameForm goal guest machine))
+      verdict (rowsUnder (b .N) acc) (roundsUnder R acc) nothing (ticks (states (modelOf b) noEnv) (liveOf b)
+      (gameForm goal guest machine))
 
   abbrev pub allFilled : Bool
   allFilled = regFilled b goal && (relFilled b guest && relFilled b machine)

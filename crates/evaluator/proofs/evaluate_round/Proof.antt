@@ -14,13 +14,15 @@ evaluate-round-spec =
     (λ c. c .before .before .before .before .pre .0 .place)
     (λ c κs. c .before .before .before .before .pre .0 .more)
     (λ c κs. (
-      asks-at (c .before .before .before .body-start .ensures) (c .before .before .before .before .before .before .before .before .pre .0 .asks),
+      asks-at (c .before .before .before .body-start .ensures) (c .before .before .before .before .before .before .before .before .pre .0
+          .asks),
       c .before .before .before .before .before .before .before .before .pre .1,
     ))
     (λ c. c .before .before .before .before .before .before .eval .kept .0)
     (λ c. c .before .before .before .before .before .before .eval .kept .1 .0)
     (λ c. simp length-set at (c .before .before .before .before .before .before .eval .kept .1 .1 .0))
     (λ c. (
-      ends-at (c .before .before .before .before .before .before .before .before .before .before .body-start .ensures) (c .before .before .before .before .before .before .eval .ensures .0),
+      ends-at (c .before .before .before .before .before .before .before .before .before .before .body-start .ensures)
+          (c .before .before .before .before .before .before .eval .ensures .0),
       c .before .before .before .before .before .before .eval .ensures .1,
     )))

@@ -62,7 +62,36 @@ use Rattle.exports.proofs.kudzuclamp_force.Statement as stated
 use Rattle.exports.proofs.kudzuclamp_force.Code as code
 
 abbrev stayed : Stays (f.ended .signature .params) (f.ended .kept)
-stayed = (gave-slice (0 ∷ []) tt (plain (λ _. u32)), (gave-slice (1 ∷ []) tt (plain (λ _. R)), (stay-none (λ _. u32) yes, (stay-none (λ _. u32) yes, (stay-none (λ _. u32) yes, (stay-none (λ _. u32) yes, (stay-none (λ _. u32) yes, (stay-none (λ _. u32) yes, (gave-ref (2 ∷ []) tt (plain (λ _. u32)), (gave-ref (3 ∷ []) tt (plain (λ _. u32)), (gave-ref (4 ∷ []) tt (plain (λ _. u32)), tt)))))))))))
+stayed = (
+  gave-slice (0 ∷ []) tt (plain (λ _. u32)),
+  (
+    gave-slice (1 ∷ []) tt (plain (λ _. R)),
+    (
+      stay-none (λ _. u32) yes,
+      (
+        stay-none
+            (λ _. u32) yes,
+        (
+          stay-none (λ _. u32) yes,
+          (
+            stay-none (λ _. u32) yes,
+            (
+              stay-none (λ _. u32) yes,
+              (
+                stay-none (λ _. u32) yes,
+                (
+                  gave-ref
+                      (2 ∷ []) tt (plain (λ _. u32)),
+                  (gave-ref (3 ∷ []) tt (plain (λ _. u32)), (gave-ref (4 ∷ []) tt (plain (λ _. u32)), tt)),
+                ),
+              ),
+            ),
+          ),
+        ),
+      ),
+    ),
+  ),
+)
 
 module _ {M : Type 1} (𝓤 : URA M) (H : Heap 𝓤) (A : Atoms 𝓤) (at-mem : Memory → SProp 𝓤) (run : Routine → Fun 𝓤) where
   -- the contracts that the proof cites
@@ -107,10 +136,52 @@ module _ {M : Type 1} (𝓤 : URA M) (H : Heap 𝓤) (A : Atoms 𝓤) (W : Given
   sa = sliceVal (b, o) (length ys)
 
   abbrev at : Vals f.signature (κ₀, (κ₁, (κ₂, (κ₃, (κ₄, tt)))))
-  at = (sw ∷ [], (sa ∷ [], (vint w32 p ∷ [], (vint w32 reg ∷ [], (vint w32 mo ∷ [], (vint w32 goal ∷ [], (vint w32 guest ∷ [], (vint w32 machine ∷ [], (vptr bn on ∷ [], (vptr bq oq ∷ [], (vptr bp op ∷ [], tt)))))))))))
+  at = (
+    sw ∷ [],
+    (
+      sa ∷ [],
+      (
+        vint w32 p ∷ [],
+        (
+          vint w32 reg ∷ [],
+          (
+            vint w32 mo ∷ [],
+            (
+              vint w32 goal ∷ [],
+              (
+                vint w32 guest ∷ [],
+                (vint w32 machine ∷ [], (vptr bn on ∷ [], (vptr bq oq ∷ [], (vptr bp op ∷ [], tt)))),
+              ),
+            ),
+          ),
+        ),
+      ),
+    ),
+  )
 
   abbrev Post : Val → SProp 𝓤
-  Post = walkOf 𝓤 H A f.ended stayed (f.clauses 𝓤 H A at-mem run) .post (((κ₀, (κ₁, (κ₂, (κ₃, (κ₄, tt))))), (q₀, (q₁, (q₂, (q₃, (q₄, tt))))), tt, x, at), tt)
+  Post = walkOf 𝓤 H A f.ended stayed (f.clauses 𝓤 H A at-mem run) .post (
+    (
+      (κ₀, (κ₁, (κ₂, (κ₃, (κ₄, tt))))),
+      (
+        q₀,
+        (
+          q₁,
+          (
+            q₂,
+            (
+              q₃,
+              (q₄, tt),
+            ),
+          ),
+        ),
+      ),
+      tt,
+      x,
+      at,
+    ),
+    tt,
+  )
 
   exits : (k : ℕ) (v : Val) (zs : List ℕ) (l : List Account) (a q m : ℕ) → length zs ≡ length ws → length l ≡ length ys
       → ForceAllPost p reg mo goal guest machine ws zs ys l (given k q m a)
@@ -124,8 +195,59 @@ module _ {M : Type 1} (𝓤 : URA M) (H : Heap 𝓤) (A : Atoms 𝓤) (W : Given
       ∷ ‵ (finally u32 γw zs) ∷ ‵ (finally R γ l) ∷ ‵ (fres γn (u32 .coded .code a)) ∷ ‵ (fres γq (u32 .coded .code q))
       ∷ ‵ (fres γp (u32 .coded .code m)) ∷ ‵ (u32 .own k (v ∷ [])) ∷ []) ∵
       suffices ! _
-      (ends-at 𝓤 H A f.ended stayed (f.clauses 𝓤 H A at-mem run) W (((κ₀, (κ₁, (κ₂, (κ₃, (κ₄, tt))))), (q₀, (q₁, (q₂, (q₃, (q₄, tt))))), tt, x, at), tt) v k
-      (zs, (l, (tt, (tt, (tt, (tt, (tt, (tt, (a, (q, (m, tt))))))))))) (ew, (el, (tt, (tt, (tt, (tt, (tt, (tt, (tt, (tt, (tt, tt)))))))))))) $ says ! post $
+      (ends-at 𝓤 H A f.ended stayed (f.clauses 𝓤 H A at-mem run) W (
+        (
+          (κ₀, (κ₁, (κ₂, (κ₃, (κ₄, tt))))),
+          (
+            q₀,
+            (
+              q₁,
+              (
+                q₂,
+                (
+                  q₃,
+                  (q₄, tt),
+                ),
+              ),
+            ),
+          ),
+          tt,
+          x,
+          at,
+        ),
+        tt,
+      ) v k
+      (zs, (l, (tt, (tt, (tt, (tt, (tt, (tt, (a, (q, (m, tt))))))))))) (
+        ew,
+        (
+          el,
+          (
+            tt,
+            (
+              tt,
+              (
+                tt,
+                (
+                  tt,
+                  (
+                    tt,
+                    (
+                      tt,
+                      (
+                        tt,
+                        (
+                          tt,
+                          (tt, tt),
+                        ),
+                      ),
+                    ),
+                  ),
+                ),
+              ),
+            ),
+          ),
+        ),
+      )) $ says ! post $
       -- the five tokens
       split ! $ move ! (1 ∷ []) $ split ! $ move ! (0 ∷ 3 ∷ []) $ join ! $ move ! (2 ∷ 0 ∷ []) $ join ! $ frame ! $ drop ! $
       -- [the words' last list; the accounts'; the node; the rounds; the peak; the result]
@@ -146,7 +268,28 @@ module _ {M : Type 1} (𝓤 : URA M) (H : Heap 𝓤) (A : Atoms 𝓤) (W : Given
   force-args = (at-words ws, (at-list ys, (p, (reg, (mo, (goal, (guest, (machine, tt))))))))
 
   abbrev to-force : Force 𝓤 H A at-mem run .Ghost
-  to-force = (((κ₀, (κ₁, tt)), (q₀, (q₁, tt)), tt, force-args, (sw ∷ [], (sa ∷ [], (vint w32 p ∷ [], (vint w32 reg ∷ [], (vint w32 mo ∷ [], (vint w32 goal ∷ [], (vint w32 guest ∷ [], (vint w32 machine ∷ [], tt))))))))), tt)
+  to-force = (
+    (
+      (κ₀, (κ₁, tt)),
+      (q₀, (q₁, tt)),
+      tt,
+      force-args,
+      (
+        sw ∷ [],
+        (
+          sa ∷ [],
+          (
+            vint w32 p ∷ [],
+            (
+              vint w32 reg ∷ [],
+              (vint w32 mo ∷ [], (vint w32 goal ∷ [], (vint w32 guest ∷ [], (vint w32 machine ∷ [], tt)))),
+            ),
+          ),
+        ),
+      ),
+    ),
+    tt,
+  )
 
   goes-force : ent 𝓤
       (⋆ 𝓤 H A
@@ -188,7 +331,9 @@ module _ {M : Type 1} (𝓤 : URA M) (H : Heap 𝓤) (A : Atoms 𝓤) (W : Given
       (Give 𝓤 H A at-mem run .pre (to-give r u))
   goes-give r u is =
       qed W ((‵ (flft κ₂ q₂) ⊛ ‵ (flft κ₃ q₃) ⊛ ‵ (flft κ₄ q₄) ⊛ ‵ ftrue) ∷ ‵ (MutRef (named 2) κ₂ u32 .own at-node (vptr bn on ∷ []))
-      ∷ (‵ (MutRef (named 3) κ₃ u32 .own at-rounds (vptr bq oq ∷ [])) ⊛ ‵ (MutRef (named 4) κ₄ u32 .own at-peak (vptr bp op ∷ []))) ∷ []) ∵ move ! (2 ∷ []) $ split ! $ nothing ! $ move ! (2 ∷ 0 ∷ []) $ fjoin ! $ move ! (1 ∷ 0 ∷ []) $ fjoin ! $
+      ∷ (‵ (MutRef (named 3) κ₃ u32 .own at-rounds (vptr bq oq ∷ [])) ⊛ ‵ (MutRef (named 4) κ₄ u32 .own at-peak
+      (vptr bp op ∷ []))) ∷ []) ∵ move ! (2 ∷ []) $ split ! $ nothing ! $ move ! (2 ∷ 0 ∷ []) $ fjoin ! $ move !
+      (1 ∷ 0 ∷ []) $ fjoin ! $
       move ! (2 ∷ 0 ∷ []) $ fjoin ! $
       owned ! S.the-row (Is S.the-row) ((EL.makes S.the-type S′.the-plain) 𝓤 H A) r _ is $ fjoin ! $ move ! (1 ∷ 0 ∷ []) $ join ! $
       frame ! $ done !
@@ -393,17 +538,76 @@ module _ {M : Type 1} (𝓤 : URA M) (H : Heap 𝓤) (A : Atoms 𝓤) (W : Given
       → Triple 𝓤 (C #exports·give-stored) (Give 𝓤 H A at-mem run)
       → Walks 𝓤 H A f.ended stayed (WpFn 𝓤 H C Λ code.function) (f.clauses 𝓤 H A at-mem run)
   force-walks C Λ fm known-force known-give = walked 𝓤 H A f.ended stayed (f.clauses 𝓤 H A at-mem run) (WpFn 𝓤 H C Λ code.function)
-      (λ κs. (slice-vals, (slice-vals, (uint-vals w32, (uint-vals w32, (uint-vals w32, (uint-vals w32, (uint-vals w32, (uint-vals w32, (ptr-vals, (ptr-vals, (ptr-vals, tt))))))))))))
-      (λ κs. (mut-slice-tells (named 0) (κs .0) u32, (mut-slice-tells (named 1) (κs .1 .0) R, (uint-tells w32, (uint-tells w32, (uint-tells w32, (uint-tells w32, (uint-tells w32, (uint-tells w32, (mut-tells (named 2) (κs .1 .1 .0) u32, (mut-tells (named 3) (κs .1 .1 .1 .0) u32, (mut-tells (named 4) (κs .1 .1 .1 .1 .0) u32, tt))))))))))))
+      (λ κs. (
+        slice-vals,
+        (
+          slice-vals,
+          (
+            uint-vals w32,
+            (
+              uint-vals w32,
+              (
+                uint-vals w32,
+                (
+                  uint-vals w32,
+                  (
+                    uint-vals w32,
+                    (
+                      uint-vals w32,
+                      (ptr-vals, (ptr-vals, (ptr-vals, tt))),
+                    ),
+                  ),
+                ),
+              ),
+            ),
+          ),
+        ),
+      ))
+      (λ κs. (
+        mut-slice-tells (named 0) (κs .0) u32,
+        (
+          mut-slice-tells (named 1) (κs .1 .0) R,
+          (
+            uint-tells w32,
+            (
+              uint-tells w32,
+              (
+                uint-tells w32,
+                (
+                  uint-tells w32,
+                  (
+                    uint-tells w32,
+                    (
+                      uint-tells w32,
+                      (
+                        mut-tells (named 2) (κs .1 .1 .0) u32,
+                        (
+                          mut-tells (named 3)
+                              (κs .1 .1 .1 .0) u32,
+                          (mut-tells (named 4) (κs .1 .1 .1 .1 .0) u32, tt),
+                        ),
+                      ),
+                    ),
+                  ),
+                ),
+              ),
+            ),
+          ),
+        ),
+      ))
       (λ κs qs bounds a g are. via 𝓤 _ (fst∗ 𝓤 _ (emp 𝓤))
       (walk 𝓤 H A W at-mem run (κs .0) (κs .1 .0) (κs .1 .1 .0) (κs .1 .1 .1 .0) (κs .1 .1 .1 .1 .0) (qs .0)
       (qs .1 .0) (qs .1 .1 .0) (qs .1 .1 .1 .0) (qs .1 .1 .1 .1 .0)
       (a .0 .ptr .0) (a .0 .ptr .1) (a .0 .name) (a .0 .now) (a .1 .0 .ptr .0) (a .1 .0 .ptr .1) (a .1 .0 .name) (a .1 .0 .now)
       (a .1 .1 .0) (a .1 .1 .1 .0) (a .1 .1 .1 .1 .0) (a .1 .1 .1 .1 .1 .0) (a .1 .1 .1 .1 .1 .1 .0) (a .1 .1 .1 .1 .1 .1 .1 .0)
-      (a .1 .1 .1 .1 .1 .1 .1 .1 .0 .ptr .0) (a .1 .1 .1 .1 .1 .1 .1 .1 .0 .ptr .1) (a .1 .1 .1 .1 .1 .1 .1 .1 .0 .name) (a .1 .1 .1 .1 .1 .1 .1 .1 .0 .now)
-      (a .1 .1 .1 .1 .1 .1 .1 .1 .1 .0 .ptr .0) (a .1 .1 .1 .1 .1 .1 .1 .1 .1 .0 .ptr .1) (a .1 .1 .1 .1 .1 .1 .1 .1 .1 .0 .name) (a .1 .1 .1 .1 .1 .1 .1 .1 .1 .0 .now)
-      (a .1 .1 .1 .1 .1 .1 .1 .1 .1 .1 .0 .ptr .0) (a .1 .1 .1 .1 .1 .1 .1 .1 .1 .1 .0 .ptr .1) (a .1 .1 .1 .1 .1 .1 .1 .1 .1 .1 .0 .name) (a .1 .1 .1 .1 .1 .1 .1 .1 .1 .1 .0 .now)
-      (are .0 .0 .1) (are .1 .0 .0 .1) (are .1 .1 .0 .1) (are .1 .1 .1 .0 .1) (are .1 .1 .1 .1 .0 .1) (are .1 .1 .1 .1 .1 .0 .1) (are .1 .1 .1 .1 .1 .1 .0 .1) (are .1 .1 .1 .1 .1 .1 .1 .0 .1) C Λ fm
+      (a .1 .1 .1 .1 .1 .1 .1 .1 .0 .ptr .0) (a .1 .1 .1 .1 .1 .1 .1 .1 .0 .ptr .1) (a .1 .1 .1 .1 .1 .1 .1 .1 .0 .name)
+      (a .1 .1 .1 .1 .1 .1 .1 .1 .0 .now)
+      (a .1 .1 .1 .1 .1 .1 .1 .1 .1 .0 .ptr .0) (a .1 .1 .1 .1 .1 .1 .1 .1 .1 .0 .ptr .1) (a .1 .1 .1 .1 .1 .1 .1 .1 .1 .0 .name)
+      (a .1 .1 .1 .1 .1 .1 .1 .1 .1 .0 .now)
+      (a .1 .1 .1 .1 .1 .1 .1 .1 .1 .1 .0 .ptr .0) (a .1 .1 .1 .1 .1 .1 .1 .1 .1 .1 .0 .ptr .1) (a .1 .1 .1 .1 .1 .1 .1 .1 .1 .1 .0 .name)
+      (a .1 .1 .1 .1 .1 .1 .1 .1 .1 .1 .0 .now)
+      (are .0 .0 .1) (are .1 .0 .0 .1) (are .1 .1 .0 .1) (are .1 .1 .1 .0 .1) (are .1 .1 .1 .1 .0 .1) (are .1 .1 .1 .1 .1 .0 .1)
+      (are .1 .1 .1 .1 .1 .1 .0 .1) (are .1 .1 .1 .1 .1 .1 .1 .0 .1) C Λ fm
       known-force known-give))
 
 force-meets : {M : Type 1} (𝓤 : URA M) (H : Heap 𝓤) (A : Atoms 𝓤) (W : Given 𝓤 H A) (at-mem : Memory → SProp 𝓤) (run : Routine → Fun 𝓤)
@@ -411,8 +615,36 @@ force-meets : {M : Type 1} (𝓤 : URA M) (H : Heap 𝓤) (A : Atoms 𝓤) (W : 
     → Triple 𝓤 (𝓣 .C #calls·force) (Force 𝓤 H A at-mem run) → Triple 𝓤 (𝓣 .C #exports·give-stored) (Give 𝓤 H A at-mem run)
     → Meets 𝓤 H A f.signature (WpFn 𝓤 H (𝓣 .C) (𝓣 .Λ) code.function) (f.spec 𝓤 H A at-mem run)
 force-meets 𝓤 H A W at-mem run 𝓣 known-force known-give =
-    walk-meets 𝓤 H A f.ended stayed W
-    (goes-gave-slice 𝓤 H A W 5 0 tt (plain (λ _. u32)), (goes-gave-slice 𝓤 H A W 5 1 tt (plain (λ _. R)), (goes-none 𝓤 H A W 5 (λ _. u32) yes (λ κs x f. refl), (goes-none 𝓤 H A W 5 (λ _. u32) yes (λ κs x f. refl), (goes-none 𝓤 H A W 5 (λ _. u32) yes (λ κs x f. refl), (goes-none 𝓤 H A W 5 (λ _. u32) yes (λ κs x f. refl), (goes-none 𝓤 H A W 5 (λ _. u32) yes (λ κs x f. refl), (goes-none 𝓤 H A W 5 (λ _. u32) yes (λ κs x f. refl), (goes-gave-ref 𝓤 H A W 5 2 tt (plain (λ _. u32)), (goes-gave-ref 𝓤 H A W 5 3 tt (plain (λ _. u32)), (goes-gave-ref 𝓤 H A W 5 4 tt (plain (λ _. u32)), tt)))))))))))
+    walk-meets 𝓤 H A f.ended stayed W (
+      goes-gave-slice 𝓤 H A W 5 0 tt (plain (λ _. u32)),
+      (
+        goes-gave-slice 𝓤 H A W 5 1 tt (plain (λ _. R)),
+        (
+          goes-none 𝓤 H A W 5
+              (λ _. u32) yes (λ κs x f. refl),
+          (
+            goes-none 𝓤 H A W 5 (λ _. u32) yes (λ κs x f. refl),
+            (
+              goes-none 𝓤 H A W 5 (λ _. u32) yes
+                  (λ κs x f. refl),
+              (
+                goes-none 𝓤 H A W 5 (λ _. u32) yes (λ κs x f. refl),
+                (
+                  goes-none 𝓤 H A W 5 (λ _. u32) yes (λ κs x f. refl),
+                  (
+                    goes-none 𝓤 H A W 5 (λ _. u32) yes (λ κs x f. refl),
+                    (
+                      goes-gave-ref 𝓤 H A W 5 2 tt (plain (λ _. u32)),
+                      (goes-gave-ref 𝓤 H A W 5 3 tt (plain (λ _. u32)), (goes-gave-ref 𝓤 H A W 5 4 tt (plain (λ _. u32)), tt)),
+                    ),
+                  ),
+                ),
+              ),
+            ),
+          ),
+        ),
+      ),
+    )
     (f.clauses 𝓤 H A at-mem run)
     (WpFn 𝓤 H (𝓣 .C) (𝓣 .Λ) code.function) (WpFn-mono 𝓤 H (W .laws) 𝓣 code.function)
     (force-walks 𝓤 H A W at-mem run (𝓣 .C) (𝓣 .Λ) (fmOf 𝓤 H (W .laws) 𝓣) known-force known-give)

@@ -62,7 +62,31 @@ use Rattle.exports.proofs.kudzuclamp_react.Statement as stated
 use Rattle.exports.proofs.kudzuclamp_react.Code as code
 
 abbrev stayed : Stays (f.ended .signature .params) (f.ended .kept)
-stayed = (gave-slice (0 ∷ []) tt (plain (λ _. u32)), (stay-none-slice (1 ∷ []) tt (plain (λ _. R)) yes, (stay-none (λ _. u32) yes, (stay-none (λ _. u32) yes, (stay-none (λ _. u32) yes, (stay-none (λ _. u32) yes, (stay-none (λ _. u32) yes, (stay-none (λ _. u32) yes, (stay-none (λ _. u32) yes, (gave-ref (2 ∷ []) tt (plain (λ _. u32)), tt))))))))))
+stayed = (
+  gave-slice (0 ∷ []) tt (plain (λ _. u32)),
+  (
+    stay-none-slice (1 ∷ []) tt (plain (λ _. R)) yes,
+    (
+      stay-none (λ _. u32) yes,
+      (
+        stay-none (λ _. u32) yes,
+        (
+          stay-none (λ _. u32) yes,
+          (
+            stay-none (λ _. u32) yes,
+            (
+              stay-none (λ _. u32) yes,
+              (
+                stay-none (λ _. u32) yes,
+                (stay-none (λ _. u32) yes, (gave-ref (2 ∷ []) tt (plain (λ _. u32)), tt)),
+              ),
+            ),
+          ),
+        ),
+      ),
+    ),
+  ),
+)
 
 module _ {M : Type 1} (𝓤 : URA M) (H : Heap 𝓤) (A : Atoms 𝓤) (at-mem : Memory → SProp 𝓤) (run : Routine → Fun 𝓤) where
   -- the contracts that the proof cites
@@ -103,7 +127,28 @@ module _ {M : Type 1} (𝓤 : URA M) (H : Heap 𝓤) (A : Atoms 𝓤) (W : Given
   Ol = ShrSlice (named 1) κ₁ R .own at-list (sa ∷ [])
 
   abbrev at : Vals f.signature (κ₀, (κ₁, (κ₂, tt)))
-  at = (sw ∷ [], (sa ∷ [], (vint w32 p ∷ [], (vint w32 mo ∷ [], (vint w32 goal ∷ [], (vint w32 guest ∷ [], (vint w32 machine ∷ [], (vint w32 state ∷ [], (vint w32 press ∷ [], (vptr bn on ∷ [], tt))))))))))
+  at = (
+    sw ∷ [],
+    (
+      sa ∷ [],
+      (
+        vint w32 p ∷ [],
+        (
+          vint w32 mo ∷ [],
+          (
+            vint w32 goal ∷ [],
+            (
+              vint w32 guest ∷ [],
+              (
+                vint w32 machine ∷ [],
+                (vint w32 state ∷ [], (vint w32 press ∷ [], (vptr bn on ∷ [], tt))),
+              ),
+            ),
+          ),
+        ),
+      ),
+    ),
+  )
 
   abbrev Post : Val → SProp 𝓤
   Post = walkOf 𝓤 H A f.ended stayed (f.clauses 𝓤 H A at-mem run) .post (((κ₀, (κ₁, (κ₂, tt))), (q₀, (q₁, (q₂, tt))), tt, x, at), tt)
@@ -112,14 +157,43 @@ module _ {M : Type 1} (𝓤 : URA M) (H : Heap 𝓤) (A : Atoms 𝓤) (W : Given
       → ReactAllPost p mo goal guest machine state press ws zs ys (given k 0 0 a)
       → ent 𝓤
       (⋆ 𝓤 H A
-      ((‵ (flft κ₀ q₀) ⊛ ‵ (flft κ₂ q₂) ⊛ ‵ ftrue) ∷ (‵ (flft κ₁ q₁) ⊛ ‵ ftrue) ∷ ‵ (finally u32 γw zs) ∷ ‵ Ol ∷ ‵ (fres γn (u32 .coded .code a))
+      ((‵ (flft κ₀ q₀) ⊛ ‵ (flft κ₂ q₂) ⊛ ‵ ftrue) ∷ (‵ (flft κ₁ q₁) ⊛ ‵ ftrue) ∷ ‵ (finally u32 γw zs) ∷ ‵ Ol ∷ ‵ (fres γn
+      (u32 .coded .code a))
       ∷ ‵ (u32 .own k (v ∷ [])) ∷ [])) (Post v)
   exits k v zs a ew post =
-      qed W ((‵ (flft κ₀ q₀) ⊛ ‵ (flft κ₂ q₂) ⊛ ‵ ftrue) ∷ (‵ (flft κ₁ q₁) ⊛ ‵ ftrue) ∷ ‵ (finally u32 γw zs) ∷ ‵ Ol ∷ ‵ (fres γn (u32 .coded .code a))
+      qed W ((‵ (flft κ₀ q₀) ⊛ ‵ (flft κ₂ q₂) ⊛ ‵ ftrue) ∷ (‵ (flft κ₁ q₁) ⊛ ‵ ftrue) ∷ ‵ (finally u32 γw zs) ∷ ‵ Ol ∷ ‵ (fres γn
+      (u32 .coded .code a))
       ∷ ‵ (u32 .own k (v ∷ [])) ∷ []) ∵
       suffices ! _
       (ends-at 𝓤 H A f.ended stayed (f.clauses 𝓤 H A at-mem run) W (((κ₀, (κ₁, (κ₂, tt))), (q₀, (q₁, (q₂, tt))), tt, x, at), tt) v k
-      (zs, (tt, (tt, (tt, (tt, (tt, (tt, (tt, (tt, (a, tt)))))))))) (ew, (tt, (tt, (tt, (tt, (tt, (tt, (tt, (tt, (tt, tt))))))))))) $ says ! post $
+      (zs, (tt, (tt, (tt, (tt, (tt, (tt, (tt, (tt, (a, tt)))))))))) (
+        ew,
+        (
+          tt,
+          (
+            tt,
+            (
+              tt,
+              (
+                tt,
+                (
+                  tt,
+                  (
+                    tt,
+                    (
+                      tt,
+                      (
+                        tt,
+                        (tt, tt),
+                      ),
+                    ),
+                  ),
+                ),
+              ),
+            ),
+          ),
+        ),
+      )) $ says ! post $
       -- the three tokens
       split ! $ move ! (2 ∷ []) $ split ! $ move ! (0 ∷ 3 ∷ []) $ join ! $ move ! (2 ∷ 0 ∷ []) $ join ! $ frame ! $ drop ! $
       -- [the words' last list; the accounts; the answer; the result]
@@ -160,7 +234,28 @@ module _ {M : Type 1} (𝓤 : URA M) (H : Heap 𝓤) (A : Atoms 𝓤) (W : Given
   under-args t = (at-words ws, (t, (mo, (goal, (guest, (machine, (state, (press, (at-answer, tt)))))))))
 
   abbrev to-under : Terms → Val → Under 𝓤 H A at-mem run .Ghost
-  to-under t u = (((κ₀, (κ₂, tt)), (q₀, (q₂, tt)), tt, under-args t, (sw ∷ [], (u ∷ [], (vint w32 mo ∷ [], (vint w32 goal ∷ [], (vint w32 guest ∷ [], (vint w32 machine ∷ [], (vint w32 state ∷ [], (vint w32 press ∷ [], (vptr bn on ∷ [], tt)))))))))), tt)
+  to-under t u = (
+    (
+      (κ₀, (κ₂, tt)),
+      (q₀, (q₂, tt)),
+      tt,
+      under-args t,
+      (
+        sw ∷ [],
+        (
+          u ∷ [],
+          (
+            vint w32 mo ∷ [],
+            (
+              vint w32 goal ∷ [],
+              (vint w32 guest ∷ [], (vint w32 machine ∷ [], (vint w32 state ∷ [], (vint w32 press ∷ [], (vptr bn on ∷ [], tt))))),
+            ),
+          ),
+        ),
+      ),
+    ),
+    tt,
+  )
 
   goes-under : (t : Terms) (u : Val) → Is TT.the-row t (u ∷ [])
       → ent 𝓤
@@ -188,15 +283,18 @@ module _ {M : Type 1} (𝓤 : URA M) (H : Heap 𝓤) (A : Atoms 𝓤) (W : Given
       (known-under : Triple 𝓤 (C #exports·react-under) (Under 𝓤 H A at-mem run)) where
     walk : ent 𝓤 (onEntry 𝓤 H A f.signature (κ₀, (κ₁, (κ₂, tt))) (q₀, (q₁, (q₂, tt))) x at)
         (WpFn 𝓤 H C Λ code.function
-        (sw ∷ sa ∷ vint w32 p ∷ vint w32 mo ∷ vint w32 goal ∷ vint w32 guest ∷ vint w32 machine ∷ vint w32 state ∷ vint w32 press ∷ vptr bn on ∷ [])
+        (sw ∷ sa ∷ vint w32 p ∷ vint w32 mo ∷ vint w32 goal ∷ vint w32 guest ∷ vint w32 machine ∷ vint w32 state ∷ vint w32 press
+        ∷ vptr bn on ∷ [])
         Post)
     walk =
         qed W ((‵ (flft κ₀ q₀) ⊛ ‵ (flft κ₁ q₁) ⊛ ‵ (flft κ₂ q₂) ⊛ ‵ ftrue)
         ∷ ‵ (owns
-        (MutSlice (named 0) κ₀ u32 ∷ ShrSlice (named 1) κ₁ R ∷ u32 ∷ u32 ∷ u32 ∷ u32 ∷ u32 ∷ u32 ∷ u32 ∷ MutRef (named 2) κ₂ u32 ∷ []) x at)
+        (MutSlice (named 0) κ₀ u32 ∷ ShrSlice (named 1) κ₁ R ∷ u32 ∷ u32 ∷ u32 ∷ u32 ∷ u32 ∷ u32 ∷ u32 ∷ MutRef
+        (named 2) κ₂ u32 ∷ []) x at)
         ∷ []) ∵
         enter ! C Λ code.function
-        (sw ∷ sa ∷ vint w32 p ∷ vint w32 mo ∷ vint w32 goal ∷ vint w32 guest ∷ vint w32 machine ∷ vint w32 state ∷ vint w32 press ∷ vptr bn on ∷ []) _ $
+        (sw ∷ sa ∷ vint w32 p ∷ vint w32 mo ∷ vint w32 goal ∷ vint w32 guest ∷ vint w32 machine ∷ vint w32 state ∷ vint w32 press
+        ∷ vptr bn on ∷ []) _ $
         alloc1 ! (λ l₀. alloc1 ! (λ l₁. alloc1 ! (λ l₂. alloc1 ! (λ l₃. alloc1 ! (λ l₄. alloc1 ! (λ l₅.
         alloc1 ! (λ l₆. alloc1 ! (λ l₇. alloc1 ! (λ l₈. alloc1 ! (λ l₉. alloc1 ! (λ l₁₀. alloc1 ! (λ l₁₁.
         alloc1 ! (λ l₁₂. alloc1 ! (λ l₁₃. alloc1 ! (λ l₁₄. alloc0 ! $ params1 ! $
@@ -287,7 +385,8 @@ module _ {M : Type 1} (𝓤 : URA M) (H : Heap 𝓤) (A : Atoms 𝓤) (W : Given
         use1 W (some
         (λ (zs : List ℕ × (Unit {0} × (Unit {0} × (Unit {0} × (Unit {0} × (Unit {0} × (Unit {0} × (Unit {0} × (ℕ × Unit {0}))))))))).
         ‵ (lasts un.ended (κ₀, (κ₂, tt)) (under-args t) zs)
-        ⊛ raw (fact 𝓤 (ReactPost t mo goal guest machine state press ws (zs .0) (given k 0 0 (zs .1 .1 .1 .1 .1 .1 .1 .1 .0)))))) (id⊢ 𝓤 _) $ pick ! (λ zs.
+        ⊛ raw (fact 𝓤 (ReactPost t mo goal guest machine state press ws (zs .0) (given k 0 0 (zs .1 .1 .1 .1 .1 .1 .1 .1 .0))))))
+        (id⊢ 𝓤 _) $ pick ! (λ zs.
         split ! $
         move ! (1 ∷ []) $
         heard ! (ReactPost t mo goal guest machine state press ws (zs .0) (given k 0 0 (zs .1 .1 .1 .1 .1 .1 .1 .1 .0))) (λ e.
@@ -350,21 +449,80 @@ module _ {M : Type 1} (𝓤 : URA M) (H : Heap 𝓤) (A : Atoms 𝓤) (W : Given
         free0 ! $
         keep ! (1 ∷ 6 ∷ 4 ∷ 7 ∷ 2 ∷ 0 ∷ []) $
         by ! (exits k v (zs .0) (zs .1 .1 .1 .1 .1 .1 .1 .1 .0) lw
-        (subst (λ (s : Terms). ReactPost s mo goal guest machine state press ws (zs .0) (given k 0 0 (zs .1 .1 .1 .1 .1 .1 .1 .1 .0))) et e)))))))))))))))))))))))))))
+        (subst (λ (s : Terms). ReactPost s mo goal guest machine state press ws (zs .0) (given k 0 0
+        (zs .1 .1 .1 .1 .1 .1 .1 .1 .0))) et e)))))))))))))))))))))))))))
 
 module _ {M : Type 1} (𝓤 : URA M) (H : Heap 𝓤) (A : Atoms 𝓤) (W : Given 𝓤 H A) (at-mem : Memory → SProp 𝓤) (run : Routine → Fun 𝓤) where
   react-walks : (C : Calls 𝓤 H) (Λ : Loops 𝓤 H) → FmC 𝓤 H (W .laws) C → Triple 𝓤 (C #lists·terms-at) (TermsAt 𝓤 H A at-mem run)
       → Triple 𝓤 (C #exports·react-under) (Under 𝓤 H A at-mem run)
       → Walks 𝓤 H A f.ended stayed (WpFn 𝓤 H C Λ code.function) (f.clauses 𝓤 H A at-mem run)
   react-walks C Λ fm known-terms known-under = walked 𝓤 H A f.ended stayed (f.clauses 𝓤 H A at-mem run) (WpFn 𝓤 H C Λ code.function)
-      (λ κs. (slice-vals, (slice-vals, (uint-vals w32, (uint-vals w32, (uint-vals w32, (uint-vals w32, (uint-vals w32, (uint-vals w32, (uint-vals w32, (ptr-vals, tt)))))))))))
-      (λ κs. (mut-slice-tells (named 0) (κs .0) u32, (shr-slice-tells (named 1) (κs .1 .0) R, (uint-tells w32, (uint-tells w32, (uint-tells w32, (uint-tells w32, (uint-tells w32, (uint-tells w32, (uint-tells w32, (mut-tells (named 2) (κs .1 .1 .0) u32, tt)))))))))))
+      (λ κs. (
+        slice-vals,
+        (
+          slice-vals,
+          (
+            uint-vals w32,
+            (
+              uint-vals w32,
+              (
+                uint-vals w32,
+                (
+                  uint-vals w32,
+                  (
+                    uint-vals w32,
+                    (
+                      uint-vals w32,
+                      (uint-vals w32, (ptr-vals, tt)),
+                    ),
+                  ),
+                ),
+              ),
+            ),
+          ),
+        ),
+      ))
+      (λ κs. (
+        mut-slice-tells (named 0) (κs .0) u32,
+        (
+          shr-slice-tells (named 1) (κs .1 .0) R,
+          (
+            uint-tells w32,
+            (
+              uint-tells w32,
+              (
+                uint-tells w32,
+                (
+                  uint-tells w32,
+                  (
+                    uint-tells w32,
+                    (
+                      uint-tells w32,
+                      (
+                        uint-tells w32,
+                        (
+                          mut-tells (named 2)
+                              (κs .1 .1 .0) u32,
+                          tt,
+                        ),
+                      ),
+                    ),
+                  ),
+                ),
+              ),
+            ),
+          ),
+        ),
+      ))
       (λ κs qs bounds a g are. via 𝓤 _ (fst∗ 𝓤 _ (emp 𝓤))
       (walk 𝓤 H A W at-mem run (κs .0) (κs .1 .0) (κs .1 .1 .0) (qs .0) (qs .1 .0) (qs .1 .1 .0)
       (a .0 .ptr .0) (a .0 .ptr .1) (a .0 .name) (a .0 .now) (a .1 .0 .ptr .0) (a .1 .0 .ptr .1) (a .1 .0 .name) (a .1 .0 .now)
-      (a .1 .1 .0) (a .1 .1 .1 .0) (a .1 .1 .1 .1 .0) (a .1 .1 .1 .1 .1 .0) (a .1 .1 .1 .1 .1 .1 .0) (a .1 .1 .1 .1 .1 .1 .1 .0) (a .1 .1 .1 .1 .1 .1 .1 .1 .0)
-      (a .1 .1 .1 .1 .1 .1 .1 .1 .1 .0 .ptr .0) (a .1 .1 .1 .1 .1 .1 .1 .1 .1 .0 .ptr .1) (a .1 .1 .1 .1 .1 .1 .1 .1 .1 .0 .name) (a .1 .1 .1 .1 .1 .1 .1 .1 .1 .0 .now)
-      (are .0 .0 .1) (are .1 .0 .0 .1) (are .1 .1 .0 .1) (are .1 .1 .1 .0 .1) (are .1 .1 .1 .1 .0 .1) (are .1 .1 .1 .1 .1 .0 .1) (are .1 .1 .1 .1 .1 .1 .0 .1) (are .1 .1 .1 .1 .1 .1 .1 .0 .1) (are .1 .1 .1 .1 .1 .1 .1 .1 .0 .1) C Λ fm
+      (a .1 .1 .0) (a .1 .1 .1 .0) (a .1 .1 .1 .1 .0) (a .1 .1 .1 .1 .1 .0) (a .1 .1 .1 .1 .1 .1 .0) (a .1 .1 .1 .1 .1 .1 .1 .0)
+      (a .1 .1 .1 .1 .1 .1 .1 .1 .0)
+      (a .1 .1 .1 .1 .1 .1 .1 .1 .1 .0 .ptr .0) (a .1 .1 .1 .1 .1 .1 .1 .1 .1 .0 .ptr .1) (a .1 .1 .1 .1 .1 .1 .1 .1 .1 .0 .name)
+      (a .1 .1 .1 .1 .1 .1 .1 .1 .1 .0 .now)
+      (are .0 .0 .1) (are .1 .0 .0 .1) (are .1 .1 .0 .1) (are .1 .1 .1 .0 .1) (are .1 .1 .1 .1 .0 .1) (are .1 .1 .1 .1 .1 .0 .1)
+      (are .1 .1 .1 .1 .1 .1 .0 .1) (are .1 .1 .1 .1 .1 .1 .1 .0 .1) (are .1 .1 .1 .1 .1 .1 .1 .1 .0 .1) C Λ fm
       known-terms known-under))
 
 react-meets : {M : Type 1} (𝓤 : URA M) (H : Heap 𝓤) (A : Atoms 𝓤) (W : Given 𝓤 H A) (at-mem : Memory → SProp 𝓤) (run : Routine → Fun 𝓤)
@@ -372,8 +530,36 @@ react-meets : {M : Type 1} (𝓤 : URA M) (H : Heap 𝓤) (A : Atoms 𝓤) (W : 
     → Triple 𝓤 (𝓣 .C #lists·terms-at) (TermsAt 𝓤 H A at-mem run) → Triple 𝓤 (𝓣 .C #exports·react-under) (Under 𝓤 H A at-mem run)
     → Meets 𝓤 H A f.signature (WpFn 𝓤 H (𝓣 .C) (𝓣 .Λ) code.function) (f.spec 𝓤 H A at-mem run)
 react-meets 𝓤 H A W at-mem run 𝓣 known-terms known-under =
-    walk-meets 𝓤 H A f.ended stayed W
-    (goes-gave-slice 𝓤 H A W 3 0 tt (plain (λ _. u32)), (goes-none-slice 𝓤 H A W 3 (1 ∷ []) tt (plain (λ _. R)) yes, (goes-none 𝓤 H A W 3 (λ _. u32) yes (λ κs x f. refl), (goes-none 𝓤 H A W 3 (λ _. u32) yes (λ κs x f. refl), (goes-none 𝓤 H A W 3 (λ _. u32) yes (λ κs x f. refl), (goes-none 𝓤 H A W 3 (λ _. u32) yes (λ κs x f. refl), (goes-none 𝓤 H A W 3 (λ _. u32) yes (λ κs x f. refl), (goes-none 𝓤 H A W 3 (λ _. u32) yes (λ κs x f. refl), (goes-none 𝓤 H A W 3 (λ _. u32) yes (λ κs x f. refl), (goes-gave-ref 𝓤 H A W 3 2 tt (plain (λ _. u32)), tt))))))))))
+    walk-meets 𝓤 H A f.ended stayed W (
+      goes-gave-slice 𝓤 H A W 3 0 tt (plain (λ _. u32)),
+      (
+        goes-none-slice 𝓤 H A W 3 (1 ∷ []) tt (plain (λ _. R)) yes,
+        (
+          goes-none 𝓤 H A W 3
+              (λ _. u32) yes (λ κs x f. refl),
+          (
+            goes-none 𝓤 H A W 3 (λ _. u32) yes (λ κs x f. refl),
+            (
+              goes-none 𝓤 H A W 3 (λ _. u32) yes
+                  (λ κs x f. refl),
+              (
+                goes-none 𝓤 H A W 3 (λ _. u32) yes (λ κs x f. refl),
+                (
+                  goes-none 𝓤 H A W 3 (λ _. u32) yes (λ κs x f. refl),
+                  (
+                    goes-none 𝓤 H A W 3 (λ _. u32) yes (λ κs x f. refl),
+                    (
+                      goes-none 𝓤 H A W 3 (λ _. u32) yes (λ κs x f. refl),
+                      (goes-gave-ref 𝓤 H A W 3 2 tt (plain (λ _. u32)), tt),
+                    ),
+                  ),
+                ),
+              ),
+            ),
+          ),
+        ),
+      ),
+    )
     (f.clauses 𝓤 H A at-mem run)
     (WpFn 𝓤 H (𝓣 .C) (𝓣 .Λ) code.function) (WpFn-mono 𝓤 H (W .laws) 𝓣 code.function)
     (react-walks 𝓤 H A W at-mem run (𝓣 .C) (𝓣 .Λ) (fmOf 𝓤 H (W .laws) 𝓣) known-terms known-under)

@@ -12,5 +12,6 @@ in-range-spec =
     (tie.spec
     (λ c. range-goal (c .before .args .goal) (c .before .args .guest) (c .before .args .machine) (c .if1 .taken))
     (λ c. range-guest (c .before .before .args .goal) (c .before .before .args .guest) (c .before .before .args .machine) (c .if2 .taken))
-    (λ c. range-machine (c .before .before .before .args .goal) (c .before .before .before .args .guest) (c .before .before .before .args .machine) (c .if3 .taken))
-    (λ c. range-yes (c .before .before .before .args .goal) (c .before .before .before .args .guest) (c .before .before .before .args .machine) (c .before .before .if1 .left) (c .before .if2 .left) (c .if3 .left)))
+    (λ c. let c3 = c .before .before .before in range-machine (c3 .args .goal) (c3 .args .guest) (c3 .args .machine) (c .if3 .taken))
+    (λ c. let c1 = c .before in let c2 = c1 .before in let c3 = c2 .before in range-yes (c3 .args .goal) (c3 .args .guest)
+    (c3 .args .machine) (c2 .if1 .left) (c1 .if2 .left) (c .if3 .left)))

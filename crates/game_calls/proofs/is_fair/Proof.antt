@@ -13,6 +13,7 @@ is-fair-spec =
     tie.close
     (tie.spec
     (λ c κs. search needs)
-    (λ c. fair-no _ (holdsAt (view (c .before .before .before .args .rows) (c .before .before .before .args .words .now)) (c .before .before .before .args .guest) (c .before .before .before .args .state) (c .before .before .before .args .press)) (c .before .holds .ensures) (c .if1 .taken))
+    (λ c. let c1 = c .before in let c3 = c1 .before .before in fair-no _ (holdsAt (view (c3 .args .rows) (c3 .args .words .now))
+    (c3 .args .guest) (c3 .args .state) (c3 .args .press)) (c1 .holds .ensures) (c .if1 .taken))
     (λ c κs. search needs)
     (λ c. fair-yes _ _ (c .before .before .holds .ensures) (c .before .if1 .left) (c .holds2 .ensures)))

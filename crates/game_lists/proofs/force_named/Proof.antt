@@ -12,4 +12,5 @@ force-named-spec =
     (λ c κs. search needs)
     (λ c. search needs)
     (λ c. let a = c .before .before .before .before .before .before .args in
-    termed (a .r) (a .most) (a .goal) (a .guest) (a .machine) _ _ _ (c .before .before .before .before .terms-of .ensures) (c .before .before .force .ensures)))
+    termed (a .r) (a .most) (a .goal) (a .guest) (a .machine) _ _ _ (c .before .before .before .before .terms-of .ensures)
+    (c .before .before .force .ensures)))

@@ -121,11 +121,15 @@ module _ {M : Type 1} (𝓤 : URA M) (H : Heap 𝓤) (A : Atoms 𝓤) (W : Given
   abbrev Post : Val → SProp 𝓤
   Post = walkOf 𝓤 H A f.ended stayed (f.clauses 𝓤 H A at-mem run) .post (((κ, tt), (q, tt), tt, x, at), tt)
 
-  exits : (t : Terms) (u : Val) → t ≡ termsOf ys p → ent 𝓤 (⋆ 𝓤 H A ((‵ (flft κ q) ⊛ ‵ ftrue) ∷ ‵ Ol ∷ ‵ (TT.the-row .own t (u ∷ [])) ∷ [])) (Post u)
+  exits : (t : Terms) (u : Val) → t ≡ termsOf ys p → ent 𝓤 (⋆ 𝓤 H A ((‵ (flft κ q) ⊛ ‵ ftrue) ∷ ‵ Ol ∷ ‵ (TT.the-row .own t
+      (u ∷ [])) ∷ [])) (Post u)
   exits t u post =
       qed W ((‵ (flft κ q) ⊛ ‵ ftrue) ∷ ‵ Ol ∷ ‵ (TT.the-row .own t (u ∷ [])) ∷ []) ∵
       suffices ! _
-      (ends-at 𝓤 H A f.ended stayed (f.clauses 𝓤 H A at-mem run) W (((κ, tt), (q, tt), tt, x, at), tt) u t (tt, (tt, tt)) (tt, (tt, tt))) $
+      (ends-at 𝓤 H A f.ended stayed (f.clauses 𝓤 H A at-mem run) W (((κ, tt), (q, tt), tt, x, at), tt) u t (tt, (tt, tt)) (
+        tt,
+        (tt, tt),
+      )) $
       says ! post $ frame ! $
       nothing ! $ owned ! u32 (Is u32) (uint-makes 𝓤 H A W w32) p _ (refl, gp) $ fjoin ! $ move ! (1 ∷ 0 ∷ []) $ fjoin ! $ done !
 
@@ -308,7 +312,8 @@ module _ {M : Type 1} (𝓤 : URA M) (H : Heap 𝓤) (A : Atoms 𝓤) (W : Given
     walk =
         qed W ((‵ (flft κ q) ⊛ ‵ ftrue) ∷ ‵ (owns (ShrSlice (named 0) κ R ∷ u32 ∷ []) x at) ∷ []) ∵
         enter ! C Λ code.function (sa ∷ vint w32 p ∷ []) _ $
-        alloc1 ! (λ l₀. alloc1 ! (λ l₁. alloc1 ! (λ l₂. alloc1 ! (λ l₃. alloc1 ! (λ l₄. alloc1 ! (λ l₅. alloc1 ! (λ l₆. alloc1 ! (λ l₇. alloc1 ! (λ l₈. alloc0 ! $ params1 ! $
+        alloc1 ! (λ l₀. alloc1 ! (λ l₁. alloc1 ! (λ l₂. alloc1 ! (λ l₃. alloc1 ! (λ l₄. alloc1 ! (λ l₅. alloc1 ! (λ l₆. alloc1 !
+        (λ l₇. alloc1 ! (λ l₈. alloc0 ! $ params1 ! $
         pass1 ! (init ! 14 refl (tt, (tt, (record { fits = ga .0 }, tt)))) $
         pass1 ! (init ! 12 refl (tt, record { fits = gp })) $
         pass0 ! $

@@ -14,8 +14,15 @@ note-spec =
     tie.close
     (tie.spec
     (λ c. let l = c .before .before .pre .bits in omega arith)
-    (λ c. note-kept (c .before .before .before .args .limits .bits) (view (c .before .before .before .args .limits .rows) (c .before .before .before .args .words .now)) (c .before .before .before .args .asked) (c .before .before .before .args .noted) (c .before .before .before .args .last) (c .before .before .before .args .next) (power-fits (c .before .before .before .args .limits .bits) (c .before .before .before .pre .bits)) (c .if1 .taken))
+    (λ c. let c3 = c .before .before .before in note-kept (c3 .args .limits .bits) (view (c3 .args .limits .rows) (c3 .args .words .now))
+    (c3 .args .asked) (c3 .args .noted) (c3 .args .last) (c3 .args .next) (power-fits (c3 .args .limits .bits) (c3 .pre .bits))
+    (c .if1 .taken))
     (λ c κs. c .before .before .before .pre .next-is)
-    (λ c. note-none (c .before .before .before .before .before .args .limits .bits) (view (c .before .before .before .before .before .args .limits .rows) (c .before .before .before .before .before .args .words .now)) (c .before .before .before .before .before .args .asked) (c .before .before .before .before .before .args .noted) (c .before .before .before .before .before .args .last) (c .before .before .before .before .before .args .next) (power-fits (c .before .before .before .before .before .args .limits .bits) (c .before .before .before .before .before .pre .bits)) (c .before .before .if1 .left) (c .before .holds .ensures) (c .if2 .taken))
-    (λ c κs. (c .before .before .before .before .before .pre .machine, c .before .before .before .before .before .pre .last-is, c .before .before .before .before .before .pre .bits))
-    (λ c. note-found (c .before .before .before .before .before .before .args .limits .bits) (view (c .before .before .before .before .before .before .args .limits .rows) (c .before .before .before .before .before .before .args .words .now)) (c .before .before .before .before .before .before .args .asked) (c .before .before .before .before .before .before .args .noted) (c .before .before .before .before .before .before .args .last) (c .before .before .before .before .before .before .args .next) (power-fits (c .before .before .before .before .before .before .args .limits .bits) (c .before .before .before .before .before .before .pre .bits)) (c .before .before .before .if1 .left) (c .before .before .holds .ensures) (c .before .if2 .left) (c .least-next .ensures)))
+    (λ c. let c1 = c .before in let c2 = c1 .before in let c5 = c2 .before .before .before in note-none (c5 .args .limits .bits) (view
+    (c5 .args .limits .rows) (c5 .args .words .now)) (c5 .args .asked) (c5 .args .noted) (c5 .args .last) (c5 .args .next) (power-fits
+    (c5 .args .limits .bits) (c5 .pre .bits)) (c2 .if1 .left) (c1 .holds .ensures) (c .if2 .taken))
+    (λ c κs. let c5 = c .before .before .before .before .before in (c5 .pre .machine, c5 .pre .last-is, c5 .pre .bits))
+    (λ c. let c1 = c .before in let c2 = c1 .before in let c3 = c2 .before in
+    let c6 = c3 .before .before .before in note-found (c6 .args .limits .bits) (view (c6 .args .limits .rows) (c6 .args .words .now))
+    (c6 .args .asked) (c6 .args .noted) (c6 .args .last) (c6 .args .next) (power-fits (c6 .args .limits .bits) (c6 .pre .bits))
+    (c3 .if1 .left) (c2 .holds .ensures) (c1 .if2 .left) (c .least-next .ensures)))

@@ -13,9 +13,16 @@ watch-rounds-spec =
     (tie.spec
     (λ c κs. search needs)
     (λ c. search needs)
-    (λ c κs. (rounds-begin (c .before .before .before .before .before .before .before .before .pre) (c .before .before .before .before .forget .ensures), refl))
+    (λ c κs. let c4 = c .before .before .before .before in let c8 = c4 .before .before .before .before in (
+      rounds-begin (c8 .pre)
+          (c4 .forget .ensures),
+      refl,
+    ))
     (λ c. search needs)
     (λ c. search needs)
-    (λ c κs. (rounds-ask (c .before .before .before .before .before .before .before .before .before .before .before .before .before .pre) (c .before .before .before .before .before .before .before .before .before .forget .ensures), c .before .before .before .before .begin .ensures))
+    (λ c κs. let c4 = c .before .before .before .before in let c9 = c4 .before .before .before .before .before in
+    let c13 = c9 .before .before .before .before in (rounds-ask (c13 .pre) (c9 .forget .ensures), c4 .begin .ensures))
     (λ c. search needs)
-    (λ c. rounds-done (c .before .before .before .before .before .before .before .before .before .before .before .before .before .before .before .before .before .before .pre) (c .before .before .before .before .before .before .before .before .before .before .before .before .before .before .forget .ensures) (c .before .before .before .before .watch .ensures)))
+    (λ c. let c4 = c .before .before .before .before in let c14 = c4 .before .before .before .before .before .before .before .before
+    .before .before in let c18 = c14 .before .before .before .before in rounds-done (c18 .pre) (c14 .forget .ensures)
+    (c4 .watch .ensures)))
