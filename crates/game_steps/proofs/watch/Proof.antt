@@ -29,8 +29,9 @@ watch-spec =
     (λ c. let l = base-bits (c .before .before .before .before .before .pre .0 .plays .ready .base) in omega arith)
     (λ c. let c5 = c .before .before .before .before .before in loop-starts (c5 .pre .1) (power-fits (c5 .args .limits .bits) (base-bits
     (c5 .pre .0 .plays .ready .base))))
-    (λ c κs. let c3 = c .before .before .before in let c6 = c3 .before .before .before in
-    let c12 = c6 .before .before .before .before .before .before in let top : c12 .args .limits .rounds < 2 ^ 32 = search needs in
+    (λ c κs. let top : c .before .before .before .before .before .before .before .before .before .before .before .before .args .limits
+    .rounds < 2 ^ 32 = search needs in
+    let c3 = c .before .before .before in let c6 = c3 .before .before .before in let c12 = c6 .before .before .before .before .before .before in
     (turn-asks (c12 .pre .0) (c6 .loop .inv) (c3 .if1 .taken) top, c6 .loop .inv .counts-of))
     (λ c. search needs)
     (λ c κs. search needs)
