@@ -34,7 +34,7 @@ use Rattle.path_calls.proofs.Checks.{register-is, relation-is, same-table, rows
 use Rattle.games.specs.Game.{fair, answerTo}
 use Rattle.games.specs.Call.{inRange, gameBytes, gameCall, presses, reactions, goals, gameVerdict, allFilled, reacted, reacts}
 use Rattle.games.proofs.Call.{Ranges, ranges-out, near, reacts-three, reacts-unlisted, reacts-empty, reacts-told}
-use Rattle.game_calls.specs.Reacting.{ReactingPre, Reacting}
+use Rattle.game_calls.specs.Reacting.{NamedPre, ReactingPre, Reacting}
 use Rattle.game_calls.specs.Post.{Told, ReactPost}
 
 -- a test that failed, and one that held
@@ -144,6 +144,9 @@ module _ (acc : Terms) (R goal guest machine s t : ℕ) (ws : List ℕ) where
         react-unlisted e = refused 13 (reacts-unlisted (bookOf (seen ws)) acc R goal guest machine s t is-near e)
 
         module _ (l : named acc ≡ true) where
+          pub react-passes : NamedPre acc ws goal guest machine s t
+          react-passes = record { sound = w; ranges = r; state = omega arith; press = omega arith; listed = l }
+
           -- CHECK 7
           empty : (allFilled (bookOf (seen ws)) goal guest machine ≡ true → ⊥) → ReactPost acc R goal guest machine s t ws ws (plain 7)
           empty h =

@@ -1,10 +1,11 @@
 -- The second call after its checks: what it answers by the rounds. Assumes nothing.
 use mathlib.Core.Path.{_≡_}
-use mathlib.Core.Bool.{Bool, not, cond, _&&_}
+use mathlib.Core.Bool.{Bool, true, not, cond, _&&_}
 use mathlib.Core.List.{List}
 use Prim.Native.Nat.{ℕ, suc, _+_, _^_, _<_}
 use lib.Dec.{ltb}
 use Rattle.accounts.specs.declared.Terms.{Terms}
+use Rattle.accounts.specs.Terms.{named}
 use Rattle.layout.specs.Places.{BITS, ROWS, FIRST-REGISTER, FIRST-RELATION}
 use Rattle.layout.specs.Refusals.{refusalNumber}
 use Rattle.layout.specs.View.{View, view, headerOf}
@@ -21,7 +22,7 @@ use Rattle.book.specs.Leaves.{plain, valued}
 use Rattle.contract.specs.Seen.{seen, SoundWords}
 use Rattle.seek.specs.Walk.{holdsAt}
 use Rattle.games.specs.Game.{fair, answerTo}
-use Rattle.games.specs.Call.{presses, reactions, goals, gameVerdict, reacted}
+use Rattle.games.specs.Call.{inRange, presses, reactions, goals, gameVerdict, reacted}
 use Rattle.game_steps.specs.declared.Watched.{Watched}
 use Rattle.game_steps.specs.declared.Watched.the-variants as watched
 use Rattle.game_calls.specs.declared.Reacted.{Reacted}
@@ -42,6 +43,14 @@ toldOf ok n watched.Full = answer.Refused refusal.Full
 toldOf ok n watched.Spent = answer.Refused refusal.Spent
 toldOf ok n (watched.Made u) = cond ok (cond (ltb u (2 ^ n)) (answer.State u) (answer.Refused refusal.NoAnswer))
     (answer.Refused refusal.NoAnswer)
+
+-- a sound table, numbers in range, and the account named: checks 2, 3 and 14 are passed
+pub record NamedPre (acc : Terms) (old : List ℕ) (goal guest machine s t : ℕ) : Type 0 where
+  pub sound : SoundWords old
+  pub ranges : inRange goal guest machine ≡ true
+  pub state : s < 2 ^ headerOf old BITS
+  pub press : t < 2 ^ headerOf old BITS
+  pub listed : named acc ≡ true
 
 -- a sound table, whose goal, guest and machine have these arrows, and a state and a press of it
 pub record ReactingPre (old : List ℕ) (goal guest machine x y z s t : ℕ) : Type 0 where

@@ -23,7 +23,7 @@ ghost use Rattle.seek.specs.Walk.{HoldsPre};
 ghost use Rattle.contract.specs.Posts.{CallPost};
 ghost use Rattle.formula_steps.specs.Replies.{storedReply};
 ghost use Rattle.games.specs.Call.{inRange, gameBytes, gameCall};
-ghost use Rattle.game_calls.specs.Reacting.{fairAt, toldOf, reactedReply, ReactingPre, Reacting};
+ghost use Rattle.game_calls.specs.Reacting.{fairAt, toldOf, reactedReply, NamedPre, ReactingPre, Reacting};
 ghost use Rattle.game_calls.specs.Post.{ReactPost};
 
 // What the second call answers: the state that the machine's move leads to.
@@ -151,6 +151,47 @@ fn reacting(
     told(fair, bits, watched)
 }
 
+// The second call where there are such numbers and the account named: 7 where a register or relation is empty, else the rounds.
+fn react_named(
+    words: &mut [u32],
+    terms: Terms,
+    most: u32,
+    goal: u32,
+    guest: u32,
+    machine: u32,
+    state: u32,
+    press: u32,
+) -> Reacted
+    requires { ⌜ NamedPre terms (now words) goal guest machine state press ⌝ }
+    ensures { λ r. ⌜ ReactPost terms most goal guest machine state press (now (words .entry)) (now (words .exit)) (reactedReply r) ⌝ }
+{
+    let x = header_word(words, Table::FIRST_REGISTER + (goal as usize));
+    let y = header_word(words, Table::FIRST_RELATION + (guest as usize));
+    let z = header_word(words, Table::FIRST_RELATION + (machine as usize));
+    if x == 0 {
+        return Reacted::Refused(Refusal::Empty);
+    }
+    if y == 0 {
+        return Reacted::Refused(Refusal::Empty);
+    }
+    if z == 0 {
+        return Reacted::Refused(Refusal::Empty);
+    }
+    reacting(
+        words,
+        terms,
+        most,
+        goal,
+        guest,
+        machine,
+        x - 1,
+        y - 1,
+        z - 1,
+        state,
+        press,
+    )
+}
+
 // The least machine answer to the guest's press in a state of the set outside the goal, whose state enters the set in an earlier round; the
 // rounds are made again, and nothing is stored. 2 on unsound words, 3 where there is no such register, relation or state, 14 where the list
 // has not the account named, 7 where a register or relation is empty, 8 where a step needs more rows than there are, 9 where the rounds are
@@ -184,29 +225,5 @@ pub fn react(
     if !is_named(terms) {
         return Reacted::Refused(Refusal::Unlisted);
     }
-    let x = header_word(words, Table::FIRST_REGISTER + (goal as usize));
-    let y = header_word(words, Table::FIRST_RELATION + (guest as usize));
-    let z = header_word(words, Table::FIRST_RELATION + (machine as usize));
-    if x == 0 {
-        return Reacted::Refused(Refusal::Empty);
-    }
-    if y == 0 {
-        return Reacted::Refused(Refusal::Empty);
-    }
-    if z == 0 {
-        return Reacted::Refused(Refusal::Empty);
-    }
-    reacting(
-        words,
-        terms,
-        most,
-        goal,
-        guest,
-        machine,
-        x - 1,
-        y - 1,
-        z - 1,
-        state,
-        press,
-    )
+    react_named(words, terms, most, goal, guest, machine, state, press)
 }
