@@ -20,23 +20,25 @@
  * In a set's formula true means V, NOT means V without the set, a bit its states in V; nu starts from V, and next states outside V do not exist. A
  * relation holds pairs of states of V. V is kept by every refusal, and its rows count wherever rows are counted.
  *
- * ACCOUNTS. Several callers may share a table under limits of their own. fresh and set are lent a list of 1 to 8 accounts; every set names its
- * account by its place in the list, counted from 0. An answered fresh sets all tallies to 0; an answered set adds its rounds to its own account's
- * tally and changes nothing else in the list. So, where each call gets the list as the one before left it, a tally counts the rounds of its
- * account's answered sets since fresh. Where nothing is to be limited, one account whose limits are UINT32_MAX is enough.
+ * ACCOUNTS. Several callers may share a table under limits of their own. fresh, set, force and react are lent a list of 1 to 8 accounts; each but
+ * fresh names its account by its place in the list, counted from 0. An answered fresh sets all tallies to 0; an answered set or force adds its rounds
+ * to its own account's tally and changes nothing else in the list, and react changes nothing in it. So, where each call gets the list as the one
+ * before left it, a tally counts the rounds of its account's answered sets and forces since fresh. Where nothing is to be limited, one account whose
+ * limits are UINT32_MAX is enough.
  *
  * REFUSALS. Each function returns 0 where it answers, else the number of its refusal. Checks 1 to 7 run in the order of their numbers, 4 to 7
  * each over the whole formula, and KUDZUCLAMP_VACUOUS (12) so directly after 5; KUDZUCLAMP_OCCUPIED (13) is checked directly after 2,
  * KUDZUCLAMP_UNLISTED (14) directly after 3, in fresh after 1; the work words of kudzuclamp_cheapest (1) are checked directly after 2. Of 8 and 9 the
- * one that evaluation meets first is returned; KUDZUCLAMP_NO_RUN (10) and then KUDZUCLAMP_SHORT (11) come after 8. A refused call writes 0 into every
- * answer, and no refusal changes an account or a list of states or relations. KUDZUCLAMP_FULL, KUDZUCLAMP_SPENT, KUDZUCLAMP_NO_RUN and
- * KUDZUCLAMP_SHORT keep V, registers, relations and the rows that these need; every other refusal keeps all words.
+ * one that evaluation meets first is returned; KUDZUCLAMP_NO_RUN (10) and then KUDZUCLAMP_SHORT (11) come after 8, KUDZUCLAMP_NO_ANSWER (15) after 8
+ * and 9. A refused call writes 0 into every answer, and no refusal changes an account or a list of states or relations. KUDZUCLAMP_FULL,
+ * KUDZUCLAMP_SPENT, KUDZUCLAMP_NO_RUN, KUDZUCLAMP_SHORT and KUDZUCLAMP_NO_ANSWER keep V, registers, relations and the rows that these need; every
+ * other refusal keeps all words.
  *
- * PEAK. Where relation and set are answered they also return their peak: the largest number of rows that a step of the call needed, of its
+ * PEAK. Where relation, set and force are answered they also return their peak: the largest number of rows that a step of the call needed, of its
  * result and of all that was live at it, V and what registers and relations hold included; 0 where the formula takes no step. It does not depend on N.
- * Exactly where the peak would pass N, or for a set the lesser of N and its account's row limit, the call is refused with KUDZUCLAMP_FULL instead.
- * So to choose N, make the room's calls once on a table that is large enough: the greatest of their peaks is the least N with which the same calls
- * are all answered.
+ * Exactly where the peak would pass N, or for a set or force the lesser of N and its account's row limit, the call is refused with KUDZUCLAMP_FULL
+ * instead. So to choose N, make the room's calls once on a table that is large enough: the greatest of their peaks is the least N with which the same
+ * calls are all answered.
  *
  * STACK. A call takes less than 160 KB of it, and more than 120 KB only on words whose lookup chains are longer than 32 rows (seen: 111 KB, a formula
  * of the greatest depth at n = 16). Where V is not every state and more than 2,048 rows are used, the check of the table takes up to 560 KB (seen: 522
@@ -47,8 +49,8 @@
  * one kudzuclamp_play, which checks once. R and an account's round limit bound the rounds of a set, and no more than these: a formula without binders
  * has no round, and its steps may still take long in a large table.
  *
- * POINTERS. A slice is a pointer and its number of elements. No pointer may be null, not even with 0 elements. Words and lists that are not const,
- * the accounts, and each answer must overlap nothing else that is lent to the call, and no other thread may use them meanwhile; nor may one write
+ * POINTERS. A slice is a pointer and its number of elements. No pointer may be null, not even with 0 elements. Words, accounts and lists that are not
+ * const, and each answer must overlap nothing else that is lent to the call, and no other thread may use them meanwhile; nor may one write
  * the rest. Words, accounts and answers are aligned as their types are, to 4 bytes, lists of 16-bit numbers to 2, the work words of
  * kudzuclamp_cheapest and *count of kudzuclamp_play to 8; bytes stand anywhere. So words that come from a byte buffer or a file are copied into an
  * array of uint32_t first.
@@ -119,7 +121,8 @@ enum kudzuclamp_number {
     KUDZUCLAMP_SHORT = 11,    /* a list is too short for the run */
     KUDZUCLAMP_VACUOUS = 12,  /* a binder's variable occurs nowhere free in its body */
     KUDZUCLAMP_OCCUPIED = 13, /* valid: a register or relation is filled */
-    KUDZUCLAMP_UNLISTED = 14  /* the list is not 1 to 8 accounts long, or has no account at that place */
+    KUDZUCLAMP_UNLISTED = 14, /* the list is not 1 to 8 accounts long, or has no account at that place */
+    KUDZUCLAMP_NO_ANSWER = 15 /* react: the state is in the goal or outside the set, or the press is no guest move */
 };
 
 /* Refusals of kudzuclamp_play itself, before its first call: all words and the list are kept, and *count is 0. */
@@ -160,6 +163,8 @@ static inline const char *kudzuclamp_text(uint32_t number)
         return "a register or relation is filled";
     case KUDZUCLAMP_UNLISTED:
         return "the list is not 1 to 8 accounts long, or has no account at that place";
+    case KUDZUCLAMP_NO_ANSWER:
+        return "the state is in the goal or outside the set, or the press is no guest move";
     case KUDZUCLAMP_PLAY_SHORT:
         return "the list is too short for the records";
     case KUDZUCLAMP_PLAY_UNREADABLE:
@@ -349,6 +354,28 @@ KUDZUCLAMP_USE_RESULT
 uint32_t kudzuclamp_cheapest(const uint32_t *words, size_t words_len, const uint8_t *prices, size_t prices_len, uint64_t *work, size_t work_len,
                              uint16_t *states, size_t states_len, uint8_t *relations, size_t relations_len, uint32_t a, uint32_t b,
                              uint32_t *total, uint32_t *charge, uint32_t *count);
+
+/*
+ * The guest moves by relation `guest`, then the machine by relation `machine`, in turn. Register r then holds the states from which the machine can
+ * force the set in register `goal`: those in the goal, and those where the guest has a move and after every guest move some machine move leads back
+ * into the set; the least such set. In every other state the guest has a way to stay outside for good, or no move. The call is kudzuclamp_set's of
+ * mu P (goal or (box guest of diamond machine of P, and diamond guest of true)): its steps, rounds and account, *node, *rounds and *peak are those.
+ * r may be `goal`. It returns 0, 2, 3 (for `goal`, `guest` and `machine` too), KUDZUCLAMP_UNLISTED, 7, 8 or 9.
+ */
+KUDZUCLAMP_USE_RESULT
+uint32_t kudzuclamp_force(uint32_t *words, size_t words_len, struct kudzuclamp_account *accounts, size_t accounts_len, uint32_t place, uint32_t r,
+                          uint32_t most, uint32_t goal, uint32_t guest, uint32_t machine, uint32_t *node, uint32_t *rounds, uint32_t *peak);
+
+/*
+ * What the machine answers in that game when the guest moves from `state`, a state of that set outside the goal, to the state `press`: *answer is the
+ * least state to which the machine can move from `press` and which enters the set in an earlier round than `state` does. A machine that answers so
+ * each time comes into the goal. The rounds are made again, under the limits of the account at `place` and `most`, of which they need as many as
+ * kudzuclamp_force; no register, relation or account changes. It returns 0, 2, 3 (for a state or a press out of range too), KUDZUCLAMP_UNLISTED, 7, 8,
+ * 9 or KUDZUCLAMP_NO_ANSWER.
+ */
+KUDZUCLAMP_USE_RESULT
+uint32_t kudzuclamp_react(uint32_t *words, size_t words_len, const struct kudzuclamp_account *accounts, size_t accounts_len, uint32_t place,
+                          uint32_t most, uint32_t goal, uint32_t guest, uint32_t machine, uint32_t state, uint32_t press, uint32_t *answer);
 
 /*
  * Checks formula bytes for a set call, or for a relation call where `relation` is not 0, and takes no step. It returns 2, or the number of 4 to 7

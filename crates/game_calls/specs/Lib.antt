@@ -1,0 +1,3 @@
+pub mod Reacting
+pub mod Post
+pub mod Meaning
