@@ -3,6 +3,7 @@
 use crate::accounts::{check_list, check_place, Account};
 use crate::evaluate::{self, Evaluated, Held};
 use crate::formula::{self, Formula, Kind};
+use crate::game::{self, Game, Named};
 use crate::members::{members, Members, MAX_STATES};
 use crate::paths;
 use crate::refusal::Refusal;
@@ -30,6 +31,21 @@ pub enum Call {
         r: u64,
         rounds: u32,
         formula: Vec<u8>,
+    },
+    /// Slip 8: "The first call may stand in the third demand's list as a set".
+    Force {
+        place: u64,
+        r: u64,
+        rounds: u32,
+        game: Named,
+    },
+    /// Slip 8: "A second call, with account and R too".
+    React {
+        place: u64,
+        rounds: u32,
+        game: Named,
+        state: u64,
+        press: u64,
     },
     Clear {
         r: u64,
@@ -177,14 +193,81 @@ impl Book {
         bytes: &[u8],
     ) -> Result<SetAnswer, Refusal> {
         let done = self.evaluate_set(accounts, place, r, rounds, bytes)?;
+        Ok(self.store(&mut accounts[place as usize], r as usize, done))
+    }
+
+    /// The changes of an answered set: its register, and its own account's tally.
+    fn store(&mut self, account: &mut Account, r: usize, done: Evaluated<StateSet>) -> SetAnswer {
         let node = settled_node(&done.value);
-        self.registers[r as usize] = Some(done.value);
-        accounts[place as usize].charge(done.rounds);
-        Ok(SetAnswer {
+        self.registers[r] = Some(done.value);
+        account.charge(done.rounds);
+        SetAnswer {
             node,
             rounds: done.rounds,
             peak: done.peak,
-        })
+        }
+    }
+
+    /// Slip 8: "store, as a set call with its account and R does, the set of
+    /// states from which the machine can force the goal".
+    pub fn force(
+        &mut self,
+        accounts: &mut [Account],
+        place: u64,
+        r: u64,
+        rounds: u32,
+        named: Named,
+    ) -> Result<SetAnswer, Refusal> {
+        let r = in_range(r, REGISTERS)?;
+        check_named(named)?;
+        let place = check_place(accounts, place)?;
+        let (_, done) = self.play(accounts[place], rounds, named)?;
+        Ok(self.store(&mut accounts[place], r, done))
+    }
+
+    /// Slip 8: "makes the rounds again, stores and tallies nothing, and gives
+    /// … the least machine answer"; "named by the state it leads to (either out
+    /// of range gives 3)"; 15 "decided once the set is made".
+    pub fn react(
+        &self,
+        accounts: &[Account],
+        place: u64,
+        rounds: u32,
+        named: Named,
+        (state, press): (u64, u64),
+    ) -> Result<u64, Refusal> {
+        check_named(named)?;
+        let states = state_count(self.n);
+        let (state, press) = (in_range(state, states)?, in_range(press, states)?);
+        let place = check_place(accounts, place)?;
+        let (game, _) = self.play(accounts[place], rounds, named)?;
+        let answer = game.answer(&game.entries(), state, press);
+        answer.map(|u| u as u64).ok_or(Refusal::NoAnswer)
+    }
+
+    /// Check 7 and the steps of a game, whose numbers are in range: the game, and
+    /// the set with what it took.
+    fn play(
+        &self,
+        account: Account,
+        rounds: u32,
+        named: Named,
+    ) -> Result<(Game, Evaluated<StateSet>), Refusal> {
+        let (goal, guest, machine) = (
+            named.goal as usize,
+            named.guest as usize,
+            named.machine as usize,
+        );
+        let moves = |t: usize| self.relations[t].as_ref().ok_or(Refusal::Empty);
+        let set = self.registers[goal].as_ref().ok_or(Refusal::Empty)?;
+        let game = Game::of(moves(guest)?, moves(machine)?, set);
+        let limits = account.limits(self.rows, rounds);
+        let formula = game::formula(goal, guest, machine);
+        let done = evaluate::set(self.held(), limits, &formula)?;
+        let entries = game.entries();
+        assert_eq!(done.value, game.forced(), "the rounds end at another set");
+        assert_eq!(done.rounds, game::rounds(&entries), "other rounds");
+        Ok((game, done))
     }
 
     /// Slip 6: valid "fixes the set V of states that exist".
@@ -311,8 +394,8 @@ impl Book {
         self.registers[r].as_ref().ok_or(Refusal::Empty)
     }
 
-    /// Makes any call and gives its answer in one form; only set takes the
-    /// accounts.
+    /// Makes any call and gives its answer in one form; sets and the calls of
+    /// games take the accounts.
     pub fn call(&mut self, accounts: &mut [Account], call: &Call) -> Answer {
         let result = match call {
             Call::Relation { t, formula } => {
@@ -327,6 +410,25 @@ impl Book {
             } => {
                 let answer = self.set(accounts, *place, *r, *rounds, formula);
                 answer.map(|set| Answer::counted(set.rounds, set.peak, set.node))
+            }
+            Call::Force {
+                place,
+                r,
+                rounds,
+                game,
+            } => {
+                let answer = self.force(accounts, *place, *r, *rounds, *game);
+                answer.map(|set| Answer::counted(set.rounds, set.peak, set.node))
+            }
+            Call::React {
+                place,
+                rounds,
+                game,
+                state,
+                press,
+            } => {
+                let answer = self.react(accounts, *place, *rounds, *game, (*state, *press));
+                answer.map(Answer::plain)
             }
             Call::Clear { r } => self.clear(*r).map(|()| Answer::plain(0)),
             Call::Valid { formula } => self.make_valid(formula).map(|()| Answer::plain(0)),
@@ -379,6 +481,14 @@ fn in_range(number: u64, bound: usize) -> Result<usize, Refusal> {
     } else {
         Err(Refusal::OutOfRange)
     }
+}
+
+/// Check 3 of a game.
+fn check_named(named: Named) -> Result<(), Refusal> {
+    in_range(named.goal, REGISTERS)?;
+    in_range(named.guest, RELATIONS)?;
+    in_range(named.machine, RELATIONS)?;
+    Ok(())
 }
 
 /// "An arrow is 0 (nothing), 1 (everything) or a used row."
