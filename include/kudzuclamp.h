@@ -20,23 +20,30 @@
  * In a set's formula true means V, NOT means V without the set, a bit its states in V; nu starts from V, and next states outside V do not exist. A
  * relation holds pairs of states of V. V is kept by every refusal, and its rows count wherever rows are counted.
  *
- * ACCOUNTS. Several callers may share a table under limits of their own. fresh and set are lent a list of 1 to 8 accounts; every set names its
- * account by its place in the list, counted from 0. An answered fresh sets all tallies to 0; an answered set adds its rounds to its own account's
- * tally and changes nothing else in the list. So, where each call gets the list as the one before left it, a tally counts the rounds of its
- * account's answered sets since fresh. Where nothing is to be limited, one account whose limits are UINT32_MAX is enough.
+ * ACCOUNTS. Several callers may share a table under limits of their own. fresh, set and the calls of games are lent a list of 1 to 8 accounts; every
+ * set names its account by its place in the list, counted from 0, and so do force, which is a set, and react, which only reads the list. An answered
+ * fresh sets all tallies to 0; an answered set adds its rounds to its own account's tally and changes nothing else in the list. So, where each call
+ * gets the list as the one before left it, a tally counts the rounds of its account's answered sets since fresh. Where nothing is to be limited, one
+ * account whose limits are UINT32_MAX is enough.
+ *
+ * GAMES. A guest and a machine move in turn: the guest presses, by a pair (now, next) of one relation, and the machine reacts, by a pair of another
+ * that begins where the press has led to. kudzuclamp_force finds the states from which the machine can force the goal, a set in a register, whatever
+ * the guest presses; kudzuclamp_react what it answers a press with. States and presses alternate: only where the guest is to press is the goal looked
+ * for. From every state outside that set the guest has a way to stay outside for good, or no move.
  *
  * REFUSALS. Each function returns 0 where it answers, else the number of its refusal. Checks 1 to 7 run in the order of their numbers, 4 to 7
  * each over the whole formula, and KUDZUCLAMP_VACUOUS (12) so directly after 5; KUDZUCLAMP_OCCUPIED (13) is checked directly after 2,
  * KUDZUCLAMP_UNLISTED (14) directly after 3, in fresh after 1; the work words of kudzuclamp_cheapest (1) are checked directly after 2. Of 8 and 9 the
- * one that evaluation meets first is returned; KUDZUCLAMP_NO_RUN (10) and then KUDZUCLAMP_SHORT (11) come after 8. A refused call writes 0 into every
- * answer, and no refusal changes an account or a list of states or relations. KUDZUCLAMP_FULL, KUDZUCLAMP_SPENT, KUDZUCLAMP_NO_RUN and
- * KUDZUCLAMP_SHORT keep V, registers, relations and the rows that these need; every other refusal keeps all words.
+ * one that evaluation meets first is returned; KUDZUCLAMP_NO_RUN (10) and then KUDZUCLAMP_SHORT (11) come after 8, KUDZUCLAMP_NO_ANSWER (15) after 8
+ * and 9. A refused call writes 0 into every answer, and no refusal changes an account or a list of states or relations. KUDZUCLAMP_FULL,
+ * KUDZUCLAMP_SPENT, KUDZUCLAMP_NO_RUN, KUDZUCLAMP_SHORT and KUDZUCLAMP_NO_ANSWER keep V, registers, relations and the rows that these need; every
+ * other refusal keeps all words.
  *
- * PEAK. Where relation and set are answered they also return their peak: the largest number of rows that a step of the call needed, of its
- * result and of all that was live at it, V and what registers and relations hold included; 0 where the formula takes no step. It does not depend on N.
- * Exactly where the peak would pass N, or for a set the lesser of N and its account's row limit, the call is refused with KUDZUCLAMP_FULL instead.
- * So to choose N, make the room's calls once on a table that is large enough: the greatest of their peaks is the least N with which the same calls
- * are all answered.
+ * PEAK. Where relation, set and force are answered they also return their peak: the largest number of rows that a step of the call needed, of its
+ * result and of all that was live at it, V and what registers and relations hold included; 0 where the formula takes no step. It does not depend on
+ * N. Exactly where the peak would pass N, or for a set or force the lesser of N and its account's row limit, the call is refused with KUDZUCLAMP_FULL
+ * instead. So to choose N, make the room's calls once on a table that is large enough: the greatest of their peaks is the least N with which the same
+ * calls are all answered.
  *
  * STACK. A call takes less than 160 KB of it, and more than 120 KB only on words whose lookup chains are longer than 32 rows (seen: 111 KB, a formula
  * of the greatest depth at n = 16). Where V is not every state and more than 2,048 rows are used, the check of the table takes up to 560 KB (seen: 522
@@ -119,7 +126,8 @@ enum kudzuclamp_number {
     KUDZUCLAMP_SHORT = 11,    /* a list is too short for the run */
     KUDZUCLAMP_VACUOUS = 12,  /* a binder's variable occurs nowhere free in its body */
     KUDZUCLAMP_OCCUPIED = 13, /* valid: a register or relation is filled */
-    KUDZUCLAMP_UNLISTED = 14  /* the list is not 1 to 8 accounts long, or has no account at that place */
+    KUDZUCLAMP_UNLISTED = 14, /* the list is not 1 to 8 accounts long, or has no account at that place */
+    KUDZUCLAMP_NO_ANSWER = 15 /* react: the state is in the goal or outside the set, or the press is no guest move */
 };
 
 /* Refusals of kudzuclamp_play itself, before its first call: all words and the list are kept, and *count is 0. */
@@ -160,6 +168,8 @@ static inline const char *kudzuclamp_text(uint32_t number)
         return "a register or relation is filled";
     case KUDZUCLAMP_UNLISTED:
         return "the list is not 1 to 8 accounts long, or has no account at that place";
+    case KUDZUCLAMP_NO_ANSWER:
+        return "the state is in the goal or outside the set, or the press is no guest move";
     case KUDZUCLAMP_PLAY_SHORT:
         return "the list is too short for the records";
     case KUDZUCLAMP_PLAY_UNREADABLE:
@@ -348,6 +358,30 @@ KUDZUCLAMP_USE_RESULT
 uint32_t kudzuclamp_cheapest(const uint32_t *words, size_t words_len, const uint8_t *prices, size_t prices_len, uint64_t *work, size_t work_len,
                              uint16_t *states, size_t states_len, uint8_t *relations, size_t relations_len, uint32_t a, uint32_t b,
                              uint32_t *total, uint32_t *charge, uint32_t *count);
+
+/*
+ * Register r then holds the states from which the machine can force the goal: those of the set in register `goal`, and those where the guest has a
+ * move of relation `guest` and after every such move some move of relation `machine` leads back into the set; the least such set. So from each of
+ * them the machine comes to the goal whatever the guest presses; a state outside the goal where the guest has no move is none of them. The call is a
+ * set call on mu P (goal or (box guest of diamond machine of P, and diamond guest of true)), the formula 70, 04, 40 + goal, 03, 60 + guest,
+ * 68 + machine, 30, 68 + guest, 01: its account at `place`, `most` (R), tally, *node, *rounds and *peak are as there. The target r may be the goal's
+ * register, and one relation may be both sides'. It returns 0, 2, 3 (r, goal, guest or machine), KUDZUCLAMP_UNLISTED, 7, 8 or 9.
+ */
+KUDZUCLAMP_USE_RESULT
+uint32_t kudzuclamp_force(uint32_t *words, size_t words_len, struct kudzuclamp_account *accounts, size_t accounts_len, uint32_t place, uint32_t r,
+                          uint32_t most, uint32_t goal, uint32_t guest, uint32_t machine, uint32_t *node, uint32_t *rounds, uint32_t *peak);
+
+/*
+ * *answer is the state to which the machine moves after the guest, in `state`, has pressed to `press`. The rounds of kudzuclamp_force are made again;
+ * each state of its set enters in one of them, those of the goal in the first. The answer is the least state to which a move of relation `machine`
+ * leads from `press` and which enters in an earlier round than `state`. So whoever answers so, press by press, comes to the goal in fewer turns than
+ * the round in which the first state enters. Nothing is stored, and the accounts are only read: the limits of the one at `place` and `most` (R) hold
+ * as for kudzuclamp_force, for the round that gives the same set again too. It returns 0, 2, 3 (goal, guest, machine, state or press),
+ * KUDZUCLAMP_UNLISTED, 7, 8, 9, or KUDZUCLAMP_NO_ANSWER where the state is in the goal or outside the set, or the press is no guest move from it.
+ */
+KUDZUCLAMP_USE_RESULT
+uint32_t kudzuclamp_react(uint32_t *words, size_t words_len, const struct kudzuclamp_account *accounts, size_t accounts_len, uint32_t place,
+                          uint32_t most, uint32_t goal, uint32_t guest, uint32_t machine, uint32_t state, uint32_t press, uint32_t *answer);
 
 /*
  * Checks formula bytes for a set call, or for a relation call where `relation` is not 0, and takes no step. It returns 2, or the number of 4 to 7
