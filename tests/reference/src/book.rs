@@ -1,9 +1,9 @@
 //! The book: calls over sets, and the refusals in document 01's order.
 
 use crate::accounts::{check_list, check_place, Account};
-use crate::evaluate::{self, Evaluated, Held};
+use crate::evaluate::{self, Evaluated, Held, Limits};
 use crate::formula::{self, Formula, Kind};
-use crate::game::{self, Game, Named};
+use crate::game::{self, Game, Made, Named};
 use crate::members::{members, Members, MAX_STATES};
 use crate::paths;
 use crate::refusal::Refusal;
@@ -218,56 +218,70 @@ impl Book {
         rounds: u32,
         named: Named,
     ) -> Result<SetAnswer, Refusal> {
-        let r = in_range(r, REGISTERS)?;
+        let place = self.check_force(accounts, place, r, named)?;
+        let made = self.make_game(accounts[place].limits(self.rows, rounds), named)?;
+        Ok(self.store(&mut accounts[place], r as usize, made.done))
+    }
+
+    /// Checks 3 and 14 of the first call; the place of its account.
+    pub fn check_force(
+        &self,
+        accounts: &[Account],
+        place: u64,
+        r: u64,
+        named: Named,
+    ) -> Result<usize, Refusal> {
+        in_range(r, REGISTERS)?;
         check_named(named)?;
-        let place = check_place(accounts, place)?;
-        let (_, done) = self.play(accounts[place], rounds, named)?;
-        Ok(self.store(&mut accounts[place], r, done))
+        check_place(accounts, place)
     }
 
     /// Slip 8: "makes the rounds again, stores and tallies nothing, and gives
-    /// … the least machine answer"; "named by the state it leads to (either out
-    /// of range gives 3)"; 15 "decided once the set is made".
+    /// … the least machine answer".
     pub fn react(
         &self,
         accounts: &[Account],
         place: u64,
         rounds: u32,
         named: Named,
-        (state, press): (u64, u64),
+        turn: (u64, u64),
     ) -> Result<u64, Refusal> {
-        check_named(named)?;
-        let states = state_count(self.n);
-        let (state, press) = (in_range(state, states)?, in_range(press, states)?);
-        let place = check_place(accounts, place)?;
-        let (game, _) = self.play(accounts[place], rounds, named)?;
-        let answer = game.answer(&game.entries(), state, press);
-        answer.map(|u| u as u64).ok_or(Refusal::NoAnswer)
+        let place = self.check_react(accounts, place, named, turn)?;
+        let made = self.make_game(accounts[place].limits(self.rows, rounds), named)?;
+        made.answer(turn)
     }
 
-    /// Check 7 and the steps of a game, whose numbers are in range: the game, and
-    /// the set with what it took.
-    fn play(
+    /// Checks 3 and 14 of the second call: a state and a guest move, "named by
+    /// the state it leads to (either out of range gives 3)".
+    pub fn check_react(
         &self,
-        account: Account,
-        rounds: u32,
+        accounts: &[Account],
+        place: u64,
         named: Named,
-    ) -> Result<(Game, Evaluated<StateSet>), Refusal> {
-        let (goal, guest, machine) = (
-            named.goal as usize,
-            named.guest as usize,
-            named.machine as usize,
-        );
+        (state, press): (u64, u64),
+    ) -> Result<usize, Refusal> {
+        check_named(named)?;
+        in_range(state, state_count(self.n))?;
+        in_range(press, state_count(self.n))?;
+        check_place(accounts, place)
+    }
+
+    /// Check 7 and the steps of a game, whose numbers are in range.
+    pub fn make_game(&self, limits: Limits, named: Named) -> Result<Made, Refusal> {
+        let [goal, guest, machine] = [named.goal, named.guest, named.machine].map(|k| k as usize);
         let moves = |t: usize| self.relations[t].as_ref().ok_or(Refusal::Empty);
         let set = self.registers[goal].as_ref().ok_or(Refusal::Empty)?;
         let game = Game::of(moves(guest)?, moves(machine)?, set);
-        let limits = account.limits(self.rows, rounds);
         let formula = game::formula(goal, guest, machine);
         let done = evaluate::set(self.held(), limits, &formula)?;
         let entries = game.entries();
         assert_eq!(done.value, game.forced(), "the rounds end at another set");
         assert_eq!(done.rounds, game::rounds(&entries), "other rounds");
-        Ok((game, done))
+        Ok(Made {
+            game,
+            entries,
+            done,
+        })
     }
 
     /// Slip 6: valid "fixes the set V of states that exist".

@@ -1,7 +1,9 @@
 //! Guest against machine (document 02, Slip 8), by an attractor over explicit
 //! moves: no formula, no round of one.
 
+use crate::evaluate::Evaluated;
 use crate::formula::{Fixpoint, Formula, Modality};
+use crate::refusal::Refusal;
 use crate::states::{state_count, PairSet, StateSet};
 use std::collections::BTreeSet;
 use std::fmt;
@@ -148,6 +150,22 @@ impl Game {
         let earlier = |&u: &usize| entries[u].is_some_and(|round| round < own);
         let answers = self.replies(press).iter().copied();
         Some(answers.filter(earlier).min().expect("an answer"))
+    }
+}
+
+/// A game whose rounds are made: what they took, and when states entered.
+#[derive(Clone, Debug)]
+pub struct Made {
+    pub game: Game,
+    pub entries: Vec<Option<u32>>,
+    pub done: Evaluated<StateSet>,
+}
+
+impl Made {
+    /// "decided once the set is made".
+    pub fn answer(&self, (state, press): (u64, u64)) -> Result<u64, Refusal> {
+        let answer = (self.game).answer(&self.entries, state as usize, press as usize);
+        answer.map(|state| state as u64).ok_or(Refusal::NoAnswer)
     }
 }
 
