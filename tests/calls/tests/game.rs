@@ -149,6 +149,9 @@ fn react(
     ([number, answer], accounts)
 }
 
+/// Pairs of states, now and next.
+type Pairs = Vec<(usize, usize)>;
+
 /// The bytes that a room is made of.
 #[derive(Clone, Debug)]
 struct Rules {
@@ -540,7 +543,7 @@ const MOST_PAIRS: [usize; 6] = [0, 4, 16, 45, 36, 29];
 
 /// A ladder: states in some order, the guest presses down or about level, the machine answers by one step down and
 /// now and then elsewhere; the goal is the lowest.
-fn ladder(random: &mut Random, n: u32) -> (Vec<(usize, usize)>, Vec<(usize, usize)>, Vec<usize>) {
+fn ladder(random: &mut Random, n: u32) -> (Pairs, Pairs, Vec<usize>) {
     let all = 1usize << n;
     let mut order: Vec<usize> = (0..all).collect();
     for i in (1..all).rev() {
@@ -567,7 +570,7 @@ fn ladder(random: &mut Random, n: u32) -> (Vec<(usize, usize)>, Vec<(usize, usiz
 }
 
 /// Any pairs.
-fn some_pairs(random: &mut Random, n: u32) -> Vec<(usize, usize)> {
+fn some_pairs(random: &mut Random, n: u32) -> Pairs {
     let many = random.below(MOST_PAIRS[n as usize] as u64 + 1);
     let all = 1 << n;
     let draw = |_| (random.below(all) as usize, random.below(all) as usize);
@@ -692,7 +695,7 @@ struct Hall {
 }
 
 impl Hall {
-    fn new(n: u32, moves: [(&[u8], Vec<(usize, usize)>); 2], goal: (&[u8], StateSet)) -> Hall {
+    fn new(n: u32, moves: [(&[u8], Pairs); 2], goal: (&[u8], StateSet)) -> Hall {
         let mut accounts = [Account::unlimited()];
         let mut table = Table::new(&mut accounts, n, 20_000).expect("sizes fit");
         let [(guest, presses), (machine, replies)] = moves;
