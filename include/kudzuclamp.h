@@ -365,7 +365,8 @@ uint32_t kudzuclamp_cheapest(const uint32_t *words, size_t words_len, const uint
  * them the machine comes to the goal whatever the guest presses; a state outside the goal where the guest has no move is none of them. The call is a
  * set call on mu P (goal or (box guest of diamond machine of P, and diamond guest of true)), the formula 70, 04, 40 + goal, 03, 60 + guest,
  * 68 + machine, 30, 68 + guest, 01: its account at `place`, `most` (R), tally, *node, *rounds and *peak are as there. The target r may be the goal's
- * register, and one relation may be both sides'. It returns 0, 2, 3 (r, goal, guest or machine), KUDZUCLAMP_UNLISTED, 7, 8 or 9.
+ * register, but then the goal is gone, and kudzuclamp_react has no answers into it; one relation may be both sides'. It returns 0, 2, 3 (r, goal,
+ * guest or machine), KUDZUCLAMP_UNLISTED, 7, 8 or 9.
  */
 KUDZUCLAMP_USE_RESULT
 uint32_t kudzuclamp_force(uint32_t *words, size_t words_len, struct kudzuclamp_account *accounts, size_t accounts_len, uint32_t place, uint32_t r,

@@ -288,7 +288,8 @@ impl<W: AsRef<[u32]> + AsMut<[u32]>> Table<W> {
     /// has a way to stay outside for good, or no move.
     ///
     /// It is a [`Table::set`] of `mu P0. goal | [guest] <machine> P0 & <guest> 1`, with its account, its
-    /// rounds and its peak. The target may be the goal's own register.
+    /// rounds and its peak. The target may be the goal's own register; then the goal is gone, and
+    /// [`Table::react`] has no answers into it.
     ///
     /// # Errors
     ///
