@@ -377,8 +377,9 @@ uint32_t kudzuclamp_force(uint32_t *words, size_t words_len, struct kudzuclamp_a
  * each state of its set enters in one of them, those of the goal in the first. The answer is the least state to which a move of relation `machine`
  * leads from `press` and which enters in an earlier round than `state`. So whoever answers so, press by press, comes to the goal in fewer turns than
  * the round in which the first state enters. Nothing is stored, and the accounts are only read: the limits of the one at `place` and `most` (R) hold
- * as for kudzuclamp_force, for the round that gives the same set again too. It returns 0, 2, 3 (goal, guest, machine, state or press),
- * KUDZUCLAMP_UNLISTED, 7, 8, 9, or KUDZUCLAMP_NO_ANSWER where the state is in the goal or outside the set, or the press is no guest move from it.
+ * as for kudzuclamp_force, for the round that gives the same set again too, and each answer takes as long as that call. It returns 0, 2, 3 (goal,
+ * guest, machine, state or press), KUDZUCLAMP_UNLISTED, 7, 8, 9, or KUDZUCLAMP_NO_ANSWER where the state is in the goal or outside the set, or the
+ * press is no guest move from it.
  */
 KUDZUCLAMP_USE_RESULT
 uint32_t kudzuclamp_react(uint32_t *words, size_t words_len, const struct kudzuclamp_account *accounts, size_t accounts_len, uint32_t place,

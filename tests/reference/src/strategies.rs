@@ -31,12 +31,6 @@ pub fn strategies(moves: &[&[usize]]) -> Vec<Strategy> {
     all
 }
 
-/// How many strategies there are.
-pub fn how_many(moves: &[&[usize]]) -> u64 {
-    let sizes = moves.iter().map(|choices| choices.len().max(1) as u64);
-    sizes.fold(1, u64::saturating_mul)
-}
-
 fn states(game: &Game) -> std::ops::Range<usize> {
     0..state_count(game.goal().n())
 }
