@@ -6,6 +6,7 @@
 //! - `list` is a list of steps as lines of text;
 //! - `compare` and `run` make each step on the library and on the book, and compare;
 //! - `writer`, `call`, `games`, `limits` and `draw` draw formulas, calls, accounts and lists;
+//! - `turns` makes the calls of games as C does;
 //! - `records` writes calls as the program's records.
 //!
 //! `cargo test --offline --release` needs `target/staticlib/libexports.a` (`rt staticlib exports`).
@@ -20,5 +21,6 @@ pub mod list;
 pub mod records;
 pub mod run;
 pub mod sound;
+pub mod turns;
 pub mod words;
 pub mod writer;

@@ -7,6 +7,8 @@
 use calls::compare::lent_accounts;
 use calls::kept;
 use calls::sound::sound;
+use calls::turns::{draw_turn, force, pairs, react, state, states};
+use calls::turns::{Pairs, Under, NAMED, OTHER, PLENTY, TARGET};
 use calls::words::{Words, FIRST_REGISTER};
 use calls::writer::{counter, frame, rules};
 use kudzuclamp::{Account, Table, Target};
@@ -14,7 +16,7 @@ use reference::accounts::Account as BookAccount;
 use reference::book::{words_for, Book, REGISTERS, RELATIONS};
 use reference::coins::holds;
 use reference::formula::{check, Kind};
-use reference::game::{rounds, Game, Made, Named};
+use reference::game::{Made, Named};
 use reference::random::Random;
 use reference::refusal::Refusal;
 use reference::states::{PairSet, StateSet};
@@ -22,64 +24,6 @@ use std::cell::RefCell;
 use std::collections::HashMap;
 use std::env;
 use std::rc::Rc;
-
-extern "C" {
-    fn kudzuclamp_force(
-        words: *mut u32,
-        words_len: usize,
-        accounts: *mut Account,
-        accounts_len: usize,
-        place: u32,
-        r: u32,
-        most: u32,
-        goal: u32,
-        guest: u32,
-        machine: u32,
-        node: *mut u32,
-        rounds: *mut u32,
-        peak: *mut u32,
-    ) -> u32;
-    fn kudzuclamp_react(
-        words: *mut u32,
-        words_len: usize,
-        accounts: *const Account,
-        accounts_len: usize,
-        place: u32,
-        most: u32,
-        goal: u32,
-        guest: u32,
-        machine: u32,
-        state: u32,
-        press: u32,
-        answer: *mut u32,
-    ) -> u32;
-}
-
-/// What stands in an answer before the call.
-const BEFORE: u32 = 0xAAAA_AAAA;
-
-/// The register and the relations of a room's game; another relation that is filled, and a register that is not.
-const NAMED: Named = Named {
-    goal: 9,
-    guest: 6,
-    machine: 2,
-};
-const OTHER: u64 = 5;
-const TARGET: u64 = 4;
-
-/// The account that a call names, and its R.
-#[derive(Clone, Copy, Debug)]
-struct Under<'a> {
-    accounts: &'a [BookAccount],
-    place: u64,
-    rounds: u32,
-}
-
-const PLENTY: Under = Under {
-    accounts: &[BookAccount::LARGEST],
-    place: 0,
-    rounds: u32::MAX,
-};
 
 /// How often each number came of either call, 0 for answered; the three ways to 15; edges of 8 by N; rooms in which
 /// some states do not exist; the most rounds.
@@ -94,63 +38,6 @@ struct Seen {
     partial: u64,
     deepest: u32,
 }
-
-/// Number, node, rounds and peak that force gave; the accounts after it.
-fn force(words: &mut [u32], under: Under, r: u64, named: Named) -> ([u32; 4], Vec<Account>) {
-    let mut accounts = lent_accounts(under.accounts);
-    let (mut node, mut rounds, mut peak) = (BEFORE, BEFORE, BEFORE);
-    // SAFETY: pointers and lengths are those of slices and locals; they overlap nothing.
-    let number = unsafe {
-        kudzuclamp_force(
-            words.as_mut_ptr(),
-            words.len(),
-            accounts.as_mut_ptr(),
-            accounts.len(),
-            under.place as u32,
-            r as u32,
-            under.rounds,
-            named.goal as u32,
-            named.guest as u32,
-            named.machine as u32,
-            &mut node,
-            &mut rounds,
-            &mut peak,
-        )
-    };
-    ([number, node, rounds, peak], accounts)
-}
-
-/// Number and answer that react gave; the accounts after it.
-fn react(
-    words: &mut [u32],
-    under: Under,
-    named: Named,
-    turn: (u64, u64),
-) -> ([u32; 2], Vec<Account>) {
-    let accounts = lent_accounts(under.accounts);
-    let mut answer = BEFORE;
-    // SAFETY: pointers and lengths are those of slices and a local; the mutable ones overlap nothing.
-    let number = unsafe {
-        kudzuclamp_react(
-            words.as_mut_ptr(),
-            words.len(),
-            accounts.as_ptr(),
-            accounts.len(),
-            under.place as u32,
-            under.rounds,
-            named.goal as u32,
-            named.guest as u32,
-            named.machine as u32,
-            turn.0 as u32,
-            turn.1 as u32,
-            &mut answer,
-        )
-    };
-    ([number, answer], accounts)
-}
-
-/// Pairs of states, now and next.
-type Pairs = Vec<(usize, usize)>;
 
 /// The bytes that a room is made of.
 #[derive(Clone, Debug)]
@@ -369,10 +256,6 @@ fn compare_game(random: &mut Random, seen: &mut Seen, rules: &Rules) {
     compare_wrong(random, seen, &mut room);
 }
 
-fn draw_turn(random: &mut Random, n: u32) -> (u64, u64) {
-    (random.below(1 << n), random.below(1 << n))
-}
-
 /// All states and presses up to n = 2, and some of a larger room; those that are fair, all up to n = 4.
 fn compare_turns(random: &mut Random, seen: &mut Seen, room: &mut Room, made: &Made) {
     let (game, entries, n) = (&made.game, &made.entries, room.book.n());
@@ -505,39 +388,6 @@ fn unsound(seen: &mut Seen, broken: Vec<u32>, under: Under, named: Named, turn: 
     seen.reacted[2] += 1;
 }
 
-/// The state, as an AND of its bits from `base` on.
-fn state(n: u32, base: u8, state: usize) -> Vec<u8> {
-    let literal = |p: u8| match state >> p & 1 {
-        1 => vec![base + p],
-        _ => vec![0x02, base + p],
-    };
-    let and = |body: Vec<u8>, p: u8| [vec![0x03], literal(p), body].concat();
-    (1..n as u8).fold(literal(0), and)
-}
-
-/// An OR, as a tree of small depth.
-fn either(mut parts: Vec<Vec<u8>>) -> Vec<u8> {
-    while parts.len() > 1 {
-        let two = |two: &[Vec<u8>]| match two {
-            [one, other] => [&[0x04], &one[..], &other[..]].concat(),
-            _ => two.concat(),
-        };
-        parts = parts.chunks(2).map(two).collect();
-    }
-    parts.pop().unwrap_or(vec![0x00])
-}
-
-fn pairs(n: u32, list: &[(usize, usize)]) -> Vec<u8> {
-    let pair = |&(now, next): &(usize, usize)| {
-        [vec![0x03], state(n, 0x10, now), state(n, 0x20, next)].concat()
-    };
-    either(list.iter().map(pair).collect())
-}
-
-fn states(n: u32, list: &[usize]) -> Vec<u8> {
-    either(list.iter().map(|&s| state(n, 0x10, s)).collect())
-}
-
 /// The most pairs of which a formula has room.
 const MOST_PAIRS: [usize; 6] = [0, 4, 16, 45, 36, 29];
 
@@ -648,199 +498,4 @@ fn drawn_rooms() {
         seen.edges > rooms / 8 && seen.partial > rooms / 5 && seen.deepest > 5,
         "{seen:?}"
     );
-}
-
-/// Bit p turns over.
-fn turns(p: u8) -> Vec<u8> {
-    let (now, next) = (0x10 + p, 0x20 + p);
-    vec![0x04, 0x03, next, 0x02, now, 0x03, 0x02, next, now]
-}
-
-fn keeps(p: u8) -> Vec<u8> {
-    [vec![0x02], turns(p)].concat()
-}
-
-fn both(parts: Vec<Vec<u8>>) -> Vec<u8> {
-    let and = |body: Vec<u8>, part: Vec<u8>| [vec![0x03], part, body].concat();
-    parts.into_iter().reduce(and).unwrap_or(vec![0x01])
-}
-
-/// A move that turns some bits over, turns some on, and keeps the others.
-#[derive(Clone, Copy, Debug)]
-struct Move {
-    turned: usize,
-    lit: usize,
-}
-
-impl Move {
-    fn formula(self, n: u32) -> Vec<u8> {
-        let bit = |p: u8| match (self.turned >> p & 1, self.lit >> p & 1) {
-            (_, 1) => vec![0x20 + p],
-            (1, _) => turns(p),
-            _ => keeps(p),
-        };
-        both((0..n as u8).map(bit).collect())
-    }
-
-    fn pairs(self, n: u32) -> impl Iterator<Item = (usize, usize)> {
-        (0..1 << n).map(move |now| (now, now ^ self.turned | self.lit))
-    }
-}
-
-/// A room that is too large for the evaluator: the game by its moves, and a table with it.
-struct Hall {
-    n: u32,
-    words: Vec<u32>,
-    game: Game,
-}
-
-impl Hall {
-    fn new(n: u32, moves: [(&[u8], Pairs); 2], goal: (&[u8], StateSet)) -> Hall {
-        let mut accounts = [Account::unlimited()];
-        let mut table = Table::new(&mut accounts, n, 20_000).expect("sizes fit");
-        let [(guest, presses), (machine, replies)] = moves;
-        for (t, bytes) in [(NAMED.guest, guest), (NAMED.machine, machine)] {
-            table
-                .relation(t as u32, frame(bytes))
-                .expect("rows in plenty");
-        }
-        let target = Target::register(NAMED.goal as u32);
-        let stored = table.set(&mut accounts, target, frame(goal.0));
-        stored.expect("rows in plenty");
-        Hall {
-            n,
-            words: table.into_words(),
-            game: Game::new(presses, replies, goal.1),
-        }
-    }
-
-    /// The set, its rounds, the edges of 8 and 9 by an account, and so many answers; gives the rounds.
-    fn compare(&mut self, random: &mut Random, seen: &mut Seen, answers: usize) -> u32 {
-        let entries = self.game.entries();
-        let rounds = rounds(&entries);
-        let before = self.words.clone();
-        let (got, _) = force(&mut self.words, PLENTY, TARGET, NAMED);
-        assert_eq!([got[0], got[2]], [0, rounds]);
-        kept::needed(&before, &self.words, Some(FIRST_REGISTER + TARGET as usize)).unwrap();
-        let table = Table::over(&self.words[..]).expect("sound");
-        let won = table.states(TARGET as u32).expect("filled");
-        let entered = (0u32..).zip(&entries).filter(|(_, entry)| entry.is_some());
-        assert!(won.eq(entered.map(|(state, _)| state)));
-        self.words = before;
-        for (rows, own, number) in [
-            (got[3], rounds, 0),
-            (got[3] - 1, rounds, 8),
-            (got[3], rounds - 1, 9),
-        ] {
-            let accounts = [BookAccount::new(rows, own)];
-            let under = Under {
-                accounts: &accounts,
-                ..PLENTY
-            };
-            assert_eq!(
-                force(&mut self.words.clone(), under, TARGET, NAMED).0[0],
-                number
-            );
-            let (state, press) = draw_turn(random, self.n);
-            let ([given, _], _) = react(&mut self.words.clone(), under, NAMED, (state, press));
-            assert_eq!(if given == 15 { 0 } else { given }, number);
-        }
-        self.compare_answers(random, seen, &entries, answers);
-        rounds
-    }
-
-    /// States and presses, most of them such as have an answer.
-    fn compare_answers(
-        &mut self,
-        random: &mut Random,
-        seen: &mut Seen,
-        entries: &[Option<u32>],
-        many: usize,
-    ) {
-        for _ in 0..many {
-            let (state, mut press) = draw_turn(random, self.n);
-            let presses = self.game.presses(state as usize);
-            if !presses.is_empty() && random.chance(85) {
-                press = random.pick(presses) as u64;
-            }
-            let wanted = self.game.answer(entries, state as usize, press as usize);
-            let before = self.words.clone();
-            let (got, _) = react(&mut self.words, PLENTY, NAMED, (state, press));
-            seen.reacted[got[0] as usize] += 1;
-            assert_eq!(
-                got,
-                wanted.map_or([15, 0], |answer| [0, answer as u32]),
-                "{state}, {press}"
-            );
-            kept::needed(&before, &self.words, None).unwrap();
-        }
-    }
-}
-
-/// Lamps: the guest turns one of some over, the machine turns some on; all of these are to be on.
-#[test]
-fn large_rooms() {
-    let (mut random, mut seen) = (Random::new(88), Seen::default());
-    let mut deepest = 0;
-    for n in [6, 6, 7, 8, 8, 9, 10, 12, 14, 16] {
-        let lamps: Vec<usize> = (0..5).map(|_| 1 << random.below(n.into())).collect();
-        let press = |&lamp: &usize| Move {
-            turned: lamp,
-            lit: 0,
-        };
-        let mut guest: Vec<Move> = lamps[..3].iter().map(press).collect();
-        guest.extend(random.chance(50).then_some(Move { turned: 0, lit: 0 }));
-        let lights = |random: &mut Random| Move {
-            turned: 0,
-            lit: random.pick(&lamps) | random.pick(&lamps),
-        };
-        let machine: Vec<Move> = (0..4).map(|_| lights(&mut random)).collect();
-        let formula = |moves: &[Move]| either(moves.iter().map(|m| m.formula(n)).collect());
-        let pairs = |moves: &[Move]| moves.iter().flat_map(|m| m.pairs(n)).collect::<Vec<_>>();
-        let all = machine.iter().fold(0, |all, m| all | m.lit);
-        let lit = (0..n as u8).filter(|p| all >> p & 1 == 1);
-        let goal = both(lit.map(|p| vec![0x10 + p]).collect());
-        let mut hall = Hall::new(
-            n,
-            [
-                (&formula(&guest), pairs(&guest)),
-                (&formula(&machine), pairs(&machine)),
-            ],
-            (&goal, StateSet::from_fn(n, |s| s & all == all)),
-        );
-        deepest = deepest.max(hall.compare(&mut random, &mut seen, 12));
-    }
-    eprintln!("{seen:?}, at most {deepest} rounds");
-    assert!(
-        seen.reacted[0] > 15 && seen.reacted[15] > 15 && deepest > 3,
-        "{seen:?}"
-    );
-}
-
-/// The machine counts up, the guest leaves it as it is: a state enters in each round.
-#[test]
-fn as_many_rounds_as_there_are() {
-    let (mut random, mut seen) = (Random::new(89), Seen::default());
-    let n = 8;
-    let carried = |p: u8| vec![0x03, 0x0F + p, 0x02, 0x1F + p];
-    // A bit turns over exactly where the one below it turns from 1 to 0.
-    let above = |p: u8| {
-        let both_so = [vec![0x03], turns(p), carried(p)].concat();
-        let neither = [vec![0x03, 0x02], turns(p), vec![0x02], carried(p)].concat();
-        [vec![0x04], both_so, neither].concat()
-    };
-    let count = both(
-        (0..n)
-            .map(|p| if p == 0 { turns(0) } else { above(p) })
-            .collect(),
-    );
-    let stay = both((0..n).map(keeps).collect());
-    let last = (1usize << n) - 1;
-    let counted = (0..=last).map(|now| (now, (now + 1) & last)).collect();
-    let stayed = (0..=last).map(|now| (now, now)).collect();
-    let n = u32::from(n);
-    let goal = (&state(n, 0x10, 0)[..], StateSet::from_fn(n, |s| s == 0));
-    let mut hall = Hall::new(n, [(&stay, stayed), (&count, counted)], goal);
-    assert_eq!(hall.compare(&mut random, &mut seen, 20), 257);
-    assert!(seen.reacted[0] > 10, "{seen:?}");
 }
