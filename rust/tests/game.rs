@@ -165,7 +165,14 @@ fn limits() {
     let mut whole = Table::over(before).unwrap();
     assert_eq!(room.count(GOAL), Ok(1));
     assert_eq!(room.collect(), whole.collect());
-    // A table of as many rows as the peak is enough, and one row less is not.
+}
+
+/// A table of as many rows as the peak is enough, and one row less is not.
+#[test]
+fn rows_of_the_table() {
+    let mut accounts = [Account::unlimited()];
+    let won = ladder().force(&mut accounts, Target::register(WON), GAME);
+    let won = won.unwrap();
     for rows in [won.peak, won.peak - 1] {
         let mut small = table(rows, Formula::truth(), PRESSES, REPLIES);
         let forced = small.force(&mut accounts, Target::register(WON), GAME);
@@ -178,21 +185,23 @@ fn limits() {
     }
 }
 
-/// Numbers 3, 14, 7 and 2, each before what comes after it; a refused call changes nothing.
+/// Relation 3 is empty.
+const EMPTY: Game = Game::new(GOAL, GUEST, 3);
+
+/// 3 comes before 14 and 7.
 #[test]
-fn checks_in_order() {
+fn numbers_out_of_range() {
     let mut table = ladder();
     let words = table.words().to_vec();
-    let empty = Game { machine: 3, ..GAME };
-    let far = [
-        Game { goal: 32, ..empty },
-        Game { guest: 8, ..empty },
+    let games = [
+        Game { goal: 32, ..EMPTY },
+        Game { guest: 8, ..EMPTY },
         Game {
             machine: u32::MAX,
-            ..empty
+            ..EMPTY
         },
     ];
-    for game in far {
+    for game in games {
         let forced = table.force(&mut [], Target::register(WON), game);
         assert_eq!(forced, Err(Refusal::Range));
         assert_eq!(
@@ -200,24 +209,41 @@ fn checks_in_order() {
             Err(Refusal::Range)
         );
     }
-    let forced = table.force(&mut [], Target::register(32), empty);
+    let forced = table.force(&mut [], Target::register(32), EMPTY);
     assert_eq!(forced, Err(Refusal::Range));
+    for (s, press) in [(8, 0), (0, 8)] {
+        assert_eq!(
+            table.react(&[], Strategy::new(EMPTY), s, press),
+            Err(Refusal::Range)
+        );
+    }
+    assert_eq!(table.words(), words);
+    // 2 comes before 3.
+    table.words_mut()[0] = 17;
+    let forced = table.force(&mut [], Target::register(32), games[0]);
+    assert_eq!(forced, Err(Refusal::Unsound));
     assert_eq!(
-        table.react(&[], Strategy::new(empty), 8, 0),
-        Err(Refusal::Range)
+        table.react(&[], Strategy::new(games[0]), 8, 8),
+        Err(Refusal::Unsound)
     );
+}
+
+/// 14 comes before 7, and 7 before 8 and 9; accounts and words are kept.
+#[test]
+fn accounts_and_empty_places() {
+    let mut table = ladder();
+    let words = table.words().to_vec();
     let mut nine = [Account::unlimited(); 9];
     for place in [0, 1, 8, usize::MAX] {
         for list in [&mut [][..], &mut nine[..]] {
-            let target = Target::register(WON).account(place);
-            let strategy = Strategy::new(empty).account(place);
+            let strategy = Strategy::new(EMPTY).account(place);
             assert_eq!(table.react(list, strategy, 0, 0), Err(Refusal::Unlisted));
-            assert_eq!(table.force(list, target, empty), Err(Refusal::Unlisted));
+            let target = Target::register(WON).account(place);
+            assert_eq!(table.force(list, target, EMPTY), Err(Refusal::Unlisted));
         }
     }
     let mut accounts = [Account::limited(0, 0)];
-    let games = [empty, Game { goal: 8, ..GAME }, Game { guest: 7, ..GAME }];
-    for game in games {
+    for game in [EMPTY, Game { goal: 8, ..GAME }, Game { guest: 7, ..GAME }] {
         let forced = table.force(&mut accounts, Target::register(WON), game);
         assert_eq!(forced, Err(Refusal::Empty));
         let reacted = table.react(&accounts, Strategy::new(game), 3, 3);
@@ -225,15 +251,6 @@ fn checks_in_order() {
     }
     assert_eq!(table.words(), words);
     assert_eq!(accounts, [Account::limited(0, 0)]);
-    table.words_mut()[0] = 17;
-    assert_eq!(
-        table.react(&[], Strategy::new(far[0]), 8, 8),
-        Err(Refusal::Unsound)
-    );
-    assert_eq!(
-        table.force(&mut [], Target::register(32), far[0]),
-        Err(Refusal::Unsound)
-    );
 }
 
 /// Moves to and from states that do not exist are no moves: without 5, state 1 has no press.

@@ -75,6 +75,28 @@ pub fn make(
             let answer = table.set(accounts, target, formula);
             answer.map(stored).map_err(Refusal::from)
         }
+        Call::Force { .. } | Call::React { .. } => make_game(table, accounts, call),
+        Call::Clear { r } => table.clear(*r as u32).map(none),
+        Call::Valid { formula } => table.valid(formula).map(none).map_err(Refusal::from),
+        Call::Collect => table.collect().map(plain),
+        Call::Node { r } => table.node(*r as u32).map(plain),
+        Call::Member { r, state } => {
+            let member = table.member(*r as u32, *state as u32);
+            member.map(|member| plain(member.into()))
+        }
+        Call::Count { r } => table.count(*r as u32).map(plain),
+    };
+    // The wrapper gives no values with a refusal; tests/zeros.rs looks at them.
+    result.unwrap_or_else(|refusal| Answer::refused(refusal.number() as u8))
+}
+
+/// Makes a call of a game on the library.
+fn make_game(
+    table: &mut Table<Vec<u32>>,
+    accounts: &mut [kudzuclamp::Account],
+    call: &Call,
+) -> Result<Answer, Refusal> {
+    match call {
         Call::Force {
             place,
             r,
@@ -101,20 +123,10 @@ pub fn make(
                 rounds: *rounds,
             };
             let answer = table.react(accounts, strategy, *state as u32, *press as u32);
-            answer.map(plain)
+            answer.map(|answer| Answer::plain(answer.into()))
         }
-        Call::Clear { r } => table.clear(*r as u32).map(none),
-        Call::Valid { formula } => table.valid(formula).map(none).map_err(Refusal::from),
-        Call::Collect => table.collect().map(plain),
-        Call::Node { r } => table.node(*r as u32).map(plain),
-        Call::Member { r, state } => {
-            let member = table.member(*r as u32, *state as u32);
-            member.map(|member| plain(member.into()))
-        }
-        Call::Count { r } => table.count(*r as u32).map(plain),
-    };
-    // The wrapper gives no values with a refusal; tests/zeros.rs looks at them.
-    result.unwrap_or_else(|refusal| Answer::refused(refusal.number() as u8))
+        _ => unreachable!("no call of a game"),
+    }
 }
 
 fn loaded(loaded: Loaded) -> Answer {

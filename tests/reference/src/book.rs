@@ -425,6 +425,23 @@ impl Book {
                 let answer = self.set(accounts, *place, *r, *rounds, formula);
                 answer.map(|set| Answer::counted(set.rounds, set.peak, set.node))
             }
+            Call::Force { .. } | Call::React { .. } => self.call_game(accounts, call),
+            Call::Clear { r } => self.clear(*r).map(|()| Answer::plain(0)),
+            Call::Valid { formula } => self.make_valid(formula).map(|()| Answer::plain(0)),
+            Call::Collect => Ok(Answer::plain(self.collect())),
+            Call::Node { r } => self.node(*r).map(|node| Answer::counted(0, 0, node)),
+            Call::Member { r, state } => {
+                let member = self.member(*r, *state);
+                member.map(|member| Answer::plain(member.into()))
+            }
+            Call::Count { r } => self.count(*r).map(Answer::plain),
+        };
+        result.unwrap_or_else(|refusal| Answer::refused(refusal.number()))
+    }
+
+    /// Makes a call of a game.
+    fn call_game(&mut self, accounts: &mut [Account], call: &Call) -> Result<Answer, Refusal> {
+        match call {
             Call::Force {
                 place,
                 r,
@@ -444,17 +461,8 @@ impl Book {
                 let answer = self.react(accounts, *place, *rounds, *game, (*state, *press));
                 answer.map(Answer::plain)
             }
-            Call::Clear { r } => self.clear(*r).map(|()| Answer::plain(0)),
-            Call::Valid { formula } => self.make_valid(formula).map(|()| Answer::plain(0)),
-            Call::Collect => Ok(Answer::plain(self.collect())),
-            Call::Node { r } => self.node(*r).map(|node| Answer::counted(0, 0, node)),
-            Call::Member { r, state } => {
-                let member = self.member(*r, *state);
-                member.map(|member| Answer::plain(member.into()))
-            }
-            Call::Count { r } => self.count(*r).map(Answer::plain),
-        };
-        result.unwrap_or_else(|refusal| Answer::refused(refusal.number()))
+            _ => unreachable!("no call of a game"),
+        }
     }
 }
 
