@@ -54,11 +54,10 @@
  * one kudzuclamp_play, which checks once. R and an account's round limit bound the rounds of a set, and no more than these: a formula without binders
  * has no round, and its steps may still take long in a large table.
  *
- * POINTERS. A slice is a pointer and its number of elements. No pointer may be null, not even with 0 elements. Words and lists that are not const,
- * the accounts, and each answer must overlap nothing else that is lent to the call, and no other thread may use them meanwhile; nor may one write
- * the rest. Words, accounts and answers are aligned as their types are, to 4 bytes, lists of 16-bit numbers to 2, the work words of
- * kudzuclamp_cheapest and *count of kudzuclamp_play to 8; bytes stand anywhere. So words that come from a byte buffer or a file are copied into an
- * array of uint32_t first.
+ * POINTERS. A slice is a pointer and its number of elements. No pointer may be null, not even with 0 elements. Words, accounts and lists that are not
+ * const, and each answer, must overlap nothing else that is lent to the call, and no other thread may use them meanwhile; nor may one write the rest.
+ * Words, accounts and answers are aligned as their types are, to 4 bytes, lists of 16-bit numbers to 2, the work words of kudzuclamp_cheapest and
+ * *count of kudzuclamp_play to 8; bytes stand anywhere. So words that come from a byte buffer or a file are copied into an array of uint32_t first.
  */
 #ifndef KUDZUCLAMP_H
 #define KUDZUCLAMP_H
