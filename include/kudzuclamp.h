@@ -28,8 +28,8 @@
  *
  * GAMES. A guest and a machine move in turn: the guest presses, by a pair (now, next) of one relation, and the machine reacts, by a pair of another
  * that begins where the press has led to. kudzuclamp_force finds the states from which the machine can force the goal, a set in a register, whatever
- * the guest presses; kudzuclamp_react what it answers a press with. States and presses alternate: only where the guest is to press is the goal looked
- * for. From every state outside that set the guest has a way to stay outside for good, or no move.
+ * the guest presses (its attractor in a reachability game); kudzuclamp_react what it answers a press with. The goal counts only where the guest is to
+ * press. From every state outside that set the guest has a way to stay outside for good, or no move.
  *
  * REFUSALS. Each function returns 0 where it answers, else the number of its refusal. Checks 1 to 7 run in the order of their numbers, 4 to 7
  * each over the whole formula, and KUDZUCLAMP_VACUOUS (12) so directly after 5; KUDZUCLAMP_OCCUPIED (13) is checked directly after 2,

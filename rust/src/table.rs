@@ -284,8 +284,8 @@ impl<W: AsRef<[u32]> + AsMut<[u32]>> Table<W> {
 
     /// The [`Target`]'s register then holds the states from which the machine can force the goal of a
     /// [`Game`]: those of the goal, and those where the guest has a move and after every guest move
-    /// some machine move leads back into the set; the least such set. From every other state the guest
-    /// has a way to stay outside for good, or no move.
+    /// some machine move leads back into the set; the least such set (the goal's attractor). From every
+    /// other state the guest has a way to stay outside for good, or no move.
     ///
     /// It is a [`Table::set`] of `mu P0. goal | [guest] <machine> P0 & <guest> 1`, with its account, its
     /// rounds and its peak. The target may be the goal's own register; then the goal is gone, and
