@@ -20,11 +20,16 @@
  * In a set's formula true means V, NOT means V without the set, a bit its states in V; nu starts from V, and next states outside V do not exist. A
  * relation holds pairs of states of V. V is kept by every refusal, and its rows count wherever rows are counted.
  *
- * ACCOUNTS. Several callers may share a table under limits of their own. fresh, set, force and react are lent a list of 1 to 8 accounts; each but
- * fresh names its account by its place in the list, counted from 0. An answered fresh sets all tallies to 0; an answered set or force adds its rounds
- * to its own account's tally and changes nothing else in the list, and react changes nothing in it. So, where each call gets the list as the one
- * before left it, a tally counts the rounds of its account's answered sets and forces since fresh. Where nothing is to be limited, one account whose
- * limits are UINT32_MAX is enough.
+ * ACCOUNTS. Several callers may share a table under limits of their own. fresh, set and the calls of games are lent a list of 1 to 8 accounts; every
+ * set names its account by its place in the list, counted from 0, and so do force, which is a set, and react, which only reads the list. An answered
+ * fresh sets all tallies to 0; an answered set adds its rounds to its own account's tally and changes nothing else in the list. So, where each call
+ * gets the list as the one before left it, a tally counts the rounds of its account's answered sets since fresh. Where nothing is to be limited, one
+ * account whose limits are UINT32_MAX is enough.
+ *
+ * GAMES. A guest and a machine move in turn: the guest presses, by a pair (now, next) of one relation, and the machine reacts, by a pair of another
+ * that begins where the press has led to. kudzuclamp_force finds the states from which the machine can force the goal, a set in a register, whatever
+ * the guest presses (its attractor in a reachability game); kudzuclamp_react what it answers a press with. The goal counts only where the guest is to
+ * press. From every state outside that set the guest has a way to stay outside for good, or no move.
  *
  * REFUSALS. Each function returns 0 where it answers, else the number of its refusal. Checks 1 to 7 run in the order of their numbers, 4 to 7
  * each over the whole formula, and KUDZUCLAMP_VACUOUS (12) so directly after 5; KUDZUCLAMP_OCCUPIED (13) is checked directly after 2,
@@ -35,8 +40,8 @@
  * other refusal keeps all words.
  *
  * PEAK. Where relation, set and force are answered they also return their peak: the largest number of rows that a step of the call needed, of its
- * result and of all that was live at it, V and what registers and relations hold included; 0 where the formula takes no step. It does not depend on N.
- * Exactly where the peak would pass N, or for a set or force the lesser of N and its account's row limit, the call is refused with KUDZUCLAMP_FULL
+ * result and of all that was live at it, V and what registers and relations hold included; 0 where the formula takes no step. It does not depend on
+ * N. Exactly where the peak would pass N, or for a set or force the lesser of N and its account's row limit, the call is refused with KUDZUCLAMP_FULL
  * instead. So to choose N, make the room's calls once on a table that is large enough: the greatest of their peaks is the least N with which the same
  * calls are all answered.
  *
@@ -50,10 +55,9 @@
  * has no round, and its steps may still take long in a large table.
  *
  * POINTERS. A slice is a pointer and its number of elements. No pointer may be null, not even with 0 elements. Words, accounts and lists that are not
- * const, and each answer must overlap nothing else that is lent to the call, and no other thread may use them meanwhile; nor may one write
- * the rest. Words, accounts and answers are aligned as their types are, to 4 bytes, lists of 16-bit numbers to 2, the work words of
- * kudzuclamp_cheapest and *count of kudzuclamp_play to 8; bytes stand anywhere. So words that come from a byte buffer or a file are copied into an
- * array of uint32_t first.
+ * const, and each answer, must overlap nothing else that is lent to the call, and no other thread may use them meanwhile; nor may one write the rest.
+ * Words, accounts and answers are aligned as their types are, to 4 bytes, lists of 16-bit numbers to 2, the work words of kudzuclamp_cheapest and
+ * *count of kudzuclamp_play to 8; bytes stand anywhere. So words that come from a byte buffer or a file are copied into an array of uint32_t first.
  */
 #ifndef KUDZUCLAMP_H
 #define KUDZUCLAMP_H
@@ -356,22 +360,26 @@ uint32_t kudzuclamp_cheapest(const uint32_t *words, size_t words_len, const uint
                              uint32_t *total, uint32_t *charge, uint32_t *count);
 
 /*
- * The guest moves by relation `guest`, then the machine by relation `machine`, in turn. Register r then holds the states from which the machine can
- * force the set in register `goal`: those in the goal, and those where the guest has a move and after every guest move some machine move leads back
- * into the set; the least such set. In every other state the guest has a way to stay outside for good, or no move. The call is kudzuclamp_set's of
- * mu P (goal or (box guest of diamond machine of P, and diamond guest of true)): its steps, rounds and account, *node, *rounds and *peak are those.
- * r may be `goal`. It returns 0, 2, 3 (for `goal`, `guest` and `machine` too), KUDZUCLAMP_UNLISTED, 7, 8 or 9.
+ * Register r then holds the states from which the machine can force the goal: those of the set in register `goal`, and those where the guest has a
+ * move of relation `guest` and after every such move some move of relation `machine` leads back into the set; the least such set. So from each of
+ * them the machine comes to the goal whatever the guest presses; a state outside the goal where the guest has no move is none of them. The call is a
+ * set call on mu P (goal or (box guest of diamond machine of P, and diamond guest of true)), the formula 70, 04, 40 + goal, 03, 60 + guest,
+ * 68 + machine, 30, 68 + guest, 01: its account at `place`, `most` (R), tally, *node, *rounds and *peak are as there. The target r may be the goal's
+ * register, but then the goal is gone, and kudzuclamp_react has no answers into it; one relation may be both sides'. It returns 0, 2, 3 (r, goal,
+ * guest or machine), KUDZUCLAMP_UNLISTED, 7, 8 or 9.
  */
 KUDZUCLAMP_USE_RESULT
 uint32_t kudzuclamp_force(uint32_t *words, size_t words_len, struct kudzuclamp_account *accounts, size_t accounts_len, uint32_t place, uint32_t r,
                           uint32_t most, uint32_t goal, uint32_t guest, uint32_t machine, uint32_t *node, uint32_t *rounds, uint32_t *peak);
 
 /*
- * What the machine answers in that game when the guest moves from `state`, a state of that set outside the goal, to the state `press`: *answer is the
- * least state to which the machine can move from `press` and which enters the set in an earlier round than `state` does. A machine that answers so
- * each time comes into the goal. The rounds are made again, under the limits of the account at `place` and `most`, of which they need as many as
- * kudzuclamp_force; no register, relation or account changes. It returns 0, 2, 3 (for a state or a press out of range too), KUDZUCLAMP_UNLISTED, 7, 8,
- * 9 or KUDZUCLAMP_NO_ANSWER.
+ * *answer is the state to which the machine moves after the guest, in `state`, has pressed to `press`. The rounds of kudzuclamp_force are made again;
+ * each state of its set enters in one of them, those of the goal in the first. The answer is the least state to which a move of relation `machine`
+ * leads from `press` and which enters in an earlier round than `state`. So whoever answers so, press by press, comes to the goal in fewer turns than
+ * the round in which the first state enters. Nothing is stored, and the accounts are only read: the limits of the one at `place` and `most` (R) hold
+ * as for kudzuclamp_force, for the round that gives the same set again too, and each answer takes as long as that call. It returns 0, 2, 3 (goal,
+ * guest, machine, state or press), KUDZUCLAMP_UNLISTED, 7, 8, 9, or KUDZUCLAMP_NO_ANSWER where the state is in the goal or outside the set, or the
+ * press is no guest move from it.
  */
 KUDZUCLAMP_USE_RESULT
 uint32_t kudzuclamp_react(uint32_t *words, size_t words_len, const struct kudzuclamp_account *accounts, size_t accounts_len, uint32_t place,

@@ -90,8 +90,12 @@ fn random_lists() {
         numbers,
         sets,
         untils,
+        games,
         ..
     } = totals.counts;
+    for number in [0, 2, 3, 7, 8, 9, 14, 15] {
+        assert!(games[number] > 0, "no call of a game gave {number}");
+    }
     for number in (0..=9).chain([12, 14]) {
         assert!(numbers[number] > 0, "no call gave {number}");
         // 1 is of fresh alone.
@@ -122,6 +126,7 @@ fn report(totals: &Totals, seed: u64, lists: u64, seconds: f64) {
         numbers,
         sets,
         untils,
+        games,
         peaks,
         questions,
         ..
@@ -144,9 +149,11 @@ fn report(totals: &Totals, seed: u64, lists: u64, seconds: f64) {
     }
     let with_until: u64 = untils.iter().sum();
     text += &format!(
-        "\nsets {sets}, with until {with_until}: {}\n",
+        "\nsets {sets}, with until {with_until}: {}",
         by_number(&untils)
     );
+    let of_games: u64 = games.iter().sum();
+    text += &format!("\ncalls of games {of_games}: {}\n", by_number(&games));
     stderr()
         .write_all(text.as_bytes())
         .expect("stderr takes text");
