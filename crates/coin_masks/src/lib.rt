@@ -1,32 +1,43 @@
-// Of 64 states that differ in six bits only, those from which an arrow leads to a state: a mask, which is remembered.
+// Of 64 states that differ in six bits only, those from which an arrow leads to one of 64 goals: a mask, which is remembered.
 use layout::Table;
 use seek::follow_at;
 use seek::level_of;
-use states::bit;
-ghost use Prim.Native.Nat.{_+_, _/_, _%_, _^_, _≤_, _<_};
-ghost use Rattle.coin_masks.specs.Masks.{Beside, Chosen, Covers, Masked, columnOf};
+ghost use Prim.Native.Nat.{_+_, _<_};
+ghost use Rattle.coin_masks.specs.Masks.{Chosen, Lower, MaskPost, MaskPre, Upper, columnOf};
+ghost use Rattle.layout.specs.Arrows.{isRow};
 ghost use Rattle.layout.specs.View.{view};
-ghost use Rattle.seek.specs.Walk.{HoldsPre};
 ghost use lib.ListN.{length, set};
+ghost use mathlib.Core.Bool.{true};
 ghost use mathlib.Core.Path.{_≡_};
 
-// Lent words of 64 bits: for each choice of the bits below the six which of its 64 states are known to be marked; the keys of masks that
-// are remembered, and the masks; the keys of arrows that are spent.
+// Lent words of 64 bits: for each node which of its 64 classes are known to be marked; for each choice of the lower bits the arrow and the
+// goals that are done; spent arrows with their goals; arrows, goals and masks that are remembered.
 pub struct Notes;
 
 impl Notes {
-    pub const KEYS: usize = 1024;
+    // Goals that are done.
+    pub const DONE: usize = 2048;
 
-    pub const MASKS: usize = 1280;
+    pub const DONE_GOALS: usize = 3072;
 
-    pub const SPENT: usize = 1536;
+    // Spent arrows and their goals.
+    pub const SPENT: usize = 4096;
 
-    pub const WORDS: usize = 3575;
+    pub const SPENT_GOALS: usize = 4223;
+
+    // Arrows, goals and masks.
+    pub const ARROWS: usize = 4350;
+
+    pub const GOALS: usize = 4759;
+
+    pub const MASKS: usize = 5168;
+
+    pub const WORDS: usize = 5577;
 
     // How many masks are remembered, and how many spent arrows.
-    pub const KEPT: u64 = 256;
+    pub const KEPT: u64 = 409;
 
-    pub const SLOTS: u64 = 2039;
+    pub const SLOTS: u64 = 127;
 
     pub const ALL: u64 = 18446744073709551615;
 }
@@ -53,63 +64,90 @@ fn choose_bits(k: u32, low: u64, high: u64) -> u64
     low ^ ((low ^ high) & column(k))
 }
 
-// Of the 64 states those from which arrow x may lead to state t, by the six bits from `low` on; all where x reads another bit.
-fn leading(words: &[u32], rows: u32, low: u32, x: u32, t: u32) -> u64
-    requires { ⌜ HoldsPre (view rows (now words)) x × (low ≤ 10) ⌝ }
-    ensures { λ r. ⌜ Covers (view rows (now (words .entry))) low (t / 2 ^ low % 64) x r ⌝ }
+// Of the goals those whose bit k is 0.
+fn low_goals(k: u32, goals: u64) -> u64
+    requires { ⌜ k < 6 ⌝ }
+    ensures { λ r. ⌜ Lower k goals r ⌝ }
+{
+    goals ^ (goals & column(k))
+}
+
+// Of the goals those whose bit k is 1, with this bit 0.
+fn high_goals(k: u32, goals: u64) -> u64
+    requires { ⌜ k < 6 ⌝ }
+    ensures { λ r. ⌜ Upper k goals r ⌝ }
+{
+    let high = goals & column(k);
+    high >> (1u32 << k)
+}
+
+// The mask of arrow x, which leads to a row, worked out: both sides of the bit that it reads. A bit that is none of the six is 0.
+fn leading(words: &[u32], rows: u32, notes: &mut [u64], low: u32, x: u32, goals: u64) -> u64
+    requires { ⌜ MaskPre (view rows (now words)) low x (now notes) × (isRow x ≡ true) ⌝ }
+    ensures { λ r. ⌜ MaskPost (view rows (now (words .entry))) low x goals (now (notes .entry)) (now (notes .exit)) r ⌝ }
+{
+    let level = level_of(words, rows, x);
+    let y = follow_at(words, rows, x, level, false);
+    let p = level / 2;
+    if p < low {
+        return mask_of(words, rows, notes, low, y, goals);
+    }
+    let k = p - low;
+    if k > 5 {
+        return mask_of(words, rows, notes, low, y, goals);
+    }
+    let z = follow_at(words, rows, x, level, true);
+    if level % 2 == 0 {
+        let a = mask_of(words, rows, notes, low, y, goals);
+        let b = mask_of(words, rows, notes, low, z, goals);
+        return choose_bits(k, a, b);
+    }
+    let first = low_goals(k, goals);
+    let second = high_goals(k, goals);
+    let a = mask_of(words, rows, notes, low, y, first);
+    let b = mask_of(words, rows, notes, low, z, second);
+    a | b
+}
+
+// The mask is remembered at place `at`, with its arrow and goals.
+fn keep_mask(notes: &mut [u64], at: usize, x: u64, goals: u64, mask: u64)
+    requires { ⌜ (at < 409) × (length (now notes) ≡ 5_577) ⌝ }
+    ensures { λ _.
+        ⌜ now (notes .exit) ≡ set (set (set (now (notes .entry)) (4_350 + at) x) (4_759 + at) goals) (5_168 + at) mask ⌝ }
+{
+    let place = Notes::ARROWS + at;
+    let there = Notes::GOALS + at;
+    let last = Notes::MASKS + at;
+    notes[place] = x;
+    notes[there] = goals;
+    notes[last] = mask;
+}
+
+// Of 64 states, whose bits other than the six from `low` on are 0, those from which arrow x leads to one of the goals, 64 such states.
+pub fn mask_of(words: &[u32], rows: u32, notes: &mut [u64], low: u32, x: u32, goals: u64) -> u64
+    requires { ⌜ MaskPre (view rows (now words)) low x (now notes) ⌝ }
+    ensures { λ r. ⌜ MaskPost (view rows (now (words .entry))) low x goals (now (notes .entry)) (now (notes .exit)) r ⌝ }
 {
     if x == Table::NOTHING {
         return 0;
     }
-    let level = level_of(words, rows, x);
-    let p = level / 2;
-    if p < low {
+    if goals == 0 {
+        return 0;
+    }
+    if x == Table::EVERYTHING {
         return Notes::ALL;
     }
-    let k = p - low;
-    if k > 5 {
-        return Notes::ALL;
-    }
-    if level % 2 == 1 {
-        let side = bit(t, p);
-        let y = follow_at(words, rows, x, level, side);
-        return leading(words, rows, low, y, t);
-    }
-    let y = follow_at(words, rows, x, level, false);
-    let z = follow_at(words, rows, x, level, true);
-    let a = leading(words, rows, low, y, t);
-    let b = leading(words, rows, low, z, t);
-    choose_bits(k, a, b)
-}
-
-// The mask is remembered at place `at`, with its key.
-fn keep_mask(notes: &mut [u64], at: usize, key: u64, mask: u64)
-    requires { ⌜ (at < 256) × (length (now notes) ≡ 3_575) ⌝ }
-    ensures { λ _. ⌜ now (notes .exit) ≡ set (set (now (notes .entry)) (1_024 + at) key) (1_280 + at) mask ⌝ }
-{
-    let place = Notes::KEYS + at;
-    let there = Notes::MASKS + at;
-    notes[place] = key;
-    notes[there] = mask;
-}
-
-// The same, remembered.
-pub fn mask_of(words: &[u32], rows: u32, notes: &mut [u64], low: u32, x: u32, t: u32) -> u64
-    requires { ⌜ HoldsPre (view rows (now words)) x × (low ≤ 10) × Masked (view rows (now words)) low (now notes) ⌝ }
-    ensures { λ r.
-        ⌜ Covers (view rows (now (words .entry))) low (t / 2 ^ low % 64) x r
-        × Masked (view rows (now (words .entry))) low (now (notes .exit)) × Beside (now (notes .entry)) (now (notes .exit)) ⌝ }
-{
-    let part = ((t >> low) % 64) as u64;
     let arrow = x as u64;
-    let key = arrow * 64 + part;
-    let at = ((arrow + part * 4) % Notes::KEPT) as usize;
-    let place = Notes::KEYS + at;
-    let there = Notes::MASKS + at;
-    if notes[place] == key {
-        return notes[there];
+    let at = ((arrow ^ goals) % Notes::KEPT) as usize;
+    let place = Notes::ARROWS + at;
+    let there = Notes::GOALS + at;
+    let last = Notes::MASKS + at;
+    if notes[place] == arrow {
+        if notes[there] == goals {
+            return notes[last];
+        }
     }
-    let mask = leading(words, rows, low, x, t);
-    keep_mask(notes, at, key, mask);
+    let mask = leading(words, rows, notes, low, x, goals);
+    keep_mask(notes, at, arrow, goals, mask);
     mask
 }

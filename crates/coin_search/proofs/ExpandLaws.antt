@@ -1,13 +1,15 @@
--- Laws of what specs/Expand.antt defines. Assumes nothing.
-use mathlib.Core.Path.{_≡_, refl, sym, ap, _∙_, subst, fun-ext}
-use mathlib.Core.Logic.{by-cases}
+-- Laws of what specs/Expand.antt defines: each return of `expand`. Assumes nothing.
+use mathlib.Core.Path.{_≡_, refl, sym, ap, _∙_, subst}
+use mathlib.Core.Logic.{_⊎_, inl, inr, by-cases}
 use mathlib.Core.Bool.{Bool, true, false, true≢false}
 use mathlib.Core.List.{List}
-use Prim.Native.Nat.{ℕ, suc, _+_, _*_, _%_, _^_, _≤_, _<_}
-use native.Mathlib.Nat.{mod-eq-of-lt}
-use native.Mathlib.Decide.{ℕ-discrete, decLe}
+use Prim.Native.Nat.{ℕ, suc, _+_, _-_, _*_, _/_, _%_, _^_, _≤_, _<_}
+use native.Mathlib.Decide.{decLe}
 use native.Mathlib.Omega.{arith}
-use lib.ListN.{length}
+use lib.Dec.{eqb}
+use lib.ListN.{length, getD, set}
+use lib.Bits.{bitAnd}
+use lib.Pow.{pow-mono, mod-mod-pow, field, shl-shr, shr-shr, split}
 use Rattle.mucalculus.specs.Means.{bit}
 use Rattle.layout.specs.Places.{BITS}
 use Rattle.layout.specs.View.{View}
@@ -15,176 +17,289 @@ use Rattle.diagram.proofs.Den.{den-zero}
 use Rattle.rows.specs.Used.{rowsOf}
 use Rattle.book.specs.States.{pairVal}
 use Rattle.book.proofs.States.{pairVal-now, pairVal-next}
-use Rattle.seek.specs.Walk.{holdsAt}
-use Rattle.seek.specs.Apart.{Followed}
-use Rattle.coins.specs.Marks.{Marks, Listed}
-use Rattle.coins.proofs.Added.{room, added-listed}
-use Rattle.coins.specs.Turns.{Grown}
-use Rattle.coins.proofs.Turns.{grown-none, grown-one, grown-more}
-use Rattle.coin_search.specs.Words.{markOf, stateAt, marksOf, AddPost}
-use Rattle.coin_search.specs.Nodes.{NodePre, Known, Joined}
-use Rattle.coin_search.proofs.Nodes.{low-pre, high-pre, power-is, low-in, high-in, low-out, high-out}
-use Rattle.coin_search.specs.Expand.{ExpandPre, Expands}
+use Rattle.seek.specs.Walk.{HoldsPre, holdsAt}
+use Rattle.seek.specs.Apart.{levelAt, Followed}
+use Rattle.coin_masks.specs.Masks.{LeadsTo}
+use Rattle.coin_masks.proofs.MasksLaws.{no-bit, word-bit}
+use Rattle.coin_masks.proofs.ReadsLaws.{reads-both, reads-high, level-later}
+use Rattle.coin_search.specs.Words.{markOf}
+use Rattle.coin_search.specs.Adds.{Adds, InMask}
+use Rattle.coin_search.proofs.AddsLaws.{adds-none, adds-on, adds-as, adds-then}
+use Rattle.coin_search.specs.Notes.{Goal, Led, Spent, SpentAt, spentKey, NotesHold, KeyMet, KeyPut, NewBitsPre, NewBits}
+use Rattle.coin_search.specs.Expand.{Stepped, ExpandPre, Reached}
+use Rattle.coin_search.proofs.Nodes.{low-in, high-in, low-out, high-out, node-same, node-is, node-few, node-fewer, power-next}
+use Rattle.coin_search.proofs.Nodes.{state-bit, state-word, state-place}
+use Rattle.coin_search.proofs.NotesLaws.{notes-masked, notes-joined, notes-put, spent-in, spent-out, part-small}
 
--- the number of a node, as it is made
-pub node-is : {n : ℕ} {w : List ℕ} {p s : ℕ} → NodePre n w p s → s + 1 * 2 ^ p % 4_294_967_296 ≡ s + 2 ^ p
-node-is {p = p} {s = s} a = let d = a .depth in let b = a .small in ap (λ (y : ℕ). s + y) (power-is p (omega arith))
+-- ---- the return of `step`
 
-module _ {W : View} {n : ℕ} {w : List ℕ} {m x p s count : ℕ} (a : ExpandPre W n w m x p s count) (t : ℕ) where
-  -- nothing is added
-  same : ((u : ℕ) → u < 2 ^ n → u % 2 ^ p ≡ s → holdsAt W x u t ≡ true → 1 ≤ markOf w u) → Expands W n w w m t x p s count count
-  same c = record {
-    size = refl;
-    order = a .order;
-    grown = grown-none (marksOf w count) m;
-    hints = a .node .hints;
-    only = λ u l e y. absurd (omega arith);
-    complete = c;
-  }
+pub step-ends : {W : View} {x p l y z : ℕ} {here there : Bool} → HoldsPre W x → p < 16 → l ≡ 2 * p → Followed W x l here y
+    → Followed W y (l + 1) there z → Stepped W x p here there z
+step-ends {W} {x} {p} {l} {y} {z} {here} {there} h lp el f g = record {
+  pre = g .pre;
+  same = λ u t a b.
+      let now-bit : pairVal u t l ≡ here = ap (pairVal u t) el ∙ pairVal-now p u t ∙ a in
+      let odd : l + 1 ≡ suc (2 * p) = omega arith in
+      let next-bit : pairVal u t (l + 1) ≡ there = ap (pairVal u t) odd ∙ pairVal-next p u t ∙ b in
+      g .same u t next-bit ∙ f .same u t now-bit;
+  later = λ d.
+      let a = level-later f h (omega arith) (omega arith) in
+      let b = level-later g (f .pre) (omega arith) (omega arith) in
+      omega arith;
+}
 
+-- a bit below `low` is one of the lower bits
+lower-bit : (low p t : ℕ) → p < low → bit p (t % 2 ^ low) ≡ bit p t
+lower-bit low p t l =
+    let e : (suc (low - suc p)) + p ≡ low = omega arith in
+    let f : t % 2 ^ low / 2 ^ p ≡ t / 2 ^ p % 2 ^ suc (low - suc p) =
+    subst (λ (y : ℕ). t % 2 ^ y / 2 ^ p ≡ t / 2 ^ p % 2 ^ suc (low - suc p)) e (field t (suc (low - suc p)) p) in
+    let z : (low - suc p) + 1 ≡ suc (low - suc p) = omega arith in
+    let g : t / 2 ^ p % 2 ^ suc (low - suc p) % 2 ≡ t / 2 ^ p % 2 =
+    subst (λ (y : ℕ). t / 2 ^ p % 2 ^ y % 2 ≡ t / 2 ^ p % 2) z (mod-mod-pow (t / 2 ^ p) (low - suc p) 1) in
+    ap (λ (y : ℕ). eqb (y % 2) 1) f ∙ ap (λ (y : ℕ). eqb y 1) g
+
+-- the state of the 64 that has the same six bits
+six : (low u : ℕ) → u / 2 ^ low * 2 ^ low / 2 ^ low ≡ u / 2 ^ low
+six low u = shl-shr (u / 2 ^ low) low
+
+-- the node's number, as it is made
+module _ {W : View} {n low : ℕ} {w N : List ℕ} {q m x p s count : ℕ} (a : ExpandPre W n low w N q m x p s count) where
+  pub few-bits : p ≤ 10
+  few-bits = let d = a .depth in let b = a .notes .bits .small in omega arith
+
+  pub made-node : s + 1 * 2 ^ p % 4_294_967_296 ≡ s + 2 ^ p
+  made-node = node-is p s (a .lower) (let f = few-bits in omega arith)
+
+  pub made-few : s + 1 * 2 ^ p % 4_294_967_296 < 2_048
+  made-few = let e = made-node in let f = node-few p s (a .lower) few-bits in omega arith
+
+  pub made-small : s + 1 * 2 ^ p % 4_294_967_296 < 65_536
+  made-small = let f = made-few in omega arith
+
+  pub lower-few : q < 65_536
+  lower-few = let m : 2 ^ low ≤ 2 ^ 10 = pow-mono {i = low} {j = 10} (a .notes .bits .small) in let g = a .goal in omega arith
+
+module _ {W : View} {n low : ℕ} {w N : List ℕ} {q m x p s count : ℕ} (a : ExpandPre W n low w N q m x p s count) (goals : ℕ) where
   -- the arrow leads nowhere
-  pub expands-nothing : x ≡ 0 → Expands W n w w m t x p s count count
-  expands-nothing e = same (λ u l _ h.
-      let z : holdsAt W x u t ≡ false = ap (λ (y : ℕ). holdsAt W y u t) e ∙ den-zero (2 * W .header BITS) (rowsOf W) (pairVal u t) in
-      absurd (true≢false (sym h ∙ z)))
+  pub expands-nothing : x ≡ 0 → Adds n w w m count count (Reached W low q goals x p s)
+  expands-nothing e = adds-none (a .adds) (λ u l r.
+      let d = r .1 in
+      absurd (true≢false (sym (d .step) ∙ ap (λ (y : ℕ). holdsAt W y u (d .goal)) e
+      ∙ den-zero (2 * W .header BITS) (rowsOf W) (pairVal u (d .goal)))))
 
-  -- all are marked
-  pub expands-known : {r : Bool} → Known n w p s r → r ≡ true → Expands W n w w m t x p s count count
-  expands-known k e = same (λ u l h _. k .full e u l h)
-
-  -- one state is left
-  one : p ≡ n → (u : ℕ) → u < 2 ^ n → u % 2 ^ p ≡ s → u ≡ s
-  one e u l h = let q : u % 2 ^ p ≡ u = mod-eq-of-lt (subst (λ (y : ℕ). u < 2 ^ y) (sym e) l) in sym q ∙ h
-
-  lower : p ≡ n → s < 2 ^ n
-  lower e = subst (λ (y : ℕ). s < 2 ^ y) e (a .node .lower)
-
-  pub expands-not : {r : Bool} → p ≡ n → r ≡ holdsAt W x s t → r ≡ false → Expands W n w w m t x p s count count
-  expands-not e h f = same (λ u l q y.
-      let z : holdsAt W x u t ≡ holdsAt W x s t = ap (λ (b : ℕ). holdsAt W x b t) (one e u l q) in
-      absurd (true≢false (sym y ∙ z ∙ sym h ∙ f)))
-
-  pub add-asks : {r : Bool} → p ≡ n → Known n w p s r → r ≡ false
-      → (s < length w) × (s < 65_536) × (m < 70_368_744_177_664) × (count < length w) × (count < 65_536)
-  add-asks e k f =
-      let l = lower e in
-      let c = room (a .order) s l (k .bare e f) in
-      let g = a .node .room in
-      let h = a .order .few in
-      (omega arith, omega arith, a .fits, omega arith, omega arith)
-
-  pub expands-one : {v : List ℕ} {q b : Bool} {r : ℕ} → p ≡ n → Known n w p s q → q ≡ false → b ≡ holdsAt W x s t → b ≡ true
-      → AddPost w v s m count × (r ≡ count + 1) → Expands W n w v m t x p s count r
-  expands-one {v} {q} {b} {r} e k f h y (d, er) =
-      let c : suc count ≡ r = omega arith in
-      subst (λ (z : ℕ). Expands W n w v m t x p s count z) c (record {
-        size = d .size;
-        order = added-listed (a .order) s (lower e) bare (d .added) (a .some);
-        grown = grown;
-        hints = λ o i l j g u lu eu.
-            let z = a .node .hints o i l j (sym (d .nodes (i + 2 ^ o)) ∙ g) u lu eu in
-            let kept = grown .kept u z in
-            omega arith;
-        only = λ u l z g. by-cases (ℕ-discrete u s)
-            (λ i. (ap (λ (c : ℕ). c % 2 ^ p) i ∙ mod-eq-of-lt (a .node .lower), ap (λ (c : ℕ). holdsAt W x c t) i ∙ sym h ∙ y))
-            (λ o. let same = d .added .others u o in absurd (omega arith));
-        complete =
-            λ u l g _. let i = one e u l g in let z : markOf v u ≡ m = ap (markOf v) i ∙ d .added .mark in let o = a .some in omega arith;
-      })
-    where
-      bare : markOf w s ≡ 0
-      bare = k .bare e f
-
-      grown : Grown (marksOf w count) (marksOf v (suc count)) m
-      grown = grown-one bare (d .added)
-
-  -- ---- the two halves
-
-  module _ {y z l : ℕ} {b side : Bool} (el : l ≡ 2 * p) (f : Followed W x l b y) (g : Followed W y (l + 1) side z)
-      (eb : side ≡ bit p t) where
-    pub half : (u : ℕ) → bit p u ≡ b → holdsAt W z u t ≡ holdsAt W x u t
-    half u h =
-        let now-bit : pairVal u t l ≡ b = ap (pairVal u t) el ∙ pairVal-now p u t ∙ h in
-        let odd : l + 1 ≡ suc (2 * p) = omega arith in
-        let next-bit : pairVal u t (l + 1) ≡ side = ap (pairVal u t) odd ∙ pairVal-next p u t ∙ sym eb in
-        g .same u t next-bit ∙ f .same u t now-bit
-
-    pub low-asks : (p ≡ n → ⊥) → ExpandPre W n w m z (p + 1) s count
-    low-asks e =
-        record {
-          arrow = g .pre;
-          node = low-pre (a .node) (let d = a .node .depth in omega arith);
-          order = a .order;
-          some = a .some;
-          fits = a .fits;
-        }
-
-    pub high-asks : {v : List ℕ} {c q : ℕ} {x′ s′ p′ : ℕ} → (p ≡ n → ⊥) → q ≡ s + 2 ^ p → Expands W n w v m t x′ p′ s′ count c
-        → ExpandPre W n v m z (p + 1) q c
-    high-asks e eq o = record {
-      arrow = g .pre;
-      node = high-pre (moved o) (let d = a .node .depth in omega arith) eq;
-      order = o .order;
-      some = a .some;
-      fits = a .fits;
-    }
-      where
-        moved : {v : List ℕ} {c x′ s′ p′ : ℕ} → Expands W n w v m t x′ p′ s′ count c → NodePre n v p s
-        moved o = record {
-          small = a .node .small;
-          depth = a .node .depth;
-          lower = a .node .lower;
-          room = let r = a .node .room in let z = o .size in omega arith;
-          hints = o .hints;
-        }
-
--- the same marks and the same order
-pub marks-same : (w v : List ℕ) (c : ℕ) → ((i : ℕ) → stateAt v i ≡ stateAt w i) → ((t : ℕ) → markOf v t ≡ markOf w t)
-    → marksOf w c ≡ marksOf v c
-marks-same w v c e f =
-    let at = fun-ext (λ i. sym (e i)) in let mark = fun-ext (λ t. sym (f t)) in λ i. record { count = c; at = at i; mark = mark i }
-
-module _ {W : View} {n : ℕ} {w v u : List ℕ} {m t x p s count more most low high node : ℕ} (a : ExpandPre W n w m x p s count)
-    (en : node ≡ s + 2 ^ p) (E : Expands W n w v m t low (p + 1) s count more) (F : Expands W n v u m t high (p + 1) node more most) where
-  pub join-asks : (p ≡ n → ⊥) → NodePre n u p s × (p < n) × (node ≡ s + 2 ^ p)
-  join-asks e = (
-    record {
-      small = a .node .small;
-      depth = a .node .depth;
-      lower = a .node .lower;
-      room = let r = a .node .room in let b = E .size in let c = F .size in omega arith;
-      hints = F .hints;
-    },
-    let d = a .node .depth in omega arith,
-    en,
-  )
-
-  pub expands-both : {z : List ℕ} → ((i : ℕ) → bit p i ≡ false → holdsAt W low i t ≡ holdsAt W x i t)
-      → ((i : ℕ) → bit p i ≡ true → holdsAt W high i t ≡ holdsAt W x i t)
-      → Joined n u z → Expands W n w z m t x p s count most
-  expands-both {z} lows highs J = record {
-    size = J .size ∙ F .size ∙ E .size;
-    order = subst (Listed (2 ^ n)) same-marks (F .order);
-    grown =
-        subst (λ (M : Marks). Grown (marksOf w count) M m) same-marks (grown-more (E .grown) (F .grown) (λ i l. E .order .listed i l .1));
-    hints = J .hints;
-    only = λ i l e y. by-cases (decLe 1 (markOf v i))
-        (λ g. let (h, k) = E .only i l e g in let (r, b) = low-out i p (a .node .lower) h in (r, sym (lows i b) ∙ k))
-        (λ g.
-        let j = J .marks i in
-        let (h, k) = F .only i l (omega arith) (omega arith) in
-        let (r, b) = high-out i p (a .node .lower) (h ∙ en) in
-        (r, sym (highs i b) ∙ k));
-    complete = λ i l e h. go i l e h (bit p i) refl;
+  pub new-asks : {node : ℕ} → node ≡ s + 2 ^ p → NewBitsPre W low x N node
+  new-asks e = record {
+    arrow = a .arrow;
+    small = a .notes .bits .small;
+    masked = a .notes .masks;
+    place = let f = node-few p s (a .lower) (let d = a .depth in let b = a .notes .bits .small in omega arith) in omega arith;
   }
-    where
-      same-marks : marksOf u most ≡ marksOf z most
-      same-marks = marks-same u z most (J .states) (J .marks)
 
-      go : (i : ℕ) → i < 2 ^ n → i % 2 ^ p ≡ s → holdsAt W x i t ≡ true → (b : Bool) → bit p i ≡ b → 1 ≤ markOf z i
-      go i l e h true q = let y = F .complete i l (high-in i p e q ∙ sym en) (highs i q ∙ h) in let j = J .marks i in omega arith
-      go i l e h false q =
-          let y = E .complete i l (low-in i p e q) (lows i q ∙ h) in
-          let k = F .grown .kept i y in
-          let j = J .marks i in
-          omega arith
+  module _ {M : List ℕ} {node r : ℕ} (lg : goals < 18_446_744_073_709_551_616) (en : node ≡ s + 2 ^ p)
+      (b : NewBits W low x goals N M node r) where
+    pub new-notes : NotesHold W n low w M
+    new-notes = notes-masked (a .notes) (b .masked) (b .beside)
+
+    -- what the arrow leads from is marked or new
+    marked-or-new : (u : ℕ) → u < 2 ^ n → Reached W low q goals x p s u → (1 ≤ markOf w u) ⊎ (bit (u / 2 ^ low) r ≡ true)
+    marked-or-new u l (e, d) = go (b .has (u / 2 ^ low) (state-bit (a .notes .bits) u l) leads)
+      where
+        leads : 2 * low ≤ levelAt W x → LeadsTo W low x goals (u / 2 ^ low)
+        leads deep = record {
+          goal = d .goal / 2 ^ low;
+          below = word-bit (d .goal / 2 ^ low) goals lg (d .is .upper);
+          is = d .is .upper;
+          step = reads-both W x (a .arrow) low (u / 2 ^ low * 2 ^ low) u (d .goal / 2 ^ low * 2 ^ low) (d .goal) deep (six low u)
+              (six low (d .goal)) ∙ d .step;
+        }
+
+        go : (bit (u / 2 ^ low) (getD N node 0) ≡ true) ⊎ (bit (u / 2 ^ low) r ≡ true) → (1 ≤ markOf w u) ⊎ (bit (u / 2 ^ low) r ≡ true)
+        go (inl y) = inl (a .notes .bitmap p s u (a .depth) (a .lower) l e (ap (λ (z : ℕ). bit (u / 2 ^ low) (getD N z 0)) (sym en) ∙ y))
+        go (inr y) = inr y
+
+    -- nothing is new
+    pub expands-known : r ≡ 0 → Adds n w w m count count (Reached W low q goals x p s) × NotesHold W n low w M
+    expands-known z = (adds-none (a .adds) (λ u l d. from u (marked-or-new u l d)), new-notes)
+      where
+        from : (u : ℕ) → (1 ≤ markOf w u) ⊎ (bit (u / 2 ^ low) r ≡ true) → 1 ≤ markOf w u
+        from u (inl y) = y
+        from u (inr y) = absurd (true≢false (sym y ∙ ap (bit (u / 2 ^ low)) z ∙ no-bit (u / 2 ^ low)))
+
+    -- the walk has come to a word
+    module _ (ep : p ≡ low) where
+      same-power : 2 ^ p ≡ 2 ^ low
+      same-power = ap (λ (y : ℕ). 2 ^ y) ep
+
+      pub word-asks : s < 2 ^ low
+      word-asks = let e = same-power in let l = a .lower in omega arith
+
+      deep : 2 * low ≤ levelAt W x
+      deep = let d = a .deep in omega arith
+
+      led : (u : ℕ) → LeadsTo W low x goals (u / 2 ^ low) → Led W low q goals x u
+      led u t = record {
+        goal = q + t .goal * 2 ^ low;
+        is = record {
+          lower = state-word low q (t .goal) (a .goal);
+          upper = ap (λ (y : ℕ). bit y goals) (state-place low q (t .goal) (a .goal)) ∙ t .is;
+        };
+        step = reads-both W x (a .arrow) low u (u / 2 ^ low * 2 ^ low) (q + t .goal * 2 ^ low) (t .goal * 2 ^ low) deep (sym (six low u))
+            (state-place low q (t .goal) (a .goal) ∙ sym (shl-shr (t .goal) low)) ∙ t .step;
+      }
+
+      pub expands-word : {v O : List ℕ} {most : ℕ} → Adds n w v m count most (InMask low s r) × NotesHold W n low v O
+          → Adds n w v m count most (Reached W low q goals x p s) × NotesHold W n low v O
+      expands-word (c, h) = (
+        adds-as c
+            (λ u l i. (ap (λ (y : ℕ). u % y) same-power ∙ i .0, led u (b .only deep (u / 2 ^ low) (state-bit (a .notes .bits) u l) (i .1))))
+            (λ u l d. from u d (marked-or-new u l d)),
+        h,
+      )
+        where
+          from : (u : ℕ) → Reached W low q goals x p s u → (1 ≤ markOf w u) ⊎ (bit (u / 2 ^ low) r ≡ true)
+              → (1 ≤ markOf w u) ⊎ InMask low s r u
+          from u d (inl y) = inl y
+          from u d (inr y) = inr (ap (λ (z : ℕ). u % z) (sym same-power) ∙ d .0, y)
+
+  -- it was spent
+  module _ {M : List ℕ} {node : ℕ} (h : NotesHold W n low w M) (en : node ≡ s + 2 ^ p) (ln : node < 65_536) (lq : q < 65_536) where
+    pub expands-spent : {b : Bool} → (b ≡ true → KeyMet M (spentKey x node (q / 2 ^ (levelAt W x / 2))) goals) → b ≡ true
+        → Adds n w w m count count (Reached W low q goals x p s) × NotesHold W n low w M
+    expands-spent f e = (
+      adds-none (a .adds) (λ u l d. spent .all p s u (d .1 .goal) (a .lower) (sym en) l (d .0)
+          (ap (λ (y : ℕ). y / 2 ^ (levelAt W x / 2)) (d .1 .is .lower)) (f e .has (d .1 .goal / 2 ^ low) (d .1 .is .upper)) (d .1 .step)),
+      h,
+    )
+      where
+        spent : Spent W n low w x node (q / 2 ^ (levelAt W x / 2)) (getD M (4_223 + f e .at) 0)
+        spent =
+            let g = f e in
+            spent-out x node (q / 2 ^ (levelAt W x / 2)) (getD M (4_223 + g .at) 0) (part-small q (levelAt W x / 2) lq) ln
+            (subst (λ (y : ℕ). SpentAt W n low w y (getD M (4_223 + g .at) 0)) (g .is) (h .spent (g .at) (g .slot)))
+
+-- what agrees in its part of the lower bits and in the six others agrees in all that the arrow reads
+part-agrees : (low l t c q : ℕ) → t % 2 ^ low ≡ q → t / 2 ^ low ≡ c / 2 ^ low → c % 2 ^ low / 2 ^ l ≡ q / 2 ^ l → c / 2 ^ l ≡ t / 2 ^ l
+part-agrees low l t c q et ec eh = by-cases (decLe l low) below above
+  where
+    below : l ≤ low → c / 2 ^ l ≡ t / 2 ^ l
+    below h =
+        let d : (low - l) + l ≡ low = omega arith in
+        let f : (y : ℕ) → y % 2 ^ low / 2 ^ l ≡ y / 2 ^ l % 2 ^ (low - l) =
+        (λ y. subst (λ (z : ℕ). y % 2 ^ z / 2 ^ l ≡ y / 2 ^ l % 2 ^ (low - l)) d (field y (low - l) l)) in
+        let o : l + (low - l) ≡ low = omega arith in
+        let g : (y : ℕ) → y / 2 ^ l / 2 ^ (low - l) ≡ y / 2 ^ low = (λ y. shr-shr y l (low - l) ∙ ap (λ (z : ℕ). y / 2 ^ z) o) in
+        let rest : c / 2 ^ l % 2 ^ (low - l) ≡ t / 2 ^ l % 2 ^ (low - l) =
+        sym (f c) ∙ eh ∙ ap (λ (y : ℕ). y / 2 ^ l) (sym et) ∙ f t in
+        let top : c / 2 ^ l / 2 ^ (low - l) ≡ t / 2 ^ l / 2 ^ (low - l) = g c ∙ sym ec ∙ sym (g t) in
+        sym (split (c / 2 ^ l) (low - l)) ∙ ap (λ (y : ℕ). y * 2 ^ (low - l) + c / 2 ^ l % 2 ^ (low - l)) top
+        ∙ ap (λ (y : ℕ). t / 2 ^ l / 2 ^ (low - l) * 2 ^ (low - l) + y) rest ∙ split (t / 2 ^ l) (low - l)
+
+    above : (l ≤ low → ⊥) → c / 2 ^ l ≡ t / 2 ^ l
+    above h =
+        let o : low + (l - low) ≡ l = omega arith in
+        let g : (y : ℕ) → y / 2 ^ l ≡ y / 2 ^ low / 2 ^ (l - low) =
+        (λ y. ap (λ (z : ℕ). y / 2 ^ z) (sym o) ∙ sym (shr-shr y low (l - low))) in
+        g c ∙ ap (λ (y : ℕ). y / 2 ^ (l - low)) (sym ec) ∙ sym (g t)
+
+-- ---- the two halves
+
+module _ {W : View} {n low : ℕ} {w N : List ℕ} {q m x p s count : ℕ} (a : ExpandPre W n low w N q m x p s count) (ne : p ≡ low → ⊥) where
+  before : p < low
+  before = let d = a .depth in omega arith
+
+  pub step-asks : HoldsPre W x × (p < 16)
+  step-asks = (a .arrow, let b = a .notes .bits .small in let l = before in omega arith)
+
+  pub low-asks : {M : List ℕ} {z : ℕ} {side : Bool} → NotesHold W n low w M → Stepped W x p false side z
+      → ExpandPre W n low w M q m z (p + 1) s count
+  low-asks h t = record {
+    adds = a .adds;
+    notes = h;
+    arrow = t .pre;
+    deep = t .later (a .deep);
+    depth = let l = before in omega arith;
+    lower = let d = power-next p in let l = a .lower in omega arith;
+    goal = a .goal;
+  }
+
+  pub high-asks : {v M : List ℕ} {z more node : ℕ} {side : Bool} {P : ℕ → Type 0} → node ≡ s + 2 ^ p
+      → Adds n w v m count more P × NotesHold W n low v M → Stepped W x p true side z → ExpandPre W n low v M q m z (p + 1) node more
+  high-asks e (b, h) t = record {
+    adds = adds-on (a .adds) b;
+    notes = h;
+    arrow = t .pre;
+    deep = t .later (a .deep);
+    depth = let l = before in omega arith;
+    lower = let d = power-next p in let l = a .lower in omega arith;
+    goal = a .goal;
+  }
+
+  pub join-asks : {v M : List ℕ} {node : ℕ} → node ≡ s + 2 ^ p → NotesHold W n low v M → (p < 10) × (node < 1_024) × (length M ≡ 5_577)
+  join-asks e h =
+      let b = a .notes .bits .small in
+      let l = before in
+      let f = node-fewer p s (a .lower) (omega arith) in
+      (omega arith, omega arith, h .masks .size)
+
+  pub joined-notes : {v M O : List ℕ} {node : ℕ} → node ≡ s + 2 ^ p → NotesHold W n low v M
+      → O ≡ set M node (bitAnd (getD M (node + 2 ^ p) 0) (getD M (node + 2 * 2 ^ p) 0)) → NotesHold W n low v O
+  joined-notes e h j = notes-joined h before (a .lower) e refl j
+
+  -- both halves
+  module _ {v z : List ℕ} {y o more most node : ℕ} {side : Bool} (goals : ℕ) (en : node ≡ s + 2 ^ p) (es : side ≡ bit p q)
+      (f : Stepped W x p false side y) (g : Stepped W x p true side o)
+      (E : Adds n w v m count more (Reached W low q goals y (p + 1) s))
+      (F : Adds n v z m more most (Reached W low q goals o (p + 1) node)) where
+    goal-bit : {t : ℕ} → Goal low q goals t → bit p t ≡ side
+    goal-bit {t} i = sym (lower-bit low p t before) ∙ ap (bit p) (i .lower) ∙ sym es
+
+    pub expands-both : Adds n w z m count most (Reached W low q goals x p s)
+    expands-both = adds-as (adds-then E F) to (λ u l d. inr (from u d (bit p u) refl))
+      where
+        to : (u : ℕ) → u < 2 ^ n → Reached W low q goals y (p + 1) s u ⊎ Reached W low q goals o (p + 1) node u
+            → Reached W low q goals x p s u
+        to u l (inl (e, d)) =
+            let (r, b) = low-out u p (a .lower) e in
+            (r, record { goal = d .goal; is = d .is; step = sym (f .same u (d .goal) b (goal-bit (d .is))) ∙ d .step })
+        to u l (inr (e, d)) =
+            let (r, b) = high-out u p (a .lower) (e ∙ en) in
+            (r, record { goal = d .goal; is = d .is; step = sym (g .same u (d .goal) b (goal-bit (d .is))) ∙ d .step })
+
+        from : (u : ℕ) → Reached W low q goals x p s u → (b : Bool) → bit p u ≡ b
+            → Reached W low q goals y (p + 1) s u ⊎ Reached W low q goals o (p + 1) node u
+        from u (e, d) false b =
+            inl (low-in u p e b, record { goal = d .goal; is = d .is; step = f .same u (d .goal) b (goal-bit (d .is)) ∙ d .step })
+        from u (e, d) true b =
+            inr
+            (high-in u p e b ∙ sym en, record { goal = d .goal; is = d .is; step = g .same u (d .goal) b (goal-bit (d .is)) ∙ d .step })
+
+    -- and it is spent now
+    spent-now : node < 65_536 → q < 65_536 → SpentAt W n low z (spentKey x node (q / 2 ^ (levelAt W x / 2))) goals
+    spent-now ln lq = spent-in x node (q / 2 ^ (levelAt W x / 2)) goals (part-small q (levelAt W x / 2) lq) ln (record { all = all })
+      where
+        all : (i r u c : ℕ) → r < 2 ^ i → r + 2 ^ i ≡ node → u < 2 ^ n → u % 2 ^ i ≡ r
+            → c % 2 ^ low / 2 ^ (levelAt W x / 2) ≡ q / 2 ^ (levelAt W x / 2) → bit (c / 2 ^ low) goals ≡ true → holdsAt W x u c ≡ true
+            → 1 ≤ markOf z u
+        all i r u c lr er lu eu ec b h =
+            let d : i ≡ p = node-same i p r s lr (a .lower) (er ∙ en) in
+            let k : 2 ^ i ≡ 2 ^ p = ap (λ (j : ℕ). 2 ^ j) d in
+            let same : r ≡ s = omega arith in
+            let t : ℕ = q + c / 2 ^ low * 2 ^ low in
+            let lower : (q + c / 2 ^ low * 2 ^ low) % 2 ^ low ≡ q = state-word low q (c / 2 ^ low) (a .goal) in
+            let upper : (q + c / 2 ^ low * 2 ^ low) / 2 ^ low ≡ c / 2 ^ low = state-place low q (c / 2 ^ low) (a .goal) in
+            expands-both .complete u lu (
+              ap (λ (j : ℕ). u % j) (sym k) ∙ eu ∙ same,
+              record {
+                goal = q + c / 2 ^ low * 2 ^ low;
+                is = record { lower = lower; upper = ap (λ (j : ℕ). bit j goals) upper ∙ b };
+                step = sym (reads-high W x (a .arrow) u c (q + c / 2 ^ low * 2 ^ low)
+                    (part-agrees low (levelAt W x / 2) (q + c / 2 ^ low * 2 ^ low) c q lower upper ec)) ∙ h;
+              },
+            )
+
+    pub expands-halves : {M O R : List ℕ} → node < 65_536 → q < 65_536 → NotesHold W n low z M
+        → O ≡ set M node (bitAnd (getD M (node + 2 ^ p) 0) (getD M (node + 2 * 2 ^ p) 0))
+        → KeyPut O (spentKey x node (q / 2 ^ (levelAt W x / 2))) goals R
+        → Adds n w z m count most (Reached W low q goals x p s) × NotesHold W n low z R
+    expands-halves ln lq h j k = (expands-both, notes-put (notes-joined h before (a .lower) en refl j) (spent-now ln lq) k)

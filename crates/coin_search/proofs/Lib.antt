@@ -1,11 +1,11 @@
-pub mod ExpandLaws
 pub mod Words
 pub mod Nodes
-pub mod ReadsLaws
-pub mod NotesLaws
 pub mod AddsLaws
+pub mod NotesLaws
+pub mod ExpandLaws
 pub mod Hall
 pub mod StartLaws
 pub mod Choice
+pub mod GatherLaws
 pub mod TurnLaws
 pub mod SearchLaws

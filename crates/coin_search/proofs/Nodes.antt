@@ -1,18 +1,15 @@
--- Laws of what specs/Nodes.antt defines. Assumes nothing.
-use mathlib.Core.Path.{_≡_, refl, sym, ap, _∙_, subst}
+-- Nodes, the states with some lower bits: their halves and numbers; states as lower bits and six others. Assumes nothing.
+use mathlib.Core.Path.{_≡_, refl, sym, ap, _∙_}
 use mathlib.Core.Logic.{_≢_, by-cases}
-use mathlib.Core.Bool.{Bool, true, false, not, true≢false}
-use mathlib.Core.List.{List}
-use Prim.Native.Nat.{ℕ, zero, suc, _+_, _*_, _/_, _%_, _^_, _≤_, _<_}
+use mathlib.Core.Bool.{Bool, true, false, true≢false}
+use Prim.Native.Nat.{ℕ, suc, _+_, _-_, _*_, _/_, _%_, _^_, _≤_, _<_}
 use native.Mathlib.Nat.{one-mul, mod-lt, mod-eq-of-lt, pow-suc}
 use native.Mathlib.Decide.{ℕ-discrete, decLt}
 use native.Mathlib.Omega.{arith}
-use lib.Dec.{eqb, eqb·suc-zero}
-use lib.ListN.{length}
-use lib.Pow.{pow-pos, pow-mono, mod-pow-add}
+use lib.Dec.{eqb}
+use lib.Pow.{pow-add, pow-mono, pow-lt, pow-pos, mod-pow-add, shl-exact, shl-lt, shl-shr, shr-lt, split, high, low}
 use Rattle.mucalculus.specs.Means.{bit}
-use Rattle.coin_search.specs.Words.{markOf, fullAt, FullPut}
-use Rattle.coin_search.specs.Nodes.{AllMarked, Hints, NodePre, Known, Joined}
+use Rattle.coin_search.specs.Notes.{LowBits}
 
 -- ---- the two halves of a node
 
@@ -64,31 +61,6 @@ module _ (u p : ℕ) where
       go true h = let q = high-is h in (omega arith, refl)
       go false h = let q = low-is h in let r = rest-below in absurd (omega arith)
 
--- ---- tests and joins
-
-module _ {n : ℕ} {w : List ℕ} {p s : ℕ} (a : NodePre n w p s) where
-  -- a state is one of the words
-  pub state-in : s < length w
-  state-in = let m : 2 ^ p ≤ 2 ^ n = pow-mono (a .depth) in let l = a .lower in let r = a .room in omega arith
-
-  -- a node's number is small, and one of the words
-  pub node-in : p < n → s + 2 ^ p < length w
-  node-in h =
-      let m : 2 ^ (p + 1) ≤ 2 ^ n = pow-mono (omega arith) in
-      let d = power-next p in
-      let l = a .lower in
-      let r = a .room in
-      omega arith
-
-  pub node-small : (p ≡ n → ⊥) → s + 2 ^ p < 65_536
-  node-small e =
-      let h = a .depth in
-      let t = a .small in
-      let m : 2 ^ (p + 1) ≤ 2 ^ 16 = pow-mono {i = p + 1} {j = 16} (omega arith) in
-      let d = power-next p in
-      let l = a .lower in
-      omega arith
-
 -- the shift that gives 2^p
 pub power-is : (p : ℕ) → p ≤ 16 → 1 * 2 ^ p % 4_294_967_296 ≡ 2 ^ p
 power-is p l =
@@ -96,9 +68,6 @@ power-is p l =
     let e : 1 * 2 ^ p ≡ 2 ^ p = one-mul (2 ^ p) in
     let small : 2 ^ p % 4_294_967_296 ≡ 2 ^ p = mod-eq-of-lt (omega arith) in
     ap (λ (x : ℕ). x % 4_294_967_296) e ∙ small
-
-pub joined-none : {n : ℕ} {w : List ℕ} → Hints n w → Joined n w w
-joined-none h = record { size = refl; marks = λ t. refl; states = λ i. refl; hints = h }
 
 -- a node's number says how many bits, and which
 node-bits : (p q s t : ℕ) → s < 2 ^ p → t < 2 ^ q → s + 2 ^ p ≡ t + 2 ^ q → p < q → ⊥
@@ -111,90 +80,87 @@ pub node-same : (p q s t : ℕ) → s < 2 ^ p → t < 2 ^ q → s + 2 ^ p ≡ t 
 node-same p q s t l k e = by-cases (decLt p q) (λ h. absurd (node-bits p q s t l k e h))
     (λ n. by-cases (decLt q p) (λ h. absurd (node-bits q p t s k l (sym e) h)) (λ m. omega arith))
 
--- all states of a node are marked
-pub joined-at : {n : ℕ} {w v : List ℕ} (p s : ℕ) → s < 2 ^ p → Hints n w → AllMarked n w p s → FullPut w v (s + 2 ^ p) → Joined n w v
-joined-at {n} {w} {v} p s l h all f = record {
-  size = f .size;
-  marks = f .marks;
-  states = f .states;
-  hints = λ q t lq lt e u lu eu. let m = f .marks u in let y = here q t lq lt e u lu eu in omega arith;
-}
+-- a node's number is small
+module _ (p s : ℕ) (l : s < 2 ^ p) where
+  pub node-below : {k : ℕ} → p < k → s + 2 ^ p < 2 ^ k
+  node-below {k} h = let m : 2 ^ (p + 1) ≤ 2 ^ k = pow-mono (omega arith) in let d = power-next p in omega arith
+
+  pub node-few : p ≤ 10 → s + 2 ^ p < 2_048
+  node-few h = node-below {k = 11} (omega arith)
+
+  pub node-fewer : p < 10 → s + 2 ^ p < 1_024
+  node-fewer h = node-below {k = 10} h
+
+  -- as it is made
+  pub node-is : p ≤ 16 → s + 1 * 2 ^ p % 4_294_967_296 ≡ s + 2 ^ p
+  node-is h = ap (λ (y : ℕ). s + y) (power-is p h)
+
+-- ---- words and bits of states
+
+-- 2^j has bit j only
+pub bit-power : (j l : ℕ) → bit l (2 ^ j) ≡ true → l ≡ j
+bit-power j l h = by-cases (decLt l j) less (λ a. by-cases (decLt j l) more (λ b. omega arith))
   where
-    here : (q t : ℕ) → q < n → t < 2 ^ q → fullAt v (t + 2 ^ q) ≡ true → AllMarked n w q t
-    here q t lq lt e = by-cases (ℕ-discrete (t + 2 ^ q) (s + 2 ^ p)) this (λ d. h q t lq lt (sym (f .others (t + 2 ^ q) d) ∙ e))
-      where
-        this : t + 2 ^ q ≡ s + 2 ^ p → AllMarked n w q t
-        this y =
-            let x : p ≡ q = node-same p q s t l lt (sym y) in
-            let z : 2 ^ p ≡ 2 ^ q = ap (λ (c : ℕ). 2 ^ c) x in
-            let a : s ≡ t = omega arith in
-            subst (λ (c : ℕ). AllMarked n w c t) x (subst (λ (c : ℕ). AllMarked n w p c) a all)
+    off : (x : ℕ) → x % 2 ≡ 0 → eqb (x % 2) 1 ≡ true → l ≡ j
+    off x e t = absurd (true≢false (sym t ∙ ap (λ (y : ℕ). eqb y 1) e))
 
--- both halves are marked, so the node is
-pub joined-full : {n : ℕ} {w v : List ℕ} (p s : ℕ) → s < 2 ^ p → Hints n w → AllMarked n w (p + 1) s → AllMarked n w (p + 1) (s + 2 ^ p)
-    → FullPut w v (s + 2 ^ p)
-    → Joined n w v
-joined-full {n} {w} {v} p s l h low high f = joined-at p s l h (λ u lu e. go u lu e (bit p u) refl) f
-  where
-    go : (u : ℕ) → u < 2 ^ n → u % 2 ^ p ≡ s → (b : Bool) → bit p u ≡ b → 1 ≤ markOf w u
-    go u lu e true g = high u lu (high-in u p e g)
-    go u lu e false g = low u lu (low-in u p e g)
+    less : l < j → l ≡ j
+    less k =
+        let d : suc (j - suc l) + l ≡ j = omega arith in
+        let e : 2 ^ j ≡ 2 ^ suc (j - suc l) * 2 ^ l = ap (λ (y : ℕ). 2 ^ y) (sym d) ∙ pow-add 2 (suc (j - suc l)) l in
+        let q : 2 ^ j / 2 ^ l ≡ 2 ^ suc (j - suc l) = ap (λ (y : ℕ). y / 2 ^ l) e ∙ shl-shr (2 ^ suc (j - suc l)) l in
+        let c : suc (j - suc l) ≡ 1 + (j - suc l) = omega arith in
+        let r : 2 ^ suc (j - suc l) ≡ 2 * 2 ^ (j - suc l) = ap (λ (y : ℕ). 2 ^ y) c ∙ pow-add 2 1 (j - suc l) in
+        off (2 ^ j / 2 ^ l) (omega arith) h
 
--- ---- the returns of `all_marked`
+    more : j < l → l ≡ j
+    more k =
+        let m : 2 ^ j < 2 ^ (0 + l) = pow-lt (let z : 0 + l ≡ l = omega arith in omega arith) in
+        let q : 2 ^ j / 2 ^ l < 2 ^ 0 = shr-lt 0 l m in
+        off (2 ^ j / 2 ^ l) (let z : 2 ^ 0 ≡ 1 = refl in omega arith) h
 
-pub known-state : {n : ℕ} {w : List ℕ} {p s m : ℕ} → NodePre n w p s → p ≡ n → m ≡ markOf w s → Known n w p s (not (eqb m 0))
-known-state {n} {w} {p} {s} {m} a e q = record {
-  full = λ t u l h.
-      let same : u % 2 ^ p ≡ u = mod-eq-of-lt (subst (λ (x : ℕ). u < 2 ^ x) (sym e) l) in
-      let is : u ≡ s = sym same ∙ h in
-      let y : 1 ≤ m = some m t in
-      let z : markOf w u ≡ markOf w s = ap (markOf w) is in
-      omega arith;
-  bare = λ _ t. sym q ∙ none m t;
-}
-  where
-    some : (m : ℕ) → not (eqb m 0) ≡ true → 1 ≤ m
-    some zero t = absurd (true≢false (sym t))
-    some (suc m) t = omega arith
+-- the shift that gives it
+pub power-wide : (j : ℕ) → j < 64 → 1 * 2 ^ j % 18_446_744_073_709_551_616 ≡ 2 ^ j
+power-wide j l =
+    let m : 2 ^ j < 2 ^ 64 = pow-lt {i = j} {j = 64} l in
+    let e : 1 * 2 ^ j ≡ 2 ^ j = one-mul (2 ^ j) in
+    let small : 2 ^ j % 18_446_744_073_709_551_616 ≡ 2 ^ j = mod-eq-of-lt (omega arith) in
+    ap (λ (x : ℕ). x % 18_446_744_073_709_551_616) e ∙ small
 
-    none : (m : ℕ) → not (eqb m 0) ≡ false → m ≡ 0
-    none zero t = refl
-    none (suc m) t = absurd (true≢false (ap not (sym (eqb·suc-zero m)) ∙ t))
+module _ {n k : ℕ} (b : LowBits n k) where
+  -- a state's bit in a word
+  pub few-words : 2 ^ k ≤ 1_024
+  few-words = pow-mono {i = k} {j = 10} (b .small)
 
-pub known-node : {n : ℕ} {w : List ℕ} {p s x : ℕ} {r : Bool} → NodePre n w p s → (p ≡ n → ⊥) → x ≡ 2 ^ p → r ≡ fullAt w (s + x)
-    → Known n w p s r
-known-node {n} {w} {p} {s} {x} a d ex e = record {
-  full = λ t. a .hints p s (let h = a .depth in omega arith) (a .lower) (ap (λ (y : ℕ). fullAt w (s + y)) (sym ex) ∙ sym e ∙ t);
-  bare = λ q _. absurd (d q);
-}
+  pub state-bit : (u : ℕ) → u < 2 ^ n → u / 2 ^ k < 64
+  state-bit u l =
+      let m : 2 ^ n ≤ 2 ^ (6 + k) = pow-mono (let w = b .wide in omega arith) in
+      shr-lt 6 k (omega arith)
 
--- ---- the steps of `join`
+  -- the shift that makes a state of a word and a bit
+  pub shift-is : (j : ℕ) → j < 64 → j * 2 ^ k % 4_294_967_296 ≡ j * 2 ^ k
+  shift-is j l = shl-exact {a = j} 6 k 32 l (let s = b .small in omega arith)
 
-pub low-pre : {n : ℕ} {w : List ℕ} {p s : ℕ} → NodePre n w p s → p < n → NodePre n w (p + 1) s
-low-pre {p = p} a l = record {
-  small = a .small;
-  depth = omega arith;
-  lower = let d = power-next p in let h = a .lower in omega arith;
-  room = a .room;
-  hints = a .hints;
-}
+  pub state-small : (i j : ℕ) → i < 2 ^ k → j < 64 → i + j * 2 ^ k < 131_072
+  state-small i j li lj =
+      let f = few-words in
+      let m : j * 2 ^ k < 2 ^ (6 + k) = shl-lt {a = j} 6 k lj in
+      let t : 2 ^ (6 + k) ≤ 2 ^ 16 = pow-mono {i = 6 + k} {j = 16} (let s = b .small in omega arith) in
+      omega arith
 
-pub high-pre : {n : ℕ} {w : List ℕ} {p s t : ℕ} → NodePre n w p s → p < n → t ≡ s + 2 ^ p → NodePre n w (p + 1) t
-high-pre {p = p} a l e = record {
-  small = a .small;
-  depth = omega arith;
-  lower = let d = power-next p in let h = a .lower in omega arith;
-  room = a .room;
-  hints = a .hints;
-}
+-- the state of bit j of word i
+module _ (k i j : ℕ) (l : i < 2 ^ k) where
+  turned : i + j * 2 ^ k ≡ j * 2 ^ k + i
+  turned = omega arith
 
-pub join-ends : {n : ℕ} {w v : List ℕ} {p s t : ℕ} {x y : Bool} → NodePre n w p s → t ≡ s + 2 ^ p → Known n w (p + 1) s x → not x ≡ false
-    → Known n w (p + 1) t y → not y ≡ false
-    → FullPut w v t → Joined n w v
-join-ends {n} {w} {v} {p} {s} {t} {x} {y} a e k tx h ty f =
-    joined-full p s (a .lower) (a .hints) (k .full (yes-of x tx)) (subst (AllMarked n w (p + 1)) e (h .full (yes-of y ty)))
-    (subst (FullPut w v) e f)
-  where
-    yes-of : (b : Bool) → not b ≡ false → b ≡ true
-    yes-of true q = refl
-    yes-of false q = absurd (true≢false q)
+  pub state-word : (i + j * 2 ^ k) % 2 ^ k ≡ i
+  state-word = ap (λ (y : ℕ). y % 2 ^ k) turned ∙ low j k l
+
+  pub state-place : (i + j * 2 ^ k) / 2 ^ k ≡ j
+  state-place = ap (λ (y : ℕ). y / 2 ^ k) turned ∙ high j k l
+
+pub state-of : (k u : ℕ) {i j : ℕ} → u % 2 ^ k ≡ i → u / 2 ^ k ≡ j → u ≡ i + j * 2 ^ k
+state-of k u {i} {j} a b =
+    let e = split u k in
+    let f : u / 2 ^ k * 2 ^ k ≡ j * 2 ^ k = ap (λ (y : ℕ). y * 2 ^ k) b in
+    omega arith

@@ -16,7 +16,6 @@ use Rattle.coins.proofs.Marks.{Least}
 use Rattle.coins.proofs.Turns.{Searching, OneMore, none-less, no-run, turned}
 use Rattle.coins.specs.Found.{NoLess}
 use Rattle.coin_search.specs.Words.{markOf, stateAt, marksOf}
-use Rattle.coin_search.specs.Nodes.{Hints}
 use Rattle.coin_search.specs.Hall.{filledAt, leadsAt, inSet, Hall}
 use Rattle.coin_search.proofs.Hall.{filled-below, filled-used}
 use Rattle.coin_search.specs.Start.{Cleared, Bare, Started, FirstIn}
@@ -46,7 +45,6 @@ left-less k (d ∷ l) (suc r) i h = let q = left-less k l r (omega arith) h in o
 -- the loop's invariant: where the search stands, and the relation that is next
 pub record Turning (W : View) (n : ℕ) (prices w done : List ℕ) (a b count r : ℕ) : Type 0 where
   pub hall : Hall W n prices w
-  pub hints : Hints n w
   pub cheap : (q : ℕ) → priceOf prices q ≤ 255
   pub searching : Searching (2 ^ n) (leadsAt W) (filledAt (W .header)) (inSet W a) (inSet W b) prices (marksOf w count) (λ q. getD done q 0)
       count
@@ -98,7 +96,6 @@ module _ {W : View} {n : ℕ} {v : List ℕ} {b count : ℕ} (d : Started W n v 
       → Best (W .header) prices v done count 8 r × (r ≤ 8) → Turning W n prices v done a b count r
   turning-start {prices} {done} a h cheap x e z eight (best, most) = record {
     hall = h;
-    hints = d .hints;
     cheap = cheap;
     searching =
         let s = searching-start a prices (λ q. getD done q 0) d z in
@@ -156,7 +153,6 @@ module _ {W : View} {n : ℕ} {prices w done : List ℕ} {a b count r : ℕ} (t 
     turn-asks = record {
       hall = t .hall;
       order = t .searching .standing .order;
-      hints = t .hints;
       filled = t .best .some o .1;
       next = next-place;
       fits =
@@ -234,7 +230,6 @@ module _ {W : View} {n : ℕ} {prices w done : List ℕ} {a b count r : ℕ} (t 
           room = (let h = t .hall .room in let s = x .size in omega arith);
           arrows = t .hall .arrows;
         };
-        hints = x .hints;
         cheap = t .cheap;
         searching = record {
           standing = after .standing;

@@ -7,7 +7,7 @@ use Prim.Native.Nat.{ℕ, suc, _+_, _/_, _%_, _^_, _≤_, _<_}
 use native.Mathlib.Nat.{mod-lt}
 use native.Mathlib.Decide.{ℕ-discrete, decLe}
 use native.Mathlib.Omega.{arith}
-use lib.Dec.{T, eqb}
+use lib.Dec.{T}
 use lib.ListN.{length, getD, set, length-set}
 use lib.Pow.{pow-mono}
 use lib.Seq.{getD-set-same, getD-set-other}
@@ -16,8 +16,7 @@ use Rattle.layout.specs.View.{View}
 use Rattle.coins.proofs.Added.{room as order-room, added-listed}
 use Rattle.coins.specs.Turns.{Grown}
 use Rattle.coins.proofs.Turns.{grown-one, Searching}
-use Rattle.coin_search.specs.Words.{markOf, stateAt, fullAt, marksOf, AddPost}
-use Rattle.coin_search.proofs.Nodes.{power-next}
+use Rattle.coin_search.specs.Words.{markOf, stateAt, marksOf, AddPost}
 use Rattle.coin_search.specs.Hall.{filledAt, leadsAt, inSet}
 use Rattle.coin_search.specs.Start.{Cleared, Started, Bare, FirstIn}
 
@@ -45,11 +44,6 @@ started-none {W} {n} {w} b z = record {
     placed = λ s l y. let e : markOf w s ≡ 0 = ap (λ (x : ℕ). x / 131_072) (z .zeros s l) in absurd (omega arith);
     once = λ i j l h e. absurd (omega arith);
   };
-  hints = λ p s l h f.
-      let m : 2 ^ (p + 1) ≤ 2 ^ n = pow-mono (omega arith) in
-      let d = power-next p in
-      let e : fullAt w (s + 2 ^ p) ≡ false = ap (λ (x : ℕ). eqb (x / 65_536 % 2) 1) (z .zeros (s + 2 ^ p) (omega arith)) in
-      absurd (true≢false (sym f ∙ e));
   most = omega arith;
   only = λ u l y. let e : markOf w u ≡ 0 = ap (λ (x : ℕ). x / 131_072) (z .zeros u l) in absurd (omega arith);
   complete = λ u l. absurd (omega arith);
@@ -62,7 +56,6 @@ module _ {W : View} {n : ℕ} {v : List ℕ} {b s count : ℕ} (d : Started W n 
     small = d .small;
     room = d .room;
     order = d .order;
-    hints = d .hints;
     most = let m = d .most in omega arith;
     only = λ u lu y. let (a, e, m) = d .only u lu y in (omega arith, e, m);
     complete =
@@ -89,9 +82,6 @@ module _ {W : View} {n : ℕ} {v : List ℕ} {b s count : ℕ} (d : Started W n 
         small = d .small;
         room = let r = d .room in let e = p .size in omega arith;
         order = added-listed (d .order) s l bare (p .added) (omega arith);
-        hints =
-            λ o i lo li e u lu eu. let y = d .hints o i lo li (sym (p .nodes (i + 2 ^ o)) ∙ e) u lu eu in
-            let k = g .kept u y in omega arith;
         most = let m = d .most in omega arith;
         only = λ u lu y. by-cases (ℕ-discrete u s)
             (λ q. (omega arith, ap (inSet W b) q ∙ sym h ∙ f, ap (markOf x) q ∙ p .added .mark))

@@ -1,15 +1,13 @@
 -- Laws of what specs/Words.antt defines. Assumes nothing.
 use mathlib.Core.Path.{_≡_, refl, sym, ap, _∙_}
 use mathlib.Core.Logic.{by-cases}
-use mathlib.Core.Bool.{Bool, false, true≢false}
 use mathlib.Core.List.{List}
 use Prim.Native.Nat.{ℕ, _+_, _-_, _*_, _/_, _%_, _<_}
 use native.Mathlib.Decide.{ℕ-discrete}
 use native.Mathlib.Omega.{arith}
-use lib.Dec.{eqb}
 use lib.ListN.{length, getD, set, length-set}
 use lib.Seq.{getD-set-same, getD-set-other}
-use Rattle.coin_search.specs.Words.{MarkPut, StatePut, FullPut, AddPost}
+use Rattle.coin_search.specs.Words.{MarkPut, StatePut, AddPost}
 
 module _ (w : List ℕ) (i x : ℕ) (l : i < length w) where
   -- a part that is the same in the new word is the same everywhere
@@ -27,7 +25,6 @@ mark-put w s m l =
       mark = ap (λ (z : ℕ). z / 131_072) (getD-set-same w s x 0 l) ∙ high y m;
       others = λ t n. ap (λ (z : ℕ). z / 131_072) (getD-set-other w s t x 0 n);
       states = part w s x l (λ z. z % 65_536) (low y m);
-      nodes = part w s x l (λ z. eqb (z / 65_536 % 2) 1) (ap (λ (z : ℕ). eqb z 1) (middle y m));
     }
   where
     high : (y m : ℕ) → (y % 131_072 + m * 131_072) / 131_072 ≡ m
@@ -35,9 +32,6 @@ mark-put w s m l =
 
     low : (y m : ℕ) → (y % 131_072 + m * 131_072) % 65_536 ≡ y % 65_536
     low y m = omega arith
-
-    middle : (y m : ℕ) → (y % 131_072 + m * 131_072) / 65_536 % 2 ≡ y / 65_536 % 2
-    middle y m = omega arith
 
 pub state-put : (w : List ℕ) (i s : ℕ) → i < length w → s < 65_536 → StatePut w (set w i (getD w i 0 - getD w i 0 % 65_536 + s)) i s
 state-put w i s l h =
@@ -48,7 +42,6 @@ state-put w i s l h =
       state = ap (λ (z : ℕ). z % 65_536) (getD-set-same w i x 0 l) ∙ low y s h;
       others = λ j n. ap (λ (z : ℕ). z % 65_536) (getD-set-other w i j x 0 n);
       marks = part w i x l (λ z. z / 131_072) (high y s h);
-      nodes = part w i x l (λ z. eqb (z / 65_536 % 2) 1) (ap (λ (z : ℕ). eqb z 1) (middle y s h));
     }
   where
     low : (y s : ℕ) → s < 65_536 → (y - y % 65_536 + s) % 65_536 ≡ s
@@ -56,38 +49,6 @@ state-put w i s l h =
 
     high : (y s : ℕ) → s < 65_536 → (y - y % 65_536 + s) / 131_072 ≡ y / 131_072
     high y s h = omega arith
-
-    middle : (y s : ℕ) → s < 65_536 → (y - y % 65_536 + s) / 65_536 % 2 ≡ y / 65_536 % 2
-    middle y s h = omega arith
-
-pub full-put : (w : List ℕ) (i : ℕ) → i < length w → (getD w i 0 / 65_536 % 2 ≡ 1 → ⊥) → FullPut w (set w i (getD w i 0 + 65_536)) i
-full-put w i l n =
-    let y : ℕ = getD w i 0 in
-    let x : ℕ = y + 65_536 in
-    record {
-      size = length-set w i x;
-      others = λ j d. ap (λ (z : ℕ). eqb (z / 65_536 % 2) 1) (getD-set-other w i j x 0 d);
-      marks = part w i x l (λ z. z / 131_072) (high y n);
-      states = part w i x l (λ z. z % 65_536) (low y);
-    }
-  where
-    high : (y : ℕ) → (y / 65_536 % 2 ≡ 1 → ⊥) → (y + 65_536) / 131_072 ≡ y / 131_072
-    high y n = omega arith
-
-    low : (y : ℕ) → (y + 65_536) % 65_536 ≡ y % 65_536
-    low y = omega arith
-
--- the test of a node
-pub not-full : {r : Bool} {x : ℕ} → r ≡ eqb x 1 → r ≡ false → x ≡ 1 → ⊥
-not-full {x = x} e f q = true≢false (sym (ap (λ (y : ℕ). eqb y 1) q) ∙ sym e ∙ f)
-
--- the bit that is not there fits
-pub full-fits : {r : Bool} {y : ℕ} → y < 18_446_744_073_709_551_616 → r ≡ eqb (y / 65_536 % 2) 1 → r ≡ false
-    → y + 65_536 < 18_446_744_073_709_551_616
-full-fits {y = y} l e f = by-cases (ℕ-discrete (y / 65_536 % 2) 1) (λ q. absurd (not-full e f q)) (λ n. omega arith)
-
-pub full-is : (w : List ℕ) (i : ℕ) → FullPut w w i
-full-is w i = record { size = refl; others = λ j d. refl; marks = λ t. refl; states = λ j. refl }
 
 pub add-post : {w u v : List ℕ} {s m count : ℕ} → MarkPut w u s m → StatePut u v count s → AddPost w v s m count
 add-post {w} {u} {v} {s} {m} {count} a b = record {
@@ -99,5 +60,4 @@ add-post {w} {u} {v} {s} {m} {count} a b = record {
     mark = b .marks s ∙ a .mark;
     others = λ t n. b .marks t ∙ a .others t n;
   };
-  nodes = λ j. b .nodes j ∙ a .nodes j;
 }

@@ -1,9 +1,10 @@
-pub mod Expand
-pub mod Notes
 pub mod Words
-pub mod Nodes
+pub mod Adds
+pub mod Notes
+pub mod Expand
 pub mod Hall
 pub mod Start
 pub mod Choice
+pub mod Gather
 pub mod Turn
 pub mod Search

@@ -1,4 +1,4 @@
--- The notes beside the work words: which states are marked, 64 to a word, and which arrows are spent. Assumes nothing.
+-- The notes beside the work words: which states are marked, which goals are done, which arrows are spent. Assumes nothing.
 use mathlib.Core.Path.{_≡_}
 use mathlib.Core.Logic.{_⊎_, _≢_}
 use mathlib.Core.Bool.{true}
@@ -7,13 +7,10 @@ use Prim.Native.Nat.{ℕ, _+_, _*_, _/_, _%_, _^_, _≤_, _<_}
 use lib.ListN.{length, getD, set}
 use Rattle.mucalculus.specs.Means.{bit}
 use Rattle.layout.specs.View.{View}
-use Rattle.seek.specs.Walk.{holdsAt}
+use Rattle.seek.specs.Walk.{HoldsPre, holdsAt}
 use Rattle.seek.specs.Apart.{levelAt}
-use Rattle.coin_masks.specs.Masks.{Masked}
-use Rattle.coins.specs.Marks.{Listed}
-use Rattle.coins.specs.Turns.{Grown}
-use Rattle.coin_search.specs.Words.{markOf, marksOf}
-use Rattle.coin_search.specs.Nodes.{Hints}
+use Rattle.coin_masks.specs.Masks.{LeadsTo, Masked, Beside}
+use Rattle.coin_search.specs.Words.{markOf}
 
 -- how many of n bits are below the six of a word
 pub record LowBits (n low : ℕ) : Type 0 where
@@ -21,11 +18,21 @@ pub record LowBits (n low : ℕ) : Type 0 where
   pub wide : n ≤ low + 6
   pub small : low ≤ 10
 
--- bit j of word i says of state i + j · 2^low that it is marked
-pub record Bitmap (n low : ℕ) (w N : List ℕ) : Type 0 where
-  pub size : length N ≡ 3_575
-  pub marked : (i j : ℕ) → i < 2 ^ low → j < 64 → bit j (getD N i 0) ≡ true
-      → (i + j * 2 ^ low < 2 ^ n) × (1 ≤ markOf w (i + j * 2 ^ low))
+-- t is a goal: its lower bits are q, and its six others one of the goals
+pub record Goal (low q goals t : ℕ) : Type 0 where
+  pub lower : t % 2 ^ low ≡ q
+  pub upper : bit (t / 2 ^ low) goals ≡ true
+
+-- from state u arrow x leads to a goal
+pub record Led (W : View) (low q goals x u : ℕ) : Type 0 where
+  pub goal : ℕ
+  pub is : Goal low q goals goal
+  pub step : holdsAt W x u goal ≡ true
+
+-- node s + 2^p has the states with the p lower bits s; bit j of its word says that all of them with the upper bits j are marked
+abbrev pub Bitmap : ℕ → ℕ → List ℕ → List ℕ → Type 0
+Bitmap n low w N = (p s u : ℕ) → p ≤ low → s < 2 ^ p → u < 2 ^ n → u % 2 ^ p ≡ s → bit (u / 2 ^ low) (getD N (s + 2 ^ p) 0) ≡ true
+    → 1 ≤ markOf w u
 
 -- word i has bit j more, where state s is marked
 pub record Noted (w N M : List ℕ) (s i j : ℕ) : Type 0 where
@@ -33,55 +40,64 @@ pub record Noted (w N M : List ℕ) (s i j : ℕ) : Type 0 where
   pub others : (k : ℕ) → k ≢ i → getD M k 0 ≡ getD N k 0
   pub bits : (l : ℕ) → bit l (getD M i 0) ≡ true → (bit l (getD N i 0) ≡ true) ⊎ ((l ≡ j) × (1 ≤ markOf w s))
 
--- arrow x is spent at a node for the states with the upper bits h: all states of the node from which it leads to one are marked
-pub record Spent (W : View) (n : ℕ) (w : List ℕ) (x node h : ℕ) : Type 0 where
-  pub all : (p s u t : ℕ) → s < 2 ^ p → s + 2 ^ p ≡ node → u < 2 ^ n → u % 2 ^ p ≡ s → t / 2 ^ (levelAt W x / 2) ≡ h
-      → holdsAt W x u t ≡ true → 1 ≤ markOf w u
+-- arrow x has done some goals: all states from which it leads to one are marked
+pub record DoneAt (W : View) (n low : ℕ) (w : List ℕ) (x q goals : ℕ) : Type 0 where
+  pub all : (u t : ℕ) → u < 2 ^ n → Goal low q goals t → holdsAt W x u t ≡ true → 1 ≤ markOf w u
+
+-- arrow x is spent at a node for some goals, of whose lower bits it can read h: all states of the node that lead to one are marked
+pub record Spent (W : View) (n low : ℕ) (w : List ℕ) (x node h goals : ℕ) : Type 0 where
+  pub all : (p s u t : ℕ) → s < 2 ^ p → s + 2 ^ p ≡ node → u < 2 ^ n → u % 2 ^ p ≡ s → t % 2 ^ low / 2 ^ (levelAt W x / 2) ≡ h
+      → bit (t / 2 ^ low) goals ≡ true → holdsAt W x u t ≡ true → 1 ≤ markOf w u
 
 -- that as a key
 abbrev pub spentKey : ℕ → ℕ → ℕ → ℕ
 spentKey x node h = x * 4_294_967_296 + node * 65_536 + h
 
--- a key that is remembered
-abbrev pub SpentAt : View → ℕ → List ℕ → ℕ → Type 0
-SpentAt W n w key = Spent W n w (key / 4_294_967_296) (key / 65_536 % 65_536) (key % 65_536)
-
--- a key stands among those that are remembered
-pub record KeyMet (N : List ℕ) (key : ℕ) : Type 0 where
-  pub at : ℕ
-  pub slot : at < 2_039
-  pub is : getD N (1_536 + at) 0 ≡ key
-
--- nothing changed, or a key is remembered
-pub data KeyPut (N : List ℕ) (key : ℕ) : List ℕ → Type 0 where
-  none : KeyPut N key N
-  put : (k : ℕ) → k < 2_039 → KeyPut N key (set N (1_536 + k) key)
+-- a key that is remembered, and its goals
+abbrev pub SpentAt : View → ℕ → ℕ → List ℕ → ℕ → ℕ → Type 0
+SpentAt W n low w key goals = Spent W n low w (key / 4_294_967_296) (key / 65_536 % 65_536) (key % 65_536) goals
 
 -- all that is noted is true
 pub record NotesHold (W : View) (n low : ℕ) (w N : List ℕ) : Type 0 where
   pub bits : LowBits n low
   pub bitmap : Bitmap n low w N
+  pub done : (q : ℕ) → q < 1_024 → DoneAt W n low w (getD N (2_048 + q) 0) q (getD N (3_072 + q) 0)
+  pub spent : (k : ℕ) → k < 127 → SpentAt W n low w (getD N (4_096 + k) 0) (getD N (4_223 + k) 0)
   pub masks : Masked W low N
-  pub spent : (k : ℕ) → k < 2_039 → SpentAt W n w (getD N (1_536 + k) 0)
+
+-- arrow x and goal j of the lower bits q stand among what is done
+pub record DoneMet (N : List ℕ) (x q j : ℕ) : Type 0 where
+  pub is : getD N (2_048 + q) 0 ≡ x
+  pub has : bit j (getD N (3_072 + q) 0) ≡ true
+
+-- a key stands among those that are remembered, with these goals or more
+pub record KeyMet (N : List ℕ) (key goals : ℕ) : Type 0 where
+  pub at : ℕ
+  pub slot : at < 127
+  pub is : getD N (4_096 + at) 0 ≡ key
+  pub has : (j : ℕ) → bit j goals ≡ true → bit j (getD N (4_223 + at) 0) ≡ true
+
+-- nothing changed, or a key is remembered with its goals
+pub data KeyPut (N : List ℕ) (key goals : ℕ) : List ℕ → Type 0 where
+  none : KeyPut N key goals N
+  put : (k : ℕ) → k < 127 → KeyPut N key goals (set (set N (4_096 + k) key) (4_223 + k) goals)
 
 -- what `is_spent` and `put_spent` ask
-pub record SpentPre (N : List ℕ) (t node : ℕ) : Type 0 where
-  pub size : length N ≡ 3_575
-  pub state : t < 65_536
+pub record SpentPre (N : List ℕ) (q node : ℕ) : Type 0 where
+  pub size : length N ≡ 5_577
+  pub lower : q < 65_536
   pub node-small : node < 65_536
 
--- the states of a word that a mask has, and the state of bit j where `left` is odd
-abbrev pub InMask : ℕ → ℕ → ℕ → Type 0
-InMask low mask u = bit (u / 2 ^ low) mask ≡ true
+-- what `new_bits` asks
+pub record NewBitsPre (W : View) (low x : ℕ) (N : List ℕ) (node : ℕ) : Type 0 where
+  pub arrow : HoldsPre W x
+  pub small : low ≤ 10
+  pub masked : Masked W low N
+  pub place : node < 2_048
 
-abbrev pub AtBit : ℕ → ℕ → ℕ → ℕ → Type 0
-AtBit low left j u = (left % 2 ≡ 1) × (u / 2 ^ low ≡ j)
-
--- the order has got more with the mark m, only such as have lower bits s and lead by x to t, and of those with Q all
-pub record Adds (W : View) (n : ℕ) (w v : List ℕ) (m t x p s count most : ℕ) (Q : ℕ → Type 0) : Type 0 where
-  pub size : length v ≡ length w
-  pub order : Listed (2 ^ n) (marksOf v most)
-  pub grown : Grown (marksOf w count) (marksOf v most) m
-  pub hints : Hints n v
-  pub only : (u : ℕ) → u < 2 ^ n → markOf w u ≡ 0 → 1 ≤ markOf v u → (u % 2 ^ p ≡ s) × (holdsAt W x u t ≡ true)
-  pub complete : (u : ℕ) → u < 2 ^ n → u % 2 ^ p ≡ s → Q u → holdsAt W x u t ≡ true → 1 ≤ markOf v u
+-- of the classes of a node those that are not known to be marked and that arrow x leads from, exactly where x reads no bit below `low`
+pub record NewBits (W : View) (low x goals : ℕ) (N M : List ℕ) (node r : ℕ) : Type 0 where
+  pub masked : Masked W low M
+  pub beside : Beside N M
+  pub has : (i : ℕ) → i < 64 → (2 * low ≤ levelAt W x → LeadsTo W low x goals i) → (bit i (getD N node 0) ≡ true) ⊎ (bit i r ≡ true)
+  pub only : 2 * low ≤ levelAt W x → (i : ℕ) → i < 64 → bit i r ≡ true → LeadsTo W low x goals i

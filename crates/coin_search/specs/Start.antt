@@ -8,7 +8,6 @@ use lib.ListN.{length, getD}
 use Rattle.layout.specs.View.{View}
 use Rattle.coins.specs.Marks.{Listed}
 use Rattle.coin_search.specs.Words.{markOf, stateAt, marksOf}
-use Rattle.coin_search.specs.Nodes.{Hints}
 use Rattle.coin_search.specs.Hall.{inSet}
 
 -- the first k words are 0
@@ -21,7 +20,6 @@ pub record Started (W : View) (n : ℕ) (v : List ℕ) (b s count : ℕ) : Type 
   pub small : n ≤ 16
   pub room : 2 ^ n ≤ length v
   pub order : Listed (2 ^ n) (marksOf v count)
-  pub hints : Hints n v
   pub most : count ≤ s
   pub only : (u : ℕ) → u < 2 ^ n → 1 ≤ markOf v u → (u < s) × (inSet W b u ≡ true) × (markOf v u ≡ 1)
   pub complete : (u : ℕ) → u < s → inSet W b u ≡ true → markOf v u ≡ 1

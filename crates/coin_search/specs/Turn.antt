@@ -8,7 +8,6 @@ use Rattle.layout.specs.View.{View}
 use Rattle.coins.specs.Marks.{Listed}
 use Rattle.coins.specs.Turns.{Expanded}
 use Rattle.coin_search.specs.Words.{stateAt, marksOf}
-use Rattle.coin_search.specs.Nodes.{Hints}
 use Rattle.coin_search.specs.Hall.{filledAt, leadsAt, Hall}
 use Rattle.coin_search.specs.Choice.{keyOf}
 
@@ -16,7 +15,6 @@ use Rattle.coin_search.specs.Choice.{keyOf}
 pub record TurnPre (W : View) (n : ℕ) (prices w : List ℕ) (r done count : ℕ) : Type 0 where
   pub hall : Hall W n prices w
   pub order : Listed (2 ^ n) (marksOf w count)
-  pub hints : Hints n w
   pub filled : T (filledAt (W .header) r)
   pub next : done < count
   pub fits : keyOf prices w r done < 70_368_744_177_664
@@ -24,5 +22,4 @@ pub record TurnPre (W : View) (n : ℕ) (prices w : List ℕ) (r done count : �
 -- what it leaves
 pub record TurnPost (W : View) (n : ℕ) (prices w v : List ℕ) (r done count most : ℕ) : Type 0 where
   pub size : length v ≡ length w
-  pub hints : Hints n v
   pub expanded : Expanded (2 ^ n) (leadsAt W) (marksOf w count) (marksOf v most) r (stateAt w done) (keyOf prices w r done)

@@ -1,23 +1,18 @@
 -- The parts of the work words, and what a store does to them. Assumes nothing.
 use mathlib.Core.Path.{_≡_}
 use mathlib.Core.Logic.{_≢_}
-use mathlib.Core.Bool.{Bool}
 use mathlib.Core.List.{List}
 use Prim.Native.Nat.{ℕ, suc, _/_, _%_}
-use lib.Dec.{eqb}
 use lib.ListN.{length, getD}
 use Rattle.coins.specs.Marks.{Marks}
 use Rattle.coins.specs.Added.{Added}
 
--- the mark of state s, the state at place i of the order, and what is known of node i
+-- the mark of state s, and the state at place i of the order
 abbrev pub markOf : List ℕ → ℕ → ℕ
 markOf w s = getD w s 0 / 131_072
 
 abbrev pub stateAt : List ℕ → ℕ → ℕ
 stateAt w i = getD w i 0 % 65_536
-
-abbrev pub fullAt : List ℕ → ℕ → Bool
-fullAt w i = eqb (getD w i 0 / 65_536 % 2) 1
 
 -- the search that they hold, of which `count` states are in the order
 abbrev pub marksOf : List ℕ → ℕ → Marks
@@ -29,7 +24,6 @@ pub record MarkPut (w v : List ℕ) (s m : ℕ) : Type 0 where
   pub mark : markOf v s ≡ m
   pub others : (t : ℕ) → t ≢ s → markOf v t ≡ markOf w t
   pub states : (i : ℕ) → stateAt v i ≡ stateAt w i
-  pub nodes : (i : ℕ) → fullAt v i ≡ fullAt w i
 
 -- state s stands at place i
 pub record StatePut (w v : List ℕ) (i s : ℕ) : Type 0 where
@@ -37,17 +31,8 @@ pub record StatePut (w v : List ℕ) (i s : ℕ) : Type 0 where
   pub state : stateAt v i ≡ s
   pub others : (j : ℕ) → j ≢ i → stateAt v j ≡ stateAt w j
   pub marks : (t : ℕ) → markOf v t ≡ markOf w t
-  pub nodes : (j : ℕ) → fullAt v j ≡ fullAt w j
 
--- node i is full
-pub record FullPut (w v : List ℕ) (i : ℕ) : Type 0 where
-  pub size : length v ≡ length w
-  pub others : (j : ℕ) → j ≢ i → fullAt v j ≡ fullAt w j
-  pub marks : (t : ℕ) → markOf v t ≡ markOf w t
-  pub states : (j : ℕ) → stateAt v j ≡ stateAt w j
-
--- both stores: state s with the mark m at the end of the order; no node changes
+-- both stores: state s with the mark m at the end of the order
 pub record AddPost (w v : List ℕ) (s m count : ℕ) : Type 0 where
   pub size : length v ≡ length w
   pub added : Added (marksOf w count) (marksOf v (suc count)) s m
-  pub nodes : (j : ℕ) → fullAt v j ≡ fullAt w j

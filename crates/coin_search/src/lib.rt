@@ -1,5 +1,5 @@
 // The search for the cheapest run into a set: states are put into an order by what it costs to come from them into the set, with no row
-// made. Order and marks stand in lent words of 64 bits, one for each state; what only saves time stands in 28 KB of the stack.
+// made. Order and marks stand in lent words of 64 bits, one for each state; what only saves time stands in 45 KB of the stack.
 use coin_masks::Notes;
 use coin_masks::mask_of;
 use layout::Table;
@@ -8,31 +8,34 @@ use seek::follow_at;
 use seek::holds;
 use seek::level_of;
 use states::bit;
-ghost use Prim.Native.Nat.{_*_, _+_, _/_, _<_, _^_, _≤_};
+ghost use Prim.Native.Nat.{_*_, _+_, _-_, _/_, _<_, _^_, _≤_};
+ghost use Rattle.coin_search.specs.Adds.{Adds, AddsPre, AtBit, InMask, One};
 ghost use Rattle.coin_search.specs.Choice.{Best, NextMark, Placed};
-ghost use Rattle.coin_search.specs.Expand.{ExpandPre, Expands};
-ghost use Rattle.coin_search.specs.Nodes.{Joined, Known, NodePre};
-ghost use Rattle.coin_search.specs.Notes.{Adds, Bitmap, KeyMet, KeyPut, LowBits, Noted, NotesHold, SpentPre, AtBit, InMask, spentKey};
+ghost use Rattle.coin_search.specs.Expand.{ExpandPre, Reached, Stepped};
+ghost use Rattle.coin_search.specs.Gather.{Gathered, GatherPre, GoalBit, Goals, OwnState};
+ghost use Rattle.coin_search.specs.Notes.{DoneMet, KeyMet, KeyPut, LowBits, NewBits, NewBitsPre, Noted, NotesHold};
+ghost use Rattle.coin_search.specs.Notes.{SpentPre, spentKey};
 ghost use Rattle.coin_search.specs.Search.{SearchPost, SearchPre};
 ghost use Rattle.coin_search.specs.Start.{Bare, Cleared, FirstIn, Started};
 ghost use Rattle.coin_search.specs.Turn.{TurnPost, TurnPre};
-ghost use Rattle.coin_search.specs.Words.{AddPost, FullPut, MarkPut, StatePut, fullAt, markOf, stateAt};
+ghost use Rattle.coin_search.specs.Words.{AddPost, MarkPut, StatePut, markOf, stateAt};
 ghost use Rattle.coins.specs.Cost.{stepCost};
 ghost use Rattle.layout.specs.Places.{HEADER};
 ghost use Rattle.layout.specs.View.{headerOf, view};
 ghost use Rattle.seek.specs.Apart.{levelAt};
 ghost use Rattle.seek.specs.Walk.{HoldsPre};
-ghost use lib.ListN.{length};
+ghost use lib.Bits.{bitAnd};
+ghost use lib.ListN.{getD, length, set};
 ghost use mathlib.Core.Bool.{true};
 ghost use mathlib.Core.Path.{_≡_};
 
-// The parts of a work word: in the low 16 bits the state at a place of the order; then a bit that says of the states with some lower bits
-// that all are marked; above it the mark of a state, which is 0 where it has none, else one more than what it costs.
+// The parts of a work word: in the low 16 bits the state at a place of the order; from bit 17 on the mark of a state, which is 0 where it
+// has none, else one more than what it costs.
 // A cost is 2^17 times the credits and one for each step, so that fewer steps win among equal credits.
 pub struct Work;
 
 impl Work {
-    pub const FULL: u64 = 65536;
+    pub const STATES: u64 = 65536;
 
     pub const MARK: u64 = 131072;
 
@@ -44,11 +47,8 @@ impl Work {
     // No state of 16 bits.
     pub const NO_STATE: u32 = 65536;
 
-    // Up to so many bits single states are walked, and no words of 64 (chosen by trial).
-    const FEW: u32 = 7;
-
     // How many bits an arrow must skip to be remembered as spent: from fewer on there are too many keys.
-    const SKIPPED: u32 = 5;
+    const SKIPPED: u32 = 3;
 }
 
 // The mark of state s.
@@ -66,16 +66,7 @@ pub fn state_at(work: &[u64], i: u32) -> u32
     ensures { λ r. ⌜ r ≡ stateAt (now (work .entry)) i ⌝ }
 {
     let at = i as usize;
-    (work[at] % Work::FULL) as u32
-}
-
-// Whether it is known of the states of node i that all are marked: those whose lower p bits are i − 2^p, where 2^p ≤ i < 2^(p + 1).
-fn is_full(work: &[u64], i: u32) -> bool
-    requires { ⌜ i < length (now work) ⌝ }
-    ensures { λ r. ⌜ r ≡ fullAt (now (work .entry)) i ⌝ }
-{
-    let at = i as usize;
-    work[at] / Work::FULL % 2 == 1
+    (work[at] % Work::STATES) as u32
 }
 
 // State s, which has no mark, has the mark m.
@@ -95,20 +86,7 @@ fn put_state(work: &mut [u64], i: u32, s: u32)
 {
     let at = i as usize;
     let word = work[at];
-    work[at] = word - word % Work::FULL + (s as u64);
-}
-
-// All states of node i are marked.
-fn put_full(work: &mut [u64], i: u32)
-    requires { ⌜ i < length (now work) ⌝ }
-    ensures { λ _. ⌜ FullPut (now (work .entry)) (now (work .exit)) i ⌝ }
-{
-    if is_full(work, i) {
-        return;
-    }
-    let at = i as usize;
-    let word = work[at];
-    work[at] = word + Work::FULL;
+    work[at] = word - word % Work::STATES + (s as u64);
 }
 
 // Puts state s, which has no mark, at the end of an order of `count` states with the mark m; answers how many there are then.
@@ -121,57 +99,40 @@ fn add(work: &mut [u64], s: u32, m: u64, count: u32) -> u32
     count + 1
 }
 
-// Whether it is known that all states whose lower p bits are those of s are marked.
-fn all_marked(work: &[u64], bits: u32, p: u32, s: u32) -> bool
-    requires { ⌜ NodePre bits (now work) p s ⌝ }
-    ensures { λ r. ⌜ Known bits (now (work .entry)) p s r ⌝ }
+// What is known of both halves of a node of p bits is known of it.
+fn join(notes: &mut [u64], p: u32, node: u32)
+    requires { ⌜ (p < 10) × (node < 1_024) × (length (now notes) ≡ 5_577) ⌝ }
+    ensures { λ _.
+        ⌜ now (notes .exit) ≡ set (now (notes .entry)) node
+        (bitAnd (getD (now (notes .entry)) (node + 2 ^ p) 0) (getD (now (notes .entry)) (node + 2 * 2 ^ p) 0)) ⌝ }
 {
-    if p == bits {
-        return mark_of(work, s) != 0;
-    }
-    is_full(work, s + (1u32 << p))
+    let half = 1u32 << p;
+    let first = notes[(node + half) as usize];
+    let second = notes[(node + 2 * half) as usize];
+    let at = node as usize;
+    notes[at] = first & second;
 }
 
-// Remembers of a node that all its states are marked, where that is known of both halves: the node of the states whose lower p bits are
-// those of s, which has the number s + 2^p.
-fn join(work: &mut [u64], bits: u32, p: u32, s: u32, node: u32)
-    requires { ⌜ NodePre bits (now work) p s × (p < bits) × (node ≡ s + 2 ^ p) ⌝ }
-    ensures { λ _. ⌜ Joined bits (now (work .entry)) (now (work .exit)) ⌝ }
-{
-    let next = p + 1;
-    if !all_marked(work, bits, next, s) {
-        return;
-    }
-    if !all_marked(work, bits, next, node) {
-        return;
-    }
-    put_full(work, node);
-}
-
-// What is the same in the whole walk for one state and one relation: the table's sizes, how many bits are below the six that a word of the
-// notes has, the state and the mark.
+// What is the same in the whole walk for some goals and one relation: the table's sizes, how many bits are below the six that a word of the
+// notes has, the goals' lower bits, their six others as bits of a word, and the mark.
 struct Wave {
     pub rows: u32,
     pub bits: u32,
     pub low: u32,
-    pub state: u32,
+    pub lower: u32,
+    pub goals: u64,
     pub mark: u64,
 }
 
-// Adds state s where it has no mark and arrow x leads from it to the wave's state.
-fn admit(words: &[u32], work: &mut [u64], wave: Wave, x: u32, s: u32, count: u32) -> u32
-    requires { ⌜ ExpandPre (view (wave .rows) (now words)) (wave .bits) (now work) (wave .mark) x (wave .bits) s count ⌝ }
-    ensures { λ r.
-        ⌜ Expands (view (wave .rows) (now (words .entry))) (wave .bits) (now (work .entry)) (now (work .exit)) (wave .mark) (wave .state) x
-        (wave .bits) s count r ⌝ }
+// Adds state s where it has no mark.
+fn admit(work: &mut [u64], wave: Wave, s: u32, count: u32) -> u32
+    requires { ⌜ AddsPre (wave .bits) (now work) (wave .mark) count × (s < 2 ^ (wave .bits)) ⌝ }
+    ensures { λ r. ⌜ Adds (wave .bits) (now (work .entry)) (now (work .exit)) (wave .mark) count r (One s) ⌝ }
 {
-    if all_marked(work, wave.bits, wave.bits, s) {
+    if mark_of(work, s) != 0 {
         return count;
     }
-    if holds(words, wave.rows, x, s, wave.state) {
-        return add(work, s, wave.mark, count);
-    }
-    count
+    add(work, s, wave.mark, count)
 }
 
 // Notes that state s, which is bit j of word i, is marked.
@@ -186,147 +147,154 @@ fn note_mark(work: &[u64], notes: &mut [u64], s: u32, i: u32, j: u32)
     notes[at] = notes[at] | (1u64 << j);
 }
 
-// Adds the state of bit j of word i where `left` is odd and arrow x leads from it to the wave's state, and notes that it is marked.
+// Adds the state of bit j where `left` is odd, of those with the lower bits s, and notes that it is marked.
 fn settle(
     words: &[u32],
     work: &mut [u64],
     notes: &mut [u64],
     wave: Wave,
-    x: u32,
-    i: u32,
+    s: u32,
     j: u32,
     left: u64,
     count: u32,
 ) -> u32
-    requires { ⌜ ExpandPre (view (wave .rows) (now words)) (wave .bits) (now work) (wave .mark) x (wave .low) i count
-        × NotesHold (view (wave .rows) (now words)) (wave .bits) (wave .low) (now work) (now notes) × (j < 64) ⌝ }
+    requires { ⌜ AddsPre (wave .bits) (now work) (wave .mark) count
+        × NotesHold (view (wave .rows) (now words)) (wave .bits) (wave .low) (now work) (now notes) × (s < 2 ^ (wave .low)) × (j < 64) ⌝ }
     ensures { λ r.
-        ⌜ Adds (view (wave .rows) (now (words .entry))) (wave .bits) (now (work .entry)) (now (work .exit)) (wave .mark) (wave .state) x
-        (wave .low) i count r (AtBit (wave .low) left j)
+        ⌜ Adds (wave .bits) (now (work .entry)) (now (work .exit)) (wave .mark) count r (AtBit (wave .low) s left j)
         × NotesHold (view (wave .rows) (now (words .entry))) (wave .bits) (wave .low) (now (work .exit)) (now (notes .exit)) ⌝ }
 {
     if left % 2 == 0 {
         return count;
     }
-    let s = i + (j << wave.low);
-    if s >= 1u32 << wave.bits {
+    let u = s + (j << wave.low);
+    if u >= 1u32 << wave.bits {
         return count;
     }
-    let most = admit(words, work, wave, x, s, count);
-    note_mark(work, notes, s, i, j);
+    let most = admit(work, wave, u, count);
+    note_mark(work, notes, u, s + (1u32 << wave.low), j);
     most
 }
 
-// Adds the states of word i that a mask has and from which arrow x leads to the wave's state.
+// Adds the states that a mask has, of those with the lower bits s.
 fn add_all(
     words: &[u32],
     work: &mut [u64],
     notes: &mut [u64],
     wave: Wave,
-    x: u32,
-    i: u32,
+    s: u32,
     mask: u64,
     count: u32,
 ) -> u32
-    requires { ⌜ ExpandPre (view (wave .rows) (now words)) (wave .bits) (now work) (wave .mark) x (wave .low) i count
-        × NotesHold (view (wave .rows) (now words)) (wave .bits) (wave .low) (now work) (now notes) ⌝ }
+    requires { ⌜ AddsPre (wave .bits) (now work) (wave .mark) count
+        × NotesHold (view (wave .rows) (now words)) (wave .bits) (wave .low) (now work) (now notes) × (s < 2 ^ (wave .low)) ⌝ }
     ensures { λ r.
-        ⌜ Adds (view (wave .rows) (now (words .entry))) (wave .bits) (now (work .entry)) (now (work .exit)) (wave .mark) (wave .state) x
-        (wave .low) i count r (InMask (wave .low) mask)
+        ⌜ Adds (wave .bits) (now (work .entry)) (now (work .exit)) (wave .mark) count r (InMask (wave .low) s mask)
         × NotesHold (view (wave .rows) (now (words .entry))) (wave .bits) (wave .low) (now (work .exit)) (now (notes .exit)) ⌝ }
 {
     let mut left = mask;
     let mut j = 0;
     let mut most = count;
     while left != 0 {
-        most = settle(words, work, notes, wave, x, i, j, left, most);
+        most = settle(words, work, notes, wave, s, j, left, most);
         left = left / 2;
         j += 1;
     }
     most
 }
 
-// Remembers of the states of word i that all are marked, where it says so.
-fn note_full(work: &mut [u64], notes: &[u64], wave: Wave, i: u32)
-    requires { ⌜ NodePre (wave .bits) (now work) (wave .low) i × Bitmap (wave .bits) (wave .low) (now work) (now notes)
-        × LowBits (wave .bits) (wave .low) ⌝ }
-    ensures { λ _. ⌜ Joined (wave .bits) (now (work .entry)) (now (work .exit)) ⌝ }
-{
-    let at = i as usize;
-    if notes[at] != Notes::ALL {
-        return;
-    }
-    put_full(work, i + (1u32 << wave.low));
-}
-
-// Adds each state of word i from which arrow x leads to the wave's state.
-fn sweep(
-    words: &[u32],
-    work: &mut [u64],
-    notes: &mut [u64],
-    wave: Wave,
-    x: u32,
-    i: u32,
-    count: u32,
-) -> u32
-    requires { ⌜ ExpandPre (view (wave .rows) (now words)) (wave .bits) (now work) (wave .mark) x (wave .low) i count
-        × NotesHold (view (wave .rows) (now words)) (wave .bits) (wave .low) (now work) (now notes) ⌝ }
+// Of the classes of a node those that are not known to be marked and may hold a state from which arrow x leads to a goal: exactly those
+// with one where x reads six bits only.
+fn new_bits(words: &[u32], notes: &mut [u64], wave: Wave, x: u32, node: u32) -> u64
+    requires { ⌜ NewBitsPre (view (wave .rows) (now words)) (wave .low) x (now notes) node ⌝ }
     ensures { λ r.
-        ⌜ Expands (view (wave .rows) (now (words .entry))) (wave .bits) (now (work .entry)) (now (work .exit)) (wave .mark) (wave .state) x
-        (wave .low) i count r
-        × NotesHold (view (wave .rows) (now (words .entry))) (wave .bits) (wave .low) (now (work .exit)) (now (notes .exit)) ⌝ }
+        ⌜ NewBits (view (wave .rows) (now (words .entry))) (wave .low) x (wave .goals) (now (notes .entry)) (now (notes .exit)) node r ⌝ }
 {
-    let mask = mask_of(words, wave.rows, notes, wave.low, x, wave.state);
-    let at = i as usize;
+    let at = node as usize;
     let known = notes[at];
-    let new = (mask | known) ^ known;
-    let most = add_all(words, work, notes, wave, x, i, new, count);
-    note_full(work, notes, wave, i);
-    most
+    if known == Notes::ALL {
+        return 0;
+    }
+    let level = level_of(words, wave.rows, x);
+    if level < 2 * wave.low {
+        return Notes::ALL;
+    }
+    let mask = mask_of(words, wave.rows, notes, wave.low, x, wave.goals);
+    (mask | known) ^ known
 }
 
-// What says that an arrow is spent at a node for a state: the arrow, the node, and the part of the state that the arrow can read.
+// What says that an arrow is spent at a node for some goals: the arrow, the node, and the part of the goals' lower bits that it can read.
 fn spent_key(wave: Wave, level: u32, x: u32, node: u32) -> u64
-    requires { ⌜ (level ≤ 32) × (wave .state < 65_536) × (node < 65_536) ⌝ }
-    ensures { λ r. ⌜ r ≡ spentKey x node (wave .state / 2 ^ (level / 2)) ⌝ }
+    requires { ⌜ (level ≤ 32) × (wave .lower < 65_536) × (node < 65_536) ⌝ }
+    ensures { λ r. ⌜ r ≡ spentKey x node (wave .lower / 2 ^ (level / 2)) ⌝ }
 {
-    let part = wave.state >> (level / 2);
+    let part = wave.lower >> (level / 2);
     (x as u64) * 4294967296 + (node as u64) * 65536 + (part as u64)
 }
 
-// Whether it is remembered that all states of a node, of p bits, from which arrow x leads to the wave's state are marked. Only of an arrow
-// that skips some bits is it.
+// Whether it is remembered that all states of a node, of p bits, from which arrow x leads to the goals are marked. Only of an arrow that
+// skips some bits is it.
 fn is_spent(words: &[u32], notes: &[u64], wave: Wave, x: u32, p: u32, node: u32) -> bool
-    requires { ⌜ HoldsPre (view (wave .rows) (now words)) x × SpentPre (now notes) (wave .state) node × (p ≤ 16) ⌝ }
+    requires { ⌜ HoldsPre (view (wave .rows) (now words)) x × SpentPre (now notes) (wave .lower) node × (p ≤ 16) ⌝ }
     ensures { λ r. ⌜ (r ≡ true → KeyMet (now (notes .entry))
-        (spentKey x node (wave .state / 2 ^ (levelAt (view (wave .rows) (now (words .entry))) x / 2)))) ⌝ }
+        (spentKey x node (wave .lower / 2 ^ (levelAt (view (wave .rows) (now (words .entry))) x / 2))) (wave .goals)) ⌝ }
 {
     let level = level_of(words, wave.rows, x);
     if level / 2 < p + Work::SKIPPED {
         return false;
     }
     let key = spent_key(wave, level, x, node);
-    let at = Notes::SPENT + ((key % Notes::SLOTS) as usize);
-    notes[at] == key
+    let slot = (key % Notes::SLOTS) as usize;
+    let at = Notes::SPENT + slot;
+    if notes[at] != key {
+        return false;
+    }
+    let there = Notes::SPENT_GOALS + slot;
+    notes[there] | wave.goals == notes[there]
+}
+
+// Stores two words.
+fn put_pair(notes: &mut [u64], at: usize, there: usize, x: u64, y: u64)
+    requires { ⌜ (at < length (now notes)) × (there < length (now notes)) ⌝ }
+    ensures { λ _. ⌜ now (notes .exit) ≡ set (set (now (notes .entry)) at x) there y ⌝ }
+{
+    notes[at] = x;
+    notes[there] = y;
 }
 
 // Remembers it of such an arrow.
 fn put_spent(words: &[u32], notes: &mut [u64], wave: Wave, x: u32, p: u32, node: u32)
-    requires { ⌜ HoldsPre (view (wave .rows) (now words)) x × SpentPre (now notes) (wave .state) node × (p ≤ 16) ⌝ }
+    requires { ⌜ HoldsPre (view (wave .rows) (now words)) x × SpentPre (now notes) (wave .lower) node × (p ≤ 16) ⌝ }
     ensures { λ _.
-        ⌜ KeyPut (now (notes .entry)) (spentKey x node (wave .state / 2 ^ (levelAt (view (wave .rows) (now (words .entry))) x / 2)))
-        (now (notes .exit)) ⌝ }
+        ⌜ KeyPut (now (notes .entry)) (spentKey x node (wave .lower / 2 ^ (levelAt (view (wave .rows) (now (words .entry))) x / 2)))
+        (wave .goals) (now (notes .exit)) ⌝ }
 {
     let level = level_of(words, wave.rows, x);
     if level / 2 < p + Work::SKIPPED {
         return;
     }
     let key = spent_key(wave, level, x, node);
-    let at = Notes::SPENT + ((key % Notes::SLOTS) as usize);
-    notes[at] = key;
+    let slot = (key % Notes::SLOTS) as usize;
+    put_pair(
+        notes,
+        Notes::SPENT + slot,
+        Notes::SPENT_GOALS + slot,
+        key,
+        wave.goals,
+    );
 }
 
-// Adds each state whose lower p bits are those of s and from which arrow x leads to the wave's state.
+// The arrow that is followed from x where current bit p and next bit p are known.
+fn step(words: &[u32], rows: u32, x: u32, p: u32, here: bool, there: bool) -> u32
+    requires { ⌜ HoldsPre (view rows (now words)) x × (p < 16) ⌝ }
+    ensures { λ r. ⌜ Stepped (view rows (now (words .entry))) x p here there r ⌝ }
+{
+    let level = 2 * p;
+    let y = follow_at(words, rows, x, level, here);
+    follow_at(words, rows, y, level + 1, there)
+}
+
+// Adds each state whose lower p bits are those of s and from which arrow x leads to a goal.
 fn expand(
     words: &[u32],
     work: &mut [u64],
@@ -337,41 +305,34 @@ fn expand(
     s: u32,
     count: u32,
 ) -> u32
-    requires { ⌜ ExpandPre (view (wave .rows) (now words)) (wave .bits) (now work) (wave .mark) x p s count
-        × NotesHold (view (wave .rows) (now words)) (wave .bits) (wave .low) (now work) (now notes) × (p ≤ wave .low)
-        × (wave .state < 65_536) ⌝ }
+    requires { ⌜ ExpandPre (view (wave .rows) (now words)) (wave .bits) (wave .low) (now work) (now notes) (wave .lower) (wave .mark) x p s
+        count ⌝ }
     ensures { λ r.
-        ⌜ Expands (view (wave .rows) (now (words .entry))) (wave .bits) (now (work .entry)) (now (work .exit)) (wave .mark) (wave .state) x
-        p s count r
+        ⌜ Adds (wave .bits) (now (work .entry)) (now (work .exit)) (wave .mark) count r
+        (Reached (view (wave .rows) (now (words .entry))) (wave .low) (wave .lower) (wave .goals) x p s)
         × NotesHold (view (wave .rows) (now (words .entry))) (wave .bits) (wave .low) (now (work .exit)) (now (notes .exit)) ⌝ }
 {
     if x == Table::NOTHING {
         return count;
     }
-    if all_marked(work, wave.bits, p, s) {
+    let node = s + (1u32 << p);
+    let new = new_bits(words, notes, wave, x, node);
+    if new == 0 {
         return count;
     }
-    if p == wave.bits {
-        return admit(words, work, wave, x, s, count);
-    }
     if p == wave.low {
-        return sweep(words, work, notes, wave, x, s, count);
+        return add_all(words, work, notes, wave, s, new, count);
     }
-    let next = p + 1;
-    let level = 2 * p;
-    let then = level + 1;
-    let node = s + (1u32 << p);
     if is_spent(words, notes, wave, x, p, node) {
         return count;
     }
-    let side = bit(wave.state, p);
-    let y = follow_at(words, wave.rows, x, level, false);
-    let low = follow_at(words, wave.rows, y, then, side);
-    let more = expand(words, work, notes, wave, low, next, s, count);
-    let z = follow_at(words, wave.rows, x, level, true);
-    let high = follow_at(words, wave.rows, z, then, side);
-    let most = expand(words, work, notes, wave, high, next, node, more);
-    join(work, wave.bits, p, s, node);
+    let then = p + 1;
+    let side = bit(wave.lower, p);
+    let low = step(words, wave.rows, x, p, false, side);
+    let more = expand(words, work, notes, wave, low, then, s, count);
+    let high = step(words, wave.rows, x, p, true, side);
+    let most = expand(words, work, notes, wave, high, then, node, more);
+    join(notes, p, node);
     put_spent(words, notes, wave, x, p, node);
     most
 }
@@ -385,7 +346,7 @@ pub fn step_cost(prices: &[u8], r: u32) -> u64
     (prices[at] as u64) * Work::CREDIT + 1
 }
 
-// The first words are 0: no state has a mark, and nothing is known of nodes.
+// The first words are 0: no state has a mark.
 fn clear(work: &mut [u64], states: u32)
     requires { ⌜ (states ≤ 65_536) × (states ≤ length (now work)) ⌝ }
     ensures { λ _. ⌜ Cleared (now (work .entry)) (now (work .exit)) states ⌝ }
@@ -510,18 +471,95 @@ fn choose(words: &[u32], prices: &[u8], work: &[u64], done: &[u32], count: u32) 
     best
 }
 
-// How many bits are below the six that a word of the notes has; all where the states are few, as no word is used then.
+// How many bits are below the six that a word of the notes has.
 fn low_bits(bits: u32) -> u32
     requires { ⌜ bits ≤ 16 ⌝ }
     ensures { λ r. ⌜ LowBits bits r ⌝ }
 {
-    if bits > Work::FEW {
+    if bits > 6 {
         return bits - 6;
     }
-    bits
+    0
 }
 
-// One turn: the next state of relation r in the order gives marks to those from which r leads to it.
+// Bit j where state s has the mark m.
+fn goal_bit(work: &[u64], s: u32, m: u64, j: u32) -> u64
+    requires { ⌜ (s < length (now work)) × (j < 64) ⌝ }
+    ensures { λ r. ⌜ GoalBit (now (work .entry)) s m j r ⌝ }
+{
+    if mark_of(work, s) == m {
+        return 1u64 << j;
+    }
+    0
+}
+
+// Of the states with the lower bits q those with the mark m, as bits of a word.
+fn goals_of(work: &[u64], bits: u32, low: u32, q: u32, m: u64) -> u64
+    requires { ⌜ GatherPre bits low (now work) q ⌝ }
+    ensures { λ r. ⌜ Gathered low (now (work .entry)) q m (2 ^ (bits - low)) r ⌝ }
+{
+    let most = 1u32 << (bits - low);
+    let mut goals = 0u64;
+    let mut j = 0;
+    while j < most {
+        goals = goals | goal_bit(work, q + (j << low), m, j);
+        j += 1;
+    }
+    goals
+}
+
+// Whether the state at a place is the last one in the order with its mark, m.
+fn is_last(work: &[u64], done: u32, count: u32, m: u64) -> bool
+    requires { ⌜ Placed (now work) count × (count ≤ 65_536) × (done < 65_536) ⌝ }
+{
+    let next = done + 1;
+    if next >= count {
+        return true;
+    }
+    mark_of(work, state_at(work, next)) != m
+}
+
+// The goals of a turn: the state at a place of the order, with the mark m and the lower bits q, and where more of this mark follow all of
+// it with these lower bits.
+fn gather(work: &[u64], bits: u32, low: u32, q: u32, j: u32, m: u64, done: u32, count: u32) -> u64
+    requires { ⌜ GatherPre bits low (now work) q × OwnState bits low (now work) q j m count × (done < 65_536) ⌝ }
+    ensures { λ r. ⌜ Goals bits low (now (work .entry)) q j m r ⌝ }
+{
+    if is_last(work, done, count, m) {
+        return 1u64 << j;
+    }
+    goals_of(work, bits, low, q, m)
+}
+
+// Whether arrow x has done the goal j of the lower bits q.
+fn is_done(notes: &[u64], x: u32, q: u32, j: u32) -> bool
+    requires { ⌜ (length (now notes) ≡ 5_577) × (q < 1_024) × (j < 64) ⌝ }
+    ensures { λ r. ⌜ (r ≡ true → DoneMet (now (notes .entry)) x q j) ⌝ }
+{
+    let at = Notes::DONE + (q as usize);
+    if notes[at] != (x as u64) {
+        return false;
+    }
+    let there = Notes::DONE_GOALS + (q as usize);
+    (notes[there] >> j) % 2 == 1
+}
+
+// Arrow x has done some goals of the lower bits q.
+fn put_done(notes: &mut [u64], x: u32, q: u32, goals: u64)
+    requires { ⌜ (length (now notes) ≡ 5_577) × (q < 1_024) ⌝ }
+    ensures { λ _. ⌜ now (notes .exit) ≡ set (set (now (notes .entry)) (2_048 + q) x) (3_072 + q) goals ⌝ }
+{
+    put_pair(
+        notes,
+        Notes::DONE + (q as usize),
+        Notes::DONE_GOALS + (q as usize),
+        x as u64,
+        goals,
+    );
+}
+
+// One turn: the next state of relation r in the order, and all of its mark that have its lower bits, give marks to those from which r leads
+// to them.
 fn turn(
     words: &[u32],
     rows: u32,
@@ -541,17 +579,25 @@ fn turn(
         × NotesHold (view rows (now (words .entry))) bits low (now (work .exit)) (now (notes .exit)) ⌝ }
 {
     let t = state_at(work, done);
-    let mark = mark_of(work, t) + step_cost(prices, r);
+    let at = Table::FIRST_RELATION + (r as usize);
+    let root = header_word(words, at) - 1;
+    let q = t % (1u32 << low);
+    let j = t >> low;
+    if is_done(notes, root, q, j) {
+        return count;
+    }
+    let m = mark_of(work, t);
     let wave = Wave {
         rows: rows,
         bits: bits,
         low: low,
-        state: t,
-        mark: mark,
+        lower: q,
+        goals: gather(work, bits, low, q, j, m, done, count),
+        mark: m + step_cost(prices, r),
     };
-    let at = Table::FIRST_RELATION + (r as usize);
-    let root = header_word(words, at);
-    expand(words, work, notes, wave, root - 1, 0, 0, count)
+    let most = expand(words, work, notes, wave, root, 0, 0, count);
+    put_done(notes, root, q, wave.goals);
+    most
 }
 
 // A state of arrow a's set from which it costs least to come into arrow b's, its mark standing in the work words; none where there is no

@@ -234,13 +234,13 @@ module _ (k : ℕ) (leads : Transitions) (filled A B : ℕ → Bool) (prices : L
     turned = record {
       standing =
           grown-standing (S .standing) cheap (E .grown) (E .order) (λ i l. let g = S .greatest i l in let b = top-least in omega arith)
-          (λ u l e y. inr (record {
+          (λ u l e y. let o = E .only u l e y in let z = marked (done r) open-place in let q = o .like in inr (record {
             relation = r;
-            state = M .at (done r);
-            below = S .standing .order .listed (done r) open-place .0;
-            step = E .only u l e y;
-            marked = marked (done r) open-place;
-            exact = is;
+            state = o .state;
+            below = o .below;
+            step = o .step;
+            marked = omega arith;
+            exact = omega arith;
           }));
       goal = λ s l b. let e = S .goal s l b in E .grown .kept s (omega arith) ∙ e;
       over = over-next;

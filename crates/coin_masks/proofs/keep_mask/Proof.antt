@@ -1,6 +1,6 @@
--- `keep_mask` meets its contract: two stores. Assumes nothing.
+-- `keep_mask` meets its contract: three stores. Assumes nothing.
 use Prim.Native.Nat.{_+_}
-use lib.ListN.{length-set}
+use lib.ListN.{length-set, set}
 use native.Mathlib.Omega.{arith}
 use borrow.Author.Needs.{needs}
 use Rattle.coin_masks.proofs.keep_mask.Statement.{statement}
@@ -17,7 +17,12 @@ keep-mask-spec =
     (λ c. search needs)
     (λ c. search needs)
     (λ c. search needs)
-    (λ c. let e = c .pre .1 in let l = c .pre .0 in let z = length-set (c .args .notes .now) (1024 + c .args .at) (c .args
-    .key) in omega arith)
+    (λ c. search needs)
+    (λ c. let e = c .pre .1 in let l = c .pre .0 in let z = length-set (c .args .notes .now) (4350 + c .args .at) (c .args .x)
+    in omega arith)
+    (λ c. search needs)
+    (λ c. let e = c .pre .1 in let l = c .pre .0 in let z = length-set (c .args .notes .now) (4350 + c .args .at) (c .args .x)
+    in let y = length-set (set (c .args .notes .now) (4350 + c .args .at) (c .args .x)) (4759 + c .args .at) (c .args .goals) in
+    omega arith)
     (λ c. search needs)
     (λ c. search needs))

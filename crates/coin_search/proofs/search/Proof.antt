@@ -77,11 +77,11 @@ search-spec =
           .before .before .before .before .before .before .before .before .shared-slice-known2 .given q .fits in omega arith) (c
           .before .before .before .before .before .first-in .ensures) (c .before .before .before .before .if1 .left) (zeros-at 8)
           refl (c .choose .ensures),
-      notes-start (c .before .before .before .low-bits .ensures) (length-replicate {A = ℕ} 3575 0)
-          (zeros-at 3575),
+      notes-start (c .before .before .before .low-bits .ensures) (length-replicate {A = ℕ} 5577 0)
+          (zeros-at 5577),
     ))
     (λ c. let l = c .before .loop .inv .1 .most in record { fits = omega arith })
-    (λ c. let h = c .before .before .before .loop .inv .2 .bitmap .size in search needs)
+    (λ c. let h = c .before .before .before .loop .inv .2 .masks .size in search needs)
     (λ c. let l = c .before .before .before .loop .inv .1 .most in omega arith)
     (λ c. let l = in-eight (c .before .before .before .loop .inv .1) (c .before .before .loop-test .taken) in let e = c
     .before .before .before .loop .inv .1 .eight in omega arith)
