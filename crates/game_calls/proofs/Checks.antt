@@ -1,4 +1,4 @@
--- The calls' contracts from their checks, and from what follows them. Assumes nothing.
+-- The second call's contract from its checks, and from what follows them. Assumes nothing.
 use mathlib.Core.Path.{_≡_, refl, sym, ap, _∙_, subst}
 use mathlib.Core.Logic.{_≢_}
 use mathlib.Core.Bool.{Bool, true, false, not, cond, _&&_}
@@ -19,20 +19,18 @@ use Rattle.diagram.proofs.Keep.{keeps-refl}
 use Rattle.rows.specs.Used.{rowsOf}
 use Rattle.rows.specs.Sound.{Sound, tableOf}
 use Rattle.rows.proofs.Filled.{filled-arrow}
-use Rattle.book.specs.Book.{Call, set, registers, relations, regFilled, relFilled, collect}
-use Rattle.book.proofs.Effects.{set-out-of-range}
+use Rattle.book.specs.Book.{registers, relations, regFilled, relFilled, collect}
 use Rattle.book.specs.Ticks.{Verdict, counted, full, spent}
 use Rattle.book.specs.Table.{Reply, rootsOf}
 use Rattle.book.specs.BookOf.{bookOf}
 use Rattle.book.specs.Leaves.{plain}
 use Rattle.contract.specs.Seen.{seen, SoundWords}
-use Rattle.contract.specs.Posts.{CallPost}
-use Rattle.contract.proofs.Checked.{call-refused, kept-refused}
+use Rattle.contract.proofs.Checked.{kept-refused}
 use Rattle.contract.proofs.Roots.{root-filled}
 use Rattle.seek.proofs.Search.{power-fits}
 use Rattle.path_calls.proofs.Checks.{register-is, relation-is, same-table, rows-kept, words-kept, same-book}
 use Rattle.games.specs.Game.{fair, answerTo}
-use Rattle.games.specs.Call.{inRange, gameBytes, gameCall, presses, reactions, goals, gameVerdict, allFilled, reacted, reacts}
+use Rattle.games.specs.Call.{inRange, presses, reactions, goals, gameVerdict, allFilled, reacted, reacts}
 use Rattle.games.proofs.Call.{Ranges, ranges-out, near, reacts-three, reacts-unlisted, reacts-empty, reacts-told}
 use Rattle.game_calls.specs.Reacting.{NamedPre, ReactingPre, Reacting}
 use Rattle.game_calls.specs.Post.{Told, ReactPost}
@@ -56,26 +54,7 @@ test-yes {r} t e = sym e ∙ go r t
 pub states-is : (bits n : ℕ) → bits ≡ n → n ≤ 16 → 1 * 2 ^ bits % 4_294_967_296 ≡ 2 ^ n
 states-is bits n e l = power-fits bits (omega arith) ∙ ap (λ (m : ℕ). 2 ^ m) e
 
--- ---- the first call
-
-module _ (acc : Terms) (r R goal guest machine : ℕ) where
-  pub force-range : {ws : List ℕ} → SoundWords ws → inRange goal guest machine ≡ false
-      → CallPost (gameCall acc r R goal guest machine) ws ws (plain 3)
-  force-range {ws} s e =
-      subst (λ (b : Bool). CallPost (set acc (cond b r registers) R (gameBytes goal guest machine)) ws ws (plain 3)) (sym e)
-      (call-refused ws s 2 (set acc registers R (gameBytes goal guest machine))
-      (set-out-of-range (bookOf (seen ws)) acc registers R (gameBytes goal guest machine) (omega arith)))
-
-  pub force-bytes : inRange goal guest machine ≡ true → (goal < 32) × (guest < 8) × (machine < 8)
-  force-bytes e = let w = ranges-out goal guest machine e in (w .goal-in, w .guest-in, w .machine-in)
-
-  pub force-done : inRange goal guest machine ≡ true → {bs old new : List ℕ} {y : Reply} → bs ≡ gameBytes goal guest machine
-      → CallPost (set acc r R bs) old new y → CallPost (gameCall acc r R goal guest machine) old new y
-  force-done e {bs} {old} {new} {y} eb v =
-      subst (λ (b : Bool). CallPost (set acc (cond b r registers) R (gameBytes goal guest machine)) old new y) (sym e)
-      (subst (λ (x : List ℕ). CallPost (set acc r R x) old new y) eb v)
-
--- ---- the second call: refusals by the checks
+-- ---- refusals by the checks
 
 module _ (acc : Terms) (R goal guest machine s t : ℕ) (ws : List ℕ) where
   -- CHECK 2

@@ -3,7 +3,7 @@ use mathlib.Core.Path.{_≡_, refl, sym, ap, ap₂, _∙_, subst}
 use mathlib.Core.Bool.{Bool, true, false, not, cond, _&&_}
 use mathlib.Core.List.{List}
 use mathlib.Core.Option.{Option, none, some}
-use Prim.Native.Nat.{ℕ, suc, _+_, _*_, _^_, _≤_, _<_}
+use Prim.Native.Nat.{ℕ, suc, _+_, _*_, _%_, _^_, _≤_, _<_}
 use native.Mathlib.Omega.{arith}
 use lib.Dec.{T, ltb, ltb→lt, lt→ltb}
 use Rattle.accounts.specs.declared.Count.{Count}
@@ -43,7 +43,8 @@ use Rattle.layers.proofs.Scene.{filled-same}
 use Rattle.path_calls.proofs.Searching.{After}
 use Rattle.path_calls.proofs.Checks.{register-is, relation-is}
 use Rattle.games.specs.Game.{forced, fair, answerTo}
-use Rattle.games.specs.Call.{inRange, gameBytes, presses, reactions, goals, gameVerdict, allFilled, reacted}
+use Rattle.games.specs.Call.{inRange, gameTarget, gameBytes, presses, reactions, goals, gameVerdict, allFilled, reacted}
+use Rattle.games.proofs.Call.{Ranges}
 use Rattle.game_steps.specs.declared.Asked.{Asked}
 use Rattle.game_steps.specs.declared.Watched.{Watched}
 use Rattle.game_steps.specs.declared.Watched.the-variants as watched
@@ -87,6 +88,27 @@ module _ (goal guest machine : ℕ) where
       sym (true-of (inRange goal guest machine)
       (and-in (ltb goal registers) _ (lt→ltb goal registers g)
       (and-in (ltb guest relations) _ (lt→ltb guest relations p) (lt→ltb machine relations m))))
+
+  -- ---- game_target
+
+  module _ (r : ℕ) {b : Bool} (e : b ≡ inRange goal guest machine) where
+    pub target-in : b ≡ true → r ≡ gameTarget r goal guest machine
+    target-in t = ap (λ (c : Bool). cond c r registers) (sym t ∙ e)
+
+    pub target-out : b ≡ false → registers ≡ gameTarget r goal guest machine
+    target-out t = ap (λ (c : Bool). cond c r registers) (sym t ∙ e)
+
+  -- ---- game_bytes
+
+  -- numbers in range are what is left of them
+  pub bytes-are : Ranges goal guest machine → gameBytes (goal % 32) (guest % 8) (machine % 8) ≡ gameBytes goal guest machine
+  bytes-are i =
+      let g = i .goal-in in
+      let p = i .guest-in in
+      let m = i .machine-in in
+      let eg : goal % 32 ≡ goal = omega arith in
+      let ep : guest % 8 ≡ guest = omega arith in
+      let em : machine % 8 ≡ machine = omega arith in rw (eg, ep, em) refl
 
 -- ---- is_fair
 
@@ -216,6 +238,10 @@ module _ {old : List ℕ} {goal guest machine x y z s t : ℕ} (p : ReactingPre 
       subst (λ (N : ℕ). ok ≡ fairAt (view N old) x y s t) er e
       ∙ ap₂ (λ (a c : Bool). not a && c) (set-holds n W (goals bk goal guest machine) refl goal-denotes s (p .state))
       (pair-holds n W (presses bk goal guest machine) refl guest-denotes s t (p .state) (p .press))
+
+  pub bytes-made : {xs : List ℕ} → xs ≡ gameBytes (goal % 32) (guest % 8) (machine % 8) → xs ≡ gameBytes goal guest machine
+  bytes-made e =
+      e ∙ bytes-are goal guest machine (record { goal-in = p .goal-in; guest-in = p .guest-in; machine-in = p .machine-in })
 
   all-filled : allFilled bk goal guest machine ≡ true
   all-filled =
