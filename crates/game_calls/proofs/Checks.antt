@@ -27,8 +27,8 @@ use Rattle.book.specs.Leaves.{plain}
 use Rattle.contract.specs.Seen.{seen, SoundWords}
 use Rattle.contract.proofs.Checked.{kept-refused}
 use Rattle.contract.proofs.Roots.{root-filled}
+use Rattle.formula_steps.proofs.After.{register-is, relation-is, same-table, rows-kept, words-kept, same-book}
 use Rattle.seek.proofs.Search.{power-fits}
-use Rattle.path_calls.proofs.Checks.{register-is, relation-is, same-table, rows-kept, words-kept, same-book}
 use Rattle.games.specs.Game.{fair, answerTo}
 use Rattle.games.specs.Call.{inRange, presses, reactions, goals, gameVerdict, allFilled, reacted, reacts}
 use Rattle.games.proofs.Call.{Ranges, ranges-out, near, reacts-three, reacts-unlisted, reacts-empty, reacts-told}

@@ -17,17 +17,14 @@ use Rattle.layout.specs.Places.{BITS, ROWS, FIRST-REGISTER, FIRST-RELATION}
 use Rattle.layout.specs.declared.Refusal.the-variants as refusal
 use Rattle.layout.specs.View.{View, view, headerOf}
 use Rattle.diagram.specs.Keep.{Keeps}
-use Rattle.diagram.proofs.Keep.{keeps-trans}
-use Rattle.diagram.proofs.Collect.{collects-keeps}
 use Rattle.diagram.specs.Rows.{Arrow}
 use Rattle.diagram.specs.Post.{Denotes}
 use Rattle.rows.specs.Used.{rowsOf}
 use Rattle.rows.specs.Sound.{Sound, tableOf}
 use Rattle.rows.specs.Filled.{filled}
-use Rattle.collect.specs.Answers.{FreeManyPost, few, many}
+use Rattle.collect.specs.Answers.{FreeManyPost}
 use Rattle.collect.proofs.Answers.{sound-base}
 use Rattle.operations.specs.Work.{OpFrame}
-use Rattle.operations.proofs.Work.{op-trans, op-made}
 use Rattle.book.specs.Bridge.{fnOf, fnOfPairs}
 use Rattle.book.specs.Ticks.{Verdict, counted, full, spent}
 use Rattle.book.specs.Book.{Book, registers, relations, regFilled, relFilled}
@@ -38,10 +35,8 @@ use Rattle.book.specs.Leaves.{plain, valued}
 use Rattle.contract.specs.Seen.{seenIn, seen, SoundWords}
 use Rattle.contract.proofs.Seen.{sound-table}
 use Rattle.modal.specs.declared.Limits.{Limits}
+use Rattle.formula_steps.proofs.After.{After, freed, register-is, relation-is}
 use Rattle.seek.specs.Walk.{HoldsPre, holdsAt}
-use Rattle.layers.proofs.Scene.{filled-same}
-use Rattle.path_calls.proofs.Searching.{After}
-use Rattle.path_calls.proofs.Checks.{register-is, relation-is}
 use Rattle.games.specs.Game.{forced, fair, answerTo}
 use Rattle.games.specs.Call.{inRange, gameTarget, gameBytes, presses, reactions, goals, gameVerdict, allFilled, reacted}
 use Rattle.games.proofs.Call.{Ranges}
@@ -186,16 +181,6 @@ module _ (b : Book) (goal guest machine : ℕ) (k : ℕ) (G M : Pairs) (B : List
   reply-is ok q (is-made {q = p} {x = x} h) = made-is p x h ok (mem (forced k G M B) s) q refl
 
 -- ---- the second call after its checks
-
--- rows freed afterwards, or not
-pub freed : {X Y Z : View} → After X Y → FreeManyPost Y Z → After X Z
-freed {X} s (few e) = subst (After X) (sym e) s
-freed {X} {Y} {Z} s (many f) = record {
-  sound = f .sound;
-  frame = op-trans (s .frame) (op-made (f .frame));
-  kept = keeps-trans (s .kept)
-      (subst (λ (xs : List ℕ). Keeps (rowsOf Y) (rowsOf Z) xs) (filled-same (s .frame)) (collects-keeps (f .collects)));
-}
 
 abbrev pub limitsOf : ℕ → ℕ → ℕ → ℕ → Limits
 limitsOf bits rows limit rounds = record { bits = bits; rows = rows; limit = limit; rounds = rounds }

@@ -36,7 +36,7 @@ use Rattle.contract.proofs.Seen.{sound-shows-book, sound-table}
 use Rattle.contract.specs.Kept.{Kept, changes}
 use Rattle.contract.proofs.Checked.{kept-refused}
 use Rattle.contract.proofs.Roots.{root-filled}
-use Rattle.formula_steps.proofs.Evaluated.{Left, left-op, left-none, rows-seen}
+use Rattle.formula_steps.proofs.After.{register-is, relation-is, same-table, rows-kept, words-kept, same-book}
 use Rattle.paths.specs.Runs.{Outcome, full, none as noRun, short, found, outcome}
 use Rattle.paths.specs.Call.{Ended, refuse, ends, overFilled, shortest}
 use Rattle.routes.specs.declared.Found.{Found}
@@ -102,28 +102,6 @@ module _ (bk : Book) (a b t : ℕ) (list : List ℕ) where
             → overFilled bk o p q list ≡ ends (outcome (bk .n) (bk .N) (liveOf bk) (inside q) (inside o) (inside p) (length list)) list
         go {A} {B} {R} o p q ea eb er = rw (ea, eb, er) refl
 
--- ---- what the words say of registers and relations
-
-module _ (old : List ℕ) where
-  abbrev W : View
-  W = tableOf old
-
-  abbrev bk : Book
-  bk = bookOf (seen old)
-
-  -- what register r and relation t stand for, by their words
-  pub register-is : {r x : ℕ} → r < registers → x ≡ headerOf old (FIRST-REGISTER + r)
-      → bk .reg r ≡ standsFor (setOf (W .header BITS)) (den (2 * W .header BITS) (rowsOf W)) (arrowIn x)
-  register-is {r} l e =
-      in-range _ none r registers l
-      ∙ ap (λ (k : ℕ). standsFor (setOf (W .header BITS)) (den (2 * W .header BITS) (rowsOf W)) (arrowIn k)) (sym e)
-
-  pub relation-is : {t x : ℕ} → t < relations → x ≡ headerOf old (FIRST-RELATION + t)
-      → bk .rel t ≡ standsFor (pairsOf (W .header BITS)) (den (2 * W .header BITS) (rowsOf W)) (arrowIn x)
-  relation-is {t} l e =
-      in-range _ none t relations l
-      ∙ ap (λ (k : ℕ). standsFor (pairsOf (W .header BITS)) (den (2 * W .header BITS) (rowsOf W)) (arrowIn k)) (sym e)
-
 -- ---- refusals by the checks
 
 module _ (a b t : ℕ) (ws list : List ℕ) where
@@ -174,47 +152,6 @@ late full list h = h
 late noRun list h = h
 late short list h = h
 late (found l) list h = h
-
-and-no : (x : Bool) → (x && false) ≡ false
-and-no true = refl
-and-no false = refl
-
-module _ (old new : List ℕ) (y : Reply) (s : SoundWords old) (ok : Sound (view (headerOf old ROWS) new))
-    (f : OpFrame (tableOf old) (view (headerOf old ROWS) new))
-    (k : Keeps (rowsOf (tableOf old)) (rowsOf (view (headerOf old ROWS) new)) (filled (tableOf old))) where
-  abbrev Z : View
-  Z = view (headerOf old ROWS) new
-
-  left : Left collect y (tableOf old) Z
-  left = left-op collect y (left-none collect y (tableOf old)) f
-
-  pub same-table : tableOf new ≡ Z
-  same-table = ap (λ (k : ℕ). view k new) (left .header ROWS (and-no (eqb (y .number) 0)))
-
-  pub rows-kept : Keeps (seen old .rows) (rowsOf Z) (rootsOf (seen old))
-  rows-kept = keeps-within (root-filled (tableOf old) (s .valid)) k
-
-  pub words-kept : (T (keepsAll (y .number)) → ⊥) → Kept collect y old new
-  words-kept n = record {
-    all = λ h. absurd (n h);
-    size = left .size;
-    header = λ h _ e. left .header h e;
-    spare = λ i _. left .spare i;
-    beyond = same-beyond (headerOf old ROWS) new old (left .beyond);
-    exact = tt;
-  }
-
-  shown : Shows (bookOf (seen old)) (seenIn Z)
-  shown =
-      let e : Z .header BITS ≡ headerOf old BITS = left .header BITS (and-no (eqb (y .number) 0)) in
-      alike-shows (rows-seen (tableOf old) Z f) (bookOf (seen old))
-      (shows-rows (bookOf (seen old)) (seen old) (sound-shows-book old s) (rowsOf Z) (rw (← e) (ok .good .rows)) rows-kept)
-
-  -- the words stand for the same book
-  pub same-book : bookOf (seen new) ≡ bookOf (seen old)
-  same-book =
-      ap (λ (v : View). bookOf (seenIn v)) same-table
-      ∙ sym (only-book (bookOf (seen old)) (seenIn Z) (whole-bookOf (seen old) (sound-table (tableOf old) s)) shown)
 
 module _ {a b t : ℕ} (old : List ℕ) (s : SoundWords old) (r : InRange a b t) {rows bits x y z : ℕ} (er : rows ≡ headerOf old ROWS)
     (eb : bits ≡ headerOf old BITS)
