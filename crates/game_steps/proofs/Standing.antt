@@ -26,6 +26,7 @@ use Rattle.diagram.specs.Rows.{Rows, den}
 use Rattle.diagram.specs.Post.{Denotes}
 use Rattle.diagram.proofs.Keep.{keeps-denotes}
 use Rattle.rows.specs.Used.{rowsOf}
+use Rattle.rows.proofs.Says.{test-no, test-yes}
 use Rattle.book.specs.States.{pairVal}
 use Rattle.book.proofs.States.{nowOf-pairVal, nextOf-pairVal}
 use Rattle.book.specs.Bridge.{fnOf, fnOfPairs, Sized}
@@ -297,11 +298,13 @@ module _ {L : Limits} {W : View} {stack bs : List ℕ} {a : Asked} {σ : Scene} 
             note-is : noteBy (L .bits) Y a noted current b ≡ noting k G M B (a .state) (a .press) (S .round) noted
             note-is =
                 let e = ready′ .base .ready .levels-is in
-                ap₂ (λ (c : Bool) (x : ℕ). cond (ltb noted k) noted (cond c x noted))
+                let last-test = set-holds (L .bits) Y (sets k G M B (S .round)) e last-denotes in
+                ap (λ (c : Bool). cond c noted (cond (holdsAt Y b (a .state) 0) (firstOf k (nextIn Y (a .machine) (a .press) current)) noted))
+                (last-test (a .state) (P .state))
+                ∙ ap₂ (λ (c : Bool) (x : ℕ). cond (mem (sets k G M B (S .round)) (a .state)) noted (cond c x noted))
                 (set-holds (L .bits) Y (sets k G M B (suc (S .round))) e next-denotes (a .state) (P .state))
                 (first-same k (nextIn Y (a .machine) (a .press) current) (λ u. pair M (a .press) u && mem (sets k G M B (S .round)) u)
-                (λ u l. ap₂ _&&_ (pair-holds (L .bits) Y M e machine-denotes (a .press) u (P .press) l)
-                (set-holds (L .bits) Y (sets k G M B (S .round)) e last-denotes u l)))
+                (λ u l. ap₂ _&&_ (pair-holds (L .bits) Y M e machine-denotes (a .press) u (P .press) l) (last-test u l)))
 
             pub watch-turns : {x : ℕ} → x ≡ noteBy (L .bits) Y a noted current b → Standing L W Y stack last a σ goal guest machine x b q
             watch-turns {x} ex = record {
@@ -327,39 +330,25 @@ module _ {L : Limits} {W : View} {stack bs : List ℕ} {a : Asked} {σ : Scene} 
 
 -- ---- noting
 
-module _ (n : ℕ) (W : View) (a : Asked) (noted last next : ℕ) {many : ℕ} (e : many ≡ 2 ^ n) where
+module _ (n : ℕ) (W : View) (a : Asked) (noted last next : ℕ) {r : Bool} (e : r ≡ holdsAt W last (a .state) 0) where
   abbrev seen : ℕ
   seen = firstOf (2 ^ n) (nextIn W (a .machine) (a .press) last)
 
-  -- an answer is noted already
-  pub note-kept : noted < many → noted ≡ noteBy n W a noted last next
-  note-kept l =
-      sym (ap (λ (b : Bool). cond b noted (cond (holdsAt W next (a .state) 0) seen noted))
-      (true-of (ltb noted (2 ^ n)) (lt→ltb noted (2 ^ n) (omega arith))))
+  -- the state was in the set before
+  pub note-kept : r ≡ true → noted ≡ noteBy n W a noted last next
+  note-kept t = ap (λ (b : Bool). cond b noted (cond (holdsAt W next (a .state) 0) seen noted)) (sym t ∙ e)
 
-  none-yet : many ≤ noted → noteBy n W a noted last next ≡ cond (holdsAt W next (a .state) 0) seen noted
-  none-yet l =
-      ap (λ (b : Bool). cond b noted (cond (holdsAt W next (a .state) 0) seen noted))
-      (false-of (ltb noted (2 ^ n)) (λ h. let i = ltb→lt noted (2 ^ n) h in omega arith))
+  module _ (f : r ≡ false) {q : Bool} (i : q ≡ holdsAt W next (a .state) 0) where
+    by : {b : Bool} → holdsAt W next (a .state) 0 ≡ b → cond b seen noted ≡ noteBy n W a noted last next
+    by h = ap₂ (λ (b c : Bool). cond b noted (cond c seen noted)) (sym f ∙ e) (sym h)
 
-  -- the state is not in the set yet
-  pub note-none : many ≤ noted → {r : Bool} → r ≡ holdsAt W next (a .state) 0 → not r ≡ true → noted ≡ noteBy n W a noted last next
-  note-none l {r} h t =
-      sym (none-yet l ∙ ap (λ (b : Bool). cond b seen noted) (sym h ∙ go r t))
-    where
-      go : (r : Bool) → not r ≡ true → r ≡ false
-      go true t = sym t
-      go false t = refl
+    -- it is not in the set yet
+    pub note-none : not q ≡ true → noted ≡ noteBy n W a noted last next
+    note-none t = by (test-no i t)
 
-  -- it enters
-  pub note-found : many ≤ noted → {r : Bool} → r ≡ holdsAt W next (a .state) 0 → not r ≡ false → {x : ℕ} → x ≡ seen
-      → x ≡ noteBy n W a noted last next
-  note-found l {r} h t {x} q =
-      q ∙ sym (none-yet l ∙ ap (λ (b : Bool). cond b seen noted) (sym h ∙ go r t))
-    where
-      go : (r : Bool) → not r ≡ false → r ≡ true
-      go true t = refl
-      go false t = sym t
+    -- it enters
+    pub note-found : not q ≡ false → {x : ℕ} → x ≡ seen → x ≡ noteBy n W a noted last next
+    note-found t h = h ∙ by (test-yes i t)
 
 -- ---- the loop
 
