@@ -133,32 +133,32 @@ module _ (ok : Bool) (n : ℕ) where
 
 -- ---- the answer, from what was heard
 
-module _ (b : Book) (goal guest machine : ℕ) (k : ℕ) (G M : Pairs) (B : List Bool) (s t n : ℕ) (e : k ≡ 2 ^ n) where
+module _ (k : ℕ) (G M : Pairs) (B : List Bool) (s t n : ℕ) (e : k ≡ 2 ^ n) where
   fair-by : (f ok : Bool) → mem (forced k G M B) s ≡ f → ok ≡ (not (mem B s) && pair G s t) → fair k G M B s t ≡ (f && ok)
   fair-by f ok i q = ap₂ _&&_ i (sym q)
 
   made-is : (p : Count) (x : ℕ) → Heard k G M B s t x → (ok f : Bool) → ok ≡ (not (mem B s) && pair G s t)
       → mem (forced k G M B) s ≡ f
-      → reactedReply (toldOf ok n (watched.Made x)) ≡ reacted b goal guest machine (counted p) (fair k G M B s t) (answerTo k G M B s t)
+      → reactedReply (toldOf ok n (watched.Made x)) ≡ reacted (counted p) (fair k G M B s t) (answerTo k G M B s t)
   made-is p x h false true q i =
-      sym (ap (λ (c : Bool). reacted b goal guest machine (counted p) c (answerTo k G M B s t)) (fair-by true false i q))
+      sym (ap (λ (c : Bool). reacted (counted p) c (answerTo k G M B s t)) (fair-by true false i q))
   made-is p x h false false q i =
-      sym (ap (λ (c : Bool). reacted b goal guest machine (counted p) c (answerTo k G M B s t)) (fair-by false false i q))
+      sym (ap (λ (c : Bool). reacted (counted p) c (answerTo k G M B s t)) (fair-by false false i q))
   made-is p x h true false q i =
       let z : x ≡ k = h .outside i in
       ap (λ (c : Bool). reactedReply (cond c (answer.State x) (answer.Refused refusal.NoAnswer)))
       (false-of (ltb x (2 ^ n)) (λ j. let l = ltb→lt x (2 ^ n) j in omega arith))
-      ∙ sym (ap (λ (c : Bool). reacted b goal guest machine (counted p) c (answerTo k G M B s t)) (fair-by false true i q))
+      ∙ sym (ap (λ (c : Bool). reacted (counted p) c (answerTo k G M B s t)) (fair-by false true i q))
   made-is p x h true true q i =
       let w = h .found (subst T (sym (fair-by true true i q)) tt) in
       let l = w .1 in
       ap (λ (c : Bool). reactedReply (cond c (answer.State x) (answer.Refused refusal.NoAnswer))) (true-of (ltb x (2 ^ n)) (lt→ltb x
       (2 ^ n) (omega arith)))
       ∙ ap valued (w .0)
-      ∙ sym (ap (λ (c : Bool). reacted b goal guest machine (counted p) c (answerTo k G M B s t)) (fair-by true true i q))
+      ∙ sym (ap (λ (c : Bool). reacted (counted p) c (answerTo k G M B s t)) (fair-by true true i q))
 
   pub reply-is : (ok : Bool) → ok ≡ (not (mem B s) && pair G s t) → {v : Verdict} {w : Watched} → Says (Heard k G M B s t) v w
-      → reactedReply (toldOf ok n w) ≡ reacted b goal guest machine v (fair k G M B s t) (answerTo k G M B s t)
+      → reactedReply (toldOf ok n w) ≡ reacted v (fair k G M B s t) (answerTo k G M B s t)
   reply-is ok q is-full = refl
   reply-is ok q is-spent = refl
   reply-is ok q (is-made {q = p} {x = x} h) = made-is p x h ok (mem (forced k G M B) s) q refl
@@ -194,10 +194,10 @@ module _ {old : List ℕ} {goal guest machine x y z s t : ℕ} (p : ReactingPre 
   shows : Shows bk (seen old)
   shows = shows-bookOf (seen old) (sound-table W (p .sound))
 
-  goal-denotes : Denotes (2 * n) (rowsOf W) x (fnOf n (goals bk goal guest machine))
+  goal-denotes : Denotes (2 * n) (rowsOf W) x (fnOf n (goals bk goal))
   goal-denotes = place-holds (fnOf n) (bk .reg goal) (p .goal-is) (shows .reg goal (p .goal-in))
 
-  guest-denotes : Denotes (2 * n) (rowsOf W) y (fnOfPairs n (presses bk goal guest machine))
+  guest-denotes : Denotes (2 * n) (rowsOf W) y (fnOfPairs n (presses bk guest))
   guest-denotes = place-holds (fnOfPairs n) (bk .rel guest) (p .guest-is) (shows .rel guest (p .guest-in))
 
   walk : {c : ℕ} → Arrow (rowsOf W) c → HoldsPre W c
@@ -211,11 +211,11 @@ module _ {old : List ℕ} {goal guest machine x y z s t : ℕ} (p : ReactingPre 
   )
 
   fair-is : {rows : ℕ} {ok : Bool} → rows ≡ headerOf old ROWS → ok ≡ fairAt (view rows old) x y s t
-      → ok ≡ (not (mem (goals bk goal guest machine) s) && pair (presses bk goal guest machine) s t)
+      → ok ≡ (not (mem (goals bk goal) s) && pair (presses bk guest) s t)
   fair-is {rows} {ok} er e =
       subst (λ (N : ℕ). ok ≡ fairAt (view N old) x y s t) er e
-      ∙ ap₂ (λ (a c : Bool). not a && c) (set-holds n W (goals bk goal guest machine) refl goal-denotes s (p .state))
-      (pair-holds n W (presses bk goal guest machine) refl guest-denotes s t (p .state) (p .press))
+      ∙ ap₂ (λ (a c : Bool). not a && c) (set-holds n W (goals bk goal) refl goal-denotes s (p .state))
+      (pair-holds n W (presses bk guest) refl guest-denotes s t (p .state) (p .press))
 
   all-filled : allFilled bk goal guest machine ≡ true
   all-filled =
@@ -274,6 +274,6 @@ module _ {old : List ℕ} {goal guest machine x y z s t : ℕ} (p : ReactingPre 
             kept = a .kept;
             reply = ap reactedReply e
                 ∙ ap (λ (m : ℕ). reactedReply (toldOf ok m w)) eb
-                ∙ reply-is bk goal guest machine (2 ^ n) (presses bk goal guest machine) (reactions bk goal guest machine)
-                (goals bk goal guest machine) s t n refl ok (fair-is er ef) (q .says);
+                ∙ reply-is (2 ^ n) (presses bk guest) (reactions bk machine)
+                (goals bk goal) s t n refl ok (fair-is er ef) (q .says);
           }

@@ -97,7 +97,7 @@ force-means acc r R goal guest machine {old} {new} {y} p s e =
     record {
       set = forcedIn bk goal guest machine;
       stored = ap (λ (b : Book). b .reg r) (sym same) ∙ force-stores bk goal guest machine w acc r R (sym (d .agrees .number) ∙ e);
-      is = forced-set (2 ^ bk .n) (presses bk goal guest machine) (reactions bk goal guest machine) (goals bk goal guest machine);
+      is = forced-set (2 ^ bk .n) (presses bk guest) (reactions bk machine) (goals bk goal);
     }
 
 -- THE SECOND CALL
@@ -108,10 +108,10 @@ react-means acc R goal guest machine s t {old} {new} {y} p w =
     let e = p .told w .reply in
     record {
       set = forcedIn bk goal guest machine;
-      is = forced-set (2 ^ bk .n) (presses bk goal guest machine) (reactions bk goal guest machine) (goals bk goal guest machine);
+      is = forced-set (2 ^ bk .n) (presses bk guest) (reactions bk machine) (goals bk goal);
       answered = λ z.
-          subst (λ (u : Reply). AnswerIs (2 ^ bk .n) (presses bk goal guest machine) (reactions bk goal guest machine)
-          (goals bk goal guest machine) (forcedIn bk goal guest machine) s t (u .value)) (sym e)
+          subst (λ (u : Reply). AnswerIs (2 ^ bk .n) (presses bk guest) (reactions bk machine)
+          (goals bk goal) (forcedIn bk goal guest machine) s t (u .value)) (sym e)
           (react-answers bk goal guest machine acc R s t (sym (ap (λ (u : Reply). u .number) e) ∙ z));
       no-answer = λ z. react-fifteen bk goal guest machine acc R s t (sym (ap (λ (u : Reply). u .number) e) ∙ z);
     }

@@ -57,8 +57,8 @@ pub record Rounds (L : Limits) (W X : View) (a : Asked) (goal guest machine : â„
   pub frame : OpFrame W X
   pub kept : Keeps (rowsOf W) (rowsOf X) (filled W)
   pub says : Says
-      (Heard (2 ^ bookIn W .n) (presses (bookIn W) goal guest machine) (reactions (bookIn W) goal guest machine)
-      (goals (bookIn W) goal guest machine) (a .state) (a .press))
+      (Heard (2 ^ bookIn W .n) (presses (bookIn W) guest) (reactions (bookIn W) machine)
+      (goals (bookIn W) goal) (a .state) (a .press))
       (verdict (L .limit) (L .rounds) nothing (ticks (states (modelOf (bookIn W)) noEnv) (liveOf (bookIn W))
       (gameForm goal guest machine))) r
 

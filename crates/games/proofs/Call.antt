@@ -185,9 +185,9 @@ module _ (b : Book) (acc : Terms) (R goal guest machine s t : ℕ) where
 
   abbrev pub toldIn : Reply
   toldIn =
-      reacted b goal guest machine (gameVerdict b goal guest machine acc R)
-      (fair (2 ^ b .n) (presses b goal guest machine) (reactions b goal guest machine) (goals b goal guest machine) s t)
-      (answerTo (2 ^ b .n) (presses b goal guest machine) (reactions b goal guest machine) (goals b goal guest machine) s t)
+      reacted (gameVerdict b goal guest machine acc R)
+      (fair (2 ^ b .n) (presses b guest) (reactions b machine) (goals b goal) s t)
+      (answerTo (2 ^ b .n) (presses b guest) (reactions b machine) (goals b goal) s t)
 
   pub reacts-three : near ≡ false → reacts b goal guest machine acc R s t ≡ plain 3
   reacts-three e =

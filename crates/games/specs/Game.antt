@@ -1,5 +1,7 @@
 -- "Guest against machine": a guest's move by the pairs G, then a machine's move by the pairs M, over k states; the set from which the
--- machine can force the goal B, the round in which a state enters it, and the machine's answer to a press. Assumes nothing.
+-- machine can force the goal B, the round in which a state enters it, and the machine's answer to a press. V, the states that exist, is not
+-- named: in a table no move and no goal has a state outside V, so that no such state is in the set, and no answer leads to one. Assumes
+-- nothing.
 use mathlib.Core.Bool.{Bool, not, _&&_, _||_}
 use mathlib.Core.List.{List}
 use Prim.Native.Nat.{ℕ, zero, suc}
