@@ -58,7 +58,7 @@ fair-answer k G M B s t l p =
 
 -- ---- the checks
 
--- an answered second call was fair, and its value is the answer
+-- an answered second call had an answer, which is its value
 told-by : (a c d f : Bool) (v : Verdict) (u : ℕ)
     → cond a (cond c (cond d (reacted v f u) (plain 7)) (plain 14)) (plain 3) .number ≡ 0
     → (a ≡ true) × (f ≡ true)
@@ -71,7 +71,7 @@ told-by true true true f spent u e = absurd (omega (arith, e))
 told-by true true true false (counted q) u e = absurd (omega (arith, e))
 told-by true true true true (counted q) u e = (refl, refl, refl)
 
--- 15 says that it was not fair
+-- 15 says that it had none
 fifteen-by : (a c d f : Bool) (v : Verdict) (u : ℕ)
     → cond a (cond c (cond d (reacted v f u) (plain 7)) (plain 14)) (plain 3) .number ≡ 15 → f ≡ false
 fifteen-by false c d f v u e = absurd (omega (arith, e))

@@ -41,6 +41,6 @@ enters k G M B s = firstOf (suc k) (λ i. mem (after k G M B i) s)
 abbrev pub answerTo : ℕ → Pairs → Pairs → List Bool → ℕ → ℕ → ℕ
 answerTo k G M B s t = firstOf k (λ u. pair M t u && ltb (enters k G M B u) (enters k G M B s))
 
--- 15 is not given: "a state of the set outside the goal and a guest move"
+-- there is an answer: "for a state of the set outside the goal and a guest move"; else 15 is given
 abbrev pub fair : ℕ → Pairs → Pairs → List Bool → ℕ → ℕ → Bool
 fair k G M B s t = mem (forced k G M B) s && (not (mem B s) && pair G s t)
