@@ -46,6 +46,13 @@ last-round = refl
 pub not-the-least-in-the-set : answerTo 4 stays climbs top 2 2 ≡ 3
 not-the-least-in-the-set = refl
 
+-- nor one of its own round: 2 may stay as it is, which is a lesser answer
+abbrev lingers : Pairs
+lingers = set false true false false ∷ set false false true false ∷ set false false true true ∷ nowhere ∷ []
+
+pub not-its-own-round : answerTo 4 stays lingers top 2 2 ≡ 3
+not-its-own-round = refl
+
 -- "for a state of the set outside the goal and a guest move"
 pub asked-well : fair 4 stays climbs top 2 2 ≡ true
 unfolding bitLists

@@ -2,26 +2,22 @@
 use mathlib.Core.Path.{_≡_, refl, sym, ap, _∙_, subst}
 use mathlib.Core.Bool.{Bool, true, false, not, cond, _&&_}
 use mathlib.Core.List.{List}
-use mathlib.Core.Option.{Option, none, some}
+use mathlib.Core.Option.{some}
 use Prim.Native.Nat.{ℕ, _^_, _<_}
 use native.Mathlib.Omega.{arith}
 use borrow.Author.Tests.{eq-eqb}
-use lib.Dec.{T, eqb, ltb, ltb→lt}
+use lib.Dec.{T, ltb, ltb→lt}
 use Rattle.mucalculus.specs.Sets.{mem}
-use Rattle.mucalculus.proofs.Sets.{and-out, true-of, false-of}
-use Rattle.mucalculus.specs.Form.{Pairs, put}
-use Rattle.mucalculus.specs.Means.{pair}
-use Rattle.accounts.specs.declared.Count.{Count}
+use Rattle.mucalculus.proofs.Sets.{and-out, false-of}
+use Rattle.mucalculus.specs.Form.{Pairs}
 use Rattle.accounts.specs.declared.Terms.{Terms}
 use Rattle.accounts.specs.Terms.{named}
 use Rattle.book.specs.Ticks.{Verdict, counted, full, spent}
 use Rattle.book.specs.Book.{Book, Done, registers, refuse, ended, setDone, does}
 use Rattle.book.specs.Stored.{Whole}
-use Rattle.book.specs.Table.{Reply}
 use Rattle.book.specs.Leaves.{plain}
-use Rattle.games.specs.Game.{forcing, forced, enters, answerTo, fair}
-use Rattle.games.specs.Plays.{Forces, Stays}
-use Rattle.games.specs.Call.{inRange, gameCall, presses, reactions, goals, forcedIn, gameVerdict, allFilled, forces, reacted}
+use Rattle.games.specs.Game.{forced, enters, answerTo, fair}
+use Rattle.games.specs.Call.{inRange, gameCall, presses, reactions, goals, forcedIn, gameVerdict, allFilled, reacted}
 use Rattle.games.specs.Call.{reacts}
 use Rattle.games.specs.Meaning.{ForcedSet, AnswerIs}
 use Rattle.games.proofs.Rounds.{forced-least, not-out, answer-good, answer-least}

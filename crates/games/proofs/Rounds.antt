@@ -9,20 +9,20 @@ use native.Mathlib.Nat.{lt-of-not-le}
 use native.Mathlib.Omega.{arith}
 use lib.Dec.{T, ltb, ltb→lt, lt→ltb}
 use lib.ListN.{length}
-use Rattle.mucalculus.specs.Sets.{mem, table, noStates, allStates, all, any}
+use Rattle.mucalculus.specs.Sets.{mem, table, allStates, all, any}
 use Rattle.mucalculus.proofs.Sets.{and-in, and-out, or-left, or-right, or-out, true-of, false-of, length-table, mem-table, mem-noStates}
-use Rattle.mucalculus.proofs.Sets.{all-in, all-out, any-in, any-out, mem-lt}
+use Rattle.mucalculus.proofs.Sets.{all-in, all-out, any-in, any-out}
 use Rattle.mucalculus.specs.Order.{Below, start}
 use Rattle.mucalculus.specs.Fixpoint.{Into}
-use Rattle.mucalculus.proofs.Fixpoint.{iter, Mono, into-all, iter-found, fix-iter, fix-fixed, fix-bound, stable}
+use Rattle.mucalculus.proofs.Fixpoint.{iter, Mono, into-all, iter-found, fix-fixed, fix-bound, stable}
 use Rattle.mucalculus.specs.Binder.{Least}
 use Rattle.mucalculus.proofs.Laws.{table-out}
 use Rattle.mucalculus.specs.Form.{Pairs}
 use Rattle.mucalculus.specs.Means.{pair}
 use Rattle.book.proofs.Diamond.{table-in}
 use Rattle.paths.specs.Runs.{firstOf}
-use Rattle.paths.proofs.First.{first-le, first-found, first-least, first-is, first-same}
-use Rattle.games.specs.Game.{moves, answers, forcing, forced, after, enters, answerTo, fair}
+use Rattle.paths.proofs.First.{first-found, first-least, first-is, first-same}
+use Rattle.games.specs.Game.{moves, answers, forcing, forced, after, enters, answerTo}
 
 -- ---- quantifiers over the states
 
@@ -302,7 +302,7 @@ module _ (k : ℕ) (G M : Pairs) (B : List Bool) where
     pub noted-next : Noted s t (suc i) (noting s t i x)
     noted-next = record {
       not-yet = λ out.
-          let before = λ (p : T (at s i)). out (climbs i s p) in
+          let before : T (at s i) → ⊥ = λ p. out (climbs i s p) in
           by (false-of (at s i) before) (false-of (at s (suc i)) out) ∙ n .not-yet before;
       found = λ p out l press. go (at s i) refl p out l press;
     }
