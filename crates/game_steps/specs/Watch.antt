@@ -60,6 +60,7 @@ pub record Plays (L : Limits) (W : View) (stack bs : List ℕ) (a : Asked) (σ :
   pub state : a .state < 2 ^ L .bits
   pub press : a .press < 2 ^ L .bits
 
+-- what the rounds ask: words and stack hold some game's scene
 pub record WatchPre (L : Limits) (W : View) (stack bs : List ℕ) (a : Asked) : Type 0 where
   pub scene : Scene
   pub goal : ℕ
@@ -87,6 +88,7 @@ pub record Watches (L : Limits) (W X : View) (stack : List ℕ) (a : Asked) (σ 
   pub told : AnswerOf
       (Heard (2 ^ L .bits) (inside (σ .rel guest)) (inside (σ .rel machine)) (inside (σ .reg goal)) (a .state) (a .press)) value r
 
+-- what they promise, of every game whose scene words and stack hold
 abbrev pub WatchPost : Limits → View → View → List ℕ → List ℕ → Asked → Watched → Type 0
 WatchPost L W X stack bs a r =
     (σ : Scene) (goal guest machine : ℕ) → Plays L W stack bs a σ goal guest machine → Watches L W X stack a σ goal guest machine r

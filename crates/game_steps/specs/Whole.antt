@@ -35,6 +35,7 @@ pub record Given (L : Limits) (W : View) (bs : List ℕ) (a : Asked) (goal guest
   pub state : a .state < 2 ^ L .bits
   pub press : a .press < 2 ^ L .bits
 
+-- what the rounds ask of a sound table: the limits are its own, or less, and some game is given
 pub record RoundsPre (L : Limits) (W : View) (bs : List ℕ) (a : Asked) : Type 0 where
   pub sound : Sound W
   pub bits : L .bits ≡ W .header BITS
@@ -62,5 +63,6 @@ pub record Rounds (L : Limits) (W X : View) (a : Asked) (goal guest machine : �
       (verdict (L .limit) (L .rounds) nothing (ticks (states (modelOf (bookIn W)) noEnv) (liveOf (bookIn W))
       (gameForm goal guest machine))) r
 
+-- what they promise, of every game that is given
 abbrev pub RoundsPost : Limits → View → View → List ℕ → Asked → Watched → Type 0
 RoundsPost L W X bs a r = (goal guest machine : ℕ) → Given L W bs a goal guest machine → Rounds L W X a goal guest machine r
