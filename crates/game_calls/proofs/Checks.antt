@@ -1,10 +1,9 @@
 -- The calls' contracts from their checks, and from what follows them. Assumes nothing.
 use mathlib.Core.Path.{_≡_, refl, sym, ap, _∙_, subst}
 use mathlib.Core.Logic.{_≢_}
-use mathlib.Core.Bool.{Bool, true, false, not, cond, _&&_}
+use mathlib.Core.Bool.{Bool, true, false, cond, _&&_}
 use mathlib.Core.List.{List}
-use mathlib.Core.Option.{Option, none, some}
-use Prim.Native.Nat.{ℕ, zero, suc, _+_, _-_, _*_, _%_, _^_, _≤_, _<_}
+use Prim.Native.Nat.{ℕ, suc, _+_, _-_, _*_, _%_, _^_, _≤_, _<_}
 use native.Mathlib.Omega.{arith}
 use lib.Dec.{T, ltb, ltb→lt, lt→ltb}
 use Rattle.accounts.specs.declared.Terms.{Terms}
@@ -12,14 +11,14 @@ use Rattle.accounts.specs.Terms.{named}
 use Rattle.mucalculus.specs.Form.{filled as hasContent}
 use Rattle.mucalculus.proofs.Sets.{true-of, false-of, and-in, and-out}
 use Rattle.layout.specs.Refusals.{keepsAll}
-use Rattle.layout.specs.Places.{BITS, ROWS, FIRST-REGISTER, FIRST-RELATION}
-use Rattle.layout.specs.View.{View, view, headerOf}
+use Rattle.layout.specs.Places.{BITS, FIRST-REGISTER, FIRST-RELATION}
+use Rattle.layout.specs.View.{View, headerOf}
 use Rattle.diagram.specs.Keep.{Keeps}
 use Rattle.diagram.proofs.Keep.{keeps-refl}
 use Rattle.rows.specs.Used.{rowsOf}
 use Rattle.rows.specs.Sound.{Sound, tableOf}
 use Rattle.rows.proofs.Filled.{filled-arrow}
-use Rattle.book.specs.Book.{Call, set, registers, relations, regFilled, relFilled, collect}
+use Rattle.book.specs.Book.{set, registers, relations, regFilled, relFilled, collect}
 use Rattle.book.proofs.Effects.{set-out-of-range}
 use Rattle.book.specs.Ticks.{Verdict, counted, full, spent}
 use Rattle.book.specs.Table.{Reply, rootsOf}
@@ -31,11 +30,10 @@ use Rattle.contract.proofs.Checked.{call-refused, kept-refused}
 use Rattle.contract.proofs.Roots.{root-filled}
 use Rattle.seek.proofs.Search.{power-fits}
 use Rattle.path_calls.proofs.Checks.{register-is, relation-is, same-table, rows-kept, words-kept, same-book}
-use Rattle.games.specs.Game.{fair, answerTo}
-use Rattle.games.specs.Call.{inRange, gameBytes, gameCall, presses, reactions, goals, gameVerdict, allFilled, reacted, reacts}
-use Rattle.games.proofs.Call.{Ranges, ranges-out, near, reacts-three, reacts-unlisted, reacts-empty, reacts-told}
+use Rattle.games.specs.Call.{inRange, gameBytes, gameCall, gameVerdict, allFilled, reacted, reacts}
+use Rattle.games.proofs.Call.{ranges-out, near, reacts-three, reacts-unlisted, reacts-empty, reacts-told}
 use Rattle.game_calls.specs.Reacting.{NamedPre, ReactingPre, Reacting}
-use Rattle.game_calls.specs.Post.{Told, ReactPost}
+use Rattle.game_calls.specs.Post.{ReactPost}
 
 -- how many states there are, as the code has it
 pub states-is : (bits n : ℕ) → bits ≡ n → n ≤ 16 → 1 * 2 ^ bits % 4_294_967_296 ≡ 2 ^ n

@@ -2,8 +2,7 @@
 use mathlib.Core.Path.{_≡_, refl, sym, ap, ap₂, _∙_, subst}
 use mathlib.Core.Bool.{Bool, true, false, not, cond, _&&_}
 use mathlib.Core.List.{List}
-use mathlib.Core.Option.{Option, none, some}
-use Prim.Native.Nat.{ℕ, suc, _+_, _*_, _^_, _≤_, _<_}
+use Prim.Native.Nat.{ℕ, _*_, _^_, _≤_, _<_}
 use native.Mathlib.Omega.{arith}
 use lib.Dec.{T, ltb, ltb→lt, lt→ltb}
 use Rattle.accounts.specs.declared.Count.{Count}
@@ -11,9 +10,9 @@ use Rattle.accounts.specs.declared.Terms.{Terms}
 use Rattle.accounts.specs.Terms.{rowsUnder, roundsUnder}
 use Rattle.mucalculus.specs.Sets.{mem}
 use Rattle.mucalculus.proofs.Sets.{true-of, false-of, and-in}
-use Rattle.mucalculus.specs.Form.{Pairs, inside, filled as hasContent}
+use Rattle.mucalculus.specs.Form.{Pairs, filled as hasContent}
 use Rattle.mucalculus.specs.Means.{pair}
-use Rattle.layout.specs.Places.{BITS, ROWS, FIRST-REGISTER, FIRST-RELATION}
+use Rattle.layout.specs.Places.{BITS, ROWS}
 use Rattle.layout.specs.declared.Refusal.the-variants as refusal
 use Rattle.layout.specs.View.{View, view, headerOf}
 use Rattle.diagram.specs.Keep.{Keeps}
@@ -26,24 +25,23 @@ use Rattle.rows.specs.Sound.{Sound, tableOf}
 use Rattle.rows.specs.Filled.{filled}
 use Rattle.collect.specs.Answers.{FreeManyPost, few, many}
 use Rattle.collect.proofs.Answers.{sound-base}
-use Rattle.operations.specs.Work.{OpFrame}
 use Rattle.operations.proofs.Work.{op-trans, op-made}
 use Rattle.book.specs.Bridge.{fnOf, fnOfPairs}
-use Rattle.book.specs.Ticks.{Verdict, counted, full, spent}
+use Rattle.book.specs.Ticks.{Verdict, counted}
 use Rattle.book.specs.Book.{Book, registers, relations, regFilled, relFilled}
-use Rattle.book.specs.Table.{Reply, Shows}
+use Rattle.book.specs.Table.{Shows}
 use Rattle.book.specs.BookOf.{bookOf}
 use Rattle.book.proofs.BookOf.{shows-bookOf}
-use Rattle.book.specs.Leaves.{plain, valued}
-use Rattle.contract.specs.Seen.{seenIn, seen, SoundWords}
+use Rattle.book.specs.Leaves.{valued}
+use Rattle.contract.specs.Seen.{seen}
 use Rattle.contract.proofs.Seen.{sound-table}
 use Rattle.modal.specs.declared.Limits.{Limits}
-use Rattle.seek.specs.Walk.{HoldsPre, holdsAt}
+use Rattle.seek.specs.Walk.{HoldsPre}
 use Rattle.layers.proofs.Scene.{filled-same}
 use Rattle.path_calls.proofs.Searching.{After}
 use Rattle.path_calls.proofs.Checks.{register-is, relation-is}
 use Rattle.games.specs.Game.{forced, fair, answerTo}
-use Rattle.games.specs.Call.{inRange, gameBytes, presses, reactions, goals, gameVerdict, allFilled, reacted}
+use Rattle.games.specs.Call.{inRange, gameBytes, presses, reactions, goals, allFilled, reacted}
 use Rattle.game_steps.specs.declared.Asked.{Asked}
 use Rattle.game_steps.specs.declared.Watched.{Watched}
 use Rattle.game_steps.specs.declared.Watched.the-variants as watched

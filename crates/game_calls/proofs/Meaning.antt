@@ -3,8 +3,7 @@
 use mathlib.Core.Path.{_≡_, refl, sym, ap, _∙_, subst}
 use mathlib.Core.HLevel.{Discrete}
 use mathlib.Core.Bool.{Bool, true, false, _&&_, _||_, Bool-discrete}
-use mathlib.Core.List.{List, []}
-use mathlib.Core.Option.{some}
+use mathlib.Core.List.{List}
 use Prim.Native.Nat.{ℕ, _^_}
 use native.Mathlib.Decide.{ℕ-discrete}
 use lib.Dec.{T, eqb}
@@ -21,8 +20,7 @@ use Rattle.contract.specs.Seen.{seen, SoundWords}
 use Rattle.contract.proofs.Seen.{any-words, sound-table}
 use Rattle.contract.specs.Kept.{freeWord, changes}
 use Rattle.contract.specs.Posts.{CallPost}
-use Rattle.games.specs.Game.{fair}
-use Rattle.games.specs.Call.{gameCall, presses, reactions, goals, forcedIn, reacts}
+use Rattle.games.specs.Call.{gameCall, presses, reactions, goals, forcedIn}
 use Rattle.games.specs.Meaning.{AnswerIs}
 use Rattle.games.proofs.Meaning.{forced-set, force-stores, react-answers, react-fifteen}
 use Rattle.game_calls.specs.Post.{ReactPost}

@@ -5,7 +5,6 @@ use mathlib.Core.List.{List}
 use mathlib.Core.Option.{some}
 use Prim.Native.Nat.{ℕ, _^_}
 use Rattle.mucalculus.specs.Form.{inside}
-use Rattle.book.specs.Book.{Book}
 use Rattle.book.specs.BookOf.{bookOf}
 use Rattle.contract.specs.Seen.{seen}
 use Rattle.games.specs.Game.{fair}

@@ -1,23 +1,22 @@
 -- The rounds of the game: where their loop stands, and each of its turns and ends. Assumes nothing.
 use mathlib.Core.Path.{_≡_, refl, sym, ap, ap₂, _∙_, subst}
-use mathlib.Core.Logic.{_≢_, ⊎-elim, inl, inr}
+use mathlib.Core.Logic.{_≢_, ⊎-elim, inr}
 use mathlib.Core.Bool.{Bool, true, false, not, cond, _&&_}
 use mathlib.Core.List.{List, [], _∷_, List·Memᴰ·head as here}
 use mathlib.Core.Option.{Option, none, some}
-use Prim.Native.Nat.{ℕ, zero, suc, _+_, _*_, _^_, _≤_, _<_}
+use Prim.Native.Nat.{ℕ, suc, _+_, _*_, _^_, _≤_, _<_}
 use native.Mathlib.Omega.{arith}
-use lib.Dec.{T, ltb, ltb→lt, lt→ltb}
-use lib.ListN.{length, set, length-set}
+use lib.Dec.{T}
+use lib.ListN.{length, set}
 use Rattle.accounts.specs.declared.Count.{Count}
 use Rattle.accounts.specs.Count.{nothing, another}
 use Rattle.mucalculus.specs.Sets.{mem, same, noStates}
-use Rattle.mucalculus.proofs.Sets.{and-out, true-of, false-of, same-eq, same-refl}
+use Rattle.mucalculus.proofs.Sets.{and-out, same-refl}
 use Rattle.mucalculus.specs.Order.{Below}
-use Rattle.mucalculus.specs.Form.{Form, Pairs, Model, put, inside, steady}
+use Rattle.mucalculus.specs.Form.{Form, Pairs, put, inside}
 use Rattle.mucalculus.specs.Means.{pair, means}
 use Rattle.mucalculus.specs.Exist.{Inside}
 use Rattle.tokens.specs.declared.Fix.the-variants.{Mu}
-use Rattle.tokens.specs.declared.Grammar.the-variants.{Runs}
 use Rattle.layout.specs.Places.{BITS, FIRST-RELATION}
 use Rattle.layout.specs.View.{View, view}
 use Rattle.counting.specs.Counts.{CountsOf}
@@ -31,20 +30,18 @@ use Rattle.book.specs.States.{pairVal}
 use Rattle.book.proofs.States.{nowOf-pairVal, nextOf-pairVal}
 use Rattle.book.specs.Bridge.{fnOf, fnOfPairs, Sized}
 use Rattle.book.proofs.Bridge.{fnOf-inj}
-use Rattle.book.specs.Book.{relations}
 use Rattle.book.specs.Table.{Place}
 use Rattle.book.specs.Over.{states}
 use Rattle.book.specs.Ticks.{ticks, verdict, Verdict, counted, full as fullVerdict, spent as spentVerdict}
-use Rattle.book.specs.Run.{Outcome, value, full, spent, run}
+use Rattle.book.specs.Run.{Outcome, value, full, spent}
 use Rattle.book.specs.Follow.{ends, EvalsBy}
 use Rattle.book.proofs.Follow.{denotes-none}
 use Rattle.book.proofs.Turns.{arrow-apart}
 use Rattle.book.proofs.Verdicts.{settle, run-ticks}
 use Rattle.contract.specs.Seen.{arrowIn}
 use Rattle.modal.specs.declared.Limits.{Limits}
-use Rattle.modal.specs.Chain.{Base, Moved}
-use Rattle.modal.proofs.Chain.{base-bits, base-next, moved-trans}
-use Rattle.evaluator.specs.Scene.{Scene, stackSize, modelIn, existIn, Ready, Part, holdsReg, holdsRel, Answers, valueIn, runIn, endedOf}
+use Rattle.modal.proofs.Chain.{base-bits}
+use Rattle.evaluator.specs.Scene.{Scene, stackSize, modelIn, existIn, Ready, Answers, runIn, endedOf}
 use Rattle.evaluator.specs.Whole.{noPlaces, OncePre, OncePost}
 use Rattle.evaluator.specs.declared.Evaluated.{Evaluated}
 use Rattle.evaluator.specs.declared.Evaluated.the-variants.{Value, Full, Spent}
@@ -54,11 +51,11 @@ use Rattle.evaluator.proofs.Outcomes.{Halts, evals-value}
 use Rattle.evaluator.proofs.Rounds.{Bound, bind-starts, bind-out, bind-ready, bind-stops, bind-ends, bind-turns, bind-less}
 use Rattle.paths.specs.Runs.{firstOf}
 use Rattle.paths.proofs.First.{first-same}
-use Rattle.seek.specs.Walk.{HoldsPre, holdsAt}
+use Rattle.seek.specs.Walk.{holdsAt}
 use Rattle.seek.specs.Search.{nextIn}
 use Rattle.layers.proofs.Pass.{holds-pre}
-use Rattle.games.specs.Game.{forcing, forced, after as sets, answerTo, fair}
-use Rattle.games.specs.Call.{bodyForm, gameForm}
+use Rattle.games.specs.Game.{forcing, forced, after as sets}
+use Rattle.games.specs.Call.{bodyForm}
 use Rattle.games.proofs.Rounds.{Noted, noted-none, noting, noted-next, after-size, after-found, still-below, not-out}
 use Rattle.games.proofs.Formula.{body-steady, body-means}
 use Rattle.game_steps.specs.Watch.{noteBy, NotePre, haltedOf, Plays, WatchPre, Heard, AnswerOf, is-made, is-full, is-spent, Watches}

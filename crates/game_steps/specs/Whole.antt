@@ -15,7 +15,7 @@ use Rattle.rows.specs.Filled.{filled}
 use Rattle.operations.specs.Work.{OpFrame}
 use Rattle.book.specs.Over.{states}
 use Rattle.book.specs.Ticks.{ticks, Verdict, counted, full, spent, verdict}
-use Rattle.book.specs.Book.{Book, modelOf, liveOf, registers, relations}
+use Rattle.book.specs.Book.{modelOf, liveOf, registers, relations}
 use Rattle.modal.specs.declared.Limits.{Limits}
 use Rattle.evaluator.specs.Whole.{bookIn}
 use Rattle.games.specs.Call.{gameForm, gameBytes, presses, reactions, goals, allFilled}

@@ -1,5 +1,5 @@
 -- `watch` meets its contract: each turn is a round of the game's formula. Assumes nothing.
-use mathlib.Core.Path.{_≡_, refl, _∙_}
+use mathlib.Core.Path.{refl, _∙_}
 use Prim.Native.Nat.{_-_, _^_, _<_}
 use native.Mathlib.Omega.{arith}
 use Rattle.modal.proofs.Chain.{base-bits}
