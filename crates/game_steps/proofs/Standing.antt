@@ -296,7 +296,8 @@ module _ {L : Limits} {W : View} {stack bs : List ℕ} {a : Asked} {σ : Scene} 
             note-is =
                 let e = ready′ .base .ready .levels-is in
                 let last-test = set-holds (L .bits) Y (sets k G M B (S .round)) e last-denotes in
-                ap (λ (c : Bool). cond c noted (cond (holdsAt Y b (a .state) 0) (firstOf k (nextIn Y (a .machine) (a .press) current)) noted))
+                ap (λ (c : Bool). cond c noted
+                (cond (holdsAt Y b (a .state) 0) (firstOf k (nextIn Y (a .machine) (a .press) current)) noted))
                 (last-test (a .state) (P .state))
                 ∙ ap₂ (λ (c : Bool) (x : ℕ). cond (mem (sets k G M B (S .round)) (a .state)) noted (cond c x noted))
                 (set-holds (L .bits) Y (sets k G M B (suc (S .round))) e next-denotes (a .state) (P .state))

@@ -75,8 +75,8 @@ pub no-move-outside : forced 4 silent climbs top ≡ set false false true true
 unfolding bitLists
 no-move-outside = refl
 
--- ---- "after every guest move": a second press at 2, to which the machine has no answer, keeps all but the goal outside. It leads to 3: the
--- goal counts only where the guest is to press, not between a press and its answer
+-- ---- "after every guest move": a second press at 2, to which the machine has no answer, keeps all but the goal outside. It leads to 3:
+-- the goal counts only where the guest is to press, not between a press and its answer
 
 abbrev restless : Pairs
 restless = set true false false false ∷ set false true false false ∷ set false false true true ∷ nowhere ∷ []

@@ -1,6 +1,6 @@
--- GUEST AGAINST MACHINE ON CONCRETE WORDS, after the list of QuietList: what both contracts give there, in both tables, and impostors beside
--- the true answers. The goal is state 1, in register 3; relation 0, which leads from each state to each, is the guest's and the machine's.
--- So state 1 enters in round 1 and state 0 in round 2, and round 3 gives the same set again. Assumes nothing.
+-- GUEST AGAINST MACHINE ON CONCRETE WORDS, after the list of QuietList: what both contracts give there, in both tables, and impostors
+-- beside the true answers. The goal is state 1, in register 3; relation 0, which leads from each state to each, is the guest's and the
+-- machine's. So state 1 enters in round 1 and state 0 in round 2, and round 3 gives the same set again. Assumes nothing.
 use mathlib.Core.Path.{_≡_, refl, sym, ap, _∙_}
 use mathlib.Core.Bool.{true}
 use mathlib.Core.List.{List, [], _∷_}
@@ -79,7 +79,8 @@ goal-is p = react-listed 1 2 (session 1 2 280 (small .sizes) (to-after small)) a
 pub answer-means : ReactMeant 3 0 0 0 1 (afterRun 2 280) 0 1
 answer-means = react-means alone 3 3 0 0 0 1 answered (after-sound small)
 
--- THE SAME in the larger table with raised limits: no answer where the goal, in register 1, has no state. One round gives the same set again
+-- THE SAME in the larger table with raised limits: no answer where the goal, in register 1, has no state; the first round gives the same
+-- set again
 pub none-again : {new : List ℕ} {y : Reply} → ReactPost (under 5 7) 3 1 0 0 0 1 (afterRun 3 300) new y → y ≡ plain 15
 unfolding first second
 none-again p = react-again 1 2 3 (omega arith) (omega arith) (started 2 1 1) (closing 2 1 1) (started 5 7 3) (closing 5 7 3) first second

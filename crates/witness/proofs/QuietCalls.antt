@@ -223,7 +223,8 @@ module _ {N k a c R : ℕ} (x : Setting N k a c R) where
   pub to-next : {e : Call} {y : Reply} {ws : List ℕ} → CallPost e (afterRun N k) ws y
       → Trace (List ℕ) performs rests (made N k) (started a c R ++ ((e, y) ∷ [])) ws
   to-next p =
-      go valid-fixed (go relation-done (go set-filled (go set-vacant (go set-bit (go set-turned (pause (path-rests run-told) (go p stop)))))))
+      go valid-fixed (go relation-done (go set-filled (go set-vacant (go set-bit (go set-turned
+      (pause (path-rests run-told) (go p stop)))))))
 
   -- how the words look: row 0, and registers 3 and 4 that lead to it
   after-seen : view N (afterRun N k) ≡ putCell (registerStored (bitStored (view N (vacant N k)) 3 0) 4 2) 0 MEMO-VALUE 5
