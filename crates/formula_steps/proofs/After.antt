@@ -1,12 +1,11 @@
 -- What steps that store nothing leave of words: the calls that only ask, a shortest run or an answer to a press, end so. Assumes nothing.
-use mathlib.Core.Path.{_≡_, refl, sym, ap, _∙_, subst}
-use mathlib.Core.Bool.{Bool, _&&_}
+use mathlib.Core.Path.{_≡_, sym, ap, _∙_, subst}
 use mathlib.Core.List.{List}
 use mathlib.Core.Option.{none}
 use Prim.Native.Nat.{ℕ, _+_, _*_, _<_}
 use lib.Dec.{T, eqb}
 use Rattle.layout.specs.Refusals.{keepsAll}
-use Rattle.layout.specs.Places.{BITS, ROWS, SPARE, FIRST-REGISTER, FIRST-RELATION}
+use Rattle.layout.specs.Places.{BITS, ROWS, FIRST-REGISTER, FIRST-RELATION}
 use Rattle.layout.specs.View.{View, view, headerOf}
 use Rattle.layout.proofs.Same.{same-beyond}
 use Rattle.diagram.specs.Rows.{den}

@@ -1,39 +1,28 @@
 -- The call's contract from its checks and from its search. Assumes nothing.
 use mathlib.Core.Path.{_≡_, refl, sym, ap, _∙_, subst}
 use mathlib.Core.Logic.{_≢_}
-use mathlib.Core.Bool.{Bool, true, false, cond, _&&_}
+use mathlib.Core.Bool.{Bool, cond, _&&_}
 use mathlib.Core.List.{List}
 use mathlib.Core.Option.{Option, none, some}
-use Prim.Native.Nat.{ℕ, zero, suc, _+_, _-_, _*_, _≤_, _<_}
+use Prim.Native.Nat.{ℕ, suc, _+_, _-_, _<_}
 use native.Mathlib.Omega.{arith}
-use lib.Dec.{T, eqb, ltb, ltb→lt, lt→ltb}
+use lib.Dec.{T, ltb, ltb→lt, lt→ltb}
 use lib.ListN.{length}
 use Rattle.mucalculus.proofs.Sets.{true-of, false-of, and-in, and-out}
 use Rattle.mucalculus.specs.Form.{Pairs, inside}
 use Rattle.layout.specs.Refusals.{keepsAll}
-use Rattle.layout.specs.Places.{BITS, ROWS, SPARE, FIRST-REGISTER, FIRST-RELATION}
+use Rattle.layout.specs.Places.{BITS, ROWS, FIRST-REGISTER, FIRST-RELATION}
 use Rattle.layout.specs.View.{View, view, headerOf}
-use Rattle.layout.proofs.Same.{same-beyond}
-use Rattle.diagram.specs.Rows.{den}
 use Rattle.diagram.specs.Keep.{Keeps}
-use Rattle.diagram.proofs.Keep.{keeps-refl, keeps-within}
+use Rattle.diagram.proofs.Keep.{keeps-refl}
 use Rattle.rows.specs.Used.{rowsOf}
 use Rattle.rows.specs.Sound.{Sound, tableOf}
-use Rattle.rows.specs.Filled.{filled}
 use Rattle.rows.proofs.Filled.{filled-arrow}
-use Rattle.operations.specs.Work.{OpFrame}
-use Rattle.book.specs.Bridge.{setOf, pairsOf}
 use Rattle.book.specs.Book.{Book, registers, relations, liveOf, collect}
-use Rattle.book.proofs.Effects.{in-range}
-use Rattle.book.specs.Table.{Reply, Shows, rootsOf}
-use Rattle.book.specs.BookOf.{bookOf, standsFor}
-use Rattle.book.proofs.BookOf.{whole-bookOf, only-book}
-use Rattle.book.proofs.Alike.{alike-shows}
+use Rattle.book.specs.Table.{Reply, rootsOf}
+use Rattle.book.specs.BookOf.{bookOf}
 use Rattle.book.specs.Leaves.{plain}
-use Rattle.book.proofs.Leaves.{shows-rows}
-use Rattle.contract.specs.Seen.{arrowIn, seenIn, seen, SoundWords}
-use Rattle.contract.proofs.Seen.{sound-shows-book, sound-table}
-use Rattle.contract.specs.Kept.{Kept, changes}
+use Rattle.contract.specs.Seen.{seen, SoundWords}
 use Rattle.contract.proofs.Checked.{kept-refused}
 use Rattle.contract.proofs.Roots.{root-filled}
 use Rattle.formula_steps.proofs.After.{register-is, relation-is, same-table, rows-kept, words-kept, same-book}
@@ -42,7 +31,7 @@ use Rattle.paths.specs.Call.{Ended, refuse, ends, overFilled, shortest}
 use Rattle.routes.specs.declared.Found.{Found}
 use Rattle.routes.specs.Find.{foundReply}
 use Rattle.path_calls.specs.Search.{Named, SearchPre, Searched, SearchPost}
-use Rattle.path_calls.specs.Post.{Told, PathPost}
+use Rattle.path_calls.specs.Post.{PathPost}
 
 -- ---- the checks, by the book
 

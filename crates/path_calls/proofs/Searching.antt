@@ -12,17 +12,15 @@ use Rattle.diagram.specs.Level.{Fn}
 use Rattle.diagram.specs.Rows.{Rows}
 use Rattle.diagram.specs.Post.{Denotes}
 use Rattle.diagram.specs.Keep.{Keeps}
-use Rattle.diagram.proofs.Keep.{keeps-trans}
-use Rattle.diagram.proofs.Collect.{collects-keeps}
 use Rattle.rows.specs.Used.{rowsOf}
 use Rattle.rows.specs.Sound.{Sound}
 use Rattle.rows.specs.Filled.{filled}
 use Rattle.rows.proofs.Filled.{filled-mem}
-use Rattle.collect.specs.Answers.{FreeManyPost, few, many}
+use Rattle.collect.specs.Answers.{FreeManyPost}
 use Rattle.memory.proofs.Frame.{rows-same}
 use Rattle.memory.specs.Forget.{Forgot}
 use Rattle.operations.specs.Work.{OpFrame}
-use Rattle.operations.proofs.Work.{op-trans, op-memo, op-made}
+use Rattle.operations.proofs.Work.{op-trans, op-memo}
 use Rattle.steps.proofs.Again.{start-ready}
 use Rattle.book.specs.Bridge.{fnOf, fnOfPairs, Sized}
 use Rattle.book.specs.Book.{registers, relations, liveOf}
@@ -35,10 +33,10 @@ use Rattle.contract.proofs.Seen.{sound-table}
 use Rattle.contract.proofs.Roots.{filled-root, root-filled}
 use Rattle.modal.specs.Chain.{Base}
 use Rattle.modal.proofs.Chain.{held-alike}
-use Rattle.formula_steps.proofs.After.{After, freed}
+use Rattle.formula_steps.proofs.After.{freed}
 use Rattle.layers.specs.Scene.{Scene}
 use Rattle.layers.proofs.Scene.{filled-same}
-use Rattle.layers.specs.Pass.{PassPre, Steps}
+use Rattle.layers.specs.Pass.{PassPre}
 use Rattle.routes.specs.declared.Found.{Found}
 use Rattle.routes.specs.Find.{FindPost}
 use Rattle.path_calls.specs.Search.{bookIn, Named, SearchPre, SearchPost}
