@@ -33,7 +33,7 @@ use Rattle.contract.proofs.Seen.{sound-table}
 use Rattle.contract.proofs.Roots.{filled-root, root-filled}
 use Rattle.modal.specs.Chain.{Base}
 use Rattle.modal.proofs.Chain.{held-alike}
-use Rattle.formula_steps.proofs.After.{freed}
+use Rattle.formula_steps.proofs.After.{After, freed}
 use Rattle.layers.specs.Scene.{Scene}
 use Rattle.layers.proofs.Scene.{filled-same}
 use Rattle.layers.specs.Pass.{PassPre}
@@ -139,8 +139,8 @@ module _ {n N limit : ℕ} {W : View} {t a b : ℕ} (p : SearchPre n N limit W t
       → SearchPost n limit W Z t a b old new r
   search-done {Y} {Z} old {new} {r} v f ra rb rt m =
       let w = v (scene m) (inside (bookIn W .reg ra)) (from m) in
-      let m′ = w .steps in
-      let z = freed {X} (record { sound = m′ .moved .sound; frame = m′ .moved .frame; kept = m′ .kept }) f in
+      let q = w .steps in
+      let z : After X Z = freed (record { sound = q .moved .sound; frame = q .moved .frame; kept = q .kept }) f in
       record {
         sound = z .sound;
         frame = op-trans frame (z .frame);
