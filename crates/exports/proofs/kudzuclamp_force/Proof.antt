@@ -16,6 +16,7 @@ use prog.Memory.{Memory}
 use prog.Routine.{Routine}
 use prog.Wp.{Heap, Calls, Loops, WpFn, Tables}
 use ghost.Atoms.{Atoms, sem}
+use contract.Lifetimes.{Lfts}
 use contract.Monad.{Fun, fact}
 use contract.Running.{givenOf, tables, tablesOf}
 use types.Kit.{Given, ‵, raw, _⊛_, some, later, ⋆, _$_, _∵_, !, qed, by, move, keep, drop, use0, use1, use2, use3, split, join, pick}
@@ -70,10 +71,13 @@ use Rattle.exports.proofs.kudzuclamp_force.Code as code
 
 abbrev stayed : Stays (f.ended .signature .params) (f.ended .kept)
 stayed =
-    let number = stay-none (λ _. u32) yes in
-    (gave-slice (0 ∷ []) tt (plain (λ _. u32)), (gave-slice (1 ∷ []) tt (plain (λ _. R)),
-    (number, (number, (number, (number, (number, (number, (gave-ref (2 ∷ []) tt (plain (λ _. u32)),
-    (gave-ref (3 ∷ []) tt (plain (λ _. u32)), (gave-ref (4 ∷ []) tt (plain (λ _. u32)), tt)))))))))))
+    let words = gave-slice (0 ∷ []) tt (plain (λ _. u32)) in
+    let list = gave-slice (1 ∷ []) tt (plain (λ _. R)) in
+    let k = stay-none (λ _. u32) yes in
+    let node = gave-ref (2 ∷ []) tt (plain (λ _. u32)) in
+    let rounds = gave-ref (3 ∷ []) tt (plain (λ _. u32)) in
+    let peak = gave-ref (4 ∷ []) tt (plain (λ _. u32)) in
+    (words, (list, (k, (k, (k, (k, (k, (k, (node, (rounds, (peak, tt)))))))))))
 
 -- the bytes that the code makes
 abbrev made : ℕ → ℕ → ℕ → List ℕ
@@ -140,9 +144,17 @@ module _ {M : Type 1} (𝓤 : URA M) (H : Heap 𝓤) (A : Atoms 𝓤) (W : Given
   abbrev sa : Val
   sa = sliceVal (b, o) (length ys)
 
+  abbrev val : ℕ → List Val
+  val k = vint w32 k ∷ []
+
+  abbrev answer-vals : List Val × (List Val × (List Val × Unit {0}))
+  answer-vals = (vptr bn on ∷ [], (vptr bq oq ∷ [], (vptr bp op ∷ [], tt)))
+
+  abbrev game-vals : List Val × (List Val × (List Val × Unit {0}))
+  game-vals = (val goal, (val guest, (val machine, tt)))
+
   abbrev at : Vals f.signature (κ₀, (κ₁, (κ₂, (κ₃, (κ₄, tt)))))
-  at = (sw ∷ [], (sa ∷ [], (vint w32 p ∷ [], (vint w32 reg ∷ [], (vint w32 mo ∷ [], (vint w32 goal ∷ [], (vint w32 guest ∷ [],
-      (vint w32 machine ∷ [], (vptr bn on ∷ [], (vptr bq oq ∷ [], (vptr bp op ∷ [], tt)))))))))))
+  at = (sw ∷ [], (sa ∷ [], (val p, (val reg, (val mo, (val goal, (val guest, (val machine, answer-vals))))))))
 
   abbrev bound : walkOf 𝓤 H A f.ended stayed (f.clauses 𝓤 H A at-mem run) .Ghost
   bound = (((κ₀, (κ₁, (κ₂, (κ₃, (κ₄, tt))))), (q₀, (q₁, (q₂, (q₃, (q₄, tt))))), tt, x, at), tt)
@@ -179,8 +191,7 @@ module _ {M : Type 1} (𝓤 : URA M) (H : Heap 𝓤) (A : Atoms 𝓤) (W : Given
 
   -- what each callee is passed
   abbrev to-target : Target 𝓤 H A at-mem run .Ghost
-  to-target = ((tt, tt, tt, (reg, (goal, (guest, (machine, tt)))),
-      (vint w32 reg ∷ [], (vint w32 goal ∷ [], (vint w32 guest ∷ [], (vint w32 machine ∷ [], tt))))), tt)
+  to-target = ((tt, tt, tt, (reg, (goal, (guest, (machine, tt)))), (val reg, game-vals)), tt)
 
   goes-target : ent 𝓤 (emp 𝓤) (Target 𝓤 H A at-mem run .pre to-target)
   goes-target =
@@ -190,7 +201,7 @@ module _ {M : Type 1} (𝓤 : URA M) (H : Heap 𝓤) (A : Atoms 𝓤) (W : Given
       owned ! u32 (Is u32) (uint-makes 𝓤 H A W w32) reg _ (refl, gr) $ join ! $ nothing ! $ join ! $ frame ! $ done !
 
   abbrev to-bytes : Bytes 𝓤 H A at-mem run .Ghost
-  to-bytes = ((tt, tt, tt, (goal, (guest, (machine, tt))), (vint w32 goal ∷ [], (vint w32 guest ∷ [], (vint w32 machine ∷ [], tt)))), tt)
+  to-bytes = ((tt, tt, tt, (goal, (guest, (machine, tt))), game-vals), tt)
 
   goes-bytes : ent 𝓤 (emp 𝓤) (Bytes 𝓤 H A at-mem run .pre to-bytes)
   goes-bytes =
@@ -212,10 +223,14 @@ module _ {M : Type 1} (𝓤 : URA M) (H : Heap 𝓤) (A : Atoms 𝓤) (W : Given
     abbrev set-args : SetArgs
     set-args = (at-words, (at-list, (p, (t, (mo, (at-bytes, (at-node, (at-rounds, (at-peak, tt)))))))))
 
+    abbrev lifetimes : Lfts 6
+    lifetimes = (κ₀, (κ₁, (α ∷ [], (κ₂, (κ₃, (κ₄, tt))))))
+
+    abbrev set-vals : Vals st.signature lifetimes
+    set-vals = (sw ∷ [], (sa ∷ [], (val p, (vt ∷ [], (val mo, (sb ∷ [], answer-vals))))))
+
     abbrev to-set : Set 𝓤 H A at-mem run .Ghost
-    to-set = (((κ₀, (κ₁, (α ∷ [], (κ₂, (κ₃, (κ₄, tt)))))), (q₀, (q₁, (fullShare, (q₂, (q₃, (q₄, tt)))))), tt, set-args,
-        (sw ∷ [], (sa ∷ [], (vint w32 p ∷ [], (vt ∷ [], (vint w32 mo ∷ [], (sb ∷ [], (vptr bn on ∷ [], (vptr bq oq ∷ [], (vptr bp op ∷ [],
-        tt)))))))))), tt)
+    to-set = ((lifetimes, (q₀, (q₁, (fullShare, (q₂, (q₃, (q₄, tt)))))), tt, set-args, set-vals), tt)
 
     goes-set : Is u32 t (vt ∷ [])
         → ent 𝓤
@@ -341,12 +356,12 @@ module _ {M : Type 1} (𝓤 : URA M) (H : Heap 𝓤) (A : Atoms 𝓤) (W : Given
         use1 W (later
         (some (λ (k : ℕ). ((‵ (flft κ₀ q₀) ⊛ ‵ (flft κ₁ q₁) ⊛ ‵ (flft (α ∷ []) fullShare) ⊛ ‵ (flft κ₂ q₂) ⊛ ‵ (flft κ₃ q₃)
         ⊛ ‵ (flft κ₄ q₄) ⊛ ‵ ftrue) ⊛ ‵ (u32 .own k (v ∷ [])))
-        ⊛ raw (ensured 𝓤 H A st.ended (st.clauses 𝓤 H A at-mem run) (κ₀, (κ₁, (α ∷ [], (κ₂, (κ₃, (κ₄, tt))))))
+        ⊛ raw (ensured 𝓤 H A st.ended (st.clauses 𝓤 H A at-mem run) (lifetimes t vt l₁₃ α γb)
         (set-args t vt l₁₃ α γb) tt k)))) (id⊢ 𝓤 _) $ await ! tt $ pick ! (λ k.
         split ! $ move ! (1 ∷ []) $
         use1 W (some
         (λ (zs : List ℕ × (List Account × (Unit {0} × (Unit {0} × (Unit {0} × (Unit {0} × (ℕ × (ℕ × (ℕ × Unit {0}))))))))).
-        ‵ (lasts st.ended (κ₀, (κ₁, (α ∷ [], (κ₂, (κ₃, (κ₄, tt)))))) (set-args t vt l₁₃ α γb) zs)
+        ‵ (lasts st.ended (lifetimes t vt l₁₃ α γb) (set-args t vt l₁₃ α γb) zs)
         ⊛ raw (fact 𝓤 (SetAllPost p t mo bs ws (zs .0) ys (zs .1 .0)
         (given k (zs .1 .1 .1 .1 .1 .1 .1 .0) (zs .1 .1 .1 .1 .1 .1 .1 .1 .0) (zs .1 .1 .1 .1 .1 .1 .0)))))) (id⊢ 𝓤 _) $ pick ! (λ zs.
         split ! $ move ! (1 ∷ []) $
@@ -387,11 +402,14 @@ module _ {M : Type 1} (𝓤 : URA M) (H : Heap 𝓤) (A : Atoms 𝓤) (W : Given
     (known-bytes : Triple 𝓤 (𝓣 .C #calls·bytes) (Bytes 𝓤 H A at-mem run)) (known-set : Triple 𝓤 (𝓣 .C #exports·set) (Set 𝓤 H A at-mem run)) where
   force-walks : Walks 𝓤 H A f.ended stayed (WpFn 𝓤 H (𝓣 .C) (𝓣 .Λ) code.function) (f.clauses 𝓤 H A at-mem run)
   force-walks = walked 𝓤 H A f.ended stayed (f.clauses 𝓤 H A at-mem run) (WpFn 𝓤 H (𝓣 .C) (𝓣 .Λ) code.function)
-      (λ κs. (slice-vals, (slice-vals, (uint-vals w32, (uint-vals w32, (uint-vals w32, (uint-vals w32, (uint-vals w32, (uint-vals w32,
-      (ptr-vals, (ptr-vals, (ptr-vals, tt))))))))))))
-      (λ κs. (mut-slice-tells (named 0) (κs .0) u32, (mut-slice-tells (named 1) (κs .1 .0) R, (uint-tells w32, (uint-tells w32,
-      (uint-tells w32, (uint-tells w32, (uint-tells w32, (uint-tells w32, (mut-tells (named 2) (κs .1 .1 .0) u32,
-      (mut-tells (named 3) (κs .1 .1 .1 .0) u32, (mut-tells (named 4) (κs .1 .1 .1 .1 .0) u32, tt))))))))))))
+      (λ κs. let k = uint-vals w32 in (slice-vals, (slice-vals, (k, (k, (k, (k, (k, (k, (ptr-vals, (ptr-vals, (ptr-vals, tt))))))))))))
+      (λ κs. let words = mut-slice-tells (named 0) (κs .0) u32 in
+      let list = mut-slice-tells (named 1) (κs .1 .0) R in
+      let k = uint-tells w32 in
+      let node = mut-tells (named 2) (κs .1 .1 .0) u32 in
+      let rounds = mut-tells (named 3) (κs .1 .1 .1 .0) u32 in
+      let peak = mut-tells (named 4) (κs .1 .1 .1 .1 .0) u32 in
+      (words, (list, (k, (k, (k, (k, (k, (k, (node, (rounds, (peak, tt))))))))))))
       (λ κs qs bounds a g are. via 𝓤 _ (fst∗ 𝓤 _ (emp 𝓤))
       (walk 𝓤 H A W at-mem run (κs .0) (κs .1 .0) (κs .1 .1 .0) (κs .1 .1 .1 .0) (κs .1 .1 .1 .1 .0) (qs .0)
       (qs .1 .0) (qs .1 .1 .0) (qs .1 .1 .1 .0) (qs .1 .1 .1 .1 .0)
@@ -408,11 +426,13 @@ module _ {M : Type 1} (𝓤 : URA M) (H : Heap 𝓤) (A : Atoms 𝓤) (W : Given
 
   force-meets : Meets 𝓤 H A f.signature (WpFn 𝓤 H (𝓣 .C) (𝓣 .Λ) code.function) (f.spec 𝓤 H A at-mem run)
   force-meets =
-      let number = goes-none 𝓤 H A W 5 (λ _. u32) yes (λ κs x f. refl) in
-      walk-meets 𝓤 H A f.ended stayed W (goes-gave-slice 𝓤 H A W 5 0 tt (plain (λ _. u32)),
-      (goes-gave-slice 𝓤 H A W 5 1 tt (plain (λ _. R)), (number, (number, (number, (number, (number, (number,
-      (goes-gave-ref 𝓤 H A W 5 2 tt (plain (λ _. u32)), (goes-gave-ref 𝓤 H A W 5 3 tt (plain (λ _. u32)),
-      (goes-gave-ref 𝓤 H A W 5 4 tt (plain (λ _. u32)), tt))))))))))) (f.clauses 𝓤 H A at-mem run)
+      let words = goes-gave-slice 𝓤 H A W 5 0 tt (plain (λ _. u32)) in
+      let list = goes-gave-slice 𝓤 H A W 5 1 tt (plain (λ _. R)) in
+      let k = goes-none 𝓤 H A W 5 (λ _. u32) yes (λ κs x f. refl) in
+      let node = goes-gave-ref 𝓤 H A W 5 2 tt (plain (λ _. u32)) in
+      let rounds = goes-gave-ref 𝓤 H A W 5 3 tt (plain (λ _. u32)) in
+      let peak = goes-gave-ref 𝓤 H A W 5 4 tt (plain (λ _. u32)) in
+      walk-meets 𝓤 H A f.ended stayed W (words, (list, (k, (k, (k, (k, (k, (k, (node, (rounds, (peak, tt))))))))))) (f.clauses 𝓤 H A at-mem run)
       (WpFn 𝓤 H (𝓣 .C) (𝓣 .Λ) code.function) (WpFn-mono 𝓤 H (W .laws) 𝓣 code.function) force-walks
 
 pub kudzuclamp-force-spec : {M : Type 1} → stated.statement M
