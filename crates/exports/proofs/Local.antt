@@ -45,7 +45,8 @@ module _ {M : Type 1} (𝓤 : URA M) (H : Heap 𝓤) (A : Atoms 𝓤) (W : Given
   unfolding partOf
   back =
       qed W (‵ (fdead κ) ∷ ‵ (flent κ (Held xs b)) ∷ []) {P = H .⇛ (H .room (bytesTy xs) b 0)} ∵
-      updating ! $ lent-back ! tt $ use1 W (‵ (partAt (Array u8 (length xs)) fullShare xs b 0)) (array-whole 𝓤 H A W u8 fullShare (length xs) xs b 0) $
+      updating ! $ lent-back ! tt $
+      use1 W (‵ (partAt (Array u8 (length xs)) fullShare xs b 0)) (array-whole 𝓤 H A W u8 fullShare (length xs) xs b 0) $
       fpick ! (λ vs. fsplit ! $ move ! (1 ∷ []) $ fpick ! (λ us. fsplit ! $ fsplit ! $ feqL ! (λ e. feqL ! (λ l.
       rewrite ! 1 (λ (ws : List Val). ‵ (cellAt fullShare (bytesTy xs ∷ []) ws b 0)) e refl $ move ! (1 ∷ []) $
       use1 W (‵ (fat fullShare (bytesTy xs) b 0 (arrayVal us))) (W .laws .raw-at fullShare (bytesTy xs) b 0 (arrayVal us)) $

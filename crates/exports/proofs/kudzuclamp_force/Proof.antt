@@ -238,7 +238,8 @@ module _ {M : Type 1} (𝓤 : URA M) (H : Heap 𝓤) (A : Atoms 𝓤) (W : Given
         (((‵ (flft κ₀ q₀) ⊛ ‵ (flft κ₁ q₁) ⊛ ‵ (flft κ₂ q₂) ⊛ ‵ (flft κ₃ q₃) ⊛ ‵ (flft κ₄ q₄) ⊛ ‵ ftrue) ⊛ ‵ (flft (α ∷ []) fullShare))
         ∷ (‵ (MutSlice (named 0) κ₀ u32 .own at-words (sw ∷ [])) ⊛ ‵ (MutSlice (named 1) κ₁ R .own at-list (sa ∷ [])))
         ∷ (‵ (ShrSlice (named 2) (α ∷ []) u8 .own at-bytes (sb ∷ [])) ⊛ (‵ (MutRef (named 2) κ₂ u32 .own at-node (vptr bn on ∷ []))
-        ⊛ (‵ (MutRef (named 3) κ₃ u32 .own at-rounds (vptr bq oq ∷ [])) ⊛ ‵ (MutRef (named 4) κ₄ u32 .own at-peak (vptr bp op ∷ []))))) ∷ []))
+        ⊛ (‵ (MutRef (named 3) κ₃ u32 .own at-rounds (vptr bq oq ∷ [])) ⊛ ‵ (MutRef (named 4) κ₄ u32 .own at-peak
+        (vptr bp op ∷ []))))) ∷ []))
         (Set 𝓤 H A at-mem run .pre to-set)
     goes-set is =
         qed W (((‵ (flft κ₀ q₀) ⊛ ‵ (flft κ₁ q₁) ⊛ ‵ (flft κ₂ q₂) ⊛ ‵ (flft κ₃ q₃) ⊛ ‵ (flft κ₄ q₄) ⊛ ‵ ftrue)
@@ -259,7 +260,8 @@ module _ {M : Type 1} (𝓤 : URA M) (H : Heap 𝓤) (A : Atoms 𝓤) (W : Given
         fjoin ! $ move ! (1 ∷ 0 ∷ []) $ fjoin ! $ move ! (1 ∷ 0 ∷ []) $ join ! $ frame ! $ done !
 
   module _ (C : Calls 𝓤 H) (Λ : Loops 𝓤 H) (fm : FmC 𝓤 H (W .laws) C) (known-target : Triple 𝓤 (C #calls·target) (Target 𝓤 H A at-mem run))
-      (known-bytes : Triple 𝓤 (C #calls·bytes) (Bytes 𝓤 H A at-mem run)) (known-set : Triple 𝓤 (C #exports·set) (Set 𝓤 H A at-mem run)) where
+      (known-bytes : Triple 𝓤 (C #calls·bytes) (Bytes 𝓤 H A at-mem run))
+      (known-set : Triple 𝓤 (C #exports·set) (Set 𝓤 H A at-mem run)) where
     walk : ent 𝓤 (onEntry 𝓤 H A f.signature (κ₀, (κ₁, (κ₂, (κ₃, (κ₄, tt))))) (q₀, (q₁, (q₂, (q₃, (q₄, tt))))) x at)
         (WpFn 𝓤 H C Λ code.function
         (sw ∷ sa ∷ vint w32 p ∷ vint w32 reg ∷ vint w32 mo ∷ vint w32 goal ∷ vint w32 guest ∷ vint w32 machine ∷ vptr bn on ∷ vptr bq oq
@@ -278,7 +280,8 @@ module _ {M : Type 1} (𝓤 : URA M) (H : Heap 𝓤) (A : Atoms 𝓤) (W : Given
         alloc1 ! (λ l₁₂. alloc1 ! (λ l₁₃. alloc1 ! (λ l₁₄. alloc1 ! (λ l₁₅. alloc1 ! (λ l₁₆. alloc1 ! (λ l₁₇.
         alloc1 ! (λ l₁₈. alloc1 ! (λ l₁₉. alloc1 ! (λ l₂₀. alloc1 ! (λ l₂₁. alloc1 ! (λ l₂₂. alloc1 ! (λ l₂₃.
         alloc0 ! $ params1 ! $
-        pass1 ! (init ! 44 refl (tt, (tt, (record { fits = gw .0 }, tt)))) $ pass1 ! (init ! 42 refl (tt, (tt, (record { fits = ga .0 }, tt)))) $
+        pass1 ! (init ! 44 refl (tt, (tt, (record { fits = gw .0 }, tt)))) $
+        pass1 ! (init ! 42 refl (tt, (tt, (record { fits = ga .0 }, tt)))) $
         pass1 ! (init ! 40 refl (tt, record { fits = gp })) $ pass1 ! (init ! 38 refl (tt, record { fits = gr })) $
         pass1 ! (init ! 36 refl (tt, record { fits = gm })) $ pass1 ! (init ! 34 refl (tt, record { fits = ggoal })) $
         pass1 ! (init ! 32 refl (tt, record { fits = gguest })) $ pass1 ! (init ! 30 refl (tt, record { fits = gmach })) $
@@ -287,7 +290,8 @@ module _ {M : Type 1} (𝓤 : URA M) (H : Heap 𝓤) (A : Atoms 𝓤) (W : Given
         use0 W (raw (Target 𝓤 H A at-mem run .pre to-target)) goes-target $
         calls-at ! fm (Target 𝓤 H A at-mem run) known-target to-target
         (and-then ! (load ! (from ! (stop !)) (look ! 39 refl)) (and-then ! (load ! (from ! (stop !)) (look ! 35 refl))
-        (and-then ! (load ! (from ! (stop !)) (look ! 33 refl)) (and-then ! (load ! (from ! (stop !)) (look ! 31 refl)) (no-more !))))) (λ vt.
+        (and-then ! (load ! (from ! (stop !)) (look ! 33 refl)) (and-then ! (load ! (from ! (stop !)) (look ! 31 refl)) (no-more !)))))
+        (λ vt.
         use1 W (later
         (some (λ (t : ℕ). (‵ ftrue ⊛ ‵ (u32 .own t (vt ∷ [])))
         ⊛ raw (ensured 𝓤 H A tg.ended (tg.clauses 𝓤 H A at-mem run) tt (reg, (goal, (guest, (machine, tt)))) tt t)))) (id⊢ 𝓤 _) $
@@ -399,7 +403,8 @@ module _ {M : Type 1} (𝓤 : URA M) (H : Heap 𝓤) (A : Atoms 𝓤) (W : Given
 
 module _ {M : Type 1} (𝓤 : URA M) (H : Heap 𝓤) (A : Atoms 𝓤) (W : Given 𝓤 H A) (at-mem : Memory → SProp 𝓤) (run : Routine → Fun 𝓤)
     (𝓣 : Tables 𝓤 H) (known-target : Triple 𝓤 (𝓣 .C #calls·target) (Target 𝓤 H A at-mem run))
-    (known-bytes : Triple 𝓤 (𝓣 .C #calls·bytes) (Bytes 𝓤 H A at-mem run)) (known-set : Triple 𝓤 (𝓣 .C #exports·set) (Set 𝓤 H A at-mem run)) where
+    (known-bytes : Triple 𝓤 (𝓣 .C #calls·bytes) (Bytes 𝓤 H A at-mem run))
+    (known-set : Triple 𝓤 (𝓣 .C #exports·set) (Set 𝓤 H A at-mem run)) where
   force-walks : Walks 𝓤 H A f.ended stayed (WpFn 𝓤 H (𝓣 .C) (𝓣 .Λ) code.function) (f.clauses 𝓤 H A at-mem run)
   force-walks = walked 𝓤 H A f.ended stayed (f.clauses 𝓤 H A at-mem run) (WpFn 𝓤 H (𝓣 .C) (𝓣 .Λ) code.function)
       (λ κs. let k = uint-vals w32 in (slice-vals, (slice-vals, (k, (k, (k, (k, (k, (k, (ptr-vals, (ptr-vals, (ptr-vals, tt))))))))))))
@@ -422,7 +427,8 @@ module _ {M : Type 1} (𝓤 : URA M) (H : Heap 𝓤) (A : Atoms 𝓤) (W : Given
       (a .1 .1 .1 .1 .1 .1 .1 .1 .1 .1 .0 .ptr .0) (a .1 .1 .1 .1 .1 .1 .1 .1 .1 .1 .0 .ptr .1) (a .1 .1 .1 .1 .1 .1 .1 .1 .1 .1 .0 .name)
       (a .1 .1 .1 .1 .1 .1 .1 .1 .1 .1 .0 .now)
       (are .0 .0 .1) (are .1 .0 .0 .1) (are .1 .1 .0 .1) (are .1 .1 .1 .0 .1) (are .1 .1 .1 .1 .0 .1) (are .1 .1 .1 .1 .1 .0 .1)
-      (are .1 .1 .1 .1 .1 .1 .0 .1) (are .1 .1 .1 .1 .1 .1 .1 .0 .1) (𝓣 .C) (𝓣 .Λ) (fmOf 𝓤 H (W .laws) 𝓣) known-target known-bytes known-set))
+      (are .1 .1 .1 .1 .1 .1 .0 .1) (are .1 .1 .1 .1 .1 .1 .1 .0 .1) (𝓣 .C) (𝓣 .Λ) (fmOf 𝓤 H (W .laws) 𝓣) known-target known-bytes
+      known-set))
 
   force-meets : Meets 𝓤 H A f.signature (WpFn 𝓤 H (𝓣 .C) (𝓣 .Λ) code.function) (f.spec 𝓤 H A at-mem run)
   force-meets =
@@ -432,7 +438,8 @@ module _ {M : Type 1} (𝓤 : URA M) (H : Heap 𝓤) (A : Atoms 𝓤) (W : Given
       let node = goes-gave-ref 𝓤 H A W 5 2 tt (plain (λ _. u32)) in
       let rounds = goes-gave-ref 𝓤 H A W 5 3 tt (plain (λ _. u32)) in
       let peak = goes-gave-ref 𝓤 H A W 5 4 tt (plain (λ _. u32)) in
-      walk-meets 𝓤 H A f.ended stayed W (words, (list, (k, (k, (k, (k, (k, (k, (node, (rounds, (peak, tt))))))))))) (f.clauses 𝓤 H A at-mem run)
+      walk-meets 𝓤 H A f.ended stayed W (words, (list, (k, (k, (k, (k, (k, (k, (node, (rounds, (peak, tt)))))))))))
+      (f.clauses 𝓤 H A at-mem run)
       (WpFn 𝓤 H (𝓣 .C) (𝓣 .Λ) code.function) (WpFn-mono 𝓤 H (W .laws) 𝓣 code.function) force-walks
 
 pub kudzuclamp-force-spec : {M : Type 1} → stated.statement M

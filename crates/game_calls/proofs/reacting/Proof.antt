@@ -33,4 +33,5 @@ reacting-spec =
     let c11 = c10 .before in let c13 = c11 .before .before in let c14 = c13 .before in let c15 = c14 .before in
     let c17 = c15 .before .before in let c20 = c17 .before .before .before in game-done (c20 .pre) (c20 .args .terms) (c20 .args .most)
     (c17 .header-word .ensures) (c15 .header-word2 .ensures) (c14 .rows-under .ensures) (c13 .rounds-under .ensures)
-    (bytes-made (c20 .pre) (c10 .game-bytes .ensures)) (c7 .watch-rounds .ensures) (c11 .is-fair .ensures) (c3 .free-many .ensures) (c .told .ensures)))
+    (bytes-made (c20 .pre) (c10 .game-bytes .ensures)) (c7 .watch-rounds .ensures) (c11 .is-fair .ensures)
+    (c3 .free-many .ensures) (c .told .ensures)))
