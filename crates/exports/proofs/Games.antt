@@ -8,7 +8,7 @@ use Rattle.accounts.specs.declared.Terms.{Terms}
 use Rattle.book.specs.Book.{set, registers}
 use Rattle.book.specs.Table.{Reply}
 use Rattle.contract.specs.Posts.{CallPost, SetAllPost}
-use Rattle.games.specs.Call.{inRange, gameTarget, gameBytes}
+use Rattle.games.specs.Call.{numbersInRange, gameTarget, gameBytes}
 use Rattle.games.proofs.Call.{ranges-out}
 use Rattle.game_calls.proofs.Leaves.{bytes-are}
 use Rattle.exports.specs.Games.{ForceAllPost}
@@ -40,7 +40,7 @@ pub forced : (place r R goal guest machine : ℕ) {old new : List ℕ} {before a
     → SetAllPost place (gameTarget r goal guest machine) R (gameBytes (goal % 32) (guest % 8) (machine % 8)) old new before after y
     → ForceAllPost place r R goal guest machine old new before after y
 forced place r R goal guest machine {old} {new} {before} {after} {y} p =
-    go (inRange goal guest machine) (λ e. bytes-are goal guest machine (ranges-out goal guest machine e)) p
+    go (numbersInRange goal guest machine) (λ e. bytes-are goal guest machine (ranges-out goal guest machine e)) p
   where
     go : (b : Bool) {bs cs : List ℕ} → (b ≡ true → bs ≡ cs) → SetAllPost place (cond b r registers) R bs old new before after y
         → SetAllPost place (cond b r registers) R cs old new before after y

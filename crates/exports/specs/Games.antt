@@ -8,7 +8,7 @@ use Rattle.contract.specs.Posts.{SetAllPost}
 use Rattle.games.specs.Call.{gameTarget, gameBytes}
 use Rattle.game_calls.specs.Post.{ReactPost}
 
--- "store, as a set call with its account and R does": what a set call leaves of words and list
+-- "store, as a set call with its account and R does": what a set call leaves of words and list; over the game: `forceDone`, by `force-does`
 abbrev pub ForceAllPost : (place r R goal guest machine : ℕ) (old new : List ℕ) (before after : List Account) (y : Reply) → Type 0
 ForceAllPost place r R goal guest machine old new before after y =
     SetAllPost place (gameTarget r goal guest machine) R (gameBytes goal guest machine) old new before after y

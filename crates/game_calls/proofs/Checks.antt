@@ -28,7 +28,7 @@ use Rattle.contract.proofs.Checked.{kept-refused}
 use Rattle.contract.proofs.Roots.{root-filled}
 use Rattle.formula_steps.proofs.After.{register-is, relation-is, same-table, rows-kept, words-kept, same-book}
 use Rattle.seek.proofs.Search.{power-fits}
-use Rattle.games.specs.Call.{inRange, gameVerdict, allFilled, reacted, reacts}
+use Rattle.games.specs.Call.{numbersInRange, gameVerdict, allFilled, reacted, reacts}
 use Rattle.games.proofs.Call.{ranges-out, near, reacts-three, reacts-unlisted, reacts-empty, reacts-told}
 use Rattle.game_calls.specs.Reacting.{NamedPre, ReactingPre, Reacting}
 use Rattle.game_calls.specs.Post.{ReactPost}
@@ -66,7 +66,7 @@ module _ (acc : Terms) (R goal guest machine s t : ℕ) (ws : List ℕ) where
     }
 
     -- CHECK 3
-    pub react-range : inRange goal guest machine ≡ false → ReactPost acc R goal guest machine s t ws ws (plain 3)
+    pub react-range : numbersInRange goal guest machine ≡ false → ReactPost acc R goal guest machine s t ws ws (plain 3)
     react-range e =
         react-stays (reacts-three (bookOf (seen ws)) acc R goal guest machine s t
         (ap (λ (b : Bool). b && (ltb s (2 ^ headerOf ws BITS) && ltb t (2 ^ headerOf ws BITS))) e))
@@ -80,7 +80,7 @@ module _ (acc : Terms) (R goal guest machine s t : ℕ) (ws : List ℕ) where
 
       parts : near (bookOf (seen ws)) acc R goal guest machine s t ≡ true → (s < states) × (t < states)
       parts e =
-          let x = and-out (inRange goal guest machine) _ (subst T (sym e) tt) in
+          let x = and-out (numbersInRange goal guest machine) _ (subst T (sym e) tt) in
           let y = and-out (ltb s (2 ^ headerOf ws BITS)) _ (x .1) in
           let i = ltb→lt s (2 ^ headerOf ws BITS) (y .0) in
           let j = ltb→lt t (2 ^ headerOf ws BITS) (y .1) in
@@ -92,14 +92,14 @@ module _ (acc : Terms) (R goal guest machine s t : ℕ) (ws : List ℕ) where
       pub react-press : states ≤ t → ReactPost acc R goal guest machine s t ws ws (plain 3)
       react-press l = far (λ e. let h = parts e .1 in omega arith)
 
-      module _ (r : inRange goal guest machine ≡ true) (ls : s < states) (lt : t < states) where
+      module _ (r : numbersInRange goal guest machine ≡ true) (ls : s < states) (lt : t < states) where
         abbrev k : ℕ
         k = 2 ^ headerOf ws BITS
 
         is-near : near (bookOf (seen ws)) acc R goal guest machine s t ≡ true
         is-near =
             true-of (near (bookOf (seen ws)) acc R goal guest machine s t)
-            (and-in (inRange goal guest machine) _ (subst T (sym r) tt)
+            (and-in (numbersInRange goal guest machine) _ (subst T (sym r) tt)
             (and-in (ltb s k) _ (lt→ltb s k (omega arith)) (lt→ltb t k (omega arith))))
 
         -- CHECK 14
