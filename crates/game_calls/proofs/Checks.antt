@@ -30,7 +30,7 @@ use Rattle.contract.proofs.Checked.{call-refused, kept-refused}
 use Rattle.contract.proofs.Roots.{root-filled}
 use Rattle.seek.proofs.Search.{power-fits}
 use Rattle.path_calls.proofs.Checks.{register-is, relation-is, same-table, rows-kept, words-kept, same-book}
-use Rattle.games.specs.Call.{inRange, gameBytes, gameCall, gameVerdict, allFilled, reacted, reacts}
+use Rattle.games.specs.Call.{numbersInRange, gameBytes, gameCall, gameVerdict, allFilled, reacted, reacts}
 use Rattle.games.proofs.Call.{ranges-out, near, reacts-three, reacts-unlisted, reacts-empty, reacts-told}
 use Rattle.game_calls.specs.Reacting.{NamedPre, ReactingPre, Reacting}
 use Rattle.game_calls.specs.Post.{ReactPost}
@@ -42,17 +42,17 @@ states-is bits n e l = power-fits bits (omega arith) ∙ ap (λ (m : ℕ). 2 ^ m
 -- ---- the first call
 
 module _ (acc : Terms) (r R goal guest machine : ℕ) where
-  pub force-range : {ws : List ℕ} → SoundWords ws → inRange goal guest machine ≡ false
+  pub force-range : {ws : List ℕ} → SoundWords ws → numbersInRange goal guest machine ≡ false
       → CallPost (gameCall acc r R goal guest machine) ws ws (plain 3)
   force-range {ws} s e =
       subst (λ (b : Bool). CallPost (set acc (cond b r registers) R (gameBytes goal guest machine)) ws ws (plain 3)) (sym e)
       (call-refused ws s 2 (set acc registers R (gameBytes goal guest machine))
       (set-out-of-range (bookOf (seen ws)) acc registers R (gameBytes goal guest machine) (omega arith)))
 
-  pub force-bytes : inRange goal guest machine ≡ true → (goal < 32) × (guest < 8) × (machine < 8)
+  pub force-bytes : numbersInRange goal guest machine ≡ true → (goal < 32) × (guest < 8) × (machine < 8)
   force-bytes e = let w = ranges-out goal guest machine e in (w .goal-in, w .guest-in, w .machine-in)
 
-  pub force-done : inRange goal guest machine ≡ true → {bs old new : List ℕ} {y : Reply} → bs ≡ gameBytes goal guest machine
+  pub force-done : numbersInRange goal guest machine ≡ true → {bs old new : List ℕ} {y : Reply} → bs ≡ gameBytes goal guest machine
       → CallPost (set acc r R bs) old new y → CallPost (gameCall acc r R goal guest machine) old new y
   force-done e {bs} {old} {new} {y} eb v =
       subst (λ (b : Bool). CallPost (set acc (cond b r registers) R (gameBytes goal guest machine)) old new y) (sym e)
@@ -87,7 +87,7 @@ module _ (acc : Terms) (R goal guest machine s t : ℕ) (ws : List ℕ) where
     }
 
     -- CHECK 3
-    pub react-range : inRange goal guest machine ≡ false → ReactPost acc R goal guest machine s t ws ws (plain 3)
+    pub react-range : numbersInRange goal guest machine ≡ false → ReactPost acc R goal guest machine s t ws ws (plain 3)
     react-range e =
         react-stays (reacts-three (bookOf (seen ws)) acc R goal guest machine s t
         (ap (λ (b : Bool). b && (ltb s (2 ^ headerOf ws BITS) && ltb t (2 ^ headerOf ws BITS))) e))
@@ -101,7 +101,7 @@ module _ (acc : Terms) (R goal guest machine s t : ℕ) (ws : List ℕ) where
 
       parts : near (bookOf (seen ws)) acc R goal guest machine s t ≡ true → (s < states) × (t < states)
       parts e =
-          let x = and-out (inRange goal guest machine) _ (subst T (sym e) tt) in
+          let x = and-out (numbersInRange goal guest machine) _ (subst T (sym e) tt) in
           let y = and-out (ltb s (2 ^ headerOf ws BITS)) _ (x .1) in
           let i = ltb→lt s (2 ^ headerOf ws BITS) (y .0) in
           let j = ltb→lt t (2 ^ headerOf ws BITS) (y .1) in
@@ -113,14 +113,14 @@ module _ (acc : Terms) (R goal guest machine s t : ℕ) (ws : List ℕ) where
       pub react-press : states ≤ t → ReactPost acc R goal guest machine s t ws ws (plain 3)
       react-press l = far (λ e. let h = parts e .1 in omega arith)
 
-      module _ (r : inRange goal guest machine ≡ true) (ls : s < states) (lt : t < states) where
+      module _ (r : numbersInRange goal guest machine ≡ true) (ls : s < states) (lt : t < states) where
         abbrev k : ℕ
         k = 2 ^ headerOf ws BITS
 
         is-near : near (bookOf (seen ws)) acc R goal guest machine s t ≡ true
         is-near =
             true-of (near (bookOf (seen ws)) acc R goal guest machine s t)
-            (and-in (inRange goal guest machine) _ (subst T (sym r) tt)
+            (and-in (numbersInRange goal guest machine) _ (subst T (sym r) tt)
             (and-in (ltb s k) _ (lt→ltb s k (omega arith)) (lt→ltb t k (omega arith))))
 
         -- CHECK 14

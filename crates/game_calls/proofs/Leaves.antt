@@ -40,27 +40,27 @@ use Rattle.seek.specs.Walk.{HoldsPre}
 use Rattle.layers.proofs.Scene.{filled-same}
 use Rattle.path_calls.proofs.Searching.{After}
 use Rattle.path_calls.proofs.Checks.{register-is, relation-is}
-use Rattle.games.specs.Game.{forced, fair, answerTo}
-use Rattle.games.specs.Call.{inRange, gameBytes, presses, reactions, goals, allFilled, reacted}
+use Rattle.games.specs.Game.{forced, answerable, answerTo}
+use Rattle.games.specs.Call.{numbersInRange, gameBytes, presses, reactions, goals, allFilled, reacted}
 use Rattle.game_steps.specs.declared.Asked.{Asked}
 use Rattle.game_steps.specs.declared.Watched.{Watched}
 use Rattle.game_steps.specs.declared.Watched.the-variants as watched
-use Rattle.game_steps.specs.Watch.{Heard}
-use Rattle.game_steps.specs.Whole.{Given, RoundsPre, RoundsPost, Says, is-made, is-full, is-spent}
+use Rattle.game_steps.specs.Watch.{AnswerNoted}
+use Rattle.game_steps.specs.Whole.{Given, RoundsPre, RoundsPost, RoundsSay, is-made, is-full, is-spent}
 use Rattle.game_steps.proofs.Standing.{set-holds, pair-holds, place-holds}
 use Rattle.game_calls.specs.declared.Reacted.{Reacted}
 use Rattle.game_calls.specs.declared.Reacted.the-variants as answer
-use Rattle.game_calls.specs.Reacting.{reactedReply, fairAt, toldOf, ReactingPre, Reacting}
+use Rattle.game_calls.specs.Reacting.{reactedReply, answerableAt, toldOf, ReactingPre, Reacting}
 
 -- ---- in_range
 
 module _ (goal guest machine : ℕ) where
-  pub range-goal : registers ≤ goal → false ≡ inRange goal guest machine
+  pub range-goal : registers ≤ goal → false ≡ numbersInRange goal guest machine
   range-goal l =
       sym (ap (λ (b : Bool). b && (ltb guest relations && ltb machine relations))
       (false-of (ltb goal registers) (λ h. let i = ltb→lt goal registers h in omega arith)))
 
-  pub range-guest : relations ≤ guest → false ≡ inRange goal guest machine
+  pub range-guest : relations ≤ guest → false ≡ numbersInRange goal guest machine
   range-guest l =
       sym (ap (λ (b : Bool). ltb goal registers && (b && ltb machine relations))
       (false-of (ltb guest relations) (λ h. let i = ltb→lt guest relations h in omega arith)) ∙ and-no (ltb goal registers))
@@ -69,7 +69,7 @@ module _ (goal guest machine : ℕ) where
       and-no true = refl
       and-no false = refl
 
-  pub range-machine : relations ≤ machine → false ≡ inRange goal guest machine
+  pub range-machine : relations ≤ machine → false ≡ numbersInRange goal guest machine
   range-machine l =
       sym (ap (λ (b : Bool). ltb goal registers && (ltb guest relations && b))
       (false-of (ltb machine relations) (λ h. let i = ltb→lt machine relations h in omega arith))
@@ -80,19 +80,19 @@ module _ (goal guest machine : ℕ) where
       and-no true false = refl
       and-no false c = refl
 
-  pub range-yes : goal < registers → guest < relations → machine < relations → true ≡ inRange goal guest machine
+  pub range-yes : goal < registers → guest < relations → machine < relations → true ≡ numbersInRange goal guest machine
   range-yes g p m =
-      sym (true-of (inRange goal guest machine)
+      sym (true-of (numbersInRange goal guest machine)
       (and-in (ltb goal registers) _ (lt→ltb goal registers g)
       (and-in (ltb guest relations) _ (lt→ltb guest relations p) (lt→ltb machine relations m))))
 
--- ---- is_fair
+-- ---- is_answerable
 
-pub fair-no : (g q : Bool) {r : Bool} → r ≡ g → r ≡ true → false ≡ (not g && q)
-fair-no g q e t = ap (λ (b : Bool). not b && q) (sym t ∙ e)
+pub answerable-no : (g q : Bool) {r : Bool} → r ≡ g → r ≡ true → false ≡ (not g && q)
+answerable-no g q e t = ap (λ (b : Bool). not b && q) (sym t ∙ e)
 
-pub fair-yes : (g q : Bool) {r p : Bool} → r ≡ g → r ≡ false → p ≡ q → p ≡ (not g && q)
-fair-yes g q e f h = h ∙ ap (λ (b : Bool). not b && q) (sym f ∙ e)
+pub answerable-yes : (g q : Bool) {r p : Bool} → r ≡ g → r ≡ false → p ≡ q → p ≡ (not g && q)
+answerable-yes g q e f h = h ∙ ap (λ (b : Bool). not b && q) (sym f ∙ e)
 
 -- ---- told
 
@@ -103,8 +103,8 @@ module _ (ok : Bool) (n : ℕ) where
   pub told-spent : {w : Watched} → w ≡ watched.Spent → toldOf ok n watched.Spent ≡ toldOf ok n w
   told-spent e = ap (toldOf ok n) (sym e)
 
-  pub told-unfair : (u : ℕ) {w : Watched} → w ≡ watched.Made u → not ok ≡ true → answer.Refused refusal.NoAnswer ≡ toldOf ok n w
-  told-unfair u e t = go ok t ∙ ap (toldOf ok n) (sym e)
+  pub told-unanswerable : (u : ℕ) {w : Watched} → w ≡ watched.Made u → not ok ≡ true → answer.Refused refusal.NoAnswer ≡ toldOf ok n w
+  told-unanswerable u e t = go ok t ∙ ap (toldOf ok n) (sym e)
     where
       go : (ok : Bool) → not ok ≡ true → answer.Refused refusal.NoAnswer ≡ toldOf ok n (watched.Made u)
       go true t = absurd (subst T (sym t) tt)
@@ -132,31 +132,31 @@ module _ (ok : Bool) (n : ℕ) where
 -- ---- the answer, from what was heard
 
 module _ (k : ℕ) (G M : Pairs) (B : List Bool) (s t n : ℕ) (e : k ≡ 2 ^ n) where
-  fair-by : (f ok : Bool) → mem (forced k G M B) s ≡ f → ok ≡ (not (mem B s) && pair G s t) → fair k G M B s t ≡ (f && ok)
-  fair-by f ok i q = ap₂ _&&_ i (sym q)
+  answerable-by : (f ok : Bool) → mem (forced k G M B) s ≡ f → ok ≡ (not (mem B s) && pair G s t) → answerable k G M B s t ≡ (f && ok)
+  answerable-by f ok i q = ap₂ _&&_ i (sym q)
 
-  made-is : (p : Count) (x : ℕ) → Heard k G M B s t x → (ok f : Bool) → ok ≡ (not (mem B s) && pair G s t)
+  made-is : (p : Count) (x : ℕ) → AnswerNoted k G M B s t x → (ok f : Bool) → ok ≡ (not (mem B s) && pair G s t)
       → mem (forced k G M B) s ≡ f
-      → reactedReply (toldOf ok n (watched.Made x)) ≡ reacted (counted p) (fair k G M B s t) (answerTo k G M B s t)
+      → reactedReply (toldOf ok n (watched.Made x)) ≡ reacted (counted p) (answerable k G M B s t) (answerTo k G M B s t)
   made-is p x h false true q i =
-      sym (ap (λ (c : Bool). reacted (counted p) c (answerTo k G M B s t)) (fair-by true false i q))
+      sym (ap (λ (c : Bool). reacted (counted p) c (answerTo k G M B s t)) (answerable-by true false i q))
   made-is p x h false false q i =
-      sym (ap (λ (c : Bool). reacted (counted p) c (answerTo k G M B s t)) (fair-by false false i q))
+      sym (ap (λ (c : Bool). reacted (counted p) c (answerTo k G M B s t)) (answerable-by false false i q))
   made-is p x h true false q i =
       let z : x ≡ k = h .outside i in
       ap (λ (c : Bool). reactedReply (cond c (answer.State x) (answer.Refused refusal.NoAnswer)))
       (false-of (ltb x (2 ^ n)) (λ j. let l = ltb→lt x (2 ^ n) j in omega arith))
-      ∙ sym (ap (λ (c : Bool). reacted (counted p) c (answerTo k G M B s t)) (fair-by false true i q))
+      ∙ sym (ap (λ (c : Bool). reacted (counted p) c (answerTo k G M B s t)) (answerable-by false true i q))
   made-is p x h true true q i =
-      let w = h .found (subst T (sym (fair-by true true i q)) tt) in
+      let w = h .found (subst T (sym (answerable-by true true i q)) tt) in
       let l = w .1 in
       ap (λ (c : Bool). reactedReply (cond c (answer.State x) (answer.Refused refusal.NoAnswer))) (true-of (ltb x (2 ^ n)) (lt→ltb x
       (2 ^ n) (omega arith)))
       ∙ ap valued (w .0)
-      ∙ sym (ap (λ (c : Bool). reacted (counted p) c (answerTo k G M B s t)) (fair-by true true i q))
+      ∙ sym (ap (λ (c : Bool). reacted (counted p) c (answerTo k G M B s t)) (answerable-by true true i q))
 
-  pub reply-is : (ok : Bool) → ok ≡ (not (mem B s) && pair G s t) → {v : Verdict} {w : Watched} → Says (Heard k G M B s t) v w
-      → reactedReply (toldOf ok n w) ≡ reacted v (fair k G M B s t) (answerTo k G M B s t)
+  pub reply-is : (ok : Bool) → ok ≡ (not (mem B s) && pair G s t) → {v : Verdict} {w : Watched} → RoundsSay (AnswerNoted k G M B s t) v w
+      → reactedReply (toldOf ok n w) ≡ reacted v (answerable k G M B s t) (answerTo k G M B s t)
   reply-is ok q is-full = refl
   reply-is ok q is-spent = refl
   reply-is ok q (is-made {q = p} {x = x} h) = made-is p x h ok (mem (forced k G M B) s) q refl
@@ -201,17 +201,17 @@ module _ {old : List ℕ} {goal guest machine x y z s t : ℕ} (p : ReactingPre 
   walk : {c : ℕ} → Arrow (rowsOf W) c → HoldsPre W c
   walk u = record { mark = record { base = sound-base (p .sound); arrow = u }; bits = p .sound .good .sizes .n-max }
 
-  pub fair-asks : {rows : ℕ} → rows ≡ headerOf old ROWS → HoldsPre (view rows old) x × HoldsPre (view rows old) y
-  fair-asks {rows} er = subst (λ (N : ℕ). HoldsPre (view N old) x × HoldsPre (view N old) y) (sym er) (
+  pub answerable-asks : {rows : ℕ} → rows ≡ headerOf old ROWS → HoldsPre (view rows old) x × HoldsPre (view rows old) y
+  answerable-asks {rows} er = subst (λ (N : ℕ). HoldsPre (view N old) x × HoldsPre (view N old) y) (sym er) (
     walk (goal-denotes .arrow),
     walk
         (guest-denotes .arrow),
   )
 
-  fair-is : {rows : ℕ} {ok : Bool} → rows ≡ headerOf old ROWS → ok ≡ fairAt (view rows old) x y s t
+  answerable-is : {rows : ℕ} {ok : Bool} → rows ≡ headerOf old ROWS → ok ≡ answerableAt (view rows old) x y s t
       → ok ≡ (not (mem (goals bk goal) s) && pair (presses bk guest) s t)
-  fair-is {rows} {ok} er e =
-      subst (λ (N : ℕ). ok ≡ fairAt (view N old) x y s t) er e
+  answerable-is {rows} {ok} er e =
+      subst (λ (N : ℕ). ok ≡ answerableAt (view N old) x y s t) er e
       ∙ ap₂ (λ (a c : Bool). not a && c) (set-holds n W (goals bk goal) refl goal-denotes s (p .state))
       (pair-holds n W (presses bk guest) refl guest-denotes s t (p .state) (p .press))
 
@@ -260,7 +260,7 @@ module _ {old : List ℕ} {goal guest machine x y z s t : ℕ} (p : ReactingPre 
       pub freeing : Sound Y
       freeing = post goal guest machine (given eb es) .sound
 
-      pub game-done : {new : List ℕ} {ok : Bool} → ok ≡ fairAt (view rows old) x y s t → FreeManyPost Y (view rows new)
+      pub game-done : {new : List ℕ} {ok : Bool} → ok ≡ answerableAt (view rows old) x y s t → FreeManyPost Y (view rows new)
           → {r : Reacted} → r ≡ toldOf ok bits w → Reacting acc R goal guest machine s t old new (reactedReply r)
       game-done {new} {ok} ef f {r} e =
           let q = post goal guest machine (given eb es) in
@@ -273,5 +273,5 @@ module _ {old : List ℕ} {goal guest machine x y z s t : ℕ} (p : ReactingPre 
             reply = ap reactedReply e
                 ∙ ap (λ (m : ℕ). reactedReply (toldOf ok m w)) eb
                 ∙ reply-is (2 ^ n) (presses bk guest) (reactions bk machine)
-                (goals bk goal) s t n refl ok (fair-is er ef) (q .says);
+                (goals bk goal) s t n refl ok (answerable-is er ef) (q .says);
           }

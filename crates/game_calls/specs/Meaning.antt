@@ -7,7 +7,7 @@ use Prim.Native.Nat.{ℕ, _^_}
 use Rattle.mucalculus.specs.Form.{inside}
 use Rattle.book.specs.BookOf.{bookOf}
 use Rattle.contract.specs.Seen.{seen}
-use Rattle.games.specs.Game.{fair}
+use Rattle.games.specs.Game.{answerable}
 use Rattle.games.specs.Meaning.{ForcedSet, AnswerIs}
 
 -- after an answered first call register r holds the set of the game that stood in the words
@@ -26,5 +26,5 @@ pub record ReactMeant (goal guest machine s t : ℕ) (old : List ℕ) (number va
       → AnswerIs (2 ^ bookOf (seen old) .n) (inside (bookOf (seen old) .rel guest)) (inside (bookOf (seen old) .rel machine))
       (inside (bookOf (seen old) .reg goal)) set s t value
   pub no-answer : number ≡ 15
-      → fair (2 ^ bookOf (seen old) .n) (inside (bookOf (seen old) .rel guest)) (inside (bookOf (seen old) .rel machine))
+      → answerable (2 ^ bookOf (seen old) .n) (inside (bookOf (seen old) .rel guest)) (inside (bookOf (seen old) .rel machine))
       (inside (bookOf (seen old) .reg goal)) s t ≡ false

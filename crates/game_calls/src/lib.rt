@@ -22,8 +22,8 @@ ghost use Rattle.layout.specs.View.{view};
 ghost use Rattle.seek.specs.Walk.{HoldsPre};
 ghost use Rattle.contract.specs.Posts.{CallPost};
 ghost use Rattle.formula_steps.specs.Replies.{storedReply};
-ghost use Rattle.games.specs.Call.{inRange, gameBytes, gameCall};
-ghost use Rattle.game_calls.specs.Reacting.{fairAt, toldOf, reactedReply, NamedPre, ReactingPre, Reacting};
+ghost use Rattle.games.specs.Call.{numbersInRange, gameBytes, gameCall};
+ghost use Rattle.game_calls.specs.Reacting.{answerableAt, toldOf, reactedReply, NamedPre, ReactingPre, Reacting};
 ghost use Rattle.game_calls.specs.Post.{ReactPost};
 
 // What the second call answers: the state that the machine's move leads to.
@@ -45,7 +45,7 @@ fn game_bytes(goal: u32, guest: u32, machine: u32) -> [u8; 12]
 
 // Whether there are such a register and such relations.
 fn in_range(goal: u32, guest: u32, machine: u32) -> bool
-    ensures { λ r. ⌜ r ≡ inRange goal guest machine ⌝ }
+    ensures { λ r. ⌜ r ≡ numbersInRange goal guest machine ⌝ }
 {
     if goal >= Table::REGISTERS {
         return false;
@@ -84,9 +84,9 @@ pub fn force(
 }
 
 // Whether the press is a guest move of a state outside the goal, by their arrows.
-fn is_fair(words: &[u32], rows: u32, goal: u32, guest: u32, state: u32, press: u32) -> bool
+fn is_answerable(words: &[u32], rows: u32, goal: u32, guest: u32, state: u32, press: u32) -> bool
     requires { ⌜ HoldsPre (view rows (now words)) goal × HoldsPre (view rows (now words)) guest ⌝ }
-    ensures { λ r. ⌜ r ≡ fairAt (view rows (now (words .entry))) goal guest state press ⌝ }
+    ensures { λ r. ⌜ r ≡ answerableAt (view rows (now (words .entry))) goal guest state press ⌝ }
 {
     if holds(words, rows, goal, state, 0) {
         return false;
@@ -95,15 +95,15 @@ fn is_fair(words: &[u32], rows: u32, goal: u32, guest: u32, state: u32, press: u
 }
 
 // What is answered when the rounds have ended: 15 is decided once the set is made.
-fn told(fair: bool, bits: u32, watched: Watched) -> Reacted
+fn told(answerable: bool, bits: u32, watched: Watched) -> Reacted
     requires { ⌜ bits ≤ 16 ⌝ }
-    ensures { λ r. ⌜ r ≡ toldOf fair bits watched ⌝ }
+    ensures { λ r. ⌜ r ≡ toldOf answerable bits watched ⌝ }
 {
     match watched {
         Watched::Full => Reacted::Refused(Refusal::Full),
         Watched::Spent => Reacted::Refused(Refusal::Spent),
         Watched::Made(u) => {
-            if !fair {
+            if !answerable {
                 return Reacted::Refused(Refusal::NoAnswer);
             }
             if u < 1u32 << bits {
@@ -139,7 +139,7 @@ fn reacting(
         limit: rows_under(rows, terms),
         rounds: rounds_under(most, terms),
     };
-    let fair = is_fair(words, rows, x, y, state, press);
+    let answerable = is_answerable(words, rows, x, y, state, press);
     let bytes = game_bytes(goal, guest, machine);
     let asked = Asked {
         machine: z,
@@ -148,7 +148,7 @@ fn reacting(
     };
     let watched = watch_rounds(words, limits, &bytes, asked);
     free_many(words, rows);
-    told(fair, bits, watched)
+    told(answerable, bits, watched)
 }
 
 // The second call where there are such numbers and the account named: 7 where a register or relation is empty, else the rounds.

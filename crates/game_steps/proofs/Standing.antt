@@ -54,11 +54,12 @@ use Rattle.paths.proofs.First.{first-same}
 use Rattle.seek.specs.Walk.{holdsAt}
 use Rattle.seek.specs.Search.{nextIn}
 use Rattle.layers.proofs.Pass.{holds-pre}
-use Rattle.games.specs.Game.{forcing, forced, after as sets}
+use Rattle.games.specs.Game.{forcing, forced, setAfter}
 use Rattle.games.specs.Call.{bodyForm}
 use Rattle.games.proofs.Rounds.{Noted, noted-none, noting, noted-next, after-size, after-found, still-below, not-out}
 use Rattle.games.proofs.Formula.{body-steady, body-means}
-use Rattle.game_steps.specs.Watch.{noteBy, NotePre, haltedOf, Plays, WatchPre, Heard, AnswerOf, is-made, is-full, is-spent, Watches}
+use Rattle.game_steps.specs.Watch.{noteBy, NotePre, haltedOf, Plays, WatchPre, AnswerNoted, AnswerOf, is-made, is-full, is-spent}
+use Rattle.game_steps.specs.Watch.{Watches}
 use Rattle.game_steps.specs.Watch.{WatchPost}
 use Rattle.game_steps.specs.declared.Asked.{Asked}
 use Rattle.game_steps.specs.declared.Watched.{Watched}
@@ -116,7 +117,7 @@ pub record Standing (L : Limits) (W X : View) (stack now : List ℕ)
   pub bound : Bound L W X stack now 0 nothing σ Mu 0 (bodyForm goal guest machine) current count
   pub round : ℕ
   pub set-is : bound .turning .A
-      ≡ sets (2 ^ L .bits) (inside (σ .rel guest)) (inside (σ .rel machine)) (inside (σ .reg goal)) round
+      ≡ setAfter (2 ^ L .bits) (inside (σ .rel guest)) (inside (σ .rel machine)) (inside (σ .reg goal)) round
   pub noted-is : Noted (2 ^ L .bits) (inside (σ .rel guest)) (inside (σ .rel machine)) (inside (σ .reg goal)) (a .state)
       (a .press) round noted
 
@@ -204,10 +205,10 @@ module _ {L : Limits} {W : View} {stack bs : List ℕ} {a : Asked} {σ : Scene} 
         value = r;
         last = last;
         answers = bind-stops (P .ready) (S .bound) z room answered more h;
-        told = subst (AnswerOf (Heard k G M B (a .state) (a .press)) r) (sym q) (go r h);
+        told = subst (AnswerOf (AnswerNoted k G M B (a .state) (a .press)) r) (sym q) (go r h);
       }
         where
-          go : (r : Evaluated) → Halts r → AnswerOf (Heard k G M B (a .state) (a .press)) r (haltedOf r)
+          go : (r : Evaluated) → Halts r → AnswerOf (AnswerNoted k G M B (a .state) (a .press)) r (haltedOf r)
           go (Value b j q) h = absurd (⊎-elim (λ x. omega arith) (λ x. omega arith) h)
           go Full h = is-full
           go Spent h = is-spent
@@ -220,12 +221,12 @@ module _ {L : Limits} {W : View} {stack bs : List ℕ} {a : Asked} {σ : Scene} 
             (runIn true L σ′ f (another count)) (endedOf y)) is (answered .evals)
 
         -- the round's value is the next set
-        next-denotes : Denotes (2 * L .bits) (rowsOf Y) b (fnOf (L .bits) (sets k G M B (suc (S .round))))
+        next-denotes : Denotes (2 * L .bits) (rowsOf Y) b (fnOf (L .bits) (setAfter k G M B (suc (S .round))))
         next-denotes =
             let w = evals-value (runIn true L σ′ f (another count)) evals in
             let t = run-ticks (L .limit) (L .rounds) (modelIn (L .bits) σ) (put (σ .env) 0 (S .bound .turning .A))
             (fnOf (L .bits) (S .bound .turning .A) ∷ σ .fns) f (another count) (body-steady goal guest machine) in
-            let e : w .0 ≡ sets k G M B (suc (S .round)) = settle-value
+            let e : w .0 ≡ setAfter k G M B (suc (S .round)) = settle-value
             (means (modelIn (L .bits) σ) (put (σ .env) 0 (S .bound .turning .A)) f)
             (verdict (L .limit) (L .rounds) (another count)
             (ticks (states (modelIn (L .bits) σ) (put (σ .env) 0 (S .bound .turning .A))) (fnOf (L .bits)
@@ -235,7 +236,7 @@ module _ {L : Limits} {W : View} {stack bs : List ℕ} {a : Asked} {σ : Scene} 
             subst (λ (A : List Bool). Denotes (2 * L .bits) (rowsOf Y) b (fnOf (L .bits) A)) e (w .2)
 
         -- and the one before stands as it was
-        last-denotes : Denotes (2 * L .bits) (rowsOf Y) current (fnOf (L .bits) (sets k G M B (S .round)))
+        last-denotes : Denotes (2 * L .bits) (rowsOf Y) current (fnOf (L .bits) (setAfter k G M B (S .round)))
         last-denotes =
             subst (λ (A : List Bool). Denotes (2 * L .bits) (rowsOf Y) current (fnOf (L .bits) A)) (S .set-is)
             (keeps-denotes (evals .kept) (here refl) (S .bound .turning .denotes))
@@ -246,20 +247,20 @@ module _ {L : Limits} {W : View} {stack bs : List ℕ} {a : Asked} {σ : Scene} 
           value = Value b j q;
           last = last;
           answers = bind-ends (P .ready) (S .bound) z room answered more is h;
-          told = is-made heard;
+          told = is-made answer-noted;
         }
           where
-            rests : sets k G M B (suc (S .round)) ≡ sets k G M B (S .round)
+            rests : setAfter k G M B (suc (S .round)) ≡ setAfter k G M B (S .round)
             rests =
-                one-set (L .bits) _ _ (subst (λ (x : ℕ). Denotes (2 * L .bits) (rowsOf Y) x (fnOf (L .bits) (sets k G M B (suc
+                one-set (L .bits) _ _ (subst (λ (x : ℕ). Denotes (2 * L .bits) (rowsOf Y) x (fnOf (L .bits) (setAfter k G M B (suc
                 (S .round))))) h
                 next-denotes) last-denotes (after-size k G M B (suc (S .round))) (after-size k G M B (S .round))
 
-            done : sets k G M B (S .round) ≡ forced k G M B
+            done : setAfter k G M B (S .round) ≡ forced k G M B
             done = after-found k G M B (S .round) rests
 
-            heard : Heard k G M B (a .state) (a .press) noted
-            heard = record {
+            answer-noted : AnswerNoted k G M B (a .state) (a .press) noted
+            answer-noted = record {
               outside = λ out. S .noted-is .not-yet (λ p. subst T out (subst (λ (A : List Bool). T (mem A (a .state))) done p));
               found = λ t.
                   let x = and-out (mem (forced k G M B) (a .state)) _ t in
@@ -295,13 +296,13 @@ module _ {L : Limits} {W : View} {stack bs : List ℕ} {a : Asked} {σ : Scene} 
             note-is : noteBy (L .bits) Y a noted current b ≡ noting k G M B (a .state) (a .press) (S .round) noted
             note-is =
                 let e = ready′ .base .ready .levels-is in
-                let last-test = set-holds (L .bits) Y (sets k G M B (S .round)) e last-denotes in
+                let last-test = set-holds (L .bits) Y (setAfter k G M B (S .round)) e last-denotes in
                 ap (λ (c : Bool). cond c noted
                 (cond (holdsAt Y b (a .state) 0) (firstOf k (nextIn Y (a .machine) (a .press) current)) noted))
                 (last-test (a .state) (P .state))
-                ∙ ap₂ (λ (c : Bool) (x : ℕ). cond (mem (sets k G M B (S .round)) (a .state)) noted (cond c x noted))
-                (set-holds (L .bits) Y (sets k G M B (suc (S .round))) e next-denotes (a .state) (P .state))
-                (first-same k (nextIn Y (a .machine) (a .press) current) (λ u. pair M (a .press) u && mem (sets k G M B (S .round)) u)
+                ∙ ap₂ (λ (c : Bool) (x : ℕ). cond (mem (setAfter k G M B (S .round)) (a .state)) noted (cond c x noted))
+                (set-holds (L .bits) Y (setAfter k G M B (suc (S .round))) e next-denotes (a .state) (P .state))
+                (first-same k (nextIn Y (a .machine) (a .press) current) (λ u. pair M (a .press) u && mem (setAfter k G M B (S .round)) u)
                 (λ u l. ap₂ _&&_ (pair-holds (L .bits) Y M e machine-denotes (a .press) u (P .press) l) (last-test u l)))
 
             pub watch-turns : {x : ℕ} → x ≡ noteBy (L .bits) Y a noted current b → Standing L W Y stack last a σ goal guest machine x b q
@@ -315,12 +316,13 @@ module _ {L : Limits} {W : View} {stack bs : List ℕ} {a : Asked} {σ : Scene} 
                   (noted-next k G M B (S .noted-is) (still-below k G M B (S .round) grew));
             }
               where
-                grew : sets k G M B (suc (S .round)) ≢ sets k G M B (S .round)
+                grew : setAfter k G M B (suc (S .round)) ≢ setAfter k G M B (S .round)
                 grew same-set =
-                    let d = arrow-apart (L .bits) (L .rows) (evals .wf) (sets k G M B (S .round)) (sets k G M B (suc
+                    let d = arrow-apart (L .bits) (L .rows) (evals .wf) (setAfter k G M B (S .round)) (setAfter k G M B (suc
                     (S .round))) last-denotes
                     next-denotes differs in
-                    subst T d (subst (λ (A : List Bool). T (same A (sets k G M B (S .round)))) (sym same-set) (same-refl (sets k G M B
+                    subst T d (subst (λ (A : List Bool). T (same A (setAfter k G M B (S .round)))) (sym same-set)
+                    (same-refl (setAfter k G M B
                     (S .round))))
 
             pub watch-less : count .rounds < q .rounds

@@ -40,15 +40,15 @@ use Rattle.evaluator.proofs.Starts.{sceneIn, start-base, start-scene}
 use Rattle.games.specs.Call.{bodyForm, gameForm}
 use Rattle.games.proofs.Formula.{body-read, body-bound, game-steady}
 use Rattle.games.proofs.Call.{filled-all}
-use Rattle.game_steps.specs.Watch.{Plays, WatchPre, WatchPost, Heard, AnswerOf}
+use Rattle.game_steps.specs.Watch.{Plays, WatchPre, WatchPost, AnswerNoted, AnswerOf}
 use Rattle.game_steps.specs.Watch.{is-made as value-made, is-full as value-full, is-spent as value-spent}
-use Rattle.game_steps.specs.Whole.{Given, RoundsPre, RoundsPost, Says, is-made, is-full, is-spent}
+use Rattle.game_steps.specs.Whole.{Given, RoundsPre, RoundsPost, RoundsSay, is-made, is-full, is-spent}
 use Rattle.game_steps.specs.declared.Asked.{Asked}
 use Rattle.game_steps.specs.declared.Watched.{Watched}
 
 -- the run's outcome is the verdict's
 says-verdict : {P : ℕ → Type 0} (lv : List Bool → Fn) (n : ℕ) (rows : Rows) (A : List Bool) (v : Verdict) {y : Evaluated} {r : Watched}
-    → AnswerOf P y r → MatchesBy lv n rows (settle A v) (endedOf y) → Says P v r
+    → AnswerOf P y r → MatchesBy lv n rows (settle A v) (endedOf y) → RoundsSay P v r
 says-verdict lv n rows A (counted q) (value-made h) m = is-made h
 says-verdict lv n rows A full (value-made h) m = absurd m
 says-verdict lv n rows A spent (value-made h) m = absurd m
@@ -99,7 +99,8 @@ module _ {L : Limits} {W : View} {bs : List ℕ} {a : Asked} (p : RoundsPre L W 
       let form = gameForm goal guest machine in
       let steadily : T (steady form) = subst T (sym (game-steady goal guest machine)) tt in
       let same = run-ticks (L .limit) (L .rounds) (modelIn (L .bits) (sceneIn W)) noEnv (liveOf (bookIn W)) form nothing steadily in
-      let v : Says (Heard (2 ^ L .bits) (inside (bookIn W .rel guest)) (inside (bookIn W .rel machine)) (inside (bookIn W .reg goal))
+      let v : RoundsSay (AnswerNoted (2 ^ L .bits) (inside (bookIn W .rel guest)) (inside (bookIn W .rel machine))
+      (inside (bookIn W .reg goal))
       (a .state) (a .press))
       (verdict (L .limit) (L .rounds) nothing (ticks (states (modelIn (L .bits) (sceneIn W)) noEnv) (liveOf
       (bookIn W)) form)) r = says-verdict
@@ -112,8 +113,8 @@ module _ {L : Limits} {W : View} {bs : List ℕ} {a : Asked} (p : RoundsPre L W 
         frame = op-trans frame (w .answers .moved .frame);
         kept = keeps-within (filled-root W)
             (subst (λ (t : Rows). Keeps t (rowsOf Y) (rootsOf (seenIn W))) (rows-same (f .frame)) (w .answers .evals .kept));
-        says = subst (λ (n : ℕ). Says
-            (Heard (2 ^ n) (inside (bookIn W .rel guest)) (inside (bookIn W .rel machine)) (inside (bookIn W .reg goal)) (a .state)
+        says = subst (λ (n : ℕ). RoundsSay
+            (AnswerNoted (2 ^ n) (inside (bookIn W .rel guest)) (inside (bookIn W .rel machine)) (inside (bookIn W .reg goal)) (a .state)
             (a .press))
             (verdict (L .limit) (L .rounds) nothing (ticks (states (modelIn n (sceneIn W)) noEnv) (liveOf (bookIn W)) form)) r)
             (p .bits) v;

@@ -21,7 +21,7 @@ use Rattle.evaluator.specs.declared.Evaluated.the-variants as answer
 use Rattle.paths.specs.Runs.{firstOf}
 use Rattle.seek.specs.Walk.{HoldsPre, holdsAt}
 use Rattle.seek.specs.Search.{nextIn}
-use Rattle.games.specs.Game.{forced, answerTo, fair}
+use Rattle.games.specs.Game.{forced, answerTo, answerable}
 use Rattle.games.specs.Call.{bodyForm, gameForm}
 use Rattle.game_steps.specs.declared.Asked.{Asked}
 use Rattle.game_steps.specs.declared.Watched.{Watched}
@@ -68,10 +68,10 @@ pub record WatchPre (L : Limits) (W : View) (stack bs : List ℕ) (a : Asked) : 
   pub machine : ℕ
   pub plays : Plays L W stack bs a scene goal guest machine
 
--- what is noted when the set is made, of the state s and the press t: k where s is not in the set; the answer, where it is fair to ask
-pub record Heard (k : ℕ) (G M : Pairs) (B : List Bool) (s t x : ℕ) : Type 0 where
+-- what is noted when the set is made, of the state s and the press t: k where s is not in the set; the answer, where there is one
+pub record AnswerNoted (k : ℕ) (G M : Pairs) (B : List Bool) (s t x : ℕ) : Type 0 where
   pub outside : mem (forced k G M B) s ≡ false → x ≡ k
-  pub found : T (fair k G M B s t) → (x ≡ answerTo k G M B s t) × (x < k)
+  pub found : T (answerable k G M B s t) → (x ≡ answerTo k G M B s t) × (x < k)
 
 -- the rounds' answer: what was noted, where the set is made
 pub data AnswerOf (P : ℕ → Type 0) : Evaluated → Watched → Type 0 where
@@ -86,7 +86,7 @@ pub record Watches (L : Limits) (W X : View) (stack : List ℕ) (a : Asked) (σ 
   pub last : List ℕ
   pub answers : Answers true L W X stack last 0 nothing σ (gameForm goal guest machine) 12 value
   pub told : AnswerOf
-      (Heard (2 ^ L .bits) (inside (σ .rel guest)) (inside (σ .rel machine)) (inside (σ .reg goal)) (a .state) (a .press)) value r
+      (AnswerNoted (2 ^ L .bits) (inside (σ .rel guest)) (inside (σ .rel machine)) (inside (σ .reg goal)) (a .state) (a .press)) value r
 
 -- what they promise, of every game whose scene words and stack hold
 abbrev pub WatchPost : Limits → View → View → List ℕ → List ℕ → Asked → Watched → Type 0

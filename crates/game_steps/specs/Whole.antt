@@ -19,7 +19,7 @@ use Rattle.book.specs.Book.{modelOf, liveOf, registers, relations}
 use Rattle.modal.specs.declared.Limits.{Limits}
 use Rattle.evaluator.specs.Whole.{bookIn}
 use Rattle.games.specs.Call.{gameForm, gameBytes, presses, reactions, goals, allFilled}
-use Rattle.game_steps.specs.Watch.{Heard}
+use Rattle.game_steps.specs.Watch.{AnswerNoted}
 use Rattle.game_steps.specs.declared.Asked.{Asked}
 use Rattle.game_steps.specs.declared.Watched.{Watched}
 use Rattle.game_steps.specs.declared.Watched.the-variants as watched
@@ -47,18 +47,18 @@ pub record RoundsPre (L : Limits) (W : View) (bs : List ℕ) (a : Asked) : Type 
   pub given : Given L W bs a goal guest machine
 
 -- the verdict of the steps, and what was noted where all are counted
-pub data Says (P : ℕ → Type 0) : Verdict → Watched → Type 0 where
-  is-made : {q : Count} {x : ℕ} → P x → Says P (counted q) (watched.Made x)
-  is-full : Says P full watched.Full
-  is-spent : Says P spent watched.Spent
+pub data RoundsSay (P : ℕ → Type 0) : Verdict → Watched → Type 0 where
+  is-made : {q : Count} {x : ℕ} → P x → RoundsSay P (counted q) (watched.Made x)
+  is-full : RoundsSay P full watched.Full
+  is-spent : RoundsSay P spent watched.Spent
 
 -- a sound table, nothing touched but unneeded rows, the index and remembered results, and the book's verdict
 pub record Rounds (L : Limits) (W X : View) (a : Asked) (goal guest machine : ℕ) (r : Watched) : Type 0 where
   pub sound : Sound X
   pub frame : OpFrame W X
   pub kept : Keeps (rowsOf W) (rowsOf X) (filled W)
-  pub says : Says
-      (Heard (2 ^ bookIn W .n) (presses (bookIn W) guest) (reactions (bookIn W) machine)
+  pub says : RoundsSay
+      (AnswerNoted (2 ^ bookIn W .n) (presses (bookIn W) guest) (reactions (bookIn W) machine)
       (goals (bookIn W) goal) (a .state) (a .press))
       (verdict (L .limit) (L .rounds) nothing (ticks (states (modelOf (bookIn W)) noEnv) (liveOf (bookIn W))
       (gameForm goal guest machine))) r

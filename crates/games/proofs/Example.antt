@@ -11,8 +11,8 @@ use Rattle.accounts.specs.Terms.{alone}
 use Rattle.book.specs.Book.{Book, does}
 use Rattle.book.specs.Leaves.{plain, valued}
 use Rattle.book.proofs.Compute.{computing}
-use Rattle.games.specs.Game.{forced, enters, answerTo, fair}
-use Rattle.games.specs.Call.{gameCall, forcedIn, forces, reacts}
+use Rattle.games.specs.Game.{forced, enters, answerTo, answerable}
+use Rattle.games.specs.Call.{gameCall, forcedIn, forceDone, reacts}
 
 abbrev set : Bool → Bool → Bool → Bool → List Bool
 set a b c d = a ∷ b ∷ c ∷ d ∷ []
@@ -54,15 +54,15 @@ pub not-its-own-round : answerTo 4 stays lingers top 2 2 ≡ 3
 not-its-own-round = refl
 
 -- "for a state of the set outside the goal and a guest move"
-pub asked-well : fair 4 stays climbs top 2 2 ≡ true
+pub asked-well : answerable 4 stays climbs top 2 2 ≡ true
 unfolding bitLists
 asked-well = refl
 
-pub goal-is-not-asked : fair 4 stays climbs top 3 3 ≡ false
+pub goal-is-not-asked : answerable 4 stays climbs top 3 3 ≡ false
 unfolding bitLists
 goal-is-not-asked = refl
 
-pub no-guest-move : fair 4 stays climbs top 2 1 ≡ false
+pub no-guest-move : answerable 4 stays climbs top 2 1 ≡ false
 unfolding bitLists
 no-guest-move = refl
 
@@ -116,7 +116,7 @@ pub into-the-goal : does room (gameCall alone 0 3 0 0 1) .0 .reg 0 ≡ some (tru
 unfolding computing bitLists
 into-the-goal = refl
 
-pub said-alike : forces room 0 0 1 alone 0 3 .0 .reg 0 ≡ some (true ∷ true ∷ [])
+pub said-alike : forceDone room 0 0 1 alone 0 3 .0 .reg 0 ≡ some (true ∷ true ∷ [])
 unfolding computing bitLists
 said-alike = refl
 

@@ -16,12 +16,12 @@ use Rattle.book.specs.Ticks.{Verdict, counted, full, spent}
 use Rattle.book.specs.Book.{Book, Done, registers, refuse, ended, setDone, does}
 use Rattle.book.specs.Stored.{Whole}
 use Rattle.book.specs.Leaves.{plain}
-use Rattle.games.specs.Game.{forced, enters, answerTo, fair}
-use Rattle.games.specs.Call.{inRange, gameCall, presses, reactions, goals, forcedIn, gameVerdict, allFilled, reacted}
+use Rattle.games.specs.Game.{forced, enters, answerTo, answerable}
+use Rattle.games.specs.Call.{numbersInRange, gameCall, presses, reactions, goals, forcedIn, gameVerdict, allFilled, reacted}
 use Rattle.games.specs.Call.{reacts}
 use Rattle.games.specs.Meaning.{ForcedSet, AnswerIs}
 use Rattle.games.proofs.Rounds.{forced-least, not-out, answer-good, answer-least}
-use Rattle.games.proofs.Plays.{machine, machine-forces, guest, guest-stays}
+use Rattle.games.proofs.Plays.{machineStrategy, machine-forces, guestStrategy, guest-stays}
 use Rattle.games.proofs.Only.{force-only}
 use Rattle.games.proofs.Call.{force-does, near}
 
@@ -29,15 +29,15 @@ use Rattle.games.proofs.Call.{force-does, near}
 pub forced-set : (k : ℕ) (G M : Pairs) (B : List Bool) → ForcedSet k G M B (forced k G M B)
 forced-set k G M B = record {
   least = forced-least k G M B;
-  machine-can = λ s p. (machine k G M B, enters k G M B s, machine-forces k G M B s p);
-  only = λ s l h most F. force-only k G M B h most s l F;
-  guest-can = λ s l p. (guest k G M B, guest-stays k G M B s l p);
+  machine-can = λ s p. (machineStrategy k G M B, enters k G M B s, machine-forces k G M B s p);
+  only = λ s l h bound F. force-only k G M B h bound s l F;
+  guest-can = λ s l p. (guestStrategy k G M B, guest-stays k G M B s l p);
 }
 
 -- WHAT THE SECOND CALL ANSWERS
-pub fair-answer : (k : ℕ) (G M : Pairs) (B : List Bool) (s t : ℕ) → t < k → T (fair k G M B s t)
+pub answer-is : (k : ℕ) (G M : Pairs) (B : List Bool) (s t : ℕ) → t < k → T (answerable k G M B s t)
     → AnswerIs k G M B (forced k G M B) s t (answerTo k G M B s t)
-fair-answer k G M B s t l p =
+answer-is k G M B s t l p =
     let x = and-out (mem (forced k G M B) s) _ p in
     let y = and-out (not (mem B s)) _ (x .1) in
     let g = answer-good k G M B s t l (not-out (mem B s) (y .0)) (y .1) (x .0) in
@@ -100,7 +100,7 @@ module _ (b : Book) (goal guest machine : ℕ) where
   force-stores w acc r R e =
       let same = force-does b w acc r R goal guest machine in
       ap (λ (d : Done). d .0 .reg r) same
-      ∙ stored-by (inRange goal guest machine && ltb r registers) (named acc) (allFilled b goal guest machine)
+      ∙ stored-by (numbersInRange goal guest machine && ltb r registers) (named acc) (allFilled b goal guest machine)
       (gameVerdict b goal guest machine acc R) r (sym (ap (λ (d : Done). d .1 .number) same) ∙ e)
 
   pub react-answers : (acc : Terms) (R s t : ℕ) → reacts b goal guest machine acc R s t .number ≡ 0
@@ -111,20 +111,20 @@ module _ (b : Book) (goal guest machine : ℕ) where
       let G = presses b guest in
       let M = reactions b machine in
       let B = goals b goal in
-      let w = told-by (near b acc R goal guest machine s t) (named acc) (allFilled b goal guest machine) (fair k G M B s t)
+      let w = told-by (near b acc R goal guest machine s t) (named acc) (allFilled b goal guest machine) (answerable k G M B s t)
       (gameVerdict b goal guest machine acc R) (answerTo k G M B s t) e in
-      let x = and-out (inRange goal guest machine) _ (subst T (sym (w .0)) tt) in
+      let x = and-out (numbersInRange goal guest machine) _ (subst T (sym (w .0)) tt) in
       let y = and-out (ltb s k) _ (x .1) in
       subst (AnswerIs k G M B (forcedIn b goal guest machine) s t) (sym (w .2))
-      (fair-answer k G M B s t (ltb→lt t k (y .1)) (subst T (sym (w .1)) tt))
+      (answer-is k G M B s t (ltb→lt t k (y .1)) (subst T (sym (w .1)) tt))
 
   -- "15, the state is in the goal or outside the set, or the press is no guest move"
   pub react-fifteen : (acc : Terms) (R s t : ℕ) → reacts b goal guest machine acc R s t .number ≡ 15
-      → fair (2 ^ b .n) (presses b guest) (reactions b machine) (goals b goal) s t ≡ false
+      → answerable (2 ^ b .n) (presses b guest) (reactions b machine) (goals b goal) s t ≡ false
   react-fifteen acc R s t e =
       let k = 2 ^ b .n in
       let G = presses b guest in
       let M = reactions b machine in
       let B = goals b goal in
-      fifteen-by (near b acc R goal guest machine s t) (named acc) (allFilled b goal guest machine) (fair k G M B s t)
+      fifteen-by (near b acc R goal guest machine s t) (named acc) (allFilled b goal guest machine) (answerable k G M B s t)
       (gameVerdict b goal guest machine acc R) (answerTo k G M B s t) e

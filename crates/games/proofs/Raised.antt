@@ -18,8 +18,8 @@ use Rattle.book.specs.Table.{Reply}
 use Rattle.book.specs.Leaves.{plain}
 use Rattle.book.specs.Raised.{Eased, withRowCount}
 use Rattle.book.proofs.Larger.{verdict-more}
-use Rattle.games.specs.Game.{fair, answerTo}
-use Rattle.games.specs.Call.{gameForm, gameVerdict, presses, reactions, goals, inRange, allFilled, reacted, reacts}
+use Rattle.games.specs.Game.{answerable, answerTo}
+use Rattle.games.specs.Call.{gameForm, gameVerdict, presses, reactions, goals, numbersInRange, allFilled, reacted, reacts}
 
 -- neither 8 nor 9
 abbrev pub Firm : Reply → Type 0
@@ -47,9 +47,9 @@ pub reacts-more : (M : ℕ) (b : Book) → b .N ≤ M → (acc acc′ : Terms) �
     → reacts (withRowCount b M) goal guest machine acc′ R′ s t ≡ reacts b goal guest machine acc R s t
 reacts-more M b l acc acc′ e R R′ i goal guest machine s t f =
     let k = 2 ^ b .n in
-    let ok = fair k (presses b guest) (reactions b machine) (goals b goal) s t in
+    let ok = answerable k (presses b guest) (reactions b machine) (goals b goal) s t in
     let u = answerTo k (presses b guest) (reactions b machine) (goals b goal) s t in
-    let near = inRange goal guest machine && (ltb s k && ltb t k) in
+    let near = numbersInRange goal guest machine && (ltb s k && ltb t k) in
     let less = e .rows in
     let fewer = e .rounds in
     let kept : (q : Count) → gameVerdict b goal guest machine acc R ≡ counted q → gameVerdict

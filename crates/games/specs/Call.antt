@@ -13,7 +13,7 @@ use Rattle.book.specs.Ticks.{ticks, Verdict, counted, full, spent, verdict}
 use Rattle.book.specs.Book.{Book, Call, set, Done, registers, relations, modelOf, liveOf, regFilled, relFilled, refuse, ended, setDone}
 use Rattle.book.specs.Table.{Reply}
 use Rattle.book.specs.Leaves.{plain, valued}
-use Rattle.games.specs.Game.{forced, answerTo, fair}
+use Rattle.games.specs.Game.{forced, answerTo, answerable}
 
 -- ---- the formula
 
@@ -31,14 +31,14 @@ gameBytes goal guest machine =
     0 ∷ 10 ∷ 1 ∷ 0x70 ∷ 0x04 ∷ (0x40 + goal) ∷ 0x03 ∷ (0x60 + guest) ∷ (0x68 + machine) ∷ 0x30 ∷ (0x68 + guest) ∷ 0x01 ∷ []
 
 -- there are such a register and such relations
-abbrev pub inRange : ℕ → ℕ → ℕ → Bool
-inRange goal guest machine = ltb goal registers && (ltb guest relations && ltb machine relations)
+abbrev pub numbersInRange : ℕ → ℕ → ℕ → Bool
+numbersInRange goal guest machine = ltb goal registers && (ltb guest relations && ltb machine relations)
 
 -- ---- the first call
 
 -- the register of the set call that it is: none where a number is out of range, so that 3 is given
 abbrev pub gameTarget : ℕ → ℕ → ℕ → ℕ → ℕ
-gameTarget r goal guest machine = cond (inRange goal guest machine) r registers
+gameTarget r goal guest machine = cond (numbersInRange goal guest machine) r registers
 
 -- "The first call may stand in the third demand's list as a set"
 abbrev pub gameCall : Terms → ℕ → ℕ → ℕ → ℕ → ℕ → Call
@@ -54,7 +54,7 @@ reactions b machine = inside (b .rel machine)
 abbrev pub goals : Book → ℕ → List Bool
 goals b goal = inside (b .reg goal)
 
--- the second call's reply when the rounds have ended: 8 and 9 by the steps; the answer u where it is fair to ask, and "15, the state is in
+-- the second call's reply when the rounds have ended: 8 and 9 by the steps; the answer u where there is one, and "15, the state is in
 -- the goal or outside the set, or the press is no guest move, decided once the set is made"
 abbrev pub reacted : Verdict → Bool → ℕ → Reply
 reacted full ok u = plain 8
@@ -78,12 +78,12 @@ module _ (b : Book) (goal guest machine : ℕ) where
   allFilled = regFilled b goal && (relFilled b guest && relFilled b machine)
 
   -- "store, as a set call with its account and R does": 3, 14, 7, then the steps
-  abbrev pub forces : Terms → ℕ → ℕ → Done
-  forces acc r R =
+  abbrev pub forceDone : Terms → ℕ → ℕ → Done
+  forceDone acc r R =
       let stored = ended b (gameVerdict acc R) (λ q. setDone b r forcedIn q) in
       let filled = cond allFilled stored (refuse b 7) in
       let listed = cond (named acc) filled (refuse b 14) in
-      cond (inRange goal guest machine && ltb r registers) listed (refuse b 3)
+      cond (numbersInRange goal guest machine && ltb r registers) listed (refuse b 3)
 
   -- ---- the second call
 
@@ -94,7 +94,7 @@ module _ (b : Book) (goal guest machine : ℕ) where
       let G = presses b guest in
       let M = reactions b machine in
       let B = goals b goal in
-      let told = reacted (gameVerdict acc R) (fair k G M B s t) (answerTo k G M B s t) in
+      let told = reacted (gameVerdict acc R) (answerable k G M B s t) (answerTo k G M B s t) in
       let filled = cond allFilled told (plain 7) in
       let listed = cond (named acc) filled (plain 14) in
-      cond (inRange goal guest machine && (ltb s k && ltb t k)) listed (plain 3)
+      cond (numbersInRange goal guest machine && (ltb s k && ltb t k)) listed (plain 3)
