@@ -1,7 +1,7 @@
 /*
- * A bar at closing time. A guest presses buttons on a phone, and after each press the machine reacts once. From which states can the machine
- * see to it that the room comes to be closed, locked with microphone and echo off, whatever the guest presses? How does it answer the presses
- * of an evening? Asked of the machine as it was delivered, and of one whose lock turns the echo off.
+ * A bar at closing time. A guest presses buttons on a phone, and after each press the machine reacts once. From which states can the
+ * machine see to it that the room comes to be closed, locked with microphone and echo off, whatever the guest presses? How does it answer
+ * the presses of an evening? Asked of the machine as it was delivered, and of one whose lock turns the echo off.
  */
 #include "kudzuclamp.h"
 
@@ -44,8 +44,8 @@ static void moves(const char *what, uint32_t t, const uint8_t *formula, size_t c
 
 /*
  * The phone, until the room is locked, turns the microphone over, and the echo while the microphone is open; it can always be refreshed,
- * which does nothing. The machine turns the echo off; or the microphone, once the room is locked; or locks it, while the echo is off; or does
- * nothing.
+ * which does nothing. The machine turns the echo off; or the microphone, once the room is locked; or locks it, while the echo is off; or
+ * does nothing.
  */
 static void make_bar(void)
 {
@@ -97,8 +97,8 @@ static void print_state(const char *what, unsigned state)
 }
 
 /*
- * Plays the guest's presses, each by the bit that it turns over, BITS for a refresh, until the room is closed. It begins in a state from which
- * the machine can force that, and every answer is another one; so where there is no answer the phone has no such press.
+ * Plays the guest's presses, each by the bit that it turns over, BITS for a refresh, until the room is closed. It begins in a state from
+ * which the machine can force that, and every answer is another one; so where there is no answer the phone has no such press.
  */
 static void play(uint32_t machine, uint32_t state, const int *presses, int count)
 {
