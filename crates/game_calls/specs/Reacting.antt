@@ -69,9 +69,9 @@ pub record Reacting (acc : Terms) (R goal guest machine s t : ℕ) (old new : Li
   pub sound : Sound (view (headerOf old ROWS) new)
   pub frame : OpFrame (tableOf old) (view (headerOf old ROWS) new)
   pub kept : Keeps (rowsOf (tableOf old)) (rowsOf (view (headerOf old ROWS) new)) (filled (tableOf old))
-  pub reply : y ≡ reacted (bookOf (seen old)) goal guest machine (gameVerdict (bookOf (seen old)) goal guest machine acc R)
-      (fair (2 ^ bookOf (seen old) .n) (presses (bookOf (seen old)) goal guest machine) (reactions (bookOf (seen old)) goal guest machine)
-      (goals (bookOf (seen old)) goal guest machine) s t)
-      (answerTo (2 ^ bookOf (seen old) .n) (presses (bookOf (seen old)) goal guest machine) (reactions (bookOf
-      (seen old)) goal guest machine)
-      (goals (bookOf (seen old)) goal guest machine) s t)
+  pub reply : y ≡ reacted (gameVerdict (bookOf (seen old)) goal guest machine acc R)
+      (fair (2 ^ bookOf (seen old) .n) (presses (bookOf (seen old)) guest) (reactions (bookOf (seen old)) machine)
+      (goals (bookOf (seen old)) goal) s t)
+      (answerTo (2 ^ bookOf (seen old) .n) (presses (bookOf (seen old)) guest) (reactions (bookOf
+      (seen old)) machine)
+      (goals (bookOf (seen old)) goal) s t)

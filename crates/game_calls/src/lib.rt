@@ -1,12 +1,10 @@
-// The two calls of the game of guest against machine, under what they are told of an account: the set of states from which the machine can
-// force the goal, and the machine's answer to a press.
+// Guest against machine. The first call, the set of states from which the machine can force the goal, is a set call: its register and its
+// bytes are made here. The second, the machine's answer to a press, is told of an account.
 use accounts::Terms;
 use accounts::is_named;
 use accounts::rounds_under;
 use accounts::rows_under;
 use collect::free_many;
-use formula_calls::set_unchecked;
-use formula_steps::Stored;
 use game_steps::Asked;
 use game_steps::Watched;
 use game_steps::watch_rounds;
@@ -17,12 +15,10 @@ use modal::Limits;
 use seek::holds;
 use soundness::sound;
 ghost use mathlib.Core.Path.{_≡_};
-ghost use Prim.Native.Nat.{_<_, _≤_};
+ghost use Prim.Native.Nat.{_%_, _≤_};
 ghost use Rattle.layout.specs.View.{view};
 ghost use Rattle.seek.specs.Walk.{HoldsPre};
-ghost use Rattle.contract.specs.Posts.{CallPost};
-ghost use Rattle.formula_steps.specs.Replies.{storedReply};
-ghost use Rattle.games.specs.Call.{inRange, gameBytes, gameCall};
+ghost use Rattle.games.specs.Call.{inRange, gameTarget, gameBytes};
 ghost use Rattle.game_calls.specs.Reacting.{fairAt, toldOf, reactedReply, NamedPre, ReactingPre, Reacting};
 ghost use Rattle.game_calls.specs.Post.{ReactPost};
 
@@ -32,14 +28,14 @@ pub enum Reacted {
     Refused(Refusal),
 }
 
-// The bytes of mu P (goal or (box guest of diamond machine of P, and diamond guest of true)).
-fn game_bytes(goal: u32, guest: u32, machine: u32) -> [u8; 12]
-    requires { ⌜ (goal < 32) × (guest < 8) × (machine < 8) ⌝ }
-    ensures { λ r. ⌜ r ≡ gameBytes goal guest machine ⌝ }
+// The bytes of mu P (goal or (box guest of diamond machine of P, and diamond guest of true)); where there is no such register or relation,
+// those of others.
+pub fn game_bytes(goal: u32, guest: u32, machine: u32) -> [u8; 12]
+    ensures { λ r. ⌜ r ≡ gameBytes (goal % 32) (guest % 8) (machine % 8) ⌝ }
 {
-    let x = goal as u8;
-    let y = guest as u8;
-    let z = machine as u8;
+    let x = (goal % Table::REGISTERS) as u8;
+    let y = (guest % Table::RELATIONS) as u8;
+    let z = (machine % Table::RELATIONS) as u8;
     [0, 10, 1, 112, 4, 64 + x, 3, 96 + y, 104 + z, 48, 104 + y, 1]
 }
 
@@ -59,28 +55,14 @@ fn in_range(goal: u32, guest: u32, machine: u32) -> bool
     true
 }
 
-// Register r holds the states from which the machine can force the goal, as a set call on the game's bytes does; 2 on unsound words, 3
-// where there is no such register or relation, 14 where the list has not the account named, 7 where one is empty, 8 where a step needs more
-// rows than there are, 9 where the rounds are used up.
-pub fn force(
-    words: &mut [u32],
-    terms: Terms,
-    r: u32,
-    most: u32,
-    goal: u32,
-    guest: u32,
-    machine: u32,
-) -> Stored
-    ensures { λ x. ⌜ CallPost (gameCall terms r most goal guest machine) (now (words .entry)) (now (words .exit)) (storedReply x) ⌝ }
+// The register that the first call sets: r, and none where there is no such register or relation, so that 3 is given.
+pub fn game_target(r: u32, goal: u32, guest: u32, machine: u32) -> u32
+    ensures { λ q. ⌜ q ≡ gameTarget r goal guest machine ⌝ }
 {
-    if !sound(words) {
-        return Stored::Refused(Refusal::Unsound);
+    if in_range(goal, guest, machine) {
+        return r;
     }
-    if !in_range(goal, guest, machine) {
-        return Stored::Refused(Refusal::Range);
-    }
-    let bytes = game_bytes(goal, guest, machine);
-    set_unchecked(words, terms, r, most, &bytes)
+    Table::REGISTERS
 }
 
 // Whether the press is a guest move of a state outside the goal, by their arrows.

@@ -1,23 +1,22 @@
 -- The rounds of the game: where their loop stands, and each of its turns and ends. Assumes nothing.
 use mathlib.Core.Path.{_≡_, refl, sym, ap, ap₂, _∙_, subst}
-use mathlib.Core.Logic.{_≢_, ⊎-elim, inl, inr}
+use mathlib.Core.Logic.{_≢_, ⊎-elim, inr}
 use mathlib.Core.Bool.{Bool, true, false, not, cond, _&&_}
 use mathlib.Core.List.{List, [], _∷_, List·Memᴰ·head as here}
 use mathlib.Core.Option.{Option, none, some}
-use Prim.Native.Nat.{ℕ, zero, suc, _+_, _*_, _^_, _≤_, _<_}
+use Prim.Native.Nat.{ℕ, suc, _+_, _*_, _^_, _≤_, _<_}
 use native.Mathlib.Omega.{arith}
-use lib.Dec.{T, ltb, ltb→lt, lt→ltb}
-use lib.ListN.{length, set, length-set}
+use lib.Dec.{T}
+use lib.ListN.{length, set}
 use Rattle.accounts.specs.declared.Count.{Count}
 use Rattle.accounts.specs.Count.{nothing, another}
 use Rattle.mucalculus.specs.Sets.{mem, same, noStates}
-use Rattle.mucalculus.proofs.Sets.{and-out, true-of, false-of, same-eq, same-refl}
+use Rattle.mucalculus.proofs.Sets.{and-out, same-refl}
 use Rattle.mucalculus.specs.Order.{Below}
-use Rattle.mucalculus.specs.Form.{Form, Pairs, Model, put, inside, steady}
+use Rattle.mucalculus.specs.Form.{Form, Pairs, put, inside}
 use Rattle.mucalculus.specs.Means.{pair, means}
 use Rattle.mucalculus.specs.Exist.{Inside}
 use Rattle.tokens.specs.declared.Fix.the-variants.{Mu}
-use Rattle.tokens.specs.declared.Grammar.the-variants.{Runs}
 use Rattle.layout.specs.Places.{BITS, FIRST-RELATION}
 use Rattle.layout.specs.View.{View, view}
 use Rattle.counting.specs.Counts.{CountsOf}
@@ -26,24 +25,23 @@ use Rattle.diagram.specs.Rows.{Rows, den}
 use Rattle.diagram.specs.Post.{Denotes}
 use Rattle.diagram.proofs.Keep.{keeps-denotes}
 use Rattle.rows.specs.Used.{rowsOf}
+use Rattle.rows.proofs.Says.{test-no, test-yes}
 use Rattle.book.specs.States.{pairVal}
 use Rattle.book.proofs.States.{nowOf-pairVal, nextOf-pairVal}
 use Rattle.book.specs.Bridge.{fnOf, fnOfPairs, Sized}
 use Rattle.book.proofs.Bridge.{fnOf-inj}
-use Rattle.book.specs.Book.{relations}
 use Rattle.book.specs.Table.{Place}
 use Rattle.book.specs.Over.{states}
 use Rattle.book.specs.Ticks.{ticks, verdict, Verdict, counted, full as fullVerdict, spent as spentVerdict}
-use Rattle.book.specs.Run.{Outcome, value, full, spent, run}
+use Rattle.book.specs.Run.{Outcome, value, full, spent}
 use Rattle.book.specs.Follow.{ends, EvalsBy}
 use Rattle.book.proofs.Follow.{denotes-none}
 use Rattle.book.proofs.Turns.{arrow-apart}
 use Rattle.book.proofs.Verdicts.{settle, run-ticks}
 use Rattle.contract.specs.Seen.{arrowIn}
 use Rattle.modal.specs.declared.Limits.{Limits}
-use Rattle.modal.specs.Chain.{Base, Moved}
-use Rattle.modal.proofs.Chain.{base-bits, base-next, moved-trans}
-use Rattle.evaluator.specs.Scene.{Scene, stackSize, modelIn, existIn, Ready, Part, holdsReg, holdsRel, Answers, valueIn, runIn, endedOf}
+use Rattle.modal.proofs.Chain.{base-bits}
+use Rattle.evaluator.specs.Scene.{Scene, stackSize, modelIn, existIn, Ready, Answers, runIn, endedOf}
 use Rattle.evaluator.specs.Whole.{noPlaces, OncePre, OncePost}
 use Rattle.evaluator.specs.declared.Evaluated.{Evaluated}
 use Rattle.evaluator.specs.declared.Evaluated.the-variants.{Value, Full, Spent}
@@ -53,11 +51,11 @@ use Rattle.evaluator.proofs.Outcomes.{Halts, evals-value}
 use Rattle.evaluator.proofs.Rounds.{Bound, bind-starts, bind-out, bind-ready, bind-stops, bind-ends, bind-turns, bind-less}
 use Rattle.paths.specs.Runs.{firstOf}
 use Rattle.paths.proofs.First.{first-same}
-use Rattle.seek.specs.Walk.{HoldsPre, holdsAt}
+use Rattle.seek.specs.Walk.{holdsAt}
 use Rattle.seek.specs.Search.{nextIn}
 use Rattle.layers.proofs.Pass.{holds-pre}
-use Rattle.games.specs.Game.{forcing, forced, after as sets, answerTo, fair}
-use Rattle.games.specs.Call.{bodyForm, gameForm}
+use Rattle.games.specs.Game.{forcing, forced, after as sets}
+use Rattle.games.specs.Call.{bodyForm}
 use Rattle.games.proofs.Rounds.{Noted, noted-none, noting, noted-next, after-size, after-found, still-below, not-out}
 use Rattle.games.proofs.Formula.{body-steady, body-means}
 use Rattle.game_steps.specs.Watch.{noteBy, NotePre, haltedOf, Plays, WatchPre, Heard, AnswerOf, is-made, is-full, is-spent, Watches}
@@ -297,11 +295,14 @@ module _ {L : Limits} {W : View} {stack bs : List ℕ} {a : Asked} {σ : Scene} 
             note-is : noteBy (L .bits) Y a noted current b ≡ noting k G M B (a .state) (a .press) (S .round) noted
             note-is =
                 let e = ready′ .base .ready .levels-is in
-                ap₂ (λ (c : Bool) (x : ℕ). cond (ltb noted k) noted (cond c x noted))
+                let last-test = set-holds (L .bits) Y (sets k G M B (S .round)) e last-denotes in
+                ap (λ (c : Bool). cond c noted
+                (cond (holdsAt Y b (a .state) 0) (firstOf k (nextIn Y (a .machine) (a .press) current)) noted))
+                (last-test (a .state) (P .state))
+                ∙ ap₂ (λ (c : Bool) (x : ℕ). cond (mem (sets k G M B (S .round)) (a .state)) noted (cond c x noted))
                 (set-holds (L .bits) Y (sets k G M B (suc (S .round))) e next-denotes (a .state) (P .state))
                 (first-same k (nextIn Y (a .machine) (a .press) current) (λ u. pair M (a .press) u && mem (sets k G M B (S .round)) u)
-                (λ u l. ap₂ _&&_ (pair-holds (L .bits) Y M e machine-denotes (a .press) u (P .press) l)
-                (set-holds (L .bits) Y (sets k G M B (S .round)) e last-denotes u l)))
+                (λ u l. ap₂ _&&_ (pair-holds (L .bits) Y M e machine-denotes (a .press) u (P .press) l) (last-test u l)))
 
             pub watch-turns : {x : ℕ} → x ≡ noteBy (L .bits) Y a noted current b → Standing L W Y stack last a σ goal guest machine x b q
             watch-turns {x} ex = record {
@@ -327,39 +328,25 @@ module _ {L : Limits} {W : View} {stack bs : List ℕ} {a : Asked} {σ : Scene} 
 
 -- ---- noting
 
-module _ (n : ℕ) (W : View) (a : Asked) (noted last next : ℕ) {many : ℕ} (e : many ≡ 2 ^ n) where
+module _ (n : ℕ) (W : View) (a : Asked) (noted last next : ℕ) {r : Bool} (e : r ≡ holdsAt W last (a .state) 0) where
   abbrev seen : ℕ
   seen = firstOf (2 ^ n) (nextIn W (a .machine) (a .press) last)
 
-  -- an answer is noted already
-  pub note-kept : noted < many → noted ≡ noteBy n W a noted last next
-  note-kept l =
-      sym (ap (λ (b : Bool). cond b noted (cond (holdsAt W next (a .state) 0) seen noted))
-      (true-of (ltb noted (2 ^ n)) (lt→ltb noted (2 ^ n) (omega arith))))
+  -- the state was in the set before
+  pub note-kept : r ≡ true → noted ≡ noteBy n W a noted last next
+  note-kept t = ap (λ (b : Bool). cond b noted (cond (holdsAt W next (a .state) 0) seen noted)) (sym t ∙ e)
 
-  none-yet : many ≤ noted → noteBy n W a noted last next ≡ cond (holdsAt W next (a .state) 0) seen noted
-  none-yet l =
-      ap (λ (b : Bool). cond b noted (cond (holdsAt W next (a .state) 0) seen noted))
-      (false-of (ltb noted (2 ^ n)) (λ h. let i = ltb→lt noted (2 ^ n) h in omega arith))
+  module _ (f : r ≡ false) {q : Bool} (i : q ≡ holdsAt W next (a .state) 0) where
+    by : {b : Bool} → holdsAt W next (a .state) 0 ≡ b → cond b seen noted ≡ noteBy n W a noted last next
+    by h = ap₂ (λ (b c : Bool). cond b noted (cond c seen noted)) (sym f ∙ e) (sym h)
 
-  -- the state is not in the set yet
-  pub note-none : many ≤ noted → {r : Bool} → r ≡ holdsAt W next (a .state) 0 → not r ≡ true → noted ≡ noteBy n W a noted last next
-  note-none l {r} h t =
-      sym (none-yet l ∙ ap (λ (b : Bool). cond b seen noted) (sym h ∙ go r t))
-    where
-      go : (r : Bool) → not r ≡ true → r ≡ false
-      go true t = sym t
-      go false t = refl
+    -- it is not in the set yet
+    pub note-none : not q ≡ true → noted ≡ noteBy n W a noted last next
+    note-none t = by (test-no i t)
 
-  -- it enters
-  pub note-found : many ≤ noted → {r : Bool} → r ≡ holdsAt W next (a .state) 0 → not r ≡ false → {x : ℕ} → x ≡ seen
-      → x ≡ noteBy n W a noted last next
-  note-found l {r} h t {x} q =
-      q ∙ sym (none-yet l ∙ ap (λ (b : Bool). cond b seen noted) (sym h ∙ go r t))
-    where
-      go : (r : Bool) → not r ≡ false → r ≡ true
-      go true t = refl
-      go false t = sym t
+    -- it enters
+    pub note-found : not q ≡ false → {x : ℕ} → x ≡ seen → x ≡ noteBy n W a noted last next
+    note-found t h = h ∙ by (test-yes i t)
 
 -- ---- the loop
 

@@ -1,18 +1,17 @@
 -- The rounds from the words of a table: the scene that they hold after forgetting, and the book's verdict. Assumes nothing.
-use mathlib.Core.Path.{_≡_, refl, sym, ap, _∙_, subst}
+use mathlib.Core.Path.{_≡_, sym, _∙_, subst}
 use mathlib.Core.Bool.{Bool, true}
 use mathlib.Core.List.{List}
-use Prim.Native.Nat.{ℕ, _+_, _*_, _^_}
+use Prim.Native.Nat.{ℕ, _+_, _^_}
 use native.Mathlib.Omega.{arith}
 use lib.Dec.{T}
 use lib.ListN.{replicate}
-use Rattle.accounts.specs.declared.Count.{Count}
 use Rattle.accounts.specs.Count.{nothing}
-use Rattle.mucalculus.specs.Form.{Form, Model, noEnv, steady, inside}
+use Rattle.mucalculus.specs.Form.{noEnv, steady, inside}
 use Rattle.mucalculus.specs.Means.{means}
 use Rattle.tokens.specs.declared.Grammar.the-variants.{Runs}
 use Rattle.formula.specs.Parse.{got, parse}
-use Rattle.layout.specs.Places.{BITS, FIRST-RELATION}
+use Rattle.layout.specs.Places.{FIRST-RELATION}
 use Rattle.layout.specs.View.{View}
 use Rattle.diagram.specs.Level.{Fn}
 use Rattle.diagram.specs.Rows.{Rows}
@@ -20,31 +19,30 @@ use Rattle.diagram.specs.Keep.{Keeps}
 use Rattle.diagram.proofs.Keep.{keeps-within}
 use Rattle.rows.specs.Used.{rowsOf}
 use Rattle.rows.specs.Sound.{Sound}
-use Rattle.rows.specs.Filled.{filled}
 use Rattle.memory.proofs.Frame.{rows-same}
 use Rattle.memory.specs.Forget.{Forgot}
 use Rattle.operations.specs.Work.{OpFrame}
 use Rattle.operations.proofs.Work.{op-memo, op-trans}
 use Rattle.book.specs.Over.{states}
 use Rattle.book.specs.Ticks.{ticks, Verdict, counted, full, spent, verdict}
-use Rattle.book.specs.Book.{Book, liveOf}
+use Rattle.book.specs.Book.{liveOf}
 use Rattle.book.specs.Table.{rootsOf}
-use Rattle.book.specs.Run.{Outcome, run}
+use Rattle.book.specs.Run.{Outcome}
 use Rattle.book.specs.Follow.{MatchesBy}
 use Rattle.book.proofs.Verdicts.{settle, run-ticks}
 use Rattle.contract.specs.Seen.{seenIn}
 use Rattle.contract.proofs.Roots.{filled-root}
 use Rattle.modal.specs.declared.Limits.{Limits}
-use Rattle.evaluator.specs.Scene.{Scene, stackSize, modelIn, Ready, Part, valueIn, runIn, endedOf, holdsReg, holdsRel}
+use Rattle.evaluator.specs.Scene.{stackSize, modelIn, valueIn, endedOf}
 use Rattle.evaluator.specs.Whole.{bookIn}
 use Rattle.evaluator.specs.declared.Evaluated.{Evaluated}
 use Rattle.evaluator.proofs.Starts.{sceneIn, start-base, start-scene}
-use Rattle.games.specs.Call.{bodyForm, gameForm, gameBytes}
+use Rattle.games.specs.Call.{bodyForm, gameForm}
 use Rattle.games.proofs.Formula.{body-read, body-bound, game-steady}
 use Rattle.games.proofs.Call.{filled-all}
 use Rattle.game_steps.specs.Watch.{Plays, WatchPre, WatchPost, Heard, AnswerOf}
 use Rattle.game_steps.specs.Watch.{is-made as value-made, is-full as value-full, is-spent as value-spent}
-use Rattle.game_steps.specs.Whole.{Given, RoundsPre, Rounds, RoundsPost, Says, is-made, is-full, is-spent}
+use Rattle.game_steps.specs.Whole.{Given, RoundsPre, RoundsPost, Says, is-made, is-full, is-spent}
 use Rattle.game_steps.specs.declared.Asked.{Asked}
 use Rattle.game_steps.specs.declared.Watched.{Watched}
 

@@ -3,7 +3,7 @@ use mathlib.Core.Path.{_≡_}
 use mathlib.Core.Bool.{Bool, true, false, cond}
 use mathlib.Core.List.{List}
 use Prim.Native.Nat.{ℕ, suc, _+_, _^_, _≤_, _<_}
-use lib.Dec.{T, ltb}
+use lib.Dec.{T}
 use lib.ListN.{set}
 use Rattle.accounts.specs.declared.Count.{Count}
 use Rattle.accounts.specs.Count.{nothing}
@@ -29,11 +29,12 @@ use Rattle.game_steps.specs.declared.Watched.the-variants as watched
 
 -- ---- one round
 
--- what is noted after a round that made the set of arrow `next` from the one of arrow `last`
+-- what is noted after a round that made the set of arrow `next` from the one of arrow `last`: the round in which the state enters decides
 abbrev pub noteBy : ℕ → View → Asked → ℕ → ℕ → ℕ → ℕ
 noteBy n W a noted last next =
     let found = firstOf (2 ^ n) (nextIn W (a .machine) (a .press) last) in
-    cond (ltb noted (2 ^ n)) noted (cond (holdsAt W next (a .state) 0) found noted)
+    let entered = cond (holdsAt W next (a .state) 0) found noted in
+    cond (holdsAt W last (a .state) 0) noted entered
 
 -- the three arrows are the table's
 pub record NotePre (n : ℕ) (W : View) (a : Asked) (last next : ℕ) : Type 0 where
@@ -59,6 +60,7 @@ pub record Plays (L : Limits) (W : View) (stack bs : List ℕ) (a : Asked) (σ :
   pub state : a .state < 2 ^ L .bits
   pub press : a .press < 2 ^ L .bits
 
+-- what the rounds ask: words and stack hold some game's scene
 pub record WatchPre (L : Limits) (W : View) (stack bs : List ℕ) (a : Asked) : Type 0 where
   pub scene : Scene
   pub goal : ℕ
@@ -86,6 +88,7 @@ pub record Watches (L : Limits) (W X : View) (stack : List ℕ) (a : Asked) (σ 
   pub told : AnswerOf
       (Heard (2 ^ L .bits) (inside (σ .rel guest)) (inside (σ .rel machine)) (inside (σ .reg goal)) (a .state) (a .press)) value r
 
+-- what they promise, of every game whose scene words and stack hold
 abbrev pub WatchPost : Limits → View → View → List ℕ → List ℕ → Asked → Watched → Type 0
 WatchPost L W X stack bs a r =
     (σ : Scene) (goal guest machine : ℕ) → Plays L W stack bs a σ goal guest machine → Watches L W X stack a σ goal guest machine r

@@ -15,7 +15,7 @@ use Rattle.rows.specs.Filled.{filled}
 use Rattle.operations.specs.Work.{OpFrame}
 use Rattle.book.specs.Over.{states}
 use Rattle.book.specs.Ticks.{ticks, Verdict, counted, full, spent, verdict}
-use Rattle.book.specs.Book.{Book, modelOf, liveOf, registers, relations}
+use Rattle.book.specs.Book.{modelOf, liveOf, registers, relations}
 use Rattle.modal.specs.declared.Limits.{Limits}
 use Rattle.evaluator.specs.Whole.{bookIn}
 use Rattle.games.specs.Call.{gameForm, gameBytes, presses, reactions, goals, allFilled}
@@ -35,6 +35,7 @@ pub record Given (L : Limits) (W : View) (bs : List ℕ) (a : Asked) (goal guest
   pub state : a .state < 2 ^ L .bits
   pub press : a .press < 2 ^ L .bits
 
+-- what the rounds ask of a sound table: the limits are its own, or less, and some game is given
 pub record RoundsPre (L : Limits) (W : View) (bs : List ℕ) (a : Asked) : Type 0 where
   pub sound : Sound W
   pub bits : L .bits ≡ W .header BITS
@@ -57,10 +58,11 @@ pub record Rounds (L : Limits) (W X : View) (a : Asked) (goal guest machine : �
   pub frame : OpFrame W X
   pub kept : Keeps (rowsOf W) (rowsOf X) (filled W)
   pub says : Says
-      (Heard (2 ^ bookIn W .n) (presses (bookIn W) goal guest machine) (reactions (bookIn W) goal guest machine)
-      (goals (bookIn W) goal guest machine) (a .state) (a .press))
+      (Heard (2 ^ bookIn W .n) (presses (bookIn W) guest) (reactions (bookIn W) machine)
+      (goals (bookIn W) goal) (a .state) (a .press))
       (verdict (L .limit) (L .rounds) nothing (ticks (states (modelOf (bookIn W)) noEnv) (liveOf (bookIn W))
       (gameForm goal guest machine))) r
 
+-- what they promise, of every game that is given
 abbrev pub RoundsPost : Limits → View → View → List ℕ → Asked → Watched → Type 0
 RoundsPost L W X bs a r = (goal guest machine : ℕ) → Given L W bs a goal guest machine → Rounds L W X a goal guest machine r

@@ -2,26 +2,23 @@
 -- Assumes nothing.
 use mathlib.Core.Path.{_≡_, refl, sym, ap, ap₂, _∙_, subst}
 use mathlib.Core.Bool.{Bool, true, false, cond, _&&_}
-use mathlib.Core.List.{List, []}
+use mathlib.Core.List.{List}
 use mathlib.Core.Option.{Option, none, some}
 use Prim.Native.Nat.{ℕ, zero, suc, _^_, _<_}
-use native.Mathlib.Omega.{arith}
-use lib.Dec.{T, ltb, ltb→lt, lt→ltb}
-use lib.ListN.{length}
-use Rattle.mucalculus.specs.Sets.{mem, allStates}
-use Rattle.mucalculus.proofs.Sets.{and-out, true-of, mem-lt}
+use lib.Dec.{T, ltb, ltb→lt}
+use Rattle.mucalculus.specs.Sets.{mem}
+use Rattle.mucalculus.proofs.Sets.{and-out, mem-lt}
 use Rattle.mucalculus.specs.Order.{Below, start}
 use Rattle.mucalculus.proofs.Fixpoint.{iter, fix-iter}
 use Rattle.mucalculus.specs.Binder.{body}
 use Rattle.mucalculus.proofs.Binder.{body-length, body-in, body-mono}
-use Rattle.mucalculus.specs.Form.{Form, mu, Pairs, Model, Env, noEnv, put, inside, steady, reads, bound, noneOpen, mentioned}
-use Rattle.mucalculus.specs.Form.{filled as hasContent}
-use Rattle.mucalculus.specs.Means.{pair, size, exist, clip, means}
+use Rattle.mucalculus.specs.Form.{Form, Pairs, Model, Env, noEnv, inside, steady, reads}
+use Rattle.mucalculus.specs.Means.{size, exist, means}
 use Rattle.mucalculus.specs.Exist.{Inside}
 use Rattle.mucalculus.proofs.Laws.{getD-table}
 use Rattle.tokens.specs.declared.Kind.the-variants.{Set}
-use Rattle.formula.specs.Parse.{Got, got, formOf, formulaOf}
-use Rattle.formula.specs.Checks.{filled, firstOf, refusalOf, firstRefusal}
+use Rattle.formula.specs.Parse.{got, formOf, formulaOf}
+use Rattle.formula.specs.Checks.{filled, refusalOf, firstRefusal}
 use Rattle.accounts.specs.declared.Terms.{Terms}
 use Rattle.accounts.specs.Terms.{named}
 use Rattle.book.specs.Book.{Book, Done, registers, relations, modelOf, regFilled, relFilled, checks, formulaIn, refuse, setDone, setSteps}
@@ -185,9 +182,9 @@ module _ (b : Book) (acc : Terms) (R goal guest machine s t : ℕ) where
 
   abbrev pub toldIn : Reply
   toldIn =
-      reacted b goal guest machine (gameVerdict b goal guest machine acc R)
-      (fair (2 ^ b .n) (presses b goal guest machine) (reactions b goal guest machine) (goals b goal guest machine) s t)
-      (answerTo (2 ^ b .n) (presses b goal guest machine) (reactions b goal guest machine) (goals b goal guest machine) s t)
+      reacted (gameVerdict b goal guest machine acc R)
+      (fair (2 ^ b .n) (presses b guest) (reactions b machine) (goals b goal) s t)
+      (answerTo (2 ^ b .n) (presses b guest) (reactions b machine) (goals b goal) s t)
 
   pub reacts-three : near ≡ false → reacts b goal guest machine acc R s t ≡ plain 3
   reacts-three e =

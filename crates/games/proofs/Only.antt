@@ -7,15 +7,13 @@ use Prim.Native.Nat.{ℕ, zero, suc, _<_}
 use native.Mathlib.Omega.{arith}
 use borrow.Author.Tests.{eq-eqb}
 use lib.Dec.{T, ltb, lt→ltb, eqb}
-use lib.ListN.{length}
 use Rattle.mucalculus.specs.Sets.{mem}
 use Rattle.mucalculus.proofs.Sets.{and-in, and-out, false-of}
 use Rattle.mucalculus.specs.Form.{Pairs}
 use Rattle.mucalculus.specs.Means.{pair}
-use Rattle.paths.specs.Runs.{firstOf}
 use Rattle.paths.proofs.First.{first-found}
-use Rattle.games.specs.Game.{moves, answers, forced}
-use Rattle.games.specs.Plays.{Turn, isPlay, endOf, meets, byMachine, Forces}
+use Rattle.games.specs.Game.{answers, forced}
+use Rattle.games.specs.Plays.{Turn, isPlay, meets, byMachine, Forces}
 use Rattle.games.proofs.Rounds.{not-out, answers-in}
 use Rattle.games.proofs.Plays.{guest, guest-moves, goal-in}
 

@@ -4,20 +4,20 @@ use mathlib.Core.Path.{_≡_, refl, sym, ap, _∙_, subst}
 use mathlib.Core.Logic.{_⊎_, inl, inr}
 use mathlib.Core.Bool.{Bool, true, false, not, _&&_, _||_}
 use mathlib.Core.List.{List, [], _∷_}
-use Prim.Native.Nat.{ℕ, zero, suc, _≤_, _<_, suc-le-suc}
+use Prim.Native.Nat.{ℕ, _≤_, _<_}
 use native.Mathlib.Nat.{lt-of-not-le}
 use native.Mathlib.Omega.{arith}
 use lib.Dec.{T, ltb, ltb→lt, eqb, eqb→eq}
 use lib.ListN.{length}
-use Rattle.mucalculus.specs.Sets.{mem, table, all}
-use Rattle.mucalculus.proofs.Sets.{and-in, and-out, or-left, or-right, true-of, false-of}
+use Rattle.mucalculus.specs.Sets.{mem}
+use Rattle.mucalculus.proofs.Sets.{and-in, and-out, false-of}
 use Rattle.mucalculus.specs.Form.{Pairs}
 use Rattle.mucalculus.specs.Means.{pair}
 use Rattle.paths.specs.Runs.{firstOf}
 use Rattle.paths.proofs.First.{first-found, first-least}
-use Rattle.games.specs.Game.{moves, answers, forcing, forced, after, enters, answerTo}
+use Rattle.games.specs.Game.{moves, answers, forced, enters, answerTo}
 use Rattle.games.specs.Plays.{Turn, isPlay, endOf, meets, byGuest, byMachine, Forces, Stays}
-use Rattle.games.proofs.Rounds.{some-out, not-in, not-out, answers-in, forcing-out, forcing-goal, forcing-moves, forced-least}
+use Rattle.games.proofs.Rounds.{not-in, not-out, answers-in, forcing-out, forcing-goal, forcing-moves, forced-least}
 use Rattle.games.proofs.Rounds.{enters-some}
 use Rattle.games.proofs.Rounds.{answer-good, Good}
 

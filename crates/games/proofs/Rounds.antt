@@ -9,20 +9,20 @@ use native.Mathlib.Nat.{lt-of-not-le}
 use native.Mathlib.Omega.{arith}
 use lib.Dec.{T, ltb, ltb→lt, lt→ltb}
 use lib.ListN.{length}
-use Rattle.mucalculus.specs.Sets.{mem, table, noStates, allStates, all, any}
+use Rattle.mucalculus.specs.Sets.{mem, table, allStates, all, any}
 use Rattle.mucalculus.proofs.Sets.{and-in, and-out, or-left, or-right, or-out, true-of, false-of, length-table, mem-table, mem-noStates}
-use Rattle.mucalculus.proofs.Sets.{all-in, all-out, any-in, any-out, mem-lt}
+use Rattle.mucalculus.proofs.Sets.{all-in, all-out, any-in, any-out}
 use Rattle.mucalculus.specs.Order.{Below, start}
 use Rattle.mucalculus.specs.Fixpoint.{Into}
-use Rattle.mucalculus.proofs.Fixpoint.{iter, Mono, into-all, iter-found, fix-iter, fix-fixed, fix-bound, stable}
+use Rattle.mucalculus.proofs.Fixpoint.{iter, Mono, into-all, iter-found, fix-fixed, fix-bound, stable}
 use Rattle.mucalculus.specs.Binder.{Least}
 use Rattle.mucalculus.proofs.Laws.{table-out}
 use Rattle.mucalculus.specs.Form.{Pairs}
 use Rattle.mucalculus.specs.Means.{pair}
 use Rattle.book.proofs.Diamond.{table-in}
 use Rattle.paths.specs.Runs.{firstOf}
-use Rattle.paths.proofs.First.{first-le, first-found, first-least, first-is, first-same}
-use Rattle.games.specs.Game.{moves, answers, forcing, forced, after, enters, answerTo, fair}
+use Rattle.paths.proofs.First.{first-found, first-least, first-is, first-same}
+use Rattle.games.specs.Game.{moves, answers, forcing, forced, after, enters, answerTo}
 
 -- ---- quantifiers over the states
 
@@ -226,8 +226,12 @@ module _ (k : ℕ) (G M : Pairs) (B : List Bool) where
       (λ p. let h = ltb→lt (enters k G M B u) (suc i) p in grows (enters k G M B u) i (omega arith) u (enters-in u (omega arith)))
       (λ p. let h = enters-le u i l p in lt→ltb (enters k G M B u) (suc i) (omega arith))
 
+  -- the least answer to the press t into the set after i rounds; k where there is none
+  abbrev pub leastInto : ℕ → ℕ → ℕ
+  leastInto t i = firstOf k (λ u. pair M t u && mem (after k G M B i) u)
+
   pub answer-near : (s t i : ℕ) → i ≤ k → enters k G M B s ≡ suc i
-      → answerTo k G M B s t ≡ firstOf k (λ u. pair M t u && mem (after k G M B i) u)
+      → answerTo k G M B s t ≡ leastInto t i
   answer-near s t i l e =
       first-same k (λ u. pair M t u && ltb (enters k G M B u) (enters k G M B s)) (λ u. pair M t u && mem (after k G M B i) u)
       (λ u h. ap (λ (b : Bool). pair M t u && b) (ap (ltb (enters k G M B u)) e ∙ earlier i u l))
@@ -251,7 +255,7 @@ module _ (k : ℕ) (G M : Pairs) (B : List Bool) where
         go (inl q) = absurd (out q)
         go (inr (q, r)) = answers-out k M (after k G M B i) t (r t l press)
 
-    pub answer-lt : (i : ℕ) → T (mem (after k G M B (suc i)) s) → firstOf k (λ u. pair M t u && mem (after k G M B i) u) < k
+    pub answer-lt : (i : ℕ) → T (mem (after k G M B (suc i)) s) → leastInto t i < k
     answer-lt i p =
         let w = answer-some i p in
         let h = first-least k (λ u. pair M t u && mem (after k G M B i) u) (w .0) (w .1) (and-in (pair M t (w .0)) _ (w .2) (w .3)) in
@@ -287,41 +291,32 @@ module _ (k : ℕ) (G M : Pairs) (B : List Bool) where
   pub noted-none : (s t : ℕ) → Noted s t 0 k
   noted-none s t = record { not-yet = λ _. refl; found = λ p. absurd (mem-noStates k s p) }
 
-  -- what a round notes: the first in which the state is in the set decides
+  -- what a round notes: the one in which the state enters decides
   abbrev pub noting : ℕ → ℕ → ℕ → ℕ → ℕ
   noting s t i x =
-      let seen = firstOf k (λ u. pair M t u && mem (after k G M B i) u) in
-      cond (ltb x k) x (cond (mem (after k G M B (suc i)) s) seen x)
+      let least = leastInto t i in
+      let entered = cond (mem (after k G M B (suc i)) s) least x in
+      cond (mem (after k G M B i) s) x entered
 
   module _ {s t i x : ℕ} (n : Noted s t i x) (more : i < k) where
     pub noted-next : Noted s t (suc i) (noting s t i x)
     noted-next = record {
       not-yet = λ out.
-          let e = n .not-yet (λ p. out (climbs i s p)) in
-          keeps x e (false-of (at s (suc i)) out);
+          let before : T (at s i) → ⊥ = λ p. out (climbs i s p) in
+          by (false-of (at s i) before) (false-of (at s (suc i)) out) ∙ n .not-yet before;
       found = λ p out l press. go (at s i) refl p out l press;
     }
       where
-        keeps : (x : ℕ) → x ≡ k → at s (suc i) ≡ false
-            → cond (ltb x k) x (cond (at s (suc i)) (firstOf k (λ u. pair M t u && mem (after k G M B i) u)) x) ≡ k
-        keeps x e f =
-            ap (λ (b : Bool). cond b x (cond (at s (suc i)) (firstOf k (λ u. pair M t u && mem (after k G M B i) u)) x))
-            (false-of (ltb x k) (λ h. let j = ltb→lt x k h in omega arith))
-            ∙ ap (λ (b : Bool). cond b (firstOf k (λ u. pair M t u && mem (after k G M B i) u)) x) f ∙ e
+        by : {a c : Bool} → at s i ≡ a → at s (suc i) ≡ c → noting s t i x ≡ cond a x (cond c (leastInto t i) x)
+        by e f = ap₂ (λ (a c : Bool). cond a x (cond c (leastInto t i) x)) e f
 
         go : (b : Bool) → at s i ≡ b → T (at s (suc i)) → (T (mem B s) → ⊥) → t < k → T (pair G s t)
             → (noting s t i x ≡ answerTo k G M B s t) × (noting s t i x < k)
         go true e p out l press =
             let f = n .found (subst T (sym e) tt) out l press in
-            let same : noting s t i x ≡ x = ap
-            (λ (b : Bool). cond b x (cond (at s (suc i)) (firstOf k (λ u. pair M t u && mem (after k G M B i) u)) x))
-            (true-of (ltb x k) (lt→ltb x k (f .1))) in
+            let same : noting s t i x ≡ x = by e refl in
             (same ∙ f .0, subst (λ (y : ℕ). y < k) (sym same) (f .1))
         go false e p out l press =
-            let z : x ≡ k = n .not-yet (λ q. subst T e q) in
-            let same : noting s t i x ≡ firstOf k (λ u. pair M t u && mem (after k G M B i) u) = ap
-            (λ (b : Bool). cond b x (cond (at s (suc i)) (firstOf k (λ u. pair M t u && mem (after k G M B i) u)) x))
-            (false-of (ltb x k) (λ h. let j = ltb→lt x k h in omega arith))
-            ∙ ap (λ (b : Bool). cond b (firstOf k (λ u. pair M t u && mem (after k G M B i) u)) x) (true-of (at s (suc i)) p) in
+            let same : noting s t i x ≡ leastInto t i = by e (true-of (at s (suc i)) p) in
             let near = answer-near s t i (omega arith) (enters-is s i more (λ q. subst T e q) p) in
             (same ∙ sym near, subst (λ (y : ℕ). y < k) (sym same) (answer-lt s t l out press i p))
