@@ -202,8 +202,8 @@ fn as_many_rounds_as_there_are() {
     assert!(seen.answered > 10, "{seen:?}");
 }
 
-/// Presses that no answer is looked for, or none is found to, in any of 4,097 rounds: each call takes as long as one with
-/// an answer, and not 2^n times the rounds.
+/// Presses without an answer, in the goal and elsewhere, over 4,097 rounds: each call takes as long as one with an
+/// answer, and goes through the states in no round, or in one.
 #[test]
 fn no_answer_in_many_rounds() {
     let mut seen = Seen::default();
