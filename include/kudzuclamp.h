@@ -48,7 +48,8 @@
  *
  * STACK. A call takes less than 160 KB of it, and more than 120 KB only on words whose lookup chains are longer than 32 rows (seen: 111 KB, a formula
  * of the greatest depth at n = 16). Where V is not every state and more than 2,048 rows are used, the check of the table takes up to 560 KB (seen: 522
- * KB). Measured on the compiled code, not proved.
+ * KB). kudzuclamp_cheapest takes 59 KB more than this, with all that its search notes (seen: 196 KB on such chains, 581 KB). Measured on the compiled
+ * code, not proved.
  *
  * TIME. No contract speaks of it. Every call first checks the whole table: some 50 instructions for each used row, and more where V is not
  * every state (2 ms for 28,736 rows of an ordinary table; 0.6 s for the worst table found, which was made for it). So where many records
@@ -353,8 +354,9 @@ uint32_t kudzuclamp_shortest(uint32_t *words, size_t words_len, uint16_t *list, 
  * least 2^n numbers of 64 bits; what the first 2^n hold afterwards is free, but 1, 2, 3 and 7 keep them, and later ones are never written. The table is
  * only read, and no row is made. It returns 0, 1 where there are not 8 prices, 2, 1 where there are too few work words, 3, 7, KUDZUCLAMP_NO_RUN, or
  * KUDZUCLAMP_SHORT where one of the lists is too short.
- * At n = 16 a room of presses takes 1 ms, a run of all states 25 ms, and the worst relations found, which were made for it, 0.2 s
- * (docs/BENCHMARKS.md). No limit of rounds bounds it.
+ * At n = 16 a room of presses takes 1 ms and a run of all states 22 ms; a relation that leads from most states to many others takes up to 0.1 s. The
+ * worst found, relations that were made for it beside a counter, take up to 3 s for one and 13 s for seven (docs/BENCHMARKS.md). No limit of rounds
+ * bounds it.
  */
 KUDZUCLAMP_USE_RESULT
 uint32_t kudzuclamp_cheapest(const uint32_t *words, size_t words_len, const uint8_t *prices, size_t prices_len, uint64_t *work, size_t work_len,
