@@ -56,10 +56,11 @@
  * are at hand, give them to one kudzuclamp_play, which checks once. R and an account's round limit bound the rounds of a set, force or
  * react, and no more than these: a formula without binders has no round, and its steps may still take long in a large table.
  *
- * POINTERS. A slice is a pointer and its number of elements. No pointer may be null, not even with 0 elements. Words, accounts and lists that are not
- * const, and each answer, must overlap nothing else that is lent to the call, and no other thread may use them meanwhile; nor may one write the rest.
- * Words, accounts and answers are aligned as their types are, to 4 bytes, lists of 16-bit numbers to 2, the work words of kudzuclamp_cheapest and
- * *count of kudzuclamp_play to 8; bytes stand anywhere. So words that come from a byte buffer or a file are copied into an array of uint32_t first.
+ * POINTERS. A slice is a pointer and its number of elements. No pointer may be null, not even with 0 elements. Words, accounts and lists
+ * that are not const, and each answer, must overlap nothing else that is lent to the call, and no other thread may use them meanwhile; nor
+ * may one write the rest. Words, accounts and answers are aligned as their types are, to 4 bytes, lists of 16-bit numbers to 2, the work
+ * words of kudzuclamp_cheapest and *count of kudzuclamp_play to 8; bytes stand anywhere. So words that come from a byte buffer or a file
+ * are copied into an array of uint32_t first.
  */
 #ifndef KUDZUCLAMP_H
 #define KUDZUCLAMP_H
@@ -388,9 +389,10 @@ uint32_t kudzuclamp_force(uint32_t *words, size_t words_len, struct kudzuclamp_a
  * goal in the first. The answer is the least state to which a move of relation `machine` leads from `press` and which enters in an earlier
  * round than `state`. So whoever answers so, press by press, comes to the goal in fewer turns than the round in which the play's first
  * state enters. Nothing is stored, no tally grows, and the accounts are only read: the limits of the one at `place` and `most` (R) hold as
- * for kudzuclamp_force, for the last round too, which gives the same set again, and it takes about as long as that call. It returns 0,
- * 2, 3 (goal, guest, machine, state or press), KUDZUCLAMP_UNLISTED, 7, 8, 9, or KUDZUCLAMP_NO_ANSWER where the state is in the goal or
- * outside the set, or the press is no guest move from it.
+ * for kudzuclamp_force, for the last round too, which gives the same set again. It takes as long as that call, and up to 2^n states are
+ * looked at for the answer besides (some milliseconds at n = 16, at worst). It returns 0, 2, 3 (goal, guest, machine, state or press),
+ * KUDZUCLAMP_UNLISTED, 7, 8, 9, or KUDZUCLAMP_NO_ANSWER where the state is in the goal or outside the set, or the press is no guest move
+ * from it.
  */
 KUDZUCLAMP_USE_RESULT
 uint32_t kudzuclamp_react(uint32_t *words, size_t words_len, const struct kudzuclamp_account *accounts, size_t accounts_len, uint32_t place,

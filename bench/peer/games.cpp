@@ -165,6 +165,30 @@ static Side lock(bool open_too) {
     });
 }
 
+// An odd number of the bits from a number to another is on, of `bit`.
+static Bytes odd(u32 from, u32 to, const std::function<Bytes(u32)> &bit) {
+    if (to - from == 1) return bit(from);
+    u32 middle = (from + to) / 2;
+    return no(same(odd(from, middle, bit), odd(middle, to, bit)));
+}
+
+// From state 0 alone, to itself.
+static Side still() {
+    Moves next = [](u32 s, std::vector<u32> &list) {
+        if (s == 0) list.push_back(0);
+    };
+    return {both(state(n, 0), each(0, n, keeps)), next};
+}
+
+// From state 0 alone, to the states with both last bits and an odd number of bits on.
+static Side far() {
+    Moves next = [](u32 s, std::vector<u32> &list) {
+        for (u32 u = all / 4 * 3; s == 0 && u < all; u++)
+            if (__builtin_parity(u)) list.push_back(u);
+    };
+    return {both(state(n, 0), both(both(there(n - 2), there(n - 1)), odd(0, n, there))), next};
+}
+
 // All are closed and locked.
 static const u32 LOCKED = 0xAAAA;
 
@@ -175,6 +199,7 @@ static std::vector<Case> cases() {
         {"counter", rest(), counter(), state(n, 0), [](u32 s) { return s == 0; }},
         {"presses, any can be locked", phone(), lock(true), locked, all_locked},
         {"presses, only a closed one can", phone(), lock(false), locked, all_locked},
+        {"a far answer", still(), far(), odd(0, n, here), [](u32 s) { return __builtin_parity(s) == 1; }},
     };
 }
 

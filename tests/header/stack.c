@@ -151,8 +151,8 @@ static size_t all_bits(uint8_t *framed, size_t framed_len, const uint8_t *patter
     return kudzuclamp_frame(framed, framed_len, formula, at);
 }
 
-/* Whether a cheapest run from the state with no bit on to that with all takes less than so many bytes, and a game over the same relation, for both
-   sides, with all bits on as its goal. In that relation bits only turn on, and it has a row on every level. */
+/* Whether a cheapest run from the state with no bit on to that with all takes less than so many bytes, and a game over the same relation,
+   for both sides, with all bits on as its goal. In that relation bits only turn on, and it has a row on every level. */
 static int searched(size_t most)
 {
     static const uint8_t rising[] = {KUDZUCLAMP_OR, KUDZUCLAMP_NOT, KUDZUCLAMP_NOW(0), KUDZUCLAMP_NEXT(0)};
@@ -171,7 +171,8 @@ static int searched(size_t most)
     used = used_stack(cheapest);
     forced = used_stack(force);
     reacted = used_stack(react);
-    printf("a cheapest run: %lu bytes of stack; force: %lu; react: %lu\n", (unsigned long)used, (unsigned long)forced, (unsigned long)reacted);
+    printf("a cheapest run: %lu bytes of stack; force: %lu; react: %lu\n", (unsigned long)used, (unsigned long)forced,
+           (unsigned long)reacted);
     return used != 0 && used < most && forced != 0 && forced < most && reacted != 0 && reacted < most;
 }
 
