@@ -36,10 +36,10 @@ bytes-free acc R bs cs p = record {
       record { all = k .all; size = k .size; header = k .header; spare = k .spare; beyond = k .beyond; exact = k .exact };
 }
 
-pub forced : (place r R goal guest machine : ℕ) {old new : List ℕ} {before after : List Account} {y : Reply}
+pub force-from-set : (place r R goal guest machine : ℕ) {old new : List ℕ} {before after : List Account} {y : Reply}
     → SetAllPost place (gameTarget r goal guest machine) R (gameBytes (goal % 32) (guest % 8) (machine % 8)) old new before after y
     → ForceAllPost place r R goal guest machine old new before after y
-forced place r R goal guest machine {old} {new} {before} {after} {y} p =
+force-from-set place r R goal guest machine {old} {new} {before} {after} {y} p =
     go (numbersInRange goal guest machine) (λ e. bytes-are goal guest machine (ranges-out goal guest machine e)) p
   where
     go : (b : Bool) {bs cs : List ℕ} → (b ≡ true → bs ≡ cs) → SetAllPost place (cond b r registers) R bs old new before after y

@@ -44,7 +44,7 @@ use Rattle.game_steps.specs.Whole.{Given, RoundsPre, RoundsPost, RoundsSay, is-
 use Rattle.game_steps.proofs.Standing.{set-holds, pair-holds, place-holds}
 use Rattle.game_calls.specs.declared.Reacted.{Reacted}
 use Rattle.game_calls.specs.declared.Reacted.the-variants as answer
-use Rattle.game_calls.specs.Reacting.{reactedReply, answerableAt, toldOf, ReactingPre, Reacting}
+use Rattle.game_calls.specs.Reacting.{reactedReply, openMoveAt, toldOf, ReactingPre, Reacting}
 
 -- ---- in_range
 
@@ -101,13 +101,13 @@ module _ (goal guest machine : ℕ) where
       let ep : guest % 8 ≡ guest = omega arith in
       let em : machine % 8 ≡ machine = omega arith in rw (eg, ep, em) refl
 
--- ---- is_answerable
+-- ---- is_open_move
 
-pub answerable-no : (g q : Bool) {r : Bool} → r ≡ g → r ≡ true → false ≡ (not g && q)
-answerable-no g q e t = ap (λ (b : Bool). not b && q) (sym t ∙ e)
+pub open-move-no : (g q : Bool) {r : Bool} → r ≡ g → r ≡ true → false ≡ (not g && q)
+open-move-no g q e t = ap (λ (b : Bool). not b && q) (sym t ∙ e)
 
-pub answerable-yes : (g q : Bool) {r p : Bool} → r ≡ g → r ≡ false → p ≡ q → p ≡ (not g && q)
-answerable-yes g q e f h = h ∙ ap (λ (b : Bool). not b && q) (sym f ∙ e)
+pub open-move-yes : (g q : Bool) {r p : Bool} → r ≡ g → r ≡ false → p ≡ q → p ≡ (not g && q)
+open-move-yes g q e f h = h ∙ ap (λ (b : Bool). not b && q) (sym f ∙ e)
 
 -- ---- told
 
@@ -118,8 +118,8 @@ module _ (ok : Bool) (n : ℕ) where
   pub told-spent : {w : Watched} → w ≡ watched.Spent → toldOf ok n watched.Spent ≡ toldOf ok n w
   told-spent e = ap (toldOf ok n) (sym e)
 
-  pub told-unanswerable : (u : ℕ) {w : Watched} → w ≡ watched.Made u → not ok ≡ true → answer.Refused refusal.NoAnswer ≡ toldOf ok n w
-  told-unanswerable u e t = go ok t ∙ ap (toldOf ok n) (sym e)
+  pub told-no-move : (u : ℕ) {w : Watched} → w ≡ watched.Made u → not ok ≡ true → answer.Refused refusal.NoAnswer ≡ toldOf ok n w
+  told-no-move u e t = go ok t ∙ ap (toldOf ok n) (sym e)
     where
       go : (ok : Bool) → not ok ≡ true → answer.Refused refusal.NoAnswer ≡ toldOf ok n (watched.Made u)
       go true t = absurd (subst T (sym t) tt)
@@ -206,17 +206,17 @@ module _ {old : List ℕ} {goal guest machine x y z s t : ℕ} (p : ReactingPre 
   walk : {c : ℕ} → Arrow (rowsOf W) c → HoldsPre W c
   walk u = record { mark = record { base = sound-base (p .sound); arrow = u }; bits = p .sound .good .sizes .n-max }
 
-  pub answerable-asks : {rows : ℕ} → rows ≡ headerOf old ROWS → HoldsPre (view rows old) x × HoldsPre (view rows old) y
-  answerable-asks {rows} er = subst (λ (N : ℕ). HoldsPre (view N old) x × HoldsPre (view N old) y) (sym er) (
+  pub open-move-asks : {rows : ℕ} → rows ≡ headerOf old ROWS → HoldsPre (view rows old) x × HoldsPre (view rows old) y
+  open-move-asks {rows} er = subst (λ (N : ℕ). HoldsPre (view N old) x × HoldsPre (view N old) y) (sym er) (
     walk (goal-denotes .arrow),
     walk
         (guest-denotes .arrow),
   )
 
-  answerable-is : {rows : ℕ} {ok : Bool} → rows ≡ headerOf old ROWS → ok ≡ answerableAt (view rows old) x y s t
+  open-move-is : {rows : ℕ} {ok : Bool} → rows ≡ headerOf old ROWS → ok ≡ openMoveAt (view rows old) x y s t
       → ok ≡ (not (mem (goals bk goal) s) && pair (presses bk guest) s t)
-  answerable-is {rows} {ok} er e =
-      subst (λ (N : ℕ). ok ≡ answerableAt (view N old) x y s t) er e
+  open-move-is {rows} {ok} er e =
+      subst (λ (N : ℕ). ok ≡ openMoveAt (view N old) x y s t) er e
       ∙ ap₂ (λ (a c : Bool). not a && c) (set-holds n W (goals bk goal) refl goal-denotes s (p .state))
       (pair-holds n W (presses bk guest) refl guest-denotes s t (p .state) (p .press))
 
@@ -269,7 +269,7 @@ module _ {old : List ℕ} {goal guest machine x y z s t : ℕ} (p : ReactingPre 
       pub freeing : Sound Y
       freeing = post goal guest machine (given eb es) .sound
 
-      pub game-done : {new : List ℕ} {ok : Bool} → ok ≡ answerableAt (view rows old) x y s t → FreeManyPost Y (view rows new)
+      pub game-done : {new : List ℕ} {ok : Bool} → ok ≡ openMoveAt (view rows old) x y s t → FreeManyPost Y (view rows new)
           → {r : Reacted} → r ≡ toldOf ok bits w → Reacting acc R goal guest machine s t old new (reactedReply r)
       game-done {new} {ok} ef f {r} e =
           let q = post goal guest machine (given eb es) in
@@ -282,5 +282,5 @@ module _ {old : List ℕ} {goal guest machine x y z s t : ℕ} (p : ReactingPre 
             reply = ap reactedReply e
                 ∙ ap (λ (m : ℕ). reactedReply (toldOf ok m w)) eb
                 ∙ reply-is (2 ^ n) (presses bk guest) (reactions bk machine)
-                (goals bk goal) s t n refl ok (answerable-is er ef) (q .says);
+                (goals bk goal) s t n refl ok (open-move-is er ef) (q .says);
           }

@@ -34,8 +34,8 @@ reactedReply (answer.State u) = valued u
 reactedReply (answer.Refused e) = plain (refusalNumber e)
 
 -- the press is a guest move of a state outside the goal, by their arrows
-abbrev pub answerableAt : View → ℕ → ℕ → ℕ → ℕ → Bool
-answerableAt W goal guest s t = not (holdsAt W goal s 0) && holdsAt W guest s t
+abbrev pub openMoveAt : View → ℕ → ℕ → ℕ → ℕ → Bool
+openMoveAt W goal guest s t = not (holdsAt W goal s 0) && holdsAt W guest s t
 
 -- what is answered by what was watched
 abbrev pub toldOf : Bool → ℕ → Watched → Reacted

@@ -19,7 +19,7 @@ ghost use Prim.Native.Nat.{_%_, _≤_};
 ghost use Rattle.layout.specs.View.{view};
 ghost use Rattle.seek.specs.Walk.{HoldsPre};
 ghost use Rattle.games.specs.Call.{numbersInRange, gameTarget, gameBytes};
-ghost use Rattle.game_calls.specs.Reacting.{answerableAt, toldOf, reactedReply, NamedPre, ReactingPre, Reacting};
+ghost use Rattle.game_calls.specs.Reacting.{openMoveAt, toldOf, reactedReply, NamedPre, ReactingPre, Reacting};
 ghost use Rattle.game_calls.specs.Post.{ReactPost};
 
 // What the second call answers: the state that the machine's move leads to.
@@ -66,9 +66,9 @@ pub fn game_target(r: u32, goal: u32, guest: u32, machine: u32) -> u32
 }
 
 // Whether the press is a guest move of a state outside the goal, by their arrows.
-fn is_answerable(words: &[u32], rows: u32, goal: u32, guest: u32, state: u32, press: u32) -> bool
+fn is_open_move(words: &[u32], rows: u32, goal: u32, guest: u32, state: u32, press: u32) -> bool
     requires { ⌜ HoldsPre (view rows (now words)) goal × HoldsPre (view rows (now words)) guest ⌝ }
-    ensures { λ r. ⌜ r ≡ answerableAt (view rows (now (words .entry))) goal guest state press ⌝ }
+    ensures { λ r. ⌜ r ≡ openMoveAt (view rows (now (words .entry))) goal guest state press ⌝ }
 {
     if holds(words, rows, goal, state, 0) {
         return false;
@@ -77,15 +77,15 @@ fn is_answerable(words: &[u32], rows: u32, goal: u32, guest: u32, state: u32, pr
 }
 
 // What is answered when the rounds have ended: 15 is decided once the set is made.
-fn told(answerable: bool, bits: u32, watched: Watched) -> Reacted
+fn told(ok: bool, bits: u32, watched: Watched) -> Reacted
     requires { ⌜ bits ≤ 16 ⌝ }
-    ensures { λ r. ⌜ r ≡ toldOf answerable bits watched ⌝ }
+    ensures { λ r. ⌜ r ≡ toldOf ok bits watched ⌝ }
 {
     match watched {
         Watched::Full => Reacted::Refused(Refusal::Full),
         Watched::Spent => Reacted::Refused(Refusal::Spent),
         Watched::Made(u) => {
-            if !answerable {
+            if !ok {
                 return Reacted::Refused(Refusal::NoAnswer);
             }
             if u < 1u32 << bits {
@@ -121,7 +121,7 @@ fn reacting(
         limit: rows_under(rows, terms),
         rounds: rounds_under(most, terms),
     };
-    let answerable = is_answerable(words, rows, x, y, state, press);
+    let ok = is_open_move(words, rows, x, y, state, press);
     let bytes = game_bytes(goal, guest, machine);
     let asked = Asked {
         machine: z,
@@ -130,7 +130,7 @@ fn reacting(
     };
     let watched = watch_rounds(words, limits, &bytes, asked);
     free_many(words, rows);
-    told(answerable, bits, watched)
+    told(ok, bits, watched)
 }
 
 // The second call where there are such numbers and the account named: 7 where a register or relation is empty, else the rounds.

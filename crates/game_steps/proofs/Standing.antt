@@ -58,7 +58,7 @@ use Rattle.games.specs.Game.{forcing, forced, setAfter}
 use Rattle.games.specs.Call.{bodyForm}
 use Rattle.games.proofs.Rounds.{Noted, noted-none, noting, noted-next, after-size, after-found, still-below, not-out}
 use Rattle.games.proofs.Formula.{body-steady, body-means}
-use Rattle.game_steps.specs.Watch.{noteBy, NotePre, haltedOf, Plays, WatchPre, AnswerNoted, AnswerOf, is-made, is-full, is-spent}
+use Rattle.game_steps.specs.Watch.{noteBy, NotePre, haltedOf, HoldsGame, WatchPre, AnswerNoted, AnswerOf, is-made, is-full, is-spent}
 use Rattle.game_steps.specs.Watch.{Watches}
 use Rattle.game_steps.specs.Watch.{WatchPost}
 use Rattle.game_steps.specs.declared.Asked.{Asked}
@@ -122,7 +122,7 @@ pub record Standing (L : Limits) (W X : View) (stack now : List ℕ)
       (a .press) round noted
 
 module _ {L : Limits} {W : View} {stack bs : List ℕ} {a : Asked} {σ : Scene} {goal guest machine : ℕ}
-    (P : Plays L W stack bs a σ goal guest machine) where
+    (P : HoldsGame L W stack bs a σ goal guest machine) where
   abbrev k : ℕ
   k = 2 ^ L .bits
 
@@ -359,7 +359,7 @@ pub record Looping (L : Limits) (words₀ words counts₀ counts stack₀ stack 
   pub counts-size : length counts ≡ length counts₀
   pub stack-size : length stack ≡ length stack₀
   pub counts-of : CountsOf (view (L .rows) words) counts
-  pub stands : (σ : Scene) (goal guest machine : ℕ) → Plays L (view (L .rows) words₀) stack₀ bs a σ goal guest machine
+  pub stands : (σ : Scene) (goal guest machine : ℕ) → HoldsGame L (view (L .rows) words₀) stack₀ bs a σ goal guest machine
       → Standing L (view (L .rows) words₀) (view (L .rows) words) stack₀ stack a σ goal guest machine noted current count
 
 pub loop-starts : {L : Limits} {words counts stack bs : List ℕ} {a : Asked} {noted : ℕ} → CountsOf (view (L .rows) words) counts

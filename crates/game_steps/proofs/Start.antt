@@ -40,7 +40,7 @@ use Rattle.evaluator.proofs.Starts.{sceneIn, start-base, start-scene}
 use Rattle.games.specs.Call.{bodyForm, gameForm}
 use Rattle.games.proofs.Formula.{body-read, body-bound, game-steady}
 use Rattle.games.proofs.Call.{filled-all}
-use Rattle.game_steps.specs.Watch.{Plays, WatchPre, WatchPost, AnswerNoted, AnswerOf}
+use Rattle.game_steps.specs.Watch.{HoldsGame, WatchPre, WatchPost, AnswerNoted, AnswerOf}
 use Rattle.game_steps.specs.Watch.{is-made as value-made, is-full as value-full, is-spent as value-spent}
 use Rattle.game_steps.specs.Whole.{Given, RoundsPre, RoundsPost, RoundsSay, is-made, is-full, is-spent}
 use Rattle.game_steps.specs.declared.Asked.{Asked}
@@ -67,7 +67,7 @@ module _ {L : Limits} {W : View} {bs : List ℕ} {a : Asked} (p : RoundsPre L W 
   frame = op-memo (f .frame)
 
   plays : (goal guest machine : ℕ) → Given L W bs a goal guest machine
-      → Plays L X (replicate stackSize 0) bs a (sceneIn W) goal guest machine
+      → HoldsGame L X (replicate stackSize 0) bs a (sceneIn W) goal guest machine
   plays goal guest machine g = record {
     ready = start-scene L (p .sound) (p .bits) (p .rows) (p .limit) f;
     part = record {

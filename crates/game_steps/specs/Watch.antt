@@ -52,7 +52,7 @@ haltedOf answer.Spent = watched.Spent
 -- ---- all rounds
 
 -- the scene holds a game, whose body stands in the bytes, and the asked state and press are among its states
-pub record Plays (L : Limits) (W : View) (stack bs : List ℕ) (a : Asked) (σ : Scene) (goal guest machine : ℕ) : Type 0 where
+pub record HoldsGame (L : Limits) (W : View) (stack bs : List ℕ) (a : Asked) (σ : Scene) (goal guest machine : ℕ) : Type 0 where
   pub ready : Ready L W stack noPlaces 0 σ
   pub part : Part Runs (L .bits) bs 4 63 (set (σ .scope) 0 true) (holdsReg σ) (holdsRel σ) (bodyForm goal guest machine) 12
   pub machine-in : machine < relations
@@ -66,7 +66,7 @@ pub record WatchPre (L : Limits) (W : View) (stack bs : List ℕ) (a : Asked) : 
   pub goal : ℕ
   pub guest : ℕ
   pub machine : ℕ
-  pub plays : Plays L W stack bs a scene goal guest machine
+  pub plays : HoldsGame L W stack bs a scene goal guest machine
 
 -- what is noted when the set is made, of the state s and the press t: k where s is not in the set; the answer, where there is one
 pub record AnswerNoted (k : ℕ) (G M : Pairs) (B : List Bool) (s t x : ℕ) : Type 0 where
@@ -91,4 +91,4 @@ pub record Watches (L : Limits) (W X : View) (stack : List ℕ) (a : Asked) (σ 
 -- what they promise, of every game whose scene words and stack hold
 abbrev pub WatchPost : Limits → View → View → List ℕ → List ℕ → Asked → Watched → Type 0
 WatchPost L W X stack bs a r =
-    (σ : Scene) (goal guest machine : ℕ) → Plays L W stack bs a σ goal guest machine → Watches L W X stack a σ goal guest machine r
+    (σ : Scene) (goal guest machine : ℕ) → HoldsGame L W stack bs a σ goal guest machine → Watches L W X stack a σ goal guest machine r

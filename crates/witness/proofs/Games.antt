@@ -1,7 +1,7 @@
 -- GUEST AGAINST MACHINE ON CONCRETE WORDS, after the list of QuietList: what both contracts give there, in both tables, and impostors
 -- beside the true answers. The goal is state 1, in register 3; relation 0, which leads from each state to each, is the guest's and the
 -- machine's. So state 1 enters in round 1 and state 0 in round 2, and round 3 gives the same set again. Assumes nothing.
-use mathlib.Core.Path.{_≡_, refl, sym, ap, _∙_}
+use mathlib.Core.Path.{_≡_, ap, _∙_}
 use mathlib.Core.Bool.{true}
 use mathlib.Core.List.{List, [], _∷_}
 use mathlib.Core.Option.{some}

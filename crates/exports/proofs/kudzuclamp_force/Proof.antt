@@ -1,5 +1,5 @@
 -- `kudzuclamp_force` meets its contract: a walk of its MIR, by hand. The register and the bytes are made by value; the bytes are lent for a
--- lifetime made here, all else goes on to `kudzuclamp_set` at its own lifetime, and what that promises of a set is `forced`.
+-- lifetime made here, all else goes on to `kudzuclamp_set` at its own lifetime, and what that promises of a set is `force-from-set`.
 -- Assumes nothing.
 use mathlib.Core.Path.{_≡_, refl, subst}
 use Prim.Native.Nat.{ℕ, _<_, _^_, _%_}
@@ -51,7 +51,7 @@ use Rattle.games.specs.Call.{gameTarget, gameBytes}
 use Rattle.exports.specs.Games.{ForceAllPost}
 use Rattle.exports.specs.Given.{given}
 use Rattle.exports.proofs.Local.{bytesTy, Held, lends, back}
-use Rattle.exports.proofs.Games.{forced}
+use Rattle.exports.proofs.Games.{force-from-set}
 use Rattle.game_calls.proofs.game_target as tg
 use Rattle.game_calls.proofs.game_target.Symbol as target-def
 use Rattle.game_calls.proofs.game_target.Symbol.{name as #calls·target}
@@ -396,7 +396,7 @@ module _ {M : Type 1} (𝓤 : URA M) (H : Heap 𝓤) (A : Atoms 𝓤) (W : Given
         move ! (15 ∷ 16 ∷ []) $ free1 ! $ move ! (13 ∷ 14 ∷ []) $ free1 ! $ move ! (11 ∷ 12 ∷ []) $ free1 ! $
         free0 ! $ keep ! (2 ∷ 1 ∷ 0 ∷ 9 ∷ 8 ∷ 7 ∷ 6 ∷ 4 ∷ 3 ∷ []) $
         by ! (exits k v (zs .0) (zs .1 .0) (zs .1 .1 .1 .1 .1 .1 .0) (zs .1 .1 .1 .1 .1 .1 .1 .0) (zs .1 .1 .1 .1 .1 .1 .1 .1 .0) lw la
-        (forced p reg mo goal guest machine
+        (force-from-set p reg mo goal guest machine
         (subst (λ (r : ℕ). SetAllPost p r mo bs ws (zs .0) ys (zs .1 .0)
         (given k (zs .1 .1 .1 .1 .1 .1 .1 .0) (zs .1 .1 .1 .1 .1 .1 .1 .1 .0) (zs .1 .1 .1 .1 .1 .1 .0))) et
         e))))))))))))))))))))))))))))))))))))))))))))

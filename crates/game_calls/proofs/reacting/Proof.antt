@@ -1,5 +1,5 @@
 -- `reacting` meets its contract: the rounds, and what they tell. Assumes nothing.
-use Rattle.game_calls.proofs.Leaves.{answerable-asks, bytes-made, game-asks, freeing, game-done}
+use Rattle.game_calls.proofs.Leaves.{open-move-asks, bytes-made, game-asks, freeing, game-done}
 use borrow.Author.Needs.{needs}
 use Rattle.game_calls.proofs.reacting.Statement.{statement}
 use Rattle.game_calls.proofs.reacting.Tie as tie
@@ -14,7 +14,7 @@ reacting-spec =
     (λ c κs. search needs)
     (λ c κs. search needs)
     (λ c κs. search needs)
-    (λ c κs. let c5 = c .before .before .before .before .before in let c8 = c5 .before .before .before in answerable-asks (c8 .pre)
+    (λ c κs. let c5 = c .before .before .before .before .before in let c8 = c5 .before .before .before in open-move-asks (c8 .pre)
     (c5 .header-word .ensures))
     (λ c κs. search needs)
     (λ c. search needs)
@@ -33,5 +33,5 @@ reacting-spec =
     let c11 = c10 .before in let c13 = c11 .before .before in let c14 = c13 .before in let c15 = c14 .before in
     let c17 = c15 .before .before in let c20 = c17 .before .before .before in game-done (c20 .pre) (c20 .args .terms) (c20 .args .most)
     (c17 .header-word .ensures) (c15 .header-word2 .ensures) (c14 .rows-under .ensures) (c13 .rounds-under .ensures)
-    (bytes-made (c20 .pre) (c10 .game-bytes .ensures)) (c7 .watch-rounds .ensures) (c11 .is-answerable .ensures)
+    (bytes-made (c20 .pre) (c10 .game-bytes .ensures)) (c7 .watch-rounds .ensures) (c11 .is-open-move .ensures)
     (c3 .free-many .ensures) (c .told .ensures)))
