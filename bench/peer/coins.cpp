@@ -1,7 +1,7 @@
 // coins N [WORD...]: cheapest runs (Slip 13) at N bits, of the cases whose name has one of the words, or of all. The call beside Dijkstra's search
 // over explicit edges, with a binary heap; its edges are made before, and not timed, and it is left out where there are more than 2^26. Both must
 // tell the same total and number of states, and the run that is written must be one. Thread times in ms.
-#include "list.h"
+#include "formulas.h"
 #include "own.h"
 #include <algorithm>
 #include <cstdio>
@@ -15,7 +15,6 @@
 #include <tuple>
 #include <vector>
 
-using Bytes = std::vector<uint8_t>;
 using Holds = std::function<bool(u32, u32)>;
 using Before = std::function<void(u32, std::vector<u32> &)>;
 using Cost = std::pair<u64, u32>;
@@ -23,45 +22,11 @@ using Cost = std::pair<u64, u32>;
 static const u64 MOST_EDGES = u64(1) << 26;
 static u32 n, all, high;
 
-static u64 now() {
-    timespec t;
-    clock_gettime(CLOCK_THREAD_CPUTIME_ID, &t);
-    return t.tv_sec * 1000000000ull + t.tv_nsec;
-}
-
-static void check(u32 number) {
-    if (number == 0) return;
-    fprintf(stderr, "refused with %u\n", number);
-    exit(1);
-}
-
 // ---- formulas
 
-static Bytes join(u32 word, const Bytes &f, const Bytes &g = {}) {
-    Bytes bytes = {uint8_t(word)};
-    bytes.insert(bytes.end(), f.begin(), f.end());
-    bytes.insert(bytes.end(), g.begin(), g.end());
-    return bytes;
-}
+static Bytes each(const std::function<Bytes(u32)> &part) { return each(0, n, part); }
 
-static Bytes no(const Bytes &f) { return join(2, f); }
-static Bytes both(const Bytes &f, const Bytes &g) { return join(3, f, g); }
-static Bytes either(const Bytes &f, const Bytes &g) { return join(4, f, g); }
-static Bytes here(u32 p) { return {uint8_t(0x10 + p)}; }
-static Bytes there(u32 p) { return {uint8_t(0x20 + p)}; }
-static Bytes same(const Bytes &f, const Bytes &g) { return either(both(f, g), no(either(f, g))); }
-static Bytes turns(u32 p) { return no(same(here(p), there(p))); }
-
-// The AND of what a function says of each bit.
-static Bytes each(const std::function<Bytes(u32)> &part) {
-    Bytes body = part(0);
-    for (u32 p = 1; p < n; p++) body = both(part(p), body);
-    return body;
-}
-
-static Bytes state(u32 s) {
-    return each([s](u32 p) { return s >> p & 1 ? here(p) : no(here(p)); });
-}
+static Bytes state(u32 s) { return state(n, s); }
 
 // The parity of bits from a byte on.
 static Bytes parity(u32 first, u32 count) {
@@ -79,14 +44,10 @@ struct Relation {
 
 static bool odd(u32 s) { return __builtin_popcount(s) % 2; }
 
-// The number after the current one, or the one before it: a bit turns over where the bit below turns from 1, or from 0.
+// The number after the current one, or the one before it.
 static Relation counter(bool up) {
-    auto part = [up](u32 p) {
-        if (p == 0) return turns(0);
-        return same(turns(p), both(turns(p - 1), up ? here(p - 1) : no(here(p - 1))));
-    };
     u32 step = up ? 1 : all - 1;
-    return {each(part), [step](u32 s, u32 t) { return t == ((s + step) & (all - 1)); },
+    return {counts(n, up), [step](u32 s, u32 t) { return t == ((s + step) & (all - 1)); },
             [step](u32 t, std::vector<u32> &list) { list.push_back((t - step) & (all - 1)); }};
 }
 
@@ -368,11 +329,6 @@ struct Hall {
         }
         set(0, asked.from);
         set(1, asked.goal);
-    }
-
-    static Bytes framed(const Bytes &body) {
-        size_t length = body.size() + 1;
-        return join(length >> 8, join(length & 255, join(1, body)));
     }
 
     void set(u32 r, const Set &set) {

@@ -3,7 +3,7 @@
 //! The entry points ask of their caller only what a Rust reference has: a pointer that is aligned
 //! and not null, to as many elements as the length says, and mutable memory that overlaps nothing
 //! else. Their contracts have no other precondition: any words, numbers and bytes are answered.
-use crate::{Account, Fare, Loaded, Refusal, Stored, Target};
+use crate::{Account, Fare, Game, Loaded, Refusal, Stored, Strategy, Target};
 
 /// The declarations of `include/kudzuclamp.h`: a slice is a pointer and then a length.
 mod library {
@@ -101,6 +101,35 @@ mod library {
             charge: *mut u32,
             count: *mut u32,
         ) -> u32;
+        pub fn kudzuclamp_force(
+            words: *mut u32,
+            words_len: usize,
+            accounts: *mut Account,
+            accounts_len: usize,
+            place: u32,
+            r: u32,
+            most: u32,
+            goal: u32,
+            guest: u32,
+            machine: u32,
+            node: *mut u32,
+            rounds: *mut u32,
+            peak: *mut u32,
+        ) -> u32;
+        pub fn kudzuclamp_react(
+            words: *mut u32,
+            words_len: usize,
+            accounts: *const Account,
+            accounts_len: usize,
+            place: u32,
+            most: u32,
+            goal: u32,
+            guest: u32,
+            machine: u32,
+            state: u32,
+            press: u32,
+            answer: *mut u32,
+        ) -> u32;
         pub fn kudzuclamp_check(
             words: *const u32,
             words_len: usize,
@@ -129,6 +158,11 @@ fn answered<T>(number: u32, answer: T) -> Result<T, Refusal> {
         Some(refusal) => Err(refusal),
         None => unreachable!("the library returned {number}, which is no refusal's number"),
     }
+}
+
+/// A place in a list of accounts. No list that is taken has one that does not fit.
+fn place(account: usize) -> u32 {
+    u32::try_from(account).unwrap_or(u32::MAX)
 }
 
 pub fn fresh(
@@ -175,8 +209,6 @@ pub fn set(
     bytes: &[u8],
 ) -> Result<Stored, Refusal> {
     let (mut node, mut rounds, mut peak) = (0, 0, 0);
-    // No list that is taken has a place that does not fit.
-    let place = u32::try_from(target.account).unwrap_or(u32::MAX);
     // SAFETY: pointers and lengths are those of slices; the mutable ones overlap nothing. The last
     // three pointers are three locals'.
     let number = unsafe {
@@ -185,7 +217,7 @@ pub fn set(
             words.len(),
             accounts.as_mut_ptr(),
             accounts.len(),
-            place,
+            place(target.account),
             target.register,
             target.rounds,
             bytes.as_ptr(),
@@ -331,6 +363,69 @@ pub fn cheapest(
         count: count as usize,
     };
     answered(number, fare)
+}
+
+pub fn force(
+    words: &mut [u32],
+    accounts: &mut [Account],
+    target: Target,
+    game: Game,
+) -> Result<Stored, Refusal> {
+    let (mut node, mut rounds, mut peak) = (0, 0, 0);
+    // SAFETY: pointers and lengths are those of slices and locals; they overlap nothing.
+    let number = unsafe {
+        library::kudzuclamp_force(
+            words.as_mut_ptr(),
+            words.len(),
+            accounts.as_mut_ptr(),
+            accounts.len(),
+            place(target.account),
+            target.register,
+            target.rounds,
+            game.goal,
+            game.guest,
+            game.machine,
+            &mut node,
+            &mut rounds,
+            &mut peak,
+        )
+    };
+    let stored = Stored { node, rounds, peak };
+    answered(number, stored)
+}
+
+/// The state that the machine answers a press with.
+pub fn react(
+    words: &mut [u32],
+    accounts: &[Account],
+    strategy: Strategy,
+    state: u32,
+    press: u32,
+) -> Result<u32, Refusal> {
+    let Strategy {
+        game,
+        account,
+        rounds,
+    } = strategy;
+    let mut answer = 0;
+    // SAFETY: pointers and lengths are those of slices and a local; the mutable ones overlap nothing.
+    let number = unsafe {
+        library::kudzuclamp_react(
+            words.as_mut_ptr(),
+            words.len(),
+            accounts.as_ptr(),
+            accounts.len(),
+            place(account),
+            rounds,
+            game.goal,
+            game.guest,
+            game.machine,
+            state,
+            press,
+            &mut answer,
+        )
+    };
+    answered(number, answer)
 }
 
 /// The checks of formula bytes for a relation call, or else for a set call.

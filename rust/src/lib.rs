@@ -37,7 +37,8 @@
 //! Many states are asked at once by [`Table::members`]; [`Table::states`] gives all that a set has,
 //! [`Table::pick`] one of them, and [`Table::to_dot`] draws its rows. [`Table::shortest`] tells by
 //! which states a relation leads from one set into another, [`Table::cheapest`] by which presses of
-//! several relations it costs least.
+//! several relations it costs least. [`Table::force`] tells from where the machine can force a goal
+//! whatever a guest presses, and a [`Strategy`] answers the presses.
 //!
 //! [`Names`] has names for the bits: formulas are read from text and written as text with them. What
 //! is wrong with a formula is told with its place: see [`Fault`] and [`ParseError`].
@@ -54,6 +55,7 @@ mod display;
 mod dot;
 mod fault;
 mod formula;
+mod game;
 mod layout;
 mod least;
 mod names;
@@ -69,6 +71,7 @@ mod token;
 pub use account::{Account, MAX_ACCOUNTS};
 pub use fault::{Fault, FaultKind};
 pub use formula::{AsFormula, Formula};
+pub use game::{Game, Strategy};
 pub use names::{NameError, Names};
 pub use parse::{ParseError, ParseErrorKind};
 pub use play::{play, Outcome, Unreadable};

@@ -4,9 +4,9 @@ use std::fmt;
 
 /// Why a call is refused, with document 01's numbers.
 ///
-/// `Full`, `Spent`, `NoRun` and `Short` keep V, registers, relations and the rows that they need;
-/// every other refusal keeps all words. No refusal changes an account or a list of states or
-/// relations. Later versions may have more of them.
+/// `Full`, `Spent`, `NoRun`, `Short` and `NoAnswer` keep V, registers, relations and the rows that
+/// they need; every other refusal keeps all words. No refusal changes an account or a list of states
+/// or relations. Later versions may have more of them.
 ///
 /// ```
 /// use kudzuclamp::Refusal;
@@ -49,6 +49,9 @@ pub enum Refusal {
     /// 14: the list is not 1 to 8 accounts long, or has no account at the place named. Checked
     /// directly after 3, in fresh after 1.
     Unlisted = 14,
+    /// 15: the machine has no answer to give: the state is in the goal or outside the set, or the
+    /// press is no guest move. Decided after 8 and 9.
+    NoAnswer = 15,
 }
 
 impl Refusal {
@@ -68,9 +71,10 @@ impl Refusal {
         Refusal::Vacuous,
         Refusal::Occupied,
         Refusal::Unlisted,
+        Refusal::NoAnswer,
     ];
 
-    /// The number, 1 to 14.
+    /// The number, 1 to 15.
     #[must_use]
     pub const fn number(self) -> u32 {
         self as u32
@@ -114,6 +118,9 @@ impl fmt::Display for Refusal {
             Refusal::Unlisted => {
                 "the list is not 1 to 8 accounts long, or has no account at that place"
             }
+            Refusal::NoAnswer => {
+                "the state is in the goal or outside the set, or the press is no guest move"
+            }
         })
     }
 }
@@ -130,7 +137,7 @@ mod tests {
             .iter()
             .map(|refusal| refusal.number())
             .collect();
-        assert_eq!(numbers, (1..=14).collect::<Vec<u32>>());
+        assert_eq!(numbers, (1..=15).collect::<Vec<u32>>());
         for number in 0..20 {
             let refusal = Refusal::from_number(number);
             assert_eq!(refusal.is_some(), numbers.contains(&number));

@@ -1,7 +1,8 @@
 //! The table over lent or owned words.
 use crate::check::{self, Call};
 use crate::layout::{self, BITS, FIRST_REGISTER, ROWS};
-use crate::{abi, dot, least, Account, AsFormula, Names, Refusal, Refused, States, Target};
+use crate::{abi, dot, least, Account, AsFormula, Game, Names, Refusal, Refused, States};
+use crate::{Strategy, Target};
 
 /// The greatest number of state bits of a table.
 pub const MAX_BITS: u32 = 16;
@@ -32,7 +33,7 @@ pub struct Loaded {
     pub peak: u32,
 }
 
-/// What an answered [`Table::set`] gives.
+/// What an answered [`Table::set`] or [`Table::force`] gives.
 #[derive(Clone, Copy, Debug, PartialEq, Eq, Hash)]
 pub struct Stored {
     /// The set's node number: two registers hold the same set exactly where their node numbers are
@@ -279,6 +280,95 @@ impl<W: AsRef<[u32]> + AsMut<[u32]>> Table<W> {
     ) -> Result<Stored, Refused> {
         abi::set(self.words.as_mut(), accounts, target, formula.framed())
             .map_err(|refusal| self.refused(Call::Set, &formula, refusal))
+    }
+
+    /// The [`Target`]'s register then holds the states from which the machine can force the goal of a
+    /// [`Game`]: those of the goal, and those where the guest has a move and after every guest move
+    /// some machine move leads back into the set; the least such set (the goal's attractor). From every
+    /// other state the guest has a way to stay outside for good, or no move.
+    ///
+    /// It is a [`Table::set`] of `mu P0. goal | [guest] <machine> P0 & <guest> true`, with its account, its
+    /// rounds and its peak. The target may be the goal's own register; then the set takes the goal's
+    /// place, and [`Table::react`] about it gives [`Refusal::NoAnswer`] for every press.
+    ///
+    /// # Errors
+    ///
+    /// [`Refusal::Unsound`], [`Refusal::Range`] (a register is above 31, or a relation above 7),
+    /// [`Refusal::Unlisted`], [`Refusal::Empty`], [`Refusal::Full`] or [`Refusal::Spent`].
+    ///
+    /// ```
+    /// use kudzuclamp::{Account, Formula, Game, Refusal, Table, Target};
+    ///
+    /// # fn main() -> Result<(), Refusal> {
+    /// // Bit 0 is the song, bit 1 the echo. The guest turns the song over; the machine may turn the
+    /// // echo off, or leave it.
+    /// let mut accounts = [Account::unlimited()];
+    /// let mut table = Table::new(&mut accounts, 2, 100)?;
+    /// table.relation(0, Formula::turns(0) & Formula::keeps(1))?;
+    /// table.relation(1, Formula::keeps(0) & (Formula::keeps(1) | !Formula::next(1)))?;
+    /// // From where can it see to it that the echo is off while a song plays?
+    /// table.set(&mut accounts, Target::register(0), Formula::current(0) & !Formula::current(1))?;
+    /// let stored = table.force(&mut accounts, Target::register(1), Game::new(0, 0, 1))?;
+    /// assert_eq!((table.count(1)?, stored.rounds, accounts[0].tally), (4, 4, 4));
+    /// // Where it may only leave the echo as it is, the echo must be off already.
+    /// table.relation(2, Formula::keeps(0) & Formula::keeps(1))?;
+    /// table.force(&mut accounts, Target::register(2), Game::new(0, 0, 2))?;
+    /// assert_eq!(table.states(2)?.collect::<Vec<u32>>(), [0, 1]);
+    /// # Ok(())
+    /// # }
+    /// ```
+    #[doc(alias = "attractor")]
+    pub fn force(
+        &mut self,
+        accounts: &mut [Account],
+        target: Target,
+        game: Game,
+    ) -> Result<Stored, Refusal> {
+        abi::force(self.words.as_mut(), accounts, target, game)
+    }
+
+    /// What the machine answers the guest's press with, by a [`Strategy`]: the least state that a
+    /// machine move leads to from `press` and that enters the set of [`Table::force`] in an earlier
+    /// round than `state`. The press is named by the state that it leads to.
+    ///
+    /// The rounds are made again under the strategy's limits, so it takes about as long as
+    /// [`Table::force`], which need not have been called; nothing is stored, no register or relation
+    /// changes, and the accounts are only read.
+    ///
+    /// # Errors
+    ///
+    /// [`Refusal::Unsound`], [`Refusal::Range`] (of the game's numbers, the state or the press),
+    /// [`Refusal::Unlisted`], [`Refusal::Empty`], [`Refusal::Full`] or [`Refusal::Spent`] as for
+    /// [`Table::force`], or [`Refusal::NoAnswer`] where the state is in the goal or outside the set, or
+    /// the press is no guest move from it.
+    ///
+    /// ```
+    /// use kudzuclamp::{Account, Formula, Game, Refusal, Strategy, Table, Target};
+    ///
+    /// # fn main() -> Result<(), Refusal> {
+    /// // The guest turns bit 0 over, the machine may turn bit 1 off.
+    /// let mut accounts = [Account::unlimited()];
+    /// let mut table = Table::new(&mut accounts, 2, 100)?;
+    /// table.relation(0, Formula::turns(0) & Formula::keeps(1))?;
+    /// table.relation(1, Formula::keeps(0) & (Formula::keeps(1) | !Formula::next(1)))?;
+    /// table.set(&mut accounts, Target::register(0), Formula::current(0) & !Formula::current(1))?;
+    /// let strategy = Strategy::new(Game::new(0, 0, 1));
+    /// // In state 2 the guest presses to 3: the machine turns bit 1 off, and state 1 is in the goal.
+    /// assert_eq!(table.react(&accounts, strategy, 2, 3), Ok(1));
+    /// assert_eq!(table.react(&accounts, strategy, 1, 0), Err(Refusal::NoAnswer));
+    /// assert_eq!(table.react(&accounts, strategy.rounds(3), 2, 3), Err(Refusal::Spent));
+    /// assert_eq!(table.react(&accounts, strategy, 4, 3), Err(Refusal::Range));
+    /// # Ok(())
+    /// # }
+    /// ```
+    pub fn react(
+        &mut self,
+        accounts: &[Account],
+        strategy: Strategy,
+        state: u32,
+        press: u32,
+    ) -> Result<u32, Refusal> {
+        abi::react(self.words.as_mut(), accounts, strategy, state, press)
     }
 
     /// Empties register r; an empty one stays so.

@@ -1,7 +1,7 @@
 //! Where a set goes, and what it may take.
 
-/// Where [`Table::set`](crate::Table::set) puts a set, and what making it may take: the register, the
-/// account by its place in the list, and the most rounds.
+/// Where [`Table::set`](crate::Table::set) and [`Table::force`](crate::Table::force) put a set, and
+/// what making it may take: the register, the account by its place in the list, and the most rounds.
 ///
 /// ```
 /// use kudzuclamp::Target;

@@ -35,6 +35,24 @@ static void *cheapest(void *number)
     return NULL;
 }
 
+static struct kudzuclamp_account wide = {UINT32_MAX, UINT32_MAX, 0};
+
+/* The states from which a goal can be forced. */
+static void *force(void *number)
+{
+    uint32_t node, rounds, peak;
+    *(uint32_t *)number = kudzuclamp_force(words, KUDZUCLAMP_WORDS(ROWS), &wide, 1, 0, 2, UINT32_MAX, 1, 0, 0, &node, &rounds, &peak);
+    return NULL;
+}
+
+/* The answer to a press that leads nowhere else. */
+static void *react(void *number)
+{
+    uint32_t answer;
+    *(uint32_t *)number = kudzuclamp_react(words, KUDZUCLAMP_WORDS(ROWS), &wide, 1, 0, UINT32_MAX, 1, 0, 0, 0, 0, &answer);
+    return NULL;
+}
+
 /* The bytes of stack that a call takes; 0 where it is refused, but by 7 or 10, which a cheapest run gives after the check. */
 static size_t used_stack(void *(*call)(void *))
 {
@@ -133,8 +151,8 @@ static size_t all_bits(uint8_t *framed, size_t framed_len, const uint8_t *patter
     return kudzuclamp_frame(framed, framed_len, formula, at);
 }
 
-/* Whether a cheapest run from the state with no bit on to that with all takes less than so many bytes. Its relation, in which bits only turn on, has a
-   row on every level. */
+/* Whether a cheapest run from the state with no bit on to that with all takes less than so many bytes, and a game over the same relation,
+   for both sides, with all bits on as its goal. In that relation bits only turn on, and it has a row on every level. */
 static int searched(size_t most)
 {
     static const uint8_t rising[] = {KUDZUCLAMP_OR, KUDZUCLAMP_NOT, KUDZUCLAMP_NOW(0), KUDZUCLAMP_NEXT(0)};
@@ -142,7 +160,7 @@ static int searched(size_t most)
     struct kudzuclamp_account account = {UINT32_MAX, UINT32_MAX, 0};
     uint8_t framed[KUDZUCLAMP_FRAMED(KUDZUCLAMP_MAX_FORMULA)];
     uint32_t node, rounds, peak;
-    size_t used;
+    size_t used, forced, reacted;
     if (kudzuclamp_fresh(words, KUDZUCLAMP_WORDS(ROWS), &account, 1, 16, ROWS) != 0 ||
         kudzuclamp_relation(words, KUDZUCLAMP_WORDS(ROWS), 0, framed, all_bits(framed, sizeof framed, rising, sizeof rising), &peak) != 0 ||
         kudzuclamp_set(words, KUDZUCLAMP_WORDS(ROWS), &account, 1, 0, 0, 0, framed, all_bits(framed, sizeof framed, off, sizeof off), &node, &rounds,
@@ -151,8 +169,11 @@ static int searched(size_t most)
                        &peak) != 0)
         return 0;
     used = used_stack(cheapest);
-    printf("a cheapest run: %lu bytes of stack\n", (unsigned long)used);
-    return used != 0 && used < most;
+    forced = used_stack(force);
+    reacted = used_stack(react);
+    printf("a cheapest run: %lu bytes of stack; force: %lu; react: %lu\n", (unsigned long)used, (unsigned long)forced,
+           (unsigned long)reacted);
+    return used != 0 && used < most && forced != 0 && forced < most && reacted != 0 && reacted < most;
 }
 
 int main(void)

@@ -235,12 +235,12 @@ module _ (L : Limits) (W : View) (bs : List ℕ) (bits : L .bits ≡ W .header B
   unfolding whole
   whole-is = sym (ap formOf (fits .read))
 
--- the context that was made is the start
-module _ {g : Grammar} {L : Limits} {X : View} {stack bs : List ℕ} {c : Context} (i : c ≡ start) where
-  pub asks-at : EvalPre g L X stack bs start → EvalPre g L X stack bs c
+-- the context that was made is the one meant
+module _ {g : Grammar} {L : Limits} {X : View} {stack bs : List ℕ} {c e : Context} (i : c ≡ e) where
+  pub asks-at : EvalPre g L X stack bs e → EvalPre g L X stack bs c
   asks-at P = subst (λ (d : Context). EvalPre g L X stack bs d) (sym i) P
 
-  pub ends-at : {Y : View} {after : List ℕ} {r : Evaluated} → EvalPost g L X Y stack after bs c r → EvalPost g L X Y stack after bs start r
+  pub ends-at : {Y : View} {after : List ℕ} {r : Evaluated} → EvalPost g L X Y stack after bs c r → EvalPost g L X Y stack after bs e r
   ends-at {Y} {after} {r} E = subst (λ (d : Context). EvalPost g L X Y stack after bs d r) i E
 
 -- ---- a set's formula

@@ -20,7 +20,7 @@ use Rattle.evaluator.specs.Scene.{OverPost, LivePre, LivePost, JoinedPre
 use Rattle.evaluator.specs.Scene.{EvalPre, EvalPost, NegatePost, BothPre, BothPost, ModePre, ModePost, ReachPre, ReachPost}
 use Rattle.evaluator.specs.Scene.{FurtherPre, FurtherPost, KeepPre, KeepPost, RoundPre, RoundPost, TurnPre, TurnPost, BindPre}
 use Rattle.evaluator.specs.Scene.{BindPost}
-use Rattle.evaluator.specs.Whole.{WithinPre, WithinPost, SetPre, SetPost, PairsPre, PairsPost, RelationPost}
+use Rattle.evaluator.specs.Whole.{WithinPre, WithinPost, SetPre, SetPost, PairsPre, PairsPost, RelationPost, OncePre, OncePost}
 
 -- before a call
 module _ (l : Limits) (words counts stack : List ℕ) where
@@ -62,6 +62,9 @@ module _ (l : Limits) (words counts stack : List ℕ) where
 
   abbrev pub RoundAsks : (bs : List ℕ) (c : Context) (middle t x : ℕ) → Type 0
   RoundAsks bs c middle t x = Counted l words counts (RoundPre l (viewIn l words) stack bs c middle t x)
+
+  abbrev pub OnceAsks : (bs : List ℕ) (x : ℕ) (q : Count) → Type 0
+  OnceAsks bs x q = Counted l words counts (OncePre l (viewIn l words) stack bs x q)
 
   abbrev pub WithinAsks : (a : ℕ) → Type 0
   WithinAsks a = Counted l words counts (WithinPre l (viewIn l words) stack a)
@@ -122,6 +125,9 @@ module _ (l : Limits) (before after counts stack last : List ℕ) where
 
   abbrev pub RoundGives : (bs : List ℕ) (c : Context) (middle : ℕ) (m : Mode) (t x : ℕ) (r : Evaluated) → Type 0
   RoundGives bs c middle m t x r = Counted l after counts (RoundPost l (viewIn l before) (viewIn l after) stack last bs c middle m t x r)
+
+  abbrev pub OnceGives : (bs : List ℕ) (x : ℕ) (q : Count) (r : Evaluated) → Type 0
+  OnceGives bs x q r = Counted l after counts (OncePost l (viewIn l before) (viewIn l after) stack last bs x q r)
 
 -- a whole call's formula
 module _ (l : Limits) (words bs : List ℕ) where

@@ -2,11 +2,12 @@
 use mathlib.Core.Path.{_≡_}
 use mathlib.Core.Bool.{Bool, true, false}
 use mathlib.Core.List.{List}
-use Prim.Native.Nat.{ℕ, _*_, _≤_}
-use lib.ListN.{replicate}
+use Prim.Native.Nat.{ℕ, _*_, _≤_, _<_}
+use lib.ListN.{length, replicate, set}
 use Rattle.mucalculus.specs.Form.{noEnv}
 use Rattle.tokens.specs.declared.Kind.{Kind}
 use Rattle.tokens.specs.declared.Kind.the-variants.{Relation, Set, Valid}
+use Rattle.tokens.specs.declared.Grammar.the-variants.{Runs}
 use Rattle.formula.specs.Parse.{depthLimit}
 use Rattle.layout.specs.Places.{BITS}
 use Rattle.layout.specs.View.{View}
@@ -20,7 +21,7 @@ use Rattle.operations.specs.Work.{OpFrame}
 use Rattle.counting.specs.Taken.{madeIn, countIn}
 use Rattle.counting.specs.declared.Taken.{Taken}
 use Rattle.accounts.specs.declared.Count.{Count}
-use Rattle.accounts.specs.Count.{nothing}
+use Rattle.accounts.specs.Count.{nothing, another}
 use Rattle.book.specs.Book.{Book, modelOf, liveOf, checks, formulaIn}
 use Rattle.book.specs.BookOf.{bookOf}
 use Rattle.book.specs.Table.{rootsOf}
@@ -34,7 +35,7 @@ use Rattle.book.specs.Pairs.{PairEvals}
 use Rattle.contract.specs.Seen.{seenIn}
 use Rattle.modal.specs.declared.Limits.{Limits}
 use Rattle.modal.specs.Chain.{Ran}
-use Rattle.evaluator.specs.Scene.{Scene, Ready, endedOf}
+use Rattle.evaluator.specs.Scene.{Scene, Ready, endedOf, EvalPre, EvalPost}
 use Rattle.evaluator.specs.declared.Context.{Context}
 use Rattle.evaluator.specs.declared.Evaluated.{Evaluated}
 
@@ -44,6 +45,10 @@ noPlaces = replicate 16 0
 
 abbrev pub start : Context
 start = record { at = 3; depth = depthLimit; held = 0; places = noPlaces; count = nothing }
+
+-- where the body of a formula that is a binder starts, after so much is counted
+abbrev pub bodyStart : Count → Context
+bodyStart q = record { at = 4; depth = 63; held = 1; places = noPlaces; count = another q }
 
 -- the book that a table stands for
 abbrev pub bookIn : View → Book
@@ -64,6 +69,17 @@ pub record SetPost (L : Limits) (W X : View) (bs : List ℕ) (r : Evaluated) : T
   pub frame : OpFrame W X
   pub evals : Evals (bookIn W .n) (bookIn W .N) (rowsOf W) (rowsOf X) (rootsOf (seenIn W))
       (run (states (modelOf (bookIn W)) noEnv) (L .limit) (L .rounds) (liveOf (bookIn W)) (formulaIn (bookIn W) Set bs) nothing) (endedOf r)
+
+-- ---- one round of a formula that is a binder
+
+-- the body with x as its current set, which stands in the first word of the stack
+pub record OncePre (L : Limits) (W : View) (stack bs : List ℕ) (x : ℕ) (q : Count) : Type 0 where
+  pub place : 0 < length stack
+  pub more : q .rounds < 4_294_967_295
+  pub asks : EvalPre Runs L W (set stack 0 x) bs (bodyStart q)
+
+abbrev pub OncePost : Limits → View → View → List ℕ → List ℕ → List ℕ → ℕ → Count → Evaluated → Type 0
+OncePost L W X stack after bs x q r = EvalPost Runs L W X (set stack 0 x) after bs (bodyStart q) r
 
 -- ---- within V
 

@@ -34,7 +34,7 @@ ghost use Rattle.tokens.specs.Tokens.{onlyNow};
 ghost use Rattle.counting.specs.declared.Taken.the-variants.{At};
 ghost use Rattle.book.specs.Turns.{startArrow};
 ghost use Rattle.tokens.specs.declared.Mode.the-variants.{All};
-ghost use Rattle.evaluator.specs.Whole.{start};
+ghost use Rattle.evaluator.specs.Whole.{start, bodyStart};
 ghost use Rattle.evaluator.specs.Scene.{stackSize, fromTaken, bodyOf, roundOf, isLeast, fixOf, variableOf, joinStep};
 ghost use Rattle.evaluator.specs.Scene.{TrueIs, UntilPost};
 ghost use Rattle.evaluator.specs.Posts.{LiveAsks, LiveGives, JoinedAsks, JoinedGives, ConfinedAsks, ConfinedGives};
@@ -42,7 +42,7 @@ ghost use Rattle.evaluator.specs.Posts.{LeafAsks, LeafGives, OverAsks, O
 ghost use Rattle.evaluator.specs.Posts.{EvalAsks, EvalGives, NegateGives, BothAsks, BothGives, ModeAsks, ModeGives};
 ghost use Rattle.evaluator.specs.Posts.{BindAsks, BindGives, TurnAsks, TurnGives};
 ghost use Rattle.evaluator.specs.Posts.{KeepAsks, KeepGives, RoundAsks, RoundGives, WithinAsks, WithinGives};
-ghost use Rattle.evaluator.specs.Posts.{SetAsks, SetGives, PairsAsks, PairsGives, RelationGives};
+ghost use Rattle.evaluator.specs.Posts.{SetAsks, SetGives, PairsAsks, PairsGives, RelationGives, OnceAsks, OnceGives};
 
 // What an evaluation answers: the arrow of the set, the place after the formula and what is counted; or why there is none.
 pub enum Evaluated {
@@ -809,6 +809,44 @@ fn starting() -> Context
         places: places,
         count: Count { rounds: 0, peak: 0 },
     }
+}
+
+// The context of the body of a formula that is a binder, after so much is counted: the binder's current set is the one live word, and one
+// round more is counted.
+fn body_start(counted: Count) -> Context
+    requires { ⌜ counted .rounds < 4_294_967_295 ⌝ }
+    ensures { λ r. ⌜ r ≡ bodyStart counted ⌝ }
+{
+    let places = [0u8; Grammar::VARIABLES];
+    Context {
+        at: Frame::START + 1,
+        depth: Table::DEPTH - 1,
+        held: 1,
+        places: places,
+        count: Count {
+            rounds: counted.rounds + 1,
+            peak: counted.peak,
+        },
+    }
+}
+
+// Makes one round of the formula in `bytes`, which is a binder: evaluates its body, x being the current set, after so much is counted.
+pub fn evaluate_round(
+    words: &mut [u32],
+    counts: &mut [u32],
+    stack: &mut [u32],
+    bytes: &[u8],
+    limits: Limits,
+    x: u32,
+    counted: Count,
+) -> Evaluated
+    requires { ⌜ OnceAsks limits (now words) (now counts) (now stack) (now bytes) x counted ⌝ }
+    ensures { λ r. ⌜ OnceGives limits (now (words .entry)) (now (words .exit)) (now (counts .exit)) (now (stack .entry))
+        (now (stack .exit)) (now (bytes .entry)) x counted r ⌝ }
+{
+    stack[0] = x;
+    let here = body_start(counted);
+    eval(words, counts, stack, bytes, limits, here, Grammar::Runs)
 }
 
 // Evaluates the set's formula in `bytes`, which has passed the checks, with nothing remembered before.

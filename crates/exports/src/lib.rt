@@ -1,5 +1,7 @@
 // The entry points for C and Rust. Each returns a refusal's number or 0, and writes its other answers, zeros where it is refused.
+use account_calls::terms_at;
 use accounts::Account;
+use accounts::Terms;
 use calls::Answer;
 use calls::Cleared;
 use calls::Collected;
@@ -10,6 +12,9 @@ use formula::check_formula;
 use formula_steps::Confined;
 use formula_steps::Loaded;
 use formula_steps::Stored;
+use game_calls::Reacted;
+use game_calls::game_bytes;
+use game_calls::game_target;
 use layout::Refusal;
 use layout::Table;
 use layout::header_word;
@@ -25,8 +30,10 @@ ghost use Rattle.calls.specs.Replies.{answerReply, startedReply};
 ghost use Rattle.coins.specs.Post.{FarePost};
 ghost use Rattle.contract.specs.Posts.{CallPost, AskPost, SetAllPost};
 ghost use Rattle.formula_steps.specs.Replies.{storedReply};
+ghost use Rattle.game_calls.specs.Post.{ReactPost};
 ghost use Rattle.path_calls.specs.Post.{PathPost};
 ghost use Rattle.exports.specs.Given.{given, fareGiven, FreshGiven};
+ghost use Rattle.exports.specs.Games.{ForceAllPost, ReactAllPost};
 ghost use Rattle.exports.specs.Check.{kindOf, CheckPost};
 ghost use Rattle.exports.specs.Playing.{PlayGiven};
 
@@ -288,6 +295,101 @@ pub extern "C" fn kudzuclamp_cheapest(
             refusal_number(e)
         }
     }
+}
+
+// Register r holds the states from which the machine can force the goal, the guest moving by relation `guest` and the machine by relation
+// `machine` in turn: a set of the game's bytes, under the limits of the account at a place; gives its node number, the rounds and the peak.
+#[no_mangle]
+pub extern "C" fn kudzuclamp_force(
+    words: &mut [u32],
+    accounts: &mut [Account],
+    place: u32,
+    r: u32,
+    most: u32,
+    goal: u32,
+    guest: u32,
+    machine: u32,
+    node: &mut u32,
+    rounds: &mut u32,
+    peak: &mut u32,
+) -> u32
+    ensures { λ k. ⌜ ForceAllPost place r most goal guest machine (now (words .entry)) (now (words .exit))
+        (now (accounts .entry)) (now (accounts .exit))
+        (given k (now (rounds .exit)) (now (peak .exit)) (now (node .exit))) ⌝ }
+{
+    let target = game_target(r, goal, guest, machine);
+    let bytes = game_bytes(goal, guest, machine);
+    kudzuclamp_set(
+        words,
+        accounts,
+        place,
+        target,
+        most,
+        &bytes,
+        node,
+        rounds,
+        peak,
+    )
+}
+
+// Gives the state that the machine answers a guest's press with, under what is told of an account; 0 where it is refused.
+fn react_under(
+    words: &mut [u32],
+    terms: Terms,
+    most: u32,
+    goal: u32,
+    guest: u32,
+    machine: u32,
+    state: u32,
+    press: u32,
+    answer: &mut u32,
+) -> u32
+    ensures { λ k. ⌜ ReactPost terms most goal guest machine state press (now (words .entry)) (now (words .exit))
+        (given k 0 0 (now (answer .exit))) ⌝ }
+{
+    let x = game_calls::react(words, terms, most, goal, guest, machine, state, press);
+    match x {
+        Reacted::State(u) => {
+            *answer = u;
+            0
+        }
+        Reacted::Refused(e) => {
+            *answer = 0;
+            refusal_number(e)
+        }
+    }
+}
+
+// Gives the state that the machine answers a guest's press with, in a state from which it can force the goal; the rounds are made again
+// under the limits of the account at a place.
+#[no_mangle]
+pub extern "C" fn kudzuclamp_react(
+    words: &mut [u32],
+    accounts: &[Account],
+    place: u32,
+    most: u32,
+    goal: u32,
+    guest: u32,
+    machine: u32,
+    state: u32,
+    press: u32,
+    answer: &mut u32,
+) -> u32
+    ensures { λ k. ⌜ ReactAllPost place most goal guest machine state press (now (words .entry)) (now (words .exit))
+        (now (accounts .entry)) (given k 0 0 (now (answer .exit))) ⌝ }
+{
+    let terms = terms_at(accounts, place);
+    react_under(
+        words,
+        terms,
+        most,
+        goal,
+        guest,
+        machine,
+        state,
+        press,
+        answer,
+    )
 }
 
 // The call that formula bytes are for: set at 0, else relation.

@@ -3,7 +3,7 @@ use Prim.Native.Nat.{_≤_}
 use native.Mathlib.Omega.{arith}
 use Rattle.layout.specs.declared.Refusal.{Refusal}
 use Rattle.layout.specs.declared.Refusal.the-variants.{Sizes, Unsound, Occupied, Range, Syntax, Unbound, Vacuous, Odd, Empty, Full}
-use Rattle.layout.specs.declared.Refusal.the-variants.{Spent, NoRun, Short, Unlisted}
+use Rattle.layout.specs.declared.Refusal.the-variants.{Spent, NoRun, Short, Unlisted, NoAnswer}
 use Rattle.layout.specs.Refusals.{refusalNumber}
 
 -- no refusal has the number of an answer
@@ -22,3 +22,4 @@ refusal-some Spent = omega arith
 refusal-some NoRun = omega arith
 refusal-some Short = omega arith
 refusal-some Unlisted = omega arith
+refusal-some NoAnswer = omega arith

@@ -4,7 +4,7 @@ use mathlib.Core.Bool.{Bool, _&&_, _||_}
 use lib.Dec.{leb}
 use Rattle.layout.specs.declared.Refusal.{Refusal}
 use Rattle.layout.specs.declared.Refusal.the-variants.{Sizes, Unsound, Occupied, Range, Syntax, Unbound, Vacuous, Odd, Empty, Full}
-use Rattle.layout.specs.declared.Refusal.the-variants.{Spent, NoRun, Short, Unlisted}
+use Rattle.layout.specs.declared.Refusal.the-variants.{Spent, NoRun, Short, Unlisted, NoAnswer}
 
 abbrev pub refusalNumber : Refusal → ℕ
 -- "fresh: n, N or slice length"
@@ -35,6 +35,8 @@ refusalNumber NoRun = 10
 refusalNumber Short = 11
 -- "the list is not 1 to 8 long or has no account at that place"
 refusalNumber Unlisted = 14
+-- "the state is in the goal or outside the set, or the press is no guest move"
+refusalNumber NoAnswer = 15
 
 -- "Kept: all words": 1 to 7, and of document 02's numbers 12, 13 and 14
 abbrev pub keepsAll : ℕ → Bool

@@ -135,6 +135,7 @@ pub enum Refusal {
     NoRun,
     Short,
     Unlisted,
+    NoAnswer,
 }
 
 // The number of a refusal.
@@ -156,6 +157,7 @@ pub fn refusal_number(r: Refusal) -> u32
         Refusal::NoRun => 10,
         Refusal::Short => 11,
         Refusal::Unlisted => 14,
+        Refusal::NoAnswer => 15,
     }
 }
 

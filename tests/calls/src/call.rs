@@ -109,7 +109,7 @@ fn set_call(random: &mut Random, book: &Book, accounts: &[Account]) -> (Call, Op
 }
 
 /// A place in a list of so many accounts, now and then past its end.
-fn place(random: &mut Random, count: u64) -> u64 {
+pub fn place(random: &mut Random, count: u64) -> u64 {
     match count == 0 || random.chance(3) {
         true => random.pick(&[count, count + 1, 8, 255, u64::from(u32::MAX), 1 << 32]),
         false => random.below(count),
@@ -166,7 +166,7 @@ fn member_call(random: &mut Random, book: &Book) -> Call {
     Call::Member { r, state }
 }
 
-fn register(random: &mut Random) -> u64 {
+pub fn register(random: &mut Random) -> u64 {
     match random.below(100) {
         0..=3 => random.pick(&[32, 33, 255, u64::from(u32::MAX)]),
         4..=6 => 31,
@@ -175,7 +175,7 @@ fn register(random: &mut Random) -> u64 {
 }
 
 /// A register to ask about, mostly a filled one.
-fn asked(random: &mut Random, book: &Book) -> u64 {
+pub fn asked(random: &mut Random, book: &Book) -> u64 {
     let filled = filled(book.registers());
     match filled.is_empty() || random.chance(30) {
         true => register(random),
@@ -183,7 +183,7 @@ fn asked(random: &mut Random, book: &Book) -> u64 {
     }
 }
 
-fn filled<T>(places: &[Option<T>]) -> Vec<u8> {
+pub fn filled<T>(places: &[Option<T>]) -> Vec<u8> {
     let numbered = (0u8..).zip(places);
     let filled = numbered.filter(|(_, place)| place.is_some());
     filled.map(|(number, _)| number).collect()

@@ -3,10 +3,11 @@
 use crate::kept;
 use crate::sound::sound;
 use crate::words::{Words, FIRST_REGISTER, FIRST_RELATION, VALID};
-use kudzuclamp::{Loaded, Refusal, Stored, Table, Target};
+use kudzuclamp::{Game, Loaded, Refusal, Stored, Strategy, Table, Target};
 use reference::accounts::Account;
 use reference::book::{Answer, Book, Call, REGISTERS};
 use reference::formula::{self, Kind};
+use reference::game::Named;
 use reference::states::state_count;
 
 /// A difference between the library and the book, in words.
@@ -41,7 +42,13 @@ pub fn questions(book: &Book) -> Vec<Call> {
     calls
 }
 
-/// Makes a call on the library; its answer in the book's form. Only set takes the accounts.
+/// The game, as it is named to the library.
+pub fn game_of(named: Named) -> Game {
+    Game::new(named.goal as u32, named.guest as u32, named.machine as u32)
+}
+
+/// Makes a call on the library; its answer in the book's form. Sets and the calls of games take the
+/// accounts.
 pub fn make(
     table: &mut Table<Vec<u32>>,
     accounts: &mut [kudzuclamp::Account],
@@ -68,6 +75,7 @@ pub fn make(
             let answer = table.set(accounts, target, formula);
             answer.map(stored).map_err(Refusal::from)
         }
+        Call::Force { .. } | Call::React { .. } => make_game(table, accounts, call),
         Call::Clear { r } => table.clear(*r as u32).map(none),
         Call::Valid { formula } => table.valid(formula).map(none).map_err(Refusal::from),
         Call::Collect => table.collect().map(plain),
@@ -80,6 +88,45 @@ pub fn make(
     };
     // The wrapper gives no values with a refusal; tests/zeros.rs looks at them.
     result.unwrap_or_else(|refusal| Answer::refused(refusal.number() as u8))
+}
+
+/// Makes a call of a game on the library.
+fn make_game(
+    table: &mut Table<Vec<u32>>,
+    accounts: &mut [kudzuclamp::Account],
+    call: &Call,
+) -> Result<Answer, Refusal> {
+    match call {
+        Call::Force {
+            place,
+            r,
+            rounds,
+            game,
+        } => {
+            let target = Target {
+                register: *r as u32,
+                account: *place as usize,
+                rounds: *rounds,
+            };
+            table.force(accounts, target, game_of(*game)).map(stored)
+        }
+        Call::React {
+            place,
+            rounds,
+            game,
+            state,
+            press,
+        } => {
+            let strategy = Strategy {
+                game: game_of(*game),
+                account: *place as usize,
+                rounds: *rounds,
+            };
+            let answer = table.react(accounts, strategy, *state as u32, *press as u32);
+            answer.map(|answer| Answer::plain(answer.into()))
+        }
+        _ => unreachable!("no call of a game"),
+    }
 }
 
 fn loaded(loaded: Loaded) -> Answer {
@@ -137,7 +184,7 @@ pub fn compare_answer(
 /// Keeps the number that an answered set returned.
 pub fn note_node(expected: &mut Expected, call: &Call, got: Answer) {
     match call {
-        Call::Set { r, .. } if got.number == 0 => {
+        Call::Set { r, .. } | Call::Force { r, .. } if got.number == 0 => {
             expected.nodes[*r as usize] = got.value.map(|node| node as u32);
         }
         Call::Clear { r } if got.number == 0 => expected.nodes[*r as usize] = None,
@@ -145,7 +192,7 @@ pub fn note_node(expected: &mut Expected, call: &Call, got: Answer) {
     }
 }
 
-/// Questions and refusals but 8 and 9 keep all words; the rest keeps what is needed. A sound table
+/// Questions and refusals but 8, 9 and 15 keep all words; the rest keeps what is needed. A sound table
 /// stays sound, and an answered collect leaves no unneeded row used.
 pub fn compare_words(
     before: &[u32],
@@ -156,12 +203,12 @@ pub fn compare_words(
     let answered = number == 0;
     let register = |r: u64| FIRST_REGISTER + r as usize;
     let target = match call {
-        _ if !matches!(number, 0 | 8 | 9) => return kept::all(before, after),
-        Call::Set { r, .. } => answered.then(|| register(*r)),
+        _ if !matches!(number, 0 | 8 | 9 | 15) => return kept::all(before, after),
+        Call::Set { r, .. } | Call::Force { r, .. } => answered.then(|| register(*r)),
         Call::Relation { t, .. } => answered.then(|| FIRST_RELATION + *t as usize),
         Call::Clear { r } => Some(register(*r)),
         Call::Valid { .. } => answered.then_some(VALID),
-        Call::Collect => None,
+        Call::Collect | Call::React { .. } => None,
         _ => return kept::all(before, after),
     };
     kept::needed(before, after, target)?;

@@ -2,6 +2,7 @@
 
 use crate::call::{draw_call, Cost};
 use crate::compare::Difference;
+use crate::games::{draw_game, playable};
 use crate::limits::{draw_accounts, draw_sizes, Sizes};
 use crate::list::{List, Step};
 use crate::run::{Runner, MAX_BITS};
@@ -10,8 +11,11 @@ use reference::accounts::Account;
 use reference::book::{words_for, Book, Call};
 use reference::random::Random;
 
-/// Calls of a list: fresh, relation, set, clear, collect, node, member and count.
+/// Calls of a list: fresh, relation, set, force, react, clear, collect, node, member and count.
 pub const CALLS: u64 = 40;
+
+/// How many calls of a hundred are a game's, once something is filled.
+const GAMES: u64 = 15;
 
 /// How many answered calls took exactly what a limit allows, and how many refused ones one more.
 #[derive(Clone, Copy, Debug, Default, PartialEq, Eq)]
@@ -96,7 +100,7 @@ struct Session {
     random: Random,
     n: u32,
     sizes: Sizes,
-    /// A set for which the accounts were changed.
+    /// A call for which the accounts were changed.
     waiting: Option<(Call, Cost)>,
     drawn: Drawn,
 }
@@ -147,7 +151,10 @@ impl Session {
             45..=99 if runner.expected().is_some() => (self.damage(), None),
             _ => {
                 let accounts = runner.accounts();
-                let (call, cost) = steered_call(&mut self.random, &expected.book, accounts);
+                let (call, cost) = match playable(&expected.book) && self.random.chance(GAMES) {
+                    true => draw_game(&mut self.random, &expected.book, accounts),
+                    false => steered_call(&mut self.random, &expected.book, accounts),
+                };
                 match self.random.chance(12) {
                     true => self.edge(call, cost),
                     false => (Step::Call(call), cost),
@@ -156,13 +163,13 @@ impl Session {
         }
     }
 
-    /// A set waits while its account gets a limit at its cost, or one below.
+    /// A set or a call of a game waits while its account gets a limit at its cost, or one below.
     fn edge(&mut self, call: Call, cost: Option<Cost>) -> (Step, Option<Cost>) {
         let mut accounts = self.drawn.runner.accounts().to_vec();
-        let (Call::Set { place, .. }, Some(known)) = (&call, cost) else {
+        let (Some((place, _)), Some(known)) = (named_account(&call), cost) else {
             return (Step::Call(call), cost);
         };
-        let Some(account) = accounts.get_mut(*place as usize) else {
+        let Some(account) = accounts.get_mut(place as usize) else {
             return (Step::Call(call), cost);
         };
         let below = self.random.below(2) as u32;
@@ -276,15 +283,25 @@ impl Session {
 
 /// The rows that a call may need; and the rounds of its account, where these are fewer than R.
 fn limits_of(call: &Call, table: usize, accounts: &[Account]) -> (usize, Option<u32>) {
-    let Call::Set { place, rounds, .. } = call else {
+    let Some((place, rounds)) = named_account(call) else {
         return (table, None);
     };
-    match accounts.get(*place as usize) {
+    match accounts.get(place as usize) {
         None => (table, None),
         Some(account) => {
-            let limits = account.limits(table, *rounds);
-            (limits.rows, Some(limits.rounds).filter(|own| own < rounds))
+            let limits = account.limits(table, rounds);
+            (limits.rows, Some(limits.rounds).filter(|&own| own < rounds))
         }
+    }
+}
+
+/// The place of the account that a call names, and its R.
+fn named_account(call: &Call) -> Option<(u64, u32)> {
+    match call {
+        Call::Set { place, rounds, .. }
+        | Call::Force { place, rounds, .. }
+        | Call::React { place, rounds, .. } => Some((*place, *rounds)),
+        _ => None,
     }
 }
 

@@ -5,7 +5,8 @@
 //! - `kept` says which words a call may change;
 //! - `list` is a list of steps as lines of text;
 //! - `compare` and `run` make each step on the library and on the book, and compare;
-//! - `writer`, `call`, `limits` and `draw` draw formulas, calls, accounts and lists;
+//! - `writer`, `call`, `games`, `limits` and `draw` draw formulas, calls, accounts and lists;
+//! - `turns` makes the calls of games as C does;
 //! - `records` writes calls as the program's records.
 //!
 //! `cargo test --offline --release` needs `target/staticlib/libexports.a` (`rt staticlib exports`).
@@ -13,11 +14,13 @@
 pub mod call;
 pub mod compare;
 pub mod draw;
+pub mod games;
 pub mod kept;
 pub mod limits;
 pub mod list;
 pub mod records;
 pub mod run;
 pub mod sound;
+pub mod turns;
 pub mod words;
 pub mod writer;

@@ -6,6 +6,8 @@
 //! fresh 2 14 700           n, N and how many of the words are lent
 //! relation 0 000a01...     t, framed formula; `-` for no bytes
 //! set 0 0 3 000601...      the account's place, r, R, framed formula
+//! force 0 5 9 0 6 2        the account's place, r, R, goal, guest, machine
+//! react 0 9 0 6 2 1 3      the account's place, R, goal, guest, machine, state, press
 //! clear 0
 //! collect
 //! node 0
@@ -18,6 +20,7 @@
 
 use reference::accounts::Account;
 use reference::book::Call;
+use reference::game::Named;
 use reference::random::Random;
 use std::fmt;
 
@@ -109,6 +112,14 @@ fn read_account(text: &str) -> Option<Account> {
     })
 }
 
+fn read_game([goal, guest, machine]: [&str; 3]) -> Option<Named> {
+    Some(Named {
+        goal: goal.parse().ok()?,
+        guest: guest.parse().ok()?,
+        machine: machine.parse().ok()?,
+    })
+}
+
 fn read_call(fields: &[&str]) -> Option<Call> {
     Some(match *fields {
         ["relation", t, bytes] => Call::Relation {
@@ -123,6 +134,19 @@ fn read_call(fields: &[&str]) -> Option<Call> {
         },
         ["valid", bytes] => Call::Valid {
             formula: unhex(bytes)?,
+        },
+        ["force", place, r, rounds, goal, guest, machine] => Call::Force {
+            place: place.parse().ok()?,
+            r: r.parse().ok()?,
+            rounds: rounds.parse().ok()?,
+            game: read_game([goal, guest, machine])?,
+        },
+        ["react", place, rounds, goal, guest, machine, state, press] => Call::React {
+            place: place.parse().ok()?,
+            rounds: rounds.parse().ok()?,
+            game: read_game([goal, guest, machine])?,
+            state: state.parse().ok()?,
+            press: press.parse().ok()?,
         },
         ["clear", r] => Call::Clear { r: r.parse().ok()? },
         ["collect"] => Call::Collect,
@@ -173,6 +197,19 @@ fn write_call(f: &mut fmt::Formatter<'_>, call: &Call) -> fmt::Result {
             rounds,
             formula,
         } => write!(f, "set {place} {r} {rounds} {}", hex(formula)),
+        Call::Force {
+            place,
+            r,
+            rounds,
+            game,
+        } => write!(f, "force {place} {r} {rounds} {game}"),
+        Call::React {
+            place,
+            rounds,
+            game,
+            state,
+            press,
+        } => write!(f, "react {place} {rounds} {game} {state} {press}"),
         Call::Clear { r } => write!(f, "clear {r}"),
         Call::Valid { formula } => write!(f, "valid {}", hex(formula)),
         Call::Collect => write!(f, "collect"),

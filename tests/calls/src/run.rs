@@ -15,16 +15,17 @@ use reference::formula::{Kind, RUNS_VERSION};
 pub const MAX_BITS: u32 = 5;
 
 /// One more than the greatest number of a refusal.
-pub const NUMBERS: usize = 15;
+pub const NUMBERS: usize = 16;
 
-/// How often each number came, 0 for answered: of all calls, of sets, and of sets whose formula has
-/// until; how many answered calls have a peak above 0; the last number; and how many questions the
-/// checks after the lists asked.
+/// How often each number came, 0 for answered: of all calls, of sets whose formula has until, and of
+/// the calls of games; how many sets there were; how many answered calls have a peak above 0; the last
+/// number; and how many questions the checks after the lists asked.
 #[derive(Clone, Copy, Debug, Default, PartialEq, Eq)]
 pub struct Counts {
     pub numbers: [u64; NUMBERS],
     pub sets: u64,
     pub untils: [u64; NUMBERS],
+    pub games: [u64; NUMBERS],
     pub peaks: u64,
     pub last: u8,
     pub questions: u64,
@@ -39,6 +40,8 @@ impl Counts {
     fn note_call(&mut self, call: &Call, Answer { number, peak, .. }: Answer) {
         self.note(number);
         self.peaks += u64::from(peak > 0);
+        let game = matches!(call, Call::Force { .. } | Call::React { .. });
+        self.games[usize::from(number)] += u64::from(game);
         let Call::Set { formula, .. } = call else {
             return;
         };
@@ -53,6 +56,7 @@ impl Counts {
         };
         sum(&mut self.numbers, other.numbers);
         sum(&mut self.untils, other.untils);
+        sum(&mut self.games, other.games);
         self.sets += other.sets;
         self.peaks += other.peaks;
         self.questions += other.questions;
@@ -203,7 +207,7 @@ impl Runner {
         note_node(expected, call, got);
         compare_words(&before, self.words(), call, got.number)?;
         match got.number {
-            8 | 9 => self.compare_all(),
+            8 | 9 | 15 => self.compare_all(),
             _ => Ok(()),
         }
     }

@@ -3,6 +3,7 @@
 
 use calls::call::draw_call;
 use calls::compare::make;
+use calls::games::{draw_game, playable};
 use calls::words::Words;
 use kudzuclamp::{Account, Table};
 use reference::book::{words_for, Answer, Book, Call, MAX_ROWS, REGISTERS};
@@ -69,7 +70,10 @@ fn draw(random: &mut Random) -> Answered {
     let mut calls = Vec::new();
     for _ in 0..25 {
         let (book, lent) = stood(&unit);
-        let (call, _) = draw_call(random, &book, &lent);
+        let (call, _) = match playable(&book) && random.chance(20) {
+            true => draw_game(random, &book, &lent),
+            false => draw_call(random, &book, &lent),
+        };
         if unit.make(&call).number == 0 {
             calls.push(call);
         }
@@ -107,26 +111,19 @@ fn raised(random: &mut Random, limit: u32, most: u32) -> u32 {
 
 /// The same call with R raised or equal.
 fn eased(random: &mut Random, call: &Call) -> Call {
-    match call.clone() {
-        Call::Set {
-            place,
-            r,
-            rounds,
-            formula,
-        } => Call::Set {
-            place,
-            r,
-            rounds: raised(random, rounds, u32::MAX),
-            formula,
-        },
-        call => call,
+    let mut call = call.clone();
+    if let Call::Set { rounds, .. } | Call::Force { rounds, .. } | Call::React { rounds, .. } =
+        &mut call
+    {
+        *rounds = raised(random, *rounds, u32::MAX);
     }
+    call
 }
 
 /// The answer without a node number above 1.
 fn told(call: &Call, answer: Answer) -> Answer {
     match call {
-        Call::Set { .. } | Call::Node { .. } => Answer {
+        Call::Set { .. } | Call::Force { .. } | Call::Node { .. } => Answer {
             value: answer.value.filter(|&node| node < 2),
             ..answer
         },

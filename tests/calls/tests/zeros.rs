@@ -76,6 +76,35 @@ extern "C" {
         charge: *mut u32,
         count: *mut u32,
     ) -> u32;
+    fn kudzuclamp_force(
+        words: *mut u32,
+        words_len: usize,
+        accounts: *mut Account,
+        accounts_len: usize,
+        place: u32,
+        r: u32,
+        most: u32,
+        goal: u32,
+        guest: u32,
+        machine: u32,
+        node: *mut u32,
+        rounds: *mut u32,
+        peak: *mut u32,
+    ) -> u32;
+    fn kudzuclamp_react(
+        words: *mut u32,
+        words_len: usize,
+        accounts: *const Account,
+        accounts_len: usize,
+        place: u32,
+        most: u32,
+        goal: u32,
+        guest: u32,
+        machine: u32,
+        state: u32,
+        press: u32,
+        answer: *mut u32,
+    ) -> u32;
 }
 
 /// What stands in an answer before the call.
@@ -339,4 +368,119 @@ fn refused_runs() {
     assert_eq!(shortest(&mut words, 1, 9), [0, 1]);
     words[1] = 0;
     assert_eq!(shortest(&mut words, 1, 9), [2, 0]);
+}
+
+/// n = 2 and so many rows: register 0 has state 3, relation 0 turns bit 0 over, relation 1 may turn bit 1 on.
+fn bar(rows: u32) -> Vec<u32> {
+    let mut accounts = [Account::unlimited()];
+    let mut table = Table::new(&mut accounts, 2, rows).unwrap();
+    let press = Formula::turns(0) & Formula::keeps(1);
+    table.relation(0, press).unwrap();
+    let reply = Formula::keeps(0) & (Formula::keeps(1) | Formula::next(1));
+    table.relation(1, reply).unwrap();
+    let both = Formula::current(0) & Formula::current(1);
+    table.set(&mut accounts, Target::register(0), both).unwrap();
+    table.into_words()
+}
+
+/// Number, node, rounds and peak of force into register r, with goal, guest and machine, under the account at a place
+/// of a list of one.
+fn force(words: &mut [u32], place: u32, r: u32, most: u32, game: [u32; 3]) -> [u32; 4] {
+    let mut accounts = [Account::unlimited()];
+    let (mut node, mut rounds, mut peak) = (BEFORE, BEFORE, BEFORE);
+    // SAFETY: pointers and lengths are those of slices, arrays and locals.
+    let number = unsafe {
+        kudzuclamp_force(
+            words.as_mut_ptr(),
+            words.len(),
+            accounts.as_mut_ptr(),
+            accounts.len(),
+            place,
+            r,
+            most,
+            game[0],
+            game[1],
+            game[2],
+            &mut node,
+            &mut rounds,
+            &mut peak,
+        )
+    };
+    [number, node, rounds, peak]
+}
+
+/// Number and answer of react, in a state to a press.
+fn react(words: &mut [u32], place: u32, most: u32, game: [u32; 3], turn: [u32; 2]) -> [u32; 2] {
+    let accounts = [Account::unlimited()];
+    let mut answer = BEFORE;
+    // SAFETY: pointers and lengths are those of slices, arrays and locals.
+    let number = unsafe {
+        kudzuclamp_react(
+            words.as_mut_ptr(),
+            words.len(),
+            accounts.as_ptr(),
+            accounts.len(),
+            place,
+            most,
+            game[0],
+            game[1],
+            game[2],
+            turn[0],
+            turn[1],
+            &mut answer,
+        )
+    };
+    [number, answer]
+}
+
+#[test]
+fn refused_games() {
+    const GAME: [u32; 3] = [0, 0, 1];
+    let mut words = bar(100);
+    let answered = force(&mut words, 0, 1, 9, GAME);
+    assert_eq!([answered[0], answered[1], answered[2]], [0, 1, 4]);
+    let peak = answered[3];
+    let mut words = bar(100);
+    for (r, game) in [(32, GAME), (1, [32, 0, 1]), (1, [0, 8, 1]), (1, [0, 0, 8])] {
+        assert_eq!(force(&mut words, 1, r, 0, game), [3, 0, 0, 0]);
+    }
+    assert_eq!(force(&mut words, 1, 1, 0, [1, 0, 1]), [14, 0, 0, 0]);
+    for game in [[1, 0, 1], [0, 2, 1], [0, 0, 2]] {
+        assert_eq!(force(&mut words, 0, 1, 0, game), [7, 0, 0, 0]);
+    }
+    assert_eq!(force(&mut words, 0, 1, 3, GAME), [9, 0, 0, 0]);
+    assert_eq!(force(&mut bar(peak - 1), 0, 1, 9, GAME), [8, 0, 0, 0]);
+    words[0] = 0;
+    assert_eq!(force(&mut words, 1, 32, 0, GAME), [2, 0, 0, 0]);
+}
+
+#[test]
+fn refused_answers() {
+    const GAME: [u32; 3] = [0, 0, 1];
+    let mut words = bar(100);
+    let peak = force(&mut bar(100), 0, 1, 9, GAME)[3];
+    assert_eq!(react(&mut words, 0, 4, GAME, [1, 0]), [0, 0]);
+    assert_eq!(react(&mut words, 0, 4, GAME, [0, 1]), [0, 3]);
+    for (game, turn) in [
+        ([32, 0, 1], [0, 1]),
+        ([0, 8, 1], [0, 1]),
+        ([0, 0, 8], [0, 1]),
+        (GAME, [4, 1]),
+        (GAME, [0, 4]),
+    ] {
+        assert_eq!(react(&mut words, 1, 0, game, turn), [3, 0]);
+    }
+    assert_eq!(react(&mut words, 1, 0, [1, 0, 1], [0, 1]), [14, 0]);
+    for game in [[1, 0, 1], [0, 2, 1], [0, 0, 2]] {
+        assert_eq!(react(&mut words, 0, 0, game, [3, 3]), [7, 0]);
+    }
+    assert_eq!(react(&mut words, 0, 3, GAME, [3, 3]), [9, 0]);
+    assert_eq!(react(&mut bar(peak - 1), 0, 4, GAME, [3, 3]), [8, 0]);
+    // In the goal; no move of the guest's.
+    assert_eq!(react(&mut words, 0, 4, GAME, [3, 2]), [15, 0]);
+    assert_eq!(react(&mut words, 0, 4, GAME, [0, 2]), [15, 0]);
+    // With the guest's relation for both no state but the goal's is in the set.
+    assert_eq!(react(&mut words, 0, 4, [0, 0, 0], [0, 1]), [15, 0]);
+    words[0] = 0;
+    assert_eq!(react(&mut words, 1, 0, GAME, [4, 4]), [2, 0]);
 }

@@ -1,8 +1,9 @@
 //! The book: calls over sets, and the refusals in document 01's order.
 
 use crate::accounts::{check_list, check_place, Account};
-use crate::evaluate::{self, Evaluated, Held};
+use crate::evaluate::{self, Evaluated, Held, Limits};
 use crate::formula::{self, Formula, Kind};
+use crate::game::{self, Game, Made, Named};
 use crate::members::{members, Members, MAX_STATES};
 use crate::paths;
 use crate::refusal::Refusal;
@@ -30,6 +31,21 @@ pub enum Call {
         r: u64,
         rounds: u32,
         formula: Vec<u8>,
+    },
+    /// Slip 8: "The first call may stand in the third demand's list as a set".
+    Force {
+        place: u64,
+        r: u64,
+        rounds: u32,
+        game: Named,
+    },
+    /// Slip 8: "A second call, with account and R too".
+    React {
+        place: u64,
+        rounds: u32,
+        game: Named,
+        state: u64,
+        press: u64,
     },
     Clear {
         r: u64,
@@ -177,13 +193,94 @@ impl Book {
         bytes: &[u8],
     ) -> Result<SetAnswer, Refusal> {
         let done = self.evaluate_set(accounts, place, r, rounds, bytes)?;
+        Ok(self.store(&mut accounts[place as usize], r as usize, done))
+    }
+
+    /// The changes of an answered set: its register, and its own account's tally.
+    fn store(&mut self, account: &mut Account, r: usize, done: Evaluated<StateSet>) -> SetAnswer {
         let node = settled_node(&done.value);
-        self.registers[r as usize] = Some(done.value);
-        accounts[place as usize].charge(done.rounds);
-        Ok(SetAnswer {
+        self.registers[r] = Some(done.value);
+        account.charge(done.rounds);
+        SetAnswer {
             node,
             rounds: done.rounds,
             peak: done.peak,
+        }
+    }
+
+    /// Slip 8: "store, as a set call with its account and R does, the set of
+    /// states from which the machine can force the goal".
+    pub fn force(
+        &mut self,
+        accounts: &mut [Account],
+        place: u64,
+        r: u64,
+        rounds: u32,
+        named: Named,
+    ) -> Result<SetAnswer, Refusal> {
+        let place = self.check_force(accounts, place, r, named)?;
+        let made = self.make_game(accounts[place].limits(self.rows, rounds), named)?;
+        Ok(self.store(&mut accounts[place], r as usize, made.done))
+    }
+
+    /// Checks 3 and 14 of the first call; the place of its account.
+    pub fn check_force(
+        &self,
+        accounts: &[Account],
+        place: u64,
+        r: u64,
+        named: Named,
+    ) -> Result<usize, Refusal> {
+        in_range(r, REGISTERS)?;
+        check_named(named)?;
+        check_place(accounts, place)
+    }
+
+    /// Slip 8: "makes the rounds again, stores and tallies nothing, and gives
+    /// … the least machine answer".
+    pub fn react(
+        &self,
+        accounts: &[Account],
+        place: u64,
+        rounds: u32,
+        named: Named,
+        turn: (u64, u64),
+    ) -> Result<u64, Refusal> {
+        let place = self.check_react(accounts, place, named, turn)?;
+        let made = self.make_game(accounts[place].limits(self.rows, rounds), named)?;
+        made.answer(turn)
+    }
+
+    /// Checks 3 and 14 of the second call: a state and a guest move, "named by
+    /// the state it leads to (either out of range gives 3)".
+    pub fn check_react(
+        &self,
+        accounts: &[Account],
+        place: u64,
+        named: Named,
+        (state, press): (u64, u64),
+    ) -> Result<usize, Refusal> {
+        check_named(named)?;
+        in_range(state, state_count(self.n))?;
+        in_range(press, state_count(self.n))?;
+        check_place(accounts, place)
+    }
+
+    /// Check 7 and the steps of a game, whose numbers are in range.
+    pub fn make_game(&self, limits: Limits, named: Named) -> Result<Made, Refusal> {
+        let [goal, guest, machine] = [named.goal, named.guest, named.machine].map(|k| k as usize);
+        let moves = |t: usize| self.relations[t].as_ref().ok_or(Refusal::Empty);
+        let set = self.registers[goal].as_ref().ok_or(Refusal::Empty)?;
+        let game = Game::of(moves(guest)?, moves(machine)?, set);
+        let formula = game::formula(goal, guest, machine);
+        let done = evaluate::set(self.held(), limits, &formula)?;
+        let entries = game.entries();
+        assert_eq!(done.value, game.forced(), "the rounds end at another set");
+        assert_eq!(done.rounds, game::rounds(&entries), "other rounds");
+        Ok(Made {
+            game,
+            entries,
+            done,
         })
     }
 
@@ -311,8 +408,8 @@ impl Book {
         self.registers[r].as_ref().ok_or(Refusal::Empty)
     }
 
-    /// Makes any call and gives its answer in one form; only set takes the
-    /// accounts.
+    /// Makes any call and gives its answer in one form; sets and the calls of
+    /// games take the accounts.
     pub fn call(&mut self, accounts: &mut [Account], call: &Call) -> Answer {
         let result = match call {
             Call::Relation { t, formula } => {
@@ -328,6 +425,7 @@ impl Book {
                 let answer = self.set(accounts, *place, *r, *rounds, formula);
                 answer.map(|set| Answer::counted(set.rounds, set.peak, set.node))
             }
+            Call::Force { .. } | Call::React { .. } => self.call_game(accounts, call),
             Call::Clear { r } => self.clear(*r).map(|()| Answer::plain(0)),
             Call::Valid { formula } => self.make_valid(formula).map(|()| Answer::plain(0)),
             Call::Collect => Ok(Answer::plain(self.collect())),
@@ -339,6 +437,32 @@ impl Book {
             Call::Count { r } => self.count(*r).map(Answer::plain),
         };
         result.unwrap_or_else(|refusal| Answer::refused(refusal.number()))
+    }
+
+    /// Makes a call of a game.
+    fn call_game(&mut self, accounts: &mut [Account], call: &Call) -> Result<Answer, Refusal> {
+        match call {
+            Call::Force {
+                place,
+                r,
+                rounds,
+                game,
+            } => {
+                let answer = self.force(accounts, *place, *r, *rounds, *game);
+                answer.map(|set| Answer::counted(set.rounds, set.peak, set.node))
+            }
+            Call::React {
+                place,
+                rounds,
+                game,
+                state,
+                press,
+            } => {
+                let answer = self.react(accounts, *place, *rounds, *game, (*state, *press));
+                answer.map(Answer::plain)
+            }
+            _ => unreachable!("no call of a game"),
+        }
     }
 }
 
@@ -379,6 +503,14 @@ fn in_range(number: u64, bound: usize) -> Result<usize, Refusal> {
     } else {
         Err(Refusal::OutOfRange)
     }
+}
+
+/// Check 3 of a game.
+fn check_named(named: Named) -> Result<(), Refusal> {
+    in_range(named.goal, REGISTERS)?;
+    in_range(named.guest, RELATIONS)?;
+    in_range(named.machine, RELATIONS)?;
+    Ok(())
 }
 
 /// "An arrow is 0 (nothing), 1 (everything) or a used row."

@@ -10,6 +10,8 @@
 //! relation 0 000a01... -> 0 0 4 0     relation t, framed formula
 //! set 0 0 3 000601...  -> 0 3 4 1     set account's place, r, R, framed
 //!                                     formula; value: node
+//! force 0 5 9 0 6 2    -> 0 3 7 -     account's place, r, R, goal, guest, machine
+//! react 0 9 0 6 2 1 3  -> 0 0 0 2     the same without r; state, press
 //! member 0 1           -> 0 0 0 1     number, rounds, peak, value; `-`: node
 //!                                     free
 //! register 0 11                       filled at the end, state 0 first
@@ -90,6 +92,19 @@ fn call_text(call: &Call) -> String {
             rounds,
             formula,
         } => format!("set {place} {r} {rounds} {}", hex(formula)),
+        Call::Force {
+            place,
+            r,
+            rounds,
+            game,
+        } => format!("force {place} {r} {rounds} {game}"),
+        Call::React {
+            place,
+            rounds,
+            game,
+            state,
+            press,
+        } => format!("react {place} {rounds} {game} {state} {press}"),
         Call::Clear { r } => format!("clear {r}"),
         Call::Valid { formula } => format!("valid {}", hex(formula)),
         Call::Collect => "collect".to_string(),

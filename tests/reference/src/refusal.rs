@@ -32,6 +32,9 @@ pub enum Refusal {
     Occupied = 13,
     /// Slip 7: "the list is not 1 to 8 long or has no account at that place"
     NoAccount = 14,
+    /// Slip 8: "the state is in the goal or outside the set, or the press is no
+    /// guest move"
+    NoAnswer = 15,
 }
 
 impl Refusal {

@@ -1,0 +1,5 @@
+-- Modules that belong to no one function.
+pub mod Leaves
+pub mod Checks
+pub mod Meaning
+pub mod Rests

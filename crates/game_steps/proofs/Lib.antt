@@ -1,0 +1,3 @@
+-- Modules that belong to no one function.
+pub mod Standing
+pub mod Start

@@ -1,0 +1,3 @@
+pub mod Watch
+pub mod Whole
+pub mod Posts

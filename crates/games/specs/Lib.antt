@@ -1,0 +1,4 @@
+pub mod Game
+pub mod Plays
+pub mod Call
+pub mod Meaning
