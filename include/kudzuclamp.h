@@ -389,8 +389,8 @@ uint32_t kudzuclamp_force(uint32_t *words, size_t words_len, struct kudzuclamp_a
  * goal in the first. The answer is the least state to which a move of relation `machine` leads from `press` and which enters in an earlier
  * round than `state`. So whoever answers so, press by press, comes to the goal in fewer turns than the round in which the play's first
  * state enters. Nothing is stored, no tally grows, and the accounts are only read: the limits of the one at `place` and `most` (R) hold as
- * for kudzuclamp_force, for the last round too, which gives the same set again. It takes as long as that call, and up to 2^n states are
- * looked at for the answer besides (some milliseconds at n = 16, at worst). It returns 0, 2, 3 (goal, guest, machine, state or press),
+ * for kudzuclamp_force, for the last round too, which gives the same set again. It takes as long as that call, and where there is an
+ * answer the states up to it are looked at besides (some milliseconds at n = 16, at worst). It returns 0, 2, 3 (goal, guest, machine, state or press),
  * KUDZUCLAMP_UNLISTED, 7, 8, 9, or KUDZUCLAMP_NO_ANSWER where the state is in the goal or outside the set, or the press is no guest move
  * from it.
  */
