@@ -8,10 +8,8 @@ use lib.Dec.{T, ltb, ltb→lt, lt→ltb}
 use Rattle.accounts.specs.declared.Count.{Count}
 use Rattle.accounts.specs.declared.Terms.{Terms}
 use Rattle.accounts.specs.Terms.{rowsUnder, roundsUnder}
-use Rattle.mucalculus.specs.Sets.{mem}
 use Rattle.mucalculus.proofs.Sets.{true-of, false-of, and-in}
 use Rattle.mucalculus.specs.Form.{Pairs, filled as hasContent}
-use Rattle.mucalculus.specs.Means.{pair}
 use Rattle.layout.specs.Places.{BITS, ROWS}
 use Rattle.layout.specs.declared.Refusal.the-variants as refusal
 use Rattle.layout.specs.View.{View, view, headerOf}

@@ -11,7 +11,7 @@ use lib.ListN.{length, set}
 use Rattle.accounts.specs.declared.Count.{Count}
 use Rattle.accounts.specs.Count.{nothing, another}
 use Rattle.mucalculus.specs.Sets.{mem, same, noStates}
-use Rattle.mucalculus.proofs.Sets.{and-out, same-refl}
+use Rattle.mucalculus.proofs.Sets.{same-refl}
 use Rattle.mucalculus.specs.Order.{Below}
 use Rattle.mucalculus.specs.Form.{Form, Pairs, put, inside}
 use Rattle.mucalculus.specs.Means.{pair, means}
