@@ -386,6 +386,34 @@ uint32_t kudzuclamp_react(uint32_t *words, size_t words_len, const struct kudzuc
                           uint32_t most, uint32_t goal, uint32_t guest, uint32_t machine, uint32_t state, uint32_t press, uint32_t *answer);
 
 /*
+ * Writes the states of a run of relation t that fits two logs to the first places of the list: of all such runs the one with the least first state,
+ * then the least second one, and so on. A log is k entries, 1 to 1,024, each a mask and a value, one after the other: 2 k numbers, or an array of
+ * struct kudzuclamp_entry (see kudzuclamp_fit_logs). Entry i of both logs is for state i of the run, which fits an entry where its masked bits equal
+ * the value, (state & mask) == value: a value with a bit outside its mask fits no state. Later places are never written, and none where the call is
+ * refused. No register or relation changes. A step may need at most N rows, with the set of one moment and what registers and relations hold; all k
+ * sets are made, also where no run can exist. It returns 0, 1 (lengths odd, unequal, 0 or above 2,048), 2, 3, 7, 8, KUDZUCLAMP_NO_RUN or
+ * KUDZUCLAMP_SHORT (fewer than k places).
+ */
+KUDZUCLAMP_USE_RESULT
+uint32_t kudzuclamp_logged(uint32_t *words, size_t words_len, uint16_t *list, size_t list_len, uint32_t t, const uint16_t *one, size_t one_len,
+                           const uint16_t *two, size_t two_len);
+
+/* An entry of a log: the bits that were logged, and what they were. */
+struct kudzuclamp_entry {
+    uint16_t mask;
+    uint16_t value;
+};
+
+/* The same call over two arrays of k entries; k above 1,024 gives 1. */
+KUDZUCLAMP_USE_RESULT
+static inline uint32_t kudzuclamp_fit_logs(uint32_t *words, size_t words_len, uint16_t *list, size_t list_len, uint32_t t,
+                                           const struct kudzuclamp_entry *one, const struct kudzuclamp_entry *two, size_t k)
+{
+    const size_t len = k > 1024 ? 0 : 2 * k;
+    return kudzuclamp_logged(words, words_len, list, list_len, t, (const uint16_t *)one, len, (const uint16_t *)two, len);
+}
+
+/*
  * Checks formula bytes for a set call, or for a relation call where `relation` is not 0, and takes no step. It returns 2, or the number of 4 to 7
  * or 12 that the call's own checks of the formula give, or 0.
  */

@@ -1,7 +1,7 @@
 //! The table over lent or owned words.
 use crate::check::{self, Call};
 use crate::layout::{self, BITS, FIRST_REGISTER, ROWS};
-use crate::{abi, dot, least, Account, AsFormula, Game, Names, Refusal, Refused, States};
+use crate::{abi, dot, least, Account, AsFormula, Entry, Game, Names, Refusal, Refused, States};
 use crate::{Strategy, Target};
 
 /// The greatest number of state bits of a table.
@@ -476,6 +476,48 @@ impl<W: AsRef<[u32]> + AsMut<[u32]>> Table<W> {
     ) -> Result<usize, Refusal> {
         let states = abi::shortest(self.words.as_mut(), list, a, b, t)?;
         Ok(states as usize)
+    }
+
+    /// The states of a run of relation t that fits two logs: entry i of both is for state i. Of all
+    /// such runs it is the one with the least first state, then the least second one, and so on.
+    /// Refused with [`Refusal::NoRun`] where there is none, and with [`Refusal::Sizes`] where the
+    /// logs have not the same number of entries, 1 to 1,024; no register, relation or account
+    /// changes.
+    ///
+    /// ```
+    /// use kudzuclamp::{Account, Entry, Formula, Refusal, Table};
+    ///
+    /// # fn main() -> Result<(), Refusal> {
+    /// // Two switches; each press turns one of them over.
+    /// let mut accounts = [Account::unlimited()];
+    /// let mut table = Table::new(&mut accounts, 2, 100)?;
+    /// let keeps = |p| Formula::next(p).iff(&Formula::current(p));
+    /// let turns = |p| !keeps(p);
+    /// table.relation(0, (turns(0) & keeps(1)) | (keeps(0) & turns(1)))?;
+    /// // One machine logs the first switch, the other the second, and not at every moment.
+    /// let first = [Entry::of(1, 0), Entry::of(1, 1), Entry::none()];
+    /// let second = [Entry::none(), Entry::none(), Entry::of(2, 2)];
+    /// assert_eq!(table.logged(0, &first, &second)?, [0, 1, 3]);
+    /// # Ok(())
+    /// # }
+    /// ```
+    pub fn logged(&mut self, t: u32, one: &[Entry], two: &[Entry]) -> Result<Vec<u16>, Refusal> {
+        let mut list = vec![0; one.len()];
+        self.write_logged(&mut list, t, one, two)?;
+        Ok(list)
+    }
+
+    /// Writes the states that [`Table::logged`] gives to the first places of a list; later places
+    /// are never written, and none where the call is refused. Refused with [`Refusal::Short`] where
+    /// the list has fewer places than the logs have entries.
+    pub fn write_logged(
+        &mut self,
+        list: &mut [u16],
+        t: u32,
+        one: &[Entry],
+        two: &[Entry],
+    ) -> Result<(), Refusal> {
+        abi::logged(self.words.as_mut(), list, t, one, two)
     }
 
     /// The words, to change at will: the next call refuses with [`Refusal::Unsound`] where they are

@@ -54,7 +54,7 @@ pub record Passing (n limit : ℕ) (W X : View) (t b : ℕ) (S : Scene n W t b) 
 
 -- ---- the least common state, of sets
 
-both-mem : (n : ℕ) (W X : View) {a x : ℕ} (A L : List Bool) → 2 * n ≡ 2 * X .header BITS → Denotes (2 * n) (rowsOf X) a (fnOf n A)
+pub both-mem : (n : ℕ) (W X : View) {a x : ℕ} (A L : List Bool) → 2 * n ≡ 2 * X .header BITS → Denotes (2 * n) (rowsOf X) a (fnOf n A)
     → Denotes (2 * n) (rowsOf X) x (fnOf n L)
     → (s : ℕ) → s < 2 ^ n → inBoth X a x s ≡ (mem A s && mem L s)
 both-mem n W X {a} {x} A L e da dx s l = ap₂ _&&_ (one A da) (one L dx)

@@ -86,7 +86,7 @@ steps-start p = record { moved = moved-refl (p .base); kept = keeps-refl (base-w
 
 -- ---- the least next state, of sets
 
-next-mem : (n : ℕ) (X : View) {t x : ℕ} (R : Pairs) (L : List Bool) → 2 * n ≡ 2 * X .header BITS
+pub next-mem : (n : ℕ) (X : View) {t x : ℕ} (R : Pairs) (L : List Bool) → 2 * n ≡ 2 * X .header BITS
     → Denotes (2 * n) (rowsOf X) t (fnOfPairs n R) → Denotes (2 * n) (rowsOf X) x (fnOf n L)
     → (s : ℕ) → s < 2 ^ n → (u : ℕ) → u < 2 ^ n → nextIn X t s x u ≡ (pair R s u && mem L u)
 next-mem n X {t} {x} R L e dt dx s l u i = ap₂ _&&_ step inside

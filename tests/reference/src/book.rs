@@ -4,6 +4,7 @@ use crate::accounts::{check_list, check_place, Account};
 use crate::evaluate::{self, Evaluated, Held, Limits};
 use crate::formula::{self, Formula, Kind};
 use crate::game::{self, Game, Made, Named};
+use crate::logs::{self, Entry, Moment, MAX_ENTRIES};
 use crate::members::{members, Members, MAX_STATES};
 use crate::paths;
 use crate::refusal::Refusal;
@@ -399,6 +400,35 @@ impl Book {
             return Err(Refusal::ListTooShort);
         }
         paths::again(self.held(), self.rows, t, goal, last)?;
+        Ok(run.into_iter().map(|state| state as u16).collect())
+    }
+
+    /// Slip 11: the states of the run of relation t that fits two logs and is least
+    /// at each place, for a list of so many places. It changes nothing.
+    pub fn logged(
+        &self,
+        t: u64,
+        one: &[Entry],
+        two: &[Entry],
+        room: usize,
+    ) -> Result<Vec<u16>, Refusal> {
+        if one.is_empty() || one.len() > MAX_ENTRIES || one.len() != two.len() {
+            return Err(Refusal::BadSizes);
+        }
+        let t = in_range(t, RELATIONS)?;
+        let relation = self.relations[t].as_ref().ok_or(Refusal::Empty)?;
+        let moments: Vec<Moment> = one.iter().copied().zip(two.iter().copied()).collect();
+        let first = logs::make_set(self.held(), self.rows, t, &moments, 0)?;
+        let run = logs::logged(relation, &self.valid, &moments);
+        assert_eq!(run.is_none(), first.is_empty(), "the sets say something else");
+        let run = run.ok_or(Refusal::NoRun)?;
+        if run.len() > room {
+            return Err(Refusal::ListTooShort);
+        }
+        for place in 1..moments.len() {
+            let set = logs::make_set(self.held(), self.rows, t, &moments, place)?;
+            assert!(set.contains(run[place]), "the run leaves its set");
+        }
         Ok(run.into_iter().map(|state| state as u16).collect())
     }
 

@@ -1,0 +1,4 @@
+pub mod Search
+pub mod Post
+pub mod OneLogged
+pub mod Asks

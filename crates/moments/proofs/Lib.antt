@@ -1,0 +1,6 @@
+pub mod Cubes
+pub mod FittingLaws
+pub mod BeforeLaws
+pub mod Sets
+pub mod Write
+pub mod Find

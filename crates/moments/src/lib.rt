@@ -1,0 +1,246 @@
+// The sets of states from which a run goes on as two logs say, each made from the one of the next moment; and the run, written to a lent
+// list.
+use accounts::Count;
+use counting::Taken;
+use counting::take;
+use layout::Refusal;
+use modal::Limits;
+use modal::diamond;
+use seek::least_common;
+use seek::least_next;
+use steps::Step;
+use table::Made;
+ghost use mathlib.Core.Path.{_≡_};
+ghost use Rattle.logs.specs.Runs.{momentAt};
+ghost use Rattle.moments.specs.Moment.{Asks, Has};
+ghost use Rattle.moments.specs.Posts.{FittingAsks, FittingGives, BeforeAsks, BeforeGives, MakeAsks, MakeGives, WriteAsks, WriteGives};
+ghost use Rattle.moments.specs.Posts.{FindAsks, FindGives};
+
+// What both logs say of a state at one moment: the bits that it has, and those that it has not.
+pub struct Moment {
+    pub ones: u32,
+    pub zeros: u32,
+}
+
+// What the call for a run that fits two logs answers.
+pub enum Logged {
+    Done,
+    Refused(Refusal),
+}
+
+// A 16-bit number as one of 32 bits.
+fn wide(x: u16) -> u32
+    ensures { λ r. ⌜ r ≡ x ⌝ }
+{
+    x as u32
+}
+
+// The entries of both logs for moment i, each a mask and a value. A bit of a value outside its mask is in both numbers, and so is one on
+// which the logs differ: then no state fits.
+fn moment_at(one: &[u16], two: &[u16], i: usize) -> Moment
+    requires { ⌜ Has (now one) (now two) i ⌝ }
+    ensures { λ r. ⌜ Asks (momentAt (now (one .entry)) (now (two .entry)) i) (r .ones) (r .zeros) ⌝ }
+{
+    let k = 2 * i;
+    let m = wide(one[k]);
+    let v = wide(one[k + 1]);
+    let l = wide(two[k]);
+    let w = wide(two[k + 1]);
+    Moment {
+        ones: v | w,
+        zeros: (m ^ v) | (l ^ w),
+    }
+}
+
+// The states that fit: one step, and their AND with V another.
+fn fitting(
+    words: &mut [u32],
+    counts: &mut [u32],
+    limits: Limits,
+    roots: &[u32],
+    valid: u32,
+    moment: Moment,
+    count: Count,
+) -> Taken
+    requires { ⌜ FittingAsks limits (now words) (now counts) (now roots) valid ⌝ }
+    ensures { λ r. ⌜ FittingGives limits (now (words .entry)) (now (words .exit)) (now (counts .exit)) (now (roots .entry))
+        valid moment count r ⌝ }
+{
+    let levels = 2 * limits.bits;
+    let Taken::At { arrow: f, count: q } = take(
+        words,
+        counts,
+        limits.rows,
+        levels,
+        limits.limit,
+        roots,
+        Step::Cube(moment.ones, moment.zeros),
+        count,
+    ) else {
+        return Taken::Full;
+    };
+    take(
+        words,
+        counts,
+        limits.rows,
+        levels,
+        limits.limit,
+        roots,
+        Step::And(f, valid),
+        q,
+    )
+}
+
+// The set of the moment before: diamond of the later one, then the states that fit, then AND of both. Only the later set is live, until
+// the new one is made. No peak is asked: one that is N already is never passed, so nothing is counted.
+fn before(
+    words: &mut [u32],
+    counts: &mut [u32],
+    limits: Limits,
+    relation: u32,
+    valid: u32,
+    later: u32,
+    moment: Moment,
+) -> Taken
+    requires { ⌜ BeforeAsks limits (now words) (now counts) relation valid later ⌝ }
+    ensures { λ r. ⌜ BeforeGives limits (now (words .entry)) (now (words .exit)) (now (counts .exit)) relation valid later moment r ⌝ }
+{
+    let levels = 2 * limits.bits;
+    let uncounted = Count {
+        rounds: 0,
+        peak: limits.rows,
+    };
+    let roots = [later];
+    let Taken::At { arrow: d, count: p } = diamond(
+        words,
+        counts,
+        limits,
+        &roots,
+        relation,
+        later,
+        uncounted,
+    ) else {
+        return Taken::Full;
+    };
+    let both = [later, d];
+    let Taken::At { arrow: f, count: q } = fitting(words, counts, limits, &both, valid, moment, p)
+    else {
+        return Taken::Full;
+    };
+    take(
+        words,
+        counts,
+        limits.rows,
+        levels,
+        limits.limit,
+        &roots,
+        Step::And(d, f),
+        q,
+    )
+}
+
+// The set of moment `at`, made from that of the last moment on.
+fn make_set(
+    words: &mut [u32],
+    counts: &mut [u32],
+    limits: Limits,
+    relation: u32,
+    valid: u32,
+    one: &[u16],
+    two: &[u16],
+    at: usize,
+) -> Made
+    requires { ⌜ MakeAsks limits (now words) (now counts) relation valid (now one) (now two) at ⌝ }
+    ensures { λ r. ⌜ MakeGives limits (now (words .entry)) (now (words .exit)) (now (counts .exit)) relation valid
+        (now (one .entry)) (now (two .entry)) at r ⌝ }
+{
+    let uncounted = Count {
+        rounds: 0,
+        peak: limits.rows,
+    };
+    let none = [0u32; 0];
+    let mut i = one.len() / 2 - 1;
+    let last = moment_at(one, two, i);
+    let Taken::At { arrow: f, count: _ } = fitting(
+        words,
+        counts,
+        limits,
+        &none,
+        valid,
+        last,
+        uncounted,
+    ) else {
+        return Made::Full;
+    };
+    let mut x = f;
+    while at < i {
+        i -= 1;
+        let m = moment_at(one, two, i);
+        let Taken::At { arrow: y, count: _ } = before(words, counts, limits, relation, valid, x, m)
+        else {
+            return Made::Full;
+        };
+        x = y;
+    }
+    Made::At(x)
+}
+
+// Writes the states after the first one: at each place the least next state in its set, which is made again.
+fn write_on(
+    words: &mut [u32],
+    counts: &mut [u32],
+    list: &mut [u16],
+    limits: Limits,
+    relation: u32,
+    valid: u32,
+    one: &[u16],
+    two: &[u16],
+    first: u32,
+)
+    requires { ⌜ WriteAsks limits (now words) (now counts) relation valid (now one) (now two) first (now list) ⌝ }
+    ensures { λ _. ⌜ WriteGives limits (now (words .entry)) (now (words .exit)) relation valid (now (one .entry)) (now (two .entry))
+        first (now (list .entry)) (now (list .exit)) ⌝ }
+{
+    let last = one.len() / 2 - 1;
+    let mut s = first;
+    let mut i = 0;
+    while i < last {
+        i += 1;
+        let Made::At(x) = make_set(words, counts, limits, relation, valid, one, two, i) else {
+            return;
+        };
+        s = least_next(words, limits.rows, limits.bits, relation, s, x);
+        list[i] = s as u16;
+    }
+}
+
+// Finds the run that is least at each place, and writes it; the list is kept where there is none or it is too short.
+pub fn find_logged(
+    words: &mut [u32],
+    counts: &mut [u32],
+    list: &mut [u16],
+    limits: Limits,
+    relation: u32,
+    valid: u32,
+    one: &[u16],
+    two: &[u16],
+) -> Logged
+    requires { ⌜ FindAsks limits (now words) (now counts) relation valid (now one) (now two) ⌝ }
+    ensures { λ r. ⌜ FindGives limits (now (words .entry)) (now (words .exit)) relation valid (now (one .entry)) (now (two .entry))
+        (now (list .entry)) (now (list .exit)) r ⌝ }
+{
+    let Made::At(x) = make_set(words, counts, limits, relation, valid, one, two, 0) else {
+        return Logged::Refused(Refusal::Full);
+    };
+    let states = 1u32 << limits.bits;
+    let s = least_common(words, limits.rows, limits.bits, x, x);
+    if states <= s {
+        return Logged::Refused(Refusal::NoRun);
+    }
+    if list.len() < one.len() / 2 {
+        return Logged::Refused(Refusal::Short);
+    }
+    list[0] = s as u16;
+    write_on(words, counts, list, limits, relation, valid, one, two, s);
+    Logged::Done
+}
