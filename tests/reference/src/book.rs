@@ -4,7 +4,7 @@ use crate::accounts::{check_list, check_place, Account};
 use crate::evaluate::{self, Evaluated, Held, Limits};
 use crate::formula::{self, Formula, Kind};
 use crate::game::{self, Game, Made, Named};
-use crate::logs::{self, Entry, Moment, MAX_ENTRIES};
+use crate::logs::{self, Entry};
 use crate::members::{members, Members, MAX_STATES};
 use crate::paths;
 use crate::refusal::Refusal;
@@ -412,22 +412,22 @@ impl Book {
         two: &[Entry],
         room: usize,
     ) -> Result<Vec<u16>, Refusal> {
-        if one.is_empty() || one.len() > MAX_ENTRIES || one.len() != two.len() {
-            return Err(Refusal::BadSizes);
-        }
+        let moments = logs::moments(one, two)?;
         let t = in_range(t, RELATIONS)?;
         let relation = self.relations[t].as_ref().ok_or(Refusal::Empty)?;
-        let moments: Vec<Moment> = one.iter().copied().zip(two.iter().copied()).collect();
-        let first = logs::make_set(self.held(), self.rows, t, &moments, 0)?;
+        let made = |place| logs::make_set(self.held(), self.rows, t, &moments, place);
+        let first = made(0)?.set;
         let run = logs::logged(relation, &self.valid, &moments);
-        assert_eq!(run.is_none(), first.is_empty(), "the sets say something else");
+        assert_eq!(run.is_none(), first.is_empty(), "another set is empty");
         let run = run.ok_or(Refusal::NoRun)?;
         if run.len() > room {
             return Err(Refusal::ListTooShort);
         }
-        for place in 1..moments.len() {
-            let set = logs::make_set(self.held(), self.rows, t, &moments, place)?;
-            assert!(set.contains(run[place]), "the run leaves its set");
+        for place in 1..run.len() {
+            assert!(
+                made(place)?.set.contains(run[place]),
+                "the run leaves its set"
+            );
         }
         Ok(run.into_iter().map(|state| state as u16).collect())
     }

@@ -112,22 +112,24 @@ pub fn next_layer(
     Ok(layer.into_states())
 }
 
-/// Slip 11: "The fitting states of a pair are one step, their AND with V another".
-pub fn fitting(held: Held, rows: usize, fit: &StateSet) -> Result<StateSet, Refusal> {
+/// Slip 11: "the states fitting both last entries". "The fitting states of a pair are
+/// one step, their AND with V another".
+pub fn fitting(held: Held, rows: usize, fit: &StateSet) -> Result<Evaluated<StateSet>, Refusal> {
     let limits = Limits { rows, rounds: 0 };
     let mut evaluator = Evaluator::new(held, limits, Kind::Set);
-    Ok(evaluator.fitting(fit)?.into_states())
+    let set = evaluator.fitting(fit)?;
+    Ok(evaluator.done(set).map(Value::into_states))
 }
 
 /// Slip 11: the set of the moment before, "diamond of the later set AND the states
-/// fitting it"; "only the last set is live".
+/// fitting it"; "only the last set is live", until this one is made.
 pub fn set_before(
     held: Held,
     rows: usize,
     t: usize,
     later: &StateSet,
     fit: &StateSet,
-) -> Result<StateSet, Refusal> {
+) -> Result<Evaluated<StateSet>, Refusal> {
     let limits = Limits { rows, rounds: 0 };
     let mut evaluator = Evaluator::new(held, limits, Kind::Set);
     let later = Value::States(later.clone());
@@ -137,7 +139,7 @@ pub fn set_before(
     let fit = evaluator.fitting(fit)?;
     evaluator.waiting.pop();
     let set = evaluator.step(&[&before, &fit], before.and(&fit))?;
-    Ok(set.into_states())
+    Ok(evaluator.done(set).map(Value::into_states))
 }
 
 impl<T> Evaluated<T> {
@@ -384,8 +386,7 @@ impl<'a> Evaluator<'a> {
     /// The states that fit, and those of them that exist.
     fn fitting(&mut self, fit: &StateSet) -> Result<Value, Refusal> {
         let fit = self.step(&[], Value::States(fit.clone()))?;
-        let valid = Value::States(self.held.valid.clone());
-        self.step(&[&fit, &valid], fit.and(&valid))
+        self.existing(fit)
     }
 
     /// "Mu starts from the empty set"; Slip 6: "nu starts from V". "An inner

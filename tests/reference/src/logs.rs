@@ -1,5 +1,5 @@
-//! A run of a relation that fits two logs (document 02, Slip 11), by depth-first
-//! search from the least states on.
+//! A run of a relation that fits two logs (document 02, Slip 11): by enumeration of
+//! runs, from the least states on; and the steps of the sets that are made.
 
 use crate::evaluate::{self, Held};
 use crate::refusal::Refusal;
@@ -10,7 +10,7 @@ use std::collections::HashSet;
 pub const MAX_ENTRIES: usize = 1024;
 
 /// "a mask and a value, 16 bits each".
-#[derive(Clone, Copy, Debug, PartialEq, Eq)]
+#[derive(Clone, Copy, Debug, PartialEq, Eq, Hash)]
 pub struct Entry {
     pub mask: u16,
     pub value: u16,
@@ -26,35 +26,39 @@ impl Entry {
 /// Entry i of both logs, "for the same moment".
 pub type Moment = (Entry, Entry);
 
-/// The states that fit both entries, of all 2^n.
-pub fn fitting(n: u32, (one, two): Moment) -> StateSet {
-    StateSet::from_fn(n, |state| one.fits(state) && two.fits(state))
+/// Whether a state fits both entries.
+pub fn fits(moment: Moment, state: usize) -> bool {
+    moment.0.fits(state) && moment.1.fits(state)
+}
+
+/// "A log length out of range or unequal gives 1": the moments of two logs.
+pub fn moments(one: &[Entry], two: &[Entry]) -> Result<Vec<Moment>, Refusal> {
+    if one.len() != two.len() || !(1..=MAX_ENTRIES).contains(&one.len()) {
+        return Err(Refusal::BadSizes);
+    }
+    Ok(one.iter().copied().zip(two.iter().copied()).collect())
 }
 
 /// "some run of a relation with k states fits both logs": its states, "the least
-/// possible at each place in turn". The first that a search from the least states
-/// on meets is the least; a state from which the logs cannot be finished is not
-/// tried again at its place.
+/// possible at each place in turn". Runs are tried in the order of their states, so
+/// the first that is whole is the least; a state from which the logs cannot be
+/// finished is not tried again at its place.
 pub fn logged(relation: &PairSet, valid: &StateSet, moments: &[Moment]) -> Option<Vec<usize>> {
     let states = 0..state_count(valid.n());
-    let fits = |place: usize, state: usize| {
-        let (one, two) = moments[place];
-        valid.contains(state) && one.fits(state) && two.fits(state)
-    };
     let mut dead: HashSet<(usize, usize)> = HashSet::new();
     let mut run: Vec<usize> = Vec::new();
     let mut from = 0;
-    loop {
+    while run.len() < moments.len() {
         let place = run.len();
-        if place == moments.len() {
-            return Some(run);
-        }
-        let reached = |next: usize| match run.last() {
+        let follows = |next: usize| match run.last() {
             Some(&now) => relation.contains(now, next),
-            None => true,
+            None => valid.contains(next),
         };
         let open = |&next: &usize| {
-            next >= from && fits(place, next) && reached(next) && !dead.contains(&(place, next))
+            next >= from
+                && fits(moments[place], next)
+                && follows(next)
+                && !dead.contains(&(place, next))
         };
         match states.clone().find(open) {
             Some(next) => {
@@ -68,6 +72,13 @@ pub fn logged(relation: &PairSet, valid: &StateSet, moments: &[Moment]) -> Optio
             }
         }
     }
+    Some(run)
+}
+
+/// A set that was made, and the largest need of its steps and those before it.
+pub struct Made {
+    pub set: StateSet,
+    pub peak: usize,
 }
 
 /// Takes the steps of the set at a place: "the states fitting both last entries,
@@ -78,11 +89,15 @@ pub fn make_set(
     t: usize,
     moments: &[Moment],
     place: usize,
-) -> Result<StateSet, Refusal> {
+) -> Result<Made, Refusal> {
+    let fitting = |&moment: &Moment| StateSet::from_fn(held.n, |state| fits(moment, state));
     let (last, earlier) = moments.split_last().expect("at least one entry");
-    let mut set = evaluate::fitting(held, rows, &fitting(held.n, *last))?;
-    for moment in earlier[place.min(earlier.len())..].iter().rev() {
-        set = evaluate::set_before(held, rows, t, &set, &fitting(held.n, *moment))?;
+    let first = evaluate::fitting(held, rows, &fitting(last))?;
+    let (mut set, mut peak) = (first.value, first.peak);
+    for moment in earlier.iter().skip(place).rev() {
+        let before = evaluate::set_before(held, rows, t, &set, &fitting(moment))?;
+        peak = peak.max(before.peak);
+        set = before.value;
     }
-    Ok(set)
+    Ok(Made { set, peak })
 }
