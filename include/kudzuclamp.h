@@ -112,7 +112,7 @@ struct kudzuclamp_account {
 enum kudzuclamp_number {
     KUDZUCLAMP_ANSWERED = 0,
     KUDZUCLAMP_SIZES = 1,     /* fresh: n, N or the number of words out of range; members: too many states, or too short a list; cheapest: not 8
-                                 prices, or too few work words */
+                                 prices, or too few work words; logged: not 1 to 1,024 entries, or not as many in both logs */
     KUDZUCLAMP_UNSOUND = 2,   /* the words are no sound table */
     KUDZUCLAMP_RANGE = 3,     /* register, relation or state number out of range */
     KUDZUCLAMP_SYNTAX = 4,    /* the bytes are no formula for this call */
@@ -121,7 +121,7 @@ enum kudzuclamp_number {
     KUDZUCLAMP_EMPTY = 7,     /* a register or relation named is empty */
     KUDZUCLAMP_FULL = 8,      /* a step needs more rows than N, or than the account's row limit */
     KUDZUCLAMP_SPENT = 9,     /* the rounds are used up: R's, or the account's */
-    KUDZUCLAMP_NO_RUN = 10,   /* there is no run from the one set into the other */
+    KUDZUCLAMP_NO_RUN = 10,   /* there is no run from the one set into the other, or none that fits both logs */
     KUDZUCLAMP_SHORT = 11,    /* a list is too short for the run */
     KUDZUCLAMP_VACUOUS = 12,  /* a binder's variable occurs nowhere free in its body */
     KUDZUCLAMP_OCCUPIED = 13, /* valid: a register or relation is filled */
@@ -140,7 +140,7 @@ static inline const char *kudzuclamp_text(uint32_t number)
     case KUDZUCLAMP_ANSWERED:
         return "answered";
     case KUDZUCLAMP_SIZES:
-        return "the number of bits, rows, states or prices is out of range, or there are too few words or places";
+        return "the number of bits, rows, states, prices or entries is out of range, two logs are unequal, or there are too few words or places";
     case KUDZUCLAMP_UNSOUND:
         return "the words are no sound table";
     case KUDZUCLAMP_RANGE:
@@ -158,7 +158,7 @@ static inline const char *kudzuclamp_text(uint32_t number)
     case KUDZUCLAMP_SPENT:
         return "the rounds are used up";
     case KUDZUCLAMP_NO_RUN:
-        return "there is no run from the one set into the other";
+        return "there is no such run";
     case KUDZUCLAMP_SHORT:
         return "a list is too short for the run";
     case KUDZUCLAMP_VACUOUS:
@@ -387,29 +387,33 @@ uint32_t kudzuclamp_react(uint32_t *words, size_t words_len, const struct kudzuc
 
 /*
  * Writes the states of a run of relation t that fits two logs to the first places of the list: of all such runs the one with the least first state,
- * then the least second one, and so on. A log is k entries, 1 to 1,024, each a mask and a value, one after the other: 2 k numbers, or an array of
- * struct kudzuclamp_entry (see kudzuclamp_fit_logs). Entry i of both logs is for state i of the run, which fits an entry where its masked bits equal
- * the value, (state & mask) == value: a value with a bit outside its mask fits no state. Later places are never written, and none where the call is
- * refused. No register or relation changes. A step may need at most N rows, with the set of one moment and what registers and relations hold; all k
- * sets are made, also where no run can exist. It returns 0, 1 (lengths odd, unequal, 0 or above 2,048), 2, 3, 7, 8, KUDZUCLAMP_NO_RUN or
- * KUDZUCLAMP_SHORT (fewer than k places).
+ * then the least second one, and so on. Both logs have k entries, 1 to 1,024; entry i of both is for state i of the run. An entry is a mask and a
+ * value, and a state fits it where (state & mask) == value: so a value with a bit outside its mask, or with a bit n or above, fits no state, and a
+ * mask of 0 with value 0 every state. A log is lent as 2 k numbers, mask and value of each entry in turn; kudzuclamp_fit_logs lends arrays of struct
+ * kudzuclamp_entry so. Places after the first k are never written, and none where the call is refused. No register or relation changes. A step may
+ * need at most N rows, of the set of one moment, of the steps of the moment before it and of what registers and relations hold; the sets of all k
+ * moments are made before 10 is decided, also where one of them is empty. It returns 0, 1 (lengths 0, odd, above 2,048 or unequal), 2, 3, 7, 8,
+ * KUDZUCLAMP_NO_RUN or KUDZUCLAMP_SHORT (fewer than k places). The time grows as the square of k: some 500,000 diamonds where k is 1,024.
  */
 KUDZUCLAMP_USE_RESULT
 uint32_t kudzuclamp_logged(uint32_t *words, size_t words_len, uint16_t *list, size_t list_len, uint32_t t, const uint16_t *one, size_t one_len,
                            const uint16_t *two, size_t two_len);
 
-/* An entry of a log: the bits that were logged, and what they were. */
+/* The most entries of a log. */
+#define KUDZUCLAMP_MAX_ENTRIES 1024
+
+/* An entry of a log: which bits were logged at its moment, and what they were. */
 struct kudzuclamp_entry {
     uint16_t mask;
     uint16_t value;
 };
 
-/* The same call over two arrays of k entries; k above 1,024 gives 1. */
+/* kudzuclamp_logged over two arrays of k entries. */
 KUDZUCLAMP_USE_RESULT
 static inline uint32_t kudzuclamp_fit_logs(uint32_t *words, size_t words_len, uint16_t *list, size_t list_len, uint32_t t,
                                            const struct kudzuclamp_entry *one, const struct kudzuclamp_entry *two, size_t k)
 {
-    const size_t len = k > 1024 ? 0 : 2 * k;
+    const size_t len = k > KUDZUCLAMP_MAX_ENTRIES ? 0 : 2 * k;
     return kudzuclamp_logged(words, words_len, list, list_len, t, (const uint16_t *)one, len, (const uint16_t *)two, len);
 }
 

@@ -70,7 +70,7 @@ mod target;
 mod token;
 
 pub use account::{Account, MAX_ACCOUNTS};
-pub use entry::Entry;
+pub use entry::{Entry, MAX_ENTRIES};
 pub use fault::{Fault, FaultKind};
 pub use formula::{AsFormula, Formula};
 pub use game::{Game, Strategy};

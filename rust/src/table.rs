@@ -481,8 +481,8 @@ impl<W: AsRef<[u32]> + AsMut<[u32]>> Table<W> {
     /// The states of a run of relation t that fits two logs: entry i of both is for state i. Of all
     /// such runs it is the one with the least first state, then the least second one, and so on.
     /// Refused with [`Refusal::NoRun`] where there is none, and with [`Refusal::Sizes`] where the
-    /// logs have not the same number of entries, 1 to 1,024; no register, relation or account
-    /// changes.
+    /// logs have not the same number of entries, 1 to [`MAX_ENTRIES`](crate::MAX_ENTRIES). No
+    /// register or relation changes.
     ///
     /// ```
     /// use kudzuclamp::{Account, Entry, Formula, Refusal, Table};
@@ -491,13 +491,17 @@ impl<W: AsRef<[u32]> + AsMut<[u32]>> Table<W> {
     /// // Two switches; each press turns one of them over.
     /// let mut accounts = [Account::unlimited()];
     /// let mut table = Table::new(&mut accounts, 2, 100)?;
-    /// let keeps = |p| Formula::next(p).iff(&Formula::current(p));
-    /// let turns = |p| !keeps(p);
-    /// table.relation(0, (turns(0) & keeps(1)) | (keeps(0) & turns(1)))?;
-    /// // One machine logs the first switch, the other the second, and not at every moment.
-    /// let first = [Entry::of(1, 0), Entry::of(1, 1), Entry::none()];
-    /// let second = [Entry::none(), Entry::none(), Entry::of(2, 2)];
+    /// let press = |p, other| Formula::turns(p) & Formula::keeps(other);
+    /// table.relation(0, press(0, 1) | press(1, 0))?;
+    /// // One unit logs the first switch, another the second, and neither at every moment.
+    /// let (none, bit) = (Entry::none(), |p, on| Entry::none().bit(p, on));
+    /// let first = [bit(0, false), bit(0, true), none];
+    /// let second = [none, none, bit(1, true)];
     /// assert_eq!(table.logged(0, &first, &second)?, [0, 1, 3]);
+    /// // Both switches on, and at the next moment both off: two presses, not one.
+    /// let both = [bit(0, true), bit(0, false)];
+    /// let other = [bit(1, true), bit(1, false)];
+    /// assert_eq!(table.logged(0, &both, &other), Err(Refusal::NoRun));
     /// # Ok(())
     /// # }
     /// ```
