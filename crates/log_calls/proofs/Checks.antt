@@ -44,6 +44,25 @@ fit-yes {one} {two} f =
     (and-in (eqb (one % 2) 0) _ (subst (λ (k : ℕ). T (eqb k 0)) (sym (f .whole)) tt)
     (and-in (leb 1 one) _ (le→leb 1 one (f .some)) (le→leb one 2_048 (f .few))))
 
+pub yes-fit : (one two : ℕ) → T (logsFit one two) → LogsFit one two
+yes-fit one two h =
+    let a = and-out (eqb one two) _ h in
+    let b = and-out (eqb (one % 2) 0) _ (a .1) in
+    let c = and-out (leb 1 one) _ (b .1) in
+    record {
+      equal = eqb→eq one two (a .0);
+      whole = eqb→eq (one % 2) 0 (b .0);
+      some = leb→le 1 one (c .0);
+      few = leb→le one 2_048 (c .1);
+    }
+
+-- "A log length out of range or unequal gives 1"
+pub says-one : (bk : Book) (t : ℕ) (one two list : List ℕ) → (LogsFit (length one) (length two) → ⊥)
+    → logged bk t one two list ≡ refuse 1 list
+says-one bk t one two list n =
+    ap (λ (b : Bool). cond b (cond (ltb t relations) (overFilled bk (bk .rel t) one two list) (refuse 3 list)) (refuse 1 list))
+    (false-of (logsFit (length one) (length two)) (λ h. n (yes-fit (length one) (length two) h)))
+
 module _ (bk : Book) (t : ℕ) (one two list : List ℕ) (f : LogsFit (length one) (length two)) where
   by-range : {r : Bool} → ltb t relations ≡ r
       → logged bk t one two list ≡ cond r (overFilled bk (bk .rel t) one two list) (refuse 3 list)
@@ -78,12 +97,22 @@ module _ (bk : Book) (t : ℕ) (one two list : List ℕ) (f : LogsFit (length on
 -- ---- refusals by the checks
 
 module _ (t : ℕ) (one two ws list : List ℕ) where
+  -- the book refuses with the number
+  told-refused : (k : ℕ) → logged (bookOf (seen ws)) t one two list ≡ refuse (suc k) list → SoundWords ws
+      → Told t one two ws ws list list (plain (suc k))
+  told-refused k e s = record {
+    reply = sym (ap (λ (x : Ended). x .reply) e);
+    list = sym (ap (λ (x : Ended). x .list) e);
+    sound = s;
+    rows = keeps-refl (s .good .rows) (λ r m. filled-arrow s r (root-filled (tableOf ws) (s .valid) r m));
+  }
+
   -- CHECK 1
   pub log-sizes : (LogsFit (length one) (length two) → ⊥) → LogPost t one two ws ws list list (plain 1)
   log-sizes n = record {
     sizes = λ _. ((refl, refl, refl, refl), refl, refl);
     unsound = λ f. absurd (n f);
-    told = λ f. absurd (n f);
+    told = told-refused 0 (says-one (bookOf (seen ws)) t one two list n);
     book = refl;
     kept = kept-refused collect 0 ws;
   }
@@ -94,23 +123,18 @@ module _ (t : ℕ) (one two ws list : List ℕ) where
     log-unsound n = record {
       sizes = λ g. absurd (g f);
       unsound = λ _ _. ((refl, refl, refl, refl), refl, refl);
-      told = λ _ s. absurd (n s);
+      told = λ s. absurd (n s);
       book = refl;
       kept = kept-refused collect 1 ws;
     }
 
-    -- CHECKS 3 AND 7: the book refuses with the number
+    -- CHECKS 3 AND 7
     log-refused : SoundWords ws → (k : ℕ) → logged (bookOf (seen ws)) t one two list ≡ refuse (suc k) list
         → LogPost t one two ws ws list list (plain (suc k))
     log-refused s k e = record {
       sizes = λ g. absurd (g f);
       unsound = λ _ n. absurd (n s);
-      told = λ _ _. record {
-        reply = sym (ap (λ (x : Ended). x .reply) e);
-        list = sym (ap (λ (x : Ended). x .list) e);
-        sound = s;
-        rows = keeps-refl (s .good .rows) (λ r m. filled-arrow s r (root-filled (tableOf ws) (s .valid) r m));
-      };
+      told = told-refused k e;
       book = refl;
       kept = kept-refused collect k ws;
     }
@@ -188,7 +212,7 @@ module _ {t : ℕ} (one two old : List ℕ) (f : LogsFit (length one) (length tw
       record {
         sizes = λ g. absurd (g f);
         unsound = λ _ g. absurd (g s);
-        told = λ _ _. record {
+        told = λ _. record {
           reply = d .told .reply ∙ sym (ap (λ (x : Ended). x .reply) (by-book list));
           list = d .told .list ∙ sym (ap (λ (x : Ended). x .list) (by-book list));
           sound = subst Sound (sym (same-table old new (loggedReply w) s (d .sound) (d .frame) (d .kept))) (d .sound);

@@ -1,35 +1,26 @@
--- Laws of what specs/OneLogged.antt defines. Assumes nothing.
-use mathlib.Core.Path.{_≡_, refl, sym, ap, _∙_, subst}
+-- ONE ANSWER of the call for two logs, and its meaning in plain words. Assumes nothing.
+use mathlib.Core.Path.{_≡_, sym, ap, _∙_, subst}
 use mathlib.Core.HLevel.{Discrete}
-use mathlib.Core.Bool.{Bool, true, false, _&&_, _||_, Bool-discrete}
+use mathlib.Core.Bool.{Bool-discrete}
 use mathlib.Core.List.{List, List-discrete}
 use Prim.Native.Nat.{ℕ, suc}
 use native.Mathlib.Decide.{ℕ-discrete}
-use lib.Dec.{T, eqb}
+use lib.Dec.{T}
 use lib.ListN.{length}
 use Rattle.mucalculus.specs.Form.{inside}
 use Rattle.layout.specs.Refusals.{keepsAll}
-use Rattle.book.specs.Book.{collect}
 use Rattle.book.specs.Table.{Reply}
 use Rattle.book.specs.BookOf.{bookOf}
 use Rattle.contract.specs.Seen.{seen, SoundWords}
 use Rattle.contract.proofs.Seen.{any-words}
-use Rattle.contract.specs.Kept.{freeWord, changes}
 use Rattle.paths.specs.Call.{Ended}
+use Rattle.path_calls.specs.OnePath.{OnePath}
+use Rattle.path_calls.proofs.OnePath.{fixed}
 use Rattle.logs.specs.Runs.{momentAt}
 use Rattle.logs.specs.Call.{after, logged}
 use Rattle.logs.specs.Meaning.{Meant}
 use Rattle.logs.proofs.Meaning.{logged-means}
 use Rattle.log_calls.specs.Post.{LogsFit, LogPost}
-use Rattle.log_calls.specs.OneLogged.{OneLogged}
-
--- a word that is not free is not changed
-fixed : (h : ℕ) (y : Reply) → freeWord h ≡ false → changes collect y h ≡ false
-fixed h y e = ap (λ (x : Bool). x || (eqb (y .number) 0 && false)) e ∙ none (eqb (y .number) 0)
-  where
-    none : (x : Bool) → (x && false) ≡ false
-    none true = refl
-    none false = refl
 
 -- of what can be told apart, what is not different is the same
 not-two : {X : Type 0} → Discrete X → {c d : X} → ((c ≡ d → ⊥) → ⊥) → c ≡ d
@@ -52,24 +43,24 @@ module _ (t : ℕ) (one two old : List ℕ) {v w list k l : List ℕ} {y z : Rep
   one-number : y .number ≡ z .number
   one-number =
       agree ℕ-discrete (λ n. p .sizes n .0 .0 ∙ sym (q .sizes n .0 .0)) (λ f n. p .unsound f n .0 .0 ∙ sym (q .unsound f n .0 .0))
-      (λ f s. ap (λ (r : Reply). r .number) (p .told f s .reply ∙ sym (q .told f s .reply)))
+      (λ f s. ap (λ (r : Reply). r .number) (p .told s .reply ∙ sym (q .told s .reply)))
 
   -- one reply and one list, and one book of the words that are left
-  pub logged-one : OneLogged old v w k l y z
+  pub logged-one : OnePath old v w k l y z
   logged-one = record {
     number = one-number;
     rounds =
         agree ℕ-discrete (λ n. p .sizes n .0 .1 ∙ sym (q .sizes n .0 .1)) (λ f n. p .unsound f n .0 .1 ∙ sym (q .unsound f n .0 .1))
-        (λ f s. ap (λ (r : Reply). r .rounds) (p .told f s .reply ∙ sym (q .told f s .reply)));
+        (λ f s. ap (λ (r : Reply). r .rounds) (p .told s .reply ∙ sym (q .told s .reply)));
     peak =
         agree ℕ-discrete (λ n. p .sizes n .0 .2 ∙ sym (q .sizes n .0 .2)) (λ f n. p .unsound f n .0 .2 ∙ sym (q .unsound f n .0 .2))
-        (λ f s. ap (λ (r : Reply). r .peak) (p .told f s .reply ∙ sym (q .told f s .reply)));
+        (λ f s. ap (λ (r : Reply). r .peak) (p .told s .reply ∙ sym (q .told s .reply)));
     states =
         agree ℕ-discrete (λ n. p .sizes n .0 .3 ∙ sym (q .sizes n .0 .3)) (λ f n. p .unsound f n .0 .3 ∙ sym (q .unsound f n .0 .3))
-        (λ f s. ap (λ (r : Reply). r .value) (p .told f s .reply ∙ sym (q .told f s .reply)));
+        (λ f s. ap (λ (r : Reply). r .value) (p .told s .reply ∙ sym (q .told s .reply)));
     list =
         agree (List-discrete ℕ-discrete) (λ n. p .sizes n .2 ∙ sym (q .sizes n .2)) (λ f n. p .unsound f n .2 ∙ sym (q .unsound f n .2))
-        (λ f s. p .told f s .list ∙ sym (q .told f s .list));
+        (λ f s. p .told s .list ∙ sym (q .told s .list));
     book = p .book ∙ sym (q .book);
     size = p .kept .size ∙ sym (q .kept .size);
     header = λ h i e. p .kept .header h i (fixed h y e) ∙ sym (q .kept .header h i (fixed h z e));
@@ -77,35 +68,35 @@ module _ (t : ℕ) (one two old : List ℕ) {v w list k l : List ℕ} {y z : Rep
       used =
           agree Bool-discrete (λ n. ap (λ (u : List ℕ). seen u .rows .used i) (p .sizes n .1 ∙ sym (q .sizes n .1)))
           (λ f n. ap (λ (u : List ℕ). seen u .rows .used i) (p .unsound f n .1 ∙ sym (q .unsound f n .1)))
-          (λ f s. p .told f s .rows .used i h ∙ sym (q .told f s .rows .used i h));
+          (λ f s. p .told s .rows .used i h ∙ sym (q .told s .rows .used i h));
       level =
           agree ℕ-discrete (λ n. ap (λ (u : List ℕ). seen u .rows .level i) (p .sizes n .1 ∙ sym (q .sizes n .1)))
           (λ f n. ap (λ (u : List ℕ). seen u .rows .level i) (p .unsound f n .1 ∙ sym (q .unsound f n .1)))
-          (λ f s. p .told f s .rows .level i h ∙ sym (q .told f s .rows .level i h));
+          (λ f s. p .told s .rows .level i h ∙ sym (q .told s .rows .level i h));
       low =
           agree ℕ-discrete (λ n. ap (λ (u : List ℕ). seen u .rows .low i) (p .sizes n .1 ∙ sym (q .sizes n .1)))
           (λ f n. ap (λ (u : List ℕ). seen u .rows .low i) (p .unsound f n .1 ∙ sym (q .unsound f n .1)))
-          (λ f s. p .told f s .rows .low i h ∙ sym (q .told f s .rows .low i h));
+          (λ f s. p .told s .rows .low i h ∙ sym (q .told s .rows .low i h));
       high =
           agree ℕ-discrete (λ n. ap (λ (u : List ℕ). seen u .rows .high i) (p .sizes n .1 ∙ sym (q .sizes n .1)))
           (λ f n. ap (λ (u : List ℕ). seen u .rows .high i) (p .unsound f n .1 ∙ sym (q .unsound f n .1)))
-          (λ f s. p .told f s .rows .high i h ∙ sym (q .told f s .rows .high i h));
+          (λ f s. p .told s .rows .high i h ∙ sym (q .told s .rows .high i h));
     };
     spare = λ i h. p .kept .spare i h ∙ sym (q .kept .spare i h);
     beyond = λ i h. p .kept .beyond i h ∙ sym (q .kept .beyond i h);
     all = λ h. p .kept .all h ∙ sym (q .kept .all (subst (λ (x : ℕ). T (keepsAll x)) one-number h));
   }
 
--- the same in plain words: where both logs fit, on a sound table the list is the least run of the book that fits both logs, 10 says that
--- there is none, 11 that the list is too short for it, and every refusal keeps the list
+-- the same in plain words: on a sound table the list is the least run of the book that fits both logs, 10 says that there is none, 11 that
+-- the list is too short for it, and every refusal keeps the list
 pub logged-plainly : (t : ℕ) {one two old new lent left : List ℕ} {y : Reply} → LogPost t one two old new lent left y
-    → LogsFit (length one) (length two) → SoundWords old
+    → SoundWords old
     → Meant (bookOf (seen old) .n) (inside (bookOf (seen old) .rel t)) (bookOf (seen old) .valid) (momentAt one two) (suc (after one)) lent
     (record { reply = y; list = left })
-logged-plainly t {one} {two} {old} {new} {lent} {left} {y} p f s =
+logged-plainly t {one} {two} {old} {new} {lent} {left} {y} p s =
     let q : Ended
     → Type 0 = Meant (bookOf (seen old) .n) (inside (bookOf (seen old) .rel t)) (bookOf (seen old) .valid) (momentAt one two)
     (suc (after one)) lent in
     let is : logged (bookOf (seen old)) t one two lent
-    ≡ record { reply = y; list = left } = λ i. record { reply = sym (p .told f s .reply) i; list = sym (p .told f s .list) i } in
+    ≡ record { reply = y; list = left } = λ i. record { reply = sym (p .told s .reply) i; list = sym (p .told s .list) i } in
     subst q is (logged-means (bookOf (seen old)) t one two lent)

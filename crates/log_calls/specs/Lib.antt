@@ -1,4 +1,3 @@
 pub mod Search
 pub mod Post
-pub mod OneLogged
 pub mod Asks

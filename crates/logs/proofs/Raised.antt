@@ -1,10 +1,9 @@
--- "Bigger tables, same verdicts" for two logs: where the call is answered, it is answered alike in a book with more rows. Assumes nothing.
+-- "Bigger tables, same verdicts" for two logs: where the call is not full, a book with more rows tells the same. Assumes nothing.
 use mathlib.Core.Path.{_≡_, refl}
 use mathlib.Core.Bool.{Bool, true, false, cond}
 use mathlib.Core.List.{List}
 use mathlib.Core.Option.{Option, none, some}
 use Prim.Native.Nat.{ℕ, _≤_}
-use native.Mathlib.Omega.{arith}
 use lib.Dec.{T, ltb}
 use lib.ListN.{length}
 use Rattle.mucalculus.specs.Form.{Pairs}
@@ -19,26 +18,26 @@ use Rattle.logs.specs.Call.{logsFit, after, ends, overFilled, logged}
 
 module _ (M : ℕ) (one two list : List ℕ) where
   -- the outcome decided by fitting alone
-  by-fit : (s t : Bool) (o : Outcome) → (T s → T t) → ends (cond s o full) list .reply .number ≡ 0
+  by-fit : (s t : Bool) (o : Outcome) → (T s → T t) → (ends (cond s o full) list .reply .number ≡ 8 → ⊥)
       → ends (cond t o full) list ≡ ends (cond s o full) list
   by-fit true true o h z = refl
   by-fit true false o h z = absurd (h tt)
-  by-fit false t o h z = absurd (omega arith)
+  by-fit false t o h z = absurd (z refl)
 
-  filled-more : (b : Book) → b .N ≤ M → (r : Option Pairs) → overFilled b r one two list .reply .number ≡ 0
+  filled-more : (b : Book) → b .N ≤ M → (r : Option Pairs) → (overFilled b r one two list .reply .number ≡ 8 → ⊥)
       → overFilled (withRowCount b M) r one two list ≡ overFilled b r one two list
   filled-more b l none z = refl
   filled-more b l (some R) z =
       let needs : List ℕ = logNeeds (b .n) (liveOf b) R (b .valid) (momentAt one two) (after one) in
       by-fit (fit (b .N) needs) (fit M needs) _ (fit-more (b .N) M l needs) z
 
-  -- AN ANSWERED CALL is answered alike with more rows: the same list
-  pub logged-more : (b : Book) → b .N ≤ M → (t : ℕ) → logged b t one two list .reply .number ≡ 0
+  -- A CALL THAT IS NOT FULL is told alike with more rows: the same reply, refusals 10 and 11 too, and the same list
+  pub logged-more : (b : Book) → b .N ≤ M → (t : ℕ) → (logged b t one two list .reply .number ≡ 8 → ⊥)
       → logged (withRowCount b M) t one two list ≡ logged b t one two list
   logged-more b l t = go (logsFit (length one) (length two)) (ltb t relations)
     where
       go : (u v : Bool)
-          → cond u (cond v (overFilled b (b .rel t) one two list) (refuse 3 list)) (refuse 1 list) .reply .number ≡ 0
+          → (cond u (cond v (overFilled b (b .rel t) one two list) (refuse 3 list)) (refuse 1 list) .reply .number ≡ 8 → ⊥)
           → cond u (cond v (overFilled (withRowCount b M) (b .rel t) one two list) (refuse 3 list)) (refuse 1 list)
           ≡ cond u (cond v (overFilled b (b .rel t) one two list) (refuse 3 list)) (refuse 1 list)
       go true true z = filled-more b l (b .rel t) z

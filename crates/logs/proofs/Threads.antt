@@ -1,22 +1,19 @@
 -- A state is in the thread's set exactly where a run goes on from it through the sets after; so the least next states make the least run.
 -- Assumes nothing.
-use mathlib.Core.Path.{_≡_, refl, sym, ap, ap₂, _∙_, subst}
+use mathlib.Core.Path.{_≡_, refl, sym, ap, _∙_, subst}
 use mathlib.Core.Bool.{Bool, _&&_}
 use mathlib.Core.List.{List, [], _∷_}
-use Prim.Native.Nat.{ℕ, zero, suc, _≤_, _<_}
-use native.Mathlib.Nat.{suc-inj, suc-ne-zero}
-use native.Mathlib.Omega.{arith}
+use Prim.Native.Nat.{ℕ, zero, suc, _<_}
 use lib.Dec.{T, ltb, ltb→lt, lt→ltb}
 use lib.ListN.{length}
-use Rattle.mucalculus.specs.Sets.{mem, table, any}
-use Rattle.mucalculus.proofs.Sets.{mem-table, any-in, any-out, and-in, and-out}
+use Rattle.mucalculus.specs.Sets.{mem}
+use Rattle.mucalculus.proofs.Sets.{mem-table, and-in, and-out}
 use Rattle.mucalculus.specs.Form.{Pairs}
 use Rattle.mucalculus.specs.Means.{pair, inter, sometimes}
-use Rattle.mucalculus.proofs.Laws.{table-out}
-use Rattle.book.proofs.Diamond.{table-in}
-use Rattle.paths.specs.Runs.{Least, firstOf, common}
-use Rattle.paths.proofs.First.{first-found, first-least}
-use Rattle.paths.proofs.Layers.{meets-in, meets-out}
+use Rattle.paths.specs.Runs.{Least, common, toward}
+use Rattle.paths.proofs.First.{first-least, Onto, toward-least, toward-is}
+use Rattle.paths.proofs.Layers.{next-in, next-out, meets-in, meets-out}
+use Rattle.paths.proofs.Written.{least-same}
 use Rattle.logs.specs.Runs.{through, isThrough, LeastThrough, thread, onward, run, inhabited}
 
 -- ---- sets of k states
@@ -30,21 +27,6 @@ inter-out k A B s t =
     let w = and-out (ltb s k) _ (subst T (mem-table k (λ s. mem A s && mem B s) s) t) in
     let v = and-out (mem A s) _ (w .1) in
     (ltb→lt s k (w .0), v .0, v .1)
-
--- some next state of s is in L
-pub next-in : (k : ℕ) (R : Pairs) (L : List Bool) (s t : ℕ) → s < k → t < k → T (pair R s t) → T (mem L t) → T (mem (sometimes k R L) s)
-next-in k R L s t l i p q =
-    let h : ℕ → Bool = λ s. any (λ t. pair R s t && mem L t) (table k (λ t. t)) in
-    subst T (sym (mem-table k h s))
-    (and-in (ltb s k) _ (lt→ltb s k l) (any-in (λ t. pair R s t && mem L t) (table-in k (λ t. t) t i) (and-in (pair R s t) _ p q)))
-
-pub next-out : (k : ℕ) (R : Pairs) (L : List Bool) (s : ℕ) → T (mem (sometimes k R L) s)
-    → (t : ℕ) × (t < k) × T (pair R s t) × T (mem L t)
-next-out k R L s x =
-    let h : ℕ → Bool = λ s. any (λ t. pair R s t && mem L t) (table k (λ t. t)) in
-    let w = any-out (λ t. pair R s t && mem L t) (table k (λ t. t)) (and-out (ltb s k) _ (subst T (mem-table k h s) x) .1) in
-    let b = and-out (pair R s (w .0)) (mem L (w .0)) (w .2) in
-    (w .0, table-out k (λ t. t) (λ t. t < k) (λ t l. l) (w .0) (w .1), b .0, b .1)
 
 -- ---- threads
 
@@ -66,34 +48,23 @@ module _ (k : ℕ) (R : Pairs) (A : ℕ → List Bool) (small : (i s : ℕ) → 
       let v = and-out (pair R s u) _ (w .1) in
       let z = small i s (w .0) in
       inter-in k (sometimes k R (thread k R A j (suc i))) (A i) s z
-      (next-in k R (thread k R A j (suc i)) s u z (small (suc i) u (first-in j (suc i) u l (v .1))) (v .0) (thread-in j (suc i) u l (v .1)))
-      (w .0)
+      (next-in k R (thread k R A j (suc i)) s u z (record {
+        state = small (suc i) u (first-in j (suc i) u l (v .1));
+        next = v .0;
+        inside = thread-in j (suc i) u l (v .1);
+      })) (w .0)
 
   -- its states are below k
   pub thread-lt : (j i s : ℕ) → T (mem (thread k R A j i) s) → s < k
   thread-lt zero i s t = small i s t
   thread-lt (suc j) i s t = inter-out k (sometimes k R (thread k R A j (suc i))) (A i) s t .0
 
-  -- the next state that is taken from s, towards set i with j after it
-  abbrev pub towards : ℕ → ℕ → ℕ → ℕ
-  towards j i s = firstOf k (λ t. pair R s t && mem (thread k R A j i) t)
-
-  -- t is a next state of s in the thread's set i
-  pub record Onto (j i s t : ℕ) : Type 0 where
-    pub state : t < k
-    pub next : T (pair R s t)
-    pub inside : T (mem (thread k R A j i) t)
-
   -- a state of a thread's set has a next state in the one after: the least is taken
-  pub onto : (j i s : ℕ) → T (mem (thread k R A (suc j) i) s) → Onto j (suc i) s (towards j (suc i) s)
+  pub onto : (j i s : ℕ) → T (mem (thread k R A (suc j) i) s)
+      → Onto k R (thread k R A j (suc i)) s (toward k R (thread k R A j (suc i)) s)
   onto j i s t =
       let X = thread k R A j (suc i) in
-      let w = inter-out k (sometimes k R X) (A i) s t in
-      let v = next-out k R X s (w .1) in
-      let l = first-least k (λ t. pair R s t && mem X t) (v .0) (v .1) (and-in (pair R s (v .0)) _ (v .2) (v .3)) in
-      let b : towards j (suc i) s < k = omega (arith, l, v .1) in
-      let f = and-out (pair R s (towards j (suc i) s)) _ (first-found k (λ t. pair R s t && mem X t) b) in
-      record { state = b; next = f .0; inside = f .1 }
+      toward-is (next-out k R X s (inter-out k (sometimes k R X) (A i) s t .1) .1)
 
   -- so the least next states make a run
   pub onward-runs : (j i s : ℕ) → T (mem (thread k R A j i) s) → T (through R A j i s (onward k R A j i s))
@@ -101,11 +72,12 @@ module _ (k : ℕ) (R : Pairs) (A : ℕ → List Bool) (small : (i s : ℕ) → 
   onward-runs (suc j) i s t =
       let w = onto j i s t in
       and-in (mem (A i) s) _ (inter-out k (sometimes k R (thread k R A j (suc i))) (A i) s t .2)
-      (and-in (pair R s (towards j (suc i) s)) _ (w .next) (onward-runs j (suc i) (towards j (suc i) s) (w .inside)))
+      (and-in (pair R s (toward k R (thread k R A j (suc i)) s)) _ (w .next)
+      (onward-runs j (suc i) (toward k R (thread k R A j (suc i)) s) (w .inside)))
 
   pub onward-length : (j i s : ℕ) → length (onward k R A j i s) ≡ j
   onward-length zero i s = refl
-  onward-length (suc j) i s = ap suc (onward-length j (suc i) (towards j (suc i) s))
+  onward-length (suc j) i s = ap suc (onward-length j (suc i) (toward k R (thread k R A j (suc i)) s))
 
   -- and no run from s is less at the first place where they differ
   pub onward-least : (j i s : ℕ) (m : List ℕ) → T (through R A j i s m) → Least (onward k R A j i s) m
@@ -113,9 +85,10 @@ module _ (k : ℕ) (R : Pairs) (A : ℕ → List Bool) (small : (i s : ℕ) → 
   onward-least (suc j) i s [] r = tt
   onward-least (suc j) i s (t ∷ m) r =
       let w = and-out (pair R s t) _ (and-out (mem (A i) s) _ r .1) in
-      let q = thread-in j (suc i) t m (w .1) in (
-        first-least k (λ t. pair R s t && mem (thread k R A j (suc i)) t) t (thread-lt j (suc i) t q) (and-in (pair R s t) _ (w .0) q),
-        λ e. onward-least j (suc i) (towards j (suc i) s) m (subst (λ (x : ℕ). T (through R A j (suc i) x m)) (sym e) (w .1)),
+      let q = thread-in j (suc i) t m (w .1) in
+      let o : Onto k R (thread k R A j (suc i)) s t = record { state = thread-lt j (suc i) t q; next = w .0; inside = q } in (
+        toward-least o,
+        λ e. onward-least j (suc i) (toward k R (thread k R A j (suc i)) s) m (subst (λ (x : ℕ). T (through R A j (suc i) x m)) (sym e) (w .1)),
       )
 
   -- ---- the whole run
@@ -149,13 +122,5 @@ module _ (k : ℕ) (R : Pairs) (A : ℕ → List Bool) (small : (i s : ℕ) → 
     }
 
 -- there is only one such run
-least-same : (l m : List ℕ) → length l ≡ length m → Least l m → Least m l → l ≡ m
-least-same [] [] e a b = refl
-least-same [] (t ∷ m) e a b = absurd (suc-ne-zero (length m) (sym e))
-least-same (s ∷ l) [] e a b = absurd (suc-ne-zero (length l) e)
-least-same (s ∷ l) (t ∷ m) e a b =
-    let q : s ≡ t = omega (arith, a .0, b .0) in
-    ap₂ (λ (x : ℕ) (y : List ℕ). x ∷ y) q (least-same l m (suc-inj e) (a .1 q) (b .1 (sym q)))
-
 pub through-only : {R : Pairs} {A : ℕ → List Bool} {j : ℕ} {l m : List ℕ} → LeastThrough R A j l → LeastThrough R A j m → l ≡ m
 through-only {l = l} {m = m} p q = least-same l m (p .size ∙ sym (q .size)) (p .least m (q .run)) (q .least l (p .run))

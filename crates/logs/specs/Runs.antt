@@ -1,11 +1,11 @@
 -- "Two logs of one evening": which states fit at each moment, runs through them, the sets that are made, the run that is to be written, the
 -- steps that are taken and what they come to. Assumes nothing.
 use mathlib.Core.Path.{_≡_}
-use mathlib.Core.Bool.{Bool, false, cond, _&&_}
+use mathlib.Core.Bool.{Bool, false, _&&_}
 use mathlib.Core.List.{List, [], _∷_, _++_}
 use Prim.Native.Nat.{ℕ, zero, suc, _*_, _^_}
 use lib.Bits.{bitAnd}
-use lib.Dec.{T, eqb, leb}
+use lib.Dec.{T, eqb}
 use lib.ListN.{length, getD}
 use Rattle.mucalculus.specs.Sets.{mem, table}
 use Rattle.mucalculus.specs.Form.{Pairs}
@@ -15,7 +15,7 @@ use Rattle.diagram.specs.Need.{stepNeed}
 use Rattle.book.specs.Bridge.{fnOf}
 use Rattle.book.specs.Ticks.{diaNeeds, twoNeed}
 use Rattle.book.specs.Run.{fit}
-use Rattle.paths.specs.Runs.{Least, firstOf, common, meets, Outcome, full, none, short, found}
+use Rattle.paths.specs.Runs.{Least, common, meets, toward, passes, Outcome, decided}
 
 -- ---- what the logs say
 
@@ -84,8 +84,7 @@ thread k R A (suc j) i = inter k (sometimes k R (thread k R A j (suc i))) (A i)
 -- the least next state of s in the set after set i, then that one's in the next, through j sets
 abbrev pub onward : ℕ → Pairs → (ℕ → List Bool) → ℕ → ℕ → ℕ → List ℕ
 onward k R A zero i s = []
-onward k R A (suc j) i s =
-    let t = firstOf k (λ t. pair R s t && mem (thread k R A j (suc i)) t) in t ∷ onward k R A j (suc i) t
+onward k R A (suc j) i s = let t = toward k R (thread k R A j (suc i)) s in t ∷ onward k R A j (suc i) t
 
 -- from the least state of the first set
 abbrev pub run : ℕ → Pairs → (ℕ → List Bool) → ℕ → List ℕ
@@ -127,8 +126,7 @@ inhabited k X = meets k X X
 -- of all steps of the call: "All k sets are made before 10 is decided", and again where a run is to be written
 abbrev pub logNeeds : ℕ → List Fn → Pairs → List Bool → (ℕ → Moment) → ℕ → List ℕ
 logNeeds n live R E M j =
-    let again = againNeeds n live R E M j 0 in
-    madeNeeds n live R E M j 0 ++ cond (inhabited (2 ^ n) (thread (2 ^ n) R (setsOf n E M) j 0)) again []
+    passes (madeNeeds n live R E M j 0) (againNeeds n live R E M j 0) (inhabited (2 ^ n) (thread (2 ^ n) R (setsOf n E M) j 0))
 
 -- ---- the outcome
 
@@ -137,5 +135,4 @@ abbrev pub outcome : ℕ → ℕ → List Fn → Pairs → List Bool → (ℕ �
 outcome n N live R E M j room =
     let k = 2 ^ n in
     let A = setsOf n E M in
-    let l = run k R A j in
-    cond (fit N (logNeeds n live R E M j)) (cond (inhabited k (thread k R A j 0)) (cond (leb (length l) room) (found l) short) none) full
+    decided (fit N (logNeeds n live R E M j)) (inhabited k (thread k R A j 0)) (run k R A j) room

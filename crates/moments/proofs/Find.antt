@@ -1,12 +1,11 @@
 -- The whole search: all sets, the least state of the first, then the others. Assumes nothing.
 use mathlib.Core.Path.{_≡_, refl, sym, ap, _∙_, subst}
-use mathlib.Core.Bool.{Bool, true, false, cond, _&&_}
+use mathlib.Core.Bool.{Bool, true, false, _&&_}
 use mathlib.Core.List.{List, [], _∷_}
 use Prim.Native.Nat.{ℕ, suc, _-_, _*_, _/_, _^_, _≤_, _<_}
 use native.Mathlib.Omega.{arith}
-use lib.Dec.{T, leb, leb→le, le→leb, ltb→lt, lt→ltb}
+use lib.Dec.{T, ltb→lt, lt→ltb}
 use lib.ListN.{length, set}
-use lib.Pow.{pow-mono}
 use Rattle.mucalculus.specs.Sets.{mem}
 use Rattle.mucalculus.proofs.Sets.{true-of, false-of}
 use Rattle.layout.specs.View.{View}
@@ -18,6 +17,7 @@ use Rattle.modal.specs.Chain.{Base}
 use Rattle.modal.proofs.Chain.{base-next, base-bits}
 use Rattle.paths.specs.Runs.{Outcome, full, none, short, found, firstOf, common, meets, written}
 use Rattle.paths.proofs.First.{first-same}
+use Rattle.paths.proofs.Decided.{decided-full, decided-none, decided-short, decided-found}
 use Rattle.paths.proofs.Layers.{meets-out}
 use Rattle.seek.specs.Walk.{HoldsPre}
 use Rattle.seek.specs.Search.{inBoth}
@@ -25,9 +25,9 @@ use Rattle.layers.specs.Scene.{Scene, Start}
 use Rattle.layers.specs.Pass.{Steps}
 use Rattle.layers.proofs.Pass.{holds-pre, both-mem}
 use Rattle.routes.specs.Write.{putAll}
-use Rattle.routes.proofs.Write.{put-written, start-later, scene-later, steps-start}
+use Rattle.routes.proofs.Write.{put-written, start-later, scene-later, state-small}
 use Rattle.routes.proofs.Find.{steps-then}
-use Rattle.logs.specs.Runs.{momentAt, setsOf, run, inhabited, outcome}
+use Rattle.logs.specs.Runs.{momentAt, setsOf, run, inhabited, logNeeds, outcome}
 use Rattle.logs.specs.Call.{after, ends}
 use Rattle.logs.proofs.Exact.{first-pass, sets-small}
 use Rattle.logs.proofs.Threads.{run-size}
@@ -50,31 +50,28 @@ module _ {n : ℕ} {W : View} {t v : ℕ} (limit : ℕ) (S : Scene n W t v) (one
   abbrev X : List Bool
   X = setOf S one two j 0
 
-  abbrev choose : Bool → Bool → Bool → Outcome
-  choose f m r = cond f (cond m (cond r (found whole) short) none) full
+  abbrev fits : Bool
+  fits = fit limit (logNeeds n (S .fs) (S .R) (S .B) (momentAt one two) j)
 
-  outcome-by : {f m r : Bool} → fit limit (needsOf S one two j 0) ≡ f → inhabited (2 ^ n) X ≡ m → leb (length whole) room ≡ r
-      → out ≡ choose f m r
-  outcome-by {f} {m} {r} ef em er =
-      ap (λ (x : Bool). choose x (inhabited (2 ^ n) X) (leb (length whole) room))
-      (first-pass n limit (S .fs) (S .R) (S .B) (momentAt one two) j ∙ ef)
-      ∙ ap (λ (x : Bool). choose f x (leb (length whole) room)) em ∙ ap (choose f m) er
+  pass : fits ≡ fit limit (needsOf S one two j 0)
+  pass = first-pass n limit (S .fs) (S .R) (S .B) (momentAt one two) j
 
   pub outcome-full : fit limit (needsOf S one two j 0) ≡ false → out ≡ full
-  outcome-full e = outcome-by e refl refl
+  outcome-full e = decided-full fits (inhabited (2 ^ n) X) whole room (pass ∙ e)
 
   pub outcome-none : fit limit (needsOf S one two j 0) ≡ true → inhabited (2 ^ n) X ≡ false → out ≡ none
-  outcome-none e m = outcome-by e m refl
+  outcome-none e m = decided-none fits (inhabited (2 ^ n) X) whole room (pass ∙ e) m
 
   whole-size : length whole ≡ suc j
   whole-size = run-size (2 ^ n) (S .R) (setsOf n (S .B) (momentAt one two)) (sets-small n (S .B) (momentAt one two)) j
 
   pub outcome-short : fit limit (needsOf S one two j 0) ≡ true → inhabited (2 ^ n) X ≡ true → room < suc j → out ≡ short
   outcome-short e m l =
-      outcome-by e m (false-of _ (λ h. let g = leb→le (length whole) room h in let q = whole-size in omega arith))
+      decided-short fits (inhabited (2 ^ n) X) whole room (pass ∙ e) m (subst (λ (k : ℕ). room < k) (sym whole-size) l)
 
   pub outcome-found : fit limit (needsOf S one two j 0) ≡ true → inhabited (2 ^ n) X ≡ true → suc j ≤ room → out ≡ found whole
-  outcome-found e m l = outcome-by e m (true-of _ (le→leb (length whole) room (let q = whole-size in omega arith)))
+  outcome-found e m l =
+      decided-found fits (inhabited (2 ^ n) X) whole room (pass ∙ e) m (subst (λ (k : ℕ). k ≤ room) (sym whole-size) l)
 
 told-by : {o o′ : Outcome} {r : Logged} {old new : List ℕ} → o ≡ o′ → Told o′ r old new → Told o r old new
 told-by {r = r} {old = old} {new = new} e h = subst (λ (x : Outcome). Told x r old new) (sym e) h
@@ -150,7 +147,7 @@ module _ {n N limit : ℕ} {W : View} {t v : ℕ} {one two : List ℕ} (p : Find
           }
 
           pub find-small : s < 65_536
-          find-small = let m : 2 ^ n ≤ 65_536 = pow-mono (base-bits (p .start .base)) in omega arith
+          find-small = state-small (p .start .base) h
 
           ready-at : (S : Scene n W t v) → Onward limit S one two j 0 s
           ready-at S =

@@ -1,15 +1,13 @@
 -- The states after the first one: the set of each place is made again, which fits as it did, and the least next state in it is taken.
 -- Assumes nothing.
 use mathlib.Core.Path.{_≡_, refl, sym, ap, _∙_, subst}
-use mathlib.Core.Bool.{Bool, true, false, _&&_, true≢false}
+use mathlib.Core.Bool.{Bool, true, false, true≢false}
 use mathlib.Core.List.{List, [], _∷_}
 use Prim.Native.Nat.{ℕ, suc, _+_, _-_, _*_, _/_, _^_, _≤_, _<_}
 use native.Mathlib.Omega.{arith}
 use lib.Dec.{T}
 use lib.ListN.{length, set}
-use lib.Pow.{pow-mono}
 use Rattle.mucalculus.specs.Sets.{mem}
-use Rattle.mucalculus.specs.Means.{pair}
 use Rattle.mucalculus.proofs.Sets.{true-of}
 use Rattle.layout.specs.View.{View}
 use Rattle.diagram.specs.Keep.{Keeps}
@@ -20,20 +18,19 @@ use Rattle.table.specs.declared.Made.the-variants as made
 use Rattle.book.specs.Run.{fit}
 use Rattle.modal.specs.Chain.{Base}
 use Rattle.modal.proofs.Chain.{base-next, base-bits}
-use Rattle.paths.specs.Runs.{firstOf}
-use Rattle.paths.proofs.First.{first-same}
+use Rattle.paths.specs.Runs.{firstOf, toward}
 use Rattle.seek.specs.Walk.{HoldsPre}
 use Rattle.seek.specs.Search.{nextIn}
 use Rattle.layers.specs.Scene.{Scene, Start}
 use Rattle.layers.specs.Pass.{Steps}
 use Rattle.layers.proofs.Pass.{holds-pre}
 use Rattle.routes.specs.Write.{putAll}
-use Rattle.routes.proofs.Write.{next-mem, start-later, scene-later, steps-start}
+use Rattle.routes.proofs.Write.{toward-found, state-small, start-later, scene-later, steps-start}
 use Rattle.routes.proofs.Find.{steps-then}
 use Rattle.logs.specs.Runs.{momentAt, setsOf}
 use Rattle.logs.specs.Call.{after}
 use Rattle.logs.proofs.Exact.{made-less, sets-small}
-use Rattle.logs.proofs.Threads.{thread-lt, towards, onto}
+use Rattle.logs.proofs.Threads.{thread-lt, onto}
 use Rattle.moments.specs.Sets.{Logs, setOf, needsOf, Threaded, MakePre, Ends, is-made, is-full, MakePost}
 use Rattle.moments.specs.Write.{Onward, restOf, WritePre, WritePost}
 
@@ -132,13 +129,12 @@ module _ {n N limit : ℕ} {W : View} {t v : ℕ} {one two : List ℕ} {first : 
 
         module _ {u : ℕ} (eu : u ≡ firstOf (2 ^ n) (nextIn Y t s x)) where
           next-is : (S : Scene n W t v) (r : Onward limit S one two (after one) 0 first)
-              → u ≡ towards (2 ^ n) (S .R) (setsOf n (S .B) (momentAt one two)) (sets-small n (S .B) (momentAt one two)) j (suc i) s
+              → u ≡ toward (2 ^ n) (S .R) (setOf S one two j (suc i)) s
           next-is S r =
               let small = thread-lt (2 ^ n) (S .R) (setsOf n (S .B) (momentAt one two)) (sets-small n (S .B) (momentAt one two)) (suc j) i s
               (q S r .ready .1) in
-              eu ∙ first-same (2 ^ n) (nextIn Y t s x) (λ u. pair (S .R) s u && mem (setOf S one two j (suc i)) u)
-              (next-mem n Y (S .R) (setOf S one two j (suc i)) (base-after .ready .levels-is)
-              (keeps-denotes (steps-after S r .kept) (p .start .t-live) (S .relation)) (there S r .set-is) s small)
+              eu ∙ toward-found n Y (S .R) (setOf S one two j (suc i)) (base-after .ready .levels-is)
+              (keeps-denotes (steps-after S r .kept) (p .start .t-live) (S .relation)) (there S r .set-is) s small
 
           inside : (S : Scene n W t v) (r : Onward limit S one two (after one) 0 first) → (u < 2 ^ n) × T (mem (setOf S one two j (suc i)) u)
           inside S r =
@@ -162,10 +158,7 @@ module _ {n N limit : ℕ} {W : View} {t v : ℕ} {one two : List ℕ} {first : 
               (subst (λ (z : ℕ). Writing n limit W Y t v S one two first old (set now z u) u j z) (sym eb) w)
 
           pub next-small : u < 65_536
-          next-small =
-              let h = inside (p .scene) (p .ready) .0 in
-              let m : 2 ^ n ≤ 65_536 = pow-mono (base-bits (p .start .base)) in
-              omega arith
+          next-small = state-small (p .start .base) (inside (p .scene) (p .ready) .0)
 
   pub write-ends : {X : View} {now : List ℕ} {s j i : ℕ} → j ≡ 0 → Stands n limit W X t v one two first old now s j i
       → WritePost n limit W X t v one two first old now

@@ -27,7 +27,7 @@ use Rattle.book.specs.Held.{Held}
 use Rattle.book.proofs.Held.{held-keeps}
 use Rattle.modal.specs.Chain.{Base}
 use Rattle.modal.proofs.Chain.{moved-refl, moved-trans, base-next, base-bits, base-wf}
-use Rattle.paths.specs.Runs.{runsInto, firstOf, onward, written}
+use Rattle.paths.specs.Runs.{runsInto, firstOf, toward, onward, written}
 use Rattle.paths.proofs.First.{first-same}
 use Rattle.paths.proofs.Layers.{run-lt}
 use Rattle.paths.proofs.Written.{towards}
@@ -86,7 +86,7 @@ steps-start p = record { moved = moved-refl (p .base); kept = keeps-refl (base-w
 
 -- ---- the least next state, of sets
 
-pub next-mem : (n : ℕ) (X : View) {t x : ℕ} (R : Pairs) (L : List Bool) → 2 * n ≡ 2 * X .header BITS
+next-mem : (n : ℕ) (X : View) {t x : ℕ} (R : Pairs) (L : List Bool) → 2 * n ≡ 2 * X .header BITS
     → Denotes (2 * n) (rowsOf X) t (fnOfPairs n R) → Denotes (2 * n) (rowsOf X) x (fnOf n L)
     → (s : ℕ) → s < 2 ^ n → (u : ℕ) → u < 2 ^ n → nextIn X t s x u ≡ (pair R s u && mem L u)
 next-mem n X {t} {x} R L e dt dx s l u i = ap₂ _&&_ step inside
@@ -97,6 +97,17 @@ next-mem n X {t} {x} R L e dt dx s l u i = ap₂ _&&_ step inside
 
     inside : holdsAt X x u 0 ≡ mem L u
     inside = subst (λ (m : ℕ). den m (rowsOf X) x (pairVal u 0) ≡ mem L u) e (dx .same (pairVal u 0) ∙ ap (mem L) (nowOf-pairVal n u 0 i))
+
+-- what the walk over rows finds is the least next state in the set
+pub toward-found : (n : ℕ) (X : View) {t x : ℕ} (R : Pairs) (L : List Bool) → 2 * n ≡ 2 * X .header BITS
+    → Denotes (2 * n) (rowsOf X) t (fnOfPairs n R) → Denotes (2 * n) (rowsOf X) x (fnOf n L)
+    → (s : ℕ) → s < 2 ^ n → firstOf (2 ^ n) (nextIn X t s x) ≡ toward (2 ^ n) R L s
+toward-found n X {t} {x} R L e dt dx s l =
+    first-same (2 ^ n) (nextIn X t s x) (λ u. pair R s u && mem L u) (next-mem n X R L e dt dx s l)
+
+-- a state fits into a place of the list
+pub state-small : {n N limit : ℕ} {W : View} {s : ℕ} → Base n N limit W → s < 2 ^ n → s < 65_536
+state-small {n} b l = let m : 2 ^ n ≤ 65_536 = pow-mono (base-bits b) in omega arith
 
 -- ---- writing
 
@@ -146,9 +157,8 @@ module _ {n N limit : ℕ} {W : View} {t b d first : ℕ} {old : List ℕ} (p : 
         next-is : (S : Scene n W t b) (r : Onward limit S d first) → u ≡ towards (2 ^ n) (S .R) (S .B) (left - 1) s
         next-is S r =
             let small = run-lt (2 ^ n) (S .R) (S .B) s (onward (2 ^ n) (S .R) (S .B) left s) (q S r .runs) in
-            eu ∙ first-same (2 ^ n) (nextIn Y t s x) (λ u. pair (S .R) s u && mem (layerOf S (left - 1)) u)
-            (next-mem n Y (S .R) (layerOf S (left - 1)) (base-after .ready .levels-is)
-            (keeps-denotes (steps-after S r .kept) (p .start .t-live) (S .relation)) (made S r .layer-is) s small)
+            eu ∙ toward-found n Y (S .R) (layerOf S (left - 1)) (base-after .ready .levels-is)
+            (keeps-denotes (steps-after S r .kept) (p .start .t-live) (S .relation)) (made S r .layer-is) s small
 
         pub write-turns : (S : Scene n W t b) → Onward limit S d first
             → Writing n limit W Y t b S d first old (set now i u) u (left - 1) (i + 1)
@@ -171,10 +181,9 @@ module _ {n N limit : ℕ} {W : View} {t b d first : ℕ} {old : List ℕ} (p : 
 
         pub next-small : u < 65_536
         next-small =
-            let h = run-lt (2 ^ n) (p .scene .R) (p .scene .B) u (onward (2 ^ n) (p .scene .R) (p .scene .B) (left - 1) u)
-            (write-turns (p .scene) (p .ready) .runs) in
-            let m : 2 ^ n ≤ 65_536 = pow-mono (base-bits (p .start .base)) in
-            omega arith
+            state-small (p .start .base)
+            (run-lt (2 ^ n) (p .scene .R) (p .scene .B) u (onward (2 ^ n) (p .scene .R) (p .scene .B) (left - 1) u)
+            (write-turns (p .scene) (p .ready) .runs))
 
     pub write-ends : left ≤ 0 → WritePost n limit W X t b d first old now
     write-ends l S r =

@@ -412,6 +412,15 @@ fn masked_bits() {
     assert_eq!((number, list), (0, vec![1, 2, 1]));
 }
 
+/// Two logs that differ on a bit leave no state, and no row is made for the bits after it.
+#[test]
+fn logs_that_differ() {
+    let (one, two) = (log(&[(3, 3)]), log(&[(1, 0)]));
+    let mut room = hall(1, &[0x01], &[&[0x10]]);
+    assert_eq!(room.compare(&mut Seen::default(), 3, [&one, &two], 1), 10);
+    assert_eq!(room.compare(&mut Seen::default(), 3, [&one, &one], 1), 8);
+}
+
 /// "left before right": diamond, then the fitting states. n = 2, N = 3: the other order would be full.
 #[test]
 fn diamond_first() {
