@@ -54,7 +54,7 @@ module _ (n N : ℕ) (live : List Fn) (R : Pairs) (E : List Bool) (M : ℕ → M
       (inhabited (2 ^ n) (thread (2 ^ n) R A j 0)) (run (2 ^ n) R A j) room (run-is (2 ^ n) R A (sets-small n E M) j)
       (run-inhabits (2 ^ n) R A (sets-small n E M) j)
 
-  -- and exactly by it: where no step is full, 10 is given exactly where no run exists
+  -- so an outcome comes exactly by its cause: where no step is full, 10 exactly where no run exists
   pub outcome-exact : (x : Outcome) → (outcome n N live R E M j room ≡ x) ↔ Cause n N live R E M j room x
   outcome-exact x =
       by-cause (λ l. T (isThrough R A j l)) (λ l. LeastThrough R A j l) (fit N (logNeeds n live R E M j)) room (λ l b. b .run)

@@ -82,3 +82,20 @@ eight-first = refl
 pub not-there : outcome 2 99 (fnOf 2 (set true true false false) ∷ []) anywhere (set true true false false) logs 1 2 ≡ none
 unfolding computing
 not-there = refl
+
+-- ---- which sets are live
+
+-- V and the relation alone
+abbrev bare : List Fn
+bare = fnOf 2 every ∷ fnOfPairs 2 anywhere ∷ []
+
+-- the later set is live until the new one is made: 4 rows would be enough where it was freed after SHIFT
+pub later-live : outcome 2 4 bare anywhere every (momentAt (0 ∷ 0 ∷ 3 ∷ 3 ∷ []) (0 ∷ 0 ∷ 0 ∷ 0 ∷ [])) 1 2 ≡ full
+unfolding computing
+later-live = refl
+
+-- and no other: 5 rows are enough, where the set after it would take a sixth
+pub only-later : outcome 2 5 bare anywhere every (momentAt (0 ∷ 0 ∷ 3 ∷ 0 ∷ 3 ∷ 3 ∷ []) (0 ∷ 0 ∷ 0 ∷ 0 ∷ 0 ∷ 0 ∷ [])) 2 3
+    ≡ found (0 ∷ 0 ∷ 3 ∷ [])
+unfolding computing
+only-later = refl

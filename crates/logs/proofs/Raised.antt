@@ -4,32 +4,24 @@ use mathlib.Core.Bool.{Bool, true, false, cond}
 use mathlib.Core.List.{List}
 use mathlib.Core.Option.{Option, none, some}
 use Prim.Native.Nat.{ℕ, _≤_}
-use lib.Dec.{T, ltb}
+use lib.Dec.{ltb}
 use lib.ListN.{length}
 use Rattle.mucalculus.specs.Form.{Pairs}
 use Rattle.book.specs.Book.{Book, relations, liveOf}
 use Rattle.book.specs.Run.{fit}
 use Rattle.book.specs.Raised.{withRowCount}
-use Rattle.paths.specs.Runs.{Outcome, full}
 use Rattle.paths.specs.Call.{refuse}
-use Rattle.paths.proofs.Raised.{fit-more}
+use Rattle.paths.proofs.Raised.{fit-more, by-fit}
 use Rattle.logs.specs.Runs.{momentAt, logNeeds}
 use Rattle.logs.specs.Call.{logsFit, after, ends, overFilled, logged}
 
 module _ (M : ℕ) (one two list : List ℕ) where
-  -- the outcome decided by fitting alone
-  by-fit : (s t : Bool) (o : Outcome) → (T s → T t) → (ends (cond s o full) list .reply .number ≡ 8 → ⊥)
-      → ends (cond t o full) list ≡ ends (cond s o full) list
-  by-fit true true o h z = refl
-  by-fit true false o h z = absurd (h tt)
-  by-fit false t o h z = absurd (z refl)
-
   filled-more : (b : Book) → b .N ≤ M → (r : Option Pairs) → (overFilled b r one two list .reply .number ≡ 8 → ⊥)
       → overFilled (withRowCount b M) r one two list ≡ overFilled b r one two list
   filled-more b l none z = refl
   filled-more b l (some R) z =
       let needs : List ℕ = logNeeds (b .n) (liveOf b) R (b .valid) (momentAt one two) (after one) in
-      by-fit (fit (b .N) needs) (fit M needs) _ (fit-more (b .N) M l needs) z
+      by-fit (λ o. ends o list) refl (fit (b .N) needs) (fit M needs) _ (fit-more (b .N) M l needs) z
 
   -- A CALL THAT IS NOT FULL is told alike with more rows: the same reply, refusals 10 and 11 too, and the same list
   pub logged-more : (b : Book) → b .N ≤ M → (t : ℕ) → (logged b t one two list .reply .number ≡ 8 → ⊥)

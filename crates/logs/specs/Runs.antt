@@ -130,7 +130,7 @@ logNeeds n live R E M j =
 
 -- ---- the outcome
 
--- 8 before 10, 10 before 11
+-- 8 before 10, 10 before 11, as the shortest run has it
 abbrev pub outcome : ℕ → ℕ → List Fn → Pairs → List Bool → (ℕ → Moment) → ℕ → ℕ → Outcome
 outcome n N live R E M j room =
     let k = 2 ^ n in

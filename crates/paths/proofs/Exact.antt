@@ -46,7 +46,7 @@ module _ (n N : ℕ) (live : List Fn) (R : Pairs) (A B : List Bool) (room : ℕ)
       decided-cause (λ l. T (isRun k R A B l)) (λ l. Shortest k R A B l) (fit N (pathNeeds n live R A B)) (meets k A (layer k R B d))
       (route k R A B d) room (route-shortest k R A B size) (run-meets k R A B size)
 
-  -- and exactly by it
+  -- so an outcome comes exactly by its cause
   pub outcome-exact : (x : Outcome) → (outcome n N live R A B room ≡ x) ↔ Cause n N live R A B room x
   outcome-exact x =
       by-cause (λ l. T (isRun (2 ^ n) R A B l)) (λ l. Shortest (2 ^ n) R A B l) (fit N (pathNeeds n live R A B)) room (λ l b. b .run)

@@ -122,6 +122,7 @@ pub data Outcome : Type 0 where
 abbrev pub decided : Bool → Bool → List ℕ → ℕ → Outcome
 decided fits some l room = cond fits (cond some (cond (leb (length l) room) (found l) short) none) full
 
+-- here the run goes from A into B
 abbrev pub outcome : ℕ → ℕ → List Fn → Pairs → List Bool → List Bool → ℕ → Outcome
 outcome n N live R A B room =
     let k = 2 ^ n in
