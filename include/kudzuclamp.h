@@ -393,7 +393,8 @@ uint32_t kudzuclamp_react(uint32_t *words, size_t words_len, const struct kudzuc
  * kudzuclamp_entry so. Places after the first k are never written, and none where the call is refused. No register or relation changes. A step may
  * need at most N rows, of the set of one moment, of the steps of the moment before it and of what registers and relations hold; the sets of all k
  * moments are made before 10 is decided, also where one of them is empty. It returns 0, 1 (lengths 0, odd, above 2,048 or unequal), 2, 3, 7, 8,
- * KUDZUCLAMP_NO_RUN or KUDZUCLAMP_SHORT (fewer than k places). The time grows as the square of k: some 500,000 diamonds where k is 1,024.
+ * KUDZUCLAMP_NO_RUN or KUDZUCLAMP_SHORT (fewer than k places). The time grows as the square of k: 0.3 to 1.3 s were seen for 1,024
+ * moments at n = 16, 5 to 31 ms for 128 (docs/BENCHMARKS.md).
  */
 KUDZUCLAMP_USE_RESULT
 uint32_t kudzuclamp_logged(uint32_t *words, size_t words_len, uint16_t *list, size_t list_len, uint32_t t, const uint16_t *one, size_t one_len,
