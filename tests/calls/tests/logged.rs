@@ -361,15 +361,20 @@ fn drawn_rooms() {
     assert!(seen.edges > rooms / 4 && seen.partial > rooms / 5 && seen.longest > 6);
 }
 
-/// A room of two bits with every pair, and every state but perhaps one.
-fn hall(rows: u64, valid: &[u8], sets: &[&[u8]]) -> Room {
+/// A room with the states and the pairs of two formulas, in both relations.
+fn room(n: u32, rows: u64, valid: &[u8], relation: &[u8], sets: &[&[u8]]) -> Room {
     let rules = Rules {
-        n: 2,
+        n,
         valid: frame(valid),
-        relations: [frame(&[0x01]), frame(&[0x01])],
+        relations: [frame(relation), frame(relation)],
         sets: sets.iter().map(|body| frame(body)).collect(),
     };
     Room::new(&rules, rows).expect("rows in plenty")
+}
+
+/// Two bits and every pair of states that exist.
+fn hall(rows: u64, valid: &[u8], sets: &[&[u8]]) -> Room {
+    room(2, rows, valid, &[0x01], sets)
 }
 
 fn log(entries: &[(u16, u16)]) -> Log {
@@ -431,7 +436,18 @@ fn diamond_first() {
     assert_eq!(room.compare(&mut Seen::default(), 3, [&one, &two], 2), 0);
 }
 
-/// The later set is live until the new one is made, and those after it are not.
+/// "All k sets are made before 10 is decided": no state fits the last entries, and the state of the first has two rows.
+#[test]
+fn all_sets_are_made() {
+    let logs = log(&[(3, 3), (0, 1)]);
+    for (rows, number) in [(1, 8), (2, 10)] {
+        let mut room = hall(rows, &[0x01], &[]);
+        let got = room.compare(&mut Seen::default(), 3, [&logs, &logs], 0);
+        assert_eq!(got, number);
+    }
+}
+
+/// The later set is live while the diamond is made, and those after it are not.
 #[test]
 fn live_sets() {
     let mut seen = Seen::default();
@@ -441,5 +457,27 @@ fn live_sets() {
         let mut room = hall(rows, &[0x01], &[]);
         assert_eq!(room.compare(&mut seen, 3, [&two, &two], 2), number);
         assert_eq!(room.compare(&mut seen, 3, [&three, &three], 3), number);
+    }
+}
+
+/// It is live while the fitting states are made: those of (15, 15) have four rows, and none exists.
+#[test]
+fn live_while_states_fit() {
+    let mut seen = Seen::default();
+    let logs = log(&[(15, 15), (1, 1)]);
+    for (rows, number) in [(6, 8), (7, 10)] {
+        let mut room = room(4, rows, &[0x02, 0x13], &[0x01], &[]);
+        assert_eq!(room.compare(&mut seen, 3, [&logs, &logs], 2), number);
+    }
+}
+
+/// And in the last AND: bit 1 leads everywhere, and with bits 2 and 3 it takes a fifth row.
+#[test]
+fn live_until_it_is_made() {
+    let mut seen = Seen::default();
+    let logs = log(&[(12, 12), (1, 1)]);
+    for (rows, number) in [(4, 8), (5, 0)] {
+        let mut room = room(4, rows, &[0x01], &[0x11], &[]);
+        assert_eq!(room.compare(&mut seen, 3, [&logs, &logs], 2), number);
     }
 }
