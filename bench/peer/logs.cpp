@@ -74,6 +74,23 @@ static Room rises() {
             [](u32 s, u32 drawn) { return drawn % 97 == 0 ? 0 : s | (1u << drawn % n); }};
 }
 
+// Bit p of the next state is bit p + 5 or not, as bits p + 9 and p + 14 say together: a set of its own at each moment. At n = 16 its rows are too many.
+static bool mixed(u32 s, u32 p) {
+    auto bit = [s](u32 q) { return s >> q % n & 1; };
+    return bit(p + 5) ^ (bit(p + 9) & bit(p + 14));
+}
+
+static Room mixes() {
+    Bytes f = {1};
+    for (u32 p = 0; p < n; p++) f = both(same(there(p), no(same(here((p + 5) % n), both(here((p + 9) % n), here((p + 14) % n))))), f);
+    auto next = [](u32 s) {
+        u32 t = 0;
+        for (u32 p = 0; p < n; p++) t |= u32(mixed(s, p)) << p;
+        return t;
+    };
+    return {"each bit from three others", f, [next](u32 s, u32 t) { return t == next(s); }, [next](u32 s, u32) { return next(s); }};
+}
+
 static Room anything() {
     return {"everything", {1}, [](u32, u32) { return true; }, [](u32, u32 drawn) { return drawn & all; }};
 }
@@ -105,7 +122,7 @@ int main(int count, char **word) {
     if (count < 2 || (n = atoi(word[1])) < 2 || n > 16) return fprintf(stderr, "logs N [WORD...]\n"), 1;
     all = (1u << n) - 1;
     printf("| %u bits | moments | refusal | call, ms |\n|---|--:|--:|--:|\n", n);
-    for (const Room &room : {shifts(), counter(), rises(), anything()}) {
+    for (const Room &room : {shifts(), counter(), rises(), anything(), mixes()}) {
         bool named = count < 3;
         for (int i = 2; i < count; i++) named |= std::string(room.name).find(word[i]) != std::string::npos;
         if (!named) continue;
@@ -114,7 +131,11 @@ int main(int count, char **word) {
         Bytes framed = {uint8_t(size >> 8), uint8_t(size), 1};
         framed.insert(framed.end(), room.formula.begin(), room.formula.end());
         if (kudzuclamp_fresh(words.data(), words.size(), &account, 1, n, ROWS) != 0) return 1;
-        if (kudzuclamp_relation(words.data(), words.size(), 0, framed.data(), framed.size(), &peak) != 0) return fprintf(stderr, "refused\n"), 1;
+        u32 number = kudzuclamp_relation(words.data(), words.size(), 0, framed.data(), framed.size(), &peak);
+        if (number != 0) {
+            printf("| %s: the relation is refused | | %u | |\n", room.name, number);
+            continue;
+        }
         for (bool logged : {true, false})
             for (u32 k : {16u, 128u, 1024u}) ask(room, k, logged);
     }
