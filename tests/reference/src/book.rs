@@ -423,11 +423,9 @@ impl Book {
         if run.len() > room {
             return Err(Refusal::ListTooShort);
         }
-        for place in 1..run.len() {
-            assert!(
-                made(place)?.set.contains(run[place]),
-                "the run leaves its set"
-            );
+        for (place, &state) in run.iter().enumerate().skip(1) {
+            let set = made(place)?.set;
+            assert!(set.contains(state), "the run leaves its set");
         }
         Ok(run.into_iter().map(|state| state as u16).collect())
     }
