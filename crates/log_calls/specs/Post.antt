@@ -18,7 +18,8 @@ pub record LogsFit (one two : ℕ) : Type 0 where
   pub some : 1 ≤ one
   pub few : one ≤ 2_048
 
--- on a sound table: what is returned and what is written are those of the book that the words stand for, 1 too, and the words are sound again,
+-- on a sound table: what is returned and what is written are those of the book that the words stand for, 1 too, and the words are sound
+-- again,
 -- with "registers, relations, rows they need" as they were, row by row
 pub record Told (t : ℕ) (one two old new lent left : List ℕ) (y : Reply) : Type 0 where
   pub reply : y ≡ logged (bookOf (seen old)) t one two lent .reply

@@ -40,7 +40,8 @@ pub record Searched (n limit : ℕ) (W X : View) (rt : ℕ) (one two old new : L
   pub frame : OpFrame W X
   pub kept : Keeps (rowsOf W) (rowsOf X) (filled W)
   pub told : Told
-      (outcome n limit (liveOf (bookIn W)) (inside (bookIn W .rel rt)) (bookIn W .valid) (momentAt one two) (after one) (length old)) r old new
+      (outcome n limit (liveOf (bookIn W)) (inside (bookIn W .rel rt)) (bookIn W .valid) (momentAt one two) (after one) (length old)) r
+      old new
 
 abbrev pub SearchPost : ℕ → ℕ → View → View → ℕ → ℕ → List ℕ → List ℕ → List ℕ → List ℕ → Logged → Type 0
 SearchPost n limit W X t v one two old new r =

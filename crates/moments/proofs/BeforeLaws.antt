@@ -40,7 +40,21 @@ use Rattle.book.proofs.Verdicts.{fit-append, count-append}
 use Rattle.book.specs.Held.{Held}
 use Rattle.book.proofs.Held.{denoted, held-push, held-keeps}
 use Rattle.modal.specs.Chain.{Alike, Base, Moved, Ran}
-use Rattle.modal.proofs.Chain.{alike-cons, alike-sym, alike-trans, held-alike, held-own, base-next, step-pre, Took, ran-step, ran-stop, ran-kept, ran-value, ran-then}
+use Rattle.modal.proofs.Chain.{
+  alike-cons,
+  alike-sym,
+  alike-trans,
+  held-alike,
+  held-own,
+  base-next,
+  step-pre,
+  Took,
+  ran-step,
+  ran-stop,
+  ran-kept,
+  ran-value,
+  ran-then,
+}
 use Rattle.modal.specs.Modal.{ModalPre, DiamondPost}
 use Rattle.modal.proofs.Laws.{kept-lent}
 use Rattle.layers.specs.Next.{NextPre, uncounted}
@@ -81,7 +95,8 @@ ran-fewer w r =
 
 -- the fitting states, of sets: E is V
 pub ran-fitting : (n N limit : ℕ) (W X : View) (lent : List ℕ) (v ones zeros : ℕ) (q : Count) (o : Taken)
-    → FittingPost n N limit W X lent v ones zeros q o → (fs : List Fn) (E : List Bool) (m : Moment) → Held (2 * n) (rowsOf W) (live W lent) fs
+    → FittingPost n N limit W X lent v ones zeros q o → (fs : List Fn) (E : List Bool) (m : Moment) → Held (2 * n) (rowsOf W) (live W
+    lent) fs
     → Denotes (2 * n) (rowsOf W) v (fnOf n E) → Asks m ones zeros
     → Ran n N W X (live W lent) (fit limit (fitNeeds n fs E m)) (fnOf n (existing (2 ^ n) E m)) (needingAll q (fitNeeds n fs E m)) o
 ran-fitting n N limit W X lent v ones zeros q o p fs E m h dv a =
@@ -274,11 +289,13 @@ module _ {n N limit : ℕ} {W : View} {t v x : ℕ} (p : NextPre n N limit W t v
               let c-is : Denotes (2 * n) (rowsOf Y) c (fnOf n D) = keeps-denotes k2 c-live c-was in
               let r2 = ran-fit fs R E L m h dt dv dx a in
               let g-is : Denotes (2 * n) (rowsOf Y) g (fnOf n F) = ran-value i r2 in
-              let s1 = subst (λ (xs : List ℕ). Took n N limit Y Z (c ∷ g ∷ xs) q2 w (andF (den (2 * n) (rowsOf Y) c) (den (2 * n) (rowsOf Y) g)))
+              let s1 = subst (λ (xs : List ℕ). Took n N limit Y Z (c ∷ g ∷ xs) q2 w (andF (den (2 * n) (rowsOf Y) c) (den (2 * n) (rowsOf
+              Y) g)))
               (live-same (moved2 .frame) lent ∙ live-same (moved1 .frame) lent) s in
               let s2 : Took n N limit Y Z (c ∷ g ∷ live W lent) q2 w G = subst (λ (H : Fn). Took n N limit Y Z (c ∷ g ∷ live W lent) q2 w H)
               (ap₂ andF (denoted c-is) (denoted g-is) ∙ sym (fnOf-and n D F)) s1 in
-              let held = held-push (held-keeps (held-both h dx c-was) (subst (λ (xs : List ℕ). Keeps (rowsOf X) (rowsOf Y) xs) both-live k2)) g-is in
+              let held = held-push (held-keeps (held-both h dx c-was) (subst (λ (xs : List ℕ). Keeps (rowsOf X) (rowsOf Y) xs) both-live
+              k2)) g-is in
               let ys = held-alike (alike-trans (alike-cons g (alike-sym (alike-two (filled W) x c))) (alike-swap g c (live W lent))) held in
               let r3 : Ran n N Y Z (live W lent) (leb k limit) G (needing q2 k) w = ran-step ys (λ a j. there (there j)) s2 in
               join fs R E L m h dt dx (ran-then i (ran-fewer fewer r2) (λ z. needing z k) r3)

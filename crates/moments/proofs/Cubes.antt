@@ -49,8 +49,10 @@ digit k = go (k % 2) refl
 
 -- the lowest bit of a digit and twice a number
 bit-of : (x : ℕ) (b : Bool) → bit 0 (x * 2 + one b) ≡ b
-bit-of x true = ap (λ (q : ℕ). eqb (q % 2) 1) (div-one (x * 2 + 1)) ∙ T-true (eqb ((x * 2 + 1) % 2) 1) (let e : (x * 2 + 1) % 2 ≡ 1 = omega arith in rw e tt)
-bit-of x false = ap (λ (q : ℕ). eqb (q % 2) 1) (div-one (x * 2 + 0)) ∙ T-false (eqb ((x * 2 + 0) % 2) 1) (λ t. let e = eqb→eq ((x * 2 + 0) % 2) 1 t in absurd (omega (arith, e)))
+bit-of x true = ap (λ (q : ℕ). eqb (q % 2) 1) (div-one (x * 2 + 1)) ∙ T-true (eqb ((x * 2 + 1) % 2) 1) (let e : (x * 2 + 1) % 2 ≡ 1 =
+    omega arith in rw e tt)
+bit-of x false = ap (λ (q : ℕ). eqb (q % 2) 1) (div-one (x * 2 + 0)) ∙ T-false (eqb ((x * 2 + 0) % 2) 1) (λ t. let e = eqb→eq ((x * 2 +
+    0) % 2) 1 t in absurd (omega (arith, e)))
 
 half-of : (x : ℕ) (b : Bool) → (x * 2 + one b) / 2 ≡ x
 half-of x true = omega arith
@@ -253,7 +255,8 @@ pub fitting-cube : (n : ℕ) (m : Moment) {o z : ℕ} → Asks m o z → fnOf n 
 fitting-cube n m {o} {z} a =
     fnOf-table n (fitsBoth m)
     ∙ fun-ext (λ u. fits-cube n (m .mask) (m .value) (m .mask2) (m .value2) u
-    ∙ same n twice (onesOf (m .value) (m .value2)) (zerosOf (m .mask) (m .value) (m .mask2) (m .value2)) (sym (a .ones-is)) (sym (a .zeros-is)) u)
+    ∙ same n twice (onesOf (m .value) (m .value2)) (zerosOf (m .mask) (m .value) (m .mask2) (m .value2)) (sym (a .ones-is)) (sym (a
+    .zeros-is)) u)
   where
     same : (k : ℕ) → k ≡ 2 * n / 2 → (p q : ℕ) → p ≡ o → q ≡ z → (u : Val)
         → (eqb (p / 2 ^ k) 0 && cubeFrom k 0 p q u) ≡ (eqb (o / 2 ^ (2 * n / 2)) 0 && cubeFrom (2 * n / 2) 0 o z u)

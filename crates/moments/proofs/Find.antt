@@ -139,10 +139,12 @@ module _ {n N limit : ℕ} {W : View} {t v : ℕ} {one two : List ℕ} (p : Find
               let A = setOf S one two j 0 in
               lt→ltb (common (2 ^ n) A A) (2 ^ n) (subst (λ (s : ℕ). s < 2 ^ n) (first-is S) h)
 
-          pub find-short : {old : List ℕ} → length old < length one / 2 → FindPost n limit W X t v one two old old (answer.Refused refusal.Short)
+          pub find-short : {old : List ℕ} → length old < length one / 2 → FindPost n limit W X t v one two old old (answer.Refused
+              refusal.Short)
           find-short {old} r S = record {
             steps = set-at S .steps;
-            told = told-by (outcome-short limit S one two j (length old) (set-at S .fits) (true-of _ (has S)) (let l = p .logs .first in omega (arith, r, l)))
+            told = told-by (outcome-short limit S one two j (length old) (set-at S .fits) (true-of _ (has S)) (let l = p .logs .first in
+                omega (arith, r, l)))
                 (record { reply = refl; list = refl });
           }
 

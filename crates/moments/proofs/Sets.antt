@@ -83,7 +83,8 @@ module _ {n : ℕ} {W : View} {t v : ℕ} (limit : ℕ) (S : Scene n W t v) (one
       subst (λ (i : ℕ). T (fit limit (needsOf S one two j i))) b (fits-later d j (suc i) h)
 
   -- so what is full stays full for every earlier set
-  pub full-before : (j i J p : ℕ) → p ≤ i → p + J ≡ i + j → fit limit (needsOf S one two j i) ≡ false → fit limit (needsOf S one two J p) ≡ false
+  pub full-before : (j i J p : ℕ) → p ≤ i → p + J ≡ i + j → fit limit (needsOf S one two j i) ≡ false → fit limit (needsOf S one two J p)
+      ≡ false
   full-before j i J p l e f = false-of (fit limit (needsOf S one two J p)) (λ g.
       let a : J ≡ (i - p) + j = omega arith in
       let b : (i - p) + p ≡ i = omega arith in
@@ -109,7 +110,8 @@ module _ {n N limit : ℕ} {W : View} {t v : ℕ} {one two : List ℕ} {p : ℕ}
   module _ {i : ℕ} (ei : i ≡ after one) {ones zeros : ℕ} (m : Asks (momentAt one two i) ones zeros)
       {X : View} {o : Taken} (f : FittingPost n N limit W X [] v ones zeros (uncounted N) o) where
     ran-last : (S : Scene n W t v) → Ran n N W X (live W []) (fit limit (fitNeeds n (S .fs) (S .B) (momentAt one two i)))
-        (fnOf n (existing (2 ^ n) (S .B) (momentAt one two i))) (needingAll (uncounted N) (fitNeeds n (S .fs) (S .B) (momentAt one two i))) o
+        (fnOf n (existing (2 ^ n) (S .B) (momentAt one two i))) (needingAll (uncounted N) (fitNeeds n (S .fs) (S .B) (momentAt one two
+        i))) o
     ran-last S =
         ran-fitting n N limit W X [] v ones zeros (uncounted N) o f (S .fs) (S .B) (momentAt one two i)
         (subst (λ (xs : List ℕ). Held (2 * n) (rowsOf W) xs (S .fs)) (sym (append-nil (filled W))) (S .held)) (S .goal) m

@@ -37,7 +37,8 @@ use Rattle.moments.specs.Write.{Onward, restOf, WritePre, WritePost}
 -- a set that is made has its arrow
 pub set-made : {n limit : ℕ} {W X : View} {t v : ℕ} {S : Scene n W t v} {one two : List ℕ} {j i : ℕ} {o : Made} {x : ℕ}
     → Ends n limit W X t v S one two j i o → o ≡ made.At x → Threaded n limit W X t v S one two j i x
-set-made {n} {limit} {W} {X} {t} {v} {S} {one} {two} {j} {i} {o} {x} d e = go (subst (λ (o : Made). Ends n limit W X t v S one two j i o) e d)
+set-made {n} {limit} {W} {X} {t} {v} {S} {one} {two} {j} {i} {o} {x} d e = go (subst (λ (o : Made). Ends n limit W X t v S one two j i o)
+    e d)
   where
     go : Ends n limit W X t v S one two j i (made.At x) → Threaded n limit W X t v S one two j i x
     go (is-made h) = h
@@ -51,7 +52,8 @@ never-full {n} {limit} {W} {X} {t} {v} {S} {one} {two} {j} {i} {o} d e = go (sub
     go (is-full s f) = f
 
 -- where the loop stands: s is the state of place i, with j places after it, and the rest goes from the next place on
-pub record Writing (n limit : ℕ) (W X : View) (t v : ℕ) (S : Scene n W t v) (one two : List ℕ) (first : ℕ) (old now : List ℕ) (s j i : ℕ) : Type 0 where
+pub record Writing (n limit : ℕ) (W X : View) (t v : ℕ) (S : Scene n W t v) (one two : List ℕ) (first : ℕ) (old now : List ℕ) (s j i : ℕ)
+    : Type 0 where
   pub steps : Steps n W X
   pub ready : Onward limit S one two j i s
   pub rest : putAll (suc i) (restOf S one two j i s) now ≡ putAll 1 (restOf S one two (after one) 0 first) old
@@ -136,9 +138,11 @@ module _ {n N limit : ℕ} {W : View} {t v : ℕ} {one two : List ℕ} {first : 
               eu ∙ toward-found n Y (S .R) (setOf S one two j (suc i)) (base-after .ready .levels-is)
               (keeps-denotes (steps-after S r .kept) (p .start .t-live) (S .relation)) (there S r .set-is) s small
 
-          inside : (S : Scene n W t v) (r : Onward limit S one two (after one) 0 first) → (u < 2 ^ n) × T (mem (setOf S one two j (suc i)) u)
+          inside : (S : Scene n W t v) (r : Onward limit S one two (after one) 0 first) → (u < 2 ^ n) × T (mem (setOf S one two j (suc
+              i)) u)
           inside S r =
-              let w = onto (2 ^ n) (S .R) (setsOf n (S .B) (momentAt one two)) (sets-small n (S .B) (momentAt one two)) j i s (q S r .ready .1) in
+              let w = onto (2 ^ n) (S .R) (setsOf n (S .B) (momentAt one two)) (sets-small n (S .B) (momentAt one two)) j i s (q S r
+              .ready .1) in
               let e = sym (next-is S r) in (
                 subst (λ (z : ℕ). z < 2 ^ n) e (w .state),
                 subst (λ (z : ℕ). T (mem (setOf S one two j (suc i)) z)) e (w .inside),

@@ -17,7 +17,8 @@ kudzuclamp-logged-spec =
     (λ c κs. search needs)
     (λ c. search needs)
     (λ c. search needs)
-    (λ c. subst (LogPost _ _ _ _ _ _ _) (ap loggedReply (c .enum-told .given .1)) (c .before .before .before .before .before .before .logged .ensures))
+    (λ c. subst (LogPost _ _ _ _ _ _ _) (ap loggedReply (c .enum-told .given .1)) (c .before .before .before .before .before .before
+    .logged .ensures))
     (λ c. search needs)
     (λ c. search needs)
     (λ c. subst (LogPost _ _ _ _ _ _ _) (ap loggedReply (c .before .before .x .given .1) ∙ ap plain (sym (c .refusal-number .ensures)))

@@ -7,5 +7,6 @@ use Rattle.log_calls.proofs.logs_fit.Tie as tie
 pub logs-fit-spec : {M : Type 1} → statement M
 logs-fit-spec =
     tie.close
-    (tie.spec (λ c. fails (λ q. omega arith)) (λ c. fails (λ q. omega arith)) (λ c. fails (λ q. omega arith)) (λ c. fails (λ q. omega arith))
+    (tie.spec (λ c. fails (λ q. omega arith)) (λ c. fails (λ q. omega arith)) (λ c. fails (λ q. omega arith)) (λ c. fails (λ q. omega
+    arith))
     (λ c. holds (omega arith)))

@@ -18,10 +18,28 @@ search-spec =
     (tie.spec
     (λ c κs. search needs)
     (λ c. search needs)
-    (λ c κs. (start-base (c .before .before .before .before .before .before .before .before .before .before .pre) (c .before .before .before .before .forget .ensures) .sound, refl))
+    (λ c κs. (
+      start-base (c .before .before .before .before .before .before .before .before .before .before .pre) (c .before .before
+          .before .before .forget .ensures) .sound,
+      refl,
+    ))
     (λ c. search needs)
-    (λ c κs. (search-asks (c .before .before .before .before .before .before .before .before .before .before .before .before .before .before .before .pre) (c .before .before .before .before .before .before .before .before .before .forget .ensures), c .before .before .before .before .begin .ensures))
-    (λ c κs. search-frees (c .before .before .before .before .before .before .before .before .before .before .before .before .before .before .before .before .before .before .before .before .before .before .pre) (c .before .before .before .before .before .before .before .before .before .before .before .before .before .before .before .before .forget .ensures) (c .before .before .before .before .before .before .before .before .before .before .before .before .before .before .before .before .before .before .before .before .before .before .args .list .now) (c .before .before .before .before .before .before .find-logged .ensures))
+    (λ c κs. (
+      search-asks (c .before .before .before .before .before .before .before .before .before .before .before .before .before
+          .before .before .pre) (c .before .before .before .before .before .before .before .before .before .forget .ensures),
+      c .before .before
+          .before .before .begin .ensures,
+    ))
+    (λ c κs. search-frees (c .before .before .before .before .before .before .before .before .before .before .before .before .before
+    .before .before .before .before .before .before .before .before .before .pre) (c .before .before .before .before .before .before
+    .before .before .before .before .before .before .before .before .before .before .forget .ensures) (c .before .before .before .before
+    .before .before .before .before .before .before .before .before .before .before .before .before .before .before .before .before
+    .before .before .args .list .now) (c .before .before .before .before .before .before .find-logged .ensures))
     (λ c. search needs)
     (λ c. search needs)
-    (λ c. search-done (c .before .before .before .before .before .before .before .before .before .before .before .before .before .before .before .before .before .before .before .before .before .before .before .before .before .pre) (c .before .before .before .before .before .before .before .before .before .before .before .before .before .before .before .before .before .before .before .forget .ensures) (c .before .before .before .before .before .before .before .before .before .before .before .before .before .before .before .before .before .before .before .before .before .before .before .before .before .args .list .now) (c .before .before .before .before .before .before .before .before .before .find-logged .ensures) (c .before .before .free-many .ensures)))
+    (λ c. search-done (c .before .before .before .before .before .before .before .before .before .before .before .before .before .before
+    .before .before .before .before .before .before .before .before .before .before .before .pre) (c .before .before .before .before
+    .before .before .before .before .before .before .before .before .before .before .before .before .before .before .before .forget
+    .ensures) (c .before .before .before .before .before .before .before .before .before .before .before .before .before .before .before
+    .before .before .before .before .before .before .before .before .before .before .args .list .now) (c .before .before .before .before
+    .before .before .before .before .before .find-logged .ensures) (c .before .before .free-many .ensures)))

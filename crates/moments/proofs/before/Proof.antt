@@ -1,4 +1,5 @@
--- `before` meets its contract: diamond, the fitting states and AND of both are one chain of steps, over the roots and the later set. Assumes nothing.
+-- `before` meets its contract: diamond, the fitting states and AND of both are one chain of steps, over the roots and the later set.
+-- Assumes nothing.
 use mathlib.Core.Path.{_∙_}
 use native.Mathlib.Omega.{arith}
 use Rattle.modal.proofs.Chain.{base-bits, took}
@@ -18,21 +19,120 @@ before-spec =
     (tie.spec
     (λ c. omega (arith, base-bits (c .before .before .before .pre .0 .base)))
     (λ c. search needs)
-    (λ c κs. (dia-asks (c .before .before .before .before .before .before .pre .0), c .before .before .before .before .before .before .pre .1))
+    (λ c κs. (
+      dia-asks (c .before .before .before .before .before .before .pre .0),
+      c .before .before .before .before .before .before
+          .pre .1,
+    ))
     (λ c. search needs)
     (λ c. search needs)
     (λ c. c .before .before .before .before .before .before .diamond .kept .0)
     (λ c. c .before .before .before .before .before .before .diamond .kept .1 .0)
-    (λ c. (dia-full (c .before .before .before .before .before .before .before .before .before .before .before .before .before .pre .0) (c .before .before .before .before .before .before .diamond .ensures .0) (c .before .before .before .before .before .before .before .before .before .before .before .before .before .args .moment .ones) (c .before .before .before .before .before .before .before .before .before .before .before .before .before .args .moment .zeros) (c .enum-told .given .1), c .before .before .before .before .before .before .diamond .ensures .1))
+    (λ c. (
+      dia-full (c .before .before .before .before .before .before .before .before .before .before .before .before .before .pre .0)
+          (c .before .before .before .before .before .before .diamond .ensures .0) (c .before .before .before .before .before
+          .before .before
+          .before .before .before .before .before .before .args .moment .ones) (c .before .before .before .before .before .before .before
+          .before .before .before .before .before .before .args .moment .zeros) (c .enum-told .given .1),
+      c .before .before .before .before
+          .before .before .diamond .ensures .1,
+    ))
     (λ c. search needs)
-    (λ c κs. (fit-asks (c .before .before .before .before .before .before .before .before .before .before .before .before .before .before .before .before .before .pre .0) (c .before .before .before .before .before .before .before .before .before .before .diamond .ensures .0) (c .before .before .before .before .d .given .1), c .before .before .before .before .before .before .before .before .before .before .diamond .ensures .1))
+    (λ c κs. (
+      fit-asks (c .before .before .before .before .before .before .before .before .before .before .before .before .before .before
+          .before .before .before .pre .0) (c .before .before .before .before .before .before .before .before .before .before
+          .diamond .ensures
+          .0) (c .before .before .before .before .d .given .1),
+      c .before .before .before .before .before .before .before .before .before
+          .before .diamond .ensures .1,
+    ))
     (λ c. search needs)
     (λ c. search needs)
-    (λ c. c .before .before .before .before .before .before .fitting .kept .0 ∙ c .before .before .before .before .before .before .before .before .before .before .before .before .before .before .before .before .before .diamond .kept .0)
-    (λ c. c .before .before .before .before .before .before .fitting .kept .1 .0 ∙ c .before .before .before .before .before .before .before .before .before .before .before .before .before .before .before .before .before .diamond .kept .1 .0)
-    (λ c. (fit-full (c .before .before .before .before .before .before .before .before .before .before .before .before .before .before .before .before .before .before .before .before .before .before .before .before .pre .0) (c .before .before .before .before .before .before .before .before .before .before .before .before .before .before .before .before .before .diamond .ensures .0) (c .before .before .before .before .before .before .before .before .before .before .before .d .given .1) (c .before .before .before .before .before .before .before .before .before .before .before .before .before .before .before .before .before .before .before .before .before .before .before .before .args .moment .ones) (c .before .before .before .before .before .before .before .before .before .before .before .before .before .before .before .before .before .before .before .before .before .before .before .before .args .moment .zeros) (c .before .before .before .before .before .before .fitting .ensures .0) (c .enum-told2 .given .1), c .before .before .before .before .before .before .fitting .ensures .1))
+    (λ c. c .before .before .before .before .before .before .fitting .kept .0 ∙ c .before .before .before .before .before .before .before
+    .before .before .before .before .before .before .before .before .before .before .diamond .kept .0)
+    (λ c. c .before .before .before .before .before .before .fitting .kept .1 .0 ∙ c .before .before .before .before .before .before
+    .before .before .before .before .before .before .before .before .before .before .before .diamond .kept .1 .0)
+    (λ c. (
+      fit-full (c .before .before .before .before .before .before .before .before .before .before .before .before .before .before
+          .before .before .before .before .before .before .before .before .before .before .pre .0) (c .before .before .before
+          .before .before
+          .before .before .before .before .before .before .before .before .before .before .before .before .diamond .ensures .0) (c .before
+          .before .before .before .before .before .before .before .before .before .before .d .given .1) (c .before .before .before .before
+          .before .before .before .before .before .before .before .before .before .before .before .before .before .before .before .before
+          .before .before .before .before .args .moment .ones) (c .before .before .before .before .before .before .before .before .before
+          .before .before .before .before .before .before .before .before .before .before .before .before .before .before
+          .before .args .moment
+          .zeros) (c .before .before .before .before .before .before .fitting .ensures .0) (c .enum-told2 .given .1),
+      c .before .before .before
+          .before .before .before .fitting .ensures .1,
+    ))
     (λ c. search needs)
-    (λ c κs. (last-asks (c .before .before .before .before .before .before .before .before .before .before .before .before .before .before .before .before .before .before .before .before .before .before .before .before .before .before .before .before .pre .0) (c .before .before .before .before .before .before .before .before .before .before .before .before .before .before .before .before .before .before .before .before .before .diamond .ensures .0) (c .before .before .before .before .before .before .before .before .before .before .before .before .before .before .before .d .given .1) (c .before .before .before .before .before .before .before .before .before .before .before .before .before .before .before .before .before .before .before .before .before .before .before .before .before .before .before .before .args .moment .ones) (c .before .before .before .before .before .before .before .before .before .before .before .before .before .before .before .before .before .before .before .before .before .before .before .before .before .before .before .before .args .moment .zeros) (c .before .before .before .before .before .before .before .before .before .before .fitting .ensures .0) (c .before .before .before .before .f .given .1), c .before .before .before .before .before .before .before .before .before .before .fitting .ensures .1))
-    (λ c. c .before .before .before .before .take .kept .0 ∙ c .before .before .before .before .before .before .before .before .before .before .before .before .before .before .before .fitting .kept .0 ∙ c .before .before .before .before .before .before .before .before .before .before .before .before .before .before .before .before .before .before .before .before .before .before .before .before .before .before .diamond .kept .0)
-    (λ c. c .before .before .before .before .take .kept .1 .0 ∙ c .before .before .before .before .before .before .before .before .before .before .before .before .before .before .before .fitting .kept .1 .0 ∙ c .before .before .before .before .before .before .before .before .before .before .before .before .before .before .before .before .before .before .before .before .before .before .before .before .before .before .diamond .kept .1 .0)
-    (λ c. (before-ends (c .before .before .before .before .before .before .before .before .before .before .before .before .before .before .before .before .before .before .before .before .before .before .before .before .before .before .before .before .before .before .before .before .before .pre .0) (c .before .before .before .before .before .before .before .before .before .before .before .before .before .before .before .before .before .before .before .before .before .before .before .before .before .before .diamond .ensures .0) (c .before .before .before .before .before .before .before .before .before .before .before .before .before .before .before .before .before .before .before .before .d .given .1) (c .before .before .before .before .before .before .before .before .before .before .before .before .before .before .before .before .before .before .before .before .before .before .before .before .before .before .before .before .before .before .before .before .before .args .moment .ones) (c .before .before .before .before .before .before .before .before .before .before .before .before .before .before .before .before .before .before .before .before .before .before .before .before .before .before .before .before .before .before .before .before .before .args .moment .zeros) (c .before .before .before .before .before .before .before .before .before .before .before .before .before .before .before .fitting .ensures .0) (c .before .before .before .before .before .before .before .before .before .f .given .1) (took (last-base (c .before .before .before .before .before .before .before .before .before .before .before .before .before .before .before .before .before .before .before .before .before .before .before .before .before .before .before .before .before .before .before .before .before .pre .0) (c .before .before .before .before .before .before .before .before .before .before .before .before .before .before .before .before .before .before .before .before .before .before .before .before .before .before .diamond .ensures .0) (c .before .before .before .before .before .before .before .before .before .before .before .before .before .before .before .before .before .before .before .before .d .given .1) (c .before .before .before .before .before .before .before .before .before .before .before .before .before .before .before .before .before .before .before .before .before .before .before .before .before .before .before .before .before .before .before .before .before .args .moment .ones) (c .before .before .before .before .before .before .before .before .before .before .before .before .before .before .before .before .before .before .before .before .before .before .before .before .before .before .before .before .before .before .before .before .before .args .moment .zeros) (c .before .before .before .before .before .before .before .before .before .before .before .before .before .before .before .fitting .ensures .0) (c .before .before .before .before .before .before .before .before .before .f .given .1)) (last-asks (c .before .before .before .before .before .before .before .before .before .before .before .before .before .before .before .before .before .before .before .before .before .before .before .before .before .before .before .before .before .before .before .before .before .pre .0) (c .before .before .before .before .before .before .before .before .before .before .before .before .before .before .before .before .before .before .before .before .before .before .before .before .before .before .diamond .ensures .0) (c .before .before .before .before .before .before .before .before .before .before .before .before .before .before .before .before .before .before .before .before .d .given .1) (c .before .before .before .before .before .before .before .before .before .before .before .before .before .before .before .before .before .before .before .before .before .before .before .before .before .before .before .before .before .before .before .before .before .args .moment .ones) (c .before .before .before .before .before .before .before .before .before .before .before .before .before .before .before .before .before .before .before .before .before .before .before .before .before .before .before .before .before .before .before .before .before .args .moment .zeros) (c .before .before .before .before .before .before .before .before .before .before .before .before .before .before .before .fitting .ensures .0) (c .before .before .before .before .before .before .before .before .before .f .given .1)) (c .before .before .before .before .take .ensures .0) (c .before .before .before .before .take .ensures .2)), c .before .before .before .before .take .ensures .1)))
+    (λ c κs. (
+      last-asks (c .before .before .before .before .before .before .before .before .before .before .before .before .before
+          .before .before .before .before .before .before .before .before .before .before .before .before .before .before
+          .before .pre .0) (c
+          .before .before .before .before .before .before .before .before .before .before .before .before .before .before .before .before
+          .before .before .before .before .before .diamond .ensures .0) (c .before .before .before .before .before .before .before .before
+          .before .before .before .before .before .before .before .d .given .1) (c .before .before .before .before .before .before .before
+          .before .before .before .before .before .before .before .before .before .before .before .before .before .before .before .before
+          .before .before .before .before .before .args .moment .ones) (c .before .before .before .before .before .before .before .before
+          .before .before .before .before .before .before .before .before .before .before .before .before .before .before .before .before
+          .before .before .before .before .args .moment .zeros) (c .before .before .before .before .before .before .before .before .before
+          .before .fitting .ensures .0) (c .before .before .before .before .f .given .1),
+      c .before .before .before .before .before .before
+          .before .before .before .before .fitting .ensures .1,
+    ))
+    (λ c. c .before .before .before .before .take .kept .0 ∙ c .before .before .before .before .before .before .before .before .before
+    .before .before .before .before .before .before .fitting .kept .0 ∙ c .before .before .before .before .before .before .before .before
+    .before .before .before .before .before .before .before .before .before .before .before .before .before .before .before .before
+    .before .before .diamond .kept .0)
+    (λ c. c .before .before .before .before .take .kept .1 .0 ∙ c .before .before .before .before .before .before .before .before .before
+    .before .before .before .before .before .before .fitting .kept .1 .0 ∙ c .before .before .before .before .before .before .before
+    .before .before .before .before .before .before .before .before .before .before .before .before .before .before .before .before
+    .before .before .before .diamond .kept .1 .0)
+    (λ c. (
+      before-ends (c .before .before .before .before .before .before .before .before .before .before .before .before .before .before
+          .before .before .before .before .before .before .before .before .before .before .before .before .before .before .before .before
+          .before .before .before .pre .0) (c .before .before .before .before .before .before .before .before .before .before
+          .before .before
+          .before .before .before .before .before .before .before .before .before .before .before .before .before .before
+          .diamond .ensures .0)
+          (c .before .before .before .before .before .before .before .before .before .before .before .before .before .before .before .before
+          .before .before .before .before .d .given .1) (c .before .before .before .before .before .before .before .before .before .before
+          .before .before .before .before .before .before .before .before .before .before .before .before .before .before .before .before
+          .before .before .before .before .before .before .before .args .moment .ones) (c .before .before .before .before .before .before
+          .before .before .before .before .before .before .before .before .before .before .before .before .before .before .before .before
+          .before .before .before .before .before .before .before .before .before .before .before .args .moment .zeros) (c .before .before
+          .before .before .before .before .before .before .before .before .before .before .before .before .before .fitting .ensures .0) (c
+          .before .before .before .before .before .before .before .before .before .f .given .1) (took (last-base (c .before .before .before
+          .before .before .before .before .before .before .before .before .before .before .before .before .before .before .before .before
+          .before .before .before .before .before .before .before .before .before .before .before .before .before .before .pre
+          .0) (c .before
+          .before .before .before .before .before .before .before .before .before .before .before .before .before .before .before .before
+          .before .before .before .before .before .before .before .before .before .diamond .ensures .0) (c .before .before .before .before
+          .before .before .before .before .before .before .before .before .before .before .before .before .before .before .before .before .d
+          .given .1) (c .before .before .before .before .before .before .before .before .before .before .before .before .before
+          .before .before
+          .before .before .before .before .before .before .before .before .before .before .before .before .before .before .before .before
+          .before .before .args .moment .ones) (c .before .before .before .before .before .before .before .before .before .before .before
+          .before .before .before .before .before .before .before .before .before .before .before .before .before .before .before .before
+          .before .before .before .before .before .before .args .moment .zeros) (c .before .before .before .before .before .before .before
+          .before .before .before .before .before .before .before .before .fitting .ensures .0) (c .before .before .before .before .before
+          .before .before .before .before .f .given .1)) (last-asks (c .before .before .before .before .before .before .before
+          .before .before
+          .before .before .before .before .before .before .before .before .before .before .before .before .before .before .before .before
+          .before .before .before .before .before .before .before .before .pre .0) (c .before .before .before .before .before
+          .before .before
+          .before .before .before .before .before .before .before .before .before .before .before .before .before .before .before .before
+          .before .before .before .diamond .ensures .0) (c .before .before .before .before .before .before .before .before .before .before
+          .before .before .before .before .before .before .before .before .before .before .d .given .1) (c .before .before .before .before
+          .before .before .before .before .before .before .before .before .before .before .before .before .before .before .before .before
+          .before .before .before .before .before .before .before .before .before .before .before .before .before .args .moment .ones) (c
+          .before .before .before .before .before .before .before .before .before .before .before .before .before .before .before .before
+          .before .before .before .before .before .before .before .before .before .before .before .before .before .before .before .before
+          .before .args .moment .zeros) (c .before .before .before .before .before .before .before .before .before .before .before .before
+          .before .before .before .fitting .ensures .0) (c .before .before .before .before .before .before .before .before .before .f .given
+          .1)) (c .before .before .before .before .take .ensures .0) (c .before .before .before .before .take .ensures .2)),
+      c .before .before
+          .before .before .take .ensures .1,
+    )))

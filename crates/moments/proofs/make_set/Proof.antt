@@ -19,7 +19,11 @@ use Rattle.moments.proofs.fitting.Reads as fitting-reads
 use Rattle.moments.proofs.moment_at.Reads as moment-at-reads
 
 abbrev Inv-loop : tie.InvT-loop
-Inv-loop words₀ counts₀ limits relation valid one two at i₀ f x₀ words counts i x = (length words ≡ length words₀) × (length counts ≡ length counts₀) × (at ≤ i) × (i ≤ after one) × CountsOf (view (limits .rows) words) counts × ((W : View) → MakePre (limits .bits) (limits .rows) (limits .limit) W relation valid one two at → ((S : Scene (limits .bits) W relation valid) → Threaded (limits .bits) (limits .limit) W (view (limits .rows) words₀) relation valid S one two (after one - i₀) i₀ x₀) → (S : Scene (limits .bits) W relation valid) → Threaded (limits .bits) (limits .limit) W (view (limits .rows) words) relation valid S one two (after one - i) i x)
+Inv-loop words₀ counts₀ limits relation valid one two at i₀ f x₀ words counts i x = (length words ≡ length words₀) × (length counts ≡
+    length counts₀) × (at ≤ i) × (i ≤ after one) × CountsOf (view (limits .rows) words) counts × ((W : View) → MakePre (limits .bits)
+    (limits .rows) (limits .limit) W relation valid one two at → ((S : Scene (limits .bits) W relation valid) → Threaded (limits .bits)
+    (limits .limit) W (view (limits .rows) words₀) relation valid S one two (after one - i₀) i₀ x₀) → (S : Scene (limits .bits) W
+    relation valid) → Threaded (limits .bits) (limits .limit) W (view (limits .rows) words) relation valid S one two (after one - i) i x)
 
 abbrev μ-loop : tie.MeasureT-loop
 μ-loop words₀ counts₀ limits relation valid one two at i₀ f x₀ words counts i x = i
@@ -33,23 +37,123 @@ make-set-spec =
     (λ c. let l = c .before .before .before .before .pre .0 .logs .first in omega (arith, l))
     (λ c κs. last-has (c .before .before .before .before .pre .0) (omega arith))
     (λ c. search needs)
-    (λ c κs. (last-asks (c .before .before .before .before .before .before .before .before .pre .0), c .before .before .before .before .before .before .before .before .pre .1))
+    (λ c κs. (
+      last-asks (c .before .before .before .before .before .before .before .before .pre .0),
+      c .before .before .before .before
+          .before .before .before .before .pre .1,
+    ))
     (λ c. search needs)
     (λ c. search needs)
     (λ c. c .before .before .before .before .before .before .fitting .kept .0)
     (λ c. c .before .before .before .before .before .before .fitting .kept .1 .0)
-    (λ c. (last-full (c .before .before .before .before .before .before .before .before .before .before .before .before .before .before .before .pre .0) refl (c .before .before .before .before .before .before .before .before .before .before .moment-at .ensures) (c .before .before .before .before .before .before .fitting .ensures .0) (c .enum-told .given .1), c .before .before .before .before .before .before .fitting .ensures .1))
-    (λ c. (refl, refl, c .before .before .before .before .before .before .before .before .before .before .before .before .before .before .before .before .pre .0 .inside, omega arith, c .before .before .before .before .before .before .before .fitting .ensures .1, λ W a h S. h S))
+    (λ c. (
+      last-full (c .before .before .before .before .before .before .before .before .before .before .before .before .before .before
+          .before .pre .0) refl (c .before .before .before .before .before .before .before .before .before .before .moment-at .ensures) (c
+          .before .before .before .before .before .before .fitting .ensures .0) (c .enum-told .given .1),
+      c .before .before .before .before
+          .before .before .fitting .ensures .1,
+    ))
+    (λ c. (
+      refl,
+      refl,
+      c .before .before .before .before .before .before .before .before .before .before .before .before .before .before
+          .before .before .pre .0 .inside,
+      omega arith,
+      c .before .before .before .before .before .before .before .fitting .ensures .1,
+      λ W a h
+          S. h S,
+    ))
     (λ c. omega (arith, c .loop-test .taken))
-    (λ c κs. last-has (c .before .before .before .before .before .before .before .before .before .before .before .before .before .before .before .before .before .before .pre .0) (omega (arith, c .before .loop .inv .3)))
-    (λ c κs. (before-asks (c .before .before .before .before .before .before .before .before .before .before .before .before .before .before .before .before .before .before .before .before .before .pre .0) (c .before .before .before .before .loop .inv .5 _ (c .before .before .before .before .before .before .before .before .before .before .before .before .before .before .before .before .before .before .before .before .before .pre .0) (last-made (c .before .before .before .before .before .before .before .before .before .before .before .before .before .before .before .before .before .before .before .before .before .pre .0) refl (c .before .before .before .before .before .before .before .before .before .before .before .before .before .before .before .before .moment-at .ensures) (c .before .before .before .before .before .before .before .before .before .before .before .before .fitting .ensures .0) (omega arith) (c .before .before .before .before .before .before .f .given .1))), c .before .before .before .before .loop .inv .4))
+    (λ c κs. last-has (c .before .before .before .before .before .before .before .before .before .before .before .before .before .before
+    .before .before .before .before .pre .0) (omega (arith, c .before .loop .inv .3)))
+    (λ c κs. (
+      before-asks (c .before .before .before .before .before .before .before .before .before .before .before .before .before
+          .before .before .before .before .before .before .before .before .pre .0) (c .before .before .before .before .loop .inv .5 _ (c
+          .before .before .before .before .before .before .before .before .before .before .before .before .before .before .before .before
+          .before .before .before .before .before .pre .0) (last-made (c .before .before .before .before .before .before .before .before
+          .before .before .before .before .before .before .before .before .before .before .before .before .before .pre .0) refl (c .before
+          .before .before .before .before .before .before .before .before .before .before .before .before .before .before .before .moment-at
+          .ensures) (c .before .before .before .before .before .before .before .before .before .before .before .before .fitting .ensures .0)
+          (omega arith) (c .before .before .before .before .before .before .f .given .1))),
+      c .before .before .before .before .loop .inv .4,
+    ))
     (λ c. search needs)
     (λ c. search needs)
-    (λ c. c .before .before .before .before .before .before .before2 .kept .0 ∙ c .before .before .before .before .before .before .before .before .before .before .before .loop .inv .0 ∙ c .before .before .before .before .before .before .before .before .before .before .before .before .before .before .before .before .before .before .before .fitting .kept .0)
-    (λ c. c .before .before .before .before .before .before .before2 .kept .1 .0 ∙ c .before .before .before .before .before .before .before .before .before .before .before .loop .inv .1 ∙ c .before .before .before .before .before .before .before .before .before .before .before .before .before .before .before .before .before .before .before .fitting .kept .1 .0)
-    (λ c. (turn-full (c .before .before .before .before .before .before .before .before .before .before .before .before .before .before .before .before .before .before .before .before .before .before .before .before .before .before .before .before .pre .0) (c .before .before .before .before .before .before .before .before .before .before .before .loop .inv .5 _ (c .before .before .before .before .before .before .before .before .before .before .before .before .before .before .before .before .before .before .before .before .before .before .before .before .before .before .before .before .pre .0) (last-made (c .before .before .before .before .before .before .before .before .before .before .before .before .before .before .before .before .before .before .before .before .before .before .before .before .before .before .before .before .pre .0) refl (c .before .before .before .before .before .before .before .before .before .before .before .before .before .before .before .before .before .before .before .before .before .before .before .moment-at .ensures) (c .before .before .before .before .before .before .before .before .before .before .before .before .before .before .before .before .before .before .before .fitting .ensures .0) (omega arith) (c .before .before .before .before .before .before .before .before .before .before .before .before .before .f .given .1))) (omega (arith, c .before .before .before .before .before .before .before .before .before .before .loop-test .taken)) (c .before .before .before .before .before .before .before .before .before .moment-at2 .ensures) (c .before .before .before .before .before .before .before2 .ensures .0) (omega (arith, c .before .before .before .before .before .before .before .before .before .before .loop-test .taken)) (omega (arith, c .before .before .before .before .before .before .before .before .before .before .before .loop .inv .3)) (c .enum-told2 .given .1), c .before .before .before .before .before .before .before2 .ensures .1))
+    (λ c. c .before .before .before .before .before .before .before2 .kept .0 ∙ c .before .before .before .before .before .before .before
+    .before .before .before .before .loop .inv .0 ∙ c .before .before .before .before .before .before .before .before .before .before
+    .before .before .before .before .before .before .before .before .before .fitting .kept .0)
+    (λ c. c .before .before .before .before .before .before .before2 .kept .1 .0 ∙ c .before .before .before .before .before .before
+    .before .before .before .before .before .loop .inv .1 ∙ c .before .before .before .before .before .before .before .before .before
+    .before .before .before .before .before .before .before .before .before .before .fitting .kept .1 .0)
+    (λ c. (
+      turn-full (c .before .before .before .before .before .before .before .before .before .before .before .before .before .before
+          .before .before .before .before .before .before .before .before .before .before .before .before .before .before .pre
+          .0) (c .before
+          .before .before .before .before .before .before .before .before .before .before .loop .inv .5 _ (c .before .before .before .before
+          .before .before .before .before .before .before .before .before .before .before .before .before .before .before .before .before
+          .before .before .before .before .before .before .before .before .pre .0) (last-made (c .before .before .before .before .before
+          .before .before .before .before .before .before .before .before .before .before .before .before .before .before .before .before
+          .before .before .before .before .before .before .before .pre .0) refl (c .before .before .before .before .before .before .before
+          .before .before .before .before .before .before .before .before .before .before .before .before .before .before .before .before
+          .moment-at .ensures) (c .before .before .before .before .before .before .before .before .before .before .before .before .before
+          .before .before .before .before .before .before .fitting .ensures .0) (omega arith) (c .before .before .before .before .before
+          .before .before .before .before .before .before .before .before .f .given .1))) (omega (
+            arith,
+            c .before .before .before .before
+                .before .before .before .before .before .before .loop-test .taken,
+          )) (c .before .before .before .before .before .before .before
+          .before .before .moment-at2 .ensures) (c .before .before .before .before .before .before .before2 .ensures .0) (omega (
+            arith,
+            c
+                .before .before .before .before .before .before .before .before .before .before .loop-test .taken,
+          )) (omega (
+            arith,
+            c .before .before
+                .before .before .before .before .before .before .before .before .before .loop .inv .3,
+          )) (c .enum-told2 .given .1),
+      c .before .before
+          .before .before .before .before .before2 .ensures .1,
+    ))
     (λ c. omega (arith, c .before .before .before .before .before .before .before .before .before .before .before .loop-test .taken))
-    (λ c. (c .before .before .before .before .before .before .before .before2 .kept .0 ∙ c .before .before .before .before .before .before .before .before .before .before .before .before .loop .inv .0, c .before .before .before .before .before .before .before .before2 .kept .1 .0 ∙ c .before .before .before .before .before .before .before .before .before .before .before .before .loop .inv .1, omega (arith, c .before .before .before .before .before .before .before .before .before .before .before .loop-test .taken), omega (arith, c .before .before .before .before .before .before .before .before .before .before .before .before .loop .inv .3), c .before .before .before .before .before .before .before .before2 .ensures .1, λ W a h S. turn-made a (c .before .before .before .before .before .before .before .before .before .before .before .before .loop .inv .5 W a h) (omega (arith, c .before .before .before .before .before .before .before .before .before .before .before .loop-test .taken)) (c .before .before .before .before .before .before .before .before .before .before .moment-at2 .ensures) (c .before .before .before .before .before .before .before .before2 .ensures .0) (omega (arith, c .before .before .before .before .before .before .before .before .before .before .before .loop-test .taken, c .before .before .before .before .before .before .before .before .before .before .before .before .loop .inv .3)) (c .before .y .given .1) S))
+    (λ c. (
+      c .before .before .before .before .before .before .before .before2 .kept .0 ∙ c .before .before .before .before .before
+          .before .before .before .before .before .before .before .loop .inv .0,
+      c .before .before .before .before .before .before .before
+          .before2 .kept .1 .0 ∙ c .before .before .before .before .before .before .before .before .before .before .before
+          .before .loop .inv
+          .1,
+      omega (arith, c .before .before .before .before .before .before .before .before .before .before .before .loop-test .taken),
+      omega
+          (arith, c .before .before .before .before .before .before .before .before .before .before .before .before .loop .inv .3),
+      c .before
+          .before .before .before .before .before .before .before2 .ensures .1,
+      λ W a h S. turn-made a (c .before .before .before .before
+          .before .before .before .before .before .before .before .before .loop .inv .5 W a h) (omega (
+            arith,
+            c .before .before .before .before
+                .before .before .before .before .before .before .before .loop-test .taken,
+          )) (c .before .before .before .before .before .before
+          .before .before .before .before .moment-at2 .ensures) (c .before .before .before .before .before .before .before .before2 .ensures
+          .0) (omega (
+            arith,
+            c .before .before .before .before .before .before .before .before .before .before .before .loop-test .taken,
+            c
+                .before .before .before .before .before .before .before .before .before .before .before .before .loop .inv .3,
+          )) (c .before .y .given
+          .1) S,
+    ))
     (λ c. c .before .loop .inv .0 ∙ c .before .before .before .before .before .before .before .before .before .fitting .kept .0)
     (λ c. c .before .loop .inv .1 ∙ c .before .before .before .before .before .before .before .before .before .fitting .kept .1 .0)
-    (λ c. (set-ends (c .before .before .before .before .before .before .before .before .before .before .before .before .before .before .before .before .before .before .pre .0) (c .before .loop .inv .5 _ (c .before .before .before .before .before .before .before .before .before .before .before .before .before .before .before .before .before .before .pre .0) (last-made (c .before .before .before .before .before .before .before .before .before .before .before .before .before .before .before .before .before .before .pre .0) refl (c .before .before .before .before .before .before .before .before .before .before .before .before .before .moment-at .ensures) (c .before .before .before .before .before .before .before .before .before .fitting .ensures .0) (omega arith) (c .before .before .before .f .given .1))) (c .loop-test .left) (c .before .loop .inv .2) (omega (arith, c .before .loop .inv .3)), c .before .loop .inv .4)))
+    (λ c. (
+      set-ends (c .before .before .before .before .before .before .before .before .before .before .before .before .before .before
+          .before .before .before .before .pre .0) (c .before .loop .inv .5 _ (c .before .before .before .before .before .before .before
+          .before .before .before .before .before .before .before .before .before .before .before .pre .0) (last-made (c .before .before
+          .before .before .before .before .before .before .before .before .before .before .before .before .before .before
+          .before .before .pre
+          .0) refl (c .before .before .before .before .before .before .before .before .before .before .before .before .before .moment-at
+          .ensures) (c .before .before .before .before .before .before .before .before .before .fitting .ensures .0) (omega
+          arith) (c .before
+          .before .before .f .given .1))) (c .loop-test .left) (c .before .loop .inv .2) (omega (arith, c .before .loop .inv .3)),
+      c .before
+          .loop .inv .4,
+    )))

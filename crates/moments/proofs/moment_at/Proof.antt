@@ -27,4 +27,7 @@ moment-at-spec =
     (λ c. search needs)
     (λ c. search needs)
     (λ c κs. search needs)
-    (λ c. asks-of (c .before .before .before .before .before .before .before .before .before .before .args .one .now) (c .before .before .before .before .before .before .before .before .before .before .args .two .now) (c .before .before .before .before .before .before .before .before .before .before .args .i) (c .before .before .before .before .before .before .wide .ensures) (c .before .before .before .before .wide2 .ensures) (c .before .before .wide3 .ensures) (c .wide4 .ensures)))
+    (λ c. asks-of (c .before .before .before .before .before .before .before .before .before .before .args .one .now) (c .before .before
+    .before .before .before .before .before .before .before .before .args .two .now) (c .before .before .before .before .before .before
+    .before .before .before .before .args .i) (c .before .before .before .before .before .before .wide .ensures) (c .before .before
+    .before .before .wide2 .ensures) (c .before .before .wide3 .ensures) (c .wide4 .ensures)))

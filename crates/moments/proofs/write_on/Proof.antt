@@ -16,7 +16,10 @@ use Rattle.moments.proofs.make_set.Reads as make-set-reads
 use Rattle.seek.proofs.least_next.Reads as least-next-reads
 
 abbrev Inv-loop : tie.InvT-loop
-Inv-loop words₀ counts₀ list₀ limits relation valid one two first last s₀ i₀ words counts list s i = (length words ≡ length words₀) × (length counts ≡ length counts₀) × (length list ≡ length list₀) × (i ≤ last) × (last ≡ after one) × CountsOf (view (limits .rows) words) counts × Stands (limits .bits) (limits .limit) (view (limits .rows) words₀) (view (limits .rows) words) relation valid one two first list₀ list s (last - i) i
+Inv-loop words₀ counts₀ list₀ limits relation valid one two first last s₀ i₀ words counts list s i = (length words ≡ length words₀) ×
+    (length counts ≡ length counts₀) × (length list ≡ length list₀) × (i ≤ last) × (last ≡ after one) × CountsOf (view (limits .rows)
+    words) counts × Stands (limits .bits) (limits .limit) (view (limits .rows) words₀) (view (limits .rows) words) relation valid one two
+    first list₀ list s (last - i) i
 
 abbrev μ-loop : tie.MeasureT-loop
 μ-loop words₀ counts₀ list₀ limits relation valid one two first last s₀ i₀ words counts list s i = last - i
@@ -28,22 +31,133 @@ write-on-spec =
     Inv-loop
     μ-loop
     (λ c. let l = c .before .before .before .before .before .pre .0 .logs .first in omega (arith, l))
-    (λ c. (refl, refl, refl, omega arith, refl, c .before .before .before .before .before .pre .1, write-starts (c .before .before .before .before .before .pre .0) (omega arith)))
-    (λ c. let l = c .before .before .before .before .before .before .before .pre .0 .logs .few in omega (arith, l, c .loop-test .taken, c .before .loop .inv .4))
-    (λ c κs. (write-again (c .before .before .before .before .before .before .before .before .before .pre .0) (omega (arith, c .before .before .loop-test .taken)) (omega (arith, c .before .before .before .loop .inv .3, c .before .before .before .loop .inv .4)) (c .before .before .before .loop .inv .6) (omega arith), c .before .before .before .loop .inv .5))
+    (λ c. (
+      refl,
+      refl,
+      refl,
+      omega arith,
+      refl,
+      c .before .before .before .before .before .pre .1,
+      write-starts (c .before .before
+          .before .before .before .pre .0) (omega arith),
+    ))
+    (λ c. let l = c .before .before .before .before .before .before .before .pre .0 .logs .few in omega (
+      arith,
+      l,
+      c .loop-test .taken,
+      c
+          .before .loop .inv .4,
+    ))
+    (λ c κs. (
+      write-again (c .before .before .before .before .before .before .before .before .before .pre .0) (omega (
+        arith,
+        c .before
+            .before .loop-test .taken,
+      )) (omega (arith, c .before .before .before .loop .inv .3, c .before .before .before .loop .inv .4)) (c
+          .before .before .before .loop .inv .6) (omega arith),
+      c .before .before .before .loop .inv .5,
+    ))
     (λ c. search needs)
     (λ c. search needs)
-    (λ c. c .before .before .before .before .before .before .make-set .kept .0 ∙ c .before .before .before .before .before .before .before .before .before .before .loop .inv .0)
-    (λ c. c .before .before .before .before .before .before .make-set .kept .1 .0 ∙ c .before .before .before .before .before .before .before .before .before .before .loop .inv .1)
+    (λ c. c .before .before .before .before .before .before .make-set .kept .0 ∙ c .before .before .before .before .before .before
+    .before .before .before .before .loop .inv .0)
+    (λ c. c .before .before .before .before .before .before .make-set .kept .1 .0 ∙ c .before .before .before .before .before .before
+    .before .before .before .before .loop .inv .1)
     (λ c. c .before .before .before .before .before .before .before .before .before .before .loop .inv .2)
-    (λ c. absurd (write-never (c .before .before .before .before .before .before .before .before .before .before .before .before .before .before .before .before .pre .0) (omega (arith, c .before .before .before .before .before .before .before .before .before .loop-test .taken)) (omega (arith, c .before .before .before .before .before .before .before .before .before .before .loop .inv .3, c .before .before .before .before .before .before .before .before .before .before .loop .inv .4)) (c .before .before .before .before .before .before .before .before .before .before .loop .inv .6) (omega arith) (c .before .before .before .before .before .before .make-set .ensures .0) (c .enum-told .given .1)))
-    (λ c κs. next-walks (c .before .before .before .before .before .before .before .before .before .before .before .before .before .before .before .before .before .before .pre .0) (omega (arith, c .before .before .before .before .before .before .before .before .before .before .before .loop-test .taken)) (omega (arith, c .before .before .before .before .before .before .before .before .before .before .before .before .loop .inv .3, c .before .before .before .before .before .before .before .before .before .before .before .before .loop .inv .4)) (c .before .before .before .before .before .before .before .before .before .before .before .before .loop .inv .6) (omega arith) (c .before .before .before .before .before .before .before .before .make-set .ensures .0) (c .before .before .x .given .1))
-    (λ c. let h = next-small (c .before .before .before .before .before .before .before .before .before .before .before .before .before .before .before .before .before .before .before .pre .0) (omega (arith, c .before .before .before .before .before .before .before .before .before .before .before .before .loop-test .taken)) (omega (arith, c .before .before .before .before .before .before .before .before .before .before .before .before .before .loop .inv .3, c .before .before .before .before .before .before .before .before .before .before .before .before .before .loop .inv .4)) (c .before .before .before .before .before .before .before .before .before .before .before .before .before .loop .inv .6) (omega arith) (c .before .before .before .before .before .before .before .before .before .make-set .ensures .0) (c .before .before .before .x .given .1) (c .least-next .ensures) in omega arith)
+    (λ c. absurd (write-never (c .before .before .before .before .before .before .before .before .before .before .before .before .before
+    .before .before .before .pre .0) (omega (
+      arith,
+      c .before .before .before .before .before .before .before .before .before .loop-test
+          .taken,
+    )) (omega (
+      arith,
+      c .before .before .before .before .before .before .before .before .before .before .loop .inv .3,
+      c .before
+          .before .before .before .before .before .before .before .before .before .loop .inv .4,
+    )) (c .before .before .before .before .before
+    .before .before .before .before .before .loop .inv .6) (omega arith) (c .before .before .before .before .before .before .make-set
+    .ensures .0) (c .enum-told .given .1)))
+    (λ c κs. next-walks (c .before .before .before .before .before .before .before .before .before .before .before .before .before
+    .before .before .before .before .before .pre .0) (omega (
+      arith,
+      c .before .before .before .before .before .before .before .before
+          .before .before .before .loop-test .taken,
+    )) (omega (
+      arith,
+      c .before .before .before .before .before .before .before .before .before
+          .before .before .before .loop .inv .3,
+      c .before .before .before .before .before .before .before .before .before .before .before
+          .before .loop .inv .4,
+    )) (c .before .before .before .before .before .before .before .before .before .before .before .before .loop .inv
+    .6) (omega arith) (c .before .before .before .before .before .before .before .before .make-set .ensures .0) (c .before .before .x
+    .given .1))
+    (λ c. let h = next-small (c .before .before .before .before .before .before .before .before .before .before .before .before .before
+    .before .before .before .before .before .before .pre .0) (omega (
+      arith,
+      c .before .before .before .before .before .before .before
+          .before .before .before .before .before .loop-test .taken,
+    )) (omega (
+      arith,
+      c .before .before .before .before .before .before .before
+          .before .before .before .before .before .before .loop .inv .3,
+      c .before .before .before .before .before .before .before .before
+          .before .before .before .before .before .loop .inv .4,
+    )) (c .before .before .before .before .before .before .before .before .before
+    .before .before .before .before .loop .inv .6) (omega arith) (c .before .before .before .before .before .before .before .before
+    .before .make-set .ensures .0) (c .before .before .before .x .given .1) (c .least-next .ensures) in omega arith)
     (λ c. search needs)
-    (λ c. let r = c .before .before .before .before .before .before .before .before .before .before .before .before .before .before .before .before .before .before .before .pre .0 .room in omega (arith, r, c .before .before .before .before .before .before .before .before .before .before .before .before .before .loop .inv .2, c .before .before .before .before .before .before .before .before .before .before .before .before .before .loop .inv .4, c .before .before .before .before .before .before .before .before .before .before .before .before .loop-test .taken))
-    (λ c. omega (arith, c .before .before .before .before .before .before .before .before .before .before .before .before .loop-test .taken))
-    (λ c. (c .before .before .before .before .before .before .before .before .before .make-set .kept .0 ∙ c .before .before .before .before .before .before .before .before .before .before .before .before .before .loop .inv .0, c .before .before .before .before .before .before .before .before .before .make-set .kept .1 .0 ∙ c .before .before .before .before .before .before .before .before .before .before .before .before .before .loop .inv .1, length-set (c .before .before .before .before .before .before .before .before .before .before .before .before .before .loop .list) (c .before .before .before .before .before .before .before .before .before .before .before .before .before .loop .i + 1) _ ∙ c .before .before .before .before .before .before .before .before .before .before .before .before .before .loop .inv .2, omega (arith, c .before .before .before .before .before .before .before .before .before .before .before .before .loop-test .taken), c .before .before .before .before .before .before .before .before .before .before .before .before .before .loop .inv .4, c .before .before .before .before .before .before .before .before .before .make-set .ensures .1, write-turns (c .before .before .before .before .before .before .before .before .before .before .before .before .before .before .before .before .before .before .before .pre .0) (omega (arith, c .before .before .before .before .before .before .before .before .before .before .before .before .loop-test .taken)) (omega (arith, c .before .before .before .before .before .before .before .before .before .before .before .before .before .loop .inv .3, c .before .before .before .before .before .before .before .before .before .before .before .before .before .loop .inv .4)) (c .before .before .before .before .before .before .before .before .before .before .before .before .before .loop .inv .6) (omega arith) (c .before .before .before .before .before .before .before .before .before .make-set .ensures .0) (c .before .before .before .x .given .1) (c .least-next .ensures) (omega arith)))
+    (λ c. let r = c .before .before .before .before .before .before .before .before .before .before .before .before .before .before
+    .before .before .before .before .before .pre .0 .room in omega (
+      arith,
+      r,
+      c .before .before .before .before .before .before .before
+          .before .before .before .before .before .before .loop .inv .2,
+      c .before .before .before .before .before .before .before .before
+          .before .before .before .before .before .loop .inv .4,
+      c .before .before .before .before .before .before .before .before .before
+          .before .before .before .loop-test .taken,
+    ))
+    (λ c. omega (
+      arith,
+      c .before .before .before .before .before .before .before .before .before .before .before .before .loop-test
+          .taken,
+    ))
+    (λ c. (
+      c .before .before .before .before .before .before .before .before .before .make-set .kept .0 ∙ c .before .before .before
+          .before .before .before .before .before .before .before .before .before .before .loop .inv .0,
+      c .before .before .before .before
+          .before .before .before .before .before .make-set .kept .1 .0 ∙ c .before .before .before .before .before .before .before .before
+          .before .before .before .before .before .loop .inv .1,
+      length-set (c .before .before .before .before .before .before .before .before
+          .before .before .before .before .before .loop .list) (c .before .before .before .before .before .before .before .before .before
+          .before .before .before .before .loop .i + 1) _ ∙ c .before .before .before .before .before .before .before .before
+          .before .before
+          .before .before .before .loop .inv .2,
+      omega (
+        arith,
+        c .before .before .before .before .before .before .before .before .before
+            .before .before .before .loop-test .taken,
+      ),
+      c .before .before .before .before .before .before .before .before .before .before .before
+          .before .before .loop .inv .4,
+      c .before .before .before .before .before .before .before .before .before .make-set .ensures .1,
+      write-turns (c .before .before .before .before .before .before .before .before .before .before .before .before .before .before
+          .before .before .before .before .before .pre .0) (omega (
+            arith,
+            c .before .before .before .before .before .before .before .before
+                .before .before .before .before .loop-test .taken,
+          )) (omega (
+            arith,
+            c .before .before .before .before .before .before .before .before
+                .before .before .before .before .before .loop .inv .3,
+            c .before .before .before .before .before .before .before .before .before
+                .before .before .before .before .loop .inv .4,
+          )) (c .before .before .before .before .before .before .before .before .before .before
+          .before .before .before .loop .inv .6) (omega arith) (c .before .before .before .before .before .before .before .before .before
+          .make-set .ensures .0) (c .before .before .before .x .given .1) (c .least-next .ensures) (omega arith),
+    ))
     (λ c. c .before .loop .inv .0)
     (λ c. c .before .loop .inv .1)
     (λ c. c .before .loop .inv .2)
-    (λ c. write-ends (c .before .before .before .before .before .before .before .pre .0) (omega (arith, c .loop-test .left)) (c .before .loop .inv .6)))
+    (λ c. write-ends (c .before .before .before .before .before .before .before .pre .0) (omega (arith, c .loop-test .left)) (c .before
+    .loop .inv .6)))
