@@ -40,21 +40,8 @@ use Rattle.book.proofs.Verdicts.{fit-append, count-append}
 use Rattle.book.specs.Held.{Held}
 use Rattle.book.proofs.Held.{denoted, held-push, held-keeps}
 use Rattle.modal.specs.Chain.{Alike, Base, Moved, Ran}
-use Rattle.modal.proofs.Chain.{
-  alike-cons,
-  alike-sym,
-  alike-trans,
-  held-alike,
-  held-own,
-  base-next,
-  step-pre,
-  Took,
-  ran-step,
-  ran-stop,
-  ran-kept,
-  ran-value,
-  ran-then,
-}
+use Rattle.modal.proofs.Chain.{alike-cons, alike-sym, alike-trans, held-alike, held-own, base-next, step-pre, Took, ran-step, ran-stop}
+use Rattle.modal.proofs.Chain.{ran-kept, ran-value, ran-then}
 use Rattle.modal.specs.Modal.{ModalPre, DiamondPost}
 use Rattle.modal.proofs.Laws.{kept-lent}
 use Rattle.layers.specs.Next.{NextPre, uncounted}
