@@ -20,44 +20,47 @@
  * In a set's formula true means V, NOT means V without the set, a bit its states in V; nu starts from V, and next states outside V do not exist. A
  * relation holds pairs of states of V. V is kept by every refusal, and its rows count wherever rows are counted.
  *
- * ACCOUNTS. Several callers may share a table under limits of their own. fresh, set and the calls of games are lent a list of 1 to 8 accounts; every
- * set names its account by its place in the list, counted from 0, and so do force, which is a set, and react, which only reads the list. An answered
- * fresh sets all tallies to 0; an answered set adds its rounds to its own account's tally and changes nothing else in the list. So, where each call
- * gets the list as the one before left it, a tally counts the rounds of its account's answered sets since fresh. Where nothing is to be limited, one
- * account whose limits are UINT32_MAX is enough.
+ * ACCOUNTS. Several callers may share a table under limits of their own. fresh, set and the calls of games are lent a list of 1 to 8
+ * accounts; every set names its account by its place in the list, counted from 0, and so do force, which is a set, and react, which only
+ * reads the list. An answered fresh sets all tallies to 0; an answered set adds its rounds to its own account's tally and changes nothing
+ * else in the list. So, where each call gets the list as the one before left it, a tally counts the rounds of its account's answered sets
+ * since fresh. Where nothing is to be limited, one account whose limits are UINT32_MAX is enough.
  *
- * GAMES. A guest and a machine move in turn: the guest presses, by a pair (now, next) of one relation, and the machine reacts, by a pair of another
- * that begins where the press has led to. kudzuclamp_force finds the states from which the machine can force the goal, a set in a register, whatever
- * the guest presses (its attractor in a reachability game); kudzuclamp_react what it answers a press with. The goal counts only where the guest is to
- * press. From every state outside that set the guest has a way to stay outside for good, or no move.
+ * GAMES. A guest and a machine move in turn: the guest presses, by a pair (now, next) of one relation, and the machine reacts, by a pair of
+ * another that begins where the press has led to. kudzuclamp_force finds the states from which the machine can force the goal, a set in a
+ * register, whatever the guest presses (the goal's attractor in a reachability game); kudzuclamp_react finds what it answers a press with.
+ * The goal counts only where the guest is to press: a press that leads through it has not come there. From every state outside the set the
+ * guest has a way to stay outside for good, or no move.
  *
- * REFUSALS. Each function returns 0 where it answers, else the number of its refusal. Checks 1 to 7 run in the order of their numbers, 4 to 7
- * each over the whole formula, and KUDZUCLAMP_VACUOUS (12) so directly after 5; KUDZUCLAMP_OCCUPIED (13) is checked directly after 2,
- * KUDZUCLAMP_UNLISTED (14) directly after 3, in fresh after 1; the work words of kudzuclamp_cheapest (1) are checked directly after 2. Of 8 and 9 the
- * one that evaluation meets first is returned; KUDZUCLAMP_NO_RUN (10) and then KUDZUCLAMP_SHORT (11) come after 8, KUDZUCLAMP_NO_ANSWER (15) after 8
- * and 9. A refused call writes 0 into every answer, and no refusal changes an account or a list of states or relations. KUDZUCLAMP_FULL,
- * KUDZUCLAMP_SPENT, KUDZUCLAMP_NO_RUN, KUDZUCLAMP_SHORT and KUDZUCLAMP_NO_ANSWER keep V, registers, relations and the rows that these need; every
- * other refusal keeps all words.
+ * REFUSALS. Each function returns 0 where it answers, else the number of its refusal. Checks 1 to 7 run in the order of their numbers, 4 to
+ * 7 each over the whole formula, and KUDZUCLAMP_VACUOUS (12) so directly after 5; KUDZUCLAMP_OCCUPIED (13) is checked directly after 2,
+ * KUDZUCLAMP_UNLISTED (14) directly after 3, in fresh after 1; the work words of kudzuclamp_cheapest (1) are checked directly after 2. Of 8
+ * and 9 the one that evaluation meets first is returned; KUDZUCLAMP_NO_RUN (10) and then KUDZUCLAMP_SHORT (11) come after 8,
+ * KUDZUCLAMP_NO_ANSWER (15) after 8 and 9. A refused call writes 0 into every answer, and no refusal changes an account or a list of states
+ * or relations. KUDZUCLAMP_FULL, KUDZUCLAMP_SPENT, KUDZUCLAMP_NO_RUN, KUDZUCLAMP_SHORT and KUDZUCLAMP_NO_ANSWER keep V, registers,
+ * relations and the rows that these need; every other refusal keeps all words.
  *
- * PEAK. Where relation, set and force are answered they also return their peak: the largest number of rows that a step of the call needed, of its
- * result and of all that was live at it, V and what registers and relations hold included; 0 where the formula takes no step. It does not depend on
- * N. Exactly where the peak would pass N, or for a set or force the lesser of N and its account's row limit, the call is refused with KUDZUCLAMP_FULL
- * instead. So to choose N, make the room's calls once on a table that is large enough: the greatest of their peaks is the least N with which the same
- * calls are all answered.
+ * PEAK. Where relation, set and force are answered they also return their peak: the largest number of rows that a step of the call needed,
+ * of its result and of all that was live at it, V and what registers and relations hold included; 0 where the formula takes no step. It
+ * does not depend on N. Exactly where the peak would pass N, or for a set or force the lesser of N and its account's row limit, the call is
+ * refused with KUDZUCLAMP_FULL instead. So to choose N, make the room's calls once on a table that is large enough: the greatest of their
+ * peaks is the least N with which the same calls are all answered.
  *
  * STACK. A call takes less than 160 KB of it, and more than 120 KB only on words whose lookup chains are longer than 32 rows (seen: 111 KB, a formula
  * of the greatest depth at n = 16). Where V is not every state and more than 2,048 rows are used, the check of the table takes up to 560 KB (seen: 522
- * KB). Measured on the compiled code, not proved.
+ * KB). kudzuclamp_cheapest takes 59 KB more than this, with all that its search notes (seen: 196 KB on such chains, 581 KB). Measured on the compiled
+ * code, not proved.
  *
- * TIME. No contract speaks of it. Every call first checks the whole table: some 50 instructions for each used row, and more where V is not every state
- * (2 ms for 28,736 rows of an ordinary table; 0.6 s for the worst table found, which was made for it). So where many records are at hand, give them to
- * one kudzuclamp_play, which checks once. R and an account's round limit bound the rounds of a set, and no more than these: a formula without binders
- * has no round, and its steps may still take long in a large table.
+ * TIME. No contract speaks of it. Every call first checks the whole table: some 50 instructions for each used row, and more where V is not
+ * every state (2 ms for 28,736 rows of an ordinary table; 0.6 s for the worst table found, which was made for it). So where many records
+ * are at hand, give them to one kudzuclamp_play, which checks once. R and an account's round limit bound the rounds of a set, force or
+ * react, and no more than these: a formula without binders has no round, and its steps may still take long in a large table.
  *
- * POINTERS. A slice is a pointer and its number of elements. No pointer may be null, not even with 0 elements. Words, accounts and lists that are not
- * const, and each answer, must overlap nothing else that is lent to the call, and no other thread may use them meanwhile; nor may one write the rest.
- * Words, accounts and answers are aligned as their types are, to 4 bytes, lists of 16-bit numbers to 2, the work words of kudzuclamp_cheapest and
- * *count of kudzuclamp_play to 8; bytes stand anywhere. So words that come from a byte buffer or a file are copied into an array of uint32_t first.
+ * POINTERS. A slice is a pointer and its number of elements. No pointer may be null, not even with 0 elements. Words, accounts and lists
+ * that are not const, and each answer, must overlap nothing else that is lent to the call, and no other thread may use them meanwhile; nor
+ * may one write the rest. Words, accounts and answers are aligned as their types are, to 4 bytes, lists of 16-bit numbers to 2, the work
+ * words of kudzuclamp_cheapest and *count of kudzuclamp_play to 8; bytes stand anywhere. So words that come from a byte buffer or a file
+ * are copied into an array of uint32_t first.
  */
 #ifndef KUDZUCLAMP_H
 #define KUDZUCLAMP_H
@@ -99,8 +102,9 @@ extern "C" {
 #define KUDZUCLAMP_MAX_STATES 1024
 
 /*
- * An account. A set under it may need at most the lesser of N and `rows` rows, counted with all that registers and relations keep, and take at
- * most the lesser of R and `rounds` rounds. `tally` counts rounds. Any values may be lent.
+ * An account. A set, force or react under it may need at most the lesser of N and `rows` rows, counted with all that registers and
+ * relations keep, and take at most the lesser of R and `rounds` rounds. `tally` counts the rounds of sets and force. Any values may be
+ * lent.
  */
 struct kudzuclamp_account {
     uint32_t rows;
@@ -351,8 +355,9 @@ uint32_t kudzuclamp_shortest(uint32_t *words, size_t words_len, uint16_t *list, 
  * least 2^n numbers of 64 bits; what the first 2^n hold afterwards is free, but 1, 2, 3 and 7 keep them, and later ones are never written. The table is
  * only read, and no row is made. It returns 0, 1 where there are not 8 prices, 2, 1 where there are too few work words, 3, 7, KUDZUCLAMP_NO_RUN, or
  * KUDZUCLAMP_SHORT where one of the lists is too short.
- * At n = 16 a room of presses takes 1 ms and a run of all states 25 ms; a relation that leads from most states to many others takes up to 0.6 s, and
- * the worst found, made for it, half a minute, so that eight take minutes (docs/BENCHMARKS.md). No limit of rounds bounds it.
+ * At n = 16 a room of presses takes 1 ms and a run of all states 22 ms; a relation that leads from most states to many others takes up to 0.1 s. The
+ * worst found, relations that were made for it beside a counter, take up to 3 s for one and 13 s for seven (docs/BENCHMARKS.md). No limit of rounds
+ * bounds it.
  */
 KUDZUCLAMP_USE_RESULT
 uint32_t kudzuclamp_cheapest(const uint32_t *words, size_t words_len, const uint8_t *prices, size_t prices_len, uint64_t *work, size_t work_len,
@@ -360,30 +365,39 @@ uint32_t kudzuclamp_cheapest(const uint32_t *words, size_t words_len, const uint
                              uint32_t *total, uint32_t *charge, uint32_t *count);
 
 /*
- * Register r then holds the states from which the machine can force the goal: those of the set in register `goal`, and those where the guest has a
- * move of relation `guest` and after every such move some move of relation `machine` leads back into the set; the least such set. So from each of
- * them the machine comes to the goal whatever the guest presses; a state outside the goal where the guest has no move is none of them. The call is a
- * set call on mu P (goal or (box guest of diamond machine of P, and diamond guest of true)), the formula 70, 04, 40 + goal, 03, 60 + guest,
- * 68 + machine, 30, 68 + guest, 01: its account at `place`, `most` (R), tally, *node, *rounds and *peak are as there. The target r may be the goal's
- * register, but then the goal is gone, and kudzuclamp_react has no answers into it; one relation may be both sides'. It returns 0, 2, 3 (r, goal,
- * guest or machine), KUDZUCLAMP_UNLISTED, 7, 8 or 9.
+ * Register r then holds the states from which the machine can force the goal: those of the set in register `goal`, and those where the
+ * guest has a move of relation `guest` and after every such move some move of relation `machine` leads back into the set; the least such
+ * set. So from each of them the machine can come to the goal, whatever the guest presses. A state outside the goal where the guest has no
+ * move, or a move after which the machine has none, is not one of them. It is a set call: `place`, `most` (R), the tally, *node, *rounds
+ * and *peak are those of kudzuclamp_set on the formula mu P (goal or (box guest of diamond machine of P, and diamond guest of true)),
+ *
+ *   KUDZUCLAMP_MU(0), KUDZUCLAMP_OR, KUDZUCLAMP_REGISTER(goal), KUDZUCLAMP_AND, KUDZUCLAMP_BOX(guest), KUDZUCLAMP_DIAMOND(machine),
+ *   KUDZUCLAMP_VARIABLE(0), KUDZUCLAMP_DIAMOND(guest), KUDZUCLAMP_TRUE
+ *
+ * so that 2^n + 1 rounds are enough. One relation may be both sides'. r may be `goal`: then the set takes the goal's place, and
+ * kudzuclamp_react about it gives KUDZUCLAMP_NO_ANSWER for every press. It returns 0, 2, 3 (r, goal, guest or machine),
+ * KUDZUCLAMP_UNLISTED, 7, 8 or 9.
  */
 KUDZUCLAMP_USE_RESULT
-uint32_t kudzuclamp_force(uint32_t *words, size_t words_len, struct kudzuclamp_account *accounts, size_t accounts_len, uint32_t place, uint32_t r,
-                          uint32_t most, uint32_t goal, uint32_t guest, uint32_t machine, uint32_t *node, uint32_t *rounds, uint32_t *peak);
+uint32_t kudzuclamp_force(uint32_t *words, size_t words_len, struct kudzuclamp_account *accounts, size_t accounts_len, uint32_t place,
+                          uint32_t r, uint32_t most, uint32_t goal, uint32_t guest, uint32_t machine, uint32_t *node, uint32_t *rounds,
+                          uint32_t *peak);
 
 /*
- * *answer is the state to which the machine moves after the guest, in `state`, has pressed to `press`. The rounds of kudzuclamp_force are made again;
- * each state of its set enters in one of them, those of the goal in the first. The answer is the least state to which a move of relation `machine`
- * leads from `press` and which enters in an earlier round than `state`. So whoever answers so, press by press, comes to the goal in fewer turns than
- * the round in which the first state enters. Nothing is stored, and the accounts are only read: the limits of the one at `place` and `most` (R) hold
- * as for kudzuclamp_force, for the round that gives the same set again too, and each answer takes as long as that call. It returns 0, 2, 3 (goal,
- * guest, machine, state or press), KUDZUCLAMP_UNLISTED, 7, 8, 9, or KUDZUCLAMP_NO_ANSWER where the state is in the goal or outside the set, or the
- * press is no guest move from it.
+ * *answer is the state to which the machine moves after the guest, in `state`, has pressed; `press` is the state that the press has led to.
+ * The rounds of kudzuclamp_force are made again, whether or not it was called: each state of its set enters in one of them, those of the
+ * goal in the first. The answer is the least state to which a move of relation `machine` leads from `press` and which enters in an earlier
+ * round than `state`. So whoever answers so, press by press, comes to the goal in fewer turns than the round in which the play's first
+ * state enters. Nothing is stored, no tally grows, and the accounts are only read: the limits of the one at `place` and `most` (R) hold as
+ * for kudzuclamp_force, for the last round too, which gives the same set again. It takes as long as that call, and up to 2^n states are
+ * looked at for the answer besides (some milliseconds at n = 16, at worst). It returns 0, 2, 3 (goal, guest, machine, state or press),
+ * KUDZUCLAMP_UNLISTED, 7, 8, 9, or KUDZUCLAMP_NO_ANSWER where the state is in the goal or outside the set, or the press is no guest move
+ * from it.
  */
 KUDZUCLAMP_USE_RESULT
 uint32_t kudzuclamp_react(uint32_t *words, size_t words_len, const struct kudzuclamp_account *accounts, size_t accounts_len, uint32_t place,
-                          uint32_t most, uint32_t goal, uint32_t guest, uint32_t machine, uint32_t state, uint32_t press, uint32_t *answer);
+                          uint32_t most, uint32_t goal, uint32_t guest, uint32_t machine, uint32_t state, uint32_t press,
+                          uint32_t *answer);
 
 /*
  * Writes the states of a run of relation t that fits two logs to the first places of the list: of all such runs the one with the least first state,

@@ -1,7 +1,7 @@
 // coins N [WORD...]: cheapest runs (Slip 13) at N bits, of the cases whose name has one of the words, or of all. The call beside Dijkstra's search
 // over explicit edges, with a binary heap; its edges are made before, and not timed, and it is left out where there are more than 2^26. Both must
 // tell the same total and number of states, and the run that is written must be one. Thread times in ms.
-#include "list.h"
+#include "formulas.h"
 #include "own.h"
 #include <algorithm>
 #include <cstdio>
@@ -10,11 +10,11 @@
 #include <ctime>
 #include <functional>
 #include <queue>
+#include <random>
 #include <string>
 #include <tuple>
 #include <vector>
 
-using Bytes = std::vector<uint8_t>;
 using Holds = std::function<bool(u32, u32)>;
 using Before = std::function<void(u32, std::vector<u32> &)>;
 using Cost = std::pair<u64, u32>;
@@ -22,45 +22,11 @@ using Cost = std::pair<u64, u32>;
 static const u64 MOST_EDGES = u64(1) << 26;
 static u32 n, all, high;
 
-static u64 now() {
-    timespec t;
-    clock_gettime(CLOCK_THREAD_CPUTIME_ID, &t);
-    return t.tv_sec * 1000000000ull + t.tv_nsec;
-}
-
-static void check(u32 number) {
-    if (number == 0) return;
-    fprintf(stderr, "refused with %u\n", number);
-    exit(1);
-}
-
 // ---- formulas
 
-static Bytes join(u32 word, const Bytes &f, const Bytes &g = {}) {
-    Bytes bytes = {uint8_t(word)};
-    bytes.insert(bytes.end(), f.begin(), f.end());
-    bytes.insert(bytes.end(), g.begin(), g.end());
-    return bytes;
-}
+static Bytes each(const std::function<Bytes(u32)> &part) { return each(0, n, part); }
 
-static Bytes no(const Bytes &f) { return join(2, f); }
-static Bytes both(const Bytes &f, const Bytes &g) { return join(3, f, g); }
-static Bytes either(const Bytes &f, const Bytes &g) { return join(4, f, g); }
-static Bytes here(u32 p) { return {uint8_t(0x10 + p)}; }
-static Bytes there(u32 p) { return {uint8_t(0x20 + p)}; }
-static Bytes same(const Bytes &f, const Bytes &g) { return either(both(f, g), no(either(f, g))); }
-static Bytes turns(u32 p) { return no(same(here(p), there(p))); }
-
-// The AND of what a function says of each bit.
-static Bytes each(const std::function<Bytes(u32)> &part) {
-    Bytes body = part(0);
-    for (u32 p = 1; p < n; p++) body = both(part(p), body);
-    return body;
-}
-
-static Bytes state(u32 s) {
-    return each([s](u32 p) { return s >> p & 1 ? here(p) : no(here(p)); });
-}
+static Bytes state(u32 s) { return state(n, s); }
 
 // The parity of bits from a byte on.
 static Bytes parity(u32 first, u32 count) {
@@ -78,14 +44,10 @@ struct Relation {
 
 static bool odd(u32 s) { return __builtin_popcount(s) % 2; }
 
-// The number after the current one, or the one before it: a bit turns over where the bit below turns from 1, or from 0.
+// The number after the current one, or the one before it.
 static Relation counter(bool up) {
-    auto part = [up](u32 p) {
-        if (p == 0) return turns(0);
-        return same(turns(p), both(turns(p - 1), up ? here(p - 1) : no(here(p - 1))));
-    };
     u32 step = up ? 1 : all - 1;
-    return {each(part), [step](u32 s, u32 t) { return t == ((s + step) & (all - 1)); },
+    return {counts(n, up), [step](u32 s, u32 t) { return t == ((s + step) & (all - 1)); },
             [step](u32 t, std::vector<u32> &list) { list.push_back((t - step) & (all - 1)); }};
 }
 
@@ -196,6 +158,77 @@ static Relation odd_pairs() {
     return {both(here(high), sum(0, parts.size())), holds, {}};
 }
 
+// How many bits are below the six highest, or below the upper half.
+static u32 lower() { return n > 7 ? n - 6 : n / 2; }
+
+static bool is_top(u32 s) { return s >> lower() == (all - 1) >> lower(); }
+
+// Not all of the six highest bits are on.
+static Bytes no_top() {
+    Bytes top = here(high);
+    for (u32 p = lower(); p < high; p++) top = both(here(p), top);
+    return no(top);
+}
+
+// The counter up, from such states: each has a mark of its own, and the others none.
+static Relation short_counter() {
+    return {both(counter(true).formula, no_top()), [](u32 s, u32 t) { return !is_top(s) && t == s + 1; },
+            [](u32 t, std::vector<u32> &list) {
+                if (t > 0 && !is_top(t - 1)) list.push_back(t - 1);
+            }};
+}
+
+// A sum of terms: a low bit of now and three of the six highest bits of now or next, on or off, as numbers by a rule choose them.
+struct Sum {
+    Bytes formula = {0};
+    std::vector<std::pair<u32, u32>> terms;
+
+    Sum(u32 count, std::minstd_rand &numbers) {
+        for (u32 i = 0; i < count; i++) {
+            u32 bits = 0, on = 0;
+            Bytes term = literal(i % lower(), numbers() % 2, &bits, &on);
+            while (__builtin_popcount(bits) < 4) {
+                u32 p = lower() + numbers() % (n - lower()), side = numbers() % 10 < 3 ? 16 : 0;
+                if (!(bits >> (p + side) & 1)) term = both(literal(p + side, numbers() % 2, &bits, &on), term);
+            }
+            formula = i == 0 ? term : either(term, formula);
+            terms.push_back({bits, on});
+        }
+    }
+
+    static Bytes literal(u32 p, bool is_on, u32 *bits, u32 *on) {
+        Bytes bit = p < 16 ? here(p) : there(p - 16);
+        *bits |= 1u << p;
+        *on |= is_on << p;
+        return is_on ? bit : no(bit);
+    }
+
+    bool holds(u32 s, u32 t) const {
+        for (auto [bits, on] : terms)
+            if (((s | t << 16) & bits) == on) return true;
+        return false;
+    }
+};
+
+// From such states: two sums agree, or of the low bits all but bit r are on, so that each r has a root of its own. The arrows differ for each choice of
+// the low bits, and each leads to a diagram of its own.
+static Relation sums(u32 r) {
+    std::minstd_rand numbers(18);
+    Sum a(20, numbers), b(20, numbers);
+    u32 low = (1u << lower()) - 1, kept = low & ~(1u << r);
+    Bytes one = kept & 1 ? here(0) : no(here(0));
+    for (u32 p = 1; p < lower(); p++) one = both(kept >> p & 1 ? here(p) : no(here(p)), one);
+    return {both(no_top(), either(one, same(a.formula, b.formula))),
+            [=](u32 s, u32 t) { return !is_top(s) && ((s & low) == kept || a.holds(s, t) == b.holds(s, t)); }, {}};
+}
+
+// From such states: the parity of the low bits is odd, and a high bit of now or one of next is on.
+static Relation low_parity(u32 r) {
+    u32 upper = n - lower(), p = lower() + r % upper, q = lower() + r / upper % upper;
+    return {both(no_top(), both(parity(0x10, lower()), either(here(p), there(q)))),
+            [=](u32 s, u32 t) { return !is_top(s) && odd(s & ((1u << lower()) - 1)) && ((s >> p & 1) || (t >> q & 1)); }, {}};
+}
+
 // ---- the search over explicit edges
 
 // The states before each state; false where they are too many.
@@ -298,11 +331,6 @@ struct Hall {
         set(1, asked.goal);
     }
 
-    static Bytes framed(const Bytes &body) {
-        size_t length = body.size() + 1;
-        return join(length >> 8, join(length & 255, join(1, body)));
-    }
-
     void set(u32 r, const Set &set) {
         Bytes bytes = framed(set.formula);
         u32 node, rounds, peak;
@@ -365,14 +393,20 @@ static void time_case(const Case &asked) {
 }
 
 static std::vector<Case> cases() {
-    u32 last = all - 1, half = last >> 1;
+    u32 last = all - 1, half = last >> 1, below_top = last - (1u << lower());
     Bytes mixed = {3, 5, 7, 0, 11, 13, 0, 255}, dear = {1, 255, 1, 1, 1, 1, 1, 1}, ones = {1, 1, 1, 1, 1, 1, 1, 1}, rise = {1, 2, 3, 4, 5, 6, 7, 1};
-    std::vector<Relation> presses, alike, seven, eight;
+    Bytes free_counter = {0, 255, 255, 255, 255, 255, 255, 255};
+    std::vector<Relation> presses, alike, seven, eight, agreeing = {short_counter()}, odd_low = agreeing, falls = {counter(true)};
+    for (const Relation &relation : {low_with_two(false, false), low_with_two(true, false), low_with_two(false, true), low_with_two(true, true), odd_pairs(),
+                                     here_parity(), here_and_parity()})
+        falls.push_back(falling(relation));
     for (u32 r = 0; r < 8; r++) {
         presses.push_back(press(r % n));
         alike.push_back(one_and_one(high - r % 4, r % n));
         seven.push_back(r < 7 ? there_bit(high) : counter(false));
         eight.push_back(here_and_parity());
+        if (r > 0) agreeing.push_back(sums(r));
+        if (r > 0) odd_low.push_back(low_parity(r));
     }
     return {
         {"counter, run of all states", {counter(true)}, ones, one(0), one(last)},
@@ -394,8 +428,15 @@ static std::vector<Case> cases() {
         {"a low bit turns with two high ones; no run", {low_with_two(true, false)}, mixed, nothing(), one(last)},
         {"the same and parity of next high bits; no run", {low_with_two(true, true)}, mixed, nothing(), one(last ^ 1u << high)},
         {"counter; a low bit with two high ones, falling; no run", {counter(true), falling(low_with_two(false, false))}, ones, nothing(), one(last)},
+        {"counter; a low bit turns with two high ones, falling; no run", {counter(true), falling(low_with_two(true, false))}, ones, nothing(), one(last)},
+        {"counter; odd pairs, falling; no run", {counter(true), falling(odd_pairs())}, ones, nothing(), one(last)},
+        {"counter; seven of these and others, falling; no run", falls, ones, nothing(), one(last)},
         {"odd pairs; no run", {odd_pairs()}, mixed, nothing(), bit(high, true)},
         {"eight of odd pairs; no run", std::vector<Relation>(8, odd_pairs()), mixed, nothing(), bit(high, true)},
+        {"short counter; parity of the low bits; no run", {short_counter(), low_parity(1)}, free_counter, nothing(), one(below_top)},
+        {"short counter; seven of parity of the low bits; no run", odd_low, free_counter, nothing(), one(below_top)},
+        {"short counter; two sums agree; no run", {short_counter(), sums(1)}, free_counter, nothing(), one(below_top)},
+        {"short counter; seven of two sums agree; no run", agreeing, free_counter, nothing(), one(below_top)},
     };
 }
 

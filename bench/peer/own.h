@@ -20,6 +20,10 @@ uint32_t kudzuclamp_shortest(uint32_t *words, size_t size, uint16_t *list, size_
 uint32_t kudzuclamp_cheapest(const uint32_t *words, size_t size, const uint8_t *prices, size_t count, uint64_t *work, size_t work_room,
                              uint16_t *states, size_t room, uint8_t *relations, size_t relations_room, uint32_t a, uint32_t b, uint32_t *total,
                              uint32_t *charge, uint32_t *states_count);
+uint32_t kudzuclamp_force(uint32_t *words, size_t size, Account *accounts, size_t count, uint32_t place, uint32_t r, uint32_t most,
+                          uint32_t goal, uint32_t guest, uint32_t machine, uint32_t *node, uint32_t *rounds, uint32_t *peak);
+uint32_t kudzuclamp_react(uint32_t *words, size_t size, const Account *accounts, size_t count, uint32_t place, uint32_t most, uint32_t goal,
+                          uint32_t guest, uint32_t machine, uint32_t state, uint32_t press, uint32_t *answer);
 uint32_t kudzuclamp_logged(uint32_t *words, size_t size, uint16_t *list, size_t room, uint32_t t, const uint16_t *one, size_t one_length,
                            const uint16_t *two, size_t two_length);
 uint32_t kudzuclamp_play(uint32_t *words, size_t size, const uint8_t *bytes, size_t length, uint32_t *list, size_t room, size_t *count);

@@ -1,7 +1,7 @@
 /*
- * A bar at closing time. A guest presses buttons on a phone, and after each press the machine reacts once. From which states can the machine see to
- * it that the room comes to be closed, locked with microphone and echo off, whatever the guest presses? How does it answer the presses of an evening?
- * Asked of the machine as it was delivered, and of one whose lock turns the echo off.
+ * A bar at closing time. A guest presses buttons on a phone, and after each press the machine reacts once. From which states can the
+ * machine see to it that the room comes to be closed, locked with microphone and echo off, whatever the guest presses? How does it answer
+ * the presses of an evening? Asked of the machine as it was delivered, and of one whose lock turns the echo off.
  */
 #include "kudzuclamp.h"
 
@@ -42,8 +42,11 @@ static void moves(const char *what, uint32_t t, const uint8_t *formula, size_t c
 #define ECHO_OFF KUDZUCLAMP_AND, KUDZUCLAMP_NOT, KUDZUCLAMP_NEXT(ECHO), KEEP_TWO(MIC, LOCK)
 #define MIC_OFF_LOCKED KUDZUCLAMP_AND, KUDZUCLAMP_NOW(LOCK), KUDZUCLAMP_AND, KUDZUCLAMP_NOT, KUDZUCLAMP_NEXT(MIC), KEEP_TWO(ECHO, LOCK)
 
-/* The phone, until the room is locked, turns the microphone over, and the echo while the microphone is open; it can always be refreshed, which does
- * nothing. The machine turns the echo off; or the microphone, once the room is locked; or locks it, while the echo is off; or does nothing. */
+/*
+ * The phone, until the room is locked, turns the microphone over, and the echo while the microphone is open; it can always be refreshed,
+ * which does nothing. The machine turns the echo off; or the microphone, once the room is locked; or locks it, while the echo is off; or
+ * does nothing.
+ */
 static void make_bar(void)
 {
     static const uint8_t phone[] = {
@@ -59,7 +62,9 @@ static void make_bar(void)
         KUDZUCLAMP_OR, NOTHING, KUDZUCLAMP_OR, ECHO_OFF, KUDZUCLAMP_OR, MIC_OFF_LOCKED,
         KUDZUCLAMP_AND, KUDZUCLAMP_NOT, KUDZUCLAMP_NEXT(ECHO), KUDZUCLAMP_AND, KUDZUCLAMP_NEXT(LOCK), KUDZUCLAMP_KEEPS(MIC),
     };
-    static const uint8_t closed[] = {KUDZUCLAMP_AND, KUDZUCLAMP_NOW(LOCK), KUDZUCLAMP_NOT, KUDZUCLAMP_OR, KUDZUCLAMP_NOW(MIC), KUDZUCLAMP_NOW(ECHO)};
+    static const uint8_t closed[] = {
+        KUDZUCLAMP_AND, KUDZUCLAMP_NOW(LOCK), KUDZUCLAMP_NOT, KUDZUCLAMP_OR, KUDZUCLAMP_NOW(MIC), KUDZUCLAMP_NOW(ECHO),
+    };
     uint8_t bytes[KUDZUCLAMP_FRAMED(sizeof closed)];
     size_t length = kudzuclamp_frame(bytes, sizeof bytes, closed, sizeof closed);
     uint32_t node, rounds, peak;
@@ -91,7 +96,10 @@ static void print_state(const char *what, unsigned state)
     printf(more ? "\n" : "all off\n");
 }
 
-/* Plays the guest's presses, each by the bit that it turns over, BITS for a refresh, until the room is closed. */
+/*
+ * Plays the guest's presses, each by the bit that it turns over, BITS for a refresh, until the room is closed. It begins in a state from
+ * which the machine can force that, and every answer is another one; so where there is no answer the phone has no such press.
+ */
 static void play(uint32_t machine, uint32_t state, const int *presses, int count)
 {
     int k;
@@ -99,7 +107,8 @@ static void play(uint32_t machine, uint32_t state, const int *presses, int count
     for (k = 0; k < count && !has(CLOSED, state); k++) {
         const char *name = presses[k] == MIC ? "MIC" : presses[k] == ECHO ? "ECHO" : "REFRESH";
         uint32_t press = presses[k] < BITS ? state ^ 1u << presses[k] : state;
-        uint32_t next, number = kudzuclamp_react(words, words_len, accounts, 1, 0, UINT32_MAX, CLOSED, PHONE, machine, state, press, &next);
+        uint32_t next, number;
+        number = kudzuclamp_react(words, words_len, accounts, 1, 0, UINT32_MAX, CLOSED, PHONE, machine, state, press, &next);
         if (number == KUDZUCLAMP_NO_ANSWER) {
             printf("  %-10sthe phone does not take it\n", name);
             continue;
@@ -112,11 +121,12 @@ static void play(uint32_t machine, uint32_t state, const int *presses, int count
 
 static void ask(const char *what, uint32_t machine, uint32_t start, const int *presses, int count)
 {
-    uint32_t node, rounds, peak, states, state;
+    uint32_t node, rounds, turns, peak, states, state;
     must(what, kudzuclamp_force(words, words_len, accounts, 1, 0, FORCED, UINT32_MAX, CLOSED, PHONE, machine, &node, &rounds, &peak));
     must(what, kudzuclamp_count(words, words_len, FORCED, &states));
-    /* The last round gives the same set again, and in the first one only closed states enter. */
-    printf("%s: closed from %u of %u states, in at most %u turns\n", what, (unsigned)states, (unsigned)STATES, (unsigned)rounds - 2);
+    /* Closed states enter in the first round, and the last one gives the same set again; it is the only one where no state is closed. */
+    turns = rounds > 2 ? rounds - 2 : 0;
+    printf("%s: closed from %u of %u states, in at most %u turns\n", what, (unsigned)states, (unsigned)STATES, (unsigned)turns);
     for (state = 0; state < STATES; state++) {
         if (!has(FORCED, state)) {
             print_state("not from", state);

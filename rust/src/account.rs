@@ -7,10 +7,10 @@ pub const MAX_ACCOUNTS: usize = 8;
 ///
 /// Several callers may share a table, each under limits of its own. A list of 1 to 8 accounts is lent
 /// to [`Table::fresh`](crate::Table::fresh), which sets the tallies to 0, and to every
-/// [`Table::set`](crate::Table::set) and [`Table::force`](crate::Table::force), which names its
+/// [`Table::set`](crate::Table::set) and [`Table::force`](crate::Table::force), which name their
 /// account by its place in the list. An answered one adds its rounds to its own account's tally and
 /// changes nothing else in the list; no refusal changes an account.
-/// [`Table::react`](crate::Table::react) only reads the list.
+/// [`Table::react`](crate::Table::react) names its account too, and only reads the list.
 ///
 /// ```
 /// use kudzuclamp::{Account, Formula, Refusal, Refused, Table, Target};

@@ -287,9 +287,9 @@ impl<W: AsRef<[u32]> + AsMut<[u32]>> Table<W> {
     /// some machine move leads back into the set; the least such set (the goal's attractor). From every
     /// other state the guest has a way to stay outside for good, or no move.
     ///
-    /// It is a [`Table::set`] of `mu P0. goal | [guest] <machine> P0 & <guest> 1`, with its account, its
-    /// rounds and its peak. The target may be the goal's own register; then the goal is gone, and
-    /// [`Table::react`] has no answers into it.
+    /// It is a [`Table::set`] of `mu P0. goal | [guest] <machine> P0 & <guest> true`, with its account, its
+    /// rounds and its peak. The target may be the goal's own register; then the set takes the goal's
+    /// place, and [`Table::react`] about it gives [`Refusal::NoAnswer`] for every press.
     ///
     /// # Errors
     ///
@@ -331,8 +331,9 @@ impl<W: AsRef<[u32]> + AsMut<[u32]>> Table<W> {
     /// machine move leads to from `press` and that enters the set of [`Table::force`] in an earlier
     /// round than `state`. The press is named by the state that it leads to.
     ///
-    /// The rounds are made again under the strategy's limits; nothing is stored, no register or
-    /// relation changes, and the accounts are only read.
+    /// The rounds are made again under the strategy's limits, so it takes about as long as
+    /// [`Table::force`], which need not have been called; nothing is stored, no register or relation
+    /// changes, and the accounts are only read.
     ///
     /// # Errors
     ///

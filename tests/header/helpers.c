@@ -93,9 +93,42 @@ static void calls(void)
     HOLDS(kudzuclamp_check(words, words_len, 0, bytes, 0) == KUDZUCLAMP_SYNTAX);
 }
 
+/* force is a set of the formula that the header names; with the goal's register as its target no press has an answer. */
+static void games(void)
+{
+    enum { GOAL = 30, GUEST = 6, MACHINE = 5, TARGET = 2, ROWS = 50 };
+    static const uint8_t press[] = {KUDZUCLAMP_TURNS(0)}, answer[] = {KUDZUCLAMP_NEXT(0)}, goal[] = {KUDZUCLAMP_NOW(0)};
+    static const uint8_t formula[] = {
+        KUDZUCLAMP_MU(0), KUDZUCLAMP_OR, KUDZUCLAMP_REGISTER(GOAL), KUDZUCLAMP_AND, KUDZUCLAMP_BOX(GUEST), KUDZUCLAMP_DIAMOND(MACHINE),
+        KUDZUCLAMP_VARIABLE(0), KUDZUCLAMP_DIAMOND(GUEST), KUDZUCLAMP_TRUE,
+    };
+    static uint32_t words[KUDZUCLAMP_WORDS(ROWS)], other[KUDZUCLAMP_WORDS(ROWS)];
+    const size_t length = sizeof words / sizeof *words;
+    struct kudzuclamp_account account = {UINT32_MAX, UINT32_MAX, 0};
+    uint8_t bytes[KUDZUCLAMP_FRAMED(sizeof press)];
+    uint32_t node, rounds, peak, by_set[3], state, moved;
+    size_t count = kudzuclamp_frame(bytes, sizeof bytes, press, sizeof press);
+    HOLDS(kudzuclamp_fresh(words, length, &account, 1, 1, ROWS) == 0);
+    HOLDS(kudzuclamp_relation(words, length, GUEST, bytes, count, &peak) == 0);
+    count = kudzuclamp_frame(bytes, sizeof bytes, answer, sizeof answer);
+    HOLDS(kudzuclamp_relation(words, length, MACHINE, bytes, count, &peak) == 0);
+    count = kudzuclamp_frame(bytes, sizeof bytes, goal, sizeof goal);
+    HOLDS(kudzuclamp_set(words, length, &account, 1, 0, GOAL, 0, bytes, count, &node, &rounds, &peak) == 0);
+    memcpy(other, words, sizeof words);
+    count = kudzuclamp_frame(bytes, sizeof bytes, formula, sizeof formula);
+    HOLDS(kudzuclamp_set(other, length, &account, 1, 0, TARGET, 3, bytes, count, &by_set[0], &by_set[1], &by_set[2]) == 0);
+    HOLDS(kudzuclamp_force(words, length, &account, 1, 0, TARGET, 3, GOAL, GUEST, MACHINE, &node, &rounds, &peak) == 0);
+    HOLDS(node == 1 && rounds == 3 && node == by_set[0] && rounds == by_set[1] && peak == by_set[2]);
+    HOLDS(kudzuclamp_react(words, length, &account, 1, 0, 3, GOAL, GUEST, MACHINE, 0, 1, &moved) == 0 && moved == 1);
+    HOLDS(kudzuclamp_force(words, length, &account, 1, 0, GOAL, 3, GOAL, GUEST, MACHINE, &node, &rounds, &peak) == 0);
+    for (state = 0; state < 4; state++) {
+        HOLDS(kudzuclamp_react(words, length, &account, 1, 0, 3, GOAL, GUEST, MACHINE, state / 2, state % 2, &moved) == 15 && moved == 0);
+    }
+}
+
 static void texts(void)
 {
-    static const uint32_t numbers[] = {0, 1, 2, 3, 4, 5, 6, 7, 8, 9, 12, 14, 100, 101};
+    static const uint32_t numbers[] = {0, 1, 2, 3, 4, 5, 6, 7, 8, 9, 10, 11, 12, 13, 14, 15, 100, 101};
     const size_t count = sizeof numbers / sizeof *numbers;
     size_t i, j;
     HOLDS(strcmp(kudzuclamp_text(KUDZUCLAMP_SPENT), "the rounds are used up") == 0);
@@ -170,6 +203,7 @@ int main(void)
     tokens();
     frames();
     calls();
+    games();
     texts();
     memory();
     logs();

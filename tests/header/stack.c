@@ -9,6 +9,7 @@
 #define PAINT 0xA5
 #define SIZE (4u << 20)
 #define STATES 65536u
+#define NOTES 59000
 
 static uint32_t words[KUDZUCLAMP_WORDS(ROWS)];
 
@@ -61,7 +62,7 @@ static void *logged(void *number)
     return NULL;
 }
 
-/* The bytes of stack that a call takes; 0 where it is refused. */
+/* The bytes of stack that a call takes; 0 where it is refused, but by 7 or 10, which a cheapest run gives after the check. */
 static size_t used_stack(void *(*call)(void *))
 {
     void *stack;
@@ -78,7 +79,7 @@ static size_t used_stack(void *(*call)(void *))
     while (at < SIZE && ((unsigned char *)stack)[at] == PAINT)
         at++;
     free(stack);
-    return number == 0 ? SIZE - at : 0;
+    return number == 0 || number == KUDZUCLAMP_EMPTY || number == KUDZUCLAMP_NO_RUN ? SIZE - at : 0;
 }
 
 /* A formula of 2^depth bits, none of whose diagrams is small. */
@@ -110,18 +111,38 @@ static uint32_t filled(struct kudzuclamp_account *account, uint32_t rows)
     return needed > rows ? needed : 0;
 }
 
-/* Whether a table of more than so many used rows, with the states of a formula, is checked in less than so many bytes. */
+/* Whether both calls take less than so many bytes of stack on the words as they are, a cheapest run with what its search notes. */
+static int within(const char *name, size_t most)
+{
+    size_t used = used_stack(node), run = used_stack(cheapest);
+    printf("%s: %lu bytes of stack, a cheapest run %lu\n", name, (unsigned long)used, (unsigned long)run);
+    return used != 0 && used < most && run != 0 && run < most + NOTES;
+}
+
+/* Makes one lookup chain of all rows, at which every bucket begins. */
+static void chain(void)
+{
+    uint32_t *list = words + 256 + 8 * ROWS, *heads = list + ROWS, used = words[3], k;
+    for (k = 0; k < used; k++)
+        words[256 + 8 * list[k] + 3] = k == 0 ? 0 : list[k - 1] + 1;
+    for (k = 0; k < ROWS; k++)
+        heads[k] = used == 0 ? 0 : list[used - 1] + 1;
+}
+
+/* Whether a table of more than so many used rows, with the states of a formula, is checked in less than so many bytes, and so with one chain. */
 static int checked(const uint8_t *valid, size_t valid_len, uint32_t rows, size_t most)
 {
     struct kudzuclamp_account account = {UINT32_MAX, UINT32_MAX, 0};
     uint8_t framed[10];
-    size_t used, size = kudzuclamp_frame(framed, sizeof framed, valid, valid_len);
+    size_t size = kudzuclamp_frame(framed, sizeof framed, valid, valid_len);
     if (kudzuclamp_fresh(words, KUDZUCLAMP_WORDS(ROWS), &account, 1, 16, ROWS) != 0 ||
         kudzuclamp_valid(words, KUDZUCLAMP_WORDS(ROWS), framed, size) != 0 || filled(&account, rows) == 0)
         return 0;
-    used = used_stack(node);
-    printf("more than %lu rows: %lu bytes of stack\n", (unsigned long)rows, (unsigned long)used);
-    return used != 0 && used < most;
+    printf("more than %lu rows, ", (unsigned long)rows);
+    if (!within("made by calls", most))
+        return 0;
+    chain();
+    return within("in one chain", most);
 }
 
 /* The AND over all bits of a formula's pattern, whose bits are made those of p; framed. */
@@ -139,8 +160,8 @@ static size_t all_bits(uint8_t *framed, size_t framed_len, const uint8_t *patter
     return kudzuclamp_frame(framed, framed_len, formula, at);
 }
 
-/* Whether a cheapest run from the state with no bit on to that with all takes less than so many bytes, and a game over the same relation, for both
-   sides, with all bits on as its goal, and a run of it that fits two logs. In that relation bits only turn on, and it has a row on every level. */
+/* Whether a cheapest run from the state with no bit on to that with all takes less than so many bytes, and a game over the same relation,
+   for both sides, with all bits on as its goal, and a run of it that fits two logs. In that relation bits only turn on, and it has a row on every level. */
 static int searched(size_t most)
 {
     static const uint8_t rising[] = {KUDZUCLAMP_OR, KUDZUCLAMP_NOT, KUDZUCLAMP_NOW(0), KUDZUCLAMP_NEXT(0)};

@@ -1,6 +1,7 @@
-// The entry points over lent words and a lent list of accounts. `set` and `fresh` take the list and are walked by hand; what they call is
-// covered.
+// The entry points over lent words and a lent list of accounts. `set`, `fresh` and `terms_at` take the list and are walked by hand; what
+// they call is covered.
 use accounts::Account;
+use accounts::Terms;
 use accounts::add_rounds;
 use accounts::empty_tallies;
 use accounts::terms_of;
@@ -9,7 +10,7 @@ use calls::Started;
 use formula_steps::Stored;
 ghost use mathlib.Core.Path.{_≡_};
 ghost use Rattle.accounts.specs.Listed.{none};
-ghost use Rattle.accounts.specs.Terms.{termsWith};
+ghost use Rattle.accounts.specs.Terms.{termsWith, termsOf};
 ghost use Rattle.contract.specs.Posts.{SetAllPost};
 ghost use Rattle.formula_steps.specs.Replies.{storedReply};
 ghost use Rattle.account_calls.specs.Lists.{roundsOf, FreshBoth, madeCount, FreshListPost, SetPost};
@@ -106,4 +107,16 @@ pub fn fresh(words: &mut [u32], accounts: &mut [Account], n: u32, rows: u32) -> 
     let x = make(words, count, n, rows);
     empty_tallies(accounts, ready_count(x, count));
     x
+}
+
+// What a call is told of the account at a place of a lent list, which it only reads.
+pub fn terms_at(accounts: &[Account], place: u32) -> Terms
+    ensures { λ t. ⌜ t ≡ termsOf (now (accounts .entry)) place ⌝ }
+{
+    let at = place as usize;
+    let count = accounts.len();
+    if at < count {
+        return terms_of(count, place, accounts[at]);
+    }
+    unnamed(count, place)
 }

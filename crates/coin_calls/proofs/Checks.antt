@@ -3,16 +3,14 @@ use mathlib.Core.Path.{_≡_, refl, sym, ap, _∙_, subst}
 use mathlib.Core.Logic.{_⊎_, inl, inr}
 use mathlib.Core.Bool.{Bool}
 use mathlib.Core.List.{List, _++_}
-use mathlib.Core.Option.{Option, none, some}
+use mathlib.Core.Option.{none, some}
 use Prim.Native.Nat.{ℕ, zero, suc, _+_, _-_, _*_, _%_, _^_, _≤_, _<_}
 use native.Mathlib.Nat.{one-mul, mod-eq-of-lt}
 use native.Mathlib.Omega.{arith}
-use lib.Dec.{T}
 use lib.ListN.{length, take, drop}
 use lib.Seq.{length-take-le, length-front, drop-append-seam}
 use lib.Pow.{pow-mono}
 use Rattle.mucalculus.specs.Sets.{mem}
-use Rattle.layout.specs.Refusals.{keepsAll}
 use Rattle.layout.specs.Places.{BITS, ROWS, VALID, FIRST-REGISTER, FIRST-RELATION, ROOTS-END}
 use Rattle.layout.specs.View.{View, view, headerOf}
 use Rattle.diagram.specs.Rows.{Rows, Arrow, den}
@@ -29,7 +27,7 @@ use Rattle.contract.specs.Seen.{arrowIn, seen, SoundWords}
 use Rattle.seek.specs.Walk.{HoldsPre}
 use Rattle.coins.specs.Runs.{leadsIn}
 use Rattle.coins.specs.Post.{FareReply, fareRefused, FareTold, BothThere, FareBy, FarePost}
-use Rattle.coin_search.specs.Hall.{rootAt, filledAt, leadsAt, inSet, Hall}
+use Rattle.coin_search.specs.Hall.{leadsAt, inSet, Hall}
 use Rattle.coin_search.proofs.Hall.{filled-below, filled-some}
 use Rattle.coin_search.specs.Search.{SearchPre}
 use Rattle.coin_calls.specs.Asks.{BetweenPost}

@@ -9,15 +9,15 @@ use lib.Dec.{T, ltb, lt→ltb}
 use lib.ListN.{length}
 use Rattle.mucalculus.proofs.Sets.{and-in}
 use Rattle.layout.specs.View.{View}
-use Rattle.coins.specs.Runs.{Transitions, PricedStep, priceOf, total, mixedInto, Cheapest, coins}
+use Rattle.coins.specs.Runs.{Transitions, PricedStep, priceOf, total, mixedInto, coins}
 use Rattle.coins.specs.Cost.{CREDIT, cost}
 use Rattle.coins.specs.Marks.{Marks, Reason, Standing}
 use Rattle.coins.specs.Post.{FareReply, fareRefused, paid, RunFits, FareTold, told-short, told-run}
 use Rattle.coins.proofs.Found.{found-cheapest, credits-are}
-use Rattle.coin_search.specs.Words.{markOf, marksOf}
-use Rattle.coin_search.specs.Hall.{leadsAt, inSet, Hall}
+use Rattle.coin_search.specs.Words.{markOf}
+use Rattle.coin_search.specs.Hall.{leadsAt, inSet}
 use Rattle.coin_search.specs.Search.{FoundAt}
-use Rattle.coin_calls.specs.Write.{WriteRunPre, RunWritten, WriteRunGives}
+use Rattle.coin_calls.specs.Write.{WriteRunPre, WriteRunGives}
 use Rattle.coin_calls.proofs.Write.{steps-below, one-more}
 use Rattle.coin_calls.specs.Asks.{PayPre, PayPost}
 

@@ -7,15 +7,14 @@ use Prim.Native.Nat.{ℕ, _+_, _-_, _^_, _≤_, _<_}
 use native.Mathlib.Decide.{decLt}
 use native.Mathlib.Omega.{arith}
 use lib.Dec.{T}
-use lib.ListN.{length}
 use Rattle.mucalculus.proofs.Sets.{and-in, and-out, true-of}
 use Rattle.layout.specs.View.{View}
 use Rattle.seek.specs.Walk.{HoldsPre, holdsAt}
 use Rattle.coins.specs.Cost.{stepCost}
 use Rattle.coin_search.specs.Words.{markOf, stateAt}
-use Rattle.coin_search.specs.Hall.{rootAt, filledAt, leadsAt, Hall}
+use Rattle.coin_search.specs.Hall.{rootAt, filledAt, Hall}
 use Rattle.coin_search.proofs.Hall.{filled-used, filled-in, not-filled, filled-below}
-use Rattle.coin_calls.specs.Steps.{ExactStep, IsExact, RelationTo, Ahead, StepBelow}
+use Rattle.coin_calls.specs.Steps.{ExactStep, IsExact, RelationTo, Ahead}
 
 -- ---- one relation
 
@@ -23,9 +22,6 @@ false-true : {b : Bool} → b ≡ false → b ≡ true → ⊥
 false-true {b} e f = subst T (sym f ∙ e) tt
 
 module _ {W : View} {n : ℕ} {prices w : List ℕ} (h : Hall W n prices w) (s t r : ℕ) where
-  pub in-words : {u : ℕ} → u < 2 ^ n → u < length w
-  in-words l = let g = h .room in omega arith
-
   not-exact : (ExactStep W n prices w s r t → ⊥) → IsExact W n prices w s t r false
   not-exact d = record { yes = λ e. absurd (false-true refl e); no = λ _. d }
 

@@ -21,7 +21,6 @@ ghost use Rattle.coins.specs.Post.{FarePost, fareReply};
 ghost use Rattle.layout.specs.Places.{HEADER};
 ghost use Rattle.layout.specs.View.{view};
 ghost use lib.ListN.{length};
-ghost use mathlib.Core.Path.{_≡_};
 
 // A step of a run: its relation, the state it leads to, and a place of the order at which that state stands.
 struct PlacedStep {

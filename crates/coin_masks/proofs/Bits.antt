@@ -7,7 +7,7 @@ use native.Mathlib.Decide.{ℕ-discrete}
 use native.Mathlib.Omega.{arith}
 use lib.Bits.{bitAnd, bitOr, bitXor, differ, and-step, or-step, xor-step, and-shr, or-shr, xor-shr}
 use lib.Dec.{eqb}
-use lib.Pow.{shr-shr, field, mod-mod-pow}
+use lib.Pow.{shr-shr}
 use Rattle.mucalculus.specs.Means.{bit}
 use Rattle.coin_masks.specs.Masks.{columnOf}
 
@@ -66,18 +66,6 @@ bit-or = bit-op bitOr max _||_ or-step or-shr max-cells
 
 pub bit-xor : (k a b : ℕ) → bit k (bitXor a b) ≡ either (bit k a) (bit k b)
 bit-xor = bit-op bitXor differ either xor-step xor-shr differ-cells
-
--- the low six bits
-pub bit-six : (w k : ℕ) → k < 6 → bit k (w % 64) ≡ bit k w
-bit-six w k h =
-    let j : ℕ = 5 - k in
-    let e : (suc j) + k ≡ 6 = omega arith in
-    let f : w % 64 / 2 ^ k
-    ≡ w / 2 ^ k % 2 ^ suc j = subst (λ (x : ℕ). w % 2 ^ x / 2 ^ k ≡ w / 2 ^ k % 2 ^ suc j) e (field w (suc j) k) in
-    let z : j + 1 ≡ suc j = omega arith in
-    let g : w / 2 ^ k % 2 ^ suc j % 2
-    ≡ w / 2 ^ k % 2 = subst (λ (x : ℕ). w / 2 ^ k % 2 ^ x % 2 ≡ w / 2 ^ k % 2) z (mod-mod-pow (w / 2 ^ k) j 1) in
-    ap (λ (x : ℕ). eqb (x % 2) 1) f ∙ ap (λ (x : ℕ). eqb x 1) g
 
 -- a bit above `low`
 pub bit-above : (low p s : ℕ) → low ≤ p → bit p s ≡ bit (p - low) (s / 2 ^ low)

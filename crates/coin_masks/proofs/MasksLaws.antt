@@ -381,10 +381,10 @@ module _ {W : View} {low x goals : ℕ} {N : List ℕ} (a : MaskPre W low x N) w
   })
 
   -- it was remembered
-  pub mask-met : (i : ℕ) → i < 409 → getD N (4_350 + i) 0 ≡ x → getD N (4_759 + i) 0 ≡ goals
-      → MaskPost W low x goals N N (getD N (5_168 + i) 0)
-  mask-met i l ex eg = kept-all (subst (λ (y : ℕ). Mask W low y goals (getD N (5_168 + i) 0)) ex
-      (subst (λ (y : ℕ). Mask W low (getD N (4_350 + i) 0) y (getD N (5_168 + i) 0)) eg (a .masked .holds i l)))
+  pub mask-met : (i : ℕ) → i < 409 → getD N (6_138 + i) 0 ≡ x → getD N (6_547 + i) 0 ≡ goals
+      → MaskPost W low x goals N N (getD N (6_956 + i) 0)
+  mask-met i l ex eg = kept-all (subst (λ (y : ℕ). Mask W low y goals (getD N (6_956 + i) 0)) ex
+      (subst (λ (y : ℕ). Mask W low (getD N (6_138 + i) 0) y (getD N (6_956 + i) 0)) eg (a .masked .holds i l)))
 
 -- an arrow that is none of the two constants leads to a row
 pub row-of : (x : ℕ) → (x ≡ 0 → ⊥) → (x ≡ 1 → ⊥) → isRow x ≡ true
@@ -395,33 +395,33 @@ row-of (suc (suc x)) a b = refl
 
 -- the words with one more mask
 abbrev kept : List ℕ → ℕ → ℕ → ℕ → ℕ → List ℕ
-kept N i x goals mask = set (set (set N (4_350 + i) x) (4_759 + i) goals) (5_168 + i) mask
+kept N i x goals mask = set (set (set N (6_138 + i) x) (6_547 + i) goals) (6_956 + i) mask
 
 module _ {W : View} {low : ℕ} {N : List ℕ} (m : Masked W low N) (i x goals mask : ℕ) (l : i < 409) (c : Mask W low x goals mask) where
-  kept-other : (j : ℕ) → j ≢ 4_350 + i → j ≢ 4_759 + i → j ≢ 5_168 + i → getD (kept N i x goals mask) j 0 ≡ getD N j 0
+  kept-other : (j : ℕ) → j ≢ 6_138 + i → j ≢ 6_547 + i → j ≢ 6_956 + i → getD (kept N i x goals mask) j 0 ≡ getD N j 0
   kept-other j a b d =
-      getD-set-other (set (set N (4_350 + i) x) (4_759 + i) goals) (5_168 + i) j mask 0 d
-      ∙ getD-set-other (set N (4_350 + i) x) (4_759 + i) j goals 0 b ∙ getD-set-other N (4_350 + i) j x 0 a
+      getD-set-other (set (set N (6_138 + i) x) (6_547 + i) goals) (6_956 + i) j mask 0 d
+      ∙ getD-set-other (set N (6_138 + i) x) (6_547 + i) j goals 0 b ∙ getD-set-other N (6_138 + i) j x 0 a
 
-  first-size : length (set N (4_350 + i) x) ≡ 5_577
-  first-size = length-set N (4_350 + i) x ∙ m .size
+  first-size : length (set N (6_138 + i) x) ≡ 7_365
+  first-size = length-set N (6_138 + i) x ∙ m .size
 
-  second-size : length (set (set N (4_350 + i) x) (4_759 + i) goals) ≡ 5_577
-  second-size = length-set (set N (4_350 + i) x) (4_759 + i) goals ∙ first-size
+  second-size : length (set (set N (6_138 + i) x) (6_547 + i) goals) ≡ 7_365
+  second-size = length-set (set N (6_138 + i) x) (6_547 + i) goals ∙ first-size
 
-  kept-arrow : getD (kept N i x goals mask) (4_350 + i) 0 ≡ x
+  kept-arrow : getD (kept N i x goals mask) (6_138 + i) 0 ≡ x
   kept-arrow =
-      getD-set-other (set (set N (4_350 + i) x) (4_759 + i) goals) (5_168 + i) (4_350 + i) mask 0 (λ e. omega arith)
-      ∙ getD-set-other (set N (4_350 + i) x) (4_759 + i) (4_350 + i) goals 0 (λ e. omega arith)
-      ∙ getD-set-same N (4_350 + i) x 0 (let z = m .size in omega arith)
+      getD-set-other (set (set N (6_138 + i) x) (6_547 + i) goals) (6_956 + i) (6_138 + i) mask 0 (λ e. omega arith)
+      ∙ getD-set-other (set N (6_138 + i) x) (6_547 + i) (6_138 + i) goals 0 (λ e. omega arith)
+      ∙ getD-set-same N (6_138 + i) x 0 (let z = m .size in omega arith)
 
-  kept-goals : getD (kept N i x goals mask) (4_759 + i) 0 ≡ goals
+  kept-goals : getD (kept N i x goals mask) (6_547 + i) 0 ≡ goals
   kept-goals =
-      getD-set-other (set (set N (4_350 + i) x) (4_759 + i) goals) (5_168 + i) (4_759 + i) mask 0 (λ e. omega arith)
-      ∙ getD-set-same (set N (4_350 + i) x) (4_759 + i) goals 0 (let z = first-size in omega arith)
+      getD-set-other (set (set N (6_138 + i) x) (6_547 + i) goals) (6_956 + i) (6_547 + i) mask 0 (λ e. omega arith)
+      ∙ getD-set-same (set N (6_138 + i) x) (6_547 + i) goals 0 (let z = first-size in omega arith)
 
-  kept-mask : getD (kept N i x goals mask) (5_168 + i) 0 ≡ mask
-  kept-mask = getD-set-same (set (set N (4_350 + i) x) (4_759 + i) goals) (5_168 + i) mask 0 (let z = second-size in omega arith)
+  kept-mask : getD (kept N i x goals mask) (6_956 + i) 0 ≡ mask
+  kept-mask = getD-set-same (set (set N (6_138 + i) x) (6_547 + i) goals) (6_956 + i) mask 0 (let z = second-size in omega arith)
 
   -- three words that are the same
   moved : {a b d : ℕ} (a′ b′ d′ : ℕ) → a′ ≡ a → b′ ≡ b → d′ ≡ d → Mask W low a b d → Mask W low a′ b′ d′
@@ -431,23 +431,23 @@ module _ {W : View} {low : ℕ} {N : List ℕ} (m : Masked W low N) (i x goals m
 
   pub kept-masked : Masked W low (kept N i x goals mask)
   kept-masked = record {
-    size = length-set (set (set N (4_350 + i) x) (4_759 + i) goals) (5_168 + i) mask ∙ second-size;
+    size = length-set (set (set N (6_138 + i) x) (6_547 + i) goals) (6_956 + i) mask ∙ second-size;
     holds = λ j lj. by-cases (ℕ-discrete j i)
-        (λ q. moved (getD (kept N i x goals mask) (4_350 + j) 0) (getD (kept N i x goals mask) (4_759 + j) 0)
-        (getD (kept N i x goals mask) (5_168 + j) 0)
-        (ap (λ (y : ℕ). getD (kept N i x goals mask) (4_350 + y) 0) q ∙ kept-arrow)
-        (ap (λ (y : ℕ). getD (kept N i x goals mask) (4_759 + y) 0) q ∙ kept-goals)
-        (ap (λ (y : ℕ). getD (kept N i x goals mask) (5_168 + y) 0) q ∙ kept-mask) c)
-        (λ n. moved (getD (kept N i x goals mask) (4_350 + j) 0) (getD (kept N i x goals mask) (4_759 + j) 0)
-        (getD (kept N i x goals mask) (5_168 + j) 0)
-        (kept-other (4_350 + j) (λ e. n (omega arith)) (λ e. omega arith) (λ e. omega arith))
-        (kept-other (4_759 + j) (λ e. omega arith) (λ e. n (omega arith)) (λ e. omega arith))
-        (kept-other (5_168 + j) (λ e. omega arith) (λ e. omega arith) (λ e. n (omega arith))) (m .holds j lj));
+        (λ q. moved (getD (kept N i x goals mask) (6_138 + j) 0) (getD (kept N i x goals mask) (6_547 + j) 0)
+        (getD (kept N i x goals mask) (6_956 + j) 0)
+        (ap (λ (y : ℕ). getD (kept N i x goals mask) (6_138 + y) 0) q ∙ kept-arrow)
+        (ap (λ (y : ℕ). getD (kept N i x goals mask) (6_547 + y) 0) q ∙ kept-goals)
+        (ap (λ (y : ℕ). getD (kept N i x goals mask) (6_956 + y) 0) q ∙ kept-mask) c)
+        (λ n. moved (getD (kept N i x goals mask) (6_138 + j) 0) (getD (kept N i x goals mask) (6_547 + j) 0)
+        (getD (kept N i x goals mask) (6_956 + j) 0)
+        (kept-other (6_138 + j) (λ e. n (omega arith)) (λ e. omega arith) (λ e. omega arith))
+        (kept-other (6_547 + j) (λ e. omega arith) (λ e. n (omega arith)) (λ e. omega arith))
+        (kept-other (6_956 + j) (λ e. omega arith) (λ e. omega arith) (λ e. n (omega arith))) (m .holds j lj));
   }
 
 -- a new one is remembered
 pub mask-kept : {W : View} {low x goals mask : ℕ} {N M O : List ℕ} (i : ℕ) → i < 409 → MaskPost W low x goals N M mask
-    → O ≡ set (set (set M (4_350 + i) x) (4_759 + i) goals) (5_168 + i) mask → MaskPost W low x goals N O mask
+    → O ≡ set (set (set M (6_138 + i) x) (6_547 + i) goals) (6_956 + i) mask → MaskPost W low x goals N O mask
 mask-kept {W} {low} {x} {goals} {mask} {N} {M} {O} i l d e = subst (λ (L : List ℕ). MaskPost W low x goals N L mask) (sym e) (record {
   is = d .is;
   masked = kept-masked (d .masked) i x goals mask l (d .is);
@@ -456,22 +456,22 @@ mask-kept {W} {low} {x} {goals} {mask} {N} {M} {O} i l d e = subst (λ (L : List
 })
 
 -- nothing is remembered
-pub masked-start : {W : View} {low : ℕ} {N : List ℕ} → length N ≡ 5_577 → ((i : ℕ) → getD N i 0 ≡ 0) → Masked W low N
+pub masked-start : {W : View} {low : ℕ} {N : List ℕ} → length N ≡ 7_365 → ((i : ℕ) → getD N i 0 ≡ 0) → Masked W low N
 masked-start {W} {low} {N} e z = record {
   size = e;
   holds = λ i l. record {
-    only = λ j lj b. absurd (true≢false (sym b ∙ ap (bit j) (z (5_168 + i)) ∙ no-bit j));
-    has = λ j lj t. absurd (true≢false (sym (t .is) ∙ ap (bit (t .goal)) (z (4_759 + i)) ∙ no-bit (t .goal)));
+    only = λ j lj b. absurd (true≢false (sym b ∙ ap (bit j) (z (6_956 + i)) ∙ no-bit j));
+    has = λ j lj t. absurd (true≢false (sym (t .is) ∙ ap (bit (t .goal)) (z (6_547 + i)) ∙ no-bit (t .goal)));
   };
 }
 
 -- other words changed
-pub masked-beside : {W : View} {low : ℕ} {N M : List ℕ} → Masked W low N → length M ≡ 5_577
-    → ((i : ℕ) → 4_350 ≤ i → getD M i 0 ≡ getD N i 0) → Masked W low M
+pub masked-beside : {W : View} {low : ℕ} {N M : List ℕ} → Masked W low N → length M ≡ 7_365
+    → ((i : ℕ) → 6_138 ≤ i → getD M i 0 ≡ getD N i 0) → Masked W low M
 masked-beside {W} {low} {N} {M} m e f = record {
   size = e;
   holds = λ i l.
-      subst (λ (y : ℕ). Mask W low y (getD M (4_759 + i) 0) (getD M (5_168 + i) 0)) (sym (f (4_350 + i) (omega arith)))
-      (subst (λ (y : ℕ). Mask W low (getD N (4_350 + i) 0) y (getD M (5_168 + i) 0)) (sym (f (4_759 + i) (omega arith)))
-      (subst (λ (y : ℕ). Mask W low (getD N (4_350 + i) 0) (getD N (4_759 + i) 0) y) (sym (f (5_168 + i) (omega arith))) (m .holds i l)));
+      subst (λ (y : ℕ). Mask W low y (getD M (6_547 + i) 0) (getD M (6_956 + i) 0)) (sym (f (6_138 + i) (omega arith)))
+      (subst (λ (y : ℕ). Mask W low (getD N (6_138 + i) 0) y (getD M (6_956 + i) 0)) (sym (f (6_547 + i) (omega arith)))
+      (subst (λ (y : ℕ). Mask W low (getD N (6_138 + i) 0) (getD N (6_547 + i) 0) y) (sym (f (6_956 + i) (omega arith))) (m .holds i l)));
 }

@@ -45,8 +45,8 @@ pub record Mask (W : View) (low x goals mask : ℕ) : Type 0 where
 
 -- what is remembered is true: arrows, goals and masks
 pub record Masked (W : View) (low : ℕ) (N : List ℕ) : Type 0 where
-  pub size : length N ≡ 5_577
-  pub holds : (i : ℕ) → i < 409 → Mask W low (getD N (4_350 + i) 0) (getD N (4_759 + i) 0) (getD N (5_168 + i) 0)
+  pub size : length N ≡ 7_365
+  pub holds : (i : ℕ) → i < 409 → Mask W low (getD N (6_138 + i) 0) (getD N (6_547 + i) 0) (getD N (6_956 + i) 0)
 
 -- what a mask of arrow x asks
 pub record MaskPre (W : View) (low x : ℕ) (N : List ℕ) : Type 0 where
@@ -56,7 +56,7 @@ pub record MaskPre (W : View) (low x : ℕ) (N : List ℕ) : Type 0 where
 
 -- only what is remembered changed
 abbrev pub Beside : List ℕ → List ℕ → Type 0
-Beside N M = (i : ℕ) → i < 4_350 → getD M i 0 ≡ getD N i 0
+Beside N M = (i : ℕ) → i < 6_138 → getD M i 0 ≡ getD N i 0
 
 -- the mask, and what is remembered then
 pub record MaskPost (W : View) (low x goals : ℕ) (N M : List ℕ) (mask : ℕ) : Type 0 where

@@ -23,21 +23,21 @@ impl Notes {
     // Spent arrows and their goals.
     pub const SPENT: usize = 4096;
 
-    pub const SPENT_GOALS: usize = 4223;
+    pub const SPENT_GOALS: usize = 5117;
 
     // Arrows, goals and masks.
-    pub const ARROWS: usize = 4350;
+    pub const ARROWS: usize = 6138;
 
-    pub const GOALS: usize = 4759;
+    pub const GOALS: usize = 6547;
 
-    pub const MASKS: usize = 5168;
+    pub const MASKS: usize = 6956;
 
-    pub const WORDS: usize = 5577;
+    pub const WORDS: usize = 7365;
 
     // How many masks are remembered, and how many spent arrows.
     pub const KEPT: u64 = 409;
 
-    pub const SLOTS: u64 = 127;
+    pub const SLOTS: u64 = 1021;
 
     pub const ALL: u64 = 18446744073709551615;
 }
@@ -111,9 +111,9 @@ fn leading(words: &[u32], rows: u32, notes: &mut [u64], low: u32, x: u32, goals:
 
 // The mask is remembered at place `at`, with its arrow and goals.
 fn keep_mask(notes: &mut [u64], at: usize, x: u64, goals: u64, mask: u64)
-    requires { ⌜ (at < 409) × (length (now notes) ≡ 5_577) ⌝ }
+    requires { ⌜ (at < 409) × (length (now notes) ≡ 7_365) ⌝ }
     ensures { λ _.
-        ⌜ now (notes .exit) ≡ set (set (set (now (notes .entry)) (4_350 + at) x) (4_759 + at) goals) (5_168 + at) mask ⌝ }
+        ⌜ now (notes .exit) ≡ set (set (set (now (notes .entry)) (6_138 + at) x) (6_547 + at) goals) (6_956 + at) mask ⌝ }
 {
     let place = Notes::ARROWS + at;
     let there = Notes::GOALS + at;

@@ -172,11 +172,11 @@ module _ {W : View} {n low : ℕ} {w N : List ℕ} {q m x p s count : ℕ} (a : 
       h,
     )
       where
-        spent : Spent W n low w x node (q / 2 ^ (levelAt W x / 2)) (getD M (4_223 + f e .at) 0)
+        spent : Spent W n low w x node (q / 2 ^ (levelAt W x / 2)) (getD M (5_117 + f e .at) 0)
         spent =
             let g = f e in
-            spent-out x node (q / 2 ^ (levelAt W x / 2)) (getD M (4_223 + g .at) 0) (part-small q (levelAt W x / 2) lq) ln
-            (subst (λ (y : ℕ). SpentAt W n low w y (getD M (4_223 + g .at) 0)) (g .is) (h .spent (g .at) (g .slot)))
+            spent-out x node (q / 2 ^ (levelAt W x / 2)) (getD M (5_117 + g .at) 0) (part-small q (levelAt W x / 2) lq) ln
+            (subst (λ (y : ℕ). SpentAt W n low w y (getD M (5_117 + g .at) 0)) (g .is) (h .spent (g .at) (g .slot)))
 
 -- what agrees in its part of the lower bits and in the six others agrees in all that the arrow reads
 part-agrees : (low l t c q : ℕ) → t % 2 ^ low ≡ q → t / 2 ^ low ≡ c / 2 ^ low → c % 2 ^ low / 2 ^ l ≡ q / 2 ^ l → c / 2 ^ l ≡ t / 2 ^ l
@@ -235,7 +235,7 @@ module _ {W : View} {n low : ℕ} {w N : List ℕ} {q m x p s count : ℕ} (a : 
     goal = a .goal;
   }
 
-  pub join-asks : {v M : List ℕ} {node : ℕ} → node ≡ s + 2 ^ p → NotesHold W n low v M → (p < 10) × (node < 1_024) × (length M ≡ 5_577)
+  pub join-asks : {v M : List ℕ} {node : ℕ} → node ≡ s + 2 ^ p → NotesHold W n low v M → (p < 10) × (node < 1_024) × (length M ≡ 7_365)
   join-asks e h =
       let b = a .notes .bits .small in
       let l = before in

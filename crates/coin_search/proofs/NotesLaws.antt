@@ -13,6 +13,7 @@ use lib.Pow.{pow-mono, shr-le}
 use lib.Seq.{getD-set-same, getD-set-other}
 use Rattle.mucalculus.specs.Means.{bit}
 use Rattle.layout.specs.View.{View}
+use Rattle.seek.specs.Walk.{holdsAt}
 use Rattle.seek.specs.Apart.{levelAt}
 use Rattle.coin_masks.specs.Masks.{Masked, Beside, MaskPost}
 use Rattle.coin_masks.proofs.Bits.{either, bit-and, bit-or, bit-xor, bit-all}
@@ -21,7 +22,7 @@ use Rattle.coin_search.specs.Words.{markOf}
 use Rattle.coin_search.specs.Adds.{AddsPre, Adds, One, AtBit}
 use Rattle.coin_search.proofs.AddsLaws.{adds-none, adds-as, grown-marks}
 use Rattle.coin_search.specs.Notes.{LowBits, Bitmap, Noted, DoneAt, Spent, spentKey, SpentAt, NotesHold, DoneMet}
-use Rattle.coin_search.specs.Notes.{KeyMet, KeyPut, none, put, SpentPre, NewBitsPre, NewBits}
+use Rattle.coin_search.specs.Notes.{KeyMet, KeyPut, none, put, GoalsWith, SpentPre, NewBitsPre, NewBits}
 use Rattle.coin_search.proofs.Nodes.{power-next, low-in, high-in, node-same, node-few, power-is, bit-power, power-wide, shift-is}
 use Rattle.coin_search.proofs.Nodes.{state-small, state-of}
 
@@ -59,18 +60,18 @@ module _ {W : View} {n low : ℕ} {w : List ℕ} where
       bits = h .bits;
       bitmap = bitmap-same n low w N M (h .bits .small) (h .bitmap) (λ i l. b i (omega arith));
       done = λ q l. done-same (b (2_048 + q) (omega arith)) (b (3_072 + q) (omega arith)) (h .done q l);
-      spent = λ k l. spent-same (b (4_096 + k) (omega arith)) (b (4_223 + k) (omega arith)) (h .spent k l);
+      spent = λ k l. spent-same (b (4_096 + k) (omega arith)) (b (5_117 + k) (omega arith)) (h .spent k l);
       masks = m;
     }
 
     -- words of nodes changed
-    nodes-changed : {M : List ℕ} → length M ≡ 5_577 → Bitmap n low w M → ((i : ℕ) → 2_048 ≤ i → getD M i 0 ≡ getD N i 0)
+    nodes-changed : {M : List ℕ} → length M ≡ 7_365 → Bitmap n low w M → ((i : ℕ) → 2_048 ≤ i → getD M i 0 ≡ getD N i 0)
         → NotesHold W n low w M
     nodes-changed {M} e m f = record {
       bits = h .bits;
       bitmap = m;
       done = λ q l. done-same (f (2_048 + q) (omega arith)) (f (3_072 + q) (omega arith)) (h .done q l);
-      spent = λ k l. spent-same (f (4_096 + k) (omega arith)) (f (4_223 + k) (omega arith)) (h .spent k l);
+      spent = λ k l. spent-same (f (4_096 + k) (omega arith)) (f (5_117 + k) (omega arith)) (h .spent k l);
       masks = masked-beside (h .masks) e (λ i l. f i (omega arith));
     }
 
@@ -152,7 +153,7 @@ module _ {W : View} {n low : ℕ} {w : List ℕ} where
           (λ e. done-same (other (2_048 + r) (λ z. e (omega arith)) (λ z. omega arith))
           (other (3_072 + r) (λ z. omega arith) (λ z. e (omega arith))) (h .done r l));
       spent = λ k l. spent-same (other (4_096 + k) (λ e. omega arith) (λ e. omega arith))
-          (other (4_223 + k) (λ e. omega arith) (λ e. omega arith)) (h .spent k l);
+          (other (5_117 + k) (λ e. omega arith) (λ e. omega arith)) (h .spent k l);
       masks = masked-beside (h .masks)
           (length-set (set N (2_048 + q) x) (3_072 + q) goals ∙ length-set N (2_048 + q) x ∙ h .masks .size)
           (λ i l. other i (λ e. omega arith) (λ e. omega arith));
@@ -172,31 +173,45 @@ module _ {W : View} {n low : ℕ} {w : List ℕ} where
     -- an arrow is spent
     pub notes-put : {M : List ℕ} {key goals : ℕ} → SpentAt W n low w key goals → KeyPut N key goals M → NotesHold W n low w M
     notes-put s none = h
-    notes-put {key = key} {goals} s (put q lq) = record {
+    notes-put {key = key} {goals} s (put q all lq g) = record {
       bits = h .bits;
-      bitmap = bitmap-same n low w N (set (set N (4_096 + q) key) (4_223 + q) goals) (h .bits .small) (h .bitmap)
+      bitmap = bitmap-same n low w N (set (set N (4_096 + q) key) (5_117 + q) all) (h .bits .small) (h .bitmap)
           (λ i l. other i (λ e. omega arith) (λ e. omega arith));
       done = λ r l. done-same (other (2_048 + r) (λ e. omega arith) (λ e. omega arith))
           (other (3_072 + r) (λ e. omega arith) (λ e. omega arith)) (h .done r l);
       spent = λ k l. by-cases (ℕ-discrete k q)
-          (λ e. spent-same (ap (λ (y : ℕ). getD (set (set N (4_096 + q) key) (4_223 + q) goals) (4_096 + y) 0) e ∙ first)
-          (ap (λ (y : ℕ). getD (set (set N (4_096 + q) key) (4_223 + q) goals) (4_223 + y) 0) e ∙ second) s)
+          (λ e. spent-same (ap (λ (y : ℕ). getD (set (set N (4_096 + q) key) (5_117 + q) all) (4_096 + y) 0) e ∙ first)
+          (ap (λ (y : ℕ). getD (set (set N (4_096 + q) key) (5_117 + q) all) (5_117 + y) 0) e ∙ second) kept)
           (λ e. spent-same (other (4_096 + k) (λ z. e (omega arith)) (λ z. omega arith))
-          (other (4_223 + k) (λ z. omega arith) (λ z. e (omega arith))) (h .spent k l));
+          (other (5_117 + k) (λ z. omega arith) (λ z. e (omega arith))) (h .spent k l));
       masks = masked-beside (h .masks)
-          (length-set (set N (4_096 + q) key) (4_223 + q) goals ∙ length-set N (4_096 + q) key ∙ h .masks .size)
+          (length-set (set N (4_096 + q) key) (5_117 + q) all ∙ length-set N (4_096 + q) key ∙ h .masks .size)
           (λ i l. other i (λ e. omega arith) (λ e. omega arith));
     }
       where
-        other : (i : ℕ) → i ≢ 4_096 + q → i ≢ 4_223 + q → getD (set (set N (4_096 + q) key) (4_223 + q) goals) i 0 ≡ getD N i 0
-        other i a b = getD-set-other (set N (4_096 + q) key) (4_223 + q) i goals 0 b ∙ getD-set-other N (4_096 + q) i key 0 a
+        -- what stood at the place with this key is true as well
+        kept : SpentAt W n low w key all
+        kept = record {
+          all = λ p r u t lr er lu eu et b y. go p r u t lr er lu eu et y (g .from (t / 2 ^ low) b);
+        }
+          where
+            go : (p r u t : ℕ) → r < 2 ^ p → r + 2 ^ p ≡ key / 65_536 % 65_536 → u < 2 ^ n → u % 2 ^ p ≡ r
+                → t % 2 ^ low / 2 ^ (levelAt W (key / 4_294_967_296) / 2) ≡ key % 65_536 → holdsAt W (key / 4_294_967_296) u t ≡ true
+                → (bit (t / 2 ^ low) goals ≡ true) ⊎ ((getD N (4_096 + q) 0 ≡ key) × (bit (t / 2 ^ low) (getD N (5_117 + q) 0) ≡ true))
+                → 1 ≤ markOf w u
+            go p r u t lr er lu eu et y (inl b) = s .all p r u t lr er lu eu et b y
+            go p r u t lr er lu eu et y (inr (e, b)) =
+                spent-same (sym e) refl (h .spent q lq) .all p r u t lr er lu eu et b y
 
-        first : getD (set (set N (4_096 + q) key) (4_223 + q) goals) (4_096 + q) 0 ≡ key
-        first = getD-set-other (set N (4_096 + q) key) (4_223 + q) (4_096 + q) goals 0 (λ e. omega arith)
+        other : (i : ℕ) → i ≢ 4_096 + q → i ≢ 5_117 + q → getD (set (set N (4_096 + q) key) (5_117 + q) all) i 0 ≡ getD N i 0
+        other i a b = getD-set-other (set N (4_096 + q) key) (5_117 + q) i all 0 b ∙ getD-set-other N (4_096 + q) i key 0 a
+
+        first : getD (set (set N (4_096 + q) key) (5_117 + q) all) (4_096 + q) 0 ≡ key
+        first = getD-set-other (set N (4_096 + q) key) (5_117 + q) (4_096 + q) all 0 (λ e. omega arith)
             ∙ getD-set-same N (4_096 + q) key 0 (let z = h .masks .size in omega arith)
 
-        second : getD (set (set N (4_096 + q) key) (4_223 + q) goals) (4_223 + q) 0 ≡ goals
-        second = getD-set-same (set N (4_096 + q) key) (4_223 + q) goals 0
+        second : getD (set (set N (4_096 + q) key) (5_117 + q) all) (5_117 + q) 0 ≡ all
+        second = getD-set-same (set N (4_096 + q) key) (5_117 + q) all 0
             (let z = h .masks .size in let y = length-set N (4_096 + q) key in omega arith)
 
     -- what is asked of a node
@@ -319,23 +334,39 @@ module _ (W : View) (x node q : ℕ) {level key : ℕ} (el : level ≡ levelAt W
   key-is : key ≡ spentKey x node (q / 2 ^ (levelAt W x / 2))
   key-is = ek ∙ ap (λ (y : ℕ). spentKey x node (q / 2 ^ (y / 2))) el
 
-  pub key-met : (N : List ℕ) (goals : ℕ) → getD N (4_096 + key % 127) 0 ≡ key
-      → eqb (bitOr (getD N (4_223 + key % 127) 0) goals) (getD N (4_223 + key % 127) 0) ≡ true
+  pub key-met : (N : List ℕ) (goals : ℕ) → getD N (4_096 + key % 1_021) 0 ≡ key
+      → eqb (bitOr (getD N (5_117 + key % 1_021) 0) goals) (getD N (5_117 + key % 1_021) 0) ≡ true
       → KeyMet N (spentKey x node (q / 2 ^ (levelAt W x / 2))) goals
   key-met N goals e b = record {
-    at = key % 127;
+    at = key % 1_021;
     slot = omega arith;
     is = e ∙ key-is;
     has = λ j g.
-        let same = eqb→eq (bitOr (getD N (4_223 + key % 127) 0) goals) (getD N (4_223 + key % 127) 0) (subst T (sym b) tt) in
-        ap (bit j) (sym same) ∙ bit-or j (getD N (4_223 + key % 127) 0) goals ∙ or-true (bit j (getD N (4_223 + key % 127) 0)) g;
+        let same = eqb→eq (bitOr (getD N (5_117 + key % 1_021) 0) goals) (getD N (5_117 + key % 1_021) 0) (subst T (sym b) tt) in
+        ap (bit j) (sym same) ∙ bit-or j (getD N (5_117 + key % 1_021) 0) goals ∙ or-true (bit j (getD N (5_117 + key % 1_021) 0)) g;
   }
 
-  pub key-put : {N M : List ℕ} (goals : ℕ) → M ≡ set (set N (4_096 + key % 127) key) (4_223 + key % 127) goals
-      → KeyPut N (spentKey x node (q / 2 ^ (levelAt W x / 2))) goals M
-  key-put {N} {M} goals e = subst (KeyPut N (spentKey x node (q / 2 ^ (levelAt W x / 2))) goals) (sym e)
-      (subst (λ (y : ℕ). KeyPut N y goals (set (set N (4_096 + key % 127) key) (4_223 + key % 127) goals)) key-is
-      (put (key % 127) (omega arith)))
+  pub key-put : {N M : List ℕ} (goals all : ℕ) → GoalsWith N (key % 1_021) key goals all
+      → M ≡ set (set N (4_096 + key % 1_021) key) (5_117 + key % 1_021) all → KeyPut N (spentKey x node (q / 2 ^ (levelAt W x / 2))) goals M
+  key-put {N} {M} goals all g e = subst (KeyPut N (spentKey x node (q / 2 ^ (levelAt W x / 2))) goals) (sym e)
+      (subst (λ (y : ℕ). KeyPut N y goals (set (set N (4_096 + key % 1_021) key) (5_117 + key % 1_021) all)) key-is
+      (put (key % 1_021) all (omega arith) g))
+
+-- ---- the returns of `goals_with`
+
+pub with-none : (N : List ℕ) (k key goals : ℕ) → GoalsWith N k key goals goals
+with-none N k key goals = record { from = λ j e. inl e }
+
+pub with-kept : (N : List ℕ) (k key goals : ℕ) → getD N (4_096 + k) 0 ≡ key
+    → GoalsWith N k key goals (bitOr (getD N (5_117 + k) 0) goals)
+with-kept N k key goals e = record {
+  from = λ j b. go j (bit j (getD N (5_117 + k) 0)) refl (sym (bit-or j (getD N (5_117 + k) 0) goals) ∙ b);
+}
+  where
+    go : (j : ℕ) (a : Bool) → bit j (getD N (5_117 + k) 0) ≡ a → (bit j (getD N (5_117 + k) 0) || bit j goals) ≡ true
+        → (bit j goals ≡ true) ⊎ ((getD N (4_096 + k) 0 ≡ key) × (bit j (getD N (5_117 + k) 0) ≡ true))
+    go j true q _ = inr (e, q)
+    go j false q o = inl (ap (λ (y : Bool). y || bit j goals) (sym q) ∙ o)
 
 -- ---- the returns of `new_bits`
 
@@ -387,7 +418,7 @@ done-met N x q j e b = record { is = e; has = b }
 
 -- ---- the start
 
-pub notes-start : {W : View} {n low : ℕ} {w N : List ℕ} → LowBits n low → length N ≡ 5_577 → ((i : ℕ) → getD N i 0 ≡ 0)
+pub notes-start : {W : View} {n low : ℕ} {w N : List ℕ} → LowBits n low → length N ≡ 7_365 → ((i : ℕ) → getD N i 0 ≡ 0)
     → NotesHold W n low w N
 notes-start {W} {n} {low} {w} {N} b e z = record {
   bits = b;
@@ -396,7 +427,7 @@ notes-start {W} {n} {low} {w} {N} b e z = record {
     all = λ u t lu g y. absurd (true≢false (sym (g .upper) ∙ ap (bit (t / 2 ^ low)) (z (3_072 + q)) ∙ no-bit (t / 2 ^ low)));
   };
   spent = λ k l. record {
-    all = λ p s u t ls es lu eu et g y. absurd (true≢false (sym g ∙ ap (bit (t / 2 ^ low)) (z (4_223 + k)) ∙ no-bit (t / 2 ^ low)));
+    all = λ p s u t ls es lu eu et g y. absurd (true≢false (sym g ∙ ap (bit (t / 2 ^ low)) (z (5_117 + k)) ∙ no-bit (t / 2 ^ low)));
   };
   masks = masked-start e z;
 }

@@ -36,9 +36,6 @@ module _ {W : View} {n : ℕ} {prices w : List ℕ} {r done count : ℕ} (a : Tu
   pub state-in : {t : ℕ} → t ≡ stateAt w done → t < length w
   state-in e = let (l, y) = a .order .listed done (a .next) in let r = a .hall .room in omega arith
 
-  pub state-few : {t : ℕ} → t ≡ stateAt w done → t < 65_536
-  state-few e = omega arith
-
   pub below-eight : r < 8
   below-eight = filled-below (W .header) r (a .filled)
 
@@ -92,7 +89,7 @@ module _ {W : View} {n : ℕ} {prices w : List ℕ} {r done count : ℕ} (a : Tu
       upper-few : t / 2 ^ low < 64
       upper-few = state-bit (h .bits) t state-below
 
-      pub done-asks : (length N ≡ 5_577) × (t % (1 * 2 ^ low % 4_294_967_296) < 1_024) × (t / 2 ^ low < 64)
+      pub done-asks : (length N ≡ 7_365) × (t % (1 * 2 ^ low % 4_294_967_296) < 1_024) × (t / 2 ^ low < 64)
       done-asks = (
         h .masks .size,
         (let l = lower-below in let m : 2 ^ low ≤ 2 ^ 10 = pow-mono {i = low} {j = 10} (h .bits .small) in omega arith),

@@ -62,7 +62,7 @@ pub record NotesHold (W : View) (n low : ℕ) (w N : List ℕ) : Type 0 where
   pub bits : LowBits n low
   pub bitmap : Bitmap n low w N
   pub done : (q : ℕ) → q < 1_024 → DoneAt W n low w (getD N (2_048 + q) 0) q (getD N (3_072 + q) 0)
-  pub spent : (k : ℕ) → k < 127 → SpentAt W n low w (getD N (4_096 + k) 0) (getD N (4_223 + k) 0)
+  pub spent : (k : ℕ) → k < 1_021 → SpentAt W n low w (getD N (4_096 + k) 0) (getD N (5_117 + k) 0)
   pub masks : Masked W low N
 
 -- arrow x and goal j of the lower bits q stand among what is done
@@ -73,18 +73,22 @@ pub record DoneMet (N : List ℕ) (x q j : ℕ) : Type 0 where
 -- a key stands among those that are remembered, with these goals or more
 pub record KeyMet (N : List ℕ) (key goals : ℕ) : Type 0 where
   pub at : ℕ
-  pub slot : at < 127
+  pub slot : at < 1_021
   pub is : getD N (4_096 + at) 0 ≡ key
-  pub has : (j : ℕ) → bit j goals ≡ true → bit j (getD N (4_223 + at) 0) ≡ true
+  pub has : (j : ℕ) → bit j goals ≡ true → bit j (getD N (5_117 + at) 0) ≡ true
+
+-- goals that are remembered at place k: each is one of these goals, or stands there with the key
+pub record GoalsWith (N : List ℕ) (k key goals all : ℕ) : Type 0 where
+  pub from : (j : ℕ) → bit j all ≡ true → (bit j goals ≡ true) ⊎ ((getD N (4_096 + k) 0 ≡ key) × (bit j (getD N (5_117 + k) 0) ≡ true))
 
 -- nothing changed, or a key is remembered with its goals
 pub data KeyPut (N : List ℕ) (key goals : ℕ) : List ℕ → Type 0 where
   none : KeyPut N key goals N
-  put : (k : ℕ) → k < 127 → KeyPut N key goals (set (set N (4_096 + k) key) (4_223 + k) goals)
+  put : (k all : ℕ) → k < 1_021 → GoalsWith N k key goals all → KeyPut N key goals (set (set N (4_096 + k) key) (5_117 + k) all)
 
 -- what `is_spent` and `put_spent` ask
 pub record SpentPre (N : List ℕ) (q node : ℕ) : Type 0 where
-  pub size : length N ≡ 5_577
+  pub size : length N ≡ 7_365
   pub lower : q < 65_536
   pub node-small : node < 65_536
 

@@ -1,5 +1,5 @@
 // The search for the cheapest run into a set: states are put into an order by what it costs to come from them into the set, with no row
-// made. Order and marks stand in lent words of 64 bits, one for each state; what only saves time stands in 45 KB of the stack.
+// made. Order and marks stand in lent words of 64 bits, one for each state; what only saves time stands in 58 KB of the stack.
 use coin_masks::Notes;
 use coin_masks::mask_of;
 use layout::Table;
@@ -14,7 +14,7 @@ ghost use Rattle.coin_search.specs.Choice.{Best, NextMark, Placed};
 ghost use Rattle.coin_search.specs.Expand.{ExpandPre, Reached, Stepped};
 ghost use Rattle.coin_search.specs.Gather.{Gathered, GatherPre, GoalBit, Goals, OwnState};
 ghost use Rattle.coin_search.specs.Notes.{DoneMet, KeyMet, KeyPut, LowBits, NewBits, NewBitsPre, Noted, NotesHold};
-ghost use Rattle.coin_search.specs.Notes.{SpentPre, spentKey};
+ghost use Rattle.coin_search.specs.Notes.{GoalsWith, SpentPre, spentKey};
 ghost use Rattle.coin_search.specs.Search.{SearchPost, SearchPre};
 ghost use Rattle.coin_search.specs.Start.{Bare, Cleared, FirstIn, Started};
 ghost use Rattle.coin_search.specs.Turn.{TurnPost, TurnPre};
@@ -47,8 +47,11 @@ impl Work {
     // No state of 16 bits.
     pub const NO_STATE: u32 = 65536;
 
-    // How many bits an arrow must skip to be remembered as spent: from fewer on there are too many keys.
+    // How many bits an arrow must skip to be remembered as spent, and at how many bits of a node every arrow is: elsewhere there are too
+    // many keys.
     const SKIPPED: u32 = 3;
+
+    const SHARED: u32 = 5;
 }
 
 // The mark of state s.
@@ -101,7 +104,7 @@ fn add(work: &mut [u64], s: u32, m: u64, count: u32) -> u32
 
 // What is known of both halves of a node of p bits is known of it.
 fn join(notes: &mut [u64], p: u32, node: u32)
-    requires { ⌜ (p < 10) × (node < 1_024) × (length (now notes) ≡ 5_577) ⌝ }
+    requires { ⌜ (p < 10) × (node < 1_024) × (length (now notes) ≡ 7_365) ⌝ }
     ensures { λ _.
         ⌜ now (notes .exit) ≡ set (now (notes .entry)) node
         (bitAnd (getD (now (notes .entry)) (node + 2 ^ p) 0) (getD (now (notes .entry)) (node + 2 * 2 ^ p) 0)) ⌝ }
@@ -232,15 +235,24 @@ fn spent_key(wave: Wave, level: u32, x: u32, node: u32) -> u64
     (x as u64) * 4294967296 + (node as u64) * 65536 + (part as u64)
 }
 
-// Whether it is remembered that all states of a node, of p bits, from which arrow x leads to the goals are marked. Only of an arrow that
-// skips some bits is it.
+// Whether it is worth a place that an arrow with this level is spent at a node of p bits. A guess, which promises nothing.
+fn is_noted(level: u32, p: u32) -> bool
+    requires { ⌜ p ≤ 16 ⌝ }
+{
+    if p == Work::SHARED {
+        return true;
+    }
+    level / 2 >= p + Work::SKIPPED
+}
+
+// Whether it is remembered that all states of a node, of p bits, from which arrow x leads to the goals are marked.
 fn is_spent(words: &[u32], notes: &[u64], wave: Wave, x: u32, p: u32, node: u32) -> bool
     requires { ⌜ HoldsPre (view (wave .rows) (now words)) x × SpentPre (now notes) (wave .lower) node × (p ≤ 16) ⌝ }
     ensures { λ r. ⌜ (r ≡ true → KeyMet (now (notes .entry))
         (spentKey x node (wave .lower / 2 ^ (levelAt (view (wave .rows) (now (words .entry))) x / 2))) (wave .goals)) ⌝ }
 {
     let level = level_of(words, wave.rows, x);
-    if level / 2 < p + Work::SKIPPED {
+    if !is_noted(level, p) {
         return false;
     }
     let key = spent_key(wave, level, x, node);
@@ -262,7 +274,20 @@ fn put_pair(notes: &mut [u64], at: usize, there: usize, x: u64, y: u64)
     notes[there] = y;
 }
 
-// Remembers it of such an arrow.
+// The goals that are remembered at a place: these, and those that stand there where the key does.
+fn goals_with(notes: &[u64], slot: usize, key: u64, goals: u64) -> u64
+    requires { ⌜ (length (now notes) ≡ 7_365) × (slot < 1_021) ⌝ }
+    ensures { λ r. ⌜ GoalsWith (now (notes .entry)) slot key goals r ⌝ }
+{
+    let at = Notes::SPENT + slot;
+    if notes[at] != key {
+        return goals;
+    }
+    let there = Notes::SPENT_GOALS + slot;
+    notes[there] | goals
+}
+
+// Remembers that it is so.
 fn put_spent(words: &[u32], notes: &mut [u64], wave: Wave, x: u32, p: u32, node: u32)
     requires { ⌜ HoldsPre (view (wave .rows) (now words)) x × SpentPre (now notes) (wave .lower) node × (p ≤ 16) ⌝ }
     ensures { λ _.
@@ -270,17 +295,18 @@ fn put_spent(words: &[u32], notes: &mut [u64], wave: Wave, x: u32, p: u32, node:
         (wave .goals) (now (notes .exit)) ⌝ }
 {
     let level = level_of(words, wave.rows, x);
-    if level / 2 < p + Work::SKIPPED {
+    if !is_noted(level, p) {
         return;
     }
     let key = spent_key(wave, level, x, node);
     let slot = (key % Notes::SLOTS) as usize;
+    let goals = goals_with(notes, slot, key, wave.goals);
     put_pair(
         notes,
         Notes::SPENT + slot,
         Notes::SPENT_GOALS + slot,
         key,
-        wave.goals,
+        goals,
     );
 }
 
@@ -508,7 +534,8 @@ fn goals_of(work: &[u64], bits: u32, low: u32, q: u32, m: u64) -> u64
     goals
 }
 
-// Whether the state at a place is the last one in the order with its mark, m.
+// Whether the state at a place is the last one in the order with its mark, m. Nothing rests on it: it saves looking for more goals where there
+// are none.
 fn is_last(work: &[u64], done: u32, count: u32, m: u64) -> bool
     requires { ⌜ Placed (now work) count × (count ≤ 65_536) × (done < 65_536) ⌝ }
 {
@@ -533,7 +560,7 @@ fn gather(work: &[u64], bits: u32, low: u32, q: u32, j: u32, m: u64, done: u32, 
 
 // Whether arrow x has done the goal j of the lower bits q.
 fn is_done(notes: &[u64], x: u32, q: u32, j: u32) -> bool
-    requires { ⌜ (length (now notes) ≡ 5_577) × (q < 1_024) × (j < 64) ⌝ }
+    requires { ⌜ (length (now notes) ≡ 7_365) × (q < 1_024) × (j < 64) ⌝ }
     ensures { λ r. ⌜ (r ≡ true → DoneMet (now (notes .entry)) x q j) ⌝ }
 {
     let at = Notes::DONE + (q as usize);
@@ -546,7 +573,7 @@ fn is_done(notes: &[u64], x: u32, q: u32, j: u32) -> bool
 
 // Arrow x has done some goals of the lower bits q.
 fn put_done(notes: &mut [u64], x: u32, q: u32, goals: u64)
-    requires { ⌜ (length (now notes) ≡ 5_577) × (q < 1_024) ⌝ }
+    requires { ⌜ (length (now notes) ≡ 7_365) × (q < 1_024) ⌝ }
     ensures { λ _. ⌜ now (notes .exit) ≡ set (set (now (notes .entry)) (2_048 + q) x) (3_072 + q) goals ⌝ }
 {
     put_pair(

@@ -1,3 +1,5 @@
 pub mod Given
 pub mod Check
 pub mod PlayingLaws
+pub mod Local
+pub mod Games

@@ -1,3 +1,4 @@
 pub mod Given
 pub mod Check
 pub mod Playing
+pub mod Games

@@ -1,4 +1,5 @@
 // The entry points for C and Rust. Each returns a refusal's number or 0, and writes its other answers, zeros where it is refused.
+use account_calls::terms_at;
 use accounts::Account;
 use accounts::Terms;
 use calls::Answer;
@@ -12,7 +13,8 @@ use formula_steps::Confined;
 use formula_steps::Loaded;
 use formula_steps::Stored;
 use game_calls::Reacted;
-use game_lists::terms_at;
+use game_calls::game_bytes;
+use game_calls::game_target;
 use layout::Refusal;
 use layout::Table;
 use layout::header_word;
@@ -30,10 +32,10 @@ ghost use Rattle.coins.specs.Post.{FarePost};
 ghost use Rattle.contract.specs.Posts.{CallPost, AskPost, SetAllPost};
 ghost use Rattle.formula_steps.specs.Replies.{storedReply};
 ghost use Rattle.game_calls.specs.Post.{ReactPost};
-ghost use Rattle.game_lists.specs.Lent.{ForceAllPost, ReactAllPost};
 ghost use Rattle.log_calls.specs.Post.{LogPost};
 ghost use Rattle.path_calls.specs.Post.{PathPost};
 ghost use Rattle.exports.specs.Given.{given, fareGiven, FreshGiven};
+ghost use Rattle.exports.specs.Games.{ForceAllPost, ReactAllPost};
 ghost use Rattle.exports.specs.Check.{kindOf, CheckPost};
 ghost use Rattle.exports.specs.Playing.{PlayGiven};
 
@@ -298,7 +300,7 @@ pub extern "C" fn kudzuclamp_cheapest(
 }
 
 // Register r holds the states from which the machine can force the goal, the guest moving by relation `guest` and the machine by relation
-// `machine` in turn, found as a set is under the limits of the account at a place; gives its node number, the rounds and the peak.
+// `machine` in turn: a set of the game's bytes, under the limits of the account at a place; gives its node number, the rounds and the peak.
 #[no_mangle]
 pub extern "C" fn kudzuclamp_force(
     words: &mut [u32],
@@ -317,8 +319,19 @@ pub extern "C" fn kudzuclamp_force(
         (now (accounts .entry)) (now (accounts .exit))
         (given k (now (rounds .exit)) (now (peak .exit)) (now (node .exit))) ⌝ }
 {
-    let x = game_lists::force(words, accounts, place, r, most, goal, guest, machine);
-    give_stored(x, node, rounds, peak)
+    let target = game_target(r, goal, guest, machine);
+    let bytes = game_bytes(goal, guest, machine);
+    kudzuclamp_set(
+        words,
+        accounts,
+        place,
+        target,
+        most,
+        &bytes,
+        node,
+        rounds,
+        peak,
+    )
 }
 
 // Gives the state that the machine answers a guest's press with, under what is told of an account; 0 where it is refused.

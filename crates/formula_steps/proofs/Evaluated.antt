@@ -105,7 +105,7 @@ module _ (c : Call) (y : Reply) where
 table-is : (old new : List ℕ) → headerOf new ROWS ≡ headerOf old ROWS → tableOf new ≡ view (headerOf old ROWS) new
 table-is old new e = ap (λ (k : ℕ). view k new) e
 
-and-no : (a : Bool) → (a && false) ≡ false
+pub and-no : (a : Bool) → (a && false) ≡ false
 and-no true = refl
 and-no false = refl
 

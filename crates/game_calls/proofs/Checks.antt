@@ -1,10 +1,9 @@
--- The calls' contracts from their checks, and from what follows them. Assumes nothing.
+-- The second call's contract from its checks, and from what follows them. Assumes nothing.
 use mathlib.Core.Path.{_≡_, refl, sym, ap, _∙_, subst}
 use mathlib.Core.Logic.{_≢_}
-use mathlib.Core.Bool.{Bool, true, false, not, cond, _&&_}
+use mathlib.Core.Bool.{Bool, true, false, _&&_}
 use mathlib.Core.List.{List}
-use mathlib.Core.Option.{Option, none, some}
-use Prim.Native.Nat.{ℕ, zero, suc, _+_, _-_, _*_, _%_, _^_, _≤_, _<_}
+use Prim.Native.Nat.{ℕ, suc, _+_, _-_, _*_, _%_, _^_, _≤_, _<_}
 use native.Mathlib.Omega.{arith}
 use lib.Dec.{T, ltb, ltb→lt, lt→ltb}
 use Rattle.accounts.specs.declared.Terms.{Terms}
@@ -12,70 +11,33 @@ use Rattle.accounts.specs.Terms.{named}
 use Rattle.mucalculus.specs.Form.{filled as hasContent}
 use Rattle.mucalculus.proofs.Sets.{true-of, false-of, and-in, and-out}
 use Rattle.layout.specs.Refusals.{keepsAll}
-use Rattle.layout.specs.Places.{BITS, ROWS, FIRST-REGISTER, FIRST-RELATION}
-use Rattle.layout.specs.View.{View, view, headerOf}
+use Rattle.layout.specs.Places.{BITS, FIRST-REGISTER, FIRST-RELATION}
+use Rattle.layout.specs.View.{View, headerOf}
 use Rattle.diagram.specs.Keep.{Keeps}
 use Rattle.diagram.proofs.Keep.{keeps-refl}
 use Rattle.rows.specs.Used.{rowsOf}
 use Rattle.rows.specs.Sound.{Sound, tableOf}
 use Rattle.rows.proofs.Filled.{filled-arrow}
-use Rattle.book.specs.Book.{Call, set, registers, relations, regFilled, relFilled, collect}
-use Rattle.book.proofs.Effects.{set-out-of-range}
+use Rattle.book.specs.Book.{registers, relations, regFilled, relFilled, collect}
 use Rattle.book.specs.Ticks.{Verdict, counted, full, spent}
 use Rattle.book.specs.Table.{Reply, rootsOf}
 use Rattle.book.specs.BookOf.{bookOf}
 use Rattle.book.specs.Leaves.{plain}
 use Rattle.contract.specs.Seen.{seen, SoundWords}
-use Rattle.contract.specs.Posts.{CallPost}
-use Rattle.contract.proofs.Checked.{call-refused, kept-refused}
+use Rattle.contract.proofs.Checked.{kept-refused}
 use Rattle.contract.proofs.Roots.{root-filled}
+use Rattle.formula_steps.proofs.After.{register-is, relation-is, same-table, rows-kept, words-kept, same-book}
 use Rattle.seek.proofs.Search.{power-fits}
-use Rattle.path_calls.proofs.Checks.{register-is, relation-is, same-table, rows-kept, words-kept, same-book}
-use Rattle.games.specs.Game.{fair, answerTo}
-use Rattle.games.specs.Call.{inRange, gameBytes, gameCall, presses, reactions, goals, gameVerdict, allFilled, reacted, reacts}
-use Rattle.games.proofs.Call.{Ranges, ranges-out, near, reacts-three, reacts-unlisted, reacts-empty, reacts-told}
+use Rattle.games.specs.Call.{numbersInRange, gameVerdict, allFilled, reacted, reacts}
+use Rattle.games.proofs.Call.{ranges-out, near, reacts-three, reacts-unlisted, reacts-empty, reacts-told}
 use Rattle.game_calls.specs.Reacting.{NamedPre, ReactingPre, Reacting}
-use Rattle.game_calls.specs.Post.{Told, ReactPost}
-
--- a test that failed, and one that held
-pub test-no : {r b : Bool} → not r ≡ true → r ≡ b → b ≡ false
-test-no {r} t e = sym e ∙ go r t
-  where
-    go : (r : Bool) → not r ≡ true → r ≡ false
-    go true t = sym t
-    go false t = refl
-
-pub test-yes : {r b : Bool} → not r ≡ false → r ≡ b → b ≡ true
-test-yes {r} t e = sym e ∙ go r t
-  where
-    go : (r : Bool) → not r ≡ false → r ≡ true
-    go true t = refl
-    go false t = sym t
+use Rattle.game_calls.specs.Post.{ReactPost}
 
 -- how many states there are, as the code has it
 pub states-is : (bits n : ℕ) → bits ≡ n → n ≤ 16 → 1 * 2 ^ bits % 4_294_967_296 ≡ 2 ^ n
 states-is bits n e l = power-fits bits (omega arith) ∙ ap (λ (m : ℕ). 2 ^ m) e
 
--- ---- the first call
-
-module _ (acc : Terms) (r R goal guest machine : ℕ) where
-  pub force-range : {ws : List ℕ} → SoundWords ws → inRange goal guest machine ≡ false
-      → CallPost (gameCall acc r R goal guest machine) ws ws (plain 3)
-  force-range {ws} s e =
-      subst (λ (b : Bool). CallPost (set acc (cond b r registers) R (gameBytes goal guest machine)) ws ws (plain 3)) (sym e)
-      (call-refused ws s 2 (set acc registers R (gameBytes goal guest machine))
-      (set-out-of-range (bookOf (seen ws)) acc registers R (gameBytes goal guest machine) (omega arith)))
-
-  pub force-bytes : inRange goal guest machine ≡ true → (goal < 32) × (guest < 8) × (machine < 8)
-  force-bytes e = let w = ranges-out goal guest machine e in (w .goal-in, w .guest-in, w .machine-in)
-
-  pub force-done : inRange goal guest machine ≡ true → {bs old new : List ℕ} {y : Reply} → bs ≡ gameBytes goal guest machine
-      → CallPost (set acc r R bs) old new y → CallPost (gameCall acc r R goal guest machine) old new y
-  force-done e {bs} {old} {new} {y} eb v =
-      subst (λ (b : Bool). CallPost (set acc (cond b r registers) R (gameBytes goal guest machine)) old new y) (sym e)
-      (subst (λ (x : List ℕ). CallPost (set acc r R x) old new y) eb v)
-
--- ---- the second call: refusals by the checks
+-- ---- refusals by the checks
 
 module _ (acc : Terms) (R goal guest machine s t : ℕ) (ws : List ℕ) where
   -- CHECK 2
@@ -89,9 +51,10 @@ module _ (acc : Terms) (R goal guest machine s t : ℕ) (ws : List ℕ) where
       }
 
   module _ (w : SoundWords ws) where
-    refused : (k : ℕ) → reacts (bookOf (seen ws)) goal guest machine acc R s t ≡ plain (suc k)
-        → ReactPost acc R goal guest machine s t ws ws (plain (suc k))
-    refused k e = record {
+    -- what the book answers, with no word changed
+    pub react-stays : {y : Reply} → reacts (bookOf (seen ws)) goal guest machine acc R s t ≡ y
+        → ReactPost acc R goal guest machine s t ws ws y
+    react-stays e = record {
       unsound = λ n. absurd (n w);
       told = λ _. record {
         reply = sym e;
@@ -99,25 +62,25 @@ module _ (acc : Terms) (R goal guest machine s t : ℕ) (ws : List ℕ) where
         rows = keeps-refl (w .good .rows) (λ r m. filled-arrow w r (root-filled (tableOf ws) (w .valid) r m));
       };
       book = refl;
-      kept = kept-refused collect k ws;
+      kept = record { all = λ _. refl; size = refl; header = λ h l i. refl; spare = λ i l. refl; beyond = λ p l. refl; exact = tt };
     }
 
     -- CHECK 3
-    pub react-range : inRange goal guest machine ≡ false → ReactPost acc R goal guest machine s t ws ws (plain 3)
+    pub react-range : numbersInRange goal guest machine ≡ false → ReactPost acc R goal guest machine s t ws ws (plain 3)
     react-range e =
-        refused 2 (reacts-three (bookOf (seen ws)) acc R goal guest machine s t
+        react-stays (reacts-three (bookOf (seen ws)) acc R goal guest machine s t
         (ap (λ (b : Bool). b && (ltb s (2 ^ headerOf ws BITS) && ltb t (2 ^ headerOf ws BITS))) e))
 
     module _ {states : ℕ} (es : states ≡ 2 ^ headerOf ws BITS) where
       far : (near (bookOf (seen ws)) acc R goal guest machine s t ≡ true → ⊥) → ReactPost acc R goal guest machine s t ws ws (plain 3)
       far h =
-          refused 2 (reacts-three (bookOf (seen ws)) acc R goal guest machine s t
+          react-stays (reacts-three (bookOf (seen ws)) acc R goal guest machine s t
           (false-of (near (bookOf (seen ws)) acc R goal guest machine s t) (λ p. h (true-of (near (bookOf
           (seen ws)) acc R goal guest machine s t) p))))
 
       parts : near (bookOf (seen ws)) acc R goal guest machine s t ≡ true → (s < states) × (t < states)
       parts e =
-          let x = and-out (inRange goal guest machine) _ (subst T (sym e) tt) in
+          let x = and-out (numbersInRange goal guest machine) _ (subst T (sym e) tt) in
           let y = and-out (ltb s (2 ^ headerOf ws BITS)) _ (x .1) in
           let i = ltb→lt s (2 ^ headerOf ws BITS) (y .0) in
           let j = ltb→lt t (2 ^ headerOf ws BITS) (y .1) in
@@ -129,19 +92,19 @@ module _ (acc : Terms) (R goal guest machine s t : ℕ) (ws : List ℕ) where
       pub react-press : states ≤ t → ReactPost acc R goal guest machine s t ws ws (plain 3)
       react-press l = far (λ e. let h = parts e .1 in omega arith)
 
-      module _ (r : inRange goal guest machine ≡ true) (ls : s < states) (lt : t < states) where
+      module _ (r : numbersInRange goal guest machine ≡ true) (ls : s < states) (lt : t < states) where
         abbrev k : ℕ
         k = 2 ^ headerOf ws BITS
 
         is-near : near (bookOf (seen ws)) acc R goal guest machine s t ≡ true
         is-near =
             true-of (near (bookOf (seen ws)) acc R goal guest machine s t)
-            (and-in (inRange goal guest machine) _ (subst T (sym r) tt)
+            (and-in (numbersInRange goal guest machine) _ (subst T (sym r) tt)
             (and-in (ltb s k) _ (lt→ltb s k (omega arith)) (lt→ltb t k (omega arith))))
 
         -- CHECK 14
         pub react-unlisted : named acc ≡ false → ReactPost acc R goal guest machine s t ws ws (plain 14)
-        react-unlisted e = refused 13 (reacts-unlisted (bookOf (seen ws)) acc R goal guest machine s t is-near e)
+        react-unlisted e = react-stays (reacts-unlisted (bookOf (seen ws)) acc R goal guest machine s t is-near e)
 
         module _ (l : named acc ≡ true) where
           pub react-passes : NamedPre acc ws goal guest machine s t
@@ -150,7 +113,7 @@ module _ (acc : Terms) (R goal guest machine s t : ℕ) (ws : List ℕ) where
           -- CHECK 7
           empty : (allFilled (bookOf (seen ws)) goal guest machine ≡ true → ⊥) → ReactPost acc R goal guest machine s t ws ws (plain 7)
           empty h =
-              refused 6 (reacts-empty (bookOf (seen ws)) acc R goal guest machine s t is-near l
+              react-stays (reacts-empty (bookOf (seen ws)) acc R goal guest machine s t is-near l
               (false-of (allFilled (bookOf (seen ws)) goal guest machine) (λ p. h (true-of (allFilled (bookOf
               (seen ws)) goal guest machine) p))))
 
@@ -217,7 +180,7 @@ module _ (acc : Terms) (R goal guest machine s t : ℕ) (ws : List ℕ) where
                 (subst T (sym (ap hasContent (relation-is ws (i .machine-in) qz))) tt))))
 
             -- what the rounds end with is none of the checks' numbers
-            late : (v : Verdict) (ok : Bool) (u : ℕ) → T (keepsAll (reacted (bookOf (seen ws)) goal guest machine v ok u .number)) → ⊥
+            late : (v : Verdict) (ok : Bool) (u : ℕ) → T (keepsAll (reacted v ok u .number)) → ⊥
             late full ok u h = h
             late spent ok u h = h
             late (counted q) true u h = h

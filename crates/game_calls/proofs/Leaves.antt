@@ -2,8 +2,7 @@
 use mathlib.Core.Path.{_≡_, refl, sym, ap, ap₂, _∙_, subst}
 use mathlib.Core.Bool.{Bool, true, false, not, cond, _&&_}
 use mathlib.Core.List.{List}
-use mathlib.Core.Option.{Option, none, some}
-use Prim.Native.Nat.{ℕ, suc, _+_, _*_, _^_, _≤_, _<_}
+use Prim.Native.Nat.{ℕ, _*_, _%_, _^_, _≤_, _<_}
 use native.Mathlib.Omega.{arith}
 use lib.Dec.{T, ltb, ltb→lt, lt→ltb}
 use Rattle.accounts.specs.declared.Count.{Count}
@@ -11,58 +10,51 @@ use Rattle.accounts.specs.declared.Terms.{Terms}
 use Rattle.accounts.specs.Terms.{rowsUnder, roundsUnder}
 use Rattle.mucalculus.specs.Sets.{mem}
 use Rattle.mucalculus.proofs.Sets.{true-of, false-of, and-in}
-use Rattle.mucalculus.specs.Form.{Pairs, inside, filled as hasContent}
+use Rattle.mucalculus.specs.Form.{Pairs, filled as hasContent}
 use Rattle.mucalculus.specs.Means.{pair}
-use Rattle.layout.specs.Places.{BITS, ROWS, FIRST-REGISTER, FIRST-RELATION}
+use Rattle.layout.specs.Places.{BITS, ROWS}
 use Rattle.layout.specs.declared.Refusal.the-variants as refusal
 use Rattle.layout.specs.View.{View, view, headerOf}
-use Rattle.diagram.specs.Keep.{Keeps}
-use Rattle.diagram.proofs.Keep.{keeps-trans}
-use Rattle.diagram.proofs.Collect.{collects-keeps}
 use Rattle.diagram.specs.Rows.{Arrow}
 use Rattle.diagram.specs.Post.{Denotes}
 use Rattle.rows.specs.Used.{rowsOf}
 use Rattle.rows.specs.Sound.{Sound, tableOf}
-use Rattle.rows.specs.Filled.{filled}
-use Rattle.collect.specs.Answers.{FreeManyPost, few, many}
+use Rattle.collect.specs.Answers.{FreeManyPost}
 use Rattle.collect.proofs.Answers.{sound-base}
-use Rattle.operations.specs.Work.{OpFrame}
-use Rattle.operations.proofs.Work.{op-trans, op-made}
 use Rattle.book.specs.Bridge.{fnOf, fnOfPairs}
-use Rattle.book.specs.Ticks.{Verdict, counted, full, spent}
+use Rattle.book.specs.Ticks.{Verdict, counted}
 use Rattle.book.specs.Book.{Book, registers, relations, regFilled, relFilled}
-use Rattle.book.specs.Table.{Reply, Shows}
+use Rattle.book.specs.Table.{Shows}
 use Rattle.book.specs.BookOf.{bookOf}
 use Rattle.book.proofs.BookOf.{shows-bookOf}
-use Rattle.book.specs.Leaves.{plain, valued}
-use Rattle.contract.specs.Seen.{seenIn, seen, SoundWords}
+use Rattle.book.specs.Leaves.{valued}
+use Rattle.contract.specs.Seen.{seen}
 use Rattle.contract.proofs.Seen.{sound-table}
 use Rattle.modal.specs.declared.Limits.{Limits}
-use Rattle.seek.specs.Walk.{HoldsPre, holdsAt}
-use Rattle.layers.proofs.Scene.{filled-same}
-use Rattle.path_calls.proofs.Searching.{After}
-use Rattle.path_calls.proofs.Checks.{register-is, relation-is}
-use Rattle.games.specs.Game.{forced, fair, answerTo}
-use Rattle.games.specs.Call.{inRange, gameBytes, presses, reactions, goals, gameVerdict, allFilled, reacted}
+use Rattle.formula_steps.proofs.After.{After, freed, register-is, relation-is}
+use Rattle.seek.specs.Walk.{HoldsPre}
+use Rattle.games.specs.Game.{forced, answerable, answerTo}
+use Rattle.games.specs.Call.{numbersInRange, gameTarget, gameBytes, presses, reactions, goals, allFilled, reacted}
+use Rattle.games.proofs.Call.{Ranges}
 use Rattle.game_steps.specs.declared.Asked.{Asked}
 use Rattle.game_steps.specs.declared.Watched.{Watched}
 use Rattle.game_steps.specs.declared.Watched.the-variants as watched
-use Rattle.game_steps.specs.Watch.{Heard}
-use Rattle.game_steps.specs.Whole.{Given, RoundsPre, RoundsPost, Says, is-made, is-full, is-spent}
+use Rattle.game_steps.specs.Watch.{AnswerNoted}
+use Rattle.game_steps.specs.Whole.{Given, RoundsPre, RoundsPost, RoundsSay, is-made, is-full, is-spent}
 use Rattle.game_steps.proofs.Standing.{set-holds, pair-holds, place-holds}
 use Rattle.game_calls.specs.declared.Reacted.{Reacted}
 use Rattle.game_calls.specs.declared.Reacted.the-variants as answer
-use Rattle.game_calls.specs.Reacting.{reactedReply, fairAt, toldOf, ReactingPre, Reacting}
+use Rattle.game_calls.specs.Reacting.{reactedReply, openMoveAt, toldOf, ReactingPre, Reacting}
 
 -- ---- in_range
 
 module _ (goal guest machine : ℕ) where
-  pub range-goal : registers ≤ goal → false ≡ inRange goal guest machine
+  pub range-goal : registers ≤ goal → false ≡ numbersInRange goal guest machine
   range-goal l =
       sym (ap (λ (b : Bool). b && (ltb guest relations && ltb machine relations))
       (false-of (ltb goal registers) (λ h. let i = ltb→lt goal registers h in omega arith)))
 
-  pub range-guest : relations ≤ guest → false ≡ inRange goal guest machine
+  pub range-guest : relations ≤ guest → false ≡ numbersInRange goal guest machine
   range-guest l =
       sym (ap (λ (b : Bool). ltb goal registers && (b && ltb machine relations))
       (false-of (ltb guest relations) (λ h. let i = ltb→lt guest relations h in omega arith)) ∙ and-no (ltb goal registers))
@@ -71,7 +63,7 @@ module _ (goal guest machine : ℕ) where
       and-no true = refl
       and-no false = refl
 
-  pub range-machine : relations ≤ machine → false ≡ inRange goal guest machine
+  pub range-machine : relations ≤ machine → false ≡ numbersInRange goal guest machine
   range-machine l =
       sym (ap (λ (b : Bool). ltb goal registers && (ltb guest relations && b))
       (false-of (ltb machine relations) (λ h. let i = ltb→lt machine relations h in omega arith))
@@ -82,19 +74,40 @@ module _ (goal guest machine : ℕ) where
       and-no true false = refl
       and-no false c = refl
 
-  pub range-yes : goal < registers → guest < relations → machine < relations → true ≡ inRange goal guest machine
+  pub range-yes : goal < registers → guest < relations → machine < relations → true ≡ numbersInRange goal guest machine
   range-yes g p m =
-      sym (true-of (inRange goal guest machine)
+      sym (true-of (numbersInRange goal guest machine)
       (and-in (ltb goal registers) _ (lt→ltb goal registers g)
       (and-in (ltb guest relations) _ (lt→ltb guest relations p) (lt→ltb machine relations m))))
 
--- ---- is_fair
+  -- ---- game_target
 
-pub fair-no : (g q : Bool) {r : Bool} → r ≡ g → r ≡ true → false ≡ (not g && q)
-fair-no g q e t = ap (λ (b : Bool). not b && q) (sym t ∙ e)
+  module _ (r : ℕ) {b : Bool} (e : b ≡ numbersInRange goal guest machine) where
+    pub target-in : b ≡ true → r ≡ gameTarget r goal guest machine
+    target-in t = ap (λ (c : Bool). cond c r registers) (sym t ∙ e)
 
-pub fair-yes : (g q : Bool) {r p : Bool} → r ≡ g → r ≡ false → p ≡ q → p ≡ (not g && q)
-fair-yes g q e f h = h ∙ ap (λ (b : Bool). not b && q) (sym f ∙ e)
+    pub target-out : b ≡ false → registers ≡ gameTarget r goal guest machine
+    target-out t = ap (λ (c : Bool). cond c r registers) (sym t ∙ e)
+
+  -- ---- game_bytes
+
+  -- numbers in range are what is left of them
+  pub bytes-are : Ranges goal guest machine → gameBytes (goal % 32) (guest % 8) (machine % 8) ≡ gameBytes goal guest machine
+  bytes-are i =
+      let g = i .goal-in in
+      let p = i .guest-in in
+      let m = i .machine-in in
+      let eg : goal % 32 ≡ goal = omega arith in
+      let ep : guest % 8 ≡ guest = omega arith in
+      let em : machine % 8 ≡ machine = omega arith in rw (eg, ep, em) refl
+
+-- ---- is_open_move
+
+pub open-move-no : (g q : Bool) {r : Bool} → r ≡ g → r ≡ true → false ≡ (not g && q)
+open-move-no g q e t = ap (λ (b : Bool). not b && q) (sym t ∙ e)
+
+pub open-move-yes : (g q : Bool) {r p : Bool} → r ≡ g → r ≡ false → p ≡ q → p ≡ (not g && q)
+open-move-yes g q e f h = h ∙ ap (λ (b : Bool). not b && q) (sym f ∙ e)
 
 -- ---- told
 
@@ -105,8 +118,8 @@ module _ (ok : Bool) (n : ℕ) where
   pub told-spent : {w : Watched} → w ≡ watched.Spent → toldOf ok n watched.Spent ≡ toldOf ok n w
   told-spent e = ap (toldOf ok n) (sym e)
 
-  pub told-unfair : (u : ℕ) {w : Watched} → w ≡ watched.Made u → not ok ≡ true → answer.Refused refusal.NoAnswer ≡ toldOf ok n w
-  told-unfair u e t = go ok t ∙ ap (toldOf ok n) (sym e)
+  pub told-no-move : (u : ℕ) {w : Watched} → w ≡ watched.Made u → not ok ≡ true → answer.Refused refusal.NoAnswer ≡ toldOf ok n w
+  told-no-move u e t = go ok t ∙ ap (toldOf ok n) (sym e)
     where
       go : (ok : Bool) → not ok ≡ true → answer.Refused refusal.NoAnswer ≡ toldOf ok n (watched.Made u)
       go true t = absurd (subst T (sym t) tt)
@@ -133,47 +146,37 @@ module _ (ok : Bool) (n : ℕ) where
 
 -- ---- the answer, from what was heard
 
-module _ (b : Book) (goal guest machine : ℕ) (k : ℕ) (G M : Pairs) (B : List Bool) (s t n : ℕ) (e : k ≡ 2 ^ n) where
-  fair-by : (f ok : Bool) → mem (forced k G M B) s ≡ f → ok ≡ (not (mem B s) && pair G s t) → fair k G M B s t ≡ (f && ok)
-  fair-by f ok i q = ap₂ _&&_ i (sym q)
+module _ (k : ℕ) (G M : Pairs) (B : List Bool) (s t n : ℕ) (e : k ≡ 2 ^ n) where
+  answerable-by : (f ok : Bool) → mem (forced k G M B) s ≡ f → ok ≡ (not (mem B s) && pair G s t) → answerable k G M B s t ≡ (f && ok)
+  answerable-by f ok i q = ap₂ _&&_ i (sym q)
 
-  made-is : (p : Count) (x : ℕ) → Heard k G M B s t x → (ok f : Bool) → ok ≡ (not (mem B s) && pair G s t)
+  made-is : (p : Count) (x : ℕ) → AnswerNoted k G M B s t x → (ok f : Bool) → ok ≡ (not (mem B s) && pair G s t)
       → mem (forced k G M B) s ≡ f
-      → reactedReply (toldOf ok n (watched.Made x)) ≡ reacted b goal guest machine (counted p) (fair k G M B s t) (answerTo k G M B s t)
+      → reactedReply (toldOf ok n (watched.Made x)) ≡ reacted (counted p) (answerable k G M B s t) (answerTo k G M B s t)
   made-is p x h false true q i =
-      sym (ap (λ (c : Bool). reacted b goal guest machine (counted p) c (answerTo k G M B s t)) (fair-by true false i q))
+      sym (ap (λ (c : Bool). reacted (counted p) c (answerTo k G M B s t)) (answerable-by true false i q))
   made-is p x h false false q i =
-      sym (ap (λ (c : Bool). reacted b goal guest machine (counted p) c (answerTo k G M B s t)) (fair-by false false i q))
+      sym (ap (λ (c : Bool). reacted (counted p) c (answerTo k G M B s t)) (answerable-by false false i q))
   made-is p x h true false q i =
       let z : x ≡ k = h .outside i in
       ap (λ (c : Bool). reactedReply (cond c (answer.State x) (answer.Refused refusal.NoAnswer)))
       (false-of (ltb x (2 ^ n)) (λ j. let l = ltb→lt x (2 ^ n) j in omega arith))
-      ∙ sym (ap (λ (c : Bool). reacted b goal guest machine (counted p) c (answerTo k G M B s t)) (fair-by false true i q))
+      ∙ sym (ap (λ (c : Bool). reacted (counted p) c (answerTo k G M B s t)) (answerable-by false true i q))
   made-is p x h true true q i =
-      let w = h .found (subst T (sym (fair-by true true i q)) tt) in
+      let w = h .found (subst T (sym (answerable-by true true i q)) tt) in
       let l = w .1 in
       ap (λ (c : Bool). reactedReply (cond c (answer.State x) (answer.Refused refusal.NoAnswer))) (true-of (ltb x (2 ^ n)) (lt→ltb x
       (2 ^ n) (omega arith)))
       ∙ ap valued (w .0)
-      ∙ sym (ap (λ (c : Bool). reacted b goal guest machine (counted p) c (answerTo k G M B s t)) (fair-by true true i q))
+      ∙ sym (ap (λ (c : Bool). reacted (counted p) c (answerTo k G M B s t)) (answerable-by true true i q))
 
-  pub reply-is : (ok : Bool) → ok ≡ (not (mem B s) && pair G s t) → {v : Verdict} {w : Watched} → Says (Heard k G M B s t) v w
-      → reactedReply (toldOf ok n w) ≡ reacted b goal guest machine v (fair k G M B s t) (answerTo k G M B s t)
+  pub reply-is : (ok : Bool) → ok ≡ (not (mem B s) && pair G s t) → {v : Verdict} {w : Watched} → RoundsSay (AnswerNoted k G M B s t) v w
+      → reactedReply (toldOf ok n w) ≡ reacted v (answerable k G M B s t) (answerTo k G M B s t)
   reply-is ok q is-full = refl
   reply-is ok q is-spent = refl
   reply-is ok q (is-made {q = p} {x = x} h) = made-is p x h ok (mem (forced k G M B) s) q refl
 
 -- ---- the second call after its checks
-
--- rows freed afterwards, or not
-pub freed : {X Y Z : View} → After X Y → FreeManyPost Y Z → After X Z
-freed {X} s (few e) = subst (After X) (sym e) s
-freed {X} {Y} {Z} s (many f) = record {
-  sound = f .sound;
-  frame = op-trans (s .frame) (op-made (f .frame));
-  kept = keeps-trans (s .kept)
-      (subst (λ (xs : List ℕ). Keeps (rowsOf Y) (rowsOf Z) xs) (filled-same (s .frame)) (collects-keeps (f .collects)));
-}
 
 abbrev pub limitsOf : ℕ → ℕ → ℕ → ℕ → Limits
 limitsOf bits rows limit rounds = record { bits = bits; rows = rows; limit = limit; rounds = rounds }
@@ -194,28 +197,32 @@ module _ {old : List ℕ} {goal guest machine x y z s t : ℕ} (p : ReactingPre 
   shows : Shows bk (seen old)
   shows = shows-bookOf (seen old) (sound-table W (p .sound))
 
-  goal-denotes : Denotes (2 * n) (rowsOf W) x (fnOf n (goals bk goal guest machine))
+  goal-denotes : Denotes (2 * n) (rowsOf W) x (fnOf n (goals bk goal))
   goal-denotes = place-holds (fnOf n) (bk .reg goal) (p .goal-is) (shows .reg goal (p .goal-in))
 
-  guest-denotes : Denotes (2 * n) (rowsOf W) y (fnOfPairs n (presses bk goal guest machine))
+  guest-denotes : Denotes (2 * n) (rowsOf W) y (fnOfPairs n (presses bk guest))
   guest-denotes = place-holds (fnOfPairs n) (bk .rel guest) (p .guest-is) (shows .rel guest (p .guest-in))
 
   walk : {c : ℕ} → Arrow (rowsOf W) c → HoldsPre W c
   walk u = record { mark = record { base = sound-base (p .sound); arrow = u }; bits = p .sound .good .sizes .n-max }
 
-  pub fair-asks : {rows : ℕ} → rows ≡ headerOf old ROWS → HoldsPre (view rows old) x × HoldsPre (view rows old) y
-  fair-asks {rows} er = subst (λ (N : ℕ). HoldsPre (view N old) x × HoldsPre (view N old) y) (sym er) (
+  pub open-move-asks : {rows : ℕ} → rows ≡ headerOf old ROWS → HoldsPre (view rows old) x × HoldsPre (view rows old) y
+  open-move-asks {rows} er = subst (λ (N : ℕ). HoldsPre (view N old) x × HoldsPre (view N old) y) (sym er) (
     walk (goal-denotes .arrow),
     walk
         (guest-denotes .arrow),
   )
 
-  fair-is : {rows : ℕ} {ok : Bool} → rows ≡ headerOf old ROWS → ok ≡ fairAt (view rows old) x y s t
-      → ok ≡ (not (mem (goals bk goal guest machine) s) && pair (presses bk goal guest machine) s t)
-  fair-is {rows} {ok} er e =
-      subst (λ (N : ℕ). ok ≡ fairAt (view N old) x y s t) er e
-      ∙ ap₂ (λ (a c : Bool). not a && c) (set-holds n W (goals bk goal guest machine) refl goal-denotes s (p .state))
-      (pair-holds n W (presses bk goal guest machine) refl guest-denotes s t (p .state) (p .press))
+  open-move-is : {rows : ℕ} {ok : Bool} → rows ≡ headerOf old ROWS → ok ≡ openMoveAt (view rows old) x y s t
+      → ok ≡ (not (mem (goals bk goal) s) && pair (presses bk guest) s t)
+  open-move-is {rows} {ok} er e =
+      subst (λ (N : ℕ). ok ≡ openMoveAt (view N old) x y s t) er e
+      ∙ ap₂ (λ (a c : Bool). not a && c) (set-holds n W (goals bk goal) refl goal-denotes s (p .state))
+      (pair-holds n W (presses bk guest) refl guest-denotes s t (p .state) (p .press))
+
+  pub bytes-made : {xs : List ℕ} → xs ≡ gameBytes (goal % 32) (guest % 8) (machine % 8) → xs ≡ gameBytes goal guest machine
+  bytes-made e =
+      e ∙ bytes-are goal guest machine (record { goal-in = p .goal-in; guest-in = p .guest-in; machine-in = p .machine-in })
 
   all-filled : allFilled bk goal guest machine ≡ true
   all-filled =
@@ -262,7 +269,7 @@ module _ {old : List ℕ} {goal guest machine x y z s t : ℕ} (p : ReactingPre 
       pub freeing : Sound Y
       freeing = post goal guest machine (given eb es) .sound
 
-      pub game-done : {new : List ℕ} {ok : Bool} → ok ≡ fairAt (view rows old) x y s t → FreeManyPost Y (view rows new)
+      pub game-done : {new : List ℕ} {ok : Bool} → ok ≡ openMoveAt (view rows old) x y s t → FreeManyPost Y (view rows new)
           → {r : Reacted} → r ≡ toldOf ok bits w → Reacting acc R goal guest machine s t old new (reactedReply r)
       game-done {new} {ok} ef f {r} e =
           let q = post goal guest machine (given eb es) in
@@ -274,6 +281,6 @@ module _ {old : List ℕ} {goal guest machine x y z s t : ℕ} (p : ReactingPre 
             kept = a .kept;
             reply = ap reactedReply e
                 ∙ ap (λ (m : ℕ). reactedReply (toldOf ok m w)) eb
-                ∙ reply-is bk goal guest machine (2 ^ n) (presses bk goal guest machine) (reactions bk goal guest machine)
-                (goals bk goal guest machine) s t n refl ok (fair-is er ef) (q .says);
+                ∙ reply-is (2 ^ n) (presses bk guest) (reactions bk machine)
+                (goals bk goal) s t n refl ok (open-move-is er ef) (q .says);
           }

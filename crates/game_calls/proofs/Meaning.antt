@@ -3,8 +3,7 @@
 use mathlib.Core.Path.{_≡_, refl, sym, ap, _∙_, subst}
 use mathlib.Core.HLevel.{Discrete}
 use mathlib.Core.Bool.{Bool, true, false, _&&_, _||_, Bool-discrete}
-use mathlib.Core.List.{List, []}
-use mathlib.Core.Option.{some}
+use mathlib.Core.List.{List}
 use Prim.Native.Nat.{ℕ, _^_}
 use native.Mathlib.Decide.{ℕ-discrete}
 use lib.Dec.{T, eqb}
@@ -21,12 +20,11 @@ use Rattle.contract.specs.Seen.{seen, SoundWords}
 use Rattle.contract.proofs.Seen.{any-words, sound-table}
 use Rattle.contract.specs.Kept.{freeWord, changes}
 use Rattle.contract.specs.Posts.{CallPost}
-use Rattle.path_calls.specs.OnePath.{OnePath}
-use Rattle.games.specs.Game.{fair}
-use Rattle.games.specs.Call.{gameCall, presses, reactions, goals, forcedIn, reacts}
+use Rattle.games.specs.Call.{gameCall, presses, reactions, goals, forcedIn}
 use Rattle.games.specs.Meaning.{AnswerIs}
 use Rattle.games.proofs.Meaning.{forced-set, force-stores, react-answers, react-fifteen}
 use Rattle.game_calls.specs.Post.{ReactPost}
+use Rattle.game_calls.specs.OneReact.{OneReact}
 use Rattle.game_calls.specs.Meaning.{ForceMeant, ReactMeant}
 
 -- a word that is not free is not changed
@@ -51,19 +49,25 @@ module _ (acc : Terms) (R goal guest machine s t : ℕ) (old : List ℕ) {v w : 
   one-end : (SoundWords old → ⊥) → v ≡ w
   one-end n = p .unsound n .1 ∙ sym (q .unsound n .1)
 
-  -- one reply, and one book of the words that are left; no list is lent to it
-  pub react-one : OnePath old v w [] [] y z
+  one-rounds : y .rounds ≡ z .rounds
+  one-rounds =
+      agree ℕ-discrete (λ s. ap (λ (r : Reply). r .rounds) (p .told s .reply ∙ sym (q .told s .reply)))
+      (λ n. p .unsound n .0 .1 ∙ sym (q .unsound n .0 .1))
+
+  one-peak : y .peak ≡ z .peak
+  one-peak =
+      agree ℕ-discrete (λ s. ap (λ (r : Reply). r .peak) (p .told s .reply ∙ sym (q .told s .reply)))
+      (λ n. p .unsound n .0 .2 ∙ sym (q .unsound n .0 .2))
+
+  one-value : y .value ≡ z .value
+  one-value =
+      agree ℕ-discrete (λ s. ap (λ (r : Reply). r .value) (p .told s .reply ∙ sym (q .told s .reply)))
+      (λ n. p .unsound n .0 .3 ∙ sym (q .unsound n .0 .3))
+
+  -- one reply, and one book of the words that are left
+  pub react-one : OneReact old v w y z
   react-one = record {
-    number = one-number;
-    rounds =
-        agree ℕ-discrete (λ s. ap (λ (r : Reply). r .rounds) (p .told s .reply ∙ sym (q .told s .reply)))
-        (λ n. p .unsound n .0 .1 ∙ sym (q .unsound n .0 .1));
-    peak = agree ℕ-discrete (λ s. ap (λ (r : Reply). r .peak) (p .told s .reply ∙ sym (q .told s .reply)))
-        (λ n. p .unsound n .0 .2 ∙ sym (q .unsound n .0 .2));
-    states =
-        agree ℕ-discrete (λ s. ap (λ (r : Reply). r .value) (p .told s .reply ∙ sym (q .told s .reply)))
-        (λ n. p .unsound n .0 .3 ∙ sym (q .unsound n .0 .3));
-    list = refl;
+    reply = λ i. record { number = one-number i; rounds = one-rounds i; peak = one-peak i; value = one-value i };
     book = p .book ∙ sym (q .book);
     size = p .kept .size ∙ sym (q .kept .size);
     header = λ h i e. p .kept .header h i (fixed h y e) ∙ sym (q .kept .header h i (fixed h z e));
@@ -97,7 +101,7 @@ force-means acc r R goal guest machine {old} {new} {y} p s e =
     record {
       set = forcedIn bk goal guest machine;
       stored = ap (λ (b : Book). b .reg r) (sym same) ∙ force-stores bk goal guest machine w acc r R (sym (d .agrees .number) ∙ e);
-      is = forced-set (2 ^ bk .n) (presses bk goal guest machine) (reactions bk goal guest machine) (goals bk goal guest machine);
+      is = forced-set (2 ^ bk .n) (presses bk guest) (reactions bk machine) (goals bk goal);
     }
 
 -- THE SECOND CALL
@@ -108,10 +112,10 @@ react-means acc R goal guest machine s t {old} {new} {y} p w =
     let e = p .told w .reply in
     record {
       set = forcedIn bk goal guest machine;
-      is = forced-set (2 ^ bk .n) (presses bk goal guest machine) (reactions bk goal guest machine) (goals bk goal guest machine);
+      is = forced-set (2 ^ bk .n) (presses bk guest) (reactions bk machine) (goals bk goal);
       answered = λ z.
-          subst (λ (u : Reply). AnswerIs (2 ^ bk .n) (presses bk goal guest machine) (reactions bk goal guest machine)
-          (goals bk goal guest machine) (forcedIn bk goal guest machine) s t (u .value)) (sym e)
+          subst (λ (u : Reply). AnswerIs (2 ^ bk .n) (presses bk guest) (reactions bk machine)
+          (goals bk goal) (forcedIn bk goal guest machine) s t (u .value)) (sym e)
           (react-answers bk goal guest machine acc R s t (sym (ap (λ (u : Reply). u .number) e) ∙ z));
       no-answer = λ z. react-fifteen bk goal guest machine acc R s t (sym (ap (λ (u : Reply). u .number) e) ∙ z);
     }

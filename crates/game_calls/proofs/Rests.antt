@@ -7,11 +7,9 @@ use Rattle.accounts.specs.declared.Terms.{Terms}
 use Rattle.accounts.specs.Terms.{termsOf}
 use Rattle.book.specs.Book.{Book}
 use Rattle.book.specs.Table.{Reply}
-use Rattle.book.specs.BookOf.{bookOf}
 use Rattle.book.specs.Demand.{Event, calls, bookAfter, Session}
 use Rattle.book.specs.Raised.{AllZero, Looser, Cut}
 use Rattle.book.proofs.Raised.{eased-list}
-use Rattle.contract.specs.Seen.{seen}
 use Rattle.contract.specs.Closed.{makes, performs, rests}
 use Rattle.contract.proofs.Closed.{words-demand, kept-rests}
 use Rattle.contract.specs.Shared.{Lent, Step, Rest, SharedSession}

@@ -1,3 +1,4 @@
 pub mod Reacting
 pub mod Post
+pub mod OneReact
 pub mod Meaning

@@ -21,8 +21,8 @@ use Rattle.book.specs.BookOf.{bookOf}
 use Rattle.book.specs.Leaves.{plain, valued}
 use Rattle.contract.specs.Seen.{seen, SoundWords}
 use Rattle.seek.specs.Walk.{holdsAt}
-use Rattle.games.specs.Game.{fair, answerTo}
-use Rattle.games.specs.Call.{inRange, presses, reactions, goals, gameVerdict, reacted}
+use Rattle.games.specs.Game.{answerable, answerTo}
+use Rattle.games.specs.Call.{numbersInRange, presses, reactions, goals, gameVerdict, reacted}
 use Rattle.game_steps.specs.declared.Watched.{Watched}
 use Rattle.game_steps.specs.declared.Watched.the-variants as watched
 use Rattle.game_calls.specs.declared.Reacted.{Reacted}
@@ -34,8 +34,8 @@ reactedReply (answer.State u) = valued u
 reactedReply (answer.Refused e) = plain (refusalNumber e)
 
 -- the press is a guest move of a state outside the goal, by their arrows
-abbrev pub fairAt : View → ℕ → ℕ → ℕ → ℕ → Bool
-fairAt W goal guest s t = not (holdsAt W goal s 0) && holdsAt W guest s t
+abbrev pub openMoveAt : View → ℕ → ℕ → ℕ → ℕ → Bool
+openMoveAt W goal guest s t = not (holdsAt W goal s 0) && holdsAt W guest s t
 
 -- what is answered by what was watched
 abbrev pub toldOf : Bool → ℕ → Watched → Reacted
@@ -47,7 +47,7 @@ toldOf ok n (watched.Made u) = cond ok (cond (ltb u (2 ^ n)) (answer.State u) (a
 -- a sound table, numbers in range, and the account named: checks 2, 3 and 14 are passed
 pub record NamedPre (acc : Terms) (old : List ℕ) (goal guest machine s t : ℕ) : Type 0 where
   pub sound : SoundWords old
-  pub ranges : inRange goal guest machine ≡ true
+  pub ranges : numbersInRange goal guest machine ≡ true
   pub state : s < 2 ^ headerOf old BITS
   pub press : t < 2 ^ headerOf old BITS
   pub listed : named acc ≡ true
@@ -69,9 +69,9 @@ pub record Reacting (acc : Terms) (R goal guest machine s t : ℕ) (old new : Li
   pub sound : Sound (view (headerOf old ROWS) new)
   pub frame : OpFrame (tableOf old) (view (headerOf old ROWS) new)
   pub kept : Keeps (rowsOf (tableOf old)) (rowsOf (view (headerOf old ROWS) new)) (filled (tableOf old))
-  pub reply : y ≡ reacted (bookOf (seen old)) goal guest machine (gameVerdict (bookOf (seen old)) goal guest machine acc R)
-      (fair (2 ^ bookOf (seen old) .n) (presses (bookOf (seen old)) goal guest machine) (reactions (bookOf (seen old)) goal guest machine)
-      (goals (bookOf (seen old)) goal guest machine) s t)
-      (answerTo (2 ^ bookOf (seen old) .n) (presses (bookOf (seen old)) goal guest machine) (reactions (bookOf
-      (seen old)) goal guest machine)
-      (goals (bookOf (seen old)) goal guest machine) s t)
+  pub reply : y ≡ reacted (gameVerdict (bookOf (seen old)) goal guest machine acc R)
+      (answerable (2 ^ bookOf (seen old) .n) (presses (bookOf (seen old)) guest) (reactions (bookOf (seen old)) machine)
+      (goals (bookOf (seen old)) goal) s t)
+      (answerTo (2 ^ bookOf (seen old) .n) (presses (bookOf (seen old)) guest) (reactions (bookOf
+      (seen old)) machine)
+      (goals (bookOf (seen old)) goal) s t)

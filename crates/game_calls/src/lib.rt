@@ -1,12 +1,10 @@
-// The two calls of the game of guest against machine, under what they are told of an account: the set of states from which the machine can
-// force the goal, and the machine's answer to a press.
+// Guest against machine. The first call, the set of states from which the machine can force the goal, is a set call: its register and its
+// bytes are made here. The second, the machine's answer to a press, is told of an account.
 use accounts::Terms;
 use accounts::is_named;
 use accounts::rounds_under;
 use accounts::rows_under;
 use collect::free_many;
-use formula_calls::set_unchecked;
-use formula_steps::Stored;
 use game_steps::Asked;
 use game_steps::Watched;
 use game_steps::watch_rounds;
@@ -17,13 +15,11 @@ use modal::Limits;
 use seek::holds;
 use soundness::sound;
 ghost use mathlib.Core.Path.{_≡_};
-ghost use Prim.Native.Nat.{_<_, _≤_};
+ghost use Prim.Native.Nat.{_%_, _≤_};
 ghost use Rattle.layout.specs.View.{view};
 ghost use Rattle.seek.specs.Walk.{HoldsPre};
-ghost use Rattle.contract.specs.Posts.{CallPost};
-ghost use Rattle.formula_steps.specs.Replies.{storedReply};
-ghost use Rattle.games.specs.Call.{inRange, gameBytes, gameCall};
-ghost use Rattle.game_calls.specs.Reacting.{fairAt, toldOf, reactedReply, NamedPre, ReactingPre, Reacting};
+ghost use Rattle.games.specs.Call.{numbersInRange, gameTarget, gameBytes};
+ghost use Rattle.game_calls.specs.Reacting.{openMoveAt, toldOf, reactedReply, NamedPre, ReactingPre, Reacting};
 ghost use Rattle.game_calls.specs.Post.{ReactPost};
 
 // What the second call answers: the state that the machine's move leads to.
@@ -32,20 +28,20 @@ pub enum Reacted {
     Refused(Refusal),
 }
 
-// The bytes of mu P (goal or (box guest of diamond machine of P, and diamond guest of true)).
-fn game_bytes(goal: u32, guest: u32, machine: u32) -> [u8; 12]
-    requires { ⌜ (goal < 32) × (guest < 8) × (machine < 8) ⌝ }
-    ensures { λ r. ⌜ r ≡ gameBytes goal guest machine ⌝ }
+// The bytes of mu P (goal or (box guest of diamond machine of P, and diamond guest of true)); where there is no such register or relation,
+// those of others.
+pub fn game_bytes(goal: u32, guest: u32, machine: u32) -> [u8; 12]
+    ensures { λ r. ⌜ r ≡ gameBytes (goal % 32) (guest % 8) (machine % 8) ⌝ }
 {
-    let x = goal as u8;
-    let y = guest as u8;
-    let z = machine as u8;
+    let x = (goal % Table::REGISTERS) as u8;
+    let y = (guest % Table::RELATIONS) as u8;
+    let z = (machine % Table::RELATIONS) as u8;
     [0, 10, 1, 112, 4, 64 + x, 3, 96 + y, 104 + z, 48, 104 + y, 1]
 }
 
 // Whether there are such a register and such relations.
 fn in_range(goal: u32, guest: u32, machine: u32) -> bool
-    ensures { λ r. ⌜ r ≡ inRange goal guest machine ⌝ }
+    ensures { λ r. ⌜ r ≡ numbersInRange goal guest machine ⌝ }
 {
     if goal >= Table::REGISTERS {
         return false;
@@ -59,34 +55,20 @@ fn in_range(goal: u32, guest: u32, machine: u32) -> bool
     true
 }
 
-// Register r holds the states from which the machine can force the goal, as a set call on the game's bytes does; 2 on unsound words, 3
-// where there is no such register or relation, 14 where the list has not the account named, 7 where one is empty, 8 where a step needs more
-// rows than there are, 9 where the rounds are used up.
-pub fn force(
-    words: &mut [u32],
-    terms: Terms,
-    r: u32,
-    most: u32,
-    goal: u32,
-    guest: u32,
-    machine: u32,
-) -> Stored
-    ensures { λ x. ⌜ CallPost (gameCall terms r most goal guest machine) (now (words .entry)) (now (words .exit)) (storedReply x) ⌝ }
+// The register that the first call sets: r, and none where there is no such register or relation, so that 3 is given.
+pub fn game_target(r: u32, goal: u32, guest: u32, machine: u32) -> u32
+    ensures { λ q. ⌜ q ≡ gameTarget r goal guest machine ⌝ }
 {
-    if !sound(words) {
-        return Stored::Refused(Refusal::Unsound);
+    if in_range(goal, guest, machine) {
+        return r;
     }
-    if !in_range(goal, guest, machine) {
-        return Stored::Refused(Refusal::Range);
-    }
-    let bytes = game_bytes(goal, guest, machine);
-    set_unchecked(words, terms, r, most, &bytes)
+    Table::REGISTERS
 }
 
 // Whether the press is a guest move of a state outside the goal, by their arrows.
-fn is_fair(words: &[u32], rows: u32, goal: u32, guest: u32, state: u32, press: u32) -> bool
+fn is_open_move(words: &[u32], rows: u32, goal: u32, guest: u32, state: u32, press: u32) -> bool
     requires { ⌜ HoldsPre (view rows (now words)) goal × HoldsPre (view rows (now words)) guest ⌝ }
-    ensures { λ r. ⌜ r ≡ fairAt (view rows (now (words .entry))) goal guest state press ⌝ }
+    ensures { λ r. ⌜ r ≡ openMoveAt (view rows (now (words .entry))) goal guest state press ⌝ }
 {
     if holds(words, rows, goal, state, 0) {
         return false;
@@ -95,15 +77,15 @@ fn is_fair(words: &[u32], rows: u32, goal: u32, guest: u32, state: u32, press: u
 }
 
 // What is answered when the rounds have ended: 15 is decided once the set is made.
-fn told(fair: bool, bits: u32, watched: Watched) -> Reacted
+fn told(ok: bool, bits: u32, watched: Watched) -> Reacted
     requires { ⌜ bits ≤ 16 ⌝ }
-    ensures { λ r. ⌜ r ≡ toldOf fair bits watched ⌝ }
+    ensures { λ r. ⌜ r ≡ toldOf ok bits watched ⌝ }
 {
     match watched {
         Watched::Full => Reacted::Refused(Refusal::Full),
         Watched::Spent => Reacted::Refused(Refusal::Spent),
         Watched::Made(u) => {
-            if !fair {
+            if !ok {
                 return Reacted::Refused(Refusal::NoAnswer);
             }
             if u < 1u32 << bits {
@@ -139,7 +121,7 @@ fn reacting(
         limit: rows_under(rows, terms),
         rounds: rounds_under(most, terms),
     };
-    let fair = is_fair(words, rows, x, y, state, press);
+    let ok = is_open_move(words, rows, x, y, state, press);
     let bytes = game_bytes(goal, guest, machine);
     let asked = Asked {
         machine: z,
@@ -148,7 +130,7 @@ fn reacting(
     };
     let watched = watch_rounds(words, limits, &bytes, asked);
     free_many(words, rows);
-    told(fair, bits, watched)
+    told(ok, bits, watched)
 }
 
 // The second call where there are such numbers and the account named: 7 where a register or relation is empty, else the rounds.

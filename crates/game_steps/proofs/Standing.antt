@@ -1,23 +1,22 @@
 -- The rounds of the game: where their loop stands, and each of its turns and ends. Assumes nothing.
 use mathlib.Core.Path.{_≡_, refl, sym, ap, ap₂, _∙_, subst}
-use mathlib.Core.Logic.{_≢_, ⊎-elim, inl, inr}
+use mathlib.Core.Logic.{_≢_, ⊎-elim, inr}
 use mathlib.Core.Bool.{Bool, true, false, not, cond, _&&_}
 use mathlib.Core.List.{List, [], _∷_, List·Memᴰ·head as here}
 use mathlib.Core.Option.{Option, none, some}
-use Prim.Native.Nat.{ℕ, zero, suc, _+_, _*_, _^_, _≤_, _<_}
+use Prim.Native.Nat.{ℕ, suc, _+_, _*_, _^_, _≤_, _<_}
 use native.Mathlib.Omega.{arith}
-use lib.Dec.{T, ltb, ltb→lt, lt→ltb}
-use lib.ListN.{length, set, length-set}
+use lib.Dec.{T}
+use lib.ListN.{length, set}
 use Rattle.accounts.specs.declared.Count.{Count}
 use Rattle.accounts.specs.Count.{nothing, another}
 use Rattle.mucalculus.specs.Sets.{mem, same, noStates}
-use Rattle.mucalculus.proofs.Sets.{and-out, true-of, false-of, same-eq, same-refl}
+use Rattle.mucalculus.proofs.Sets.{and-out, same-refl}
 use Rattle.mucalculus.specs.Order.{Below}
-use Rattle.mucalculus.specs.Form.{Form, Pairs, Model, put, inside, steady}
+use Rattle.mucalculus.specs.Form.{Form, Pairs, put, inside}
 use Rattle.mucalculus.specs.Means.{pair, means}
 use Rattle.mucalculus.specs.Exist.{Inside}
 use Rattle.tokens.specs.declared.Fix.the-variants.{Mu}
-use Rattle.tokens.specs.declared.Grammar.the-variants.{Runs}
 use Rattle.layout.specs.Places.{BITS, FIRST-RELATION}
 use Rattle.layout.specs.View.{View, view}
 use Rattle.counting.specs.Counts.{CountsOf}
@@ -26,24 +25,23 @@ use Rattle.diagram.specs.Rows.{Rows, den}
 use Rattle.diagram.specs.Post.{Denotes}
 use Rattle.diagram.proofs.Keep.{keeps-denotes}
 use Rattle.rows.specs.Used.{rowsOf}
+use Rattle.rows.proofs.Says.{test-no, test-yes}
 use Rattle.book.specs.States.{pairVal}
 use Rattle.book.proofs.States.{nowOf-pairVal, nextOf-pairVal}
 use Rattle.book.specs.Bridge.{fnOf, fnOfPairs, Sized}
 use Rattle.book.proofs.Bridge.{fnOf-inj}
-use Rattle.book.specs.Book.{relations}
 use Rattle.book.specs.Table.{Place}
 use Rattle.book.specs.Over.{states}
 use Rattle.book.specs.Ticks.{ticks, verdict, Verdict, counted, full as fullVerdict, spent as spentVerdict}
-use Rattle.book.specs.Run.{Outcome, value, full, spent, run}
+use Rattle.book.specs.Run.{Outcome, value, full, spent}
 use Rattle.book.specs.Follow.{ends, EvalsBy}
 use Rattle.book.proofs.Follow.{denotes-none}
 use Rattle.book.proofs.Turns.{arrow-apart}
 use Rattle.book.proofs.Verdicts.{settle, run-ticks}
 use Rattle.contract.specs.Seen.{arrowIn}
 use Rattle.modal.specs.declared.Limits.{Limits}
-use Rattle.modal.specs.Chain.{Base, Moved}
-use Rattle.modal.proofs.Chain.{base-bits, base-next, moved-trans}
-use Rattle.evaluator.specs.Scene.{Scene, stackSize, modelIn, existIn, Ready, Part, holdsReg, holdsRel, Answers, valueIn, runIn, endedOf}
+use Rattle.modal.proofs.Chain.{base-bits}
+use Rattle.evaluator.specs.Scene.{Scene, stackSize, modelIn, existIn, Ready, Answers, runIn, endedOf}
 use Rattle.evaluator.specs.Whole.{noPlaces, OncePre, OncePost}
 use Rattle.evaluator.specs.declared.Evaluated.{Evaluated}
 use Rattle.evaluator.specs.declared.Evaluated.the-variants.{Value, Full, Spent}
@@ -53,14 +51,15 @@ use Rattle.evaluator.proofs.Outcomes.{Halts, evals-value}
 use Rattle.evaluator.proofs.Rounds.{Bound, bind-starts, bind-out, bind-ready, bind-stops, bind-ends, bind-turns, bind-less}
 use Rattle.paths.specs.Runs.{firstOf}
 use Rattle.paths.proofs.First.{first-same}
-use Rattle.seek.specs.Walk.{HoldsPre, holdsAt}
+use Rattle.seek.specs.Walk.{holdsAt}
 use Rattle.seek.specs.Search.{nextIn}
 use Rattle.layers.proofs.Pass.{holds-pre}
-use Rattle.games.specs.Game.{forcing, forced, after as sets, answerTo, fair}
-use Rattle.games.specs.Call.{bodyForm, gameForm}
+use Rattle.games.specs.Game.{forcing, forced, setAfter}
+use Rattle.games.specs.Call.{bodyForm}
 use Rattle.games.proofs.Rounds.{Noted, noted-none, noting, noted-next, after-size, after-found, still-below, not-out}
 use Rattle.games.proofs.Formula.{body-steady, body-means}
-use Rattle.game_steps.specs.Watch.{noteBy, NotePre, haltedOf, Plays, WatchPre, Heard, AnswerOf, is-made, is-full, is-spent, Watches}
+use Rattle.game_steps.specs.Watch.{noteBy, NotePre, haltedOf, HoldsGame, WatchPre, AnswerNoted, AnswerOf, is-made, is-full, is-spent}
+use Rattle.game_steps.specs.Watch.{Watches}
 use Rattle.game_steps.specs.Watch.{WatchPost}
 use Rattle.game_steps.specs.declared.Asked.{Asked}
 use Rattle.game_steps.specs.declared.Watched.{Watched}
@@ -118,12 +117,12 @@ pub record Standing (L : Limits) (W X : View) (stack now : List ℕ)
   pub bound : Bound L W X stack now 0 nothing σ Mu 0 (bodyForm goal guest machine) current count
   pub round : ℕ
   pub set-is : bound .turning .A
-      ≡ sets (2 ^ L .bits) (inside (σ .rel guest)) (inside (σ .rel machine)) (inside (σ .reg goal)) round
+      ≡ setAfter (2 ^ L .bits) (inside (σ .rel guest)) (inside (σ .rel machine)) (inside (σ .reg goal)) round
   pub noted-is : Noted (2 ^ L .bits) (inside (σ .rel guest)) (inside (σ .rel machine)) (inside (σ .reg goal)) (a .state)
       (a .press) round noted
 
 module _ {L : Limits} {W : View} {stack bs : List ℕ} {a : Asked} {σ : Scene} {goal guest machine : ℕ}
-    (P : Plays L W stack bs a σ goal guest machine) where
+    (P : HoldsGame L W stack bs a σ goal guest machine) where
   abbrev k : ℕ
   k = 2 ^ L .bits
 
@@ -206,10 +205,10 @@ module _ {L : Limits} {W : View} {stack bs : List ℕ} {a : Asked} {σ : Scene} 
         value = r;
         last = last;
         answers = bind-stops (P .ready) (S .bound) z room answered more h;
-        told = subst (AnswerOf (Heard k G M B (a .state) (a .press)) r) (sym q) (go r h);
+        told = subst (AnswerOf (AnswerNoted k G M B (a .state) (a .press)) r) (sym q) (go r h);
       }
         where
-          go : (r : Evaluated) → Halts r → AnswerOf (Heard k G M B (a .state) (a .press)) r (haltedOf r)
+          go : (r : Evaluated) → Halts r → AnswerOf (AnswerNoted k G M B (a .state) (a .press)) r (haltedOf r)
           go (Value b j q) h = absurd (⊎-elim (λ x. omega arith) (λ x. omega arith) h)
           go Full h = is-full
           go Spent h = is-spent
@@ -222,12 +221,12 @@ module _ {L : Limits} {W : View} {stack bs : List ℕ} {a : Asked} {σ : Scene} 
             (runIn true L σ′ f (another count)) (endedOf y)) is (answered .evals)
 
         -- the round's value is the next set
-        next-denotes : Denotes (2 * L .bits) (rowsOf Y) b (fnOf (L .bits) (sets k G M B (suc (S .round))))
+        next-denotes : Denotes (2 * L .bits) (rowsOf Y) b (fnOf (L .bits) (setAfter k G M B (suc (S .round))))
         next-denotes =
             let w = evals-value (runIn true L σ′ f (another count)) evals in
             let t = run-ticks (L .limit) (L .rounds) (modelIn (L .bits) σ) (put (σ .env) 0 (S .bound .turning .A))
             (fnOf (L .bits) (S .bound .turning .A) ∷ σ .fns) f (another count) (body-steady goal guest machine) in
-            let e : w .0 ≡ sets k G M B (suc (S .round)) = settle-value
+            let e : w .0 ≡ setAfter k G M B (suc (S .round)) = settle-value
             (means (modelIn (L .bits) σ) (put (σ .env) 0 (S .bound .turning .A)) f)
             (verdict (L .limit) (L .rounds) (another count)
             (ticks (states (modelIn (L .bits) σ) (put (σ .env) 0 (S .bound .turning .A))) (fnOf (L .bits)
@@ -237,7 +236,7 @@ module _ {L : Limits} {W : View} {stack bs : List ℕ} {a : Asked} {σ : Scene} 
             subst (λ (A : List Bool). Denotes (2 * L .bits) (rowsOf Y) b (fnOf (L .bits) A)) e (w .2)
 
         -- and the one before stands as it was
-        last-denotes : Denotes (2 * L .bits) (rowsOf Y) current (fnOf (L .bits) (sets k G M B (S .round)))
+        last-denotes : Denotes (2 * L .bits) (rowsOf Y) current (fnOf (L .bits) (setAfter k G M B (S .round)))
         last-denotes =
             subst (λ (A : List Bool). Denotes (2 * L .bits) (rowsOf Y) current (fnOf (L .bits) A)) (S .set-is)
             (keeps-denotes (evals .kept) (here refl) (S .bound .turning .denotes))
@@ -248,20 +247,20 @@ module _ {L : Limits} {W : View} {stack bs : List ℕ} {a : Asked} {σ : Scene} 
           value = Value b j q;
           last = last;
           answers = bind-ends (P .ready) (S .bound) z room answered more is h;
-          told = is-made heard;
+          told = is-made answer-noted;
         }
           where
-            rests : sets k G M B (suc (S .round)) ≡ sets k G M B (S .round)
+            rests : setAfter k G M B (suc (S .round)) ≡ setAfter k G M B (S .round)
             rests =
-                one-set (L .bits) _ _ (subst (λ (x : ℕ). Denotes (2 * L .bits) (rowsOf Y) x (fnOf (L .bits) (sets k G M B (suc
+                one-set (L .bits) _ _ (subst (λ (x : ℕ). Denotes (2 * L .bits) (rowsOf Y) x (fnOf (L .bits) (setAfter k G M B (suc
                 (S .round))))) h
                 next-denotes) last-denotes (after-size k G M B (suc (S .round))) (after-size k G M B (S .round))
 
-            done : sets k G M B (S .round) ≡ forced k G M B
+            done : setAfter k G M B (S .round) ≡ forced k G M B
             done = after-found k G M B (S .round) rests
 
-            heard : Heard k G M B (a .state) (a .press) noted
-            heard = record {
+            answer-noted : AnswerNoted k G M B (a .state) (a .press) noted
+            answer-noted = record {
               outside = λ out. S .noted-is .not-yet (λ p. subst T out (subst (λ (A : List Bool). T (mem A (a .state))) done p));
               found = λ t.
                   let x = and-out (mem (forced k G M B) (a .state)) _ t in
@@ -297,11 +296,14 @@ module _ {L : Limits} {W : View} {stack bs : List ℕ} {a : Asked} {σ : Scene} 
             note-is : noteBy (L .bits) Y a noted current b ≡ noting k G M B (a .state) (a .press) (S .round) noted
             note-is =
                 let e = ready′ .base .ready .levels-is in
-                ap₂ (λ (c : Bool) (x : ℕ). cond (ltb noted k) noted (cond c x noted))
-                (set-holds (L .bits) Y (sets k G M B (suc (S .round))) e next-denotes (a .state) (P .state))
-                (first-same k (nextIn Y (a .machine) (a .press) current) (λ u. pair M (a .press) u && mem (sets k G M B (S .round)) u)
-                (λ u l. ap₂ _&&_ (pair-holds (L .bits) Y M e machine-denotes (a .press) u (P .press) l)
-                (set-holds (L .bits) Y (sets k G M B (S .round)) e last-denotes u l)))
+                let last-test = set-holds (L .bits) Y (setAfter k G M B (S .round)) e last-denotes in
+                ap (λ (c : Bool). cond c noted
+                (cond (holdsAt Y b (a .state) 0) (firstOf k (nextIn Y (a .machine) (a .press) current)) noted))
+                (last-test (a .state) (P .state))
+                ∙ ap₂ (λ (c : Bool) (x : ℕ). cond (mem (setAfter k G M B (S .round)) (a .state)) noted (cond c x noted))
+                (set-holds (L .bits) Y (setAfter k G M B (suc (S .round))) e next-denotes (a .state) (P .state))
+                (first-same k (nextIn Y (a .machine) (a .press) current) (λ u. pair M (a .press) u && mem (setAfter k G M B (S .round)) u)
+                (λ u l. ap₂ _&&_ (pair-holds (L .bits) Y M e machine-denotes (a .press) u (P .press) l) (last-test u l)))
 
             pub watch-turns : {x : ℕ} → x ≡ noteBy (L .bits) Y a noted current b → Standing L W Y stack last a σ goal guest machine x b q
             watch-turns {x} ex = record {
@@ -314,12 +316,13 @@ module _ {L : Limits} {W : View} {stack bs : List ℕ} {a : Asked} {σ : Scene} 
                   (noted-next k G M B (S .noted-is) (still-below k G M B (S .round) grew));
             }
               where
-                grew : sets k G M B (suc (S .round)) ≢ sets k G M B (S .round)
+                grew : setAfter k G M B (suc (S .round)) ≢ setAfter k G M B (S .round)
                 grew same-set =
-                    let d = arrow-apart (L .bits) (L .rows) (evals .wf) (sets k G M B (S .round)) (sets k G M B (suc
+                    let d = arrow-apart (L .bits) (L .rows) (evals .wf) (setAfter k G M B (S .round)) (setAfter k G M B (suc
                     (S .round))) last-denotes
                     next-denotes differs in
-                    subst T d (subst (λ (A : List Bool). T (same A (sets k G M B (S .round)))) (sym same-set) (same-refl (sets k G M B
+                    subst T d (subst (λ (A : List Bool). T (same A (setAfter k G M B (S .round)))) (sym same-set)
+                    (same-refl (setAfter k G M B
                     (S .round))))
 
             pub watch-less : count .rounds < q .rounds
@@ -327,39 +330,25 @@ module _ {L : Limits} {W : View} {stack bs : List ℕ} {a : Asked} {σ : Scene} 
 
 -- ---- noting
 
-module _ (n : ℕ) (W : View) (a : Asked) (noted last next : ℕ) {many : ℕ} (e : many ≡ 2 ^ n) where
+module _ (n : ℕ) (W : View) (a : Asked) (noted last next : ℕ) {r : Bool} (e : r ≡ holdsAt W last (a .state) 0) where
   abbrev seen : ℕ
   seen = firstOf (2 ^ n) (nextIn W (a .machine) (a .press) last)
 
-  -- an answer is noted already
-  pub note-kept : noted < many → noted ≡ noteBy n W a noted last next
-  note-kept l =
-      sym (ap (λ (b : Bool). cond b noted (cond (holdsAt W next (a .state) 0) seen noted))
-      (true-of (ltb noted (2 ^ n)) (lt→ltb noted (2 ^ n) (omega arith))))
+  -- the state was in the set before
+  pub note-kept : r ≡ true → noted ≡ noteBy n W a noted last next
+  note-kept t = ap (λ (b : Bool). cond b noted (cond (holdsAt W next (a .state) 0) seen noted)) (sym t ∙ e)
 
-  none-yet : many ≤ noted → noteBy n W a noted last next ≡ cond (holdsAt W next (a .state) 0) seen noted
-  none-yet l =
-      ap (λ (b : Bool). cond b noted (cond (holdsAt W next (a .state) 0) seen noted))
-      (false-of (ltb noted (2 ^ n)) (λ h. let i = ltb→lt noted (2 ^ n) h in omega arith))
+  module _ (f : r ≡ false) {q : Bool} (i : q ≡ holdsAt W next (a .state) 0) where
+    by : {b : Bool} → holdsAt W next (a .state) 0 ≡ b → cond b seen noted ≡ noteBy n W a noted last next
+    by h = ap₂ (λ (b c : Bool). cond b noted (cond c seen noted)) (sym f ∙ e) (sym h)
 
-  -- the state is not in the set yet
-  pub note-none : many ≤ noted → {r : Bool} → r ≡ holdsAt W next (a .state) 0 → not r ≡ true → noted ≡ noteBy n W a noted last next
-  note-none l {r} h t =
-      sym (none-yet l ∙ ap (λ (b : Bool). cond b seen noted) (sym h ∙ go r t))
-    where
-      go : (r : Bool) → not r ≡ true → r ≡ false
-      go true t = sym t
-      go false t = refl
+    -- it is not in the set yet
+    pub note-none : not q ≡ true → noted ≡ noteBy n W a noted last next
+    note-none t = by (test-no i t)
 
-  -- it enters
-  pub note-found : many ≤ noted → {r : Bool} → r ≡ holdsAt W next (a .state) 0 → not r ≡ false → {x : ℕ} → x ≡ seen
-      → x ≡ noteBy n W a noted last next
-  note-found l {r} h t {x} q =
-      q ∙ sym (none-yet l ∙ ap (λ (b : Bool). cond b seen noted) (sym h ∙ go r t))
-    where
-      go : (r : Bool) → not r ≡ false → r ≡ true
-      go true t = refl
-      go false t = sym t
+    -- it enters
+    pub note-found : not q ≡ false → {x : ℕ} → x ≡ seen → x ≡ noteBy n W a noted last next
+    note-found t h = h ∙ by (test-yes i t)
 
 -- ---- the loop
 
@@ -370,7 +359,7 @@ pub record Looping (L : Limits) (words₀ words counts₀ counts stack₀ stack 
   pub counts-size : length counts ≡ length counts₀
   pub stack-size : length stack ≡ length stack₀
   pub counts-of : CountsOf (view (L .rows) words) counts
-  pub stands : (σ : Scene) (goal guest machine : ℕ) → Plays L (view (L .rows) words₀) stack₀ bs a σ goal guest machine
+  pub stands : (σ : Scene) (goal guest machine : ℕ) → HoldsGame L (view (L .rows) words₀) stack₀ bs a σ goal guest machine
       → Standing L (view (L .rows) words₀) (view (L .rows) words) stack₀ stack a σ goal guest machine noted current count
 
 pub loop-starts : {L : Limits} {words counts stack bs : List ℕ} {a : Asked} {noted : ℕ} → CountsOf (view (L .rows) words) counts

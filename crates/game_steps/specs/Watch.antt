@@ -3,7 +3,7 @@ use mathlib.Core.Path.{_≡_}
 use mathlib.Core.Bool.{Bool, true, false, cond}
 use mathlib.Core.List.{List}
 use Prim.Native.Nat.{ℕ, suc, _+_, _^_, _≤_, _<_}
-use lib.Dec.{T, ltb}
+use lib.Dec.{T}
 use lib.ListN.{set}
 use Rattle.accounts.specs.declared.Count.{Count}
 use Rattle.accounts.specs.Count.{nothing}
@@ -21,7 +21,7 @@ use Rattle.evaluator.specs.declared.Evaluated.the-variants as answer
 use Rattle.paths.specs.Runs.{firstOf}
 use Rattle.seek.specs.Walk.{HoldsPre, holdsAt}
 use Rattle.seek.specs.Search.{nextIn}
-use Rattle.games.specs.Game.{forced, answerTo, fair}
+use Rattle.games.specs.Game.{forced, answerTo, answerable}
 use Rattle.games.specs.Call.{bodyForm, gameForm}
 use Rattle.game_steps.specs.declared.Asked.{Asked}
 use Rattle.game_steps.specs.declared.Watched.{Watched}
@@ -29,11 +29,12 @@ use Rattle.game_steps.specs.declared.Watched.the-variants as watched
 
 -- ---- one round
 
--- what is noted after a round that made the set of arrow `next` from the one of arrow `last`
+-- what is noted after a round that made the set of arrow `next` from the one of arrow `last`: the round in which the state enters decides
 abbrev pub noteBy : ℕ → View → Asked → ℕ → ℕ → ℕ → ℕ
 noteBy n W a noted last next =
     let found = firstOf (2 ^ n) (nextIn W (a .machine) (a .press) last) in
-    cond (ltb noted (2 ^ n)) noted (cond (holdsAt W next (a .state) 0) found noted)
+    let entered = cond (holdsAt W next (a .state) 0) found noted in
+    cond (holdsAt W last (a .state) 0) noted entered
 
 -- the three arrows are the table's
 pub record NotePre (n : ℕ) (W : View) (a : Asked) (last next : ℕ) : Type 0 where
@@ -51,7 +52,7 @@ haltedOf answer.Spent = watched.Spent
 -- ---- all rounds
 
 -- the scene holds a game, whose body stands in the bytes, and the asked state and press are among its states
-pub record Plays (L : Limits) (W : View) (stack bs : List ℕ) (a : Asked) (σ : Scene) (goal guest machine : ℕ) : Type 0 where
+pub record HoldsGame (L : Limits) (W : View) (stack bs : List ℕ) (a : Asked) (σ : Scene) (goal guest machine : ℕ) : Type 0 where
   pub ready : Ready L W stack noPlaces 0 σ
   pub part : Part Runs (L .bits) bs 4 63 (set (σ .scope) 0 true) (holdsReg σ) (holdsRel σ) (bodyForm goal guest machine) 12
   pub machine-in : machine < relations
@@ -59,17 +60,18 @@ pub record Plays (L : Limits) (W : View) (stack bs : List ℕ) (a : Asked) (σ :
   pub state : a .state < 2 ^ L .bits
   pub press : a .press < 2 ^ L .bits
 
+-- what the rounds ask: words and stack hold some game's scene
 pub record WatchPre (L : Limits) (W : View) (stack bs : List ℕ) (a : Asked) : Type 0 where
   pub scene : Scene
   pub goal : ℕ
   pub guest : ℕ
   pub machine : ℕ
-  pub plays : Plays L W stack bs a scene goal guest machine
+  pub plays : HoldsGame L W stack bs a scene goal guest machine
 
--- what is noted when the set is made, of the state s and the press t: k where s is not in the set; the answer, where it is fair to ask
-pub record Heard (k : ℕ) (G M : Pairs) (B : List Bool) (s t x : ℕ) : Type 0 where
+-- what is noted when the set is made, of the state s and the press t: k where s is not in the set; the answer, where there is one
+pub record AnswerNoted (k : ℕ) (G M : Pairs) (B : List Bool) (s t x : ℕ) : Type 0 where
   pub outside : mem (forced k G M B) s ≡ false → x ≡ k
-  pub found : T (fair k G M B s t) → (x ≡ answerTo k G M B s t) × (x < k)
+  pub found : T (answerable k G M B s t) → (x ≡ answerTo k G M B s t) × (x < k)
 
 -- the rounds' answer: what was noted, where the set is made
 pub data AnswerOf (P : ℕ → Type 0) : Evaluated → Watched → Type 0 where
@@ -84,8 +86,9 @@ pub record Watches (L : Limits) (W X : View) (stack : List ℕ) (a : Asked) (σ 
   pub last : List ℕ
   pub answers : Answers true L W X stack last 0 nothing σ (gameForm goal guest machine) 12 value
   pub told : AnswerOf
-      (Heard (2 ^ L .bits) (inside (σ .rel guest)) (inside (σ .rel machine)) (inside (σ .reg goal)) (a .state) (a .press)) value r
+      (AnswerNoted (2 ^ L .bits) (inside (σ .rel guest)) (inside (σ .rel machine)) (inside (σ .reg goal)) (a .state) (a .press)) value r
 
+-- what they promise, of every game whose scene words and stack hold
 abbrev pub WatchPost : Limits → View → View → List ℕ → List ℕ → Asked → Watched → Type 0
 WatchPost L W X stack bs a r =
-    (σ : Scene) (goal guest machine : ℕ) → Plays L W stack bs a σ goal guest machine → Watches L W X stack a σ goal guest machine r
+    (σ : Scene) (goal guest machine : ℕ) → HoldsGame L W stack bs a σ goal guest machine → Watches L W X stack a σ goal guest machine r

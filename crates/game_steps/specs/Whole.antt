@@ -15,11 +15,11 @@ use Rattle.rows.specs.Filled.{filled}
 use Rattle.operations.specs.Work.{OpFrame}
 use Rattle.book.specs.Over.{states}
 use Rattle.book.specs.Ticks.{ticks, Verdict, counted, full, spent, verdict}
-use Rattle.book.specs.Book.{Book, modelOf, liveOf, registers, relations}
+use Rattle.book.specs.Book.{modelOf, liveOf, registers, relations}
 use Rattle.modal.specs.declared.Limits.{Limits}
 use Rattle.evaluator.specs.Whole.{bookIn}
 use Rattle.games.specs.Call.{gameForm, gameBytes, presses, reactions, goals, allFilled}
-use Rattle.game_steps.specs.Watch.{Heard}
+use Rattle.game_steps.specs.Watch.{AnswerNoted}
 use Rattle.game_steps.specs.declared.Asked.{Asked}
 use Rattle.game_steps.specs.declared.Watched.{Watched}
 use Rattle.game_steps.specs.declared.Watched.the-variants as watched
@@ -35,6 +35,7 @@ pub record Given (L : Limits) (W : View) (bs : List ℕ) (a : Asked) (goal guest
   pub state : a .state < 2 ^ L .bits
   pub press : a .press < 2 ^ L .bits
 
+-- what the rounds ask of a sound table: the limits are its own, or less, and some game is given
 pub record RoundsPre (L : Limits) (W : View) (bs : List ℕ) (a : Asked) : Type 0 where
   pub sound : Sound W
   pub bits : L .bits ≡ W .header BITS
@@ -46,21 +47,22 @@ pub record RoundsPre (L : Limits) (W : View) (bs : List ℕ) (a : Asked) : Type 
   pub given : Given L W bs a goal guest machine
 
 -- the verdict of the steps, and what was noted where all are counted
-pub data Says (P : ℕ → Type 0) : Verdict → Watched → Type 0 where
-  is-made : {q : Count} {x : ℕ} → P x → Says P (counted q) (watched.Made x)
-  is-full : Says P full watched.Full
-  is-spent : Says P spent watched.Spent
+pub data RoundsSay (P : ℕ → Type 0) : Verdict → Watched → Type 0 where
+  is-made : {q : Count} {x : ℕ} → P x → RoundsSay P (counted q) (watched.Made x)
+  is-full : RoundsSay P full watched.Full
+  is-spent : RoundsSay P spent watched.Spent
 
 -- a sound table, nothing touched but unneeded rows, the index and remembered results, and the book's verdict
 pub record Rounds (L : Limits) (W X : View) (a : Asked) (goal guest machine : ℕ) (r : Watched) : Type 0 where
   pub sound : Sound X
   pub frame : OpFrame W X
   pub kept : Keeps (rowsOf W) (rowsOf X) (filled W)
-  pub says : Says
-      (Heard (2 ^ bookIn W .n) (presses (bookIn W) goal guest machine) (reactions (bookIn W) goal guest machine)
-      (goals (bookIn W) goal guest machine) (a .state) (a .press))
+  pub says : RoundsSay
+      (AnswerNoted (2 ^ bookIn W .n) (presses (bookIn W) guest) (reactions (bookIn W) machine)
+      (goals (bookIn W) goal) (a .state) (a .press))
       (verdict (L .limit) (L .rounds) nothing (ticks (states (modelOf (bookIn W)) noEnv) (liveOf (bookIn W))
       (gameForm goal guest machine))) r
 
+-- what they promise, of every game that is given
 abbrev pub RoundsPost : Limits → View → View → List ℕ → Asked → Watched → Type 0
 RoundsPost L W X bs a r = (goal guest machine : ℕ) → Given L W bs a goal guest machine → Rounds L W X a goal guest machine r

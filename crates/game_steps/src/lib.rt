@@ -29,13 +29,13 @@ pub enum Watched {
     Spent,
 }
 
-// The answer noted after a round that made the set of arrow `next` from the one of arrow `last`: the first round in which the state is in
-// the set decides, and its least answer into the set before. It makes no row.
+// The answer noted after a round that made the set of arrow `next` from the one of arrow `last`: the round in which the state enters
+// decides, by the least answer into the set before. It makes no row.
 fn note(words: &[u32], limits: Limits, asked: Asked, noted: u32, last: u32, next: u32) -> u32
     requires { ⌜ NoteAsks limits (now words) asked last next ⌝ }
     ensures { λ x. ⌜ NoteGives limits (now (words .entry)) asked noted last next x ⌝ }
 {
-    if noted < 1u32 << limits.bits {
+    if holds(words, limits.rows, last, asked.state, 0) {
         return noted;
     }
     if !holds(words, limits.rows, next, asked.state, 0) {

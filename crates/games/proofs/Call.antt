@@ -2,26 +2,23 @@
 -- Assumes nothing.
 use mathlib.Core.Path.{_≡_, refl, sym, ap, ap₂, _∙_, subst}
 use mathlib.Core.Bool.{Bool, true, false, cond, _&&_}
-use mathlib.Core.List.{List, []}
+use mathlib.Core.List.{List}
 use mathlib.Core.Option.{Option, none, some}
 use Prim.Native.Nat.{ℕ, zero, suc, _^_, _<_}
-use native.Mathlib.Omega.{arith}
-use lib.Dec.{T, ltb, ltb→lt, lt→ltb}
-use lib.ListN.{length}
-use Rattle.mucalculus.specs.Sets.{mem, allStates}
-use Rattle.mucalculus.proofs.Sets.{and-out, true-of, mem-lt}
+use lib.Dec.{T, ltb, ltb→lt}
+use Rattle.mucalculus.specs.Sets.{mem}
+use Rattle.mucalculus.proofs.Sets.{and-out, mem-lt}
 use Rattle.mucalculus.specs.Order.{Below, start}
 use Rattle.mucalculus.proofs.Fixpoint.{iter, fix-iter}
 use Rattle.mucalculus.specs.Binder.{body}
 use Rattle.mucalculus.proofs.Binder.{body-length, body-in, body-mono}
-use Rattle.mucalculus.specs.Form.{Form, mu, Pairs, Model, Env, noEnv, put, inside, steady, reads, bound, noneOpen, mentioned}
-use Rattle.mucalculus.specs.Form.{filled as hasContent}
-use Rattle.mucalculus.specs.Means.{pair, size, exist, clip, means}
+use Rattle.mucalculus.specs.Form.{Form, Pairs, Model, Env, noEnv, inside, steady, reads}
+use Rattle.mucalculus.specs.Means.{size, exist, means}
 use Rattle.mucalculus.specs.Exist.{Inside}
 use Rattle.mucalculus.proofs.Laws.{getD-table}
 use Rattle.tokens.specs.declared.Kind.the-variants.{Set}
-use Rattle.formula.specs.Parse.{Got, got, formOf, formulaOf}
-use Rattle.formula.specs.Checks.{filled, firstOf, refusalOf, firstRefusal}
+use Rattle.formula.specs.Parse.{got, formOf, formulaOf}
+use Rattle.formula.specs.Checks.{filled, refusalOf, firstRefusal}
 use Rattle.accounts.specs.declared.Terms.{Terms}
 use Rattle.accounts.specs.Terms.{named}
 use Rattle.book.specs.Book.{Book, Done, registers, relations, modelOf, regFilled, relFilled, checks, formulaIn, refuse, setDone, setSteps}
@@ -30,10 +27,11 @@ use Rattle.book.specs.Book.{passing, formulaCall, does}
 use Rattle.book.specs.Table.{Reply}
 use Rattle.book.specs.Leaves.{plain}
 use Rattle.book.specs.Stored.{Whole}
-use Rattle.games.specs.Game.{forcing, forced, after, fair, answerTo}
-use Rattle.games.specs.Call.{bodyForm, gameForm, gameBytes, inRange, gameCall, presses, reactions, goals, forcedIn, gameVerdict}
+use Rattle.games.specs.Game.{forcing, forced, setAfter, answerable, answerTo}
+use Rattle.games.specs.Call.{bodyForm, gameForm, gameBytes, numbersInRange, gameCall, presses, reactions, goals, forcedIn}
+use Rattle.games.specs.Call.{gameVerdict}
 use Rattle.games.specs.Call.{allFilled}
-use Rattle.games.specs.Call.{forces, reacted, reacts}
+use Rattle.games.specs.Call.{forceDone, reacted, reacts}
 use Rattle.games.proofs.Rounds.{after-all}
 use Rattle.games.proofs.Formula.{game-read, game-bound, game-mentioned, game-steady, body-means}
 
@@ -44,7 +42,7 @@ module _ (m : Model) (goal guest machine : ℕ) (in-goal : Below (inside (m .reg
     (m .rel machine))) where
   -- the sets of its rounds are those of the game's
   pub rounds-mean : (e : Env) (i : ℕ) → iter (body m e 0 (bodyForm goal guest machine)) i (start true (size m) (exist m))
-      ≡ after (size m) (inside (m .rel guest)) (inside (m .rel machine)) (inside (m .reg goal)) i
+      ≡ setAfter (size m) (inside (m .rel guest)) (inside (m .rel machine)) (inside (m .reg goal)) i
   rounds-mean e zero = refl
   rounds-mean e (suc i) =
       body-means m goal guest machine in-goal in-guest in-machine e
@@ -92,7 +90,7 @@ pub record Ranges (goal guest machine : ℕ) : Type 0 where
   pub guest-in : guest < relations
   pub machine-in : machine < relations
 
-pub ranges-out : (goal guest machine : ℕ) → inRange goal guest machine ≡ true → Ranges goal guest machine
+pub ranges-out : (goal guest machine : ℕ) → numbersInRange goal guest machine ≡ true → Ranges goal guest machine
 ranges-out goal guest machine e =
     let x = and-out (ltb goal registers) _ (subst T (sym e) tt) in
     let y = and-out (ltb guest relations) _ (x .1) in
@@ -162,10 +160,10 @@ module _ (b : Book) (w : Whole b) (acc : Terms) (r R goal guest machine : ℕ) w
       go false d = refl
 
   -- THE FIRST CALL DOES, AS THE SET CALL THAT IT IS, WHAT IT IS SAID TO DO
-  pub force-does : does b (gameCall acc r R goal guest machine) ≡ forces b goal guest machine acc r R
-  force-does = go (inRange goal guest machine) refl
+  pub force-does : does b (gameCall acc r R goal guest machine) ≡ forceDone b goal guest machine acc r R
+  force-does = go (numbersInRange goal guest machine) refl
     where
-      go : (a : Bool) → inRange goal guest machine ≡ a
+      go : (a : Bool) → numbersInRange goal guest machine ≡ a
           → (let d = formulaCall b Set (gameBytes goal guest machine) (setSteps b acc (cond a r registers) R) in
           let e = cond (named acc) d (refuse b 14) in cond (ltb (cond a r registers) registers) e (refuse b 3))
           ≡ (let stored = ended b (gameVerdict b goal guest machine acc R) (λ q. setDone b r (forcedIn b goal guest machine) q) in
@@ -181,13 +179,13 @@ module _ (b : Book) (w : Whole b) (acc : Terms) (r R goal guest machine : ℕ) w
 
 module _ (b : Book) (acc : Terms) (R goal guest machine s t : ℕ) where
   abbrev pub near : Bool
-  near = inRange goal guest machine && (ltb s (2 ^ b .n) && ltb t (2 ^ b .n))
+  near = numbersInRange goal guest machine && (ltb s (2 ^ b .n) && ltb t (2 ^ b .n))
 
   abbrev pub toldIn : Reply
   toldIn =
-      reacted b goal guest machine (gameVerdict b goal guest machine acc R)
-      (fair (2 ^ b .n) (presses b goal guest machine) (reactions b goal guest machine) (goals b goal guest machine) s t)
-      (answerTo (2 ^ b .n) (presses b goal guest machine) (reactions b goal guest machine) (goals b goal guest machine) s t)
+      reacted (gameVerdict b goal guest machine acc R)
+      (answerable (2 ^ b .n) (presses b guest) (reactions b machine) (goals b goal) s t)
+      (answerTo (2 ^ b .n) (presses b guest) (reactions b machine) (goals b goal) s t)
 
   pub reacts-three : near ≡ false → reacts b goal guest machine acc R s t ≡ plain 3
   reacts-three e =

@@ -1,32 +1,29 @@
 -- The game's formula: its bytes are read as it, it passes checks 4, 5, 12 and 6, and its meaning is the set of the game. Assumes nothing.
-use mathlib.Core.Path.{_≡_, refl, sym, ap, ap₂, _∙_, subst}
-use mathlib.Core.Bool.{Bool, true, false, not, cond, _&&_, _||_}
+use mathlib.Core.Path.{_≡_, refl, ap, ap₂, _∙_}
+use mathlib.Core.Bool.{Bool, true, false, not, _&&_, _||_}
 use mathlib.Core.List.{List, []}
-use Prim.Native.Nat.{ℕ, suc, _+_, _^_, _≤_, _<_}
+use Prim.Native.Nat.{ℕ, _<_}
 use native.Mathlib.Omega.{arith}
 use lib.Dec.{T, ltb, lt→ltb}
-use lib.ListN.{length, set}
+use lib.ListN.{set}
 use Rattle.mucalculus.specs.Sets.{mem, table, allStates, all, any}
-use Rattle.mucalculus.proofs.Sets.{true-of, mem-table, mem-allStates}
-use Rattle.mucalculus.specs.Order.{Below, start}
-use Rattle.mucalculus.specs.Form.{Form, top, conj, disj, var, reg, box, dia, mu, Pairs, Model, Env, noEnv, put, inside, bound, noneOpen}
+use Rattle.mucalculus.proofs.Sets.{true-of, mem-allStates}
+use Rattle.mucalculus.specs.Order.{Below}
+use Rattle.mucalculus.specs.Form.{Pairs, Model, Env, put, inside, bound, noneOpen}
 use Rattle.mucalculus.specs.Form.{mentioned, lacks, steady, reads}
 use Rattle.mucalculus.proofs.Form.{depth}
 use Rattle.mucalculus.specs.Means.{pair, inter, union, always, sometimes, size, exist, related, means}
 use Rattle.mucalculus.specs.Exist.{Inside}
 use Rattle.mucalculus.proofs.Exist.{inter-agrees, related-inside, related-same, sometimes-same, further-in, sometimes-pairs, always-pairs}
-use Rattle.mucalculus.specs.Until.{further}
 use Rattle.mucalculus.proofs.Until.{over-same}
 use Rattle.mucalculus.proofs.Laws.{getD-table, table-ext, table-out}
-use Rattle.tokens.specs.Tokens.{allowed, leafAllowed, grammarOf}
-use Rattle.tokens.specs.declared.Grammar.{Grammar}
 use Rattle.tokens.specs.declared.Grammar.the-variants.{States, Runs}
 use Rattle.tokens.specs.declared.Kind.the-variants.{Set}
 use Rattle.formula.specs.Parse.{got, parse, formulaOf}
-use Rattle.formula.proofs.Bytes.{bytesOf, takes, frameOf, Framing}
+use Rattle.formula.proofs.Bytes.{bytesOf, takes, Framing}
 use Rattle.formula.proofs.Accepted.{accepted-of}
 use Rattle.formula.proofs.Written.{tree, written-read}
-use Rattle.games.specs.Game.{moves, answers, forcing, forced}
+use Rattle.games.specs.Game.{moves, answers, forcing}
 use Rattle.games.specs.Call.{bodyForm, gameForm, gameBytes}
 
 module _ (goal guest machine : ℕ) (n : ℕ) (g-in : goal < 32) (p-in : guest < 8) (m-in : machine < 8) where

@@ -2,30 +2,26 @@
 use mathlib.Core.Path.{_≡_, refl, sym, ap, _∙_, subst}
 use mathlib.Core.Bool.{Bool, true, false, not, cond, _&&_}
 use mathlib.Core.List.{List}
-use mathlib.Core.Option.{Option, none, some}
+use mathlib.Core.Option.{some}
 use Prim.Native.Nat.{ℕ, _^_, _<_}
 use native.Mathlib.Omega.{arith}
 use borrow.Author.Tests.{eq-eqb}
-use lib.Dec.{T, eqb, ltb, ltb→lt}
+use lib.Dec.{T, ltb, ltb→lt}
 use Rattle.mucalculus.specs.Sets.{mem}
-use Rattle.mucalculus.proofs.Sets.{and-out, true-of, false-of}
-use Rattle.mucalculus.specs.Form.{Pairs, put}
-use Rattle.mucalculus.specs.Means.{pair}
-use Rattle.accounts.specs.declared.Count.{Count}
+use Rattle.mucalculus.proofs.Sets.{and-out, false-of}
+use Rattle.mucalculus.specs.Form.{Pairs}
 use Rattle.accounts.specs.declared.Terms.{Terms}
 use Rattle.accounts.specs.Terms.{named}
 use Rattle.book.specs.Ticks.{Verdict, counted, full, spent}
 use Rattle.book.specs.Book.{Book, Done, registers, refuse, ended, setDone, does}
 use Rattle.book.specs.Stored.{Whole}
-use Rattle.book.specs.Table.{Reply}
 use Rattle.book.specs.Leaves.{plain}
-use Rattle.games.specs.Game.{forcing, forced, enters, answerTo, fair}
-use Rattle.games.specs.Plays.{Forces, Stays}
-use Rattle.games.specs.Call.{inRange, gameCall, presses, reactions, goals, forcedIn, gameVerdict, allFilled, forces, reacted}
+use Rattle.games.specs.Game.{forced, enters, answerTo, answerable}
+use Rattle.games.specs.Call.{numbersInRange, gameCall, presses, reactions, goals, forcedIn, gameVerdict, allFilled, reacted}
 use Rattle.games.specs.Call.{reacts}
 use Rattle.games.specs.Meaning.{ForcedSet, AnswerIs}
 use Rattle.games.proofs.Rounds.{forced-least, not-out, answer-good, answer-least}
-use Rattle.games.proofs.Plays.{machine, machine-forces, guest, guest-stays}
+use Rattle.games.proofs.Plays.{machineStrategy, machine-forces, guestStrategy, guest-stays}
 use Rattle.games.proofs.Only.{force-only}
 use Rattle.games.proofs.Call.{force-does, near}
 
@@ -33,15 +29,15 @@ use Rattle.games.proofs.Call.{force-does, near}
 pub forced-set : (k : ℕ) (G M : Pairs) (B : List Bool) → ForcedSet k G M B (forced k G M B)
 forced-set k G M B = record {
   least = forced-least k G M B;
-  machine-can = λ s p. (machine k G M B, enters k G M B s, machine-forces k G M B s p);
-  only = λ s l h most F. force-only k G M B h most s l F;
-  guest-can = λ s l p. (guest k G M B, guest-stays k G M B s l p);
+  machine-can = λ s p. (machineStrategy k G M B, enters k G M B s, machine-forces k G M B s p);
+  only = λ s l h bound F. force-only k G M B h bound s l F;
+  guest-can = λ s l p. (guestStrategy k G M B, guest-stays k G M B s l p);
 }
 
 -- WHAT THE SECOND CALL ANSWERS
-pub fair-answer : (k : ℕ) (G M : Pairs) (B : List Bool) (s t : ℕ) → t < k → T (fair k G M B s t)
+pub answer-is : (k : ℕ) (G M : Pairs) (B : List Bool) (s t : ℕ) → t < k → T (answerable k G M B s t)
     → AnswerIs k G M B (forced k G M B) s t (answerTo k G M B s t)
-fair-answer k G M B s t l p =
+answer-is k G M B s t l p =
     let x = and-out (mem (forced k G M B) s) _ p in
     let y = and-out (not (mem B s)) _ (x .1) in
     let g = answer-good k G M B s t l (not-out (mem B s) (y .0)) (y .1) (x .0) in
@@ -55,6 +51,32 @@ fair-answer k G M B s t l p =
       earlier = g .earlier;
       least = answer-least k G M B s t;
     }
+
+-- ---- the checks
+
+-- an answered second call had an answer, which is its value
+told-by : (a c d f : Bool) (v : Verdict) (u : ℕ)
+    → cond a (cond c (cond d (reacted v f u) (plain 7)) (plain 14)) (plain 3) .number ≡ 0
+    → (a ≡ true) × (f ≡ true)
+    × (cond a (cond c (cond d (reacted v f u) (plain 7)) (plain 14)) (plain 3) .value ≡ u)
+told-by false c d f v u e = absurd (omega (arith, e))
+told-by true false d f v u e = absurd (omega (arith, e))
+told-by true true false f v u e = absurd (omega (arith, e))
+told-by true true true f full u e = absurd (omega (arith, e))
+told-by true true true f spent u e = absurd (omega (arith, e))
+told-by true true true false (counted q) u e = absurd (omega (arith, e))
+told-by true true true true (counted q) u e = (refl, refl, refl)
+
+-- 15 says that it had none
+fifteen-by : (a c d f : Bool) (v : Verdict) (u : ℕ)
+    → cond a (cond c (cond d (reacted v f u) (plain 7)) (plain 14)) (plain 3) .number ≡ 15 → f ≡ false
+fifteen-by false c d f v u e = absurd (omega (arith, e))
+fifteen-by true false d f v u e = absurd (omega (arith, e))
+fifteen-by true true false f v u e = absurd (omega (arith, e))
+fifteen-by true true true f full u e = absurd (omega (arith, e))
+fifteen-by true true true f spent u e = absurd (omega (arith, e))
+fifteen-by true true true false (counted q) u e = refl
+fifteen-by true true true true (counted q) u e = absurd (omega (arith, e))
 
 -- ---- by the book
 
@@ -78,54 +100,31 @@ module _ (b : Book) (goal guest machine : ℕ) where
   force-stores w acc r R e =
       let same = force-does b w acc r R goal guest machine in
       ap (λ (d : Done). d .0 .reg r) same
-      ∙ stored-by (inRange goal guest machine && ltb r registers) (named acc) (allFilled b goal guest machine)
+      ∙ stored-by (numbersInRange goal guest machine && ltb r registers) (named acc) (allFilled b goal guest machine)
       (gameVerdict b goal guest machine acc R) r (sym (ap (λ (d : Done). d .1 .number) same) ∙ e)
 
-  -- an answered second call was fair, and its value is the answer; 15 says that it was not fair
-  told-by : (a c d f : Bool) (v : Verdict) (u : ℕ)
-      → cond a (cond c (cond d (reacted b goal guest machine v f u) (plain 7)) (plain 14)) (plain 3) .number ≡ 0
-      → (a ≡ true) × (f ≡ true)
-      × (cond a (cond c (cond d (reacted b goal guest machine v f u) (plain 7)) (plain 14)) (plain 3) .value ≡ u)
-  told-by false c d f v u e = absurd (omega (arith, e))
-  told-by true false d f v u e = absurd (omega (arith, e))
-  told-by true true false f v u e = absurd (omega (arith, e))
-  told-by true true true f full u e = absurd (omega (arith, e))
-  told-by true true true f spent u e = absurd (omega (arith, e))
-  told-by true true true false (counted q) u e = absurd (omega (arith, e))
-  told-by true true true true (counted q) u e = (refl, refl, refl)
-
   pub react-answers : (acc : Terms) (R s t : ℕ) → reacts b goal guest machine acc R s t .number ≡ 0
-      → AnswerIs (2 ^ b .n) (presses b goal guest machine) (reactions b goal guest machine) (goals b goal guest machine)
+      → AnswerIs (2 ^ b .n) (presses b guest) (reactions b machine) (goals b goal)
       (forcedIn b goal guest machine) s t (reacts b goal guest machine acc R s t .value)
   react-answers acc R s t e =
       let k = 2 ^ b .n in
-      let G = presses b goal guest machine in
-      let M = reactions b goal guest machine in
-      let B = goals b goal guest machine in
-      let w = told-by (near b acc R goal guest machine s t) (named acc) (allFilled b goal guest machine) (fair k G M B s t)
+      let G = presses b guest in
+      let M = reactions b machine in
+      let B = goals b goal in
+      let w = told-by (near b acc R goal guest machine s t) (named acc) (allFilled b goal guest machine) (answerable k G M B s t)
       (gameVerdict b goal guest machine acc R) (answerTo k G M B s t) e in
-      let x = and-out (inRange goal guest machine) _ (subst T (sym (w .0)) tt) in
+      let x = and-out (numbersInRange goal guest machine) _ (subst T (sym (w .0)) tt) in
       let y = and-out (ltb s k) _ (x .1) in
       subst (AnswerIs k G M B (forcedIn b goal guest machine) s t) (sym (w .2))
-      (fair-answer k G M B s t (ltb→lt t k (y .1)) (subst T (sym (w .1)) tt))
-
-  fifteen-by : (a c d f : Bool) (v : Verdict) (u : ℕ)
-      → cond a (cond c (cond d (reacted b goal guest machine v f u) (plain 7)) (plain 14)) (plain 3) .number ≡ 15 → f ≡ false
-  fifteen-by false c d f v u e = absurd (omega (arith, e))
-  fifteen-by true false d f v u e = absurd (omega (arith, e))
-  fifteen-by true true false f v u e = absurd (omega (arith, e))
-  fifteen-by true true true f full u e = absurd (omega (arith, e))
-  fifteen-by true true true f spent u e = absurd (omega (arith, e))
-  fifteen-by true true true false (counted q) u e = refl
-  fifteen-by true true true true (counted q) u e = absurd (omega (arith, e))
+      (answer-is k G M B s t (ltb→lt t k (y .1)) (subst T (sym (w .1)) tt))
 
   -- "15, the state is in the goal or outside the set, or the press is no guest move"
   pub react-fifteen : (acc : Terms) (R s t : ℕ) → reacts b goal guest machine acc R s t .number ≡ 15
-      → fair (2 ^ b .n) (presses b goal guest machine) (reactions b goal guest machine) (goals b goal guest machine) s t ≡ false
+      → answerable (2 ^ b .n) (presses b guest) (reactions b machine) (goals b goal) s t ≡ false
   react-fifteen acc R s t e =
       let k = 2 ^ b .n in
-      let G = presses b goal guest machine in
-      let M = reactions b goal guest machine in
-      let B = goals b goal guest machine in
-      fifteen-by (near b acc R goal guest machine s t) (named acc) (allFilled b goal guest machine) (fair k G M B s t)
+      let G = presses b guest in
+      let M = reactions b machine in
+      let B = goals b goal in
+      fifteen-by (near b acc R goal guest machine s t) (named acc) (allFilled b goal guest machine) (answerable k G M B s t)
       (gameVerdict b goal guest machine acc R) (answerTo k G M B s t) e

@@ -7,17 +7,15 @@ use Prim.Native.Nat.{ℕ, zero, suc, _<_}
 use native.Mathlib.Omega.{arith}
 use borrow.Author.Tests.{eq-eqb}
 use lib.Dec.{T, ltb, lt→ltb, eqb}
-use lib.ListN.{length}
 use Rattle.mucalculus.specs.Sets.{mem}
 use Rattle.mucalculus.proofs.Sets.{and-in, and-out, false-of}
 use Rattle.mucalculus.specs.Form.{Pairs}
 use Rattle.mucalculus.specs.Means.{pair}
-use Rattle.paths.specs.Runs.{firstOf}
 use Rattle.paths.proofs.First.{first-found}
-use Rattle.games.specs.Game.{moves, answers, forced}
-use Rattle.games.specs.Plays.{Turn, isPlay, endOf, meets, byMachine, Forces}
+use Rattle.games.specs.Game.{answers, forced}
+use Rattle.games.specs.Plays.{Turn, isPlay, playMeets, byMachine, Forces}
 use Rattle.games.proofs.Rounds.{not-out, answers-in}
-use Rattle.games.proofs.Plays.{guest, guest-moves, goal-in}
+use Rattle.games.proofs.Plays.{guestStrategy, guest-moves, goal-in}
 
 module _ (k : ℕ) (G M : Pairs) (B : List Bool) (h : ℕ → ℕ → ℕ) where
   -- after a turn the machine still forces the goal, in one turn less
@@ -39,11 +37,11 @@ module _ (k : ℕ) (G M : Pairs) (B : List Bool) (h : ℕ → ℕ → ℕ) where
       by-h : (xs : List Turn) → T (byMachine h (h s t) xs) → T (byMachine h s (record { press = t; answer = h s t } ∷ xs))
       by-h xs q = and-in (eqb (h s t) (h s t)) _ (subst T (sym (eq-eqb (h s t) (h s t) refl)) tt) q
 
-      past : (xs : List Turn) → meets B (h s t) xs ≡ false → meets B s (record { press = t; answer = h s t } ∷ xs) ≡ false
-      past xs e = ap (λ (b : Bool). b || meets B (h s t) xs) out ∙ e
+      past : (xs : List Turn) → playMeets B (h s t) xs ≡ false → playMeets B s (record { press = t; answer = h s t } ∷ xs) ≡ false
+      past xs e = ap (λ (b : Bool). b || playMeets B (h s t) xs) out ∙ e
 
   -- against the guest's strategy no strategy of the machine's forces the goal from outside
-  only-inside : (most s : ℕ) → s < k → mem (forced k G M B) s ≡ false → Forces k G M B h most s → ⊥
+  only-inside : (bound s : ℕ) → s < k → mem (forced k G M B) s ≡ false → Forces k G M B h bound s → ⊥
   only-inside zero s l out F = let n = F .ends [] tt tt (false-of (mem B s) (λ b. subst T out (goal-in k G M B s l b))) in omega arith
   only-inside (suc m) s l out F = go (only-inside m)
     where
@@ -54,18 +52,18 @@ module _ (k : ℕ) (G M : Pairs) (B : List Bool) (h : ℕ → ℕ → ℕ) where
       go below =
           let on = F .goes-on [] tt tt away in
           let g = guest-moves k G M B s l out (on .0) in
-          let t = guest k G M B s in
+          let t = guestStrategy k G M B s in
           let a = on .1 t (g .0) (g .1) in
-          let deaf = and-out (pair G s t) _ (first-found k (λ t. pair G s t && not (answers k M (forced k G M B) t)) (g .0)) .1 in
+          let no-answer = and-out (pair G s t) _ (first-found k (λ t. pair G s t && not (answers k M (forced k G M B) t)) (g .0)) .1 in
           below (h s t) (a .0)
           (false-of (mem (forced k G M B) (h s t)) (λ i.
-          not-out (answers k M (forced k G M B) t) deaf (answers-in k M (forced k G M B) t (h s t) (a .0) (a .1) i)))
+          not-out (answers k M (forced k G M B) t) no-answer (answers-in k M (forced k G M B) t (h s t) (a .0) (a .1) i)))
           (forces-next m s t F away (g .0) (g .1) (a .0) (a .1))
 
   -- THE SET OF STATES FROM WHICH THE MACHINE CAN FORCE THE GOAL: with `machine-forces`, exactly it
-  pub force-only : (most s : ℕ) → s < k → Forces k G M B h most s → T (mem (forced k G M B) s)
-  force-only most s l F = go (mem (forced k G M B) s) refl
+  pub force-only : (bound s : ℕ) → s < k → Forces k G M B h bound s → T (mem (forced k G M B) s)
+  force-only bound s l F = go (mem (forced k G M B) s) refl
     where
       go : (b : Bool) → mem (forced k G M B) s ≡ b → T b
       go true e = tt
-      go false e = absurd (only-inside most s l e F)
+      go false e = absurd (only-inside bound s l e F)

@@ -4,20 +4,20 @@ use mathlib.Core.Path.{_≡_, refl, sym, ap, _∙_, subst}
 use mathlib.Core.Logic.{_⊎_, inl, inr}
 use mathlib.Core.Bool.{Bool, true, false, not, _&&_, _||_}
 use mathlib.Core.List.{List, [], _∷_}
-use Prim.Native.Nat.{ℕ, zero, suc, _≤_, _<_, suc-le-suc}
+use Prim.Native.Nat.{ℕ, _≤_, _<_}
 use native.Mathlib.Nat.{lt-of-not-le}
 use native.Mathlib.Omega.{arith}
 use lib.Dec.{T, ltb, ltb→lt, eqb, eqb→eq}
 use lib.ListN.{length}
-use Rattle.mucalculus.specs.Sets.{mem, table, all}
-use Rattle.mucalculus.proofs.Sets.{and-in, and-out, or-left, or-right, true-of, false-of}
+use Rattle.mucalculus.specs.Sets.{mem}
+use Rattle.mucalculus.proofs.Sets.{and-in, and-out, false-of}
 use Rattle.mucalculus.specs.Form.{Pairs}
 use Rattle.mucalculus.specs.Means.{pair}
 use Rattle.paths.specs.Runs.{firstOf}
 use Rattle.paths.proofs.First.{first-found, first-least}
-use Rattle.games.specs.Game.{moves, answers, forcing, forced, after, enters, answerTo}
-use Rattle.games.specs.Plays.{Turn, isPlay, endOf, meets, byGuest, byMachine, Forces, Stays}
-use Rattle.games.proofs.Rounds.{some-out, not-in, not-out, answers-in, forcing-out, forcing-goal, forcing-moves, forced-least}
+use Rattle.games.specs.Game.{moves, answers, forced, enters, answerTo}
+use Rattle.games.specs.Plays.{Turn, isPlay, playEnd, playMeets, byGuest, byMachine, Forces, Stays}
+use Rattle.games.proofs.Rounds.{not-in, not-out, answers-in, forcing-out, forcing-goal, forcing-moves, forced-least}
 use Rattle.games.proofs.Rounds.{enters-some}
 use Rattle.games.proofs.Rounds.{answer-good, Good}
 
@@ -44,48 +44,53 @@ played k G M s x l p =
 module _ (k : ℕ) (G M : Pairs) (B : List Bool) where
   -- ---- the machine's strategy: the answers of the second call
 
-  abbrev pub machine : ℕ → ℕ → ℕ
-  machine s t = answerTo k G M B s t
+  abbrev pub machineStrategy : ℕ → ℕ → ℕ
+  machineStrategy s t = answerTo k G M B s t
 
   -- the answer to the first press of a play by it
-  next : (s : ℕ) (x : Turn) (l : List Turn) → T (mem (forced k G M B) s) → T (isPlay k G M s (x ∷ l)) → T (byMachine machine s (x ∷ l))
+  next : (s : ℕ) (x : Turn) (l : List Turn) → T (mem (forced k G M B) s) → T (isPlay k G M s (x ∷ l)) → T
+      (byMachine machineStrategy s (x ∷ l))
       → mem B s ≡ false → Good k G M B s (x .press) (x .answer)
   next s x l i p q out =
       let w = played k G M s x l p in
-      let e : x .answer ≡ machine s (x .press) = eqb→eq (x .answer) (machine s (x .press)) (and-out (eqb (x .answer) _) _ q .0) in
+      let e : x .answer ≡ machineStrategy s (x .press) = eqb→eq (x .answer) (machineStrategy s (x .press))
+      (and-out (eqb (x .answer) _) _ q .0) in
       subst (Good k G M B s (x .press)) (sym e) (answer-good k G M B s (x .press) (w .press-lt) (λ b. subst T out b) (w .press) i)
 
   -- a play by it that has not met the goal ends in the set, outside the goal
-  ends-in : (s : ℕ) (l : List Turn) → T (mem (forced k G M B) s) → T (isPlay k G M s l) → T (byMachine machine s l) → meets B s l ≡ false
-      → T (mem (forced k G M B) (endOf s l)) × (mem B (endOf s l) ≡ false)
+  ends-in : (s : ℕ) (l : List Turn) → T (mem (forced k G M B) s) → T (isPlay k G M s l) → T (byMachine machineStrategy s l)
+      → playMeets B s l ≡ false
+      → T (mem (forced k G M B) (playEnd s l)) × (mem B (playEnd s l) ≡ false)
   ends-in s [] i p q out = (i, out)
   ends-in s (x ∷ l) i p q out =
-      let o = or-false (mem B s) (meets B (x .answer) l) out in
-      ends-in (x .answer) l (next s x l i p q (o .0) .in-set) (played k G M s x l p .rest) (and-out (eqb (x .answer) (machine s
+      let o = or-false (mem B s) (playMeets B (x .answer) l) out in
+      ends-in (x .answer) l (next s x l i p q (o .0) .in-set) (played k G M s x l p .rest) (and-out (eqb (x .answer) (machineStrategy s
       (x .press))) _ q .1)
       (o .1)
 
-  shorter : (s : ℕ) (l : List Turn) → T (mem (forced k G M B) s) → T (isPlay k G M s l) → T (byMachine machine s l) → meets B s l ≡ false
+  shorter : (s : ℕ) (l : List Turn) → T (mem (forced k G M B) s) → T (isPlay k G M s l) → T (byMachine machineStrategy s l)
+      → playMeets B s l ≡ false
       → length l < enters k G M B s
   shorter s [] i p q out = enters-some k G M B s
   shorter s (x ∷ l) i p q out =
-      let o = or-false (mem B s) (meets B (x .answer) l) out in
+      let o = or-false (mem B s) (playMeets B (x .answer) l) out in
       let g = next s x l i p q (o .0) in
       let sooner = g .earlier in
-      let h = shorter (x .answer) l (g .in-set) (played k G M s x l p .rest) (and-out (eqb (x .answer) (machine s (x .press))) _ q .1)
+      let h = shorter (x .answer) l (g .in-set) (played k G M s x l p .rest)
+      (and-out (eqb (x .answer) (machineStrategy s (x .press))) _ q .1)
       (o .1) in
       omega arith
 
   -- "the set of states from which the machine can force the goal": from each of them, by the answers of the second call, in fewer turns
   -- than the round in which it enters
-  pub machine-forces : (s : ℕ) → T (mem (forced k G M B) s) → Forces k G M B machine (enters k G M B s) s
+  pub machine-forces : (s : ℕ) → T (mem (forced k G M B) s) → Forces k G M B machineStrategy (enters k G M B s) s
   machine-forces s i = record {
-    goes-on = λ l p q out. let w = ends-in s l i p q out in goes (endOf s l) (w .0) (w .1);
+    goes-on = λ l p q out. let w = ends-in s l i p q out in goes (playEnd s l) (w .0) (w .1);
     ends = λ l p q out. shorter s l i p q out;
   }
     where
       goes : (e : ℕ) → T (mem (forced k G M B) e) → mem B e ≡ false
-          → T (moves k G e) × ((t : ℕ) → t < k → T (pair G e t) → (machine e t < k) × T (pair M t (machine e t)))
+          → T (moves k G e) × ((t : ℕ) → t < k → T (pair G e t) → (machineStrategy e t < k) × T (pair M t (machineStrategy e t)))
       goes e j out = (
         can (forcing-out k G M B (forced k G M B) e (subst (λ (A : List Bool). T (mem A e)) (sym (forced-least k G M B .fixed)) j)),
         λ t l g. let w = answer-good k G M B e t l (λ b. subst T out b) g j in (w .state, w .move),
@@ -98,18 +103,19 @@ module _ (k : ℕ) (G M : Pairs) (B : List Bool) where
 
   -- ---- the guest's strategy: the least press after which no machine move leads into the set
 
-  abbrev pub guest : ℕ → ℕ
-  guest s = firstOf k (λ t. pair G s t && not (answers k M (forced k G M B) t))
+  abbrev pub guestStrategy : ℕ → ℕ
+  guestStrategy s = firstOf k (λ t. pair G s t && not (answers k M (forced k G M B) t))
 
   -- it is a move where the guest has one, outside the set
-  pub guest-moves : (s : ℕ) → s < k → mem (forced k G M B) s ≡ false → T (moves k G s) → (guest s < k) × T (pair G s (guest s))
+  pub guest-moves : (s : ℕ) → s < k → mem (forced k G M B) s ≡ false → T (moves k G s) → (guestStrategy s < k) × T
+      (pair G s (guestStrategy s))
   guest-moves s l out m =
-      let lt : guest s < k = lt-of-not-le (λ h. subst T out
+      let lt : guestStrategy s < k = lt-of-not-le (λ h. subst T out
       (subst (λ (A : List Bool). T (mem A s)) (forced-least k G M B .fixed)
       (forcing-moves k G M B (forced k G M B) s l m (λ t i g. sure t i g h)))) in
-      (lt, and-out (pair G s (guest s)) _ (first-found k (λ t. pair G s t && not (answers k M (forced k G M B) t)) lt) .0)
+      (lt, and-out (pair G s (guestStrategy s)) _ (first-found k (λ t. pair G s t && not (answers k M (forced k G M B) t)) lt) .0)
     where
-      sure : (t : ℕ) → t < k → T (pair G s t) → k ≤ guest s → T (answers k M (forced k G M B) t)
+      sure : (t : ℕ) → t < k → T (pair G s t) → k ≤ guestStrategy s → T (answers k M (forced k G M B) t)
       sure t i g h = by (answers k M (forced k G M B) t) refl
         where
           by : (b : Bool) → answers k M (forced k G M B) t ≡ b → T b
@@ -120,31 +126,33 @@ module _ (k : ℕ) (G M : Pairs) (B : List Bool) where
               absurd (omega arith)
 
   -- and leads the play outside again
-  leads-out : (s : ℕ) (x : Turn) (l : List Turn) → T (isPlay k G M s (x ∷ l)) → T (byGuest guest s (x ∷ l))
+  leads-out : (s : ℕ) (x : Turn) (l : List Turn) → T (isPlay k G M s (x ∷ l)) → T (byGuest guestStrategy s (x ∷ l))
       → mem (forced k G M B) (x .answer) ≡ false
   leads-out s x l p q =
       let w = played k G M s x l p in
-      let e : x .press ≡ guest s = eqb→eq (x .press) (guest s) (and-out (eqb (x .press) (guest s)) _ q .0) in
-      let lt : guest s < k = subst (λ (t : ℕ). t < k) e (w .press-lt) in
-      let no-answer = and-out (pair G s (guest s)) _ (first-found k (λ t. pair G s t && not (answers k M (forced k G M B) t)) lt) .1 in
+      let e : x .press ≡ guestStrategy s = eqb→eq (x .press) (guestStrategy s) (and-out (eqb (x .press) (guestStrategy s)) _ q .0) in
+      let lt : guestStrategy s < k = subst (λ (t : ℕ). t < k) e (w .press-lt) in
+      let no-answer = and-out (pair G s (guestStrategy s)) _ (first-found k
+      (λ t. pair G s t && not (answers k M (forced k G M B) t)) lt) .1 in
       false-of (mem (forced k G M B) (x .answer)) (λ i.
-      not-out (answers k M (forced k G M B) (guest s)) no-answer
-      (answers-in k M (forced k G M B) (guest s) (x .answer) (w .answer-lt) (subst (λ (t : ℕ). T (pair M t (x .answer))) e
+      not-out (answers k M (forced k G M B) (guestStrategy s)) no-answer
+      (answers-in k M (forced k G M B) (guestStrategy s) (x .answer) (w .answer-lt) (subst (λ (t : ℕ). T (pair M t (x .answer))) e
       (w .answer)) i))
 
-  stays-out : (s : ℕ) (l : List Turn) → s < k → mem (forced k G M B) s ≡ false → T (isPlay k G M s l) → T (byGuest guest s l)
-      → (meets (forced k G M B) s l ≡ false) × (endOf s l < k) × (mem (forced k G M B) (endOf s l) ≡ false)
+  stays-out : (s : ℕ) (l : List Turn) → s < k → mem (forced k G M B) s ≡ false → T (isPlay k G M s l) → T (byGuest guestStrategy s l)
+      → (playMeets (forced k G M B) s l ≡ false) × (playEnd s l < k) × (mem (forced k G M B) (playEnd s l) ≡ false)
   stays-out s [] l out p q = (out, l, out)
   stays-out s (x ∷ xs) l out p q =
       let w = played k G M s x xs p in
-      let r = stays-out (x .answer) xs (w .answer-lt) (leads-out s x xs p q) (w .rest) (and-out (eqb (x .press) (guest s)) _ q .1) in
-      (ap (λ (b : Bool). b || meets (forced k G M B) (x .answer) xs) out ∙ r .0, r .1, r .2)
+      let r = stays-out (x .answer) xs (w .answer-lt) (leads-out s x xs p q) (w .rest)
+      (and-out (eqb (x .press) (guestStrategy s)) _ q .1) in
+      (ap (λ (b : Bool). b || playMeets (forced k G M B) (x .answer) xs) out ∙ r .0, r .1, r .2)
 
   -- "In every state outside the set the guest has a way to stay outside for good, or no move"
-  pub guest-stays : (s : ℕ) → s < k → mem (forced k G M B) s ≡ false → Stays k G M (forced k G M B) guest s
+  pub guest-stays : (s : ℕ) → s < k → mem (forced k G M B) s ≡ false → Stays k G M (forced k G M B) guestStrategy s
   guest-stays s l out = record {
     outside = λ xs p q. stays-out s xs l out p q .0;
-    moves-on = λ xs p q m. let r = stays-out s xs l out p q in guest-moves (endOf s xs) (r .1) (r .2) m;
+    moves-on = λ xs p q m. let r = stays-out s xs l out p q in guest-moves (playEnd s xs) (r .1) (r .2) m;
   }
 
   -- the goal is part of the set, so such a play never meets the goal

@@ -18,22 +18,19 @@ use Rattle.book.specs.Table.{Reply}
 use Rattle.book.specs.Leaves.{plain}
 use Rattle.book.specs.Raised.{Eased, withRowCount}
 use Rattle.book.proofs.Larger.{verdict-more}
-use Rattle.games.specs.Game.{fair, answerTo}
-use Rattle.games.specs.Call.{gameForm, gameVerdict, presses, reactions, goals, inRange, allFilled, reacted, reacts}
+use Rattle.games.specs.Game.{answerable, answerTo}
+use Rattle.games.specs.Call.{gameForm, gameVerdict, presses, reactions, goals, numbersInRange, allFilled, reacted, reacts}
 
 -- neither 8 nor 9
 abbrev pub Firm : Reply → Type 0
 Firm y = (y .number ≡ 8 → ⊥) × (y .number ≡ 9 → ⊥)
 
-module _ (M : ℕ) (b : Book) (goal guest machine : ℕ) where
-  -- a verdict that is kept tells the same
-  told-more : (v v′ : Verdict) (ok : Bool) (u : ℕ) → ((q : Count) → v ≡ counted q → v′ ≡ counted q)
-      → Firm (reacted b goal guest machine v ok u)
-      → reacted (withRowCount b M) goal guest machine v′ ok u ≡ reacted b goal guest machine v ok u
-  told-more (counted q) v′ true u h f = ap (λ (w : Verdict). reacted (withRowCount b M) goal guest machine w true u) (h q refl)
-  told-more (counted q) v′ false u h f = ap (λ (w : Verdict). reacted (withRowCount b M) goal guest machine w false u) (h q refl)
-  told-more full v′ ok u h f = absurd (f .0 refl)
-  told-more spent v′ ok u h f = absurd (f .1 refl)
+-- a verdict that is kept tells the same
+told-more : (v v′ : Verdict) (ok : Bool) (u : ℕ) → ((q : Count) → v ≡ counted q → v′ ≡ counted q) → Firm (reacted v ok u)
+    → reacted v′ ok u ≡ reacted v ok u
+told-more (counted q) v′ ok u h f = ap (λ (w : Verdict). reacted w ok u) (h q refl)
+told-more full v′ ok u h f = absurd (f .0 refl)
+told-more spent v′ ok u h f = absurd (f .1 refl)
 
 -- after the checks, which do not read the rows
 checked : (x y z : Bool) (a a′ : Reply) → (Firm a → a′ ≡ a) → Firm (cond x (cond y (cond z a (plain 7)) (plain 14)) (plain 3))
@@ -50,9 +47,9 @@ pub reacts-more : (M : ℕ) (b : Book) → b .N ≤ M → (acc acc′ : Terms) �
     → reacts (withRowCount b M) goal guest machine acc′ R′ s t ≡ reacts b goal guest machine acc R s t
 reacts-more M b l acc acc′ e R R′ i goal guest machine s t f =
     let k = 2 ^ b .n in
-    let ok = fair k (presses b goal guest machine) (reactions b goal guest machine) (goals b goal guest machine) s t in
-    let u = answerTo k (presses b goal guest machine) (reactions b goal guest machine) (goals b goal guest machine) s t in
-    let near = inRange goal guest machine && (ltb s k && ltb t k) in
+    let ok = answerable k (presses b guest) (reactions b machine) (goals b goal) s t in
+    let u = answerTo k (presses b guest) (reactions b machine) (goals b goal) s t in
+    let near = numbersInRange goal guest machine && (ltb s k && ltb t k) in
     let less = e .rows in
     let fewer = e .rounds in
     let kept : (q : Count) → gameVerdict b goal guest machine acc R ≡ counted q → gameVerdict
@@ -61,11 +58,11 @@ reacts-more M b l acc acc′ e R R′ i goal guest machine s t f =
     (omega arith) nothing
     (ticks (states (modelOf b) noEnv) (liveOf b) (gameForm goal guest machine)) q in
     ap (λ (x : Bool). cond near (cond x (cond (allFilled b goal guest machine)
-    (reacted (withRowCount b M) goal guest machine (gameVerdict (withRowCount b M) goal guest machine acc′ R′) ok u) (plain 7))
+    (reacted (gameVerdict (withRowCount b M) goal guest machine acc′ R′) ok u) (plain 7))
     (plain 14)) (plain 3))
     (ap₂ listFits (e .count) (e .place))
-    ∙ checked near (named acc) (allFilled b goal guest machine) (reacted b goal guest machine
+    ∙ checked near (named acc) (allFilled b goal guest machine) (reacted
     (gameVerdict b goal guest machine acc R) ok u)
-    (reacted (withRowCount b M) goal guest machine (gameVerdict (withRowCount b M) goal guest machine acc′ R′) ok u)
-    (told-more M b goal guest machine (gameVerdict b goal guest machine acc R) (gameVerdict
+    (reacted (gameVerdict (withRowCount b M) goal guest machine acc′ R′) ok u)
+    (told-more (gameVerdict b goal guest machine acc R) (gameVerdict
     (withRowCount b M) goal guest machine acc′ R′) ok u kept) f

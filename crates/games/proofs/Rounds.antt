@@ -9,20 +9,20 @@ use native.Mathlib.Nat.{lt-of-not-le}
 use native.Mathlib.Omega.{arith}
 use lib.Dec.{T, ltb, ltb→lt, lt→ltb}
 use lib.ListN.{length}
-use Rattle.mucalculus.specs.Sets.{mem, table, noStates, allStates, all, any}
+use Rattle.mucalculus.specs.Sets.{mem, table, allStates, all, any}
 use Rattle.mucalculus.proofs.Sets.{and-in, and-out, or-left, or-right, or-out, true-of, false-of, length-table, mem-table, mem-noStates}
-use Rattle.mucalculus.proofs.Sets.{all-in, all-out, any-in, any-out, mem-lt}
+use Rattle.mucalculus.proofs.Sets.{all-in, all-out, any-in, any-out}
 use Rattle.mucalculus.specs.Order.{Below, start}
 use Rattle.mucalculus.specs.Fixpoint.{Into}
-use Rattle.mucalculus.proofs.Fixpoint.{iter, Mono, into-all, iter-found, fix-iter, fix-fixed, fix-bound, stable}
+use Rattle.mucalculus.proofs.Fixpoint.{iter, Mono, into-all, iter-found, fix-fixed, fix-bound, stable}
 use Rattle.mucalculus.specs.Binder.{Least}
 use Rattle.mucalculus.proofs.Laws.{table-out}
 use Rattle.mucalculus.specs.Form.{Pairs}
 use Rattle.mucalculus.specs.Means.{pair}
 use Rattle.book.proofs.Diamond.{table-in}
 use Rattle.paths.specs.Runs.{firstOf}
-use Rattle.paths.proofs.First.{first-le, first-found, first-least, first-is, first-same}
-use Rattle.games.specs.Game.{moves, answers, forcing, forced, after, enters, answerTo, fair}
+use Rattle.paths.proofs.First.{first-found, first-least, first-is, first-same}
+use Rattle.games.specs.Game.{moves, answers, forcing, forced, setAfter, enters, answerTo}
 
 -- ---- quantifiers over the states
 
@@ -125,7 +125,7 @@ module _ (k : ℕ) (G M : Pairs) (B : List Bool) where
   forcing-into : Into (allStates k) (forcing k G M B)
   forcing-into = into-all k (forcing k G M B) forcing-size
 
-  after-iter : (i : ℕ) → after k G M B i ≡ iter (forcing k G M B) i (start true k (allStates k))
+  after-iter : (i : ℕ) → setAfter k G M B i ≡ iter (forcing k G M B) i (start true k (allStates k))
   after-iter zero = refl
   after-iter (suc i) = ap (forcing k G M B) (after-iter i)
 
@@ -137,70 +137,70 @@ module _ (k : ℕ) (G M : Pairs) (B : List Bool) where
   }
 
   -- after 2^n rounds nothing changes
-  pub after-rests : after k G M B (suc k) ≡ after k G M B k
+  pub after-rests : setAfter k G M B (suc k) ≡ setAfter k G M B k
   after-rests =
       after-iter (suc k) ∙ stable k (allStates k) (forcing k G M B) forcing-size forcing-into forcing-mono true ∙ sym (after-iter k)
 
   -- a round that gives the same set again has made the set
-  pub after-found : (i : ℕ) → after k G M B (suc i) ≡ after k G M B i → after k G M B i ≡ forced k G M B
+  pub after-found : (i : ℕ) → setAfter k G M B (suc i) ≡ setAfter k G M B i → setAfter k G M B i ≡ forced k G M B
   after-found i e =
       after-iter i
       ∙ iter-found k (allStates k) (forcing k G M B) forcing-size forcing-into forcing-mono true i (sym (after-iter
       (suc i)) ∙ e ∙ after-iter i)
 
-  pub after-all : after k G M B k ≡ forced k G M B
+  pub after-all : setAfter k G M B k ≡ forced k G M B
   after-all = after-found k after-rests
 
-  pub after-size : (i : ℕ) → length (after k G M B i) ≡ k
+  pub after-size : (i : ℕ) → length (setAfter k G M B i) ≡ k
   after-size zero = length-table k _
-  after-size (suc i) = forcing-size (after k G M B i)
+  after-size (suc i) = forcing-size (setAfter k G M B i)
 
   -- the rounds grow
-  climbs : (i : ℕ) → Below (after k G M B i) (after k G M B (suc i))
+  climbs : (i : ℕ) → Below (setAfter k G M B i) (setAfter k G M B (suc i))
   climbs zero s p = absurd (mem-noStates k s p)
-  climbs (suc i) s p = forcing-mono (after k G M B i) (after k G M B (suc i)) (climbs i) s p
+  climbs (suc i) s p = forcing-mono (setAfter k G M B i) (setAfter k G M B (suc i)) (climbs i) s p
 
-  grown : (d i : ℕ) → Below (after k G M B i) (after k G M B (d + i))
-  grown zero i s p = let z : 0 + i ≡ i = omega arith in subst (λ (j : ℕ). T (mem (after k G M B j) s)) (sym z) p
+  grown : (d i : ℕ) → Below (setAfter k G M B i) (setAfter k G M B (d + i))
+  grown zero i s p = let z : 0 + i ≡ i = omega arith in subst (λ (j : ℕ). T (mem (setAfter k G M B j) s)) (sym z) p
   grown (suc d) i s p =
       let z : suc d + i ≡ suc (d + i) = omega arith in
-      subst (λ (j : ℕ). T (mem (after k G M B j) s)) (sym z) (climbs (d + i) s (grown d i s p))
+      subst (λ (j : ℕ). T (mem (setAfter k G M B j) s)) (sym z) (climbs (d + i) s (grown d i s p))
 
-  pub grows : (i j : ℕ) → i ≤ j → Below (after k G M B i) (after k G M B j)
+  pub grows : (i j : ℕ) → i ≤ j → Below (setAfter k G M B i) (setAfter k G M B j)
   grows i j l s p =
       let e : (j - i) + i ≡ j = omega arith in
-      subst (λ (m : ℕ). T (mem (after k G M B m) s)) e (grown (j - i) i s p)
+      subst (λ (m : ℕ). T (mem (setAfter k G M B m) s)) e (grown (j - i) i s p)
 
   -- past round k nothing is new
-  rested : (d : ℕ) → after k G M B (suc (d + k)) ≡ after k G M B (d + k)
-  rested zero = let z : 0 + k ≡ k = omega arith in subst (λ (m : ℕ). after k G M B (suc m) ≡ after k G M B m) (sym z) after-rests
+  rested : (d : ℕ) → setAfter k G M B (suc (d + k)) ≡ setAfter k G M B (d + k)
+  rested zero = let z : 0 + k ≡ k = omega arith in subst (λ (m : ℕ). setAfter k G M B (suc m) ≡ setAfter k G M B m) (sym z) after-rests
   rested (suc d) =
       let z : suc d + k ≡ suc (d + k) = omega arith in
-      subst (λ (m : ℕ). after k G M B (suc m) ≡ after k G M B m) (sym z) (ap (forcing k G M B) (rested d))
+      subst (λ (m : ℕ). setAfter k G M B (suc m) ≡ setAfter k G M B m) (sym z) (ap (forcing k G M B) (rested d))
 
-  pub rests : (i : ℕ) → k ≤ i → after k G M B (suc i) ≡ after k G M B i
+  pub rests : (i : ℕ) → k ≤ i → setAfter k G M B (suc i) ≡ setAfter k G M B i
   rests i l =
       let e : (i - k) + k ≡ i = omega arith in
-      subst (λ (m : ℕ). after k G M B (suc m) ≡ after k G M B m) e (rested (i - k))
+      subst (λ (m : ℕ). setAfter k G M B (suc m) ≡ setAfter k G M B m) e (rested (i - k))
 
-  pub still-below : (i : ℕ) → after k G M B (suc i) ≢ after k G M B i → i < k
+  pub still-below : (i : ℕ) → setAfter k G M B (suc i) ≢ setAfter k G M B i → i < k
   still-below i ne = lt-of-not-le (λ l. ne (rests i l))
 
   -- every round's states are of the set, and the set's states come in some round up to k
-  pub after-in : (i : ℕ) → Below (after k G M B i) (forced k G M B)
+  pub after-in : (i : ℕ) → Below (setAfter k G M B i) (forced k G M B)
   after-in zero s p = absurd (mem-noStates k s p)
   after-in (suc i) s p =
-      subst (λ (A : List Bool). T (mem A s)) (forced-least .fixed) (forcing-mono (after k G M B i) (forced k G M B) (after-in i) s p)
+      subst (λ (A : List Bool). T (mem A s)) (forced-least .fixed) (forcing-mono (setAfter k G M B i) (forced k G M B) (after-in i) s p)
 
   -- ---- the round in which a state enters
 
   abbrev at : ℕ → ℕ → Bool
-  at s i = mem (after k G M B i) s
+  at s i = mem (setAfter k G M B i) s
 
-  pub enters-le : (s i : ℕ) → i ≤ k → T (mem (after k G M B i) s) → enters k G M B s ≤ i
+  pub enters-le : (s i : ℕ) → i ≤ k → T (mem (setAfter k G M B i) s) → enters k G M B s ≤ i
   enters-le s i l p = first-least (suc k) (at s) i (omega arith) p
 
-  pub enters-in : (s : ℕ) → enters k G M B s ≤ k → T (mem (after k G M B (enters k G M B s)) s)
+  pub enters-in : (s : ℕ) → enters k G M B s ≤ k → T (mem (setAfter k G M B (enters k G M B s)) s)
   enters-in s l = first-found (suc k) (at s) (omega arith)
 
   pub enters-forced : (s : ℕ) → T (mem (forced k G M B) s) → enters k G M B s ≤ k
@@ -212,24 +212,28 @@ module _ (k : ℕ) (G M : Pairs) (B : List Bool) where
   -- no state is in the set before the first round
   pub enters-some : (s : ℕ) → 0 < enters k G M B s
   enters-some s = lt-of-not-le (λ l. let z : enters k G M B s ≡ 0 = omega arith in
-      mem-noStates k s (subst (λ (i : ℕ). T (mem (after k G M B i) s)) z (enters-in s (omega arith))))
+      mem-noStates k s (subst (λ (i : ℕ). T (mem (setAfter k G M B i) s)) z (enters-in s (omega arith))))
 
   -- a state that a round brings enters in it
-  pub enters-is : (s i : ℕ) → i < k → (T (mem (after k G M B i) s) → ⊥) → T (mem (after k G M B (suc i)) s) → enters k G M B s ≡ suc i
+  pub enters-is : (s i : ℕ) → i < k → (T (mem (setAfter k G M B i) s) → ⊥) → T (mem (setAfter k G M B (suc i)) s) → enters k G M B s ≡ suc i
   enters-is s i l out p =
       first-is (suc k) (at s) (suc i) (omega arith) p
       (λ j h. false-of (at s j) (λ q. out (grows j i (omega arith) s q)))
 
   -- "enters in an earlier round": is in the set before
-  earlier : (i u : ℕ) → i ≤ k → ltb (enters k G M B u) (suc i) ≡ mem (after k G M B i) u
-  earlier i u l = same-test (ltb (enters k G M B u) (suc i)) (mem (after k G M B i) u)
+  earlier : (i u : ℕ) → i ≤ k → ltb (enters k G M B u) (suc i) ≡ mem (setAfter k G M B i) u
+  earlier i u l = same-test (ltb (enters k G M B u) (suc i)) (mem (setAfter k G M B i) u)
       (λ p. let h = ltb→lt (enters k G M B u) (suc i) p in grows (enters k G M B u) i (omega arith) u (enters-in u (omega arith)))
       (λ p. let h = enters-le u i l p in lt→ltb (enters k G M B u) (suc i) (omega arith))
 
+  -- the least answer to the press t into the set after i rounds; k where there is none
+  abbrev pub leastInto : ℕ → ℕ → ℕ
+  leastInto t i = firstOf k (λ u. pair M t u && mem (setAfter k G M B i) u)
+
   pub answer-near : (s t i : ℕ) → i ≤ k → enters k G M B s ≡ suc i
-      → answerTo k G M B s t ≡ firstOf k (λ u. pair M t u && mem (after k G M B i) u)
+      → answerTo k G M B s t ≡ leastInto t i
   answer-near s t i l e =
-      first-same k (λ u. pair M t u && ltb (enters k G M B u) (enters k G M B s)) (λ u. pair M t u && mem (after k G M B i) u)
+      first-same k (λ u. pair M t u && ltb (enters k G M B u) (enters k G M B s)) (λ u. pair M t u && mem (setAfter k G M B i) u)
       (λ u h. ap (λ (b : Bool). pair M t u && b) (ap (ltb (enters k G M B u)) e ∙ earlier i u l))
 
   -- ---- the answer
@@ -243,18 +247,18 @@ module _ (k : ℕ) (G M : Pairs) (B : List Bool) where
 
   module _ (s t : ℕ) (l : t < k) (out : T (mem B s) → ⊥) (press : T (pair G s t)) where
     -- of a state that enters in round i + 1 some answer is in the set before
-    answer-some : (i : ℕ) → T (mem (after k G M B (suc i)) s) → Answer k M (after k G M B i) t
-    answer-some i p = go (forcing-out (after k G M B i) s p)
+    answer-some : (i : ℕ) → T (mem (setAfter k G M B (suc i)) s) → Answer k M (setAfter k G M B i) t
+    answer-some i p = go (forcing-out (setAfter k G M B i) s p)
       where
-        go : T (mem B s) ⊎ (T (moves k G s) × ((t : ℕ) → t < k → T (pair G s t) → T (answers k M (after k G M B i) t)))
-            → Answer k M (after k G M B i) t
+        go : T (mem B s) ⊎ (T (moves k G s) × ((t : ℕ) → t < k → T (pair G s t) → T (answers k M (setAfter k G M B i) t)))
+            → Answer k M (setAfter k G M B i) t
         go (inl q) = absurd (out q)
-        go (inr (q, r)) = answers-out k M (after k G M B i) t (r t l press)
+        go (inr (q, r)) = answers-out k M (setAfter k G M B i) t (r t l press)
 
-    pub answer-lt : (i : ℕ) → T (mem (after k G M B (suc i)) s) → firstOf k (λ u. pair M t u && mem (after k G M B i) u) < k
+    pub answer-lt : (i : ℕ) → T (mem (setAfter k G M B (suc i)) s) → leastInto t i < k
     answer-lt i p =
         let w = answer-some i p in
-        let h = first-least k (λ u. pair M t u && mem (after k G M B i) u) (w .0) (w .1) (and-in (pair M t (w .0)) _ (w .2) (w .3)) in
+        let h = first-least k (λ u. pair M t u && mem (setAfter k G M B i) u) (w .0) (w .1) (and-in (pair M t (w .0)) _ (w .2) (w .3)) in
         let m = w .1 in
         omega arith
 
@@ -264,7 +268,8 @@ module _ (k : ℕ) (G M : Pairs) (B : List Bool) where
         go : (e : ℕ) → enters k G M B s ≡ e → e ≤ k → Good s t (answerTo k G M B s t)
         go zero q h = let z = enters-some s in absurd (omega arith)
         go (suc i) q h =
-            let inn : T (mem (after k G M B (suc i)) s) = subst (λ (j : ℕ). T (mem (after k G M B j) s)) q (enters-in s (omega arith)) in
+            let inn : T (mem (setAfter k G M B (suc i)) s) = subst (λ (j : ℕ). T (mem (setAfter k G M B j) s)) q
+            (enters-in s (omega arith)) in
             let lt : answerTo k G M B s t < k = subst (λ (x : ℕ). x < k) (sym (answer-near s t i (omega arith) q)) (answer-lt i inn) in
             let w = and-out (pair M t (answerTo k G M B s t)) _
             (first-found k (λ u. pair M t u && ltb (enters k G M B u) (enters k G M B s)) lt) in
@@ -281,47 +286,38 @@ module _ (k : ℕ) (G M : Pairs) (B : List Bool) where
 
   -- after round i: k where the state is not in the set yet, then its answer, where the press is a guest move of a state outside the goal
   pub record Noted (s t i x : ℕ) : Type 0 where
-    pub not-yet : (T (mem (after k G M B i) s) → ⊥) → x ≡ k
-    pub found : T (mem (after k G M B i) s) → (T (mem B s) → ⊥) → t < k → T (pair G s t) → (x ≡ answerTo k G M B s t) × (x < k)
+    pub not-yet : (T (mem (setAfter k G M B i) s) → ⊥) → x ≡ k
+    pub found : T (mem (setAfter k G M B i) s) → (T (mem B s) → ⊥) → t < k → T (pair G s t) → (x ≡ answerTo k G M B s t) × (x < k)
 
   pub noted-none : (s t : ℕ) → Noted s t 0 k
   noted-none s t = record { not-yet = λ _. refl; found = λ p. absurd (mem-noStates k s p) }
 
-  -- what a round notes: the first in which the state is in the set decides
+  -- what a round notes: the one in which the state enters decides
   abbrev pub noting : ℕ → ℕ → ℕ → ℕ → ℕ
   noting s t i x =
-      let seen = firstOf k (λ u. pair M t u && mem (after k G M B i) u) in
-      cond (ltb x k) x (cond (mem (after k G M B (suc i)) s) seen x)
+      let least = leastInto t i in
+      let entered = cond (mem (setAfter k G M B (suc i)) s) least x in
+      cond (mem (setAfter k G M B i) s) x entered
 
   module _ {s t i x : ℕ} (n : Noted s t i x) (more : i < k) where
     pub noted-next : Noted s t (suc i) (noting s t i x)
     noted-next = record {
       not-yet = λ out.
-          let e = n .not-yet (λ p. out (climbs i s p)) in
-          keeps x e (false-of (at s (suc i)) out);
+          let before : T (at s i) → ⊥ = λ p. out (climbs i s p) in
+          by (false-of (at s i) before) (false-of (at s (suc i)) out) ∙ n .not-yet before;
       found = λ p out l press. go (at s i) refl p out l press;
     }
       where
-        keeps : (x : ℕ) → x ≡ k → at s (suc i) ≡ false
-            → cond (ltb x k) x (cond (at s (suc i)) (firstOf k (λ u. pair M t u && mem (after k G M B i) u)) x) ≡ k
-        keeps x e f =
-            ap (λ (b : Bool). cond b x (cond (at s (suc i)) (firstOf k (λ u. pair M t u && mem (after k G M B i) u)) x))
-            (false-of (ltb x k) (λ h. let j = ltb→lt x k h in omega arith))
-            ∙ ap (λ (b : Bool). cond b (firstOf k (λ u. pair M t u && mem (after k G M B i) u)) x) f ∙ e
+        by : {a c : Bool} → at s i ≡ a → at s (suc i) ≡ c → noting s t i x ≡ cond a x (cond c (leastInto t i) x)
+        by e f = ap₂ (λ (a c : Bool). cond a x (cond c (leastInto t i) x)) e f
 
         go : (b : Bool) → at s i ≡ b → T (at s (suc i)) → (T (mem B s) → ⊥) → t < k → T (pair G s t)
             → (noting s t i x ≡ answerTo k G M B s t) × (noting s t i x < k)
         go true e p out l press =
             let f = n .found (subst T (sym e) tt) out l press in
-            let same : noting s t i x ≡ x = ap
-            (λ (b : Bool). cond b x (cond (at s (suc i)) (firstOf k (λ u. pair M t u && mem (after k G M B i) u)) x))
-            (true-of (ltb x k) (lt→ltb x k (f .1))) in
+            let same : noting s t i x ≡ x = by e refl in
             (same ∙ f .0, subst (λ (y : ℕ). y < k) (sym same) (f .1))
         go false e p out l press =
-            let z : x ≡ k = n .not-yet (λ q. subst T e q) in
-            let same : noting s t i x ≡ firstOf k (λ u. pair M t u && mem (after k G M B i) u) = ap
-            (λ (b : Bool). cond b x (cond (at s (suc i)) (firstOf k (λ u. pair M t u && mem (after k G M B i) u)) x))
-            (false-of (ltb x k) (λ h. let j = ltb→lt x k h in omega arith))
-            ∙ ap (λ (b : Bool). cond b (firstOf k (λ u. pair M t u && mem (after k G M B i) u)) x) (true-of (at s (suc i)) p) in
+            let same : noting s t i x ≡ leastInto t i = by e (true-of (at s (suc i)) p) in
             let near = answer-near s t i (omega arith) (enters-is s i more (λ q. subst T e q) p) in
             (same ∙ sym near, subst (λ (y : ℕ). y < k) (sym same) (answer-lt s t l out press i p))

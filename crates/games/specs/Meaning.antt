@@ -1,6 +1,6 @@
 -- The two calls in plain words. Assumes nothing.
 use mathlib.Core.Path.{_≡_}
-use mathlib.Core.Bool.{Bool, true, false}
+use mathlib.Core.Bool.{Bool, false}
 use mathlib.Core.List.{List}
 use Prim.Native.Nat.{ℕ, _≤_, _<_}
 use lib.Dec.{T}
@@ -17,9 +17,9 @@ pub record ForcedSet (k : ℕ) (G M : Pairs) (B A : List Bool) : Type 0 where
   -- such set"
   pub least : Least (forcing k G M B) A
   -- "the set of states from which the machine can force the goal"
-  pub machine-can : (s : ℕ) → T (mem A s) → (h : ℕ → ℕ → ℕ) × (most : ℕ) × Forces k G M B h most s
+  pub machine-can : (s : ℕ) → T (mem A s) → (h : ℕ → ℕ → ℕ) × (bound : ℕ) × Forces k G M B h bound s
   -- and no other state is one
-  pub only : (s : ℕ) → s < k → (h : ℕ → ℕ → ℕ) (most : ℕ) → Forces k G M B h most s → T (mem A s)
+  pub only : (s : ℕ) → s < k → (h : ℕ → ℕ → ℕ) (bound : ℕ) → Forces k G M B h bound s → T (mem A s)
   -- "In every state outside the set the guest has a way to stay outside for good, or no move"
   pub guest-can : (s : ℕ) → s < k → mem A s ≡ false → (g : ℕ → ℕ) × Stays k G M A g s
 

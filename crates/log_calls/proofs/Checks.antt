@@ -27,7 +27,7 @@ use Rattle.contract.proofs.Checked.{kept-refused}
 use Rattle.contract.proofs.Roots.{root-filled}
 use Rattle.paths.specs.Runs.{Outcome, full, none as noRun, short, found}
 use Rattle.paths.specs.Call.{Ended, refuse}
-use Rattle.path_calls.proofs.Checks.{relation-is, same-table, rows-kept, words-kept, same-book}
+use Rattle.formula_steps.proofs.After.{relation-is, same-table, rows-kept, words-kept, same-book}
 use Rattle.logs.specs.Runs.{momentAt, outcome}
 use Rattle.logs.specs.Call.{logsFit, after, ends, overFilled, logged}
 use Rattle.moments.specs.declared.Logged.{Logged}

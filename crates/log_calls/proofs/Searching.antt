@@ -35,10 +35,11 @@ use Rattle.contract.proofs.Seen.{sound-table}
 use Rattle.contract.proofs.Roots.{filled-root, root-filled}
 use Rattle.modal.specs.Chain.{Base}
 use Rattle.modal.proofs.Chain.{held-alike}
+use Rattle.formula_steps.proofs.After.{After, freed}
 use Rattle.layers.specs.Scene.{Scene}
 use Rattle.layers.proofs.Scene.{filled-same}
 use Rattle.path_calls.specs.Search.{bookIn}
-use Rattle.path_calls.proofs.Searching.{place-some, steps-freed}
+use Rattle.path_calls.proofs.Searching.{place-some}
 use Rattle.moments.specs.declared.Logged.{Logged}
 use Rattle.moments.specs.Find.{FindPre, FindPost}
 use Rattle.log_calls.specs.Search.{Named, SearchPre, SearchPost}
@@ -123,7 +124,8 @@ module _ {n N limit : ℕ} {W : View} {t v : ℕ} {one two : List ℕ} (p : Sear
       → SearchPost n limit W Z t v one two old new r
   search-done {Y} {Z} old {new} {r} u g rt m =
       let w = u (scene m) in
-      let z = steps-freed (w .steps) g in
+      let q = w .steps in
+      let z : After X Z = freed (record { sound = q .moved .sound; frame = q .moved .frame; kept = q .kept }) g in
       record {
         sound = z .sound;
         frame = op-trans frame (z .frame);

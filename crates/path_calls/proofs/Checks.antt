@@ -1,48 +1,37 @@
 -- The call's contract from its checks and from its search. Assumes nothing.
 use mathlib.Core.Path.{_≡_, refl, sym, ap, _∙_, subst}
 use mathlib.Core.Logic.{_≢_}
-use mathlib.Core.Bool.{Bool, true, false, cond, _&&_}
+use mathlib.Core.Bool.{Bool, cond, _&&_}
 use mathlib.Core.List.{List}
 use mathlib.Core.Option.{Option, none, some}
-use Prim.Native.Nat.{ℕ, zero, suc, _+_, _-_, _*_, _≤_, _<_}
+use Prim.Native.Nat.{ℕ, suc, _+_, _-_, _<_}
 use native.Mathlib.Omega.{arith}
-use lib.Dec.{T, eqb, ltb, ltb→lt, lt→ltb}
+use lib.Dec.{T, ltb, ltb→lt, lt→ltb}
 use lib.ListN.{length}
 use Rattle.mucalculus.proofs.Sets.{true-of, false-of, and-in, and-out}
 use Rattle.mucalculus.specs.Form.{Pairs, inside}
 use Rattle.layout.specs.Refusals.{keepsAll}
-use Rattle.layout.specs.Places.{BITS, ROWS, SPARE, FIRST-REGISTER, FIRST-RELATION}
+use Rattle.layout.specs.Places.{BITS, ROWS, FIRST-REGISTER, FIRST-RELATION}
 use Rattle.layout.specs.View.{View, view, headerOf}
-use Rattle.layout.proofs.Same.{same-beyond}
-use Rattle.diagram.specs.Rows.{den}
 use Rattle.diagram.specs.Keep.{Keeps}
-use Rattle.diagram.proofs.Keep.{keeps-refl, keeps-within}
+use Rattle.diagram.proofs.Keep.{keeps-refl}
 use Rattle.rows.specs.Used.{rowsOf}
 use Rattle.rows.specs.Sound.{Sound, tableOf}
-use Rattle.rows.specs.Filled.{filled}
 use Rattle.rows.proofs.Filled.{filled-arrow}
-use Rattle.operations.specs.Work.{OpFrame}
-use Rattle.book.specs.Bridge.{setOf, pairsOf}
 use Rattle.book.specs.Book.{Book, registers, relations, liveOf, collect}
-use Rattle.book.proofs.Effects.{in-range}
-use Rattle.book.specs.Table.{Reply, Shows, rootsOf}
-use Rattle.book.specs.BookOf.{bookOf, standsFor}
-use Rattle.book.proofs.BookOf.{whole-bookOf, only-book}
-use Rattle.book.proofs.Alike.{alike-shows}
+use Rattle.book.specs.Table.{Reply, rootsOf}
+use Rattle.book.specs.BookOf.{bookOf}
 use Rattle.book.specs.Leaves.{plain}
-use Rattle.book.proofs.Leaves.{shows-rows}
-use Rattle.contract.specs.Seen.{arrowIn, seenIn, seen, SoundWords}
-use Rattle.contract.proofs.Seen.{sound-shows-book, sound-table}
-use Rattle.contract.specs.Kept.{Kept, changes}
+use Rattle.contract.specs.Seen.{seen, SoundWords}
 use Rattle.contract.proofs.Checked.{kept-refused}
 use Rattle.contract.proofs.Roots.{root-filled}
-use Rattle.formula_steps.proofs.Evaluated.{Left, left-op, left-none, rows-seen}
+use Rattle.formula_steps.proofs.After.{register-is, relation-is, same-table, rows-kept, words-kept, same-book}
 use Rattle.paths.specs.Runs.{Outcome, full, none as noRun, short, found, outcome}
 use Rattle.paths.specs.Call.{Ended, refuse, ends, overFilled, shortest}
 use Rattle.routes.specs.declared.Found.{Found}
 use Rattle.routes.specs.Find.{foundReply}
 use Rattle.path_calls.specs.Search.{Named, SearchPre, Searched, SearchPost}
-use Rattle.path_calls.specs.Post.{Told, PathPost}
+use Rattle.path_calls.specs.Post.{PathPost}
 
 -- ---- the checks, by the book
 
@@ -102,28 +91,6 @@ module _ (bk : Book) (a b t : ℕ) (list : List ℕ) where
             → overFilled bk o p q list ≡ ends (outcome (bk .n) (bk .N) (liveOf bk) (inside q) (inside o) (inside p) (length list)) list
         go {A} {B} {R} o p q ea eb er = rw (ea, eb, er) refl
 
--- ---- what the words say of registers and relations
-
-module _ (old : List ℕ) where
-  abbrev W : View
-  W = tableOf old
-
-  abbrev bk : Book
-  bk = bookOf (seen old)
-
-  -- what register r and relation t stand for, by their words
-  pub register-is : {r x : ℕ} → r < registers → x ≡ headerOf old (FIRST-REGISTER + r)
-      → bk .reg r ≡ standsFor (setOf (W .header BITS)) (den (2 * W .header BITS) (rowsOf W)) (arrowIn x)
-  register-is {r} l e =
-      in-range _ none r registers l
-      ∙ ap (λ (k : ℕ). standsFor (setOf (W .header BITS)) (den (2 * W .header BITS) (rowsOf W)) (arrowIn k)) (sym e)
-
-  pub relation-is : {t x : ℕ} → t < relations → x ≡ headerOf old (FIRST-RELATION + t)
-      → bk .rel t ≡ standsFor (pairsOf (W .header BITS)) (den (2 * W .header BITS) (rowsOf W)) (arrowIn x)
-  relation-is {t} l e =
-      in-range _ none t relations l
-      ∙ ap (λ (k : ℕ). standsFor (pairsOf (W .header BITS)) (den (2 * W .header BITS) (rowsOf W)) (arrowIn k)) (sym e)
-
 -- ---- refusals by the checks
 
 module _ (a b t : ℕ) (ws list : List ℕ) where
@@ -174,47 +141,6 @@ late full list h = h
 late noRun list h = h
 late short list h = h
 late (found l) list h = h
-
-and-no : (x : Bool) → (x && false) ≡ false
-and-no true = refl
-and-no false = refl
-
-module _ (old new : List ℕ) (y : Reply) (s : SoundWords old) (ok : Sound (view (headerOf old ROWS) new))
-    (f : OpFrame (tableOf old) (view (headerOf old ROWS) new))
-    (k : Keeps (rowsOf (tableOf old)) (rowsOf (view (headerOf old ROWS) new)) (filled (tableOf old))) where
-  abbrev Z : View
-  Z = view (headerOf old ROWS) new
-
-  left : Left collect y (tableOf old) Z
-  left = left-op collect y (left-none collect y (tableOf old)) f
-
-  pub same-table : tableOf new ≡ Z
-  same-table = ap (λ (k : ℕ). view k new) (left .header ROWS (and-no (eqb (y .number) 0)))
-
-  pub rows-kept : Keeps (seen old .rows) (rowsOf Z) (rootsOf (seen old))
-  rows-kept = keeps-within (root-filled (tableOf old) (s .valid)) k
-
-  pub words-kept : (T (keepsAll (y .number)) → ⊥) → Kept collect y old new
-  words-kept n = record {
-    all = λ h. absurd (n h);
-    size = left .size;
-    header = λ h _ e. left .header h e;
-    spare = λ i _. left .spare i;
-    beyond = same-beyond (headerOf old ROWS) new old (left .beyond);
-    exact = tt;
-  }
-
-  shown : Shows (bookOf (seen old)) (seenIn Z)
-  shown =
-      let e : Z .header BITS ≡ headerOf old BITS = left .header BITS (and-no (eqb (y .number) 0)) in
-      alike-shows (rows-seen (tableOf old) Z f) (bookOf (seen old))
-      (shows-rows (bookOf (seen old)) (seen old) (sound-shows-book old s) (rowsOf Z) (rw (← e) (ok .good .rows)) rows-kept)
-
-  -- the words stand for the same book
-  pub same-book : bookOf (seen new) ≡ bookOf (seen old)
-  same-book =
-      ap (λ (v : View). bookOf (seenIn v)) same-table
-      ∙ sym (only-book (bookOf (seen old)) (seenIn Z) (whole-bookOf (seen old) (sound-table (tableOf old) s)) shown)
 
 module _ {a b t : ℕ} (old : List ℕ) (s : SoundWords old) (r : InRange a b t) {rows bits x y z : ℕ} (er : rows ≡ headerOf old ROWS)
     (eb : bits ≡ headerOf old BITS)

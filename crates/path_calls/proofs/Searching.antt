@@ -12,17 +12,15 @@ use Rattle.diagram.specs.Level.{Fn}
 use Rattle.diagram.specs.Rows.{Rows}
 use Rattle.diagram.specs.Post.{Denotes}
 use Rattle.diagram.specs.Keep.{Keeps}
-use Rattle.diagram.proofs.Keep.{keeps-trans}
-use Rattle.diagram.proofs.Collect.{collects-keeps}
 use Rattle.rows.specs.Used.{rowsOf}
 use Rattle.rows.specs.Sound.{Sound}
 use Rattle.rows.specs.Filled.{filled}
 use Rattle.rows.proofs.Filled.{filled-mem}
-use Rattle.collect.specs.Answers.{FreeManyPost, few, many}
+use Rattle.collect.specs.Answers.{FreeManyPost}
 use Rattle.memory.proofs.Frame.{rows-same}
 use Rattle.memory.specs.Forget.{Forgot}
 use Rattle.operations.specs.Work.{OpFrame}
-use Rattle.operations.proofs.Work.{op-trans, op-memo, op-made}
+use Rattle.operations.proofs.Work.{op-trans, op-memo}
 use Rattle.steps.proofs.Again.{start-ready}
 use Rattle.book.specs.Bridge.{fnOf, fnOfPairs, Sized}
 use Rattle.book.specs.Book.{registers, relations, liveOf}
@@ -35,9 +33,10 @@ use Rattle.contract.proofs.Seen.{sound-table}
 use Rattle.contract.proofs.Roots.{filled-root, root-filled}
 use Rattle.modal.specs.Chain.{Base}
 use Rattle.modal.proofs.Chain.{held-alike}
+use Rattle.formula_steps.proofs.After.{After, freed}
 use Rattle.layers.specs.Scene.{Scene}
 use Rattle.layers.proofs.Scene.{filled-same}
-use Rattle.layers.specs.Pass.{PassPre, Steps}
+use Rattle.layers.specs.Pass.{PassPre}
 use Rattle.routes.specs.declared.Found.{Found}
 use Rattle.routes.specs.Find.{FindPost}
 use Rattle.path_calls.specs.Search.{bookIn, Named, SearchPre, SearchPost}
@@ -52,21 +51,6 @@ pub place-sized : (n m : ℕ) (rows : Rows) (a : ℕ) (g : List Bool → Fn) (o 
     → ((x : List Bool) → o ≡ some x → Sized n x) → Sized n (inside o)
 place-sized n m rows a g none p h = absurd p
 place-sized n m rows a g (some x) p h = h x refl
-
--- steps, and rows freed afterwards or not
-pub record After (X Z : View) : Type 0 where
-  pub sound : Sound Z
-  pub frame : OpFrame X Z
-  pub kept : Keeps (rowsOf X) (rowsOf Z) (filled X)
-
-pub steps-freed : {n : ℕ} {X Y Z : View} → Steps n X Y → FreeManyPost Y Z → After X Z
-steps-freed {X = X} s (few e) = subst (After X) (sym e) (record { sound = s .moved .sound; frame = s .moved .frame; kept = s .kept })
-steps-freed {X = X} {Y = Y} {Z = Z} s (many f) = record {
-  sound = f .sound;
-  frame = op-trans (s .moved .frame) (op-made (f .frame));
-  kept = keeps-trans (s .kept)
-      (subst (λ (xs : List ℕ). Keeps (rowsOf Y) (rowsOf Z) xs) (filled-same (s .moved .frame)) (collects-keeps (f .collects)));
-}
 
 module _ {n N limit : ℕ} {W : View} {t a b : ℕ} (p : SearchPre n N limit W t a b) {X : View} (f : Forgot W X) where
   pub shows : Shows (bookIn W) (seenIn W)
@@ -155,7 +139,8 @@ module _ {n N limit : ℕ} {W : View} {t a b : ℕ} (p : SearchPre n N limit W t
       → SearchPost n limit W Z t a b old new r
   search-done {Y} {Z} old {new} {r} v f ra rb rt m =
       let w = v (scene m) (inside (bookIn W .reg ra)) (from m) in
-      let z = steps-freed (w .steps) f in
+      let q = w .steps in
+      let z : After X Z = freed (record { sound = q .moved .sound; frame = q .moved .frame; kept = q .kept }) f in
       record {
         sound = z .sound;
         frame = op-trans frame (z .frame);

@@ -13,4 +13,5 @@ pub mod QuietList
 pub mod QuietCalls
 pub mod Quiet
 pub mod Fares
+pub mod Games
 pub mod Later

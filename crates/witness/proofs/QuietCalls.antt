@@ -19,8 +19,9 @@ use Rattle.rows.specs.Used.{Sizes, rowsOf}
 use Rattle.rows.specs.Sound.{tableOf}
 use Rattle.rows.specs.Index.{bucket}
 use Rattle.book.specs.Bridge.{fnOf}
-use Rattle.book.specs.Book.{Book, relation, set, valid, clear, member, unfilled}
+use Rattle.book.specs.Book.{Book, Call, relation, set, valid, clear, member, unfilled}
 use Rattle.book.specs.BookOf.{bookOf}
+use Rattle.book.specs.Table.{Reply}
 use Rattle.book.specs.Leaves.{plain, valued}
 use Rattle.book.specs.Formulas.{relationF}
 use Rattle.book.specs.Demand.{Event, Trace, stop, go, pause}
@@ -40,6 +41,9 @@ use Rattle.path_calls.specs.Post.{PathPost}
 use Rattle.path_calls.proofs.Rests.{path-rests}
 use Rattle.coins.specs.Post.{FareReply, fareRefused, paid, FareBy, FarePost}
 use Rattle.coin_calls.proofs.Rests.{fare-rests}
+use Rattle.game_calls.specs.Post.{ReactPost}
+use Rattle.game_calls.proofs.Checks.{react-stays}
+use Rattle.game_calls.proofs.Rests.{react-rests}
 use Rattle.witness.proofs.Words.{storedIn, put-header, put-cell}
 use Rattle.witness.proofs.Made.{Roomy, every, self, every-done, self-done, empty-done}
 use Rattle.witness.proofs.Row.{bitIn, bitStored, view-bit, bit-done}
@@ -215,6 +219,13 @@ module _ {N k a c R : ℕ} (x : Setting N k a c R) where
   told : Tells N (under a c) R (bookOf (seen (afterRun N k)))
   told = tells-at to-after
 
+  -- the list so far, and any call more
+  pub to-next : {e : Call} {y : Reply} {ws : List ℕ} → CallPost e (afterRun N k) ws y
+      → Trace (List ℕ) performs rests (made N k) (started a c R ++ ((e, y) ∷ [])) ws
+  to-next p =
+      go valid-fixed (go relation-done (go set-filled (go set-vacant (go set-bit (go set-turned
+      (pause (path-rests run-told) (go p stop)))))))
+
   -- how the words look: row 0, and registers 3 and 4 that lead to it
   after-seen : view N (afterRun N k) ≡ putCell (registerStored (bitStored (view N (vacant N k)) 3 0) 4 2) 0 MEMO-VALUE 5
   unfolding rememberedIn storedIn
@@ -300,6 +311,14 @@ module _ {N k a c R : ℕ} (x : Setting N k a c R) where
       (short-by (bookOf (seen (afterRun N k))) pressed p (omega arith) (λ fits. let h = fits .for-states in absurd (omega arith)))
       (λ _. (refl, refl)) (λ h. h)
 
+  -- REFUSED: no game for an empty register
+  pub no-goal : ReactPost (under a c) R 5 0 0 0 1 (afterRun N k) (afterRun N k) (plain 7)
+  no-goal = react-stays (under a c) R 5 0 0 0 1 (afterRun N k) after-sound (told .no-goal)
+
+  -- and no answer where the goal has no state
+  pub no-answer : ReactPost (under a c) R 1 0 0 0 1 (afterRun N k) (afterRun N k) (plain 15)
+  no-answer = react-stays (under a c) R 1 0 0 0 1 (afterRun N k) after-sound (told .no-answer)
+
   -- bytes that are no formula
   pub not-read : CallPost (set (under a c) 5 R broken) (afterRun N k) (afterRun N k) (plain 4)
   not-read = call-refused (afterRun N k) after-sound 3 (set (under a c) 5 R broken) (told .unread)
@@ -328,14 +347,16 @@ module _ {N k a c R : ℕ} (x : Setting N k a c R) where
 
   -- ---- the lists
 
-  -- the questions, the refused searches and the cheapest run before other calls
+  -- the questions, the refused searches, the cheapest run and the refused games before other calls
   quiet : {l : List Event} {ws : List ℕ} → Trace (List ℕ) performs rests (afterRun N k) l ws
       → Trace (List ℕ) performs rests (afterRun N k) l ws
   quiet t =
       pause (batch-rests members-asked)
       (pause (same-rests (member-asked .0))
       (pause (path-rests no-run)
-      (pause (path-rests no-register) (pause (fare-rests (fare-paid 11)) (pause (fare-rests (fare-none 11)) t)))))
+      (pause (path-rests no-register)
+      (pause (fare-rests (fare-paid 11))
+      (pause (fare-rests (fare-none 11)) (pause (react-rests no-goal) (pause (react-rests no-answer) t)))))))
 
   -- from the search for a run on, with the refused calls as events
   from-refusals : Trace (List ℕ) performs rests (midway N k) (refusals a c R ++ closing a c R) (end N k)

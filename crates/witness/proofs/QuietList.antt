@@ -10,6 +10,7 @@ use lib.ListN.{set as write}
 use Rattle.accounts.specs.declared.Terms.{Terms}
 use Rattle.accounts.specs.Terms.{rowsUnder, roundsUnder}
 use Rattle.accounts.specs.Count.{nothing}
+use Rattle.mucalculus.specs.Sets.{bitLists}
 use Rattle.mucalculus.specs.Form.{top, noEnv}
 use Rattle.tokens.specs.declared.Kind.the-variants.{Relation, Set}
 use Rattle.layout.specs.Places.{FIRST-REGISTER, FIRST-RELATION}
@@ -24,6 +25,7 @@ use Rattle.book.specs.Demand.{Event, bookAfter}
 use Rattle.book.proofs.Compute.{computing}
 use Rattle.book.proofs.Listed.{frame}
 use Rattle.paths.specs.Call.{Ended, refuse as refuseRun, shortest}
+use Rattle.games.specs.Call.{reacts}
 use Rattle.witness.proofs.Words.{storedIn}
 use Rattle.witness.proofs.Made.{every, self}
 use Rattle.witness.proofs.Row.{bitIn}
@@ -178,8 +180,8 @@ pub record Turns (acc : Terms) (R : ℕ) (b : Book) : Type 0 where
   pub is : run (states (modelOf b) noEnv) (rowsUnder (b .N) acc) (roundsUnder R acc) (liveOf b) (formulaIn b Set notBit) nothing
       ≡ value (true ∷ false ∷ []) (record { rounds = 0; peak = 1 })
 
--- the calls that store nothing: a run of two states, none from register 1, which has no state, and 7 from register 5, which is empty; and
--- a set that is refused
+-- the calls that store nothing: a run of two states, none from register 1, which has no state, and 7 from register 5, which is empty; a
+-- set that is refused; and answers to the press 1 in state 0, of games whose goals are those registers
 pub record Tells (N : ℕ) (acc : Terms) (R : ℕ) (b : Book) : Type 0 where
   pub bits : b .n ≡ 1
   pub rows : b .N ≡ N
@@ -188,6 +190,8 @@ pub record Tells (N : ℕ) (acc : Terms) (R : ℕ) (b : Book) : Type 0 where
   pub none-left : shortest b 1 3 0 blank ≡ refuseRun 10 blank
   pub unfilled-first : shortest b 5 3 0 blank ≡ refuseRun 7 blank
   pub unread : does b (set acc 5 R broken) ≡ refuse b 4
+  pub no-goal : reacts b 5 0 0 acc R 0 1 ≡ plain 7
+  pub no-answer : reacts b 1 0 0 acc R 0 1 ≡ plain 15
 
 -- the table's sizes, limits that are no limits here, and all that is computed
 pub record Setting (N k a c R : ℕ) : Type 0 where
@@ -203,7 +207,7 @@ pub record Setting (N k a c R : ℕ) : Type 0 where
 
 -- two rows, one round at most, and the account's limits 2 and 1
 pub small : Setting 2 280 2 1 1
-unfolding computing
+unfolding computing bitLists
 small = record {
   sizes = record { n-pos = omega arith; n-max = omega arith; N-pos = omega arith; N-max = omega arith; room = omega arith };
   rows = omega arith;
@@ -212,13 +216,23 @@ small = record {
   relates = record { passes = refl; is = refl; fits = refl; needs = refl };
   ready = record { bits = refl; passes = refl; is = refl; needs = refl; again = refl };
   turns = record { bits = refl; held = refl; passes = refl; is = refl };
-  tells = record { bits = refl; rows = refl; held = refl; found = refl; none-left = refl; unfilled-first = refl; unread = refl };
+  tells = record {
+    bits = refl;
+    rows = refl;
+    held = refl;
+    found = refl;
+    none-left = refl;
+    unfilled-first = refl;
+    unread = refl;
+    no-goal = refl;
+    no-answer = refl;
+  };
   fares = record { bits = refl; from = refl; into = refl; without = refl; leads = tt; empty = refl };
 }
 
 -- three rows, three rounds at most, and the account's limits 5 and 7
 pub large : Setting 3 300 5 7 3
-unfolding computing
+unfolding computing bitLists
 large = record {
   sizes = record { n-pos = omega arith; n-max = omega arith; N-pos = omega arith; N-max = omega arith; room = omega arith };
   rows = omega arith;
@@ -227,6 +241,16 @@ large = record {
   relates = record { passes = refl; is = refl; fits = refl; needs = refl };
   ready = record { bits = refl; passes = refl; is = refl; needs = refl; again = refl };
   turns = record { bits = refl; held = refl; passes = refl; is = refl };
-  tells = record { bits = refl; rows = refl; held = refl; found = refl; none-left = refl; unfilled-first = refl; unread = refl };
+  tells = record {
+    bits = refl;
+    rows = refl;
+    held = refl;
+    found = refl;
+    none-left = refl;
+    unfilled-first = refl;
+    unread = refl;
+    no-goal = refl;
+    no-answer = refl;
+  };
   fares = record { bits = refl; from = refl; into = refl; without = refl; leads = tt; empty = refl };
 }

@@ -54,10 +54,10 @@ use Rattle.contract.specs.Seen.{seen, SoundWords}
 use Rattle.contract.proofs.Seen.{sound-shows-book}
 use Rattle.contract.specs.Posts.{CallPost}
 use Rattle.formula_steps.specs.Evaluated.{as-it-was}
+use Rattle.formula_steps.proofs.After.{same-table, rows-kept, words-kept, same-book}
 use Rattle.formula_steps.proofs.Ends.{set-value, relation-value, through-done}
 use Rattle.paths.specs.Call.{Ended, shortest}
 use Rattle.path_calls.specs.Post.{PathPost}
-use Rattle.path_calls.proofs.Checks.{same-table, rows-kept, words-kept, same-book}
 use Rattle.batch_calls.specs.Posts.{Fit, InRange, Answered, BatchPost}
 use Rattle.witness.proofs.Words.{storedIn, view-stored}
 use Rattle.witness.proofs.Made.{held}

@@ -111,14 +111,9 @@ fn turn(random: &mut Random, book: &Book, named: Named) -> (u64, u64) {
     let Some(game) = game_in(book, named).filter(|_| random.chance(80)) else {
         return any;
     };
-    let entries = game.entries();
-    let mut fair = Vec::new();
-    for state in (0..states as usize).filter(|&s| entries[s].is_some_and(|round| round > 1)) {
-        let presses = game.presses(state).iter();
-        fair.extend(presses.map(|&press| (state as u64, press as u64)));
-    }
-    match fair.is_empty() {
+    let turns = game.answerable(&game.entries());
+    match turns.is_empty() {
         true => any,
-        false => random.pick(&fair),
+        false => random.pick(&turns),
     }
 }

@@ -2,7 +2,7 @@
 //! every answer, the number where a call is refused, zeros, accounts and words after it; 8 and 9 at their edges, by N
 //! and R and by the account's limits; 15 in its three ways.
 //!
-//! `KUDZUCLAMP_GAMES` rooms (120) from seed `KUDZUCLAMP_SEED` (8); 2,500 rooms make 200,000 calls.
+//! `KUDZUCLAMP_GAMES` rooms (120) from seed `KUDZUCLAMP_SEED` (8); 2,500 rooms make more than 200,000 calls.
 
 use calls::compare::lent_accounts;
 use calls::kept;
@@ -25,8 +25,8 @@ use std::collections::HashMap;
 use std::env;
 use std::rc::Rc;
 
-/// How often each number came of either call, 0 for answered; the three ways to 15; edges of 8 by N; rooms in which
-/// some states do not exist; the most rounds.
+/// How often each number came of either call, 0 for answered; the three ways to 15; edges of 8 by N; presses answered
+/// with all limits just enough; rooms in which some states do not exist; the most rounds.
 #[derive(Debug, Default)]
 struct Seen {
     forced: [u64; 16],
@@ -35,6 +35,7 @@ struct Seen {
     outside: u64,
     no_move: u64,
     edges: u64,
+    enough: u64,
     partial: u64,
     deepest: u32,
 }
@@ -249,31 +250,42 @@ fn compare_game(random: &mut Random, seen: &mut Seen, rules: &Rules) {
         let turn = draw_turn(random, rules.n);
         after.react(seen, PLENTY, both, turn);
     }
-    compare_turns(random, seen, &mut room, &won);
+    let turns = won.game.answerable(&won.entries);
+    compare_turns(random, seen, &mut room, &won, &turns);
     room.compare_contents();
-    compare_limits(random, seen, &room, cost);
-    compare_rows(random, seen, rules, cost.0);
+    compare_limits(random, seen, &room, cost, &turns);
+    compare_rows(random, seen, rules, cost.0, &turns);
     compare_wrong(random, seen, &mut room);
 }
 
-/// All states and presses up to n = 2, and some of a larger room; those that are fair, all up to n = 4.
-fn compare_turns(random: &mut Random, seen: &mut Seen, room: &mut Room, made: &Made) {
+/// A state and a press, in half of all cases such as have an answer, where there are such.
+fn some_turn(random: &mut Random, n: u32, answerable: &[(u64, u64)]) -> (u64, u64) {
+    match answerable.is_empty() || random.chance(50) {
+        true => draw_turn(random, n),
+        false => random.pick(answerable),
+    }
+}
+
+/// All states and presses up to n = 2; in a larger room 20 of any kind, and up to 40 of those that have an answer.
+fn compare_turns(
+    random: &mut Random,
+    seen: &mut Seen,
+    room: &mut Room,
+    made: &Made,
+    answerable: &[(u64, u64)],
+) {
     let (game, entries, n) = (&made.game, &made.entries, room.book.n());
     let states = 1u64 << n;
-    let mut turns: Vec<(u64, u64)> = match n {
+    let turns: Vec<(u64, u64)> = match n {
         1..=2 => (0..states * states)
             .map(|k| (k / states, k % states))
             .collect(),
-        _ => (0..20).map(|_| draw_turn(random, n)).collect(),
+        _ => {
+            let any = (0..20).map(|_| draw_turn(random, n)).collect();
+            let some = (0..answerable.len().min(40)).map(|_| random.pick(answerable));
+            [any, some.collect::<Vec<_>>()].concat()
+        }
     };
-    let entered = (0..states).filter(|&s| entries[s as usize].is_some());
-    let fair = entered.flat_map(|s| {
-        let presses = game.presses(s as usize).iter();
-        presses
-            .map(move |&press| (s, press as u64))
-            .collect::<Vec<_>>()
-    });
-    turns.extend(fair.take(if n > 2 { 40 } else { 0 }));
     for turn in turns {
         if room.react(seen, PLENTY, NAMED, turn) == 15 {
             let (state, press) = (turn.0 as usize, turn.1 as usize);
@@ -285,15 +297,12 @@ fn compare_turns(random: &mut Random, seen: &mut Seen, room: &mut Room, made: &M
     }
 }
 
-/// R and the account's limits at what the game takes, one less, and less than that.
-fn compare_limits(random: &mut Random, seen: &mut Seen, room: &Room, (peak, rounds): (usize, u32)) {
-    let peak = peak as u32;
+/// Limits of an account, and R: at what the game takes, one less, and less than that.
+fn some_limits(random: &mut Random, peak: u32, rounds: u32) -> [(u32, u32, u32); 9] {
     let (less, fewer) = (peak.saturating_sub(1), rounds - 1);
-    let (any, some) = (
-        random.below(u64::from(peak) + 1) as u32,
-        random.below(u64::from(rounds) + 1) as u32,
-    );
-    let limits = [
+    let any = random.below(u64::from(peak) + 1) as u32;
+    let some = random.below(u64::from(rounds) + 1) as u32;
+    [
         (peak, rounds, rounds),
         (less, rounds, rounds),
         (peak, fewer, rounds),
@@ -303,8 +312,19 @@ fn compare_limits(random: &mut Random, seen: &mut Seen, room: &Room, (peak, roun
         (u32::MAX, u32::MAX, some),
         (0, 0, 0),
         (0, 1, 1),
-    ];
-    for (rows, own, most) in limits {
+    ]
+}
+
+/// R and the account's limits about what the game takes.
+fn compare_limits(
+    random: &mut Random,
+    seen: &mut Seen,
+    room: &Room,
+    (peak, rounds): (usize, u32),
+    answerable: &[(u64, u64)],
+) {
+    let peak = peak as u32;
+    for (rows, own, most) in some_limits(random, peak, rounds) {
         let mut accounts = vec![BookAccount::new(0, 0); 1 + random.below(8) as usize];
         let place = random.below(accounts.len() as u64);
         let tally = random.pick(&[0, 5, u32::MAX - 1]);
@@ -319,13 +339,21 @@ fn compare_limits(random: &mut Random, seen: &mut Seen, room: &Room, (peak, roun
         };
         room.force(seen, under, TARGET, NAMED);
         let mut again = room.again();
-        again.react(seen, under, NAMED, draw_turn(random, room.book.n()));
+        let turn = some_turn(random, room.book.n(), answerable);
+        let number = again.react(seen, under, NAMED, turn);
+        seen.enough += u64::from((rows, own, most, number) == (peak, rounds, rounds, 0));
         again.compare_contents();
     }
 }
 
 /// N at the peak, one less and one more, where the room can be filled.
-fn compare_rows(random: &mut Random, seen: &mut Seen, rules: &Rules, peak: usize) {
+fn compare_rows(
+    random: &mut Random,
+    seen: &mut Seen,
+    rules: &Rules,
+    peak: usize,
+    answerable: &[(u64, u64)],
+) {
     for rows in [peak, peak.saturating_sub(1), peak + 1] {
         let filled = (rows > 0).then(|| Room::new(rules, rows as u64)).flatten();
         let Some(mut small) = filled else {
@@ -334,7 +362,8 @@ fn compare_rows(random: &mut Random, seen: &mut Seen, rules: &Rules, peak: usize
         let (answer, _) = small.force(seen, PLENTY, TARGET, NAMED);
         assert_eq!(answer.is_some(), rows >= peak, "N = {rows}, peak {peak}");
         seen.edges += u64::from(rows < peak);
-        let number = small.react(seen, PLENTY, NAMED, draw_turn(random, rules.n));
+        let turn = some_turn(random, rules.n, answerable);
+        let number = small.react(seen, PLENTY, NAMED, turn);
         assert_eq!(number == 8, rows < peak);
     }
 }
@@ -495,7 +524,8 @@ fn drawn_rooms() {
     let fifteen = [seen.in_goal, seen.outside, seen.no_move];
     assert!(fifteen.iter().all(|&ways| ways > rooms / 2), "{seen:?}");
     assert!(
-        seen.edges > rooms / 8 && seen.partial > rooms / 5 && seen.deepest > 5,
+        seen.edges > rooms / 8 && seen.enough > rooms / 8,
         "{seen:?}"
     );
+    assert!(seen.partial > rooms / 5 && seen.deepest > 5, "{seen:?}");
 }

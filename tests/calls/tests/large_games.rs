@@ -117,18 +117,20 @@ impl Hall {
             if !presses.is_empty() && random.chance(85) {
                 press = random.pick(presses) as u64;
             }
-            let wanted = self.game.answer(entries, state as usize, press as usize);
-            let before = self.words.clone();
-            let (got, _) = react(&mut self.words, PLENTY, NAMED, (state, press));
-            seen.answered += u64::from(got[0] == 0);
-            seen.none += u64::from(got[0] == 15);
-            assert_eq!(
-                got,
-                wanted.map_or([15, 0], |answer| [0, answer as u32]),
-                "{state}, {press}"
-            );
-            kept::needed(&before, &self.words, None).unwrap();
+            self.compare_answer(seen, entries, (state, press));
         }
+    }
+
+    fn compare_answer(&mut self, seen: &mut Seen, entries: &[Option<u32>], turn: (u64, u64)) {
+        let (state, press) = (turn.0 as usize, turn.1 as usize);
+        let answer = self.game.answer(entries, state, press);
+        let wanted = answer.map_or([15, 0], |answer| [0, answer as u32]);
+        let before = self.words.clone();
+        let (got, _) = react(&mut self.words, PLENTY, NAMED, turn);
+        seen.answered += u64::from(got[0] == 0);
+        seen.none += u64::from(got[0] == 15);
+        assert_eq!(got, wanted, "{turn:?}");
+        kept::needed(&before, &self.words, None).unwrap();
     }
 }
 
@@ -172,11 +174,9 @@ fn large_rooms() {
     );
 }
 
-/// The machine counts up, the guest leaves it as it is: a state enters in each round.
-#[test]
-fn as_many_rounds_as_there_are() {
-    let (mut random, mut seen) = (Random::new(89), Seen::default());
-    let n = 8;
+/// The machine counts up, the guest leaves it as it is, and the goal is 0: a state enters in each round, 1 in the last.
+fn counter(n: u32) -> Hall {
+    let bits = 0..n as u8;
     let carried = |p: u8| vec![0x03, 0x0F + p, 0x02, 0x1F + p];
     // A bit turns over exactly where the one below it turns from 1 to 0.
     let above = |p: u8| {
@@ -184,18 +184,39 @@ fn as_many_rounds_as_there_are() {
         let neither = [vec![0x03, 0x02], turns(p), vec![0x02], carried(p)].concat();
         [vec![0x04], both_so, neither].concat()
     };
-    let count = both(
-        (0..n)
-            .map(|p| if p == 0 { turns(0) } else { above(p) })
-            .collect(),
-    );
-    let stay = both((0..n).map(keeps).collect());
+    let turned = |p: u8| if p == 0 { turns(0) } else { above(p) };
+    let count = both(bits.clone().map(turned).collect());
+    let stay = both(bits.map(keeps).collect());
     let last = (1usize << n) - 1;
     let counted = (0..=last).map(|now| (now, (now + 1) & last)).collect();
     let stayed = (0..=last).map(|now| (now, now)).collect();
-    let n = u32::from(n);
     let goal = (&state(n, 0x10, 0)[..], StateSet::from_fn(n, |s| s == 0));
-    let mut hall = Hall::new(n, [(&stay, stayed), (&count, counted)], goal);
+    Hall::new(n, [(&stay, stayed), (&count, counted)], goal)
+}
+
+#[test]
+fn as_many_rounds_as_there_are() {
+    let (mut random, mut seen) = (Random::new(89), Seen::default());
+    let mut hall = counter(8);
     assert_eq!(hall.compare(&mut random, &mut seen, 20), 257);
     assert!(seen.answered > 10, "{seen:?}");
+}
+
+/// Presses without an answer, in the goal and elsewhere, over 4,097 rounds: each call takes as long as one with an
+/// answer, and goes through the states in no round, or in one.
+#[test]
+fn no_answer_in_many_rounds() {
+    let mut seen = Seen::default();
+    let mut hall = counter(12);
+    let (entries, last) = (hall.game.entries(), (1 << 12) - 1);
+    assert_eq!(rounds(&entries), 4_097);
+    // In the goal, pressed to where the answer enters last; no move of the guest's, from the goal and from elsewhere.
+    for turn in [(0, 0), (0, 9), (last, 0), (last, 1), (7, 6)] {
+        hall.compare_answer(&mut seen, &entries, turn);
+    }
+    assert_eq!((seen.answered, seen.none), (0, 5));
+    for turn in [(1, 1), (last, last)] {
+        hall.compare_answer(&mut seen, &entries, turn);
+    }
+    assert_eq!((seen.answered, seen.none), (2, 5));
 }

@@ -67,15 +67,11 @@ fn work(seed: u64, lists: u64, taken: &AtomicU64) -> Totals {
     }
 }
 
-#[test]
-fn random_lists() {
-    let calls = setting("KUDZUCLAMP_CALLS", 20_000);
-    let seed = setting("KUDZUCLAMP_SEED", 1);
-    let lists = calls.div_ceil(CALLS);
-    let (start, taken) = (Instant::now(), AtomicU64::new(0));
+/// Runs so many lists, in threads.
+fn run_lists(seed: u64, lists: u64) -> Totals {
     let processors = thread::available_parallelism().map_or(1, |count| count.get());
     let threads = setting("KUDZUCLAMP_THREADS", processors as u64);
-    let mut totals = Totals::default();
+    let (mut totals, taken) = (Totals::default(), AtomicU64::new(0));
     thread::scope(|scope| {
         let workers: Vec<_> = (0..threads)
             .map(|_| scope.spawn(|| work(seed, lists, &taken)))
@@ -84,6 +80,15 @@ fn random_lists() {
             totals.add(worker.join().expect("no panic"));
         }
     });
+    totals
+}
+
+#[test]
+fn random_lists() {
+    let calls = setting("KUDZUCLAMP_CALLS", 20_000);
+    let seed = setting("KUDZUCLAMP_SEED", 1);
+    let (start, lists) = (Instant::now(), calls.div_ceil(CALLS));
+    let totals = run_lists(seed, lists);
     report(&totals, seed, lists, start.elapsed().as_secs_f64());
     assert!(totals.differences.is_empty(), "{}", totals.differences[0]);
     let Counts {

@@ -151,6 +151,16 @@ impl Game {
         let answers = self.replies(press).iter().copied();
         Some(answers.filter(earlier).min().expect("an answer"))
     }
+
+    /// The states and presses that have an answer.
+    pub fn answerable(&self, entries: &[Option<u32>]) -> Vec<(u64, u64)> {
+        let mut turns = Vec::new();
+        for state in (0..entries.len()).filter(|&s| entries[s].is_some_and(|round| round > 1)) {
+            let presses = self.presses(state).iter();
+            turns.extend(presses.map(|&press| (state as u64, press as u64)));
+        }
+        turns
+    }
 }
 
 /// A game whose rounds are made: what they took, and when states entered.

@@ -1,5 +1,4 @@
 -- `relation_to` meets its contract: the relations below r are none. Assumes nothing.
-use borrow.Author.Needs.{needs}
 use Prim.Native.Nat.{_-_, _≤_}
 use native.Mathlib.Omega.{arith}
 use Rattle.layout.specs.View.{view}

@@ -18,11 +18,11 @@ keep-mask-spec =
     (λ c. search needs)
     (λ c. search needs)
     (λ c. search needs)
-    (λ c. let e = c .pre .1 in let l = c .pre .0 in let z = length-set (c .args .notes .now) (4350 + c .args .at) (c .args .x)
+    (λ c. let e = c .pre .1 in let l = c .pre .0 in let z = length-set (c .args .notes .now) (6138 + c .args .at) (c .args .x)
     in omega arith)
     (λ c. search needs)
-    (λ c. let e = c .pre .1 in let l = c .pre .0 in let z = length-set (c .args .notes .now) (4350 + c .args .at) (c .args .x)
-    in let y = length-set (set (c .args .notes .now) (4350 + c .args .at) (c .args .x)) (4759 + c .args .at) (c .args .goals) in
+    (λ c. let e = c .pre .1 in let l = c .pre .0 in let z = length-set (c .args .notes .now) (6138 + c .args .at) (c .args .x)
+    in let y = length-set (set (c .args .notes .now) (6138 + c .args .at) (c .args .x)) (6547 + c .args .at) (c .args .goals) in
     omega arith)
     (λ c. search needs)
     (λ c. search needs))

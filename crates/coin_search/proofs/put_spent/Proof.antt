@@ -15,23 +15,22 @@ put-spent-spec =
     tie.close
     (tie.spec
     (λ c κs. c .before .before .pre .0)
-    (λ c. search needs)
+    (λ c κs. c .before .before .before .pre .2)
     (λ c. none)
-    (λ c κs. let c1 = c .before .before .before .before in (
-      let m = level-most (view (c1 .args .wave .rows) (c1 .args .words
-          .now)) (c1 .args .x) (c1 .pre .0) in let e = c .before .level-of .ensures in omega arith,
-      c1 .pre .1 .lower,
-      c1 .pre .1
-          .node-small,
+    (λ c κs. let e = c .before .before .before .before .before in (
+      (let m = level-most (view (e .args .wave .rows) (e .args .words .now)) (e .args .x) (e .pre .0)
+          in let l = c .before .before .level-of .ensures in omega arith),
+      e .pre .1 .lower,
+      e .pre .1 .node-small,
     ))
+    (λ c κs. (c .before .before .before .before .before .before .before .pre .1 .size, omega arith))
     (λ c. search needs)
     (λ c. search needs)
-    (λ c κs. let c1 = c .before .before .before .before .before .before in let s = c1 .pre .1 .size in (
-      omega arith,
-      omega
-          arith,
-    ))
+    (λ c κs. let s = c .before .before .before .before .before .before .before .before .before .pre .1 .size in (omega arith, omega arith))
     (λ c. search needs)
-    (λ c. let c1 = c .before .before .before .before in let c2 = c1 .before .before in let c3 = c2 .before .before .before in
-    key-put (view (c3 .args .wave .rows) (c3 .args .words .now)) (c3 .args .x) (c3 .args .node) (c3 .args .wave .lower) (c2
-    .level-of .ensures) (c1 .spent-key .ensures) _ (c .before .before .put-pair .ensures)))
+    (λ c.
+    let e = c .before .before .before .before .before .before .before .before .before .before .before .before in
+    key-put (view (e .args .wave .rows) (e .args .words .now)) (e .args .x) (e .args .node) (e .args .wave .lower)
+    (c .before .before .before .before .before .before .before .before .before .level-of .ensures)
+    (c .before .before .before .before .before .before .spent-key .ensures) _ _
+    (c .before .before .before .before .goals-with .ensures) (c .before .before .put-pair .ensures)))

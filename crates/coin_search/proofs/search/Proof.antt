@@ -77,8 +77,8 @@ search-spec =
           .before .before .before .before .before .before .before .before .shared-slice-known2 .given q .fits in omega arith) (c
           .before .before .before .before .before .first-in .ensures) (c .before .before .before .before .if1 .left) (zeros-at 8)
           refl (c .choose .ensures),
-      notes-start (c .before .before .before .low-bits .ensures) (length-replicate {A = ℕ} 5577 0)
-          (zeros-at 5577),
+      notes-start (c .before .before .before .low-bits .ensures) (length-replicate {A = ℕ} 7365 0)
+          (zeros-at 7365),
     ))
     (λ c. let l = c .before .loop .inv .1 .most in record { fits = omega arith })
     (λ c. let h = c .before .before .before .loop .inv .2 .masks .size in search needs)

@@ -1,7 +1,6 @@
 -- `evaluate_round` meets its contract: the current set is put in the first word of the stack, and the body evaluated. Assumes nothing.
 use lib.ListN.{length-set}
 use Rattle.evaluator.proofs.Starts.{asks-at, ends-at}
-use borrow.Author.Needs.{needs}
 use Rattle.evaluator.proofs.evaluate_round.Statement.{statement}
 use Rattle.evaluator.proofs.evaluate_round.Tie as tie
 use Rattle.evaluator.proofs.evaluate_round.Reads as reads

@@ -46,12 +46,12 @@ use Rattle.accounts.proofs.Row.{R}
 use Rattle.accounts.proofs.Terms as TT
 use Rattle.accounts.proofs.Terms.Laws as TT′
 use Rattle.game_calls.specs.Post.{ReactPost}
-use Rattle.game_lists.specs.Lent.{ReactAllPost}
+use Rattle.exports.specs.Games.{ReactAllPost}
 use Rattle.exports.specs.Given.{given}
-use Rattle.game_lists.proofs.terms_at as ta
-use Rattle.game_lists.proofs.terms_at.Symbol as terms-def
-use Rattle.game_lists.proofs.terms_at.Symbol.{name as #lists·terms-at}
-use Rattle.game_lists.proofs.terms_at.Met as terms-thm
+use Rattle.account_calls.proofs.terms_at as ta
+use Rattle.account_calls.proofs.terms_at.Symbol as terms-def
+use Rattle.account_calls.proofs.terms_at.Symbol.{name as #lists·terms-at}
+use Rattle.account_calls.proofs.terms_at.Met as terms-thm
 use Rattle.exports.proofs.react_under as un
 use Rattle.exports.proofs.react_under.Symbol as under-def
 use Rattle.exports.proofs.react_under.Symbol.{name as #exports·react-under}
@@ -570,7 +570,7 @@ kudzuclamp-react-spec 𝓤 H 𝓜 𝓖 𝓡 =
     entered 𝓤 H (tripleOf 𝓤 H (𝓖 .A) f.signature (f.spec 𝓤 H (𝓖 .A) (𝓜 .mem) (𝓡 .run)))
     (tables 𝓤 H 𝓜 𝓡 code.env .C) (tables 𝓤 H 𝓜 𝓡 code.env .Λ) #exports·react code.function (code.unfolded 𝓤 H 𝓜 𝓡)
     (react-meets 𝓤 H (𝓖 .A) (givenOf 𝓤 H 𝓜 𝓖) (𝓜 .mem) (𝓡 .run) (tablesOf 𝓤 H 𝓜 (tables 𝓤 H 𝓜 𝓡 code.env))
-    (cited 𝓤 H (TermsAt 𝓤 H (𝓖 .A) (𝓜 .mem) (𝓡 .run)) 𝓜 𝓡 code.env #lists·terms-at terms-def.routine code.calls-game-lists·terms-at
+    (cited 𝓤 H (TermsAt 𝓤 H (𝓖 .A) (𝓜 .mem) (𝓡 .run)) 𝓜 𝓡 code.env #lists·terms-at terms-def.routine code.calls-account-calls·terms-at
     (terms-thm.met 𝓤 H 𝓜 𝓖 𝓡))
     (cited 𝓤 H (Under 𝓤 H (𝓖 .A) (𝓜 .mem) (𝓡 .run)) 𝓜 𝓡 code.env #exports·react-under under-def.routine code.calls-exports·react-under
     (under-thm.met 𝓤 H 𝓜 𝓖 𝓡)))

@@ -1,6 +1,5 @@
 -- `in_range` meets its contract: each return is a case of it. Assumes nothing.
 use Rattle.game_calls.proofs.Leaves.{range-goal, range-guest, range-machine, range-yes}
-use borrow.Author.Needs.{needs}
 use Rattle.game_calls.proofs.in_range.Statement.{statement}
 use Rattle.game_calls.proofs.in_range.Tie as tie
 use Rattle.game_calls.proofs.in_range.Reads as reads

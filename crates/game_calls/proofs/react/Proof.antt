@@ -1,7 +1,7 @@
 -- `react` meets its contract: checks 2, 3 and 14 refuse each by its cause; what follows is `react_named`. Assumes nothing.
 use native.Mathlib.Omega.{arith}
-use Rattle.rows.proofs.Says.{says-pass, says-fail}
-use Rattle.game_calls.proofs.Checks.{test-no, test-yes, states-is, react-unsound, react-range, react-state, react-press}
+use Rattle.rows.proofs.Says.{says-pass, says-fail, test-yes, test-no}
+use Rattle.game_calls.proofs.Checks.{states-is, react-unsound, react-range, react-state, react-press}
 use Rattle.game_calls.proofs.Checks.{react-unlisted, react-passes}
 use borrow.Author.Needs.{needs}
 use Rattle.game_calls.proofs.react.Statement.{statement}
@@ -23,7 +23,7 @@ react-spec =
     (λ c. let c1 = c .before in let c2 = c1 .before in let c3 = c2 .before in
     let c6 = c3 .before .before .before in react-range (c6 .args .terms) (c6 .args .most) (c6 .args .goal) (c6 .args .guest)
     (c6 .args .machine) (c6 .args .state) (c6 .args .press) (c6 .args .words .now) (says-pass (c2 .if1 .left) (c3 .sound .ensures))
-    (test-no (c .if2 .taken) (c1 .in-range .ensures)))
+    (test-no (c1 .in-range .ensures) (c .if2 .taken)))
     (λ c κs. let c3 = c .before .before .before in let c4 = c3 .before in
     let q = (says-pass (c3 .if1 .left) (c4 .sound .ensures)) .good .sizes in omega arith)
     (λ c. let c4 = c .before .before .before .before in let c5 = c4 .before in
@@ -44,13 +44,13 @@ react-spec =
     let c7 = c6 .before in let c8 = c7 .before in let c9 = c8 .before in
     let c12 = c9 .before .before .before in react-unlisted (c12 .args .terms) (c12 .args .most) (c12 .args .goal) (c12 .args .guest)
     (c12 .args .machine) (c12 .args .state) (c12 .args .press) (c12 .args .words .now) (says-pass (c8 .if1 .left) (c9 .sound .ensures))
-    (states-is _ _ (c4 .header-word .ensures) ((says-pass (c8 .if1 .left) (c9 .sound .ensures)) .good .sizes .n-max)) (test-yes
-    (c6 .if2 .left) (c7 .in-range .ensures)) (c3 .if3 .left) (c2 .if4 .left) (test-no (c .if5 .taken) (c1 .is-named .ensures)))
+    (states-is _ _ (c4 .header-word .ensures) ((says-pass (c8 .if1 .left) (c9 .sound .ensures)) .good .sizes .n-max))
+    (test-yes (c7 .in-range .ensures) (c6 .if2 .left)) (c3 .if3 .left) (c2 .if4 .left) (test-no (c1 .is-named .ensures) (c .if5 .taken)))
     (λ c κs. let c1 = c .before in let c2 = c1 .before in let c3 = c2 .before in let c4 = c3 .before in let c5 = c4 .before in
     let c7 = c5 .before .before in let c8 = c7 .before in let c9 = c8 .before in let c10 = c9 .before in
     let c13 = c10 .before .before .before in react-passes (c13 .args .terms) (c13 .args .most) (c13 .args .goal) (c13 .args .guest)
     (c13 .args .machine) (c13 .args .state) (c13 .args .press) (c13 .args .words .now) (says-pass (c9 .if1 .left) (c10 .sound .ensures))
-    (states-is _ _ (c5 .header-word .ensures) ((says-pass (c9 .if1 .left) (c10 .sound .ensures)) .good .sizes .n-max)) (test-yes
-    (c7 .if2 .left) (c8 .in-range .ensures)) (c4 .if3 .left) (c3 .if4 .left) (test-yes (c1 .if5 .left) (c2 .is-named .ensures)))
+    (states-is _ _ (c5 .header-word .ensures) ((says-pass (c9 .if1 .left) (c10 .sound .ensures)) .good .sizes .n-max))
+    (test-yes (c8 .in-range .ensures) (c7 .if2 .left)) (c4 .if3 .left) (c3 .if4 .left) (test-yes (c2 .is-named .ensures) (c1 .if5 .left)))
     (λ c. search needs)
     (λ c. c .before .before .react-named .ensures))

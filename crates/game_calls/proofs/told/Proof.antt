@@ -1,6 +1,6 @@
 -- `told` meets its contract: each return is a case of it. Assumes nothing.
 use Rattle.seek.proofs.Search.{power-fits}
-use Rattle.game_calls.proofs.Leaves.{told-full, told-spent, told-unfair, told-state, told-none}
+use Rattle.game_calls.proofs.Leaves.{told-full, told-spent, told-no-move, told-state, told-none}
 use borrow.Author.Needs.{needs}
 use Rattle.game_calls.proofs.told.Statement.{statement}
 use Rattle.game_calls.proofs.told.Tie as tie
@@ -14,12 +14,14 @@ told-spec =
     (λ c. search needs)
     (λ c. search needs)
     (λ c. search needs)
-    (λ c. let c2 = c .before .before in let c4 = c2 .before .before in told-unfair (c4 .args .fair) (c4 .args .bits)
+    (λ c. let c2 = c .before .before in let c4 = c2 .before .before in told-no-move (c4 .args .ok) (c4 .args .bits)
     (c2 .watched .given .0 .0) (c2 .watched .given .1) (c .if1 .taken))
     (λ c. search needs)
-    (λ c. let c1 = c .before in let c3 = c1 .before .before in let c5 = c3 .before .before in told-state (c5 .args .fair) (c5 .args .bits)
+    (λ c. let c1 = c .before in let c3 = c1 .before .before in let c5 = c3 .before .before in told-state (c5 .args .ok)
+    (c5 .args .bits)
     (c3 .watched .given .0 .0) (c3 .watched .given .1) (c1 .if1 .left) (power-fits (c5 .args .bits) (c5 .pre)) (c .if2 .taken))
-    (λ c. told-full (c .before .before .args .fair) (c .before .before .args .bits) (c .enum-told .given .1))
-    (λ c. told-spent (c .before .before .args .fair) (c .before .before .args .bits) (c .enum-told2 .given .1))
-    (λ c. let c1 = c .before in let c3 = c1 .before .before in let c5 = c3 .before .before in told-none (c5 .args .fair) (c5 .args .bits)
+    (λ c. told-full (c .before .before .args .ok) (c .before .before .args .bits) (c .enum-told .given .1))
+    (λ c. told-spent (c .before .before .args .ok) (c .before .before .args .bits) (c .enum-told2 .given .1))
+    (λ c. let c1 = c .before in let c3 = c1 .before .before in let c5 = c3 .before .before in told-none (c5 .args .ok)
+    (c5 .args .bits)
     (c3 .watched .given .0 .0) (c3 .watched .given .1) (c1 .if1 .left) (power-fits (c5 .args .bits) (c5 .pre)) (c .if2 .left)))

@@ -1,7 +1,5 @@
 -- `note` meets its contract: each return is a case of what is noted. Assumes nothing.
 use Rattle.layout.specs.View.{view}
-use native.Mathlib.Omega.{arith}
-use Rattle.seek.proofs.Search.{power-fits}
 use Rattle.game_steps.proofs.Standing.{note-kept, note-none, note-found}
 use borrow.Author.Needs.{needs}
 use Rattle.game_steps.proofs.note.Statement.{statement}
@@ -13,16 +11,15 @@ pub note-spec : {M : Type 1} → statement M
 note-spec =
     tie.close
     (tie.spec
-    (λ c. let l = c .before .before .pre .bits in omega arith)
-    (λ c. let c3 = c .before .before .before in note-kept (c3 .args .limits .bits) (view (c3 .args .limits .rows) (c3 .args .words .now))
-    (c3 .args .asked) (c3 .args .noted) (c3 .args .last) (c3 .args .next) (power-fits (c3 .args .limits .bits) (c3 .pre .bits))
-    (c .if1 .taken))
-    (λ c κs. c .before .before .before .pre .next-is)
-    (λ c. let c1 = c .before in let c2 = c1 .before in let c5 = c2 .before .before .before in note-none (c5 .args .limits .bits) (view
-    (c5 .args .limits .rows) (c5 .args .words .now)) (c5 .args .asked) (c5 .args .noted) (c5 .args .last) (c5 .args .next) (power-fits
-    (c5 .args .limits .bits) (c5 .pre .bits)) (c2 .if1 .left) (c1 .holds .ensures) (c .if2 .taken))
-    (λ c κs. let c5 = c .before .before .before .before .before in (c5 .pre .machine, c5 .pre .last-is, c5 .pre .bits))
-    (λ c. let c1 = c .before in let c2 = c1 .before in let c3 = c2 .before in
-    let c6 = c3 .before .before .before in note-found (c6 .args .limits .bits) (view (c6 .args .limits .rows) (c6 .args .words .now))
-    (c6 .args .asked) (c6 .args .noted) (c6 .args .last) (c6 .args .next) (power-fits (c6 .args .limits .bits) (c6 .pre .bits))
-    (c3 .if1 .left) (c2 .holds .ensures) (c1 .if2 .left) (c .least-next .ensures)))
+    (λ c κs. search needs)
+    (λ c. let c1 = c .before in let c3 = c1 .before .before in note-kept (c3 .args .limits .bits) (view (c3 .args .limits .rows)
+    (c3 .args .words .now)) (c3 .args .asked) (c3 .args .noted) (c3 .args .last) (c3 .args .next) (c1 .holds .ensures) (c .if1 .taken))
+    (λ c κs. search needs)
+    (λ c. let c1 = c .before in let c2 = c1 .before in let c3 = c2 .before in let c5 = c3 .before .before in note-none
+    (c5 .args .limits .bits) (view (c5 .args .limits .rows) (c5 .args .words .now)) (c5 .args .asked) (c5 .args .noted) (c5 .args .last)
+    (c5 .args .next) (c3 .holds .ensures) (c2 .if1 .left) (c1 .holds2 .ensures) (c .if2 .taken))
+    (λ c κs. search needs)
+    (λ c. let c1 = c .before in let c2 = c1 .before in let c3 = c2 .before in let c4 = c3 .before in let c6 = c4 .before .before in
+    note-found (c6 .args .limits .bits) (view (c6 .args .limits .rows) (c6 .args .words .now)) (c6 .args .asked) (c6 .args .noted)
+    (c6 .args .last) (c6 .args .next) (c4 .holds .ensures) (c3 .if1 .left) (c2 .holds2 .ensures) (c1 .if2 .left)
+    (c .least-next .ensures)))

@@ -1,5 +1,5 @@
 -- `watch` meets its contract: each turn is a round of the game's formula. Assumes nothing.
-use mathlib.Core.Path.{_≡_, refl, _∙_}
+use mathlib.Core.Path.{refl, _∙_}
 use Prim.Native.Nat.{_-_, _^_, _<_}
 use native.Mathlib.Omega.{arith}
 use Rattle.modal.proofs.Chain.{base-bits}
@@ -31,7 +31,8 @@ watch-spec =
     (c5 .pre .0 .plays .ready .base))))
     (λ c κs. let top : c .before .before .before .before .before .before .before .before .before .before .before .before .args .limits
     .rounds < 2 ^ 32 = search needs in
-    let c3 = c .before .before .before in let c6 = c3 .before .before .before in let c12 = c6 .before .before .before .before .before .before in
+    let c3 = c .before .before .before in let c6 = c3 .before .before .before in
+    let c12 = c6 .before .before .before .before .before .before in
     (turn-asks (c12 .pre .0) (c6 .loop .inv) (c3 .if1 .taken) top, c6 .loop .inv .counts-of))
     (λ c. search needs)
     (λ c κs. search needs)

@@ -2,17 +2,13 @@
 use mathlib.Core.List.{List}
 use Prim.Native.Nat.{ℕ}
 use Rattle.accounts.specs.declared.Account.{Account}
-use Rattle.accounts.specs.declared.Terms.{Terms}
 use Rattle.accounts.specs.Terms.{termsOf}
 use Rattle.book.specs.Table.{Reply}
-use Rattle.contract.specs.Posts.{CallPost, SetAllPost}
-use Rattle.games.specs.Call.{gameTarget, gameBytes, gameCall}
+use Rattle.contract.specs.Posts.{SetAllPost}
+use Rattle.games.specs.Call.{gameTarget, gameBytes}
 use Rattle.game_calls.specs.Post.{ReactPost}
 
-abbrev pub ForcePost : (acc : Terms) (r R goal guest machine : ℕ) (old new : List ℕ) (y : Reply) → Type 0
-ForcePost acc r R goal guest machine old new y = CallPost (gameCall acc r R goal guest machine) old new y
-
--- "store, as a set call with its account and R does": what a set call leaves of words and list
+-- "store, as a set call with its account and R does": what a set call leaves of words and list; over the game: `forceDone`, by `force-does`
 abbrev pub ForceAllPost : (place r R goal guest machine : ℕ) (old new : List ℕ) (before after : List Account) (y : Reply) → Type 0
 ForceAllPost place r R goal guest machine old new before after y =
     SetAllPost place (gameTarget r goal guest machine) R (gameBytes goal guest machine) old new before after y

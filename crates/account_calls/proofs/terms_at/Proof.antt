@@ -61,11 +61,11 @@ use Rattle.accounts.proofs.unnamed as unnamed
 use Rattle.accounts.proofs.unnamed.Symbol as unnamed-def
 use Rattle.accounts.proofs.unnamed.Symbol.{name as #accounts·unnamed}
 use Rattle.accounts.proofs.unnamed.Met as unnamed-thm
-use Rattle.game_lists.proofs.terms_at.Key.{name as #lists·terms-at}
-use Rattle.game_lists.proofs.terms_at as f
-use Rattle.game_lists.proofs.terms_at.Statement as stated
-use Rattle.game_lists.proofs.terms_at.Code as code
-use Rattle.game_lists.proofs.terms_at.Code.Mir.{t-5 as rest}
+use Rattle.account_calls.proofs.terms_at.Key.{name as #lists·terms-at}
+use Rattle.account_calls.proofs.terms_at as f
+use Rattle.account_calls.proofs.terms_at.Statement as stated
+use Rattle.account_calls.proofs.terms_at.Code as code
+use Rattle.account_calls.proofs.terms_at.Code.Mir.{t-5 as rest}
 
 abbrev stayed : Stays (f.ended .signature .params) (f.ended .kept)
 stayed = (stay-none-slice (0 ∷ []) tt (plain (λ _. R)) yes, (stay-none (λ _. u32) yes, tt))

@@ -1,2 +1,0 @@
--- Modules that belong to no one function.
-pub mod Lent
