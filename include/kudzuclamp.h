@@ -355,9 +355,9 @@ uint32_t kudzuclamp_shortest(uint32_t *words, size_t words_len, uint16_t *list, 
  * least 2^n numbers of 64 bits; what the first 2^n hold afterwards is free, but 1, 2, 3 and 7 keep them, and later ones are never written. The table is
  * only read, and no row is made. It returns 0, 1 where there are not 8 prices, 2, 1 where there are too few work words, 3, 7, KUDZUCLAMP_NO_RUN, or
  * KUDZUCLAMP_SHORT where one of the lists is too short.
- * At n = 16 a room of presses takes 1 ms and a run of all states 22 ms; a relation that leads from most states to many others takes up to 0.1 s. The
- * worst found, relations that were made for it beside a counter, take up to 3 s for one and 13 s for seven (docs/BENCHMARKS.md). No limit of rounds
- * bounds it.
+ * At n = 16 a room of presses takes 1 ms and a run of all states 23 ms; relations that lead from most states to many others took up to 0.12 s. The
+ * worst found, relations that were made for it beside a counter, take up to 3 s for one and 13 s for seven (docs/BENCHMARKS.md); worse ones may
+ * exist. No limit of rounds bounds it.
  */
 KUDZUCLAMP_USE_RESULT
 uint32_t kudzuclamp_cheapest(const uint32_t *words, size_t words_len, const uint8_t *prices, size_t prices_len, uint64_t *work, size_t work_len,
