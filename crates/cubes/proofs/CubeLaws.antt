@@ -264,8 +264,10 @@ module _ {m N limit : ℕ} {W : View} (r : Ready m N limit W) (o z : ℕ) where
   pub cube-starts : bitAnd o z ≡ 0 → CubePre m N limit W o z 0
   cube-starts e = record { ready = r; within = omega arith; apart = and-apart o z e }
 
-  pub cube-whole : {X : View} {t : Made} → o / 2 ^ (m / 2) ≡ 0 → Worked m N limit W X t (cubeRest m 0 o z) → Worked m N limit W X t (cubeF m o z)
+  pub cube-whole : {X : View} {t : Made} → o / 2 ^ (m / 2) ≡ 0 → Worked m N limit W X t (cubeRest m 0 o z)
+      → Worked m N limit W X t (cubeF m o z)
   cube-whole {X} {t} e w =
       let h : m / 2 - 0 ≡ m / 2 = omega arith in
       let w1 = subst (λ (j : ℕ). Worked m N limit W X t (cubeFrom j 0 o z)) h w in
-      worked-cong (λ v. sym (ap (λ (b : Bool). b && cubeFrom (m / 2) 0 o z v) (T-true (eqb (o / 2 ^ (m / 2)) 0) (subst (λ (k : ℕ). T (eqb k 0)) (sym e) tt)))) w1
+      let inside = T-true (eqb (o / 2 ^ (m / 2)) 0) (subst (λ (k : ℕ). T (eqb k 0)) (sym e) tt) in
+      worked-cong (λ v. sym (ap (λ (b : Bool). b && cubeFrom (m / 2) 0 o z v) inside)) w1

@@ -63,7 +63,8 @@ module _ (R : Pairs) (A : ℕ → List Bool) where
       and-in (mem (A i) s) _ (subst (λ (k : ℕ). T (mem (A k) s)) (let e : i + 0 ≡ i = omega arith in e) (f 0 (omega arith)))
       (and-in (pair R s u) _ (g 0 (omega arith))
       (to-through j (suc i) u l (suc-inj e)
-      (λ p h. subst (λ (k : ℕ). T (mem (A k) (getD (u ∷ l) p 0))) (let e : i + suc p ≡ suc i + p = omega arith in e) (f (suc p) (omega arith)))
+      (λ p h. subst (λ (k : ℕ). T (mem (A k) (getD (u ∷ l) p 0))) (let e : i + suc p ≡ suc i + p = omega arith in e)
+      (f (suc p) (omega arith)))
       (λ p h. g (suc p) (omega arith))))
 
 module _ (n : ℕ) (R : Pairs) (E : List Bool) (M : ℕ → Moment) (j : ℕ) where
@@ -85,7 +86,8 @@ module _ (n : ℕ) (R : Pairs) (E : List Bool) (M : ℕ → Moment) (j : ℕ) wh
       let A = setsOf n E M in
       let each : (i : ℕ) → i < suc j → (getD (s ∷ l) i 0 < 2 ^ n) × T (fitsBoth (M i) (getD (s ∷ l) i 0)) × T (mem E (getD (s ∷ l) i 0)) =
       λ i h. set-out i (getD (s ∷ l) i 0)
-      (subst (λ (k : ℕ). T (mem (A k) (getD (s ∷ l) i 0))) (let e : 0 + i ≡ i = omega arith in e) (through-each R A j 0 s l t i (omega arith))) in
+      (subst (λ (k : ℕ). T (mem (A k) (getD (s ∷ l) i 0))) (let e : 0 + i ≡ i = omega arith in e)
+      (through-each R A j 0 s l t i (omega arith))) in
       record {
         size = ap suc (through-length R A j 0 s l t);
         state = λ i h. each i h .0;

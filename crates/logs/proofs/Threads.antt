@@ -88,7 +88,8 @@ module _ (k : ℕ) (R : Pairs) (A : ℕ → List Bool) (small : (i s : ℕ) → 
       let q = thread-in j (suc i) t m (w .1) in
       let o : Onto k R (thread k R A j (suc i)) s t = record { state = thread-lt j (suc i) t q; next = w .0; inside = q } in (
         toward-least o,
-        λ e. onward-least j (suc i) (toward k R (thread k R A j (suc i)) s) m (subst (λ (x : ℕ). T (through R A j (suc i) x m)) (sym e) (w .1)),
+        λ e. onward-least j (suc i) (toward k R (thread k R A j (suc i)) s) m
+            (subst (λ (x : ℕ). T (through R A j (suc i) x m)) (sym e) (w .1)),
       )
 
   -- ---- the whole run

@@ -10,7 +10,8 @@ use Rattle.mucalculus.specs.Form.{Pairs}
 use Rattle.diagram.specs.Level.{Fn}
 use Rattle.book.specs.Bridge.{Sized}
 use Rattle.book.specs.Run.{fit}
-use Rattle.paths.specs.Runs.{isRun, Shortest, layer, meets, lastLayer, route, layerNeeds, madeNeeds, againNeeds, pathNeeds, Outcome, outcome}
+use Rattle.paths.specs.Runs.{isRun, Shortest, layer, meets, lastLayer, route, layerNeeds, madeNeeds, againNeeds}
+use Rattle.paths.specs.Runs.{pathNeeds, Outcome, outcome}
 use Rattle.paths.specs.Exact.{Cause}
 use Rattle.paths.proofs.Layers.{run-meets}
 use Rattle.paths.proofs.Written.{route-shortest, shortest-only}

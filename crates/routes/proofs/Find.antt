@@ -42,7 +42,8 @@ run-size {n} S d s = ap suc (onward-length (2 ^ n) (S .R) (S .B) d s)
 module _ {n N limit : ℕ} {W : View} {t b d s : ℕ} (p : RunPre n N limit W t b d s) where
   pub first-small : s < 65_536
   first-small =
-      state-small (p .start .base) (run-lt (2 ^ n) (p .scene .R) (p .scene .B) s (onward (2 ^ n) (p .scene .R) (p .scene .B) d s) (p .ready .1))
+      state-small (p .start .base)
+      (run-lt (2 ^ n) (p .scene .R) (p .scene .B) s (onward (2 ^ n) (p .scene .R) (p .scene .B) d s) (p .ready .1))
 
   pub run-short : {old : List ℕ} → length old ≤ d → RunPost n limit W W t b d s old old (answer.Refused refusal.Short)
   run-short {old} l S r = record { steps = steps-start (p .start); told = is-short (let e = run-size S d s in omega arith) }

@@ -4,6 +4,7 @@
 //! `KUDZUCLAMP_LOGS` rooms (150) from seed `KUDZUCLAMP_SEED` (11); 5,300 rooms make 200,000 calls.
 
 use calls::kept;
+use calls::logs::draw_logs;
 use calls::sound::sound;
 use calls::turns::{pairs, state};
 use calls::words::Words;
@@ -12,7 +13,7 @@ use kudzuclamp::{Account, Table, Target};
 use reference::book::{words_for, Book, REGISTERS, RELATIONS};
 use reference::coins::holds;
 use reference::formula::{check, Kind};
-use reference::logs::{make_set, moments, Entry};
+use reference::logs::{make_set, moments, Entry, Log};
 use reference::random::Random;
 use reference::refusal::Refusal;
 use reference::states::{PairSet, StateSet};
@@ -35,9 +36,6 @@ extern "C" {
 
 /// Two filled relations; the others are empty.
 const FILLED: [u64; 2] = [3, 6];
-
-/// The entries of a log.
-type Log = Vec<Entry>;
 
 /// How often each number came, 0 for answered; edges of 8 by N; rooms in which some states do not exist; the longest run.
 #[derive(Debug, Default)]
@@ -170,6 +168,12 @@ impl Room {
         number
     }
 
+    /// The relation that logs are drawn for.
+    fn main(&self) -> &PairSet {
+        let relation = self.book.relations()[FILLED[0] as usize].as_ref();
+        relation.expect("filled")
+    }
+
     /// Registers, relations and V by the words.
     fn compare_contents(&self) {
         let read = Words(&self.words).book();
@@ -248,48 +252,6 @@ fn compare_wrong(random: &mut Random, seen: &mut Seen, room: &mut Room, [one, tw
     seen.numbers[2] += 1;
 }
 
-/// An entry for a state: some of its bits, now and then others, outside the mask or above n.
-fn draw_entry(random: &mut Random, n: u32, state: usize) -> Entry {
-    let mask = match random.below(20) {
-        0..=1 => 0,
-        2 => random.below(1 << 16),
-        3 => (1 << n) - 1,
-        _ => random.below(1 << n) & random.below(1 << n),
-    };
-    let value = match random.below(60) {
-        0 => random.below(1 << 16),
-        1 => state as u64,
-        2..=3 => random.below(1 << n) & mask,
-        _ => state as u64 & mask,
-    };
-    let (mask, value) = (mask as u16, value as u16);
-    Entry { mask, value }
-}
-
-/// Two logs of states that mostly follow one another.
-fn draw_logs(random: &mut Random, book: &Book) -> [Log; 2] {
-    let n = book.n();
-    let relation = book.relations()[FILLED[0] as usize]
-        .as_ref()
-        .expect("filled");
-    let most = random.pick(&[1, 2, 2, 3, 4, 7]);
-    let mut state = random.below(1 << n) as usize;
-    let mut logs = [Vec::new(), Vec::new()];
-    for _ in 0..=random.below(most) {
-        for log in &mut logs {
-            log.push(draw_entry(random, n, state));
-        }
-        let nexts: Vec<usize> = (0..1 << n)
-            .filter(|&u| relation.contains(state, u))
-            .collect();
-        state = match nexts.is_empty() || random.chance(3) {
-            true => random.below(1 << n) as usize,
-            false => random.pick(&nexts),
-        };
-    }
-    logs
-}
-
 fn draw_relation(random: &mut Random, n: u32) -> Vec<u8> {
     match random.below(10) {
         0..=1 => counter(n as u8, random.chance(50)),
@@ -347,10 +309,10 @@ fn drawn_rooms() {
         let mut room = Room::new(&rules, 3_000).expect("rows in plenty");
         seen.partial += u64::from(!room.book.valid().is_full());
         for _ in 0..4 {
-            let [one, two] = draw_logs(&mut random, &room.book);
+            let [one, two] = draw_logs(&mut random, n, room.main());
             compare_logs(&mut random, &mut seen, &rules, &mut room, [&one, &two]);
         }
-        let [one, two] = draw_logs(&mut random, &room.book);
+        let [one, two] = draw_logs(&mut random, n, room.main());
         compare_wrong(&mut random, &mut seen, &mut room, [&one, &two]);
     }
     let calls: u64 = seen.numbers.iter().sum();

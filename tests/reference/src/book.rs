@@ -48,6 +48,13 @@ pub enum Call {
         state: u64,
         press: u64,
     },
+    /// Slip 11: for a list of so many places.
+    Logged {
+        t: u64,
+        one: Vec<Entry>,
+        two: Vec<Entry>,
+        places: usize,
+    },
     Clear {
         r: u64,
     },
@@ -454,6 +461,15 @@ impl Book {
                 answer.map(|set| Answer::counted(set.rounds, set.peak, set.node))
             }
             Call::Force { .. } | Call::React { .. } => self.call_game(accounts, call),
+            Call::Logged {
+                t,
+                one,
+                two,
+                places,
+            } => {
+                let run = self.logged(*t, one, two, *places);
+                run.map(|run| Answer::plain(logs::digits(self.n, &run)))
+            }
             Call::Clear { r } => self.clear(*r).map(|()| Answer::plain(0)),
             Call::Valid { formula } => self.make_valid(formula).map(|()| Answer::plain(0)),
             Call::Collect => Ok(Answer::plain(self.collect())),

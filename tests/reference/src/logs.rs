@@ -23,6 +23,9 @@ impl Entry {
     }
 }
 
+/// The entries of a log.
+pub type Log = Vec<Entry>;
+
 /// Entry i of both logs, "for the same moment".
 pub type Moment = (Entry, Entry);
 
@@ -73,6 +76,17 @@ pub fn logged(relation: &PairSet, valid: &StateSet, moments: &[Moment]) -> Optio
         }
     }
     Some(run)
+}
+
+/// The states of a run as one number: digits to base 2^n behind a 1, so that other runs have other
+/// numbers.
+pub fn digits(n: u32, run: &[u16]) -> u64 {
+    assert!(
+        run.len() * n as usize <= 63,
+        "a run too long for one number"
+    );
+    let append = |number: u64, &state: &u16| number << n | u64::from(state);
+    run.iter().fold(1, append)
 }
 
 /// A set that was made, and the largest need of its steps and those before it.

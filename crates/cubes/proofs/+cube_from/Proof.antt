@@ -41,14 +41,33 @@ pub +cube-from-spec : {M : Type 1} → statement M
     (λ c. let h = cube-levels (c .before .pre .1) in let g = c .before .pre .1 .within in omega arith)
     (λ c. cube-ends (c .before .before .pre .1) (c .if1 .taken))
     (λ c. let h = cube-levels (c .before .before .before .pre .1) in let g = c .before .before .before .pre .1 .within in omega arith)
-    (λ c κs. let h = cube-levels (c .before .before .before .pre .1) in let g = c .before .if1 .left in (omega (arith, c .before .before .before .pre .0, h, g), cube-next (c .before .before .before .pre .1) (c .before .if1 .left)))
+    (λ c κs. let h = cube-levels (c .before .before .before .pre .1) in let g = c .before .if1 .left in
+    (omega (arith, c .before .before .before .pre .0, h, g), cube-next (c .before .before .before .pre .1) (c .before .if1 .left)))
     (λ c. search needs)
-    (λ c. rest-full (c .before .before .before .before .before .before .before .pre .1) (c .before .before .before .before .before .if1 .left) (c .if2 .taken) (c .before .before .before .cube-from .ensures))
-    (λ c κs. let h = cube-levels (c .before .before .before .before .before .before .before .pre .1) in let g = c .before .before .before .before .before .before .before .pre .1 .within in omega arith)
+    (λ c. rest-full (c .before .before .before .before .before .before .before .pre .1)
+    (c .before .before .before .before .before .if1 .left) (c .if2 .taken) (c .before .before .before .cube-from .ensures))
+    (λ c κs. let h = cube-levels (c .before .before .before .before .before .before .before .pre .1) in
+    let g = c .before .before .before .before .before .before .before .pre .1 .within in omega arith)
     (λ c κs. search needs)
-    (λ c κs. let h = cube-levels (c .before .before .before .before .before .before .before .before .before .pre .1) in let g = c .before .before .before .before .before .before .before .before .before .pre .1 .within in omega arith)
+    (λ c κs. let h = cube-levels (c .before .before .before .before .before .before .before .before .before .pre .1) in
+    let g = c .before .before .before .before .before .before .before .before .before .pre .1 .within in omega arith)
     (λ c κs. search needs)
-    (λ c. let h = cube-levels (c .before .before .before .before .before .before .before .before .before .before .before .before .pre .1) in let g = c .before .before .before .before .before .before .before .before .before .before .before .before .pre .1 .within in omega arith)
-    (λ c κs. rest-asks (c .before .before .before .before .before .before .before .before .before .before .before .before .pre .1) (c .before .before .before .before .before .before .before .before .before .before .if1 .left) (c .before .before .before .before .before .if2 .left) (c .before .before .before .before .before .before .before .before .cube-from .ensures) (c .before .before .before .before .has .ensures) (c .before .before .before .unless .ensures) (c .before .before .has2 .ensures) (c .before .unless2 .ensures))
+    (λ c. let h = cube-levels
+    (c .before .before .before .before .before .before .before .before .before .before .before .before .pre .1) in
+    let g = c .before .before .before .before .before .before .before .before .before .before .before .before .pre .1 .within in
+    omega arith)
+    (λ c κs. rest-asks (c .before .before .before .before .before .before .before .before .before .before .before .before .pre .1)
+    (c .before .before .before .before .before .before .before .before .before .before .if1 .left)
+    (c .before .before .before .before .before .if2 .left)
+    (c .before .before .before .before .before .before .before .before .cube-from .ensures)
+    (c .before .before .before .before .has .ensures) (c .before .before .before .unless .ensures) (c .before .before .has2 .ensures)
+    (c .before .unless2 .ensures))
     (λ c. search needs)
-    (λ c. rest-made (c .before .before .before .before .before .before .before .before .before .before .before .before .before .before .before .pre .1) (c .before .before .before .before .before .before .before .before .before .before .before .before .before .if1 .left) (c .before .before .before .before .before .before .before .before .if2 .left) (c .before .before .before .before .before .before .before .before .before .before .before .cube-from .ensures) (c .before .before .before .before .before .before .before .has .ensures) (c .before .before .before .before .before .before .unless .ensures) (c .before .before .before .before .before .has2 .ensures) (c .before .before .before .before .unless2 .ensures) (c .before .before .make .ensures))
+    (λ c. rest-made
+    (c .before .before .before .before .before .before .before .before .before .before .before .before .before .before .before .pre .1)
+    (c .before .before .before .before .before .before .before .before .before .before .before .before .before .if1 .left)
+    (c .before .before .before .before .before .before .before .before .if2 .left)
+    (c .before .before .before .before .before .before .before .before .before .before .before .cube-from .ensures)
+    (c .before .before .before .before .before .before .before .has .ensures)
+    (c .before .before .before .before .before .before .unless .ensures) (c .before .before .before .before .before .has2 .ensures)
+    (c .before .before .before .before .unless2 .ensures) (c .before .before .make .ensures))

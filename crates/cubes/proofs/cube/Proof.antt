@@ -9,4 +9,13 @@ use Rattle.cubes.proofs.cube.Lts as lts
 use Rattle.cubes.proofs.cube_from.Reads as cube-from-reads
 
 pub cube-spec : {M : Type 1} → statement M
-cube-spec = tie.close (tie.spec (λ c. cube-clash (c .before .before .pre) _ _ (c .if1 .taken)) (λ c. search needs) (λ c. cube-beyond (c .before .before .before .pre) _ _ (c .if2 .taken)) (λ c κs. cube-starts (c .before .before .before .before .pre) _ _ (c .before .before .if1 .left)) (λ c. search needs) (λ c. cube-whole (c .before .before .before .before .before .before .before .pre) _ _ (c .before .before .before .before .if2 .left) (c .before .before .cube-from .ensures)))
+cube-spec =
+    tie.close
+    (tie.spec
+    (λ c. cube-clash (c .before .before .pre) _ _ (c .if1 .taken))
+    (λ c. search needs)
+    (λ c. cube-beyond (c .before .before .before .pre) _ _ (c .if2 .taken))
+    (λ c κs. cube-starts (c .before .before .before .before .pre) _ _ (c .before .before .if1 .left))
+    (λ c. search needs)
+    (λ c. cube-whole (c .before .before .before .before .before .before .before .pre) _ _
+    (c .before .before .before .before .if2 .left) (c .before .before .cube-from .ensures)))
