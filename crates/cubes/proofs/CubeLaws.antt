@@ -2,7 +2,7 @@
 -- Assumes nothing.
 use mathlib.Core.Path.{_≡_, refl, sym, ap, ap₂, _∙_, subst}
 use mathlib.Core.Logic.{_≢_}
-use mathlib.Core.Bool.{Bool, true, false, cond, not, _&&_, true≢false}
+use mathlib.Core.Bool.{Bool, true, false, cond, _&&_}
 use Prim.Native.Nat.{ℕ, zero, suc, _+_, _-_, _*_, _/_, _%_, _^_, _≤_, _<_, min}
 use native.Mathlib.Nat.{div-one, pow-suc, div-lt-iff-lt-mul}
 use native.Mathlib.Omega.{arith}
@@ -16,9 +16,7 @@ use Rattle.diagram.proofs.Level.{Reads, Splits, T-true, T-false}
 use Rattle.diagram.specs.Rows.{Rows}
 use Rattle.diagram.proofs.Den.{den-zero, den-one}
 use Rattle.diagram.specs.Post.{Denotes}
-use Rattle.diagram.proofs.Post.{denotes-extends}
 use Rattle.diagram.proofs.Recur.{Divides}
-use Rattle.layout.specs.Places.{BITS, MAX-BITS}
 use Rattle.layout.specs.View.{View}
 use Rattle.rows.specs.Used.{rowsOf}
 use Rattle.table.specs.Code.{FULL, madeOf}

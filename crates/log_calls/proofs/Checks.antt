@@ -1,10 +1,10 @@
 -- The call's contract from its checks and from its search. Assumes nothing.
 use mathlib.Core.Path.{_≡_, refl, sym, ap, _∙_, subst}
 use mathlib.Core.Logic.{_≢_}
-use mathlib.Core.Bool.{Bool, true, false, cond, _&&_}
+use mathlib.Core.Bool.{Bool, cond}
 use mathlib.Core.List.{List}
 use mathlib.Core.Option.{Option, none, some}
-use Prim.Native.Nat.{ℕ, zero, suc, _+_, _-_, _*_, _/_, _%_, _≤_, _<_}
+use Prim.Native.Nat.{ℕ, suc, _+_, _-_, _%_, _≤_, _<_}
 use native.Mathlib.Omega.{arith}
 use lib.Dec.{T, eqb, leb, ltb, ltb→lt, lt→ltb, leb→le, le→leb, eqb→eq, eqb-refl}
 use lib.ListN.{length}
@@ -97,12 +97,12 @@ module _ (bk : Book) (t : ℕ) (one two list : List ℕ) (f : LogsFit (length on
 -- ---- refusals by the checks
 
 module _ (t : ℕ) (one two ws list : List ℕ) where
-  -- the book refuses with the number
-  told-refused : (k : ℕ) → logged (bookOf (seen ws)) t one two list ≡ refuse (suc k) list → SoundWords ws
-      → Told t one two ws ws list list (plain (suc k))
-  told-refused k e s = record {
-    reply = sym (ap (λ (x : Ended). x .reply) e);
-    list = sym (ap (λ (x : Ended). x .list) e);
+  -- what the book tells, with no word changed
+  told-stays : {e : Ended} → logged (bookOf (seen ws)) t one two list ≡ e → SoundWords ws
+      → Told t one two ws ws list (e .list) (e .reply)
+  told-stays is s = record {
+    reply = sym (ap (λ (x : Ended). x .reply) is);
+    list = sym (ap (λ (x : Ended). x .list) is);
     sound = s;
     rows = keeps-refl (s .good .rows) (λ r m. filled-arrow s r (root-filled (tableOf ws) (s .valid) r m));
   }
@@ -112,7 +112,7 @@ module _ (t : ℕ) (one two ws list : List ℕ) where
   log-sizes n = record {
     sizes = λ _. ((refl, refl, refl, refl), refl, refl);
     unsound = λ f. absurd (n f);
-    told = told-refused 0 (says-one (bookOf (seen ws)) t one two list n);
+    told = told-stays (says-one (bookOf (seen ws)) t one two list n);
     book = refl;
     kept = kept-refused collect 0 ws;
   }
@@ -128,23 +128,24 @@ module _ (t : ℕ) (one two ws list : List ℕ) where
       kept = kept-refused collect 1 ws;
     }
 
-    -- CHECKS 3 AND 7
-    log-refused : SoundWords ws → (k : ℕ) → logged (bookOf (seen ws)) t one two list ≡ refuse (suc k) list
-        → LogPost t one two ws ws list list (plain (suc k))
-    log-refused s k e = record {
+    -- what the book tells, with no word changed, is the contract
+    pub log-stays : SoundWords ws → {e : Ended} → logged (bookOf (seen ws)) t one two list ≡ e
+        → LogPost t one two ws ws list (e .list) (e .reply)
+    log-stays s is = record {
       sizes = λ g. absurd (g f);
       unsound = λ _ n. absurd (n s);
-      told = told-refused k e;
+      told = told-stays is;
       book = refl;
-      kept = kept-refused collect k ws;
+      kept = record { all = λ _. refl; size = refl; header = λ h l i. refl; spare = λ i l. refl; beyond = λ p l. refl; exact = tt };
     }
 
+    -- CHECKS 3 AND 7
     pub log-range : SoundWords ws → (t < relations → ⊥) → LogPost t one two ws ws list list (plain 3)
-    log-range s n = log-refused s 2 (says-three (bookOf (seen ws)) t one two list f n)
+    log-range s n = log-stays s (says-three (bookOf (seen ws)) t one two list f n)
 
     pub log-empty : SoundWords ws → t < relations → {z : ℕ} → z ≡ headerOf ws (FIRST-RELATION + t) → z ≡ 0
         → LogPost t one two ws ws list list (plain 7)
-    log-empty s r e z = log-refused s 6 (says-seven (bookOf (seen ws)) t one two list f r (relation-is ws r (sym z ∙ e)))
+    log-empty s r e z = log-stays s (says-seven (bookOf (seen ws)) t one two list f r (relation-is ws r (sym z ∙ e)))
 
 -- ---- the search
 
@@ -180,10 +181,7 @@ module _ {t : ℕ} (one two old : List ℕ) (f : LogsFit (length one) (length tw
   call-asks =
       rw er
       (record {
-        sound = s;
-        bits = eb;
-        rows = refl;
-        limit-le = omega arith;
+        opens = record { sound = s; bits = eb; rows = refl; limit-le = omega arith };
         rt = t;
         named = names;
         logs = logs-of one two f;

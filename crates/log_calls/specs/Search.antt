@@ -1,10 +1,10 @@
 -- The search over the words of a table: what it answers is the outcome of the book that the table stands for. Assumes nothing.
 use mathlib.Core.Path.{_≡_}
 use mathlib.Core.List.{List}
-use Prim.Native.Nat.{ℕ, suc, _+_, _≤_, _<_}
+use Prim.Native.Nat.{ℕ, suc, _+_, _<_}
 use lib.ListN.{length}
 use Rattle.mucalculus.specs.Form.{inside}
-use Rattle.layout.specs.Places.{BITS, VALID, FIRST-RELATION}
+use Rattle.layout.specs.Places.{VALID, FIRST-RELATION}
 use Rattle.layout.specs.View.{View}
 use Rattle.diagram.specs.Keep.{Keeps}
 use Rattle.rows.specs.Used.{rowsOf}
@@ -12,7 +12,7 @@ use Rattle.rows.specs.Sound.{Sound}
 use Rattle.rows.specs.Filled.{filled}
 use Rattle.operations.specs.Work.{OpFrame}
 use Rattle.book.specs.Book.{relations, liveOf}
-use Rattle.path_calls.specs.Search.{bookIn}
+use Rattle.path_calls.specs.Search.{bookIn, Opens}
 use Rattle.logs.specs.Runs.{momentAt, outcome}
 use Rattle.logs.specs.Call.{after}
 use Rattle.moments.specs.declared.Logged.{Logged}
@@ -26,10 +26,7 @@ pub record Named (W : View) (rt t v : ℕ) : Type 0 where
   pub v-is : W .header VALID ≡ suc v
 
 pub record SearchPre (n N limit : ℕ) (W : View) (t v : ℕ) (one two : List ℕ) : Type 0 where
-  pub sound : Sound W
-  pub bits : n ≡ W .header BITS
-  pub rows : N ≡ W .rows
-  pub limit-le : limit ≤ N
+  pub opens : Opens n N limit W
   pub rt : ℕ
   pub named : Named W rt t v
   pub logs : Logs one two

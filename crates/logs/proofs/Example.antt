@@ -4,10 +4,9 @@ use mathlib.Core.Bool.{Bool, true, false}
 use mathlib.Core.List.{List, [], _∷_, _++_}
 use Prim.Native.Nat.{ℕ}
 use Rattle.mucalculus.specs.Form.{Pairs}
-use Rattle.mucalculus.specs.Means.{inter, sometimes}
 use Rattle.diagram.specs.Level.{Fn}
 use Rattle.book.specs.Bridge.{fnOf, fnOfPairs}
-use Rattle.book.specs.Ticks.{diaNeeds, twoNeed}
+use Rattle.book.specs.Ticks.{diaNeeds}
 use Rattle.book.specs.Run.{fit}
 use Rattle.book.proofs.Compute.{computing}
 use Rattle.paths.specs.Runs.{full, none, short, found}

@@ -1,27 +1,27 @@
 -- The call by the book in plain words: what an answered call writes, and what 10 and 11 say. Assumes nothing.
-use mathlib.Core.Path.{_≡_, refl, sym, ap, _∙_, subst}
-use mathlib.Core.Bool.{Bool, true, false, cond, _&&_}
+use mathlib.Core.Path.{_≡_, refl, sym, ap, subst}
+use mathlib.Core.Bool.{Bool, true, false, cond}
 use mathlib.Core.List.{List, [], _∷_}
 use mathlib.Core.Option.{Option, none, some}
 use Prim.Native.Nat.{ℕ, zero, suc, _+_, _^_, _≤_, _<_}
 use native.Mathlib.Nat.{suc-inj, suc-ne-zero}
 use native.Mathlib.Omega.{arith}
-use lib.Dec.{T, ltb, ltb→lt, lt→ltb}
+use lib.Dec.{T, ltb, lt→ltb}
 use lib.ListN.{length, getD}
-use Rattle.mucalculus.specs.Sets.{mem, table}
+use Rattle.mucalculus.specs.Sets.{mem}
 use Rattle.mucalculus.proofs.Sets.{mem-table, and-in, and-out}
 use Rattle.mucalculus.specs.Form.{Pairs, inside}
 use Rattle.mucalculus.specs.Means.{pair}
 use Rattle.diagram.specs.Level.{Fn}
 use Rattle.book.specs.Book.{Book, relations, liveOf}
-use Rattle.paths.specs.Runs.{Least, Outcome, full, none as noRun, short, found, written}
-use Rattle.paths.specs.Call.{Ended, refuse}
-use Rattle.logs.specs.Runs.{Moment, momentAt, fitsBoth, fitting, setsOf, through, isThrough, LeastThrough, outcome}
+use Rattle.paths.specs.Runs.{Outcome, full, none as noRun, short, found}
+use Rattle.paths.specs.Call.{refuse}
+use Rattle.logs.specs.Runs.{Moment, momentAt, fitsBoth, fitting, setsOf, through, isThrough, outcome}
 use Rattle.logs.specs.Call.{logsFit, after, ends, overFilled, logged}
 use Rattle.logs.specs.Exact.{Cause}
 use Rattle.logs.specs.Meaning.{LoggedRun, Meant}
-use Rattle.logs.proofs.Threads.{inter-in, inter-out, first-in}
-use Rattle.logs.proofs.Exact.{sets-small, outcome-cause}
+use Rattle.logs.proofs.Threads.{inter-in, inter-out}
+use Rattle.logs.proofs.Exact.{outcome-cause}
 
 -- ---- a run by its places
 

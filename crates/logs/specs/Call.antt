@@ -11,7 +11,7 @@ use Rattle.book.specs.Book.{Book, relations, liveOf}
 use Rattle.book.specs.Leaves.{plain}
 use Rattle.paths.specs.Runs.{Outcome, full, none as noRun, short, found, written}
 use Rattle.paths.specs.Call.{Ended, refuse}
-use Rattle.logs.specs.Runs.{Moment, momentAt, outcome}
+use Rattle.logs.specs.Runs.{momentAt, outcome}
 
 -- "Each log has k entries, 1 to 1,024": a log lends two numbers for each
 abbrev pub logsFit : ℕ → ℕ → Bool

@@ -2,7 +2,7 @@
 -- its end on. Assumes nothing.
 use mathlib.Core.Path.{_≡_, refl, sym, ap, ap₂, _∙_, subst}
 use mathlib.Core.Logic.{⊎-elim}
-use mathlib.Core.Bool.{Bool, true, false, _&&_}
+use mathlib.Core.Bool.{Bool, _&&_}
 use mathlib.Core.List.{List, [], _∷_, _++_, map, List·Memᴰ as Mem, List·Memᴰ·head as here, List·Memᴰ·tail as there}
 use mathlib.Core.List.{List·Memᴰ·cases-cons as mem-cases, List·Memᴰ·not-nil as mem-nil, List·Memᴰ·append-cases as append-cases}
 use mathlib.Core.List.{Memᴰ·append-left as append-left, Memᴰ·append-right as append-right}
@@ -43,12 +43,11 @@ use Rattle.modal.specs.Chain.{Alike, Base, Moved, Ran}
 use Rattle.modal.proofs.Chain.{alike-cons, alike-sym, alike-trans, held-alike, held-own, base-next, step-pre, Took, ran-step, ran-stop}
 use Rattle.modal.proofs.Chain.{ran-kept, ran-value, ran-then}
 use Rattle.modal.specs.Modal.{ModalPre, DiamondPost}
-use Rattle.modal.proofs.Laws.{kept-lent}
 use Rattle.layers.specs.Next.{NextPre, uncounted}
 use Rattle.layers.proofs.Next.{alike-end, and-true}
 use Rattle.logs.specs.Runs.{Moment, fitting, existing, fitNeeds, beforeNeeds}
 use Rattle.moments.specs.Moment.{Asks}
-use Rattle.moments.specs.Fitting.{fittingNeeds, FittingPre, FittingPost}
+use Rattle.moments.specs.Fitting.{FittingPre, FittingPost}
 use Rattle.moments.specs.Before.{BeforePost}
 use Rattle.moments.proofs.Cubes.{fitting-cube}
 

@@ -1,8 +1,8 @@
 -- The whole search: all sets, the least state of the first, then the others. Assumes nothing.
 use mathlib.Core.Path.{_≡_, refl, sym, ap, _∙_, subst}
 use mathlib.Core.Bool.{Bool, true, false, _&&_}
-use mathlib.Core.List.{List, [], _∷_}
-use Prim.Native.Nat.{ℕ, suc, _-_, _*_, _/_, _^_, _≤_, _<_}
+use mathlib.Core.List.{List, _∷_}
+use Prim.Native.Nat.{ℕ, suc, _-_, _/_, _^_, _≤_, _<_}
 use native.Mathlib.Omega.{arith}
 use lib.Dec.{T, ltb→lt, lt→ltb}
 use lib.ListN.{length, set}
@@ -15,25 +15,24 @@ use Rattle.table.specs.declared.Made.the-variants as made
 use Rattle.book.specs.Run.{fit}
 use Rattle.modal.specs.Chain.{Base}
 use Rattle.modal.proofs.Chain.{base-next, base-bits}
-use Rattle.paths.specs.Runs.{Outcome, full, none, short, found, firstOf, common, meets, written}
+use Rattle.paths.specs.Runs.{Outcome, full, none, short, found, firstOf, common, written}
 use Rattle.paths.proofs.First.{first-same}
 use Rattle.paths.proofs.Decided.{decided-full, decided-none, decided-short, decided-found}
 use Rattle.paths.proofs.Layers.{meets-out}
 use Rattle.seek.specs.Walk.{HoldsPre}
 use Rattle.seek.specs.Search.{inBoth}
-use Rattle.layers.specs.Scene.{Scene, Start}
+use Rattle.layers.specs.Scene.{Scene}
 use Rattle.layers.specs.Pass.{Steps}
 use Rattle.layers.proofs.Pass.{holds-pre, both-mem}
-use Rattle.routes.specs.Write.{putAll}
 use Rattle.routes.proofs.Write.{put-written, start-later, scene-later, state-small}
 use Rattle.routes.proofs.Find.{steps-then}
 use Rattle.logs.specs.Runs.{momentAt, setsOf, run, inhabited, logNeeds, outcome}
-use Rattle.logs.specs.Call.{after, ends}
+use Rattle.logs.specs.Call.{after}
 use Rattle.logs.proofs.Exact.{first-pass, sets-small}
 use Rattle.logs.proofs.Threads.{run-size}
-use Rattle.moments.specs.Sets.{Logs, setOf, needsOf, Threaded, MakePre, Ends, is-made, is-full, MakePost}
+use Rattle.moments.specs.Sets.{setOf, needsOf, Threaded, MakePre, Ends, is-full, MakePost}
 use Rattle.moments.specs.Write.{Onward, restOf, WritePre, WritePost}
-use Rattle.moments.specs.Find.{loggedReply, Told, FindPre, Finds, FindPost}
+use Rattle.moments.specs.Find.{Told, FindPre, FindPost}
 use Rattle.moments.specs.declared.Logged.{Logged}
 use Rattle.moments.specs.declared.Logged.the-variants as answer
 use Rattle.moments.proofs.Write.{set-made, never-full}

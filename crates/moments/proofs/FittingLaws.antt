@@ -1,15 +1,15 @@
 -- The step that makes the fitting states, and AND with V, are one chain: as NOT within V is, with a cube in the place of NOT.
 -- Assumes nothing.
-use mathlib.Core.Path.{_≡_, refl, sym, ap, ap₂, _∙_, subst}
-use mathlib.Core.Bool.{Bool, true, false, _&&_}
-use mathlib.Core.List.{List, [], _∷_, map, List·Memᴰ as Mem, List·Memᴰ·tail as there}
+use mathlib.Core.Path.{_≡_, sym, ap₂, subst}
+use mathlib.Core.Bool.{Bool, _&&_}
+use mathlib.Core.List.{List, _∷_, map, List·Memᴰ·tail as there}
 use Prim.Native.Nat.{ℕ, _*_}
 use lib.Dec.{leb}
 use Rattle.accounts.specs.declared.Count.{Count}
 use Rattle.accounts.specs.Count.{needing}
 use Rattle.layout.specs.View.{View}
 use Rattle.diagram.specs.Level.{Fn}
-use Rattle.diagram.specs.Rows.{Arrow, den}
+use Rattle.diagram.specs.Rows.{den}
 use Rattle.diagram.specs.Need.{stepNeed}
 use Rattle.diagram.specs.Post.{Denotes}
 use Rattle.diagram.specs.Keep.{Keeps}

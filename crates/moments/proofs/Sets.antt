@@ -1,25 +1,21 @@
 -- The sets from the last moment on: each turn makes the set of the moment before, and what does not fit now fits for no earlier set.
 -- Assumes nothing.
-use mathlib.Core.Path.{_≡_, refl, sym, ap, _∙_, subst}
+use mathlib.Core.Path.{_≡_, sym, ap, _∙_, subst}
 use mathlib.Core.Bool.{Bool, true, false, _&&_}
-use mathlib.Core.List.{List, [], _∷_, _++_, append-nil, List·Memᴰ as Mem, List·Memᴰ·not-nil as mem-nil, Memᴰ·append-left as append-left}
-use Prim.Native.Nat.{ℕ, zero, suc, _+_, _-_, _*_, _^_, _≤_, _<_}
+use mathlib.Core.List.{List, [], _∷_, append-nil, List·Memᴰ as Mem, List·Memᴰ·not-nil as mem-nil, Memᴰ·append-left as append-left}
+use Prim.Native.Nat.{ℕ, zero, suc, _+_, _-_, _*_, _^_, _≤_}
 use native.Mathlib.Omega.{arith}
 use lib.Dec.{T}
-use lib.ListN.{length}
 use Rattle.accounts.specs.declared.Count.{Count}
-use Rattle.mucalculus.proofs.Sets.{and-in, and-out, true-of, false-of}
+use Rattle.mucalculus.proofs.Sets.{false-of}
 use Rattle.layout.specs.View.{View}
 use Rattle.diagram.specs.Level.{Fn}
-use Rattle.diagram.specs.Rows.{Rows}
-use Rattle.diagram.specs.Post.{Denotes, at, full as noRows}
+use Rattle.diagram.specs.Post.{Denotes}
 use Rattle.diagram.specs.Keep.{Keeps}
-use Rattle.diagram.proofs.Keep.{keeps-refl, keeps-trans, keeps-within, keeps-denotes}
+use Rattle.diagram.proofs.Keep.{keeps-trans, keeps-within, keeps-denotes}
 use Rattle.rows.specs.Used.{rowsOf}
 use Rattle.rows.specs.Filled.{filled}
-use Rattle.rows.proofs.Filled.{filled-arrow}
 use Rattle.table.specs.Make.{result}
-use Rattle.table.specs.declared.Made.{Made}
 use Rattle.table.specs.declared.Made.the-variants as made
 use Rattle.collect.specs.Lent.{live}
 use Rattle.counting.specs.Taken.{madeIn, countIn}
@@ -32,19 +28,19 @@ use Rattle.book.proofs.Verdicts.{fit-append}
 use Rattle.book.specs.Held.{Held}
 use Rattle.book.proofs.Held.{held-keeps}
 use Rattle.book.specs.Pairs.{PairMatches}
-use Rattle.modal.specs.Chain.{Base, Moved, Ran}
-use Rattle.modal.proofs.Chain.{moved-refl, moved-trans, base-next, base-wf}
+use Rattle.modal.specs.Chain.{Ran}
+use Rattle.modal.proofs.Chain.{moved-trans, base-next}
 use Rattle.layers.specs.Next.{NextPre, uncounted}
-use Rattle.layers.specs.Scene.{Scene, Start}
+use Rattle.layers.specs.Scene.{Scene}
 use Rattle.layers.specs.Pass.{Steps}
 use Rattle.layers.proofs.Scene.{filled-same, matches-at, matches-full}
-use Rattle.logs.specs.Runs.{Moment, momentAt, existing, setsOf, fitNeeds, beforeNeeds, madeNeeds}
+use Rattle.logs.specs.Runs.{momentAt, existing, fitNeeds, beforeNeeds}
 use Rattle.logs.specs.Call.{after}
 use Rattle.logs.proofs.Exact.{made-less}
 use Rattle.moments.specs.Moment.{Asks, Has}
-use Rattle.moments.specs.Fitting.{FittingPre, FittingPost}
+use Rattle.moments.specs.Fitting.{FittingPost}
 use Rattle.moments.specs.Before.{BeforePost}
-use Rattle.moments.specs.Sets.{Logs, setOf, needsOf, Threaded, MakePre, Ends, is-made, is-full, MakePost}
+use Rattle.moments.specs.Sets.{Logs, LastPre, LastPost, setOf, needsOf, Threaded, MakePre, is-made, is-full, MakePost}
 use Rattle.moments.proofs.BeforeLaws.{ran-fitting}
 
 -- what a chain's answer says
@@ -93,28 +89,38 @@ module _ {n : ℕ} {W : View} {t v : ℕ} (limit : ℕ) (S : Scene n W t v) (one
 
 -- ---- the last moment
 
+-- both logs have each entry
+pub entry-at : {one two : List ℕ} → Logs one two → {i : ℕ} → i ≤ after one → Has one two i
+entry-at g h = let l = g .first in let m = g .second in record { first = omega (arith, l, h); second = omega (arith, m, h) }
+
+-- the states that fit are the last set
+pub last-ends : {n N limit : ℕ} {W X : View} {v : ℕ} {one two : List ℕ} {ones zeros : ℕ} {o : Taken}
+    → Asks (momentAt one two (after one)) ones zeros → FittingPost n N limit W X [] v ones zeros (uncounted N) o
+    → LastPost n N limit W X v one two o
+last-ends {n} {N} {limit} {W} {X} {v} {one} {two} {ones} {zeros} {o} m f fs E h d =
+    ran-fitting n N limit W X [] v ones zeros (uncounted N) o f fs E (momentAt one two (after one)) h d m
+
 module _ {n N limit : ℕ} {W : View} {t v : ℕ} {one two : List ℕ} {p : ℕ} (a : MakePre n N limit W t v one two p) where
-  -- both logs have the last entry
-  pub last-has : {i : ℕ} → i ≤ after one → Has one two i
-  last-has h = let l = a .logs .first in let m = a .logs .second in record { first = omega (arith, l, h); second = omega (arith, m, h) }
+  -- its step asks for no root
+  pub last-asks : LastPre n N limit W v one two
+  last-asks = record {
+    fitting = record {
+      base = a .start .base;
+      arrows = λ b h. absurd (mem-nil h);
+      valid = append-left {s = filled W} [] (a .start .b-live);
+    };
+    logs = a .logs;
+  }
 
-  -- and the step asks for no root
-  pub last-asks : FittingPre n N limit W [] v
-  last-asks =
-      record {
-        base = a .start .base;
-        arrows = λ b h. absurd (mem-nil h);
-        valid = append-left {s = filled W} [] (a .start .b-live);
-      }
+  module _ {X : View} {o : Taken} (f : LastPost n N limit W X v one two o) where
+    abbrev i : ℕ
+    i = after one
 
-  module _ {i : ℕ} (ei : i ≡ after one) {ones zeros : ℕ} (m : Asks (momentAt one two i) ones zeros)
-      {X : View} {o : Taken} (f : FittingPost n N limit W X [] v ones zeros (uncounted N) o) where
     ran-last : (S : Scene n W t v) → Ran n N W X (live W []) (fit limit (fitNeeds n (S .fs) (S .B) (momentAt one two i)))
-        (fnOf n (existing (2 ^ n) (S .B) (momentAt one two i))) (needingAll (uncounted N) (fitNeeds n (S .fs) (S .B) (momentAt one two
-        i))) o
+        (fnOf n (existing (2 ^ n) (S .B) (momentAt one two i)))
+        (needingAll (uncounted N) (fitNeeds n (S .fs) (S .B) (momentAt one two i))) o
     ran-last S =
-        ran-fitting n N limit W X [] v ones zeros (uncounted N) o f (S .fs) (S .B) (momentAt one two i)
-        (subst (λ (xs : List ℕ). Held (2 * n) (rowsOf W) xs (S .fs)) (sym (append-nil (filled W))) (S .held)) (S .goal) m
+        f (S .fs) (S .B) (subst (λ (xs : List ℕ). Held (2 * n) (rowsOf W) xs (S .fs)) (sym (append-nil (filled W))) (S .held)) (S .goal)
 
     last-steps : (S : Scene n W t v) → Steps n W X
     last-steps S = record {
@@ -131,7 +137,7 @@ module _ {n N limit : ℕ} {W : View} {t v : ℕ} {one two : List ℕ} {p : ℕ}
     last-full e S =
         let s = a .inside in
         is-full (last-steps S)
-        (full-before limit S one two 0 i (after one - p) p (omega (arith, s, ei)) (omega (arith, s, ei)) (ran-full (ran-last S) e))
+        (full-before limit S one two 0 i (after one - p) p s (omega (arith, s)) (ran-full (ran-last S) e))
 
 -- ---- the moments before
 

@@ -1,37 +1,30 @@
 -- The states after the first one: the set of each place is made again, which fits as it did, and the least next state in it is taken.
 -- Assumes nothing.
-use mathlib.Core.Path.{_≡_, refl, sym, ap, _∙_, subst}
-use mathlib.Core.Bool.{Bool, true, false, true≢false}
-use mathlib.Core.List.{List, [], _∷_}
-use Prim.Native.Nat.{ℕ, suc, _+_, _-_, _*_, _/_, _^_, _≤_, _<_}
+use mathlib.Core.Path.{_≡_, refl, sym, _∙_, subst}
+use mathlib.Core.Bool.{true, false, true≢false}
+use mathlib.Core.List.{List}
+use Prim.Native.Nat.{ℕ, suc, _+_, _-_, _^_, _<_}
 use native.Mathlib.Omega.{arith}
 use lib.Dec.{T}
 use lib.ListN.{length, set}
 use Rattle.mucalculus.specs.Sets.{mem}
 use Rattle.mucalculus.proofs.Sets.{true-of}
 use Rattle.layout.specs.View.{View}
-use Rattle.diagram.specs.Keep.{Keeps}
-use Rattle.diagram.proofs.Keep.{keeps-denotes}
-use Rattle.rows.specs.Used.{rowsOf}
 use Rattle.table.specs.declared.Made.{Made}
 use Rattle.table.specs.declared.Made.the-variants as made
 use Rattle.book.specs.Run.{fit}
-use Rattle.modal.specs.Chain.{Base}
-use Rattle.modal.proofs.Chain.{base-next, base-bits}
-use Rattle.paths.specs.Runs.{firstOf, toward}
-use Rattle.seek.specs.Walk.{HoldsPre}
-use Rattle.seek.specs.Search.{nextIn}
-use Rattle.layers.specs.Scene.{Scene, Start}
+use Rattle.paths.specs.Runs.{toward}
+use Rattle.paths.proofs.First.{Onto}
+use Rattle.layers.specs.Scene.{Scene}
 use Rattle.layers.specs.Pass.{Steps}
-use Rattle.layers.proofs.Pass.{holds-pre}
-use Rattle.routes.specs.Write.{putAll}
-use Rattle.routes.proofs.Write.{toward-found, state-small, start-later, scene-later, steps-start}
+use Rattle.routes.specs.Write.{putAll, NextPre, NextPost}
+use Rattle.routes.proofs.Write.{step-found, step-asks, start-later, scene-later, steps-start}
 use Rattle.routes.proofs.Find.{steps-then}
 use Rattle.logs.specs.Runs.{momentAt, setsOf}
 use Rattle.logs.specs.Call.{after}
 use Rattle.logs.proofs.Exact.{made-less, sets-small}
 use Rattle.logs.proofs.Threads.{thread-lt, onto}
-use Rattle.moments.specs.Sets.{Logs, setOf, needsOf, Threaded, MakePre, Ends, is-made, is-full, MakePost}
+use Rattle.moments.specs.Sets.{setOf, needsOf, Threaded, MakePre, Ends, is-made, is-full, MakePost}
 use Rattle.moments.specs.Write.{Onward, restOf, WritePre, WritePost}
 
 -- a set that is made has its arrow
@@ -119,50 +112,42 @@ module _ {n N limit : ℕ} {W : View} {t v : ℕ} {one two : List ℕ} {first : 
         steps-after : (S : Scene n W t v) (r : Onward limit S one two (after one) 0 first) → Steps n W Y
         steps-after S r = steps-then (q S r .steps) (there S r .steps)
 
-        base-after : Base n N limit Y
-        base-after = base-next (p .start .base) (steps-after (p .scene) (p .ready) .moved)
+        -- the state that is written
+        abbrev next : Scene n W t v → ℕ
+        next S = toward (2 ^ n) (S .R) (setOf S one two j (suc i)) s
 
-        pub next-walks : HoldsPre Y t × HoldsPre Y x × (n ≤ 16)
-        next-walks = (
-          holds-pre base-after (keeps-denotes (steps-after (p .scene) (p .ready) .kept) (p .start .t-live) (p .scene .relation) .arrow),
-          holds-pre base-after (there (p .scene) (p .ready) .set-is .arrow),
-          base-bits (p .start .base),
-        )
+        here : (S : Scene n W t v) (r : Onward limit S one two (after one) 0 first) → s < 2 ^ n
+        here S r =
+            thread-lt (2 ^ n) (S .R) (setsOf n (S .B) (momentAt one two)) (sets-small n (S .B) (momentAt one two)) (suc j) i s
+            (q S r .ready .1)
 
-        module _ {u : ℕ} (eu : u ≡ firstOf (2 ^ n) (nextIn Y t s x)) where
-          next-is : (S : Scene n W t v) (r : Onward limit S one two (after one) 0 first)
-              → u ≡ toward (2 ^ n) (S .R) (setOf S one two j (suc i)) s
-          next-is S r =
-              let small = thread-lt (2 ^ n) (S .R) (setsOf n (S .B) (momentAt one two)) (sets-small n (S .B) (momentAt one two)) (suc j) i s
-              (q S r .ready .1) in
-              eu ∙ toward-found n Y (S .R) (setOf S one two j (suc i)) (base-after .ready .levels-is)
-              (keeps-denotes (steps-after S r .kept) (p .start .t-live) (S .relation)) (there S r .set-is) s small
+        -- a run goes on from it
+        ahead : (S : Scene n W t v) (r : Onward limit S one two (after one) 0 first)
+            → Onto (2 ^ n) (S .R) (setOf S one two j (suc i)) s (next S)
+        ahead S r =
+            onto (2 ^ n) (S .R) (setsOf n (S .B) (momentAt one two)) (sets-small n (S .B) (momentAt one two)) j i s (q S r .ready .1)
 
-          inside : (S : Scene n W t v) (r : Onward limit S one two (after one) 0 first) → (u < 2 ^ n) × T (mem (setOf S one two j (suc
-              i)) u)
-          inside S r =
-              let w = onto (2 ^ n) (S .R) (setsOf n (S .B) (momentAt one two)) (sets-small n (S .B) (momentAt one two)) j i s (q S r
-              .ready .1) in
-              let e = sym (next-is S r) in (
-                subst (λ (z : ℕ). z < 2 ^ n) e (w .state),
-                subst (λ (z : ℕ). T (mem (setOf S one two j (suc i)) z)) e (w .inside),
-              )
+        pub next-asks : b < length now → NextPre n Y t s x b now
+        next-asks h =
+            let S = p .scene in
+            let r = p .ready in
+            step-asks (p .start) (steps-after S r) S (setOf S one two j (suc i)) (there S r .set-is) (here S r) (ahead S r .state) h
 
-          pub write-turns : {K : ℕ} → j ≡ K → Stands n limit W Y t v one two first old (set now b u) u K b
-          write-turns eK S r =
-              let e = next-is S r in
-              let w : Writing n limit W Y t v S one two first old (set now (suc i) u) u j (suc i) = record {
-                steps = steps-after S r;
-                ready = (fits-again S r, inside S r .1);
-                rest =
-                    subst (λ (z : ℕ). putAll (suc (suc i)) (restOf S one two j (suc i) z) (set now (suc i) z)
-                    ≡ putAll 1 (restOf S one two (after one) 0 first) old) (sym e) (q S r .rest);
-              } in
-              subst (λ (j : ℕ). Writing n limit W Y t v S one two first old (set now b u) u j b) eK
-              (subst (λ (z : ℕ). Writing n limit W Y t v S one two first old (set now z u) u j z) (sym eb) w)
-
-          pub next-small : u < 65_536
-          next-small = state-small (p .start .base) (inside (p .scene) (p .ready) .0)
+        pub write-turns : {u K : ℕ} {new : List ℕ} → NextPost n Y t s x b now new u → j ≡ K
+            → Stands n limit W Y t v one two first old new u K b
+        write-turns {u} {K} {new} w eK S r =
+            let e : u ≡ next S =
+            w .is ∙ step-found (p .start) (steps-after S r) S (setOf S one two j (suc i)) (there S r .set-is) s (here S r) in
+            let z : Writing n limit W Y t v S one two first old (set now (suc i) u) u j (suc i) = record {
+              steps = steps-after S r;
+              ready = (fits-again S r, subst (λ (z : ℕ). T (mem (setOf S one two j (suc i)) z)) (sym e) (ahead S r .inside));
+              rest =
+                  subst (λ (z : ℕ). putAll (suc (suc i)) (restOf S one two j (suc i) z) (set now (suc i) z)
+                  ≡ putAll 1 (restOf S one two (after one) 0 first) old) (sym e) (q S r .rest);
+            } in
+            subst (λ (m : List ℕ). Writing n limit W Y t v S one two first old m u K b) (sym (w .list))
+            (subst (λ (j : ℕ). Writing n limit W Y t v S one two first old (set now b u) u j b) eK
+            (subst (λ (z : ℕ). Writing n limit W Y t v S one two first old (set now z u) u j z) (sym eb) z))
 
   pub write-ends : {X : View} {now : List ℕ} {s j i : ℕ} → j ≡ 0 → Stands n limit W X t v one two first old now s j i
       → WritePost n limit W X t v one two first old now

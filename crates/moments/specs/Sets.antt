@@ -2,29 +2,47 @@
 -- the functions that are held, the pairs of relation t and the states of V. Assumes nothing.
 use mathlib.Core.Path.{_≡_}
 use mathlib.Core.Bool.{Bool, true, false}
-use mathlib.Core.List.{List}
+use mathlib.Core.List.{List, []}
 use Prim.Native.Nat.{ℕ, suc, _-_, _*_, _^_, _≤_, _<_}
 use lib.ListN.{length}
 use Rattle.layout.specs.View.{View}
+use Rattle.diagram.specs.Level.{Fn}
 use Rattle.diagram.specs.Post.{Denotes}
-use Rattle.diagram.specs.Keep.{Keeps}
 use Rattle.rows.specs.Used.{rowsOf}
-use Rattle.rows.specs.Filled.{filled}
+use Rattle.collect.specs.Lent.{live}
+use Rattle.counting.specs.declared.Taken.{Taken}
 use Rattle.table.specs.declared.Made.{Made}
 use Rattle.table.specs.declared.Made.the-variants as made
 use Rattle.book.specs.Bridge.{fnOf}
-use Rattle.book.specs.Run.{fit}
-use Rattle.modal.specs.Chain.{Moved}
+use Rattle.book.specs.Run.{needingAll, fit}
+use Rattle.book.specs.Held.{Held}
+use Rattle.modal.specs.Chain.{Ran}
+use Rattle.layers.specs.Next.{uncounted}
 use Rattle.layers.specs.Scene.{Scene, Start}
 use Rattle.layers.specs.Pass.{Steps}
-use Rattle.logs.specs.Runs.{momentAt, setsOf, thread, madeNeeds}
+use Rattle.logs.specs.Runs.{momentAt, existing, setsOf, thread, fitNeeds, madeNeeds}
 use Rattle.logs.specs.Call.{after}
+use Rattle.moments.specs.Fitting.{FittingPre}
 
 -- the logs have as many numbers as one another, two for each of 1 to 1,024 entries
 pub record Logs (one two : List ℕ) : Type 0 where
   pub first : length one ≡ 2 * suc (after one)
   pub second : length two ≡ 2 * suc (after one)
   pub few : after one < 1_024
+
+-- what the making of the last set asks: V's arrow, and no other root
+pub record LastPre (n N limit : ℕ) (W : View) (v : ℕ) (one two : List ℕ) : Type 0 where
+  pub fitting : FittingPre n N limit W [] v
+  pub logs : Logs one two
+
+-- whatever functions registers and relations hold, and whatever set V is: the states that exist and fit both last entries, exactly where
+-- their needs fit
+abbrev pub LastPost : ℕ → ℕ → ℕ → View → View → ℕ → List ℕ → List ℕ → Taken → Type 0
+LastPost n N limit W X v one two o =
+    (fs : List Fn) (E : List Bool) → Held (2 * n) (rowsOf W) (live W []) fs → Denotes (2 * n) (rowsOf W) v (fnOf n E)
+    → Ran n N W X (live W []) (fit limit (fitNeeds n fs E (momentAt one two (after one))))
+    (fnOf n (existing (2 ^ n) E (momentAt one two (after one))))
+    (needingAll (uncounted N) (fitNeeds n fs E (momentAt one two (after one)))) o
 
 -- set i, with j moments after it, and the needs of making it
 abbrev pub setOf : {n : ℕ} {W : View} {t v : ℕ} → Scene n W t v → List ℕ → List ℕ → ℕ → ℕ → List Bool

@@ -6,15 +6,15 @@ use counting::take;
 use layout::Refusal;
 use modal::Limits;
 use modal::diamond;
+use routes::write_next;
 use seek::least_common;
-use seek::least_next;
 use steps::Step;
 use table::Made;
 ghost use mathlib.Core.Path.{_≡_};
 ghost use Rattle.logs.specs.Runs.{momentAt};
 ghost use Rattle.moments.specs.Moment.{Asks, Has};
-ghost use Rattle.moments.specs.Posts.{FittingAsks, FittingGives, BeforeAsks, BeforeGives, MakeAsks, MakeGives, WriteAsks, WriteGives};
-ghost use Rattle.moments.specs.Posts.{FindAsks, FindGives};
+ghost use Rattle.moments.specs.Posts.{StepAsks, StepGives, FittingAsks, FittingGives, BeforeAsks, BeforeGives, LastAsks, LastGives};
+ghost use Rattle.moments.specs.Posts.{MakeAsks, MakeGives, WriteAsks, WriteGives, FindAsks, FindGives};
 
 // What both logs say of a state at one moment: the bits that it has, and those that it has not.
 pub struct Moment {
@@ -52,6 +52,30 @@ fn moment_at(one: &[u16], two: &[u16], i: usize) -> Moment
     }
 }
 
+// A step, with registers, relations, V and some roots live.
+fn take_step(
+    words: &mut [u32],
+    counts: &mut [u32],
+    limits: Limits,
+    roots: &[u32],
+    step: Step,
+    count: Count,
+) -> Taken
+    requires { ⌜ StepAsks limits (now words) (now counts) (now roots) step ⌝ }
+    ensures { λ r. ⌜ StepGives limits (now (words .entry)) (now (words .exit)) (now (counts .exit)) (now (roots .entry)) step count r ⌝ }
+{
+    take(
+        words,
+        counts,
+        limits.rows,
+        2 * limits.bits,
+        limits.limit,
+        roots,
+        step,
+        count,
+    )
+}
+
 // The states that fit: one step, and their AND with V another.
 fn fitting(
     words: &mut [u32],
@@ -66,29 +90,12 @@ fn fitting(
     ensures { λ r. ⌜ FittingGives limits (now (words .entry)) (now (words .exit)) (now (counts .exit)) (now (roots .entry))
         valid moment count r ⌝ }
 {
-    let levels = 2 * limits.bits;
-    let Taken::At { arrow: f, count: q } = take(
-        words,
-        counts,
-        limits.rows,
-        levels,
-        limits.limit,
-        roots,
-        Step::Cube(moment.ones, moment.zeros),
-        count,
-    ) else {
+    let cube = Step::Cube(moment.ones, moment.zeros);
+    let Taken::At { arrow: f, count: q } = take_step(words, counts, limits, roots, cube, count)
+    else {
         return Taken::Full;
     };
-    take(
-        words,
-        counts,
-        limits.rows,
-        levels,
-        limits.limit,
-        roots,
-        Step::And(f, valid),
-        q,
-    )
+    take_step(words, counts, limits, roots, Step::And(f, valid), q)
 }
 
 // The set of the moment before: diamond of the later one, then the states that fit, then AND of both. Only the later set is live, until
@@ -105,7 +112,6 @@ fn before(
     requires { ⌜ BeforeAsks limits (now words) (now counts) relation valid later ⌝ }
     ensures { λ r. ⌜ BeforeGives limits (now (words .entry)) (now (words .exit)) (now (counts .exit)) relation valid later moment r ⌝ }
 {
-    let levels = 2 * limits.bits;
     let uncounted = Count {
         rounds: 0,
         peak: limits.rows,
@@ -127,16 +133,29 @@ fn before(
     else {
         return Taken::Full;
     };
-    take(
-        words,
-        counts,
-        limits.rows,
-        levels,
-        limits.limit,
-        &roots,
-        Step::And(d, f),
-        q,
-    )
+    take_step(words, counts, limits, &roots, Step::And(d, f), q)
+}
+
+// The set of the last moment: the states that fit. Nothing is counted, as in `before`.
+fn last_set(
+    words: &mut [u32],
+    counts: &mut [u32],
+    limits: Limits,
+    valid: u32,
+    one: &[u16],
+    two: &[u16],
+) -> Taken
+    requires { ⌜ LastAsks limits (now words) (now counts) valid (now one) (now two) ⌝ }
+    ensures { λ r. ⌜ LastGives limits (now (words .entry)) (now (words .exit)) (now (counts .exit)) valid
+        (now (one .entry)) (now (two .entry)) r ⌝ }
+{
+    let uncounted = Count {
+        rounds: 0,
+        peak: limits.rows,
+    };
+    let none = [0u32; 0];
+    let moment = moment_at(one, two, one.len() / 2 - 1);
+    fitting(words, counts, limits, &none, valid, moment, uncounted)
 }
 
 // The set of moment `at`, made from that of the last moment on.
@@ -154,24 +173,10 @@ fn make_set(
     ensures { λ r. ⌜ MakeGives limits (now (words .entry)) (now (words .exit)) (now (counts .exit)) relation valid
         (now (one .entry)) (now (two .entry)) at r ⌝ }
 {
-    let uncounted = Count {
-        rounds: 0,
-        peak: limits.rows,
-    };
-    let none = [0u32; 0];
-    let mut i = one.len() / 2 - 1;
-    let last = moment_at(one, two, i);
-    let Taken::At { arrow: f, count: _ } = fitting(
-        words,
-        counts,
-        limits,
-        &none,
-        valid,
-        last,
-        uncounted,
-    ) else {
+    let Taken::At { arrow: f, count: _ } = last_set(words, counts, limits, valid, one, two) else {
         return Made::Full;
     };
+    let mut i = one.len() / 2 - 1;
     let mut x = f;
     while at < i {
         i -= 1;
@@ -209,8 +214,7 @@ fn write_on(
         let Made::At(x) = make_set(words, counts, limits, relation, valid, one, two, i) else {
             return;
         };
-        s = least_next(words, limits.rows, limits.bits, relation, s, x);
-        list[i] = s as u16;
+        s = write_next(words, list, limits, relation, s, x, i);
     }
 }
 

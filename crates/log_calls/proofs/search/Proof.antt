@@ -1,7 +1,8 @@
 -- `search` meets its contract: after forgetting, the table holds the scene of its own book; freeing keeps what registers and relations
 -- need. Assumes nothing.
 use mathlib.Core.Path.{refl, _∙_}
-use Rattle.log_calls.proofs.Searching.{start-base, search-asks, search-frees, search-done}
+use Rattle.path_calls.proofs.Opened.{start-base}
+use Rattle.log_calls.proofs.Searching.{search-asks, search-frees, search-done}
 use borrow.Author.Needs.{needs}
 use Rattle.log_calls.proofs.search.Statement.{statement}
 use Rattle.log_calls.proofs.search.Tie as tie
@@ -19,7 +20,7 @@ search-spec =
     (λ c κs. search needs)
     (λ c. search needs)
     (λ c κs. (
-      start-base (c .before .before .before .before .before .before .before .before .before .before .pre) (c .before .before
+      start-base (c .before .before .before .before .before .before .before .before .before .before .pre .opens) (c .before .before
           .before .before .forget .ensures) .sound,
       refl,
     ))
