@@ -24,7 +24,6 @@ use Rattle.diagram.specs.Steps.{andF}
 use Rattle.rows.specs.Used.{rowsOf}
 use Rattle.rows.specs.Filled.{filled}
 use Rattle.collect.specs.Lent.{live}
-use Rattle.cubes.specs.Cube.{cubeF}
 use Rattle.counting.specs.declared.Taken.{Taken}
 use Rattle.counting.specs.declared.Taken.the-variants as taken
 use Rattle.steps.specs.declared.Step.the-variants.{And}
@@ -46,7 +45,7 @@ use Rattle.modal.specs.Modal.{ModalPre, DiamondPost}
 use Rattle.layers.specs.Next.{NextPre, uncounted}
 use Rattle.layers.proofs.Next.{alike-end, and-true}
 use Rattle.logs.specs.Runs.{Moment, fitting, existing, fitNeeds, beforeNeeds}
-use Rattle.moments.specs.Moment.{Asks}
+use Rattle.moments.specs.Moment.{Asks, entryF}
 use Rattle.moments.specs.Fitting.{FittingPre, FittingPost}
 use Rattle.moments.specs.Before.{BeforePost}
 use Rattle.moments.proofs.Cubes.{fitting-cube}
@@ -80,16 +79,16 @@ ran-fewer w r =
     record { moved = r .moved; evals = record { wf = r .evals .wf; kept = keeps-within w (r .evals .kept); result = r .evals .result } }
 
 -- the fitting states, of sets: E is V
-pub ran-fitting : (n N limit : ℕ) (W X : View) (lent : List ℕ) (v ones zeros : ℕ) (q : Count) (o : Taken)
-    → FittingPost n N limit W X lent v ones zeros q o → (fs : List Fn) (E : List Bool) (m : Moment) → Held (2 * n) (rowsOf W) (live W
+pub ran-fitting : (n N limit : ℕ) (W X : View) (lent : List ℕ) (v mask value : ℕ) (q : Count) (o : Taken)
+    → FittingPost n N limit W X lent v mask value q o → (fs : List Fn) (E : List Bool) (m : Moment) → Held (2 * n) (rowsOf W) (live W
     lent) fs
-    → Denotes (2 * n) (rowsOf W) v (fnOf n E) → Asks m ones zeros
+    → Denotes (2 * n) (rowsOf W) v (fnOf n E) → Asks m mask value
     → Ran n N W X (live W lent) (fit limit (fitNeeds n fs E m)) (fnOf n (existing (2 ^ n) E m)) (needingAll q (fitNeeds n fs E m)) o
-ran-fitting n N limit W X lent v ones zeros q o p fs E m h dv a =
+ran-fitting n N limit W X lent v mask value q o p fs E m h dv a =
     let Q : Fn → Fn → Fn
     → Type 0 = λ C G H. Ran n N W X (live W lent) (fit limit (stepNeed (2 * n) fs C ∷ stepNeed (2 * n) (G ∷ C ∷ fs) H ∷ [])) H
     (needingAll q (stepNeed (2 * n) fs C ∷ stepNeed (2 * n) (G ∷ C ∷ fs) H ∷ [])) o in
-    let C : Fn = cubeF (2 * n) ones zeros in
+    let C : Fn = entryF (2 * n) mask value in
     let r1 = subst (λ (G : Fn). Q C G (andF C G)) (denoted dv) (p fs h) in
     let r2 = subst (λ (C : Fn). Q C (fnOf n E) (andF C (fnOf n E))) (sym (fitting-cube n m a)) r1 in
     subst (λ (H : Fn). Q (fnOf n (fitting (2 ^ n) m)) (fnOf n E) H) (sym (fnOf-and n (fitting (2 ^ n) m) E)) r2
@@ -136,8 +135,8 @@ module _ {n N limit : ℕ} {W : View} {t v x : ℕ} (p : NextPre n N limit W t v
         let r2 = subst (λ (T : Fn). Q T (fnOf n L) (diamondF n T (fnOf n L))) (denoted dt) r1 in
         subst (λ (G : Fn). Q (fnOfPairs n R) (fnOf n L) G) (sym (diamond-exact n R L)) r2
 
-    pub dia-full : (ones zeros : ℕ) → o ≡ taken.Full → BeforePost n N limit W X t v x ones zeros taken.Full
-    dia-full ones zeros e fs R E L m h dt dv dx a =
+    pub dia-full : (mask value : ℕ) → o ≡ taken.Full → BeforePost n N limit W X t v x mask value taken.Full
+    dia-full mask value e fs R E L m h dt dv dx a =
         let ls = fnOf n L ∷ fs in
         let D = sometimes (2 ^ n) R L in
         let more = fitNeeds n (fnOf n D ∷ ls) E m ++ (twoNeed n ls (inter (2 ^ n)) D (existing (2 ^ n) E m) ∷ []) in
@@ -185,21 +184,21 @@ module _ {n N limit : ℕ} {W : View} {t v x : ℕ} (p : NextPre n N limit W t v
           → Held (2 * n) (rowsOf X) (live W both) (G ∷ F ∷ fs)
       held-both h dx dc = held-alike (alike-two (filled W) x c) (held-push (held-keeps (held-live h dx) k1) dc)
 
-      module _ (ones zeros : ℕ) {Y : View} {u : Taken} (f : FittingPost n N limit X Y both v ones zeros q u) where
+      module _ (mask value : ℕ) {Y : View} {u : Taken} (f : FittingPost n N limit X Y both v mask value q u) where
         own : Held (2 * n) (rowsOf X) (live X both) (map (den (2 * n) (rowsOf X)) (live X both))
         own = held-own (live-arrows both (moved1 .sound) both-arrow)
 
         -- the fitting states, of sets
         ran-fit : (fs : List Fn) (R : Pairs) (E L : List Bool) (m : Moment) → Held (2 * n) (rowsOf W) (filled W) fs
             → Denotes (2 * n) (rowsOf W) t (fnOfPairs n R) → Denotes (2 * n) (rowsOf W) v (fnOf n E)
-            → Denotes (2 * n) (rowsOf W) x (fnOf n L) → Asks m ones zeros
+            → Denotes (2 * n) (rowsOf W) x (fnOf n L) → Asks m mask value
             → Ran n N X Y (live W both) (fit limit (fitNeeds n (fnOf n (sometimes (2 ^ n) R L) ∷ fnOf n L ∷ fs) E m))
             (fnOf n (existing (2 ^ n) E m)) (needingAll q (fitNeeds n (fnOf n (sometimes (2 ^ n) R L) ∷ fnOf n L ∷ fs) E m)) u
         ran-fit fs R E L m h dt dv dx a =
             let ls = fnOf n (sometimes (2 ^ n) R L) ∷ fnOf n L ∷ fs in
             let c-is : Denotes (2 * n) (rowsOf X) c (fnOf n (sometimes (2 ^ n) R L)) = ran-value e (ran-dia fs R L h dt dx) in
             let g = subst (λ (xs : List ℕ). Held (2 * n) (rowsOf X) xs ls) (sym both-live) (held-both h dx c-is) in
-            let r = ran-fitting n N limit X Y both v ones zeros q u f ls E m g (keeps-denotes k1 live-v dv) a in
+            let r = ran-fitting n N limit X Y both v mask value q u f ls E m g (keeps-denotes k1 live-v dv) a in
             subst (λ (xs : List ℕ). Ran n N X Y xs (fit limit (fitNeeds n ls E m)) (fnOf n (existing (2 ^ n) E m))
             (needingAll q (fitNeeds n ls E m)) u) both-live r
 
@@ -230,7 +229,7 @@ module _ {n N limit : ℕ} {W : View} {t v x : ℕ} (p : NextPre n N limit W t v
             subst (λ (z : Count). Ran n N W Z (live W lent) (fit limit (A ++ (B ++ (k ∷ [])))) G z w) counts
             (subst (λ (z : Bool). Ran n N W Z (live W lent) z G (needing (needingAll (needingAll (uncounted N) A) B) k) w) fits l)
 
-        pub fit-full : u ≡ taken.Full → BeforePost n N limit W Y t v x ones zeros taken.Full
+        pub fit-full : u ≡ taken.Full → BeforePost n N limit W Y t v x mask value taken.Full
         fit-full i fs R E L m h dt dv dx a =
             let ls = fnOf n L ∷ fs in
             let D = sometimes (2 ^ n) R L in
@@ -264,7 +263,7 @@ module _ {n N limit : ℕ} {W : View} {t v x : ℕ} (p : NextPre n N limit W t v
 
           pub before-ends : {Z : View} {w : Taken}
               → Took n N limit Y Z (c ∷ g ∷ live Y lent) q2 w (andF (den (2 * n) (rowsOf Y) c) (den (2 * n) (rowsOf Y) g))
-              → BeforePost n N limit W Z t v x ones zeros w
+              → BeforePost n N limit W Z t v x mask value w
           before-ends {Z} {w} s fs R E L m h dt dv dx a =
               let ls = fnOf n L ∷ fs in
               let D = sometimes (2 ^ n) R L in

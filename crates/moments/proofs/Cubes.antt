@@ -1,25 +1,23 @@
--- The states that fit both entries of a moment are a cube: bit by bit, from the lowest on. Assumes nothing.
+-- The states that fit an entry are a cube: bit by bit, from the lowest on. Assumes nothing.
 use mathlib.Core.Path.{_≡_, refl, sym, ap, ap₂, _∙_, fun-ext}
 use mathlib.Core.Logic.{by-cases}
-use mathlib.Core.List.{List}
 use mathlib.Core.Bool.{Bool, true, false, not, _&&_, _||_}
 use Prim.Native.Nat.{ℕ, zero, suc, _+_, _*_, _/_, _%_, _^_, min, max}
 use native.Mathlib.Nat.{div-one, pow-succ', div-div-eq-div-mul}
 use native.Mathlib.Decide.{ℕ-discrete}
 use native.Mathlib.Omega.{arith}
-use lib.Bits.{bitAnd, bitOr, bitXor, differ, and-step, or-step, xor-step, or-add-and, and-le-l, and-le-r}
+use lib.Bits.{bitAnd, bitOr, bitXor, differ, and-step, or-step, xor-step}
 use lib.Dec.{eqb, eqb→eq, eqb-refl}
-use lib.ListN.{getD}
 use Rattle.mucalculus.specs.Means.{bit}
 use Rattle.diagram.specs.Level.{Val}
 use Rattle.diagram.proofs.Level.{T-true, T-false}
 use Rattle.book.specs.States.{one, nowOf}
 use Rattle.book.specs.Bridge.{fnOf}
 use Rattle.book.proofs.Bridge.{fnOf-table}
-use Rattle.cubes.specs.Cube.{literal, cubeFrom, cubeF}
+use Rattle.cubes.specs.Cube.{literal, cubeFrom}
 use Rattle.cubes.proofs.CubeLaws.{cube-shift}
-use Rattle.logs.specs.Runs.{Moment, momentAt, fits, fitsBoth, fitting}
-use Rattle.moments.specs.Moment.{Asks}
+use Rattle.logs.specs.Runs.{Moment, fits, fitsBoth, fitting}
+use Rattle.moments.specs.Moment.{Asks, entryF}
 
 -- ---- digits
 
@@ -104,12 +102,12 @@ differ-digit true false = refl
 differ-digit false true = refl
 differ-digit false false = refl
 
-and-parts : (a b : ℕ) → bitAnd a b ≡ bitAnd (a / 2) (b / 2) * 2 + one (bit 0 a && bit 0 b)
+pub and-parts : (a b : ℕ) → bitAnd a b ≡ bitAnd (a / 2) (b / 2) * 2 + one (bit 0 a && bit 0 b)
 and-parts a b =
     and-step a b
     ∙ ap (λ (c : ℕ). bitAnd (a / 2) (b / 2) * 2 + c) (ap₂ min (digit a) (digit b) ∙ min-digit (bit 0 a) (bit 0 b))
 
-or-parts : (a b : ℕ) → bitOr a b ≡ bitOr (a / 2) (b / 2) * 2 + one (bit 0 a || bit 0 b)
+pub or-parts : (a b : ℕ) → bitOr a b ≡ bitOr (a / 2) (b / 2) * 2 + one (bit 0 a || bit 0 b)
 or-parts a b =
     or-step a b ∙ ap (λ (c : ℕ). bitOr (a / 2) (b / 2) * 2 + c) (ap₂ max (digit a) (digit b) ∙ max-digit (bit 0 a) (bit 0 b))
 
@@ -117,10 +115,16 @@ xor-parts : (a b : ℕ) → bitXor a b ≡ bitXor (a / 2) (b / 2) * 2 + one (xor
 xor-parts a b =
     xor-step a b ∙ ap (λ (c : ℕ). bitXor (a / 2) (b / 2) * 2 + c) (ap₂ differ (digit a) (digit b) ∙ differ-digit (bit 0 a) (bit 0 b))
 
-or-half : (a b : ℕ) → bitOr a b / 2 ≡ bitOr (a / 2) (b / 2)
+pub and-half : (a b : ℕ) → bitAnd a b / 2 ≡ bitAnd (a / 2) (b / 2)
+and-half a b = ap (λ (x : ℕ). x / 2) (and-parts a b) ∙ half-of (bitAnd (a / 2) (b / 2)) (bit 0 a && bit 0 b)
+
+pub and-bit : (a b : ℕ) → bit 0 (bitAnd a b) ≡ (bit 0 a && bit 0 b)
+and-bit a b = ap (bit 0) (and-parts a b) ∙ bit-of (bitAnd (a / 2) (b / 2)) (bit 0 a && bit 0 b)
+
+pub or-half : (a b : ℕ) → bitOr a b / 2 ≡ bitOr (a / 2) (b / 2)
 or-half a b = ap (λ (x : ℕ). x / 2) (or-parts a b) ∙ half-of (bitOr (a / 2) (b / 2)) (bit 0 a || bit 0 b)
 
-or-bit : (a b : ℕ) → bit 0 (bitOr a b) ≡ (bit 0 a || bit 0 b)
+pub or-bit : (a b : ℕ) → bit 0 (bitOr a b) ≡ (bit 0 a || bit 0 b)
 or-bit a b = ap (bit 0) (or-parts a b) ∙ bit-of (bitOr (a / 2) (b / 2)) (bit 0 a || bit 0 b)
 
 xor-half : (a b : ℕ) → bitXor a b / 2 ≡ bitXor (a / 2) (b / 2)
@@ -142,12 +146,6 @@ entry-bit false true false = refl
 entry-bit false false true = refl
 entry-bit false false false = refl
 
-literal-both : (o z p q b : Bool) → (literal o z b && literal p q b) ≡ literal (o || p) (z || q) b
-literal-both o true p q true = refl
-literal-both o false p q true = refl
-literal-both true z p q false = refl
-literal-both false z p q false = refl
-
 -- one entry and the bits after the first
 fits-split : (mask value : ℕ) (b : Bool) (s : ℕ)
     → fits mask value (one b + 2 * s) ≡ (fits (mask / 2) (value / 2) s && literal (bit 0 value) (xor (bit 0 mask) (bit 0 value)) b)
@@ -168,109 +166,41 @@ fits-split mask value b s =
 
 -- ---- all bits
 
-module _ where
-  abbrev onesOf : ℕ → ℕ → ℕ
-  onesOf v w = bitOr v w
-
-  abbrev zerosOf : ℕ → ℕ → ℕ → ℕ → ℕ
-  zerosOf m v l w = bitOr (bitXor m v) (bitXor l w)
-
-  no-bit : (v w : ℕ) → (eqb 0 v && eqb 0 w) ≡ eqb (bitOr v w / 1) 0
-  no-bit v w = go (ℕ-discrete v 0) (ℕ-discrete w 0)
-    where
-      sum : bitOr v w / 1 ≡ bitOr v w
-      sum = div-one (bitOr v w)
-
-      apart : (a b : ℕ) → (a ≡ b → ⊥) → eqb a b ≡ false
-      apart a b n = T-false (eqb a b) (λ t. n (eqb→eq a b t))
-
-      left : (p : Bool) → (p && false) ≡ false
-      left true = refl
-      left false = refl
-
-      zero-or : bitOr v w / 1 ≡ 0 → (v ≡ 0) × (w ≡ 0)
-      zero-or e =
-          let a = or-add-and v w in
-          let b = and-le-l v w in
-          let c = and-le-r v w in
-          let d = sum in (omega (arith, a, b, c, d, e), omega (arith, a, b, c, d, e))
-
-      go : Dec (v ≡ 0) → Dec (w ≡ 0) → (eqb 0 v && eqb 0 w) ≡ eqb (bitOr v w / 1) 0
-      go (yes p) (yes q) = rw (p, q) refl
-      go (yes p) (no q) =
-          ap (λ (x : Bool). eqb 0 v && x) (apart 0 w (λ e. q (sym e))) ∙ left (eqb 0 v)
-          ∙ sym (apart (bitOr v w / 1) 0 (λ e. q (zero-or e .1)))
-      go (no p) q =
-          ap (λ (x : Bool). x && eqb 0 w) (apart 0 v (λ e. p (sym e))) ∙ sym (apart (bitOr v w / 1) 0 (λ e. p (zero-or e .0)))
-
-  four : (a x b y e l c : Bool) → (a && b) ≡ (e && c) → (x && y) ≡ l → ((a && x) && (b && y)) ≡ (e && (l && c))
-  four a x b y e l c p q = go a x b y ∙ ap₂ _&&_ p q ∙ back e c l
-    where
-      go : (a x b y : Bool) → ((a && x) && (b && y)) ≡ ((a && b) && (x && y))
-      go true true true y = refl
-      go true true false y = refl
-      go true false true y = refl
-      go true false false y = refl
-      go false x b y = refl
-
-      back : (e c l : Bool) → ((e && c) && l) ≡ (e && (l && c))
-      back true true true = refl
-      back true true false = refl
-      back true false true = refl
-      back true false false = refl
-      back false c l = refl
-
-  pub fits-cube : (n m v l w : ℕ) (u : Val)
-      → (fits m v (nowOf n u) && fits l w (nowOf n u)) ≡ (eqb (onesOf v w / 2 ^ n) 0 && cubeFrom n 0 (onesOf v w) (zerosOf m v l w) u)
-  unfolding nowOf
-  fits-cube zero m v l w u = no-bit v w ∙ sym (keep (eqb (onesOf v w / 1) 0))
-    where
-      keep : (b : Bool) → (b && true) ≡ b
-      keep true = refl
-      keep false = refl
-  fits-cube (suc n) m v l w u =
-      let s = nowOf n (λ l. u (suc (suc l))) in
-      let O = onesOf v w in
-      let Z = zerosOf m v l w in
-      let o : O / 2 ≡ onesOf (v / 2) (w / 2) = or-half v w in
-      let z : Z / 2 ≡ zerosOf (m / 2) (v / 2) (l / 2) (w / 2) =
-      or-half (bitXor m v) (bitXor l w) ∙ ap₂ bitOr (xor-half m v) (xor-half l w) in
-      let h = fits-cube n (m / 2) (v / 2) (l / 2) (w / 2) (λ l. u (suc (suc l))) in
-      let d : O / 2 ^ suc n ≡ onesOf (v / 2) (w / 2) / 2 ^ n =
-      ap (λ (x : ℕ). O / x) (pow-succ' 2 n) ∙ sym (div-div-eq-div-mul O 2 (2 ^ n)) ∙ ap (λ (x : ℕ). x / 2 ^ n) o in
-      let c : cubeFrom n 1 O Z u ≡ cubeFrom n 0 (onesOf (v / 2) (w / 2)) (zerosOf (m / 2) (v / 2) (l / 2) (w / 2)) (λ l. u (suc (suc l))) =
-      cube-shift n 0 O Z u ∙ ap₂ (λ (x y : ℕ). cubeFrom n 0 x y (λ l. u (suc (suc l)))) o z in
-      let b : (literal (bit 0 v) (xor (bit 0 m) (bit 0 v)) (u 0) && literal (bit 0 w) (xor (bit 0 l) (bit 0 w)) (u 0))
-      ≡ literal (bit 0 O) (bit 0 Z) (u 0) =
-      literal-both (bit 0 v) (xor (bit 0 m) (bit 0 v)) (bit 0 w) (xor (bit 0 l) (bit 0 w)) (u 0)
-      ∙ sym (ap₂ (λ (x y : Bool). literal x y (u 0)) (or-bit v w)
-      (or-bit (bitXor m v) (bitXor l w) ∙ ap₂ _||_ (xor-bit m v) (xor-bit l w))) in
-      ap₂ _&&_ (fits-split m v (u 0) s) (fits-split l w (u 0) s)
-      ∙ four (fits (m / 2) (v / 2) s) _ (fits (l / 2) (w / 2) s) _ (eqb (onesOf (v / 2) (w / 2) / 2 ^ n) 0)
-      (literal (bit 0 O) (bit 0 Z) (u 0)) _ h b
-      ∙ ap₂ (λ (x : ℕ) (y : Bool). eqb x 0 && (literal (bit 0 O) (bit 0 Z) (u 0) && y)) (sym d) (sym c)
+pub fits-cube : (n m v : ℕ) (u : Val) → fits m v (nowOf n u) ≡ (eqb (v / 2 ^ n) 0 && cubeFrom n 0 v (bitXor m v) u)
+unfolding nowOf
+fits-cube zero m v u =
+    eqb-iff 0 v (v / 1) 0 (λ e. div-one v ∙ sym e) (λ e. sym e ∙ div-one v) ∙ sym (keep (eqb (v / 1) 0))
+  where
+    keep : (b : Bool) → (b && true) ≡ b
+    keep true = refl
+    keep false = refl
+fits-cube (suc n) m v u =
+    let Z = bitXor m v in
+    let d : v / 2 ^ suc n ≡ v / 2 / 2 ^ n = ap (λ (x : ℕ). v / x) (pow-succ' 2 n) ∙ sym (div-div-eq-div-mul v 2 (2 ^ n)) in
+    let c : cubeFrom n 1 v Z u ≡ cubeFrom n 0 (v / 2) (bitXor (m / 2) (v / 2)) (λ l. u (suc (suc l))) =
+    cube-shift n 0 v Z u ∙ ap (λ (y : ℕ). cubeFrom n 0 (v / 2) y (λ l. u (suc (suc l)))) (xor-half m v) in
+    let b = ap (λ (y : Bool). literal (bit 0 v) y (u 0)) (sym (xor-bit m v)) in
+    fits-split m v (u 0) (nowOf n (λ l. u (suc (suc l))))
+    ∙ ap₂ _&&_ (fits-cube n (m / 2) (v / 2) (λ l. u (suc (suc l)))) b
+    ∙ back (eqb (v / 2 / 2 ^ n) 0) _ (literal (bit 0 v) (bit 0 Z) (u 0))
+    ∙ ap₂ (λ (x : ℕ) (y : Bool). eqb x 0 && (literal (bit 0 v) (bit 0 Z) (u 0) && y)) (sym d) (sym c)
+  where
+    back : (e c l : Bool) → ((e && c) && l) ≡ (e && (l && c))
+    back true true true = refl
+    back true true false = refl
+    back true false true = refl
+    back true false false = refl
+    back false c l = refl
 
 -- the states that fit both entries, as a function of levels
-pub fitting-cube : (n : ℕ) (m : Moment) {o z : ℕ} → Asks m o z → fnOf n (fitting (2 ^ n) m) ≡ cubeF (2 * n) o z
-fitting-cube n m {o} {z} a =
-    fnOf-table n (fitsBoth m)
-    ∙ fun-ext (λ u. fits-cube n (m .mask) (m .value) (m .mask2) (m .value2) u
-    ∙ same n twice (onesOf (m .value) (m .value2)) (zerosOf (m .mask) (m .value) (m .mask2) (m .value2)) (sym (a .ones-is)) (sym (a
-    .zeros-is)) u)
+pub fitting-cube : (n : ℕ) (m : Moment) {mask value : ℕ} → Asks m mask value → fnOf n (fitting (2 ^ n) m) ≡ entryF (2 * n) mask value
+fitting-cube n m {mask} {value} a =
+    fnOf-table n (fitsBoth m) ∙ fun-ext (λ u. sym (a .same (nowOf n u)) ∙ fits-cube n mask value u ∙ same n twice u)
   where
-    same : (k : ℕ) → k ≡ 2 * n / 2 → (p q : ℕ) → p ≡ o → q ≡ z → (u : Val)
-        → (eqb (p / 2 ^ k) 0 && cubeFrom k 0 p q u) ≡ (eqb (o / 2 ^ (2 * n / 2)) 0 && cubeFrom (2 * n / 2) 0 o z u)
-    same k e p q f g u = rw (e, f, g) refl
+    same : (k : ℕ) → k ≡ 2 * n / 2 → (u : Val)
+        → (eqb (value / 2 ^ k) 0 && cubeFrom k 0 value (bitXor mask value) u)
+        ≡ (eqb (value / 2 ^ (2 * n / 2)) 0 && cubeFrom (2 * n / 2) 0 value (bitXor mask value) u)
+    same k e u = rw e refl
 
     twice : n ≡ 2 * n / 2
     twice = omega arith
-
--- what two entries of the lists ask
-pub asks-of : (first second : List ℕ) (i : ℕ) {m v l w : ℕ} → m ≡ getD first (2 * i) 0 → v ≡ getD first (2 * i + 1) 0
-    → l ≡ getD second (2 * i) 0 → w ≡ getD second (2 * i + 1) 0
-    → Asks (momentAt first second i) (bitOr v w) (bitOr (bitXor m v) (bitXor l w))
-asks-of first second i em ev el ew =
-    let e : 2 * i + 1 ≡ suc (2 * i) = omega arith in
-    let fv = ev ∙ ap (λ (k : ℕ). getD first k 0) e in
-    let fw = ew ∙ ap (λ (k : ℕ). getD second k 0) e in
-    record { ones-is = ap₂ bitOr fv fw; zeros-is = ap₂ bitOr (ap₂ bitXor em fv) (ap₂ bitXor el fw) }

@@ -4,6 +4,7 @@ use mathlib.Core.Path.{_≡_, sym, ap₂, subst}
 use mathlib.Core.Bool.{Bool, _&&_}
 use mathlib.Core.List.{List, _∷_, map, List·Memᴰ·tail as there}
 use Prim.Native.Nat.{ℕ, _*_}
+use lib.Bits.{bitXor}
 use lib.Dec.{leb}
 use Rattle.accounts.specs.declared.Count.{Count}
 use Rattle.accounts.specs.Count.{needing}
@@ -17,7 +18,6 @@ use Rattle.diagram.proofs.Keep.{keeps-denotes}
 use Rattle.diagram.specs.Steps.{andF}
 use Rattle.rows.specs.Used.{rowsOf}
 use Rattle.collect.specs.Lent.{live}
-use Rattle.cubes.specs.Cube.{cubeF}
 use Rattle.steps.specs.declared.Step.the-variants.{Cube, And}
 use Rattle.steps.specs.Steps.{StepPre}
 use Rattle.steps.proofs.Steps.{live-arrows, live-same}
@@ -30,15 +30,16 @@ use Rattle.modal.proofs.Chain.{step-pre, Took, ran-step, ran-stop, ran-kept, ra
 use Rattle.modal.proofs.Laws.{kept-lent, held-mem}
 use Rattle.modal.specs.Chain.{Base, Ran}
 use Rattle.layers.proofs.Next.{and-true}
+use Rattle.moments.specs.Moment.{entryF}
 use Rattle.moments.specs.Fitting.{FittingPre, FittingPost}
 
-module _ {n N limit : ℕ} {W : View} {lent : List ℕ} {v : ℕ} (o z : ℕ) (q : Count) (p : FittingPre n N limit W lent v) where
-  pub cube-asks : StepPre (2 * n) N limit W lent (Cube o z)
+module _ {n N limit : ℕ} {W : View} {lent : List ℕ} {v : ℕ} (mask value : ℕ) (q : Count) (p : FittingPre n N limit W lent v) where
+  pub cube-asks : StepPre (2 * n) N limit W lent (Cube value (bitXor mask value))
   cube-asks = step-pre (p .base) (p .arrows) tt
 
-  module _ {X : View} {a : Taken} (s : Took n N limit W X (live W lent) q a (cubeF (2 * n) o z)) where
+  module _ {X : View} {a : Taken} (s : Took n N limit W X (live W lent) q a (entryF (2 * n) mask value)) where
     abbrev C : Fn
-    C = cubeF (2 * n) o z
+    C = entryF (2 * n) mask value
 
     -- V as a function
     abbrev E : Fn
@@ -51,7 +52,7 @@ module _ {n N limit : ℕ} {W : View} {lent : List ℕ} {v : ℕ} (o z : ℕ) (q
         → Ran n N W X (live W lent) (leb (stepNeed (2 * n) fs C) limit) C (needing q (stepNeed (2 * n) fs C)) a
     cubed fs h = ran-step h (λ b i. i) s
 
-    pub fit-full : a ≡ taken.Full → FittingPost n N limit W X lent v o z q taken.Full
+    pub fit-full : a ≡ taken.Full → FittingPost n N limit W X lent v mask value q taken.Full
     fit-full e fs h = ran-stop _ (andF C E) _ e (cubed fs h)
 
     module _ {f : ℕ} {q1 : Count} (e : a ≡ taken.At f q1) where
@@ -82,7 +83,7 @@ module _ {n N limit : ℕ} {W : View} {lent : List ℕ} {v : ℕ} (o z : ℕ) (q
         abbrev inNeed : List Fn → ℕ
         inNeed fs = stepNeed (2 * n) (E ∷ C ∷ fs) (andF C E)
 
-        pub fit-ends : FittingPost n N limit W Y lent v o z q u
+        pub fit-ends : FittingPost n N limit W Y lent v mask value q u
         fit-ends fs h =
             let g : Held (2 * n) (rowsOf X) (f ∷ live W lent) (E ∷ C ∷ fs) = held-operand (held-push (held-keeps h cube-kept) cube-is)
             (there (held-mem h (p .valid))) in

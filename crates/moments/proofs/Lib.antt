@@ -1,4 +1,5 @@
 pub mod Cubes
+pub mod TwoEntries
 pub mod FittingLaws
 pub mod BeforeLaws
 pub mod Sets

@@ -94,11 +94,11 @@ pub entry-at : {one two : List ℕ} → Logs one two → {i : ℕ} → i ≤ aft
 entry-at g h = let l = g .first in let m = g .second in record { first = omega (arith, l, h); second = omega (arith, m, h) }
 
 -- the states that fit are the last set
-pub last-ends : {n N limit : ℕ} {W X : View} {v : ℕ} {one two : List ℕ} {ones zeros : ℕ} {o : Taken}
-    → Asks (momentAt one two (after one)) ones zeros → FittingPost n N limit W X [] v ones zeros (uncounted N) o
+pub last-ends : {n N : ℕ} (limit : ℕ) {W X : View} {v : ℕ} (one two : List ℕ) {mask value : ℕ} {o : Taken}
+    → Asks (momentAt one two (after one)) mask value → FittingPost n N limit W X [] v mask value (uncounted N) o
     → LastPost n N limit W X v one two o
-last-ends {n} {N} {limit} {W} {X} {v} {one} {two} {ones} {zeros} {o} m f fs E h d =
-    ran-fitting n N limit W X [] v ones zeros (uncounted N) o f fs E (momentAt one two (after one)) h d m
+last-ends {n} {N} limit {W} {X} {v} one two {mask} {value} {o} m f fs E h d =
+    ran-fitting n N limit W X [] v mask value (uncounted N) o f fs E (momentAt one two (after one)) h d m
 
 module _ {n N limit : ℕ} {W : View} {t v : ℕ} {one two : List ℕ} {p : ℕ} (a : MakePre n N limit W t v one two p) where
   -- its step asks for no root
@@ -159,8 +159,8 @@ module _ {n N limit : ℕ} {W : View} {t v : ℕ} {one two : List ℕ} {p : ℕ}
         at-scene .set-is .same u ∙ fnOf-even n (setOf (a .scene) one two j i) u w g ∙ sym (at-scene .set-is .same w);
   }
 
-  module _ {b : ℕ} (eb : suc b ≡ i) {ones zeros : ℕ} (m : Asks (momentAt one two b) ones zeros)
-      {Y : View} {o : Taken} (f : BeforePost n N limit X Y t v x ones zeros o) where
+  module _ {b : ℕ} (eb : suc b ≡ i) {mask value : ℕ} (m : Asks (momentAt one two b) mask value)
+      {Y : View} {o : Taken} (f : BeforePost n N limit X Y t v x mask value o) where
     set-there : (S : Scene n W t v) → Denotes (2 * n) (rowsOf X) x (fnOf n (setOf S one two j (suc b)))
     set-there S = subst (λ (i : ℕ). Denotes (2 * n) (rowsOf X) x (fnOf n (setOf S one two j i))) (sym eb) (h S .set-is)
 

@@ -17,7 +17,7 @@ use Rattle.paths.specs.Runs.{toward}
 use Rattle.paths.proofs.First.{Onto}
 use Rattle.layers.specs.Scene.{Scene}
 use Rattle.layers.specs.Pass.{Steps}
-use Rattle.routes.specs.Write.{putAll, NextPre, NextPost}
+use Rattle.routes.specs.Write.{putAll, PlacePre, PlacePost}
 use Rattle.routes.proofs.Write.{step-found, step-asks, start-later, scene-later, steps-start}
 use Rattle.routes.proofs.Find.{steps-then}
 use Rattle.logs.specs.Runs.{momentAt, setsOf}
@@ -127,13 +127,13 @@ module _ {n N limit : ℕ} {W : View} {t v : ℕ} {one two : List ℕ} {first : 
         ahead S r =
             onto (2 ^ n) (S .R) (setsOf n (S .B) (momentAt one two)) (sets-small n (S .B) (momentAt one two)) j i s (q S r .ready .1)
 
-        pub next-asks : b < length now → NextPre n Y t s x b now
+        pub next-asks : b < length now → PlacePre n Y t s x b now
         next-asks h =
             let S = p .scene in
             let r = p .ready in
             step-asks (p .start) (steps-after S r) S (setOf S one two j (suc i)) (there S r .set-is) (here S r) (ahead S r .state) h
 
-        pub write-turns : {u K : ℕ} {new : List ℕ} → NextPost n Y t s x b now new u → j ≡ K
+        pub write-turns : {u K : ℕ} {new : List ℕ} → PlacePost n Y t s x b now new u → j ≡ K
             → Stands n limit W Y t v one two first old new u K b
         write-turns {u} {K} {new} w eK S r =
             let e : u ≡ next S =

@@ -19,12 +19,12 @@ use Rattle.layers.specs.Next.{uncounted}
 use Rattle.logs.specs.Runs.{Moment, existing, beforeNeeds}
 use Rattle.moments.specs.Moment.{Asks}
 
--- whatever functions registers and relations hold, whatever sets and pairs the three arrows stand for, and whatever entries ask for these
--- bits: the answer is the set of the moment before, exactly where its needs fit
+-- whatever functions registers and relations hold, whatever sets and pairs the three arrows stand for, and whatever entries this one
+-- stands for: the answer is the set of the moment before, exactly where its needs fit
 abbrev pub BeforePost : ℕ → ℕ → ℕ → View → View → ℕ → ℕ → ℕ → ℕ → ℕ → Taken → Type 0
-BeforePost n N limit W X t v x ones zeros o =
+BeforePost n N limit W X t v x mask value o =
     (fs : List Fn) (R : Pairs) (E L : List Bool) (m : Moment) → Held (2 * n) (rowsOf W) (filled W) fs
     → Denotes (2 * n) (rowsOf W) t (fnOfPairs n R) → Denotes (2 * n) (rowsOf W) v (fnOf n E) → Denotes (2 * n) (rowsOf W) x (fnOf n L)
-    → Asks m ones zeros
+    → Asks m mask value
     → Ran n N W X (live W (x ∷ [])) (fit limit (beforeNeeds n fs R E m L))
     (fnOf n (inter (2 ^ n) (sometimes (2 ^ n) R L) (existing (2 ^ n) E m))) (needingAll (uncounted N) (beforeNeeds n fs R E m L)) o

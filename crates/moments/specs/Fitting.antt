@@ -9,11 +9,11 @@ use Rattle.diagram.specs.Need.{stepNeed}
 use Rattle.diagram.specs.Steps.{andF}
 use Rattle.rows.specs.Used.{rowsOf}
 use Rattle.collect.specs.Lent.{live}
-use Rattle.cubes.specs.Cube.{cubeF}
 use Rattle.counting.specs.declared.Taken.{Taken}
 use Rattle.book.specs.Held.{Held}
 use Rattle.modal.specs.Chain.{Base}
 use Rattle.modal.specs.Modal.{Chained}
+use Rattle.moments.specs.Moment.{entryF}
 
 -- the needs of the two steps: C are the states that fit, E is V
 abbrev pub fittingNeeds : ℕ → List Fn → Fn → Fn → List ℕ
@@ -27,7 +27,7 @@ pub record FittingPre (n N limit : ℕ) (W : View) (lent : List ℕ) (v : ℕ) :
 
 -- whatever functions registers, relations and the lent arrows hold: both steps are answered exactly where they fit the limit
 abbrev pub FittingPost : ℕ → ℕ → ℕ → View → View → List ℕ → ℕ → ℕ → ℕ → Count → Taken → Type 0
-FittingPost n N limit W X lent v ones zeros q o =
+FittingPost n N limit W X lent v mask value q o =
     (fs : List Fn) → Held (2 * n) (rowsOf W) (live W lent) fs
-    → Chained n N limit W X lent (fittingNeeds n fs (den (2 * n) (rowsOf W) v) (cubeF (2 * n) ones zeros))
-    (andF (cubeF (2 * n) ones zeros) (den (2 * n) (rowsOf W) v)) q o
+    → Chained n N limit W X lent (fittingNeeds n fs (den (2 * n) (rowsOf W) v) (entryF (2 * n) mask value))
+    (andF (entryF (2 * n) mask value) (den (2 * n) (rowsOf W) v)) q o

@@ -53,13 +53,13 @@ module _ (l : Limits) (before after : List ℕ) where
   abbrev pub FittingGives : (counts roots : List ℕ) (valid : ℕ) (m : Moment) (count : Count) (taken : Taken) → Type 0
   FittingGives counts roots valid m count taken =
       Counted l after counts
-      (FittingPost (l .bits) (l .rows) (l .limit) (viewIn l before) (viewIn l after) roots valid (m .ones) (m .zeros) count taken)
+      (FittingPost (l .bits) (l .rows) (l .limit) (viewIn l before) (viewIn l after) roots valid (m .mask) (m .value) count taken)
 
   -- the set of the moment before
   abbrev pub BeforeGives : (counts : List ℕ) (relation valid later : ℕ) (m : Moment) (taken : Taken) → Type 0
   BeforeGives counts relation valid later m taken =
       Counted l after counts
-      (BeforePost (l .bits) (l .rows) (l .limit) (viewIn l before) (viewIn l after) relation valid later (m .ones) (m .zeros) taken)
+      (BeforePost (l .bits) (l .rows) (l .limit) (viewIn l before) (viewIn l after) relation valid later (m .mask) (m .value) taken)
 
   -- the set of the last moment
   abbrev pub LastGives : (counts : List ℕ) (valid : ℕ) (one two : List ℕ) (taken : Taken) → Type 0

@@ -11,15 +11,24 @@ use seek::least_common;
 use steps::Step;
 use table::Made;
 ghost use mathlib.Core.Path.{_≡_};
-ghost use Rattle.logs.specs.Runs.{momentAt};
-ghost use Rattle.moments.specs.Moment.{Asks, Has};
+ghost use Rattle.logs.specs.Runs as logs;
+ghost use Rattle.moments.specs.Moment.{Fitless, Joins, Asks, Has};
 ghost use Rattle.moments.specs.Posts.{StepAsks, StepGives, FittingAsks, FittingGives, BeforeAsks, BeforeGives, LastAsks, LastGives};
 ghost use Rattle.moments.specs.Posts.{MakeAsks, MakeGives, WriteAsks, WriteGives, FindAsks, FindGives};
 
-// What both logs say of a state at one moment: the bits that it has, and those that it has not.
+// What both logs say of a state at one moment, as one entry.
 pub struct Moment {
-    pub ones: u32,
-    pub zeros: u32,
+    pub mask: u32,
+    pub value: u32,
+}
+
+impl Moment {
+    // That no state fits.
+    fn never() -> Moment
+        ensures { λ r. ⌜ Fitless (r .mask) (r .value) ⌝ }
+    {
+        Moment { mask: 0, value: 1 }
+    }
 }
 
 // What the call for a run that fits two logs answers.
@@ -35,21 +44,38 @@ fn wide(x: u16) -> u32
     x as u32
 }
 
-// The entries of both logs for moment i, each a mask and a value. A bit of a value outside its mask is in both numbers, and so is one on
-// which the logs differ: then no state fits.
+// Whether a state fits an entry of a log: its masked bits equal the value.
+fn fits(state: u16, mask: u16, value: u16) -> bool
+    ensures { λ r. ⌜ r ≡ logs.fits mask value state ⌝ }
+{
+    state & mask == value
+}
+
+// Two entries for one moment, each a mask and a value, as one. A state that fits both has the bits of both values, and no other bit under
+// either mask: so where these bits alone do not fit both, no state does.
+fn joined(m: u16, v: u16, l: u16, w: u16) -> Moment
+    ensures { λ r. ⌜ Joins m v l w (r .mask) (r .value) ⌝ }
+{
+    let both = v | w;
+    if !fits(both, m, v) {
+        return Moment::never();
+    }
+    if !fits(both, l, w) {
+        return Moment::never();
+    }
+    Moment {
+        mask: wide(m | l),
+        value: wide(both),
+    }
+}
+
+// What both logs say at moment i.
 fn moment_at(one: &[u16], two: &[u16], i: usize) -> Moment
     requires { ⌜ Has (now one) (now two) i ⌝ }
-    ensures { λ r. ⌜ Asks (momentAt (now (one .entry)) (now (two .entry)) i) (r .ones) (r .zeros) ⌝ }
+    ensures { λ r. ⌜ Asks (logs.momentAt (now (one .entry)) (now (two .entry)) i) (r .mask) (r .value) ⌝ }
 {
     let k = 2 * i;
-    let m = wide(one[k]);
-    let v = wide(one[k + 1]);
-    let l = wide(two[k]);
-    let w = wide(two[k + 1]);
-    Moment {
-        ones: v | w,
-        zeros: (m ^ v) | (l ^ w),
-    }
+    joined(one[k], one[k + 1], two[k], two[k + 1])
 }
 
 // A step, with registers, relations, V and some roots live.
@@ -90,7 +116,7 @@ fn fitting(
     ensures { λ r. ⌜ FittingGives limits (now (words .entry)) (now (words .exit)) (now (counts .exit)) (now (roots .entry))
         valid moment count r ⌝ }
 {
-    let cube = Step::Cube(moment.ones, moment.zeros);
+    let cube = Step::Cube(moment.value, moment.mask ^ moment.value);
     let Taken::At { arrow: f, count: q } = take_step(words, counts, limits, roots, cube, count)
     else {
         return Taken::Full;

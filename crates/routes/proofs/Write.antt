@@ -38,7 +38,7 @@ use Rattle.layers.proofs.Scene.{filled-same, fits-before}
 use Rattle.layers.specs.Again.{AgainPre, AgainPost}
 use Rattle.layers.specs.Pass.{Steps}
 use Rattle.layers.proofs.Pass.{holds-pre}
-use Rattle.routes.specs.Write.{putAll, NextPre, NextPost, Onward, WritePre, WritePost}
+use Rattle.routes.specs.Write.{putAll, PlacePre, PlacePost, Onward, WritePre, WritePost}
 
 -- ---- lists
 
@@ -125,7 +125,7 @@ module _ {n N limit : ℕ} {W Y : View} {t b x : ℕ} (p : Start n N limit W t b
 
   -- so it may be asked for where there is one
   pub step-asks : {s at : ℕ} {list : List ℕ} → s < 2 ^ n → toward (2 ^ n) (S .R) L s < 2 ^ n → at < length list
-      → NextPre n Y t s x at list
+      → PlacePre n Y t s x at list
   step-asks {s} l g r = record {
     walks = (holds-pre base-there (relation-there .arrow), holds-pre base-there (d .arrow), base-bits (p .base));
     there = subst (λ (u : ℕ). u < 2 ^ n) (sym (step-found s l)) g;
@@ -133,7 +133,7 @@ module _ {n N limit : ℕ} {W Y : View} {t b x : ℕ} (p : Start n N limit W t b
   }
 
 -- it fits into its place
-pub next-small : {n : ℕ} {W : View} {t s x at u : ℕ} {list : List ℕ} → NextPre n W t s x at list → u ≡ firstOf (2 ^ n) (nextIn W t s x)
+pub next-small : {n : ℕ} {W : View} {t s x at u : ℕ} {list : List ℕ} → PlacePre n W t s x at list → u ≡ firstOf (2 ^ n) (nextIn W t s x)
     → u < 65_536
 next-small {n} a e = let m : 2 ^ n ≤ 65_536 = pow-mono (a .walks .2) in let l = a .there in omega (arith, m, l, e)
 
@@ -189,14 +189,14 @@ module _ {n N limit : ℕ} {W : View} {t b d first : ℕ} {old : List ℕ} (p : 
             let w = subst (λ (m : ℕ). T (runsInto k (S .R) (S .B) s (onward k (S .R) (S .B) m s))) eleft (q S r .runs) in
             and-out (pair (S .R) s (next S)) _ (and-out (ltb s k) _ w .1) .1
 
-        pub next-asks : i < length now → NextPre n Y t s x i now
+        pub next-asks : i < length now → PlacePre n Y t s x i now
         next-asks h =
             let S = p .scene in
             let r = p .ready in
             step-asks (p .start) (steps-after S r) S (layerOf S (left - 1)) (made S r .layer-is) (here S r)
             (run-lt (2 ^ n) (S .R) (S .B) (next S) (rest S (next S)) (ahead S r)) h
 
-        pub write-turns : {u : ℕ} {new : List ℕ} → NextPost n Y t s x i now new u → (S : Scene n W t b) → Onward limit S d first
+        pub write-turns : {u : ℕ} {new : List ℕ} → PlacePost n Y t s x i now new u → (S : Scene n W t b) → Onward limit S d first
             → Writing n limit W Y t b S d first old new u (left - 1) (i + 1)
         write-turns {u} {new} w S r =
             let k = 2 ^ n in

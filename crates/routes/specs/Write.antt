@@ -24,13 +24,13 @@ putAll i (s ∷ l) m = putAll (suc i) l (set m i s)
 -- ---- one state
 
 -- what it asks: arrows that can be walked, a next state of s in the set of arrow x, and the place in the list
-pub record NextPre (n : ℕ) (W : View) (t s x at : ℕ) (list : List ℕ) : Type 0 where
+pub record PlacePre (n : ℕ) (W : View) (t s x at : ℕ) (list : List ℕ) : Type 0 where
   pub walks : HoldsPre W t × HoldsPre W x × (n ≤ 16)
   pub there : firstOf (2 ^ n) (nextIn W t s x) < 2 ^ n
   pub room : at < length list
 
 -- the least of them is answered, and written there
-pub record NextPost (n : ℕ) (W : View) (t s x at : ℕ) (old new : List ℕ) (u : ℕ) : Type 0 where
+pub record PlacePost (n : ℕ) (W : View) (t s x at : ℕ) (old new : List ℕ) (u : ℕ) : Type 0 where
   pub is : u ≡ firstOf (2 ^ n) (nextIn W t s x)
   pub list : new ≡ set old at u
 

@@ -5,7 +5,7 @@ use layers::reach;
 use layout::Refusal;
 use modal::Limits;
 use seek::least_next;
-ghost use Rattle.routes.specs.Posts.{NextAsks, NextGives, WriteAsks, WriteGives, RunAsks, RunGives, FindGives};
+ghost use Rattle.routes.specs.Posts.{PlaceAsks, PlaceGives, WriteAsks, WriteGives, RunAsks, RunGives, FindGives};
 ghost use Rattle.layers.specs.Posts.{PassAsks};
 
 // What the call for a run answers: how many states it has.
@@ -24,8 +24,8 @@ pub fn write_next(
     x: u32,
     at: usize,
 ) -> u32
-    requires { ⌜ NextAsks limits (now words) (now list) relation s x at ⌝ }
-    ensures { λ r. ⌜ NextGives limits (now (words .entry)) (now (list .entry)) (now (list .exit)) relation s x at r ⌝ }
+    requires { ⌜ PlaceAsks limits (now words) (now list) relation s x at ⌝ }
+    ensures { λ r. ⌜ PlaceGives limits (now (words .entry)) (now (list .entry)) (now (list .exit)) relation s x at r ⌝ }
 {
     let next = least_next(words, limits.rows, limits.bits, relation, s, x);
     list[at] = next as u16;

@@ -54,12 +54,25 @@ write-on-spec =
     (c .before .before .before .before .before .before .before .before .before .before .before .before .before .before .pre .0)
     (c .before .before .before .before .before .before .before .before .before .before .loop .inv .6)
     (c .before .before .before .before .before .before .make-layer .ensures .0)
-    (c .before .before .before .before .before .before .before .before .before .loop-test .taken) (omega
-    (arith, c .before .before .before .before .before .before .before .before .before .before .loop .inv .2, c .before .before .before .before .before .before .before .before .before .before .loop .inv .3, c .before .before .before .before .before .before .before .before .before .before .before .before .before .before .pre .0 .room, c .before .before .before .before .before .before .before .before .before .loop-test .taken)))
-    (λ c. omega
-    (arith, c .before .before .before .before .before .before .before .before .before .before .before .before .before .loop .inv .2, c .before .before .before .before .before .before .before .before .before .before .before .before .before .loop .inv .3, c .before .before .before .before .before .before .before .before .before .before .before .before .before .before .before .before .before .pre .0 .room, c .before .before .before .before .before .before .before .before .before .before .before .before .loop-test .taken))
-    (λ c. omega
-    (arith, c .before .before .before .before .before .before .before .before .before .before .before .before .loop-test .taken))
+    (c .before .before .before .before .before .before .before .before .before .loop-test .taken) (omega (
+      arith,
+      c .before .before .before .before .before .before .before .before .before .before .loop .inv .2,
+      c .before .before .before .before .before .before .before .before .before .before .loop .inv .3,
+      c .before .before .before .before .before .before .before .before .before .before .before .before .before .before .pre .0 .room,
+      c .before .before .before .before .before .before .before .before .before .loop-test .taken,
+    )))
+    (λ c. omega (
+      arith,
+      c .before .before .before .before .before .before .before .before .before .before .before .before .before .loop .inv .2,
+      c .before .before .before .before .before .before .before .before .before .before .before .before .before .loop .inv .3,
+      c .before .before .before .before .before .before .before .before .before .before .before .before .before .before
+          .before .before .before .pre .0 .room,
+      c .before .before .before .before .before .before .before .before .before .before .before .before .loop-test .taken,
+    ))
+    (λ c. omega (
+      arith,
+      c .before .before .before .before .before .before .before .before .before .before .before .before .loop-test .taken,
+    ))
     (λ c. (
       c .before .before .before .before .before .before .before .before .before .make-layer .kept .0
           ∙ c .before .before .before .before .before .before .before .before .before .before .before .before .before .loop .inv .0,
@@ -70,13 +83,19 @@ write-on-spec =
           (c .before .before .before .before .before .before .before .before .before .before .before .before .before .loop .list)
           (c .before .before .before .before .before .before .before .before .before .before .before .before .before .loop .at) _
           ∙ c .before .before .before .before .before .before .before .before .before .before .before .before .before .loop .inv .2,
-      omega
-          (arith, c .before .before .before .before .before .before .before .before .before .before .before .before .before .loop .inv .3, c .before .before .before .before .before .before .before .before .before .before .before .before .loop-test .taken),
-      omega
-          (arith, c .before .before .before .before .before .before .before .before .before .before .before .before .before .loop .inv .4),
+      omega (
+        arith,
+        c .before .before .before .before .before .before .before .before .before .before .before .before .before .loop .inv .3,
+        c .before .before .before .before .before .before .before .before .before .before .before .before .loop-test .taken,
+      ),
+      omega (
+        arith,
+        c .before .before .before .before .before .before .before .before .before .before .before .before .before .loop .inv .4,
+      ),
       c .before .before .before .before .before .before .before .before .before .make-layer .ensures .1,
       write-turns
-          (c .before .before .before .before .before .before .before .before .before .before .before .before .before .before .before .before .before .pre .0)
+          (c .before .before .before .before .before .before .before .before .before .before .before .before .before .before
+          .before .before .before .pre .0)
           (c .before .before .before .before .before .before .before .before .before .before .before .before .before .loop .inv .6)
           (c .before .before .before .before .before .before .before .before .before .make-layer .ensures .0)
           (c .before .before .before .before .before .before .before .before .before .before .before .before .loop-test .taken)
