@@ -400,19 +400,19 @@ uint32_t kudzuclamp_react(uint32_t *words, size_t words_len, const struct kudzuc
                           uint32_t *answer);
 
 /*
- * Writes the states of a run of relation t that fits two logs to the first places of the list: of all such runs the one with the least first state,
- * then the least second one, and so on. Both logs have k entries, 1 to 1,024; entry i of both is for state i of the run. An entry is a mask and a
- * value, and a state fits it where (state & mask) == value: so a value with a bit outside its mask, or with a bit n or above, fits no state, and a
- * mask of 0 with value 0 every state. A log is lent as 2 k numbers, mask and value of each entry in turn; kudzuclamp_fit_logs lends arrays of struct
- * kudzuclamp_entry so. Places after the first k are never written, and none where the call is refused. No register or relation changes. A step may
- * need at most N rows, of the set of one moment, of the steps of the moment before it and of what registers and relations hold; the sets of all k
- * moments are made before 10 is decided, also where one of them is empty. It returns 0, 1 (lengths 0, odd, above 2,048 or unequal), 2, 3, 7, 8,
- * KUDZUCLAMP_NO_RUN or KUDZUCLAMP_SHORT (fewer than k places). The time grows as the square of k: 0.3 to 1.3 s were seen for 1,024
- * moments at n = 16, 5 to 31 ms for 128 (docs/BENCHMARKS.md).
+ * Writes the states of a run of relation t that fits two logs to the first places of the list: of all such runs the one with the least
+ * first state, then the least second one, and so on. Both logs have k entries, 1 to 1,024; entry i of both is for state i of the run, and
+ * all its states exist (kudzuclamp_valid). An entry is a mask and a value, and a state fits it where (state & mask) == value: so a value
+ * with a bit outside its mask, or with a bit n or above, fits no state, and a mask of 0 with value 0 every state. A log is lent as 2 k
+ * numbers, mask and value of each entry in turn; kudzuclamp_fit_logs lends arrays of struct kudzuclamp_entry so. Places after the first k
+ * are never written, and none where the call is refused. No register or relation changes. A step may need at most N rows, of the set of one
+ * moment, of the steps of the moment before it and of what registers, relations and the set of existing states hold; the sets of all k
+ * moments are made before 10 is decided, also where one of them is empty. It returns 0, 1 (lengths 0, odd, above 2,048 or unequal, checked
+ * before 2), 2, 3, 7, 8, KUDZUCLAMP_NO_RUN or KUDZUCLAMP_SHORT (fewer than k places, decided after 10). TIME says how long it may take.
  */
 KUDZUCLAMP_USE_RESULT
-uint32_t kudzuclamp_logged(uint32_t *words, size_t words_len, uint16_t *list, size_t list_len, uint32_t t, const uint16_t *one, size_t one_len,
-                           const uint16_t *two, size_t two_len);
+uint32_t kudzuclamp_logged(uint32_t *words, size_t words_len, uint16_t *list, size_t list_len, uint32_t t, const uint16_t *one,
+                           size_t one_len, const uint16_t *two, size_t two_len);
 
 /* The most entries of a log. */
 #define KUDZUCLAMP_MAX_ENTRIES 1024

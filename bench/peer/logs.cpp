@@ -1,6 +1,7 @@
-// logs N [WORD...]: runs that fit two logs (Slip 11) at N bits, of the cases whose name has one of the words, or of all. In each room one run is drawn;
-// one log has the even bits of its states, the other the odd ones, or neither has any but the last state's. What is written must fit and be a run.
-// Thread times in ms, of one call each.
+// logs N [WORD...]: runs that fit two logs (Slip 11) at N bits, of the cases whose name has one of the words, or of all. In each room one
+// run is drawn; one log has the even bits of its states, the other the odd ones, or neither has any but the last state's. What is written
+// must fit and be a run. Last a room made to be slow, of whose last state one bit is logged, and with no place in the list (refusal 11): as
+// many sets as there are moments, and none again. Thread times in ms, of one call each.
 #include "list.h"
 #include "own.h"
 #include <cstdio>
@@ -74,7 +75,8 @@ static Room rises() {
             [](u32 s, u32 drawn) { return drawn % 97 == 0 ? 0 : s | (1u << drawn % n); }};
 }
 
-// Bit p of the next state is bit p + 5 or not, as bits p + 9 and p + 14 say together: a set of its own at each moment. At n = 16 its rows are too many.
+// Bit p of the next state is bit p + 5 or not, as bits p + 9 and p + 14 say together: a set of its own at each moment. At n = 16 its rows
+// are too many.
 static bool mixed(u32 s, u32 p) {
     auto bit = [s](u32 q) { return s >> q % n & 1; };
     return bit(p + 5) ^ (bit(p + 9) & bit(p + 14));
@@ -91,52 +93,88 @@ static Room mixes() {
     return {"each bit from three others", f, [next](u32 s, u32 t) { return t == next(s); }, [next](u32 s, u32) { return next(s); }};
 }
 
+// Bits move down by three, and the last three are bits 0 to 2, each turned over where two others are on: the sets before a moment become as
+// large as sets of 16 bits are, some thousand rows, each other than the ones after it, and a diamond takes nearly all of 60,000 rows.
+static Room slow() {
+    static const u32 pairs[3][2] = {{11, 6}, {9, 2}, {1, 4}};
+    Bytes f = {1};
+    for (u32 i = 0; i < 3; i++) {
+        Bytes turned = both(here(pairs[i][0] % n), here(pairs[i][1] % n));
+        f = both(same(there(n - 3 + i), no(same(here(i), turned))), f);
+    }
+    for (u32 p = n - 3; p-- > 0;) f = both(same(there(p), here(p + 3)), f);
+    auto next = [](u32 s) {
+        u32 t = s >> 3;
+        for (u32 i = 0; i < 3; i++) {
+            u32 turned = s >> pairs[i][0] % n & s >> pairs[i][1] % n & 1;
+            t |= ((s >> i & 1) ^ turned) << (n - 3 + i);
+        }
+        return t;
+    };
+    return {"three bits from others", f, [next](u32 s, u32 t) { return t == next(s); }, [next](u32 s, u32) { return next(s); }};
+}
+
 static Room anything() {
     return {"everything", {1}, [](u32, u32) { return true; }, [](u32, u32 drawn) { return drawn & all; }};
 }
 
 // ---- the call
 
-static void ask(const Room &room, u32 k, bool logged) {
-    std::vector<uint16_t> one(2 * k), two(2 * k), list(k, 0xFFFF);
+// What is logged: all bits, those of the last state, or of it bit 0 alone.
+enum Known { ALL, LAST, ONE_BIT };
+
+static void ask(const Room &room, u32 k, Known what, u32 places) {
+    static const char *const text[] = {"all bits logged", "the last state alone", "one bit of the last state"};
+    std::vector<uint16_t> one(2 * k), two(2 * k), list(places, 0xFFFF);
     u32 seed = 7, s = 5 & all;
     for (u32 i = 0; i < k; i++) {
-        u32 known = logged || i + 1 == k ? 0x5555 : 0;
+        u32 known = what == ALL || i + 1 == k ? 0x5555 : 0, other = known << 1;
+        if (what == ONE_BIT) known &= 1, other = 0;
         one[2 * i] = known, one[2 * i + 1] = s & known;
-        two[2 * i] = known << 1, two[2 * i + 1] = s & (known << 1);
+        two[2 * i] = other, two[2 * i + 1] = s & other;
         seed = seed * 1664525u + 1013904223u;
         s = room.step(s, seed >> 8);
     }
     u64 start = now();
-    u32 number = kudzuclamp_logged(words.data(), words.size(), list.data(), k, 0, one.data(), 2 * k, two.data(), 2 * k);
+    u32 number = kudzuclamp_logged(words.data(), words.size(), list.data(), places, 0, one.data(), 2 * k, two.data(), 2 * k);
     u64 spent = now() - start;
     for (u32 i = 0; number == 0 && i < k; i++) {
         bool fits = (list[i] & one[2 * i]) == one[2 * i + 1] && (list[i] & two[2 * i]) == two[2 * i + 1];
         if (!fits || (i > 0 && !room.leads(list[i - 1], list[i]))) fprintf(stderr, "no such run\n"), exit(1);
     }
-    printf("| %s; %s | %u | %u | %.1f |\n", room.name, logged ? "all bits logged" : "the last state alone", k, number, spent / 1e6);
+    printf("| %s; %s | %u | %u | %.1f |\n", room.name, text[what], k, number, spent / 1e6);
     fflush(stdout);
+}
+
+// Fills relation 0 of an empty table: the refusal, or 0.
+static u32 fill(const Room &room) {
+    Account account;
+    u32 size = room.formula.size() + 1, peak;
+    Bytes framed = {uint8_t(size >> 8), uint8_t(size), 1};
+    framed.insert(framed.end(), room.formula.begin(), room.formula.end());
+    u32 number = kudzuclamp_fresh(words.data(), words.size(), &account, 1, n, ROWS);
+    return number ? number : kudzuclamp_relation(words.data(), words.size(), 0, framed.data(), framed.size(), &peak);
 }
 
 int main(int count, char **word) {
     if (count < 2 || (n = atoi(word[1])) < 2 || n > 16) return fprintf(stderr, "logs N [WORD...]\n"), 1;
     all = (1u << n) - 1;
     printf("| %u bits | moments | refusal | call, ms |\n|---|--:|--:|--:|\n", n);
-    for (const Room &room : {shifts(), counter(), rises(), anything(), mixes()}) {
+    const Room last = slow();
+    for (const Room &room : {shifts(), counter(), rises(), anything(), mixes(), last}) {
         bool named = count < 3;
         for (int i = 2; i < count; i++) named |= std::string(room.name).find(word[i]) != std::string::npos;
         if (!named) continue;
-        Account account;
-        u32 size = room.formula.size() + 1, peak;
-        Bytes framed = {uint8_t(size >> 8), uint8_t(size), 1};
-        framed.insert(framed.end(), room.formula.begin(), room.formula.end());
-        if (kudzuclamp_fresh(words.data(), words.size(), &account, 1, n, ROWS) != 0) return 1;
-        u32 number = kudzuclamp_relation(words.data(), words.size(), 0, framed.data(), framed.size(), &peak);
-        if (number != 0) {
+        if (u32 number = fill(room)) {
             printf("| %s: the relation is refused | | %u | |\n", room.name, number);
             continue;
         }
-        for (bool logged : {true, false})
-            for (u32 k : {16u, 128u, 1024u}) ask(room, k, logged);
+        if (room.name == last.name) {
+            for (u32 k : {16u, 24u, 32u}) ask(room, k, ONE_BIT, k);
+            for (u32 k : {128u, 1024u}) ask(room, k, ONE_BIT, 0);
+            continue;
+        }
+        for (Known what : {ALL, LAST})
+            for (u32 k : {16u, 128u, 1024u}) ask(room, k, what, k);
     }
 }

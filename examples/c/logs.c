@@ -1,7 +1,7 @@
 /*
- * Two logs of the hall. The machine logs song and echo, the amplifier the microphones and the monitor; neither knows the latch, and each may miss a
- * moment. Can both logs of an evening be right, and if so, which presses were made? The rules are those as first written of examples/hall.records,
- * which is read from standard input: sh examples/records-to-bytes examples/hall.records | logs
+ * Two logs of the hall. The machine logs song and echo, the amplifier the microphones and the monitor; neither knows the latch, and each
+ * may miss a moment. Can both logs of an evening be right, and if so, which presses were made? The rules are those as first written of
+ * examples/hall.records, which is read from standard input: sh examples/records-to-bytes examples/hall.records | logs
  */
 #include "kudzuclamp.h"
 

@@ -1,5 +1,5 @@
--- Two entries as one: a state that fits both has exactly the bits of both values under either mask, so these bits themselves fit both, or no
--- state does. Assumes nothing.
+-- Two entries as one: a state that fits both has exactly the bits of both values under either mask, so these bits themselves fit both, or
+-- no state does. Assumes nothing.
 use mathlib.Core.Path.{_≡_, refl, sym, ap, ap₂, _∙_, subst}
 use mathlib.Core.Bool.{Bool, true, false, not, _&&_, _||_}
 use mathlib.Core.List.{List}
