@@ -44,7 +44,9 @@
  * of its result and of all that was live at it, V and what registers and relations hold included; 0 where the formula takes no step. It
  * does not depend on N. Exactly where the peak would pass N, or for a set or force the lesser of N and its account's row limit, the call is
  * refused with KUDZUCLAMP_FULL instead. So to choose N, make the room's calls once on a table that is large enough: the greatest of their
- * peaks is the least N with which the same calls are all answered.
+ * peaks is the least N with which the same relation, set and force calls are all answered. valid, shortest and react may be full too, and
+ * return no peak. After force the set that it stored is live in react, which may need more rows than force's *peak says; what it needs is
+ * the *peak of the same force made once more.
  *
  * STACK. A call takes less than 160 KB of it, and more than 120 KB only on words whose lookup chains are longer than 32 rows (seen: 111 KB, a formula
  * of the greatest depth at n = 16). Where V is not every state and more than 2,048 rows are used, the check of the table takes up to 560 KB (seen: 522
@@ -392,10 +394,10 @@ uint32_t kudzuclamp_force(uint32_t *words, size_t words_len, struct kudzuclamp_a
  * goal in the first. The answer is the least state to which a move of relation `machine` leads from `press` and which enters in an earlier
  * round than `state`. So whoever answers so, press by press, comes to the goal in fewer turns than the round in which the play's first
  * state enters. Nothing is stored, no tally grows, and the accounts are only read: the limits of the one at `place` and `most` (R) hold as
- * for kudzuclamp_force, for the last round too, which gives the same set again. It takes as long as that call, and up to 2^n states are
- * looked at for the answer besides (some milliseconds at n = 16, at worst). It returns 0, 2, 3 (goal, guest, machine, state or press),
- * KUDZUCLAMP_UNLISTED, 7, 8, 9, or KUDZUCLAMP_NO_ANSWER where the state is in the goal or outside the set, or the press is no guest move
- * from it.
+ * for kudzuclamp_force, for the last round too, which gives the same set again. It takes as long as that call, and where there is an
+ * answer the states up to it are looked at besides (some 15 ms at n = 16 in the slowest game found). It returns 0, 2, 3 (goal, guest,
+ * machine, state or press), KUDZUCLAMP_UNLISTED, 7, 8, 9, or KUDZUCLAMP_NO_ANSWER where the state is in the goal or outside the set, or the
+ * press is no guest move from it.
  */
 KUDZUCLAMP_USE_RESULT
 uint32_t kudzuclamp_react(uint32_t *words, size_t words_len, const struct kudzuclamp_account *accounts, size_t accounts_len, uint32_t place,

@@ -95,6 +95,14 @@ struct Attractor {
         return now() - start;
     }
 
+    // The least state that no press leads to from a state.
+    u32 no_press(u32 state) const {
+        auto from = guest.list.begin() + guest.at[state], to = guest.list.begin() + guest.at[state + 1];
+        u32 least = 0;
+        while (std::find(from, to, least) != to) least++;
+        return least;
+    }
+
     // The least answer to a press that enters earlier than a state; all where there is none.
     u32 answer(u32 state, u32 press) const {
         u32 least = all;
@@ -189,6 +197,39 @@ static Side far() {
     return {both(state(n, 0), both(both(there(n - 2), there(n - 1)), odd(0, n, there))), next};
 }
 
+// Bit i of a hash of all bits but the last four: an odd number of four products of two of them is on.
+static u32 factor(u32 i, u32 j, bool second) {
+    u32 bits = n - 4, first = (5 * i + 3 * j) % bits;
+    return second ? (first + 1 + (i + 2 * j) % (bits - 1)) % bits : first;
+}
+
+static Bytes hash(u32 i, const std::function<Bytes(u32)> &bit) {
+    return odd(0, 4, [&](u32 j) { return both(bit(factor(i, j, false)), bit(factor(i, j, true))); });
+}
+
+static u32 hash_of(u32 s) {
+    u32 made = 0;
+    for (u32 i = 0; i < 4; i++)
+        for (u32 j = 0; j < 4; j++) made ^= (s >> factor(i, j, false) & s >> factor(i, j, true) & 1) << i;
+    return made;
+}
+
+// The last four bits are the hash.
+static Bytes hashed(const std::function<Bytes(u32)> &bit) {
+    return each(0, 4, [&](u32 i) { return same(bit(n - 4 + i), hash(i, bit)); });
+}
+
+static bool is_hashed(u32 s) { return s >> (n - 4) == hash_of(s); }
+
+// From state 0 alone, to the states whose last four bits are their hash, and to those with all bits from bit 3 on.
+static Side hashes() {
+    Moves next = [](u32 s, std::vector<u32> &list) {
+        for (u32 u = 0; s == 0 && u < all; u++)
+            if (is_hashed(u) || u >= all - 8) list.push_back(u);
+    };
+    return {both(state(n, 0), either(hashed(there), each(3, n, there))), next};
+}
+
 // All are closed and locked.
 static const u32 LOCKED = 0xAAAA;
 
@@ -200,6 +241,7 @@ static std::vector<Case> cases() {
         {"presses, any can be locked", phone(), lock(true), locked, all_locked},
         {"presses, only a closed one can", phone(), lock(false), locked, all_locked},
         {"a far answer", still(), far(), odd(0, n, here), [](u32 s) { return __builtin_parity(s) == 1; }},
+        {"a far answer, hashed", still(), hashes(), no(hashed(here)), [](u32 s) { return !is_hashed(s); }},
     };
 }
 
@@ -264,11 +306,12 @@ static void time_case(const Case &game) {
     u64 force = least([&] { return hall.force(); });
     Hall::agree(hall.states, peer.states);
     Hall::agree(hall.rounds, peer.rounds);
-    // The last state to enter, with its last press; and a press in the goal.
+    // The last state to enter, with its last press; and with a press that is no guest move.
     u32 last = std::max_element(peer.entered.begin(), peer.entered.end()) - peer.entered.begin();
     u32 press = peer.guest.list[peer.guest.at[last + 1] - 1];
     u64 answered = least([&] { return hall.react(last, press, peer.answer(last, press)); });
-    u64 none = least([&] { return hall.react(goal[0], goal[0], all); });
+    u32 wrong = peer.no_press(last);
+    u64 none = least([&] { return hall.react(last, wrong, all); });
     size_t moves = peer.guest.list.size() + peer.machine.list.size();
     printf("| %u | %s | %u | %u | %.2f | %.2f | %.2f | %zu | %.2f |\n", n, game.name, hall.states, hall.rounds, force / 1e6, answered / 1e6,
            none / 1e6, moves, time / 1e6);
@@ -280,8 +323,8 @@ int main(int count, char **argv) {
     printf("|--:|---|--:|--:|--:|--:|--:|--:|--:|\n");
     for (int k = 1; k < count; k++) {
         n = atoi(argv[k]);
-        if (n < 2 || n > 16 || n % 2) {
-            fprintf(stderr, "games N...: N from 2 to 16, even\n");
+        if (n < 6 || n > 16 || n % 2) {
+            fprintf(stderr, "games N...: N from 6 to 16, even\n");
             return 1;
         }
         all = 1u << n;

@@ -9,7 +9,8 @@ use crate::{Account, Refusal, Table};
 /// use kudzuclamp::Game;
 ///
 /// // Into the set in register 3, the guest by relation 0, the machine by relation 1.
-/// assert_eq!(Game::new(3, 0, 1), Game { goal: 3, guest: 0, machine: 1 });
+/// let game = Game { goal: 3, guest: 0, machine: 1 };
+/// assert_eq!(game, Game::new(3, 0, 1));
 /// ```
 #[must_use]
 #[derive(Clone, Copy, Debug, PartialEq, Eq, Hash)]
@@ -107,7 +108,8 @@ impl Strategy {
         }
     }
 
-    /// The machine's answer in a state to a press, which is named by the state that it leads to.
+    /// The machine's answer in a state to a press, which is named by the state that it leads to:
+    /// [`Table::react`] by this strategy.
     ///
     /// # Errors
     ///

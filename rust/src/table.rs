@@ -332,15 +332,16 @@ impl<W: AsRef<[u32]> + AsMut<[u32]>> Table<W> {
     /// round than `state`. The press is named by the state that it leads to.
     ///
     /// The rounds are made again under the strategy's limits, so it takes about as long as
-    /// [`Table::force`], which need not have been called; nothing is stored, no register or relation
-    /// changes, and the accounts are only read.
+    /// [`Table::force`], which need not have been called. Rows are made for that, so the table is lent to
+    /// be changed, but nothing is stored: no register or relation changes, and the accounts are only
+    /// read. [`Strategy::answer`] is the same call, for those who play a whole game by one strategy.
     ///
     /// # Errors
     ///
     /// [`Refusal::Unsound`], [`Refusal::Range`] (of the game's numbers, the state or the press),
     /// [`Refusal::Unlisted`], [`Refusal::Empty`], [`Refusal::Full`] or [`Refusal::Spent`] as for
-    /// [`Table::force`], or [`Refusal::NoAnswer`] where the state is in the goal or outside the set, or
-    /// the press is no guest move from it.
+    /// [`Table::force`] (the set that force stored counts among the rows too), or [`Refusal::NoAnswer`]
+    /// where the state is in the goal or outside the set, or the press is no guest move from it.
     ///
     /// ```
     /// use kudzuclamp::{Account, Formula, Game, Refusal, Strategy, Table, Target};

@@ -43,7 +43,7 @@ Exact collect y old new = Unit {0}
 pub record Kept (c : Call) (y : Reply) (old new : List ℕ) : Type 0 where
   -- "all words"
   pub all : T (keepsAll (y .number)) → new ≡ old
-  -- 8, 9 and an answer: the slice is as long, and n, N, V, registers, relations and every unused header word are as they were, but for the
+  -- 8, 9, 10, 11, 15 and an answer: the slice is as long, and n, N, V, registers, relations and every unused header word are as they were, but for the
   -- target
   pub size : length new ≡ length old
   pub header : (h : ℕ) → h < HEADER → changes c y h ≡ false → headerOf new h ≡ headerOf old h

@@ -12,7 +12,7 @@ use formula::check_formula;
 use formula_steps::Confined;
 use formula_steps::Loaded;
 use formula_steps::Stored;
-use game_calls::Reacted;
+use game_calls::Response;
 use game_calls::game_bytes;
 use game_calls::game_target;
 use layout::Refusal;
@@ -351,11 +351,11 @@ fn react_under(
 {
     let x = game_calls::react(words, terms, most, goal, guest, machine, state, press);
     match x {
-        Reacted::State(u) => {
+        Response::State(u) => {
             *answer = u;
             0
         }
-        Reacted::Refused(e) => {
+        Response::Refused(e) => {
             *answer = 0;
             refusal_number(e)
         }

@@ -28,8 +28,8 @@ use Rattle.contract.proofs.Checked.{kept-refused}
 use Rattle.contract.proofs.Roots.{root-filled}
 use Rattle.formula_steps.proofs.After.{register-is, relation-is, same-table, rows-kept, words-kept, same-book}
 use Rattle.seek.proofs.Search.{power-fits}
-use Rattle.games.specs.Call.{numbersInRange, gameVerdict, allFilled, reacted, reacts}
-use Rattle.games.proofs.Call.{ranges-out, near, reacts-three, reacts-unlisted, reacts-empty, reacts-told}
+use Rattle.games.specs.Call.{numbersInRange, gameVerdict, allFilled, verdictReply, reacts}
+use Rattle.games.proofs.Call.{ranges-out, near, reacts-three, reacts-unlisted, reacts-empty, reacts-verdict}
 use Rattle.game_calls.specs.Reacting.{NamedPre, ReactingPre, Reacting}
 use Rattle.game_calls.specs.Post.{ReactPost}
 
@@ -180,7 +180,7 @@ module _ (acc : Terms) (R goal guest machine s t : ℕ) (ws : List ℕ) where
                 (subst T (sym (ap hasContent (relation-is ws (i .machine-in) qz))) tt))))
 
             -- what the rounds end with is none of the checks' numbers
-            late : (v : Verdict) (ok : Bool) (u : ℕ) → T (keepsAll (reacted v ok u .number)) → ⊥
+            late : (v : Verdict) (ok : Bool) (u : ℕ) → T (keepsAll (verdictReply v ok u .number)) → ⊥
             late full ok u h = h
             late spent ok u h = h
             late (counted q) true u h = h
@@ -195,7 +195,7 @@ module _ (acc : Terms) (R goal guest machine s t : ℕ) (ws : List ℕ) where
                 record {
                   unsound = λ g. absurd (g w);
                   told = λ _. record {
-                    reply = d .reply ∙ sym (reacts-told (bookOf (seen ws)) acc R goal guest machine s t is-near l filled);
+                    reply = d .reply ∙ sym (reacts-verdict (bookOf (seen ws)) acc R goal guest machine s t is-near l filled);
                     sound = subst Sound (sym (same-table ws new a w (d .sound) (d .frame) (d .kept))) (d .sound);
                     rows = subst (λ (u : View). Keeps (seen ws .rows) (rowsOf u) (rootsOf (seen ws)))
                         (sym (same-table ws new a w (d .sound) (d .frame) (d .kept)))

@@ -8,10 +8,8 @@ use lib.Dec.{T, ltb, ltb→lt, lt→ltb}
 use Rattle.accounts.specs.declared.Count.{Count}
 use Rattle.accounts.specs.declared.Terms.{Terms}
 use Rattle.accounts.specs.Terms.{rowsUnder, roundsUnder}
-use Rattle.mucalculus.specs.Sets.{mem}
 use Rattle.mucalculus.proofs.Sets.{true-of, false-of, and-in}
 use Rattle.mucalculus.specs.Form.{Pairs, filled as hasContent}
-use Rattle.mucalculus.specs.Means.{pair}
 use Rattle.layout.specs.Places.{BITS, ROWS}
 use Rattle.layout.specs.declared.Refusal.the-variants as refusal
 use Rattle.layout.specs.View.{View, view, headerOf}
@@ -31,20 +29,22 @@ use Rattle.book.specs.Leaves.{valued}
 use Rattle.contract.specs.Seen.{seen}
 use Rattle.contract.proofs.Seen.{sound-table}
 use Rattle.modal.specs.declared.Limits.{Limits}
+use Rattle.formula_steps.proofs.Evaluated.{and-no}
 use Rattle.formula_steps.proofs.After.{After, freed, register-is, relation-is}
 use Rattle.seek.specs.Walk.{HoldsPre}
-use Rattle.games.specs.Game.{forced, answerable, answerTo}
-use Rattle.games.specs.Call.{numbersInRange, gameTarget, gameBytes, presses, reactions, goals, allFilled, reacted}
+use Rattle.games.specs.Game.{openMove, answerable, answerTo}
+use Rattle.games.specs.Call.{numbersInRange, gameTarget, gameBytes, presses, reactions, goals, allFilled, verdictReply}
 use Rattle.games.proofs.Call.{Ranges}
 use Rattle.game_steps.specs.declared.Asked.{Asked}
-use Rattle.game_steps.specs.declared.Watched.{Watched}
-use Rattle.game_steps.specs.declared.Watched.the-variants as watched
-use Rattle.game_steps.specs.Watch.{AnswerNoted}
+use Rattle.game_steps.specs.declared.Iterated.{Iterated}
+use Rattle.game_steps.specs.declared.Iterated.the-variants as iterated
+use Rattle.game_steps.specs.Iterate.{AnswerNoted}
 use Rattle.game_steps.specs.Whole.{Given, RoundsPre, RoundsPost, RoundsSay, is-made, is-full, is-spent}
-use Rattle.game_steps.proofs.Standing.{set-holds, pair-holds, place-holds}
-use Rattle.game_calls.specs.declared.Reacted.{Reacted}
-use Rattle.game_calls.specs.declared.Reacted.the-variants as answer
-use Rattle.game_calls.specs.Reacting.{reactedReply, openMoveAt, toldOf, ReactingPre, Reacting}
+use Rattle.layers.proofs.Pass.{set-holds}
+use Rattle.game_steps.proofs.Standing.{pair-holds, place-holds}
+use Rattle.game_calls.specs.declared.Response.{Response}
+use Rattle.game_calls.specs.declared.Response.the-variants as answer
+use Rattle.game_calls.specs.Reacting.{responseReply, openMoveAt, responseOf, ReactingPre, Reacting}
 
 -- ---- in_range
 
@@ -58,21 +58,12 @@ module _ (goal guest machine : ℕ) where
   range-guest l =
       sym (ap (λ (b : Bool). ltb goal registers && (b && ltb machine relations))
       (false-of (ltb guest relations) (λ h. let i = ltb→lt guest relations h in omega arith)) ∙ and-no (ltb goal registers))
-    where
-      and-no : (a : Bool) → (a && false) ≡ false
-      and-no true = refl
-      and-no false = refl
 
   pub range-machine : relations ≤ machine → false ≡ numbersInRange goal guest machine
   range-machine l =
       sym (ap (λ (b : Bool). ltb goal registers && (ltb guest relations && b))
       (false-of (ltb machine relations) (λ h. let i = ltb→lt machine relations h in omega arith))
-      ∙ and-no (ltb goal registers) (ltb guest relations))
-    where
-      and-no : (a c : Bool) → (a && (c && false)) ≡ false
-      and-no true true = refl
-      and-no true false = refl
-      and-no false c = refl
+      ∙ ap (λ (b : Bool). ltb goal registers && b) (and-no (ltb guest relations)) ∙ and-no (ltb goal registers))
 
   pub range-yes : goal < registers → guest < relations → machine < relations → true ≡ numbersInRange goal guest machine
   range-yes g p m =
@@ -109,80 +100,54 @@ open-move-no g q e t = ap (λ (b : Bool). not b && q) (sym t ∙ e)
 pub open-move-yes : (g q : Bool) {r p : Bool} → r ≡ g → r ≡ false → p ≡ q → p ≡ (not g && q)
 open-move-yes g q e f h = h ∙ ap (λ (b : Bool). not b && q) (sym f ∙ e)
 
--- ---- told
+-- ---- respond
 
-module _ (ok : Bool) (n : ℕ) where
-  pub told-full : {w : Watched} → w ≡ watched.Full → toldOf ok n watched.Full ≡ toldOf ok n w
-  told-full e = ap (toldOf ok n) (sym e)
+module _ (n : ℕ) where
+  pub response-full : {w : Iterated} → w ≡ iterated.Full → responseOf n iterated.Full ≡ responseOf n w
+  response-full e = ap (responseOf n) (sym e)
 
-  pub told-spent : {w : Watched} → w ≡ watched.Spent → toldOf ok n watched.Spent ≡ toldOf ok n w
-  told-spent e = ap (toldOf ok n) (sym e)
+  pub response-spent : {w : Iterated} → w ≡ iterated.Spent → responseOf n iterated.Spent ≡ responseOf n w
+  response-spent e = ap (responseOf n) (sym e)
 
-  pub told-no-move : (u : ℕ) {w : Watched} → w ≡ watched.Made u → not ok ≡ true → answer.Refused refusal.NoAnswer ≡ toldOf ok n w
-  told-no-move u e t = go ok t ∙ ap (toldOf ok n) (sym e)
-    where
-      go : (ok : Bool) → not ok ≡ true → answer.Refused refusal.NoAnswer ≡ toldOf ok n (watched.Made u)
-      go true t = absurd (subst T (sym t) tt)
-      go false t = refl
+  module _ (u : ℕ) {w : Iterated} (e : w ≡ iterated.Made u) {states : ℕ} (p : states ≡ 2 ^ n) where
+    response-by : {b : Bool} → ltb u (2 ^ n) ≡ b → cond b (answer.State u) (answer.Refused refusal.NoAnswer) ≡ responseOf n w
+    response-by h = ap (λ (b : Bool). cond b (answer.State u) (answer.Refused refusal.NoAnswer)) (sym h) ∙ ap (responseOf n) (sym e)
 
-  module _ (u : ℕ) {w : Watched} (e : w ≡ watched.Made u) (t : not ok ≡ false) {states : ℕ} (p : states ≡ 2 ^ n) where
-    told-by : toldOf ok n w ≡ cond (ltb u (2 ^ n)) (answer.State u) (answer.Refused refusal.NoAnswer)
-    told-by = ap (toldOf ok n) e ∙ go ok t
-      where
-        go : (ok : Bool) → not ok ≡ false → toldOf ok n (watched.Made u) ≡ cond (ltb u (2 ^ n)) (answer.State u)
-            (answer.Refused refusal.NoAnswer)
-        go true t = refl
-        go false t = absurd (subst T t tt)
+    pub response-state : u < states → answer.State u ≡ responseOf n w
+    response-state l = response-by (true-of (ltb u (2 ^ n)) (lt→ltb u (2 ^ n) (omega arith)))
 
-    pub told-state : u < states → answer.State u ≡ toldOf ok n w
-    told-state l =
-        sym (told-by ∙ ap (λ (b : Bool). cond b (answer.State u) (answer.Refused refusal.NoAnswer))
-        (true-of (ltb u (2 ^ n)) (lt→ltb u (2 ^ n) (omega arith))))
-
-    pub told-none : states ≤ u → answer.Refused refusal.NoAnswer ≡ toldOf ok n w
-    told-none l =
-        sym (told-by ∙ ap (λ (b : Bool). cond b (answer.State u) (answer.Refused refusal.NoAnswer))
-        (false-of (ltb u (2 ^ n)) (λ h. let i = ltb→lt u (2 ^ n) h in omega arith)))
+    pub response-none : states ≤ u → answer.Refused refusal.NoAnswer ≡ responseOf n w
+    response-none l = response-by (false-of (ltb u (2 ^ n)) (λ h. let i = ltb→lt u (2 ^ n) h in omega arith))
 
 -- ---- the answer, from what was heard
 
 module _ (k : ℕ) (G M : Pairs) (B : List Bool) (s t n : ℕ) (e : k ≡ 2 ^ n) where
-  answerable-by : (f ok : Bool) → mem (forced k G M B) s ≡ f → ok ≡ (not (mem B s) && pair G s t) → answerable k G M B s t ≡ (f && ok)
-  answerable-by f ok i q = ap₂ _&&_ i (sym q)
-
-  made-is : (p : Count) (x : ℕ) → AnswerNoted k G M B s t x → (ok f : Bool) → ok ≡ (not (mem B s) && pair G s t)
-      → mem (forced k G M B) s ≡ f
-      → reactedReply (toldOf ok n (watched.Made x)) ≡ reacted (counted p) (answerable k G M B s t) (answerTo k G M B s t)
-  made-is p x h false true q i =
-      sym (ap (λ (c : Bool). reacted (counted p) c (answerTo k G M B s t)) (answerable-by true false i q))
-  made-is p x h false false q i =
-      sym (ap (λ (c : Bool). reacted (counted p) c (answerTo k G M B s t)) (answerable-by false false i q))
-  made-is p x h true false q i =
-      let z : x ≡ k = h .outside i in
-      ap (λ (c : Bool). reactedReply (cond c (answer.State x) (answer.Refused refusal.NoAnswer)))
+  made-is : (p : Count) (x : ℕ) → AnswerNoted k G M B s t x → (b : Bool) → answerable k G M B s t ≡ b
+      → responseReply (responseOf n (iterated.Made x)) ≡ verdictReply (counted p) b (answerTo k G M B s t)
+  made-is p x h false i =
+      let z : x ≡ k = h .none i in
+      ap (λ (c : Bool). responseReply (cond c (answer.State x) (answer.Refused refusal.NoAnswer)))
       (false-of (ltb x (2 ^ n)) (λ j. let l = ltb→lt x (2 ^ n) j in omega arith))
-      ∙ sym (ap (λ (c : Bool). reacted (counted p) c (answerTo k G M B s t)) (answerable-by false true i q))
-  made-is p x h true true q i =
-      let w = h .found (subst T (sym (answerable-by true true i q)) tt) in
+  made-is p x h true i =
+      let w = h .found (subst T (sym i) tt) in
       let l = w .1 in
-      ap (λ (c : Bool). reactedReply (cond c (answer.State x) (answer.Refused refusal.NoAnswer))) (true-of (ltb x (2 ^ n)) (lt→ltb x
+      ap (λ (c : Bool). responseReply (cond c (answer.State x) (answer.Refused refusal.NoAnswer))) (true-of (ltb x (2 ^ n)) (lt→ltb x
       (2 ^ n) (omega arith)))
       ∙ ap valued (w .0)
-      ∙ sym (ap (λ (c : Bool). reacted (counted p) c (answerTo k G M B s t)) (answerable-by true true i q))
 
-  pub reply-is : (ok : Bool) → ok ≡ (not (mem B s) && pair G s t) → {v : Verdict} {w : Watched} → RoundsSay (AnswerNoted k G M B s t) v w
-      → reactedReply (toldOf ok n w) ≡ reacted v (answerable k G M B s t) (answerTo k G M B s t)
-  reply-is ok q is-full = refl
-  reply-is ok q is-spent = refl
-  reply-is ok q (is-made {q = p} {x = x} h) = made-is p x h ok (mem (forced k G M B) s) q refl
+  pub reply-is : {v : Verdict} {w : Iterated} → RoundsSay (AnswerNoted k G M B s t) v w
+      → responseReply (responseOf n w) ≡ verdictReply v (answerable k G M B s t) (answerTo k G M B s t)
+  reply-is is-full = refl
+  reply-is is-spent = refl
+  reply-is (is-made {q = p} {x = x} h) = made-is p x h (answerable k G M B s t) refl
 
 -- ---- the second call after its checks
 
 abbrev pub limitsOf : ℕ → ℕ → ℕ → ℕ → Limits
 limitsOf bits rows limit rounds = record { bits = bits; rows = rows; limit = limit; rounds = rounds }
 
-abbrev pub askedOf : ℕ → ℕ → ℕ → Asked
-askedOf z s t = record { machine = z; state = s; press = t }
+abbrev pub askedOf : ℕ → ℕ → ℕ → Bool → Asked
+askedOf z s t o = record { machine = z; state = s; press = t; open_move = o }
 
 module _ {old : List ℕ} {goal guest machine x y z s t : ℕ} (p : ReactingPre old goal guest machine x y z s t) where
   abbrev W : View
@@ -214,7 +179,7 @@ module _ {old : List ℕ} {goal guest machine x y z s t : ℕ} (p : ReactingPre 
   )
 
   open-move-is : {rows : ℕ} {ok : Bool} → rows ≡ headerOf old ROWS → ok ≡ openMoveAt (view rows old) x y s t
-      → ok ≡ (not (mem (goals bk goal) s) && pair (presses bk guest) s t)
+      → ok ≡ openMove (presses bk guest) (goals bk goal) s t
   open-move-is {rows} {ok} er e =
       subst (λ (N : ℕ). ok ≡ openMoveAt (view N old) x y s t) er e
       ∙ ap₂ (λ (a c : Bool). not a && c) (set-holds n W (goals bk goal) refl goal-denotes s (p .state))
@@ -234,9 +199,10 @@ module _ {old : List ℕ} {goal guest machine x y z s t : ℕ} (p : ReactingPre 
       (and-in (ltb machine relations) _ (lt→ltb machine relations (p .machine-in))
       (subst T (sym (ap hasContent (relation-is old (p .machine-in) (sym (p .machine-is))))) tt))))
 
-  given : {bits limit rounds : ℕ} {bs : List ℕ} → bits ≡ n → bs ≡ gameBytes goal guest machine
-      → Given (limitsOf bits (headerOf old ROWS) limit rounds) W bs (askedOf z s t) goal guest machine
-  given {bits} eb es = record {
+  given : {bits limit rounds : ℕ} {bs : List ℕ} {o : Bool} → bits ≡ n → bs ≡ gameBytes goal guest machine
+      → o ≡ openMove (presses bk guest) (goals bk goal) s t
+      → Given (limitsOf bits (headerOf old ROWS) limit rounds) W bs (askedOf z s t o) goal guest machine
+  given {bits} eb es eo = record {
     goal-in = p .goal-in;
     guest-in = p .guest-in;
     machine-in = p .machine-in;
@@ -245,11 +211,13 @@ module _ {old : List ℕ} {goal guest machine x y z s t : ℕ} (p : ReactingPre 
     machine-is = p .machine-is;
     state = subst (λ (m : ℕ). s < 2 ^ m) (sym eb) (p .state);
     press = subst (λ (m : ℕ). t < 2 ^ m) (sym eb) (p .press);
+    open-is = eo;
   }
 
   module _ {rows bits limit rounds : ℕ} (acc : Terms) (R : ℕ) (er : rows ≡ headerOf old ROWS) (eb : bits ≡ n)
-      (el : limit ≡ rowsUnder rows acc) (em : rounds ≡ roundsUnder R acc) {bs : List ℕ} (es : bs ≡ gameBytes goal guest machine) where
-    pub game-asks : RoundsPre (limitsOf bits rows limit rounds) (view rows old) bs (askedOf z s t)
+      (el : limit ≡ rowsUnder rows acc) (em : rounds ≡ roundsUnder R acc) {bs : List ℕ} (es : bs ≡ gameBytes goal guest machine)
+      {o : Bool} (eo : o ≡ openMoveAt (view rows old) x y s t) where
+    pub game-asks : RoundsPre (limitsOf bits rows limit rounds) (view rows old) bs (askedOf z s t o)
     game-asks = rw (el, er) (record {
       sound = p .sound;
       bits = eb;
@@ -258,29 +226,28 @@ module _ {old : List ℕ} {goal guest machine x y z s t : ℕ} (p : ReactingPre 
       goal = goal;
       guest = guest;
       machine = machine;
-      given = given eb es;
+      given = given eb es (open-move-is er eo);
     })
 
-    module _ {Y : View} {w : Watched} (v : RoundsPost (limitsOf bits rows limit rounds) (view rows old) Y bs (askedOf z s t) w) where
+    module _ {Y : View} {w : Iterated} (v : RoundsPost (limitsOf bits rows limit rounds) (view rows old) Y bs (askedOf z s t o) w) where
       post : RoundsPost (limitsOf bits (headerOf old ROWS) (rowsUnder (headerOf old ROWS) acc) (roundsUnder R acc)) W Y bs
-          (askedOf z s t) w
+          (askedOf z s t o) w
       post = rw er at (rw (el, em) at v)
 
       pub freeing : Sound Y
-      freeing = post goal guest machine (given eb es) .sound
+      freeing = post goal guest machine (given eb es (open-move-is er eo)) .sound
 
-      pub game-done : {new : List ℕ} {ok : Bool} → ok ≡ openMoveAt (view rows old) x y s t → FreeManyPost Y (view rows new)
-          → {r : Reacted} → r ≡ toldOf ok bits w → Reacting acc R goal guest machine s t old new (reactedReply r)
-      game-done {new} {ok} ef f {r} e =
-          let q = post goal guest machine (given eb es) in
+      pub game-done : {new : List ℕ} → FreeManyPost Y (view rows new) → {r : Response} → r ≡ responseOf bits w
+          → Reacting acc R goal guest machine s t old new (responseReply r)
+      game-done {new} f {r} e =
+          let q = post goal guest machine (given eb es (open-move-is er eo)) in
           let a : After W (view (headerOf old ROWS) new) = freed (record { sound = q .sound; frame = q .frame; kept = q .kept })
           (rw er at f) in
           record {
             sound = a .sound;
             frame = a .frame;
             kept = a .kept;
-            reply = ap reactedReply e
-                ∙ ap (λ (m : ℕ). reactedReply (toldOf ok m w)) eb
-                ∙ reply-is (2 ^ n) (presses bk guest) (reactions bk machine)
-                (goals bk goal) s t n refl ok (open-move-is er ef) (q .says);
+            reply = ap responseReply e
+                ∙ ap (λ (m : ℕ). responseReply (responseOf m w)) eb
+                ∙ reply-is (2 ^ n) (presses bk guest) (reactions bk machine) (goals bk goal) s t n refl (q .says);
           }

@@ -13,7 +13,7 @@ use Rattle.games.specs.Call.{reacts}
 
 -- on a sound table: what is returned is what the book that the words stand for answers, and the words are sound again, with "registers,
 -- relations, rows they need" as they were, row by row
-pub record Told (acc : Terms) (R goal guest machine s t : ℕ) (old new : List ℕ) (y : Reply) : Type 0 where
+pub record ReactTold (acc : Terms) (R goal guest machine s t : ℕ) (old new : List ℕ) (y : Reply) : Type 0 where
   pub reply : y ≡ reacts (bookOf (seen old)) goal guest machine acc R s t
   pub sound : SoundWords new
   pub rows : Keeps (seen old .rows) (seen new .rows) (rootsOf (seen old))
@@ -23,7 +23,7 @@ pub record Told (acc : Terms) (R goal guest machine s t : ℕ) (old new : List �
 pub record ReactPost (acc : Terms) (R goal guest machine s t : ℕ) (old new : List ℕ) (y : Reply) : Type 0 where
   -- "table unsound"
   pub unsound : (SoundWords old → ⊥) → Refusal 2 y × (new ≡ old)
-  pub told : SoundWords old → Told acc R goal guest machine s t old new y
+  pub told : SoundWords old → ReactTold acc R goal guest machine s t old new y
   -- the words stand for the same book: "stores … nothing"
   pub book : bookOf (seen new) ≡ bookOf (seen old)
   -- 2, 3, 7 and 14 keep all words; else no word changes but those of unneeded rows, of the index and of remembered results: as for collect,

@@ -22,27 +22,26 @@ use Rattle.book.specs.Leaves.{plain, valued}
 use Rattle.contract.specs.Seen.{seen, SoundWords}
 use Rattle.seek.specs.Walk.{holdsAt}
 use Rattle.games.specs.Game.{answerable, answerTo}
-use Rattle.games.specs.Call.{numbersInRange, presses, reactions, goals, gameVerdict, reacted}
-use Rattle.game_steps.specs.declared.Watched.{Watched}
-use Rattle.game_steps.specs.declared.Watched.the-variants as watched
-use Rattle.game_calls.specs.declared.Reacted.{Reacted}
-use Rattle.game_calls.specs.declared.Reacted.the-variants as answer
+use Rattle.games.specs.Call.{numbersInRange, presses, reactions, goals, gameVerdict, verdictReply}
+use Rattle.game_steps.specs.declared.Iterated.{Iterated}
+use Rattle.game_steps.specs.declared.Iterated.the-variants as iterated
+use Rattle.game_calls.specs.declared.Response.{Response}
+use Rattle.game_calls.specs.declared.Response.the-variants as answer
 
 -- "For each answer that is an enum, a definition gives this paper's number and values for each of the enum's cases"
-abbrev pub reactedReply : Reacted → Reply
-reactedReply (answer.State u) = valued u
-reactedReply (answer.Refused e) = plain (refusalNumber e)
+abbrev pub responseReply : Response → Reply
+responseReply (answer.State u) = valued u
+responseReply (answer.Refused e) = plain (refusalNumber e)
 
 -- the press is a guest move of a state outside the goal, by their arrows
 abbrev pub openMoveAt : View → ℕ → ℕ → ℕ → ℕ → Bool
 openMoveAt W goal guest s t = not (holdsAt W goal s 0) && holdsAt W guest s t
 
--- what is answered by what was watched
-abbrev pub toldOf : Bool → ℕ → Watched → Reacted
-toldOf ok n watched.Full = answer.Refused refusal.Full
-toldOf ok n watched.Spent = answer.Refused refusal.Spent
-toldOf ok n (watched.Made u) = cond ok (cond (ltb u (2 ^ n)) (answer.State u) (answer.Refused refusal.NoAnswer))
-    (answer.Refused refusal.NoAnswer)
+-- what is answered by what was iterated
+abbrev pub responseOf : ℕ → Iterated → Response
+responseOf n iterated.Full = answer.Refused refusal.Full
+responseOf n iterated.Spent = answer.Refused refusal.Spent
+responseOf n (iterated.Made u) = cond (ltb u (2 ^ n)) (answer.State u) (answer.Refused refusal.NoAnswer)
 
 -- a sound table, numbers in range, and the account named: checks 2, 3 and 14 are passed
 pub record NamedPre (acc : Terms) (old : List ℕ) (goal guest machine s t : ℕ) : Type 0 where
@@ -69,7 +68,7 @@ pub record Reacting (acc : Terms) (R goal guest machine s t : ℕ) (old new : Li
   pub sound : Sound (view (headerOf old ROWS) new)
   pub frame : OpFrame (tableOf old) (view (headerOf old ROWS) new)
   pub kept : Keeps (rowsOf (tableOf old)) (rowsOf (view (headerOf old ROWS) new)) (filled (tableOf old))
-  pub reply : y ≡ reacted (gameVerdict (bookOf (seen old)) goal guest machine acc R)
+  pub reply : y ≡ verdictReply (gameVerdict (bookOf (seen old)) goal guest machine acc R)
       (answerable (2 ^ bookOf (seen old) .n) (presses (bookOf (seen old)) guest) (reactions (bookOf (seen old)) machine)
       (goals (bookOf (seen old)) goal) s t)
       (answerTo (2 ^ bookOf (seen old) .n) (presses (bookOf (seen old)) guest) (reactions (bookOf

@@ -6,8 +6,8 @@ use accounts::rounds_under;
 use accounts::rows_under;
 use collect::free_many;
 use game_steps::Asked;
-use game_steps::Watched;
-use game_steps::watch_rounds;
+use game_steps::Iterated;
+use game_steps::iterate_rounds;
 use layout::Refusal;
 use layout::Table;
 use layout::header_word;
@@ -19,11 +19,11 @@ ghost use Prim.Native.Nat.{_%_, _≤_};
 ghost use Rattle.layout.specs.View.{view};
 ghost use Rattle.seek.specs.Walk.{HoldsPre};
 ghost use Rattle.games.specs.Call.{numbersInRange, gameTarget, gameBytes};
-ghost use Rattle.game_calls.specs.Reacting.{openMoveAt, toldOf, reactedReply, NamedPre, ReactingPre, Reacting};
+ghost use Rattle.game_calls.specs.Reacting.{openMoveAt, responseOf, responseReply, NamedPre, ReactingPre, Reacting};
 ghost use Rattle.game_calls.specs.Post.{ReactPost};
 
 // What the second call answers: the state that the machine's move leads to.
-pub enum Reacted {
+pub enum Response {
     State(u32),
     Refused(Refusal),
 }
@@ -77,21 +77,18 @@ fn is_open_move(words: &[u32], rows: u32, goal: u32, guest: u32, state: u32, pre
 }
 
 // What is answered when the rounds have ended: 15 is decided once the set is made.
-fn told(ok: bool, bits: u32, watched: Watched) -> Reacted
+fn respond(bits: u32, iterated: Iterated) -> Response
     requires { ⌜ bits ≤ 16 ⌝ }
-    ensures { λ r. ⌜ r ≡ toldOf ok bits watched ⌝ }
+    ensures { λ r. ⌜ r ≡ responseOf bits iterated ⌝ }
 {
-    match watched {
-        Watched::Full => Reacted::Refused(Refusal::Full),
-        Watched::Spent => Reacted::Refused(Refusal::Spent),
-        Watched::Made(u) => {
-            if !ok {
-                return Reacted::Refused(Refusal::NoAnswer);
-            }
+    match iterated {
+        Iterated::Full => Response::Refused(Refusal::Full),
+        Iterated::Spent => Response::Refused(Refusal::Spent),
+        Iterated::Made(u) => {
             if u < 1u32 << bits {
-                return Reacted::State(u);
+                return Response::State(u);
             }
-            Reacted::Refused(Refusal::NoAnswer)
+            Response::Refused(Refusal::NoAnswer)
         }
     }
 }
@@ -109,9 +106,9 @@ fn reacting(
     z: u32,
     state: u32,
     press: u32,
-) -> Reacted
+) -> Response
     requires { ⌜ ReactingPre (now words) goal guest machine x y z state press ⌝ }
-    ensures { λ r. ⌜ Reacting terms most goal guest machine state press (now (words .entry)) (now (words .exit)) (reactedReply r) ⌝ }
+    ensures { λ r. ⌜ Reacting terms most goal guest machine state press (now (words .entry)) (now (words .exit)) (responseReply r) ⌝ }
 {
     let rows = header_word(words, Table::ROWS);
     let bits = header_word(words, Table::BITS);
@@ -121,16 +118,17 @@ fn reacting(
         limit: rows_under(rows, terms),
         rounds: rounds_under(most, terms),
     };
-    let ok = is_open_move(words, rows, x, y, state, press);
+    let open_move = is_open_move(words, rows, x, y, state, press);
     let bytes = game_bytes(goal, guest, machine);
     let asked = Asked {
         machine: z,
         state: state,
         press: press,
+        open_move: open_move,
     };
-    let watched = watch_rounds(words, limits, &bytes, asked);
+    let iterated = iterate_rounds(words, limits, &bytes, asked);
     free_many(words, rows);
-    told(ok, bits, watched)
+    respond(bits, iterated)
 }
 
 // The second call where there are such numbers and the account named: 7 where a register or relation is empty, else the rounds.
@@ -143,21 +141,21 @@ fn react_named(
     machine: u32,
     state: u32,
     press: u32,
-) -> Reacted
+) -> Response
     requires { ⌜ NamedPre terms (now words) goal guest machine state press ⌝ }
-    ensures { λ r. ⌜ ReactPost terms most goal guest machine state press (now (words .entry)) (now (words .exit)) (reactedReply r) ⌝ }
+    ensures { λ r. ⌜ ReactPost terms most goal guest machine state press (now (words .entry)) (now (words .exit)) (responseReply r) ⌝ }
 {
     let x = header_word(words, Table::FIRST_REGISTER + (goal as usize));
     let y = header_word(words, Table::FIRST_RELATION + (guest as usize));
     let z = header_word(words, Table::FIRST_RELATION + (machine as usize));
     if x == 0 {
-        return Reacted::Refused(Refusal::Empty);
+        return Response::Refused(Refusal::Empty);
     }
     if y == 0 {
-        return Reacted::Refused(Refusal::Empty);
+        return Response::Refused(Refusal::Empty);
     }
     if z == 0 {
-        return Reacted::Refused(Refusal::Empty);
+        return Response::Refused(Refusal::Empty);
     }
     reacting(
         words,
@@ -187,25 +185,25 @@ pub fn react(
     machine: u32,
     state: u32,
     press: u32,
-) -> Reacted
-    ensures { λ r. ⌜ ReactPost terms most goal guest machine state press (now (words .entry)) (now (words .exit)) (reactedReply r) ⌝ }
+) -> Response
+    ensures { λ r. ⌜ ReactPost terms most goal guest machine state press (now (words .entry)) (now (words .exit)) (responseReply r) ⌝ }
 {
     if !sound(words) {
-        return Reacted::Refused(Refusal::Unsound);
+        return Response::Refused(Refusal::Unsound);
     }
     if !in_range(goal, guest, machine) {
-        return Reacted::Refused(Refusal::Range);
+        return Response::Refused(Refusal::Range);
     }
     let bits = header_word(words, Table::BITS);
     let states = 1u32 << bits;
     if state >= states {
-        return Reacted::Refused(Refusal::Range);
+        return Response::Refused(Refusal::Range);
     }
     if press >= states {
-        return Reacted::Refused(Refusal::Range);
+        return Response::Refused(Refusal::Range);
     }
     if !is_named(terms) {
-        return Reacted::Refused(Refusal::Unlisted);
+        return Response::Refused(Refusal::Unlisted);
     }
     react_named(words, terms, most, goal, guest, machine, state, press)
 }

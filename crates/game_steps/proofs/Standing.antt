@@ -11,7 +11,7 @@ use lib.ListN.{length, set}
 use Rattle.accounts.specs.declared.Count.{Count}
 use Rattle.accounts.specs.Count.{nothing, another}
 use Rattle.mucalculus.specs.Sets.{mem, same, noStates}
-use Rattle.mucalculus.proofs.Sets.{and-out, same-refl}
+use Rattle.mucalculus.proofs.Sets.{same-refl}
 use Rattle.mucalculus.specs.Order.{Below}
 use Rattle.mucalculus.specs.Form.{Form, Pairs, put, inside}
 use Rattle.mucalculus.specs.Means.{pair, means}
@@ -53,17 +53,17 @@ use Rattle.paths.specs.Runs.{firstOf}
 use Rattle.paths.proofs.First.{first-same}
 use Rattle.seek.specs.Walk.{holdsAt}
 use Rattle.seek.specs.Search.{nextIn}
-use Rattle.layers.proofs.Pass.{holds-pre}
+use Rattle.layers.proofs.Pass.{set-holds, holds-pre}
 use Rattle.games.specs.Game.{forcing, forced, setAfter}
 use Rattle.games.specs.Call.{bodyForm}
-use Rattle.games.proofs.Rounds.{Noted, noted-none, noting, noted-next, after-size, after-found, still-below, not-out}
+use Rattle.games.proofs.Rounds.{Noted, noted-none, noting, noted-next, made-none, made-found, after-size, after-found, still-below}
 use Rattle.games.proofs.Formula.{body-steady, body-means}
-use Rattle.game_steps.specs.Watch.{noteBy, NotePre, haltedOf, HoldsGame, WatchPre, AnswerNoted, AnswerOf, is-made, is-full, is-spent}
-use Rattle.game_steps.specs.Watch.{Watches}
-use Rattle.game_steps.specs.Watch.{WatchPost}
+use Rattle.game_steps.specs.Iterate.{noteBy, NotePre, haltedOf, HoldsGame, IteratePre, AnswerNoted, AnswerOf, is-made, is-full, is-spent}
+use Rattle.game_steps.specs.Iterate.{Iterates}
+use Rattle.game_steps.specs.Iterate.{IteratePost}
 use Rattle.game_steps.specs.declared.Asked.{Asked}
-use Rattle.game_steps.specs.declared.Watched.{Watched}
-use Rattle.game_steps.specs.declared.Watched.the-variants as watched
+use Rattle.game_steps.specs.declared.Iterated.{Iterated}
+use Rattle.game_steps.specs.declared.Iterated.the-variants as iterated
 
 -- ---- sets and arrows
 
@@ -72,12 +72,7 @@ pub one-set : (n : ℕ) {rows : Rows} {x : ℕ} (A C : List Bool) → Denotes (2
     → Sized n A → Sized n C → A ≡ C
 one-set n A C da dc za zc = fnOf-inj n A C za zc (λ v. sym (da .same v) ∙ dc .same v)
 
--- whether a state is in an arrow's set, and whether a pair is one of an arrow's
-pub set-holds : (n : ℕ) (X : View) {x : ℕ} (A : List Bool) → 2 * n ≡ 2 * X .header BITS → Denotes (2 * n) (rowsOf X) x (fnOf n A)
-    → (s : ℕ) → s < 2 ^ n → holdsAt X x s 0 ≡ mem A s
-set-holds n X {x} A e d s l =
-    subst (λ (m : ℕ). den m (rowsOf X) x (pairVal s 0) ≡ mem A s) e (d .same (pairVal s 0) ∙ ap (mem A) (nowOf-pairVal n s 0 l))
-
+-- whether a pair is one of an arrow's
 pub pair-holds : (n : ℕ) (X : View) {x : ℕ} (Q : Pairs) → 2 * n ≡ 2 * X .header BITS → Denotes (2 * n) (rowsOf X) x (fnOfPairs n Q)
     → (s t : ℕ) → s < 2 ^ n → t < 2 ^ n → holdsAt X x s t ≡ pair Q s t
 pair-holds n X {x} Q e d s t l i =
@@ -118,7 +113,7 @@ pub record Standing (L : Limits) (W X : View) (stack now : List ℕ)
   pub round : ℕ
   pub set-is : bound .turning .A
       ≡ setAfter (2 ^ L .bits) (inside (σ .rel guest)) (inside (σ .rel machine)) (inside (σ .reg goal)) round
-  pub noted-is : Noted (2 ^ L .bits) (inside (σ .rel guest)) (inside (σ .rel machine)) (inside (σ .reg goal)) (a .state)
+  pub noted-is : Noted (2 ^ L .bits) (inside (σ .rel guest)) (inside (σ .rel machine)) (inside (σ .reg goal)) (a .open_move) (a .state)
       (a .press) round noted
 
 module _ {L : Limits} {W : View} {stack bs : List ℕ} {a : Asked} {σ : Scene} {goal guest machine : ℕ}
@@ -159,8 +154,8 @@ module _ {L : Limits} {W : View} {stack bs : List ℕ} {a : Asked} {σ : Scene} 
 
   -- ---- the start
 
-  pub watch-starts : {noted : ℕ} → noted ≡ k → Standing L W W stack stack a σ goal guest machine noted 0 nothing
-  watch-starts {noted} e =
+  pub iterate-starts : {noted : ℕ} → noted ≡ k → Standing L W W stack stack a σ goal guest machine noted 0 nothing
+  iterate-starts {noted} e =
       let T0 : Bound L W W stack stack 0 nothing σ Mu 0 f 0 nothing = bind-starts (P .ready) Mu 0 f refl in
       record {
         bound = T0;
@@ -168,7 +163,7 @@ module _ {L : Limits} {W : View} {stack bs : List ℕ} {a : Asked} {σ : Scene} 
         set-is =
             one-set (L .bits) (T0 .turning .A) (noStates k) (T0 .turning .denotes) (denotes-none (L .bits) (L .rows) (rowsOf W))
             (T0 .turning .sized) (after-size k G M B 0);
-        noted-is = subst (Noted k G M B (a .state) (a .press) 0) (sym e) (noted-none k G M B (a .state) (a .press));
+        noted-is = subst (Noted k G M B (a .open_move) (a .state) (a .press) 0) (sym e) (noted-none k G M B (a .open_move) (a .state) (a .press));
       }
 
   module _ {X : View} {now : List ℕ} {noted current : ℕ} {count : Count}
@@ -191,8 +186,8 @@ module _ {L : Limits} {W : View} {stack bs : List ℕ} {a : Asked} {σ : Scene} 
     }
 
     -- the rounds are used up
-    pub watch-out : L .rounds ≤ count .rounds → Watches L W X stack a σ goal guest machine watched.Spent
-    watch-out l = record { value = Spent; last = now; answers = bind-out (P .ready) (S .bound) 12 l; told = is-spent }
+    pub iterate-out : L .rounds ≤ count .rounds → Iterates L W X stack a σ goal guest machine iterated.Spent
+    iterate-out l = record { value = Spent; last = now; answers = bind-out (P .ready) (S .bound) 12 l; told = is-spent }
 
     module _ {Y : View} {last : List ℕ} {r : Evaluated}
         (E : OncePost L X Y now last bs current count r) (more : count .rounds < L .rounds) where
@@ -200,8 +195,8 @@ module _ {L : Limits} {W : View} {stack bs : List ℕ} {a : Asked} {σ : Scene} 
       answered = E .answers σ′ f 12 inner (P .part)
 
       -- a round has no value
-      pub watch-halts : Halts r → {w : Watched} → w ≡ haltedOf r → Watches L W Y stack a σ goal guest machine w
-      watch-halts h {w} q = record {
+      pub iterate-halts : Halts r → {w : Iterated} → w ≡ haltedOf r → Iterates L W Y stack a σ goal guest machine w
+      iterate-halts h {w} q = record {
         value = r;
         last = last;
         answers = bind-stops (P .ready) (S .bound) z room answered more h;
@@ -242,8 +237,8 @@ module _ {L : Limits} {W : View} {stack bs : List ℕ} {a : Asked} {σ : Scene} 
             (keeps-denotes (evals .kept) (here refl) (S .bound .turning .denotes))
 
         -- the same set: all is made
-        pub watch-same : b ≡ current → Watches L W Y stack a σ goal guest machine (watched.Made noted)
-        watch-same h = record {
+        pub iterate-same : b ≡ current → Iterates L W Y stack a σ goal guest machine (iterated.Made noted)
+        iterate-same h = record {
           value = Value b j q;
           last = last;
           answers = bind-ends (P .ready) (S .bound) z room answered more is h;
@@ -261,12 +256,8 @@ module _ {L : Limits} {W : View} {stack bs : List ℕ} {a : Asked} {σ : Scene} 
 
             answer-noted : AnswerNoted k G M B (a .state) (a .press) noted
             answer-noted = record {
-              outside = λ out. S .noted-is .not-yet (λ p. subst T out (subst (λ (A : List Bool). T (mem A (a .state))) done p));
-              found = λ t.
-                  let x = and-out (mem (forced k G M B) (a .state)) _ t in
-                  let y = and-out (not (mem B (a .state))) _ (x .1) in
-                  S .noted-is .found (subst (λ (A : List Bool). T (mem A (a .state))) (sym done) (x .0))
-                  (not-out (mem B (a .state)) (y .0)) (P .press) (y .1);
+              none = made-none k G M B (P .open-is) done (S .noted-is);
+              found = made-found k G M B (P .open-is) done (S .noted-is);
             }
 
         -- otherwise the rounds go on
@@ -293,27 +284,29 @@ module _ {L : Limits} {W : View} {stack bs : List ℕ} {a : Asked} {σ : Scene} 
             }
 
             -- what is noted is what a round notes
-            note-is : noteBy (L .bits) Y a noted current b ≡ noting k G M B (a .state) (a .press) (S .round) noted
+            note-is : noteBy (L .bits) Y a noted current b ≡ noting k G M B (a .open_move) (a .state) (a .press) (S .round) noted
             note-is =
                 let e = ready′ .base .ready .levels-is in
                 let last-test = set-holds (L .bits) Y (setAfter k G M B (S .round)) e last-denotes in
-                ap (λ (c : Bool). cond c noted
-                (cond (holdsAt Y b (a .state) 0) (firstOf k (nextIn Y (a .machine) (a .press) current)) noted))
+                ap (λ (c : Bool). cond (a .open_move) (cond c noted
+                (cond (holdsAt Y b (a .state) 0) (firstOf k (nextIn Y (a .machine) (a .press) current)) noted)) noted)
                 (last-test (a .state) (P .state))
-                ∙ ap₂ (λ (c : Bool) (x : ℕ). cond (mem (setAfter k G M B (S .round)) (a .state)) noted (cond c x noted))
+                ∙ ap₂ (λ (c : Bool) (x : ℕ). cond (a .open_move) (cond (mem (setAfter k G M B (S .round)) (a .state)) noted
+                (cond c x noted)) noted)
                 (set-holds (L .bits) Y (setAfter k G M B (suc (S .round))) e next-denotes (a .state) (P .state))
                 (first-same k (nextIn Y (a .machine) (a .press) current) (λ u. pair M (a .press) u && mem (setAfter k G M B (S .round)) u)
                 (λ u l. ap₂ _&&_ (pair-holds (L .bits) Y M e machine-denotes (a .press) u (P .press) l) (last-test u l)))
 
-            pub watch-turns : {x : ℕ} → x ≡ noteBy (L .bits) Y a noted current b → Standing L W Y stack last a σ goal guest machine x b q
-            watch-turns {x} ex = record {
+            pub iterate-turns : {x : ℕ} → x ≡ noteBy (L .bits) Y a noted current b → Standing L W Y stack last a σ goal guest machine x b q
+            iterate-turns {x} ex = record {
               bound = bound′;
               round = suc (S .round);
               set-is =
                   one-set (L .bits) _ _ (bound′ .turning .denotes) next-denotes (bound′ .turning .sized) (after-size k G M B (suc
                   (S .round)));
-              noted-is = subst (Noted k G M B (a .state) (a .press) (suc (S .round))) (sym (ex ∙ note-is))
-                  (noted-next k G M B (S .noted-is) (still-below k G M B (S .round) grew));
+              noted-is = subst (Noted k G M B (a .open_move) (a .state) (a .press) (suc (S .round))) (sym (ex ∙ note-is))
+                  (noted-next k G M B (a .open_move) (a .state) (a .press) (S .round) noted (P .open-is) (P .press)
+                  (still-below k G M B (S .round) grew) (S .noted-is));
             }
               where
                 grew : setAfter k G M B (suc (S .round)) ≢ setAfter k G M B (S .round)
@@ -325,30 +318,41 @@ module _ {L : Limits} {W : View} {stack bs : List ℕ} {a : Asked} {σ : Scene} 
                     (same-refl (setAfter k G M B
                     (S .round))))
 
-            pub watch-less : count .rounds < q .rounds
-            watch-less = bind-less (P .ready) (S .bound) z room answered more is
+            pub iterate-less : count .rounds < q .rounds
+            iterate-less = bind-less (P .ready) (S .bound) z room answered more is
 
 -- ---- noting
 
-module _ (n : ℕ) (W : View) (a : Asked) (noted last next : ℕ) {r : Bool} (e : r ≡ holdsAt W last (a .state) 0) where
+module _ (n : ℕ) (W : View) (a : Asked) (noted last next : ℕ) where
   abbrev seen : ℕ
   seen = firstOf (2 ^ n) (nextIn W (a .machine) (a .press) last)
 
-  -- the state was in the set before
-  pub note-kept : r ≡ true → noted ≡ noteBy n W a noted last next
-  note-kept t = ap (λ (b : Bool). cond b noted (cond (holdsAt W next (a .state) 0) seen noted)) (sym t ∙ e)
+  abbrev byOpen : Bool → ℕ
+  byOpen o = cond o (cond (holdsAt W last (a .state) 0) noted (cond (holdsAt W next (a .state) 0) seen noted)) noted
 
-  module _ (f : r ≡ false) {q : Bool} (i : q ≡ holdsAt W next (a .state) 0) where
-    by : {b : Bool} → holdsAt W next (a .state) 0 ≡ b → cond b seen noted ≡ noteBy n W a noted last next
-    by h = ap₂ (λ (b c : Bool). cond b noted (cond c seen noted)) (sym f ∙ e) (sym h)
+  -- the press is not open
+  pub note-shut : not (a .open_move) ≡ true → noted ≡ noteBy n W a noted last next
+  note-shut t = sym (ap byOpen (test-no {b = a .open_move} refl t))
 
-    -- it is not in the set yet
-    pub note-none : not q ≡ true → noted ≡ noteBy n W a noted last next
-    note-none t = by (test-no i t)
+  module _ (o : not (a .open_move) ≡ false) {r : Bool} (e : r ≡ holdsAt W last (a .state) 0) where
+    is-open : {x : ℕ} → x ≡ byOpen true → x ≡ noteBy n W a noted last next
+    is-open h = h ∙ sym (ap byOpen (test-yes {b = a .open_move} refl o))
 
-    -- it enters
-    pub note-found : not q ≡ false → {x : ℕ} → x ≡ seen → x ≡ noteBy n W a noted last next
-    note-found t h = h ∙ by (test-yes i t)
+    -- the state was in the set before
+    pub note-kept : r ≡ true → noted ≡ noteBy n W a noted last next
+    note-kept t = is-open (ap (λ (b : Bool). cond b noted (cond (holdsAt W next (a .state) 0) seen noted)) (sym t ∙ e))
+
+    module _ (f : r ≡ false) {q : Bool} (i : q ≡ holdsAt W next (a .state) 0) where
+      by : {b : Bool} → holdsAt W next (a .state) 0 ≡ b → cond b seen noted ≡ byOpen true
+      by h = ap₂ (λ (b c : Bool). cond b noted (cond c seen noted)) (sym f ∙ e) (sym h)
+
+      -- it is not in the set yet
+      pub note-none : not q ≡ true → noted ≡ noteBy n W a noted last next
+      note-none t = is-open (by (test-no i t))
+
+      -- it enters
+      pub note-found : not q ≡ false → {x : ℕ} → x ≡ seen → x ≡ noteBy n W a noted last next
+      note-found t h = is-open (h ∙ by (test-yes i t))
 
 -- ---- the loop
 
@@ -369,11 +373,11 @@ loop-starts C e = record {
   counts-size = refl;
   stack-size = refl;
   counts-of = C;
-  stands = λ σ goal guest machine P. watch-starts P e;
+  stands = λ σ goal guest machine P. iterate-starts P e;
 }
 
 module _ {L : Limits} {words₀ words counts₀ counts stack₀ stack bs : List ℕ} {a : Asked} {noted current : ℕ} {count : Count}
-    (P : WatchPre L (view (L .rows) words₀) stack₀ bs a)
+    (P : IteratePre L (view (L .rows) words₀) stack₀ bs a)
     (I : Looping L words₀ words counts₀ counts stack₀ stack bs a noted current count) where
   own : Standing L (view (L .rows) words₀) (view (L .rows) words) stack₀ stack a (P .scene) (P .goal) (P .guest)
       (P .machine) noted current count
@@ -382,17 +386,17 @@ module _ {L : Limits} {words₀ words counts₀ counts stack₀ stack bs : List 
   pub turn-asks : count .rounds < L .rounds → L .rounds < 2 ^ 32 → OncePre L (view (L .rows) words) stack bs current count
   turn-asks more top = round-asks (P .plays) own (I .stack-size) more top
 
-  pub loop-out : L .rounds ≤ count .rounds → WatchPost L (view (L .rows) words₀) (view (L .rows) words) stack₀ bs a watched.Spent
-  loop-out l σ goal guest machine Q = watch-out Q (I .stands σ goal guest machine Q) (I .stack-size) l
+  pub loop-out : L .rounds ≤ count .rounds → IteratePost L (view (L .rows) words₀) (view (L .rows) words) stack₀ bs a iterated.Spent
+  loop-out l σ goal guest machine Q = iterate-out Q (I .stands σ goal guest machine Q) (I .stack-size) l
 
   module _ {Y : View} {last : List ℕ} {r : Evaluated}
       (E : OncePost L (view (L .rows) words) Y stack last bs current count r) (more : count .rounds < L .rounds) where
-    pub loop-halts : Halts r → {w : Watched} → w ≡ haltedOf r → WatchPost L (view (L .rows) words₀) Y stack₀ bs a w
-    loop-halts h q σ goal guest machine Q = watch-halts Q (I .stands σ goal guest machine Q) (I .stack-size) E more h q
+    pub loop-halts : Halts r → {w : Iterated} → w ≡ haltedOf r → IteratePost L (view (L .rows) words₀) Y stack₀ bs a w
+    loop-halts h q σ goal guest machine Q = iterate-halts Q (I .stands σ goal guest machine Q) (I .stack-size) E more h q
 
     module _ {b j : ℕ} {q : Count} (is : r ≡ Value b j q) where
-      pub loop-same : b ≡ current → WatchPost L (view (L .rows) words₀) Y stack₀ bs a (watched.Made noted)
-      loop-same h σ goal guest machine Q = watch-same Q (I .stands σ goal guest machine Q) (I .stack-size) E more is h
+      pub loop-same : b ≡ current → IteratePost L (view (L .rows) words₀) Y stack₀ bs a (iterated.Made noted)
+      loop-same h σ goal guest machine Q = iterate-same Q (I .stands σ goal guest machine Q) (I .stack-size) E more is h
 
       module _ (differs : b ≢ current) (z : length last ≡ length stack) where
         size : length last ≡ length stack₀
@@ -402,7 +406,7 @@ module _ {L : Limits} {words₀ words counts₀ counts stack₀ stack bs : List 
         turn-notes = note-asks (P .plays) own (I .stack-size) E more is differs size
 
         pub turn-less : count .rounds < q .rounds
-        turn-less = watch-less (P .plays) own (I .stack-size) E more is differs size
+        turn-less = iterate-less (P .plays) own (I .stack-size) E more is differs size
 
         pub loop-turns : {x : ℕ} → x ≡ noteBy (L .bits) Y a noted current b → (next : List ℕ) → Y ≡ view (L .rows) next
             → {more-counts : List ℕ} → CountsOf Y more-counts → length next ≡ length words → length more-counts ≡ length counts
@@ -414,5 +418,5 @@ module _ {L : Limits} {words₀ words counts₀ counts stack₀ stack bs : List 
           counts-of = subst (λ (Z : View). CountsOf Z more-counts) y C;
           stands = λ σ goal guest machine Q.
               subst (λ (Z : View). Standing L (view (L .rows) words₀) Z stack₀ last a σ goal guest machine x b q) y
-              (watch-turns Q (I .stands σ goal guest machine Q) (I .stack-size) E more is differs size ex);
+              (iterate-turns Q (I .stands σ goal guest machine Q) (I .stack-size) E more is differs size ex);
         }

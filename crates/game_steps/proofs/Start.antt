@@ -40,14 +40,14 @@ use Rattle.evaluator.proofs.Starts.{sceneIn, start-base, start-scene}
 use Rattle.games.specs.Call.{bodyForm, gameForm}
 use Rattle.games.proofs.Formula.{body-read, body-bound, game-steady}
 use Rattle.games.proofs.Call.{filled-all}
-use Rattle.game_steps.specs.Watch.{HoldsGame, WatchPre, WatchPost, AnswerNoted, AnswerOf}
-use Rattle.game_steps.specs.Watch.{is-made as value-made, is-full as value-full, is-spent as value-spent}
+use Rattle.game_steps.specs.Iterate.{HoldsGame, IteratePre, IteratePost, AnswerNoted, AnswerOf}
+use Rattle.game_steps.specs.Iterate.{is-made as value-made, is-full as value-full, is-spent as value-spent}
 use Rattle.game_steps.specs.Whole.{Given, RoundsPre, RoundsPost, RoundsSay, is-made, is-full, is-spent}
 use Rattle.game_steps.specs.declared.Asked.{Asked}
-use Rattle.game_steps.specs.declared.Watched.{Watched}
+use Rattle.game_steps.specs.declared.Iterated.{Iterated}
 
 -- the run's outcome is the verdict's
-says-verdict : {P : ℕ → Type 0} (lv : List Bool → Fn) (n : ℕ) (rows : Rows) (A : List Bool) (v : Verdict) {y : Evaluated} {r : Watched}
+says-verdict : {P : ℕ → Type 0} (lv : List Bool → Fn) (n : ℕ) (rows : Rows) (A : List Bool) (v : Verdict) {y : Evaluated} {r : Iterated}
     → AnswerOf P y r → MatchesBy lv n rows (settle A v) (endedOf y) → RoundsSay P v r
 says-verdict lv n rows A (counted q) (value-made h) m = is-made h
 says-verdict lv n rows A full (value-made h) m = absurd m
@@ -82,9 +82,10 @@ module _ {L : Limits} {W : View} {bs : List ℕ} {a : Asked} (p : RoundsPre L W 
         frame .header (FIRST-RELATION + machine) (omega arith) (omega arith) (omega arith) (omega arith) ∙ g .machine-is;
     state = g .state;
     press = g .press;
+    open-is = g .open-is;
   }
 
-  pub rounds-ask : WatchPre L X (replicate stackSize 0) bs a
+  pub rounds-ask : IteratePre L X (replicate stackSize 0) bs a
   rounds-ask = record {
     scene = sceneIn W;
     goal = p .goal;
@@ -93,7 +94,7 @@ module _ {L : Limits} {W : View} {bs : List ℕ} {a : Asked} (p : RoundsPre L W 
     plays = plays (p .goal) (p .guest) (p .machine) (p .given);
   }
 
-  pub rounds-done : {Y : View} {r : Watched} → WatchPost L X Y (replicate stackSize 0) bs a r → RoundsPost L W Y bs a r
+  pub rounds-done : {Y : View} {r : Iterated} → IteratePost L X Y (replicate stackSize 0) bs a r → RoundsPost L W Y bs a r
   rounds-done {Y} {r} E goal guest machine g =
       let w = E (sceneIn W) goal guest machine (plays goal guest machine g) in
       let form = gameForm goal guest machine in

@@ -1,3 +1,3 @@
-pub mod Watch
+pub mod Iterate
 pub mod Whole
 pub mod Posts

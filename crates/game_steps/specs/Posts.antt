@@ -4,10 +4,10 @@ use mathlib.Core.List.{List}
 use Prim.Native.Nat.{ℕ}
 use Rattle.modal.specs.declared.Limits.{Limits}
 use Rattle.modal.specs.Posts.{viewIn, Counted}
-use Rattle.game_steps.specs.Watch.{noteBy, NotePre, WatchPre, WatchPost}
+use Rattle.game_steps.specs.Iterate.{noteBy, NotePre, IteratePre, IteratePost}
 use Rattle.game_steps.specs.Whole.{RoundsPre, RoundsPost}
 use Rattle.game_steps.specs.declared.Asked.{Asked}
-use Rattle.game_steps.specs.declared.Watched.{Watched}
+use Rattle.game_steps.specs.declared.Iterated.{Iterated}
 
 abbrev pub NoteAsks : (l : Limits) (words : List ℕ) (a : Asked) (last next : ℕ) → Type 0
 NoteAsks l words a last next = NotePre (l .bits) (viewIn l words) a last next
@@ -15,14 +15,14 @@ NoteAsks l words a last next = NotePre (l .bits) (viewIn l words) a last next
 abbrev pub NoteGives : (l : Limits) (words : List ℕ) (a : Asked) (noted last next x : ℕ) → Type 0
 NoteGives l words a noted last next x = x ≡ noteBy (l .bits) (viewIn l words) a noted last next
 
-abbrev pub WatchAsks : (l : Limits) (words counts stack bs : List ℕ) (a : Asked) → Type 0
-WatchAsks l words counts stack bs a = Counted l words counts (WatchPre l (viewIn l words) stack bs a)
+abbrev pub IterateAsks : (l : Limits) (words counts stack bs : List ℕ) (a : Asked) → Type 0
+IterateAsks l words counts stack bs a = Counted l words counts (IteratePre l (viewIn l words) stack bs a)
 
-abbrev pub WatchGives : (l : Limits) (before after stack bs : List ℕ) (a : Asked) (r : Watched) → Type 0
-WatchGives l before after stack bs a r = WatchPost l (viewIn l before) (viewIn l after) stack bs a r
+abbrev pub IterateGives : (l : Limits) (before after stack bs : List ℕ) (a : Asked) (r : Iterated) → Type 0
+IterateGives l before after stack bs a r = IteratePost l (viewIn l before) (viewIn l after) stack bs a r
 
 abbrev pub RoundsAsk : (l : Limits) (words bs : List ℕ) (a : Asked) → Type 0
 RoundsAsk l words bs a = RoundsPre l (viewIn l words) bs a
 
-abbrev pub RoundsGive : (l : Limits) (before after bs : List ℕ) (a : Asked) (r : Watched) → Type 0
+abbrev pub RoundsGive : (l : Limits) (before after bs : List ℕ) (a : Asked) (r : Iterated) → Type 0
 RoundsGive l before after bs a r = RoundsPost l (viewIn l before) (viewIn l after) bs a r

@@ -18,13 +18,15 @@ use Rattle.book.specs.Ticks.{ticks, Verdict, counted, full, spent, verdict}
 use Rattle.book.specs.Book.{modelOf, liveOf, registers, relations}
 use Rattle.modal.specs.declared.Limits.{Limits}
 use Rattle.evaluator.specs.Whole.{bookIn}
+use Rattle.games.specs.Game.{openMove}
 use Rattle.games.specs.Call.{gameForm, gameBytes, presses, reactions, goals, allFilled}
-use Rattle.game_steps.specs.Watch.{AnswerNoted}
+use Rattle.game_steps.specs.Iterate.{AnswerNoted}
 use Rattle.game_steps.specs.declared.Asked.{Asked}
-use Rattle.game_steps.specs.declared.Watched.{Watched}
-use Rattle.game_steps.specs.declared.Watched.the-variants as watched
+use Rattle.game_steps.specs.declared.Iterated.{Iterated}
+use Rattle.game_steps.specs.declared.Iterated.the-variants as iterated
 
--- goal, guest and machine are filled, the bytes are those of their game, and the asked arrow is the machine's
+-- goal, guest and machine are filled, the bytes are those of their game, the asked arrow is the machine's, and whether the press is open is
+-- known
 pub record Given (L : Limits) (W : View) (bs : List ℕ) (a : Asked) (goal guest machine : ℕ) : Type 0 where
   pub goal-in : goal < registers
   pub guest-in : guest < relations
@@ -34,6 +36,7 @@ pub record Given (L : Limits) (W : View) (bs : List ℕ) (a : Asked) (goal guest
   pub machine-is : W .header (FIRST-RELATION + machine) ≡ suc (a .machine)
   pub state : a .state < 2 ^ L .bits
   pub press : a .press < 2 ^ L .bits
+  pub open-is : a .open_move ≡ openMove (presses (bookIn W) guest) (goals (bookIn W) goal) (a .state) (a .press)
 
 -- what the rounds ask of a sound table: the limits are its own, or less, and some game is given
 pub record RoundsPre (L : Limits) (W : View) (bs : List ℕ) (a : Asked) : Type 0 where
@@ -47,13 +50,13 @@ pub record RoundsPre (L : Limits) (W : View) (bs : List ℕ) (a : Asked) : Type 
   pub given : Given L W bs a goal guest machine
 
 -- the verdict of the steps, and what was noted where all are counted
-pub data RoundsSay (P : ℕ → Type 0) : Verdict → Watched → Type 0 where
-  is-made : {q : Count} {x : ℕ} → P x → RoundsSay P (counted q) (watched.Made x)
-  is-full : RoundsSay P full watched.Full
-  is-spent : RoundsSay P spent watched.Spent
+pub data RoundsSay (P : ℕ → Type 0) : Verdict → Iterated → Type 0 where
+  is-made : {q : Count} {x : ℕ} → P x → RoundsSay P (counted q) (iterated.Made x)
+  is-full : RoundsSay P full iterated.Full
+  is-spent : RoundsSay P spent iterated.Spent
 
 -- a sound table, nothing touched but unneeded rows, the index and remembered results, and the book's verdict
-pub record Rounds (L : Limits) (W X : View) (a : Asked) (goal guest machine : ℕ) (r : Watched) : Type 0 where
+pub record Rounds (L : Limits) (W X : View) (a : Asked) (goal guest machine : ℕ) (r : Iterated) : Type 0 where
   pub sound : Sound X
   pub frame : OpFrame W X
   pub kept : Keeps (rowsOf W) (rowsOf X) (filled W)
@@ -64,5 +67,5 @@ pub record Rounds (L : Limits) (W X : View) (a : Asked) (goal guest machine : �
       (gameForm goal guest machine))) r
 
 -- what they promise, of every game that is given
-abbrev pub RoundsPost : Limits → View → View → List ℕ → Asked → Watched → Type 0
+abbrev pub RoundsPost : Limits → View → View → List ℕ → Asked → Iterated → Type 0
 RoundsPost L W X bs a r = (goal guest machine : ℕ) → Given L W bs a goal guest machine → Rounds L W X a goal guest machine r

@@ -31,7 +31,7 @@ use Rattle.games.specs.Game.{forcing, forced, setAfter, answerable, answ
 use Rattle.games.specs.Call.{bodyForm, gameForm, gameBytes, numbersInRange, gameCall, presses, reactions, goals, forcedIn}
 use Rattle.games.specs.Call.{gameVerdict}
 use Rattle.games.specs.Call.{allFilled}
-use Rattle.games.specs.Call.{forceDone, reacted, reacts}
+use Rattle.games.specs.Call.{forceDone, verdictReply, reacts}
 use Rattle.games.proofs.Rounds.{after-all}
 use Rattle.games.proofs.Formula.{game-read, game-bound, game-mentioned, game-steady, body-means}
 
@@ -181,32 +181,32 @@ module _ (b : Book) (acc : Terms) (R goal guest machine s t : ℕ) where
   abbrev pub near : Bool
   near = numbersInRange goal guest machine && (ltb s (2 ^ b .n) && ltb t (2 ^ b .n))
 
-  abbrev pub toldIn : Reply
-  toldIn =
-      reacted (gameVerdict b goal guest machine acc R)
+  abbrev pub replyIn : Reply
+  replyIn =
+      verdictReply (gameVerdict b goal guest machine acc R)
       (answerable (2 ^ b .n) (presses b guest) (reactions b machine) (goals b goal) s t)
       (answerTo (2 ^ b .n) (presses b guest) (reactions b machine) (goals b goal) s t)
 
   pub reacts-three : near ≡ false → reacts b goal guest machine acc R s t ≡ plain 3
   reacts-three e =
-      ap (λ (c : Bool). cond c (cond (named acc) (cond (allFilled b goal guest machine) toldIn (plain 7)) (plain 14)) (plain 3)) e
+      ap (λ (c : Bool). cond c (cond (named acc) (cond (allFilled b goal guest machine) replyIn (plain 7)) (plain 14)) (plain 3)) e
 
   module _ (in-range : near ≡ true) where
     pub reacts-unlisted : named acc ≡ false → reacts b goal guest machine acc R s t ≡ plain 14
     reacts-unlisted e =
-        ap (λ (c : Bool). cond c (cond (named acc) (cond (allFilled b goal guest machine) toldIn (plain 7)) (plain 14))
+        ap (λ (c : Bool). cond c (cond (named acc) (cond (allFilled b goal guest machine) replyIn (plain 7)) (plain 14))
         (plain 3)) in-range
-        ∙ ap (λ (c : Bool). cond c (cond (allFilled b goal guest machine) toldIn (plain 7)) (plain 14)) e
+        ∙ ap (λ (c : Bool). cond c (cond (allFilled b goal guest machine) replyIn (plain 7)) (plain 14)) e
 
     module _ (listed : named acc ≡ true) where
-      later : reacts b goal guest machine acc R s t ≡ cond (allFilled b goal guest machine) toldIn (plain 7)
+      later : reacts b goal guest machine acc R s t ≡ cond (allFilled b goal guest machine) replyIn (plain 7)
       later =
-          ap (λ (c : Bool). cond c (cond (named acc) (cond (allFilled b goal guest machine) toldIn (plain 7)) (plain 14))
+          ap (λ (c : Bool). cond c (cond (named acc) (cond (allFilled b goal guest machine) replyIn (plain 7)) (plain 14))
           (plain 3)) in-range
-          ∙ ap (λ (c : Bool). cond c (cond (allFilled b goal guest machine) toldIn (plain 7)) (plain 14)) listed
+          ∙ ap (λ (c : Bool). cond c (cond (allFilled b goal guest machine) replyIn (plain 7)) (plain 14)) listed
 
       pub reacts-empty : allFilled b goal guest machine ≡ false → reacts b goal guest machine acc R s t ≡ plain 7
-      reacts-empty e = later ∙ ap (λ (c : Bool). cond c toldIn (plain 7)) e
+      reacts-empty e = later ∙ ap (λ (c : Bool). cond c replyIn (plain 7)) e
 
-      pub reacts-told : allFilled b goal guest machine ≡ true → reacts b goal guest machine acc R s t ≡ toldIn
-      reacts-told e = later ∙ ap (λ (c : Bool). cond c toldIn (plain 7)) e
+      pub reacts-verdict : allFilled b goal guest machine ≡ true → reacts b goal guest machine acc R s t ≡ replyIn
+      reacts-verdict e = later ∙ ap (λ (c : Bool). cond c replyIn (plain 7)) e

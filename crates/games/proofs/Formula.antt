@@ -23,7 +23,7 @@ use Rattle.formula.specs.Parse.{got, parse, formulaOf}
 use Rattle.formula.proofs.Bytes.{bytesOf, takes, Framing}
 use Rattle.formula.proofs.Accepted.{accepted-of}
 use Rattle.formula.proofs.Written.{tree, written-read}
-use Rattle.games.specs.Game.{moves, answers, forcing}
+use Rattle.games.specs.Game.{hasMove, hasAnswer, forcing}
 use Rattle.games.specs.Call.{bodyForm, gameForm, gameBytes}
 
 module _ (goal guest machine : ℕ) (n : ℕ) (g-in : goal < 32) (p-in : guest < 8) (m-in : machine < 8) where
@@ -145,13 +145,13 @@ module _ (m : Model) (goal guest machine : ℕ) (in-goal : Below (inside (m .reg
           go false c h = refl
 
       second : (s : ℕ) → s < k → mem (inter k (always k G (sometimes k M A)) (sometimes k G (allStates k))) s
-          ≡ (moves k G s && all (λ t. not (pair G s t) || answers k M A t) (table k (λ t. t)))
+          ≡ (hasMove k G s && all (λ t. not (pair G s t) || hasAnswer k M A t) (table k (λ t. t)))
       second s l =
           getD-table k (λ s. mem (always k G (sometimes k M A)) s && mem (sometimes k G (allStates k)) s) s false l
           ∙ and-both (mem (always k G (sometimes k M A)) s) (mem (sometimes k G (allStates k)) s)
           ∙ ap₂ _&&_ moves-mean every-mean
         where
-          moves-mean : mem (sometimes k G (allStates k)) s ≡ moves k G s
+          moves-mean : mem (sometimes k G (allStates k)) s ≡ hasMove k G s
           moves-mean =
               getD-table k (λ s. any (λ t. pair G s t && mem (allStates k) t) (table k (λ t. t))) s false l
               ∙ over-same true (λ t. pair G s t && mem (allStates k) t) (λ t. pair G s t) (table k (λ t. t))
@@ -162,11 +162,11 @@ module _ (m : Model) (goal guest machine : ℕ) (in-goal : Below (inside (m .reg
               and-true true = refl
               and-true false = refl
 
-          every-mean : mem (always k G (sometimes k M A)) s ≡ all (λ t. not (pair G s t) || answers k M A t) (table k (λ t. t))
+          every-mean : mem (always k G (sometimes k M A)) s ≡ all (λ t. not (pair G s t) || hasAnswer k M A t) (table k (λ t. t))
           every-mean =
               getD-table k (λ s. all (λ t. not (pair G s t) || mem (sometimes k M A) t) (table k (λ t. t))) s false l
-              ∙ over-same false (λ t. not (pair G s t) || mem (sometimes k M A) t) (λ t. not (pair G s t) || answers k M A t)
+              ∙ over-same false (λ t. not (pair G s t) || mem (sometimes k M A) t) (λ t. not (pair G s t) || hasAnswer k M A t)
               (table k (λ t. t))
-              (table-out k (λ t. t) (λ t. (not (pair G s t) || mem (sometimes k M A) t) ≡ (not (pair G s t) || answers k M A t))
+              (table-out k (λ t. t) (λ t. (not (pair G s t) || mem (sometimes k M A) t) ≡ (not (pair G s t) || hasAnswer k M A t))
               (λ t i. ap (λ (c : Bool). not (pair G s t) || c)
               (getD-table k (λ t. any (λ u. pair M t u && mem A u) (table k (λ u. u))) t false i)))

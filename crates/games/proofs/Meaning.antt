@@ -1,5 +1,6 @@
 -- The two calls by the book in plain words. Assumes nothing.
 use mathlib.Core.Path.{_≡_, refl, sym, ap, _∙_, subst}
+use mathlib.Core.Logic.{_⊎_, inl, inr}
 use mathlib.Core.Bool.{Bool, true, false, not, cond, _&&_}
 use mathlib.Core.List.{List}
 use mathlib.Core.Option.{some}
@@ -10,6 +11,7 @@ use lib.Dec.{T, ltb, ltb→lt}
 use Rattle.mucalculus.specs.Sets.{mem}
 use Rattle.mucalculus.proofs.Sets.{and-out, false-of}
 use Rattle.mucalculus.specs.Form.{Pairs}
+use Rattle.mucalculus.specs.Means.{pair}
 use Rattle.accounts.specs.declared.Terms.{Terms}
 use Rattle.accounts.specs.Terms.{named}
 use Rattle.book.specs.Ticks.{Verdict, counted, full, spent}
@@ -17,9 +19,9 @@ use Rattle.book.specs.Book.{Book, Done, registers, refuse, ended, setDone, does
 use Rattle.book.specs.Stored.{Whole}
 use Rattle.book.specs.Leaves.{plain}
 use Rattle.games.specs.Game.{forced, enters, answerTo, answerable}
-use Rattle.games.specs.Call.{numbersInRange, gameCall, presses, reactions, goals, forcedIn, gameVerdict, allFilled, reacted}
+use Rattle.games.specs.Call.{numbersInRange, gameCall, presses, reactions, goals, forcedIn, gameVerdict, allFilled, verdictReply}
 use Rattle.games.specs.Call.{reacts}
-use Rattle.games.specs.Meaning.{ForcedSet, AnswerIs}
+use Rattle.games.specs.Meaning.{ForcedSet, AnswerIs, NoAnswerTo}
 use Rattle.games.proofs.Rounds.{forced-least, not-out, answer-good, answer-least}
 use Rattle.games.proofs.Plays.{machineStrategy, machine-forces, guestStrategy, guest-stays}
 use Rattle.games.proofs.Only.{force-only}
@@ -55,21 +57,21 @@ answer-is k G M B s t l p =
 -- ---- the checks
 
 -- an answered second call had an answer, which is its value
-told-by : (a c d f : Bool) (v : Verdict) (u : ℕ)
-    → cond a (cond c (cond d (reacted v f u) (plain 7)) (plain 14)) (plain 3) .number ≡ 0
+answered-by : (a c d f : Bool) (v : Verdict) (u : ℕ)
+    → cond a (cond c (cond d (verdictReply v f u) (plain 7)) (plain 14)) (plain 3) .number ≡ 0
     → (a ≡ true) × (f ≡ true)
-    × (cond a (cond c (cond d (reacted v f u) (plain 7)) (plain 14)) (plain 3) .value ≡ u)
-told-by false c d f v u e = absurd (omega (arith, e))
-told-by true false d f v u e = absurd (omega (arith, e))
-told-by true true false f v u e = absurd (omega (arith, e))
-told-by true true true f full u e = absurd (omega (arith, e))
-told-by true true true f spent u e = absurd (omega (arith, e))
-told-by true true true false (counted q) u e = absurd (omega (arith, e))
-told-by true true true true (counted q) u e = (refl, refl, refl)
+    × (cond a (cond c (cond d (verdictReply v f u) (plain 7)) (plain 14)) (plain 3) .value ≡ u)
+answered-by false c d f v u e = absurd (omega (arith, e))
+answered-by true false d f v u e = absurd (omega (arith, e))
+answered-by true true false f v u e = absurd (omega (arith, e))
+answered-by true true true f full u e = absurd (omega (arith, e))
+answered-by true true true f spent u e = absurd (omega (arith, e))
+answered-by true true true false (counted q) u e = absurd (omega (arith, e))
+answered-by true true true true (counted q) u e = (refl, refl, refl)
 
 -- 15 says that it had none
 fifteen-by : (a c d f : Bool) (v : Verdict) (u : ℕ)
-    → cond a (cond c (cond d (reacted v f u) (plain 7)) (plain 14)) (plain 3) .number ≡ 15 → f ≡ false
+    → cond a (cond c (cond d (verdictReply v f u) (plain 7)) (plain 14)) (plain 3) .number ≡ 15 → f ≡ false
 fifteen-by false c d f v u e = absurd (omega (arith, e))
 fifteen-by true false d f v u e = absurd (omega (arith, e))
 fifteen-by true true false f v u e = absurd (omega (arith, e))
@@ -77,6 +79,13 @@ fifteen-by true true true f full u e = absurd (omega (arith, e))
 fifteen-by true true true f spent u e = absurd (omega (arith, e))
 fifteen-by true true true false (counted q) u e = refl
 fifteen-by true true true true (counted q) u e = absurd (omega (arith, e))
+
+-- and which of its parts is why
+why-none : (a b c : Bool) → (a && (not b && c)) ≡ false → T b ⊎ ((a ≡ false) ⊎ (c ≡ false))
+why-none true true c e = inl tt
+why-none true false true e = absurd (subst T e tt)
+why-none true false false e = inr (inr refl)
+why-none false b c e = inr (inl refl)
 
 -- ---- by the book
 
@@ -111,7 +120,7 @@ module _ (b : Book) (goal guest machine : ℕ) where
       let G = presses b guest in
       let M = reactions b machine in
       let B = goals b goal in
-      let w = told-by (near b acc R goal guest machine s t) (named acc) (allFilled b goal guest machine) (answerable k G M B s t)
+      let w = answered-by (near b acc R goal guest machine s t) (named acc) (allFilled b goal guest machine) (answerable k G M B s t)
       (gameVerdict b goal guest machine acc R) (answerTo k G M B s t) e in
       let x = and-out (numbersInRange goal guest machine) _ (subst T (sym (w .0)) tt) in
       let y = and-out (ltb s k) _ (x .1) in
@@ -120,11 +129,12 @@ module _ (b : Book) (goal guest machine : ℕ) where
 
   -- "15, the state is in the goal or outside the set, or the press is no guest move"
   pub react-fifteen : (acc : Terms) (R s t : ℕ) → reacts b goal guest machine acc R s t .number ≡ 15
-      → answerable (2 ^ b .n) (presses b guest) (reactions b machine) (goals b goal) s t ≡ false
+      → NoAnswerTo (presses b guest) (goals b goal) (forcedIn b goal guest machine) s t
   react-fifteen acc R s t e =
       let k = 2 ^ b .n in
       let G = presses b guest in
       let M = reactions b machine in
       let B = goals b goal in
-      fifteen-by (near b acc R goal guest machine s t) (named acc) (allFilled b goal guest machine) (answerable k G M B s t)
-      (gameVerdict b goal guest machine acc R) (answerTo k G M B s t) e
+      why-none (mem (forced k G M B) s) (mem B s) (pair G s t)
+      (fifteen-by (near b acc R goal guest machine s t) (named acc) (allFilled b goal guest machine) (answerable k G M B s t)
+      (gameVerdict b goal guest machine acc R) (answerTo k G M B s t) e)

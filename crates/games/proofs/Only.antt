@@ -12,7 +12,7 @@ use Rattle.mucalculus.proofs.Sets.{and-in, and-out, false-of}
 use Rattle.mucalculus.specs.Form.{Pairs}
 use Rattle.mucalculus.specs.Means.{pair}
 use Rattle.paths.proofs.First.{first-found}
-use Rattle.games.specs.Game.{answers, forced}
+use Rattle.games.specs.Game.{hasAnswer, forced}
 use Rattle.games.specs.Plays.{Turn, isPlay, playMeets, byMachine, Forces}
 use Rattle.games.proofs.Rounds.{not-out, answers-in}
 use Rattle.games.proofs.Plays.{guestStrategy, guest-moves, goal-in}
@@ -54,10 +54,10 @@ module _ (k : ℕ) (G M : Pairs) (B : List Bool) (h : ℕ → ℕ → ℕ) where
           let g = guest-moves k G M B s l out (on .0) in
           let t = guestStrategy k G M B s in
           let a = on .1 t (g .0) (g .1) in
-          let no-answer = and-out (pair G s t) _ (first-found k (λ t. pair G s t && not (answers k M (forced k G M B) t)) (g .0)) .1 in
+          let no-answer = and-out (pair G s t) _ (first-found k (λ t. pair G s t && not (hasAnswer k M (forced k G M B) t)) (g .0)) .1 in
           below (h s t) (a .0)
           (false-of (mem (forced k G M B) (h s t)) (λ i.
-          not-out (answers k M (forced k G M B) t) no-answer (answers-in k M (forced k G M B) t (h s t) (a .0) (a .1) i)))
+          not-out (hasAnswer k M (forced k G M B) t) no-answer (answers-in k M (forced k G M B) t (h s t) (a .0) (a .1) i)))
           (forces-next m s t F away (g .0) (g .1) (a .0) (a .1))
 
   -- THE SET OF STATES FROM WHICH THE MACHINE CAN FORCE THE GOAL: with `machine-forces`, exactly it

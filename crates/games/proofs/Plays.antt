@@ -15,7 +15,7 @@ use Rattle.mucalculus.specs.Form.{Pairs}
 use Rattle.mucalculus.specs.Means.{pair}
 use Rattle.paths.specs.Runs.{firstOf}
 use Rattle.paths.proofs.First.{first-found, first-least}
-use Rattle.games.specs.Game.{moves, answers, forced, enters, answerTo}
+use Rattle.games.specs.Game.{hasMove, hasAnswer, forced, enters, answerTo}
 use Rattle.games.specs.Plays.{Turn, isPlay, playEnd, playMeets, byGuest, byMachine, Forces, Stays}
 use Rattle.games.proofs.Rounds.{not-in, not-out, answers-in, forcing-out, forcing-goal, forcing-moves, forced-least}
 use Rattle.games.proofs.Rounds.{enters-some}
@@ -90,39 +90,39 @@ module _ (k : ℕ) (G M : Pairs) (B : List Bool) where
   }
     where
       goes : (e : ℕ) → T (mem (forced k G M B) e) → mem B e ≡ false
-          → T (moves k G e) × ((t : ℕ) → t < k → T (pair G e t) → (machineStrategy e t < k) × T (pair M t (machineStrategy e t)))
+          → T (hasMove k G e) × ((t : ℕ) → t < k → T (pair G e t) → (machineStrategy e t < k) × T (pair M t (machineStrategy e t)))
       goes e j out = (
         can (forcing-out k G M B (forced k G M B) e (subst (λ (A : List Bool). T (mem A e)) (sym (forced-least k G M B .fixed)) j)),
         λ t l g. let w = answer-good k G M B e t l (λ b. subst T out b) g j in (w .state, w .move),
       )
         where
-          can : T (mem B e) ⊎ (T (moves k G e) × ((t : ℕ) → t < k → T (pair G e t) → T (answers k M (forced k G M B) t))) → T
-              (moves k G e)
+          can : T (mem B e) ⊎ (T (hasMove k G e) × ((t : ℕ) → t < k → T (pair G e t) → T (hasAnswer k M (forced k G M B) t))) → T
+              (hasMove k G e)
           can (inl b) = absurd (subst T out b)
           can (inr (m, r)) = m
 
   -- ---- the guest's strategy: the least press after which no machine move leads into the set
 
   abbrev pub guestStrategy : ℕ → ℕ
-  guestStrategy s = firstOf k (λ t. pair G s t && not (answers k M (forced k G M B) t))
+  guestStrategy s = firstOf k (λ t. pair G s t && not (hasAnswer k M (forced k G M B) t))
 
   -- it is a move where the guest has one, outside the set
-  pub guest-moves : (s : ℕ) → s < k → mem (forced k G M B) s ≡ false → T (moves k G s) → (guestStrategy s < k) × T
+  pub guest-moves : (s : ℕ) → s < k → mem (forced k G M B) s ≡ false → T (hasMove k G s) → (guestStrategy s < k) × T
       (pair G s (guestStrategy s))
   guest-moves s l out m =
       let lt : guestStrategy s < k = lt-of-not-le (λ h. subst T out
       (subst (λ (A : List Bool). T (mem A s)) (forced-least k G M B .fixed)
       (forcing-moves k G M B (forced k G M B) s l m (λ t i g. sure t i g h)))) in
-      (lt, and-out (pair G s (guestStrategy s)) _ (first-found k (λ t. pair G s t && not (answers k M (forced k G M B) t)) lt) .0)
+      (lt, and-out (pair G s (guestStrategy s)) _ (first-found k (λ t. pair G s t && not (hasAnswer k M (forced k G M B) t)) lt) .0)
     where
-      sure : (t : ℕ) → t < k → T (pair G s t) → k ≤ guestStrategy s → T (answers k M (forced k G M B) t)
-      sure t i g h = by (answers k M (forced k G M B) t) refl
+      sure : (t : ℕ) → t < k → T (pair G s t) → k ≤ guestStrategy s → T (hasAnswer k M (forced k G M B) t)
+      sure t i g h = by (hasAnswer k M (forced k G M B) t) refl
         where
-          by : (b : Bool) → answers k M (forced k G M B) t ≡ b → T b
+          by : (b : Bool) → hasAnswer k M (forced k G M B) t ≡ b → T b
           by true e = tt
           by false e =
-              let z = first-least k (λ t. pair G s t && not (answers k M (forced k G M B) t)) t i
-              (and-in (pair G s t) _ g (not-in (answers k M (forced k G M B) t) (λ a. subst T e a))) in
+              let z = first-least k (λ t. pair G s t && not (hasAnswer k M (forced k G M B) t)) t i
+              (and-in (pair G s t) _ g (not-in (hasAnswer k M (forced k G M B) t) (λ a. subst T e a))) in
               absurd (omega arith)
 
   -- and leads the play outside again
@@ -133,9 +133,9 @@ module _ (k : ℕ) (G M : Pairs) (B : List Bool) where
       let e : x .press ≡ guestStrategy s = eqb→eq (x .press) (guestStrategy s) (and-out (eqb (x .press) (guestStrategy s)) _ q .0) in
       let lt : guestStrategy s < k = subst (λ (t : ℕ). t < k) e (w .press-lt) in
       let no-answer = and-out (pair G s (guestStrategy s)) _ (first-found k
-      (λ t. pair G s t && not (answers k M (forced k G M B) t)) lt) .1 in
+      (λ t. pair G s t && not (hasAnswer k M (forced k G M B) t)) lt) .1 in
       false-of (mem (forced k G M B) (x .answer)) (λ i.
-      not-out (answers k M (forced k G M B) (guestStrategy s)) no-answer
+      not-out (hasAnswer k M (forced k G M B) (guestStrategy s)) no-answer
       (answers-in k M (forced k G M B) (guestStrategy s) (x .answer) (w .answer-lt) (subst (λ (t : ℕ). T (pair M t (x .answer))) e
       (w .answer)) i))
 

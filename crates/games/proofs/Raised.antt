@@ -19,18 +19,18 @@ use Rattle.book.specs.Leaves.{plain}
 use Rattle.book.specs.Raised.{Eased, withRowCount}
 use Rattle.book.proofs.Larger.{verdict-more}
 use Rattle.games.specs.Game.{answerable, answerTo}
-use Rattle.games.specs.Call.{gameForm, gameVerdict, presses, reactions, goals, numbersInRange, allFilled, reacted, reacts}
+use Rattle.games.specs.Call.{gameForm, gameVerdict, presses, reactions, goals, numbersInRange, allFilled, verdictReply, reacts}
 
 -- neither 8 nor 9
 abbrev pub Firm : Reply → Type 0
 Firm y = (y .number ≡ 8 → ⊥) × (y .number ≡ 9 → ⊥)
 
 -- a verdict that is kept tells the same
-told-more : (v v′ : Verdict) (ok : Bool) (u : ℕ) → ((q : Count) → v ≡ counted q → v′ ≡ counted q) → Firm (reacted v ok u)
-    → reacted v′ ok u ≡ reacted v ok u
-told-more (counted q) v′ ok u h f = ap (λ (w : Verdict). reacted w ok u) (h q refl)
-told-more full v′ ok u h f = absurd (f .0 refl)
-told-more spent v′ ok u h f = absurd (f .1 refl)
+verdict-reply-more : (v v′ : Verdict) (ok : Bool) (u : ℕ) → ((q : Count) → v ≡ counted q → v′ ≡ counted q) → Firm (verdictReply v ok u)
+    → verdictReply v′ ok u ≡ verdictReply v ok u
+verdict-reply-more (counted q) v′ ok u h f = ap (λ (w : Verdict). verdictReply w ok u) (h q refl)
+verdict-reply-more full v′ ok u h f = absurd (f .0 refl)
+verdict-reply-more spent v′ ok u h f = absurd (f .1 refl)
 
 -- after the checks, which do not read the rows
 checked : (x y z : Bool) (a a′ : Reply) → (Firm a → a′ ≡ a) → Firm (cond x (cond y (cond z a (plain 7)) (plain 14)) (plain 3))
@@ -58,11 +58,11 @@ reacts-more M b l acc acc′ e R R′ i goal guest machine s t f =
     (omega arith) nothing
     (ticks (states (modelOf b) noEnv) (liveOf b) (gameForm goal guest machine)) q in
     ap (λ (x : Bool). cond near (cond x (cond (allFilled b goal guest machine)
-    (reacted (gameVerdict (withRowCount b M) goal guest machine acc′ R′) ok u) (plain 7))
+    (verdictReply (gameVerdict (withRowCount b M) goal guest machine acc′ R′) ok u) (plain 7))
     (plain 14)) (plain 3))
     (ap₂ listFits (e .count) (e .place))
-    ∙ checked near (named acc) (allFilled b goal guest machine) (reacted
+    ∙ checked near (named acc) (allFilled b goal guest machine) (verdictReply
     (gameVerdict b goal guest machine acc R) ok u)
-    (reacted (gameVerdict (withRowCount b M) goal guest machine acc′ R′) ok u)
-    (told-more (gameVerdict b goal guest machine acc R) (gameVerdict
+    (verdictReply (gameVerdict (withRowCount b M) goal guest machine acc′ R′) ok u)
+    (verdict-reply-more (gameVerdict b goal guest machine acc R) (gameVerdict
     (withRowCount b M) goal guest machine acc′ R′) ok u kept) f

@@ -22,7 +22,7 @@ use Rattle.mucalculus.specs.Means.{pair}
 use Rattle.book.proofs.Diamond.{table-in}
 use Rattle.paths.specs.Runs.{firstOf}
 use Rattle.paths.proofs.First.{first-found, first-least, first-is, first-same}
-use Rattle.games.specs.Game.{moves, answers, forcing, forced, setAfter, enters, answerTo}
+use Rattle.games.specs.Game.{hasMove, hasAnswer, forcing, forced, setAfter, enters, answerTo, openMove, answerable}
 
 -- ---- quantifiers over the states
 
@@ -64,13 +64,13 @@ same-test false false f g = refl
 abbrev pub Answer : ℕ → Pairs → List Bool → ℕ → Type 0
 Answer k M A t = (u : ℕ) × (u < k) × T (pair M t u) × T (mem A u)
 
-pub answers-out : (k : ℕ) (M : Pairs) (A : List Bool) (t : ℕ) → T (answers k M A t) → Answer k M A t
+pub answers-out : (k : ℕ) (M : Pairs) (A : List Bool) (t : ℕ) → T (hasAnswer k M A t) → Answer k M A t
 answers-out k M A t p =
     let w = some-out k (λ u. pair M t u && mem A u) p in
     let v = and-out (pair M t (w .0)) (mem A (w .0)) (w .2) in
     (w .0, w .1, v .0, v .1)
 
-pub answers-in : (k : ℕ) (M : Pairs) (A : List Bool) (t u : ℕ) → u < k → T (pair M t u) → T (mem A u) → T (answers k M A t)
+pub answers-in : (k : ℕ) (M : Pairs) (A : List Bool) (t u : ℕ) → u < k → T (pair M t u) → T (mem A u) → T (hasAnswer k M A t)
 answers-in k M A t u l p q = some-in k (λ u. pair M t u && mem A u) u l (and-in (pair M t u) (mem A u) p q)
 
 module _ (k : ℕ) (G M : Pairs) (B : List Bool) where
@@ -78,21 +78,21 @@ module _ (k : ℕ) (G M : Pairs) (B : List Bool) where
 
   -- what is wanted of a state outside the goal
   abbrev test : List Bool → ℕ → Bool
-  test A s = mem B s || (moves k G s && all (λ t. not (pair G s t) || answers k M A t) (table k (λ t. t)))
+  test A s = mem B s || (hasMove k G s && all (λ t. not (pair G s t) || hasAnswer k M A t) (table k (λ t. t)))
 
   pub forcing-lt : (A : List Bool) (s : ℕ) → T (mem (forcing k G M B A) s) → s < k
   forcing-lt A s p = ltb→lt s k (and-out (ltb s k) _ (subst T (mem-table k (test A) s) p) .0)
 
   pub forcing-out : (A : List Bool) (s : ℕ) → T (mem (forcing k G M B A) s)
-      → T (mem B s) ⊎ (T (moves k G s) × ((t : ℕ) → t < k → T (pair G s t) → T (answers k M A t)))
+      → T (mem B s) ⊎ (T (hasMove k G s) × ((t : ℕ) → t < k → T (pair G s t) → T (hasAnswer k M A t)))
   forcing-out A s p = go (or-out (mem B s) _ (and-out (ltb s k) _ (subst T (mem-table k (test A) s) p) .1))
     where
-      go : T (mem B s) ⊎ T (moves k G s && all (λ t. not (pair G s t) || answers k M A t) (table k (λ t. t)))
-          → T (mem B s) ⊎ (T (moves k G s) × ((t : ℕ) → t < k → T (pair G s t) → T (answers k M A t)))
+      go : T (mem B s) ⊎ T (hasMove k G s && all (λ t. not (pair G s t) || hasAnswer k M A t) (table k (λ t. t)))
+          → T (mem B s) ⊎ (T (hasMove k G s) × ((t : ℕ) → t < k → T (pair G s t) → T (hasAnswer k M A t)))
       go (inl q) = inl q
       go (inr q) =
-          let w = and-out (moves k G s) _ q in
-          inr (w .0, λ t l. imply-out (pair G s t) (answers k M A t) (every-out k (λ t. not (pair G s t) || answers k M A t) (w .1) t l))
+          let w = and-out (hasMove k G s) _ q in
+          inr (w .0, λ t l. imply-out (pair G s t) (hasAnswer k M A t) (every-out k (λ t. not (pair G s t) || hasAnswer k M A t) (w .1) t l))
 
   forcing-by : (A : List Bool) (s : ℕ) → s < k → T (test A s) → T (mem (forcing k G M B A) s)
   forcing-by A s l p = subst T (sym (mem-table k (test A) s)) (and-in (ltb s k) _ (lt→ltb s k l) p)
@@ -100,19 +100,19 @@ module _ (k : ℕ) (G M : Pairs) (B : List Bool) where
   pub forcing-goal : (A : List Bool) (s : ℕ) → s < k → T (mem B s) → T (mem (forcing k G M B A) s)
   forcing-goal A s l p = forcing-by A s l (or-left (mem B s) _ p)
 
-  pub forcing-moves : (A : List Bool) (s : ℕ) → s < k → T (moves k G s)
-      → ((t : ℕ) → t < k → T (pair G s t) → T (answers k M A t)) → T (mem (forcing k G M B A) s)
+  pub forcing-moves : (A : List Bool) (s : ℕ) → s < k → T (hasMove k G s)
+      → ((t : ℕ) → t < k → T (pair G s t) → T (hasAnswer k M A t)) → T (mem (forcing k G M B A) s)
   forcing-moves A s l p h =
       forcing-by A s l
       (or-right (mem B s) _
-      (and-in (moves k G s) _ p
-      (every-in k (λ t. not (pair G s t) || answers k M A t) (λ t i. imply-in (pair G s t) (answers k M A t) (h t i)))))
+      (and-in (hasMove k G s) _ p
+      (every-in k (λ t. not (pair G s t) || hasAnswer k M A t) (λ t i. imply-in (pair G s t) (hasAnswer k M A t) (h t i)))))
 
   -- more states force more
   pub forcing-mono : Mono (forcing k G M B)
   forcing-mono A C h s p = go (forcing-out A s p)
     where
-      go : T (mem B s) ⊎ (T (moves k G s) × ((t : ℕ) → t < k → T (pair G s t) → T (answers k M A t))) → T (mem (forcing k G M B C) s)
+      go : T (mem B s) ⊎ (T (hasMove k G s) × ((t : ℕ) → t < k → T (pair G s t) → T (hasAnswer k M A t))) → T (mem (forcing k G M B C) s)
       go (inl q) = forcing-goal C s (forcing-lt A s p) q
       go (inr (q, r)) = forcing-moves C s (forcing-lt A s p) q (λ t l g.
           let w = answers-out k M A t (r t l g) in answers-in k M C t (w .0) (w .1) (w .2) (h (w .0) (w .3)))
@@ -250,7 +250,7 @@ module _ (k : ℕ) (G M : Pairs) (B : List Bool) where
     answer-some : (i : ℕ) → T (mem (setAfter k G M B (suc i)) s) → Answer k M (setAfter k G M B i) t
     answer-some i p = go (forcing-out (setAfter k G M B i) s p)
       where
-        go : T (mem B s) ⊎ (T (moves k G s) × ((t : ℕ) → t < k → T (pair G s t) → T (answers k M (setAfter k G M B i) t)))
+        go : T (mem B s) ⊎ (T (hasMove k G s) × ((t : ℕ) → t < k → T (pair G s t) → T (hasAnswer k M (setAfter k G M B i) t)))
             → Answer k M (setAfter k G M B i) t
         go (inl q) = absurd (out q)
         go (inr (q, r)) = answers-out k M (setAfter k G M B i) t (r t l press)
@@ -284,40 +284,68 @@ module _ (k : ℕ) (G M : Pairs) (B : List Bool) where
 
   -- ---- the answer noted as the rounds go
 
-  -- after round i: k where the state is not in the set yet, then its answer, where the press is a guest move of a state outside the goal
-  pub record Noted (s t i x : ℕ) : Type 0 where
+  -- after round i, o saying whether the press is to be answered at all: k where it is not, or where the state is not in the set yet; else
+  -- the answer
+  pub record Noted (o : Bool) (s t i x : ℕ) : Type 0 where
+    pub shut : o ≡ false → x ≡ k
     pub not-yet : (T (mem (setAfter k G M B i) s) → ⊥) → x ≡ k
-    pub found : T (mem (setAfter k G M B i) s) → (T (mem B s) → ⊥) → t < k → T (pair G s t) → (x ≡ answerTo k G M B s t) × (x < k)
+    pub found : T (mem (setAfter k G M B i) s) → T o → (x ≡ answerTo k G M B s t) × (x < k)
 
-  pub noted-none : (s t : ℕ) → Noted s t 0 k
-  noted-none s t = record { not-yet = λ _. refl; found = λ p. absurd (mem-noStates k s p) }
+  pub noted-none : (o : Bool) (s t : ℕ) → Noted o s t 0 k
+  noted-none o s t = record { shut = λ _. refl; not-yet = λ _. refl; found = λ p. absurd (mem-noStates k s p) }
 
   -- what a round notes: the one in which the state enters decides
-  abbrev pub noting : ℕ → ℕ → ℕ → ℕ → ℕ
-  noting s t i x =
+  abbrev pub noting : Bool → ℕ → ℕ → ℕ → ℕ → ℕ
+  noting o s t i x =
       let least = leastInto t i in
       let entered = cond (mem (setAfter k G M B (suc i)) s) least x in
-      cond (mem (setAfter k G M B i) s) x entered
+      let open-press = cond (mem (setAfter k G M B i) s) x entered in
+      cond o open-press x
 
-  module _ {s t i x : ℕ} (n : Noted s t i x) (more : i < k) where
-    pub noted-next : Noted s t (suc i) (noting s t i x)
-    noted-next = record {
-      not-yet = λ out.
-          let before : T (at s i) → ⊥ = λ p. out (climbs i s p) in
-          by (false-of (at s i) before) (false-of (at s (suc i)) out) ∙ n .not-yet before;
-      found = λ p out l press. go (at s i) refl p out l press;
-    }
+  pub noted-next : (o : Bool) (s t i x : ℕ) → o ≡ openMove G B s t → t < k → i < k → Noted o s t i x
+      → Noted o s t (suc i) (noting o s t i x)
+  noted-next false s t i x is l more n = record {
+    shut = n .shut;
+    not-yet = λ out. n .not-yet (λ p. out (climbs i s p));
+    found = λ p h. absurd h;
+  }
+  noted-next true s t i x is l more n = record {
+    shut = λ h. absurd (subst T h tt);
+    not-yet = λ out.
+        let before : T (at s i) → ⊥ = λ p. out (climbs i s p) in
+        by (false-of (at s i) before) (false-of (at s (suc i)) out) ∙ n .not-yet before;
+    found = λ p h. go (at s i) refl p;
+  }
+    where
+      press : T (not (mem B s)) × T (pair G s t)
+      press = and-out (not (mem B s)) (pair G s t) (subst T is tt)
+
+      by : {a c : Bool} → at s i ≡ a → at s (suc i) ≡ c → noting true s t i x ≡ cond a x (cond c (leastInto t i) x)
+      by e f = ap₂ (λ (a c : Bool). cond a x (cond c (leastInto t i) x)) e f
+
+      go : (b : Bool) → at s i ≡ b → T (at s (suc i)) → (noting true s t i x ≡ answerTo k G M B s t) × (noting true s t i x < k)
+      go true e p =
+          let f = n .found (subst T (sym e) tt) tt in
+          let same : noting true s t i x ≡ x = by e refl in
+          (same ∙ f .0, subst (λ (y : ℕ). y < k) (sym same) (f .1))
+      go false e p =
+          let same : noting true s t i x ≡ leastInto t i = by e (true-of (at s (suc i)) p) in
+          let near = answer-near s t i (omega arith) (enters-is s i more (λ q. subst T e q) p) in
+          (same ∙ sym near, subst (λ (y : ℕ). y < k) (sym same) (answer-lt s t l (not-out (mem B s) (press .0)) (press .1) i p))
+
+  -- when the set is made: the answer, where there is one
+  module _ {o : Bool} {s t i x : ℕ} (is : o ≡ openMove G B s t) (done : setAfter k G M B i ≡ forced k G M B) (n : Noted o s t i x) where
+    in-set : T (mem (forced k G M B) s) → T (mem (setAfter k G M B i) s)
+    in-set = subst (λ (A : List Bool). T (mem A s)) (sym done)
+
+    pub made-found : T (answerable k G M B s t) → (x ≡ answerTo k G M B s t) × (x < k)
+    made-found p =
+        let w = and-out (mem (forced k G M B) s) (openMove G B s t) p in n .found (in-set (w .0)) (subst T (sym is) (w .1))
+
+    pub made-none : answerable k G M B s t ≡ false → x ≡ k
+    made-none e = go o refl
       where
-        by : {a c : Bool} → at s i ≡ a → at s (suc i) ≡ c → noting s t i x ≡ cond a x (cond c (leastInto t i) x)
-        by e f = ap₂ (λ (a c : Bool). cond a x (cond c (leastInto t i) x)) e f
-
-        go : (b : Bool) → at s i ≡ b → T (at s (suc i)) → (T (mem B s) → ⊥) → t < k → T (pair G s t)
-            → (noting s t i x ≡ answerTo k G M B s t) × (noting s t i x < k)
-        go true e p out l press =
-            let f = n .found (subst T (sym e) tt) out l press in
-            let same : noting s t i x ≡ x = by e refl in
-            (same ∙ f .0, subst (λ (y : ℕ). y < k) (sym same) (f .1))
-        go false e p out l press =
-            let same : noting s t i x ≡ leastInto t i = by e (true-of (at s (suc i)) p) in
-            let near = answer-near s t i (omega arith) (enters-is s i more (λ q. subst T e q) p) in
-            (same ∙ sym near, subst (λ (y : ℕ). y < k) (sym same) (answer-lt s t l out press i p))
+        go : (b : Bool) → o ≡ b → x ≡ k
+        go false f = n .shut f
+        go true f = n .not-yet (λ p. subst T e (and-in (mem (forced k G M B) s) (openMove G B s t)
+            (subst (λ (A : List Bool). T (mem A s)) done p) (subst T (sym f ∙ is) tt)))

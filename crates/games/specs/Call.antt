@@ -56,11 +56,11 @@ goals b goal = inside (b .reg goal)
 
 -- the second call's reply when the rounds have ended: 8 and 9 by the steps; the answer u where there is one, and "15, the state is in
 -- the goal or outside the set, or the press is no guest move, decided once the set is made"
-abbrev pub reacted : Verdict → Bool → ℕ → Reply
-reacted full ok u = plain 8
-reacted spent ok u = plain 9
-reacted (counted q) true u = valued u
-reacted (counted q) false u = plain 15
+abbrev pub verdictReply : Verdict → Bool → ℕ → Reply
+verdictReply full ok u = plain 8
+verdictReply spent ok u = plain 9
+verdictReply (counted q) true u = valued u
+verdictReply (counted q) false u = plain 15
 
 module _ (b : Book) (goal guest machine : ℕ) where
   -- "the set of states from which the machine can force the goal"
@@ -94,7 +94,7 @@ module _ (b : Book) (goal guest machine : ℕ) where
       let G = presses b guest in
       let M = reactions b machine in
       let B = goals b goal in
-      let told = reacted (gameVerdict acc R) (answerable k G M B s t) (answerTo k G M B s t) in
+      let told = verdictReply (gameVerdict acc R) (answerable k G M B s t) (answerTo k G M B s t) in
       let filled = cond allFilled told (plain 7) in
       let listed = cond (named acc) filled (plain 14) in
       cond (numbersInRange goal guest machine && (ltb s k && ltb t k)) listed (plain 3)

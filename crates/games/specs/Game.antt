@@ -13,16 +13,16 @@ use Rattle.mucalculus.specs.Means.{pair}
 use Rattle.paths.specs.Runs.{firstOf}
 
 -- "the guest has a move" in s
-abbrev pub moves : ℕ → Pairs → ℕ → Bool
-moves k G s = any (λ t. pair G s t) (table k (λ t. t))
+abbrev pub hasMove : ℕ → Pairs → ℕ → Bool
+hasMove k G s = any (λ t. pair G s t) (table k (λ t. t))
 
 -- after the press t "some machine move leads back into the set" A
-abbrev pub answers : ℕ → Pairs → List Bool → ℕ → Bool
-answers k M A t = any (λ u. pair M t u && mem A u) (table k (λ u. u))
+abbrev pub hasAnswer : ℕ → Pairs → List Bool → ℕ → Bool
+hasAnswer k M A t = any (λ u. pair M t u && mem A u) (table k (λ u. u))
 
 -- "those in the goal, and those where the guest has a move and after every guest move some machine move leads back into the set"
 abbrev pub forcing : ℕ → Pairs → Pairs → List Bool → List Bool → List Bool
-forcing k G M B A = table k (λ s. mem B s || (moves k G s && all (λ t. not (pair G s t) || answers k M A t) (table k (λ t. t))))
+forcing k G M B A = table k (λ s. mem B s || (hasMove k G s && all (λ t. not (pair G s t) || hasAnswer k M A t) (table k (λ t. t))))
 
 -- "least such set": of all sets A of k states with forcing A = A
 abbrev pub forced : ℕ → Pairs → Pairs → List Bool → List Bool
@@ -41,6 +41,10 @@ enters k G M B s = firstOf (suc k) (λ i. mem (setAfter k G M B i) s)
 abbrev pub answerTo : ℕ → Pairs → Pairs → List Bool → ℕ → ℕ → ℕ
 answerTo k G M B s t = firstOf k (λ u. pair M t u && ltb (enters k G M B u) (enters k G M B s))
 
+-- the press t is "a guest move" of a state s "outside the goal"
+abbrev pub openMove : Pairs → List Bool → ℕ → ℕ → Bool
+openMove G B s t = not (mem B s) && pair G s t
+
 -- there is an answer: "for a state of the set outside the goal and a guest move"; else 15 is given
 abbrev pub answerable : ℕ → Pairs → Pairs → List Bool → ℕ → ℕ → Bool
-answerable k G M B s t = mem (forced k G M B) s && (not (mem B s) && pair G s t)
+answerable k G M B s t = mem (forced k G M B) s && openMove G B s t

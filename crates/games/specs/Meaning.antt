@@ -1,5 +1,6 @@
 -- The two calls in plain words. Assumes nothing.
 use mathlib.Core.Path.{_≡_}
+use mathlib.Core.Logic.{_⊎_}
 use mathlib.Core.Bool.{Bool, false}
 use mathlib.Core.List.{List}
 use Prim.Native.Nat.{ℕ, _≤_, _<_}
@@ -35,3 +36,7 @@ pub record AnswerIs (k : ℕ) (G M : Pairs) (B A : List Bool) (s t u : ℕ) : Ty
   pub back : T (mem A u)
   pub earlier : enters k G M B u < enters k G M B s
   pub least : (v : ℕ) → v < k → T (pair M t v) → enters k G M B v < enters k G M B s → u ≤ v
+
+-- why the second call has no answer: "15, the state is in the goal or outside the set, or the press is no guest move"
+abbrev pub NoAnswerTo : Pairs → List Bool → List Bool → ℕ → ℕ → Type 0
+NoAnswerTo G B A s t = T (mem B s) ⊎ ((mem A s ≡ false) ⊎ (pair G s t ≡ false))

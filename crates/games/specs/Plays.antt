@@ -8,7 +8,7 @@ use lib.ListN.{length}
 use Rattle.mucalculus.specs.Sets.{mem}
 use Rattle.mucalculus.specs.Form.{Pairs}
 use Rattle.mucalculus.specs.Means.{pair}
-use Rattle.games.specs.Game.{moves}
+use Rattle.games.specs.Game.{hasMove}
 
 -- one exchange: "The guest presses, then the machine reacts": the state that the press leads to, and the one that the answer leads to
 pub record Turn : Type 0 where
@@ -45,7 +45,7 @@ byMachine h s (x ∷ l) = eqb (x .answer) (h s (x .press)) && byMachine h (x .an
 -- go on, as the guest has a move and to every press h has an answer; and it cannot go on for ever
 pub record Forces (k : ℕ) (G M : Pairs) (B : List Bool) (h : ℕ → ℕ → ℕ) (bound s : ℕ) : Type 0 where
   pub goes-on : (l : List Turn) → T (isPlay k G M s l) → T (byMachine h s l) → playMeets B s l ≡ false
-      → T (moves k G (playEnd s l))
+      → T (hasMove k G (playEnd s l))
       × ((t : ℕ) → t < k → T (pair G (playEnd s l) t) → (h (playEnd s l) t < k) × T (pair M t (h (playEnd s l) t)))
   pub ends : (l : List Turn) → T (isPlay k G M s l) → T (byMachine h s l) → playMeets B s l ≡ false → length l < bound
 
@@ -53,5 +53,5 @@ pub record Forces (k : ℕ) (G M : Pairs) (B : List Bool) (h : ℕ → ℕ → �
 -- the set, and where the guest has a move, what g says is one
 pub record Stays (k : ℕ) (G M : Pairs) (A : List Bool) (g : ℕ → ℕ) (s : ℕ) : Type 0 where
   pub outside : (l : List Turn) → T (isPlay k G M s l) → T (byGuest g s l) → playMeets A s l ≡ false
-  pub moves-on : (l : List Turn) → T (isPlay k G M s l) → T (byGuest g s l) → T (moves k G (playEnd s l))
+  pub moves-on : (l : List Turn) → T (isPlay k G M s l) → T (byGuest g s l) → T (hasMove k G (playEnd s l))
       → (g (playEnd s l) < k) × T (pair G (playEnd s l) (g (playEnd s l)))

@@ -54,14 +54,16 @@ pub record Passing (n limit : ℕ) (W X : View) (t b : ℕ) (S : Scene n W t b) 
 
 -- ---- the least common state, of sets
 
+-- whether a state is in an arrow's set
+pub set-holds : (n : ℕ) (X : View) {x : ℕ} (A : List Bool) → 2 * n ≡ 2 * X .header BITS → Denotes (2 * n) (rowsOf X) x (fnOf n A)
+    → (s : ℕ) → s < 2 ^ n → holdsAt X x s 0 ≡ mem A s
+set-holds n X {x} A e d s l =
+    subst (λ (m : ℕ). den m (rowsOf X) x (pairVal s 0) ≡ mem A s) e (d .same (pairVal s 0) ∙ ap (mem A) (nowOf-pairVal n s 0 l))
+
 pub both-mem : (n : ℕ) (W X : View) {a x : ℕ} (A L : List Bool) → 2 * n ≡ 2 * X .header BITS → Denotes (2 * n) (rowsOf X) a (fnOf n A)
     → Denotes (2 * n) (rowsOf X) x (fnOf n L)
     → (s : ℕ) → s < 2 ^ n → inBoth X a x s ≡ (mem A s && mem L s)
-both-mem n W X {a} {x} A L e da dx s l = ap₂ _&&_ (one A da) (one L dx)
-  where
-    one : {c : ℕ} (C : List Bool) → Denotes (2 * n) (rowsOf X) c (fnOf n C) → holdsAt X c s 0 ≡ mem C s
-    one {c} C d =
-        subst (λ (m : ℕ). den m (rowsOf X) c (pairVal s 0) ≡ mem C s) e (d .same (pairVal s 0) ∙ ap (mem C) (nowOf-pairVal n s 0 l))
+both-mem n W X A L e da dx s l = ap₂ _&&_ (set-holds n X A e da s l) (set-holds n X L e dx s l)
 
 -- what a walk asks
 pub holds-pre : {n N limit : ℕ} {X : View} {a : ℕ} → Base n N limit X → Arrow (rowsOf X) a → HoldsPre X a

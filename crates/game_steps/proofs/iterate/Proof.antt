@@ -1,4 +1,4 @@
--- `watch` meets its contract: each turn is a round of the game's formula. Assumes nothing.
+-- `iterate` meets its contract: each turn is a round of the game's formula. Assumes nothing.
 use mathlib.Core.Path.{refl, _∙_}
 use Prim.Native.Nat.{_-_, _^_, _<_}
 use native.Mathlib.Omega.{arith}
@@ -7,10 +7,10 @@ use Rattle.seek.proofs.Search.{power-fits}
 use Rattle.game_steps.proofs.Standing.{Looping, loop-starts, turn-asks, loop-out, loop-halts, loop-same, turn-notes, turn-less}
 use Rattle.game_steps.proofs.Standing.{loop-turns}
 use borrow.Author.Needs.{needs}
-use Rattle.game_steps.proofs.watch.Statement.{statement}
-use Rattle.game_steps.proofs.watch.Tie as tie
-use Rattle.game_steps.proofs.watch.Reads as reads
-use Rattle.game_steps.proofs.watch.Lts as lts
+use Rattle.game_steps.proofs.iterate.Statement.{statement}
+use Rattle.game_steps.proofs.iterate.Tie as tie
+use Rattle.game_steps.proofs.iterate.Reads as reads
+use Rattle.game_steps.proofs.iterate.Lts as lts
 
 abbrev Inv-loop : tie.InvT-loop
 Inv-loop words₀ counts₀ stack₀ bytes limits asked noted₀ current₀ counted₀ words counts stack noted current counted =
@@ -20,8 +20,8 @@ abbrev μ-loop : tie.MeasureT-loop
 μ-loop words₀ counts₀ stack₀ bytes limits asked noted₀ current₀ counted₀ words counts stack noted current counted =
     limits .rounds - counted .rounds
 
-pub watch-spec : {M : Type 1} → statement M
-watch-spec =
+pub iterate-spec : {M : Type 1} → statement M
+iterate-spec =
     tie.close
     (tie.spec
     Inv-loop

@@ -7,7 +7,6 @@ use lib.Dec.{T}
 use lib.ListN.{set}
 use Rattle.accounts.specs.declared.Count.{Count}
 use Rattle.accounts.specs.Count.{nothing}
-use Rattle.mucalculus.specs.Sets.{mem}
 use Rattle.mucalculus.specs.Form.{Pairs, inside}
 use Rattle.tokens.specs.declared.Grammar.the-variants.{Runs}
 use Rattle.layout.specs.Places.{FIRST-RELATION}
@@ -21,20 +20,22 @@ use Rattle.evaluator.specs.declared.Evaluated.the-variants as answer
 use Rattle.paths.specs.Runs.{firstOf}
 use Rattle.seek.specs.Walk.{HoldsPre, holdsAt}
 use Rattle.seek.specs.Search.{nextIn}
-use Rattle.games.specs.Game.{forced, answerTo, answerable}
+use Rattle.games.specs.Game.{answerTo, openMove, answerable}
 use Rattle.games.specs.Call.{bodyForm, gameForm}
 use Rattle.game_steps.specs.declared.Asked.{Asked}
-use Rattle.game_steps.specs.declared.Watched.{Watched}
-use Rattle.game_steps.specs.declared.Watched.the-variants as watched
+use Rattle.game_steps.specs.declared.Iterated.{Iterated}
+use Rattle.game_steps.specs.declared.Iterated.the-variants as iterated
 
 -- ---- one round
 
--- what is noted after a round that made the set of arrow `next` from the one of arrow `last`: the round in which the state enters decides
+-- what is noted after a round that made the set of arrow `next` from the one of arrow `last`: of an open press the round in which the state
+-- enters decides
 abbrev pub noteBy : ℕ → View → Asked → ℕ → ℕ → ℕ → ℕ
 noteBy n W a noted last next =
     let found = firstOf (2 ^ n) (nextIn W (a .machine) (a .press) last) in
     let entered = cond (holdsAt W next (a .state) 0) found noted in
-    cond (holdsAt W last (a .state) 0) noted entered
+    let open-press = cond (holdsAt W last (a .state) 0) noted entered in
+    cond (a .open_move) open-press noted
 
 -- the three arrows are the table's
 pub record NotePre (n : ℕ) (W : View) (a : Asked) (last next : ℕ) : Type 0 where
@@ -44,14 +45,15 @@ pub record NotePre (n : ℕ) (W : View) (a : Asked) (last next : ℕ) : Type 0 w
   pub next-is : HoldsPre W next
 
 -- what becomes of the rounds where one of them has no value
-abbrev pub haltedOf : Evaluated → Watched
-haltedOf (answer.Value a e q) = watched.Spent
-haltedOf answer.Full = watched.Full
-haltedOf answer.Spent = watched.Spent
+abbrev pub haltedOf : Evaluated → Iterated
+haltedOf (answer.Value a e q) = iterated.Spent
+haltedOf answer.Full = iterated.Full
+haltedOf answer.Spent = iterated.Spent
 
 -- ---- all rounds
 
--- the scene holds a game, whose body stands in the bytes, and the asked state and press are among its states
+-- the scene holds a game, whose body stands in the bytes; the asked state and press are among its states, and whether the press is open is
+-- known
 pub record HoldsGame (L : Limits) (W : View) (stack bs : List ℕ) (a : Asked) (σ : Scene) (goal guest machine : ℕ) : Type 0 where
   pub ready : Ready L W stack noPlaces 0 σ
   pub part : Part Runs (L .bits) bs 4 63 (set (σ .scope) 0 true) (holdsReg σ) (holdsRel σ) (bodyForm goal guest machine) 12
@@ -59,29 +61,30 @@ pub record HoldsGame (L : Limits) (W : View) (stack bs : List ℕ) (a : Asked) (
   pub machine-is : W .header (FIRST-RELATION + machine) ≡ suc (a .machine)
   pub state : a .state < 2 ^ L .bits
   pub press : a .press < 2 ^ L .bits
+  pub open-is : a .open_move ≡ openMove (inside (σ .rel guest)) (inside (σ .reg goal)) (a .state) (a .press)
 
 -- what the rounds ask: words and stack hold some game's scene
-pub record WatchPre (L : Limits) (W : View) (stack bs : List ℕ) (a : Asked) : Type 0 where
+pub record IteratePre (L : Limits) (W : View) (stack bs : List ℕ) (a : Asked) : Type 0 where
   pub scene : Scene
   pub goal : ℕ
   pub guest : ℕ
   pub machine : ℕ
   pub plays : HoldsGame L W stack bs a scene goal guest machine
 
--- what is noted when the set is made, of the state s and the press t: k where s is not in the set; the answer, where there is one
+-- what is noted when the set is made, of the state s and the press t: the answer, where there is one, else k
 pub record AnswerNoted (k : ℕ) (G M : Pairs) (B : List Bool) (s t x : ℕ) : Type 0 where
-  pub outside : mem (forced k G M B) s ≡ false → x ≡ k
+  pub none : answerable k G M B s t ≡ false → x ≡ k
   pub found : T (answerable k G M B s t) → (x ≡ answerTo k G M B s t) × (x < k)
 
 -- the rounds' answer: what was noted, where the set is made
-pub data AnswerOf (P : ℕ → Type 0) : Evaluated → Watched → Type 0 where
-  is-made : {a e x : ℕ} {q : Count} → P x → AnswerOf P (answer.Value a e q) (watched.Made x)
-  is-full : AnswerOf P answer.Full watched.Full
-  is-spent : AnswerOf P answer.Spent watched.Spent
+pub data AnswerOf (P : ℕ → Type 0) : Evaluated → Iterated → Type 0 where
+  is-made : {a e x : ℕ} {q : Count} → P x → AnswerOf P (answer.Value a e q) (iterated.Made x)
+  is-full : AnswerOf P answer.Full iterated.Full
+  is-spent : AnswerOf P answer.Spent iterated.Spent
 
 -- the rounds are those of the game's formula
-pub record Watches (L : Limits) (W X : View) (stack : List ℕ) (a : Asked) (σ : Scene) (goal guest machine : ℕ)
-    (r : Watched) : Type 0 where
+pub record Iterates (L : Limits) (W X : View) (stack : List ℕ) (a : Asked) (σ : Scene) (goal guest machine : ℕ)
+    (r : Iterated) : Type 0 where
   pub value : Evaluated
   pub last : List ℕ
   pub answers : Answers true L W X stack last 0 nothing σ (gameForm goal guest machine) 12 value
@@ -89,6 +92,6 @@ pub record Watches (L : Limits) (W X : View) (stack : List ℕ) (a : Asked) (σ 
       (AnswerNoted (2 ^ L .bits) (inside (σ .rel guest)) (inside (σ .rel machine)) (inside (σ .reg goal)) (a .state) (a .press)) value r
 
 -- what they promise, of every game whose scene words and stack hold
-abbrev pub WatchPost : Limits → View → View → List ℕ → List ℕ → Asked → Watched → Type 0
-WatchPost L W X stack bs a r =
-    (σ : Scene) (goal guest machine : ℕ) → HoldsGame L W stack bs a σ goal guest machine → Watches L W X stack a σ goal guest machine r
+abbrev pub IteratePost : Limits → View → View → List ℕ → List ℕ → Asked → Iterated → Type 0
+IteratePost L W X stack bs a r =
+    (σ : Scene) (goal guest machine : ℕ) → HoldsGame L W stack bs a σ goal guest machine → Iterates L W X stack a σ goal guest machine r
